@@ -1,0 +1,46 @@
+//! Why an input is refused.
+use std::alloc::AllocError;
+
+/// Memory for a result could not be had.
+#[derive(Clone, Copy, Debug, PartialEq, Eq, Drop)]
+pub struct Memory;
+
+impl From<AllocError> for Memory {
+    fn from(_: AllocError) -> Memory {
+        Memory
+    }
+}
+
+/// Why a line is refused. docs/FORMAT.md has the order in which these are looked for.
+#[derive(Clone, Copy, Debug, PartialEq, Eq, Drop)]
+pub enum InputCode {
+    /// The line has more than 4,194,304 bytes.
+    LineTooLong,
+    /// The line does not begin with a tap's name and a blank.
+    NoTapName,
+    /// What follows the blank is no JSON text in UTF-8.
+    NotJson,
+    /// The first line of a tap is not its header.
+    NoHeader,
+    /// The tap, of its kind, has no such record.
+    UnknownKind,
+    /// A field is missing, or of another type or form.
+    Field,
+    /// A length, a number or a count is outside its limits.
+    Limit,
+    /// There is a stream tap already.
+    SecondStream,
+    /// An earlier entry of the stream has this offset.
+    OffsetTwice,
+    /// The tap has a header already.
+    HeaderTwice,
+    /// The header is of another version of the format.
+    Version,
+}
+
+/// The refusal of a line by its number, which counts from 1; or want of memory.
+#[derive(Clone, Copy, Debug, PartialEq, Eq, Drop)]
+pub enum ReadFault {
+    Input(u64, InputCode),
+    Memory,
+}

@@ -1,0 +1,14 @@
+//! The bundle: lines of the input, the record of a line, and the taps of the lines.
+//!
+//! Begin at [`records`], the kinds of record of each tap.
+#![tactic(auto)]
+
+mod fault;
+mod records;
+mod taps;
+mod text;
+
+pub use fault::{InputCode, Memory, ReadFault};
+pub use records::{ClientRec, Event, NodeRec, Rec, StreamRec, TapKind};
+pub use taps::{ClientRecs, NodeRecs, Records, StreamRecs, Tap, Taps};
+pub use text::{Blobs, Bytes, Text, Texts};
