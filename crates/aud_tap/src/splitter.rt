@@ -74,6 +74,15 @@ fn whole_line(number: u64, text: Vec<u8>) -> Result<Line, ReadFault>
     })
 }
 
+/// Keeps a refusal, which is given from then on.
+fn refuse(kept: &mut Option<ReadFault>, fault: ReadFault) -> Result<(), ReadFault>
+    ensures after { kept.new ≡ Some fault }
+    ensures value { result ≡ Err fault }
+{
+    *kept = Some(fault);
+    Err(fault)
+}
+
 impl Splitter {
     ghost use Rattle.aud_tap.specs.Lines.{lines_to_come};
 
@@ -100,15 +109,6 @@ impl Splitter {
         mem::replace(&mut self.waiting, empty)
     }
 
-    /// Keeps a refusal, which is given from then on.
-    fn refuse(&mut self, fault: ReadFault) -> Result<(), ReadFault>
-        ensures after { self.new ≡ record self.old { fault = Some fault } }
-        ensures value { result ≡ Err fault }
-    {
-        self.fault = Some(fault);
-        Err(fault)
-    }
-
     /// Ends the line that has begun: these bytes are the last of it.
     fn end_line(&mut self, front: &[u8]) -> Result<(), ReadFault>
         requires going { self.old.fault ≡ None }
@@ -118,19 +118,19 @@ impl Splitter {
         ensures number { self.new.number ≤ self.old.number + 1 }
     {
         let Ok(()) = self.rest.extend_from_slice(front) else {
-            return self.refuse(ReadFault::Memory);
+            return refuse(&mut self.fault, ReadFault::Memory);
         };
         let empty = Vec::new(self.alloc);
         let text = mem::replace(&mut self.rest, empty);
         match whole_line(self.number, text) {
             Ok(line) => {
                 let Ok(()) = self.waiting.push(line) else {
-                    return self.refuse(ReadFault::Memory);
+                    return refuse(&mut self.fault, ReadFault::Memory);
                 };
                 self.number += 1;
                 Ok(())
             }
-            Err(fault) => self.refuse(fault),
+            Err(fault) => refuse(&mut self.fault, fault),
         }
     }
 
@@ -144,10 +144,13 @@ impl Splitter {
         ensures partial { self.new.fault ≡ None → IsPartial self.new.rest }
     {
         let Ok(()) = self.rest.extend_from_slice(front) else {
-            return self.refuse(ReadFault::Memory);
+            return refuse(&mut self.fault, ReadFault::Memory);
         };
         if strip_return(&self.rest).len() > LINE_LIMIT {
-            return self.refuse(ReadFault::Input(self.number, InputCode::LineTooLong));
+            return refuse(
+                &mut self.fault,
+                ReadFault::Input(self.number, InputCode::LineTooLong),
+            );
         }
         Ok(())
     }
