@@ -1,0 +1,60 @@
+-- What the turns of a session tell of every run.
+use Rattle.std.specs.Prelude.{◌≡◌, ◌-◌, ℕ, zero, suc, Bool, false, List, [], ◌∷◌, ◌++◌, Option, Some, None, if◌then◌else◌, nat_le, min, slice_get}
+use Rattle.std.specs.Str.{bytes_eq}
+use Rattle.std.specs.Option.{option_map, unwrap_or}
+use Rattle.aud_tap.specs.declared.records.StreamRec.{StreamRec}
+use Rattle.aud_tap.specs.declared.records.NodeRec.{NodeRec}
+use Rattle.aud_node.specs.Lists.{between}
+use Rattle.aud_node.specs.Stream.{Text}
+use Rattle.aud_node.specs.Cursors.{cursor_at}
+use Rattle.aud_node.specs.Cluster.{Cluster, node_log}
+use Rattle.aud_node.specs.TurnRecords.{pid_of}
+use Rattle.aud_rooms.specs.Turns.{Turn, slice_of}
+use Rattle.aud_merge.specs.Sessions.{Session, session_after}
+use Rattle.aud_merge.specs.Machine.{Step, State}
+use Rattle.aud_merge.specs.Runs.{taken_of}
+
+-- of so many records from this number on, the first after which the cursor is at least p
+abbrev pub first_reaching : List StreamRec → List NodeRec → ℕ → ℕ → ℕ → Option ℕ
+first_reaching stream log p number zero = None
+first_reaching stream log p number (suc count) =
+    if nat_le p (cursor_at stream log (suc number)) then Some number else first_reaching stream log p (suc number) count
+
+-- of the first turn whose high reaches the position, the first record after which the cursor does: this is the
+-- turn's first record, where low reaches it
+abbrev pub reaching_step : Cluster → List Turn → ℕ → Option Step
+reaching_step c [] p = None
+reaching_step c (t ∷ later) p =
+    if nat_le p (slice_of c t).high
+    then option_map (λ number. record { log = t.node; index = number }) (first_reaching c.stream (node_log c t.node) p t.from (t.to - t.from))
+    else reaching_step c later p
+
+-- a moment of the run falls after this step of it; where there is no step, there is no moment
+abbrev pub FallsAfter : List Step → Option ℕ → Option Step → Type 0
+FallsAfter run moment None = moment ≡ None
+FallsAfter run moment (Some step) = (t : ℕ) × (slice_get run t ≡ Some step) × (moment ≡ Some (suc t))
+
+-- the second list begins with the first
+abbrev pub IsPrefixOf : List ℕ → List ℕ → Type 0
+IsPrefixOf xs ys = (rest : List ℕ) × (xs ++ rest ≡ ys)
+
+abbrev pub is_pid : Option Text → Text → Bool
+is_pid None pid = false
+is_pid (Some other) pid = bytes_eq other pid
+
+-- what a record of the node makes of the session of this pid
+abbrev pub session_past : ℕ → Text → Session → NodeRec → Session
+session_past node pid session rec = if is_pid (pid_of rec) pid then unwrap_or (session_after node rec session) session else session
+
+-- what the records of the node make of the session of this pid
+abbrev pub after_records : ℕ → Text → Session → List NodeRec → Session
+after_records node pid session [] = session
+after_records node pid session (rec ∷ recs) = after_records node pid (session_past node pid session rec) recs
+
+-- the session that the taken records of its turns give, from how far each log has come
+abbrev pub by_turns : Cluster → Text → State → Session → List Turn → Session
+by_turns c pid st before [] = before
+by_turns c pid st before (t ∷ later) =
+    if nat_le (taken_of st t.node) t.from
+    then before
+    else by_turns c pid st (after_records t.node pid before (between (node_log c t.node) t.from (min (taken_of st t.node) t.to))) later

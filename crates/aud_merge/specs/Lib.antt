@@ -1,0 +1,11 @@
+pub use Rattle.aud_node.specs.Stream
+pub use Rattle.aud_node.specs.Cluster
+pub use Rattle.aud_rooms.specs.Rooms
+pub use Rattle.aud_rooms.specs.Turns
+pub use Rattle.aud_rooms.specs.TurnsDue
+pub mod Sessions
+pub mod Machine
+pub mod Runs
+pub mod Due
+pub mod Order
+pub mod ByTurns

@@ -1,0 +1,96 @@
+-- The cluster as a machine: which step is allowed in a state, and what it does.
+use Rattle.std.specs.Prelude.{ℕ, zero, suc, List, map, take, set, Option, Some, None, if◌then◌else◌, nat_eq, slice_get}
+use Rattle.std.specs.Option.{option_map, option_and_then, unwrap_or}
+use Rattle.std.specs.Ordering.{nat_cmp}
+use Rattle.std.specs.Cmp.Lexicographic.{slice_cmp}
+use Rattle.std.specs.FinMap as fin
+use Rattle.aud_tap.specs.declared.records.StreamRec.{StreamRec}
+use Rattle.aud_tap.specs.declared.records.NodeRec.{NodeRec}
+use Rattle.aud_tap.specs.declared.records.NodeRec.TheVariants.{Start, Take}
+use Rattle.aud_tap.specs.declared.taps.Records.{Records}
+use Rattle.aud_tap.specs.declared.taps.Records.TheVariants.{Stream, Node, Client}
+use Rattle.aud_node.specs.Stream.{Text, position}
+use Rattle.aud_node.specs.Cluster.{Cluster, log_at}
+use Rattle.aud_node.specs.TurnRecords.{pid_of}
+use Rattle.aud_merge.specs.Sessions.{Session, Absent, session_after}
+
+-- a tap, by its place in the order of the headers, and the number of one of its records; both count from 0
+pub record Step : Type 0 where
+  pub log : ℕ
+  pub index : ℕ
+
+-- how many records of a log were taken, and the cursor of a node, 0 before its `start`
+pub record Progress : Type 0 where
+  pub taken : ℕ
+  pub cursor : ℕ
+
+-- how far each log has come, how many entries were appended to the stream, and the sessions by pid
+pub record State : Type 0 where
+  pub logs : List Progress
+  pub appended : ℕ
+  pub sessions : fin.FinMap (slice_cmp nat_cmp) Session
+
+-- nothing was taken
+abbrev pub start : Cluster → State
+start c = record { logs = map (λ _. record { taken = 0; cursor = 0 }) c.taps; appended = 0; sessions = fin.empty }
+
+-- the session of this pid
+abbrev pub session_of : State → Text → Session
+session_of st pid = unwrap_or (fin.get st.sessions pid) Absent
+
+-- the position, if it is the one after the cursor
+abbrev pub next_position : Option ℕ → ℕ → Option ℕ
+next_position None cursor = None
+next_position (Some p) cursor = if nat_eq p (suc cursor) then Some p else None
+
+-- the cursor that the node's record with this number leaves, where these entries are appended; none where the record
+-- isn't allowed
+abbrev pub cursor_after : List StreamRec → ℕ → NodeRec → ℕ → Option ℕ
+cursor_after appended zero (Start None) cursor = Some 0
+cursor_after appended zero (Start (Some off)) cursor = position appended off
+cursor_after appended (suc number) (Start off) cursor = None
+cursor_after appended number (Take off) cursor = next_position (position appended off) cursor
+cursor_after appended number _ cursor = Some cursor
+
+-- the sessions that the node's record leaves, which names this pid, if any; none where it isn't allowed
+abbrev pub sessions_after : ℕ → NodeRec → Option Text → fin.FinMap (slice_cmp nat_cmp) Session → Option (fin.FinMap (slice_cmp nat_cmp) Session)
+sessions_after node rec None sessions = Some sessions
+sessions_after node rec (Some pid) sessions =
+    option_map (λ session. fin.insert sessions pid session) (session_after node rec (unwrap_or (fin.get sessions pid) Absent))
+
+-- the state after a node's next record
+abbrev pub after_record : Cluster → State → ℕ → Progress → NodeRec → Option State
+after_record c st node done rec =
+    option_and_then
+    (λ cursor.
+    option_map
+    (λ sessions.
+    record {
+      logs = set st.logs node (record { taken = suc done.taken; cursor = cursor });
+      appended = st.appended;
+      sessions = sessions;
+    })
+    (sessions_after node rec (pid_of rec) st.sessions))
+    (cursor_after (take st.appended c.stream) done.taken rec done.cursor)
+
+-- the state after the stream's next entry, which is always allowed
+abbrev pub after_entry : State → ℕ → Progress → StreamRec → Option State
+after_entry st place done entry =
+    Some (record {
+      logs = set st.logs place (record { taken = suc done.taken; cursor = done.cursor });
+      appended = suc st.appended;
+      sessions = st.sessions;
+    })
+
+-- the state after the next record of the log, if it has one; a client's tap has no steps
+abbrev pub after_next : Cluster → State → ℕ → Progress → Records → Option State
+after_next c st place done (Stream recs) = option_and_then (after_entry st place done) (slice_get recs done.taken)
+after_next c st place done (Node recs) = option_and_then (after_record c st place done) (slice_get recs done.taken)
+after_next c st place done (Client recs) = None
+
+-- the state after the step; none where it isn't allowed
+abbrev pub after : Cluster → State → Step → Option State
+after c st step =
+    option_and_then
+    (λ done. if nat_eq done.taken step.index then option_and_then (after_next c st step.log done) (log_at c step.log) else None)
+    (slice_get st.logs step.log)

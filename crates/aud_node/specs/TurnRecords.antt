@@ -1,0 +1,54 @@
+-- The records of one turn of a session in a node's log.
+use Rattle.std.specs.Prelude.{ℕ, zero, suc, Bool, false, List, [], ◌∷◌, drop, Option, Some, None, if◌then◌else◌, nat_eq, ◌&&◌}
+use Rattle.std.specs.Option.{option_map}
+use Rattle.std.specs.Str.{bytes_eq}
+use Rattle.aud_tap.specs.declared.records.NodeRec.{NodeRec}
+use Rattle.aud_tap.specs.declared.records.NodeRec.TheVariants.{Start, Take, Opened, Join, Leave, Broke, Back, Gone}
+use Rattle.aud_node.specs.Lists.{first_index}
+use Rattle.aud_node.specs.Stream.{Text}
+
+-- the pid that the record names
+abbrev pub pid_of : NodeRec → Option Text
+pid_of (Start off) = None
+pid_of (Take off) = None
+pid_of (Opened pid sid nsp) = Some pid
+pid_of (Join pid room) = Some pid
+pid_of (Leave pid room) = Some pid
+pid_of (Broke pid turn) = Some pid
+pid_of (Back pid turn) = Some pid
+pid_of (Gone pid) = Some pid
+
+-- the record begins turn k of the session of this pid: its `open` begins turn 0, a `back` of number k turn k. A
+-- `back` of number 0 begins no turn
+abbrev pub begins_turn : Text → ℕ → NodeRec → Bool
+begins_turn pid zero (Opened other sid nsp) = bytes_eq other pid
+begins_turn pid (suc k) (Back other number) = bytes_eq other pid && nat_eq number (suc k)
+begins_turn pid k _ = false
+
+-- the record is the session's `open` or a `back` of it, of any number
+abbrev pub is_begin : Text → NodeRec → Bool
+is_begin pid (Opened other sid nsp) = bytes_eq other pid
+is_begin pid (Back other number) = bytes_eq other pid
+is_begin pid _ = false
+
+-- the record is a `break` of the session, of any number, or its `gone`
+abbrev pub is_end : Text → NodeRec → Bool
+is_end pid (Broke other number) = bytes_eq other pid
+is_end pid (Gone other) = bytes_eq other pid
+is_end pid _ = false
+
+-- of the records behind one that begins a turn, those of that turn: through the next `break` or `gone`, or those
+-- before the next `open` or `back`, or all, whichever are fewest
+abbrev pub rest_of_turn : Text → List NodeRec → List NodeRec
+rest_of_turn pid [] = []
+rest_of_turn pid (rec ∷ recs) =
+    if is_begin pid rec then [] else if is_end pid rec then rec ∷ [] else rec ∷ rest_of_turn pid recs
+
+-- the first of the records and the rest of its turn
+abbrev pub turn_in : Text → List NodeRec → List NodeRec
+turn_in pid [] = []
+turn_in pid (first ∷ others) = first ∷ rest_of_turn pid others
+
+-- the records of turn k of the session, from the first record that begins it on; none where no record begins it
+abbrev pub turn_of : List NodeRec → Text → ℕ → Option (List NodeRec)
+turn_of log pid k = option_map (λ from. turn_in pid (drop from log)) (first_index (begins_turn pid k) log)

@@ -1,0 +1,2 @@
+//! The stream's entries by position and offset, the nodes' logs and their cursors.
+#![tactic(auto)]

@@ -1,0 +1,5 @@
+pub use Rattle.aud_node.specs.Stream
+pub use Rattle.aud_node.specs.Cluster
+pub mod Rooms
+pub mod Turns
+pub mod TurnsDue

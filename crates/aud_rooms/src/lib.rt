@@ -1,0 +1,2 @@
+//! To whom an entry is addressed, and what is due to a session by its turns.
+#![tactic(auto)]
