@@ -5,12 +5,14 @@
 
 mod fault;
 mod line;
+mod read;
 mod records;
 mod taps;
 mod text;
 
 pub use fault::{InputCode, Memory, ReadFault};
 pub use line::Line;
+pub use read::parse_line;
 pub use records::{ClientRec, Event, NodeRec, Rec, StreamRec, TapKind};
 pub use taps::{ClientRecs, NodeRecs, Records, StreamRecs, Tap, Taps};
 pub use text::{Blobs, Bytes, Text, Texts};
