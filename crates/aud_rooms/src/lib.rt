@@ -1,2 +1,8 @@
-//! To whom an entry is addressed, and what is due to a session by its turns.
+//! Whom an entry is addressed to, which rooms a session holds, and between which positions.
 #![tactic(auto)]
+
+mod addressee;
+mod room_set;
+
+pub use addressee::addressed;
+pub use room_set::RoomSet;
