@@ -3,3 +3,4 @@ pub mod DigitLemmas
 pub mod PayloadLemmas
 pub mod Assembling
 pub mod Halves
+pub mod Calling

@@ -9,3 +9,5 @@ pub mod Packet
 pub mod Message
 pub mod Wholes
 pub mod Assembly
+pub mod Calls
+pub use Rattle.aud_eio.specs.Packet as EioPacket

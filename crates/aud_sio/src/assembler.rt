@@ -46,6 +46,7 @@ impl<'a> Assembler<'a> {
     /// After a refusal, want of memory too, the assembler is at rest: it holds nothing of the refused packet.
     pub fn feed(&mut self, packet: Eio<'a>) -> Result<Option<Whole<'a>>, SioFault>
         ensures answers { Feeds self.old (messages_of (packet_view packet.entry)) result self.new }
+        ensures control { messages_of (packet_view packet.entry) ≡ [] → (result ≡ Ok None) × (self.new ≡ self.old) }
         ensures waits { Waits self.new }
         ensures rest { IfErr result (λ _. self.new ≡ []) }
     {
