@@ -1,5 +1,5 @@
 pub mod DashLemmas
 pub mod DigitLemmas
-pub mod PartLemmas
+pub mod Parts
 pub mod PayloadLemmas
 pub mod RoundTrip

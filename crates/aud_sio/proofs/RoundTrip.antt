@@ -1,6 +1,6 @@
 -- The written form of a packet that some text spells is a text of that packet.
-use Rattle.std.proofs.Common.{◌≡◌, ℕ, zero, suc, ◌+◌, ◌^◌, ◌<◌, ◌≤◌, ◌==◌, nat_le, not, List, [], ◌∷◌, ◌++◌, length, take, drop, get_or, slice_index, Bool, true, false, if◌then◌else◌, cond, Option, Some, None, unwrap_or, refl, sym, ap, ◌∙◌, arith, add-one, append_assoc, Result, Ok, Err, rules, ◌⊎◌, inl, inr}
-use Rattle.std.specs.List.{prefix_len, position_or_len, before_first, after_first, take_while}
+use Rattle.std.proofs.Common.{◌≡◌, ℕ, ◌+◌, ◌^◌, ◌<◌, ◌≤◌, ◌==◌, nat_le, List, [], ◌∷◌, ◌++◌, length, slice_index, Bool, true, false, cond, Option, Some, None, refl, ap, ◌∙◌, arith, append_assoc, Result, Ok, inl, inr}
+use Rattle.std.specs.List.{position_or_len}
 use Rattle.std.specs.Char.{is_ascii_digit}
 use Rattle.std.specs.Str.{all_ascii_digits, bytes_eq}
 use Rattle.std.specs.Str.Parse.{digits_value}
@@ -12,6 +12,7 @@ use Rattle.std.proofs.lemmas.List.Folds.{prefix_len-append}
 use Rattle.std.proofs.Math.Seq.{take-append_seam, drop-append_seam, drop-append-add}
 use Rattle.std.proofs.lemmas.Slice.Eq.{bytes_eq-Decides}
 use Rattle.aud_sio.proofs.DigitLemmas.{decide}
+use Rattle.aud_sio.proofs.Parts.{HasParts, parts-of}
 use Rattle.aud_sio.specs.declared.fault.SioFault.{SioFault}
 use Rattle.aud_sio.specs.declared.kind.PacketKind.{PacketKind}
 use Rattle.aud_sio.specs.declared.kind.PacketKind.TheVariants.{Connect, Disconnect, Event, Ack, ConnectError, BinaryEvent, BinaryAck}
@@ -21,7 +22,6 @@ use Rattle.aud_sio.specs.Digits.{digit_count, number_at, after_digits}
 use Rattle.aud_sio.specs.Attachments.{count_at, attachments_at}
 use Rattle.aud_sio.specs.Namespace.{is_comma, main_namespace, namespace_at}
 use Rattle.aud_sio.specs.AckId.{id_at}
-use Rattle.aud_sio.specs.Payload.{payload_at}
 use Rattle.aud_sio.specs.Packet.{PacketSeen, packet_of, IsSpelled}
 use Rattle.aud_sio.specs.Written.{written_count, written_namespace, written_id, written_payload, written}
 
@@ -117,17 +117,6 @@ kind-read BinaryAck rest = refl
 
 -- ---- the whole text
 
--- what holds of the parts of a packet that some text spells
-pub record HasParts (p : PacketSeen) : Type 0 where
-  pub few : p.attachments ≤ 64
-  pub none : is_binary p.kind ≡ false → p.attachments ≡ 0
-  pub slash : slice_index p.nsp 0 ≡ 47
-  pub no_comma : position_or_len is_comma p.nsp ≡ length p.nsp
-  pub small : (n : ℕ) → p.id ≡ Some n → n < 10 ^ 18
-  pub no_digit : digit_count (written_payload p.payload) ≡ 0
-  pub no_slash : (slice_index (written_payload p.payload) 0 == 47) ≡ false
-  pub payload : payload_at p.kind (written_payload p.payload) ≡ Ok (p.payload, p.last)
-
 no_slash-digits : (ds rest : List ℕ) → all_ascii_digits ds ≡ true → (slice_index rest 0 == 47) ≡ false → (slice_index (ds ++ rest) 0 == 47) ≡ false
 no_slash-digits [] rest digits none = none
 no_slash-digits (d ∷ ds) rest digits none = grind (arith, nat_tests)
@@ -162,3 +151,11 @@ nested-reads p parts =
 
 pub written-reads : (p : PacketSeen) → HasParts p → packet_of (written p) ≡ Ok p
 written-reads p parts = ap packet_of (nested p) ∙ nested-reads p parts
+
+-- the written form of a packet that some text spells is a text of it
+pub spelled_reads_back : (p : PacketSeen) → IsSpelled p → packet_of (written p) ≡ Ok p
+spelled_reads_back p spelled = written-reads p (parts-of spelled.text p spelled.reads)
+
+-- who builds a packet by hand shows so that some text spells it
+pub parts-spelled : (p : PacketSeen) → HasParts p → IsSpelled p
+parts-spelled p parts = record { text = written p; reads = written-reads p parts }

@@ -3,7 +3,6 @@ ghost use Rattle.std.specs.Prelude.{◌≡◌, ◌<◌, OnOk};
 ghost use Rattle.aud_sio.specs.Reading.{Gives};
 ghost use Rattle.aud_sio.specs.Kind.{is_binary, kind_at, kind_of, type_digit, wants_array};
 
-use crate::digits::after_first;
 use crate::fault::SioFault;
 
 /// The types of the protocol, in the order of their digits, from 0.
@@ -27,7 +26,7 @@ pub(crate) fn kind_at(text: &str) -> Result<(PacketKind, &str), SioFault>
         return Err(SioFault::Empty);
     };
     let kind = kind_of(*first)?;
-    Ok((kind, after_first(text)))
+    Ok((kind, text.split_at(1).1))
 }
 
 fn kind_of(byte: u8) -> Result<PacketKind, SioFault>

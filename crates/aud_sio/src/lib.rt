@@ -11,6 +11,8 @@ mod kind;
 mod namespace;
 mod packet;
 mod payload;
+#[cfg(test)]
+mod tests;
 mod written;
 
 pub use fault::SioFault;

@@ -14,7 +14,7 @@ use std::alloc::{AllocError, Global};
 /// without leading zeros, no namespace where it is `/`, the payload as it is. `last` plays no part.
 ///
 /// The one error is `Memory`.
-#[tactic(auto, using(crate::proofs::PartLemmas::spelled_reads_back))]
+#[tactic(auto, using(crate::proofs::RoundTrip::spelled_reads_back))]
 pub fn encode(alloc: Global, packet: &Packet<'_>) -> Result<String, SioFault>
     requires spelled { IsSpelled (view packet.now) }
     ensures form { IfOk result (λ text. string_bytes text ≡ written (view packet.now)) }

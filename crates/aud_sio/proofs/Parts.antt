@@ -1,10 +1,10 @@
 -- What holds of the parts of a packet that some text spells.
-use Rattle.std.proofs.Common.{◌≡◌, ℕ, zero, suc, ◌+◌, ◌^◌, ◌<◌, ◌≤◌, ◌==◌, ◌&&◌, nat_le, not, List, [], ◌∷◌, ◌++◌, length, take, drop, get_or, slice_index, Bool, true, false, if◌then◌else◌, cond, Option, Some, None, unwrap_or, refl, sym, ap, ◌∙◌, arith, add-one, append_assoc, Result, Ok, Err, rules, ◌⊎◌, inl, inr, subst}
-use Rattle.std.specs.List.{prefix_len, position_or_len, before_first, after_first, take_while}
+use Rattle.std.proofs.Common.{◌≡◌, ℕ, suc, ◌+◌, ◌^◌, ◌<◌, ◌≤◌, ◌==◌, ◌&&◌, nat_le, not, List, [], ◌∷◌, length, drop, slice_index, Bool, true, false, if◌then◌else◌, Option, Some, None, refl, sym, ap, ◌∙◌, arith, Result, Ok, Err, inl, inr, subst}
+use Rattle.std.specs.List.{prefix_len, position_or_len, before_first, take_while}
 use Rattle.std.specs.Char.{is_ascii_digit}
 use Rattle.std.proofs.lemmas.Bool.{eqb-true}
 use Rattle.std.proofs.lemmas.Bool.Decides.{nat_tests}
-use Rattle.std.proofs.lemmas.List.Sums.{take_while-cons, prefix_len-le-length, prefix_len_stops, prefix_len-drop_all, prefix_len-drop_no}
+use Rattle.std.proofs.lemmas.List.Sums.{take_while-cons}
 use Rattle.std.proofs.lemmas.Int.Digits.{digits_value-lt}
 use Rattle.std.proofs.lemmas.List.Folds.{length-prefix_len}
 use Rattle.std.proofs.Math.Nat.{pow-le-pow_right}
@@ -22,9 +22,8 @@ use Rattle.aud_sio.specs.Attachments.{count_at, attachments_at}
 use Rattle.aud_sio.specs.Namespace.{is_comma, main_namespace, namespace_at}
 use Rattle.aud_sio.specs.AckId.{id_at}
 use Rattle.aud_sio.specs.Payload.{last_of_payload, payload_at}
-use Rattle.aud_sio.specs.Packet.{PacketSeen, packet_of, IsSpelled}
-use Rattle.aud_sio.specs.Written.{written_payload, written}
-use Rattle.aud_sio.proofs.RoundTrip.{HasParts, written-reads}
+use Rattle.aud_sio.specs.Packet.{PacketSeen, packet_of}
+use Rattle.aud_sio.specs.Written.{written_payload}
 use Rattle.aud_sio.proofs.DigitLemmas.{decide, front-digits}
 
 -- no JSON text begins with a slash
@@ -144,6 +143,17 @@ payload-no_slash kind (b ∷ bs) read is = elim (decide (b == 47)) [
 
 -- ---- all parts
 
+-- what holds of the parts of a packet that some text spells
+pub record HasParts (p : PacketSeen) : Type 0 where
+  pub few : p.attachments ≤ 64
+  pub none : is_binary p.kind ≡ false → p.attachments ≡ 0
+  pub slash : slice_index p.nsp 0 ≡ 47
+  pub no_comma : position_or_len is_comma p.nsp ≡ length p.nsp
+  pub small : (n : ℕ) → p.id ≡ Some n → n < 10 ^ 18
+  pub no_digit : digit_count (written_payload p.payload) ≡ 0
+  pub no_slash : (slice_index (written_payload p.payload) 0 == 47) ≡ false
+  pub payload : payload_at p.kind (written_payload p.payload) ≡ Ok (p.payload, p.last)
+
 pub parts-of : (text : List ℕ) (p : PacketSeen) → packet_of text ≡ Ok p → HasParts p
 unfolding packet_of
 parts-of text p is =
@@ -165,11 +175,3 @@ parts-of text p is =
       no_slash = subst (λ l. (slice_index l 0 == 47) ≡ false) left (payload-no_slash kind.0.0 id.0.1 end.0 end.1);
       payload = subst (λ l. payload_at kind.0.0 l ≡ Ok end.0) left end.1;
     })
-
--- the written form of a packet that some text spells is a text of it
-pub spelled_reads_back : (p : PacketSeen) → IsSpelled p → packet_of (written p) ≡ Ok p
-spelled_reads_back p spelled = written-reads p (parts-of spelled.text p spelled.reads)
-
--- who builds a packet by hand shows so that some text spells it
-pub parts-spelled : (p : PacketSeen) → HasParts p → IsSpelled p
-parts-spelled p parts = record { text = written p; reads = written-reads p parts }
