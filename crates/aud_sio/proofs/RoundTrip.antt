@@ -1,4 +1,4 @@
--- The written form of a packet that some text spells is a text of that packet.
+-- The text written of a packet that some text spells is a text of that packet.
 use Rattle.std.proofs.Common.{◌≡◌, ℕ, ◌+◌, ◌^◌, ◌<◌, ◌≤◌, ◌==◌, nat_le, List, [], ◌∷◌, ◌++◌, length, slice_index, Bool, true, false, cond, Option, Some, None, refl, ap, ◌∙◌, arith, append_assoc, Result, Ok, inl, inr}
 use Rattle.std.specs.List.{position_or_len}
 use Rattle.std.specs.Char.{is_ascii_digit}
@@ -23,7 +23,7 @@ use Rattle.aud_sio.specs.Attachments.{count_at, attachments_at}
 use Rattle.aud_sio.specs.Namespace.{is_comma, main_namespace, namespace_at}
 use Rattle.aud_sio.specs.AckId.{id_at}
 use Rattle.aud_sio.specs.Packet.{PacketSeen, packet_of, IsSpelled}
-use Rattle.aud_sio.specs.Written.{written_count, written_namespace, written_id, written_payload, written}
+use Rattle.aud_sio.specs.Written.{written_count, written_namespace, written_id, written_payload, text_of}
 
 -- ---- digits before other bytes
 
@@ -129,9 +129,9 @@ no_slash-id (Some n) rest small none = no_slash-digits (decimal n) rest (digits_
 reads_then : {A B : Type 0} (r : Result A SioFault) (x : A) (f : A → Result B SioFault) (y : Result B SioFault) → r ≡ Ok x → f x ≡ y → (r >>= f) ≡ y
 reads_then r x f y part more = ap (λ q. q >>= f) part ∙ more
 
--- the written form, part by part from its end
-nested : (p : PacketSeen) → written p ≡ type_digit p.kind ∷ (written_count p.kind p.attachments ++ (written_namespace p.nsp ++ (written_id p.id ++ written_payload p.payload)))
-unfolding written
+-- the text, part by part from its end
+nested : (p : PacketSeen) → text_of p ≡ type_digit p.kind ∷ (written_count p.kind p.attachments ++ (written_namespace p.nsp ++ (written_id p.id ++ written_payload p.payload)))
+unfolding text_of
 nested p = simp append_assoc
 
 nested-reads : (p : PacketSeen) → HasParts p
@@ -149,13 +149,13 @@ nested-reads p parts =
     ok : PacketSeen → Result PacketSeen SioFault
     ok q = Ok q
 
-pub written-reads : (p : PacketSeen) → HasParts p → packet_of (written p) ≡ Ok p
+pub written-reads : (p : PacketSeen) → HasParts p → packet_of (text_of p) ≡ Ok p
 written-reads p parts = ap packet_of (nested p) ∙ nested-reads p parts
 
--- the written form of a packet that some text spells is a text of it
-pub spelled_reads_back : (p : PacketSeen) → IsSpelled p → packet_of (written p) ≡ Ok p
+-- what is written of a packet that some text spells is a text of it
+pub spelled_reads_back : (p : PacketSeen) → IsSpelled p → packet_of (text_of p) ≡ Ok p
 spelled_reads_back p spelled = written-reads p (parts-of spelled.text p spelled.reads)
 
 -- who builds a packet by hand shows so that some text spells it
 pub parts-spelled : (p : PacketSeen) → HasParts p → IsSpelled p
-parts-spelled p parts = record { text = written p; reads = written-reads p parts }
+parts-spelled p parts = record { text = text_of p; reads = written-reads p parts }

@@ -1,4 +1,4 @@
--- The written form of a packet (Socket.IO protocol 5, "Packet encoding").
+-- The text of a packet (Socket.IO protocol 5, "Packet encoding").
 use Rattle.std.specs.Prelude.{ℕ, List, [], ◌∷◌, ◌++◌, codes, if◌then◌else◌, Option, Some, None, unwrap_or}
 use Rattle.std.specs.Str.{bytes_eq}
 use Rattle.std.specs.Fmt.{decimal}
@@ -25,6 +25,6 @@ written_id (Some id) = decimal id
 abbrev pub written_payload : Option (List ℕ) → List ℕ
 written_payload payload = unwrap_or payload []
 
--- the parts in their order, numbers without leading zeros and the payload as it is
-unfoldable pub written : PacketSeen → List ℕ
-written p = written_kind p.kind ++ written_count p.kind p.attachments ++ written_namespace p.nsp ++ written_id p.id ++ written_payload p.payload
+-- the text of a packet: its parts in their order, numbers without leading zeros, the payload as it is
+unfoldable pub text_of : PacketSeen → List ℕ
+text_of p = written_kind p.kind ++ written_count p.kind p.attachments ++ written_namespace p.nsp ++ written_id p.id ++ written_payload p.payload

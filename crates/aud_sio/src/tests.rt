@@ -1,5 +1,6 @@
 //! The examples of the Socket.IO protocol 5 document, and the bounds of each part.
-use crate::{PacketKind, SioFault, decode, encode, last_text};
+use crate::PacketKind::{Ack, BinaryEvent, Disconnect, Event};
+use crate::{SioFault, decode, encode, last_text};
 use std::test::Fail;
 
 #[test]
@@ -24,62 +25,16 @@ fn refuses(rt: HostRuntime) {
 
 #[test]
 fn reads_the_parts(rt: HostRuntime) -> Result<(), Fail> {
+    let (empty, a) = (Some("[]"), Some(r#"["a"]"#));
+    let named = r#"2/admin,456["project:delete",123]"#;
+    let delete = Some(r#"["project:delete",123]"#);
     for (text, kind, attachments, nsp, id, payload, last) in [
-        (
-            "2[\"hello\",1]",
-            PacketKind::Event,
-            0,
-            "/",
-            None,
-            Some("[\"hello\",1]"),
-            None,
-        ),
-        (
-            "2/admin,456[\"project:delete\",123]",
-            PacketKind::Event,
-            0,
-            "/admin",
-            Some(456),
-            Some("[\"project:delete\",123]"),
-            None,
-        ),
-        (
-            "3/admin,456[]",
-            PacketKind::Ack,
-            0,
-            "/admin",
-            Some(456),
-            Some("[]"),
-            None,
-        ),
-        (
-            "2/n,7[\"a\"]",
-            PacketKind::Event,
-            0,
-            "/n",
-            Some(7),
-            Some("[\"a\"]"),
-            Some("a"),
-        ),
-        (
-            "564-[]",
-            PacketKind::BinaryEvent,
-            64,
-            "/",
-            None,
-            Some("[]"),
-            None,
-        ),
-        ("2/,[]", PacketKind::Event, 0, "/", None, Some("[]"), None),
-        (
-            "1/admin",
-            PacketKind::Disconnect,
-            0,
-            "/admin",
-            None,
-            None,
-            None,
-        ),
+        ("1/admin", Disconnect, 0, "/admin", None, None, None),
+        ("2/,[]", Event, 0, "/", None, empty, None),
+        (r#"2/n,7["a"]"#, Event, 0, "/n", Some(7), a, Some("a")),
+        (named, Event, 0, "/admin", Some(456), delete, None),
+        ("3/admin,456[]", Ack, 0, "/admin", Some(456), empty, None),
+        ("564-[]", BinaryEvent, 64, "/", None, empty, None),
     ] {
         let packet = decode(rt.alloc(), text)?;
         assert_eq!(rt; packet.kind, kind, "{text}");
@@ -92,36 +47,32 @@ fn reads_the_parts(rt: HostRuntime) -> Result<(), Fail> {
     Ok(())
 }
 
+/// Those of the document come back as they are; the others lose what need not be written.
 #[test]
 fn writes_what_it_read(rt: HostRuntime) -> Result<(), Fail> {
-    for (text, written) in [
+    for (text, same_as) in [
         ("0", "0"),
-        (
-            "0/admin,{\"sid\":\"oSO0OpakMV_3jnilAAAA\"}",
-            "0/admin,{\"sid\":\"oSO0OpakMV_3jnilAAAA\"}",
-        ),
         ("1/admin", "1/admin,"),
         ("2/,[]", "2[]"),
-        ("2/n,7[\"a\"]", "2/n,7[\"a\"]"),
-        (
-            "2/admin,456[\"project:delete\",123]",
-            "2/admin,456[\"project:delete\",123]",
-        ),
-        ("2123456789012345678[]", "2123456789012345678[]"),
-        ("2007[\"b\"]", "27[\"b\"]"),
-        (
-            "4/admin,{\"message\":\"Not authorized\"}",
-            "4/admin,{\"message\":\"Not authorized\"}",
-        ),
-        (
-            "51-[\"hello\",{\"_placeholder\":true,\"num\":0}]",
-            "51-[\"hello\",{\"_placeholder\":true,\"num\":0}]",
-        ),
+        (r#"2007["b"]"#, r#"27["b"]"#),
         ("601-/admin,456[]", "61-/admin,456[]"),
     ] {
         let packet = decode(rt.alloc(), text)?;
-        let again = encode(rt.alloc(), &packet)?;
-        assert_eq!(rt; again.as_str(), written, "{text}");
+        let written = encode(rt.alloc(), &packet)?;
+        assert_eq!(rt; written.as_str(), same_as, "{text}");
+    }
+    for text in [
+        r#"0/admin,{"sid":"oSO0OpakMV_3jnilAAAA"}"#,
+        r#"2["hello",1]"#,
+        r#"2/n,7["a"]"#,
+        r#"2/admin,456["project:delete",123]"#,
+        "2123456789012345678[]",
+        r#"4/admin,{"message":"Not authorized"}"#,
+        r#"51-["hello",{"_placeholder":true,"num":0}]"#,
+    ] {
+        let packet = decode(rt.alloc(), text)?;
+        let written = encode(rt.alloc(), &packet)?;
+        assert_eq!(rt; written.as_str(), text);
     }
     Ok(())
 }

@@ -1,7 +1,7 @@
 //! The text of a packet.
 ghost use Rattle.std.specs.Prelude.{◌≡◌, ◌++◌, IfErr, IfOk, Ok, OnOk, option_map, string_bytes};
 ghost use Rattle.aud_sio.specs.Packet.{IsSpelled, packet_of, view};
-ghost use Rattle.aud_sio.specs.Written.{written, written_count, written_id, written_kind, written_namespace, written_payload};
+ghost use Rattle.aud_sio.specs.Written.{text_of, written_count, written_id, written_namespace};
 ghost use Rattle.aud_sio.specs.declared.fault.SioFault.TheVariants.{Memory};
 
 use crate::fault::SioFault;
@@ -17,19 +17,19 @@ use std::alloc::{AllocError, Global};
 #[tactic(auto, using(crate::proofs::RoundTrip::spelled_reads_back))]
 pub fn encode(alloc: Global, packet: &Packet<'_>) -> Result<String, SioFault>
     requires spelled { IsSpelled (view packet.now) }
-    ensures form { IfOk result (λ text. string_bytes text ≡ written (view packet.now)) }
+    ensures form { IfOk result (λ text. string_bytes text ≡ text_of (view packet.now)) }
     ensures reads_back { IfOk result (λ text. packet_of (string_bytes text) ≡ Ok (view packet.now)) }
     ensures memory { IfErr result (λ e. e ≡ Memory) }
 {
-    match written(alloc, packet) {
+    match text_of(alloc, packet) {
         Ok(text) => Ok(text),
         Err(_) => Err(SioFault::Memory),
     }
 }
 
-#[tactic(auto, unfolding(crate::specs::Written::written))]
-fn written(alloc: Global, packet: &Packet<'_>) -> Result<String, AllocError>
-    ensures { IfOk result (λ text. string_bytes text ≡ written (view packet.now)) }
+#[tactic(auto, unfolding(crate::specs::Written::text_of))]
+fn text_of(alloc: Global, packet: &Packet<'_>) -> Result<String, AllocError>
+    ensures { IfOk result (λ text. string_bytes text ≡ text_of (view packet.now)) }
 {
     let mut text = String::new(alloc);
     text.push(packet.kind.digit())?;
