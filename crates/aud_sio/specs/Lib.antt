@@ -11,3 +11,4 @@ pub mod Wholes
 pub mod Assembly
 pub mod Calls
 pub use Rattle.aud_eio.specs.Packet as EioPacket
+pub mod Written

@@ -15,6 +15,9 @@ mod namespace;
 mod packet;
 mod payload;
 mod whole;
+#[cfg(test)]
+mod tests;
+mod written;
 
 pub use assembler::Assembler;
 pub use fault::SioFault;
@@ -22,3 +25,4 @@ pub use kind::PacketKind;
 pub use law::answers_are_wholes;
 pub use packet::{Packet, decode, last_text};
 pub use whole::{Blob, Whole};
+pub use written::encode;
