@@ -28,7 +28,8 @@ abbrev pub messages_held : Option Half → List Message
 messages_held None = []
 messages_held (Some half) = messages_of_whole half.whole
 
--- what an assembler that holds these messages gives, where more come; those that it holds have no place any more
+-- what an assembler that holds these messages gives, where more come: the place of those held doesn't show, since more
+-- are awaited
 abbrev pub wholes_after : List Message → List (ℕ × Message) → List (ℕ × Answer)
 wholes_after held l = wholes_of (at 0 held ++ l)
 

@@ -22,24 +22,24 @@ leading_bytes [] = []
 leading_bytes ((place, Text text) ∷ l) = []
 leading_bytes ((place, Bytes blob) ∷ l) = blob ∷ leading_bytes l
 
--- how many messages a packet with so many attachments consumes behind its text: these, or up to the text that
--- comes before they are all there
-abbrev pub consumed : ℕ → List (ℕ × Message) → ℕ
-consumed count l = if nat_le count (length (leading_bytes l)) then count else suc (length (leading_bytes l))
-
--- what a packet gives where these messages stand behind its text: it is whole, where so many bytes come next as it has
--- attachments; refused, where a text comes before that; and nothing, where the list ends before that
+-- what a packet gives that awaits so many attachments, where these messages come next: it is whole, where so many bytes
+-- lead; refused, where a text comes before that; and nothing, where the list ends before that
 abbrev pub answer_to : WholeSeen → ℕ → List (ℕ × Message) → List Answer
 answer_to whole count l =
     if nat_le count (length (leading_bytes l))
     then Ok (record whole { bin = whole.bin ++ take count (leading_bytes l) }) ∷ []
     else (if nat_lt (length (leading_bytes l)) (length l) then Err TextWhileBinary ∷ [] else [])
 
--- the place of the last message that the packet of a text consumes: of the text itself, where it has no attachment
+-- how many messages such a packet consumes: its attachments, or up to the text that comes before they are all there
+abbrev pub consumed : ℕ → List (ℕ × Message) → ℕ
+consumed count l = if nat_le count (length (leading_bytes l)) then count else suc (length (leading_bytes l))
+
+-- the place of the last message consumed, where the packet's text has this place: the text's own, where nothing is awaited
 abbrev pub last_place : ℕ → ℕ → List (ℕ × Message) → ℕ
 last_place place count l = slice_index (place ∷ map (λ message. message.0) l) (consumed count l)
 
--- what the messages give, where so many of them are consumed already
+-- what the messages give, of which so many are consumed already: bytes in front are stray, a text in front is a
+-- packet or a refusal
 abbrev pub wholes_past : ℕ → List (ℕ × Message) → List (ℕ × Answer)
 wholes_past skip [] = []
 wholes_past (suc skip) (message ∷ l) = wholes_past skip l

@@ -1,5 +1,5 @@
 //! Packets with their attachments, out of Engine.IO packets.
-ghost use Rattle.std.specs.Prelude.{◌≡◌, ◌≤◌, ◌∷◌, [], length, IfErr};
+ghost use Rattle.std.specs.Prelude.{◌≡◌, ◌≤◌, ◌∷◌, [], length, IfErr, IfOk, IsSome};
 ghost use Rattle.aud_eio.specs.Packet.{view as packet_view};
 ghost use Rattle.aud_sio.specs.Packet.{packet_of, view};
 ghost use Rattle.aud_sio.specs.Message.{Text, Bytes, messages_of};
@@ -48,7 +48,8 @@ impl<'a> Assembler<'a> {
         ensures answers { Feeds self.old (messages_of (packet_view packet.entry)) result self.new }
         ensures control { messages_of (packet_view packet.entry) ≡ [] → (result ≡ Ok None) × (self.new ≡ self.old) }
         ensures waits { Waits self.new }
-        ensures rest { IfErr result (λ _. self.new ≡ []) }
+        ensures rest_refused { IfErr result (λ _. self.new ≡ []) }
+        ensures rest_given { IfOk result (λ whole. IsSome whole → self.new ≡ []) }
     {
         let half = self.half.take();
         match packet {
@@ -70,7 +71,8 @@ impl<'a> Assembler<'a> {
         requires { self.old ≡ [] }
         ensures answers { Feeds (messages_held half.entry) (Text text.entry.now ∷ []) result self.new }
         ensures waits { Waits self.new }
-        ensures rest { IfErr result (λ _. self.new ≡ []) }
+        ensures rest_refused { IfErr result (λ _. self.new ≡ []) }
+        ensures rest_given { IfOk result (λ whole. IsSome whole → self.new ≡ []) }
     {
         match half {
             Some(_) => Err(SioFault::TextWhileBinary),
@@ -82,7 +84,8 @@ impl<'a> Assembler<'a> {
         requires { self.old ≡ [] }
         ensures answers { Feeds [] (Text text.entry.now ∷ []) result self.new }
         ensures waits { Waits self.new }
-        ensures rest { IfErr result (λ _. self.new ≡ []) }
+        ensures rest_refused { IfErr result (λ _. self.new ≡ []) }
+        ensures rest_given { IfOk result (λ whole. IsSome whole → self.new ≡ []) }
     {
         match decode(self.alloc, text) {
             Ok(packet) => Ok(self.keep(Whole {
@@ -102,7 +105,8 @@ impl<'a> Assembler<'a> {
         requires { self.old ≡ [] }
         ensures answers { Feeds (messages_held half.entry) (Bytes (blob_view blob.entry) ∷ []) result self.new }
         ensures waits { Waits self.new }
-        ensures rest { IfErr result (λ _. self.new ≡ []) }
+        ensures rest_refused { IfErr result (λ _. self.new ≡ []) }
+        ensures rest_given { IfOk result (λ whole. IsSome whole → self.new ≡ []) }
     {
         match half {
             Some(half) => self.attach(half, blob),
@@ -114,7 +118,8 @@ impl<'a> Assembler<'a> {
         requires { self.old ≡ [] }
         ensures answers { Feeds (messages_of_whole half.entry.whole) (Bytes (blob_view blob.entry) ∷ []) result self.new }
         ensures waits { Waits self.new }
-        ensures rest { IfErr result (λ _. self.new ≡ []) }
+        ensures rest_refused { IfErr result (λ _. self.new ≡ []) }
+        ensures rest_given { IfOk result (λ whole. IsSome whole → self.new ≡ []) }
     {
         let Half { mut whole } = half;
         match whole.bin.push(blob) {
@@ -130,6 +135,7 @@ impl<'a> Assembler<'a> {
         requires few { length whole.bin.items ≤ whole.packet.attachments }
         ensures answers { Keeps (whole_view whole.entry) (answer_of result) self.new }
         ensures waits { Waits self.new }
+        ensures rest_given { IsSome result → self.new ≡ [] }
     {
         if whole.bin.len() == whole.packet.attachments as usize {
             return Some(whole);

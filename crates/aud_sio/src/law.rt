@@ -5,5 +5,4 @@ ghost use Rattle.aud_sio.specs.Calls.{AnswersAreWholes};
 /// place of the last message that it consumed: a law of [`Assembler::feed`](crate::Assembler::feed).
 pub fn answers_are_wholes()
     ensures { AnswersAreWholes }
-{
-}
+{}
