@@ -18,7 +18,7 @@ use Rattle.aud_sio.specs.declared.kind.PacketKind.{PacketKind}
 use Rattle.aud_sio.specs.declared.kind.PacketKind.TheVariants.{Connect, Disconnect, Event, Ack, ConnectError, BinaryEvent, BinaryAck}
 use Rattle.aud_sio.specs.Reading.{◌>>=◌}
 use Rattle.aud_sio.specs.Kind.{kind_at, is_binary, type_digit}
-use Rattle.aud_sio.specs.Digits.{digit_count, number_at, after_digits}
+use Rattle.aud_sio.specs.Digits.{digit_count}
 use Rattle.aud_sio.specs.Attachments.{count_at, attachments_at}
 use Rattle.aud_sio.specs.Namespace.{is_comma, main_namespace, namespace_at}
 use Rattle.aud_sio.specs.AckId.{id_at}
