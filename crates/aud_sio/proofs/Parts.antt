@@ -2,7 +2,7 @@
 use Rattle.std.proofs.Common.{◌≡◌, ℕ, suc, ◌+◌, ◌^◌, ◌<◌, ◌≤◌, ◌==◌, ◌&&◌, nat_le, not, List, [], ◌∷◌, length, drop, slice_index, Bool, true, false, if◌then◌else◌, Option, Some, None, refl, sym, ap, ◌∙◌, arith, Result, Ok, Err, inl, inr, subst}
 use Rattle.std.specs.List.{prefix_len, position_or_len, before_first, take_while}
 use Rattle.std.specs.Char.{is_ascii_digit}
-use Rattle.std.proofs.lemmas.Bool.{eqb-true}
+use Rattle.std.proofs.lemmas.Bool.{eqb-true, cases_Bool}
 use Rattle.std.proofs.lemmas.Bool.Decides.{nat_tests}
 use Rattle.std.proofs.lemmas.List.Sums.{take_while-cons}
 use Rattle.std.proofs.lemmas.Int.Digits.{digits_value-lt}
@@ -24,7 +24,7 @@ use Rattle.aud_sio.specs.AckId.{id_at}
 use Rattle.aud_sio.specs.Payload.{last_of_payload, payload_at}
 use Rattle.aud_sio.specs.Packet.{PacketSeen, packet_of}
 use Rattle.aud_sio.specs.Written.{written_payload}
-use Rattle.aud_sio.proofs.DigitLemmas.{decide, front-digits}
+use Rattle.aud_sio.proofs.DigitLemmas.{front-digits}
 
 -- no JSON text begins with a slash
 slash-refused : (bs : List ℕ) → read (47 ∷ bs) ≡ None
@@ -34,7 +34,7 @@ slash-refused bs = refl
 -- what the elements at the front that pass are, pass
 prefix_len-take_while : (p : ℕ → Bool) (l : List ℕ) → prefix_len p (take_while p l) ≡ length (take_while p l)
 prefix_len-take_while p [] = refl
-prefix_len-take_while p (b ∷ bs) = elim (decide (p b)) [
+prefix_len-take_while p (b ∷ bs) = elim (cases_Bool (p b)) [
   | inl pass ↦ rw (take_while-cons p b bs, pass, pass) (omega (arith, prefix_len-take_while p bs))
   | inr fail ↦ rw (take_while-cons p b bs, fail) refl
 ]
@@ -42,7 +42,7 @@ prefix_len-take_while p (b ∷ bs) = elim (decide (p b)) [
 -- what is left begins with none that passes
 prefix_len-drop : (p : ℕ → Bool) (l : List ℕ) → prefix_len p (drop (prefix_len p l) l) ≡ 0
 prefix_len-drop p [] = refl
-prefix_len-drop p (b ∷ bs) = elim (decide (p b)) [
+prefix_len-drop p (b ∷ bs) = elim (cases_Bool (p b)) [
   | inl pass ↦ let next : 1 + prefix_len p bs ≡ suc (prefix_len p bs) = omega arith in rw (pass, next) (prefix_len-drop p bs)
   | inr fail ↦ rw (fail, fail) refl
 ]
@@ -57,12 +57,14 @@ same-ok x y e = (cc)
 
 -- ---- each part
 
+-- three tests before a value: the last of them held, and the value stands
 three_guards : {A : Type 0} (fault : SioFault) (a b c : Bool) (x y : A) → (guard fault a >>= λ _. guard fault b >>= λ _. guard fault c >>= λ _. Ok x) ≡ Ok y → (c ≡ true) × (x ≡ y)
 three_guards fault true true true x y is = (refl, same-ok x y is)
 three_guards fault true true false x y is = (cc)
 three_guards fault true false c x y is = (cc)
 three_guards fault false b c x y is = (cc)
 
+-- a count that was read is at most 64
 count-of : (text : List ℕ) (read : ℕ × List ℕ) → count_at text ≡ Ok read → read.0 ≤ 64
 unfolding count_at
 count-of text read is =
@@ -74,7 +76,7 @@ count-of text read is =
 
 pub attachments-of : (kind : PacketKind) (text : List ℕ) (read : ℕ × List ℕ) → attachments_at kind text ≡ Ok read → (read.0 ≤ 64) × (is_binary kind ≡ false → read.0 ≡ 0)
 unfolding attachments_at
-attachments-of kind text read is = elim (decide (is_binary kind)) [
+attachments-of kind text read is = elim (cases_Bool (is_binary kind)) [
   | inl binary ↦ (count-of text read (rw binary at is), λ other. let both : true ≡ false = sym binary ∙ other in (cc))
   | inr other ↦ let same : 0 ≡ read.0 = ap (λ r. r.0) (same-ok (0, text) read (rw other at is)) in (omega arith, λ _. sym same)
 ]
@@ -87,7 +89,7 @@ slash-first (b ∷ bs) slash =
 
 pub namespace-of : (text : List ℕ) (read : List ℕ × List ℕ) → namespace_at text ≡ read → (slice_index read.0 0 ≡ 47) × (position_or_len is_comma read.0 ≡ length read.0)
 unfolding namespace_at
-namespace-of text read is = elim (decide (slice_index text 0 == 47)) [
+namespace-of text read is = elim (cases_Bool (slice_index text 0 == 47)) [
   | inl slash ↦
       let named : before_first is_comma text ≡ read.0 = ap (λ r. r.0) (rw slash at is) in
       subst (λ nsp. (slice_index nsp 0 ≡ 47) × (position_or_len is_comma nsp ≡ length nsp)) named (slash-first text (eqb-true _ _ slash), prefix_len-take_while _ text)
@@ -96,10 +98,12 @@ namespace-of text read is = elim (decide (slice_index text 0 == 47)) [
       subst (λ nsp. (slice_index nsp 0 ≡ 47) × (position_or_len is_comma nsp ≡ length nsp)) main (refl, refl)
 ]
 
+-- one test before a value
 one_guard : {A : Type 0} (fault : SioFault) (a : Bool) (x y : A) → (guard fault a >>= λ _. Ok x) ≡ Ok y → (a ≡ true) × (x ≡ y)
 one_guard fault true x y is = (refl, same-ok x y is)
 one_guard fault false x y is = (cc)
 
+-- up to 18 digits write less than a one and 18 zeros
 number-small : (text : List ℕ) → digit_count text ≤ 18 → number_at text < 10 ^ 18
 number-small text few =
     let small = digits_value-lt 10 (take_while is_ascii_digit text) (front-digits text) in
@@ -120,9 +124,10 @@ id-of text read is =
     let rest : after_digits text ≡ read.1 = ap (λ r. r.1) found.1 in
     (λ n id. let same = id-cases _ _ n (ap (λ r. r.0) found.1 ∙ id) in omega (arith, same, number-small text few), rw (← rest) (prefix_len-drop is_ascii_digit text))
 
+-- the payload that was read is all of the text
 payload-text : (kind : PacketKind) (text : List ℕ) (read : Option (List ℕ) × Option (List ℕ)) → payload_at kind text ≡ Ok read → written_payload read.0 ≡ text
 unfolding payload_at
-payload-text kind [] read is = elim (decide (wants_array kind)) [
+payload-text kind [] read is = elim (cases_Bool (wants_array kind)) [
   | inl wants ↦ let bad : Err Payload ≡ Ok read = rw wants at is in (cc)
   | inr free ↦ let same = same-ok (None, None) read (rw free at is) in ap (λ r. written_payload r.0) (sym same)
 ]
@@ -130,10 +135,11 @@ payload-text kind (b ∷ bs) read is =
     let last = part-of (last_of_payload kind (b ∷ bs)) (λ last. Ok (Some (b ∷ bs), last)) read is in
     ap (λ r. written_payload r.0) (sym (same-ok (Some (b ∷ bs), last.0) read last.2))
 
+-- and begins with no slash
 payload-no_slash : (kind : PacketKind) (text : List ℕ) (read : Option (List ℕ) × Option (List ℕ)) → payload_at kind text ≡ Ok read → (slice_index text 0 == 47) ≡ false
 unfolding payload_at last_of_payload
 payload-no_slash kind [] read is = refl
-payload-no_slash kind (b ∷ bs) read is = elim (decide (b == 47)) [
+payload-no_slash kind (b ∷ bs) read is = elim (cases_Bool (b == 47)) [
   | inl slash ↦
       let bad : payload_at kind (47 ∷ bs) ≡ Ok read = subst (λ x. payload_at kind (x ∷ bs) ≡ Ok read) (eqb-true b 47 slash) is in
       let refused : payload_at kind (47 ∷ bs) ≡ Err Payload = rw (slash-refused bs) refl in

@@ -7,6 +7,7 @@ use Rattle.aud_sio.specs.Kind.{type_digit, is_binary}
 use Rattle.aud_sio.specs.Namespace.{main_namespace}
 use Rattle.aud_sio.specs.Packet.{PacketSeen}
 
+-- the digit of the kind
 abbrev pub written_kind : PacketKind → List ℕ
 written_kind kind = type_digit kind ∷ []
 
@@ -18,10 +19,12 @@ written_count kind count = if is_binary kind then decimal count ++ codes "-" els
 abbrev pub written_namespace : List ℕ → List ℕ
 written_namespace nsp = if bytes_eq nsp main_namespace then [] else nsp ++ codes ","
 
+-- the acknowledgement id, if there is one
 abbrev pub written_id : Option ℕ → List ℕ
 written_id None = []
 written_id (Some id) = decimal id
 
+-- the payload as it is, if there is one
 abbrev pub written_payload : Option (List ℕ) → List ℕ
 written_payload payload = unwrap_or payload []
 

@@ -13,7 +13,8 @@ use std::alloc::{AllocError, Global};
 /// The text of a packet, by the section "Packet encoding" of the Socket.IO protocol 5: numbers
 /// without leading zeros, no namespace where it is `/`, the payload as it is. `last` plays no part.
 ///
-/// The one error is `Memory`.
+/// Each packet that `decode` gave may be written; of one built by hand the lemma `parts_spelled`
+/// (proofs/RoundTrip.antt) shows that some text spells it. The one error is `Memory`.
 #[tactic(auto, using(crate::proofs::RoundTrip::spelled_reads_back))]
 pub fn encode(alloc: Global, packet: &Packet<'_>) -> Result<String, SioFault>
     requires spelled { IsSpelled (view packet.now) }
