@@ -1,3 +1,8 @@
 pub mod DashLemmas
 pub mod DigitLemmas
+pub mod Parts
 pub mod PayloadLemmas
+pub mod Assembling
+pub mod Halves
+pub mod Calling
+pub mod RoundTrip

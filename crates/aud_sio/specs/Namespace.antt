@@ -2,6 +2,7 @@
 use Rattle.std.specs.Prelude.{ℕ, ◌==◌, List, codes, slice_index, Bool, if◌then◌else◌}
 use Rattle.std.specs.List.{before_first, after_first}
 
+-- what ends a namespace
 abbrev pub is_comma : ℕ → Bool
 is_comma byte = byte == 44
 

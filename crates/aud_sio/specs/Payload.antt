@@ -9,6 +9,7 @@ use Rattle.aud_sio.specs.declared.kind.PacketKind.{PacketKind}
 use Rattle.aud_sio.specs.Reading.{◌>>=◌, need, guard}
 use Rattle.aud_sio.specs.Kind.{wants_array}
 
+-- the last of the items, if there is one
 abbrev pub last_item : Items → Option Data
 last_item no_items = None
 last_item (item value no_items) = Some value

@@ -1,17 +1,32 @@
-//! Packets of the Socket.IO protocol, version 5: the packet of a text, and the text of a packet.
+//! Packets of the Socket.IO protocol, version 5: the packet of a text, the text of a packet, and
+//! packets with their attachments, out of Engine.IO packets.
 //!
-//! Begin at [`packet`]; the other modules are the parts of a text, in the order in which they stand.
+//! Begin at [`packet`], whose parts `kind` to `payload` are modules of their own, and at
+//! [`assembler`].
 #![tactic(auto)]
 
 mod ack_id;
+mod assembler;
+#[cfg(test)]
+mod assembler_tests;
 mod attachments;
 mod digits;
 mod fault;
+mod half;
 mod kind;
+mod law;
 mod namespace;
 mod packet;
 mod payload;
+#[cfg(test)]
+mod tests;
+mod whole;
+mod written;
 
+pub use assembler::Assembler;
 pub use fault::SioFault;
 pub use kind::PacketKind;
+pub use law::answers_are_wholes;
 pub use packet::{Packet, decode, last_text};
+pub use whole::{Blob, Whole};
+pub use written::encode;

@@ -28,11 +28,12 @@ pub struct Packet<'a> {
     pub last: Option<String>,
 }
 
-/// The packet that a text spells, by the section "Packet encoding" of the Socket.IO protocol 5.
+/// The packet that a text spells, by the section "Packet encoding" of the Socket.IO protocol 5. Its
+/// namespace and its payload are lent from the text; memory is kept for `last` alone.
 ///
 /// An error is of the first part that is refused, in the order type, count of attachments,
-/// acknowledgement id, payload. The protocol sets no limit of 64 attachments nor of 18 digits of an
-/// id, and leaves the payloads of CONNECT, DISCONNECT and CONNECT_ERROR open: any JSON, or none.
+/// acknowledgement id, payload. That there are at most 64 attachments and at most 18 digits of an id,
+/// and that CONNECT, DISCONNECT and CONNECT_ERROR take any JSON or none, is this crate's choice.
 #[tactic(auto, unfolding(crate::specs::Packet::packet_of))]
 pub fn decode(alloc: Global, text: &str) -> Result<Packet<'_>, SioFault>
     ensures value { Gives view result (packet_of text.now) }
