@@ -5,7 +5,7 @@ ghost use Rattle.aud_tap.specs.Steps.{Gives};
 ghost use Rattle.aud_tap.specs.Record.{tap_of_kind, record_in, record_of};
 
 use super::client::client_record;
-use super::header::header;
+use super::header::tap_header;
 use super::node::node_record;
 use super::stream::stream_record;
 use crate::fault::{LineFault, UNKNOWN_KIND};
@@ -45,7 +45,7 @@ pub fn record(alloc: Global, kind: &str, d: &Value) -> Result<Rec, LineFault>
     ensures { Gives result (record_of kind.now (view d.now)) }
 {
     if kind == "tap" {
-        let of = header(d)?;
+        let of = tap_header(d)?;
         return Ok(Rec::Header { of, v: 1 });
     }
     let of = tap_of_kind(kind).ok_or(UNKNOWN_KIND)?;
