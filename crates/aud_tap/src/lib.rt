@@ -9,6 +9,7 @@ mod read;
 mod records;
 mod taps;
 mod text;
+mod write;
 
 pub use fault::{InputCode, Memory, ReadFault};
 pub use line::Line;
