@@ -4,6 +4,7 @@
 #![tactic(auto)]
 
 mod fault;
+mod limits;
 mod line;
 mod read;
 mod records;
@@ -17,3 +18,4 @@ pub use read::parse_line;
 pub use records::{ClientRec, Event, NodeRec, Rec, StreamRec, TapKind};
 pub use taps::{ClientRecs, NodeRecs, Records, StreamRecs, Tap, Taps};
 pub use text::{Blobs, Bytes, Text, Texts};
+pub use write::write_line;
