@@ -1,7 +1,9 @@
 //! A line: a tap's name, a blank, and a record in JSON.
-ghost use Rattle.std.specs.Prelude.{◌≡◌, Ok, IfOk, IfErr, MatchResult, string_bytes};
+ghost use Rattle.std.specs.Prelude.{◌≡◌, Ok, IfOk, IfErr, IsTrue, MatchResult, string_bytes};
 ghost use Rattle.serde_json.specs.View.{view};
 ghost use Rattle.aud_tap.specs.Steps.{Gives, Fails, IsRefusal};
+ghost use Rattle.aud_tap.specs.WellFormed.{is_well_formed};
+ghost use Rattle.aud_tap.specs.TapName.{is_tap_name};
 ghost use Rattle.aud_tap.specs.Record.{json_of, opened_line, line_record};
 
 use super::record::value_record;
@@ -35,7 +37,8 @@ fn json(alloc: Global, bytes: &[u8]) -> Result<Value, LineFault>
 /// The tap's name, lent, and the JSON value behind it.
 #[tactic(auto, unfolding(crate::specs::Record::opened_line))]
 pub fn opened_line(alloc: Global, line: &[u8]) -> Result<(&str, Value), LineFault>
-    ensures { MatchResult result (λ p. opened_line line.now ≡ Ok (p.0.now, view p.1)) (λ e. Fails e (opened_line line.now)) }
+    ensures given { MatchResult result (λ p. opened_line line.now ≡ Ok (p.0.now, view p.1)) (λ e. Fails e (opened_line line.now)) }
+    ensures name { IfOk result (λ p. IsTrue (is_tap_name p.0.now)) }
 {
     if line.len() > MAX_LINE {
         return Err(LINE_TOO_LONG);
@@ -48,7 +51,9 @@ pub fn opened_line(alloc: Global, line: &[u8]) -> Result<(&str, Value), LineFaul
 
 #[tactic(auto, unfolding(crate::specs::Record::line_record))]
 fn parse(alloc: Global, line: &[u8]) -> Result<(String, Rec), LineFault>
-    ensures { MatchResult result (λ p. line_record line.now ≡ Ok (string_bytes p.0, p.1)) (λ e. Fails e (line_record line.now)) }
+    ensures given { MatchResult result (λ p. line_record line.now ≡ Ok (string_bytes p.0, p.1)) (λ e. Fails e (line_record line.now)) }
+    ensures name { IfOk result (λ p. IsTrue (is_tap_name (string_bytes p.0))) }
+    ensures record { IfOk result (λ p. IsTrue (is_well_formed p.1)) }
 {
     let (name, d) = opened_line(alloc, line)?;
     let rec = value_record(alloc, &d)?;
@@ -65,6 +70,10 @@ fn parse(alloc: Global, line: &[u8]) -> Result<(String, Rec), LineFault>
 pub fn parse_line(alloc: Global, line: &Line) -> Result<(String, Rec), ReadFault>
     ensures read { IfOk result (λ p. line_record line.now.bytes ≡ Ok (string_bytes p.0, p.1)) }
     ensures refused { IfErr result (λ e. IsRefusal line.now.number e (line_record line.now.bytes)) }
+
+    // what `write_line` asks for
+    ensures name { IfOk result (λ p. IsTrue (is_tap_name (string_bytes p.0))) }
+    ensures record { IfOk result (λ p. IsTrue (is_well_formed p.1)) }
 {
     match parse(alloc, line.bytes.as_slice()) {
         Ok(read) => Ok(read),

@@ -1,7 +1,8 @@
 //! The record of a JSON value, by its kind.
-ghost use Rattle.std.specs.Prelude.{◌≡◌, Ok, MatchResult};
+ghost use Rattle.std.specs.Prelude.{◌≡◌, Ok, IfOk, IsTrue, MatchResult};
 ghost use Rattle.serde_json.specs.View.{view};
 ghost use Rattle.aud_tap.specs.Steps.{Gives, Fails};
+ghost use Rattle.aud_tap.specs.WellFormed.{is_well_formed};
 ghost use Rattle.aud_tap.specs.Record.{kind_of, tap_of_kind, record_in, record_of, value_record};
 
 use super::client::client_record;
@@ -31,7 +32,8 @@ fn tap_of_kind(kind: &str) -> Option<TapKind>
 /// The record of this kind in a tap that was put on `of`.
 #[tactic(auto, unfolding(crate::specs::Record::record_in))]
 fn record_in(alloc: Global, of: TapKind, kind: &str, d: &Value) -> Result<Rec, LineFault>
-    ensures { Gives result (record_in of kind.now (view d.now)) }
+    ensures given { Gives result (record_in of kind.now (view d.now)) }
+    ensures formed { IfOk result (λ rec. IsTrue (is_well_formed rec)) }
 {
     match of {
         TapKind::Stream => Ok(Rec::Stream(stream_record(alloc, kind, d)?)),
@@ -43,7 +45,8 @@ fn record_in(alloc: Global, of: TapKind, kind: &str, d: &Value) -> Result<Rec, L
 /// A header, or the record of this kind in whichever tap has it.
 #[tactic(auto, unfolding(crate::specs::Record::record_of))]
 fn record(alloc: Global, kind: &str, d: &Value) -> Result<Rec, LineFault>
-    ensures { Gives result (record_of kind.now (view d.now)) }
+    ensures given { Gives result (record_of kind.now (view d.now)) }
+    ensures formed { IfOk result (λ rec. IsTrue (is_well_formed rec)) }
 {
     if kind == "tap" {
         let of = tap_header(d)?;
@@ -63,7 +66,8 @@ pub fn kind_of(d: &Value) -> Result<&str, LineFault>
 /// The record of a value, by what it says that it is.
 #[tactic(auto, unfolding(crate::specs::Record::value_record))]
 pub fn value_record(alloc: Global, d: &Value) -> Result<Rec, LineFault>
-    ensures { Gives result (value_record (view d.now)) }
+    ensures given { Gives result (value_record (view d.now)) }
+    ensures formed { IfOk result (λ rec. IsTrue (is_well_formed rec)) }
 {
     let kind = kind_of(d)?;
     record(alloc, kind, d)
