@@ -4,12 +4,14 @@
 #![tactic(auto)]
 
 mod fault;
+mod limits;
 mod line;
 mod read;
 mod records;
 mod splitter;
 mod taps;
 mod text;
+mod write;
 
 pub use fault::{InputCode, Memory, ReadFault};
 pub use line::Line;
@@ -18,3 +20,4 @@ pub use records::{ClientRec, Event, NodeRec, Rec, StreamRec, TapKind};
 pub use splitter::{LINE_LIMIT, Splitter};
 pub use taps::{ClientRecs, NodeRecs, Records, StreamRecs, Tap, Taps};
 pub use text::{Blobs, Bytes, Text, Texts};
+pub use write::write_line;

@@ -1,5 +1,5 @@
 //! The fields of a JSON object, by their types and forms.
-ghost use Rattle.std.specs.Prelude.{◌≡◌, ◌==◌, not, Ok, option_map};
+ghost use Rattle.std.specs.Prelude.{◌≡◌, ◌==◌, not, Ok, IfSome, IsTrue, option_map};
 ghost use Rattle.std.specs.List.{list_all};
 ghost use Rattle.serde_json.specs.View.{view, items_view};
 ghost use Rattle.serde_json.specs.Find.{as_str};
@@ -56,7 +56,8 @@ pub fn text_at<'v>(key: &str, d: &'v Value) -> Option<&'v str>
 
 /// A pid, a sid or an offset.
 pub fn id_at<'v>(key: &str, d: &'v Value) -> Option<&'v str>
-    ensures { option_map (λ s. s.now) result ≡ id_at key.now (view d.now) }
+    ensures value { option_map (λ s. s.now) result ≡ id_at key.now (view d.now) }
+    ensures form { IfSome result (λ s. IsTrue (is_id s.now)) }
 {
     match text_at(key, d) {
         Some(text) if is_id(text) => Some(text),
@@ -65,7 +66,8 @@ pub fn id_at<'v>(key: &str, d: &'v Value) -> Option<&'v str>
 }
 
 pub fn namespace_at<'v>(key: &str, d: &'v Value) -> Option<&'v str>
-    ensures { option_map (λ s. s.now) result ≡ namespace_at key.now (view d.now) }
+    ensures value { option_map (λ s. s.now) result ≡ namespace_at key.now (view d.now) }
+    ensures form { IfSome result (λ s. IsTrue (is_namespace s.now)) }
 {
     match text_at(key, d) {
         Some(text) if is_namespace(text) => Some(text),
@@ -74,7 +76,8 @@ pub fn namespace_at<'v>(key: &str, d: &'v Value) -> Option<&'v str>
 }
 
 fn id_or_null(d: &Value) -> Option<Option<&str>>
-    ensures { option_map (option_map (λ s. s.now)) result ≡ id_or_null (view d.now) }
+    ensures value { option_map (option_map (λ s. s.now)) result ≡ id_or_null (view d.now) }
+    ensures form { IfSome result (λ o. IfSome o (λ s. IsTrue (is_id s.now))) }
 {
     if d.is_null() {
         return Some(None);
@@ -87,7 +90,8 @@ fn id_or_null(d: &Value) -> Option<Option<&str>>
 
 /// An offset, or null for none.
 pub fn id_or_null_at<'v>(key: &str, d: &'v Value) -> Option<Option<&'v str>>
-    ensures { option_map (option_map (λ s. s.now)) result ≡ id_or_null_at key.now (view d.now) }
+    ensures value { option_map (option_map (λ s. s.now)) result ≡ id_or_null_at key.now (view d.now) }
+    ensures form { IfSome result (λ o. IfSome o (λ s. IsTrue (is_id s.now))) }
 {
     d.get(key).and_then(id_or_null)
 }

@@ -1,11 +1,14 @@
 //! The records of a node tap.
+ghost use Rattle.std.specs.Prelude.{◌&&◌, nat_le, IfOk, IsTrue};
 ghost use Rattle.serde_json.specs.View.{view};
+ghost use Rattle.aud_tap.specs.Limits.{max_turn};
+ghost use Rattle.aud_tap.specs.WellFormed.{is_session_id, is_room, node_is_well_formed};
 ghost use Rattle.aud_tap.specs.Steps.{Gives};
 ghost use Rattle.aud_tap.specs.NodeRecord.{start_of, take_of, open_of, member_of, join_of, leave_of, turn_of, break_of, back_of, gone_of, node_record_of};
 
 use super::fields::{copied, id_at, id_or_null_at, namespace_at, number_at, text_at};
-use super::limits::{MAX_ID, MAX_NAMESPACE, MAX_OFFSET, MAX_ROOM, fits};
 use crate::fault::{FIELD, LIMIT, LineFault, UNKNOWN_KIND};
+use crate::limits::{MAX_ID, MAX_NAMESPACE, MAX_OFFSET, MAX_ROOM, fits};
 use crate::records::NodeRec;
 use crate::text::Text;
 use serde_json::Value;
@@ -13,7 +16,8 @@ use std::alloc::Global;
 
 #[tactic(auto, unfolding(crate::specs::NodeRecord::start_of))]
 fn start(alloc: Global, d: &Value) -> Result<NodeRec, LineFault>
-    ensures { Gives result (start_of (view d.now)) }
+    ensures given { Gives result (start_of (view d.now)) }
+    ensures formed { IfOk result (λ rec. IsTrue (node_is_well_formed rec)) }
 {
     let off = id_or_null_at("off", d).ok_or(FIELD)?;
     let Some(off) = off else {
@@ -29,7 +33,8 @@ fn start(alloc: Global, d: &Value) -> Result<NodeRec, LineFault>
 
 #[tactic(auto, unfolding(crate::specs::NodeRecord::take_of))]
 fn take(alloc: Global, d: &Value) -> Result<NodeRec, LineFault>
-    ensures { Gives result (take_of (view d.now)) }
+    ensures given { Gives result (take_of (view d.now)) }
+    ensures formed { IfOk result (λ rec. IsTrue (node_is_well_formed rec)) }
 {
     let off = id_at("off", d).ok_or(FIELD)?;
     if !fits(MAX_OFFSET, off) {
@@ -42,7 +47,8 @@ fn take(alloc: Global, d: &Value) -> Result<NodeRec, LineFault>
 
 #[tactic(auto, unfolding(crate::specs::NodeRecord::open_of))]
 fn open(alloc: Global, d: &Value) -> Result<NodeRec, LineFault>
-    ensures { Gives result (open_of (view d.now)) }
+    ensures given { Gives result (open_of (view d.now)) }
+    ensures formed { IfOk result (λ rec. IsTrue (node_is_well_formed rec)) }
 {
     let pid = id_at("pid", d).ok_or(FIELD)?;
     let sid = id_at("sid", d).ok_or(FIELD)?;
@@ -60,7 +66,8 @@ fn open(alloc: Global, d: &Value) -> Result<NodeRec, LineFault>
 /// A pid and a room.
 #[tactic(auto, unfolding(crate::specs::NodeRecord::member_of))]
 fn member(alloc: Global, d: &Value) -> Result<(Text, Text), LineFault>
-    ensures { Gives result (member_of (view d.now)) }
+    ensures given { Gives result (member_of (view d.now)) }
+    ensures formed { IfOk result (λ m. IsTrue (is_session_id m.0 && is_room m.1)) }
 {
     let pid = id_at("pid", d).ok_or(FIELD)?;
     let room = text_at("room", d).ok_or(FIELD)?;
@@ -71,14 +78,16 @@ fn member(alloc: Global, d: &Value) -> Result<(Text, Text), LineFault>
 }
 
 fn join(alloc: Global, d: &Value) -> Result<NodeRec, LineFault>
-    ensures { Gives result (join_of (view d.now)) }
+    ensures given { Gives result (join_of (view d.now)) }
+    ensures formed { IfOk result (λ rec. IsTrue (node_is_well_formed rec)) }
 {
     let (pid, room) = member(alloc, d)?;
     Ok(NodeRec::Join { pid, room })
 }
 
 fn leave(alloc: Global, d: &Value) -> Result<NodeRec, LineFault>
-    ensures { Gives result (leave_of (view d.now)) }
+    ensures given { Gives result (leave_of (view d.now)) }
+    ensures formed { IfOk result (λ rec. IsTrue (node_is_well_formed rec)) }
 {
     let (pid, room) = member(alloc, d)?;
     Ok(NodeRec::Leave { pid, room })
@@ -87,7 +96,8 @@ fn leave(alloc: Global, d: &Value) -> Result<NodeRec, LineFault>
 /// A pid and the number of a turn.
 #[tactic(auto, unfolding(crate::specs::NodeRecord::turn_of))]
 fn turn(alloc: Global, d: &Value) -> Result<(Text, u16), LineFault>
-    ensures { Gives result (turn_of (view d.now)) }
+    ensures given { Gives result (turn_of (view d.now)) }
+    ensures formed { IfOk result (λ t. IsTrue (is_session_id t.0 && nat_le t.1 max_turn)) }
 {
     let pid = id_at("pid", d).ok_or(FIELD)?;
     let turn = number_at("turn", d).ok_or(FIELD)?;
@@ -101,14 +111,16 @@ fn turn(alloc: Global, d: &Value) -> Result<(Text, u16), LineFault>
 }
 
 fn broke(alloc: Global, d: &Value) -> Result<NodeRec, LineFault>
-    ensures { Gives result (break_of (view d.now)) }
+    ensures given { Gives result (break_of (view d.now)) }
+    ensures formed { IfOk result (λ rec. IsTrue (node_is_well_formed rec)) }
 {
     let (pid, turn) = turn(alloc, d)?;
     Ok(NodeRec::Broke { pid, turn })
 }
 
 fn back(alloc: Global, d: &Value) -> Result<NodeRec, LineFault>
-    ensures { Gives result (back_of (view d.now)) }
+    ensures given { Gives result (back_of (view d.now)) }
+    ensures formed { IfOk result (λ rec. IsTrue (node_is_well_formed rec)) }
 {
     let (pid, turn) = turn(alloc, d)?;
     Ok(NodeRec::Back { pid, turn })
@@ -116,7 +128,8 @@ fn back(alloc: Global, d: &Value) -> Result<NodeRec, LineFault>
 
 #[tactic(auto, unfolding(crate::specs::NodeRecord::gone_of))]
 fn gone(alloc: Global, d: &Value) -> Result<NodeRec, LineFault>
-    ensures { Gives result (gone_of (view d.now)) }
+    ensures given { Gives result (gone_of (view d.now)) }
+    ensures formed { IfOk result (λ rec. IsTrue (node_is_well_formed rec)) }
 {
     let pid = id_at("pid", d).ok_or(FIELD)?;
     if !fits(MAX_ID, pid) {
@@ -130,7 +143,8 @@ fn gone(alloc: Global, d: &Value) -> Result<NodeRec, LineFault>
 /// The node's record of this kind.
 #[tactic(auto, unfolding(crate::specs::NodeRecord::node_record_of))]
 pub fn node_record(alloc: Global, kind: &str, d: &Value) -> Result<NodeRec, LineFault>
-    ensures { Gives result (node_record_of kind.now (view d.now)) }
+    ensures given { Gives result (node_record_of kind.now (view d.now)) }
+    ensures formed { IfOk result (λ rec. IsTrue (node_is_well_formed rec)) }
 {
     match kind {
         "start" => start(alloc, d),

@@ -1,18 +1,21 @@
 //! The records of a stream tap.
+ghost use Rattle.std.specs.Prelude.{IfOk, IsTrue};
 ghost use Rattle.serde_json.specs.View.{view};
+ghost use Rattle.aud_tap.specs.WellFormed.{stream_is_well_formed};
 ghost use Rattle.aud_tap.specs.Steps.{Gives};
 ghost use Rattle.aud_tap.specs.StreamRecord.{event_of, other_of, stream_record_of};
 
 use super::fields::{blobs_at, copied, id_at, namespace_at, text_at, texts_at};
-use super::limits::{MAX_ATTACHMENTS, MAX_NAMESPACE, MAX_OFFSET, fit_rooms, fits};
 use crate::fault::{FIELD, LIMIT, LineFault, UNKNOWN_KIND};
+use crate::limits::{MAX_ATTACHMENTS, MAX_NAMESPACE, MAX_OFFSET, fit_rooms, fits};
 use crate::records::{Event, StreamRec};
 use serde_json::Value;
 use std::alloc::Global;
 
 #[tactic(auto, unfolding(crate::specs::StreamRecord::event_of))]
 fn event(alloc: Global, d: &Value) -> Result<StreamRec, LineFault>
-    ensures { Gives result (event_of (view d.now)) }
+    ensures given { Gives result (event_of (view d.now)) }
+    ensures formed { IfOk result (λ rec. IsTrue (stream_is_well_formed rec)) }
 {
     let off = id_at("off", d).ok_or(FIELD)?;
     let nsp = namespace_at("nsp", d).ok_or(FIELD)?;
@@ -41,7 +44,8 @@ fn event(alloc: Global, d: &Value) -> Result<StreamRec, LineFault>
 
 #[tactic(auto, unfolding(crate::specs::StreamRecord::other_of))]
 fn other(alloc: Global, d: &Value) -> Result<StreamRec, LineFault>
-    ensures { Gives result (other_of (view d.now)) }
+    ensures given { Gives result (other_of (view d.now)) }
+    ensures formed { IfOk result (λ rec. IsTrue (stream_is_well_formed rec)) }
 {
     let off = id_at("off", d).ok_or(FIELD)?;
     if !fits(MAX_OFFSET, off) {
@@ -55,7 +59,8 @@ fn other(alloc: Global, d: &Value) -> Result<StreamRec, LineFault>
 /// The stream's record of this kind.
 #[tactic(auto, unfolding(crate::specs::StreamRecord::stream_record_of))]
 pub fn stream_record(alloc: Global, kind: &str, d: &Value) -> Result<StreamRec, LineFault>
-    ensures { Gives result (stream_record_of kind.now (view d.now)) }
+    ensures given { Gives result (stream_record_of kind.now (view d.now)) }
+    ensures formed { IfOk result (λ rec. IsTrue (stream_is_well_formed rec)) }
 {
     match kind {
         "ev" => event(alloc, d),
