@@ -3,3 +3,5 @@ pub use Rattle.aud_node.specs.Cluster
 pub mod Rooms
 pub mod Turns
 pub mod TurnsDue
+pub mod Spans
+pub mod Assigned

@@ -1,2 +1,12 @@
-//! To whom an entry is addressed, and what is due to a session by its turns.
+//! Whom an entry is addressed to, which rooms a session holds between which positions, and what is due to it by that.
 #![tactic(auto)]
+
+mod addressee;
+mod laws;
+mod room_set;
+mod span;
+
+pub use addressee::addressed;
+pub use laws::{due_by_spans_of_turns, spans_are_unique, spans_go_by_positions};
+pub use room_set::RoomSet;
+pub use span::Span;

@@ -1,0 +1,6 @@
+pub mod Sets
+pub mod Intervals
+pub mod Members
+pub mod ByTurns
+pub mod Unique
+pub mod Positions

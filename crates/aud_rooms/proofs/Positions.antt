@@ -1,0 +1,29 @@
+-- Spans go by the rooms of the positions past low up to high alone.
+use Rattle.std.proofs.Common.{◌≡◌, ◌<◌, ◌≤◌, ℕ, suc, List, sym, ap, ◌∙◌, arith}
+use Rattle.std.specs.FinSet as set
+use Rattle.aud_rooms.specs.Rooms.{Rooms}
+use Rattle.aud_rooms.specs.Spans.{RoomSpan, IsMaximalInterval, IsMaximal, AreSpans}
+
+pub maximal_alike : (rooms_at other : ℕ → Rooms) (low high : ℕ) → ((p : ℕ) → low < p → p ≤ high → rooms_at p ≡ other p)
+    → (s : RoomSpan) → IsMaximal rooms_at low high s → IsMaximal other low high s
+maximal_alike rooms_at other low high same s m =
+    let past = m.past_low in
+    let some = m.some in
+    let to = m.to_high in
+    record {
+      past_low = m.past_low;
+      some = m.some;
+      to_high = m.to_high;
+      held = λ p a b. ap (λ rooms. set.contains rooms s.room) (sym (same p (omega arith) (omega arith))) ∙ m.held p a b;
+      not_before = λ p a b. ap (λ rooms. set.contains rooms s.room) (sym (same p a (omega arith))) ∙ m.not_before p a b;
+      not_behind = λ p a b. ap (λ rooms. set.contains rooms s.room) (sym (same p (omega arith) a)) ∙ m.not_behind p a b;
+    }
+
+pub spans_alike : (rooms_at other : ℕ → Rooms) (low high : ℕ) (spans : List RoomSpan) → ((p : ℕ) → low < p → p ≤ high → rooms_at p ≡ other p)
+    → AreSpans rooms_at low high spans → AreSpans other low high spans
+spans_alike rooms_at other low high spans same are =
+    record {
+      each = λ s among. maximal_alike rooms_at other low high same s (are.each s among);
+      all = λ s m. are.all s (maximal_alike other rooms_at low high (λ p a b. sym (same p a b)) s m);
+      in_order = are.in_order;
+    }
