@@ -4,7 +4,8 @@ use Rattle.std.specs.Str.{bytes_eq}
 use Rattle.std.proofs.lemmas.List.{at_drop_more}
 use Rattle.std.proofs.lemmas.Option.{slice_get-map}
 use Rattle.aud_tap.specs.declared.records.StreamRec.{StreamRec}
-use Rattle.aud_node.specs.Recoverable.{is_recoverable, is_some_recoverable, is_recoverable_at}
+use Rattle.aud_node.specs.Recoverable.{is_recoverable}
+use Rattle.aud_node.specs.AtPosition.{is_some_recoverable, is_recoverable_at}
 use Rattle.aud_node.specs.Stream.{Text, position, offset_of}
 
 -- the position of an offset that stands behind so many entries

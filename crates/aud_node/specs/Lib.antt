@@ -7,7 +7,7 @@ pub mod Ordered
 pub mod TurnRecords
 pub mod NodeTap
 pub mod NodeTaps
-pub mod StreamWords
+pub mod AtPosition
 pub mod Offsets
 pub mod StreamIndices
 pub mod OwnRecords

@@ -1,8 +1,10 @@
 //! Which entries a server sends again after a recovery.
 ghost use Rattle.std.specs.Prelude.{◌≡◌, IfOk, map};
-ghost use Rattle.aud_node.specs.Recoverable.{is_recoverable};
+ghost use Rattle.aud_sio.specs.Packet.{view};
+ghost use Rattle.aud_node.specs.Recoverable.{is_recoverable, is_packet_of, is_event};
 
-use aud_tap::StreamRec;
+use aud_sio::{Packet, PacketKind, SioFault, decode, last_text};
+use aud_tap::{Event, StreamRec};
 use std::alloc::{AllocError, Global};
 
 /// Of each entry, whether it is recoverable.
@@ -17,11 +19,37 @@ pub fn recoverable_of(alloc: Global, entries: &[StreamRec]) -> Result<Vec<bool>,
 }
 
 /// Whether the entry is an event that a server sends again.
+#[tactic(auto, unfolding(crate::specs::Recoverable::is_recoverable))]
 fn is_recoverable(alloc: Global, entry: &StreamRec) -> Result<bool, AllocError>
     ensures { IfOk result (λ answer. answer ≡ is_recoverable entry.now) }
 {
-    match entry {
-        StreamRec::Ev(_) => Ok(true),
-        StreamRec::Other { .. } => Ok(false),
+    let StreamRec::Ev(event) = entry else {
+        return Ok(false);
+    };
+    match decode(alloc, event.text.as_str()) {
+        Ok(packet) => Ok(is_packet_of(event, &packet)),
+        Err(SioFault::Memory) => Err(AllocError),
+        Err(_) => Ok(false),
+    }
+}
+
+/// Whether the packet is one that a server sends again for the event.
+fn is_packet_of(event: &Event, packet: &Packet<'_>) -> bool
+    ensures { result ≡ is_packet_of event.now (view packet.now) }
+{
+    is_event(packet.kind)
+        && packet.nsp == event.nsp.as_str()
+        && packet.id.is_none()
+        && last_text(packet) == Some(event.off.as_str())
+        && usize::from(packet.attachments) == event.bin.as_slice().len()
+}
+
+/// Whether the kind carries an event.
+fn is_event(kind: PacketKind) -> bool
+    ensures { result ≡ is_event kind }
+{
+    match kind {
+        PacketKind::Event | PacketKind::BinaryEvent => true,
+        _ => false,
     }
 }

@@ -2,8 +2,7 @@
 ghost use Rattle.std.specs.Prelude.{◌≡◌, IfOk};
 ghost use Rattle.std.specs.Option.{option_copied};
 ghost use Rattle.aud_node.specs.Stream.{position, entry};
-ghost use Rattle.aud_node.specs.Recoverable.{is_recoverable_at};
-ghost use Rattle.aud_node.specs.StreamWords.{next_position};
+ghost use Rattle.aud_node.specs.AtPosition.{is_recoverable_at, next_position};
 
 use crate::offsets::Offsets;
 use crate::recoverable::recoverable_of;
