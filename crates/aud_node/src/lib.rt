@@ -20,3 +20,6 @@ pub use logs::Logs;
 pub use node_log::NodeLog;
 pub use recs::Recs;
 pub use stream::Stream;
+
+#[cfg(test)]
+mod tests;
