@@ -16,3 +16,4 @@ pub mod Blocked
 pub mod Least
 pub mod FourTurns
 pub mod Witness
+pub mod Maps

@@ -15,7 +15,8 @@ use Rattle.aud_node.specs.Lists.{numbers_from}
 use Rattle.aud_node.specs.Stream.{Text, position, offset_of}
 use Rattle.aud_node.specs.TurnRecords.{pid_of}
 use Rattle.aud_merge.specs.Due.{cursor_of, cursor_in}
-use Rattle.aud_merge.specs.Machine.{Step, State, start, after, cursor_after, next_position, sessions_after, session_of, taken_in, taken_of, appended}
+use Rattle.aud_merge.specs.declared.step.Step.{Step}
+use Rattle.aud_merge.specs.Machine.{State, start, after, cursor_after, next_position, sessions_after, session_of, taken_in, taken_of, appended}
 use Rattle.aud_merge.specs.Runs.{record_count, AreAllowed, IsRun}
 use Rattle.aud_merge.specs.Sessions.{Session, Absent, session_after}
 use Rattle.aud_merge.proofs.Basics.{map_parts, cond_parts, cases_text, get_insert_same, get_insert_other}

@@ -11,7 +11,8 @@ use Rattle.aud_node.specs.TurnRecords.{pid_of, begins_turn}
 use Rattle.aud_rooms.specs.Rooms.{Rooms, rooms_after}
 use Rattle.aud_rooms.specs.Turns.{Who, Turn, beginning, Inner, Last, End, ByBreak, ByGone, ByLog, part_of, turn_end, MayEnd, IsTurn}
 use Rattle.aud_merge.specs.Due.{cursor_of, node_cursor, is_at_least, is_reached}
-use Rattle.aud_merge.specs.Machine.{Step, State, session_of, taken_in, taken_of, appended}
+use Rattle.aud_merge.specs.declared.step.Step.{Step}
+use Rattle.aud_merge.specs.Machine.{State, session_of, taken_in, taken_of, appended}
 use Rattle.aud_merge.specs.Sessions.{Here, Ended, session_after}
 use Rattle.aud_merge.proofs.Steps.{EntryStep, RecordStep, Stepped}
 use Rattle.aud_merge.proofs.Moves.{Named, Quiet, moved, Synced, Synced-step, RunsOn}

@@ -6,7 +6,8 @@ use Rattle.aud_tap.specs.declared.taps.Records.{Records}
 use Rattle.aud_tap.specs.declared.taps.Records.TheVariants.{Stream, Node, Client}
 use Rattle.aud_node.specs.Lists.{numbers_from}
 use Rattle.aud_node.specs.Cluster.{Cluster, log_at}
-use Rattle.aud_merge.specs.Machine.{Step, State, start, after, taken_of}
+use Rattle.aud_merge.specs.declared.step.Step.{Step}
+use Rattle.aud_merge.specs.Machine.{State, start, after, taken_of}
 
 -- how many steps the log has: one for each record of the stream's or of a node's tap
 abbrev pub log_length : Option Records → ℕ
