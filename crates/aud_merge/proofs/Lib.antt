@@ -17,3 +17,4 @@ pub mod Least
 pub mod FourTurns
 pub mod Witness
 pub mod Maps
+pub mod Merged

@@ -35,6 +35,11 @@ pub record IsRun (c : Cluster) (steps : List Step) : Type 0 where
   pub merges : IsMerging c steps
   pub allowed : AreAllowed c (start c) steps
 
+-- the steps are the rest of a run: from this state on each of them is allowed, and then each log is finished
+abbrev pub RunsOn : Cluster → State → List Step → Type 0
+RunsOn c st [] = (place : ℕ) → taken_of st place ≡ record_count c place
+RunsOn c st (step ∷ steps) = (next : State) × (after c st step ≡ Some next) × RunsOn c next steps
+
 -- the state after the steps
 abbrev pub state_after : Cluster → State → List Step → State
 state_after c st [] = st

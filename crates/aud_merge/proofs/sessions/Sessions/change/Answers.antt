@@ -1,4 +1,4 @@
-use Rattle.std.proofs.Common.{refl, sym, ap, subst, ◌∙◌, Some, None, ◌≡◌, OnOk, OnErr, is_some}
+use Rattle.std.proofs.Common.{sym, ap, ◌∙◌, Some, None, is_some}
 use Rattle.std.proofs.lemmas.Result.{on_ok_weaker, on_err_weaker}
 use Rattle.std.proofs.lemmas.Map.Steps.{set_value_same}
 use Rattle.std.specs.FinMap as fin
