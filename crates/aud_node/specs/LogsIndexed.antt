@@ -2,7 +2,7 @@
 use Rattle.std.specs.Prelude.{◌≡◌, map, Option, Some, None}
 use Rattle.aud_node.specs.NodeTap.{NodeTap}
 use Rattle.aud_node.specs.NodeTaps.{node_tap}
-use Rattle.aud_node.specs.Cluster.{stream_of}
+use Rattle.aud_node.specs.Cluster.{stream_of, stream_place}
 use Rattle.aud_node.specs.declared.logs.Log.{Log}
 use Rattle.aud_node.specs.declared.logs.Log.TheVariants.{Stream, Node, Client}
 use Rattle.aud_node.specs.declared.logs.Logs.TheInside.{Inside}
@@ -15,5 +15,6 @@ node_of Client = None
 
 -- the entries are those of the taps, and each node's log is kept at its place
 pub record IsIndexed (l : Inside) : Type 0 where
+  pub place_is : l.place ≡ stream_place l.taps.now
   pub stream_is : l.stream ≡ stream_of l.taps.now
   pub nodes_are : map node_of l.logs.items ≡ map (node_tap l.stream) l.taps.now

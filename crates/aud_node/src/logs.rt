@@ -1,7 +1,7 @@
 //! The cluster's logs.
 ghost use Rattle.std.specs.Prelude.{◌≡◌, IfOk, length, map};
 ghost use Rattle.std.specs.Option.{option_copied};
-ghost use Rattle.aud_node.specs.Cluster.{cluster_of, stream_of};
+ghost use Rattle.aud_node.specs.Cluster.{cluster_of, stream_of, stream_place};
 ghost use Rattle.aud_node.specs.NodeTaps.{node_at, name_at, node_tap};
 ghost use Rattle.aud_node.specs.LogsIndexed.{node_of};
 
@@ -24,6 +24,7 @@ pub enum Log<'a> {
 #[derive(Drop)]
 pub struct Logs<'a> {
     taps: &'a [Tap],
+    place: Option<usize>,
     stream: Stream<'a>,
     logs: Vec<Log<'a>>,
 }
@@ -48,7 +49,26 @@ impl<'a> Logs<'a> {
         let taps = taps.as_slice();
         let stream = Stream::build(alloc, entries_of(taps))?;
         let logs = logs_of(alloc, &stream, taps)?;
-        Ok(Logs { taps, stream, logs })
+        Ok(Logs {
+            taps,
+            place: place_of(taps),
+            stream,
+            logs,
+        })
+    }
+
+    /// The taps in the order of their headers, lent.
+    pub fn taps(&self) -> &'a [Tap]
+        ensures { result.now ≡ self.now.taps }
+    {
+        self.taps
+    }
+
+    /// The place of the stream's tap; none where there is none.
+    pub fn stream_place(&self) -> Option<usize>
+        ensures { result ≡ stream_place self.now.taps }
+    {
+        self.place
     }
 
     /// The stream's entries, lent.
@@ -99,6 +119,18 @@ impl<'a> Log<'a> {
             Log::Client => None,
         }
     }
+}
+
+/// The place of the first stream tap.
+fn place_of(taps: &[Tap]) -> Option<usize>
+    ensures { result ≡ stream_place taps.now }
+{
+    for (place, tap) in taps.iter().enumerate() {
+        if let Records::Stream(_) = &tap.records {
+            return Some(place);
+        }
+    }
+    None
 }
 
 /// The entries of the first stream tap.
