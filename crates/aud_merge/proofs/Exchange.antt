@@ -15,12 +15,14 @@ use Rattle.aud_node.specs.Cluster.{Cluster, node_log, node_recs, log_at}
 use Rattle.aud_node.specs.Stream.{Text, position, offset_of}
 use Rattle.aud_node.specs.TurnRecords.{pid_of, begins_turn}
 use Rattle.aud_rooms.specs.Turns.{Who}
-use Rattle.aud_merge.specs.Machine.{Step, Progress, State, start, after, after_next, after_record, after_entry, cursor_after, next_position, sessions_after, session_of, taken_of, appended, taken_in}
-use Rattle.aud_merge.specs.Runs.{record_count, IsRun, AreAllowed, IsBlocked, state_after, front}
+use Rattle.aud_merge.specs.declared.step.Step.{Step}
+use Rattle.aud_merge.specs.declared.progress.Progress.{Progress}
+use Rattle.aud_merge.specs.Machine.{State, start, after, after_next, after_record, after_entry, cursor_after, next_position, sessions_after, session_of, taken_of, appended, taken_in}
+use Rattle.aud_merge.specs.Runs.{record_count, IsRun, AreAllowed, IsBlocked, state_after, front, RunsOn}
 use Rattle.aud_merge.specs.Sessions.{Session, Absent, Here, Away, Ended, session_after}
 use Rattle.aud_merge.proofs.Basics.{and_then_parts, map_parts, cond_parts, cases_text, slice_get-set_other, get_insert_same, get_insert_other}
 use Rattle.aud_merge.proofs.Steps.{Stepped, stepped, appended-grows}
-use Rattle.aud_merge.proofs.Moves.{Named, next_position-at, RunsOn, RunsOn-run}
+use Rattle.aud_merge.proofs.Moves.{Named, next_position-at, RunsOn-run}
 use Rattle.aud_merge.proofs.Records.{IsBeyond, here-node, ended-after, waiting-after}
 use Rattle.aud_merge.proofs.Phases.{never_again}
 

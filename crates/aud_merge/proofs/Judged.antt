@@ -11,11 +11,12 @@ use Rattle.aud_rooms.specs.Turns.{Who, slice_of, End, ByLog, turn_end, MayEnd}
 use Rattle.aud_rooms.specs.TurnsDue.{rooms_for}
 use Rattle.aud_merge.specs.ByTurns.{first_reaching, reaching_step, FallsAfter}
 use Rattle.aud_merge.specs.Due.{is_reached, states_from}
-use Rattle.aud_merge.specs.Machine.{Step, State, after, session_of, taken_of}
-use Rattle.aud_merge.specs.Runs.{record_count}
+use Rattle.aud_merge.specs.declared.step.Step.{Step}
+use Rattle.aud_merge.specs.Machine.{State, after, session_of, taken_of}
+use Rattle.aud_merge.specs.Runs.{record_count, RunsOn}
 use Rattle.aud_merge.specs.Sessions.{Session, Here}
 use Rattle.aud_merge.proofs.Steps.{stepped}
-use Rattle.aud_merge.proofs.Moves.{Synced, Synced-step, RunsOn}
+use Rattle.aud_merge.proofs.Moves.{Synced, Synced-step}
 use Rattle.aud_merge.proofs.Slices.{between-none, part_from, rooms_for-behind, rooms_for-at_low, cursor_at-rises}
 use Rattle.aud_merge.proofs.Phases.{length-count, In, Spot, Waiting, Within, Over, Beyond, Holds}
 use Rattle.aud_merge.proofs.PhaseSteps.{moves_on}

@@ -16,3 +16,5 @@ pub mod Blocked
 pub mod Least
 pub mod FourTurns
 pub mod Witness
+pub mod Maps
+pub mod Merged

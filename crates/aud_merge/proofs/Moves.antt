@@ -15,8 +15,9 @@ use Rattle.aud_node.specs.Lists.{numbers_from}
 use Rattle.aud_node.specs.Stream.{Text, position, offset_of}
 use Rattle.aud_node.specs.TurnRecords.{pid_of}
 use Rattle.aud_merge.specs.Due.{cursor_of, cursor_in}
-use Rattle.aud_merge.specs.Machine.{Step, State, start, after, cursor_after, next_position, sessions_after, session_of, taken_in, taken_of, appended}
-use Rattle.aud_merge.specs.Runs.{record_count, AreAllowed, IsRun}
+use Rattle.aud_merge.specs.declared.step.Step.{Step}
+use Rattle.aud_merge.specs.Machine.{State, start, cursor_after, next_position, sessions_after, session_of, taken_in, taken_of, appended}
+use Rattle.aud_merge.specs.Runs.{record_count, AreAllowed, IsRun, RunsOn}
 use Rattle.aud_merge.specs.Sessions.{Session, Absent, session_after}
 use Rattle.aud_merge.proofs.Basics.{map_parts, cond_parts, cases_text, get_insert_same, get_insert_other}
 use Rattle.aud_merge.proofs.Steps.{EntryStep, RecordStep, Stepped, stepped}
@@ -137,12 +138,8 @@ Synced-step c st st' l i s synced m = go (cases_eq m l)
     go (inl e) = subst (λ (n : ℕ). cursor_of st' n ≡ cursor_at c.stream (node_log c n) (taken_of st' n)) (sym e) (by_kind s.kind ∙ ap (λ n. cursor_at c.stream (node_log c l) n) (sym s.now))
     go (inr n) = ap cursor_in (s.others m n) ∙ synced m ∙ ap (λ o. cursor_at c.stream (node_log c m) (taken_in o)) (sym (s.others m n))
 
--- from this state on the steps are allowed, and then each log is finished
-abbrev pub RunsOn : Cluster → State → List Step → Type 0
-RunsOn c st [] = (l : ℕ) → taken_of st l ≡ record_count c l
-RunsOn c st (s ∷ steps) = (next : State) × (after c st s ≡ Some next) × RunsOn c next steps
-
-abbrev steps_of : ℕ → List Step → List ℕ
+-- the numbers of the steps of one log
+abbrev pub steps_of : ℕ → List Step → List ℕ
 steps_of l steps = map (λ (s : Step). s.index) (filter (λ (s : Step). nat_eq s.log l) steps)
 
 length-numbers_from : (a n : ℕ) → length (numbers_from a n) ≡ n

@@ -11,10 +11,12 @@ use Rattle.aud_node.specs.TurnRecords.{pid_of, begins_turn}
 use Rattle.aud_rooms.specs.Rooms.{Rooms, rooms_after}
 use Rattle.aud_rooms.specs.Turns.{Who, Turn, beginning, Inner, Last, End, ByBreak, ByGone, ByLog, part_of, turn_end, MayEnd, IsTurn}
 use Rattle.aud_merge.specs.Due.{cursor_of, node_cursor, is_at_least, is_reached}
-use Rattle.aud_merge.specs.Machine.{Step, State, session_of, taken_in, taken_of, appended}
+use Rattle.aud_merge.specs.declared.step.Step.{Step}
+use Rattle.aud_merge.specs.Machine.{State, session_of, taken_in, taken_of, appended}
 use Rattle.aud_merge.specs.Sessions.{Here, Ended, session_after}
+use Rattle.aud_merge.specs.Runs.{RunsOn}
 use Rattle.aud_merge.proofs.Steps.{EntryStep, RecordStep, Stepped}
-use Rattle.aud_merge.proofs.Moves.{Named, Quiet, moved, Synced, Synced-step, RunsOn}
+use Rattle.aud_merge.proofs.Moves.{Named, Quiet, moved, Synced, Synced-step}
 use Rattle.aud_merge.proofs.Slices.{between-more, between-none, between-nil, end_parts, reaches-takes-behind}
 use Rattle.aud_merge.proofs.Records.{here-node, beginning-here, ended-after, begins-same, inner-after, ended, last-names, last-after, quiet-rooms, waiting, waiting-after, beginning-after, beginning-begins, begins-names, begun-beyond}
 use Rattle.aud_merge.proofs.Phases.{never_again, Unstarted, Unstarted-step, Out, In, Spot, Waiting, Within, Over, Beyond, Holds, OnSlice, Moves, waits, begins as begins', elsewhere, goes, breaks, leaves, stays_over, passes, stays_beyond}

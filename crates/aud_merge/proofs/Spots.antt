@@ -11,7 +11,8 @@ use Rattle.aud_rooms.specs.Turns.{Who, Turn, slice_of, beginning, Last, End, ByB
 use Rattle.aud_rooms.specs.TurnsDue.{rooms_for}
 use Rattle.aud_merge.specs.ByTurns.{first_reaching, reaching_step}
 use Rattle.aud_merge.specs.Due.{node_cursor, is_at_least, is_reached}
-use Rattle.aud_merge.specs.Machine.{Step, State}
+use Rattle.aud_merge.specs.declared.step.Step.{Step}
+use Rattle.aud_merge.specs.Machine.{State}
 use Rattle.aud_merge.proofs.Moves.{Synced}
 use Rattle.aud_merge.proofs.Slices.{between-more, between-none, part_from, rooms_for-step, rooms_for-behind, rooms_for-beginning, last-takes, cursor_at-rises}
 use Rattle.aud_merge.proofs.Records.{last-rooms, waiting}

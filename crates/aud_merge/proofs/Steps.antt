@@ -8,7 +8,9 @@ use Rattle.aud_tap.specs.declared.taps.Records.TheVariants.{Stream, Node, Client
 use Rattle.aud_node.specs.Cluster.{Cluster, stream_place, node_log, node_recs, log_at}
 use Rattle.aud_node.specs.TurnRecords.{pid_of}
 use Rattle.aud_merge.specs.Due.{cursor_of, cursor_in}
-use Rattle.aud_merge.specs.Machine.{Step, Progress, State, after, after_next, after_record, after_entry, cursor_after, sessions_after, taken_in, taken_of, taken_at, appended}
+use Rattle.aud_merge.specs.declared.step.Step.{Step}
+use Rattle.aud_merge.specs.declared.progress.Progress.{Progress}
+use Rattle.aud_merge.specs.Machine.{State, after, after_next, after_record, after_entry, cursor_after, sessions_after, taken_in, taken_of, taken_at, appended}
 use Rattle.aud_merge.specs.Runs.{record_count, log_length}
 use Rattle.aud_merge.proofs.Basics.{and_then_parts, map_parts, cond_parts, slice_get-set_same, slice_get-set_other}
 

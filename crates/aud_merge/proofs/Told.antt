@@ -13,12 +13,13 @@ use Rattle.aud_rooms.specs.Rooms.{Rooms, own_room, rooms_after}
 use Rattle.aud_rooms.specs.Turns.{Who, Turn, beginning, Part, Inner, Last, Foreign, End, ByBreak, ByGone, part_of, AreTurns, HasNoTurn}
 use Rattle.aud_merge.specs.ByTurns.{session_past, after_records, by_turns}
 use Rattle.aud_merge.specs.Due.{states_from, states}
-use Rattle.aud_merge.specs.Machine.{Step, State, start, after, session_of, taken_of, taken_in}
-use Rattle.aud_merge.specs.Runs.{IsRun}
+use Rattle.aud_merge.specs.declared.step.Step.{Step}
+use Rattle.aud_merge.specs.Machine.{State, start, after, session_of, taken_of, taken_in}
+use Rattle.aud_merge.specs.Runs.{IsRun, RunsOn}
 use Rattle.aud_merge.specs.Sessions.{Session, Absent, Here, Away, Ended}
 use Rattle.aud_merge.proofs.Basics.{itself_text}
 use Rattle.aud_merge.proofs.Steps.{Stepped, stepped}
-use Rattle.aud_merge.proofs.Moves.{Synced, Synced-step, Synced-start, RunsOn, RunsOn-run}
+use Rattle.aud_merge.proofs.Moves.{Synced, Synced-step, Synced-start, RunsOn-run}
 use Rattle.aud_merge.proofs.Slices.{between-more, between-none}
 use Rattle.aud_merge.proofs.Records.{waiting, ended}
 use Rattle.aud_merge.proofs.Phases.{Unstarted, Spot, Waiting, Within, Over, Beyond, Holds, OnSlice, Moves, waits, begins, elsewhere, goes, breaks, leaves, stays_over, passes, stays_beyond}

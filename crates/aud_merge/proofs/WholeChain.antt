@@ -5,7 +5,8 @@ use Rattle.aud_rooms.specs.Turns.{Who, Turn, IsChain, slice_of}
 use Rattle.aud_rooms.specs.TurnsDue.{turns_due}
 use Rattle.aud_merge.specs.ByTurns.{by_turns, FallsAfter, reaching_step}
 use Rattle.aud_merge.specs.Due.{due, states, reach}
-use Rattle.aud_merge.specs.Machine.{Step, State, session_of}
+use Rattle.aud_merge.specs.declared.step.Step.{Step}
+use Rattle.aud_merge.specs.Machine.{State, session_of}
 use Rattle.aud_merge.specs.Runs.{IsRun}
 use Rattle.aud_merge.specs.Sessions.{Absent}
 use Rattle.aud_merge.proofs.Chain.{chain-none}

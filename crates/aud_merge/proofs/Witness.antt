@@ -14,7 +14,8 @@ use Rattle.aud_tap.specs.declared.taps.Records.TheVariants.{Stream, Node}
 use Rattle.aud_node.specs.Cluster.{Cluster, cluster_of}
 use Rattle.aud_node.specs.Stream.{Text}
 use Rattle.aud_rooms.specs.Rooms.{own_room}
-use Rattle.aud_merge.specs.Machine.{Step, State, start, after}
+use Rattle.aud_merge.specs.declared.step.Step.{Step}
+use Rattle.aud_merge.specs.Machine.{State, start, after}
 use Rattle.aud_merge.specs.Runs.{IsMerging, AreAllowed, IsRun}
 use Rattle.aud_merge.specs.Sessions.{Session, Absent, Here, Away, session_after}
 use Rattle.aud_merge.proofs.Basics.{get_insert_same}

@@ -8,7 +8,9 @@ use Rattle.aud_node.specs.Stream.{Text, entry, positions_after}
 use Rattle.aud_node.specs.Cluster.{Cluster}
 use Rattle.aud_rooms.specs.Rooms.{is_for}
 use Rattle.aud_merge.specs.Sessions.{Session, Absent, Here, Away, Ended}
-use Rattle.aud_merge.specs.Machine.{Step, Progress, State, start, after, session_of}
+use Rattle.aud_merge.specs.declared.step.Step.{Step}
+use Rattle.aud_merge.specs.declared.progress.Progress.{Progress}
+use Rattle.aud_merge.specs.Machine.{State, start, after, session_of}
 
 -- the states that the steps pass, from the one given on
 abbrev pub states_from : Cluster → State → List Step → List State

@@ -4,7 +4,9 @@ pub use Rattle.aud_rooms.specs.Rooms
 pub use Rattle.aud_rooms.specs.Turns
 pub use Rattle.aud_rooms.specs.TurnsDue
 pub mod Sessions
+pub mod SessionSeen
 pub mod Machine
+pub mod Code
 pub mod Runs
 pub mod Due
 pub mod Order

@@ -12,17 +12,9 @@ use Rattle.aud_tap.specs.declared.taps.Records.TheVariants.{Stream, Node, Client
 use Rattle.aud_node.specs.Stream.{Text, position}
 use Rattle.aud_node.specs.Cluster.{Cluster, stream_place, log_at}
 use Rattle.aud_node.specs.TurnRecords.{pid_of}
+use Rattle.aud_merge.specs.declared.step.Step.{Step}
+use Rattle.aud_merge.specs.declared.progress.Progress.{Progress}
 use Rattle.aud_merge.specs.Sessions.{Session, Absent, session_after}
-
--- a tap, by its place in the order of the headers, and the number of one of its records; both count from 0
-pub record Step : Type 0 where
-  pub log : ℕ
-  pub index : ℕ
-
--- how many records of a log were taken, and the cursor of a node, 0 before its `start`
-pub record Progress : Type 0 where
-  pub taken : ℕ
-  pub cursor : ℕ
 
 -- how far each log has come, in the order of the taps, and the sessions by pid
 pub record State : Type 0 where

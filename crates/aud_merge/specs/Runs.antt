@@ -6,7 +6,8 @@ use Rattle.aud_tap.specs.declared.taps.Records.{Records}
 use Rattle.aud_tap.specs.declared.taps.Records.TheVariants.{Stream, Node, Client}
 use Rattle.aud_node.specs.Lists.{numbers_from}
 use Rattle.aud_node.specs.Cluster.{Cluster, log_at}
-use Rattle.aud_merge.specs.Machine.{Step, State, start, after, taken_of}
+use Rattle.aud_merge.specs.declared.step.Step.{Step}
+use Rattle.aud_merge.specs.Machine.{State, start, after, taken_of}
 
 -- how many steps the log has: one for each record of the stream's or of a node's tap
 abbrev pub log_length : Option Records → ℕ
@@ -33,6 +34,11 @@ AreAllowed c st (step ∷ steps) = (next : State) × (after c st step ≡ Some n
 pub record IsRun (c : Cluster) (steps : List Step) : Type 0 where
   pub merges : IsMerging c steps
   pub allowed : AreAllowed c (start c) steps
+
+-- the steps are the rest of a run: from this state on each of them is allowed, and then each log is finished
+abbrev pub RunsOn : Cluster → State → List Step → Type 0
+RunsOn c st [] = (place : ℕ) → taken_of st place ≡ record_count c place
+RunsOn c st (step ∷ steps) = (next : State) × (after c st step ≡ Some next) × RunsOn c next steps
 
 -- the state after the steps
 abbrev pub state_after : Cluster → State → List Step → State

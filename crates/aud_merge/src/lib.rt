@@ -2,7 +2,15 @@
 #![tactic(auto)]
 
 mod laws;
+mod progress;
+mod session;
+mod sessions;
+mod state;
+mod step;
 
 pub use laws::{
     allowed_stays, due_by_turns, no_run_where_blocked, reach_by_turns, session_by_turns,
 };
+pub use session::{At, Session};
+pub use state::State;
+pub use step::Step;

@@ -1,7 +1,7 @@
 //! The cluster's logs.
 ghost use Rattle.std.specs.Prelude.{◌≡◌, IfOk, map};
 ghost use Rattle.std.specs.Option.{option_copied};
-ghost use Rattle.aud_node.specs.Cluster.{cluster_of, stream_of};
+ghost use Rattle.aud_node.specs.Cluster.{cluster_of, stream_of, stream_place};
 ghost use Rattle.aud_node.specs.NodeTaps.{node_at, node_tap};
 ghost use Rattle.aud_node.specs.LogsIndexed.{node_of};
 ghost use Rattle.aud_node.specs.Names.{place_of};
@@ -27,6 +27,7 @@ pub enum Log<'a> {
 pub struct Logs<'a> {
     taps: &'a [Tap],
     names: Names<'a>,
+    place: Option<usize>,
     stream: Stream<'a>,
     logs: Vec<Log<'a>>,
 }
@@ -55,9 +56,24 @@ impl<'a> Logs<'a> {
         Ok(Logs {
             taps,
             names,
+            place: stream_place_of(taps),
             stream,
             logs,
         })
+    }
+
+    /// The taps in the order of their headers, lent.
+    pub fn taps(&self) -> &'a [Tap]
+        ensures { result.now ≡ self.now.taps }
+    {
+        self.taps
+    }
+
+    /// The place of the stream's tap; none where there is none.
+    pub fn stream_place(&self) -> Option<usize>
+        ensures { result ≡ stream_place self.now.taps }
+    {
+        self.place
     }
 
     /// The stream's entries, lent.
@@ -105,6 +121,18 @@ impl<'a> Log<'a> {
             Log::Client => None,
         }
     }
+}
+
+/// The place of the first stream tap.
+fn stream_place_of(taps: &[Tap]) -> Option<usize>
+    ensures { result ≡ stream_place taps.now }
+{
+    for (place, tap) in taps.iter().enumerate() {
+        if let Records::Stream(_) = &tap.records {
+            return Some(place);
+        }
+    }
+    None
 }
 
 /// The entries of the first stream tap.

@@ -1,0 +1,54 @@
+-- A run from the start is a merging whose steps are allowed, and no other.
+use Rattle.std.proofs.Common.{◌≡◌, ◌+◌, ◌<◌, ℕ, zero, suc, Bool, cond, List, [], ◌∷◌, map, filter, sym, ap, subst, ◌∙◌, ◌⊎◌, inl, inr, nat_eq, refl, arith}
+use Rattle.std.proofs.lemmas.Bool.{cases_eq, eq-eqb, ne_eqb}
+use Rattle.aud_node.specs.Cluster.{Cluster}
+use Rattle.aud_node.specs.Lists.{numbers_from}
+use Rattle.aud_merge.specs.declared.step.Step.{Step}
+use Rattle.aud_merge.specs.Machine.{State, start, taken_of, taken_in}
+use Rattle.aud_merge.specs.Runs.{record_count, RunsOn, AreAllowed, IsRun}
+use Rattle.aud_merge.proofs.Steps.{Stepped, stepped}
+use Rattle.aud_merge.proofs.Moves.{steps_of, taken-start}
+
+allowed_on : (c : Cluster) (st : State) (steps : List Step) → RunsOn c st steps → AreAllowed c st steps
+allowed_on c st [] runs = tt
+allowed_on c st (s ∷ steps) runs =
+    let (next, at, later) = runs in
+    (next, at, allowed_on c next steps later)
+
+-- the steps of a log are the records that are left of it
+left_of : (c : Cluster) (l : ℕ) (steps : List Step) (st : State) (rest : ℕ) → RunsOn c st steps → taken_of st l + rest ≡ record_count c l → steps_of l steps ≡ numbers_from (taken_of st l) rest
+left_of c l [] st zero runs all = refl
+left_of c l [] st (suc rest) runs all = let finished = runs l in absurd (omega (arith, finished, all))
+left_of c l (s ∷ steps) st rest runs all =
+    let (next, at, later) = runs in
+    go next (stepped c st next s at) (cases_eq s.log l) rest all (λ rest' all'. left_of c l steps next rest' later all')
+  where
+    step_of : Bool → List ℕ
+    step_of b = map (λ (s : Step). s.index) (cond b (s ∷ filter (λ (s : Step). nat_eq s.log l) steps) (filter (λ (s : Step). nat_eq s.log l) steps))
+
+    go : (next : State) → Stepped c st next s.log s.index → (s.log ≡ l) ⊎ (s.log ≡ l → ⊥) → (rest : ℕ) → taken_of st l + rest ≡ record_count c l
+        → ((rest' : ℕ) → taken_of next l + rest' ≡ record_count c l → steps_of l steps ≡ numbers_from (taken_of next l) rest')
+        → steps_of l (s ∷ steps) ≡ numbers_from (taken_of st l) rest
+    go next moved (inl e) zero all ih =
+        let was : taken_of st l ≡ s.index = subst (λ n. taken_of st n ≡ s.index) e moved.was in
+        let more = subst (λ n. s.index < record_count c n) e moved.counted in
+        absurd (omega (arith, all, was, more))
+    go next moved (inl e) (suc rest) all ih =
+        let was : taken_of st l ≡ s.index = subst (λ n. taken_of st n ≡ s.index) e moved.was in
+        let now : taken_of next l ≡ suc s.index = subst (λ n. taken_of next n ≡ suc s.index) e moved.now in
+        let later = ih rest (omega (arith, all, was, now)) in
+        ap step_of (eq-eqb s.log l e)
+        ∙ ap (λ xs. s.index ∷ xs) (later ∙ ap (λ n. numbers_from n rest) now)
+        ∙ ap (λ n. n ∷ numbers_from (suc n) rest) (sym was)
+    go next moved (inr n) rest all ih =
+        let kept : taken_of next l ≡ taken_of st l = ap taken_in (moved.others l (λ e. n (sym e))) in
+        ap step_of (ne_eqb s.log l n) ∙ ih rest (omega (arith, all, kept)) ∙ ap (λ k. numbers_from k rest) kept
+
+pub run-RunsOn : (c : Cluster) (run : List Step) → RunsOn c (start c) run → IsRun c run
+run-RunsOn c run runs =
+    record {
+      merges = λ l.
+          (let none = taken-start c l in
+          left_of c l run (start c) (record_count c l) runs (omega (arith, none)) ∙ ap (λ n. numbers_from n (record_count c l)) none);
+      allowed = allowed_on c (start c) run runs;
+    }

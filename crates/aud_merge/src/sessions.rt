@@ -1,0 +1,106 @@
+//! The sessions that were opened, by pid.
+ghost use Rattle.std.specs.Prelude.{◌≡◌, OnOk, OnErr, IsSome, Some, is_some};
+ghost use Rattle.std.specs.Option.{option_copied, unwrap_or};
+ghost use Rattle.std.specs.FinMap as fin;
+ghost use Rattle.aud_node.specs.TurnRecords.{pid_of};
+ghost use Rattle.aud_merge.specs.Machine.{sessions_after};
+ghost use Rattle.aud_merge.specs.Sessions.{Absent};
+ghost use Rattle.aud_merge.specs.SessionSeen.{seen_or_absent, session_seen};
+
+use crate::session::{Session, allows};
+use aud_tap::{Memory, NodeRec};
+use std::alloc::Global;
+use std::collections::BTreeMap;
+use std::marker::Model;
+
+/// The sessions that were opened, by pid; seen as a map. Pids are lent.
+#[derive(Drop)]
+pub(crate) struct Sessions<'a> {
+    alloc: Global,
+    map: BTreeMap<&'a str, Session<'a>>,
+}
+
+impl<'a> Model for Sessions<'a> {
+    ghost use Rattle.std.specs.Ordering.{nat_cmp};
+    ghost use Rattle.std.specs.Cmp.Lexicographic.{slice_cmp};
+    ghost use Rattle.std.specs.FinMap as fin;
+    ghost use Rattle.aud_merge.specs.Sessions.{Session};
+    ghost use Rattle.aud_merge.specs.Code.{sessions_code};
+    ghost use Rattle.aud_merge.specs.SessionSeen.{sessions_of};
+
+    ghost Value = { fin.FinMap (slice_cmp nat_cmp) Session };
+
+    ghost coded = { sessions_code };
+
+    ghost view = { λ s. sessions_of s.map.entries };
+}
+
+impl<'a> Sessions<'a> {
+    /// None was opened.
+    pub(crate) fn new(alloc: Global) -> Sessions<'a>
+        ensures { result ≡ fin.empty }
+    {
+        Sessions {
+            alloc,
+            map: BTreeMap::new(alloc),
+        }
+    }
+
+    /// The session of a pid; none where it wasn't opened.
+    pub(crate) fn get(&self, pid: &str) -> Option<&Session<'a>>
+        ensures { seen_or_absent (option_copied result) ≡ unwrap_or (fin.get self.now pid.now) Absent }
+    {
+        self.map.get(pid)
+    }
+
+    /// Whether the session that the node's record names allows it.
+    pub(crate) fn allow(&self, node: usize, rec: &NodeRec) -> bool
+        ensures { result ≡ is_some (sessions_after node rec.now (pid_of rec.now) self.now) }
+    {
+        match pid_of(rec) {
+            Some(pid) => allows(self.get(pid), node, rec),
+            None => true,
+        }
+    }
+
+    /// What an allowed record of the node does to the session that it names, if it names one.
+    pub(crate) fn change(&mut self, node: usize, rec: &'a NodeRec) -> Result<(), Memory>
+        requires { IsSome (sessions_after node rec.now (pid_of rec.now) self.old) }
+        ensures changed { OnOk result (sessions_after node rec.now (pid_of rec.now) self.old ≡ Some self.new) }
+        ensures unchanged { OnErr result (self.new ≡ self.old) }
+    {
+        let Some(pid) = pid_of(rec) else {
+            return Ok(());
+        };
+        match self.map.get_mut(pid) {
+            Some(session) => session.change(node, rec),
+            None => self.insert(pid, Session::open(self.alloc, node, rec)?),
+        }
+    }
+
+    fn insert(&mut self, pid: &'a str, session: Session<'a>) -> Result<(), Memory>
+        ensures inserted { OnOk result (self.new ≡ fin.insert self.old pid.now (session_seen session.entry)) }
+        ensures unchanged { OnErr result (self.new ≡ self.old) }
+    {
+        match self.map.insert(pid, session) {
+            Ok(_) => Ok(()),
+            Err(_) => Err(Memory),
+        }
+    }
+}
+
+/// The pid that the record names.
+fn pid_of(rec: &NodeRec) -> Option<&str>
+    ensures { option_copied result ≡ pid_of rec.now }
+{
+    match rec {
+        NodeRec::Opened { pid, .. } => Some(pid.as_str()),
+        NodeRec::Join { pid, .. } => Some(pid.as_str()),
+        NodeRec::Leave { pid, .. } => Some(pid.as_str()),
+        NodeRec::Broke { pid, .. } => Some(pid.as_str()),
+        NodeRec::Back { pid, .. } => Some(pid.as_str()),
+        NodeRec::Gone { pid } => Some(pid.as_str()),
+        NodeRec::Start { .. } => None,
+        NodeRec::Take { .. } => None,
+    }
+}
