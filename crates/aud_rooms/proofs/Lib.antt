@@ -4,3 +4,4 @@ pub mod Members
 pub mod ByTurns
 pub mod Unique
 pub mod Positions
+pub mod Times

@@ -5,3 +5,4 @@ pub mod Turns
 pub mod TurnsDue
 pub mod Spans
 pub mod Assigned
+pub mod Times

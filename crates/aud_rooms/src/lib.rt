@@ -2,6 +2,8 @@
 #![tactic(auto)]
 
 mod addressee;
+mod holding;
+mod interval;
 mod laws;
 mod room_set;
 mod span;
