@@ -5,3 +5,4 @@ pub mod ByTurns
 pub mod Unique
 pub mod Positions
 pub mod Times
+pub mod Kept

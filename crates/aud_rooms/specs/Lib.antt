@@ -6,3 +6,4 @@ pub mod TurnsDue
 pub mod Spans
 pub mod Assigned
 pub mod Times
+pub mod Building

@@ -49,7 +49,7 @@ impl Holding {
     /// The room is held no longer.
     pub fn shut(&mut self, covered: u64) -> Result<(), Memory>
         ensures continues { (low : ℕ) → AreApart low self.old.ended self.old.since covered
-            → OnOk result (Continues low covered self.old self.new) }
+            → Continues low covered self.old self.new }
         ensures left { OnOk result (is_held_now self.new ≡ false) }
         ensures unchanged { OnErr result (self.new ≡ self.old) }
     {

@@ -2,6 +2,8 @@
 #![tactic(auto)]
 
 mod addressee;
+mod builder;
+mod building;
 mod holding;
 mod interval;
 mod laws;
@@ -9,6 +11,7 @@ mod room_set;
 mod span;
 
 pub use addressee::addressed;
+pub use builder::SpanBuilder;
 pub use laws::{due_by_spans_of_turns, spans_are_unique, spans_go_by_positions};
 pub use room_set::RoomSet;
 pub use span::Span;
