@@ -16,7 +16,7 @@ use Rattle.aud_rooms.specs.Times.{Times, AreApart, Continues, is_held_at, is_hel
 use Rattle.aud_rooms.specs.Building.{Entries, times_of, do_pass, rooms_with, assigned_of, AreKept}
 use Rattle.aud_rooms.proofs.Times.{lt_false, held_beyond, apart_longer}
 
-same_text : (a b : Text) → eq_by_cmp (slice_cmp nat_cmp) a b ≡ true → a ≡ b
+pub same_text : (a b : Text) → eq_by_cmp (slice_cmp nat_cmp) a b ≡ true → a ≡ b
 same_text a b e = (bytes_decides a b).0 (texts_ties a b ∙ e)
 
 -- ---- the rooms whose times pass a test

@@ -6,3 +6,5 @@ pub mod Unique
 pub mod Positions
 pub mod Times
 pub mod Kept
+pub mod Maximal
+pub mod Finished

@@ -1,5 +1,5 @@
 -- When one room is held: intervals in order, apart from one another.
-use Rattle.std.proofs.Common.{◌≡◌, ◌<◌, ◌≤◌, ◌-◌, ℕ, suc, Bool, true, false, ◌||◌, ◌&&◌, List, [], ◌∷◌, ◌++◌, length, take, drop, Option, Some, None, get_or, drop-cons, refl, sym, ap, subst, ◌∙◌, nat_lt, nat_le, arith}
+use Rattle.std.proofs.Common.{◌≡◌, ◌<◌, ◌≤◌, ◌-◌, ℕ, zero, suc, Bool, true, false, ◌||◌, ◌&&◌, List, [], ◌∷◌, ◌++◌, length, take, drop, Option, Some, None, get_or, drop-cons, refl, sym, ap, subst, ◌∙◌, nat_lt, nat_le, arith}
 use Rattle.std.specs.List.{list_any, slice_get}
 use Rattle.std.specs.Option.{is_some}
 use Rattle.std.proofs.lemmas.Bool.{le-leb, lt-leb}
@@ -186,3 +186,9 @@ shut_unused low covered after t old since seen held none =
     subst (λ (s : Times). AreApart low s.ended s.since covered → Continues low covered s (record { ended = old; since = None })) seen
     (subst (λ o. AreApart low old o covered → Continues low covered (record { ended = old; since = o }) (record { ended = old; since = None })) (sym held)
     (unused low covered after old none))
+
+-- each interval has positions
+pub some_at : (from covered : ℕ) (is : List Interval) (since : Option ℕ) (k : ℕ) (d : Interval) → AreApart from is since covered → k < length is → (get_or is k d).after < (get_or is k d).last
+some_at from covered [] since k d apart h = absurd (omega arith)
+some_at from covered (i ∷ is) since zero d (a, b, c, rest) h = b
+some_at from covered (i ∷ is) since (suc k) d (a, b, c, rest) h = some_at (suc i.last) covered is since k d rest (omega arith)

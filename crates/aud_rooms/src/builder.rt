@@ -1,5 +1,5 @@
 //! Builds the spans of a session.
-ghost use Rattle.std.specs.Prelude.{◌≡◌, OnOk, OnErr, IfOk, IsErr};
+ghost use Rattle.std.specs.Prelude.{◌≡◌, OnOk, OnErr, IfOk, IsErr, MatchOption};
 ghost use Rattle.std.specs.Option.{option_map, is_some};
 ghost use Rattle.std.specs.Result.{is_ok};
 ghost use Rattle.aud_rooms.specs.Assigned.{Assigned, starting, with_joined, with_left, covered_upto, AreSpansOf};
@@ -79,6 +79,18 @@ impl<'a> SpanBuilder<'a> {
                 building.cover(position);
                 Ok(())
             }
+            None => Err(Memory),
+        }
+    }
+
+    /// The spans of the positions past `birth` that are covered: all maximal intervals of positions at which a room is
+    /// held, by the bytes of the room, then by the first position.
+    pub fn finish(self) -> Result<Vec<Span<'a>>, Memory>
+        ensures spans { IfOk result (λ spans. MatchOption self.entry ⊥ (λ given. AreSpansOf given spans.items)) }
+        ensures stays_out { self.entry ≡ None → IsErr result }
+    {
+        match self.building {
+            Some(building) => building.finish(),
             None => Err(Memory),
         }
     }

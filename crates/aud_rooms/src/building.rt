@@ -3,6 +3,8 @@ ghost use Rattle.std.specs.Prelude.{◌≡◌, IfOk, OnOk};
 ghost use Rattle.aud_rooms.specs.Assigned.{Assigned, starting, with_joined, with_left, covered_upto, AreSpansOf};
 
 use crate::holding::Holding;
+use crate::room_spans::spans_of_rooms;
+use crate::span::Span;
 use aud_tap::Memory;
 use std::alloc::Global;
 use std::collections::BTreeMap;
@@ -79,5 +81,12 @@ impl<'a> Building<'a> {
             return Ok(());
         };
         holding.shut(self.covered)
+    }
+
+    /// The spans of the covered positions.
+    pub fn finish(self) -> Result<Vec<Span<'a>>, Memory>
+        ensures { IfOk result (λ spans. AreSpansOf self.entry spans.items) }
+    {
+        spans_of_rooms(self.alloc, &self.rooms, self.covered)
     }
 }

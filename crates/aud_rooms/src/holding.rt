@@ -1,5 +1,5 @@
 //! When one room is held.
-ghost use Rattle.std.specs.Prelude.{◌≡◌, ◌<◌, ◌≤◌, ◌++◌, ℕ, [], IsTrue, OnOk, OnErr, Some, None, false};
+ghost use Rattle.std.specs.Prelude.{◌≡◌, ◌<◌, ◌≤◌, ◌++◌, ◌∷◌, ℕ, [], IsTrue, OnOk, OnErr, Some, None, false};
 ghost use Rattle.aud_rooms.specs.Times.{Times, AreApart, Continues, is_held_now, spans_of, span_of};
 
 use crate::interval::Interval;
@@ -64,6 +64,37 @@ impl Holding {
         self.since = None;
         Ok(())
     }
+
+    /// Adds the spans of the room.
+    pub fn push_spans<'a>(&self, room: &'a str, covered: u64, spans: &mut Vec<Span<'a>>) -> Result<(), Memory>
+        requires { AreApart 0 self.now.ended self.now.since covered }
+        ensures { OnOk result (spans.new.items ≡ spans.old.items ++ spans_of room.now covered self.now) }
+    {
+        for interval in &self.ended {
+            push_span(spans, room, *interval)?;
+        }
+        if let Some(after) = self.since {
+            if after < covered {
+                push_span(spans, room, Interval { after, last: covered })?;
+            }
+        }
+        Ok(())
+    }
+}
+
+fn push_span<'a>(spans: &mut Vec<Span<'a>>, room: &'a str, interval: Interval) -> Result<(), Memory>
+    requires { interval.after < interval.last }
+    ensures { OnOk result (spans.new.items ≡ spans.old.items ++ span_of room.now interval ∷ []) }
+{
+    let span = Span {
+        room: CowStr::Borrowed(room),
+        first: interval.after + 1,
+        last: interval.last,
+    };
+    let Ok(()) = spans.push(span) else {
+        return Err(Memory);
+    };
+    Ok(())
 }
 
 /// The position past which a room is held that is joined now: where its last interval ends with the covered positions,

@@ -8,6 +8,7 @@ mod holding;
 mod interval;
 mod laws;
 mod room_set;
+mod room_spans;
 mod span;
 
 pub use addressee::addressed;
