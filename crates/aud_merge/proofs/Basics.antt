@@ -1,0 +1,60 @@
+-- Texts, look-ups, and options.
+use Rattle.std.proofs.Common.{◌≡◌, ◌<◌, ℕ, zero, suc, Bool, true, false, cond, List, [], ◌∷◌, length, set, Option, Some, None, slice_get, refl, sym, ap, ◌∙◌, ◌⊎◌, inl, inr, true≢false, bytes_eq, arith, option_map, option_and_then}
+use Rattle.std.specs.Ordering.{nat_cmp}
+use Rattle.std.specs.Cmp.Lexicographic.{slice_cmp, texts_ties, nat_list_cmp_total, bytes_decides}
+use Rattle.std.specs.FinMap as fin
+use Rattle.std.proofs.lemmas.Option.{same_Some, none-some}
+use Rattle.aud_node.specs.Stream.{Text}
+
+pub same_text : (a b : Text) → bytes_eq a b ≡ true → a ≡ b
+same_text a b = (bytes_decides a b).0
+
+pub itself_text : (a : Text) → bytes_eq a a ≡ true
+itself_text a = (bytes_decides a a).1 refl
+
+pub other_text : (a b : Text) → (a ≡ b → ⊥) → bytes_eq a b ≡ false
+other_text a b n = elim (bytes_eq a b) as (λ v. bytes_eq a b ≡ v → v ≡ false) [ true ↦ λ e. absurd (n (same_text a b e)) | false ↦ λ e. refl ] refl
+
+pub cases_text : (a b : Text) → (a ≡ b) ⊎ (a ≡ b → ⊥)
+cases_text a b = elim (bytes_eq a b) as (λ v. bytes_eq a b ≡ v → (a ≡ b) ⊎ (a ≡ b → ⊥)) [
+  | true ↦ λ e. inl (same_text a b e)
+  | false ↦ λ e. inr (λ same. true≢false (sym (itself_text b) ∙ ap (λ t. bytes_eq t b) (sym same) ∙ e))
+] refl
+
+module _ {X : Type 0} where
+  pub get_insert_same : (m : fin.FinMap (slice_cmp nat_cmp) X) (k : Text) (v : X) → fin.get (fin.insert m k v) k ≡ Some v
+  get_insert_same m k v = fin.get-insert nat_list_cmp_total m k v k ∙ ap (λ b. cond b (Some v) (fin.get m k)) (sym (texts_ties k k) ∙ itself_text k)
+
+  pub get_insert_other : (m : fin.FinMap (slice_cmp nat_cmp) X) (k : Text) (v : X) (q : Text) → (q ≡ k → ⊥) → fin.get (fin.insert m k v) q ≡ fin.get m q
+  get_insert_other m k v q n = fin.get-insert nat_list_cmp_total m k v q ∙ ap (λ b. cond b (Some v) (fin.get m q)) (sym (texts_ties q k) ∙ other_text q k n)
+
+  pub slice_get-set_same : (xs : List X) (i : ℕ) (v d : X) → slice_get xs i ≡ Some d → slice_get (set xs i v) i ≡ Some v
+  slice_get-set_same [] i v d e = absurd (none-some d e)
+  slice_get-set_same (x ∷ xs) zero v d e = refl
+  slice_get-set_same (x ∷ xs) (suc i) v d e = slice_get-set_same xs i v d e
+
+  pub slice_get-set_other : (xs : List X) (i j : ℕ) (v : X) → (j ≡ i → ⊥) → slice_get (set xs i v) j ≡ slice_get xs j
+  slice_get-set_other [] i j v n = refl
+  slice_get-set_other (x ∷ xs) zero zero v n = absurd (n refl)
+  slice_get-set_other (x ∷ xs) zero (suc j) v n = refl
+  slice_get-set_other (x ∷ xs) (suc i) zero v n = refl
+  slice_get-set_other (x ∷ xs) (suc i) (suc j) v n = slice_get-set_other xs i j v (λ e. n (ap suc e))
+
+  pub slice_get_below : (xs : List X) (i : ℕ) → i < length xs → (x : X) × (slice_get xs i ≡ Some x)
+  slice_get_below [] i h = absurd (omega arith)
+  slice_get_below (x ∷ xs) zero h = (x, refl)
+  slice_get_below (x ∷ xs) (suc i) h = slice_get_below xs i (omega arith)
+
+-- what an option that is there says of its parts
+module _ {A B : Type 0} where
+  pub and_then_parts : (f : A → Option B) (o : Option A) (y : B) → option_and_then f o ≡ Some y → (x : A) × (o ≡ Some x) × (f x ≡ Some y)
+  and_then_parts f None y e = absurd (none-some y e)
+  and_then_parts f (Some x) y e = (x, refl, e)
+
+  pub map_parts : (f : A → B) (o : Option A) (y : B) → option_map f o ≡ Some y → (x : A) × (o ≡ Some x) × (f x ≡ y)
+  map_parts f None y e = absurd (none-some y e)
+  map_parts f (Some x) y e = (x, refl, same_Some (f x) y e)
+
+pub cond_parts : {A : Type 0} (b : Bool) (o : Option A) (y : A) → cond b o None ≡ Some y → (b ≡ true) × (o ≡ Some y)
+cond_parts true o y e = (refl, e)
+cond_parts false o y e = absurd (none-some y e)

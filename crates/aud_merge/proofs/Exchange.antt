@@ -1,0 +1,325 @@
+-- An allowed step stays allowed until it is taken, where a run exists.
+use Rattle.std.proofs.Common.{◌≡◌, ◌<◌, ◌≤◌, ℕ, zero, suc, Bool, true, false, cond, List, [], ◌∷◌, set, take, Option, Some, None, slice_get, refl, sym, ap, subst, ◌∙◌, ◌⊎◌, inl, inr, nat_eq, unwrap_or, arith, option_map, option_and_then, bytes_eq}
+use Rattle.std.specs.Ordering.{nat_cmp}
+use Rattle.std.specs.Cmp.Lexicographic.{slice_cmp, nat_list_cmp_total}
+use Rattle.std.specs.FinMap as fin
+use Rattle.std.proofs.lemmas.Bool.{eqb-true, eq-eqb, cases_eq, and_parts, false≢true}
+use Rattle.std.proofs.lemmas.Option.{same_Some, none-some}
+use Rattle.std.proofs.lemmas.List.{set_comm}
+use Rattle.aud_tap.specs.declared.records.StreamRec.{StreamRec}
+use Rattle.aud_tap.specs.declared.records.NodeRec.{NodeRec}
+use Rattle.aud_tap.specs.declared.records.NodeRec.TheVariants.{Start, Take, Opened, Back}
+use Rattle.aud_tap.specs.declared.taps.Records.{Records}
+use Rattle.aud_tap.specs.declared.taps.Records.TheVariants.{Stream, Node, Client}
+use Rattle.aud_node.specs.Cluster.{Cluster, node_log, node_recs, log_at}
+use Rattle.aud_node.specs.Stream.{Text, position, offset_of}
+use Rattle.aud_node.specs.TurnRecords.{pid_of, begins_turn}
+use Rattle.aud_rooms.specs.Turns.{Who}
+use Rattle.aud_merge.specs.Machine.{Step, Progress, State, start, after, after_next, after_record, after_entry, cursor_after, next_position, sessions_after, session_of, taken_of, appended, taken_in}
+use Rattle.aud_merge.specs.Runs.{record_count, IsRun, AreAllowed, IsBlocked, state_after, front}
+use Rattle.aud_merge.specs.Sessions.{Session, Absent, Here, Away, Ended, session_after}
+use Rattle.aud_merge.proofs.Basics.{and_then_parts, map_parts, cond_parts, cases_text, slice_get-set_other, get_insert_same, get_insert_other}
+use Rattle.aud_merge.proofs.Steps.{Stepped, stepped, appended-grows}
+use Rattle.aud_merge.proofs.Moves.{Named, next_position-at, RunsOn, RunsOn-run}
+use Rattle.aud_merge.proofs.Records.{IsBeyond, here-node, ended-after, waiting-after}
+use Rattle.aud_merge.proofs.Phases.{never_again}
+
+abbrev pub Sessions : Type 0
+Sessions = fin.FinMap (slice_cmp nat_cmp) Session
+
+abbrev pub put_in : Option (Text × Session) → Sessions → Sessions
+put_in None m = m
+put_in (Some x) m = fin.insert m x.0 x.1
+
+abbrev pub SameAt : Option (Text × Session) → Sessions → Sessions → Type 0
+SameAt None m u = Unit {0}
+SameAt (Some x) m u = fin.get u x.0 ≡ fin.get m x.0
+
+-- a state with the changes of one step
+abbrev pub done_to : State → ℕ → Progress → Option (Text × Session) → State
+done_to u l p put = record { logs = set u.logs l p; sessions = put_in put u.sessions }
+
+abbrev pub NamedPut : Cluster → State → State → ℕ → ℕ → Option (Text × Session) → Type 0
+NamedPut c st st' l i None = Unit {0}
+NamedPut c st st' l i (Some x) = Named c st st' l i x.0
+
+-- what an allowed step does, it does in each later state in which its log and its session are the same
+pub record Does (c : Cluster) (st st' : State) (s : Step) : Type 0 where
+  pub p : Progress
+  pub put : Option (Text × Session)
+  is : st' ≡ done_to st s.log p put
+  pub named : NamedPut c st st' s.log s.index put
+  again : (u : State) → slice_get u.logs s.log ≡ slice_get st.logs s.log → appended c st ≤ appended c u → SameAt put st.sessions u.sessions → after c u s ≡ Some (done_to u s.log p put)
+
+position-more : (a b : ℕ) (stream : List StreamRec) (off : Text) (q : ℕ) → a ≤ b → position (take a stream) off ≡ Some q → position (take b stream) off ≡ Some q
+position-more zero b stream off q h e = absurd (none-some q e)
+position-more (suc a) zero stream off q h e = absurd (omega arith)
+position-more (suc a) (suc b) [] off q h e = absurd (none-some q e)
+position-more (suc a) (suc b) (x ∷ xs) off q h e = found (bytes_eq (offset_of x) off) (λ p. position-more a b xs off p (omega arith)) e
+  where
+    found : (t : Bool) → ((p : ℕ) → position (take a xs) off ≡ Some p → position (take b xs) off ≡ Some p) → cond t (Some 1) (option_map suc (position (take a xs) off)) ≡ Some q → cond t (Some 1) (option_map suc (position (take b xs) off)) ≡ Some q
+    found true ih e = e
+    found false ih e = let (p, at, is) = map_parts suc (position (take a xs) off) q e in ap (option_map suc) (ih p at) ∙ ap Some is
+
+taken-more : (a b : ℕ) (stream : List StreamRec) (off : Text) (cursor next : ℕ) → a ≤ b → next_position (position (take a stream) off) cursor ≡ Some next → next_position (position (take b stream) off) cursor ≡ Some next
+taken-more a b stream off cursor next h e =
+    let (at, is) = next_position-at (position (take a stream) off) cursor next e in
+    ap (λ o. next_position o cursor) (position-more a b stream off (suc cursor) h at) ∙ sym (ap (λ o. next_position o cursor) at) ∙ e
+
+cursor_after-more : (a b : ℕ) (stream : List StreamRec) (i : ℕ) (rec : NodeRec) (cursor next : ℕ) → a ≤ b → cursor_after (take a stream) i rec cursor ≡ Some next → cursor_after (take b stream) i rec cursor ≡ Some next
+cursor_after-more a b stream zero (Start None) cursor next h e = e
+cursor_after-more a b stream zero (Start (Some off)) cursor next h e = position-more a b stream off next h e
+cursor_after-more a b stream (suc i) (Start off) cursor next h e = absurd (none-some next e)
+cursor_after-more a b stream zero (Take off) cursor next h e = taken-more a b stream off cursor next h e
+cursor_after-more a b stream (suc i) (Take off) cursor next h e = taken-more a b stream off cursor next h e
+cursor_after-more a b stream zero _ cursor next h e = e
+cursor_after-more a b stream (suc i) _ cursor next h e = e
+
+-- what a record does to the sessions
+record Puts (l : ℕ) (rec : NodeRec) (named : Option Text) (m m' : Sessions) : Type 0 where
+  pub put : Option (Text × Session)
+  is : m' ≡ put_in put m
+  again : (u : Sessions) → SameAt put m u → sessions_after l rec named u ≡ Some (put_in put u)
+  of : (x : Text × Session) → put ≡ Some x → (named ≡ Some x.0) × (session_after l rec (unwrap_or (fin.get m x.0) Absent) ≡ Some (unwrap_or (fin.get m' x.0) Absent))
+
+puts : (l : ℕ) (rec : NodeRec) (named : Option Text) (m m' : Sessions) → sessions_after l rec named m ≡ Some m' → Puts l rec named m m'
+puts l rec None m m' e = record { put = None; is = sym (same_Some m m' e); again = λ u _. refl; of = λ x is. absurd (none-some x is) }
+puts l rec (Some pid) m m' e =
+    let (session, allowed, put) = map_parts _ (session_after l rec (unwrap_or (fin.get m pid) Absent)) m' e in
+    let at : fin.get m' pid ≡ Some session = ap (λ (x : Sessions). fin.get x pid) (sym put) ∙ get_insert_same m pid session in
+    record {
+      put = Some (pid, session);
+      is = sym put;
+      again = λ u same. ap (λ o. option_map (λ s. fin.insert u pid s) (session_after l rec (unwrap_or o Absent))) same ∙ ap (option_map (λ s. fin.insert u pid s)) allowed;
+      of = λ x is.
+          (let key : pid ≡ x.0 = ap (λ (y : Text × Session). y.0) (same_Some _ _ is) in
+          (ap Some key, ap (λ q. session_after l rec (unwrap_or (fin.get m q) Absent)) (sym key) ∙ allowed ∙ ap (λ o. Some (unwrap_or o Absent)) (sym at ∙ ap (fin.get m') key)));
+    }
+
+after-at : (c : Cluster) (u : State) (s : Step) (done : Progress) (log : Records) → slice_get u.logs s.log ≡ Some done → done.taken ≡ s.index → log_at c s.log ≡ Some log → after c u s ≡ after_next c u s.log done log
+after-at c u s done log at was is =
+    ap (option_and_then (λ (done : Progress). cond (nat_eq done.taken s.index) (option_and_then (after_next c u s.log done) (log_at c s.log)) None)) at
+    ∙ ap (λ b. cond b (option_and_then (after_next c u s.log done) (log_at c s.log)) None) (eq-eqb done.taken s.index was)
+    ∙ ap (option_and_then (after_next c u s.log done)) is
+
+does_log : (c : Cluster) (st st' : State) (s : Step) (done : Progress) (log : Records) → slice_get st.logs s.log ≡ Some done → done.taken ≡ s.index → log_at c s.log ≡ Some log → after_next c st s.log done log ≡ Some st' → Does c st st' s
+does_log c st st' s done (Client recs) at was log e = absurd (none-some st' e)
+does_log c st st' s done (Stream recs) at was log e =
+    let (entry, found, became) = and_then_parts (after_entry st s.log done) (slice_get recs done.taken) st' e in
+    record {
+      p = record { taken = suc done.taken; cursor = done.cursor };
+      put = None;
+      is = sym (same_Some _ _ became);
+      named = tt;
+      again = λ u same _ _. after-at c u s done (Stream recs) (same ∙ at) was log ∙ ap (option_and_then (after_entry u s.log done)) found;
+    }
+does_log c st st' s done (Node recs) at was log e =
+    let (rec, found, became) = and_then_parts (after_record c st s.log done) (slice_get recs done.taken) st' e in
+    let (cursor, moved, rest) = and_then_parts _ (cursor_after (take (appended c st) c.stream) done.taken rec done.cursor) st' became in
+    let (sessions, kept, is) = map_parts _ (sessions_after s.log rec (pid_of rec) st.sessions) st' rest in
+    let ps : Puts s.log rec (pid_of rec) st.sessions sessions = puts s.log rec (pid_of rec) st.sessions sessions kept in
+    record {
+      p = record { taken = suc done.taken; cursor = cursor };
+      put = ps.put;
+      is = sym is ∙ ap (λ (m : Sessions). record { logs = set st.logs s.log (record { taken = suc done.taken; cursor = cursor }); sessions = m }) ps.is;
+      named = of_put rec (ap (λ o. slice_get (node_recs o) s.index) log ∙ ap (slice_get recs) (sym was) ∙ found) sessions (ap (λ (x : State). x.sessions) is) ps.put ps.of;
+      again = λ u same more at_session.
+          after-at c u s done (Node recs) (same ∙ at) was log
+          ∙ ap (option_and_then (after_record c u s.log done)) found
+          ∙ ap (option_and_then (λ cursor. option_map (λ (sessions : Sessions). record { logs = set u.logs s.log (record { taken = suc done.taken; cursor = cursor }); sessions = sessions }) (sessions_after s.log rec (pid_of rec) u.sessions))) (cursor_after-more (appended c st) (appended c u) c.stream done.taken rec done.cursor cursor more moved)
+          ∙ ap (option_map (λ (sessions : Sessions). record { logs = set u.logs s.log (record { taken = suc done.taken; cursor = cursor }); sessions = sessions })) (ps.again u.sessions at_session);
+    }
+  where
+    of_put : (rec : NodeRec) → slice_get (node_log c s.log) s.index ≡ Some rec → (sessions : Sessions) → sessions ≡ st'.sessions → (put : Option (Text × Session))
+        → ((x : Text × Session) → put ≡ Some x → (pid_of rec ≡ Some x.0) × (session_after s.log rec (unwrap_or (fin.get st.sessions x.0) Absent) ≡ Some (unwrap_or (fin.get sessions x.0) Absent)))
+        → NamedPut c st st' s.log s.index put
+    of_put rec at sessions same None of = tt
+    of_put rec at sessions same (Some x) of =
+        let (names, becomes) = of x refl in
+        record { rec = rec; at = at; names = names; becomes = becomes ∙ ap (λ (m : Sessions). Some (unwrap_or (fin.get m x.0) Absent)) same }
+
+pub does : (c : Cluster) (st st' : State) (s : Step) → after c st s ≡ Some st' → Does c st st' s
+does c st st' s e =
+    let (done, at, rest) = and_then_parts _ (slice_get st.logs s.log) st' e in
+    let (was, next) = cond_parts (nat_eq done.taken s.index) _ st' rest in
+    let (log, is, became) = and_then_parts (after_next c st s.log done) (log_at c s.log) st' next in
+    does_log c st st' s done log at (eqb-true _ _ was) is became
+
+insert_comm : (m : Sessions) (x y : Text × Session) → (x.0 ≡ y.0 → ⊥) → fin.insert (fin.insert m x.0 x.1) y.0 y.1 ≡ fin.insert (fin.insert m y.0 y.1) x.0 x.1
+insert_comm m x y n = fin.same_map nat_list_cmp_total (fin.slice_cmp-IsAntisymmetric fin.nat_cmp-IsAntisymmetric) _ _ (λ q. at q (cases_text q x.0) (cases_text q y.0))
+  where
+    at : (q : Text) → (q ≡ x.0) ⊎ (q ≡ x.0 → ⊥) → (q ≡ y.0) ⊎ (q ≡ y.0 → ⊥) → fin.get (fin.insert (fin.insert m x.0 x.1) y.0 y.1) q ≡ fin.get (fin.insert (fin.insert m y.0 y.1) x.0 x.1) q
+    at q (inl a) (inl b) = absurd (n (sym a ∙ b))
+    at q (inl a) (inr b) =
+        get_insert_other (fin.insert m x.0 x.1) y.0 y.1 q b ∙ ap (fin.get (fin.insert m x.0 x.1)) a ∙ get_insert_same m x.0 x.1
+        ∙ sym (ap (fin.get (fin.insert (fin.insert m y.0 y.1) x.0 x.1)) a ∙ get_insert_same (fin.insert m y.0 y.1) x.0 x.1)
+    at q (inr a) (inl b) =
+        ap (fin.get (fin.insert (fin.insert m x.0 x.1) y.0 y.1)) b ∙ get_insert_same (fin.insert m x.0 x.1) y.0 y.1
+        ∙ sym (get_insert_other (fin.insert m y.0 y.1) x.0 x.1 q a ∙ ap (fin.get (fin.insert m y.0 y.1)) b ∙ get_insert_same m y.0 y.1)
+    at q (inr a) (inr b) =
+        get_insert_other (fin.insert m x.0 x.1) y.0 y.1 q b ∙ get_insert_other m x.0 x.1 q a
+        ∙ sym (get_insert_other (fin.insert m y.0 y.1) x.0 x.1 q a ∙ get_insert_other m y.0 y.1 q b)
+
+-- the sessions of two steps differ
+abbrev Apart : Option (Text × Session) → Option (Text × Session) → Type 0
+Apart None y = Unit {0}
+Apart (Some x) None = Unit {0}
+Apart (Some x) (Some y) = x.0 ≡ y.0 → ⊥
+
+put_comm : (m : Sessions) (x y : Option (Text × Session)) → Apart x y → put_in y (put_in x m) ≡ put_in x (put_in y m)
+put_comm m None None apart = refl
+put_comm m None (Some y) apart = refl
+put_comm m (Some x) None apart = refl
+put_comm m (Some x) (Some y) apart = insert_comm m x y apart
+
+same_behind : (m : Sessions) (x y : Option (Text × Session)) → Apart x y → SameAt x m (put_in y m)
+same_behind m None y apart = tt
+same_behind m (Some x) None apart = refl
+same_behind m (Some x) (Some y) apart = get_insert_other m y.0 y.1 x.0 apart
+
+apart_turned : (x y : Option (Text × Session)) → Apart x y → Apart y x
+apart_turned None None apart = tt
+apart_turned None (Some y) apart = tt
+apart_turned (Some x) None apart = tt
+apart_turned (Some x) (Some y) apart = λ e. apart (sym e)
+
+-- what two steps of different logs and different sessions do, they do in either order
+twice_comm : (st : State) (l m : ℕ) (p q : Progress) (x y : Option (Text × Session)) → (l ≡ m → ⊥) → Apart x y
+    → done_to (done_to st l p x) m q y ≡ done_to (done_to st m q y) l p x
+twice_comm st l m p q x y n apart =
+    let logs : set (set st.logs l p) m q ≡ set (set st.logs m q) l p = set_comm st.logs l m p q n in
+    let sessions : put_in y (put_in x st.sessions) ≡ put_in x (put_in y st.sessions) = put_comm st.sessions x y apart in
+    λ i. record { logs = logs i; sessions = sessions i }
+
+-- the second step is allowed after the first one
+allowed-behind : (c : Cluster) (st st1 st2 : State) (x s : Step) (dx : Does c st st1 x) (ds : Does c st st2 s) → after c st s ≡ Some st2 → (x.log ≡ s.log → ⊥) → Apart dx.put ds.put
+    → after c st2 x ≡ Some (done_to (done_to st s.log ds.p ds.put) x.log dx.p dx.put)
+allowed-behind c st st1 st2 x s dx ds e n apart =
+    ap (λ u. after c u x) ds.is
+    ∙ dx.again (done_to st s.log ds.p ds.put) (slice_get-set_other st.logs s.log x.log ds.p n) (subst (λ u. appended c st ≤ appended c u) ds.is (appended-grows c st st2 s.log s.index (stepped c st st2 s e))) (same_behind st.sessions dx.put ds.put apart)
+
+-- both records begin one turn of the session
+record BothBegin (pid : Text) (one other : NodeRec) : Type 0 where
+  k : ℕ
+  one_begins : begins_turn pid k one ≡ true
+  other_begins : begins_turn pid k other ≡ true
+
+-- two records of different nodes are allowed of one session only if they begin the same turn
+both_begin : (pid : Text) (l m : ℕ) (one other : NodeRec) (s s1 s2 : Session) → (l ≡ m → ⊥) → pid_of one ≡ Some pid → pid_of other ≡ Some pid
+    → session_after l one s ≡ Some s1 → session_after m other s ≡ Some s2 → BothBegin pid one other
+both_begin pid l m one other Absent s1 s2 n names names' e e' =
+    let who : Who = record { pid = pid; sid = []; nsp = [] } in
+    record { k = 0; one_begins = waiting-after l who 0 fin.empty one s1 names e; other_begins = waiting-after m who 0 fin.empty other s2 names' e' }
+both_begin pid l m one other (Here at turn sid nsp rooms) s1 s2 n names names' e e' =
+    absurd (n (sym (here-node l one at turn sid nsp rooms s1 e) ∙ here-node m other at turn sid nsp rooms s2 e'))
+both_begin pid l m one other (Away turn sid nsp rooms) s1 s2 n names names' e e' =
+    let who : Who = record { pid = pid; sid = sid; nsp = nsp } in
+    record { k = suc turn; one_begins = waiting-after l who (suc turn) rooms one s1 names e; other_begins = waiting-after m who (suc turn) rooms other s2 names' e' }
+both_begin pid l m one other Ended s1 s2 n names names' e e' = absurd (ended-after l one s1 e)
+
+begins-beyond : (l : ℕ) (pid : Text) (k : ℕ) (rec : NodeRec) (s s' : Session) → begins_turn pid k rec ≡ true → session_after l rec s ≡ Some s' → IsBeyond k s'
+begins-beyond l pid zero (Opened other sid nsp) Absent s' begins e = subst (IsBeyond 0) (same_Some _ _ e) (omega arith)
+begins-beyond l pid (suc k) (Back other number) (Away turn sid nsp rooms) s' begins e =
+    let own : number ≡ suc k = eqb-true number (suc k) (and_parts (bytes_eq other pid) (nat_eq number (suc k)) begins).1 in
+    let above : suc k ≤ number = omega (arith, own) in
+    subst (IsBeyond (suc k)) (same_Some _ _ (cond_parts (nat_eq number (suc turn)) _ s' e).1) above
+begins-beyond l pid zero (Opened other sid nsp) _ s' begins e = absurd (none-some s' e)
+begins-beyond l pid (suc k) (Back other number) _ s' begins e = absurd (none-some s' e)
+begins-beyond l pid k _ s s' begins e = absurd (false≢true begins)
+
+-- where the rest of a run takes one of two allowed steps of different logs first, the steps' sessions differ
+apart : (c : Cluster) (st st1 st2 : State) (x s : Step) (dx : Does c st st1 x) (ds : Does c st st2 s) → (x.log ≡ s.log → ⊥)
+    → Stepped c st st1 x.log x.index → Stepped c st st2 s.log s.index → (steps : List Step) → RunsOn c st2 steps → Apart dx.put ds.put
+apart c st st1 st2 x s dx ds n sx ss steps runs = go dx.put ds.put dx.named ds.named
+  where
+    left : taken_of st2 x.log ≤ x.index
+    left =
+        let kept : taken_of st2 x.log ≡ taken_of st x.log = ap taken_in (ss.others x.log n) in
+        let was = sx.was in
+        omega (arith, kept, was)
+
+    conflict : (pid : Text) → Named c st st1 x.log x.index pid → Named c st st2 s.log s.index pid → ⊥
+    conflict pid nx ns =
+        let both = both_begin pid x.log s.log nx.rec ns.rec (session_of st pid) (session_of st1 pid) (session_of st2 pid) n nx.names ns.names nx.becomes ns.becomes in
+        never_again c pid both.k x.log x.index nx.rec nx.at both.one_begins steps st2 runs
+        (begins-beyond s.log pid both.k ns.rec (session_of st pid) (session_of st2 pid) both.other_begins ns.becomes) left
+
+    go : (a b : Option (Text × Session)) → NamedPut c st st1 x.log x.index a → NamedPut c st st2 s.log s.index b → Apart a b
+    go None b na nb = tt
+    go (Some a) None na nb = tt
+    go (Some a) (Some b) na nb = λ e. conflict b.0 (subst (Named c st st1 x.log x.index) e na) nb
+
+-- AN ALLOWED STEP may be taken at once, where the rest of a run is there
+exchange : (c : Cluster) (steps : List Step) (st : State) → RunsOn c st steps → (x : Step) (st1 : State) → after c st x ≡ Some st1 → (rest : List Step) × RunsOn c st1 rest
+exchange c [] st finished x st1 e =
+    let sx = stepped c st st1 x e in
+    let was = sx.was in
+    let counted = sx.counted in
+    let all = finished x.log in
+    absurd (omega (arith, was, counted, all))
+exchange c (s ∷ steps) st runs x st1 e = go (cases_eq x.log s.log) (λ st2 st3 later allowed. exchange c steps st2 later x st3 allowed)
+  where
+    same_step : (st2 : State) → after c st s ≡ Some st2 → x.log ≡ s.log → st2 ≡ st1
+    same_step st2 allowed same =
+        let one = stepped c st st1 x e in
+        let other = stepped c st st2 s allowed in
+        let index : x.index ≡ s.index = sym one.was ∙ ap (taken_of st) same ∙ other.was in
+        let step : s ≡ x = (λ i. record { log = same' i; index = index' i }) in
+        same_Some st2 st1 (sym allowed ∙ ap (after c st) step ∙ e)
+      where
+        same' : s.log ≡ x.log
+        same' = sym same
+
+        index' : s.index ≡ x.index
+        index' = sym (sym (stepped c st st1 x e).was ∙ ap (taken_of st) same ∙ (stepped c st st2 s allowed).was)
+
+    go : (x.log ≡ s.log) ⊎ (x.log ≡ s.log → ⊥) → ((st2 st3 : State) → RunsOn c st2 steps → after c st2 x ≡ Some st3 → (rest : List Step) × RunsOn c st3 rest) → (rest : List Step) × RunsOn c st1 rest
+    go (inl same) ih =
+        let (st2, allowed, later) = runs in
+        (steps, subst (λ (u : State). RunsOn c u steps) (same_step st2 allowed same) later)
+    go (inr n) ih =
+        let (st2, allowed, later) = runs in
+        let dx = does c st st1 x e in
+        let ds = does c st st2 s allowed in
+        let far = apart c st st1 st2 x s dx ds n (stepped c st st1 x e) (stepped c st st2 s allowed) steps later in
+        let (rest, ends) = ih st2 _ later (allowed-behind c st st1 st2 x s dx ds allowed n far) in
+        let first : after c st1 s ≡ Some (done_to (done_to st x.log dx.p dx.put) s.log ds.p ds.put) =
+        allowed-behind c st st2 st1 s x ds dx e (λ e. n (sym e)) (apart_turned dx.put ds.put far) in
+        let same : done_to (done_to st x.log dx.p dx.put) s.log ds.p ds.put ≡ done_to (done_to st s.log ds.p ds.put) x.log dx.p dx.put =
+        twice_comm st x.log s.log dx.p ds.p dx.put ds.put n far in
+        (s ∷ rest, (_, first ∙ ap Some same, ends))
+
+-- what was allowed to be taken from the start leaves the rest of a run
+goes_on : (c : Cluster) (steps : List Step) (st : State) → AreAllowed c st steps → (run : List Step) → RunsOn c st run → (rest : List Step) × RunsOn c (state_after c st steps) rest
+goes_on c [] st allowed run runs = (run, runs)
+goes_on c (s ∷ steps) st allowed run runs =
+    let (next, at, later) = allowed in
+    let (rest, left) = exchange c run st runs s next at in
+    let (ends, runs') = goes_on c steps next later rest left in
+    (ends, subst (λ o. RunsOn c (state_after c (unwrap_or o st) steps) ends) (sym at) runs')
+
+no_first : (c : Cluster) (st : State) (l : ℕ) → taken_of st l < record_count c l → ((place : ℕ) → after c st (front st place) ≡ None) → (rest : List Step) → RunsOn c st rest → ⊥
+no_first c st l more blocked [] finished = let all = finished l in omega (arith, all, more)
+no_first c st l more blocked (s ∷ rest) runs =
+    let (next, at, later) = runs in
+    let was : taken_of st s.log ≡ s.index = (stepped c st next s at).was in
+    let step : front st s.log ≡ s = (λ i. record { log = s.log; index = was i }) in
+    none-some next (sym (blocked s.log) ∙ ap (after c st) step ∙ at)
+
+-- WHERE A MACHINE BLOCKS, no run exists
+pub blocked-no_run : (c : Cluster) (steps : List Step) → IsBlocked c steps → (run : List Step) → IsRun c run → ⊥
+blocked-no_run c steps b run is =
+    let (rest, left) = goes_on c steps (start c) b.allowed run (RunsOn-run c run is) in
+    no_first c (state_after c (start c) steps) b.unfinished b.has_more b.blocked rest left
+
+-- where a run exists, an allowed step stays allowed until its log's next step is taken
+pub stays_allowed : (c : Cluster) (steps : List Step) (run : List Step) → IsRun c run → AreAllowed c (start c) steps
+    → (x s : Step) (st1 st2 : State) → after c (state_after c (start c) steps) x ≡ Some st1 → after c (state_after c (start c) steps) s ≡ Some st2 → (x.log ≡ s.log → ⊥)
+    → (st3 : State) × (after c st2 x ≡ Some st3)
+stays_allowed c steps run is allowed x s st1 st2 ex es n =
+    let st = state_after c (start c) steps in
+    let (rest, left) = goes_on c steps (start c) allowed run (RunsOn-run c run is) in
+    let (later, behind) = exchange c rest st left s st2 es in
+    let dx = does c st st1 x ex in
+    let ds = does c st st2 s es in
+    (_, allowed-behind c st st1 st2 x s dx ds es n (apart c st st1 st2 x s dx ds n (stepped c st st1 x ex) (stepped c st st2 s es) later behind))

@@ -1,0 +1,143 @@
+-- What is left of the turns, and how a move leaves it.
+use Rattle.std.proofs.Common.{◌≡◌, ◌<◌, ◌-◌, ℕ, zero, suc, Bool, true, false, cond, List, ◌∷◌, map, Option, Some, None, refl, sym, ap, ◌∙◌, ◌⊎◌, inl, inr, nat_le, arith, option_map}
+use Rattle.std.proofs.lemmas.Bool.{false≢true, leb-true, le-leb}
+use Rattle.std.proofs.lemmas.Option.{none-some}
+use Rattle.aud_tap.specs.declared.records.NodeRec.{NodeRec}
+use Rattle.aud_node.specs.Cluster.{Cluster, node_log}
+use Rattle.aud_node.specs.Cursors.{cursor_at}
+use Rattle.aud_node.specs.Lists.{between}
+use Rattle.aud_rooms.specs.Rooms.{Rooms, rooms_after}
+use Rattle.aud_rooms.specs.Turns.{Who, Turn, slice_of, beginning, Last, End, ByBreak, part_of, HasNoTurn}
+use Rattle.aud_rooms.specs.TurnsDue.{rooms_for}
+use Rattle.aud_merge.specs.ByTurns.{first_reaching, reaching_step}
+use Rattle.aud_merge.specs.Due.{node_cursor, is_at_least, is_reached}
+use Rattle.aud_merge.specs.Machine.{Step, State}
+use Rattle.aud_merge.proofs.Moves.{Synced}
+use Rattle.aud_merge.proofs.Slices.{between-more, between-none, part_from, rooms_for-step, rooms_for-behind, rooms_for-beginning, last-takes, cursor_at-rises}
+use Rattle.aud_merge.proofs.Records.{last-rooms, waiting}
+use Rattle.aud_merge.proofs.Phases.{Spot, Waiting, Within, Over, Beyond, Holds, OnSlice, Moves, waits, begins, elsewhere, goes, breaks, leaves, stays_over, passes, stays_beyond}
+use Rattle.aud_merge.proofs.PhaseSteps.{reached-in}
+
+-- the rooms by which what is left of the turns judges a position
+abbrev pub rooms_left : Cluster → Who → Spot → ℕ → Option Rooms
+rooms_left c who (Waiting k held rest) p = rooms_for c.stream who.pid held (map (slice_of c) rest) p
+rooms_left c who (Within k t at held later) p = rooms_for c.stream who.pid held (part_from c t at ∷ map (slice_of c) later) p
+rooms_left c who Over p = None
+rooms_left c who Beyond p = None
+
+-- the position is reached there
+abbrev pub spot_reached : Cluster → Spot → ℕ → Bool
+spot_reached c (Waiting k held rest) p = false
+spot_reached c (Within k t at held later) p = nat_le p (cursor_at c.stream (node_log c t.node) at)
+spot_reached c Over p = false
+spot_reached c Beyond p = false
+
+waiting-unreached : (who : Who) (st : State) (k : ℕ) (held : Rooms) (p : ℕ) → is_at_least (node_cursor st (waiting who k held)) p ≡ false
+waiting-unreached who st zero held p = refl
+waiting-unreached who st (suc k) held p = refl
+
+-- either the turns tell the rooms, or they are all the turns that the logs have
+abbrev pub Settled : Cluster → Who → ℕ → Option Rooms → Type 0
+Settled c who last rooms = ((held : Rooms) × (rooms ≡ Some held)) ⊎ HasNoTurn c who.pid last
+
+pub reached-spot : (c : Cluster) (who : Who) (last : ℕ) (p : ℕ) (st : State) (spot : Spot) → Holds c who last st spot → Synced c st → Settled c who last (rooms_left c who spot p)
+    → is_reached who.pid p st ≡ spot_reached c spot p
+reached-spot c who last p st (Waiting k held rest) holds synced settled = ap (λ s. is_at_least (node_cursor st s) p) holds.1.session ∙ waiting-unreached who st k held p
+reached-spot c who last p st (Within k t at held later) holds synced settled = reached-in c who st k t at held later holds.1 synced p
+reached-spot c who last p st Over e synced settled = ap (λ s. is_at_least (node_cursor st s) p) e
+reached-spot c who last p st Beyond has synced (inl told) = absurd (none-some told.0 told.1)
+reached-spot c who last p st Beyond has synced (inr none) = absurd (none has.node has.at has.rec has.stands has.begins)
+
+module _ (c : Cluster) (who : Who) (k : ℕ) (t : Turn) (l i at : ℕ) (held : Rooms) (later : List Turn) (rec : NodeRec) (on : OnSlice c t l i at rec) (p : ℕ) (before : nat_le p (cursor_at c.stream (node_log c t.node) at) ≡ false) where
+  -- what the record of the node leaves of the slice
+  rooms-goes : rooms_for c.stream who.pid held (part_from c t at ∷ map (slice_of c) later) p ≡ rooms_for c.stream who.pid (rooms_after who.pid held rec) (part_from c t (suc at) ∷ map (slice_of c) later) p
+  rooms-goes =
+      ap (λ recs. rooms_for c.stream who.pid held (record { low = cursor_at c.stream (node_log c t.node) at; high = cursor_at c.stream (node_log c t.node) t.to; recs = recs } ∷ map (slice_of c) later) p) (between-more (node_log c t.node) at t.to rec on.some on.stands)
+      ∙ rooms_for-step c.stream who.pid held _ _ _ rec (between (node_log c t.node) (suc at) t.to) (map (slice_of c) later) p before (on.reaches p before)
+
+  -- after a record that ends the turn, the position isn't reached in it
+  past-high : (e : End) → part_of who.pid k rec ≡ Last e → suc at ≡ t.to → nat_le p (cursor_at c.stream (node_log c t.node) t.to) ≡ false
+  past-high e part is_end = ap (λ n. nat_le p (cursor_at c.stream (node_log c t.node) n)) (sym is_end) ∙ on.reaches p before ∙ last-takes c.stream who.pid k p rec e part
+
+  rooms-ends : (e : End) → part_of who.pid k rec ≡ Last e → suc at ≡ t.to → rooms_for c.stream who.pid held (part_from c t at ∷ map (slice_of c) later) p ≡ rooms_for c.stream who.pid held (map (slice_of c) later) p
+  rooms-ends e part is_end =
+      rooms-goes
+      ∙ ap (λ rooms. rooms_for c.stream who.pid rooms (part_from c t (suc at) ∷ map (slice_of c) later) p) (last-rooms who.pid k held rec e part)
+      ∙ ap (λ recs. rooms_for c.stream who.pid held (record { low = cursor_at c.stream (node_log c t.node) (suc at); high = cursor_at c.stream (node_log c t.node) t.to; recs = recs } ∷ map (slice_of c) later) p) (between-none (node_log c t.node) (suc at) t.to (omega (arith, is_end)))
+      ∙ rooms_for-behind c.stream who.pid held _ _ (map (slice_of c) later) p (past-high e part is_end)
+
+-- a move leaves the rooms of each position that isn't reached
+pub Moves-rooms : (c : Cluster) (who : Who) (l i : ℕ) (a b : Spot) → Moves c who l i a b → (p : ℕ) → spot_reached c a p ≡ false → rooms_left c who a p ≡ rooms_left c who b p
+Moves-rooms c who l i a b (waits k held rest) p before = refl
+Moves-rooms c who l i a b (begins k held t later same_log same_index turn) p before =
+    ap (λ recs. rooms_for c.stream who.pid held (record { low = cursor_at c.stream (node_log c t.node) (suc t.from); high = cursor_at c.stream (node_log c t.node) t.to; recs = recs } ∷ map (slice_of c) later) p) (between-more (node_log c t.node) t.from t.to (beginning who k) turn.some turn.begins)
+    ∙ rooms_for-beginning c.stream who k held _ _ (between (node_log c t.node) (suc t.from) t.to) (map (slice_of c) later) p
+Moves-rooms c who l i a b (elsewhere k t at held later) p before = refl
+Moves-rooms c who l i a b (goes k t at held later rec on part) p before = rooms-goes c who k t l i at held later rec on p before
+Moves-rooms c who l i a b (breaks k t at held later rec on part is_end) p before = rooms-ends c who k t l i at held later rec on p before ByBreak part is_end
+Moves-rooms c who l i a b (leaves k t at held later rec e on part is_end none is) p before =
+    rooms-ends c who k t l i at held later rec on p before e part is_end ∙ ap (λ ts. rooms_for c.stream who.pid held (map (slice_of c) ts) p) none
+Moves-rooms c who l i a b stays_over p before = refl
+Moves-rooms c who l i a b (passes k held) p before = refl
+Moves-rooms c who l i a b stays_beyond p before = refl
+
+-- the record by which what is left of the turns first reaches a position
+abbrev pub left_of : Cluster → Turn → ℕ → List Turn → ℕ → Option Step
+left_of c t at later p =
+    cond (nat_le p (cursor_at c.stream (node_log c t.node) t.to))
+    (option_map (λ number. record { log = t.node; index = number }) (first_reaching c.stream (node_log c t.node) p at (t.to - at)))
+    (reaching_step c later p)
+
+abbrev pub step_left : Cluster → Spot → ℕ → Option Step
+step_left c (Waiting k held rest) p = reaching_step c rest p
+step_left c (Within k t at held later) p = left_of c t at later p
+step_left c Over p = None
+step_left c Beyond p = None
+
+left_of-more : (c : Cluster) (t : Turn) (at : ℕ) (later : List Turn) (p : ℕ) → at < t.to
+    → left_of c t at later p ≡ cond (nat_le p (cursor_at c.stream (node_log c t.node) (suc at))) (Some (record { log = t.node; index = at })) (left_of c t (suc at) later p)
+left_of-more c t at later p h =
+    ap (λ n. cond (nat_le p (cursor_at c.stream (node_log c t.node) t.to)) (option_map (λ number. record { log = t.node; index = number }) (first_reaching c.stream (node_log c t.node) p at n)) (reaching_step c later p)) more
+    ∙ go (nat_le p (cursor_at c.stream (node_log c t.node) (suc at))) refl
+  where
+    more : t.to - at ≡ suc (t.to - suc at)
+    more = omega arith
+
+    go : (b : Bool) → nat_le p (cursor_at c.stream (node_log c t.node) (suc at)) ≡ b
+        → cond (nat_le p (cursor_at c.stream (node_log c t.node) t.to)) (option_map (λ number. record { log = t.node; index = number }) (cond b (Some at) (first_reaching c.stream (node_log c t.node) p (suc at) (t.to - suc at)))) (reaching_step c later p)
+        ≡ cond b (Some (record { log = t.node; index = at })) (left_of c t (suc at) later p)
+    go true e =
+        let reached = leb-true p (cursor_at c.stream (node_log c t.node) (suc at)) e in
+        let rises = cursor_at-rises c.stream (node_log c t.node) (suc at) t.to h in
+        ap (λ b. cond b (Some (record { log = t.node; index = at })) (reaching_step c later p)) (le-leb p (cursor_at c.stream (node_log c t.node) t.to) (omega (arith, reached, rises)))
+    go false e = refl
+
+-- a move on a record by which the position is reached, or not
+abbrev pub MovesStep : Cluster → ℕ → ℕ → Spot → Spot → ℕ → Type 0
+MovesStep c l i a b p =
+    (spot_reached c b p ≡ true → step_left c a p ≡ Some (record { log = l; index = i })) × (spot_reached c b p ≡ false → step_left c a p ≡ step_left c b p)
+
+by_more : (c : Cluster) (t : Turn) (l i at : ℕ) (later : List Turn) (p : ℕ) → at < t.to → t.node ≡ l → i ≡ at
+    → ((nat_le p (cursor_at c.stream (node_log c t.node) (suc at)) ≡ true → left_of c t at later p ≡ Some (record { log = l; index = i }))
+    × (nat_le p (cursor_at c.stream (node_log c t.node) (suc at)) ≡ false → left_of c t at later p ≡ left_of c t (suc at) later p))
+by_more c t l i at later p h log index = (
+  λ e. left_of-more c t at later p h ∙ ap (λ b. cond b (Some (record { log = t.node; index = at })) (left_of c t (suc at) later p)) e ∙ ap (λ n. Some (record { log = n; index = at })) log ∙ ap (λ n. Some (record { log = l; index = n })) (sym index),
+  λ e. left_of-more c t at later p h ∙ ap (λ b. cond b (Some (record { log = t.node; index = at })) (left_of c t (suc at) later p)) e,
+)
+
+pub Moves-step : (c : Cluster) (who : Who) (l i : ℕ) (a b : Spot) → Moves c who l i a b → (p : ℕ) → spot_reached c a p ≡ false → MovesStep c l i a b p
+Moves-step c who l i a b (waits k held rest) p before = (λ e. absurd (false≢true e), λ _. refl)
+Moves-step c who l i a b (begins k held t later same_log same_index turn) p before = by_more c t l i t.from later p turn.some (sym same_log) same_index
+Moves-step c who l i a b (elsewhere k t at held later) p before = (λ e. absurd (false≢true (sym before ∙ e)), λ _. refl)
+Moves-step c who l i a b (goes k t at held later rec on part) p before = by_more c t l i at later p on.some on.log on.index
+Moves-step c who l i a b (breaks k t at held later rec on part is_end) p before = (
+  λ e. absurd (false≢true e),
+  λ _. ap (λ b. cond b (option_map (λ number. record { log = t.node; index = number }) (first_reaching c.stream (node_log c t.node) p at (t.to - at))) (reaching_step c later p)) (past-high c who k t l i at held later rec on p before ByBreak part is_end),
+)
+Moves-step c who l i a b (leaves k t at held later rec e on part is_end none is) p before = (
+  λ e. absurd (false≢true e),
+  λ _. ap (λ b. cond b (option_map (λ number. record { log = t.node; index = number }) (first_reaching c.stream (node_log c t.node) p at (t.to - at))) (reaching_step c later p)) (past-high c who k t l i at held later rec on p before e part is_end) ∙ ap (λ ts. reaching_step c ts p) none,
+)
+Moves-step c who l i a b stays_over p before = (λ e. absurd (false≢true e), λ _. refl)
+Moves-step c who l i a b (passes k held) p before = (λ e. absurd (false≢true e), λ _. refl)
+Moves-step c who l i a b stays_beyond p before = (λ e. absurd (false≢true e), λ _. refl)
