@@ -4,3 +4,7 @@ pub mod Members
 pub mod ByTurns
 pub mod Unique
 pub mod Positions
+pub mod Times
+pub mod Kept
+pub mod Maximal
+pub mod Finished

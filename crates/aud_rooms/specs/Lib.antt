@@ -5,3 +5,5 @@ pub mod Turns
 pub mod TurnsDue
 pub mod Spans
 pub mod Assigned
+pub mod Times
+pub mod Building

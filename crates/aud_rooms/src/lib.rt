@@ -2,11 +2,17 @@
 #![tactic(auto)]
 
 mod addressee;
+mod builder;
+mod building;
+mod holding;
+mod interval;
 mod laws;
 mod room_set;
+mod room_spans;
 mod span;
 
 pub use addressee::addressed;
+pub use builder::SpanBuilder;
 pub use laws::{due_by_spans_of_turns, spans_are_unique, spans_go_by_positions};
 pub use room_set::RoomSet;
 pub use span::Span;

@@ -1,0 +1,247 @@
+-- The spans of what the builder kept are the spans of the rooms that it gave to positions.
+use Rattle.std.proofs.Common.{◌≡◌, ◌<◌, ◌≤◌, ◌+◌, ◌-◌, ℕ, zero, suc, Bool, true, false, cond, List, [], ◌∷◌, ◌++◌, map, Option, Some, None, refl, sym, ap, subst, ◌∙◌, ◌⊎◌, inl, inr, arith, true≢false}
+use Rattle.std.specs.List.{Contains, AllByRecursion, slice_get, list_any, flat_map}
+use Rattle.std.specs.List.Sorted.{IsStrictlySortedBy}
+use Rattle.std.specs.Ordering.{nat_cmp, is_eq, ordering_reverse}
+use Rattle.std.specs.declared.cmp.Ordering.{Ordering}
+use Rattle.std.specs.declared.cmp.Ordering.TheVariants.{Less}
+use Rattle.std.specs.Cmp.{IsTotalOrder}
+use Rattle.std.specs.Cmp.Lexicographic.{slice_cmp, nat_list_cmp_total, texts_ties, bytes_decides}
+use Rattle.std.specs.Option.{unwrap_or, option_map}
+use Rattle.std.proofs.lemmas.Option.{slice_get-map}
+use Rattle.std.specs.FinSet as set
+use denote.Ref.{Bor}
+use Rattle.aud_node.specs.Stream.{Text, positions_after}
+use Rattle.aud_rooms.specs.declared.interval.Interval.{Interval}
+use Rattle.aud_rooms.specs.Rooms.{Rooms}
+use Rattle.aud_rooms.specs.Spans.{RoomSpan, IsMaximalInterval, IsMaximal, ComesBefore, ComesBeforeAll, AreInOrder, AreSpans}
+use Rattle.aud_rooms.specs.Assigned.{covered, rooms_given, AreSpansOf}
+use Rattle.aud_rooms.specs.Times.{Times, is_in, is_held_at, AreApart, intervals_upto, span_of, spans_of}
+use Rattle.aud_rooms.specs.Building.{Entries, times_of, do_pass, rooms_with, assigned_of, AreKept, spans_upto, by_room, AreOrdered}
+use Rattle.aud_rooms.proofs.Members.{contains-none, contains-parts, contains-first, contains-later}
+use Rattle.aud_rooms.proofs.Positions.{interval_alike, spans_alike}
+use Rattle.aud_rooms.proofs.Times.{or_none}
+use Rattle.aud_rooms.proofs.Maximal.{Place, place, place_maximal, interval_of, maximal_same, closed}
+use Rattle.aud_rooms.proofs.Kept.{same_text, contains-rooms_with, covered_is}
+
+-- ---- lists
+
+contains-map : {X Y : Type 0} (f : X → Y) (xs : List X) (y : Y) → Contains (map f xs) y → (x : X) × Contains xs x × (f x ≡ y)
+contains-map f [] y among = absurd (contains-none y among)
+contains-map f (x ∷ xs) y among = go (λ later. contains-map f xs y later) (contains-parts (f x) (map f xs) y among)
+  where
+    go : (Contains (map f xs) y → (z : _) × Contains xs z × (f z ≡ y)) → (f x ≡ y) ⊎ Contains (map f xs) y → (z : _) × Contains (x ∷ xs) z × (f z ≡ y)
+    go ih (inl same) = (x, contains-first x xs, same)
+    go ih (inr later) = (let (z, among, same) = ih later in (z, contains-later x xs z among, same))
+
+map-contains : {X Y : Type 0} (f : X → Y) (xs : List X) (x : X) → Contains xs x → Contains (map f xs) (f x)
+map-contains f [] x among = absurd (contains-none x among)
+map-contains f (y ∷ ys) x among = go (λ later. map-contains f ys x later) (contains-parts y ys x among)
+  where
+    go : (Contains ys x → Contains (map f ys) (f x)) → (y ≡ x) ⊎ Contains ys x → Contains (f y ∷ map f ys) (f x)
+    go ih (inl same) = subst (λ z. Contains (f y ∷ map f ys) (f z)) same (contains-first (f y) (map f ys))
+    go ih (inr later) = contains-later (f y) (map f ys) (f x) (ih later)
+
+contains-append : {X : Type 0} (xs ys : List X) (x : X) → Contains (xs ++ ys) x → Contains xs x ⊎ Contains ys x
+contains-append [] ys x among = inr among
+contains-append (y ∷ xs) ys x among = go (λ later. contains-append xs ys x later) (contains-parts y (xs ++ ys) x among)
+  where
+    go : (Contains (xs ++ ys) x → Contains xs x ⊎ Contains ys x) → (y ≡ x) ⊎ Contains (xs ++ ys) x → Contains (y ∷ xs) x ⊎ Contains ys x
+    go ih (inl same) = inl (subst (Contains (y ∷ xs)) same (contains-first y xs))
+    go ih (inr later) = elim (ih later) as (λ _. Contains (y ∷ xs) x ⊎ Contains ys x) [ inl a ↦ inl (contains-later y xs x a) | inr b ↦ inr b ]
+
+append-contains : {X : Type 0} (xs ys : List X) (x : X) → Contains xs x ⊎ Contains ys x → Contains (xs ++ ys) x
+append-contains [] ys x (inl among) = absurd (contains-none x among)
+append-contains [] ys x (inr among) = among
+append-contains (y ∷ xs) ys x (inl among) = go (λ later. append-contains xs ys x (inl later)) (contains-parts y xs x among)
+  where
+    go : (Contains xs x → Contains (xs ++ ys) x) → (y ≡ x) ⊎ Contains xs x → Contains (y ∷ xs ++ ys) x
+    go ih (inl same) = subst (Contains (y ∷ (xs ++ ys))) same (contains-first y (xs ++ ys))
+    go ih (inr later) = contains-later y (xs ++ ys) x (ih later)
+append-contains (y ∷ xs) ys x (inr among) = contains-later y (xs ++ ys) x (append-contains xs ys x (inr among))
+
+-- ---- the spans of one room
+
+module _ (low cov : ℕ) (room : Text) (t : Times) (apart : AreApart low t.ended t.since cov) where
+  same_at : (p : ℕ) → p ≤ cov → list_any (is_in p) (intervals_upto cov t) ≡ is_held_at p t
+  same_at p h = sym (or_none (list_any (is_in p) (intervals_upto cov t))) ∙ (closed low cov t apart).same p h
+
+  interval_maximal : (i : Interval) → Contains (intervals_upto cov t) i → IsMaximalInterval (λ p. is_held_at p t) low cov (suc i.after) i.last
+  interval_maximal i among =
+      interval_alike (λ p. list_any (is_in p) (intervals_upto cov t)) (λ p. is_held_at p t) low cov (suc i.after) i.last (λ p a b. same_at p b)
+      (place_maximal low cov (intervals_upto cov t) i (place low cov (intervals_upto cov t) i (closed low cov t apart).apart among))
+
+  pub span_maximal : (s : RoomSpan) → Contains (spans_of room cov t) s → (s.room ≡ room) × IsMaximalInterval (λ p. is_held_at p t) low cov s.first s.last
+  span_maximal s among =
+      let (i, here, same) = contains-map (span_of room) (intervals_upto cov t) s among in (
+        sym (ap (λ (x : RoomSpan). x.room) same),
+        subst (λ (x : RoomSpan). IsMaximalInterval (λ p. is_held_at p t) low cov x.first x.last) same (interval_maximal i here),
+      )
+
+  pub maximal_span : (first last : ℕ) → IsMaximalInterval (λ p. is_held_at p t) low cov first last → Contains (spans_of room cov t) (record { room = room; first = first; last = last })
+  maximal_span first last m =
+      let past = m.past_low in
+      let some = m.some in
+      let to = m.to_high in
+      let held : list_any (is_in first) (intervals_upto cov t) ≡ true = same_at first (omega arith) ∙ m.held first (omega arith) (omega arith) in
+      let (i, among, after, upto) = interval_of first (intervals_upto cov t) held in
+      let (same_first, same_last) = maximal_same (λ p. is_held_at p t) low cov (suc i.after) i.last first last first (interval_maximal i among) m (omega arith) upto (omega arith) (omega arith) in
+      subst (λ n. Contains (spans_of room cov t) (record { room = room; first = first; last = n })) same_last
+      (subst (λ n. Contains (spans_of room cov t) (record { room = room; first = n; last = i.last })) same_first
+      (map-contains (span_of room) (intervals_upto cov t) i among))
+
+  in_order : (from : ℕ) (is : List Interval) → AreApart from is None cov → AreInOrder (map (span_of room) is)
+  in_order from [] apart = tt
+  in_order from (i ∷ is) (a, b, c, rest) = (each (suc i.last) is rest (omega arith), in_order (suc i.last) is rest)
+    where
+      each : (next : ℕ) (js : List Interval) → AreApart next js None cov → i.after < next → ComesBeforeAll (span_of room i) (map (span_of room) js)
+      each next [] apart h = tt
+      each next (j ∷ js) (x, y, z, later) h = (inr (refl, omega arith), each (suc j.last) js later (omega arith))
+
+  pub room_in_order : AreInOrder (spans_of room cov t)
+  room_in_order = in_order low (intervals_upto cov t) (closed low cov t apart).apart
+
+-- ---- the spans of all rooms
+
+-- the entry of a room that has times
+entry_of : (es : Entries) (room : Text) (t : Times) → times_of es room ≡ Some t → (k : Bor Text) × Contains es (k, t) × (k.now ≡ room)
+entry_of [] room t found = absurd cc
+entry_of (e ∷ es) room t found = go (λ later. entry_of es room t later) (is_eq (slice_cmp nat_cmp room e.0.now)) refl found
+  where
+    go : (times_of es room ≡ Some t → (k : Bor Text) × Contains es (k, t) × (k.now ≡ room)) → (b : Bool) → is_eq (slice_cmp nat_cmp room e.0.now) ≡ b
+        → cond b (Some e.1) (times_of es room) ≡ Some t → (k : Bor Text) × Contains (e ∷ es) (k, t) × (k.now ≡ room)
+    go ih true same found =
+        let at : e.1 ≡ t = cc in
+        (e.0, subst (λ u. Contains (e ∷ es) (e.0, u)) at (contains-first e es), sym (same_text room e.0.now same))
+    go ih false other found = (let (k, among, same) = ih found in (k, contains-later e es (k, t) among, same))
+
+among_entries : (cov : ℕ) (es : Entries) (s : RoomSpan) → Contains (spans_upto cov es) s → (e : (Bor Text) × Times) × Contains es e × Contains (spans_of e.0.now cov e.1) s
+among_entries cov [] s among = absurd (contains-none s among)
+among_entries cov (e ∷ es) s among = go (λ later. among_entries cov es s later) (contains-append (spans_of e.0.now cov e.1) (spans_upto cov es) s among)
+  where
+    go : (Contains (spans_upto cov es) s → (x : (Bor Text) × Times) × Contains es x × Contains (spans_of x.0.now cov x.1) s) → Contains (spans_of e.0.now cov e.1) s ⊎ Contains (spans_upto cov es) s
+        → (x : (Bor Text) × Times) × Contains (e ∷ es) x × Contains (spans_of x.0.now cov x.1) s
+    go ih (inl here) = (e, contains-first e es, here)
+    go ih (inr later) = (let (x, among, at) = ih later in (x, contains-later e es x among, at))
+
+entries_among : (cov : ℕ) (es : Entries) (e : (Bor Text) × Times) (s : RoomSpan) → Contains es e → Contains (spans_of e.0.now cov e.1) s → Contains (spans_upto cov es) s
+entries_among cov [] e s among at = absurd (contains-none e among)
+entries_among cov (x ∷ es) e s among at = append-contains (spans_of x.0.now cov x.1) (spans_upto cov es) s (go (λ later. entries_among cov es e s later at) (contains-parts x es e among))
+  where
+    go : (Contains es e → Contains (spans_upto cov es) s) → (x ≡ e) ⊎ Contains es e → Contains (spans_of x.0.now cov x.1) s ⊎ Contains (spans_upto cov es) s
+    go ih (inl same) = inl (subst (λ z. Contains (spans_of z.0.now cov z.1) s) (sym same) at)
+    go ih (inr later) = inr (ih later)
+
+order-append : (xs ys : List RoomSpan) → AreInOrder xs → AreInOrder ys → ((x y : RoomSpan) → Contains xs x → Contains ys y → ComesBefore x y) → AreInOrder (xs ++ ys)
+order-append [] ys a b before = b
+order-append (x ∷ xs) ys a b before =
+    (all xs a.0 (λ y among. before x y (contains-first x xs) among), order-append xs ys a.1 b (λ z y one other. before z y (contains-later x xs z one) other))
+  where
+    later : (zs : List RoomSpan) → ((y : RoomSpan) → Contains zs y → ComesBefore x y) → ComesBeforeAll x zs
+    later [] each = tt
+    later (z ∷ zs) each = (each z (contains-first z zs), later zs (λ y among. each y (contains-later z zs y among)))
+
+    all : (zs : List RoomSpan) → ComesBeforeAll x zs → ((y : RoomSpan) → Contains ys y → ComesBefore x y) → ComesBeforeAll x (zs ++ ys)
+    all [] none each = later ys each
+    all (z ∷ zs) (first, rest) each = (first, all zs rest each)
+
+below_each : (k : Bor Text) (es : Entries) (e : (Bor Text) × Times) → AllByRecursion (λ y. by_room k y ≡ Less) (map (λ x. x.0) es) → Contains es e → by_room k e.0 ≡ Less
+below_each k [] e all among = absurd (contains-none e among)
+below_each k (x ∷ es) e (first, rest) among = go (λ later. below_each k es e rest later) (contains-parts x es e among)
+  where
+    go : (Contains es e → by_room k e.0 ≡ Less) → (x ≡ e) ⊎ Contains es e → by_room k e.0 ≡ Less
+    go ih (inl same) = subst (λ (z : (Bor Text) × Times). by_room k z.0 ≡ Less) same first
+    go ih (inr later) = ih later
+
+module _ (low cov : ℕ) where
+  room_of : (e : (Bor Text) × Times) → AreApart low e.1.ended e.1.since cov → (s : RoomSpan) → Contains (spans_of e.0.now cov e.1) s → s.room ≡ e.0.now
+  room_of e apart s among = (span_maximal low cov e.0.now e.1 apart s among).0
+
+  all_in_order : (es : Entries) → AreOrdered es → ((e : (Bor Text) × Times) → Contains es e → AreApart low e.1.ended e.1.since cov)
+      → AreInOrder (spans_upto cov es)
+  unfolding IsStrictlySortedBy
+  all_in_order [] sorted apart = tt
+  all_in_order (e ∷ es) (below, sorted) apart =
+      let one = apart e (contains-first e es) in
+      order-append (spans_of e.0.now cov e.1) (spans_upto cov es) (room_in_order low cov e.0.now e.1 one)
+      (all_in_order es sorted (λ x among. apart x (contains-later e es x among)))
+      (λ x y here later.
+        let (other, among, at) = among_entries cov es y later in
+        let first : x.room ≡ e.0.now = room_of e one x here in
+        let second : y.room ≡ other.0.now = room_of other (apart other (contains-later e es other among)) y at in
+        inl (ap (λ a. slice_cmp nat_cmp a y.room) first ∙ ap (slice_cmp nat_cmp e.0.now) second ∙ below_each e.0 es other below among))
+
+position_at : (low count k : ℕ) → k < count → slice_get (positions_after low count) k ≡ Some (suc low + k)
+position_at low zero k h = absurd (omega arith)
+position_at low (suc count) zero h = ap Some (let e : suc low ≡ suc low + 0 = omega arith in e)
+position_at low (suc count) (suc k) h = position_at (suc low) count k (omega arith) ∙ ap Some (let e : suc (suc low) + k ≡ suc low + suc k = omega arith in e)
+
+pub by_room_total : IsTotalOrder by_room
+by_room_total =
+    record {
+      antisymm = λ a b. nat_list_cmp_total.antisymm a.now b.now;
+      trans = λ a b c. nat_list_cmp_total.trans a.now b.now c.now;
+      congr = λ a b c. nat_list_cmp_total.congr a.now b.now c.now;
+    }
+
+-- each entry is the one that is found under its room
+found_in : (es : Entries) → AreOrdered es → (e : (Bor Text) × Times) → Contains es e → times_of es e.0.now ≡ Some e.1
+unfolding IsStrictlySortedBy
+found_in [] ordered e among = absurd (contains-none e among)
+found_in (x ∷ es) (below, rest) e among = go (λ later. found_in es rest e later) (contains-parts x es e among)
+  where
+    go : (Contains es e → times_of es e.0.now ≡ Some e.1) → (x ≡ e) ⊎ Contains es e → times_of (x ∷ es) e.0.now ≡ Some e.1
+    go ih (inl same) =
+        subst (λ (z : (Bor Text) × Times). times_of (x ∷ es) z.0.now ≡ Some z.1) same
+        (ap (λ b. cond b (Some x.1) (times_of es x.0.now)) (sym (texts_ties x.0.now x.0.now) ∙ (bytes_decides x.0.now x.0.now).1 refl))
+    go ih (inr later) =
+        ap (λ o. cond (is_eq o) (Some x.1) (times_of es e.0.now)) (by_room_total.antisymm e.0 x.0 ∙ ap ordering_reverse (below_each x.0 es e below later))
+        ∙ ih later
+
+module _ (low cov : ℕ) (es : Entries) (kept : AreKept low cov es) (ordered : AreOrdered es) where
+  apart_of : (e : (Bor Text) × Times) → Contains es e → AreApart low e.1.ended e.1.since cov
+  apart_of e among = kept.apart e.0.now e.1 (found_in es ordered e among)
+
+  test_of : (room : Text) (t : Times) → times_of es room ≡ Some t → (p : ℕ) → is_held_at p t ≡ set.contains (rooms_with (is_held_at p) es) room
+  test_of room t is p = sym (contains-rooms_with (is_held_at p) es room ∙ ap (do_pass (is_held_at p)) is)
+
+  each : (s : RoomSpan) → Contains (spans_upto cov es) s → IsMaximal (λ p. rooms_with (is_held_at p) es) low cov s
+  each s among =
+      let (e, here, at) = among_entries cov es s among in
+      let (same, maximal) = span_maximal low cov e.0.now e.1 (apart_of e here) s at in
+      interval_alike (λ p. is_held_at p e.1) (λ p. set.contains (rooms_with (is_held_at p) es) s.room) low cov s.first s.last
+      (λ p _ _. test_of s.room e.1 (ap (times_of es) same ∙ found_in es ordered e here) p) maximal
+
+  all : (s : RoomSpan) → IsMaximal (λ p. rooms_with (is_held_at p) es) low cov s → Contains (spans_upto cov es) s
+  all s maximal = go (times_of es s.room) refl
+    where
+      some_at : set.contains (rooms_with (is_held_at s.first) es) s.room ≡ true
+      some_at = (let some = maximal.some in maximal.held s.first (omega arith) some)
+
+      go : (o : Option Times) → times_of es s.room ≡ o → Contains (spans_upto cov es) s
+      go None is = absurd (true≢false (sym some_at ∙ contains-rooms_with (is_held_at s.first) es s.room ∙ ap (do_pass (is_held_at s.first)) is))
+      go (Some t) is =
+          let (k, among, same) = entry_of es s.room t is in
+          let here = maximal_span low cov s.room t (kept.apart s.room t is) s.first s.last
+              (interval_alike (λ p. set.contains (rooms_with (is_held_at p) es) s.room) (λ p. is_held_at p t) low cov s.first s.last (λ p _ _. sym (test_of s.room t is p)) maximal) in
+          entries_among cov es (k, t) s among (subst (λ r. Contains (spans_of r cov t) s) (sym same) here)
+
+  by_entries : AreSpans (λ p. rooms_with (is_held_at p) es) low cov (spans_upto cov es)
+  by_entries = record { each = each; all = all; in_order = all_in_order low cov es ordered apart_of }
+
+  given_at : (p : ℕ) → low < p → p ≤ cov → rooms_with (is_held_at p) es ≡ rooms_given (assigned_of low cov es) p
+  given_at p past upto =
+      let within : p - suc low < cov - low = omega arith in
+      let same : suc low + (p - suc low) ≡ p = omega arith in
+      sym (
+        ap (λ o. unwrap_or o set.empty) (
+          slice_get-map (λ q. rooms_with (is_held_at q) es) (positions_after low (cov - low)) (p - suc low)
+          ∙ ap (option_map (λ q. rooms_with (is_held_at q) es)) (position_at low (cov - low) (p - suc low) within)
+        )
+        ∙ ap (λ q. rooms_with (is_held_at q) es) same
+      )
+
+  pub finished : AreSpansOf (assigned_of low cov es) (spans_upto cov es)
+  finished =
+      subst (λ n. AreSpans (rooms_given (assigned_of low cov es)) low n (spans_upto cov es)) (sym (covered_is low cov cov es kept))
+      (spans_alike (λ p. rooms_with (is_held_at p) es) (rooms_given (assigned_of low cov es)) low cov (spans_upto cov es) given_at by_entries)

@@ -1,0 +1,194 @@
+-- When one room is held: intervals in order, apart from one another.
+use Rattle.std.proofs.Common.{◌≡◌, ◌<◌, ◌≤◌, ◌-◌, ℕ, zero, suc, Bool, true, false, ◌||◌, ◌&&◌, List, [], ◌∷◌, ◌++◌, length, take, drop, Option, Some, None, get_or, drop-cons, refl, sym, ap, subst, ◌∙◌, nat_lt, nat_le, arith}
+use Rattle.std.specs.List.{list_any, slice_get}
+use Rattle.std.specs.Option.{is_some}
+use Rattle.std.proofs.lemmas.Bool.{le-leb, lt-leb}
+use Rattle.std.proofs.lemmas.List.Folds.{list_any-append}
+use Rattle.std.proofs.lemmas.List.{drop_all, take-append-drop}
+use Rattle.std.proofs.lemmas.Option.{slice_get_within, slice_get-get_or}
+use Rattle.aud_rooms.specs.declared.interval.Interval.{Interval}
+use Rattle.aud_rooms.specs.Times.{Times, is_in, is_past, is_held_at, is_held_now, AreApart, Continues}
+
+pub lt_true : (a b : ℕ) → a < b → nat_lt a b ≡ true
+lt_true a b h = le-leb (suc a) b (omega arith)
+
+pub lt_false : (a b : ℕ) → b ≤ a → nat_lt a b ≡ false
+lt_false a b h = lt-leb (suc a) b (omega arith)
+
+pub and_false : (a b : Bool) → b ≡ false → (a && b) ≡ false
+and_false true b e = e
+and_false false b e = refl
+
+pub or_false : (a b : Bool) → a ≡ false → b ≡ false → (a || b) ≡ false
+or_false a b x y = ap (λ z. z || b) x ∙ y
+
+pub or_none : (a : Bool) → (a || false) ≡ a
+or_none true = refl
+or_none false = refl
+
+pub before : (p : ℕ) (i : Interval) → p ≤ i.after → is_in p i ≡ false
+before p i h = ap (λ b. b && nat_le p i.last) (lt_false i.after p h)
+
+pub behind : (p : ℕ) (i : Interval) → i.last < p → is_in p i ≡ false
+behind p i h = and_false (nat_lt i.after p) (nat_le p i.last) (lt-leb p i.last h)
+
+pub inside : (p : ℕ) (i : Interval) → i.after < p → p ≤ i.last → is_in p i ≡ true
+inside p i a b = ap (λ x. x && nat_le p i.last) (lt_true i.after p a) ∙ le-leb p i.last b
+
+-- no interval has a position that isn't past the number that they begin from
+pub none_before : (from covered p : ℕ) (is : List Interval) (since : Option ℕ) → AreApart from is since covered → p ≤ from → list_any (is_in p) is ≡ false
+none_before from covered p [] since apart h = refl
+none_before from covered p (i ∷ is) since (a, b, c, rest) h = or_false (is_in p i) _ (before p i (omega arith)) (none_before (suc i.last) covered p is since rest (omega arith))
+
+-- nor one past the covered positions
+pub none_behind : (from covered p : ℕ) (is : List Interval) (since : Option ℕ) → AreApart from is since covered → covered < p → list_any (is_in p) is ≡ false
+none_behind from covered p [] since apart h = refl
+none_behind from covered p (i ∷ is) since (a, b, c, rest) h = or_false (is_in p i) _ (behind p i (omega arith)) (none_behind (suc i.last) covered p is since rest h)
+
+-- past the covered positions a room is held where it is held now
+pub held_beyond : (low covered p : ℕ) (t : Times) → AreApart low t.ended t.since covered → covered < p → is_held_at p t ≡ is_held_now t
+held_beyond low covered p t apart h = ap (λ b. b || is_past p t.since) (none_behind low covered p t.ended t.since apart h) ∙ past low t.ended t.since apart
+  where
+    past : (from : ℕ) (is : List Interval) (since : Option ℕ) → AreApart from is since covered → is_past p since ≡ is_some since
+    past from is None apart = refl
+    past from [] (Some after) (a, b) = lt_true after p (omega arith)
+    past from (i ∷ is) (Some after) (a, b, c, rest) = past (suc i.last) is (Some after) rest
+
+-- they stay apart as more positions are covered
+pub apart_longer : (from covered more : ℕ) (is : List Interval) (since : Option ℕ) → AreApart from is since covered → covered ≤ more → AreApart from is since more
+apart_longer from covered more [] None apart h = tt
+apart_longer from covered more [] (Some after) (a, b) h = (a, omega arith)
+apart_longer from covered more (i ∷ is) since (a, b, c, rest) h = (a, b, omega arith, apart_longer (suc i.last) covered more is since rest h)
+
+-- they are apart from any smaller number on
+pub apart_lower : (from lower covered : ℕ) (is : List Interval) (since : Option ℕ) → AreApart from is since covered → lower ≤ from → AreApart lower is since covered
+apart_lower from lower covered [] None apart h = tt
+apart_lower from lower covered [] (Some after) (a, b) h = (omega arith, b)
+apart_lower from lower covered (i ∷ is) since (a, b, c, rest) h = (omega arith, b, c, rest)
+
+-- the last element of a list
+pub last_part : {X : Type 0} (xs : List X) (x : X) → slice_get xs (length xs - 1) ≡ Some x → xs ≡ take (length xs - 1) xs ++ x ∷ []
+last_part xs x e =
+    let within : length xs - 1 < length xs = slice_get_within xs (length xs - 1) x e in
+    let at : Some (get_or xs (length xs - 1) x) ≡ Some x = sym (slice_get-get_or xs (length xs - 1) x within) ∙ e in
+    let same : get_or xs (length xs - 1) x ≡ x = cc in
+    let rest : drop (suc (length xs - 1)) xs ≡ [] = drop_all (suc (length xs - 1)) xs (omega arith) in
+    sym (take-append-drop (length xs - 1) xs)
+    ∙ ap (λ ys. take (length xs - 1) xs ++ ys) (drop-cons xs (length xs - 1) x within ∙ ap (λ y. y ∷ drop (suc (length xs - 1)) xs) same ∙ ap (λ ys. x ∷ ys) rest)
+
+pub last_none : {X : Type 0} (xs : List X) → slice_get xs (length xs - 1) ≡ None → xs ≡ []
+last_none [] e = refl
+last_none (x ∷ xs) e =
+    let some : Some (get_or (x ∷ xs) (length (x ∷ xs) - 1) x) ≡ None = sym (slice_get-get_or (x ∷ xs) (length (x ∷ xs) - 1) x (omega arith)) ∙ e in
+    absurd cc
+
+-- the last interval goes on
+apart_resumed : (from covered : ℕ) (is : List Interval) (i : Interval) → i.last ≡ covered → AreApart from (is ++ i ∷ []) None covered → AreApart from is (Some i.after) covered
+apart_resumed from covered [] i ends (a, b, c, rest) = (a, omega arith)
+apart_resumed from covered (j ∷ js) i ends (a, b, c, rest) = (a, b, c, apart_resumed (suc j.last) covered js i ends rest)
+
+pub resumed : (low covered : ℕ) (is old : List Interval) (i : Interval) → old ≡ is ++ i ∷ [] → i.last ≡ covered → AreApart low old None covered
+    → Continues low covered (record { ended = old; since = None }) (record { ended = is; since = Some i.after })
+resumed low covered is old i parts ends apart =
+    record {
+      apart = apart_resumed low covered is i ends (subst (λ o. AreApart low o None covered) parts apart);
+      same = λ p h.
+          let at : is_in p i ≡ nat_lt i.after p = ap (λ b. nat_lt i.after p && b) (le-leb p i.last (omega arith)) ∙ and_true (nat_lt i.after p) in
+          sym (
+            or_none (list_any (is_in p) old) ∙ ap (list_any (is_in p)) parts ∙ list_any-append (is_in p) is (i ∷ [])
+            ∙ ap (λ b. list_any (is_in p) is || b) (or_none (is_in p i) ∙ at)
+          );
+    }
+  where
+    and_true : (a : Bool) → (a && true) ≡ a
+    and_true true = refl
+    and_true false = refl
+
+-- a new one begins behind them
+apart_begun : (from covered : ℕ) (is : List Interval) (i : Interval) → i.last < covered → AreApart from (is ++ i ∷ []) None covered → AreApart from (is ++ i ∷ []) (Some covered) covered
+apart_begun from covered [] i ends (a, b, c, rest) = (a, b, c, (omega arith, omega arith))
+apart_begun from covered (j ∷ js) i ends (a, b, c, rest) = (a, b, c, apart_begun (suc j.last) covered js i ends rest)
+
+last_upto : (from covered : ℕ) (is : List Interval) (i : Interval) → AreApart from (is ++ i ∷ []) None covered → i.last ≤ covered
+last_upto from covered [] i (a, b, c, rest) = c
+last_upto from covered (j ∷ js) i (a, b, c, rest) = last_upto (suc j.last) covered js i rest
+
+same_begun : (covered p : ℕ) (is : List Interval) → p ≤ covered → (list_any (is_in p) is || nat_lt covered p) ≡ (list_any (is_in p) is || false)
+same_begun covered p is h = ap (λ b. list_any (is_in p) is || b) (lt_false covered p h)
+
+pub begun : (low covered : ℕ) (is old : List Interval) (i : Interval) → old ≡ is ++ i ∷ [] → (i.last ≡ covered → ⊥) → AreApart low old None covered
+    → Continues low covered (record { ended = old; since = None }) (record { ended = old; since = Some covered })
+begun low covered is old i parts apart_from apart =
+    record {
+      apart =
+          let here = subst (λ o. AreApart low o None covered) parts apart in
+          let upto = last_upto low covered is i here in
+          subst (λ o. AreApart low o (Some covered) covered) (sym parts) (apart_begun low covered is i (omega arith) here);
+      same = λ p h. same_begun covered p old h;
+    }
+
+pub begun_first : (low covered : ℕ) (old : List Interval) → old ≡ [] → low ≤ covered
+    → Continues low covered (record { ended = old; since = None }) (record { ended = old; since = Some covered })
+begun_first low covered old none h =
+    record {
+      apart = subst (λ o. AreApart low o (Some covered) covered) (sym none) (h, omega arith);
+      same = λ p h. same_begun covered p old h;
+    }
+
+-- an open interval ends with the covered positions
+pub apart_ended : (from covered after : ℕ) (is : List Interval) → after < covered → AreApart from is (Some after) covered → AreApart from (is ++ record { after = after; last = covered } ∷ []) None covered
+apart_ended from covered after [] h (a, b) = (a, h, omega arith, tt)
+apart_ended from covered after (i ∷ is) h (a, b, c, rest) = (a, b, c, apart_ended (suc i.last) covered after is h rest)
+
+-- or it has no positions
+pub apart_unused : (from covered after : ℕ) (is : List Interval) → AreApart from is (Some after) covered → AreApart from is None covered
+apart_unused from covered after [] apart = tt
+apart_unused from covered after (i ∷ is) (a, b, c, rest) = (a, b, c, apart_unused (suc i.last) covered after is rest)
+
+pub ended : (low covered after : ℕ) (is : List Interval) → after < covered → AreApart low is (Some after) covered
+    → Continues low covered (record { ended = is; since = Some after }) (record { ended = is ++ record { after = after; last = covered } ∷ []; since = None })
+ended low covered after is h apart =
+    record {
+      apart = apart_ended low covered after is h apart;
+      same = λ p to.
+          or_none (list_any (is_in p) (is ++ record { after = after; last = covered } ∷ []))
+          ∙ list_any-append (is_in p) is (record { after = after; last = covered } ∷ [])
+          ∙ ap (λ b. list_any (is_in p) is || b) (or_none (nat_lt after p && nat_le p covered) ∙ ap (λ b. nat_lt after p && b) (le-leb p covered to) ∙ and_true (nat_lt after p));
+    }
+  where
+    and_true : (a : Bool) → (a && true) ≡ a
+    and_true true = refl
+    and_true false = refl
+
+pub unused : (low covered after : ℕ) (is : List Interval) → covered ≤ after → AreApart low is (Some after) covered
+    → Continues low covered (record { ended = is; since = Some after }) (record { ended = is; since = None })
+unused low covered after is h apart =
+    record {
+      apart = apart_unused low covered after is apart;
+      same = λ p to. ap (λ b. list_any (is_in p) is || b) (sym (lt_false after p (omega arith)));
+    }
+
+pub untouched : (low covered : ℕ) (t : Times) → AreApart low t.ended t.since covered → Continues low covered t t
+untouched low covered t apart = record { apart = apart; same = λ p h. refl }
+
+-- the same, for times seen through the fields of what keeps them
+pub shut_used : (low covered after : ℕ) (t : Times) (old new : List Interval) (since : Option ℕ) → record { ended = old; since = since } ≡ t → since ≡ Some after → after < covered
+    → new ≡ old ++ record { after = after; last = covered } ∷ [] → AreApart low t.ended t.since covered → Continues low covered t (record { ended = new; since = None })
+shut_used low covered after t old new since seen held some is =
+    subst (λ (s : Times). AreApart low s.ended s.since covered → Continues low covered s (record { ended = new; since = None })) seen
+    (subst (λ o. AreApart low old o covered → Continues low covered (record { ended = old; since = o }) (record { ended = new; since = None })) (sym held)
+    (subst (λ n. AreApart low old (Some after) covered → Continues low covered (record { ended = old; since = Some after }) (record { ended = n; since = None })) (sym is)
+    (ended low covered after old some)))
+
+pub shut_unused : (low covered after : ℕ) (t : Times) (old : List Interval) (since : Option ℕ) → record { ended = old; since = since } ≡ t → since ≡ Some after → covered ≤ after
+    → AreApart low t.ended t.since covered → Continues low covered t (record { ended = old; since = None })
+shut_unused low covered after t old since seen held none =
+    subst (λ (s : Times). AreApart low s.ended s.since covered → Continues low covered s (record { ended = old; since = None })) seen
+    (subst (λ o. AreApart low old o covered → Continues low covered (record { ended = old; since = o }) (record { ended = old; since = None })) (sym held)
+    (unused low covered after old none))
+
+-- each interval has positions
+pub some_at : (from covered : ℕ) (is : List Interval) (since : Option ℕ) (k : ℕ) (d : Interval) → AreApart from is since covered → k < length is → (get_or is k d).after < (get_or is k d).last
+some_at from covered [] since k d apart h = absurd (omega arith)
+some_at from covered (i ∷ is) since zero d (a, b, c, rest) h = b
+some_at from covered (i ∷ is) since (suc k) d (a, b, c, rest) h = some_at (suc i.last) covered is since k d rest (omega arith)

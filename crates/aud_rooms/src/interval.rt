@@ -1,0 +1,8 @@
+//! Intervals of positions.
+
+/// The positions past `after` up to `last`, at least one.
+#[derive(Clone, Copy, Drop)]
+pub struct Interval {
+    pub after: u64,
+    pub last: u64,
+}

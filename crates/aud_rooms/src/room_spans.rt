@@ -1,0 +1,23 @@
+//! The spans of all rooms.
+ghost use Rattle.std.specs.Prelude.{◌≡◌, ℕ, Some, IfOk, List};
+ghost use Rattle.aud_rooms.specs.Times.{Times, AreApart};
+ghost use Rattle.aud_rooms.specs.Building.{spans_upto, times_of, AreOrdered};
+
+use crate::holding::Holding;
+use crate::span::Span;
+use aud_tap::Memory;
+use std::alloc::Global;
+use std::collections::BTreeMap;
+
+/// The spans of all rooms, where positions are covered up to this one.
+pub fn spans_of_rooms<'a>(alloc: Global, rooms: &BTreeMap<&'a str, Holding>, covered: u64) -> Result<Vec<Span<'a>>, Memory>
+    requires { (room : List ℕ) (t : Times) → times_of rooms.now.entries room ≡ Some t → AreApart 0 t.ended t.since covered }
+    ensures spans { IfOk result (λ spans. spans.items ≡ spans_upto covered rooms.now.entries) }
+    ensures ordered { AreOrdered rooms.now.entries }
+{
+    let mut spans = Vec::new(alloc);
+    for (room, holding) in rooms {
+        holding.push_spans(*room, covered, &mut spans)?;
+    }
+    Ok(spans)
+}
