@@ -11,6 +11,7 @@ mod records;
 mod splitter;
 mod taps;
 mod text;
+mod write;
 
 pub use bundle::{BundleReader, read_bundle};
 pub use fault::{InputCode, Memory, ReadFault};
