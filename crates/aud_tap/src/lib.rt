@@ -3,6 +3,7 @@
 //! Begin at [`records`], the kinds of record of each tap.
 #![tactic(auto)]
 
+mod bundle;
 mod fault;
 mod limits;
 mod line;
@@ -13,6 +14,7 @@ mod taps;
 mod text;
 mod write;
 
+pub use bundle::{BundleReader, read_bundle};
 pub use fault::{InputCode, Memory, ReadFault};
 pub use line::Line;
 pub use read::parse_line;
