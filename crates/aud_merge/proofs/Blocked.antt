@@ -4,9 +4,9 @@ use Rattle.std.proofs.lemmas.Bool.{cases_lt, ltb-true, false≢true}
 use Rattle.std.proofs.lemmas.Option.{same_Some, none-some, slice_get_past}
 use Rattle.aud_tap.specs.declared.taps.Tap.{Tap}
 use Rattle.aud_node.specs.Cluster.{Cluster}
-use Rattle.aud_merge.specs.Machine.{Step, State, start, after}
+use Rattle.aud_merge.specs.Machine.{Step, State, start, after, taken_of}
 use Rattle.aud_merge.specs.Order.{first_allowed, IsGreedy, unfinished_fronts, IsBlockedAt}
-use Rattle.aud_merge.specs.Runs.{record_count, log_length, IsRun, AreAllowed, state_after, front, taken_of}
+use Rattle.aud_merge.specs.Runs.{record_count, log_length, IsRun, AreAllowed, state_after, front}
 use Rattle.aud_merge.proofs.Steps.{stepped}
 use Rattle.aud_merge.proofs.Exchange.{blocked-no_run}
 

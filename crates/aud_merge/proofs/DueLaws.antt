@@ -14,8 +14,8 @@ use Rattle.aud_rooms.specs.Turns.{Who, Turn, Slice, slice_of, AreTurns, HasNoTur
 use Rattle.aud_rooms.specs.TurnsDue.{rooms_at_take, rooms_at_end, rooms_for, is_past_first, is_for_rooms, is_turn_due, turns_due, greatest_high}
 use Rattle.aud_merge.specs.ByTurns.{IsPrefixOf, reaching_step, FallsAfter}
 use Rattle.aud_merge.specs.Due.{cursor_of, node_cursor, is_at_least, is_reached, states_from, states, reach, session_at, birth, is_past, is_for_session, is_due, due}
-use Rattle.aud_merge.specs.Machine.{Step, State, start, after, session_of}
-use Rattle.aud_merge.specs.Runs.{IsRun, taken_of}
+use Rattle.aud_merge.specs.Machine.{Step, State, start, after, session_of, taken_of}
+use Rattle.aud_merge.specs.Runs.{IsRun}
 use Rattle.aud_merge.specs.Sessions.{Session, Absent}
 use Rattle.aud_merge.proofs.Steps.{Stepped, stepped}
 use Rattle.aud_merge.proofs.Moves.{Named, Quiet, moved, Synced, Synced-step, Synced-start, RunsOn, RunsOn-run, taken-start}

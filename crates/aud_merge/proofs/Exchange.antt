@@ -15,21 +15,17 @@ use Rattle.aud_node.specs.Cluster.{Cluster, node_log, node_recs, log_at}
 use Rattle.aud_node.specs.Stream.{Text, position, offset_of}
 use Rattle.aud_node.specs.TurnRecords.{pid_of, begins_turn}
 use Rattle.aud_rooms.specs.Turns.{Who}
-use Rattle.aud_merge.specs.Machine.{Step, Progress, State, start, after, after_next, after_record, after_entry, cursor_after, next_position, sessions_after, session_of}
-use Rattle.aud_merge.specs.Runs.{record_count, IsRun, AreAllowed, IsBlocked, state_after, front, taken_of, taken_in}
+use Rattle.aud_merge.specs.Machine.{Step, Progress, State, start, after, after_next, after_record, after_entry, cursor_after, next_position, sessions_after, session_of, taken_of, appended, taken_in}
+use Rattle.aud_merge.specs.Runs.{record_count, IsRun, AreAllowed, IsBlocked, state_after, front}
 use Rattle.aud_merge.specs.Sessions.{Session, Absent, Here, Away, Ended, session_after}
 use Rattle.aud_merge.proofs.Basics.{and_then_parts, map_parts, cond_parts, cases_text, slice_get-set_other, get_insert_same, get_insert_other}
-use Rattle.aud_merge.proofs.Steps.{Stepped, stepped}
+use Rattle.aud_merge.proofs.Steps.{Stepped, stepped, appended-grows}
 use Rattle.aud_merge.proofs.Moves.{Named, next_position-at, RunsOn, RunsOn-run}
 use Rattle.aud_merge.proofs.Records.{IsBeyond, here-node, ended-after, waiting-after}
 use Rattle.aud_merge.proofs.Phases.{never_again}
 
 abbrev pub Sessions : Type 0
 Sessions = fin.FinMap (slice_cmp nat_cmp) Session
-
-abbrev pub raised : Bool → ℕ → ℕ
-raised true n = suc n
-raised false n = n
 
 abbrev pub put_in : Option (Text × Session) → Sessions → Sessions
 put_in None m = m
@@ -40,8 +36,8 @@ SameAt None m u = Unit {0}
 SameAt (Some x) m u = fin.get u x.0 ≡ fin.get m x.0
 
 -- a state with the changes of one step
-abbrev pub done_to : State → ℕ → Progress → Bool → Option (Text × Session) → State
-done_to u l p plus put = record { logs = set u.logs l p; appended = raised plus u.appended; sessions = put_in put u.sessions }
+abbrev pub done_to : State → ℕ → Progress → Option (Text × Session) → State
+done_to u l p put = record { logs = set u.logs l p; sessions = put_in put u.sessions }
 
 abbrev pub NamedPut : Cluster → State → State → ℕ → ℕ → Option (Text × Session) → Type 0
 NamedPut c st st' l i None = Unit {0}
@@ -50,11 +46,10 @@ NamedPut c st st' l i (Some x) = Named c st st' l i x.0
 -- what an allowed step does, it does in each later state in which its log and its session are the same
 pub record Does (c : Cluster) (st st' : State) (s : Step) : Type 0 where
   pub p : Progress
-  pub plus : Bool
   pub put : Option (Text × Session)
-  is : st' ≡ done_to st s.log p plus put
+  is : st' ≡ done_to st s.log p put
   pub named : NamedPut c st st' s.log s.index put
-  again : (u : State) → slice_get u.logs s.log ≡ slice_get st.logs s.log → st.appended ≤ u.appended → SameAt put st.sessions u.sessions → after c u s ≡ Some (done_to u s.log p plus put)
+  again : (u : State) → slice_get u.logs s.log ≡ slice_get st.logs s.log → appended c st ≤ appended c u → SameAt put st.sessions u.sessions → after c u s ≡ Some (done_to u s.log p put)
 
 position-more : (a b : ℕ) (stream : List StreamRec) (off : Text) (q : ℕ) → a ≤ b → position (take a stream) off ≡ Some q → position (take b stream) off ≡ Some q
 position-more zero b stream off q h e = absurd (none-some q e)
@@ -113,7 +108,6 @@ does_log c st st' s done (Stream recs) at was log e =
     let (entry, found, became) = and_then_parts (after_entry st s.log done) (slice_get recs done.taken) st' e in
     record {
       p = record { taken = suc done.taken; cursor = done.cursor };
-      plus = true;
       put = None;
       is = sym (same_Some _ _ became);
       named = tt;
@@ -121,20 +115,19 @@ does_log c st st' s done (Stream recs) at was log e =
     }
 does_log c st st' s done (Node recs) at was log e =
     let (rec, found, became) = and_then_parts (after_record c st s.log done) (slice_get recs done.taken) st' e in
-    let (cursor, moved, rest) = and_then_parts _ (cursor_after (take st.appended c.stream) done.taken rec done.cursor) st' became in
+    let (cursor, moved, rest) = and_then_parts _ (cursor_after (take (appended c st) c.stream) done.taken rec done.cursor) st' became in
     let (sessions, kept, is) = map_parts _ (sessions_after s.log rec (pid_of rec) st.sessions) st' rest in
     let ps : Puts s.log rec (pid_of rec) st.sessions sessions = puts s.log rec (pid_of rec) st.sessions sessions kept in
     record {
       p = record { taken = suc done.taken; cursor = cursor };
-      plus = false;
       put = ps.put;
-      is = sym is ∙ ap (λ (m : Sessions). record { logs = set st.logs s.log (record { taken = suc done.taken; cursor = cursor }); appended = st.appended; sessions = m }) ps.is;
+      is = sym is ∙ ap (λ (m : Sessions). record { logs = set st.logs s.log (record { taken = suc done.taken; cursor = cursor }); sessions = m }) ps.is;
       named = of_put rec (ap (λ o. slice_get (node_recs o) s.index) log ∙ ap (slice_get recs) (sym was) ∙ found) sessions (ap (λ (x : State). x.sessions) is) ps.put ps.of;
       again = λ u same more at_session.
           after-at c u s done (Node recs) (same ∙ at) was log
           ∙ ap (option_and_then (after_record c u s.log done)) found
-          ∙ ap (option_and_then (λ cursor. option_map (λ (sessions : Sessions). record { logs = set u.logs s.log (record { taken = suc done.taken; cursor = cursor }); appended = u.appended; sessions = sessions }) (sessions_after s.log rec (pid_of rec) u.sessions))) (cursor_after-more st.appended u.appended c.stream done.taken rec done.cursor cursor more moved)
-          ∙ ap (option_map (λ (sessions : Sessions). record { logs = set u.logs s.log (record { taken = suc done.taken; cursor = cursor }); appended = u.appended; sessions = sessions })) (ps.again u.sessions at_session);
+          ∙ ap (option_and_then (λ cursor. option_map (λ (sessions : Sessions). record { logs = set u.logs s.log (record { taken = suc done.taken; cursor = cursor }); sessions = sessions }) (sessions_after s.log rec (pid_of rec) u.sessions))) (cursor_after-more (appended c st) (appended c u) c.stream done.taken rec done.cursor cursor more moved)
+          ∙ ap (option_map (λ (sessions : Sessions). record { logs = set u.logs s.log (record { taken = suc done.taken; cursor = cursor }); sessions = sessions })) (ps.again u.sessions at_session);
     }
   where
     of_put : (rec : NodeRec) → slice_get (node_log c s.log) s.index ≡ Some rec → (sessions : Sessions) → sessions ≡ st'.sessions → (put : Option (Text × Session))
@@ -190,31 +183,20 @@ apart_turned None (Some y) apart = tt
 apart_turned (Some x) None apart = tt
 apart_turned (Some x) (Some y) apart = λ e. apart (sym e)
 
-raised-le : (b : Bool) (n : ℕ) → n ≤ raised b n
-raised-le true n = omega arith
-raised-le false n = omega arith
-
-raised_comm : (a b : Bool) (n : ℕ) → raised a (raised b n) ≡ raised b (raised a n)
-raised_comm true true n = refl
-raised_comm true false n = refl
-raised_comm false true n = refl
-raised_comm false false n = refl
-
 -- what two steps of different logs and different sessions do, they do in either order
-twice_comm : (st : State) (l m : ℕ) (p q : Progress) (a b : Bool) (x y : Option (Text × Session)) → (l ≡ m → ⊥) → Apart x y
-    → done_to (done_to st l p a x) m q b y ≡ done_to (done_to st m q b y) l p a x
-twice_comm st l m p q a b x y n apart =
+twice_comm : (st : State) (l m : ℕ) (p q : Progress) (x y : Option (Text × Session)) → (l ≡ m → ⊥) → Apart x y
+    → done_to (done_to st l p x) m q y ≡ done_to (done_to st m q y) l p x
+twice_comm st l m p q x y n apart =
     let logs : set (set st.logs l p) m q ≡ set (set st.logs m q) l p = set_comm st.logs l m p q n in
-    let appended : raised b (raised a st.appended) ≡ raised a (raised b st.appended) = raised_comm b a st.appended in
     let sessions : put_in y (put_in x st.sessions) ≡ put_in x (put_in y st.sessions) = put_comm st.sessions x y apart in
-    λ i. record { logs = logs i; appended = appended i; sessions = sessions i }
+    λ i. record { logs = logs i; sessions = sessions i }
 
 -- the second step is allowed after the first one
-allowed-behind : (c : Cluster) (st st1 st2 : State) (x s : Step) (dx : Does c st st1 x) (ds : Does c st st2 s) → (x.log ≡ s.log → ⊥) → Apart dx.put ds.put
-    → after c st2 x ≡ Some (done_to (done_to st s.log ds.p ds.plus ds.put) x.log dx.p dx.plus dx.put)
-allowed-behind c st st1 st2 x s dx ds n apart =
+allowed-behind : (c : Cluster) (st st1 st2 : State) (x s : Step) (dx : Does c st st1 x) (ds : Does c st st2 s) → after c st s ≡ Some st2 → (x.log ≡ s.log → ⊥) → Apart dx.put ds.put
+    → after c st2 x ≡ Some (done_to (done_to st s.log ds.p ds.put) x.log dx.p dx.put)
+allowed-behind c st st1 st2 x s dx ds e n apart =
     ap (λ u. after c u x) ds.is
-    ∙ dx.again (done_to st s.log ds.p ds.plus ds.put) (slice_get-set_other st.logs s.log x.log ds.p n) (raised-le ds.plus st.appended) (same_behind st.sessions dx.put ds.put apart)
+    ∙ dx.again (done_to st s.log ds.p ds.put) (slice_get-set_other st.logs s.log x.log ds.p n) (subst (λ u. appended c st ≤ appended c u) ds.is (appended-grows c st st2 s.log s.index (stepped c st st2 s e))) (same_behind st.sessions dx.put ds.put apart)
 
 -- both records begin one turn of the session
 record BothBegin (pid : Text) (one other : NodeRec) : Type 0 where
@@ -300,11 +282,11 @@ exchange c (s ∷ steps) st runs x st1 e = go (cases_eq x.log s.log) (λ st2 st3
         let dx = does c st st1 x e in
         let ds = does c st st2 s allowed in
         let far = apart c st st1 st2 x s dx ds n (stepped c st st1 x e) (stepped c st st2 s allowed) steps later in
-        let (rest, ends) = ih st2 _ later (allowed-behind c st st1 st2 x s dx ds n far) in
-        let first : after c st1 s ≡ Some (done_to (done_to st x.log dx.p dx.plus dx.put) s.log ds.p ds.plus ds.put) =
-        allowed-behind c st st2 st1 s x ds dx (λ e. n (sym e)) (apart_turned dx.put ds.put far) in
-        let same : done_to (done_to st x.log dx.p dx.plus dx.put) s.log ds.p ds.plus ds.put ≡ done_to (done_to st s.log ds.p ds.plus ds.put) x.log dx.p dx.plus dx.put =
-        twice_comm st x.log s.log dx.p ds.p dx.plus ds.plus dx.put ds.put n far in
+        let (rest, ends) = ih st2 _ later (allowed-behind c st st1 st2 x s dx ds allowed n far) in
+        let first : after c st1 s ≡ Some (done_to (done_to st x.log dx.p dx.put) s.log ds.p ds.put) =
+        allowed-behind c st st2 st1 s x ds dx e (λ e. n (sym e)) (apart_turned dx.put ds.put far) in
+        let same : done_to (done_to st x.log dx.p dx.put) s.log ds.p ds.put ≡ done_to (done_to st s.log ds.p ds.put) x.log dx.p dx.put =
+        twice_comm st x.log s.log dx.p ds.p dx.put ds.put n far in
         (s ∷ rest, (_, first ∙ ap Some same, ends))
 
 -- what was allowed to be taken from the start leaves the rest of a run
@@ -340,4 +322,4 @@ stays_allowed c steps run is allowed x s st1 st2 ex es n =
     let (later, behind) = exchange c rest st left s st2 es in
     let dx = does c st st1 x ex in
     let ds = does c st st2 s es in
-    (_, allowed-behind c st st1 st2 x s dx ds n (apart c st st1 st2 x s dx ds n (stepped c st st1 x ex) (stepped c st st2 s es) later behind))
+    (_, allowed-behind c st st1 st2 x s dx ds es n (apart c st st1 st2 x s dx ds n (stepped c st st1 x ex) (stepped c st st2 s es) later behind))

@@ -11,8 +11,8 @@ use Rattle.aud_rooms.specs.Turns.{Who, slice_of, End, ByLog, turn_end, MayEnd}
 use Rattle.aud_rooms.specs.TurnsDue.{rooms_for}
 use Rattle.aud_merge.specs.ByTurns.{first_reaching, reaching_step, FallsAfter}
 use Rattle.aud_merge.specs.Due.{is_reached, states_from}
-use Rattle.aud_merge.specs.Machine.{Step, State, after, session_of}
-use Rattle.aud_merge.specs.Runs.{record_count, taken_of}
+use Rattle.aud_merge.specs.Machine.{Step, State, after, session_of, taken_of}
+use Rattle.aud_merge.specs.Runs.{record_count}
 use Rattle.aud_merge.specs.Sessions.{Session, Here}
 use Rattle.aud_merge.proofs.Steps.{stepped}
 use Rattle.aud_merge.proofs.Moves.{Synced, Synced-step, RunsOn}

@@ -14,3 +14,5 @@ pub mod WholeChain
 pub mod Exchange
 pub mod Blocked
 pub mod Least
+pub mod FourTurns
+pub mod Witness

@@ -15,8 +15,8 @@ use Rattle.aud_node.specs.Lists.{numbers_from}
 use Rattle.aud_node.specs.Stream.{Text, position, offset_of}
 use Rattle.aud_node.specs.TurnRecords.{pid_of}
 use Rattle.aud_merge.specs.Due.{cursor_of, cursor_in}
-use Rattle.aud_merge.specs.Machine.{Step, State, start, after, cursor_after, next_position, sessions_after, session_of}
-use Rattle.aud_merge.specs.Runs.{record_count, AreAllowed, IsRun, taken_in, taken_of}
+use Rattle.aud_merge.specs.Machine.{Step, State, start, after, cursor_after, next_position, sessions_after, session_of, taken_in, taken_of, appended}
+use Rattle.aud_merge.specs.Runs.{record_count, AreAllowed, IsRun}
 use Rattle.aud_merge.specs.Sessions.{Session, Absent, session_after}
 use Rattle.aud_merge.proofs.Basics.{map_parts, cond_parts, cases_text, get_insert_same, get_insert_other}
 use Rattle.aud_merge.proofs.Steps.{EntryStep, RecordStep, Stepped, stepped}
@@ -129,7 +129,7 @@ Synced-step c st st' l i s synced m = go (cases_eq m l)
     by_kind : EntryStep c st st' l i ⊎ RecordStep c st st' l i → cursor_of st' l ≡ cursor_at c.stream (node_log c l) (suc i)
     by_kind (inl e) = e.cursor ∙ before ∙ ap (λ o. cursor_past c.stream i o (cursor_at c.stream (node_log c l) i)) (sym (ap (λ log. slice_get log i) e.no_log))
     by_kind (inr r) =
-        sym (next_cursor-allowed st.appended c.stream i r.rec (cursor_of st l) (cursor_of st' l) r.cursor)
+        sym (next_cursor-allowed (appended c st) c.stream i r.rec (cursor_of st l) (cursor_of st' l) r.cursor)
         ∙ ap (λ n. next_cursor c.stream i r.rec n) before
         ∙ ap (λ o. cursor_past c.stream i o (cursor_at c.stream (node_log c l) i)) (sym r.at)
 

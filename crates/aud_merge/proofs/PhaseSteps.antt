@@ -11,9 +11,8 @@ use Rattle.aud_node.specs.TurnRecords.{pid_of, begins_turn}
 use Rattle.aud_rooms.specs.Rooms.{Rooms, rooms_after}
 use Rattle.aud_rooms.specs.Turns.{Who, Turn, beginning, Inner, Last, End, ByBreak, ByGone, ByLog, part_of, turn_end, MayEnd, IsTurn}
 use Rattle.aud_merge.specs.Due.{cursor_of, node_cursor, is_at_least, is_reached}
-use Rattle.aud_merge.specs.Machine.{Step, State, session_of}
+use Rattle.aud_merge.specs.Machine.{Step, State, session_of, taken_in, taken_of, appended}
 use Rattle.aud_merge.specs.Sessions.{Here, Ended, session_after}
-use Rattle.aud_merge.specs.Runs.{taken_in, taken_of}
 use Rattle.aud_merge.proofs.Steps.{EntryStep, RecordStep, Stepped}
 use Rattle.aud_merge.proofs.Moves.{Named, Quiet, moved, Synced, Synced-step, RunsOn}
 use Rattle.aud_merge.proofs.Slices.{between-more, between-none, between-nil, end_parts, reaches-takes-behind}
@@ -256,7 +255,7 @@ inside_step c who last st st' l i' k t i held later counted o s synced synced' e
           some = more c who last st st' l i' k t i held later counted o r.rec at;
           reaches = λ p before.
               ap (nat_le p) (ap (λ n. cursor_at c.stream (node_log c n) (suc i)) e ∙ ap (λ n. cursor_at c.stream (node_log c l) (suc n)) (sym index) ∙ ap (cursor_at c.stream (node_log c l)) (sym s.now) ∙ sym (synced' l))
-              ∙ reaches-takes-behind st.appended c.stream i' r.rec (cursor_of st l) (cursor_of st' l) p (let begun = o.begun in omega (arith, begun, index)) r.cursor
+              ∙ reaches-takes-behind (appended c st) c.stream i' r.rec (cursor_of st l) (cursor_of st' l) p (let begun = o.begun in omega (arith, begun, index)) r.cursor
               (ap (nat_le p) (synced l ∙ ap (cursor_at c.stream (node_log c l)) (s.was ∙ index) ∙ ap (λ n. cursor_at c.stream (node_log c n) i) (sym e)) ∙ before);
         } in
         node_step c who last st st' l i' k t i held later counted o r.rec on

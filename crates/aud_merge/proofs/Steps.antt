@@ -1,16 +1,15 @@
 -- What a step that is allowed does.
-use Rattle.std.proofs.Common.{◌≡◌, ◌<◌, ℕ, suc, [], take, Some, slice_get, sym, ap, subst, ◌∙◌, ◌⊎◌, inl, inr, nat_eq}
-use Rattle.std.proofs.lemmas.Bool.{eqb-true}
+use Rattle.std.proofs.Common.{◌≡◌, ◌<◌, ◌≤◌, ℕ, suc, [], take, Option, Some, None, slice_get, arith, sym, ap, subst, ◌∙◌, ◌⊎◌, inl, inr, nat_eq}
+use Rattle.std.proofs.lemmas.Bool.{eqb-true, cases_eq}
 use Rattle.std.proofs.lemmas.Option.{same_Some, none-some, slice_get_within}
 use Rattle.aud_tap.specs.declared.records.NodeRec.{NodeRec}
 use Rattle.aud_tap.specs.declared.taps.Records.{Records}
 use Rattle.aud_tap.specs.declared.taps.Records.TheVariants.{Stream, Node, Client}
-use Rattle.aud_node.specs.Cluster.{Cluster, node_log, node_recs, log_at}
+use Rattle.aud_node.specs.Cluster.{Cluster, stream_place, node_log, node_recs, log_at}
 use Rattle.aud_node.specs.TurnRecords.{pid_of}
 use Rattle.aud_merge.specs.Due.{cursor_of, cursor_in}
-use Rattle.aud_merge.specs.Machine.{Step, Progress, State, after, after_next, after_record, after_entry, cursor_after, sessions_after}
+use Rattle.aud_merge.specs.Machine.{Step, Progress, State, after, after_next, after_record, after_entry, cursor_after, sessions_after, taken_in, taken_of, taken_at, appended}
 use Rattle.aud_merge.specs.Runs.{record_count, log_length}
-use Rattle.aud_merge.specs.Runs.{taken_in, taken_of}
 use Rattle.aud_merge.proofs.Basics.{and_then_parts, map_parts, cond_parts, slice_get-set_same, slice_get-set_other}
 
 -- a step of the stream
@@ -23,7 +22,7 @@ pub record EntryStep (c : Cluster) (st st' : State) (l i : ℕ) : Type 0 where
 pub record RecordStep (c : Cluster) (st st' : State) (l i : ℕ) : Type 0 where
   pub rec : NodeRec
   pub at : slice_get (node_log c l) i ≡ Some rec
-  pub cursor : cursor_after (take st.appended c.stream) i rec (cursor_of st l) ≡ Some (cursor_of st' l)
+  pub cursor : cursor_after (take (appended c st) c.stream) i rec (cursor_of st l) ≡ Some (cursor_of st' l)
   pub sessions : sessions_after l rec (pid_of rec) st.sessions ≡ Some st'.sessions
 
 pub record Stepped (c : Cluster) (st st' : State) (l i : ℕ) : Type 0 where
@@ -54,7 +53,7 @@ stepped_log c st st' l i done (Stream recs) at was log e =
 stepped_log c st st' l i done (Client recs) at was log e = absurd (none-some st' e)
 stepped_log c st st' l i done (Node recs) at was log e =
     let (rec, found, became) = and_then_parts (after_record c st l done) (slice_get recs done.taken) st' e in
-    let (cursor, moved, rest) = and_then_parts _ (cursor_after (take st.appended c.stream) done.taken rec done.cursor) st' became in
+    let (cursor, moved, rest) = and_then_parts _ (cursor_after (take (appended c st) c.stream) done.taken rec done.cursor) st' became in
     let (sessions, kept, is) = map_parts _ (sessions_after l rec (pid_of rec) st.sessions) st' rest in
     let here : slice_get st'.logs l ≡ Some (record { taken = suc done.taken; cursor = cursor }) =
     ap (λ (s : State). slice_get s.logs l) (sym is) ∙ slice_get-set_same st.logs l _ done at in
@@ -66,7 +65,7 @@ stepped_log c st st' l i done (Node recs) at was log e =
       kind = inr (record {
         rec = rec;
         at = ap (λ o. slice_get (node_recs o) i) log ∙ ap (λ n. slice_get recs n) (sym was) ∙ found;
-        cursor = ap (λ n. cursor_after (take st.appended c.stream) n rec (cursor_of st l)) (sym was) ∙ ap (λ n. cursor_after (take st.appended c.stream) done.taken rec n) (ap cursor_in at) ∙ moved ∙ ap Some (sym (ap cursor_in here));
+        cursor = ap (λ n. cursor_after (take (appended c st) c.stream) n rec (cursor_of st l)) (sym was) ∙ ap (λ n. cursor_after (take (appended c st) c.stream) done.taken rec n) (ap cursor_in at) ∙ moved ∙ ap Some (sym (ap cursor_in here));
         sessions = kept ∙ ap (λ (s : State). Some s.sessions) is;
       });
     }
@@ -77,3 +76,22 @@ stepped c st st' s e =
     let (was, next) = cond_parts (nat_eq done.taken s.index) _ st' rest in
     let (log, is, became) = and_then_parts (after_next c st s.log done) (log_at c s.log) st' next in
     stepped_log c st st' s.log s.index done log at (eqb-true _ _ was) is became
+
+-- no step takes back what was taken
+pub taken-grows : (c : Cluster) (st st' : State) (l i m : ℕ) → Stepped c st st' l i → taken_of st m ≤ taken_of st' m
+taken-grows c st st' l i m s = go (cases_eq m l)
+  where
+    go : (m ≡ l) ⊎ (m ≡ l → ⊥) → taken_of st m ≤ taken_of st' m
+    go (inl e) =
+        let was = ap (taken_of st) e ∙ s.was in
+        let now = ap (taken_of st') e ∙ s.now in
+        omega (arith, was, now)
+    go (inr n) = let kept = ap taken_in (s.others m n) in omega (arith, kept)
+
+-- nor an entry that was appended
+pub appended-grows : (c : Cluster) (st st' : State) (l i : ℕ) → Stepped c st st' l i → appended c st ≤ appended c st'
+appended-grows c st st' l i s = go (stream_place c.taps)
+  where
+    go : (place : Option ℕ) → taken_at st place ≤ taken_at st' place
+    go None = omega arith
+    go (Some m) = taken-grows c st st' l i m s

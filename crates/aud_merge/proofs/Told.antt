@@ -13,8 +13,8 @@ use Rattle.aud_rooms.specs.Rooms.{Rooms, own_room, rooms_after}
 use Rattle.aud_rooms.specs.Turns.{Who, Turn, beginning, Part, Inner, Last, Foreign, End, ByBreak, ByGone, part_of, AreTurns, HasNoTurn}
 use Rattle.aud_merge.specs.ByTurns.{session_past, after_records, by_turns}
 use Rattle.aud_merge.specs.Due.{states_from, states}
-use Rattle.aud_merge.specs.Machine.{Step, State, start, after, session_of}
-use Rattle.aud_merge.specs.Runs.{IsRun, taken_of, taken_in}
+use Rattle.aud_merge.specs.Machine.{Step, State, start, after, session_of, taken_of, taken_in}
+use Rattle.aud_merge.specs.Runs.{IsRun}
 use Rattle.aud_merge.specs.Sessions.{Session, Absent, Here, Away, Ended}
 use Rattle.aud_merge.proofs.Basics.{itself_text}
 use Rattle.aud_merge.proofs.Steps.{Stepped, stepped}

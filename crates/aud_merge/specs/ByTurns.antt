@@ -11,8 +11,7 @@ use Rattle.aud_node.specs.Cluster.{Cluster, node_log}
 use Rattle.aud_node.specs.TurnRecords.{pid_of}
 use Rattle.aud_rooms.specs.Turns.{Turn, slice_of}
 use Rattle.aud_merge.specs.Sessions.{Session, session_after}
-use Rattle.aud_merge.specs.Machine.{Step, State}
-use Rattle.aud_merge.specs.Runs.{taken_of}
+use Rattle.aud_merge.specs.Machine.{Step, State, taken_of}
 
 -- of so many records from this number on, the first after which the cursor is at least p
 abbrev pub first_reaching : List StreamRec → List NodeRec → ℕ → ℕ → ℕ → Option ℕ

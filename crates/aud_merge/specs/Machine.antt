@@ -10,7 +10,7 @@ use Rattle.aud_tap.specs.declared.records.NodeRec.TheVariants.{Start, Take}
 use Rattle.aud_tap.specs.declared.taps.Records.{Records}
 use Rattle.aud_tap.specs.declared.taps.Records.TheVariants.{Stream, Node, Client}
 use Rattle.aud_node.specs.Stream.{Text, position}
-use Rattle.aud_node.specs.Cluster.{Cluster, log_at}
+use Rattle.aud_node.specs.Cluster.{Cluster, stream_place, log_at}
 use Rattle.aud_node.specs.TurnRecords.{pid_of}
 use Rattle.aud_merge.specs.Sessions.{Session, Absent, session_after}
 
@@ -24,15 +24,30 @@ pub record Progress : Type 0 where
   pub taken : ℕ
   pub cursor : ℕ
 
--- how far each log has come, how many entries were appended to the stream, and the sessions by pid
+-- how far each log has come, in the order of the taps, and the sessions by pid
 pub record State : Type 0 where
   pub logs : List Progress
-  pub appended : ℕ
   pub sessions : fin.FinMap (slice_cmp nat_cmp) Session
 
 -- nothing was taken
 abbrev pub start : Cluster → State
-start c = record { logs = map (λ _. record { taken = 0; cursor = 0 }) c.taps; appended = 0; sessions = fin.empty }
+start c = record { logs = map (λ _. record { taken = 0; cursor = 0 }) c.taps; sessions = fin.empty }
+
+abbrev pub taken_in : Option Progress → ℕ
+taken_in None = 0
+taken_in (Some progress) = progress.taken
+
+-- how many records of the log at this place were taken
+abbrev pub taken_of : State → ℕ → ℕ
+taken_of st place = taken_in (slice_get st.logs place)
+
+abbrev pub taken_at : State → Option ℕ → ℕ
+taken_at st None = 0
+taken_at st (Some place) = taken_of st place
+
+-- how many entries are appended: the records of the stream's tap that were taken
+abbrev pub appended : Cluster → State → ℕ
+appended c st = taken_at st (stream_place c.taps)
 
 -- the session of this pid
 abbrev pub session_of : State → Text → Session
@@ -46,11 +61,11 @@ next_position (Some p) cursor = if nat_eq p (suc cursor) then Some p else None
 -- the cursor that the node's record with this number leaves, where these entries are appended; none where the record
 -- isn't allowed
 abbrev pub cursor_after : List StreamRec → ℕ → NodeRec → ℕ → Option ℕ
-cursor_after appended zero (Start None) cursor = Some 0
-cursor_after appended zero (Start (Some off)) cursor = position appended off
-cursor_after appended (suc number) (Start off) cursor = None
-cursor_after appended number (Take off) cursor = next_position (position appended off) cursor
-cursor_after appended number _ cursor = Some cursor
+cursor_after entries zero (Start None) cursor = Some 0
+cursor_after entries zero (Start (Some off)) cursor = position entries off
+cursor_after entries (suc number) (Start off) cursor = None
+cursor_after entries number (Take off) cursor = next_position (position entries off) cursor
+cursor_after entries number _ cursor = Some cursor
 
 -- the sessions that the node's record leaves, which names this pid, if any; none where it isn't allowed
 abbrev pub sessions_after : ℕ → NodeRec → Option Text → fin.FinMap (slice_cmp nat_cmp) Session → Option (fin.FinMap (slice_cmp nat_cmp) Session)
@@ -65,22 +80,14 @@ after_record c st node done rec =
     (λ cursor.
     option_map
     (λ sessions.
-    record {
-      logs = set st.logs node (record { taken = suc done.taken; cursor = cursor });
-      appended = st.appended;
-      sessions = sessions;
-    })
+    record { logs = set st.logs node (record { taken = suc done.taken; cursor = cursor }); sessions = sessions })
     (sessions_after node rec (pid_of rec) st.sessions))
-    (cursor_after (take st.appended c.stream) done.taken rec done.cursor)
+    (cursor_after (take (appended c st) c.stream) done.taken rec done.cursor)
 
 -- the state after the stream's next entry, which is always allowed
 abbrev pub after_entry : State → ℕ → Progress → StreamRec → Option State
 after_entry st place done entry =
-    Some (record {
-      logs = set st.logs place (record { taken = suc done.taken; cursor = done.cursor });
-      appended = suc st.appended;
-      sessions = st.sessions;
-    })
+    Some (record { logs = set st.logs place (record { taken = suc done.taken; cursor = done.cursor }); sessions = st.sessions })
 
 -- the state after the next record of the log, if it has one; a client's tap has no steps
 abbrev pub after_next : Cluster → State → ℕ → Progress → Records → Option State

@@ -2,8 +2,8 @@
 use Rattle.std.specs.Prelude.{◌≡◌, ◌≢◌, ℕ, zero, suc, List, [], ◌∷◌, length, Option, Some, None, if◌then◌else◌, nat_lt, is_some}
 use Rattle.std.specs.Option.{unwrap_or}
 use Rattle.aud_node.specs.Cluster.{Cluster}
-use Rattle.aud_merge.specs.Machine.{Step, State, start, after}
-use Rattle.aud_merge.specs.Runs.{record_count, IsRun, state_after, taken_of, front}
+use Rattle.aud_merge.specs.Machine.{Step, State, start, after, taken_of}
+use Rattle.aud_merge.specs.Runs.{record_count, IsRun, state_after, front}
 
 -- the next record of the first log, of so many from this place on, whose next record is allowed
 abbrev pub first_allowed : Cluster → State → ℕ → ℕ → Option Step

@@ -1,12 +1,12 @@
 -- Runs: mergings of the logs in which each step is allowed.
-use Rattle.std.specs.Prelude.{◌≡◌, ◌<◌, ℕ, List, [], ◌∷◌, map, length, Option, Some, None, nat_eq, slice_get}
+use Rattle.std.specs.Prelude.{◌≡◌, ◌<◌, ℕ, List, [], ◌∷◌, map, length, Option, Some, None, nat_eq}
 use Rattle.std.specs.List.{filter}
 use Rattle.std.specs.Option.{unwrap_or}
 use Rattle.aud_tap.specs.declared.taps.Records.{Records}
 use Rattle.aud_tap.specs.declared.taps.Records.TheVariants.{Stream, Node, Client}
 use Rattle.aud_node.specs.Lists.{numbers_from}
 use Rattle.aud_node.specs.Cluster.{Cluster, log_at}
-use Rattle.aud_merge.specs.Machine.{Step, Progress, State, start, after}
+use Rattle.aud_merge.specs.Machine.{Step, State, start, after, taken_of}
 
 -- how many steps the log has: one for each record of the stream's or of a node's tap
 abbrev pub log_length : Option Records → ℕ
@@ -38,14 +38,6 @@ pub record IsRun (c : Cluster) (steps : List Step) : Type 0 where
 abbrev pub state_after : Cluster → State → List Step → State
 state_after c st [] = st
 state_after c st (step ∷ steps) = state_after c (unwrap_or (after c st step) st) steps
-
-abbrev pub taken_in : Option Progress → ℕ
-taken_in None = 0
-taken_in (Some progress) = progress.taken
-
--- how many records of the log were taken
-abbrev pub taken_of : State → ℕ → ℕ
-taken_of st place = taken_in (slice_get st.logs place)
 
 -- the next record of the log at this place
 abbrev pub front : State → ℕ → Step

@@ -5,3 +5,13 @@ pub mod Cursors
 pub mod Cluster
 pub mod Ordered
 pub mod TurnRecords
+pub mod NodeTap
+pub mod NodeTaps
+pub mod AtPosition
+pub mod Offsets
+pub mod StreamIndices
+pub mod OwnRecords
+pub mod NodeIndices
+pub mod Turns
+pub mod NodeIndexed
+pub mod LogsIndexed

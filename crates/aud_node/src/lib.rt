@@ -1,2 +1,21 @@
-//! The stream's entries by position and offset, the nodes' logs and their cursors.
+//! The stream's entries by position and offset, the nodes' logs with their cursors, and the turns in them.
+//!
+//! Begin at [`logs`], which is made once from the taps; all that it lends was computed then.
 #![tactic(auto)]
+
+mod cursors;
+mod fields;
+mod logs;
+mod node_log;
+mod offsets;
+mod own_records;
+mod recoverable;
+mod recs;
+mod stream;
+mod turns;
+
+pub use fields::{offset, pid};
+pub use logs::Logs;
+pub use node_log::NodeLog;
+pub use recs::Recs;
+pub use stream::Stream;

@@ -1,0 +1,6 @@
+pub mod ListLemmas
+pub mod MapLemmas
+pub mod PositionLemmas
+pub mod CursorLemmas
+pub mod TurnLemmas
+pub mod NodeLemmas

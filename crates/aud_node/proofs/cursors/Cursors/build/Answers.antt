@@ -1,0 +1,44 @@
+use Rattle.std.proofs.Common.{◌≡◌, ℕ, ◌+◌, ◌==◌, ◌&&◌, not, suc, length, map, slice_get, sym, ap, ◌∙◌, refl, arith, Some, true, false}
+use Rattle.std.specs.List.{list_all}
+use Rattle.std.proofs.lemmas.Option.{slice_get_read}
+use Rattle.aud_node.specs.Lists.{numbers_from}
+use Rattle.aud_node.specs.Cursors.{cursor_at, next_cursor}
+use Rattle.aud_node.specs.Ordered.{is_in_order}
+use Rattle.aud_node.proofs.CursorLemmas.{is_in_order_at, cursor_at-more, is_in_order_at-here, cursors-more, all-more, is_ordered-all}
+use Rattle.aud_node.proofs.cursors.Cursors.build.Goals as goal
+use Rattle.aud_node.proofs.cursors.Cursors.build.Goals.{then-ordered, else-ordered}
+
+pub loop-number-preserved : goal.loop-number-preserved
+loop-number-preserved c =
+    let i = c.loop-number.number in
+    let log = c.args.recs.now in
+    let stream = c.args.stream.now in
+    let rec = c.index-recs-number.result in
+    let before = c.loop-number.invariant in
+    let here : slice_get log i ≡ Some rec = slice_get_read log (length log) i rec refl (omega arith) c.index-recs-number.is in
+    let cursor : c.next_cursor-cursor.result ≡ cursor_at stream log (i + 1) =
+    c.next_cursor-cursor.ensures ∙ ap (next_cursor stream i rec) before.cursor_is ∙ sym (cursor_at-more stream log i rec here) in
+    let next : i + 1 ≡ suc i = omega arith in
+    let order : is_in_order stream i c.loop-number.cursor rec ≡ is_in_order_at stream log i =
+    ap (λ p. is_in_order stream i p rec) before.cursor_is ∙ sym (is_in_order_at-here stream log i rec here) in
+    let kept : c.if-ordered.ordered ≡ (c.loop-number.ordered && is_in_order_at stream log i) =
+    elim c.if-ordered.branch [
+      | then-ordered w ↦ w.ordered-is ∙ w.is_in_order-ordered.ensures ∙ order ∙ ap (λ b. b && is_in_order_at stream log i) (sym w.if-ordered.true)
+      | else-ordered w ↦ w.ordered-is ∙ w.if-ordered.false ∙ ap (λ b. b && is_in_order_at stream log i) (sym w.if-ordered.false)
+    ] in
+    record {
+      after_are = c.in_ok-push.ensures.items ∙ cursors-more (λ number. cursor_at stream log (suc number)) i c.next_cursor-cursor.result c.loop-number.after.items before.after_are (cursor ∙ ap (cursor_at stream log) next);
+      cursor_is = cursor;
+      ordered_is = kept ∙ all-more (is_in_order_at stream log) i (not (length log == 0)) c.loop-number.ordered before.ordered_is;
+    }
+
+pub returns : goal.returns
+returns c =
+    let i = c.loop-number.number in
+    let log = c.args.recs.now in
+    let stream = c.args.stream.now in
+    let end : i ≡ length log = omega arith in
+    record {
+      after_are = c.loop-number.invariant.after_are ∙ ap (λ n. map (λ number. cursor_at stream log (suc number)) (numbers_from 0 n)) end;
+      ordered_is = c.loop-number.invariant.ordered_is ∙ ap (λ n. not (length log == 0) && list_all (is_in_order_at stream log) (numbers_from 0 n)) end ∙ sym (is_ordered-all stream log);
+    }

@@ -1,0 +1,19 @@
+-- What is kept of the taps.
+use Rattle.std.specs.Prelude.{◌≡◌, map, Option, Some, None}
+use Rattle.aud_node.specs.NodeTap.{NodeTap}
+use Rattle.aud_node.specs.NodeTaps.{node_tap}
+use Rattle.aud_node.specs.Cluster.{stream_of}
+use Rattle.aud_node.specs.declared.logs.Log.{Log}
+use Rattle.aud_node.specs.declared.logs.Log.TheVariants.{Stream, Node, Client}
+use Rattle.aud_node.specs.declared.logs.Logs.TheInside.{Inside}
+
+-- the node's log, if it is one
+abbrev pub node_of : Log → Option NodeTap
+node_of Stream = None
+node_of (Node log) = Some log
+node_of Client = None
+
+-- the entries are those of the taps, and each node's log is kept at its place
+pub record IsIndexed (l : Inside) : Type 0 where
+  pub stream_is : l.stream ≡ stream_of l.taps.now
+  pub nodes_are : map node_of l.logs.items ≡ map (node_tap l.stream) l.taps.now

@@ -1,0 +1,140 @@
+//! The cluster's logs.
+ghost use Rattle.std.specs.Prelude.{◌≡◌, IfOk, length, map};
+ghost use Rattle.std.specs.Option.{option_copied};
+ghost use Rattle.aud_node.specs.Cluster.{cluster_of, stream_of};
+ghost use Rattle.aud_node.specs.NodeTaps.{node_at, name_at, node_tap};
+ghost use Rattle.aud_node.specs.LogsIndexed.{node_of};
+
+use crate::node_log::NodeLog;
+use crate::stream::Stream;
+use aud_tap::{Memory, Records, StreamRec, Tap, Taps};
+use std::alloc::{AllocError, Global};
+use std::marker::Model;
+
+/// What is kept of a tap.
+#[derive(Drop)]
+pub enum Log<'a> {
+    Stream,
+    Node(NodeLog<'a>),
+    Client,
+}
+
+/// The taps, lent, with what was made of them once: seen as the cluster. A tap is named by its place, which counts
+/// from 0 in the order of the headers.
+#[derive(Drop)]
+pub struct Logs<'a> {
+    taps: &'a [Tap],
+    stream: Stream<'a>,
+    logs: Vec<Log<'a>>,
+}
+
+impl<'a> Model for Logs<'a> {
+    ghost use Rattle.aud_node.specs.Cluster.{Cluster, cluster_of};
+
+    ghost Value = { Cluster };
+
+    ghost use Rattle.aud_node.specs.LogsIndexed.{IsIndexed};
+
+    ghost view = { λ l. cluster_of l.taps.now };
+
+    ghost invariant = { IsIndexed };
+}
+
+impl<'a> Logs<'a> {
+    /// The logs of the taps.
+    pub fn build(alloc: Global, taps: &'a Taps) -> Result<Logs<'a>, Memory>
+        ensures { IfOk result (λ logs. logs ≡ cluster_of taps.now) }
+    {
+        let taps = taps.as_slice();
+        let stream = Stream::build(alloc, entries_of(taps))?;
+        let logs = logs_of(alloc, &stream, taps)?;
+        Ok(Logs { taps, stream, logs })
+    }
+
+    /// The stream's entries, lent.
+    pub fn stream(&self) -> &Stream<'a>
+        ensures { result.now ≡ self.now.stream }
+    {
+        &self.stream
+    }
+
+    /// How many taps there are.
+    pub fn len(&self) -> usize
+        ensures { result ≡ length self.now.taps }
+    {
+        self.taps.len()
+    }
+
+    /// The name of the tap at this place.
+    pub fn name(&self, place: usize) -> Option<&'a str>
+        ensures { option_copied result ≡ name_at self.now place }
+    {
+        match self.taps.get(place) {
+            Some(tap) => Some(tap.name.as_str()),
+            None => None,
+        }
+    }
+
+    /// The log of the node whose tap is at this place; none where that tap is no node's.
+    pub fn node(&self, place: usize) -> Option<&NodeLog<'a>>
+        ensures { option_copied result ≡ node_at self.now place }
+    {
+        match self.logs.get(place) {
+            Some(log) => log.node(),
+            None => None,
+        }
+    }
+}
+
+impl<'a> Log<'a> {
+    ghost use Rattle.aud_node.specs.LogsIndexed.{node_of};
+
+    /// The node's log, if it is one.
+    fn node(&self) -> Option<&NodeLog<'a>>
+        ensures { option_copied result ≡ node_of self.now }
+    {
+        match self {
+            Log::Node(log) => Some(log),
+            Log::Stream => None,
+            Log::Client => None,
+        }
+    }
+}
+
+/// The entries of the first stream tap.
+fn entries_of(taps: &[Tap]) -> &[StreamRec]
+    ensures { result.now ≡ stream_of taps.now }
+{
+    for tap in taps {
+        if let Records::Stream(recs) = &tap.records {
+            return recs.as_slice();
+        }
+    }
+    &[]
+}
+
+/// What is kept of each tap.
+fn logs_of<'a>(
+    alloc: Global,
+    stream: &Stream<'a>,
+    taps: &'a [Tap],
+) -> Result<Vec<Log<'a>>, AllocError>
+    ensures { IfOk result (λ logs. map node_of logs.items ≡ map (node_tap stream.now) taps.now) }
+{
+    let mut logs = Vec::new(alloc);
+    for tap in taps {
+        logs.push(log_of(alloc, stream, tap)?)?;
+    }
+    Ok(logs)
+}
+
+/// What is kept of the tap.
+fn log_of<'a>(alloc: Global, stream: &Stream<'a>, tap: &'a Tap) -> Result<Log<'a>, AllocError>
+    ensures { IfOk result (λ log. node_of log ≡ node_tap stream.now tap.now) }
+{
+    match &tap.records {
+        Records::Stream(_) => Ok(Log::Stream),
+        Records::Node(recs) => Ok(Log::Node(NodeLog::build(alloc, stream, recs.as_slice())?)),
+        Records::Client(_) => Ok(Log::Client),
+    }
+}

@@ -1,0 +1,100 @@
+//! A node's log.
+ghost use Rattle.std.specs.Prelude.{◌≡◌, IfOk, length, slice_get, map};
+ghost use Rattle.aud_node.specs.TurnRecords.{turn_of};
+ghost use Rattle.aud_node.specs.Ordered.{is_ordered};
+ghost use Rattle.aud_node.specs.OwnRecords.{own_numbers};
+ghost use Rattle.aud_node.specs.NodeTap.{cursor_after};
+
+use crate::cursors::Cursors;
+use crate::own_records::OwnRecords;
+use crate::recs::Recs;
+use crate::stream::Stream;
+use crate::turns::Turns;
+use aud_tap::{NodeRec, StreamRec};
+use std::alloc::{AllocError, Global};
+use std::marker::Model;
+
+/// The records of a node's tap, lent, with the stream that the node takes from.
+#[derive(Drop)]
+pub struct NodeLog<'a> {
+    stream: &'a [StreamRec],
+    recs: &'a [NodeRec],
+    cursors: Cursors,
+    own: OwnRecords<'a>,
+    turns: Turns<'a>,
+}
+
+impl<'a> Model for NodeLog<'a> {
+    ghost use Rattle.aud_node.specs.NodeTap.{NodeTap};
+
+    ghost Value = { NodeTap };
+
+    ghost use Rattle.aud_node.specs.NodeIndexed.{IsIndexed};
+
+    ghost view = { λ n. record { stream = n.stream.now; recs = n.recs.now } };
+
+    ghost invariant = { IsIndexed };
+}
+
+impl<'a> NodeLog<'a> {
+    ghost use Rattle.aud_node.specs.NodeTap.{NodeTap};
+
+    pub(crate) fn build(
+        alloc: Global,
+        stream: &Stream<'a>,
+        recs: &'a [NodeRec],
+    ) -> Result<NodeLog<'a>, AllocError>
+        ensures stream { IfOk result (λ log. log.stream ≡ stream.now) }
+        ensures recs { IfOk result (λ log. log.recs ≡ recs.now) }
+    {
+        let cursors = Cursors::build(alloc, stream, recs)?;
+        let own = OwnRecords::build(alloc, recs)?;
+        let turns = Turns::build(alloc, recs)?;
+        Ok(NodeLog {
+            stream: stream.entries(),
+            recs,
+            cursors,
+            own,
+            turns,
+        })
+    }
+
+    /// The records.
+    pub fn recs(&self) -> Recs<'a>
+        ensures { result ≡ self.now.recs }
+    {
+        Recs::new(self.recs)
+    }
+
+    /// The cursor after the record with this number: the last position taken, 0 before the first.
+    pub fn cursor_after(&self, number: usize) -> Option<u64>
+        ensures { result ≡ cursor_after self.now number }
+    {
+        self.cursors.after.get(number).copied()
+    }
+
+    /// Whether the log begins with its only `start`, at the stream's begin or behind one of its entries, and each
+    /// `take` is of the position after the cursor.
+    pub fn ordered(&self) -> bool
+        ensures { result ≡ is_ordered self.now.stream self.now.recs }
+    {
+        self.cursors.ordered
+    }
+
+    /// The records of the session's turn, which counts from 0; none where no record begins it.
+    pub fn turn_of(&self, pid: &str, turn: u16) -> Option<Recs<'a>>
+        ensures { result ≡ turn_of self.now.recs pid.now turn }
+    {
+        match self.turns.get(pid, turn) {
+            Some(span) => Some(self.recs().between(span.from, span.to)),
+            None => None,
+        }
+    }
+
+    /// The numbers, ascending, of the records that name the pid.
+    pub fn own(&self, pid: &str) -> &[usize]
+        ensures { result.now ≡ own_numbers self.now.recs pid.now }
+    {
+        self.own.of(pid)
+    }
+}

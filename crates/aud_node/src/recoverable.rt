@@ -1,0 +1,55 @@
+//! Which entries a server sends again after a recovery.
+ghost use Rattle.std.specs.Prelude.{◌≡◌, IfOk, map};
+ghost use Rattle.aud_sio.specs.Packet.{view};
+ghost use Rattle.aud_node.specs.Recoverable.{is_recoverable, is_packet_of, is_event};
+
+use aud_sio::{Packet, PacketKind, SioFault, decode, last_text};
+use aud_tap::{Event, StreamRec};
+use std::alloc::{AllocError, Global};
+
+/// Of each entry, whether it is recoverable.
+pub fn recoverable_of(alloc: Global, entries: &[StreamRec]) -> Result<Vec<bool>, AllocError>
+    ensures { IfOk result (λ flags. flags.items ≡ map is_recoverable entries.now) }
+{
+    let mut flags = Vec::new(alloc);
+    for entry in entries {
+        flags.push(is_recoverable(alloc, entry)?)?;
+    }
+    Ok(flags)
+}
+
+/// Whether the entry is an event that a server sends again.
+#[tactic(auto, unfolding(crate::specs::Recoverable::is_recoverable))]
+fn is_recoverable(alloc: Global, entry: &StreamRec) -> Result<bool, AllocError>
+    ensures { IfOk result (λ answer. answer ≡ is_recoverable entry.now) }
+{
+    let StreamRec::Ev(event) = entry else {
+        return Ok(false);
+    };
+    match decode(alloc, event.text.as_str()) {
+        Ok(packet) => Ok(is_packet_of(event, &packet)),
+        Err(SioFault::Memory) => Err(AllocError),
+        Err(_) => Ok(false),
+    }
+}
+
+/// Whether the packet is one that a server sends again for the event.
+fn is_packet_of(event: &Event, packet: &Packet<'_>) -> bool
+    ensures { result ≡ is_packet_of event.now (view packet.now) }
+{
+    is_event(packet.kind)
+        && packet.nsp == event.nsp.as_str()
+        && packet.id.is_none()
+        && last_text(packet) == Some(event.off.as_str())
+        && usize::from(packet.attachments) == event.bin.as_slice().len()
+}
+
+/// Whether the kind carries an event.
+fn is_event(kind: PacketKind) -> bool
+    ensures { result ≡ is_event kind }
+{
+    match kind {
+        PacketKind::Event | PacketKind::BinaryEvent => true,
+        _ => false,
+    }
+}

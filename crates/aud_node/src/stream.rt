@@ -1,0 +1,93 @@
+//! The stream's entries.
+ghost use Rattle.std.specs.Prelude.{◌≡◌, IfOk};
+ghost use Rattle.std.specs.Option.{option_copied};
+ghost use Rattle.aud_node.specs.Stream.{position, entry};
+ghost use Rattle.aud_node.specs.AtPosition.{is_recoverable_at, next_position};
+
+use crate::offsets::Offsets;
+use crate::recoverable::recoverable_of;
+use aud_tap::StreamRec;
+use std::alloc::{AllocError, Global};
+use std::marker::Model;
+
+/// The stream's entries, lent; seen as their list. Positions count from 1.
+#[derive(Drop)]
+pub struct Stream<'a> {
+    entries: &'a [StreamRec],
+    offsets: Offsets<'a>,
+    recoverable: Vec<bool>,
+}
+
+impl<'a> Model for Stream<'a> {
+    ghost use Rattle.std.specs.Prelude.{List};
+    ghost use Rattle.aud_tap.specs.declared.records.StreamRec.{StreamRec};
+
+    ghost Value = { List StreamRec };
+
+    ghost use Rattle.aud_node.specs.StreamIndices.{IsIndexed};
+
+    ghost view = { λ s. s.entries.now };
+
+    ghost invariant = { IsIndexed };
+}
+
+impl<'a> Stream<'a> {
+    pub(crate) fn build(alloc: Global, entries: &'a [StreamRec]) -> Result<Stream<'a>, AllocError>
+        ensures { IfOk result (λ stream. stream ≡ entries.now) }
+    {
+        let offsets = Offsets::build(alloc, entries)?;
+        let recoverable = recoverable_of(alloc, entries)?;
+        Ok(Stream {
+            entries,
+            offsets,
+            recoverable,
+        })
+    }
+
+    /// The entries, lent for as long as the taps.
+    pub fn entries(&self) -> &'a [StreamRec]
+        ensures { result.now ≡ self.now }
+    {
+        self.entries
+    }
+
+    /// The position, from 1 on, of the entry that has the offset.
+    pub fn position(&self, off: &str) -> Option<u64>
+        ensures { result ≡ position self.now off.now }
+    {
+        self.offsets.get(off)
+    }
+
+    /// The entry at the position, which counts from 1.
+    pub fn entry(&self, position: u64) -> Option<&'a StreamRec>
+        ensures { option_copied result ≡ entry self.now position }
+    {
+        if position == 0 {
+            return None;
+        }
+        self.entries.get(position as usize - 1)
+    }
+
+    /// Whether the entry at the position is sent again after a recovery; false where there is none.
+    pub fn recoverable(&self, position: u64) -> bool
+        ensures { result ≡ is_recoverable_at self.now position }
+    {
+        if position == 0 {
+            return false;
+        }
+        self.recoverable
+            .get(position as usize - 1)
+            .copied()
+            .unwrap_or(false)
+    }
+
+    /// The position behind the cursor, if the offset stands there.
+    pub(crate) fn next(&self, cursor: u64, off: &str) -> Option<u64>
+        ensures { result ≡ next_position self.now off.now cursor }
+    {
+        match self.offsets.get(off) {
+            Some(position) if position > 0 && position - 1 == cursor => Some(position),
+            _ => None,
+        }
+    }
+}
