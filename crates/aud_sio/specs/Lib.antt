@@ -6,3 +6,6 @@ pub mod Namespace
 pub mod AckId
 pub mod Payload
 pub mod Packet
+pub mod Message
+pub mod Wholes
+pub mod Assembly
