@@ -1,5 +1,5 @@
 -- The digits at the front of a text.
-use Rattle.std.proofs.Common.{◌≡◌, ℕ, zero, suc, ◌^◌, ◌<◌, ◌≤◌, ◌==◌, List, [], ◌∷◌, length, get_or, slice_index, Bool, true, false, refl, ◌⊎◌, inl, inr, arith, subst, add-one, Result, IsOk, Ok, Err}
+use Rattle.std.proofs.Common.{◌≡◌, ℕ, zero, suc, ◌^◌, ◌<◌, ◌≤◌, ◌==◌, List, [], ◌∷◌, length, slice_index, Bool, true, false, refl, ◌⊎◌, inl, inr, arith, subst, add-one, Result, IsOk, Ok, Err}
 use Rattle.std.specs.List.{take_while}
 use Rattle.std.specs.Str.{IsUtf8, IsCharBoundary}
 use Rattle.std.specs.Str.Parse.{AllDigits, digits_value, IsNumeral, ParsesUnsigned}
@@ -8,11 +8,11 @@ use Rattle.std.proofs.lemmas.Bool.{eqb-true}
 use Rattle.std.proofs.lemmas.Bool.Decides.{nat_tests}
 use Rattle.std.proofs.lemmas.Int.Digits.{digits_value-lt}
 use Rattle.std.proofs.lemmas.List.Sums.{prefix_len-le-length, prefix_len_passes, take_while-cons}
-use Rattle.std.proofs.lemmas.Str.{IsCharBoundary-after_ascii}
+use Rattle.std.proofs.lemmas.Str.{IsCharBoundary-after_ascii, IsCharBoundary-start}
 use Rattle.std.proofs.Math.Nat.{pow-le-pow_right}
 use Rattle.aud_sio.specs.Digits.{digit_count}
 
-decide : (b : Bool) → (b ≡ true) ⊎ (b ≡ false)
+pub decide : (b : Bool) → (b ≡ true) ⊎ (b ≡ false)
 decide true = inl refl
 decide false = inr refl
 
@@ -23,9 +23,9 @@ digit_value-small : (b : ℕ) → is_ascii_digit b ≡ true → digit_value b < 
 digit_value-small b digit = grind (arith, nat_tests)
 
 -- digits end where a character does
-pub digits-boundary : (l : List ℕ) (n : ℕ) → IsUtf8 l → 0 < n → n ≡ digit_count l → IsCharBoundary l n
-digits-boundary l zero text some e = absurd (omega arith)
-digits-boundary l (suc i) text some e =
+pub digits-boundary : (l : List ℕ) (n : ℕ) → IsUtf8 l → n ≡ digit_count l → IsCharBoundary l n
+digits-boundary l zero text e = IsCharBoundary-start l text
+digits-boundary l (suc i) text e =
     let within : i < digit_count l = omega arith in
     let digit = prefix_len_passes is_ascii_digit l i 0 within in
     rw (← add-one) (IsCharBoundary-after_ascii l i text (omega (arith, prefix_len-le-length is_ascii_digit l)) (digit-ascii (slice_index l i) digit))

@@ -1,5 +1,5 @@
 -- The count of attachments of a packet (Socket.IO protocol 5, "Packet encoding").
-use Rattle.std.specs.Prelude.{ℕ, ◌==◌, ◌&&◌, nat_le, List, drop, slice_index, if◌then◌else◌, Result, Ok, Err}
+use Rattle.std.specs.Prelude.{ℕ, ◌==◌, ◌&&◌, nat_le, List, drop, slice_index, if◌then◌else◌, Result, Ok}
 use Rattle.aud_sio.specs.declared.fault.SioFault.{SioFault}
 use Rattle.aud_sio.specs.declared.fault.SioFault.TheVariants.{Attachments}
 use Rattle.aud_sio.specs.declared.kind.PacketKind.{PacketKind}

@@ -9,3 +9,4 @@ pub mod Packet
 pub mod Message
 pub mod Wholes
 pub mod Assembly
+pub mod Written

@@ -1,17 +1,8 @@
-//! Cutting a text behind ASCII bytes, and the number that digits write.
+//! The digits at the front of a text, and the number that they write.
 ghost use Rattle.std.specs.Prelude.{◌≡◌, ◌<◌, ◌≤◌, drop, length, slice_index, take_while};
 ghost use Rattle.std.specs.Char.{is_ascii_digit};
 ghost use Rattle.std.specs.Str.Parse.{AllDigits, digits_value};
 ghost use Rattle.aud_sio.specs.Digits.{after_digits, digit_count};
-
-/// What follows the first byte, which is ASCII.
-pub(crate) fn after_first(text: &str) -> &str
-    requires there { 0 < length text.now }
-    requires ascii { slice_index text.now 0 < 128 }
-    ensures { result.now ≡ drop 1 text.now }
-{
-    text.split_at(1).1
-}
 
 /// The digits at the front of a text, and the rest.
 pub(crate) fn split_digits(text: &str) -> (&str, &str)
@@ -20,24 +11,16 @@ pub(crate) fn split_digits(text: &str) -> (&str, &str)
     ensures decimal { AllDigits 10 result.0.now }
     ensures rest { result.1.now ≡ after_digits text.now }
 {
-    let count = digit_count(text.as_bytes());
-    if count == 0 {
-        return ("", text);
-    }
-    text.split_at(count)
+    text.split_at(digit_count(text.as_bytes()))
 }
 
 fn digit_count(bytes: &[u8]) -> usize
     ensures { result ≡ digit_count bytes.now }
 {
-    let mut count = 0;
-    for byte in bytes {
-        if !byte.is_ascii_digit() {
-            return count;
-        }
-        count += 1;
-    }
-    count
+    bytes
+        .iter()
+        .take_while(|byte| byte.is_ascii_digit())
+        .count()
 }
 
 /// The number that a few digits write.

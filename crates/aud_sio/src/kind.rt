@@ -1,9 +1,8 @@
 //! The kind of a packet: the digit at the front of its text.
 ghost use Rattle.std.specs.Prelude.{◌≡◌, ◌<◌, OnOk};
 ghost use Rattle.aud_sio.specs.Reading.{Gives};
-ghost use Rattle.aud_sio.specs.Kind.{is_binary, kind_at, kind_of, wants_array};
+ghost use Rattle.aud_sio.specs.Kind.{is_binary, kind_at, kind_of, type_digit, wants_array};
 
-use crate::digits::after_first;
 use crate::fault::SioFault;
 
 /// The types of the protocol, in the order of their digits, from 0.
@@ -27,7 +26,7 @@ pub(crate) fn kind_at(text: &str) -> Result<(PacketKind, &str), SioFault>
         return Err(SioFault::Empty);
     };
     let kind = kind_of(*first)?;
-    Ok((kind, after_first(text)))
+    Ok((kind, text.split_at(1).1))
 }
 
 fn kind_of(byte: u8) -> Result<PacketKind, SioFault>
@@ -47,6 +46,22 @@ fn kind_of(byte: u8) -> Result<PacketKind, SioFault>
 }
 
 impl PacketKind {
+    /// The ASCII digit of this kind.
+    pub(crate) fn digit(self) -> char
+        ensures value { result ≡ type_digit self }
+        ensures ascii { result < 128 }
+    {
+        match self {
+            PacketKind::Connect => '0',
+            PacketKind::Disconnect => '1',
+            PacketKind::Event => '2',
+            PacketKind::Ack => '3',
+            PacketKind::ConnectError => '4',
+            PacketKind::BinaryEvent => '5',
+            PacketKind::BinaryAck => '6',
+        }
+    }
+
     /// Whether binary messages follow a packet of this kind.
     pub(crate) fn is_binary(self) -> bool
         ensures { result ≡ is_binary self }

@@ -14,9 +14,13 @@ mod namespace;
 mod packet;
 mod payload;
 mod whole;
+#[cfg(test)]
+mod tests;
+mod written;
 
 pub use assembler::Assembler;
 pub use fault::SioFault;
 pub use kind::PacketKind;
 pub use packet::{Packet, decode, last_text};
 pub use whole::{Blob, Whole};
+pub use written::encode;
