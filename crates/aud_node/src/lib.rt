@@ -6,6 +6,7 @@
 mod cursors;
 mod fields;
 mod logs;
+mod names;
 mod node_log;
 mod offsets;
 mod own_records;

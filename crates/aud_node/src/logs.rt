@@ -1,10 +1,12 @@
 //! The cluster's logs.
-ghost use Rattle.std.specs.Prelude.{◌≡◌, IfOk, length, map};
+ghost use Rattle.std.specs.Prelude.{◌≡◌, IfOk, map};
 ghost use Rattle.std.specs.Option.{option_copied};
 ghost use Rattle.aud_node.specs.Cluster.{cluster_of, stream_of};
-ghost use Rattle.aud_node.specs.NodeTaps.{node_at, name_at, node_tap};
+ghost use Rattle.aud_node.specs.NodeTaps.{node_at, node_tap};
 ghost use Rattle.aud_node.specs.LogsIndexed.{node_of};
+ghost use Rattle.aud_node.specs.Names.{place_of};
 
+use crate::names::Names;
 use crate::node_log::NodeLog;
 use crate::stream::Stream;
 use aud_tap::{Memory, Records, StreamRec, Tap, Taps};
@@ -24,6 +26,7 @@ pub enum Log<'a> {
 #[derive(Drop)]
 pub struct Logs<'a> {
     taps: &'a [Tap],
+    names: Names<'a>,
     stream: Stream<'a>,
     logs: Vec<Log<'a>>,
 }
@@ -46,9 +49,15 @@ impl<'a> Logs<'a> {
         ensures { IfOk result (λ logs. logs ≡ cluster_of taps.now) }
     {
         let taps = taps.as_slice();
+        let names = Names::build(alloc, taps)?;
         let stream = Stream::build(alloc, entries_of(taps))?;
         let logs = logs_of(alloc, &stream, taps)?;
-        Ok(Logs { taps, stream, logs })
+        Ok(Logs {
+            taps,
+            names,
+            stream,
+            logs,
+        })
     }
 
     /// The stream's entries, lent.
@@ -58,21 +67,18 @@ impl<'a> Logs<'a> {
         &self.stream
     }
 
-    /// How many taps there are.
-    pub fn len(&self) -> usize
-        ensures { result ≡ length self.now.taps }
+    /// The taps in the order of their headers, lent.
+    pub fn taps(&self) -> &'a [Tap]
+        ensures { result.now ≡ self.now.taps }
     {
-        self.taps.len()
+        self.taps
     }
 
-    /// The name of the tap at this place.
-    pub fn name(&self, place: usize) -> Option<&'a str>
-        ensures { option_copied result ≡ name_at self.now place }
+    /// The place of the first tap with this name.
+    pub fn place_of(&self, name: &str) -> Option<usize>
+        ensures { result ≡ place_of self.now.taps name.now }
     {
-        match self.taps.get(place) {
-            Some(tap) => Some(tap.name.as_str()),
-            None => None,
-        }
+        self.names.get(name)
     }
 
     /// The log of the node whose tap is at this place; none where that tap is no node's.
