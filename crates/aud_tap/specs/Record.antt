@@ -23,8 +23,8 @@ unfoldable pub json_of : List ℕ → Result Data InputCode
 json_of bytes = if is_utf8 bytes then need NotJson (read bytes) else Err NotJson
 
 -- a line taken apart: the tap's name, and the value behind the first blank
-unfoldable pub opened : List ℕ → Result (List ℕ × Data) InputCode
-opened line = do
+unfoldable pub opened_line : List ℕ → Result (List ℕ × Data) InputCode
+opened_line line = do
   line_fits ← guard LineTooLong (nat_le (length line) max_line)
   parts ← need NoTapName (cut_at_blank line)
   named ← guard NoTapName (is_tap_name parts.0)
@@ -55,10 +55,15 @@ record_of kind d =
     if is_text kind (codes "tap") then header_of d >>= (λ of. Ok (Header of 1))
     else (need UnknownKind (tap_of_kind kind) >>= (λ of. record_in of kind d))
 
+-- the record of a value, by what it says that it is
+unfoldable pub value_record : Data → Result Rec InputCode
+value_record d = do
+  kind ← kind_of d
+  record_of kind d
+
 -- the tap's name and the record of a line
-unfoldable pub parsed : List ℕ → Result (List ℕ × Rec) InputCode
-parsed line = do
-  parts ← opened line
-  kind ← kind_of parts.1
-  rec ← record_of kind parts.1
+unfoldable pub line_record : List ℕ → Result (List ℕ × Rec) InputCode
+line_record line = do
+  parts ← opened_line line
+  rec ← value_record parts.1
   Ok (parts.0, rec)

@@ -1,12 +1,12 @@
-//! The record of a line.
-mod client;
+//! The record of a line: the line is opened, its kind looked at, and then the fields of that kind.
+pub mod client;
 mod fields;
-mod header;
+pub mod header;
 mod limits;
-mod line;
-mod node;
-mod record;
-mod stream;
+pub mod line;
+pub mod node;
+pub mod record;
+pub mod stream;
 mod tap_name;
 
 pub use line::parse_line;

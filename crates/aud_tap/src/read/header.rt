@@ -22,7 +22,7 @@ fn tap_kind(word: &str) -> Option<TapKind>
 
 /// What the tap of a header was put on.
 #[tactic(auto, unfolding(crate::specs::Header::header_of))]
-pub fn header(d: &Value) -> Result<TapKind, LineFault>
+pub fn tap_header(d: &Value) -> Result<TapKind, LineFault>
     ensures { Gives result (header_of (view d.now)) }
 {
     let v = number_at("v", d).ok_or(FIELD)?;

@@ -2,13 +2,12 @@
 ghost use Rattle.std.specs.Prelude.{◌≡◌, Ok, IfOk, IfErr, MatchResult, string_bytes};
 ghost use Rattle.serde_json.specs.View.{view};
 ghost use Rattle.aud_tap.specs.Steps.{Gives, Fails, IsRefusal};
-ghost use Rattle.aud_tap.specs.Record.{json_of, opened, kind_of, parsed};
+ghost use Rattle.aud_tap.specs.Record.{json_of, opened_line, line_record};
 
-use super::fields::text_at;
 use super::limits::MAX_LINE;
-use super::record::record;
+use super::record::value_record;
 use super::tap_name::{cut_at_blank, tap_name};
-use crate::fault::{FIELD, InputCode, LineFault, ReadFault};
+use crate::fault::{InputCode, LineFault, ReadFault};
 use crate::line::Line;
 use crate::records::Rec;
 use serde_json::{Category, Value};
@@ -34,9 +33,9 @@ fn json(alloc: Global, bytes: &[u8]) -> Result<Value, LineFault>
 }
 
 /// The tap's name, lent, and the JSON value behind it.
-#[tactic(auto, unfolding(crate::specs::Record::opened))]
-pub fn opened(alloc: Global, line: &[u8]) -> Result<(&str, Value), LineFault>
-    ensures { MatchResult result (λ p. opened line.now ≡ Ok (p.0.now, view p.1)) (λ e. Fails e (opened line.now)) }
+#[tactic(auto, unfolding(crate::specs::Record::opened_line))]
+pub fn opened_line(alloc: Global, line: &[u8]) -> Result<(&str, Value), LineFault>
+    ensures { MatchResult result (λ p. opened_line line.now ≡ Ok (p.0.now, view p.1)) (λ e. Fails e (opened_line line.now)) }
 {
     if line.len() > MAX_LINE {
         return Err(LINE_TOO_LONG);
@@ -47,20 +46,12 @@ pub fn opened(alloc: Global, line: &[u8]) -> Result<(&str, Value), LineFault>
     Ok((name, d))
 }
 
-/// What an object says that it is.
-pub fn kind(d: &Value) -> Result<&str, LineFault>
-    ensures { MatchResult result (λ k. kind_of (view d.now) ≡ Ok k.now) (λ e. Fails e (kind_of (view d.now))) }
-{
-    text_at("k", d).ok_or(FIELD)
-}
-
-#[tactic(auto, unfolding(crate::specs::Record::parsed))]
+#[tactic(auto, unfolding(crate::specs::Record::line_record))]
 fn parse(alloc: Global, line: &[u8]) -> Result<(String, Rec), LineFault>
-    ensures { MatchResult result (λ p. parsed line.now ≡ Ok (string_bytes p.0, p.1)) (λ e. Fails e (parsed line.now)) }
+    ensures { MatchResult result (λ p. line_record line.now ≡ Ok (string_bytes p.0, p.1)) (λ e. Fails e (line_record line.now)) }
 {
-    let (name, d) = opened(alloc, line)?;
-    let kind = kind(&d)?;
-    let rec = record(alloc, kind, &d)?;
+    let (name, d) = opened_line(alloc, line)?;
+    let rec = value_record(alloc, &d)?;
     match String::from_str(alloc, name) {
         Ok(name) => Ok((name, rec)),
         Err(_) => Err(LineFault::Memory),
@@ -72,8 +63,8 @@ fn parse(alloc: Global, line: &[u8]) -> Result<(String, Rec), LineFault>
 ///
 /// Unknown keys are passed over, and of a key that stands twice the last value counts.
 pub fn parse_line(alloc: Global, line: &Line) -> Result<(String, Rec), ReadFault>
-    ensures read { IfOk result (λ p. parsed line.now.bytes ≡ Ok (string_bytes p.0, p.1)) }
-    ensures refused { IfErr result (λ e. IsRefusal line.now.number e (parsed line.now.bytes)) }
+    ensures read { IfOk result (λ p. line_record line.now.bytes ≡ Ok (string_bytes p.0, p.1)) }
+    ensures refused { IfErr result (λ e. IsRefusal line.now.number e (line_record line.now.bytes)) }
 {
     match parse(alloc, line.bytes.as_slice()) {
         Ok(read) => Ok(read),
