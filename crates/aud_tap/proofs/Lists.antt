@@ -7,9 +7,9 @@ use Rattle.serde_json.specs.View.{view, items_view}
 use Rattle.serde_json.specs.declared.value.Value.{Value, the_lemmas}
 use Rattle.serde_json.specs.declared.value.Value.TheVariants as Value
 use Rattle.aud_tap.specs.declared.fault.InputCode.{InputCode}
-use Rattle.aud_tap.specs.Fields.{each}
+use Rattle.aud_tap.specs.Fields.{decoded, each}
 use Rattle.aud_tap.specs.Steps.{need}
-use Rattle.aud_tap.specs.Written.{encoded, text_items, put_unless_empty}
+use Rattle.aud_tap.specs.Written.{encoded, DecodeBack, text_items, put_unless_empty}
 
 -- what was read so far, and then what is left
 abbrev pub with_front : {A : Type 0} → List A → Option (List A) → Option (List A)
@@ -65,3 +65,10 @@ view-String s = search (rules, the_lemmas)
 pub put-some : (key : List ℕ) (vs : List Value) (ms : Members) → false ≡ (length vs == 0) → put key (array (items_view vs)) ms ≡ put_unless_empty key (items_view vs) ms
 put-some key [] ms h = cc
 put-some key (v ∷ vs) ms h = refl
+
+decode_back-push : (bs : List (List ℕ)) (b : List ℕ) → DecodeBack bs → decoded (encoded b) ≡ Some b → DecodeBack (bs ++ b ∷ [])
+decode_back-push [] b h back = (back, tt)
+decode_back-push (c ∷ bs) b h back = (h.0, decode_back-push bs b h.1 back)
+
+pub decode_back-more : (bs : List (List ℕ)) (i : ℕ) (b : List ℕ) → i < length bs → b ≡ get_or bs i b → decoded (encoded b) ≡ Some b → DecodeBack (take i bs) → DecodeBack (take (i + 1) bs)
+decode_back-more bs i b h at back before = rw (add-one, take-suc bs i b h, ← at) (decode_back-push (take i bs) b before back)

@@ -27,7 +27,7 @@ use Rattle.aud_tap.specs.NodeRecord.{node_record_of, start_of, take_of, open_of,
 use Rattle.aud_tap.specs.ClientRecord.{client_record_of}
 use Rattle.aud_tap.specs.Record.{record_in, record_of, value_record}
 use Rattle.aud_tap.specs.WellFormed.{is_well_formed, event_is_well_formed, stream_is_well_formed, is_offset, is_session_id, is_room, is_full_namespace, node_is_well_formed}
-use Rattle.aud_tap.specs.Written.{record_data, stream_data, header_data, event_data, begin_data, offset_data, open_data, member_data, turn_data, gone_data, node_data, conn_data, binary_data, client_data, encoded, put_unless_empty, text_member, list_member, text_items}
+use Rattle.aud_tap.specs.Written.{record_data, stream_data, header_data, event_data, begin_data, offset_data, open_data, member_data, turn_data, gone_data, node_data, conn_data, binary_data, client_data, encoded, DecodeBack, stream_bytes, client_bytes, bytes_of, put_unless_empty, text_member, list_member, text_items}
 
 both : (a b : Bool) → a && b ≡ true → (a ≡ true) × (b ≡ true)
 both true b h = (refl, h)
@@ -107,27 +107,18 @@ conn-back : (c : ℕ) → value_record (conn_data c) ≡ Ok (Client (Conn c))
 unfolding value_record record_of record_in client_record_of
 conn-back c = refl
 
--- the bytes of a record are bytes
-abbrev pub ClientBytes : ClientRec → Type 0
-ClientBytes (Conn c) = Unit {0}
-ClientBytes (TextIn t) = Unit {0}
-ClientBytes (BytesIn b) = IsBytes b
-ClientBytes (Poll t) = Unit {0}
-ClientBytes (TextOut t) = Unit {0}
-ClientBytes Lost = Unit {0}
-
-decoded-encoded : (b : List ℕ) → IsBytes b → decoded (encoded b) ≡ Some b
+pub decoded-encoded : (b : List ℕ) → IsBytes b → decoded (encoded b) ≡ Some b
 decoded-encoded b bytes = ap result_ok (decode_of-encode_of standard b refl bytes)
 
-binary-back : (b : List ℕ) → IsBytes b → value_record (binary_data b) ≡ Ok (Client (BytesIn b))
+binary-back : (b : List ℕ) → decoded (encoded b) ≡ Some b → value_record (binary_data b) ≡ Ok (Client (BytesIn b))
 unfolding value_record record_of record_in client_record_of
-binary-back b bytes = rw (decoded-encoded b bytes) refl
+binary-back b back = rw back refl
 
-pub client-back : (r : ClientRec) → ClientBytes r → value_record (client_data r) ≡ Ok (Client r)
+pub client-back : (r : ClientRec) → DecodeBack (client_bytes r) → value_record (client_data r) ≡ Ok (Client r)
 unfolding value_record record_of record_in client_record_of
 client-back (Conn c) h = refl
 client-back (TextIn t) h = refl
-client-back (BytesIn b) h = binary-back b h
+client-back (BytesIn b) h = binary-back b h.0
 client-back (Poll t) h = refl
 client-back (TextOut t) h = refl
 client-back Lost h = refl
@@ -148,13 +139,9 @@ texts-back : (ts : List (List ℕ)) → each as_str (text_items ts) ≡ Some ts
 texts-back [] = refl
 texts-back (t ∷ ts) = rw (texts-back ts) refl
 
-abbrev pub AllBytes : List (List ℕ) → Type 0
-AllBytes [] = Unit {0}
-AllBytes (b ∷ bs) = IsBytes b × AllBytes bs
-
-blobs-back : (bs : List (List ℕ)) → AllBytes bs → each as_bytes (text_items (map encoded bs)) ≡ Some bs
+blobs-back : (bs : List (List ℕ)) → DecodeBack bs → each as_bytes (text_items (map encoded bs)) ≡ Some bs
 blobs-back [] h = refl
-blobs-back (b ∷ bs) h = rw (decoded-encoded b h.0, blobs-back bs h.1) refl
+blobs-back (b ∷ bs) h = rw (h.0, blobs-back bs h.1) refl
 
 kind-at : (bin except : List (List ℕ)) (nsp off : List ℕ) (rooms : List (List ℕ)) (text : List ℕ) → get_member (codes "k") (event_members bin except nsp off rooms text) ≡ Some (string (codes "ev"))
 kind-at [] [] nsp off rooms text = refl
@@ -223,11 +210,11 @@ texts-or-none : (ts : List (List ℕ)) → list_or_none as_str (unless_empty ts)
 texts-or-none [] = refl
 texts-or-none (t ∷ ts) = texts-back (t ∷ ts)
 
-blobs-or-none : (bs : List (List ℕ)) → AllBytes bs → list_or_none as_bytes (unless_empty (map encoded bs)) ≡ Some bs
+blobs-or-none : (bs : List (List ℕ)) → DecodeBack bs → list_or_none as_bytes (unless_empty (map encoded bs)) ≡ Some bs
 blobs-or-none [] h = refl
 blobs-or-none (b ∷ bs) h = blobs-back (b ∷ bs) h
 
-event-back : (e : Event) → event_is_well_formed e ≡ true → AllBytes e.bin → event_of (event_data e) ≡ Ok (Ev e)
+event-back : (e : Event) → event_is_well_formed e ≡ true → DecodeBack e.bin → event_of (event_data e) ≡ Ok (Ev e)
 unfolding event_of
 event-back e h bytes =
     let e4 = both (is_offset e.off && is_full_namespace e.nsp && fit_rooms e.rooms && fit_rooms e.except) (nat_le (length e.bin) max_attachments) h in
@@ -260,18 +247,7 @@ other-back : (off : List ℕ) → is_offset off ≡ true → other_of (offset_da
 unfolding other_of
 other-back off h = let o = offset-parts off h in rw (o.0, o.1) refl
 
--- the bytes of a record are bytes
-abbrev pub StreamBytes : StreamRec → Type 0
-StreamBytes (Ev e) = AllBytes e.bin
-StreamBytes (Other off) = Unit {0}
-
-abbrev pub RecordBytes : Rec → Type 0
-RecordBytes (Header of v) = Unit {0}
-RecordBytes (Stream r) = StreamBytes r
-RecordBytes (Node r) = Unit {0}
-RecordBytes (Client r) = ClientBytes r
-
-stream-back : (r : StreamRec) → stream_is_well_formed r ≡ true → StreamBytes r → value_record (stream_data r) ≡ Ok (Stream r)
+stream-back : (r : StreamRec) → stream_is_well_formed r ≡ true → DecodeBack (stream_bytes r) → value_record (stream_data r) ≡ Ok (Stream r)
 unfolding value_record record_of record_in stream_record_of
 stream-back (Ev e) h bytes = rw (kind-at (map encoded e.bin) e.except e.nsp e.off e.rooms e.text, event-back e h bytes) refl
 stream-back (Other off) h bytes = rw (other-back off h) refl
@@ -279,7 +255,7 @@ stream-back (Other off) h bytes = rw (other-back off h) refl
 header-of-version : (of : TapKind) (v : ℕ) → v == 1 ≡ true → value_record (header_data of v) ≡ Ok (Header of v)
 header-of-version of v h = rw (eqb-true v 1 h) (header-back of)
 
-pub record-back : (r : Rec) → is_well_formed r ≡ true → RecordBytes r → value_record (record_data r) ≡ Ok r
+pub record-back : (r : Rec) → is_well_formed r ≡ true → DecodeBack (bytes_of r) → value_record (record_data r) ≡ Ok r
 record-back (Header of v) h bytes = header-of-version of v h
 record-back (Stream r) h bytes = stream-back r h bytes
 record-back (Node r) h bytes = node-back r h

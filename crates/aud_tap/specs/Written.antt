@@ -1,5 +1,5 @@
 -- The line of a record: keys in byte order, no blanks, and empty lists left out.
-use Rattle.std.specs.Prelude.{ℕ, nat_le, List, [], ◌∷◌, ◌++◌, length, map, codes, Option, Some, None, Result, Ok, Err}
+use Rattle.std.specs.Prelude.{◌≡◌, ℕ, nat_le, List, [], ◌∷◌, ◌++◌, length, map, codes, Option, Some, None, Result, Ok, Err}
 use Rattle.base64.specs.GeneralPurpose.{encode_of}
 use Rattle.base64.specs.Engines.{standard}
 use Rattle.serde_json.specs.Data.{Data, null, number, string, array, object, unsigned, Items, no_items, item, Members, no_members, member, put}
@@ -19,6 +19,7 @@ use Rattle.aud_tap.specs.declared.records.Rec.{Rec}
 use Rattle.aud_tap.specs.declared.records.Rec.TheVariants.{Header, Stream, Node, Client}
 use Rattle.aud_tap.specs.Steps.{◌>>=◌, guard}
 use Rattle.aud_tap.specs.Limits.{max_line}
+use Rattle.aud_tap.specs.Fields.{decoded}
 
 -- ---- members of an object, each before those of greater keys
 
@@ -45,6 +46,31 @@ put_unless_empty key (item d ds) ms = put key (array (item d ds)) ms
 -- bytes in base64 (RFC 4648, section 4), padded
 abbrev pub encoded : List ℕ → List ℕ
 encoded = encode_of standard
+
+-- each of these decodes to the bytes that it was made of
+abbrev pub DecodeBack : List (List ℕ) → Type 0
+DecodeBack [] = Unit {0}
+DecodeBack (b ∷ bs) = (decoded (encoded b) ≡ Some b) × DecodeBack bs
+
+-- ---- the bytes in a record
+
+abbrev pub stream_bytes : StreamRec → List (List ℕ)
+stream_bytes (Ev e) = e.bin
+stream_bytes (Other off) = []
+
+abbrev pub client_bytes : ClientRec → List (List ℕ)
+client_bytes (Conn c) = []
+client_bytes (TextIn t) = []
+client_bytes (BytesIn b) = b ∷ []
+client_bytes (Poll t) = []
+client_bytes (TextOut t) = []
+client_bytes Lost = []
+
+abbrev pub bytes_of : Rec → List (List ℕ)
+bytes_of (Header of v) = []
+bytes_of (Stream r) = stream_bytes r
+bytes_of (Node r) = []
+bytes_of (Client r) = client_bytes r
 
 -- ---- the JSON of a record
 

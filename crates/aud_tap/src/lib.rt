@@ -5,6 +5,7 @@
 
 mod bundle;
 mod fault;
+mod limits;
 mod line;
 mod read;
 mod records;
@@ -21,3 +22,4 @@ pub use records::{ClientRec, Event, NodeRec, Rec, StreamRec, TapKind};
 pub use splitter::{LINE_LIMIT, Splitter};
 pub use taps::{ClientRecs, NodeRecs, Records, StreamRecs, Tap, Taps};
 pub use text::{Blobs, Bytes, Text, Texts};
+pub use write::write_line;

@@ -2,7 +2,6 @@
 pub mod client;
 mod fields;
 pub mod header;
-mod limits;
 pub mod line;
 pub mod node;
 pub mod record;

@@ -1,8 +1,8 @@
 //! The line of a record.
-pub mod client;
+mod client;
 mod fields;
-pub mod line;
+mod line;
 mod node;
 mod stream;
 
-//pub use line::write_line;
+pub use line::write_line;

@@ -4,10 +4,10 @@ ghost use Rattle.serde_json.specs.View.{view};
 ghost use Rattle.aud_tap.specs.Steps.{Gives, Fails, IsRefusal};
 ghost use Rattle.aud_tap.specs.Record.{json_of, opened_line, line_record};
 
-use super::limits::MAX_LINE;
 use super::record::value_record;
 use super::tap_name::{cut_at_blank, tap_name};
 use crate::fault::{InputCode, LineFault, ReadFault};
+use crate::limits::MAX_LINE;
 use crate::line::Line;
 use crate::records::Rec;
 use serde_json::{Category, Value};

@@ -4,8 +4,8 @@ ghost use Rattle.aud_tap.specs.Steps.{Gives};
 ghost use Rattle.aud_tap.specs.NodeRecord.{start_of, take_of, open_of, member_of, join_of, leave_of, turn_of, break_of, back_of, gone_of, node_record_of};
 
 use super::fields::{copied, id_at, id_or_null_at, namespace_at, number_at, text_at};
-use super::limits::{MAX_ID, MAX_NAMESPACE, MAX_OFFSET, MAX_ROOM, fits};
 use crate::fault::{FIELD, LIMIT, LineFault, UNKNOWN_KIND};
+use crate::limits::{MAX_ID, MAX_NAMESPACE, MAX_OFFSET, MAX_ROOM, fits};
 use crate::records::NodeRec;
 use crate::text::Text;
 use serde_json::Value;

@@ -4,8 +4,8 @@ ghost use Rattle.aud_tap.specs.Steps.{Gives};
 ghost use Rattle.aud_tap.specs.StreamRecord.{event_of, other_of, stream_record_of};
 
 use super::fields::{blobs_at, copied, id_at, namespace_at, text_at, texts_at};
-use super::limits::{MAX_ATTACHMENTS, MAX_NAMESPACE, MAX_OFFSET, fit_rooms, fits};
 use crate::fault::{FIELD, LIMIT, LineFault, UNKNOWN_KIND};
+use crate::limits::{MAX_ATTACHMENTS, MAX_NAMESPACE, MAX_OFFSET, fit_rooms, fits};
 use crate::records::{Event, StreamRec};
 use serde_json::Value;
 use std::alloc::Global;

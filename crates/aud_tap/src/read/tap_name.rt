@@ -4,7 +4,7 @@ ghost use Rattle.std.specs.List.{list_all};
 ghost use Rattle.aud_tap.specs.Fields.{if_it};
 ghost use Rattle.aud_tap.specs.TapName.{is_name_byte, is_tap_name, cut_at_blank};
 
-use super::limits::MAX_NAME;
+use crate::limits::MAX_NAME;
 
 fn is_name_byte(b: u8) -> bool
     ensures { result ≡ is_name_byte b }

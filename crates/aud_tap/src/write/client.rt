@@ -1,7 +1,8 @@
 //! The JSON of a client's record.
-ghost use Rattle.std.specs.Prelude.{◌≡◌, IfOk};
+ghost use Rattle.std.specs.Prelude.{◌≡◌, Some, IfOk};
 ghost use Rattle.serde_json.specs.View.{view};
-ghost use Rattle.aud_tap.specs.Written.{conn_data, binary_data, message_data, lost_data, client_data};
+ghost use Rattle.aud_tap.specs.Fields.{decoded};
+ghost use Rattle.aud_tap.specs.Written.{encoded, DecodeBack, client_bytes, conn_data, binary_data, message_data, lost_data, client_data};
 
 use super::fields::encoded;
 use crate::records::ClientRec;
@@ -15,7 +16,8 @@ fn conn_value(alloc: Global, c: u64) -> Result<Value, AllocError>
 }
 
 fn binary_value(alloc: Global, b: &[u8]) -> Result<Value, AllocError>
-    ensures { IfOk result (λ v. view v ≡ binary_data b.now) }
+    ensures data { IfOk result (λ v. view v ≡ binary_data b.now) }
+    ensures back { IfOk result (λ v. decoded (encoded b.now) ≡ Some b.now) }
 {
     let text = encoded(alloc, b)?;
     json!(in alloc; {"b": text, "k": "inb"})
@@ -34,7 +36,8 @@ fn lost_value(alloc: Global) -> Result<Value, AllocError>
 }
 
 pub fn client_value(alloc: Global, rec: &ClientRec) -> Result<Value, AllocError>
-    ensures { IfOk result (λ v. view v ≡ client_data rec.now) }
+    ensures data { IfOk result (λ v. view v ≡ client_data rec.now) }
+    ensures back { IfOk result (λ v. DecodeBack (client_bytes rec.now)) }
 {
     match rec {
         ClientRec::Conn { c } => conn_value(alloc, *c),

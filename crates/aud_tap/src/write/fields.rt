@@ -1,8 +1,9 @@
 //! Lists of texts as members of a JSON object.
-ghost use Rattle.std.specs.Prelude.{◌≡◌, IfOk, map as list_map, string_bytes};
+ghost use Rattle.std.specs.Prelude.{◌≡◌, Some, IfOk, map as list_map, string_bytes};
 ghost use Rattle.serde_json.specs.Data.{string, put};
 ghost use Rattle.serde_json.specs.View.{view, items_view, members_view};
-ghost use Rattle.aud_tap.specs.Written.{encoded, text_items, put_unless_empty};
+ghost use Rattle.aud_tap.specs.Fields.{decoded};
+ghost use Rattle.aud_tap.specs.Written.{encoded, DecodeBack, text_items, put_unless_empty};
 
 use crate::text::{Bytes, Text};
 use base64::engine::general_purpose::STANDARD;
@@ -21,13 +22,15 @@ pub fn texts(alloc: Global, texts: &[Text]) -> Result<Vec<Value>, AllocError>
 
 /// Bytes in base64 (RFC 4648, section 4), padded.
 pub fn encoded(alloc: Global, bytes: &[u8]) -> Result<String, AllocError>
-    ensures { IfOk result (λ text. string_bytes text ≡ encoded bytes.now) }
+    ensures text { IfOk result (λ text. string_bytes text ≡ encoded bytes.now) }
+    ensures back { IfOk result (λ text. decoded (encoded bytes.now) ≡ Some bytes.now) }
 {
     STANDARD.encode(alloc, bytes)
 }
 
 pub fn blobs(alloc: Global, blobs: &[Bytes]) -> Result<Vec<Value>, AllocError>
-    ensures { IfOk result (λ list. items_view list.items ≡ text_items (list_map encoded blobs.now)) }
+    ensures list { IfOk result (λ list. items_view list.items ≡ text_items (list_map encoded blobs.now)) }
+    ensures back { IfOk result (λ list. DecodeBack blobs.now) }
 {
     let mut list = Vec::new(alloc);
     for bytes in blobs {

@@ -1,7 +1,7 @@
 //! The JSON of a stream's record.
 ghost use Rattle.std.specs.Prelude.{◌≡◌, IfOk, codes};
 ghost use Rattle.serde_json.specs.View.{view};
-ghost use Rattle.aud_tap.specs.Written.{event_data, offset_data, stream_data};
+ghost use Rattle.aud_tap.specs.Written.{DecodeBack, stream_bytes, event_data, offset_data, stream_data};
 
 use super::fields::{blobs, texts, with_list, with_text};
 use crate::records::{Event, StreamRec};
@@ -10,7 +10,8 @@ use std::alloc::{AllocError, Global};
 
 // The greatest key goes in first, so that each is put before those that stand.
 fn event_value(alloc: Global, event: &Event) -> Result<Value, AllocError>
-    ensures { IfOk result (λ v. view v ≡ event_data event.now) }
+    ensures data { IfOk result (λ v. view v ≡ event_data event.now) }
+    ensures back { IfOk result (λ v. DecodeBack event.now.bin) }
 {
     let rooms = texts(alloc, event.rooms.as_slice())?;
     let except = texts(alloc, event.except.as_slice())?;
@@ -34,7 +35,8 @@ pub fn offset_value(alloc: Global, kind: &str, off: &str) -> Result<Value, Alloc
 }
 
 pub fn stream_value(alloc: Global, rec: &StreamRec) -> Result<Value, AllocError>
-    ensures { IfOk result (λ v. view v ≡ stream_data rec.now) }
+    ensures data { IfOk result (λ v. view v ≡ stream_data rec.now) }
+    ensures back { IfOk result (λ v. DecodeBack (stream_bytes rec.now)) }
 {
     match rec {
         StreamRec::Ev(event) => event_value(alloc, event),

@@ -10,10 +10,11 @@ use Rattle.aud_tap.proofs.write.line.record_json.Goals as goal
 
 pub returns : goal.returns
 returns c =
-    let value = c.in_ok-value.ensures in
+    let value = c.in_ok-value.ensures.data in
     let shallow : depth (view c.in_ok-value.value) ≤ 127 = rw value (let d = record-depth c.args.rec.now in omega arith) in
     let no_float : has_float (view c.in_ok-value.value) ≡ false = rw value (record-float c.args.rec.now) in
     record {
       text = IfOk-weaker c.to_string.result _ _ (λ s text. text no_float ∙ ap compact_text value) c.to_string.ensures.text;
       reads = IfOk-weaker c.to_string.result _ _ (λ s back. json_of-read _ _ (IsUtf8-string_bytes s, back shallow ∙ ap Some value)) c.to_string.ensures.reads_back;
+      back = IfOk-weaker c.to_string.result _ _ (λ s text. c.in_ok-value.ensures.back) c.to_string.ensures.compact;
     }

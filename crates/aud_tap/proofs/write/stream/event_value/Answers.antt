@@ -5,8 +5,8 @@ use Rattle.aud_tap.specs.Written.{encoded}
 use Rattle.aud_tap.proofs.WrittenBack.{event-put}
 use Rattle.aud_tap.proofs.write.stream.event_value.Goals as goal
 
-pub returns : goal.returns
-returns c =
+pub returns-clause-data : goal.returns-clause-data
+returns-clause-data c =
     let e = c.args.event.now in
     view-Object c.in_ok-members-7.members ∙
     rw (
@@ -18,7 +18,7 @@ returns c =
       c.in_ok-members-2.ensures,
       c.in_ok-members.ensures,
       c.new-members.ensures.empty,
-      c.in_ok-bin.ensures,
+      c.in_ok-bin.ensures.list,
       c.in_ok-except.ensures,
       c.in_ok-rooms.ensures,
       c.as_slice.ensures,
