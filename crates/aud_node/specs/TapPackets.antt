@@ -11,7 +11,7 @@ use Rattle.aud_sio.specs.declared.kind.PacketKind.{PacketKind}
 use Rattle.aud_sio.specs.declared.kind.PacketKind.TheVariants.{Connect, Disconnect}
 use Rattle.aud_sio.specs.Packet.{PacketSeen, packet_of}
 use Rattle.aud_sio.specs.Message.{Message, messages_of, at}
-use Rattle.aud_sio.specs.Wholes.{WholeSeen, Answer, wholes}
+use Rattle.aud_sio.specs.Wholes.{WholeSeen, Answer, wholes_of}
 
 -- a packet of a connection: whole, from the server; or a CONNECT or a DISCONNECT of the client
 pub data TapPacket : Type 0 where
@@ -71,7 +71,7 @@ messages_at (number, rec) = messages_or_none number (engine_packets rec)
 
 -- what the messages of a connection give: whole packets and refusals, each at the record of the last message consumed
 abbrev pub answers_in : List (ℕ × ClientRec) → List (ℕ × Answer)
-answers_in recs = wholes (flat_map messages_at recs)
+answers_in recs = wholes_of (flat_map messages_at recs)
 
 -- ---- what the client sends
 
