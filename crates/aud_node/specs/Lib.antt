@@ -16,3 +16,4 @@ pub mod NodeIndices
 pub mod Turns
 pub mod NodeIndexed
 pub mod LogsIndexed
+pub mod TapPackets

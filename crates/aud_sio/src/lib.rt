@@ -18,6 +18,7 @@ mod law;
 mod namespace;
 mod packet;
 mod payload;
+mod whole;
 #[cfg(test)]
 mod tests;
 mod whole;

@@ -2,7 +2,8 @@
 use super::open_tap::OpenTap;
 use crate::fault::{InputCode, LIMIT, LineFault, Memory};
 use crate::read::header::tap_header;
-use crate::read::line::{kind_of, opened_line};
+use crate::read::line::opened_line;
+use crate::read::record::kind_of;
 use crate::records::TapKind;
 use crate::taps::Taps;
 use crate::text::Text;
