@@ -83,13 +83,6 @@ impl<'a> Logs<'a> {
         &self.stream
     }
 
-    /// The taps in the order of their headers, lent.
-    pub fn taps(&self) -> &'a [Tap]
-        ensures { result.now ≡ self.now.taps }
-    {
-        self.taps
-    }
-
     /// The place of the first tap with this name.
     pub fn place_of(&self, name: &str) -> Option<usize>
         ensures { result ≡ place_of self.now.taps name.now }
