@@ -1,0 +1,9 @@
+use Rattle.std.proofs.Common.{◌≡◌}
+use Rattle.std.specs.Io.KnownBytes.{Consumes}
+use Rattle.aud_app.specs.Watched.{inner_of, calls_of}
+use Rattle.aud_app.proofs.streams.read_all.Given as goal
+
+abbrev pub invariant-pieces : goal.invariant-pieces
+invariant-pieces g l =
+    (calls_of l.input ≡ l.counter)
+    × Consumes (g.R.Read.remaining (inner_of l.fn.input)) (g.R.Read.remaining (inner_of l.input)) l.all.items
