@@ -1,0 +1,35 @@
+-- The packets of a body, and the body of packets (Engine.IO protocol 4, HTTP long-polling).
+use Rattle.std.specs.Prelude.{◌≢◌, ℕ, ◌==◌, List, [], ◌∷◌, map, All, Result, Ok, Err}
+use Rattle.std.specs.List.{slice_split, join_with_byte}
+use Rattle.aud_eio.specs.declared.packet.EioFault.{EioFault}
+use Rattle.aud_eio.specs.Answer.{◌>>=◌}
+use Rattle.aud_eio.specs.Packet.{Packet, Control, Message, Lent, Own, packet_of, text_of}
+
+-- the byte between two packets, 0x1e
+abbrev pub separator : ℕ
+separator = 30
+
+-- the texts between the separators: one more than there are separators
+abbrev pub pieces_of : List ℕ → List (List ℕ)
+pieces_of body = slice_split (λ b. b == separator) body
+
+-- the packets of texts, or the fault of the first text that is no packet
+abbrev pub packets_of_texts : List (List ℕ) → Result (List Packet) EioFault
+packets_of_texts [] = Ok []
+packets_of_texts (text ∷ texts) =
+    packet_of text >>= (λ packet. packets_of_texts texts >>= (λ packets. Ok (packet ∷ packets)))
+
+-- the packets of a body
+abbrev pub packets_of : List ℕ → Result (List Packet) EioFault
+packets_of body = packets_of_texts (pieces_of body)
+
+-- the body of packets: their texts, with a separator between each two
+abbrev pub body_of : List Packet → List ℕ
+body_of packets = join_with_byte separator (map text_of packets)
+
+-- no text of the packet holds the separator
+abbrev pub FitsBody : Packet → Type 0
+FitsBody (Control kind payload) = All (λ b. b ≢ separator) payload
+FitsBody (Message text) = All (λ b. b ≢ separator) text
+FitsBody (Lent bytes) = Unit {0}
+FitsBody (Own bytes) = Unit {0}

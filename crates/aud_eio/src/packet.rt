@@ -1,0 +1,43 @@
+//! An Engine.IO packet, and why a text is none.
+
+/// A packet type other than a message.
+#[derive(Clone, Copy, Debug, PartialEq, Eq, Drop)]
+pub enum Control {
+    /// Digit 0, `open`.
+    Opening,
+    /// Digit 1, `close`.
+    Closing,
+    /// Digit 2, sent by the server.
+    Ping,
+    /// Digit 3, the client's answer to a ping.
+    Pong,
+    /// Digit 5.
+    Upgrade,
+    /// Digit 6.
+    Noop,
+}
+
+/// A packet. Texts, without the type digit, lie in the text or body that the packet was read from.
+#[derive(Drop)]
+pub enum Eio<'a> {
+    /// Any packet that is no message, with its payload.
+    Control(Control, &'a str),
+    /// Digit 4: a message of text.
+    Message(&'a str),
+    /// A message of bytes that came as bytes.
+    Lent(&'a [u8]),
+    /// A message of bytes that came as `b` and base64.
+    Own(Vec<u8>),
+}
+
+/// Why a text is no packet; or want of memory.
+#[derive(Clone, Copy, Debug, PartialEq, Eq, Drop)]
+pub enum EioFault {
+    /// The text has no byte.
+    Empty,
+    /// The first byte is neither a digit from 0 to 6 nor `b`.
+    UnknownType,
+    /// What follows `b` is not base64 of the standard alphabet, padded, with unused bits zero (RFC 4648, section 4).
+    BadBase64,
+    Memory,
+}
