@@ -1,5 +1,5 @@
 -- The packet of a text, and the text of a packet (Engine.IO protocol 4, "Packet encoding").
-use Rattle.std.specs.Prelude.{ℕ, ◌==◌, List, [], ◌∷◌, if◌then◌else◌, Option, Some, None, option_map, Result, Ok, Err}
+use Rattle.std.specs.Prelude.{◌≡◌, ℕ, ◌==◌, List, [], ◌∷◌, if◌then◌else◌, Option, Some, None, option_map, Result, Ok, Err}
 use Rattle.std.specs.Result.{result_ok}
 use Rattle.base64.specs.GeneralPurpose.{decode_of, encode_of}
 use Rattle.base64.specs.Engines.{standard}
@@ -61,3 +61,7 @@ text_of (Own bytes) = 98 ∷ encode_of standard bytes
 abbrev pub delivered : Packet → Packet
 delivered (Lent bytes) = Own bytes
 delivered packet = packet
+
+-- the text of a packet gives the packet
+abbrev pub ReadsBack : Packet → Type 0
+ReadsBack packet = packet_of (text_of packet) ≡ Ok (delivered packet)

@@ -1,0 +1,65 @@
+-- Bodies, piece after piece.
+use Rattle.std.proofs.Common.{◌≡◌, ℕ, List, [], ◌∷◌, ◌++◌, map, Option, Some, None, Result, Ok, Err, refl, sym, ap, ◌∙◌}
+use Rattle.std.proofs.lemmas.List.{append_assoc}
+use Rattle.std.proofs.lemmas.Iterator.{YieldsList}
+use Rattle.aud_eio.specs.declared.packet.EioFault.{EioFault}
+use Rattle.aud_eio.specs.Answer.{◌>>=◌}
+use Rattle.aud_eio.specs.Packet.{Packet, packet_of, text_of}
+use Rattle.aud_eio.specs.Body.{packets_of_texts, body_of}
+
+-- packets behind those that stand already
+abbrev pub behind : List Packet → Result (List Packet) EioFault → Result (List Packet) EioFault
+behind done rest = rest >>= (λ packets. Ok (done ++ packets))
+
+pub behind-nil : (rest : Result (List Packet) EioFault) → rest ≡ behind [] rest
+behind-nil (Ok packets) = refl
+behind-nil (Err fault) = refl
+
+behind-one : (done : List Packet) (packet : Packet) (rest : Result (List Packet) EioFault)
+    → behind done (rest >>= (λ packets. Ok (packet ∷ packets))) ≡ behind (done ++ packet ∷ []) rest
+behind-one done packet (Ok packets) = rw append_assoc refl
+behind-one done packet (Err fault) = refl
+
+-- the next text is a packet
+pub behind-ok : (done : List Packet) (text : List ℕ) (texts : List (List ℕ)) (packet : Packet) → packet_of text ≡ Ok packet
+    → behind done (packets_of_texts (text ∷ texts)) ≡ behind (done ++ packet ∷ []) (packets_of_texts texts)
+behind-ok done text texts packet is = rw is (behind-one done packet (packets_of_texts texts))
+
+-- the next text is none
+pub behind-err : (done : List Packet) (text : List ℕ) (texts : List (List ℕ)) (fault : EioFault) → packet_of text ≡ Err fault
+    → behind done (packets_of_texts (text ∷ texts)) ≡ Err fault
+behind-err done text texts fault is = rw is refl
+
+module _ {S A B : Type 0} {steps : S → Option A → S → Type 0} {v : A → B} {s t : S} where
+  -- what an iterator still yields, after one more item
+  pub after_some : (x : A) (all : List B) → YieldsList steps v s all → steps s (Some x) t
+      → (rest : List B) × (all ≡ v x ∷ rest) × YieldsList steps v t rest
+  after_some x [] yields step = absurd (yields.runs x t step)
+  after_some x (y ∷ ys) yields step =
+      let next = yields.runs.1 x t step in (ys, (λ i. sym next.0 i ∷ ys), record { runs = next.1 })
+
+  -- and at its end
+  pub after_none : (all : List B) → YieldsList steps v s all → steps s None t → all ≡ []
+  after_none [] yields step = refl
+  after_none (y ∷ ys) yields step = absurd (yields.runs.0 t step)
+
+-- what stands between packets and one more
+abbrev pub gap : {A : Type 0} → List A → List ℕ
+gap [] = []
+gap (x ∷ xs) = 30 ∷ []
+
+pub gap-map : {A B : Type 0} (f : A → B) (xs : List A) → gap (map f xs) ≡ gap xs
+gap-map f [] = refl
+gap-map f (x ∷ xs) = refl
+
+pub gap-one_more : {A : Type 0} (xs : List A) (x : A) → 30 ∷ [] ≡ gap (xs ++ x ∷ [])
+gap-one_more [] x = refl
+gap-one_more (y ∷ ys) x = refl
+
+-- the body of one packet more
+pub body-one_more : (packets : List Packet) (packet : Packet)
+    → body_of (packets ++ packet ∷ []) ≡ body_of packets ++ gap packets ++ text_of packet
+body-one_more [] packet = refl
+body-one_more (first ∷ []) packet = rw append_assoc refl
+body-one_more (first ∷ next ∷ packets) packet =
+    ap (λ rest. text_of first ++ 30 ∷ rest) (body-one_more (next ∷ packets) packet) ∙ simp append_assoc refl

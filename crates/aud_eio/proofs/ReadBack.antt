@@ -1,0 +1,126 @@
+-- A body written gives the packets that were written.
+use Rattle.std.proofs.Common.{◌≡◌, ◌≢◌, ◌<◌, ◌≤◌, ◌==◌, ℕ, zero, suc, ◌+◌, ◌*◌, ◌/◌, ◌%◌, List, [], ◌∷◌, ◌++◌, length, map, All, replicate, slice_index, get_or, Bool, true, false, not, ◌&&◌, Result, Ok, Err, refl, sym, ap, ◌∙◌, arith, lit<}
+use Rattle.std.specs.List.{slice_split, join_with_byte, list_all}
+use Rattle.std.proofs.lemmas.List.Splits.{slice_split_none, slice_split_at}
+use Rattle.std.proofs.lemmas.Bool.{ne_eqb}
+use Rattle.std.proofs.lemmas.List.Elements.{All-nil, All-cons}
+use Rattle.std.proofs.lemmas.List.Folds.{list_all-append}
+use Rattle.base64.specs.Rfc4648.{encode_symbols, padding_len}
+use Rattle.base64.specs.GeneralPurpose.{encode_of}
+use Rattle.base64.specs.Engines.{standard}
+use Rattle.aud_eio.specs.declared.packet.Control.{Control as ControlType}
+use Rattle.aud_eio.specs.declared.packet.Control.TheVariants.{Opening, Closing, Ping, Pong, Upgrade, Noop}
+use Rattle.aud_eio.specs.declared.packet.Eio.{Eio}
+use Rattle.aud_eio.specs.Packet.{Packet, Control, Message, Lent, Own, view, packet_of, digit_of, text_of, delivered, ReadsBack}
+use Rattle.aud_eio.specs.Body.{packets_of, packets_of_texts, pieces_of, body_of, FitsBody}
+
+abbrev is_separator : ℕ → Bool
+is_separator b = b == 30
+
+-- no byte of the list is a separator
+abbrev IsFree : List ℕ → Type 0
+IsFree xs = list_all (λ b. not (is_separator b)) xs ≡ true
+
+-- ---- texts without a separator
+
+not_true : (b : Bool) → not b ≡ true → b ≡ false
+not_true true is = sym is
+not_true false is = refl
+
+both : (a b : Bool) → (a && b) ≡ true → (a ≡ true) × (b ≡ true)
+both true b holds = (refl, holds)
+both false b holds = absurd (cc holds)
+
+free_head : (b : ℕ) (xs : List ℕ) → IsFree (b ∷ xs) → not (is_separator b) ≡ true
+free_head b xs free = (both _ _ free).0
+
+free_tail : (b : ℕ) (xs : List ℕ) → IsFree (b ∷ xs) → IsFree xs
+free_tail b xs free = (both _ _ free).1
+
+free_append : (xs ys : List ℕ) → IsFree xs → IsFree ys → IsFree (xs ++ ys)
+free_append xs ys front back = rw (list_all-append, front, back) refl
+
+free_replicate : (n b : ℕ) → is_separator b ≡ false → IsFree (replicate n b)
+free_replicate zero b other = refl
+free_replicate (suc n) b other = rw (other, free_replicate n b other) refl
+
+free_at : (xs : List ℕ) (k : ℕ) → IsFree xs → not (is_separator (slice_index xs k)) ≡ true
+free_at [] k free = refl
+free_at (x ∷ xs) zero free = free_head x xs free
+free_at (x ∷ xs) (suc k) free = free_at xs k (free_tail x xs free)
+
+free_symbols : (t m : List ℕ) → IsFree t → IsFree (encode_symbols t m)
+unfolding encode_symbols
+free_symbols t [] free = refl
+free_symbols t (a ∷ []) free = rw (free_at t (a / 4) free, free_at t (a % 4 * 16) free) refl
+free_symbols t (a ∷ b ∷ []) free =
+    rw (free_at t (a / 4) free, free_at t (a % 4 * 16 + b / 16) free, free_at t (b % 16 * 4) free) refl
+free_symbols t (a ∷ b ∷ c ∷ rest) free =
+    rw (
+      free_at t (a / 4) free,
+      free_at t (a % 4 * 16 + b / 16) free,
+      free_at t (b % 16 * 4 + c / 64) free,
+      free_at t (c % 64) free,
+      free_symbols t rest free,
+    ) refl
+
+free_base64 : (bytes : List ℕ) → IsFree (encode_of standard bytes)
+free_base64 bytes =
+    free_append (encode_symbols standard.encode_table bytes) _
+    (free_symbols standard.encode_table bytes refl) (free_replicate (padding_len (length bytes)) 61 refl)
+
+free_digit : (kind : ControlType) → is_separator (digit_of kind) ≡ false
+free_digit Opening = refl
+free_digit Closing = refl
+free_digit Ping = refl
+free_digit Pong = refl
+free_digit Upgrade = refl
+free_digit Noop = refl
+
+free_from : (xs : List ℕ) → All (λ b. b ≢ 30) xs → IsFree xs
+free_from [] h = refl
+free_from (x ∷ xs) h =
+    rw (ne_eqb x 30 (h 0 x (omega arith)), free_from xs (λ k d l. h (suc k) d (omega arith))) refl
+
+free_text : (packet : Packet) → FitsBody packet → IsFree (text_of packet)
+free_text (Control kind payload) fits = rw (free_digit kind, free_from payload fits) refl
+free_text (Message text) fits = free_from text fits
+free_text (Lent bytes) fits = free_base64 bytes
+free_text (Own bytes) fits = free_base64 bytes
+
+other_than_separator : (xs : List ℕ) → IsFree xs → All (λ b. is_separator b ≡ false) xs
+other_than_separator [] free = All-nil (λ b. is_separator b ≡ false)
+other_than_separator (x ∷ xs) free =
+    All-cons (λ b. is_separator b ≡ false) x xs (not_true _ (free_head x xs free)) (other_than_separator xs (free_tail x xs free))
+
+-- ---- the pieces are the texts
+
+abbrev texts_of : List Eio → List (List ℕ)
+texts_of packets = map text_of (map view packets)
+
+abbrev AllFit : List Eio → Type 0
+AllFit packets = All (λ packet. FitsBody (view packet)) packets
+
+pieces-body : (packet : Eio) (packets : List Eio) → AllFit (packet ∷ packets)
+    → pieces_of (join_with_byte 30 (texts_of (packet ∷ packets))) ≡ texts_of (packet ∷ packets)
+pieces-body packet [] fit = slice_split_none is_separator (text_of (view packet))
+    (other_than_separator _ (free_text (view packet) (fit 0 packet (omega arith))))
+pieces-body packet (next ∷ packets) fit =
+    slice_split_at is_separator (text_of (view packet)) 30 (join_with_byte 30 (texts_of (next ∷ packets)))
+    (other_than_separator _ (free_text (view packet) (fit 0 packet (omega arith)))) refl
+    ∙ ap (λ texts. text_of (view packet) ∷ texts) (pieces-body next packets (λ k d l. fit (suc k) d (omega arith)))
+
+-- ---- the packets are those written
+
+texts_read_back : (packets : List Eio) → All (λ packet. ReadsBack (view packet)) packets
+    → packets_of_texts (texts_of packets) ≡ Ok (map delivered (map view packets))
+texts_read_back [] back = refl
+texts_read_back (packet ∷ packets) back =
+    let first : ReadsBack (view packet) = back 0 packet (omega arith) in
+    rw (first, texts_read_back packets (λ k d l. back (suc k) d (omega arith))) refl
+
+pub body_reads_back : (packets : List Eio) → 0 < length packets → AllFit packets → All (λ packet. ReadsBack (view packet)) packets
+    → packets_of (body_of (map view packets)) ≡ Ok (map delivered (map view packets))
+body_reads_back [] some fit back = absurd (omega arith)
+body_reads_back (packet ∷ packets) some fit back =
+    ap packets_of_texts (pieces-body packet packets fit) ∙ texts_read_back (packet ∷ packets) back

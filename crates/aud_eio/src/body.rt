@@ -1,0 +1,57 @@
+//! The packets of a body, and the body of packets.
+ghost use Rattle.std.specs.Prelude.{◌≡◌, ◌<◌, ◌++◌, length, map, All, string_bytes, IfOk, IfErr, OnOk};
+ghost use Rattle.aud_eio.specs.Answer.{Gives};
+ghost use Rattle.aud_eio.specs.Packet.{view, delivered, ReadsBack};
+ghost use Rattle.aud_eio.specs.Body.{packets_of, body_of, FitsBody};
+
+use crate::text::{decode_text, push_packet};
+use crate::{Eio, EioFault};
+use std::alloc::{AllocError, Global};
+
+/// The packets of a body, cut at every byte 0x1e; the fault is that of the first piece that is no packet.
+/// A body without a byte is one empty piece.
+pub fn decode_payload(alloc: Global, body: &str) -> Result<Vec<Eio<'_>>, EioFault>
+    ensures { Gives (λ packets. map view packets.items) result (packets_of body.now) }
+{
+    let mut packets = Vec::new(alloc);
+    for piece in body.split('\u{1e}') {
+        let packet = match decode_text(alloc, piece) {
+            Ok(packet) => packet,
+            Err(fault) => return Err(fault),
+        };
+        match packets.push(packet) {
+            Ok(()) => {}
+            Err(_) => return Err(EioFault::Memory),
+        }
+    }
+    Ok(packets)
+}
+
+/// The body of packets, with byte 0x1e between each two; bytes read back as own bytes.
+pub fn encode_payload(alloc: Global, packets: &[Eio<'_>]) -> Result<String, EioFault>
+    requires some { 0 < length packets.now }
+    requires fit { All (λ packet. FitsBody (view packet)) packets.now }
+    ensures body { IfOk result (λ body. string_bytes body ≡ body_of (map view packets.now)) }
+    ensures reads_back { IfOk result (λ body. packets_of (string_bytes body) ≡ Ok (map delivered (map view packets.now))) }
+    ensures memory { IfErr result (λ e. e ≡ EioFault.Memory) }
+{
+    let mut body = String::new(alloc);
+    match push_packets(packets, &mut body) {
+        Ok(()) => Ok(body),
+        Err(_) => Err(EioFault::Memory),
+    }
+}
+
+/// Writes packets behind a text, of which memory may leave a part.
+fn push_packets(packets: &[Eio<'_>], body: &mut String) -> Result<(), AllocError>
+    ensures body { OnOk result (string_bytes body.new ≡ string_bytes body.old ++ body_of (map view packets.now)) }
+    ensures read_back { OnOk result (All (λ packet. ReadsBack (view packet)) packets.now) }
+{
+    let mut between = "";
+    for packet in packets {
+        body.push_str(between)?;
+        push_packet(packet, body)?;
+        between = "\u{1e}";
+    }
+    Ok(())
+}
