@@ -1,0 +1,3 @@
+pub mod DashLemmas
+pub mod DigitLemmas
+pub mod PayloadLemmas

@@ -1,0 +1,66 @@
+//! The kind of a packet: the digit at the front of its text.
+ghost use Rattle.std.specs.Prelude.{◌≡◌, ◌<◌, OnOk};
+ghost use Rattle.aud_sio.specs.Reading.{Gives};
+ghost use Rattle.aud_sio.specs.Kind.{is_binary, kind_at, kind_of, wants_array};
+
+use crate::digits::after_first;
+use crate::fault::SioFault;
+
+/// The types of the protocol, in the order of their digits, from 0.
+#[derive(Clone, Copy, Debug, PartialEq, Eq, Drop)]
+pub enum PacketKind {
+    Connect,
+    Disconnect,
+    Event,
+    Ack,
+    ConnectError,
+    BinaryEvent,
+    BinaryAck,
+}
+
+/// The kind at the front of a text, and the rest.
+#[tactic(auto, unfolding(crate::specs::Kind::kind_at))]
+pub(crate) fn kind_at(text: &str) -> Result<(PacketKind, &str), SioFault>
+    ensures { Gives (λ read. (read.0, read.1.now)) result (kind_at text.now) }
+{
+    let Some(first) = text.as_bytes().first() else {
+        return Err(SioFault::Empty);
+    };
+    let kind = kind_of(*first)?;
+    Ok((kind, after_first(text)))
+}
+
+fn kind_of(byte: u8) -> Result<PacketKind, SioFault>
+    ensures value { result ≡ kind_of byte }
+    ensures ascii { OnOk result (byte < 128) }
+{
+    match byte {
+        b'0' => Ok(PacketKind::Connect),
+        b'1' => Ok(PacketKind::Disconnect),
+        b'2' => Ok(PacketKind::Event),
+        b'3' => Ok(PacketKind::Ack),
+        b'4' => Ok(PacketKind::ConnectError),
+        b'5' => Ok(PacketKind::BinaryEvent),
+        b'6' => Ok(PacketKind::BinaryAck),
+        _ => Err(SioFault::UnknownType),
+    }
+}
+
+impl PacketKind {
+    /// Whether binary messages follow a packet of this kind.
+    pub(crate) fn is_binary(self) -> bool
+        ensures { result ≡ is_binary self }
+    {
+        matches!(self, PacketKind::BinaryEvent | PacketKind::BinaryAck)
+    }
+
+    /// Whether the payload has to be there and to be an array.
+    pub(crate) fn wants_array(self) -> bool
+        ensures { result ≡ wants_array self }
+    {
+        matches!(
+            self,
+            PacketKind::Event | PacketKind::Ack | PacketKind::BinaryEvent | PacketKind::BinaryAck
+        )
+    }
+}

@@ -1,0 +1,61 @@
+//! The packet of a text.
+ghost use Rattle.std.specs.Prelude.{◌≡◌, IfOk, option_map};
+ghost use Rattle.aud_sio.specs.Reading.{Gives};
+ghost use Rattle.aud_sio.specs.Packet.{IsSpelled, packet_of, view};
+
+use crate::ack_id::id_at;
+use crate::attachments::attachments_at;
+use crate::fault::SioFault;
+use crate::kind::{PacketKind, kind_at};
+use crate::namespace::namespace_at;
+use crate::payload::payload_at;
+use std::alloc::Global;
+
+/// A packet, whose namespace and payload lie in the text that it was read from.
+#[derive(Drop)]
+pub struct Packet<'a> {
+    pub kind: PacketKind,
+    /// How many binary messages follow: 0 to 64, and 0 where the kind is not binary.
+    pub attachments: u8,
+    /// The namespace, which begins with `/`.
+    pub nsp: &'a str,
+    /// The acknowledgement id, of at most 18 digits.
+    pub id: Option<u64>,
+    /// The JSON text that ends the packet.
+    pub payload: Option<&'a str>,
+    /// The last element of a payload that is an array, where that element is a text: decoded, of
+    /// its own memory.
+    pub last: Option<String>,
+}
+
+/// The packet that a text spells, by the section "Packet encoding" of the Socket.IO protocol 5.
+///
+/// An error is of the first part that is refused, in the order type, count of attachments,
+/// acknowledgement id, payload. The protocol sets no limit of 64 attachments nor of 18 digits of an
+/// id, and leaves the payloads of CONNECT, DISCONNECT and CONNECT_ERROR open: any JSON, or none.
+#[tactic(auto, unfolding(crate::specs::Packet::packet_of))]
+pub fn decode(alloc: Global, text: &str) -> Result<Packet<'_>, SioFault>
+    ensures value { Gives view result (packet_of text.now) }
+    ensures spelled { IfOk result (λ packet. IsSpelled (view packet)) }
+{
+    let (kind, rest) = kind_at(text)?;
+    let (attachments, rest) = attachments_at(kind, rest)?;
+    let (nsp, rest) = namespace_at(rest);
+    let (id, rest) = id_at(rest)?;
+    let (payload, last) = payload_at(alloc, kind, rest)?;
+    Ok(Packet {
+        kind,
+        attachments,
+        nsp,
+        id,
+        payload,
+        last,
+    })
+}
+
+/// The text at the end of the packet's payload, lent.
+pub fn last_text<'a>(packet: &'a Packet<'_>) -> Option<&'a str>
+    ensures { option_map (λ s. s.now) result ≡ (view packet.now).last }
+{
+    packet.last.as_deref()
+}
