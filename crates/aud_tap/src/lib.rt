@@ -4,11 +4,15 @@
 #![tactic(auto)]
 
 mod fault;
+mod line;
 mod records;
+mod splitter;
 mod taps;
 mod text;
 
 pub use fault::{InputCode, Memory, ReadFault};
+pub use line::Line;
 pub use records::{ClientRec, Event, NodeRec, Rec, StreamRec, TapKind};
+pub use splitter::{LINE_LIMIT, Splitter};
 pub use taps::{ClientRecs, NodeRecs, Records, StreamRecs, Tap, Taps};
 pub use text::{Blobs, Bytes, Text, Texts};
