@@ -1,4 +1,5 @@
 //! The verdict on each session.
+mod assembler;
 mod client;
 mod due;
 mod node;
@@ -13,9 +14,9 @@ mod turns;
 use crate::decide::client::Client;
 use crate::decide::due::Addressed;
 use crate::decide::node::Node;
-use crate::decide::received::compared;
+use crate::decide::received::Received;
 use crate::decide::rooms::spans;
-use crate::decide::sessions::{Session, Sessions};
+use crate::decide::sessions::{Naming, Session, Sessions};
 use crate::decide::stays::Stay;
 use crate::decide::stream::Stream;
 use crate::decide::turns::{Turn, record_at, turns};
@@ -23,36 +24,20 @@ use crate::verdict::{Entry, Fault, Verdict};
 use aud_tap::{NodeRec, Records, StreamRec, Tap, Taps, Text};
 use std::alloc::{AllocError, Global};
 
-/// The taps, read.
-#[derive(Drop)]
-struct Audit<'a> {
-    stream: &'a Stream<'a>,
-    addressed: Addressed<'a>,
-    nodes: &'a [Node<'a>],
-    clients: &'a [Client<'a>],
-}
-
 /// The answers, in the order in which the sessions are first mentioned.
 pub fn decide(alloc: Global, taps: &Taps) -> Result<Vec<Entry>, AllocError> {
     let taps = taps.as_slice();
     let stream = Stream::new(alloc, stream_of(taps))?;
     let nodes = nodes_of(alloc, taps, &stream)?;
     let clients = clients_of(alloc, taps, &stream)?;
-    let sessions = Sessions::new(alloc, &nodes, &clients)?;
     let audit = Audit {
+        alloc,
         stream: &stream,
         addressed: Addressed::new(alloc, &stream)?,
         nodes: &nodes,
         clients: &clients,
     };
-    let mut entries = Vec::new(alloc);
-    for session in sessions.as_slice() {
-        entries.push(Entry {
-            pid: Text::new(String::from_str(alloc, session.pid)?),
-            verdict: audit.verdict(alloc, session)?,
-        })?;
-    }
-    Ok(entries)
+    audit.answers()
 }
 
 /// The entries of the stream; none where it has no tap.
@@ -95,18 +80,40 @@ fn clients_of<'a>(
 
 /// What a session was opened with.
 #[derive(Clone, Copy, Drop)]
-struct Opening<'a> {
-    sid: &'a str,
-    nsp: &'a str,
+struct Opening<'t> {
+    sid: &'t str,
+    nsp: &'t str,
 }
 
-impl<'a> Audit<'a> {
+/// The taps, read.
+#[derive(Drop)]
+struct Audit<'t, 'a> {
+    alloc: Global,
+    stream: &'a Stream<'t>,
+    addressed: Addressed<'t>,
+    nodes: &'a [Node<'t>],
+    clients: &'a [Client<'t>],
+}
+
+impl<'t> Audit<'t, '_> {
+    fn answers(&self) -> Result<Vec<Entry>, AllocError> {
+        let sessions = Sessions::new(self.alloc, self.nodes, self.clients)?;
+        let mut entries = Vec::new(self.alloc);
+        for session in sessions.as_slice() {
+            entries.push(Entry {
+                pid: Text::new(String::from_str(self.alloc, session.pid)?),
+                verdict: self.verdict(session)?,
+            })?;
+        }
+        Ok(entries)
+    }
+
     /// The verdict on a session: the first fault that holds, or yes.
-    fn verdict(&self, alloc: Global, session: &Session<'_>) -> Result<Verdict, AllocError> {
+    fn verdict(&self, session: &Session<'_>) -> Result<Verdict, AllocError> {
         let Some(opening) = self.opening(session) else {
             return Ok(Verdict::No(Fault::NoLog));
         };
-        let Some(turns) = turns(alloc, self.nodes, &session.spots)? else {
+        let Some(turns) = turns(self.alloc, self.nodes, &session.spots)? else {
             return Ok(Verdict::No(Fault::Chain));
         };
         if !self.are_ordered(&turns) {
@@ -115,16 +122,16 @@ impl<'a> Audit<'a> {
         let Some(client) = self.only_client(session) else {
             return Ok(Verdict::No(Fault::Client));
         };
-        let stays = self.stays(alloc, session)?;
-        if let Some(fault) = tap_fault(client, &stays, opening) {
+        if let Some(fault) = tap_fault(client, &session.namings, opening) {
             return Ok(Verdict::No(fault));
         }
-        let due = self.due(alloc, session, &turns, opening)?;
-        compared(alloc, self.stream, &stays, &due, turns.len())
+        let received = self.received(client, &session.namings)?;
+        let due = self.due(session, &turns, opening)?;
+        received.verdict(self.alloc, self.stream, &due, turns.len())
     }
 
     /// The session's first open.
-    fn opening(&self, session: &Session<'_>) -> Option<Opening<'a>> {
+    fn opening(&self, session: &Session<'_>) -> Option<Opening<'t>> {
         for spot in &session.spots {
             if let Some(NodeRec::Opened { sid, nsp, .. }) = record_at(self.nodes, *spot) {
                 return Some(Opening {
@@ -137,11 +144,14 @@ impl<'a> Audit<'a> {
     }
 
     fn are_ordered(&self, turns: &[Turn]) -> bool {
-        (turns.iter()).all(|turn| self.nodes.get(turn.node).is_some_and(|node| node.is_ordered()))
+        (turns.iter()).all(|turn| self
+            .nodes
+            .get(turn.node)
+            .is_some_and(|node| node.is_ordered()))
     }
 
     /// The client tap whose replies name the session, where there is one alone.
-    fn only_client(&self, session: &Session<'_>) -> Option<&'a Client<'a>> {
+    fn only_client(&self, session: &Session<'_>) -> Option<&Client<'t>> {
         let first = session.namings.first()?.client;
         if session.namings.iter().all(|naming| naming.client == first) {
             self.clients.get(first)
@@ -150,47 +160,42 @@ impl<'a> Audit<'a> {
         }
     }
 
-    /// The stays whose reply names the session.
-    fn stays(
-        &self,
-        alloc: Global,
-        session: &Session<'_>,
-    ) -> Result<Vec<&'a Stay<'a>>, AllocError> {
-        let mut stays = Vec::new(alloc);
-        for naming in &session.namings {
-            if let Some(client) = self.clients.get(naming.client) {
-                if let Some(stay) = client.stays.get(naming.stay) {
-                    stays.push(stay)?;
-                }
+    /// What the session received in the stays that name it.
+    fn received(&self, client: &Client<'_>, namings: &[Naming]) -> Result<Received, AllocError> {
+        let mut received = Received::new(self.alloc);
+        for naming in namings {
+            if let Some(stay) = client.stays.get(naming.stay) {
+                received.add(self.stream, stay)?;
             }
         }
-        Ok(stays)
+        Ok(received)
     }
 
     /// The places of the events that are due.
     fn due(
         &self,
-        alloc: Global,
         session: &Session<'_>,
         turns: &[Turn],
-        opening: Opening<'a>,
+        opening: Opening<'t>,
     ) -> Result<Vec<usize>, AllocError> {
-        let spans = spans(alloc, self.nodes, &session.spots, turns, opening.sid)?;
+        let spans = spans(self.alloc, self.nodes, &session.spots, turns, opening.sid)?;
         let first = turns.first().map_or(0, |turn| turn.low);
         let end = turns.iter().map(|turn| turn.high).max().unwrap_or(first);
-        (self.addressed).due(alloc, self.stream, opening.nsp, &spans, first, end)
+        (self.addressed).due(self.alloc, self.stream, opening.nsp, &spans, first, end)
     }
 }
 
 /// The fault of a session's replies, or of its client's whole tap.
-fn tap_fault(client: &Client<'_>, stays: &[&Stay<'_>], opening: Opening<'_>) -> Option<Fault> {
-    if !stays.iter().all(|stay| is_named(stay, opening)) {
-        return Some(Fault::Names);
+fn tap_fault(client: &Client<'_>, namings: &[Naming], opening: Opening<'_>) -> Option<Fault> {
+    for naming in namings {
+        if !(client.stays.get(naming.stay)).is_some_and(|stay| is_named(stay, opening)) {
+            return Some(Fault::Names);
+        }
     }
     if client.bad {
         return Some(Fault::Frame);
     }
-    if client.has_orphan() {
+    if client.orphan {
         return Some(Fault::Orphan);
     }
     None

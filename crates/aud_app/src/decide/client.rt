@@ -1,9 +1,10 @@
 //! A client's tap: its stays, and whether all of it decodes.
+use crate::decide::assembler::Assembler;
 use crate::decide::packets::decoded;
 use crate::decide::stays::{Stay, Stays};
 use crate::decide::stream::Stream;
 use aud_eio::{Eio, EioFault, decode_binary, decode_payload, decode_text};
-use aud_sio::{Assembler, SioFault};
+use aud_sio::SioFault;
 use aud_tap::ClientRec;
 use std::alloc::{AllocError, Global};
 
@@ -13,6 +14,8 @@ pub struct Client<'a> {
     pub stays: Vec<Stay<'a>>,
     /// Whether a record does not decode.
     pub bad: bool,
+    /// Whether an event stands where nobody knows the session.
+    pub orphan: bool,
 }
 
 impl<'a> Client<'a> {
@@ -31,15 +34,9 @@ impl<'a> Client<'a> {
             reading.record(stream, rec)?;
         }
         let Reading { stays, bad, .. } = reading;
-        Ok(Client {
-            stays: stays.finish(),
-            bad,
-        })
-    }
-
-    /// Whether an event stands where nobody knows the session.
-    pub fn has_orphan(&self) -> bool {
-        self.stays.iter().any(|stay| stay.is_orphan())
+        let stays = stays.finish();
+        let orphan = stays.iter().any(|stay| stay.is_orphan());
+        Ok(Client { stays, bad, orphan })
     }
 }
 

@@ -52,7 +52,7 @@ impl<'a> Addressed<'a> {
     }
 
     /// The places from `first` on, before `end`, of a room's events, or of those for all.
-    fn within(&self, nsp: &str, room: Option<&str>, first: usize, end: usize) -> &[usize] {
+    fn within(&self, nsp: &'a str, room: Option<&'a str>, first: usize, end: usize) -> &[usize] {
         let Some(places) = self.places.get(&(nsp, room)) else {
             return &[];
         };
@@ -68,8 +68,8 @@ impl<'a> Addressed<'a> {
         &self,
         alloc: Global,
         stream: &Stream<'_>,
-        nsp: &str,
-        spans: &[Span<'_>],
+        nsp: &'a str,
+        spans: &[Span<'a>],
         first: usize,
         end: usize,
     ) -> Result<Vec<usize>, AllocError> {

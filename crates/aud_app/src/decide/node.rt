@@ -55,12 +55,7 @@ impl<'a> Node<'a> {
 }
 
 /// The cursor after a record, or none where the record is out of order.
-fn next_cursor(
-    stream: &Stream<'_>,
-    cursor: usize,
-    is_first: bool,
-    rec: &NodeRec,
-) -> Option<usize> {
+fn next_cursor(stream: &Stream<'_>, cursor: usize, is_first: bool, rec: &NodeRec) -> Option<usize> {
     match rec {
         NodeRec::Start { off } if is_first => match off {
             None => Some(0),

@@ -5,6 +5,82 @@ use crate::verdict::{Fault, Verdict};
 use aud_tap::Text;
 use std::alloc::{AllocError, Global};
 
+/// A recovery, as the client asked for it.
+#[derive(Clone, Copy, Drop)]
+struct Recovery {
+    /// The connection's number.
+    c: u64,
+    /// Where the entry of the asked offset stands; none where there is no such entry.
+    asked: Option<usize>,
+    /// How many events were received in earlier stays.
+    before: usize,
+}
+
+/// What a session received over all its stays.
+#[derive(Drop)]
+pub struct Received {
+    got: Vec<Frame>,
+    recoveries: Vec<Recovery>,
+}
+
+impl Received {
+    pub fn new(alloc: Global) -> Received {
+        Received {
+            got: Vec::new(alloc),
+            recoveries: Vec::new(alloc),
+        }
+    }
+
+    /// The session's next stay.
+    pub fn add(&mut self, stream: &Stream<'_>, stay: &Stay<'_>) -> Result<(), AllocError> {
+        if let Some(asked) = stay.recovered() {
+            self.recoveries.push(Recovery {
+                c: stay.c,
+                asked: asked.offset.as_deref().and_then(|off| stream.place(off)),
+                before: self.got.len(),
+            })?;
+        }
+        self.got.extend_from_slice(&stay.frames)
+    }
+
+    /// The verdict, where these are the places of the due events.
+    pub fn verdict(
+        &self,
+        alloc: Global,
+        stream: &Stream<'_>,
+        due: &[usize],
+        turns: usize,
+    ) -> Result<Verdict, AllocError> {
+        let got = self.got.as_slice();
+        if let Some(fault) = content_fault(alloc, stream, got)? {
+            return Ok(Verdict::No(fault));
+        }
+        if let Some(fault) = order_fault(alloc, stream, got, due)? {
+            return Ok(Verdict::No(fault));
+        }
+        if let Some(recovery) = self.recoveries.iter().find(|r| !r.is_right(got)) {
+            return Ok(Verdict::No(Fault::Window(recovery.c)));
+        }
+        Ok(Verdict::Yes {
+            got: got.len(),
+            tail: due.len().saturating_sub(got.len()),
+            turns,
+        })
+    }
+}
+
+impl Recovery {
+    /// Whether it asked for the events behind the last one received before it; `got` is ascending.
+    fn is_right(&self, got: &[Frame]) -> bool {
+        let Some(asked) = self.asked else {
+            return false;
+        };
+        let last = self.before.checked_sub(1).and_then(|i| got.get(i));
+        last.is_none_or(|frame| frame.place <= asked)
+            && got.get(self.before).is_none_or(|frame| asked < frame.place)
+    }
+}
+
 /// An offset, owned.
 fn offset(alloc: Global, stream: &Stream<'_>, place: usize) -> Result<Text, AllocError> {
     Ok(Text::new(String::from_str(alloc, stream.offset(place))?))
@@ -62,57 +138,4 @@ fn misplaced(
         }
         _ => Ok(Fault::Doubled(offset(alloc, stream, place)?)),
     }
-}
-
-/// Whether a stay asked for the events behind the last one that was received before it; `got` are
-/// the frames of all stays, ascending, and `before` of them stand in earlier stays.
-fn asked_rightly(stream: &Stream<'_>, off: Option<&str>, got: &[Frame], before: usize) -> bool {
-    let Some(asked) = off.and_then(|off| stream.place(off)) else {
-        return false;
-    };
-    let last = before.checked_sub(1).and_then(|i| got.get(i));
-    last.is_none_or(|frame| frame.place <= asked)
-        && got.get(before).is_none_or(|frame| asked < frame.place)
-}
-
-/// The first recovered stay that asked for the wrong events.
-fn window_fault(stream: &Stream<'_>, stays: &[&Stay<'_>], got: &[Frame]) -> Option<Fault> {
-    let mut before = 0usize;
-    for stay in stays {
-        if let Some(asked) = stay.recovered() {
-            if !asked_rightly(stream, asked.offset.as_deref(), got, before) {
-                return Some(Fault::Window(stay.c));
-            }
-        }
-        before = before.saturating_add(stay.frames.len());
-    }
-    None
-}
-
-/// The verdict on what was received over these turns.
-pub fn compared(
-    alloc: Global,
-    stream: &Stream<'_>,
-    stays: &[&Stay<'_>],
-    due: &[usize],
-    turns: usize,
-) -> Result<Verdict, AllocError> {
-    let mut got = Vec::new(alloc);
-    for stay in stays {
-        got.extend_from_slice(&stay.frames)?;
-    }
-    if let Some(fault) = content_fault(alloc, stream, &got)? {
-        return Ok(Verdict::No(fault));
-    }
-    if let Some(fault) = order_fault(alloc, stream, &got, due)? {
-        return Ok(Verdict::No(fault));
-    }
-    if let Some(fault) = window_fault(stream, stays, &got) {
-        return Ok(Verdict::No(fault));
-    }
-    Ok(Verdict::Yes {
-        got: got.len(),
-        tail: due.len().saturating_sub(got.len()),
-        turns,
-    })
 }

@@ -39,8 +39,8 @@ pub struct Sessions<'a> {
 impl<'a> Sessions<'a> {
     pub fn new(
         alloc: Global,
-        nodes: &'a [Node<'a>],
-        clients: &'a [Client<'a>],
+        nodes: &[Node<'a>],
+        clients: &'a [Client<'_>],
     ) -> Result<Sessions<'a>, AllocError> {
         let mut sessions = Sessions {
             alloc,
@@ -72,7 +72,7 @@ impl<'a> Sessions<'a> {
         Ok(())
     }
 
-    fn add_client(&mut self, client: usize, tap: &'a Client<'a>) -> Result<(), AllocError> {
+    fn add_client(&mut self, client: usize, tap: &'a Client<'_>) -> Result<(), AllocError> {
         for (stay, heard) in tap.stays.iter().enumerate() {
             if let Some(pid) = heard.pid() {
                 let at = self.place(pid)?;

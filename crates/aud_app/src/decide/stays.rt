@@ -1,8 +1,8 @@
 //! Stays: what a client got in one namespace between a connect and the next.
+use crate::decide::assembler::Whole;
 use crate::decide::packets::{is_event, payload_of, text_of};
 use crate::decide::stream::Stream;
-use aud_sio::{Packet, PacketKind, Whole, last_text};
-use serde_json::Value;
+use aud_sio::{Packet, PacketKind, last_text};
 use std::alloc::{AllocError, Global};
 use std::collections::HashMap;
 
@@ -55,7 +55,11 @@ impl Stay<'_> {
     /// Where the reply names the session that was asked for: what was asked.
     pub fn recovered(&self) -> Option<&Asked> {
         let asked = self.asked.as_ref()?;
-        if self.pid()? == asked.pid.as_str() { Some(asked) } else { None }
+        if self.pid()? == asked.pid.as_str() {
+            Some(asked)
+        } else {
+            None
+        }
     }
 }
 
@@ -120,7 +124,11 @@ impl<'a> Stays<'a> {
     }
 
     /// A packet from the server, whole.
-    pub fn from_server(&mut self, stream: &Stream<'_>, whole: &Whole<'a>) -> Result<(), AllocError> {
+    pub fn from_server(
+        &mut self,
+        stream: &Stream<'_>,
+        whole: &Whole<'a>,
+    ) -> Result<(), AllocError> {
         let packet = &whole.packet;
         if packet.kind == PacketKind::Connect {
             let reply = reply_of(self.alloc, packet)?;
@@ -164,9 +172,7 @@ impl<'a> Stays<'a> {
 
 /// Whether a text can be a session's pid.
 fn is_pid(text: &str) -> bool {
-    1 <= text.len()
-        && text.len() <= 128
-        && text.as_bytes().iter().all(|b| 0x21 <= *b && *b <= 0x7e)
+    1 <= text.len() && text.len() <= 128 && text.as_bytes().iter().all(|b| 0x21 <= *b && *b <= 0x7e)
 }
 
 fn owned(alloc: Global, text: Option<&str>) -> Result<Option<String>, AllocError> {

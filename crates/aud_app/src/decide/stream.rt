@@ -66,8 +66,10 @@ fn is_recoverable(alloc: Global, entry: &StreamRec) -> Result<bool, AllocError> 
     let Some(packet) = decoded(alloc, event.text.as_str())? else {
         return Ok(false);
     };
-    Ok(is_event(&packet)
-        && packet.nsp == event.nsp.as_str()
-        && packet.attachments as usize == event.bin.as_slice().len()
-        && last_text(&packet) == Some(event.off.as_str()))
+    Ok(
+        is_event(&packet)
+            && packet.nsp == event.nsp.as_str()
+            && packet.attachments as usize == event.bin.as_slice().len()
+            && last_text(&packet) == Some(event.off.as_str()),
+    )
 }

@@ -34,7 +34,9 @@ struct Chain<'n, 'a> {
 
 impl Chain<'_, '_> {
     fn cursor(&self, spot: Spot) -> usize {
-        self.nodes.get(spot.node).map_or(0, |node| node.cursor(spot.rec))
+        self.nodes
+            .get(spot.node)
+            .map_or(0, |node| node.cursor(spot.rec))
     }
 
     /// A record that begins a turn; answers whether it may.
@@ -70,8 +72,15 @@ impl Chain<'_, '_> {
     /// The log ends before the session's record `at`: so does the turn that goes on.
     fn end_log(&mut self, at: usize) -> Result<(), AllocError> {
         if let Some(turn) = self.open.take() {
-            let high = self.nodes.get(turn.node).map_or(0, |node| node.last_cursor());
-            self.turns.push(Turn { to: at, high, ..turn })?;
+            let high = self
+                .nodes
+                .get(turn.node)
+                .map_or(0, |node| node.last_cursor());
+            self.turns.push(Turn {
+                to: at,
+                high,
+                ..turn
+            })?;
         }
         Ok(())
     }
@@ -97,8 +106,8 @@ impl Chain<'_, '_> {
     /// Whether these are the turns from 0 on, each but the last ended by a break.
     fn is_whole(&self) -> bool {
         let last = self.turns.len().saturating_sub(1);
-        (self.turns.iter().enumerate())
-            .all(|(k, turn)| turn.number as usize == k && (turn.breaks || k == last))
+        (self.turns.iter().enumerate()).all(|(k, turn)| turn.number as usize == k
+            && (turn.breaks || k == last))
     }
 }
 
