@@ -5,6 +5,8 @@
 
 mod body;
 mod packet;
+#[cfg(test)]
+mod tests;
 mod text;
 
 pub use body::{decode_payload, encode_payload};

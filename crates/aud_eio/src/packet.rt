@@ -18,7 +18,7 @@ pub enum Control {
 }
 
 /// A packet. Texts, without the type digit, lie in the text or body that the packet was read from.
-#[derive(Drop)]
+#[derive(Debug, PartialEq, Eq, Drop)]
 pub enum Eio<'a> {
     /// Any packet that is no message, with its payload.
     Control(Control, &'a str),

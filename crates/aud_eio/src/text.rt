@@ -56,8 +56,8 @@ pub(crate) fn push_packet(packet: &Eio<'_>, text: &mut String) -> Result<(), All
     match packet {
         Eio::Control(kind, payload) => push_typed(digit_of(*kind), payload, text),
         Eio::Message(message) => push_typed('4', message, text),
-        Eio::Lent(bytes) => push_base64(bytes, text),
-        Eio::Own(bytes) => push_base64(bytes.as_slice(), text),
+        Eio::Lent(lent) => push_base64(lent, text),
+        Eio::Own(own) => push_base64(own.as_slice(), text),
     }
 }
 
