@@ -12,7 +12,7 @@ use Rattle.std.proofs.lemmas.Str.{IsCharBoundary-after_ascii}
 use Rattle.std.proofs.Math.Nat.{pow-le-pow_right}
 use Rattle.aud_sio.specs.Digits.{digit_count}
 
-decide : (b : Bool) → (b ≡ true) ⊎ (b ≡ false)
+pub decide : (b : Bool) → (b ≡ true) ⊎ (b ≡ false)
 decide true = inl refl
 decide false = inr refl
 

@@ -1,3 +1,5 @@
 pub mod DashLemmas
 pub mod DigitLemmas
+pub mod PartLemmas
 pub mod PayloadLemmas
+pub mod RoundTrip

@@ -6,3 +6,4 @@ pub mod Namespace
 pub mod AckId
 pub mod Payload
 pub mod Packet
+pub mod Written

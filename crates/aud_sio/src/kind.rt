@@ -1,7 +1,7 @@
 //! The kind of a packet: the digit at the front of its text.
 ghost use Rattle.std.specs.Prelude.{◌≡◌, ◌<◌, OnOk};
 ghost use Rattle.aud_sio.specs.Reading.{Gives};
-ghost use Rattle.aud_sio.specs.Kind.{is_binary, kind_at, kind_of, wants_array};
+ghost use Rattle.aud_sio.specs.Kind.{is_binary, kind_at, kind_of, type_digit, wants_array};
 
 use crate::digits::after_first;
 use crate::fault::SioFault;
@@ -47,6 +47,22 @@ fn kind_of(byte: u8) -> Result<PacketKind, SioFault>
 }
 
 impl PacketKind {
+    /// The ASCII digit of this kind.
+    pub(crate) fn digit(self) -> char
+        ensures value { result ≡ type_digit self }
+        ensures ascii { result < 128 }
+    {
+        match self {
+            PacketKind::Connect => '0',
+            PacketKind::Disconnect => '1',
+            PacketKind::Event => '2',
+            PacketKind::Ack => '3',
+            PacketKind::ConnectError => '4',
+            PacketKind::BinaryEvent => '5',
+            PacketKind::BinaryAck => '6',
+        }
+    }
+
     /// Whether binary messages follow a packet of this kind.
     pub(crate) fn is_binary(self) -> bool
         ensures { result ≡ is_binary self }

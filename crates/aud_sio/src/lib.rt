@@ -11,7 +11,9 @@ mod kind;
 mod namespace;
 mod packet;
 mod payload;
+mod written;
 
 pub use fault::SioFault;
 pub use kind::PacketKind;
 pub use packet::{Packet, decode, last_text};
+pub use written::encode;

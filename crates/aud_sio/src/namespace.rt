@@ -3,6 +3,9 @@ ghost use Rattle.std.specs.Prelude.{◌≡◌};
 ghost use Rattle.std.specs.List.{after_first, before_first};
 ghost use Rattle.aud_sio.specs.Namespace.{is_comma, namespace_at};
 
+/// The namespace of a packet that names none.
+pub(crate) const MAIN: &str = "/";
+
 /// The namespace at the front of a text, and the rest: `/` where none stands there.
 #[tactic(auto, unfolding(crate::specs::Namespace::namespace_at))]
 pub(crate) fn namespace_at(text: &str) -> (&str, &str)
@@ -10,7 +13,7 @@ pub(crate) fn namespace_at(text: &str) -> (&str, &str)
 {
     match text.as_bytes().first() {
         Some(b'/') => split_comma(text),
-        _ => ("/", text),
+        _ => (MAIN, text),
     }
 }
 

@@ -1,0 +1,164 @@
+-- The written form of a packet that some text spells is a text of that packet.
+use Rattle.std.proofs.Common.{◌≡◌, ℕ, zero, suc, ◌+◌, ◌^◌, ◌<◌, ◌≤◌, ◌==◌, nat_le, not, List, [], ◌∷◌, ◌++◌, length, take, drop, get_or, slice_index, Bool, true, false, if◌then◌else◌, cond, Option, Some, None, unwrap_or, refl, sym, ap, ◌∙◌, arith, add-one, append_assoc, Result, Ok, Err, rules, ◌⊎◌, inl, inr}
+use Rattle.std.specs.List.{prefix_len, position_or_len, before_first, after_first, take_while}
+use Rattle.std.specs.Char.{is_ascii_digit}
+use Rattle.std.specs.Str.{all_ascii_digits, bytes_eq}
+use Rattle.std.specs.Str.Parse.{digits_value}
+use Rattle.std.specs.Fmt.{decimal}
+use Rattle.std.proofs.lemmas.Bool.Decides.{nat_tests}
+use Rattle.std.proofs.lemmas.Fmt.{digits_decimal, digits_value-decimal, decimal_nonempty, length-decimal-le}
+use Rattle.std.proofs.lemmas.Str.Parse.{IsNumeralModel, numerals_by_value, tells_all_ascii_digits}
+use Rattle.std.proofs.lemmas.List.Folds.{prefix_len-append}
+use Rattle.std.proofs.Math.Seq.{take-append_seam, drop-append_seam, drop-append-add}
+use Rattle.std.proofs.lemmas.Slice.Eq.{bytes_eq-Decides}
+use Rattle.aud_sio.proofs.DigitLemmas.{decide}
+use Rattle.aud_sio.specs.declared.fault.SioFault.{SioFault}
+use Rattle.aud_sio.specs.declared.kind.PacketKind.{PacketKind}
+use Rattle.aud_sio.specs.declared.kind.PacketKind.TheVariants.{Connect, Disconnect, Event, Ack, ConnectError, BinaryEvent, BinaryAck}
+use Rattle.aud_sio.specs.Reading.{◌>>=◌}
+use Rattle.aud_sio.specs.Kind.{kind_at, is_binary, type_digit}
+use Rattle.aud_sio.specs.Digits.{digit_count, number_at, after_digits}
+use Rattle.aud_sio.specs.Attachments.{count_at, attachments_at}
+use Rattle.aud_sio.specs.Namespace.{is_comma, main_namespace, namespace_at}
+use Rattle.aud_sio.specs.AckId.{id_at}
+use Rattle.aud_sio.specs.Payload.{payload_at}
+use Rattle.aud_sio.specs.Packet.{PacketSeen, packet_of, IsSpelled}
+use Rattle.aud_sio.specs.Written.{written_count, written_namespace, written_id, written_payload, written}
+
+-- ---- digits before other bytes
+
+digits-before : (ds rest : List ℕ) → all_ascii_digits ds ≡ true → digit_count rest ≡ 0 → digit_count (ds ++ rest) ≡ length ds
+digits-before [] rest digits none = none
+digits-before (d ∷ ds) rest digits none = elim (decide (is_ascii_digit d)) [
+  | inl digit ↦ rw digit (omega (arith, digits-before ds rest (rw digit at digits) none))
+  | inr other ↦ let bad : false ≡ true = rw other at digits in (cc)
+]
+
+le-true : (a b : ℕ) → a ≤ b → nat_le a b ≡ true
+le-true a b le = grind (arith, nat_tests)
+
+some-true : (a : ℕ) → 0 < a → (a == 0) ≡ false
+some-true a some = grind (arith, nat_tests)
+
+-- digits before other bytes are read as their number
+number-before : (ds rest : List ℕ) → digit_count (ds ++ rest) ≡ length ds → number_at (ds ++ rest) ≡ digits_value 10 ds
+number-before ds rest count = rw (count, take-append_seam ds rest) refl
+
+rest-after : (ds rest : List ℕ) → digit_count (ds ++ rest) ≡ length ds → after_digits (ds ++ rest) ≡ rest
+rest-after ds rest count = rw (count, drop-append_seam ds rest) refl
+
+numerals : IsNumeralModel (λ ds. all_ascii_digits ds ≡ true) (digits_value 10)
+numerals = numerals_by_value _ tells_all_ascii_digits
+
+-- ---- each part, written before what follows it
+
+id-of-digits : (ds rest : List ℕ) → 0 < length ds → length ds ≤ 18 → digit_count (ds ++ rest) ≡ length ds → id_at (ds ++ rest) ≡ Ok (Some (digits_value 10 ds), rest)
+unfolding id_at
+id-of-digits ds rest some few count = rw (count, le-true _ _ few, some-true _ some, take-append_seam ds rest, drop-append_seam ds rest) refl
+
+id-read : (id : Option ℕ) (rest : List ℕ) → ((n : ℕ) → id ≡ Some n → n < 10 ^ 18) → digit_count rest ≡ 0 → id_at (written_id id ++ rest) ≡ Ok (id, rest)
+unfolding id_at
+id-read None rest small none = rw none refl
+id-read (Some n) rest small none =
+    let within : n < 10 ^ 18 = small n refl in
+    let fits : n < 2 ^ 64 = omega (arith, within) in
+    let count = digits-before (decimal n) rest (digits_decimal numerals n fits) none in
+    rw (id-of-digits (decimal n) rest (decimal_nonempty n fits) (length-decimal-le 18 n (omega arith) within fits) count, digits_value-decimal numerals n fits) refl
+
+count-of-digits : (ds rest : List ℕ) → 0 < length ds → length ds ≤ 2 → digits_value 10 ds ≤ 64 → all_ascii_digits ds ≡ true → count_at (ds ++ 45 ∷ rest) ≡ Ok (digits_value 10 ds, rest)
+unfolding count_at
+count-of-digits ds rest some short few digits =
+    let count : digit_count (ds ++ 45 ∷ rest) ≡ length ds = digits-before ds (45 ∷ rest) digits refl in
+    rw (count, le-true _ _ some, le-true _ _ short, drop-append_seam ds (45 ∷ rest), take-append_seam ds (45 ∷ rest), le-true _ _ few) refl
+
+count-read : (kind : PacketKind) (n : ℕ) (rest : List ℕ) → n ≤ 64 → (is_binary kind ≡ false → n ≡ 0) → attachments_at kind (written_count kind n ++ rest) ≡ Ok (n, rest)
+unfolding attachments_at
+count-read kind n rest few none = elim (decide (is_binary kind)) [
+  | inl binary ↦
+      let fits : n < 2 ^ 64 = omega (arith, few) in
+      let short : length (decimal n) ≤ 2 = length-decimal-le 2 n (omega arith) (omega (arith, few)) fits in
+      let value : digits_value 10 (decimal n) ≡ n = digits_value-decimal numerals n fits in
+      rw (binary, append_assoc) (count-of-digits (decimal n) rest (decimal_nonempty n fits) short (rw value few) (digits_decimal numerals n fits) ∙ rw value refl)
+  | inr other ↦ rw (other, none other) refl
+]
+
+starts_same : (nsp rest : List ℕ) → slice_index nsp 0 ≡ 47 → slice_index (nsp ++ rest) 0 ≡ 47
+starts_same [] rest slash = absurd (omega (arith, slash))
+starts_same (b ∷ bs) rest slash = slash
+
+either : (b : Bool) (n : ℕ) → cond b (n + 0) n ≡ n
+either true n = omega arith
+either false n = refl
+
+comma-after : (nsp rest : List ℕ) → position_or_len is_comma nsp ≡ length nsp → position_or_len is_comma (nsp ++ 44 ∷ rest) ≡ length nsp
+comma-after nsp rest whole = rw (prefix_len-append, whole) (either _ (length nsp))
+
+namespace-before : (nsp rest : List ℕ) → slice_index nsp 0 ≡ 47 → position_or_len is_comma nsp ≡ length nsp → namespace_at (nsp ++ 44 ∷ rest) ≡ (nsp, rest)
+unfolding namespace_at
+namespace-before nsp rest slash whole =
+    rw (starts_same nsp (44 ∷ rest) slash, comma-after nsp rest whole, take-append_seam nsp (44 ∷ rest), drop-append-add nsp (44 ∷ rest) 1) refl
+
+namespace-read : (nsp rest : List ℕ) → slice_index nsp 0 ≡ 47 → position_or_len is_comma nsp ≡ length nsp → (slice_index rest 0 == 47) ≡ false → namespace_at (written_namespace nsp ++ rest) ≡ (nsp, rest)
+unfolding namespace_at
+namespace-read nsp rest slash whole none = elim (decide (bytes_eq nsp main_namespace)) [
+  | inl main ↦ rw ((bytes_eq-Decides nsp main_namespace).0 main, none) refl
+  | inr other ↦ rw (other, append_assoc) (namespace-before nsp rest slash whole)
+]
+
+kind-read : (kind : PacketKind) (rest : List ℕ) → kind_at (type_digit kind ∷ rest) ≡ Ok (kind, rest)
+unfolding kind_at
+kind-read Connect rest = refl
+kind-read Disconnect rest = refl
+kind-read Event rest = refl
+kind-read Ack rest = refl
+kind-read ConnectError rest = refl
+kind-read BinaryEvent rest = refl
+kind-read BinaryAck rest = refl
+
+-- ---- the whole text
+
+-- what holds of the parts of a packet that some text spells
+pub record HasParts (p : PacketSeen) : Type 0 where
+  pub few : p.attachments ≤ 64
+  pub none : is_binary p.kind ≡ false → p.attachments ≡ 0
+  pub slash : slice_index p.nsp 0 ≡ 47
+  pub no_comma : position_or_len is_comma p.nsp ≡ length p.nsp
+  pub small : (n : ℕ) → p.id ≡ Some n → n < 10 ^ 18
+  pub no_digit : digit_count (written_payload p.payload) ≡ 0
+  pub no_slash : (slice_index (written_payload p.payload) 0 == 47) ≡ false
+  pub payload : payload_at p.kind (written_payload p.payload) ≡ Ok (p.payload, p.last)
+
+no_slash-digits : (ds rest : List ℕ) → all_ascii_digits ds ≡ true → (slice_index rest 0 == 47) ≡ false → (slice_index (ds ++ rest) 0 == 47) ≡ false
+no_slash-digits [] rest digits none = none
+no_slash-digits (d ∷ ds) rest digits none = grind (arith, nat_tests)
+
+no_slash-id : (id : Option ℕ) (rest : List ℕ) → ((n : ℕ) → id ≡ Some n → n < 10 ^ 18) → (slice_index rest 0 == 47) ≡ false → (slice_index (written_id id ++ rest) 0 == 47) ≡ false
+no_slash-id None rest small none = none
+no_slash-id (Some n) rest small none = no_slash-digits (decimal n) rest (digits_decimal numerals n (omega (arith, small n refl))) none
+
+-- a part that is read, and then what follows it
+reads_then : {A B : Type 0} (r : Result A SioFault) (x : A) (f : A → Result B SioFault) (y : Result B SioFault) → r ≡ Ok x → f x ≡ y → (r >>= f) ≡ y
+reads_then r x f y part more = ap (λ q. q >>= f) part ∙ more
+
+-- the written form, part by part from its end
+nested : (p : PacketSeen) → written p ≡ type_digit p.kind ∷ (written_count p.kind p.attachments ++ (written_namespace p.nsp ++ (written_id p.id ++ written_payload p.payload)))
+unfolding written
+nested p = simp append_assoc
+
+nested-reads : (p : PacketSeen) → HasParts p
+    → packet_of (type_digit p.kind ∷ (written_count p.kind p.attachments ++ (written_namespace p.nsp ++ (written_id p.id ++ written_payload p.payload)))) ≡ Ok p
+unfolding packet_of
+nested-reads p parts =
+    let slash = no_slash-id p.id (written_payload p.payload) parts.small parts.no_slash in
+    let count = count-read p.kind p.attachments (written_namespace p.nsp ++ (written_id p.id ++ written_payload p.payload)) parts.few parts.none in
+    let nsp = namespace-read p.nsp (written_id p.id ++ written_payload p.payload) parts.slash parts.no_comma slash in
+    let id = ap (λ read. id_at read.1) nsp ∙ id-read p.id (written_payload p.payload) parts.small parts.no_digit in
+    let whole = ap (λ (read : List ℕ × List ℕ). ok (record p { nsp = read.0 })) nsp in
+    reads_then (kind_at _) _ _ _ (kind-read p.kind _)
+    (reads_then _ _ _ _ count (reads_then _ _ _ _ id (reads_then _ _ _ _ parts.payload whole)))
+  where
+    ok : PacketSeen → Result PacketSeen SioFault
+    ok q = Ok q
+
+pub written-reads : (p : PacketSeen) → HasParts p → packet_of (written p) ≡ Ok p
+written-reads p parts = ap packet_of (nested p) ∙ nested-reads p parts

@@ -1,0 +1,73 @@
+//! The text of a packet.
+ghost use Rattle.std.specs.Prelude.{◌≡◌, ◌++◌, IfErr, IfOk, Ok, OnOk, option_map, string_bytes};
+ghost use Rattle.aud_sio.specs.Packet.{IsSpelled, packet_of, view};
+ghost use Rattle.aud_sio.specs.Written.{written, written_count, written_id, written_kind, written_namespace, written_payload};
+ghost use Rattle.aud_sio.specs.declared.fault.SioFault.TheVariants.{Memory};
+
+use crate::fault::SioFault;
+use crate::kind::PacketKind;
+use crate::namespace::MAIN;
+use crate::packet::Packet;
+use std::alloc::{AllocError, Global};
+
+/// The text of a packet, by the section "Packet encoding" of the Socket.IO protocol 5: numbers
+/// without leading zeros, no namespace where it is `/`, the payload as it is. `last` plays no part.
+///
+/// The one error is `Memory`.
+#[tactic(auto, using(crate::proofs::PartLemmas::spelled_reads_back))]
+pub fn encode(alloc: Global, packet: &Packet<'_>) -> Result<String, SioFault>
+    requires spelled { IsSpelled (view packet.now) }
+    ensures form { IfOk result (λ text. string_bytes text ≡ written (view packet.now)) }
+    ensures reads_back { IfOk result (λ text. packet_of (string_bytes text) ≡ Ok (view packet.now)) }
+    ensures memory { IfErr result (λ e. e ≡ Memory) }
+{
+    match written(alloc, packet) {
+        Ok(text) => Ok(text),
+        Err(_) => Err(SioFault::Memory),
+    }
+}
+
+#[tactic(auto, unfolding(crate::specs::Written::written))]
+fn written(alloc: Global, packet: &Packet<'_>) -> Result<String, AllocError>
+    ensures { IfOk result (λ text. string_bytes text ≡ written (view packet.now)) }
+{
+    let mut text = String::new(alloc);
+    text.push(packet.kind.digit())?;
+    push_count(&mut text, packet.kind, packet.attachments)?;
+    push_namespace(&mut text, packet.nsp)?;
+    push_id(&mut text, packet.id)?;
+    if let Some(payload) = packet.payload {
+        text.push_str(payload)?;
+    }
+    Ok(text)
+}
+
+/// Puts the count of attachments and a dash at the end, where the kind is binary.
+fn push_count(text: &mut String, kind: PacketKind, count: u8) -> Result<(), AllocError>
+    ensures { OnOk result (string_bytes text.new ≡ string_bytes text.old ++ written_count kind count) }
+{
+    if kind.is_binary() {
+        write!(text, "{count}-")?;
+    }
+    Ok(())
+}
+
+/// Puts the namespace and a comma at the end, unless it is the main one.
+fn push_namespace(text: &mut String, nsp: &str) -> Result<(), AllocError>
+    ensures { OnOk result (string_bytes text.new ≡ string_bytes text.old ++ written_namespace nsp.now) }
+{
+    if nsp != MAIN {
+        write!(text, "{nsp},")?;
+    }
+    Ok(())
+}
+
+/// Puts the acknowledgement id at the end, if there is one.
+fn push_id(text: &mut String, id: Option<u64>) -> Result<(), AllocError>
+    ensures { OnOk result (string_bytes text.new ≡ string_bytes text.old ++ written_id id) }
+{
+    if let Some(id) = id {
+        write!(text, "{id}")?;
+    }
+    Ok(())
+}
