@@ -44,3 +44,19 @@ pub enum ReadFault {
     Input(u64, InputCode),
     Memory,
 }
+
+/// The refusal of a line whose number is known higher up; or want of memory.
+#[derive(Clone, Copy, Debug, PartialEq, Eq, Drop)]
+pub enum LineFault {
+    Code(InputCode),
+    Memory,
+}
+
+/// A field is missing, or of another type or form.
+pub const FIELD: LineFault = LineFault::Code(InputCode::Field);
+
+/// A length, a number or a count is outside its limits.
+pub const LIMIT: LineFault = LineFault::Code(InputCode::Limit);
+
+/// The tap has no record of this kind.
+pub const UNKNOWN_KIND: LineFault = LineFault::Code(InputCode::UnknownKind);

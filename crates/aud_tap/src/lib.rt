@@ -5,6 +5,7 @@
 
 mod fault;
 mod line;
+mod read;
 mod records;
 mod splitter;
 mod taps;
@@ -12,6 +13,7 @@ mod text;
 
 pub use fault::{InputCode, Memory, ReadFault};
 pub use line::Line;
+pub use read::parse_line;
 pub use records::{ClientRec, Event, NodeRec, Rec, StreamRec, TapKind};
 pub use splitter::{LINE_LIMIT, Splitter};
 pub use taps::{ClientRecs, NodeRecs, Records, StreamRecs, Tap, Taps};

@@ -202,3 +202,68 @@ impl Splitter {
         }
     }
 }
+
+#[cfg(test)]
+mod tests {
+    use super::*;
+    use std::alloc::AllocError;
+    use std::test::Fail;
+
+    // Each byte is a piece; every line is taken at once.
+    fn lines_of_bytes(alloc: Global, input: &[u8]) -> Result<Vec<Line>, Fail> {
+        let mut splitter = Splitter::new(alloc);
+        let mut lines = Vec::new(alloc);
+        for byte in input {
+            splitter.feed(&[*byte])?;
+            for line in splitter.take() {
+                lines.push(line)?;
+            }
+        }
+        for line in splitter.finish()? {
+            lines.push(line)?;
+        }
+        Ok(lines)
+    }
+
+    #[test]
+    fn lines_come_byte_by_byte(rt: HostRuntime) -> Result<(), Fail> {
+        let wanted = [b"a".as_slice(), b"", b"bc", b"\r", b"", b"d"];
+        let lines = lines_of_bytes(rt.alloc(), b"a\n\r\nbc\r\n\r\r\n\nd")?;
+        assert_eq!(rt; lines.len(), wanted.len());
+        for (line, bytes) in lines.iter().zip(wanted.iter()) {
+            assert_eq!(rt; line.bytes.as_slice(), *bytes, "line {}", line.number);
+        }
+        assert_eq!(rt; lines[5].number, 6);
+        Ok(())
+    }
+
+    #[test]
+    fn no_line_begins_behind_the_last_newline(rt: HostRuntime) -> Result<(), Fail> {
+        assert_eq!(rt; lines_of_bytes(rt.alloc(), b"")?.len(), 0);
+        assert_eq!(rt; lines_of_bytes(rt.alloc(), b"a\n")?.len(), 1);
+        assert_eq!(rt; lines_of_bytes(rt.alloc(), b"a\n\r")?.len(), 2);
+        Ok(())
+    }
+
+    fn blanks(alloc: Global, count: usize) -> Result<Vec<u8>, AllocError>
+        ensures { IfOk result (λ v. length v.items ≡ count) }
+    {
+        vec![in alloc; b' '; count]
+    }
+
+    #[test]
+    fn a_line_has_at_most_4194304_bytes(rt: HostRuntime) -> Result<(), Fail> {
+        let blanks = blanks(rt.alloc(), 4_194_304)?;
+        let mut splitter = Splitter::new(rt.alloc());
+        splitter.feed(b"a\n")?;
+        splitter.feed(&blanks)?;
+        splitter.feed(b"\r\n")?;
+        splitter.feed(&blanks)?;
+        let refusal = Err(ReadFault::Input(3, InputCode::LineTooLong));
+        assert_eq!(rt; splitter.feed(b" \nb\n"), refusal);
+        assert_eq!(rt; splitter.feed(b""), refusal);
+        assert_eq!(rt; splitter.take().len(), 2);
+        assert!(rt; splitter.finish().is_err());
+        Ok(())
+    }
+}

@@ -1,0 +1,87 @@
+-- The fields of a JSON object, by their types and forms.
+use Rattle.std.specs.Prelude.{ℕ, ◌==◌, ◌&&◌, nat_le, nat_eq, List, [], ◌∷◌, Bool, false, not, if◌then◌else◌, Option, Some, None, option_and_then, option_map, ⊤}
+use Rattle.std.specs.List.{list_all}
+use Rattle.std.specs.Result.{result_ok}
+use lib.Pointwise.{pointwise}
+use Rattle.base64.specs.GeneralPurpose.{decode_of}
+use Rattle.base64.specs.Engines.{standard}
+use Rattle.serde_json.specs.Data.{Data, Items, no_items, item}
+use Rattle.serde_json.specs.Find.{get, as_str, as_array, as_number, as_u64, as_null}
+
+-- the texts are the same
+abbrev pub is_text : List ℕ → List ℕ → Bool
+is_text = pointwise nat_eq
+
+-- the value, where it passes the test
+abbrev pub if_it : {A : Type 0} → (A → Bool) → A → Option A
+if_it test x = if test x then Some x else None
+
+-- a byte of an offset, a pid or a sid
+abbrev pub is_visible : ℕ → Bool
+is_visible b = nat_le 33 b && nat_le b 126
+
+-- a text of such bytes alone
+abbrev pub is_id : List ℕ → Bool
+is_id = list_all is_visible
+
+abbrev pub begins_with : ℕ → List ℕ → Bool
+begins_with b [] = false
+begins_with b (x ∷ t) = x == b
+
+-- a namespace begins with `/` and has no comma
+abbrev pub is_namespace : List ℕ → Bool
+is_namespace t = begins_with 47 t && list_all (λ b. not (b == 44)) t
+
+-- ---- a field alone
+
+abbrev pub number_at : List ℕ → Data → Option ℕ
+number_at key d = option_and_then as_u64 (option_and_then as_number (get key d))
+
+abbrev pub text_at : List ℕ → Data → Option (List ℕ)
+text_at key d = option_and_then as_str (get key d)
+
+abbrev pub id_at : List ℕ → Data → Option (List ℕ)
+id_at key d = option_and_then (if_it is_id) (text_at key d)
+
+abbrev pub namespace_at : List ℕ → Data → Option (List ℕ)
+namespace_at key d = option_and_then (if_it is_namespace) (text_at key d)
+
+abbrev pub if_null : Option ⊤ → Option (List ℕ) → Option (Option (List ℕ))
+if_null (Some u) id = Some None
+if_null None id = option_map Some id
+
+abbrev pub id_or_null : Data → Option (Option (List ℕ))
+id_or_null d = if_null (as_null d) (option_and_then (if_it is_id) (as_str d))
+
+-- an id, or null, and nothing else
+abbrev pub id_or_null_at : List ℕ → Data → Option (Option (List ℕ))
+id_or_null_at key d = option_and_then id_or_null (get key d)
+
+-- the bytes that a text spells in base64, each in the one form
+abbrev pub decoded : List ℕ → Option (List ℕ)
+decoded text = result_ok (decode_of standard text)
+
+abbrev pub as_bytes : Data → Option (List ℕ)
+as_bytes d = option_and_then decoded (as_str d)
+
+abbrev pub bytes_at : List ℕ → Data → Option (List ℕ)
+bytes_at key d = option_and_then as_bytes (get key d)
+
+-- ---- a list of fields
+
+-- what each of the items is, if all are something
+abbrev pub each : {A : Type 0} → (Data → Option A) → Items → Option (List A)
+each as_item no_items = Some []
+each as_item (item d ds) = option_and_then (λ x. option_map (λ xs. x ∷ xs) (each as_item ds)) (as_item d)
+
+abbrev pub list_or_none : {A : Type 0} → (Data → Option A) → Option Data → Option (List A)
+list_or_none as_item None = Some []
+list_or_none as_item (Some d) = option_and_then (each as_item) (as_array d)
+
+-- a list of texts, empty where it is absent
+abbrev pub texts_at : List ℕ → Data → Option (List (List ℕ))
+texts_at key d = list_or_none as_str (get key d)
+
+-- a list of texts in base64, empty where it is absent
+abbrev pub blobs_at : List ℕ → Data → Option (List (List ℕ))
+blobs_at key d = list_or_none as_bytes (get key d)

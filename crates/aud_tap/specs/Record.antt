@@ -1,0 +1,64 @@
+-- The record of a line.
+use Rattle.std.specs.Prelude.{ℕ, ◌||◌, nat_le, List, length, codes, Bool, Option, Some, None, Result, Ok, Err, if◌then◌else◌}
+use Rattle.std.specs.Str.{is_utf8}
+use Rattle.serde_json.specs.Data.{Data}
+use Rattle.serde_json.specs.Read.{read}
+use Rattle.aud_tap.specs.declared.fault.InputCode.{InputCode}
+use Rattle.aud_tap.specs.declared.fault.InputCode.TheVariants.{LineTooLong, NoTapName, NotJson, UnknownKind, Field}
+use Rattle.aud_tap.specs.declared.records.TapKind.{TapKind}
+use Rattle.aud_tap.specs.declared.records.TapKind.TheVariants as tap
+use Rattle.aud_tap.specs.declared.records.Rec.{Rec}
+use Rattle.aud_tap.specs.declared.records.Rec.TheVariants.{Header, Stream, Node, Client}
+use Rattle.aud_tap.specs.Steps.{◌>>=◌, need, guard}
+use Rattle.aud_tap.specs.Limits.{max_line}
+use Rattle.aud_tap.specs.Fields.{is_text, text_at}
+use Rattle.aud_tap.specs.TapName.{is_tap_name, cut_at_blank}
+use Rattle.aud_tap.specs.Header.{header_of}
+use Rattle.aud_tap.specs.StreamRecord.{stream_record_of}
+use Rattle.aud_tap.specs.NodeRecord.{node_record_of}
+use Rattle.aud_tap.specs.ClientRecord.{client_record_of}
+
+-- the value of JSON text in UTF-8 (RFC 8259)
+unfoldable pub json_of : List ℕ → Result Data InputCode
+json_of bytes = if is_utf8 bytes then need NotJson (read bytes) else Err NotJson
+
+-- a line taken apart: the tap's name, and the value behind the first blank
+unfoldable pub opened_line : List ℕ → Result (List ℕ × Data) InputCode
+opened_line line = do
+  line_fits ← guard LineTooLong (nat_le (length line) max_line)
+  parts ← need NoTapName (cut_at_blank line)
+  named ← guard NoTapName (is_tap_name parts.0)
+  d ← json_of parts.1
+  Ok (parts.0, d)
+
+-- what an object says that it is
+abbrev pub kind_of : Data → Result (List ℕ) InputCode
+kind_of d = need Field (text_at (codes "k") d)
+
+-- the kind of tap that has records of this kind
+abbrev pub tap_of_kind : List ℕ → Option TapKind
+tap_of_kind kind =
+    if is_text kind (codes "ev") || is_text kind (codes "other") then Some tap.Stream
+    else (if is_text kind (codes "start") || is_text kind (codes "take") || is_text kind (codes "open") || is_text kind (codes "join") || is_text kind (codes "leave") || is_text kind (codes "break") || is_text kind (codes "back") || is_text kind (codes "gone") then Some tap.Node
+    else (if is_text kind (codes "conn") || is_text kind (codes "in") || is_text kind (codes "inb") || is_text kind (codes "poll") || is_text kind (codes "out") || is_text kind (codes "lost") then Some tap.Client
+    else None))
+
+-- the record of this kind in a tap that was put on this
+unfoldable pub record_in : TapKind → List ℕ → Data → Result Rec InputCode
+record_in tap.Stream kind d = stream_record_of kind d >>= (λ r. Ok (Stream r))
+record_in tap.Node kind d = node_record_of kind d >>= (λ r. Ok (Node r))
+record_in tap.Client kind d = client_record_of kind d >>= (λ r. Ok (Client r))
+
+-- a header, or the record of this kind in whichever tap has it
+unfoldable pub record_of : List ℕ → Data → Result Rec InputCode
+record_of kind d =
+    if is_text kind (codes "tap") then header_of d >>= (λ of. Ok (Header of 1))
+    else (need UnknownKind (tap_of_kind kind) >>= (λ of. record_in of kind d))
+
+-- the tap's name and the record of a line
+unfoldable pub line_record : List ℕ → Result (List ℕ × Rec) InputCode
+line_record line = do
+  parts ← opened_line line
+  kind ← kind_of parts.1
+  rec ← record_of kind parts.1
+  Ok (parts.0, rec)

@@ -1,0 +1,15 @@
+-- The name of a tap.
+use Rattle.std.specs.Prelude.{ℕ, ◌+◌, ◌==◌, ◌&&◌, ◌||◌, nat_le, List, drop, take, Bool, Option, option_map, position}
+use Rattle.std.specs.List.{list_all}
+use Rattle.aud_tap.specs.Limits.{fits, max_name}
+
+-- a digit, a letter of ASCII, `_`, `.` or `-`
+abbrev pub is_name_byte : ℕ → Bool
+is_name_byte b = (nat_le 48 b && nat_le b 57) || (nat_le 65 b && nat_le b 90) || (nat_le 97 b && nat_le b 122) || b == 95 || b == 46 || b == 45
+
+abbrev pub is_tap_name : List ℕ → Bool
+is_tap_name t = fits max_name t && list_all is_name_byte t
+
+-- what stands before the first blank, and what stands behind it
+abbrev pub cut_at_blank : List ℕ → Option (List ℕ × List ℕ)
+cut_at_blank line = option_map (λ i. (take i line, drop (i + 1) line)) (position (λ b. b == 32) line)

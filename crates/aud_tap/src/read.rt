@@ -1,0 +1,12 @@
+//! The record of a line: the line is opened, its kind looked at, and then the fields of that kind.
+pub mod client;
+mod fields;
+pub mod header;
+mod limits;
+pub mod line;
+pub mod node;
+mod record;
+pub mod stream;
+mod tap_name;
+
+pub use line::parse_line;

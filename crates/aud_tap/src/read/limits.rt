@@ -1,0 +1,42 @@
+//! The limits of lines and fields. Lengths are in bytes.
+ghost use Rattle.std.specs.Prelude.{◌≡◌};
+ghost use Rattle.std.specs.List.{list_all};
+ghost use Rattle.aud_tap.specs.Limits.{fits, fit_rooms};
+
+use crate::text::Text;
+
+pub const MAX_LINE: usize = 4_194_304;
+
+pub const MAX_NAME: usize = 32;
+
+pub const MAX_ID: usize = 128;
+
+pub const MAX_OFFSET: usize = 64;
+
+pub const MAX_ROOM: usize = 256;
+
+pub const MAX_NAMESPACE: usize = 256;
+
+pub const MAX_ROOMS: usize = 256;
+
+pub const MAX_ATTACHMENTS: usize = 64;
+
+/// The text is not empty, and no longer than `most`.
+pub fn fits(most: usize, text: &str) -> bool
+    ensures { result ≡ fits most text.now }
+{
+    1 <= text.len() && text.len() <= most
+}
+
+fn all_fit(most: usize, texts: &[Text]) -> bool
+    ensures { result ≡ list_all (fits most) texts.now }
+{
+    texts.iter().all(|text| fits(most, text.as_str()))
+}
+
+/// There are not too many rooms, and none is empty or too long.
+pub fn fit_rooms(rooms: &[Text]) -> bool
+    ensures { result ≡ fit_rooms rooms.now }
+{
+    rooms.len() <= MAX_ROOMS && all_fit(MAX_ROOM, rooms)
+}
