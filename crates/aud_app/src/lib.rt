@@ -4,11 +4,15 @@
 //! the reader or the writer that failed.
 #![tactic(auto)]
 
+mod bundle;
 mod choice;
 mod decide;
+mod input;
 mod program;
 mod report;
 mod streams;
+#[cfg(test)]
+mod tests;
 mod verdict;
 mod watched;
 mod words;

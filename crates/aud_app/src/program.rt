@@ -5,11 +5,12 @@ ghost use Rattle.aud_app.specs.Output.{IsOutput, IsSomeOutput, Writes, WritesFro
 
 use crate::choice::{Mode, Options};
 use crate::decide::decide;
+use crate::input::read_input;
 use crate::report::{count_yes, refusal_of, report_of};
 use crate::streams::{READ_LIMIT, read_all, write_out};
 use crate::verdict::Entry;
 use crate::watched::Watched;
-use aud_tap::{InputCode, Taps};
+use aud_tap::{InputCode, ReadFault};
 use std::alloc::{AllocError, Global};
 use std::io::{Read, Write};
 use std::sync::Wait;
@@ -81,12 +82,17 @@ fn output_of_refusal(alloc: Global, line: u64, code: InputCode) -> Result<Output
 }
 
 /// What is written for these bytes.
-fn audit(alloc: Global, _bytes: &[u8]) -> Result<Output, AllocError>
+fn audit(alloc: Global, bytes: &[u8]) -> Result<Output, AllocError>
     ensures { IfOk result (λ o. IsOutput o.status (string_bytes o.text)) }
 {
-    let taps = Taps::new(Vec::new(alloc));
-    let entries = decide(alloc, &taps)?;
-    output_of_entries(alloc, &entries)
+    match read_input(alloc, bytes) {
+        Ok(taps) => {
+            let entries = decide(alloc, &taps)?;
+            output_of_entries(alloc, &entries)
+        }
+        Err(ReadFault::Input(line, code)) => output_of_refusal(alloc, line, code),
+        Err(ReadFault::Memory) => Err(AllocError),
+    }
 }
 
 /// Reads the input to its end, decides, and only then writes.

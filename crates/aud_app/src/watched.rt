@@ -28,6 +28,18 @@ impl<T> Watched<T> {
         }
     }
 
+    /// The reader or writer itself.
+    pub fn into_inner(self) -> T
+        ensures { result ≡ inner_of self }
+    {
+        let Watched {
+            inner,
+            calls: _,
+            failed: _,
+        } = self;
+        inner
+    }
+
     /// How many calls were handed on, up to the greatest `u64`.
     pub fn calls(&self) -> u64
         ensures { result ≡ calls_of self.now }
