@@ -1,5 +1,5 @@
 //! A whole run: bytes in, the report on them out.
-ghost use Rattle.std.specs.Prelude.{◌≡◌, ◌≤◌, ◌<◌, ◌⊎◌, true, IfOk, Err, string_bytes};
+ghost use Rattle.std.specs.Prelude.{◌≡◌, ◌≤◌, ◌<◌, ◌⊎◌, true, IfOk, OnOk, Err, string_bytes};
 ghost use Rattle.aud_app.specs.Watched.{inner_of, calls_of, has_failed};
 ghost use Rattle.aud_app.specs.Output.{IsOutput, IsSomeOutput, Writes, WritesFront};
 
@@ -108,6 +108,8 @@ pub fn run<H: Wait + Threads, R: Read, W: Write>(
 
     // What was written is an output, whole, and the status is its status.
     ensures ok { IfOk result (λ status. Writes (W.contents (inner_of output.old)) (W.contents (inner_of output.new)) (IsOutput status)) }
+    // No read or write that failed was tried again.
+    ensures unfailed { OnOk result ((has_failed input.new ≡ has_failed input.old) × (has_failed output.new ≡ has_failed output.old)) }
     // After a failed write a front of an output was written.
     ensures front { result ≡ Err RunFault.Write → WritesFront (W.contents (inner_of output.old)) (W.contents (inner_of output.new)) IsSomeOutput }
     // After every other fault nothing was.

@@ -17,6 +17,7 @@ pub fn read_all<R: Read>(alloc: Global, input: &mut Watched<R>) -> Result<Vec<u8
     requires { calls_of input.old ≡ 0 }
 
     ensures ok { IfOk result (λ v. IfSome (R.remaining (inner_of input.old)) (λ bytes. v.items ≡ bytes)) }
+    ensures unfailed { OnOk result (has_failed input.new ≡ has_failed input.old) }
     ensures read { result ≡ Err RunFault.Read → (has_failed input.new ≡ true) ⊎ (READ_LIMIT ≤ calls_of input.new) }
     ensures others { OnErr result ((result ≡ Err RunFault.Read) ⊎ (result ≡ Err RunFault.Memory)) }
 {
@@ -40,6 +41,7 @@ pub fn read_all<R: Read>(alloc: Global, input: &mut Watched<R>) -> Result<Vec<u8
 /// error is.
 pub fn write_out<W: Write>(output: &mut Watched<W>, text: &[u8]) -> Result<(), RunFault>
     ensures ok { OnOk result (Appends (W.contents (inner_of output.old)) (W.contents (inner_of output.new)) text.now) }
+    ensures unfailed { OnOk result (has_failed output.new ≡ has_failed output.old) }
     ensures front { OnErr result (AppendsFront (W.contents (inner_of output.old)) (W.contents (inner_of output.new)) text.now) }
     ensures err { OnErr result ((result ≡ Err RunFault.Write) × (has_failed output.new ≡ true)) }
 {

@@ -47,6 +47,16 @@ impl<T> Watched<T> {
         self.calls
     }
 
+    /// Counts a call, and keeps whether it failed.
+    fn note(&mut self, failed: bool)
+        ensures inner { inner_of self.new ≡ inner_of self.old }
+        ensures calls { calls_of self.new ≡ min (calls_of self.old + 1) (2 ^ 64 - 1) }
+        ensures failed { has_failed self.new ≡ (has_failed self.old || failed) }
+    {
+        self.calls = self.calls.saturating_add(1);
+        self.failed = self.failed || failed;
+    }
+
     /// Whether a call failed, or a write took no bytes.
     pub fn failed(&self) -> bool
         ensures { result ≡ has_failed self.now }
@@ -66,11 +76,8 @@ impl<T: Read> Read for Watched<T> {
         ensures calls { calls_of self.new ≡ min (calls_of self.old + 1) (2 ^ 64 - 1) }
         ensures failed { has_failed self.new ≡ (has_failed self.old || is_err result) }
     {
-        self.calls = self.calls.saturating_add(1);
         let outcome = self.inner.read(buf);
-        if outcome.is_err() {
-            self.failed = true;
-        }
+        self.note(outcome.is_err());
         outcome
     }
 }
@@ -86,11 +93,8 @@ impl<T: Write> Write for Watched<T> {
         ensures calls { calls_of self.new ≡ min (calls_of self.old + 1) (2 ^ 64 - 1) }
         ensures failed { has_failed self.new ≡ (has_failed self.old || is_err result || took_none result) }
     {
-        self.calls = self.calls.saturating_add(1);
         let outcome = self.inner.write(buf);
-        if !matches!(&outcome, Ok(1..)) {
-            self.failed = true;
-        }
+        self.note(!matches!(&outcome, Ok(1..)));
         outcome
     }
 
@@ -99,11 +103,8 @@ impl<T: Write> Write for Watched<T> {
         ensures calls { calls_of self.new ≡ min (calls_of self.old + 1) (2 ^ 64 - 1) }
         ensures failed { has_failed self.new ≡ (has_failed self.old || is_err result) }
     {
-        self.calls = self.calls.saturating_add(1);
         let outcome = self.inner.flush();
-        if outcome.is_err() {
-            self.failed = true;
-        }
+        self.note(outcome.is_err());
         outcome
     }
 }
