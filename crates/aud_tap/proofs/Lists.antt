@@ -1,11 +1,15 @@
 -- Lists of fields, as far as they are read.
-use Rattle.std.proofs.Common.{◌≡◌, ℕ, suc, ◌+◌, ◌<◌, List, [], ◌∷◌, ◌++◌, length, drop, get_or, Option, Some, None, Result, Ok, Err, option_map, refl, ap, append_assoc, drop-cons, add-one}
-use Rattle.serde_json.specs.Data.{Data}
+use Rattle.std.proofs.Common.{◌≡◌, ◌==◌, false, String, Global, string_bytes, rules, ℕ, suc, ◌+◌, ◌<◌, map, take, sym, ◌∙◌, List, [], ◌∷◌, ◌++◌, length, drop, get_or, Option, Some, None, Result, Ok, Err, option_map, refl, ap, append_assoc, drop-cons, add-one}
+use Rattle.std.proofs.Math.Seq.{take-suc}
+use Rattle.std.proofs.lemmas.List.{map-append}
+use Rattle.serde_json.specs.Data.{Data, Members, put, array, string, Items, no_items, item}
 use Rattle.serde_json.specs.View.{view, items_view}
-use Rattle.serde_json.specs.declared.value.Value.{Value}
+use Rattle.serde_json.specs.declared.value.Value.{Value, the_lemmas}
+use Rattle.serde_json.specs.declared.value.Value.TheVariants as Value
 use Rattle.aud_tap.specs.declared.fault.InputCode.{InputCode}
 use Rattle.aud_tap.specs.Fields.{each}
 use Rattle.aud_tap.specs.Steps.{need}
+use Rattle.aud_tap.specs.Written.{encoded, text_items, put_unless_empty}
 
 -- what was read so far, and then what is left
 abbrev pub with_front : {A : Type 0} → List A → Option (List A) → Option (List A)
@@ -28,3 +32,36 @@ each-none as_item vs i v h is none = rw (drop-cons vs i v h, ← is, none) refl
 pub need-ok : {A : Type 0} (code : InputCode) (x : A) (o : Option A) → need code o ≡ Ok x → o ≡ Some x
 need-ok code x None h = cc
 need-ok code x (Some y) h = cc
+
+-- ---- lists of texts, as they are written
+
+abbrev with_last : Items → Data → Items
+with_last no_items last = item last no_items
+with_last (item d ds) last = item d (with_last ds last)
+
+items_view-push : (vs : List Value) (v : Value) → items_view (vs ++ v ∷ []) ≡ with_last (items_view vs) (view v)
+items_view-push [] v = refl
+items_view-push (w ∷ vs) v = ap (item (view w)) (items_view-push vs v)
+
+text_items-push : (ts : List (List ℕ)) (t : List ℕ) → text_items (ts ++ t ∷ []) ≡ with_last (text_items ts) (string t)
+text_items-push [] t = refl
+text_items-push (u ∷ ts) t = ap (item (string u)) (text_items-push ts t)
+
+one_more : (vs : List Value) (ts : List (List ℕ)) (v : Value) (t : List ℕ) → items_view vs ≡ text_items ts → view v ≡ string t → items_view (vs ++ v ∷ []) ≡ text_items (ts ++ t ∷ [])
+one_more vs ts v t same is = items_view-push vs v ∙ rw (same, is) (sym (text_items-push ts t))
+
+pub texts-more : (vs : List Value) (ts : List (List ℕ)) (i : ℕ) (v : Value) (t : List ℕ) → i < length ts → t ≡ get_or ts i t → view v ≡ string t
+    → items_view vs ≡ text_items (take i ts) → items_view (vs ++ v ∷ []) ≡ text_items (take (i + 1) ts)
+texts-more vs ts i v t h at is same = rw (add-one, take-suc ts i t h, ← at) (one_more vs (take i ts) v t same is)
+
+pub blobs-more : (vs : List Value) (bs : List (List ℕ)) (i : ℕ) (v : Value) (b : List ℕ) → i < length bs → b ≡ get_or bs i b → view v ≡ string (encoded b)
+    → items_view vs ≡ text_items (map encoded (take i bs)) → items_view (vs ++ v ∷ []) ≡ text_items (map encoded (take (i + 1) bs))
+blobs-more vs bs i v b h at is same = rw (add-one, take-suc bs i b h, ← at, map-append encoded (take i bs) (b ∷ [])) (one_more vs (map encoded (take i bs)) v (encoded b) same is)
+
+pub view-String : (s : String Global) → view (Value.String s) ≡ string (string_bytes s)
+view-String s = search (rules, the_lemmas)
+
+-- a list that is not empty is put
+pub put-some : (key : List ℕ) (vs : List Value) (ms : Members) → false ≡ (length vs == 0) → put key (array (items_view vs)) ms ≡ put_unless_empty key (items_view vs) ms
+put-some key [] ms h = cc
+put-some key (v ∷ vs) ms h = refl

@@ -55,10 +55,15 @@ record_of kind d =
     if is_text kind (codes "tap") then header_of d >>= (λ of. Ok (Header of 1))
     else (need UnknownKind (tap_of_kind kind) >>= (λ of. record_in of kind d))
 
+-- the record of a value, by what it says that it is
+unfoldable pub value_record : Data → Result Rec InputCode
+value_record d = do
+  kind ← kind_of d
+  record_of kind d
+
 -- the tap's name and the record of a line
 unfoldable pub line_record : List ℕ → Result (List ℕ × Rec) InputCode
 line_record line = do
   parts ← opened_line line
-  kind ← kind_of parts.1
-  rec ← record_of kind parts.1
+  rec ← value_record parts.1
   Ok (parts.0, rec)

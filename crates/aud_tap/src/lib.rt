@@ -3,6 +3,7 @@
 //! Begin at [`records`], the kinds of record of each tap.
 #![tactic(auto)]
 
+mod bundle;
 mod fault;
 mod line;
 mod read;
@@ -10,7 +11,9 @@ mod records;
 mod splitter;
 mod taps;
 mod text;
+mod write;
 
+pub use bundle::{BundleReader, read_bundle};
 pub use fault::{InputCode, Memory, ReadFault};
 pub use line::Line;
 pub use read::parse_line;

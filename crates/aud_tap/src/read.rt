@@ -5,7 +5,7 @@ pub mod header;
 mod limits;
 pub mod line;
 pub mod node;
-mod record;
+pub mod record;
 pub mod stream;
 mod tap_name;
 

@@ -2,13 +2,12 @@
 ghost use Rattle.std.specs.Prelude.{◌≡◌, Ok, IfOk, IfErr, MatchResult, string_bytes};
 ghost use Rattle.serde_json.specs.View.{view};
 ghost use Rattle.aud_tap.specs.Steps.{Gives, Fails, IsRefusal};
-ghost use Rattle.aud_tap.specs.Record.{json_of, opened_line, kind_of, line_record};
+ghost use Rattle.aud_tap.specs.Record.{json_of, opened_line, line_record};
 
-use super::fields::text_at;
 use super::limits::MAX_LINE;
-use super::record::record;
+use super::record::value_record;
 use super::tap_name::{cut_at_blank, tap_name};
-use crate::fault::{FIELD, InputCode, LineFault, ReadFault};
+use crate::fault::{InputCode, LineFault, ReadFault};
 use crate::line::Line;
 use crate::records::Rec;
 use serde_json::{Category, Value};
@@ -47,20 +46,12 @@ pub fn opened_line(alloc: Global, line: &[u8]) -> Result<(&str, Value), LineFaul
     Ok((name, d))
 }
 
-/// What an object says that it is.
-pub fn kind_of(d: &Value) -> Result<&str, LineFault>
-    ensures { MatchResult result (λ k. kind_of (view d.now) ≡ Ok k.now) (λ e. Fails e (kind_of (view d.now))) }
-{
-    text_at("k", d).ok_or(FIELD)
-}
-
 #[tactic(auto, unfolding(crate::specs::Record::line_record))]
 fn parse(alloc: Global, line: &[u8]) -> Result<(String, Rec), LineFault>
     ensures { MatchResult result (λ p. line_record line.now ≡ Ok (string_bytes p.0, p.1)) (λ e. Fails e (line_record line.now)) }
 {
     let (name, d) = opened_line(alloc, line)?;
-    let kind = kind_of(&d)?;
-    let rec = record(alloc, kind, &d)?;
+    let rec = value_record(alloc, &d)?;
     match String::from_str(alloc, name) {
         Ok(name) => Ok((name, rec)),
         Err(_) => Err(LineFault::Memory),

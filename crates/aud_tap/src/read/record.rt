@@ -1,14 +1,15 @@
 //! The record of a JSON value, by its kind.
-ghost use Rattle.std.specs.Prelude.{◌≡◌, option_map};
+ghost use Rattle.std.specs.Prelude.{◌≡◌, Ok, MatchResult};
 ghost use Rattle.serde_json.specs.View.{view};
-ghost use Rattle.aud_tap.specs.Steps.{Gives};
-ghost use Rattle.aud_tap.specs.Record.{tap_of_kind, record_in, record_of};
+ghost use Rattle.aud_tap.specs.Steps.{Gives, Fails};
+ghost use Rattle.aud_tap.specs.Record.{kind_of, tap_of_kind, record_in, record_of, value_record};
 
 use super::client::client_record;
+use super::fields::text_at;
 use super::header::tap_header;
 use super::node::node_record;
 use super::stream::stream_record;
-use crate::fault::{LineFault, UNKNOWN_KIND};
+use crate::fault::{FIELD, LineFault, UNKNOWN_KIND};
 use crate::records::{Rec, TapKind};
 use serde_json::Value;
 use std::alloc::Global;
@@ -41,7 +42,7 @@ fn record_in(alloc: Global, of: TapKind, kind: &str, d: &Value) -> Result<Rec, L
 
 /// A header, or the record of this kind in whichever tap has it.
 #[tactic(auto, unfolding(crate::specs::Record::record_of))]
-pub fn record(alloc: Global, kind: &str, d: &Value) -> Result<Rec, LineFault>
+fn record(alloc: Global, kind: &str, d: &Value) -> Result<Rec, LineFault>
     ensures { Gives result (record_of kind.now (view d.now)) }
 {
     if kind == "tap" {
@@ -50,4 +51,20 @@ pub fn record(alloc: Global, kind: &str, d: &Value) -> Result<Rec, LineFault>
     }
     let of = tap_of_kind(kind).ok_or(UNKNOWN_KIND)?;
     record_in(alloc, of, kind, d)
+}
+
+/// What an object says that it is.
+pub fn kind_of(d: &Value) -> Result<&str, LineFault>
+    ensures { MatchResult result (λ k. kind_of (view d.now) ≡ Ok k.now) (λ e. Fails e (kind_of (view d.now))) }
+{
+    text_at("k", d).ok_or(FIELD)
+}
+
+/// The record of a value, by what it says that it is.
+#[tactic(auto, unfolding(crate::specs::Record::value_record))]
+pub fn value_record(alloc: Global, d: &Value) -> Result<Rec, LineFault>
+    ensures { Gives result (value_record (view d.now)) }
+{
+    let kind = kind_of(d)?;
+    record(alloc, kind, d)
 }
