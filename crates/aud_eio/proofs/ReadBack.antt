@@ -1,6 +1,6 @@
 -- A body written gives the packets that were written.
-use Rattle.std.proofs.Common.{◌≡◌, ◌≢◌, ◌<◌, ◌≤◌, ◌==◌, ℕ, zero, suc, ◌+◌, ◌*◌, ◌/◌, ◌%◌, List, [], ◌∷◌, ◌++◌, length, map, All, replicate, slice_index, get_or, Bool, true, false, not, ◌&&◌, Result, Ok, Err, refl, sym, ap, ◌∙◌, arith, lit<}
-use Rattle.std.specs.List.{slice_split, join_with_byte, list_all}
+use Rattle.std.proofs.Common.{◌≡◌, ◌≢◌, ◌<◌, ◌==◌, ℕ, zero, suc, ◌+◌, ◌*◌, ◌/◌, ◌%◌, List, [], ◌∷◌, ◌++◌, length, map, All, replicate, slice_index, Bool, true, false, not, ◌&&◌, Ok, refl, sym, ap, ◌∙◌, arith}
+use Rattle.std.specs.List.{join_with_byte, list_all}
 use Rattle.std.proofs.lemmas.List.Splits.{slice_split_none, slice_split_at}
 use Rattle.std.proofs.lemmas.Bool.{ne_eqb}
 use Rattle.std.proofs.lemmas.List.Elements.{All-nil, All-cons}
@@ -11,7 +11,7 @@ use Rattle.base64.specs.Engines.{standard}
 use Rattle.aud_eio.specs.declared.packet.Control.{Control as ControlType}
 use Rattle.aud_eio.specs.declared.packet.Control.TheVariants.{Opening, Closing, Ping, Pong, Upgrade, Noop}
 use Rattle.aud_eio.specs.declared.packet.Eio.{Eio}
-use Rattle.aud_eio.specs.Packet.{Packet, Control, Message, Lent, Own, view, packet_of, digit_of, text_of, delivered, ReadsBack}
+use Rattle.aud_eio.specs.Packet.{Packet, Control, Message, Lent, Own, view, digit_of, text_of, delivered, ReadsBack}
 use Rattle.aud_eio.specs.Body.{packets_of, packets_of_texts, pieces_of, body_of, FitsBody}
 
 abbrev is_separator : ℕ → Bool

@@ -1,5 +1,5 @@
 -- The packets of a body, and the body of packets (Engine.IO protocol 4, HTTP long-polling).
-use Rattle.std.specs.Prelude.{◌≢◌, ℕ, ◌==◌, List, [], ◌∷◌, map, All, Result, Ok, Err}
+use Rattle.std.specs.Prelude.{◌≢◌, ℕ, ◌==◌, List, [], ◌∷◌, map, All, Result, Ok}
 use Rattle.std.specs.List.{slice_split, join_with_byte}
 use Rattle.aud_eio.specs.declared.packet.EioFault.{EioFault}
 use Rattle.aud_eio.specs.Answer.{◌>>=◌}

@@ -7,3 +7,6 @@ pub mod AckId
 pub mod Payload
 pub mod Packet
 pub mod Written
+pub mod Message
+pub mod Wholes
+pub mod Assembly

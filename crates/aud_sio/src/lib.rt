@@ -4,16 +4,21 @@
 #![tactic(auto)]
 
 mod ack_id;
+mod assembler;
 mod attachments;
 mod digits;
 mod fault;
+mod half;
 mod kind;
 mod namespace;
 mod packet;
 mod payload;
 mod written;
+mod whole;
 
+pub use assembler::Assembler;
 pub use fault::SioFault;
 pub use kind::PacketKind;
 pub use packet::{Packet, decode, last_text};
 pub use written::encode;
+pub use whole::{Blob, Whole};

@@ -1,7 +1,7 @@
-use Rattle.std.proofs.Common.{◌≡◌, List, ℕ, map, [], ◌∷◌, ◌++◌, refl, sym, ap, ◌∙◌, rules, lit<, Ok, Err}
+use Rattle.std.proofs.Common.{map, ap, ◌∙◌, lit<, Ok}
 use Rattle.std.proofs.lemmas.List.{map-append, append-nil}
 use Rattle.std.proofs.lemmas.Iterator.Splits.{YieldsList-from_str_split}
-use Rattle.aud_eio.specs.Packet.{view, packet_of}
+use Rattle.aud_eio.specs.Packet.{view}
 use Rattle.aud_eio.specs.Body.{packets_of, packets_of_texts, pieces_of}
 use Rattle.aud_eio.proofs.Bodies.{behind, behind-nil, behind-ok, behind-err, after_some, after_none}
 use Rattle.aud_eio.proofs.body.decode_payload.Goals as goal

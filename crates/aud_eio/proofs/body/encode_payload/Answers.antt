@@ -1,4 +1,4 @@
-use Rattle.std.proofs.Common.{◌≡◌, ◌++◌, ◌∙◌, ap, map, string_bytes}
+use Rattle.std.proofs.Common.{◌++◌, ◌∙◌, ap, map}
 use Rattle.aud_eio.specs.Packet.{view}
 use Rattle.aud_eio.specs.Body.{packets_of, body_of}
 use Rattle.aud_eio.proofs.ReadBack.{body_reads_back}

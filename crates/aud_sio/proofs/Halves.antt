@@ -1,0 +1,36 @@
+-- What an assembler gives that holds a packet which awaits attachments.
+use Rattle.std.proofs.Common.{◌≡◌, ◌+◌, ◌-◌, ◌<◌, ℕ, suc, List, [], ◌∷◌, ◌++◌, length, map, Option, Some, None, Ok, Err, refl, ◌∙◌, arith}
+use Rattle.std.proofs.lemmas.List.{length-map}
+use Rattle.aud_sio.specs.declared.fault.SioFault.TheVariants.{TextWhileBinary}
+use Rattle.aud_sio.specs.declared.whole.Whole.{Whole}
+use Rattle.aud_sio.specs.declared.half.Half.{Half}
+use Rattle.aud_sio.specs.Packet.{view, packet_of}
+use Rattle.aud_sio.specs.Message.{Message, Text}
+use Rattle.aud_sio.specs.Wholes.{wholes_of}
+use Rattle.aud_sio.specs.Assembly.{blob_view, whole_view, messages_of_whole, messages_held, wholes_after, gives_with, Waits}
+use Rattle.aud_sio.proofs.Assembling.{held, ends_early, text_among}
+
+-- so many attachments are awaited, less one
+abbrev pub after_next : Whole → ℕ
+after_next w = w.packet.attachments - suc (length w.bin.items)
+
+pub whole_held : (w : Whole) (l : List (ℕ × Message)) → packet_of w.text.now ≡ Ok (view w.packet) → length w.bin.items < w.packet.attachments
+    → wholes_after (messages_of_whole w) l ≡ gives_with 0 (whole_view w) (suc (after_next w)) l
+whole_held w l reads awaits =
+    let few : w.packet.attachments ≡ length (map blob_view w.bin.items) + suc (after_next w) = rw length-map (omega arith) in
+    held w.text.now (view w.packet) (map blob_view w.bin.items) (suc (after_next w)) l reads few
+
+pub whole_waits : (w : Whole) → packet_of w.text.now ≡ Ok (view w.packet) → length w.bin.items < w.packet.attachments
+    → Waits (messages_of_whole w)
+whole_waits w reads awaits = whole_held w [] reads awaits ∙ ends_early 0 (whole_view w) (after_next w)
+
+pub half_waits : (half : Option Half) → Waits (messages_held half)
+half_waits None = refl
+half_waits (Some half) = whole_waits half.whole half.read half.awaits
+
+-- a text while attachments are awaited
+pub text_held : (half : Half) (place : ℕ) (text : List ℕ) (l : List (ℕ × Message))
+    → wholes_after (messages_of_whole half.whole) ((place, Text text) ∷ l) ≡ (place, Err TextWhileBinary) ∷ wholes_of l
+text_held half place text l =
+    whole_held half.whole ((place, Text text) ∷ l) half.read half.awaits
+    ∙ text_among 0 place (whole_view half.whole) (after_next half.whole) text l

@@ -1,0 +1,61 @@
+-- What an assembler holds and answers.
+use Rattle.std.specs.Prelude.{◌≡◌, ◌-◌, ℕ, length, List, [], ◌∷◌, ◌++◌, map, Option, Some, None, Result, Ok, Err}
+use Rattle.aud_sio.specs.declared.fault.SioFault.{SioFault}
+use Rattle.aud_sio.specs.declared.fault.SioFault.TheVariants.{Memory}
+use Rattle.aud_sio.specs.declared.whole.Blob.{Blob as BlobCode}
+use Rattle.aud_sio.specs.declared.whole.Blob.TheVariants as code
+use Rattle.aud_sio.specs.declared.whole.Whole.{Whole}
+use Rattle.aud_sio.specs.declared.half.Half.{Half}
+use Rattle.aud_sio.specs.Packet.{view}
+use Rattle.aud_sio.specs.Message.{Blob, Lent, Own, Message, Text, Bytes, at}
+use Rattle.aud_sio.specs.Wholes.{WholeSeen, Answer, answer_to, last_place, consumed, wholes_past, wholes_of}
+
+-- what contracts see of an attachment
+abbrev pub blob_view : BlobCode → Blob
+blob_view (code.Lent bytes) = Lent bytes.now
+blob_view (code.Own bytes) = Own bytes.items
+
+-- what contracts see of a whole packet
+abbrev pub whole_view : Whole → WholeSeen
+whole_view w = record { text = w.text.now; packet = view w.packet; bin = map blob_view w.bin.items }
+
+-- the messages that a packet was put together from
+abbrev pub messages_of_whole : Whole → List Message
+messages_of_whole w = Text w.text.now ∷ map Bytes (map blob_view w.bin.items)
+
+-- the messages that an assembler holds: none at rest
+abbrev pub messages_held : Option Half → List Message
+messages_held None = []
+messages_held (Some half) = messages_of_whole half.whole
+
+-- what an assembler that holds these messages gives, where more come; those that it holds have no place any more
+abbrev pub wholes_after : List Message → List (ℕ × Message) → List (ℕ × Answer)
+wholes_after held l = wholes_of (at 0 held ++ l)
+
+-- a packet given is one answer
+abbrev pub answer_of : Option Whole → List Answer
+answer_of None = []
+answer_of (Some w) = Ok (whole_view w) ∷ []
+
+-- what is answered to messages, and what comes after that, is what they give behind those held
+abbrev pub Continues : List Message → List Message → List Answer → List Message → Type 0
+Continues old messages answers new = (place : ℕ) (l : List (ℕ × Message))
+    → wholes_after old (at place messages ++ l) ≡ at place answers ++ wholes_after new l
+
+-- a refusal is one answer; nothing is said of a call for which memory ran out
+abbrev pub Feeds : List Message → List Message → Result (Option Whole) SioFault → List Message → Type 0
+Feeds old messages (Ok given) new = Continues old messages (answer_of given) new
+Feeds old messages (Err fault) new = ¬ (fault ≡ Memory) → Continues old messages (Err fault ∷ []) new
+
+-- nothing comes of what is held, unless more messages come
+abbrev pub Waits : List Message → Type 0
+Waits held = wholes_after held [] ≡ []
+
+-- what comes of a packet that awaits so many attachments more, whose last message so far stands at a place
+abbrev pub gives_with : ℕ → WholeSeen → ℕ → List (ℕ × Message) → List (ℕ × Answer)
+gives_with place whole count l = at (last_place place count l) (answer_to whole count l) ++ wholes_past (consumed count l) l
+
+-- what comes of a packet, with the attachments that it awaits, is an answer at once and what is held then gives
+abbrev pub Keeps : WholeSeen → List Answer → List Message → Type 0
+Keeps whole answers new = (place : ℕ) (l : List (ℕ × Message))
+    → gives_with place whole (whole.packet.attachments - length whole.bin) l ≡ at place answers ++ wholes_after new l

@@ -1,0 +1,139 @@
+//! Packets with their attachments, out of Engine.IO packets.
+ghost use Rattle.std.specs.Prelude.{◌≡◌, ◌≤◌, ◌∷◌, [], length, IfErr};
+ghost use Rattle.aud_eio.specs.Packet.{view as packet_view};
+ghost use Rattle.aud_sio.specs.Packet.{packet_of, view};
+ghost use Rattle.aud_sio.specs.Message.{Text, Bytes, messages_of};
+ghost use Rattle.aud_sio.specs.Assembly.{Feeds, Keeps, Waits, blob_view, whole_view, messages_held, messages_of_whole, answer_of};
+
+use crate::fault::SioFault;
+use crate::half::Half;
+use crate::packet::decode;
+use crate::whole::{Blob, Whole};
+use aud_eio::Eio;
+use std::alloc::Global;
+use std::marker::Model;
+
+/// Takes Engine.IO packets one by one and gives each Socket.IO packet once its attachments are there.
+///
+/// Contracts see the messages that it holds: the text of a packet that awaits attachments, and those
+/// attachments that came; none at rest.
+#[derive(Drop)]
+pub struct Assembler<'a> {
+    alloc: Global,
+    half: Option<Half<'a>>,
+}
+
+impl<'a> Model for Assembler<'a> {
+    ghost use Rattle.std.specs.Prelude.{List};
+    ghost use Rattle.aud_sio.specs.Message.{Message};
+    ghost use Rattle.aud_sio.specs.Assembly.{messages_held};
+
+    ghost Value = { List Message };
+
+    ghost view = { λ a. messages_held a.half };
+}
+
+impl<'a> Assembler<'a> {
+    /// An assembler at rest.
+    pub fn new(alloc: Global) -> Assembler<'a>
+        ensures { result ≡ [] }
+    {
+        Assembler { alloc, half: None }
+    }
+
+    /// The next Engine.IO packet. A packet is given with its last attachment, or at once where it has none.
+    ///
+    /// After a refusal, want of memory too, the assembler is at rest: it holds nothing of the refused packet.
+    pub fn feed(&mut self, packet: Eio<'a>) -> Result<Option<Whole<'a>>, SioFault>
+        ensures answers { Feeds self.old (messages_of (packet_view packet.entry)) result self.new }
+        ensures waits { Waits self.new }
+        ensures rest { IfErr result (λ _. self.new ≡ []) }
+    {
+        let half = self.half.take();
+        match packet {
+            Eio::Control(_, _) => {
+                self.half = half;
+                Ok(None)
+            }
+            Eio::Message(text) => self.take_text(half, text),
+            Eio::Lent(bytes) => self.take_bytes(half, Blob::Lent(bytes)),
+            Eio::Own(bytes) => self.take_bytes(half, Blob::Own(bytes)),
+        }
+    }
+
+    fn take_text(
+        &mut self,
+        half: Option<Half<'a>>,
+        text: &'a str,
+    ) -> Result<Option<Whole<'a>>, SioFault>
+        requires { self.old ≡ [] }
+        ensures answers { Feeds (messages_held half.entry) (Text text.entry.now ∷ []) result self.new }
+        ensures waits { Waits self.new }
+        ensures rest { IfErr result (λ _. self.new ≡ []) }
+    {
+        match half {
+            Some(_) => Err(SioFault::TextWhileBinary),
+            None => self.begin(text),
+        }
+    }
+
+    fn begin(&mut self, text: &'a str) -> Result<Option<Whole<'a>>, SioFault>
+        requires { self.old ≡ [] }
+        ensures answers { Feeds [] (Text text.entry.now ∷ []) result self.new }
+        ensures waits { Waits self.new }
+        ensures rest { IfErr result (λ _. self.new ≡ []) }
+    {
+        match decode(self.alloc, text) {
+            Ok(packet) => Ok(self.keep(Whole {
+                text,
+                packet,
+                bin: Vec::new(self.alloc),
+            })),
+            Err(fault) => Err(fault),
+        }
+    }
+
+    fn take_bytes(
+        &mut self,
+        half: Option<Half<'a>>,
+        blob: Blob<'a>,
+    ) -> Result<Option<Whole<'a>>, SioFault>
+        requires { self.old ≡ [] }
+        ensures answers { Feeds (messages_held half.entry) (Bytes (blob_view blob.entry) ∷ []) result self.new }
+        ensures waits { Waits self.new }
+        ensures rest { IfErr result (λ _. self.new ≡ []) }
+    {
+        match half {
+            Some(half) => self.attach(half, blob),
+            None => Err(SioFault::StrayBinary),
+        }
+    }
+
+    fn attach(&mut self, half: Half<'a>, blob: Blob<'a>) -> Result<Option<Whole<'a>>, SioFault>
+        requires { self.old ≡ [] }
+        ensures answers { Feeds (messages_of_whole half.entry.whole) (Bytes (blob_view blob.entry) ∷ []) result self.new }
+        ensures waits { Waits self.new }
+        ensures rest { IfErr result (λ _. self.new ≡ []) }
+    {
+        let Half { mut whole } = half;
+        match whole.bin.push(blob) {
+            Ok(()) => Ok(self.keep(whole)),
+            Err(_) => Err(SioFault::Memory),
+        }
+    }
+
+    /// Gives the packet, where it awaits no attachment, and else holds it.
+    fn keep(&mut self, whole: Whole<'a>) -> Option<Whole<'a>>
+        requires rest { self.old ≡ [] }
+        requires read { packet_of whole.text.now ≡ Ok (view whole.packet) }
+        requires few { length whole.bin.items ≤ whole.packet.attachments }
+        ensures answers { Keeps (whole_view whole.entry) (answer_of result) self.new }
+        ensures waits { Waits self.new }
+    {
+        if whole.bin.len() == whole.packet.attachments as usize {
+            return Some(whole);
+        }
+        self.half = Some(Half { whole });
+        None
+    }
+}
