@@ -1,5 +1,4 @@
 //! The verdict on each session.
-mod assembler;
 mod client;
 mod due;
 mod node;

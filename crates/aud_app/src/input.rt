@@ -1,6 +1,5 @@
 //! The taps of the whole input.
-use crate::bundle::read_bundle;
-use aud_tap::{Line, ReadFault, Splitter, Taps};
+use aud_tap::{Line, ReadFault, Splitter, Taps, read_bundle};
 use std::alloc::Global;
 
 /// Puts lines behind others.

@@ -4,7 +4,6 @@
 //! the reader or the writer that failed.
 #![tactic(auto)]
 
-mod bundle;
 mod choice;
 mod decide;
 mod input;

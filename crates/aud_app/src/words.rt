@@ -43,6 +43,7 @@ fn command<'a>(alloc: Global) -> Result<Command<'a>, Error> {
         .about(ABOUT)
         .after_help(STATUSES)
         .no_binary_name(true)
+        .bin_name("sioaudit")?
         .subcommand_required(true)
         .subcommand(audit)?;
     Ok(command)

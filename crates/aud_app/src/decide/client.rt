@@ -1,10 +1,9 @@
 //! A client's tap: its stays, and whether all of it decodes.
-use crate::decide::assembler::Assembler;
 use crate::decide::packets::decoded;
 use crate::decide::stays::{Stay, Stays};
 use crate::decide::stream::Stream;
 use aud_eio::{Eio, EioFault, decode_binary, decode_payload, decode_text};
-use aud_sio::SioFault;
+use aud_sio::{Assembler, SioFault};
 use aud_tap::ClientRec;
 use std::alloc::{AllocError, Global};
 

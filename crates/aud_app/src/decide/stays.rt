@@ -1,8 +1,7 @@
 //! Stays: what a client got in one namespace between a connect and the next.
-use crate::decide::assembler::Whole;
 use crate::decide::packets::{is_event, payload_of, text_of};
 use crate::decide::stream::Stream;
-use aud_sio::{Packet, PacketKind, last_text};
+use aud_sio::{Packet, PacketKind, Whole, last_text};
 use std::alloc::{AllocError, Global};
 use std::collections::HashMap;
 
