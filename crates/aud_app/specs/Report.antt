@@ -1,0 +1,39 @@
+-- The lines of the output.
+use Rattle.std.specs.Prelude.{ℕ, ◌-◌, List, ◌++◌, codes, decimal, flat_map, length, count_by}
+use Rattle.aud_tap.specs.declared.fault.InputCode.{InputCode}
+use Rattle.aud_tap.specs.declared.fault.InputCode.TheVariants.{LineTooLong, NoTapName, NotJson, NoHeader, UnknownKind, Field, Limit, SecondStream, OffsetTwice, HeaderTwice, Version}
+use Rattle.aud_app.specs.declared.verdict.Verdict.{Verdict}
+use Rattle.aud_app.specs.declared.verdict.Verdict.TheVariants.{Yes, No}
+use Rattle.aud_app.specs.declared.verdict.Entry.{Entry}
+use Rattle.aud_app.specs.Verdict.{fault_text, is_yes}
+
+-- the line of a session
+abbrev pub line_of : List ℕ → Verdict → List ℕ
+line_of pid (Yes got tail turns) = codes "yes " ++ pid ++ codes " got=" ++ decimal got ++ codes " tail=" ++ decimal tail ++ codes " turns=" ++ decimal turns ++ codes "\n"
+line_of pid (No fault) = codes "no " ++ pid ++ codes " " ++ fault_text fault ++ codes "\n"
+
+-- the last line: how many sessions there are, and how many of them are answered yes and no
+abbrev pub totals_line : List Entry → List ℕ
+totals_line es = codes "sessions=" ++ decimal (length es) ++ codes " yes=" ++ decimal (count_by is_yes es) ++ codes " no=" ++ decimal (length es - count_by is_yes es) ++ codes "\n"
+
+-- the report: a line for each session, and the counts
+abbrev pub report_text : List Entry → List ℕ
+report_text es = flat_map (λ e. line_of e.pid e.verdict) es ++ totals_line es
+
+-- the name of a refusal
+abbrev pub code_text : InputCode → List ℕ
+code_text LineTooLong = codes "LineTooLong"
+code_text NoTapName = codes "NoTapName"
+code_text NotJson = codes "NotJson"
+code_text NoHeader = codes "NoHeader"
+code_text UnknownKind = codes "UnknownKind"
+code_text Field = codes "Field"
+code_text Limit = codes "Limit"
+code_text SecondStream = codes "SecondStream"
+code_text OffsetTwice = codes "OffsetTwice"
+code_text HeaderTwice = codes "HeaderTwice"
+code_text Version = codes "Version"
+
+-- the one line that stands for a refused input
+abbrev pub refusal_line : ℕ → InputCode → List ℕ
+refusal_line n code = codes "line " ++ decimal n ++ codes ": " ++ code_text code ++ codes "\n"

@@ -1,0 +1,16 @@
+//! What is to be done.
+
+/// What the output is to say.
+#[derive(Clone, Copy, Debug, PartialEq, Eq, Drop)]
+pub enum Mode {
+    /// A verdict for each session.
+    Audit,
+}
+
+/// What the words of the command line ask for.
+#[derive(Clone, Copy, Debug, PartialEq, Eq, Drop)]
+pub struct Options {
+    pub mode: Mode,
+    /// Threads that audit, 1 to 64.
+    pub workers: u8,
+}

@@ -1,0 +1,78 @@
+//! A reader and a writer over memory that fail at a given call, and take few bytes a call or none.
+ghost use Rattle.std.specs.Prelude.{Some};
+
+use std::alloc::Global;
+use std::io::{self, ErrorKind, Read, Write};
+
+/// Reads a byte a call from memory, and fails once a number of calls were answered.
+#[derive(Drop)]
+pub struct TestReader<'a> {
+    bytes: &'a [u8],
+    calls_left: u64,
+}
+
+impl<'a> TestReader<'a> {
+    pub fn new(bytes: &'a [u8], calls: u64) -> TestReader<'a> {
+        TestReader {
+            bytes,
+            calls_left: calls,
+        }
+    }
+}
+
+impl Read for TestReader<'_> {
+    ghost remaining = { λ r. Some r.bytes.now };
+
+    fn read(&mut self, buf: &mut [u8]) -> io::Result<usize> {
+        if self.calls_left == 0 {
+            return Err(io::Error::from(ErrorKind::Interrupted));
+        }
+        self.calls_left -= 1;
+        if buf.is_empty() || self.bytes.is_empty() {
+            return Ok(0);
+        }
+        buf[0] = self.bytes[0];
+        self.bytes = &self.bytes[1..];
+        Ok(1)
+    }
+}
+
+/// Keeps what is written, at most some bytes a call, and fails once a number of calls were answered.
+#[derive(Drop)]
+pub struct TestWriter {
+    written: Vec<u8>,
+    calls_left: u64,
+    most: usize,
+}
+
+impl TestWriter {
+    pub fn new(alloc: Global, calls: u64, most: usize) -> TestWriter {
+        TestWriter {
+            written: Vec::new(alloc),
+            calls_left: calls,
+            most,
+        }
+    }
+
+    pub fn into_written(self) -> Vec<u8> {
+        let TestWriter { written, .. } = self;
+        written
+    }
+}
+
+impl Write for TestWriter {
+    ghost contents = { λ w. Some w.written.items };
+
+    fn write(&mut self, buf: &[u8]) -> io::Result<usize> {
+        if self.calls_left == 0 {
+            return Err(io::Error::from(ErrorKind::Interrupted));
+        }
+        self.calls_left -= 1;
+        let taken = buf.len().min(self.most);
+        self.written.write(&buf[..taken])
+    }
+
+    fn flush(&mut self) -> io::Result<()> {
+        Ok(())
+    }
+}

@@ -1,0 +1,70 @@
+//! The words of the command line.
+ghost use Rattle.std.specs.Prelude.{◌≤◌, IfOk};
+
+use crate::choice::{Mode, Options};
+use clap::error::ErrorKind;
+use clap::{Arg, Command, Error, value_parser};
+use std::alloc::Global;
+
+const ABOUT: &str = "Audits what the sessions of a Socket.IO cluster received";
+
+const STATUSES: &str = "\
+The bundle is read from standard input: the logs of the stream, of the nodes and of the
+clients, a record a line. docs/FORMAT.md describes it.
+
+Exit status:
+  0  every session received what was due to it
+  1  some session did not
+  2  a line of the bundle is refused; the output names it
+  3  a read or a write failed, or there was no memory or no thread
+  4  these words are not understood";
+
+const AUDIT_ABOUT: &str = "Reads a bundle and writes a verdict for each session";
+
+const AUDIT_LINES: &str = "\
+Each session has a line, and the last line counts them:
+  yes <pid> got=<events received> tail=<due events not received yet> turns=<connections>
+  no <pid> <fault>
+  sessions=<n> yes=<n> no=<n>";
+
+/// The words that are understood.
+fn command<'a>(alloc: Global) -> Result<Command<'a>, Error> {
+    let workers = Arg::new(alloc, "workers")
+        .long("workers")
+        .value_name("N")
+        .help("Threads that audit, 1 to 64")
+        .value_parser(value_parser!(u8).range(1..65))
+        .default_value("4");
+    let audit = Command::new(alloc, "audit")
+        .about(AUDIT_ABOUT)
+        .after_help(AUDIT_LINES)
+        .arg(workers)?;
+    let command = Command::new(alloc, "sioaudit")
+        .about(ABOUT)
+        .after_help(STATUSES)
+        .no_binary_name(true)
+        .bin_name("sioaudit")?
+        .subcommand_required(true)
+        .subcommand(audit)?;
+    Ok(command)
+}
+
+/// What the words after the program's name ask for. The error has the text to print: help that
+/// was asked for, or why the words are refused; where memory ran out its kind is `OutOfMemory`.
+pub fn options<'a>(alloc: Global, words: &'a [&'a str]) -> Result<Options, Error>
+    ensures { IfOk result (λ o. (1 ≤ o.workers) × (o.workers ≤ 64)) }
+{
+    let mut command = command(alloc)?;
+    let matches = command.try_get_matches_from_mut(words)?;
+    if let Some((_, audit)) = matches.subcommand() {
+        if let Some(workers) = audit.get_one::<u8>("workers") {
+            if 1 <= workers && workers <= 64 {
+                return Ok(Options {
+                    mode: Mode::Audit,
+                    workers,
+                });
+            }
+        }
+    }
+    Err(command.error(ErrorKind::InvalidValue, "workers are 1 to 64")?)
+}

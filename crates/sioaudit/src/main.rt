@@ -1,0 +1,68 @@
+//! `sioaudit`: reads a bundle from standard input and writes the report on it.
+#![tactic(auto)]
+
+use aud_app::{RunFault, Status, Watched, options, run};
+use clap::error::ErrorKind;
+use std::env;
+use std::process::ExitCode;
+
+/// The exit status of a run that wrote its output.
+fn status_code(status: Status) -> ExitCode {
+    match status {
+        Status::AllYes => ExitCode::SUCCESS,
+        Status::SomeNo => ExitCode::from(1),
+        Status::Refused => ExitCode::from(2),
+    }
+}
+
+/// The word for a fault.
+fn fault_word(fault: RunFault) -> &'static str {
+    match fault {
+        RunFault::Memory => "memory",
+        RunFault::Read => "read",
+        RunFault::Write => "write",
+        RunFault::Spawn => "thread",
+    }
+}
+
+/// Says why there is no report.
+fn fail(rt: &impl Eprint, fault: RunFault) -> ExitCode {
+    let word = fault_word(fault);
+    let _ = eprintln!(rt; "sioaudit: {word}");
+    ExitCode::from(3)
+}
+
+/// Prints the help that was asked for, or why the words are refused.
+fn refuse(rt: &(impl Print + Eprint), error: &clap::Error) -> ExitCode {
+    if error.kind() == ErrorKind::OutOfMemory {
+        return fail(rt, RunFault::Memory);
+    }
+    match error.print(rt) {
+        _ if error.use_stderr() => ExitCode::from(4),
+        Err(_) => fail(rt, RunFault::Write),
+        Ok(()) => ExitCode::SUCCESS,
+    }
+}
+
+fn main(rt: HostRuntime) -> ExitCode {
+    let alloc = rt.alloc();
+    let Ok(args) = env::args(&rt) else {
+        return ExitCode::from(4);
+    };
+    let Ok(owned) = args.skip(1).collect::<Vec<String>>(alloc) else {
+        return fail(&rt, RunFault::Memory);
+    };
+    let Ok(words) = owned.iter().map(|w| w.as_str()).collect::<Vec<&str>>(alloc) else {
+        return fail(&rt, RunFault::Memory);
+    };
+    let chosen = match options(alloc, &words) {
+        Ok(chosen) => chosen,
+        Err(error) => return refuse(&rt, &error),
+    };
+    let mut input = Watched::new(rt.stdin());
+    let mut output = Watched::new(rt.stdout());
+    match run(&rt, alloc, &mut input, &mut output, chosen) {
+        Ok(status) => status_code(status),
+        Err(fault) => fail(&rt, fault),
+    }
+}
