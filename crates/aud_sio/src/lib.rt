@@ -18,7 +18,6 @@ mod law;
 mod namespace;
 mod packet;
 mod payload;
-mod whole;
 #[cfg(test)]
 mod tests;
 mod whole;
