@@ -20,7 +20,7 @@ use Rattle.aud_tap.specs.declared.records.Rec.{Rec}
 use Rattle.aud_tap.specs.declared.records.Rec.TheVariants.{Header, Stream, Node, Client}
 use Rattle.aud_tap.specs.Steps.{◌>>=◌, need, guard}
 use Rattle.aud_tap.specs.Limits.{fits, fit_rooms, max_attachments, max_id, max_offset, max_namespace, max_turn}
-use Rattle.aud_tap.specs.Fields.{is_id, is_namespace, decoded, each, list_or_none, as_bytes}
+use Rattle.aud_tap.specs.Fields.{is_id, is_namespace, decoded, each, list_or_empty, as_blob}
 use Rattle.aud_tap.specs.Header.{header_of}
 use Rattle.aud_tap.specs.StreamRecord.{stream_record_of, event_of, other_of}
 use Rattle.aud_tap.specs.NodeRecord.{node_record_of, start_of, take_of, open_of, member_of, turn_of, gone_of}
@@ -139,7 +139,7 @@ texts-back : (ts : List (List ℕ)) → each as_str (text_items ts) ≡ Some ts
 texts-back [] = refl
 texts-back (t ∷ ts) = rw (texts-back ts) refl
 
-blobs-back : (bs : List (List ℕ)) → DecodeBack bs → each as_bytes (text_items (map encoded bs)) ≡ Some bs
+blobs-back : (bs : List (List ℕ)) → DecodeBack bs → each as_blob (text_items (map encoded bs)) ≡ Some bs
 blobs-back [] h = refl
 blobs-back (b ∷ bs) h = rw (h.0, blobs-back bs h.1) refl
 
@@ -206,13 +206,13 @@ bin-at [] (x ∷ xs) nsp off (r ∷ rs) text = refl
 bin-at (b ∷ bs) [] nsp off (r ∷ rs) text = refl
 bin-at (b ∷ bs) (x ∷ xs) nsp off (r ∷ rs) text = refl
 
-texts-or-none : (ts : List (List ℕ)) → list_or_none as_str (unless_empty ts) ≡ Some ts
-texts-or-none [] = refl
-texts-or-none (t ∷ ts) = texts-back (t ∷ ts)
+texts-or-empty : (ts : List (List ℕ)) → list_or_empty as_str (unless_empty ts) ≡ Some ts
+texts-or-empty [] = refl
+texts-or-empty (t ∷ ts) = texts-back (t ∷ ts)
 
-blobs-or-none : (bs : List (List ℕ)) → DecodeBack bs → list_or_none as_bytes (unless_empty (map encoded bs)) ≡ Some bs
-blobs-or-none [] h = refl
-blobs-or-none (b ∷ bs) h = blobs-back (b ∷ bs) h
+blobs-or-empty : (bs : List (List ℕ)) → DecodeBack bs → list_or_empty as_blob (unless_empty (map encoded bs)) ≡ Some bs
+blobs-or-empty [] h = refl
+blobs-or-empty (b ∷ bs) h = blobs-back (b ∷ bs) h
 
 event-back : (e : Event) → event_is_well_formed e ≡ true → DecodeBack e.bin → event_of (event_data e) ≡ Ok (Ev e)
 unfolding event_of
@@ -231,9 +231,9 @@ event-back e h bytes =
       rooms-at bin e.except e.nsp e.off e.rooms e.text,
       except-at bin e.except e.nsp e.off e.rooms e.text,
       bin-at bin e.except e.nsp e.off e.rooms e.text,
-      texts-or-none e.rooms,
-      texts-or-none e.except,
-      blobs-or-none e.bin bytes,
+      texts-or-empty e.rooms,
+      texts-or-empty e.except,
+      blobs-or-empty e.bin bytes,
       o.0,
       n.0,
       o.1,

@@ -13,8 +13,8 @@ abbrev pub is_text : List ℕ → List ℕ → Bool
 is_text = pointwise nat_eq
 
 -- the value, where it passes the test
-abbrev pub if_it : {A : Type 0} → (A → Bool) → A → Option A
-if_it test x = if test x then Some x else None
+abbrev pub passing : {A : Type 0} → (A → Bool) → A → Option A
+passing test x = if test x then Some x else None
 
 -- a byte of an offset, a pid or a sid
 abbrev pub is_visible : ℕ → Bool
@@ -24,6 +24,7 @@ is_visible b = nat_le 33 b && nat_le b 126
 abbrev pub is_id : List ℕ → Bool
 is_id = list_all is_visible
 
+-- the text begins with this byte
 abbrev pub begins_with : ℕ → List ℕ → Bool
 begins_with b [] = false
 begins_with b (x ∷ t) = x == b
@@ -32,40 +33,48 @@ begins_with b (x ∷ t) = x == b
 abbrev pub is_namespace : List ℕ → Bool
 is_namespace t = begins_with 47 t && list_all (λ b. not (b == 44)) t
 
--- ---- a field alone
+-- ---- a field alone, if it is there and is one
 
+-- a whole number from 0 to 2^64 - 1
 abbrev pub number_at : List ℕ → Data → Option ℕ
 number_at key d = option_and_then as_u64 (option_and_then as_number (get key d))
 
+-- a text
 abbrev pub text_at : List ℕ → Data → Option (List ℕ)
 text_at key d = option_and_then as_str (get key d)
 
+-- an offset, a pid or a sid
 abbrev pub id_at : List ℕ → Data → Option (List ℕ)
-id_at key d = option_and_then (if_it is_id) (text_at key d)
+id_at key d = option_and_then (passing is_id) (text_at key d)
 
+-- a namespace
 abbrev pub namespace_at : List ℕ → Data → Option (List ℕ)
-namespace_at key d = option_and_then (if_it is_namespace) (text_at key d)
+namespace_at key d = option_and_then (passing is_namespace) (text_at key d)
 
+-- null stands for none
 abbrev pub if_null : Option ⊤ → Option (List ℕ) → Option (Option (List ℕ))
 if_null (Some u) id = Some None
 if_null None id = option_map Some id
 
-abbrev pub id_or_null : Data → Option (Option (List ℕ))
-id_or_null d = if_null (as_null d) (option_and_then (if_it is_id) (as_str d))
-
 -- an id, or null, and nothing else
+abbrev pub id_or_null : Data → Option (Option (List ℕ))
+id_or_null d = if_null (as_null d) (option_and_then (passing is_id) (as_str d))
+
+-- an id or null, which must be there
 abbrev pub id_or_null_at : List ℕ → Data → Option (Option (List ℕ))
 id_or_null_at key d = option_and_then id_or_null (get key d)
 
--- the bytes that a text spells in base64, each in the one form
+-- the bytes that a text spells in base64 (RFC 4648, section 4): padded, and the unused bits zero
 abbrev pub decoded : List ℕ → Option (List ℕ)
 decoded text = result_ok (decode_of standard text)
 
-abbrev pub as_bytes : Data → Option (List ℕ)
-as_bytes d = option_and_then decoded (as_str d)
+-- bytes, as a text in base64
+abbrev pub as_blob : Data → Option (List ℕ)
+as_blob d = option_and_then decoded (as_str d)
 
+-- bytes, as a text in base64
 abbrev pub bytes_at : List ℕ → Data → Option (List ℕ)
-bytes_at key d = option_and_then as_bytes (get key d)
+bytes_at key d = option_and_then as_blob (get key d)
 
 -- ---- a list of fields
 
@@ -74,14 +83,15 @@ abbrev pub each : {A : Type 0} → (Data → Option A) → Items → Option (Lis
 each as_item no_items = Some []
 each as_item (item d ds) = option_and_then (λ x. option_map (λ xs. x ∷ xs) (each as_item ds)) (as_item d)
 
-abbrev pub list_or_none : {A : Type 0} → (Data → Option A) → Option Data → Option (List A)
-list_or_none as_item None = Some []
-list_or_none as_item (Some d) = option_and_then (each as_item) (as_array d)
+-- a list that may be absent, which is the empty one
+abbrev pub list_or_empty : {A : Type 0} → (Data → Option A) → Option Data → Option (List A)
+list_or_empty as_item None = Some []
+list_or_empty as_item (Some d) = option_and_then (each as_item) (as_array d)
 
 -- a list of texts, empty where it is absent
 abbrev pub texts_at : List ℕ → Data → Option (List (List ℕ))
-texts_at key d = list_or_none as_str (get key d)
+texts_at key d = list_or_empty as_str (get key d)
 
 -- a list of texts in base64, empty where it is absent
 abbrev pub blobs_at : List ℕ → Data → Option (List (List ℕ))
-blobs_at key d = list_or_none as_bytes (get key d)
+blobs_at key d = list_or_empty as_blob (get key d)

@@ -14,19 +14,21 @@ abbrev pub fits_if_there : Option (List ℕ) → Bool
 fits_if_there None = true
 fits_if_there (Some off) = fits max_offset off
 
--- `off` is null for the stream's begin, and may not be absent
+-- the node begins: `off` is null for the stream's begin, and may not be absent
 unfoldable pub start_of : Data → Result NodeRec InputCode
 start_of d = do
   off ← need Field (id_or_null_at (codes "off") d)
   offset_fits ← guard Limit (fits_if_there off)
   Ok (Start off)
 
+-- the node takes an entry
 unfoldable pub take_of : Data → Result NodeRec InputCode
 take_of d = do
   off ← need Field (id_at (codes "off") d)
   offset_fits ← guard Limit (fits max_offset off)
   Ok (Take off)
 
+-- a session opens
 unfoldable pub open_of : Data → Result NodeRec InputCode
 open_of d = do
   pid ← need Field (id_at (codes "pid") d)
@@ -46,9 +48,11 @@ member_of d = do
   room_fits ← guard Limit (fits max_room room)
   Ok (pid, room)
 
+-- a session joins a room
 abbrev pub join_of : Data → Result NodeRec InputCode
 join_of d = member_of d >>= (λ m. Ok (Join m.0 m.1))
 
+-- a session leaves a room
 abbrev pub leave_of : Data → Result NodeRec InputCode
 leave_of d = member_of d >>= (λ m. Ok (Leave m.0 m.1))
 
@@ -61,12 +65,15 @@ turn_of d = do
   turn_fits ← guard Limit (nat_le turn max_turn)
   Ok (pid, turn)
 
+-- a connection broke
 abbrev pub break_of : Data → Result NodeRec InputCode
 break_of d = turn_of d >>= (λ t. Ok (Broke t.0 t.1))
 
+-- a session was recovered
 abbrev pub back_of : Data → Result NodeRec InputCode
 back_of d = turn_of d >>= (λ t. Ok (Back t.0 t.1))
 
+-- a session is over
 unfoldable pub gone_of : Data → Result NodeRec InputCode
 gone_of d = do
   pid ← need Field (id_at (codes "pid") d)

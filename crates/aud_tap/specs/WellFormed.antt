@@ -10,6 +10,7 @@ use Rattle.aud_tap.specs.declared.records.Rec.TheVariants.{Header, Stream, Node,
 use Rattle.aud_tap.specs.Limits.{fits, fit_rooms, max_id, max_offset, max_room, max_namespace, max_attachments, max_turn}
 use Rattle.aud_tap.specs.Fields.{is_id, is_namespace}
 
+-- an offset
 abbrev pub is_offset : List ℕ → Bool
 is_offset t = is_id t && fits max_offset t
 
@@ -17,19 +18,24 @@ is_offset t = is_id t && fits max_offset t
 abbrev pub is_session_id : List ℕ → Bool
 is_session_id t = is_id t && fits max_id t
 
+-- a room
 abbrev pub is_room : List ℕ → Bool
 is_room = fits max_room
 
+-- a namespace
 abbrev pub is_full_namespace : List ℕ → Bool
 is_full_namespace t = is_namespace t && fits max_namespace t
 
+-- an event of the stream
 abbrev pub event_is_well_formed : Event → Bool
 event_is_well_formed e = is_offset e.off && is_full_namespace e.nsp && fit_rooms e.rooms && fit_rooms e.except && nat_le (length e.bin) max_attachments
 
+-- a record of the stream's tap
 abbrev pub stream_is_well_formed : StreamRec → Bool
 stream_is_well_formed (Ev e) = event_is_well_formed e
 stream_is_well_formed (Other off) = is_offset off
 
+-- a record of a node's tap
 abbrev pub node_is_well_formed : NodeRec → Bool
 node_is_well_formed (Start None) = true
 node_is_well_formed (Start (Some off)) = is_offset off
@@ -41,7 +47,7 @@ node_is_well_formed (Broke pid turn) = is_session_id pid && nat_le turn max_turn
 node_is_well_formed (Back pid turn) = is_session_id pid && nat_le turn max_turn
 node_is_well_formed (Gone pid) = is_session_id pid
 
--- of a client's record the types say all
+-- any record; of a client's the types say all
 abbrev pub is_well_formed : Rec → Bool
 is_well_formed (Header of v) = v == 1
 is_well_formed (Stream r) = stream_is_well_formed r

@@ -5,7 +5,7 @@ ghost use Rattle.serde_json.specs.View.{view, items_view};
 ghost use Rattle.serde_json.specs.Find.{as_str};
 ghost use Rattle.aud_tap.specs.declared.fault.InputCode.TheVariants.{Field};
 ghost use Rattle.aud_tap.specs.Steps.{Gives, need};
-ghost use Rattle.aud_tap.specs.Fields.{is_id, is_namespace, number_at, text_at, id_at, namespace_at, id_or_null, id_or_null_at, decoded, as_bytes, bytes_at, each, texts_at, blobs_at};
+ghost use Rattle.aud_tap.specs.Fields.{is_id, is_namespace, number_at, text_at, id_at, namespace_at, id_or_null, id_or_null_at, decoded, as_blob, bytes_at, each, texts_at, blobs_at};
 
 use crate::fault::{FIELD, LineFault};
 use crate::text::{Blobs, Bytes, Text, Texts};
@@ -107,8 +107,8 @@ fn decoded(alloc: Global, text: &str) -> Result<Bytes, LineFault>
     }
 }
 
-fn as_bytes(alloc: Global, d: &Value) -> Result<Bytes, LineFault>
-    ensures { Gives result (need Field (as_bytes (view d.now))) }
+fn as_blob(alloc: Global, d: &Value) -> Result<Bytes, LineFault>
+    ensures { Gives result (need Field (as_blob (view d.now))) }
 {
     let text = d.as_str().ok_or(FIELD)?;
     decoded(alloc, text)
@@ -118,7 +118,7 @@ pub fn bytes_at(alloc: Global, key: &str, d: &Value) -> Result<Bytes, LineFault>
     ensures { Gives result (need Field (bytes_at key.now (view d.now))) }
 {
     let d = d.get(key).ok_or(FIELD)?;
-    as_bytes(alloc, d)
+    as_blob(alloc, d)
 }
 
 fn texts(alloc: Global, items: &[Value]) -> Result<Texts, LineFault>
@@ -147,11 +147,11 @@ pub fn texts_at(alloc: Global, key: &str, d: &Value) -> Result<Texts, LineFault>
 }
 
 fn blobs(alloc: Global, items: &[Value]) -> Result<Blobs, LineFault>
-    ensures { Gives result (need Field (each as_bytes (items_view items.now))) }
+    ensures { Gives result (need Field (each as_blob (items_view items.now))) }
 {
     let mut blobs = Vec::new(alloc);
     for d in items {
-        let bytes = as_bytes(alloc, d)?;
+        let bytes = as_blob(alloc, d)?;
         if blobs.push(bytes).is_err() {
             return Err(LineFault::Memory);
         }

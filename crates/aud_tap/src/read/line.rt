@@ -37,7 +37,7 @@ fn json(alloc: Global, bytes: &[u8]) -> Result<Value, LineFault>
 /// The tap's name, lent, and the JSON value behind it.
 #[tactic(auto, unfolding(crate::specs::Record::opened_line))]
 pub fn opened_line(alloc: Global, line: &[u8]) -> Result<(&str, Value), LineFault>
-    ensures given { MatchResult result (λ p. opened_line line.now ≡ Ok (p.0.now, view p.1)) (λ e. Fails e (opened_line line.now)) }
+    ensures reads { MatchResult result (λ p. opened_line line.now ≡ Ok (p.0.now, view p.1)) (λ e. Fails e (opened_line line.now)) }
     ensures name { IfOk result (λ p. IsTrue (is_tap_name p.0.now)) }
 {
     if line.len() > MAX_LINE {
@@ -51,7 +51,7 @@ pub fn opened_line(alloc: Global, line: &[u8]) -> Result<(&str, Value), LineFaul
 
 #[tactic(auto, unfolding(crate::specs::Record::line_record))]
 fn parse(alloc: Global, line: &[u8]) -> Result<(String, Rec), LineFault>
-    ensures given { MatchResult result (λ p. line_record line.now ≡ Ok (string_bytes p.0, p.1)) (λ e. Fails e (line_record line.now)) }
+    ensures reads { MatchResult result (λ p. line_record line.now ≡ Ok (string_bytes p.0, p.1)) (λ e. Fails e (line_record line.now)) }
     ensures name { IfOk result (λ p. IsTrue (is_tap_name (string_bytes p.0))) }
     ensures record { IfOk result (λ p. IsTrue (is_well_formed p.1)) }
 {

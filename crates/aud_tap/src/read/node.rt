@@ -16,7 +16,7 @@ use std::alloc::Global;
 
 #[tactic(auto, unfolding(crate::specs::NodeRecord::start_of))]
 fn start(alloc: Global, d: &Value) -> Result<NodeRec, LineFault>
-    ensures given { Gives result (start_of (view d.now)) }
+    ensures reads { Gives result (start_of (view d.now)) }
     ensures formed { IfOk result (λ rec. IsTrue (node_is_well_formed rec)) }
 {
     let off = id_or_null_at("off", d).ok_or(FIELD)?;
@@ -33,7 +33,7 @@ fn start(alloc: Global, d: &Value) -> Result<NodeRec, LineFault>
 
 #[tactic(auto, unfolding(crate::specs::NodeRecord::take_of))]
 fn take(alloc: Global, d: &Value) -> Result<NodeRec, LineFault>
-    ensures given { Gives result (take_of (view d.now)) }
+    ensures reads { Gives result (take_of (view d.now)) }
     ensures formed { IfOk result (λ rec. IsTrue (node_is_well_formed rec)) }
 {
     let off = id_at("off", d).ok_or(FIELD)?;
@@ -47,7 +47,7 @@ fn take(alloc: Global, d: &Value) -> Result<NodeRec, LineFault>
 
 #[tactic(auto, unfolding(crate::specs::NodeRecord::open_of))]
 fn open(alloc: Global, d: &Value) -> Result<NodeRec, LineFault>
-    ensures given { Gives result (open_of (view d.now)) }
+    ensures reads { Gives result (open_of (view d.now)) }
     ensures formed { IfOk result (λ rec. IsTrue (node_is_well_formed rec)) }
 {
     let pid = id_at("pid", d).ok_or(FIELD)?;
@@ -66,7 +66,7 @@ fn open(alloc: Global, d: &Value) -> Result<NodeRec, LineFault>
 /// A pid and a room.
 #[tactic(auto, unfolding(crate::specs::NodeRecord::member_of))]
 fn member(alloc: Global, d: &Value) -> Result<(Text, Text), LineFault>
-    ensures given { Gives result (member_of (view d.now)) }
+    ensures reads { Gives result (member_of (view d.now)) }
     ensures formed { IfOk result (λ m. IsTrue (is_session_id m.0 && is_room m.1)) }
 {
     let pid = id_at("pid", d).ok_or(FIELD)?;
@@ -78,7 +78,7 @@ fn member(alloc: Global, d: &Value) -> Result<(Text, Text), LineFault>
 }
 
 fn join(alloc: Global, d: &Value) -> Result<NodeRec, LineFault>
-    ensures given { Gives result (join_of (view d.now)) }
+    ensures reads { Gives result (join_of (view d.now)) }
     ensures formed { IfOk result (λ rec. IsTrue (node_is_well_formed rec)) }
 {
     let (pid, room) = member(alloc, d)?;
@@ -86,7 +86,7 @@ fn join(alloc: Global, d: &Value) -> Result<NodeRec, LineFault>
 }
 
 fn leave(alloc: Global, d: &Value) -> Result<NodeRec, LineFault>
-    ensures given { Gives result (leave_of (view d.now)) }
+    ensures reads { Gives result (leave_of (view d.now)) }
     ensures formed { IfOk result (λ rec. IsTrue (node_is_well_formed rec)) }
 {
     let (pid, room) = member(alloc, d)?;
@@ -96,7 +96,7 @@ fn leave(alloc: Global, d: &Value) -> Result<NodeRec, LineFault>
 /// A pid and the number of a turn.
 #[tactic(auto, unfolding(crate::specs::NodeRecord::turn_of))]
 fn turn(alloc: Global, d: &Value) -> Result<(Text, u16), LineFault>
-    ensures given { Gives result (turn_of (view d.now)) }
+    ensures reads { Gives result (turn_of (view d.now)) }
     ensures formed { IfOk result (λ t. IsTrue (is_session_id t.0 && nat_le t.1 max_turn)) }
 {
     let pid = id_at("pid", d).ok_or(FIELD)?;
@@ -111,7 +111,7 @@ fn turn(alloc: Global, d: &Value) -> Result<(Text, u16), LineFault>
 }
 
 fn broke(alloc: Global, d: &Value) -> Result<NodeRec, LineFault>
-    ensures given { Gives result (break_of (view d.now)) }
+    ensures reads { Gives result (break_of (view d.now)) }
     ensures formed { IfOk result (λ rec. IsTrue (node_is_well_formed rec)) }
 {
     let (pid, turn) = turn(alloc, d)?;
@@ -119,7 +119,7 @@ fn broke(alloc: Global, d: &Value) -> Result<NodeRec, LineFault>
 }
 
 fn back(alloc: Global, d: &Value) -> Result<NodeRec, LineFault>
-    ensures given { Gives result (back_of (view d.now)) }
+    ensures reads { Gives result (back_of (view d.now)) }
     ensures formed { IfOk result (λ rec. IsTrue (node_is_well_formed rec)) }
 {
     let (pid, turn) = turn(alloc, d)?;
@@ -128,7 +128,7 @@ fn back(alloc: Global, d: &Value) -> Result<NodeRec, LineFault>
 
 #[tactic(auto, unfolding(crate::specs::NodeRecord::gone_of))]
 fn gone(alloc: Global, d: &Value) -> Result<NodeRec, LineFault>
-    ensures given { Gives result (gone_of (view d.now)) }
+    ensures reads { Gives result (gone_of (view d.now)) }
     ensures formed { IfOk result (λ rec. IsTrue (node_is_well_formed rec)) }
 {
     let pid = id_at("pid", d).ok_or(FIELD)?;
@@ -143,7 +143,7 @@ fn gone(alloc: Global, d: &Value) -> Result<NodeRec, LineFault>
 /// The node's record of this kind.
 #[tactic(auto, unfolding(crate::specs::NodeRecord::node_record_of))]
 pub fn node_record(alloc: Global, kind: &str, d: &Value) -> Result<NodeRec, LineFault>
-    ensures given { Gives result (node_record_of kind.now (view d.now)) }
+    ensures reads { Gives result (node_record_of kind.now (view d.now)) }
     ensures formed { IfOk result (λ rec. IsTrue (node_is_well_formed rec)) }
 {
     match kind {

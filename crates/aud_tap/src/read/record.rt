@@ -32,7 +32,7 @@ fn tap_of_kind(kind: &str) -> Option<TapKind>
 /// The record of this kind in a tap that was put on `of`.
 #[tactic(auto, unfolding(crate::specs::Record::record_in))]
 fn record_in(alloc: Global, of: TapKind, kind: &str, d: &Value) -> Result<Rec, LineFault>
-    ensures given { Gives result (record_in of kind.now (view d.now)) }
+    ensures reads { Gives result (record_in of kind.now (view d.now)) }
     ensures formed { IfOk result (λ rec. IsTrue (is_well_formed rec)) }
 {
     match of {
@@ -45,7 +45,7 @@ fn record_in(alloc: Global, of: TapKind, kind: &str, d: &Value) -> Result<Rec, L
 /// A header, or the record of this kind in whichever tap has it.
 #[tactic(auto, unfolding(crate::specs::Record::record_of))]
 fn record(alloc: Global, kind: &str, d: &Value) -> Result<Rec, LineFault>
-    ensures given { Gives result (record_of kind.now (view d.now)) }
+    ensures reads { Gives result (record_of kind.now (view d.now)) }
     ensures formed { IfOk result (λ rec. IsTrue (is_well_formed rec)) }
 {
     if kind == "tap" {
@@ -66,7 +66,7 @@ pub fn kind_of(d: &Value) -> Result<&str, LineFault>
 /// The record of a value, by what it says that it is.
 #[tactic(auto, unfolding(crate::specs::Record::value_record))]
 pub fn value_record(alloc: Global, d: &Value) -> Result<Rec, LineFault>
-    ensures given { Gives result (value_record (view d.now)) }
+    ensures reads { Gives result (value_record (view d.now)) }
     ensures formed { IfOk result (λ rec. IsTrue (is_well_formed rec)) }
 {
     let kind = kind_of(d)?;

@@ -14,7 +14,7 @@ use std::alloc::Global;
 
 #[tactic(auto, unfolding(crate::specs::StreamRecord::event_of))]
 fn event(alloc: Global, d: &Value) -> Result<StreamRec, LineFault>
-    ensures given { Gives result (event_of (view d.now)) }
+    ensures reads { Gives result (event_of (view d.now)) }
     ensures formed { IfOk result (λ rec. IsTrue (stream_is_well_formed rec)) }
 {
     let off = id_at("off", d).ok_or(FIELD)?;
@@ -44,7 +44,7 @@ fn event(alloc: Global, d: &Value) -> Result<StreamRec, LineFault>
 
 #[tactic(auto, unfolding(crate::specs::StreamRecord::other_of))]
 fn other(alloc: Global, d: &Value) -> Result<StreamRec, LineFault>
-    ensures given { Gives result (other_of (view d.now)) }
+    ensures reads { Gives result (other_of (view d.now)) }
     ensures formed { IfOk result (λ rec. IsTrue (stream_is_well_formed rec)) }
 {
     let off = id_at("off", d).ok_or(FIELD)?;
@@ -59,7 +59,7 @@ fn other(alloc: Global, d: &Value) -> Result<StreamRec, LineFault>
 /// The stream's record of this kind.
 #[tactic(auto, unfolding(crate::specs::StreamRecord::stream_record_of))]
 pub fn stream_record(alloc: Global, kind: &str, d: &Value) -> Result<StreamRec, LineFault>
-    ensures given { Gives result (stream_record_of kind.now (view d.now)) }
+    ensures reads { Gives result (stream_record_of kind.now (view d.now)) }
     ensures formed { IfOk result (λ rec. IsTrue (stream_is_well_formed rec)) }
 {
     match kind {

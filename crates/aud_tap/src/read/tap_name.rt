@@ -1,7 +1,7 @@
 //! The name of a tap, before the first blank of a line.
 ghost use Rattle.std.specs.Prelude.{◌≡◌, ◌==◌, IfSome, IsTrue, option_map, position};
 ghost use Rattle.std.specs.List.{list_all};
-ghost use Rattle.aud_tap.specs.Fields.{if_it};
+ghost use Rattle.aud_tap.specs.Fields.{passing};
 ghost use Rattle.aud_tap.specs.TapName.{is_name_byte, is_tap_name, cut_at_blank};
 
 use crate::limits::MAX_NAME;
@@ -29,7 +29,7 @@ fn is_tap_name(name: &[u8]) -> bool
 
 /// The bytes as a text, if they are a tap's name.
 pub fn tap_name(name: &[u8]) -> Option<&str>
-    ensures value { option_map (λ s. s.now) result ≡ if_it is_tap_name name.now }
+    ensures value { option_map (λ s. s.now) result ≡ passing is_tap_name name.now }
     ensures form { IfSome result (λ s. IsTrue (is_tap_name s.now)) }
 {
     if !is_tap_name(name) {
