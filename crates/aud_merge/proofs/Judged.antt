@@ -13,7 +13,7 @@ use Rattle.aud_merge.specs.ByTurns.{first_reaching, reaching_step, FallsAfter}
 use Rattle.aud_merge.specs.Due.{is_reached, states_from}
 use Rattle.aud_merge.specs.declared.step.Step.{Step}
 use Rattle.aud_merge.specs.Machine.{State, after, session_of, taken_of}
-use Rattle.aud_merge.specs.Runs.{record_count, RunsOn}
+use Rattle.aud_merge.specs.Runs.{IsFinished, RunsOn}
 use Rattle.aud_merge.specs.Sessions.{Session, Here}
 use Rattle.aud_merge.proofs.Steps.{stepped}
 use Rattle.aud_merge.proofs.Moves.{Synced, Synced-step}
@@ -70,7 +70,7 @@ module _ (c : Cluster) (who : Who) (last : ℕ) (p : ℕ) where
 
   -- at the end of the run, what isn't reached is never reached
   never : (st : State) (spot : Spot) → Holds c who last st spot → spot_reached c spot p ≡ false
-      → ((l : ℕ) → taken_of st l ≡ record_count c l) → (rooms_left c who spot p ≡ None) × (step_left c spot p ≡ None)
+      → IsFinished c st → (rooms_left c who spot p ≡ None) × (step_left c spot p ≡ None)
   never st (Waiting k held []) holds unreached finished = (refl, refl)
   never st (Waiting k held (t ∷ later)) holds unreached finished =
       let start_left : taken_of st t.node ≤ t.from = holds.1.unstarted.0 in

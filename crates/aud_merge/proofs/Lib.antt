@@ -18,3 +18,4 @@ pub mod FourTurns
 pub mod Witness
 pub mod Maps
 pub mod Merged
+pub mod Positions

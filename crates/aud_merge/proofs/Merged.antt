@@ -1,13 +1,16 @@
 -- A run from the start is a merging whose steps are allowed, and no other.
-use Rattle.std.proofs.Common.{◌≡◌, ◌+◌, ◌<◌, ℕ, zero, suc, Bool, cond, List, [], ◌∷◌, map, filter, sym, ap, subst, ◌∙◌, ◌⊎◌, inl, inr, nat_eq, refl, arith}
+use Rattle.std.proofs.Common.{Some, ◌≡◌, ◌+◌, ◌<◌, ◌≤◌, ◌↔◌, ℕ, zero, suc, Bool, true, cond, length, drop, get_or, List, [], ◌∷◌, map, filter, sym, ap, subst, ◌∙◌, ◌⊎◌, inl, inr, nat_eq, refl, arith}
 use Rattle.std.proofs.lemmas.Bool.{cases_eq, eq-eqb, ne_eqb}
+use Rattle.std.proofs.lemmas.Option.{same_Some}
+use Rattle.std.proofs.lemmas.List.{drop_all}
+use Rattle.std.proofs.Math.Seq.{drop-cons}
 use Rattle.aud_node.specs.Cluster.{Cluster}
 use Rattle.aud_node.specs.Lists.{numbers_from}
 use Rattle.aud_merge.specs.declared.step.Step.{Step}
-use Rattle.aud_merge.specs.Machine.{State, start, taken_of, taken_in}
-use Rattle.aud_merge.specs.Runs.{record_count, RunsOn, AreAllowed, IsRun}
+use Rattle.aud_merge.specs.Machine.{State, start, after, taken_of, taken_in}
+use Rattle.aud_merge.specs.Runs.{record_count, IsFinished, RunsOn, AreAllowed, IsRun}
 use Rattle.aud_merge.proofs.Steps.{Stepped, stepped}
-use Rattle.aud_merge.proofs.Moves.{steps_of, taken-start}
+use Rattle.aud_merge.proofs.Moves.{steps_of, taken-start, RunsOn-run}
 
 allowed_on : (c : Cluster) (st : State) (steps : List Step) → RunsOn c st steps → AreAllowed c st steps
 allowed_on c st [] runs = tt
@@ -52,3 +55,35 @@ run-RunsOn c run runs =
           left_of c l run (start c) (record_count c l) runs (omega (arith, none)) ∙ ap (λ n. numbers_from n (record_count c l)) none);
       allowed = allowed_on c (start c) run runs;
     }
+
+-- how it is told, step after step, whether a list is a run
+pub run-at_start : (c : Cluster) (st : State) (steps : List Step) → st ≡ start c → IsRun c steps ↔ RunsOn c st steps
+run-at_start c st steps e = (
+  λ is. subst (λ (u : State). RunsOn c u steps) (sym e) (RunsOn-run c steps is),
+  λ runs. run-RunsOn c steps (subst (λ (u : State). RunsOn c u steps) e runs),
+)
+
+pub run-goes_on : (c : Cluster) (steps run : List Step) (st next : State) (i : ℕ) (d : Step) → IsRun c run ↔ RunsOn c st (drop i steps) → i < length steps
+    → after c st (get_or steps i d) ≡ Some next → IsRun c run ↔ RunsOn c next (drop (i + 1) steps)
+run-goes_on c steps run st next i d told inside at = (
+  λ is.
+      (let (other, at', later) = subst (RunsOn c st) cut (told.0 is) in
+      subst (λ (u : State). RunsOn c u (drop (i + 1) steps)) (same_Some other next (sym at' ∙ at)) later),
+  λ later. told.1 (subst (RunsOn c st) (sym cut) (next, at, later)),
+)
+  where
+    one : suc i ≡ i + 1
+    one = omega arith
+
+    cut : drop i steps ≡ get_or steps i d ∷ drop (i + 1) steps
+    cut = drop-cons steps i d inside ∙ ap (λ n. get_or steps i d ∷ drop n steps) one
+
+pub run-is_over : (c : Cluster) (steps run : List Step) (st : State) (i : ℕ) (finished : Bool) → IsRun c run ↔ RunsOn c st (drop i steps) → length steps ≤ i
+    → finished ≡ true ↔ IsFinished c st → finished ≡ true ↔ IsRun c run
+run-is_over c steps run st i finished told past over = (
+  λ yes. told.1 (subst (RunsOn c st) (sym none) (over.0 yes)),
+  λ is. over.1 (subst (RunsOn c st) none (told.0 is)),
+)
+  where
+    none : drop i steps ≡ []
+    none = drop_all i steps past

@@ -8,6 +8,7 @@ ghost use Rattle.aud_merge.specs.Sessions.{Absent};
 ghost use Rattle.aud_merge.specs.SessionSeen.{seen_or_absent, session_seen};
 
 use crate::session::{Session, allows};
+use aud_node::pid;
 use aud_tap::{Memory, NodeRec};
 use std::alloc::Global;
 use std::collections::BTreeMap;
@@ -57,7 +58,7 @@ impl<'a> Sessions<'a> {
     pub(crate) fn allow(&self, node: usize, rec: &NodeRec) -> bool
         ensures { result ≡ is_some (sessions_after node rec.now (pid_of rec.now) self.now) }
     {
-        match pid_of(rec) {
+        match pid(rec) {
             Some(pid) => allows(self.get(pid), node, rec),
             None => true,
         }
@@ -69,7 +70,7 @@ impl<'a> Sessions<'a> {
         ensures changed { OnOk result (sessions_after node rec.now (pid_of rec.now) self.old ≡ Some self.new) }
         ensures unchanged { OnErr result (self.new ≡ self.old) }
     {
-        let Some(pid) = pid_of(rec) else {
+        let Some(pid) = pid(rec) else {
             return Ok(());
         };
         match self.map.get_mut(pid) {
@@ -86,21 +87,5 @@ impl<'a> Sessions<'a> {
             Ok(_) => Ok(()),
             Err(_) => Err(Memory),
         }
-    }
-}
-
-/// The pid that the record names.
-fn pid_of(rec: &NodeRec) -> Option<&str>
-    ensures { option_copied result ≡ pid_of rec.now }
-{
-    match rec {
-        NodeRec::Opened { pid, .. } => Some(pid.as_str()),
-        NodeRec::Join { pid, .. } => Some(pid.as_str()),
-        NodeRec::Leave { pid, .. } => Some(pid.as_str()),
-        NodeRec::Broke { pid, .. } => Some(pid.as_str()),
-        NodeRec::Back { pid, .. } => Some(pid.as_str()),
-        NodeRec::Gone { pid } => Some(pid.as_str()),
-        NodeRec::Start { .. } => None,
-        NodeRec::Take { .. } => None,
     }
 }
