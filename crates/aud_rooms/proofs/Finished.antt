@@ -17,12 +17,14 @@ use Rattle.aud_rooms.specs.Rooms.{Rooms}
 use Rattle.aud_rooms.specs.Spans.{RoomSpan, IsMaximalInterval, IsMaximal, ComesBefore, ComesBeforeAll, AreInOrder, AreSpans}
 use Rattle.aud_rooms.specs.Assigned.{covered, rooms_given, AreSpansOf}
 use Rattle.aud_rooms.specs.Times.{Times, is_in, is_held_at, AreApart, intervals_upto, span_of, spans_of}
-use Rattle.aud_rooms.specs.Building.{Entries, times_of, do_pass, rooms_with, assigned_of, AreKept, spans_upto, by_room, AreOrdered}
+use Rattle.aud_rooms.specs.RoomMap.{RoomMap, at_room, do_pass, rooms_with, by_room, AreOrdered}
+use Rattle.aud_rooms.specs.Building.{assigned_of, AreKept, spans_upto}
 use Rattle.aud_rooms.proofs.Members.{contains-none, contains-parts, contains-first, contains-later}
 use Rattle.aud_rooms.proofs.Positions.{interval_alike, spans_alike}
 use Rattle.aud_rooms.proofs.Times.{or_none}
 use Rattle.aud_rooms.proofs.Maximal.{Place, place, place_maximal, interval_of, maximal_same, closed}
-use Rattle.aud_rooms.proofs.Kept.{same_text, contains-rooms_with, covered_is}
+use Rattle.aud_rooms.proofs.RoomMaps.{same_text, contains-rooms_with}
+use Rattle.aud_rooms.proofs.Kept.{covered_is}
 
 -- ---- lists
 
@@ -104,18 +106,18 @@ module _ (low cov : ℕ) (room : Text) (t : Times) (apart : AreApart low t.ended
 -- ---- the spans of all rooms
 
 -- the entry of a room that has times
-entry_of : (es : Entries) (room : Text) (t : Times) → times_of es room ≡ Some t → (k : Bor Text) × Contains es (k, t) × (k.now ≡ room)
+entry_of : (es : RoomMap Times) (room : Text) (t : Times) → at_room es room ≡ Some t → (k : Bor Text) × Contains es (k, t) × (k.now ≡ room)
 entry_of [] room t found = absurd cc
 entry_of (e ∷ es) room t found = go (λ later. entry_of es room t later) (is_eq (slice_cmp nat_cmp room e.0.now)) refl found
   where
-    go : (times_of es room ≡ Some t → (k : Bor Text) × Contains es (k, t) × (k.now ≡ room)) → (b : Bool) → is_eq (slice_cmp nat_cmp room e.0.now) ≡ b
-        → cond b (Some e.1) (times_of es room) ≡ Some t → (k : Bor Text) × Contains (e ∷ es) (k, t) × (k.now ≡ room)
+    go : (at_room es room ≡ Some t → (k : Bor Text) × Contains es (k, t) × (k.now ≡ room)) → (b : Bool) → is_eq (slice_cmp nat_cmp room e.0.now) ≡ b
+        → cond b (Some e.1) (at_room es room) ≡ Some t → (k : Bor Text) × Contains (e ∷ es) (k, t) × (k.now ≡ room)
     go ih true same found =
         let at : e.1 ≡ t = cc in
         (e.0, subst (λ u. Contains (e ∷ es) (e.0, u)) at (contains-first e es), sym (same_text room e.0.now same))
     go ih false other found = (let (k, among, same) = ih found in (k, contains-later e es (k, t) among, same))
 
-among_entries : (cov : ℕ) (es : Entries) (s : RoomSpan) → Contains (spans_upto cov es) s → (e : (Bor Text) × Times) × Contains es e × Contains (spans_of e.0.now cov e.1) s
+among_entries : (cov : ℕ) (es : RoomMap Times) (s : RoomSpan) → Contains (spans_upto cov es) s → (e : (Bor Text) × Times) × Contains es e × Contains (spans_of e.0.now cov e.1) s
 among_entries cov [] s among = absurd (contains-none s among)
 among_entries cov (e ∷ es) s among = go (λ later. among_entries cov es s later) (contains-append (spans_of e.0.now cov e.1) (spans_upto cov es) s among)
   where
@@ -124,7 +126,7 @@ among_entries cov (e ∷ es) s among = go (λ later. among_entries cov es s late
     go ih (inl here) = (e, contains-first e es, here)
     go ih (inr later) = (let (x, among, at) = ih later in (x, contains-later e es x among, at))
 
-entries_among : (cov : ℕ) (es : Entries) (e : (Bor Text) × Times) (s : RoomSpan) → Contains es e → Contains (spans_of e.0.now cov e.1) s → Contains (spans_upto cov es) s
+entries_among : (cov : ℕ) (es : RoomMap Times) (e : (Bor Text) × Times) (s : RoomSpan) → Contains es e → Contains (spans_of e.0.now cov e.1) s → Contains (spans_upto cov es) s
 entries_among cov [] e s among at = absurd (contains-none e among)
 entries_among cov (x ∷ es) e s among at = append-contains (spans_of x.0.now cov x.1) (spans_upto cov es) s (go (λ later. entries_among cov es e s later at) (contains-parts x es e among))
   where
@@ -145,7 +147,7 @@ order-append (x ∷ xs) ys a b before =
     all [] none each = later ys each
     all (z ∷ zs) (first, rest) each = (first, all zs rest each)
 
-below_each : (k : Bor Text) (es : Entries) (e : (Bor Text) × Times) → AllByRecursion (λ y. by_room k y ≡ Less) (map (λ x. x.0) es) → Contains es e → by_room k e.0 ≡ Less
+below_each : (k : Bor Text) (es : RoomMap Times) (e : (Bor Text) × Times) → AllByRecursion (λ y. by_room k y ≡ Less) (map (λ x. x.0) es) → Contains es e → by_room k e.0 ≡ Less
 below_each k [] e all among = absurd (contains-none e among)
 below_each k (x ∷ es) e (first, rest) among = go (λ later. below_each k es e rest later) (contains-parts x es e among)
   where
@@ -157,7 +159,7 @@ module _ (low cov : ℕ) where
   room_of : (e : (Bor Text) × Times) → AreApart low e.1.ended e.1.since cov → (s : RoomSpan) → Contains (spans_of e.0.now cov e.1) s → s.room ≡ e.0.now
   room_of e apart s among = (span_maximal low cov e.0.now e.1 apart s among).0
 
-  all_in_order : (es : Entries) → AreOrdered es → ((e : (Bor Text) × Times) → Contains es e → AreApart low e.1.ended e.1.since cov)
+  all_in_order : (es : RoomMap Times) → AreOrdered es → ((e : (Bor Text) × Times) → Contains es e → AreApart low e.1.ended e.1.since cov)
       → AreInOrder (spans_upto cov es)
   unfolding IsStrictlySortedBy
   all_in_order [] sorted apart = tt
@@ -166,10 +168,10 @@ module _ (low cov : ℕ) where
       order-append (spans_of e.0.now cov e.1) (spans_upto cov es) (room_in_order low cov e.0.now e.1 one)
       (all_in_order es sorted (λ x among. apart x (contains-later e es x among)))
       (λ x y here later.
-        let (other, among, at) = among_entries cov es y later in
-        let first : x.room ≡ e.0.now = room_of e one x here in
-        let second : y.room ≡ other.0.now = room_of other (apart other (contains-later e es other among)) y at in
-        inl (ap (λ a. slice_cmp nat_cmp a y.room) first ∙ ap (slice_cmp nat_cmp e.0.now) second ∙ below_each e.0 es other below among))
+      let (other, among, at) = among_entries cov es y later in
+      let first : x.room ≡ e.0.now = room_of e one x here in
+      let second : y.room ≡ other.0.now = room_of other (apart other (contains-later e es other among)) y at in
+      inl (ap (λ a. slice_cmp nat_cmp a y.room) first ∙ ap (slice_cmp nat_cmp e.0.now) second ∙ below_each e.0 es other below among))
 
 position_at : (low count k : ℕ) → k < count → slice_get (positions_after low count) k ≡ Some (suc low + k)
 position_at low zero k h = absurd (omega arith)
@@ -185,24 +187,24 @@ by_room_total =
     }
 
 -- each entry is the one that is found under its room
-found_in : (es : Entries) → AreOrdered es → (e : (Bor Text) × Times) → Contains es e → times_of es e.0.now ≡ Some e.1
+found_in : (es : RoomMap Times) → AreOrdered es → (e : (Bor Text) × Times) → Contains es e → at_room es e.0.now ≡ Some e.1
 unfolding IsStrictlySortedBy
 found_in [] ordered e among = absurd (contains-none e among)
 found_in (x ∷ es) (below, rest) e among = go (λ later. found_in es rest e later) (contains-parts x es e among)
   where
-    go : (Contains es e → times_of es e.0.now ≡ Some e.1) → (x ≡ e) ⊎ Contains es e → times_of (x ∷ es) e.0.now ≡ Some e.1
+    go : (Contains es e → at_room es e.0.now ≡ Some e.1) → (x ≡ e) ⊎ Contains es e → at_room (x ∷ es) e.0.now ≡ Some e.1
     go ih (inl same) =
-        subst (λ (z : (Bor Text) × Times). times_of (x ∷ es) z.0.now ≡ Some z.1) same
-        (ap (λ b. cond b (Some x.1) (times_of es x.0.now)) (sym (texts_ties x.0.now x.0.now) ∙ (bytes_decides x.0.now x.0.now).1 refl))
+        subst (λ (z : (Bor Text) × Times). at_room (x ∷ es) z.0.now ≡ Some z.1) same
+        (ap (λ b. cond b (Some x.1) (at_room es x.0.now)) (sym (texts_ties x.0.now x.0.now) ∙ (bytes_decides x.0.now x.0.now).1 refl))
     go ih (inr later) =
-        ap (λ o. cond (is_eq o) (Some x.1) (times_of es e.0.now)) (by_room_total.antisymm e.0 x.0 ∙ ap ordering_reverse (below_each x.0 es e below later))
+        ap (λ o. cond (is_eq o) (Some x.1) (at_room es e.0.now)) (by_room_total.antisymm e.0 x.0 ∙ ap ordering_reverse (below_each x.0 es e below later))
         ∙ ih later
 
-module _ (low cov : ℕ) (es : Entries) (kept : AreKept low cov es) (ordered : AreOrdered es) where
+module _ (low cov : ℕ) (es : RoomMap Times) (kept : AreKept low cov es) (ordered : AreOrdered es) where
   apart_of : (e : (Bor Text) × Times) → Contains es e → AreApart low e.1.ended e.1.since cov
   apart_of e among = kept.apart e.0.now e.1 (found_in es ordered e among)
 
-  test_of : (room : Text) (t : Times) → times_of es room ≡ Some t → (p : ℕ) → is_held_at p t ≡ set.contains (rooms_with (is_held_at p) es) room
+  test_of : (room : Text) (t : Times) → at_room es room ≡ Some t → (p : ℕ) → is_held_at p t ≡ set.contains (rooms_with (is_held_at p) es) room
   test_of room t is p = sym (contains-rooms_with (is_held_at p) es room ∙ ap (do_pass (is_held_at p)) is)
 
   each : (s : RoomSpan) → Contains (spans_upto cov es) s → IsMaximal (λ p. rooms_with (is_held_at p) es) low cov s
@@ -210,20 +212,20 @@ module _ (low cov : ℕ) (es : Entries) (kept : AreKept low cov es) (ordered : A
       let (e, here, at) = among_entries cov es s among in
       let (same, maximal) = span_maximal low cov e.0.now e.1 (apart_of e here) s at in
       interval_alike (λ p. is_held_at p e.1) (λ p. set.contains (rooms_with (is_held_at p) es) s.room) low cov s.first s.last
-      (λ p _ _. test_of s.room e.1 (ap (times_of es) same ∙ found_in es ordered e here) p) maximal
+      (λ p _ _. test_of s.room e.1 (ap (at_room es) same ∙ found_in es ordered e here) p) maximal
 
   all : (s : RoomSpan) → IsMaximal (λ p. rooms_with (is_held_at p) es) low cov s → Contains (spans_upto cov es) s
-  all s maximal = go (times_of es s.room) refl
+  all s maximal = go (at_room es s.room) refl
     where
       some_at : set.contains (rooms_with (is_held_at s.first) es) s.room ≡ true
       some_at = (let some = maximal.some in maximal.held s.first (omega arith) some)
 
-      go : (o : Option Times) → times_of es s.room ≡ o → Contains (spans_upto cov es) s
+      go : (o : Option Times) → at_room es s.room ≡ o → Contains (spans_upto cov es) s
       go None is = absurd (true≢false (sym some_at ∙ contains-rooms_with (is_held_at s.first) es s.room ∙ ap (do_pass (is_held_at s.first)) is))
       go (Some t) is =
           let (k, among, same) = entry_of es s.room t is in
           let here = maximal_span low cov s.room t (kept.apart s.room t is) s.first s.last
-              (interval_alike (λ p. set.contains (rooms_with (is_held_at p) es) s.room) (λ p. is_held_at p t) low cov s.first s.last (λ p _ _. sym (test_of s.room t is p)) maximal) in
+          (interval_alike (λ p. set.contains (rooms_with (is_held_at p) es) s.room) (λ p. is_held_at p t) low cov s.first s.last (λ p _ _. sym (test_of s.room t is p)) maximal) in
           entries_among cov es (k, t) s among (subst (λ r. Contains (spans_of r cov t) s) (sym same) here)
 
   by_entries : AreSpans (λ p. rooms_with (is_held_at p) es) low cov (spans_upto cov es)
@@ -234,11 +236,11 @@ module _ (low cov : ℕ) (es : Entries) (kept : AreKept low cov es) (ordered : A
       let within : p - suc low < cov - low = omega arith in
       let same : suc low + (p - suc low) ≡ p = omega arith in
       sym (
-        ap (λ o. unwrap_or o set.empty) (
-          slice_get-map (λ q. rooms_with (is_held_at q) es) (positions_after low (cov - low)) (p - suc low)
-          ∙ ap (option_map (λ q. rooms_with (is_held_at q) es)) (position_at low (cov - low) (p - suc low) within)
-        )
-        ∙ ap (λ q. rooms_with (is_held_at q) es) same
+      ap (λ o. unwrap_or o set.empty) (
+      slice_get-map (λ q. rooms_with (is_held_at q) es) (positions_after low (cov - low)) (p - suc low)
+      ∙ ap (option_map (λ q. rooms_with (is_held_at q) es)) (position_at low (cov - low) (p - suc low) within)
+      )
+      ∙ ap (λ q. rooms_with (is_held_at q) es) same
       )
 
   pub finished : AreSpansOf (assigned_of low cov es) (spans_upto cov es)

@@ -5,6 +5,10 @@ pub mod ByTurns
 pub mod Unique
 pub mod Positions
 pub mod Times
+pub mod RoomMaps
+pub mod Ranges
+pub mod Reach
+pub mod Sweep
 pub mod Kept
 pub mod Maximal
 pub mod Finished

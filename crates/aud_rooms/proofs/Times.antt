@@ -95,8 +95,8 @@ resumed low covered is old i parts ends apart =
       same = λ p h.
           let at : is_in p i ≡ nat_lt i.after p = ap (λ b. nat_lt i.after p && b) (le-leb p i.last (omega arith)) ∙ and_true (nat_lt i.after p) in
           sym (
-            or_none (list_any (is_in p) old) ∙ ap (list_any (is_in p)) parts ∙ list_any-append (is_in p) is (i ∷ [])
-            ∙ ap (λ b. list_any (is_in p) is || b) (or_none (is_in p i) ∙ at)
+          or_none (list_any (is_in p) old) ∙ ap (list_any (is_in p)) parts ∙ list_any-append (is_in p) is (i ∷ [])
+          ∙ ap (λ b. list_any (is_in p) is || b) (or_none (is_in p i) ∙ at)
           );
     }
   where

@@ -6,4 +6,6 @@ pub mod TurnsDue
 pub mod Spans
 pub mod Assigned
 pub mod Times
+pub mod RoomMap
+pub mod Reached
 pub mod Building

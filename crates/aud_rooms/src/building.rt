@@ -67,7 +67,10 @@ impl<'a> Building<'a> {
             holding.open(self.covered);
             return Ok(());
         }
-        let Ok(_) = self.rooms.insert(room, Holding::new(self.alloc, self.covered)) else {
+        let Ok(_) = self
+            .rooms
+            .insert(room, Holding::new(self.alloc, self.covered))
+        else {
             return Err(Memory);
         };
         Ok(())

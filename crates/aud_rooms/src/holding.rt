@@ -57,7 +57,11 @@ impl Holding {
             return Ok(());
         };
         if after < covered {
-            let Ok(()) = self.ended.push(Interval { after, last: covered }) else {
+            let Ok(()) = self.ended.push(Interval {
+                after,
+                last: covered,
+            })
+            else {
                 return Err(Memory);
             };
         }
@@ -66,7 +70,12 @@ impl Holding {
     }
 
     /// Adds the spans of the room.
-    pub fn push_spans<'a>(&self, room: &'a str, covered: u64, spans: &mut Vec<Span<'a>>) -> Result<(), Memory>
+    pub fn push_spans<'a>(
+        &self,
+        room: &'a str,
+        covered: u64,
+        spans: &mut Vec<Span<'a>>,
+    ) -> Result<(), Memory>
         requires { AreApart 0 self.now.ended self.now.since covered }
         ensures { OnOk result (spans.new.items ≡ spans.old.items ++ spans_of room.now covered self.now) }
     {
@@ -75,7 +84,14 @@ impl Holding {
         }
         if let Some(after) = self.since {
             if after < covered {
-                push_span(spans, room, Interval { after, last: covered })?;
+                push_span(
+                    spans,
+                    room,
+                    Interval {
+                        after,
+                        last: covered,
+                    },
+                )?;
             }
         }
         Ok(())

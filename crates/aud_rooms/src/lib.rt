@@ -4,15 +4,21 @@
 mod addressee;
 mod builder;
 mod building;
+mod due;
 mod holding;
 mod interval;
 mod laws;
+mod reached;
 mod room_set;
 mod room_spans;
 mod span;
 
 pub use addressee::addressed;
 pub use builder::SpanBuilder;
+pub use due::due_of;
 pub use laws::{due_by_spans_of_turns, spans_are_unique, spans_go_by_positions};
 pub use room_set::RoomSet;
 pub use span::Span;
+
+#[cfg(test)]
+mod tests;

@@ -1,7 +1,8 @@
 //! The spans of all rooms.
 ghost use Rattle.std.specs.Prelude.{◌≡◌, ℕ, Some, IfOk, List};
 ghost use Rattle.aud_rooms.specs.Times.{Times, AreApart};
-ghost use Rattle.aud_rooms.specs.Building.{spans_upto, times_of, AreOrdered};
+ghost use Rattle.aud_rooms.specs.RoomMap.{at_room, AreOrdered};
+ghost use Rattle.aud_rooms.specs.Building.{spans_upto};
 
 use crate::holding::Holding;
 use crate::span::Span;
@@ -10,8 +11,12 @@ use std::alloc::Global;
 use std::collections::BTreeMap;
 
 /// The spans of all rooms, where positions are covered up to this one.
-pub fn spans_of_rooms<'a>(alloc: Global, rooms: &BTreeMap<&'a str, Holding>, covered: u64) -> Result<Vec<Span<'a>>, Memory>
-    requires { (room : List ℕ) (t : Times) → times_of rooms.now.entries room ≡ Some t → AreApart 0 t.ended t.since covered }
+pub fn spans_of_rooms<'a>(
+    alloc: Global,
+    rooms: &BTreeMap<&'a str, Holding>,
+    covered: u64,
+) -> Result<Vec<Span<'a>>, Memory>
+    requires { (room : List ℕ) (t : Times) → at_room rooms.now.entries room ≡ Some t → AreApart 0 t.ended t.since covered }
     ensures spans { IfOk result (λ spans. spans.items ≡ spans_upto covered rooms.now.entries) }
     ensures ordered { AreOrdered rooms.now.entries }
 {

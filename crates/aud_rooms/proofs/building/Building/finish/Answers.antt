@@ -15,6 +15,6 @@ returns c =
     let at = c.self.inside in
     IfOk-weaker c.spans_of_rooms.result _ _
     (λ spans is.
-      subst (λ given. AreSpansOf given spans.items) c.self.view_is
-      (subst (λ l. AreSpansOf (assigned_of at.low at.covered at.rooms.entries) l) (sym is) (finished at.low at.covered at.rooms.entries c.self.invariant c.spans_of_rooms.ensures.ordered)))
+    subst (λ given. AreSpansOf given spans.items) c.self.view_is
+    (subst (λ l. AreSpansOf (assigned_of at.low at.covered at.rooms.entries) l) (sym is) (finished at.low at.covered at.rooms.entries c.self.invariant c.spans_of_rooms.ensures.ordered)))
     c.spans_of_rooms.ensures.spans

@@ -31,11 +31,11 @@ returns c =
     let at = c.self.inside in
     let found = c.in-Some.ensures.value in
     on_ok_weaker c.shut.result (λ left.
-      assigned_shut at.low at.covered at.rooms.entries (c.get_mut.follows.lender c.shut.new.self).entries c.args.room.now c.in-Some.holding.now c.shut.new.self
-      (sym found)
-      (((c.get_mut.follows.holds c.shut.new.self).3 (subst (λ o. IsSome o) found refl)).0)
-      c.self.invariant
-      (c.shut.ensures.continues at.low (c.self.invariant.apart c.args.room.now c.in-Some.holding.now (sym found)))
-      left
-      ∙ ap (with_left c.args.room.now) c.self.view_is)
+    assigned_shut at.low at.covered at.rooms.entries (c.get_mut.follows.lender c.shut.new.self).entries c.args.room.now c.in-Some.holding.now c.shut.new.self
+    (sym found)
+    (((c.get_mut.follows.holds c.shut.new.self).3 (subst (λ o. IsSome o) found refl)).0)
+    c.self.invariant
+    (c.shut.ensures.continues at.low (c.self.invariant.apart c.args.room.now c.in-Some.holding.now (sym found)))
+    left
+    ∙ ap (with_left c.args.room.now) c.self.view_is)
     c.shut.ensures.left

@@ -1,0 +1,116 @@
+//! What is due by spans.
+ghost use Rattle.std.specs.Prelude.{◌≡◌, ◌≤◌, ◌-◌, ◌++◌, length, map, min, OnOk, IfOk};
+ghost use Rattle.std.specs.List.{filter};
+ghost use Rattle.std.specs.List.Sorted.{IsPermutation};
+ghost use Rattle.aud_node.specs.Stream.{entry, positions_after};
+ghost use Rattle.aud_rooms.specs.Rooms.{is_for};
+ghost use Rattle.aud_rooms.specs.Spans.{due_by_spans};
+ghost use Rattle.aud_rooms.specs.Reached.{AreByFirst, is_due_at};
+
+use crate::addressee::{Holds, is_for_holder};
+use crate::reached::Reached;
+use crate::span::Span;
+use aud_node::Stream;
+use aud_tap::Memory;
+use std::alloc::Global;
+
+/// The recoverable positions past `birth` up to `high` that are addressed to the namespace and to the rooms whose spans
+/// hold them, ascending. The spans may stand in any order and overlap. Each position is asked once.
+pub fn due_of(
+    alloc: Global,
+    spans: &[Span],
+    stream: &Stream,
+    nsp: &str,
+    birth: u64,
+    high: u64,
+) -> Result<Vec<u64>, Memory>
+    ensures { IfOk result (λ due. due.items ≡ due_by_spans spans.now stream.now nsp.now birth high) }
+{
+    let begins = by_first(alloc, spans)?;
+    due_by_first(alloc, &begins, stream, nsp, birth, high)
+}
+
+/// The spans in the order of their first positions.
+fn by_first<'s, 'a>(alloc: Global, spans: &'s [Span<'a>]) -> Result<Vec<&'s Span<'a>>, Memory>
+    ensures permutation { IfOk result (λ begins. IsPermutation spans.now (map (λ s. s.now) begins.items)) }
+    ensures sorted { IfOk result (λ begins. AreByFirst (map (λ s. s.now) begins.items)) }
+{
+    let mut begins = lent(alloc, spans)?;
+    let Ok(()) = begins.sort_by_key(|span| span.first) else {
+        return Err(Memory);
+    };
+    Ok(begins)
+}
+
+/// The spans, lent.
+fn lent<'s, 'a>(alloc: Global, spans: &'s [Span<'a>]) -> Result<Vec<&'s Span<'a>>, Memory>
+    ensures { IfOk result (λ lent. map (λ s. s.now) lent.items ≡ spans.now) }
+{
+    let lent = spans.iter().collect(alloc)?;
+    Ok(lent)
+}
+
+/// The same for spans in the order of their first positions: between two begins the same spans have begun.
+fn due_by_first(
+    alloc: Global,
+    begins: &[&Span],
+    stream: &Stream,
+    nsp: &str,
+    birth: u64,
+    high: u64,
+) -> Result<Vec<u64>, Memory>
+    requires { AreByFirst (map (λ s. s.now) begins.now) }
+    ensures { IfOk result (λ due. due.items ≡ due_by_spans (map (λ s. s.now) begins.now) stream.now nsp.now birth high) }
+{
+    let end = high.min(stream.entries().len() as u64);
+    let mut reached = Reached::new(alloc);
+    let mut due = Vec::new(alloc);
+    let mut at = birth;
+    for span in begins {
+        let span: &Span = *span;
+        let upto = end.min(span.first.saturating_sub(1));
+        push_due(&mut due, &mut reached, stream, nsp, at, upto)?;
+        at = at.max(upto);
+        reached.reach(span)?;
+    }
+    push_due(&mut due, &mut reached, stream, nsp, at, end)?;
+    Ok(due)
+}
+
+/// Adds what is due past `from` up to `upto`, where no span begins in between.
+fn push_due(
+    due: &mut Vec<u64>,
+    reached: &mut Reached,
+    stream: &Stream,
+    nsp: &str,
+    from: u64,
+    upto: u64,
+) -> Result<(), Memory>
+    requires { upto ≤ length stream.now }
+    ensures due { OnOk result (due.new.items
+        ≡ due.old.items ++ filter (is_due_at reached.old.last_of.entries stream.now nsp.now) (positions_after from (upto - from))) }
+    ensures reached { reached.new.last_of ≡ reached.old.last_of }
+{
+    for passed in from..upto {
+        reached.position = passed + 1;
+        if is_due(stream, nsp, reached.position, reached) {
+            let Ok(()) = due.push(reached.position) else {
+                return Err(Memory);
+            };
+        }
+    }
+    Ok(())
+}
+
+/// Whether the entry at the position is recoverable and addressed to the namespace and the rooms.
+fn is_due<H: Holds>(stream: &Stream, nsp: &str, position: u64, rooms: &H) -> bool
+    ensures { result ≡ is_for (entry stream.now position) nsp.now (H.rooms rooms.now) }
+{
+    if !stream.recoverable(position) {
+        return false;
+    }
+    match stream.entry(position) {
+        Some(entry) => is_for_holder(entry, nsp, rooms),
+        None => false,
+    }
+}
