@@ -7,6 +7,7 @@
 mod choice;
 mod decide;
 mod input;
+mod output;
 mod program;
 mod report;
 mod streams;

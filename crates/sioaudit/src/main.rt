@@ -3,8 +3,8 @@
 
 use aud_app::{RunFault, Status, Watched, options, run};
 use clap::error::ErrorKind;
-use std::env;
 use std::process::ExitCode;
+use std::{env, io};
 
 /// The exit status of a run that wrote its output.
 fn status_code(status: Status) -> ExitCode {
@@ -44,10 +44,20 @@ fn refuse(rt: &(impl Print + Eprint), error: &clap::Error) -> ExitCode {
     }
 }
 
+/// Says why the words could not be read.
+fn unreadable(rt: &impl Eprint, error: &io::Error) -> ExitCode {
+    if error.kind() == io::ErrorKind::OutOfMemory {
+        return fail(rt, RunFault::Memory);
+    }
+    let _ = eprintln!(rt; "error: a word is not UTF-8");
+    ExitCode::from(4)
+}
+
 fn main(rt: HostRuntime) -> ExitCode {
     let alloc = rt.alloc();
-    let Ok(args) = env::args(&rt) else {
-        return ExitCode::from(4);
+    let args = match env::args(&rt) {
+        Ok(args) => args,
+        Err(error) => return unreadable(&rt, &error),
     };
     let Ok(owned) = args.skip(1).collect::<Vec<String>>(alloc) else {
         return fail(&rt, RunFault::Memory);
