@@ -1,5 +1,6 @@
 -- The record of a line.
-use Rattle.std.specs.Prelude.{ℕ, ◌||◌, nat_le, List, length, codes, Bool, Option, Some, None, Result, Ok, Err, if◌then◌else◌}
+use Rattle.std.specs.Prelude.{ℕ, nat_le, List, [], ◌∷◌, length, codes, Bool, Option, Some, None, Result, Ok, Err, if◌then◌else◌}
+use Rattle.std.specs.List.{list_any}
 use Rattle.std.specs.Str.{is_utf8}
 use Rattle.serde_json.specs.Data.{Data}
 use Rattle.serde_json.specs.Read.{read}
@@ -35,12 +36,29 @@ opened_line line = do
 abbrev pub kind_of : Data → Result (List ℕ) InputCode
 kind_of d = need Field (text_at (codes "k") d)
 
+-- the kinds of record of a stream, a node and a client
+abbrev pub stream_kinds : List (List ℕ)
+stream_kinds = codes "ev" ∷ codes "other" ∷ []
+
+abbrev pub node_kinds : List (List ℕ)
+node_kinds =
+    codes "start" ∷ codes "take" ∷ codes "open" ∷ codes "join" ∷ codes "leave" ∷ codes "break"
+    ∷ codes "back" ∷ codes "gone" ∷ []
+
+abbrev pub client_kinds : List (List ℕ)
+client_kinds =
+    codes "conn" ∷ codes "in" ∷ codes "inb" ∷ codes "poll" ∷ codes "out" ∷ codes "lost" ∷ []
+
+-- the text is one of these
+abbrev pub is_one_of : List (List ℕ) → List ℕ → Bool
+is_one_of words t = list_any (is_text t) words
+
 -- the kind of tap that has records of this kind
 abbrev pub tap_of_kind : List ℕ → Option TapKind
 tap_of_kind kind =
-    if is_text kind (codes "ev") || is_text kind (codes "other") then Some tap.Stream
-    else (if is_text kind (codes "start") || is_text kind (codes "take") || is_text kind (codes "open") || is_text kind (codes "join") || is_text kind (codes "leave") || is_text kind (codes "break") || is_text kind (codes "back") || is_text kind (codes "gone") then Some tap.Node
-    else (if is_text kind (codes "conn") || is_text kind (codes "in") || is_text kind (codes "inb") || is_text kind (codes "poll") || is_text kind (codes "out") || is_text kind (codes "lost") then Some tap.Client
+    if is_one_of stream_kinds kind then Some tap.Stream
+    else (if is_one_of node_kinds kind then Some tap.Node
+    else (if is_one_of client_kinds kind then Some tap.Client
     else None))
 
 -- the record of this kind in a tap that was put on this

@@ -28,7 +28,9 @@ is_full_namespace t = is_namespace t && fits max_namespace t
 
 -- an event of the stream
 abbrev pub event_is_well_formed : Event → Bool
-event_is_well_formed e = is_offset e.off && is_full_namespace e.nsp && fit_rooms e.rooms && fit_rooms e.except && nat_le (length e.bin) max_attachments
+event_is_well_formed e =
+    is_offset e.off && is_full_namespace e.nsp && fit_rooms e.rooms && fit_rooms e.except
+    && nat_le (length e.bin) max_attachments
 
 -- a record of the stream's tap
 abbrev pub stream_is_well_formed : StreamRec → Bool

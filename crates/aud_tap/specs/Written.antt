@@ -88,7 +88,10 @@ tap_word tap.Client = codes "client"
 
 -- `{"k":"tap","of":..,"v":..}`
 abbrev pub header_data : TapKind → ℕ → Data
-header_data of v = object (text_member (codes "k") (codes "tap") (text_member (codes "of") (tap_word of) (number_member (codes "v") v no_members)))
+header_data of v =
+    object (text_member (codes "k") (codes "tap")
+    (text_member (codes "of") (tap_word of)
+    (number_member (codes "v") v no_members)))
 
 -- `{"bin":[..],"except":[..],"k":"ev","nsp":..,"off":..,"rooms":[..],"text":..}`
 abbrev pub event_data : Event → Data
@@ -138,7 +141,9 @@ turn_data kind pid turn =
 
 -- `{"k":"gone","pid":..}`
 abbrev pub gone_data : List ℕ → Data
-gone_data pid = object (text_member (codes "k") (codes "gone") (text_member (codes "pid") pid no_members))
+gone_data pid =
+    object (text_member (codes "k") (codes "gone")
+    (text_member (codes "pid") pid no_members))
 
 -- a record of a node's tap
 abbrev pub node_data : NodeRec → Data

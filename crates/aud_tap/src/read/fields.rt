@@ -5,7 +5,10 @@ ghost use Rattle.serde_json.specs.View.{view, items_view};
 ghost use Rattle.serde_json.specs.Find.{as_str};
 ghost use Rattle.aud_tap.specs.declared.fault.InputCode.TheVariants.{Field};
 ghost use Rattle.aud_tap.specs.Steps.{Gives, need};
-ghost use Rattle.aud_tap.specs.Fields.{is_id, is_namespace, number_at, text_at, id_at, namespace_at, id_or_null, id_or_null_at, decoded, as_blob, bytes_at, each, texts_at, blobs_at};
+ghost use Rattle.aud_tap.specs.Fields.{is_id, is_namespace};
+ghost use Rattle.aud_tap.specs.Fields.{number_at, text_at, id_at, namespace_at};
+ghost use Rattle.aud_tap.specs.Fields.{id_or_null, id_or_null_at, decoded, as_blob, bytes_at};
+ghost use Rattle.aud_tap.specs.Fields.{each, texts_at, blobs_at};
 
 use crate::fault::{FIELD, LineFault};
 use crate::text::{Blobs, Bytes, Text, Texts};
@@ -90,7 +93,8 @@ fn id_or_null(d: &Value) -> Option<Option<&str>>
 
 /// An offset, or null for none.
 pub fn id_or_null_at<'v>(key: &str, d: &'v Value) -> Option<Option<&'v str>>
-    ensures value { option_map (option_map (λ s. s.now)) result ≡ id_or_null_at key.now (view d.now) }
+    ensures value { option_map (option_map (λ s. s.now)) result
+        ≡ id_or_null_at key.now (view d.now) }
     ensures form { IfSome result (λ o. IfSome o (λ s. IsTrue (is_id s.now))) }
 {
     d.get(key).and_then(id_or_null)

@@ -23,7 +23,9 @@ const NOT_JSON: LineFault = LineFault::Code(InputCode::NotJson);
 
 /// The value of JSON text.
 fn json(alloc: Global, bytes: &[u8]) -> Result<Value, LineFault>
-    ensures { MatchResult result (λ v. json_of bytes.now ≡ Ok (view v)) (λ e. Fails e (json_of bytes.now)) }
+    ensures { MatchResult result
+        (λ v. json_of bytes.now ≡ Ok (view v))
+        (λ e. Fails e (json_of bytes.now)) }
 {
     match Value::from_slice(alloc, bytes) {
         Ok(value) => Ok(value),
@@ -37,7 +39,9 @@ fn json(alloc: Global, bytes: &[u8]) -> Result<Value, LineFault>
 /// The tap's name, lent, and the JSON value behind it.
 #[tactic(auto, unfolding(crate::specs::Record::opened_line))]
 pub fn opened_line(alloc: Global, line: &[u8]) -> Result<(&str, Value), LineFault>
-    ensures reads { MatchResult result (λ p. opened_line line.now ≡ Ok (p.0.now, view p.1)) (λ e. Fails e (opened_line line.now)) }
+    ensures reads { MatchResult result
+        (λ p. opened_line line.now ≡ Ok (p.0.now, view p.1))
+        (λ e. Fails e (opened_line line.now)) }
     ensures name { IfOk result (λ p. IsTrue (is_tap_name p.0.now)) }
 {
     if line.len() > MAX_LINE {
@@ -51,7 +55,9 @@ pub fn opened_line(alloc: Global, line: &[u8]) -> Result<(&str, Value), LineFaul
 
 #[tactic(auto, unfolding(crate::specs::Record::line_record))]
 fn parse(alloc: Global, line: &[u8]) -> Result<(String, Rec), LineFault>
-    ensures reads { MatchResult result (λ p. line_record line.now ≡ Ok (string_bytes p.0, p.1)) (λ e. Fails e (line_record line.now)) }
+    ensures reads { MatchResult result
+        (λ p. line_record line.now ≡ Ok (string_bytes p.0, p.1))
+        (λ e. Fails e (line_record line.now)) }
     ensures name { IfOk result (λ p. IsTrue (is_tap_name (string_bytes p.0))) }
     ensures record { IfOk result (λ p. IsTrue (is_well_formed p.1)) }
 {
@@ -69,7 +75,8 @@ fn parse(alloc: Global, line: &[u8]) -> Result<(String, Rec), LineFault>
 /// Unknown keys are passed over, and of a key that stands twice the last value counts.
 pub fn parse_line(alloc: Global, line: &Line) -> Result<(String, Rec), ReadFault>
     ensures read { IfOk result (λ p. line_record line.now.bytes ≡ Ok (string_bytes p.0, p.1)) }
-    ensures refused { IfErr result (λ e. IsRefusal line.now.number e (line_record line.now.bytes)) }
+    ensures refused { IfErr result
+        (λ e. IsRefusal line.now.number e (line_record line.now.bytes)) }
 
     // what `write_line` asks for
     ensures name { IfOk result (λ p. IsTrue (is_tap_name (string_bytes p.0))) }

@@ -4,7 +4,9 @@ ghost use Rattle.serde_json.specs.View.{view};
 ghost use Rattle.aud_tap.specs.Limits.{max_turn};
 ghost use Rattle.aud_tap.specs.WellFormed.{is_session_id, is_room, node_is_well_formed};
 ghost use Rattle.aud_tap.specs.Steps.{Gives};
-ghost use Rattle.aud_tap.specs.NodeRecord.{start_of, take_of, open_of, member_of, join_of, leave_of, turn_of, break_of, back_of, gone_of, node_record_of};
+ghost use Rattle.aud_tap.specs.NodeRecord.{start_of, take_of, open_of, member_of, join_of};
+ghost use Rattle.aud_tap.specs.NodeRecord.{leave_of, turn_of, break_of, back_of, gone_of};
+ghost use Rattle.aud_tap.specs.NodeRecord.{node_record_of};
 
 use super::fields::{copied, id_at, id_or_null_at, namespace_at, number_at, text_at};
 use crate::fault::{FIELD, LIMIT, LineFault, UNKNOWN_KIND};

@@ -58,7 +58,9 @@ fn record(alloc: Global, kind: &str, d: &Value) -> Result<Rec, LineFault>
 
 /// What an object says that it is.
 pub fn kind_of(d: &Value) -> Result<&str, LineFault>
-    ensures { MatchResult result (λ k. kind_of (view d.now) ≡ Ok k.now) (λ e. Fails e (kind_of (view d.now))) }
+    ensures { MatchResult result
+        (λ k. kind_of (view d.now) ≡ Ok k.now)
+        (λ e. Fails e (kind_of (view d.now))) }
 {
     text_at("k", d).ok_or(FIELD)
 }

@@ -29,7 +29,8 @@ pub fn encoded(alloc: Global, bytes: &[u8]) -> Result<String, AllocError>
 }
 
 pub fn blobs(alloc: Global, blobs: &[Bytes]) -> Result<Vec<Value>, AllocError>
-    ensures list { IfOk result (λ list. items_view list.items ≡ text_items (list_map encoded blobs.now)) }
+    ensures list { IfOk result
+        (λ list. items_view list.items ≡ text_items (list_map encoded blobs.now)) }
     ensures back { IfOk result (λ list. DecodeBack blobs.now) }
 {
     let mut list = Vec::new(alloc);
@@ -47,7 +48,8 @@ pub fn with_text(
     key: &str,
     text: &str,
 ) -> Result<Map<String, Value>, AllocError>
-    ensures { IfOk result (λ new. members_view new.entries ≡ put key.now (string text.now) (members_view members.entries)) }
+    ensures { IfOk result (λ new. members_view new.entries
+        ≡ put key.now (string text.now) (members_view members.entries)) }
 {
     let value = Value::try_from_str(alloc, text)?;
     serde_json::put(&mut members, alloc, key, value)?;
@@ -61,7 +63,8 @@ pub fn with_list(
     key: &str,
     list: Vec<Value>,
 ) -> Result<Map<String, Value>, AllocError>
-    ensures { IfOk result (λ new. members_view new.entries ≡ put_unless_empty key.now (items_view list.items) (members_view members.entries)) }
+    ensures { IfOk result (λ new. members_view new.entries
+        ≡ put_unless_empty key.now (items_view list.items) (members_view members.entries)) }
 {
     if list.as_slice().is_empty() {
         return Ok(members);

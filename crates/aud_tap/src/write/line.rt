@@ -47,7 +47,8 @@ fn record_value(alloc: Global, rec: &Rec) -> Result<Value, AllocError>
 
 fn record_json(alloc: Global, rec: &Rec) -> Result<String, AllocError>
     ensures text { IfOk result (λ json. string_bytes json ≡ compact_text (record_data rec.now)) }
-    ensures reads { IfOk result (λ json. json_of (string_bytes json) ≡ Ok (record_data rec.now)) }
+    ensures reads { IfOk result
+        (λ json. json_of (string_bytes json) ≡ Ok (record_data rec.now)) }
     ensures back { IfOk result (λ json. DecodeBack (bytes_of rec.now)) }
 {
     let value = record_value(alloc, rec)?;
@@ -56,7 +57,8 @@ fn record_json(alloc: Global, rec: &Rec) -> Result<String, AllocError>
 
 fn line_bytes(alloc: Global, name: &str, rec: &Rec) -> Result<Vec<u8>, AllocError>
     ensures bytes { IfOk result (λ line. line.items ≡ line_text name.now rec.now) }
-    ensures reads { IfOk result (λ line. json_of (compact_text (record_data rec.now)) ≡ Ok (record_data rec.now)) }
+    ensures reads { IfOk result
+        (λ line. json_of (compact_text (record_data rec.now)) ≡ Ok (record_data rec.now)) }
     ensures back { IfOk result (λ line. DecodeBack (bytes_of rec.now)) }
 {
     let json = record_json(alloc, rec)?;
