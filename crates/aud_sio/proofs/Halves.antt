@@ -1,13 +1,12 @@
 -- What an assembler gives that holds a packet which awaits attachments.
-use Rattle.std.proofs.Common.{◌≡◌, ◌+◌, ◌-◌, ◌<◌, ℕ, suc, List, [], ◌∷◌, ◌++◌, length, map, Option, Some, None, Ok, Err, refl, ◌∙◌, arith}
+use Rattle.std.proofs.Common.{◌≡◌, ◌+◌, ◌-◌, ◌<◌, ℕ, suc, List, [], ◌∷◌, ◌++◌, length, map, Option, Some, None, is_some, true, Ok, Err, refl, ◌∙◌, arith}
 use Rattle.std.proofs.lemmas.List.{length-map}
 use Rattle.aud_sio.specs.declared.fault.SioFault.TheVariants.{TextWhileBinary}
 use Rattle.aud_sio.specs.declared.whole.Whole.{Whole}
 use Rattle.aud_sio.specs.declared.half.Half.{Half}
 use Rattle.aud_sio.specs.Packet.{view, packet_of}
 use Rattle.aud_sio.specs.Message.{Message, Text}
-use Rattle.aud_sio.specs.Wholes.{wholes_of}
-use Rattle.aud_sio.specs.Assembly.{blob_view, whole_view, messages_of_whole, messages_held, wholes_after, gives_with, Waits}
+use Rattle.aud_sio.specs.Assembly.{blob_view, whole_view, messages_of_whole, messages_held, wholes_after, gives_with, Continues, Waits}
 use Rattle.aud_sio.proofs.Assembling.{held, ends_early, text_among}
 
 -- so many attachments are awaited, less one
@@ -29,8 +28,9 @@ half_waits None = refl
 half_waits (Some half) = whole_waits half.whole half.read half.awaits
 
 -- a text while attachments are awaited
-pub text_held : (half : Half) (place : ℕ) (text : List ℕ) (l : List (ℕ × Message))
-    → wholes_after (messages_of_whole half.whole) ((place, Text text) ∷ l) ≡ (place, Err TextWhileBinary) ∷ wholes_of l
-text_held half place text l =
+pub text_held : (half : Option Half) (text : List ℕ) → is_some half ≡ true
+    → Continues (messages_held half) (Text text ∷ []) (Err TextWhileBinary ∷ []) []
+text_held None text awaits = absurd (cc awaits)
+text_held (Some half) text awaits = λ place l.
     whole_held half.whole ((place, Text text) ∷ l) half.read half.awaits
     ∙ text_among 0 place (whole_view half.whole) (after_next half.whole) text l

@@ -74,10 +74,10 @@ impl<'a> Assembler<'a> {
         ensures rest_refused { IfErr result (λ _. self.new ≡ []) }
         ensures rest_given { IfOk result (λ whole. IsSome whole → self.new ≡ []) }
     {
-        match half {
-            Some(_) => Err(SioFault::TextWhileBinary),
-            None => self.begin(text),
+        if half.is_some() {
+            return Err(SioFault::TextWhileBinary);
         }
+        self.begin(text)
     }
 
     fn begin(&mut self, text: &'a str) -> Result<Option<Whole<'a>>, SioFault>
@@ -87,14 +87,12 @@ impl<'a> Assembler<'a> {
         ensures rest_refused { IfErr result (λ _. self.new ≡ []) }
         ensures rest_given { IfOk result (λ whole. IsSome whole → self.new ≡ []) }
     {
-        match decode(self.alloc, text) {
-            Ok(packet) => Ok(self.keep(Whole {
-                text,
-                packet,
-                bin: Vec::new(self.alloc),
-            })),
-            Err(fault) => Err(fault),
-        }
+        let packet = match decode(self.alloc, text) {
+            Ok(packet) => packet,
+            Err(fault) => return Err(fault),
+        };
+        let bin = Vec::new(self.alloc);
+        Ok(self.keep(Whole { text, packet, bin }))
     }
 
     fn take_bytes(
