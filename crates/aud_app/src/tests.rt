@@ -154,13 +154,15 @@ fn words_that_are_accepted(rt: HostRuntime) -> Result<(), Fail> {
     Ok(())
 }
 
+static NO_WORDS: [&str; 0] = [];
+
 #[test]
 fn words_that_are_refused(rt: HostRuntime) -> Result<(), Fail> {
     for (words, text) in [
         (["audit", "--workers", "65"].as_slice(), "65"),
         (["audit", "--workers", "0"].as_slice(), "0"),
         (["prove"].as_slice(), "prove"),
-        ([].as_slice(), "Usage"),
+        (NO_WORDS.as_slice(), "Usage"),
         (["--help"].as_slice(), "Exit status"),
         (["audit", "--help"].as_slice(), "--workers"),
     ] {

@@ -1,5 +1,5 @@
 //! A reader and a writer over memory that fail at a given call, and take few bytes a call or none.
-ghost use Rattle.std.specs.Prelude.{Some};
+ghost use Rattle.std.specs.Prelude.{Some, None};
 
 use std::alloc::Global;
 use std::io::{self, ErrorKind, Read, Write};
@@ -21,7 +21,7 @@ impl<'a> TestReader<'a> {
 }
 
 impl Read for TestReader<'_> {
-    ghost remaining = { λ r. Some r.bytes.now };
+    ghost remaining = { λ _. None };
 
     fn read(&mut self, buf: &mut [u8]) -> io::Result<usize> {
         if self.calls_left == 0 {
