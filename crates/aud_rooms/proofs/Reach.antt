@@ -17,10 +17,6 @@ use Rattle.aud_rooms.specs.Reached.{reaches, HasReached, AreByFirst}
 use Rattle.aud_rooms.proofs.Times.{or_none, or_false}
 use Rattle.aud_rooms.proofs.RoomMaps.{same_text, contains-rooms_with, same_rooms}
 
--- nothing has begun
-pub reached_none : (es : RoomMap ℕ) → es ≡ [] → HasReached es []
-reached_none es none = subst (λ e. HasReached e []) (sym none) (record { same = λ room p. refl })
-
 -- one more span begins
 module _ (olds news : RoomMap ℕ) (begun : List RoomSpan) (s : RoomSpan) (was : HasReached olds begun) (room_is : Text) (is : room_is ≡ s.room) (last : ℕ)
     (updates : (q : Bor Text) → at_room news q.now ≡ cond (is_eq (slice_cmp nat_cmp room_is q.now)) (Some last) (at_room olds q.now))

@@ -15,6 +15,7 @@ pub record Times : Type 0 where
 abbrev pub is_in : ℕ → Interval → Bool
 is_in p i = nat_lt i.after p && nat_le p i.last
 
+-- the position is past that one, if there is one
 abbrev pub is_past : ℕ → Option ℕ → Bool
 is_past p None = false
 is_past p (Some after) = nat_lt after p
