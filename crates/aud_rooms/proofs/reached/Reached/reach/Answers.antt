@@ -1,4 +1,4 @@
-use Rattle.std.proofs.Common.{◌≡◌, ℕ, List, ◌++◌, ◌∷◌, [], ◌||◌, nat_le, sym, ap, subst, ◌∙◌}
+use Rattle.std.proofs.Common.{◌≡◌, ℕ, ◌++◌, ◌∷◌, [], ◌||◌, nat_le, sym, ap, subst, ◌∙◌}
 use Rattle.std.specs.Cow.{cow_str_bytes}
 use Rattle.aud_rooms.specs.Spans.{RoomSpan}
 use Rattle.aud_rooms.specs.RoomMap.{at_room, do_pass}
