@@ -1,9 +1,8 @@
 -- The spans of what the builder kept are the spans of the rooms that it gave to positions.
 use Rattle.std.proofs.Common.{◌≡◌, ◌<◌, ◌≤◌, ◌+◌, ◌-◌, ℕ, zero, suc, Bool, true, false, cond, List, [], ◌∷◌, ◌++◌, map, Option, Some, None, refl, sym, ap, subst, ◌∙◌, ◌⊎◌, inl, inr, arith, true≢false}
-use Rattle.std.specs.List.{Contains, AllByRecursion, slice_get, list_any, flat_map}
+use Rattle.std.specs.List.{Contains, AllByRecursion, slice_get, list_any}
 use Rattle.std.specs.List.Sorted.{IsStrictlySortedBy}
 use Rattle.std.specs.Ordering.{nat_cmp, is_eq, ordering_reverse}
-use Rattle.std.specs.declared.cmp.Ordering.{Ordering}
 use Rattle.std.specs.declared.cmp.Ordering.TheVariants.{Less}
 use Rattle.std.specs.Cmp.{IsTotalOrder}
 use Rattle.std.specs.Cmp.Lexicographic.{slice_cmp, nat_list_cmp_total, texts_ties, bytes_decides}
@@ -13,16 +12,15 @@ use Rattle.std.specs.FinSet as set
 use denote.Ref.{Bor}
 use Rattle.aud_node.specs.Stream.{Text, positions_after}
 use Rattle.aud_rooms.specs.declared.interval.Interval.{Interval}
-use Rattle.aud_rooms.specs.Rooms.{Rooms}
 use Rattle.aud_rooms.specs.Spans.{RoomSpan, IsMaximalInterval, IsMaximal, ComesBefore, ComesBeforeAll, AreInOrder, AreSpans}
-use Rattle.aud_rooms.specs.Assigned.{covered, rooms_given, AreSpansOf}
+use Rattle.aud_rooms.specs.Assigned.{rooms_given, AreSpansOf}
 use Rattle.aud_rooms.specs.Times.{Times, is_in, is_held_at, AreApart, intervals_upto, span_of, spans_of}
 use Rattle.aud_rooms.specs.RoomMap.{RoomMap, at_room, do_pass, rooms_with, by_room, AreOrdered}
 use Rattle.aud_rooms.specs.Building.{assigned_of, AreKept, spans_upto}
 use Rattle.aud_rooms.proofs.Members.{contains-none, contains-parts, contains-first, contains-later}
 use Rattle.aud_rooms.proofs.Positions.{interval_alike, spans_alike}
 use Rattle.aud_rooms.proofs.Times.{or_none}
-use Rattle.aud_rooms.proofs.Maximal.{Place, place, place_maximal, interval_of, maximal_same, closed}
+use Rattle.aud_rooms.proofs.Maximal.{place, place_maximal, interval_of, maximal_same, closed}
 use Rattle.aud_rooms.proofs.RoomMaps.{same_text, contains-rooms_with}
 use Rattle.aud_rooms.proofs.Kept.{covered_is}
 

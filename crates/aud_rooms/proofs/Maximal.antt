@@ -1,13 +1,13 @@
 -- Intervals apart from one another are the maximal intervals of the positions in them.
-use Rattle.std.proofs.Common.{◌≡◌, ◌<◌, ◌≤◌, ◌-◌, ℕ, zero, suc, Bool, true, false, ◌||◌, ◌&&◌, List, [], ◌∷◌, ◌++◌, Option, Some, None, cond, refl, sym, ap, subst, ◌∙◌, ◌⊎◌, inl, inr, nat_lt, nat_le, arith, true≢false}
+use Rattle.std.proofs.Common.{◌≡◌, ◌<◌, ◌≤◌, ◌-◌, ℕ, suc, Bool, true, false, ◌||◌, ◌&&◌, List, [], ◌∷◌, ◌++◌, Option, Some, None, cond, refl, sym, ap, subst, ◌∙◌, ◌⊎◌, inl, inr, nat_lt, nat_le, arith, true≢false}
 use Rattle.std.specs.List.{Contains, list_any}
 use Rattle.std.proofs.lemmas.Bool.{leb-true, leb-false}
 use Rattle.std.proofs.lemmas.List.{append-nil}
 use Rattle.aud_rooms.specs.declared.interval.Interval.{Interval}
 use Rattle.aud_rooms.specs.Spans.{IsMaximalInterval}
-use Rattle.aud_rooms.specs.Times.{Times, is_in, is_held_at, AreApart, Continues, intervals_upto, open_interval}
+use Rattle.aud_rooms.specs.Times.{Times, is_in, AreApart, Continues, intervals_upto, open_interval}
 use Rattle.aud_rooms.proofs.Members.{contains-none, contains-parts, contains-first, contains-later}
-use Rattle.aud_rooms.proofs.Times.{lt_true, lt_false, or_none, or_false, before, behind, inside, none_before, ended, unused}
+use Rattle.aud_rooms.proofs.Times.{or_false, before, behind, inside, none_before, ended, unused}
 
 -- the open interval ends with the covered positions
 closed_parts : (low covered : ℕ) (is : List Interval) (since : Option ℕ) → AreApart low is since covered

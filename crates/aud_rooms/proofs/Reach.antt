@@ -1,5 +1,5 @@
 -- The rooms at a position, by the spans that have begun.
-use Rattle.std.proofs.Common.{◌≡◌, ◌<◌, ◌≤◌, ◌+◌, ◌-◌, ℕ, zero, suc, Bool, true, false, cond, ◌||◌, ◌&&◌, List, [], ◌∷◌, ◌++◌, map, filter, length, min, max, get_or, Option, Some, None, refl, sym, ap, subst, ◌∙◌, nat_le, arith}
+use Rattle.std.proofs.Common.{◌≡◌, ◌<◌, ◌≤◌, ℕ, suc, Bool, true, false, cond, ◌||◌, ◌&&◌, List, [], ◌∷◌, ◌++◌, map, filter, length, max, get_or, Option, Some, None, refl, sym, ap, ◌∙◌, nat_le, arith}
 use Rattle.std.specs.List.{AllByRecursion, list_any}
 use Rattle.std.specs.List.Sorted.{IsNonDecreasingBy}
 use Rattle.std.specs.Ordering.{nat_cmp, is_eq, eq_by_cmp}
@@ -10,16 +10,11 @@ use Rattle.std.proofs.lemmas.Bool.{le-leb, lt-leb, leb-true, leb-false}
 use Rattle.std.proofs.lemmas.List.Folds.{list_any-append}
 use denote.Ref.{Bor}
 use Rattle.aud_node.specs.Stream.{Text}
-use Rattle.aud_rooms.specs.Rooms.{Rooms}
 use Rattle.aud_rooms.specs.Spans.{RoomSpan, is_within, rooms_by_spans}
 use Rattle.aud_rooms.specs.RoomMap.{RoomMap, at_room, do_pass, rooms_with}
 use Rattle.aud_rooms.specs.Reached.{reaches, HasReached, AreByFirst}
 use Rattle.aud_rooms.proofs.Times.{or_none, or_false}
 use Rattle.aud_rooms.proofs.RoomMaps.{same_text, contains-rooms_with, same_rooms}
-
--- nothing has begun
-pub reached_none : (es : RoomMap ℕ) → es ≡ [] → HasReached es []
-reached_none es none = subst (λ e. HasReached e []) (sym none) (record { same = λ room p. refl })
 
 -- one more span begins
 module _ (olds news : RoomMap ℕ) (begun : List RoomSpan) (s : RoomSpan) (was : HasReached olds begun) (room_is : Text) (is : room_is ≡ s.room) (last : ℕ)

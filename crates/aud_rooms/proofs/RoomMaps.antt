@@ -1,21 +1,13 @@
 -- The rooms of which something is kept that passes a test.
-use Rattle.std.proofs.Common.{◌≡◌, ◌<◌, ◌≤◌, ◌+◌, ◌-◌, ℕ, zero, suc, Bool, true, false, cond, ◌||◌, ◌&&◌, not, List, [], ◌∷◌, ◌++◌, map, filter, length, replicate, Option, Some, None, refl, sym, ap, subst, ◌∙◌, zero-add, add-zero, arith}
-use Rattle.std.proofs.lemmas.List.{append-nil, length-map}
+use Rattle.std.proofs.Common.{◌≡◌, Bool, true, false, cond, ◌||◌, ◌&&◌, List, [], ◌∷◌, map, filter, Option, Some, None, refl, sym, ap, ◌∙◌}
 use Rattle.std.specs.List.{list_any}
 use Rattle.std.specs.Option.{is_some}
-use Rattle.std.specs.Map.{lookup}
 use Rattle.std.specs.Ordering.{nat_cmp, is_eq, eq_by_cmp}
-use Rattle.std.specs.Cmp.{eq_by_cmp_equiv}
 use Rattle.std.specs.Cmp.Lexicographic.{slice_cmp, nat_list_cmp_total, texts_ties, bytes_decides}
 use Rattle.std.specs.FinSet as set
-use denote.Ref.{Bor}
-use Rattle.aud_node.specs.Stream.{Text, positions_after}
+use Rattle.aud_node.specs.Stream.{Text}
 use Rattle.aud_rooms.specs.Rooms.{Rooms}
-use Rattle.aud_rooms.specs.Assigned.{Assigned, covered, starting, with_joined, with_left, covered_upto}
-use Rattle.aud_rooms.specs.Times.{Times, AreApart, Continues, is_held_at, is_held_now}
 use Rattle.aud_rooms.specs.RoomMap.{RoomMap, at_room, do_pass, rooms_with}
-use Rattle.aud_rooms.specs.Building.{assigned_of, AreKept}
-use Rattle.aud_rooms.proofs.Times.{lt_false, held_beyond, apart_longer}
 
 pub same_text : (a b : Text) → eq_by_cmp (slice_cmp nat_cmp) a b ≡ true → a ≡ b
 same_text a b e = (bytes_decides a b).0 (texts_ties a b ∙ e)

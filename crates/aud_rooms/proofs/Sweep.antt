@@ -1,5 +1,5 @@
 -- The sweep over the spans in the order of their first positions.
-use Rattle.std.proofs.Common.{◌≡◌, ◌<◌, ◌≤◌, ◌+◌, ◌-◌, ℕ, zero, suc, Bool, true, false, ◌&&◌, List, [], ◌∷◌, ◌++◌, map, filter, length, take, drop, get_or, drop-cons, add-one, min, max, refl, sym, ap, subst, ◌∙◌, ◌⊎◌, inl, inr, nat_le, nat_lt, arith}
+use Rattle.std.proofs.Common.{◌≡◌, ◌<◌, ◌≤◌, ◌+◌, ◌-◌, ℕ, suc, false, ◌&&◌, List, [], ◌∷◌, ◌++◌, map, filter, length, take, drop, get_or, drop-cons, min, max, sym, ap, subst, ◌∙◌, ◌⊎◌, inl, inr, nat_le, nat_lt, arith}
 use Rattle.std.specs.List.{AllByRecursion}
 use Rattle.std.specs.List.Sorted.{IsPermutation}
 use Rattle.std.specs.Ordering.{nat_cmp, is_eq}

@@ -76,12 +76,6 @@ last_part xs x e =
     sym (take-append-drop (length xs - 1) xs)
     ∙ ap (λ ys. take (length xs - 1) xs ++ ys) (drop-cons xs (length xs - 1) x within ∙ ap (λ y. y ∷ drop (suc (length xs - 1)) xs) same ∙ ap (λ ys. x ∷ ys) rest)
 
-pub last_none : {X : Type 0} (xs : List X) → slice_get xs (length xs - 1) ≡ None → xs ≡ []
-last_none [] e = refl
-last_none (x ∷ xs) e =
-    let some : Some (get_or (x ∷ xs) (length (x ∷ xs) - 1) x) ≡ None = sym (slice_get-get_or (x ∷ xs) (length (x ∷ xs) - 1) x (omega arith)) ∙ e in
-    absurd cc
-
 -- the last interval goes on
 apart_resumed : (from covered : ℕ) (is : List Interval) (i : Interval) → i.last ≡ covered → AreApart from (is ++ i ∷ []) None covered → AreApart from is (Some i.after) covered
 apart_resumed from covered [] i ends (a, b, c, rest) = (a, omega arith)
@@ -127,14 +121,6 @@ begun low covered is old i parts apart_from apart =
       same = λ p h. same_begun covered p old h;
     }
 
-pub begun_first : (low covered : ℕ) (old : List Interval) → old ≡ [] → low ≤ covered
-    → Continues low covered (record { ended = old; since = None }) (record { ended = old; since = Some covered })
-begun_first low covered old none h =
-    record {
-      apart = subst (λ o. AreApart low o (Some covered) covered) (sym none) (h, omega arith);
-      same = λ p h. same_begun covered p old h;
-    }
-
 -- an open interval ends with the covered positions
 pub apart_ended : (from covered after : ℕ) (is : List Interval) → after < covered → AreApart from is (Some after) covered → AreApart from (is ++ record { after = after; last = covered } ∷ []) None covered
 apart_ended from covered after [] h (a, b) = (a, h, omega arith, tt)
@@ -167,9 +153,6 @@ unused low covered after is h apart =
       apart = apart_unused low covered after is apart;
       same = λ p to. ap (λ b. list_any (is_in p) is || b) (sym (lt_false after p (omega arith)));
     }
-
-pub untouched : (low covered : ℕ) (t : Times) → AreApart low t.ended t.since covered → Continues low covered t t
-untouched low covered t apart = record { apart = apart; same = λ p h. refl }
 
 -- the same, for times seen through the fields of what keeps them
 pub shut_used : (low covered after : ℕ) (t : Times) (old new : List Interval) (since : Option ℕ) → record { ended = old; since = since } ≡ t → since ≡ Some after → after < covered

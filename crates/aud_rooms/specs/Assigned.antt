@@ -41,10 +41,11 @@ covered_upto position a = record a { sets = a.sets ++ replicate (position - cove
 abbrev pub AreSpansOf : Assigned → List RoomSpan → Type 0
 AreSpansOf a spans = AreSpans (rooms_given a) a.low (covered a) spans
 
--- its code: the low, the sets, the rooms held now
+-- a set of rooms is stored as one of lists of bytes
 abbrev pub rooms_code : Coded Rooms
 rooms_code = set.code (coded_list coded_ℕ)
 
+-- it is stored as the low, the sets and the rooms held now
 abbrev pub assigned_code : Coded Assigned
 assigned_code =
     code_by (ℕ × (List Rooms × Rooms)) (coded× coded_ℕ (coded× (coded_list rooms_code) rooms_code))

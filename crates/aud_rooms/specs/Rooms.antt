@@ -20,6 +20,7 @@ Rooms = set.FinSet (slice_cmp nat_cmp)
 abbrev pub own_room : Text → Rooms
 own_room sid = set.insert set.empty sid
 
+-- there are no rooms
 abbrev pub is_empty : List Text → Bool
 is_empty [] = true
 is_empty (room ∷ rooms) = false

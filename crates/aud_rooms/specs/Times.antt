@@ -1,5 +1,5 @@
 -- When one room is held, as the builder of spans keeps it.
-use Rattle.std.specs.Prelude.{◌≡◌, ◌<◌, ◌≤◌, ℕ, suc, Bool, true, false, List, [], ◌∷◌, ◌++◌, map, Option, Some, None, if◌then◌else◌, nat_lt, nat_le, ◌&&◌, ◌||◌}
+use Rattle.std.specs.Prelude.{◌≡◌, ◌<◌, ◌≤◌, ℕ, suc, Bool, false, List, [], ◌∷◌, ◌++◌, map, Option, Some, None, if◌then◌else◌, nat_lt, nat_le, ◌&&◌, ◌||◌}
 use Rattle.std.specs.List.{list_any}
 use Rattle.std.specs.Option.{is_some}
 use Rattle.aud_node.specs.Stream.{Text}
@@ -15,6 +15,7 @@ pub record Times : Type 0 where
 abbrev pub is_in : ℕ → Interval → Bool
 is_in p i = nat_lt i.after p && nat_le p i.last
 
+-- the position is past that one, if there is one
 abbrev pub is_past : ℕ → Option ℕ → Bool
 is_past p None = false
 is_past p (Some after) = nat_lt after p

@@ -56,7 +56,7 @@ impl<'a> SpanBuilder<'a> {
     }
 
     /// The room is held no longer; one that isn't held changes nothing.
-    pub fn leave(&mut self, room: &'a str) -> Result<(), Memory>
+    pub fn leave(&mut self, room: &str) -> Result<(), Memory>
         ensures left { OnOk result (self.new ≡ option_map (with_left room.now) self.old) }
         ensures out_of_memory { OnErr result (self.new ≡ None) }
         ensures stays_out { self.old ≡ None → IsErr result }

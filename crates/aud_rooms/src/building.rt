@@ -77,7 +77,7 @@ impl<'a> Building<'a> {
     }
 
     /// The room is held no longer.
-    pub fn leave(&mut self, room: &'a str) -> Result<(), Memory>
+    pub fn leave(&mut self, room: &str) -> Result<(), Memory>
         ensures { OnOk result (self.new ≡ with_left room.now self.old) }
     {
         let Some(holding) = self.rooms.get_mut(room) else {

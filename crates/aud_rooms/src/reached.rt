@@ -42,8 +42,9 @@ impl<'s> Reached<'s> {
 
     /// The span begins.
     pub fn reach(&mut self, span: &'s Span<'_>) -> Result<(), Memory>
-        ensures { (begun : List RoomSpan) → HasReached self.old.last_of.entries begun
+        ensures reached { (begun : List RoomSpan) → HasReached self.old.last_of.entries begun
             → OnOk result (HasReached self.new.last_of.entries (begun ++ span.now ∷ [])) }
+        ensures position { self.new.position ≡ self.old.position }
     {
         let room = span.room.as_str();
         let last = match self.last_of.get(room) {

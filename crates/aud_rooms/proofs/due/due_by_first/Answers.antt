@@ -20,7 +20,7 @@ loop-span-preserved c =
     let d = c.span-item.result in
     let begun = map (λ (s : Bor RoomSpan). s.now) (take i xs) in
     let is_end : c.min-end.result ≡ min c.args.high (length c.args.stream.now) = c.min-end.ensures ∙ ap (λ es. min c.args.high (length es)) c.entries.ensures in
-    let reached = c.in_ok-reach.ensures begun (subst (λ m. HasReached m.entries begun) (sym c.in_ok-push_due.ensures.reached) c.loop-span.invariant.reached) in
+    let reached = c.in_ok-reach.ensures.reached begun (subst (λ m. HasReached m.entries begun) (sym c.in_ok-push_due.ensures.reached) c.loop-span.invariant.reached) in
     swept_step xs c.args.stream.now c.args.nsp.now c.args.birth c.args.high c.min-end.result is_end c.loop-span.at i c.loop-span.reached.last_of.entries c.loop-span.due.items c.push_due.new.due.items
     c.loop-span.invariant d c.loop-span-test.true c.span-item.is c.requires c.min-upto.result c.max-at.result c.reach.new.self.last_of.entries
     (c.min-upto.ensures ∙ ap (min c.min-end.result) (c.saturating_sub.ensures ∙ ap (λ (s : RoomSpan). s.first - 1) c.span.view_is))

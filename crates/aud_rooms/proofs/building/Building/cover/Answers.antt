@@ -1,4 +1,4 @@
-use Rattle.std.proofs.Common.{ap, sym, ◌∙◌, subst, arith}
+use Rattle.std.proofs.Common.{ap, sym, ◌∙◌, arith}
 use Rattle.aud_rooms.specs.Assigned.{covered_upto}
 use Rattle.aud_rooms.proofs.Kept.{kept_covered, covers_more, covers_no_more}
 use Rattle.aud_rooms.proofs.building.Building.cover.Goals as goal

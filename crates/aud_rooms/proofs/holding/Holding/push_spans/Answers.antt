@@ -1,4 +1,4 @@
-use Rattle.std.proofs.Common.{◌<◌, length, ap, sym, subst, arith}
+use Rattle.std.proofs.Common.{sym, subst}
 use Rattle.aud_rooms.specs.Times.{Times, AreApart}
 use Rattle.aud_rooms.proofs.Times.{some_at}
 use Rattle.aud_rooms.proofs.holding.Holding.push_spans.Goals as goal

@@ -1,5 +1,3 @@
-use Rattle.std.proofs.Common.{None}
-use Rattle.aud_rooms.specs.Times.{Continues}
 use Rattle.aud_rooms.proofs.Times.{shut_used, shut_unused}
 use Rattle.aud_rooms.proofs.holding.Holding.shut.Goals as goal
 use Rattle.aud_rooms.proofs.holding.Holding.shut.Goals.{then-after-covered+in-Ok, else-after-covered}

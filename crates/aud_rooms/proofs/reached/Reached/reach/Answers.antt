@@ -1,4 +1,4 @@
-use Rattle.std.proofs.Common.{◌≡◌, ℕ, List, ◌++◌, ◌∷◌, [], ◌||◌, nat_le, sym, ap, subst, ◌∙◌}
+use Rattle.std.proofs.Common.{◌≡◌, ℕ, ◌++◌, ◌∷◌, [], ◌||◌, nat_le, sym, ap, subst, ◌∙◌}
 use Rattle.std.specs.Cow.{cow_str_bytes}
 use Rattle.aud_rooms.specs.Spans.{RoomSpan}
 use Rattle.aud_rooms.specs.RoomMap.{at_room, do_pass}
@@ -7,8 +7,8 @@ use Rattle.aud_rooms.proofs.Reach.{reached_more, greatest_first, greatest_of}
 use Rattle.aud_rooms.proofs.reached.Reached.reach.Goals as goal
 use Rattle.aud_rooms.proofs.reached.Reached.reach.Goals.{in-Some, in-None}
 
-pub returns : goal.returns
-returns c =
+pub returns-clause-reached : goal.returns-clause-reached
+returns-clause-reached c =
     λ begun was.
     let s = c.span.inside in
     let olds = c.args.self.now.last_of.entries in
