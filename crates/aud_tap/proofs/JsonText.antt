@@ -1,11 +1,8 @@
 -- The JSON of a record is shallow and has no float, so its text is known and reads back.
-use Rattle.std.proofs.Common.{◌≡◌, ℕ, suc, ◌≤◌, List, [], ◌∷◌, map, codes, Option, Some, None, Bool, true, false, ◌||◌, refl, arith}
-use Rattle.serde_json.specs.Data.{Data, depth, items_depth, members_depth, Members, no_members}
+use Rattle.std.proofs.Common.{◌≡◌, ℕ, ◌≤◌, List, [], ◌∷◌, map, codes, Some, None, false, refl, arith}
+use Rattle.serde_json.specs.Data.{depth, items_depth, members_depth, Members, no_members}
 use Rattle.serde_json.specs.Written.{has_float, items_have_float, members_have_float}
-use Rattle.aud_tap.specs.declared.records.TapKind.{TapKind}
-use Rattle.aud_tap.specs.declared.records.TapKind.TheVariants as tap
 use Rattle.aud_tap.specs.declared.records.Event.{Event}
-use Rattle.aud_tap.specs.declared.records.StreamRec.{StreamRec}
 use Rattle.aud_tap.specs.declared.records.StreamRec.TheVariants.{Ev, Other}
 use Rattle.aud_tap.specs.declared.records.NodeRec.{NodeRec}
 use Rattle.aud_tap.specs.declared.records.NodeRec.TheVariants.{Start, Take, Opened, Join, Leave, Broke, Back, Gone}

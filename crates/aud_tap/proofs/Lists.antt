@@ -1,11 +1,10 @@
 -- Lists of fields, as far as they are read.
-use Rattle.std.proofs.Common.{◌≡◌, ◌==◌, false, String, Global, string_bytes, rules, ℕ, suc, ◌+◌, ◌<◌, map, take, sym, ◌∙◌, List, [], ◌∷◌, ◌++◌, length, drop, get_or, Option, Some, None, Result, Ok, Err, option_map, refl, ap, append_assoc, drop-cons, add-one}
+use Rattle.std.proofs.Common.{◌≡◌, ◌==◌, false, String, Global, string_bytes, rules, ℕ, suc, ◌+◌, ◌<◌, map, take, sym, ◌∙◌, List, [], ◌∷◌, ◌++◌, length, drop, get_or, Option, Some, None, Ok, option_map, refl, ap, append_assoc, drop-cons, add-one}
 use Rattle.std.proofs.Math.Seq.{take-suc}
 use Rattle.std.proofs.lemmas.List.{map-append}
 use Rattle.serde_json.specs.Data.{Data, Members, put, array, string, Items, no_items, item}
 use Rattle.serde_json.specs.View.{view, items_view}
 use Rattle.serde_json.specs.declared.value.Value.{Value, the_lemmas}
-use Rattle.serde_json.specs.declared.value.Value.TheVariants as Value
 use Rattle.aud_tap.specs.declared.fault.InputCode.{InputCode}
 use Rattle.aud_tap.specs.Fields.{decoded, each}
 use Rattle.aud_tap.specs.Steps.{need}

@@ -1,5 +1,5 @@
 -- What is written for a record reads as that record.
-use Rattle.std.proofs.Common.{◌≡◌, ◌==◌, ℕ, ◌≤◌, List, [], ◌∷◌, length, map, Option, Some, None, option_map, option_and_then, Bool, true, false, ◌&&◌, codes, nat_le, Ok, Err, refl, ap}
+use Rattle.std.proofs.Common.{◌≡◌, ◌==◌, ℕ, List, [], ◌∷◌, length, map, Option, Some, None, Bool, true, false, ◌&&◌, codes, nat_le, Ok, refl, ap}
 use Rattle.std.specs.Result.{result_ok}
 use Rattle.std.proofs.lemmas.Bool.{eqb-true}
 use Rattle.base64.proofs.EngineFacts.{decode_of-encode_of}
@@ -18,7 +18,6 @@ use Rattle.aud_tap.specs.declared.records.NodeRec.{NodeRec}
 use Rattle.aud_tap.specs.declared.records.NodeRec.TheVariants.{Start, Take, Opened, Join, Leave, Broke, Back, Gone}
 use Rattle.aud_tap.specs.declared.records.Rec.{Rec}
 use Rattle.aud_tap.specs.declared.records.Rec.TheVariants.{Header, Stream, Node, Client}
-use Rattle.aud_tap.specs.Steps.{◌>>=◌, need, guard}
 use Rattle.aud_tap.specs.Limits.{fits, fit_rooms, max_attachments, max_id, max_offset, max_namespace, max_turn}
 use Rattle.aud_tap.specs.Fields.{is_id, is_namespace, decoded, each, list_or_empty, as_blob}
 use Rattle.aud_tap.specs.Header.{header_of}

@@ -1,5 +1,5 @@
 -- The header of a tap, its first line.
-use Rattle.std.specs.Prelude.{ℕ, ◌==◌, List, codes, Option, Some, None, Result, Ok, Err, if◌then◌else◌}
+use Rattle.std.specs.Prelude.{ℕ, ◌==◌, List, codes, Option, Some, None, Result, if◌then◌else◌}
 use Rattle.serde_json.specs.Data.{Data}
 use Rattle.aud_tap.specs.declared.fault.InputCode.{InputCode}
 use Rattle.aud_tap.specs.declared.fault.InputCode.TheVariants.{Field, Version, UnknownKind}

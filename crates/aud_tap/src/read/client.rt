@@ -1,7 +1,7 @@
 //! The records of a client tap.
 ghost use Rattle.serde_json.specs.View.{view};
 ghost use Rattle.aud_tap.specs.Steps.{Gives};
-ghost use Rattle.aud_tap.specs.ClientRecord.{connection_of, message_of, binary_of, client_record_of};
+ghost use Rattle.aud_tap.specs.ClientRecord.{message_of, client_record_of};
 
 use super::fields::{bytes_at, copied, number_at, text_at};
 use crate::fault::{FIELD, LineFault, UNKNOWN_KIND};

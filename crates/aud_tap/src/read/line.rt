@@ -1,7 +1,7 @@
 //! A line: a tap's name, a blank, and a record in JSON.
 ghost use Rattle.std.specs.Prelude.{◌≡◌, Ok, IfOk, IfErr, IsTrue, MatchResult, string_bytes};
 ghost use Rattle.serde_json.specs.View.{view};
-ghost use Rattle.aud_tap.specs.Steps.{Gives, Fails, IsRefusal};
+ghost use Rattle.aud_tap.specs.Steps.{Fails, IsRefusal};
 ghost use Rattle.aud_tap.specs.WellFormed.{is_well_formed};
 ghost use Rattle.aud_tap.specs.TapName.{is_tap_name};
 ghost use Rattle.aud_tap.specs.Record.{json_of, opened_line, line_record};

@@ -1,5 +1,5 @@
 //! The JSON of a stream's record.
-ghost use Rattle.std.specs.Prelude.{◌≡◌, IfOk, codes};
+ghost use Rattle.std.specs.Prelude.{◌≡◌, IfOk};
 ghost use Rattle.serde_json.specs.View.{view};
 ghost use Rattle.aud_tap.specs.Written.{DecodeBack, stream_bytes, event_data, offset_data, stream_data};
 
