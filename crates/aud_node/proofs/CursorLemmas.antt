@@ -91,3 +91,12 @@ all-more p i some kept is =
     go true false n = refl
     go true true false = refl
     go true true true = refl
+
+-- a test beside one that was made
+pub and-false : (a b : Bool) → b ≡ false → false ≡ (a && b)
+and-false false b h = refl
+and-false true b h = sym h
+
+pub and-true : (a b : Bool) → b ≡ true → a ≡ (a && b)
+and-true false b h = refl
+and-true true b h = sym h

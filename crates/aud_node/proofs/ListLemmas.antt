@@ -1,5 +1,5 @@
 -- A list from one of its elements on.
-use Rattle.std.proofs.Common.{◌≡◌, ℕ, ◌+◌, ◌-◌, ◌<◌, ◌≤◌, List, ◌∷◌, length, get_or, drop, sym, refl, ap, ◌∙◌, arith, Bor, Option, Some, None, MatchOption, option_copied, slice_get}
+use Rattle.std.proofs.Common.{◌≡◌, ℕ, ◌+◌, ◌-◌, ◌<◌, ◌≤◌, List, ◌∷◌, length, get_or, drop, sym, refl, ap, ◌∙◌, arith, Bool, true, false, not, Bor, Option, Some, None, MatchOption, option_copied, slice_get}
 use Rattle.std.specs.List.{HoldsAt}
 use Rattle.std.proofs.lemmas.List.{drop_more}
 use Rattle.std.proofs.lemmas.Option.{slice_get_past, slice_get_read}
@@ -14,3 +14,11 @@ drop-read xs n x some within read =
 pub got : {X : Type 0} (xs : List X) (i : ℕ) (r : Option (Bor X)) → MatchOption r (length xs ≤ i) (λ x. (i < length xs) × HoldsAt (λ y. x.now ≡ y) xs i) → option_copied r ≡ slice_get xs i
 got xs i None past = sym (slice_get_past xs i past)
 got xs i (Some x) here = sym (slice_get_read xs (length xs) i x.now refl here.0 (here.1 x.now))
+
+pub false_from_not : (b : Bool) → not b ≡ true → b ≡ false
+false_from_not true h = sym h
+false_from_not false h = refl
+
+pub true_from_not : (b : Bool) → not b ≡ false → b ≡ true
+true_from_not true h = refl
+true_from_not false h = sym h

@@ -1,12 +1,19 @@
 -- Positions in the stream from an entry on.
-use Rattle.std.proofs.Common.{◌≡◌, ℕ, ◌+◌, ◌-◌, ◌<◌, zero, suc, Bool, true, false, cond, List, [], ◌∷◌, length, get_or, drop, refl, sym, ap, ◌∙◌, arith, Option, Some, None, option_map, unwrap_or, map, slice_get}
+use Rattle.std.proofs.Common.{◌≡◌, ℕ, ◌+◌, ◌-◌, ◌<◌, zero, suc, Bool, true, false, cond, List, [], ◌∷◌, length, get_or, drop, refl, sym, ap, ◌∙◌, arith, Option, Some, None, option_map, unwrap_or, map, slice_get, subst, nat_eq, ◌⊎◌, inl, inr}
 use Rattle.std.specs.Str.{bytes_eq}
 use Rattle.std.proofs.lemmas.List.{at_drop_more}
+use Rattle.std.proofs.lemmas.Slice.Eq.{bytes_eq-Decides}
 use Rattle.std.proofs.lemmas.Option.{slice_get-map}
 use Rattle.aud_tap.specs.declared.records.StreamRec.{StreamRec}
 use Rattle.aud_node.specs.Recoverable.{is_recoverable}
-use Rattle.aud_node.specs.AtPosition.{is_some_recoverable, is_recoverable_at}
+use Rattle.aud_node.specs.AtPosition.{is_some_recoverable, is_recoverable_at, next_position}
 use Rattle.aud_node.specs.Stream.{Text, position, offset_of}
+use Rattle.aud_node.specs.Offsets.{kept_position, AreFirst, HoldsOffsets}
+use Rattle.aud_node.specs.Cursors.{is_position}
+use Rattle.aud_node.proofs.ListLemmas.{drop-read}
+use Rattle.std.proofs.lemmas.Bool.{eq-eqb}
+use Rattle.std.proofs.lemmas.Bool.Decides.{eqb_tells}
+use Rattle.aud_node.specs.declared.offsets.Offsets.{Offsets}
 
 -- the position of an offset that stands behind so many entries
 abbrev pub position_behind : List StreamRec → ℕ → Text → Option ℕ
@@ -23,6 +30,115 @@ pub position_behind-step : (stream : List StreamRec) (i : ℕ) (d : StreamRec) (
 position_behind-step stream i d off h =
     at_drop_more (λ es. option_map (λ p. i + p) (position es off)) stream i d h
     ∙ shifted i (bytes_eq (offset_of (get_or stream i d)) off) (position (drop (i + 1) stream) off)
+
+-- an offset that no entry has isn't that of any
+not_there : (stream : List StreamRec) (off other : Text) (i : ℕ) → position stream off ≡ None → bytes_eq off other ≡ true → position stream other ≡ Some (suc i) → ⊥
+not_there stream off other i none same there =
+    let is : off ≡ other = (bytes_eq-Decides off other).0 same in
+    let at : position stream off ≡ Some (suc i) = ap (position stream) is ∙ there in
+    cc
+
+-- one entry more in front, whose offset no later one has
+pub AreFirst-cons : (e : StreamRec) (stream : List StreamRec) → position stream (offset_of e) ≡ None → AreFirst stream → AreFirst (e ∷ stream)
+AreFirst-cons e stream none first zero x is =
+    let same : bytes_eq (offset_of e) (offset_of x) ≡ true = (bytes_eq-Decides (offset_of e) (offset_of x)).1 (ap (λ o. offset_of (unwrap_or o e)) is) in
+    ap (λ b. cond b (Some 1) (option_map suc (position stream (offset_of x)))) same
+AreFirst-cons e stream none first (suc i) x is = go (bytes_eq (offset_of e) (offset_of x)) refl
+  where
+    go : (b : Bool) → bytes_eq (offset_of e) (offset_of x) ≡ b → cond b (Some 1) (option_map suc (position stream (offset_of x))) ≡ Some (suc (suc i))
+    go true same = absurd (not_there stream (offset_of e) (offset_of x) i none same (first i x is))
+    go false _ = ap (option_map suc) (first i x is)
+
+-- the positions of the entries behind so many
+pub record HoldsBehind (stream : List StreamRec) (i : ℕ) (offsets : Offsets) : Type 0 where
+  pub positions_are : (off : Text) → kept_position offsets off ≡ position_behind stream i off
+  pub are_first : offsets.distinct ≡ true → AreFirst (drop i stream)
+
+-- one entry more in front
+pub HoldsBehind-step : (stream : List StreamRec) (n : ℕ) (e : StreamRec) (old new : Offsets) → 0 < n → n - 1 < length stream → e ≡ get_or stream (n - 1) e → HoldsBehind stream n old
+    → ((q : Text) → kept_position new q ≡ cond (bytes_eq (offset_of e) q) (Some (n - 1 + 1)) (kept_position old q))
+    → (new.distinct ≡ true → old.distinct ≡ true) → (new.distinct ≡ true → kept_position old (offset_of e) ≡ None)
+    → HoldsBehind stream (n - 1) new
+HoldsBehind-step stream n e old new some within read held marked was_distinct was_new =
+    let next : n - 1 + 1 ≡ n = omega arith in
+    let front : drop (n - 1) stream ≡ e ∷ drop n stream = drop-read stream n e some within read in
+    record {
+      positions_are = λ off.
+          marked off
+          ∙ ap (cond (bytes_eq (offset_of e) off) (Some (n - 1 + 1))) (held.positions_are off ∙ ap (λ k. position_behind stream k off) (sym next))
+          ∙ ap (λ x. cond (bytes_eq (offset_of x) off) (Some (n - 1 + 1)) (position_behind stream (n - 1 + 1) off)) read
+          ∙ sym (position_behind-step stream (n - 1) e off within);
+      are_first = λ distinct.
+          let none : position (drop n stream) (offset_of e) ≡ None = unmapped n (position (drop n stream) (offset_of e)) (sym (held.positions_are (offset_of e)) ∙ was_new distinct) in
+          subst AreFirst (sym front) (AreFirst-cons e (drop n stream) none (held.are_first (was_distinct distinct)));
+    }
+  where
+    unmapped : (k : ℕ) (o : Option ℕ) → option_map (λ p. k + p) o ≡ None → o ≡ None
+    unmapped k None h = refl
+    unmapped k (Some p) h = cc
+
+-- the entries behind none are all
+pub HoldsBehind-all : (stream : List StreamRec) (offsets : Offsets) → HoldsBehind stream 0 offsets → HoldsOffsets stream offsets
+HoldsBehind-all stream offsets held =
+    record { positions_are = λ off. held.positions_are off ∙ same (position stream off); are_first = held.are_first }
+  where
+    same : (o : Option ℕ) → option_map (λ p. 0 + p) o ≡ o
+    same None = refl
+    same (Some p) = let e : 0 + p ≡ p = omega arith in ap Some e
+
+-- the offset is that of the entry, if there is one
+abbrev pub has_offset : Option StreamRec → Text → Bool
+has_offset None off = false
+has_offset (Some e) off = bytes_eq (offset_of e) off
+
+same_some : (a b : ℕ) → Some a ≡ Some b → a ≡ b
+same_some a b h = cc
+
+positive : (stream : List StreamRec) (off : Text) → position stream off ≡ Some 0 → ⊥
+positive [] off h = cc
+positive (e ∷ es) off h = go (bytes_eq (offset_of e) off) (position es off) h
+  where
+    go : (b : Bool) (o : Option ℕ) → cond b (Some 1) (option_map suc o) ≡ Some 0 → ⊥
+    go true o h = absurd (omega (arith, same_some 1 0 h))
+    go false None h = cc
+    go false (Some p) h = absurd (omega (arith, same_some (suc p) 0 h))
+
+-- the entry at the position of an offset has it
+there : (stream : List StreamRec) (off : Text) (i : ℕ) → position stream off ≡ Some (suc i) → has_offset (slice_get stream i) off ≡ true
+there [] off i h = cc
+there (e ∷ es) off zero h = go (bytes_eq (offset_of e) off) (position es off) (positive es off) h
+  where
+    go : (b : Bool) (o : Option ℕ) → (o ≡ Some 0 → ⊥) → cond b (Some 1) (option_map suc o) ≡ Some 1 → b ≡ true
+    go true o some h = refl
+    go false None some h = cc
+    go false (Some p) some h = let y : p ≡ 0 = omega (arith, same_some (suc p) 1 h) in absurd (some (ap Some y))
+there (e ∷ es) off (suc i) h = there es off i (go (bytes_eq (offset_of e) off) (position es off) h)
+  where
+    go : (b : Bool) (o : Option ℕ) → cond b (Some 1) (option_map suc o) ≡ Some (suc (suc i)) → o ≡ Some (suc i)
+    go true o h = absurd (omega (arith, same_some 1 (suc (suc i)) h))
+    go false None h = cc
+    go false (Some p) h = let y : p ≡ suc i = omega (arith, same_some (suc p) (suc (suc i)) h) in ap Some y
+
+is_position-false : (o : Option ℕ) (p : ℕ) → (o ≡ Some p → ⊥) → is_position o p ≡ false
+is_position-false None p h = refl
+is_position-false (Some q) p h = go (eqb_tells q p)
+  where
+    go : ((nat_eq q p ≡ true) × (q ≡ p)) ⊎ ((nat_eq q p ≡ false) × (q ≡ p → ⊥)) → nat_eq q p ≡ false
+    go (inl t) = absurd (h (ap Some t.1))
+    go (inr f) = f.0
+
+-- an offset that the entry behind the cursor hasn't
+pub next-other : (stream : List StreamRec) (off : Text) (cursor : ℕ) → has_offset (slice_get stream cursor) off ≡ false → None ≡ next_position stream off cursor
+next-other stream off cursor other =
+    let none : position stream off ≡ Some (suc cursor) → ⊥ = λ h. (let t = there stream off cursor h in cc) in
+    ap (λ b. cond b (Some (suc cursor)) None) (sym (is_position-false (position stream off) (suc cursor) none))
+
+-- the offset of the entry behind the cursor, which is the first with it
+pub next-first : (stream : List StreamRec) (e : StreamRec) (off : Text) (cursor : ℕ) → AreFirst stream → slice_get stream cursor ≡ Some e → bytes_eq (offset_of e) off ≡ true → Some (suc cursor) ≡ next_position stream off cursor
+next-first stream e off cursor first here same =
+    let is : offset_of e ≡ off = (bytes_eq-Decides (offset_of e) off).0 same in
+    let at : position stream off ≡ Some (suc cursor) = ap (position stream) (sym is) ∙ first cursor e here in
+    sym (ap (λ o. cond (is_position o (suc cursor)) (Some (suc cursor)) None) at ∙ ap (λ b. cond b (Some (suc cursor)) None) (eq-eqb (suc cursor) (suc cursor) refl))
 
 -- the flag that is kept for the entry at a position
 pub recoverable-flag : (stream : List StreamRec) (p : ℕ) → 0 < p → unwrap_or (slice_get (map is_recoverable stream) (p - 1)) false ≡ is_recoverable_at stream p

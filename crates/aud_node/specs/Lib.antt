@@ -7,6 +7,7 @@ pub mod Ordered
 pub mod TurnRecords
 pub mod NodeTap
 pub mod NodeTaps
+pub mod Names
 pub mod AtPosition
 pub mod Offsets
 pub mod StreamIndices

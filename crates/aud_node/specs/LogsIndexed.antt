@@ -1,5 +1,7 @@
 -- What is kept of the taps.
 use Rattle.std.specs.Prelude.{◌≡◌, map, Option, Some, None}
+use Rattle.aud_node.specs.Stream.{Text}
+use Rattle.aud_node.specs.Names.{place_of, kept_place}
 use Rattle.aud_node.specs.NodeTap.{NodeTap}
 use Rattle.aud_node.specs.NodeTaps.{node_tap}
 use Rattle.aud_node.specs.Cluster.{stream_of, stream_place}
@@ -13,8 +15,9 @@ node_of Stream = None
 node_of (Node log) = Some log
 node_of Client = None
 
--- the entries are those of the taps, and each node's log is kept at its place
+-- the names, the stream's place and the entries are those of the taps, and each node's log is kept at its place
 pub record IsIndexed (l : Inside) : Type 0 where
-  pub place_is : l.place ≡ stream_place l.taps.now
+  pub places_are : (name : Text) → kept_place l.names name ≡ place_of l.taps.now name
+  pub place_is : l.stream_place ≡ stream_place l.taps.now
   pub stream_is : l.stream ≡ stream_of l.taps.now
   pub nodes_are : map node_of l.logs.items ≡ map (node_tap l.stream) l.taps.now

@@ -1,11 +1,10 @@
--- The node logs of a cluster, and the names of its taps.
+-- The node logs of a cluster.
 use Rattle.std.specs.Prelude.{ℕ, List, Option, Some, None, slice_get}
-use Rattle.std.specs.Option.{option_map, option_and_then}
+use Rattle.std.specs.Option.{option_and_then}
 use Rattle.aud_tap.specs.declared.records.StreamRec.{StreamRec}
 use Rattle.aud_tap.specs.declared.taps.Tap.{Tap}
 use Rattle.aud_tap.specs.declared.taps.Records.{Records}
 use Rattle.aud_tap.specs.declared.taps.Records.TheVariants.{Stream, Node, Client}
-use Rattle.aud_node.specs.Stream.{Text}
 use Rattle.aud_node.specs.Cluster.{Cluster}
 use Rattle.aud_node.specs.NodeTap.{NodeTap}
 
@@ -21,7 +20,3 @@ node_tap stream tap = node_of_records stream tap.records
 -- the log of the node at this place
 abbrev pub node_at : Cluster → ℕ → Option NodeTap
 node_at c place = option_and_then (node_tap c.stream) (slice_get c.taps place)
-
--- the name of the tap at this place
-abbrev pub name_at : Cluster → ℕ → Option Text
-name_at c place = option_map (λ (tap : Tap). tap.name) (slice_get c.taps place)

@@ -1,5 +1,5 @@
 //! The cursor of a node: the last position that it took.
-ghost use Rattle.std.specs.Prelude.{◌≡◌, IfOk, if◌then◌else◌, ◌||◌};
+ghost use Rattle.std.specs.Prelude.{◌≡◌, IfOk, ◌&&◌, is_some, unwrap_or};
 ghost use Rattle.aud_node.specs.Cursors.{next_cursor};
 ghost use Rattle.aud_node.specs.Ordered.{is_in_order};
 
@@ -29,38 +29,57 @@ impl Cursors {
         let mut ordered = !recs.is_empty();
         let mut cursor = 0;
         for (number, rec) in recs.iter().enumerate() {
-            ordered = ordered && is_in_order(stream, number, cursor, rec);
-            cursor = next_cursor(stream, number, rec, cursor);
+            let advance = Advance::by(stream, number, rec, cursor);
+            cursor = advance.cursor;
             after.push(cursor)?;
+            if !advance.in_order {
+                ordered = false;
+            }
         }
         Ok(Cursors { after, ordered })
     }
 }
 
-/// The cursor after the record with this number.
-fn next_cursor(stream: &Stream<'_>, number: usize, rec: &NodeRec, cursor: u64) -> u64
-    ensures { result ≡ next_cursor stream.now number rec.now cursor }
-{
-    match rec {
-        NodeRec::Start { off: None } if number == 0 => 0,
-        NodeRec::Start { off: Some(off) } if number == 0 => {
-            stream.position(off.as_str()).unwrap_or(cursor)
-        }
-        NodeRec::Take { off } => stream.next(cursor, off.as_str()).unwrap_or(cursor),
-        _ => cursor,
-    }
+/// What a record does to the cursor, and whether it is in order.
+#[derive(Clone, Copy)]
+struct Advance {
+    cursor: u64,
+    in_order: bool,
 }
 
-/// Whether the record with this number, behind this cursor, is in order.
-fn is_in_order(stream: &Stream<'_>, number: usize, cursor: u64, rec: &NodeRec) -> bool
-    ensures { result ≡ is_in_order stream.now number cursor rec.now }
-{
-    match rec {
-        NodeRec::Start { off: None } => number == 0,
-        NodeRec::Start { off: Some(off) } => {
-            number == 0 && stream.position(off.as_str()).is_some()
+impl Advance {
+    /// To the position, in order where the record may stand there; with no position the cursor stays.
+    fn to(position: Option<u64>, cursor: u64, may_stand: bool) -> Advance
+        ensures cursor { result.cursor ≡ unwrap_or position cursor }
+        ensures order { result.in_order ≡ (may_stand && is_some position) }
+    {
+        match position {
+            Some(position) => Advance {
+                cursor: position,
+                in_order: may_stand,
+            },
+            None => Advance {
+                cursor,
+                in_order: false,
+            },
         }
-        NodeRec::Take { off } => number > 0 && stream.next(cursor, off.as_str()).is_some(),
-        _ => number > 0,
+    }
+
+    /// By the record with this number.
+    fn by(stream: &Stream<'_>, number: usize, rec: &NodeRec, cursor: u64) -> Advance
+        ensures cursor { result.cursor ≡ next_cursor stream.now number rec.now cursor }
+        ensures order { result.in_order ≡ is_in_order stream.now number cursor rec.now }
+    {
+        match rec {
+            NodeRec::Start { .. } if number > 0 => Advance::to(None, cursor, false),
+            NodeRec::Start { off: None } => Advance::to(Some(0), cursor, true),
+            NodeRec::Start { off: Some(off) } => {
+                Advance::to(stream.position(off.as_str()), cursor, true)
+            }
+            NodeRec::Take { off } => {
+                Advance::to(stream.next(cursor, off.as_str()), cursor, number > 0)
+            }
+            _ => Advance::to(Some(cursor), cursor, number > 0),
+        }
     }
 }

@@ -6,6 +6,7 @@
 mod cursors;
 mod fields;
 mod logs;
+mod names;
 mod node_log;
 mod offsets;
 mod own_records;
@@ -19,3 +20,6 @@ pub use logs::Logs;
 pub use node_log::NodeLog;
 pub use recs::Recs;
 pub use stream::Stream;
+
+#[cfg(test)]
+mod tests;

@@ -1,10 +1,12 @@
 //! The cluster's logs.
-ghost use Rattle.std.specs.Prelude.{◌≡◌, IfOk, length, map};
+ghost use Rattle.std.specs.Prelude.{◌≡◌, IfOk, map};
 ghost use Rattle.std.specs.Option.{option_copied};
 ghost use Rattle.aud_node.specs.Cluster.{cluster_of, stream_of, stream_place};
-ghost use Rattle.aud_node.specs.NodeTaps.{node_at, name_at, node_tap};
+ghost use Rattle.aud_node.specs.NodeTaps.{node_at, node_tap};
 ghost use Rattle.aud_node.specs.LogsIndexed.{node_of};
+ghost use Rattle.aud_node.specs.Names.{place_of};
 
+use crate::names::Names;
 use crate::node_log::NodeLog;
 use crate::stream::Stream;
 use aud_tap::{Memory, Records, StreamRec, Tap, Taps};
@@ -24,7 +26,8 @@ pub enum Log<'a> {
 #[derive(Drop)]
 pub struct Logs<'a> {
     taps: &'a [Tap],
-    place: Option<usize>,
+    names: Names<'a>,
+    stream_place: Option<usize>,
     stream: Stream<'a>,
     logs: Vec<Log<'a>>,
 }
@@ -47,14 +50,23 @@ impl<'a> Logs<'a> {
         ensures { IfOk result (λ logs. logs ≡ cluster_of taps.now) }
     {
         let taps = taps.as_slice();
+        let names = Names::build(alloc, taps)?;
         let stream = Stream::build(alloc, entries_of(taps))?;
         let logs = logs_of(alloc, &stream, taps)?;
         Ok(Logs {
             taps,
-            place: place_of(taps),
+            names,
+            stream_place: place_of_stream(taps),
             stream,
             logs,
         })
+    }
+
+    /// The stream's entries, lent.
+    pub fn stream(&self) -> &Stream<'a>
+        ensures { result.now ≡ self.now.stream }
+    {
+        &self.stream
     }
 
     /// The taps in the order of their headers, lent.
@@ -68,31 +80,14 @@ impl<'a> Logs<'a> {
     pub fn stream_place(&self) -> Option<usize>
         ensures { result ≡ stream_place self.now.taps }
     {
-        self.place
+        self.stream_place
     }
 
-    /// The stream's entries, lent.
-    pub fn stream(&self) -> &Stream<'a>
-        ensures { result.now ≡ self.now.stream }
+    /// The place of the first tap with this name.
+    pub fn place_of(&self, name: &str) -> Option<usize>
+        ensures { result ≡ place_of self.now.taps name.now }
     {
-        &self.stream
-    }
-
-    /// How many taps there are.
-    pub fn len(&self) -> usize
-        ensures { result ≡ length self.now.taps }
-    {
-        self.taps.len()
-    }
-
-    /// The name of the tap at this place.
-    pub fn name(&self, place: usize) -> Option<&'a str>
-        ensures { option_copied result ≡ name_at self.now place }
-    {
-        match self.taps.get(place) {
-            Some(tap) => Some(tap.name.as_str()),
-            None => None,
-        }
+        self.names.get(name)
     }
 
     /// The log of the node whose tap is at this place; none where that tap is no node's.
@@ -122,7 +117,7 @@ impl<'a> Log<'a> {
 }
 
 /// The place of the first stream tap.
-fn place_of(taps: &[Tap]) -> Option<usize>
+fn place_of_stream(taps: &[Tap]) -> Option<usize>
     ensures { result ≡ stream_place taps.now }
 {
     for (place, tap) in taps.iter().enumerate() {

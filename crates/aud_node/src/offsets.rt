@@ -1,8 +1,8 @@
 //! Where each offset stands in the stream.
-ghost use Rattle.std.specs.Prelude.{◌≡◌, IfOk, OnOk, Some, if◌then◌else◌};
+ghost use Rattle.std.specs.Prelude.{◌≡◌, IfOk, OnOk, Some, None, true, if◌then◌else◌};
 ghost use Rattle.std.specs.Str.{bytes_eq};
-ghost use Rattle.aud_node.specs.Stream.{Text, position};
-ghost use Rattle.aud_node.specs.Offsets.{kept_position};
+ghost use Rattle.aud_node.specs.Stream.{Text};
+ghost use Rattle.aud_node.specs.Offsets.{kept_position, HoldsOffsets};
 
 use crate::fields::offset;
 use aud_tap::StreamRec;
@@ -13,15 +13,18 @@ use std::collections::BTreeMap;
 #[derive(Drop)]
 pub struct Offsets<'a> {
     positions: BTreeMap<&'a str, u64>,
+    /// No two entries have the same offset.
+    distinct: bool,
 }
 
 impl<'a> Offsets<'a> {
-    /// The positions of these entries.
+    /// The positions of these entries, which are read from the last on: of several with one offset the first is kept.
     pub fn build(alloc: Global, entries: &'a [StreamRec]) -> Result<Offsets<'a>, AllocError>
-        ensures { IfOk result (λ offsets. (off : Text) → kept_position offsets off ≡ position entries.now off) }
+        ensures { IfOk result (HoldsOffsets entries.now) }
     {
         let mut offsets = Offsets {
             positions: BTreeMap::new(alloc),
+            distinct: true,
         };
         for i in (0..entries.len()).rev() {
             offsets.mark(offset(&entries[i]), i as u64 + 1)?;
@@ -36,11 +39,23 @@ impl<'a> Offsets<'a> {
         self.positions.get(off).copied()
     }
 
+    /// Whether no two entries have the same offset.
+    pub fn distinct(&self) -> bool
+        ensures { result ≡ self.now.distinct }
+    {
+        self.distinct
+    }
+
     /// The offset stands at this position, wherever it stood before.
     fn mark(&mut self, off: &'a str, position: u64) -> Result<(), AllocError>
-        ensures { OnOk result ((q : Text) → kept_position self.new q ≡ (if bytes_eq off.now q then Some position else kept_position self.old q)) }
+        ensures positions { OnOk result ((q : Text) → kept_position self.new q ≡ (if bytes_eq off.now q then Some position else kept_position self.old q)) }
+        ensures was_distinct { OnOk result (self.new.distinct ≡ true → self.old.distinct ≡ true) }
+        ensures was_new { OnOk result (self.new.distinct ≡ true → kept_position self.old off.now ≡ None) }
     {
-        self.positions.insert(off, position)?;
+        let old = self.positions.insert(off, position)?;
+        if old.is_some() {
+            self.distinct = false;
+        }
         Ok(())
     }
 }

@@ -4,6 +4,7 @@ ghost use Rattle.std.specs.Option.{option_copied};
 ghost use Rattle.aud_node.specs.Stream.{position, entry};
 ghost use Rattle.aud_node.specs.AtPosition.{is_recoverable_at, next_position};
 
+use crate::fields::offset;
 use crate::offsets::Offsets;
 use crate::recoverable::recoverable_of;
 use aud_tap::StreamRec;
@@ -81,8 +82,25 @@ impl<'a> Stream<'a> {
             .unwrap_or(false)
     }
 
-    /// The position behind the cursor, if the offset stands there.
+    /// The position behind the cursor, if the offset stands there. It is compared with that of the entry there, and
+    /// looked up only where two entries have the same offset.
     pub(crate) fn next(&self, cursor: u64, off: &str) -> Option<u64>
+        ensures { result ≡ next_position self.now off.now cursor }
+    {
+        let Some(entry) = self.entries.get(cursor as usize) else {
+            return None;
+        };
+        if offset(entry) != off {
+            return None;
+        }
+        if self.offsets.distinct() {
+            return Some(cursor + 1);
+        }
+        self.find_next(cursor, off)
+    }
+
+    /// The same by looking the offset up.
+    fn find_next(&self, cursor: u64, off: &str) -> Option<u64>
         ensures { result ≡ next_position self.now off.now cursor }
     {
         match self.offsets.get(off) {

@@ -4,9 +4,10 @@ use Rattle.std.proofs.lemmas.Option.{slice_get_read}
 use Rattle.aud_node.specs.Lists.{numbers_from}
 use Rattle.aud_node.specs.Cursors.{cursor_at, next_cursor}
 use Rattle.aud_node.specs.Ordered.{is_in_order}
-use Rattle.aud_node.proofs.CursorLemmas.{is_in_order_at, cursor_at-more, is_in_order_at-here, cursors-more, all-more, is_ordered-all}
+use Rattle.aud_node.proofs.ListLemmas.{false_from_not, true_from_not}
+use Rattle.aud_node.proofs.CursorLemmas.{is_in_order_at, cursor_at-more, is_in_order_at-here, cursors-more, all-more, is_ordered-all, and-false, and-true}
 use Rattle.aud_node.proofs.cursors.Cursors.build.Goals as goal
-use Rattle.aud_node.proofs.cursors.Cursors.build.Goals.{then-ordered, else-ordered}
+use Rattle.aud_node.proofs.cursors.Cursors.build.Goals.{then-not-advance, else-not-advance}
 
 pub loop-number-preserved : goal.loop-number-preserved
 loop-number-preserved c =
@@ -16,18 +17,19 @@ loop-number-preserved c =
     let rec = c.index-recs-number.result in
     let before = c.loop-number.invariant in
     let here : slice_get log i ≡ Some rec = slice_get_read log (length log) i rec refl (omega arith) c.index-recs-number.is in
-    let cursor : c.next_cursor-cursor.result ≡ cursor_at stream log (i + 1) =
-    c.next_cursor-cursor.ensures ∙ ap (next_cursor stream i rec) before.cursor_is ∙ sym (cursor_at-more stream log i rec here) in
+    let cursor : c.by-advance.result.cursor ≡ cursor_at stream log (i + 1) =
+    c.by-advance.ensures.cursor ∙ ap (next_cursor stream i rec) before.cursor_is ∙ sym (cursor_at-more stream log i rec here) in
     let next : i + 1 ≡ suc i = omega arith in
     let order : is_in_order stream i c.loop-number.cursor rec ≡ is_in_order_at stream log i =
     ap (λ p. is_in_order stream i p rec) before.cursor_is ∙ sym (is_in_order_at-here stream log i rec here) in
-    let kept : c.if-ordered.ordered ≡ (c.loop-number.ordered && is_in_order_at stream log i) =
-    elim c.if-ordered.branch [
-      | then-ordered w ↦ w.ordered-is ∙ w.is_in_order-ordered.ensures ∙ order ∙ ap (λ b. b && is_in_order_at stream log i) (sym w.if-ordered.true)
-      | else-ordered w ↦ w.ordered-is ∙ w.if-ordered.false ∙ ap (λ b. b && is_in_order_at stream log i) (sym w.if-ordered.false)
+    let here_is : c.by-advance.result.in_order ≡ is_in_order_at stream log i = c.by-advance.ensures.order ∙ order in
+    let kept : c.if-not-advance.ordered ≡ (c.loop-number.ordered && is_in_order_at stream log i) =
+    elim c.if-not-advance.branch [
+      | then-not-advance w ↦ w.ordered-is ∙ and-false _ _ (sym here_is ∙ false_from_not c.by-advance.result.in_order w.if-not-advance.true)
+      | else-not-advance w ↦ w.ordered-is ∙ and-true _ _ (sym here_is ∙ true_from_not c.by-advance.result.in_order w.if-not-advance.false)
     ] in
     record {
-      after_are = c.in_ok-push.ensures.items ∙ cursors-more (λ number. cursor_at stream log (suc number)) i c.next_cursor-cursor.result c.loop-number.after.items before.after_are (cursor ∙ ap (cursor_at stream log) next);
+      after_are = c.in_ok-push.ensures.items ∙ cursors-more (λ number. cursor_at stream log (suc number)) i c.by-advance.result.cursor c.loop-number.after.items before.after_are (cursor ∙ ap (cursor_at stream log) next);
       cursor_is = cursor;
       ordered_is = kept ∙ all-more (is_in_order_at stream log) i (not (length log == 0)) c.loop-number.ordered before.ordered_is;
     }
