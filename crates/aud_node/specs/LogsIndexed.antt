@@ -15,9 +15,9 @@ node_of Stream = None
 node_of (Node log) = Some log
 node_of Client = None
 
--- the names and the entries are those of the taps, and each node's log is kept at its place
+-- the names, the stream's place and the entries are those of the taps, and each node's log is kept at its place
 pub record IsIndexed (l : Inside) : Type 0 where
   pub places_are : (name : Text) → kept_place l.names name ≡ place_of l.taps.now name
-  pub place_is : l.place ≡ stream_place l.taps.now
+  pub place_is : l.stream_place ≡ stream_place l.taps.now
   pub stream_is : l.stream ≡ stream_of l.taps.now
   pub nodes_are : map node_of l.logs.items ≡ map (node_tap l.stream) l.taps.now

@@ -27,7 +27,7 @@ pub enum Log<'a> {
 pub struct Logs<'a> {
     taps: &'a [Tap],
     names: Names<'a>,
-    place: Option<usize>,
+    stream_place: Option<usize>,
     stream: Stream<'a>,
     logs: Vec<Log<'a>>,
 }
@@ -56,10 +56,17 @@ impl<'a> Logs<'a> {
         Ok(Logs {
             taps,
             names,
-            place: stream_place_of(taps),
+            stream_place: place_of_stream(taps),
             stream,
             logs,
         })
+    }
+
+    /// The stream's entries, lent.
+    pub fn stream(&self) -> &Stream<'a>
+        ensures { result.now ≡ self.now.stream }
+    {
+        &self.stream
     }
 
     /// The taps in the order of their headers, lent.
@@ -73,14 +80,7 @@ impl<'a> Logs<'a> {
     pub fn stream_place(&self) -> Option<usize>
         ensures { result ≡ stream_place self.now.taps }
     {
-        self.place
-    }
-
-    /// The stream's entries, lent.
-    pub fn stream(&self) -> &Stream<'a>
-        ensures { result.now ≡ self.now.stream }
-    {
-        &self.stream
+        self.stream_place
     }
 
     /// The place of the first tap with this name.
@@ -117,7 +117,7 @@ impl<'a> Log<'a> {
 }
 
 /// The place of the first stream tap.
-fn stream_place_of(taps: &[Tap]) -> Option<usize>
+fn place_of_stream(taps: &[Tap]) -> Option<usize>
     ensures { result ≡ stream_place taps.now }
 {
     for (place, tap) in taps.iter().enumerate() {
