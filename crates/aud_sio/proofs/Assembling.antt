@@ -1,12 +1,12 @@
 -- What a packet gives that awaits attachments, message after message.
-use Rattle.std.proofs.Common.{◌≡◌, ◌≤◌, ◌<◌, ◌+◌, ◌-◌, ℕ, zero, suc, Bool, true, false, cond, nat_lt, nat_le, List, [], ◌∷◌, ◌++◌, length, take, map, slice_index, Ok, Err, refl, sym, ap, ◌∙◌, arith, zero-add, inl, inr}
+use Rattle.std.proofs.Common.{◌≡◌, ◌+◌, ◌-◌, ℕ, suc, nat_lt, nat_le, List, [], ◌∷◌, ◌++◌, length, map, Ok, Err, refl, sym, ap, ◌∙◌, arith, zero-add, inl, inr}
 use Rattle.std.proofs.lemmas.Bool.{le-leb, lt-leb, cases_lt, lt-ltb, le-ltb}
 use Rattle.std.proofs.lemmas.List.{append_assoc, append-nil}
 use Rattle.aud_sio.specs.declared.fault.SioFault.{SioFault}
 use Rattle.aud_sio.specs.declared.fault.SioFault.TheVariants.{TextWhileBinary}
 use Rattle.aud_sio.specs.Packet.{PacketSeen, packet_of}
 use Rattle.aud_sio.specs.Message.{Blob, Message, Text, Bytes, at}
-use Rattle.aud_sio.specs.Wholes.{WholeSeen, Answer, leading_bytes, consumed, last_place, answer_to, wholes_past, wholes_of}
+use Rattle.aud_sio.specs.Wholes.{WholeSeen, Answer, leading_bytes, wholes_of}
 use Rattle.aud_sio.specs.Assembly.{gives_with, wholes_after}
 
 -- a packet with attachments in front of others

@@ -1,10 +1,9 @@
 -- Calls of `feed` one after another.
-use Rattle.std.proofs.Common.{◌≡◌, ℕ, List, [], ◌∷◌, ◌++◌, Option, Result, Ok, Err, refl, sym, ap, ◌∙◌}
+use Rattle.std.proofs.Common.{◌≡◌, List, [], ◌∷◌, ◌++◌, Option, Result, Ok, Err, sym, ap, ◌∙◌}
 use Rattle.aud_sio.specs.declared.fault.SioFault.{SioFault}
 use Rattle.aud_sio.specs.declared.fault.SioFault.TheVariants.{Memory}
 use Rattle.aud_sio.specs.declared.whole.Whole.{Whole}
 use Rattle.aud_sio.specs.Message.{Message, messages_of, at}
-use Rattle.aud_sio.specs.Wholes.{wholes_of}
 use Rattle.aud_sio.specs.Assembly.{Feeds, Continues, wholes_after}
 use Rattle.aud_sio.specs.Calls.{Call, answers_of, Follow, answers, messages, AnswersAreWholes}
 

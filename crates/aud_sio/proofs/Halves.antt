@@ -1,5 +1,5 @@
 -- What an assembler gives that holds a packet which awaits attachments.
-use Rattle.std.proofs.Common.{◌≡◌, ◌+◌, ◌-◌, ◌<◌, ℕ, suc, List, [], ◌∷◌, ◌++◌, length, map, Option, Some, None, is_some, true, Ok, Err, refl, ◌∙◌, arith}
+use Rattle.std.proofs.Common.{◌≡◌, ◌+◌, ◌-◌, ◌<◌, ℕ, suc, List, [], ◌∷◌, length, map, Option, Some, None, is_some, true, Ok, Err, refl, ◌∙◌, arith}
 use Rattle.std.proofs.lemmas.List.{length-map}
 use Rattle.aud_sio.specs.declared.fault.SioFault.TheVariants.{TextWhileBinary}
 use Rattle.aud_sio.specs.declared.whole.Whole.{Whole}

@@ -1,5 +1,5 @@
 -- Calls of `feed` one after another.
-use Rattle.std.specs.Prelude.{◌≡◌, ℕ, List, [], ◌∷◌, flat_map, Option, Some, None, Result, Ok, Err}
+use Rattle.std.specs.Prelude.{◌≡◌, ℕ, List, [], ◌∷◌, flat_map, Option, Result, Ok, Err}
 use Rattle.aud_eio.specs.Packet as eio
 use Rattle.aud_sio.specs.declared.fault.SioFault.{SioFault}
 use Rattle.aud_sio.specs.declared.fault.SioFault.TheVariants.{Memory}
