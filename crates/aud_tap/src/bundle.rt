@@ -1,15 +1,23 @@
 //! The taps of the lines.
 mod client_log;
+mod counts;
+mod node_log;
 mod open_tap;
 mod open_taps;
 mod pids;
 mod stream_log;
+
+ghost use Rattle.std.specs.Prelude.{◌≡◌, ◌≢◌, ◌∷◌, [], List, IfOk, IfErr, IfSome, Ok, Err, Some, None};
+ghost use Rattle.aud_tap.specs.declared.line.Line.{Line};
+ghost use Rattle.aud_tap.specs.Lines.{result_of};
+ghost use Rattle.aud_tap.specs.Bundle.{taps_of};
 
 use crate::fault::{LineFault, ReadFault};
 use crate::line::Line;
 use crate::taps::Taps;
 use open_taps::OpenTaps;
 use std::alloc::Global;
+use std::marker::Model;
 
 /// Reads the taps of the lines that it is given, one line at a time.
 ///
@@ -20,23 +28,47 @@ pub struct BundleReader {
     fault: Option<ReadFault>,
 }
 
+impl Model for BundleReader {
+    ghost use Rattle.std.specs.Prelude.{◌≡◌, None};
+    ghost use Rattle.aud_tap.specs.Bundle.{Reading};
+    ghost use Rattle.aud_tap.specs.Kept.{Keeps, taps_so_far};
+
+    ghost Value = { Reading };
+
+    ghost view = { λ s. record { taps = taps_so_far s.taps; fault = s.fault } };
+
+    ghost invariant = { λ s. s.fault ≡ None → Keeps s.taps };
+}
+
+/// Keeps a refusal, which is given from then on.
+fn refuse(kept: &mut Option<ReadFault>, fault: ReadFault) -> Result<(), ReadFault>
+    ensures after { kept.new ≡ Some fault }
+    ensures value { result ≡ Err fault }
+{
+    *kept = Some(fault);
+    Err(fault)
+}
+
 impl BundleReader {
+    ghost use Rattle.aud_tap.specs.Bundle.{taps_to_come};
+
     /// A reader before the first line.
-    pub fn new(alloc: Global) -> BundleReader {
+    pub fn new(alloc: Global) -> BundleReader
+        ensures state { result ≡ record { taps = []; fault = None } }
+        ensures taps { (lines : List Line) → taps_to_come result lines ≡ taps_of lines }
+    {
         BundleReader {
             taps: OpenTaps::new(alloc),
             fault: None,
         }
     }
 
-    /// Keeps a refusal, which is given from then on.
-    fn refuse(&mut self, fault: ReadFault) -> Result<(), ReadFault> {
-        self.fault = Some(fault);
-        Err(fault)
-    }
-
     /// Reads the next line. A line without bytes is passed over.
-    pub fn line(&mut self, line: &Line) -> Result<(), ReadFault> {
+    pub fn line(&mut self, line: &Line) -> Result<(), ReadFault>
+        ensures value { result ≡ result_of self.new.fault }
+        ensures taps { (more : List Line) → result ≢ Err ReadFault.Memory → taps_to_come self.new more ≡ taps_to_come self.old (line.now ∷ more) }
+        ensures refused { IfSome self.old.fault (λ fault. (result ≡ Err fault) × (self.new ≡ self.old)) }
+    {
         if let Some(fault) = self.fault {
             return Err(fault);
         }
@@ -46,13 +78,19 @@ impl BundleReader {
         }
         match self.taps.read_line(bytes) {
             Ok(()) => Ok(()),
-            Err(LineFault::Code(code)) => self.refuse(ReadFault::Input(line.number, code)),
-            Err(LineFault::Memory) => self.refuse(ReadFault::Memory),
+            Err(LineFault::Code(code)) => {
+                refuse(&mut self.fault, ReadFault::Input(line.number, code))
+            }
+            Err(LineFault::Memory) => refuse(&mut self.fault, ReadFault::Memory),
         }
     }
 
     /// The taps of the lines.
-    pub fn finish(self) -> Result<Taps, ReadFault> {
+    pub fn finish(self) -> Result<Taps, ReadFault>
+        ensures ok { IfOk result (λ taps. taps_to_come self [] ≡ Ok taps) }
+        ensures err { IfErr result (λ e. e ≢ ReadFault.Memory → self.fault ≡ Some e) }
+        ensures refused { IfSome self.fault (λ fault. result ≡ Err fault) }
+    {
         if let Some(fault) = self.fault {
             return Err(fault);
         }
@@ -67,10 +105,16 @@ impl BundleReader {
 /// and the first of the reasons that docs/FORMAT.md lists.
 ///
 /// Each line is judged by the taps of the lines before it. Lines without bytes are passed over.
-pub fn read_bundle(alloc: Global, lines: &[Line]) -> Result<Taps, ReadFault> {
+pub fn read_bundle(alloc: Global, lines: &[Line]) -> Result<Taps, ReadFault>
+    ensures read { IfOk result (λ taps. taps_of lines.now ≡ Ok taps) }
+    ensures refused { IfErr result (λ e. e ≢ ReadFault.Memory → taps_of lines.now ≡ Err e) }
+{
     let mut reader = BundleReader::new(alloc);
     for line in lines {
-        reader.line(line)?;
+        match reader.line(line) {
+            Ok(()) => {}
+            Err(fault) => return Err(fault),
+        }
     }
     reader.finish()
 }

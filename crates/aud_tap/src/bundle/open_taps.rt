@@ -1,6 +1,13 @@
 //! The taps of the lines so far.
+ghost use Rattle.std.specs.Prelude.{◌≡◌, ◌<◌, ◌∷◌, ◌++◌, [], List, ℕ, length, IfOk, OnOk, Ok, Some, None};
+ghost use Rattle.std.specs.HashMap.{get_by_text};
+ghost use Rattle.serde_json.specs.View.{view};
+ghost use Rattle.aud_tap.specs.Changes.{Becomes};
+ghost use Rattle.aud_tap.specs.Bundle.{no_records, with_header, with_line, with_named};
+
+use super::counts::Counts;
 use super::open_tap::OpenTap;
-use crate::fault::{InputCode, LIMIT, LineFault, Memory};
+use crate::fault::{InputCode, LineFault, Memory};
 use crate::read::header::tap_header;
 use crate::read::line::opened_line;
 use crate::read::record::kind_of;
@@ -15,106 +22,96 @@ const NO_HEADER: LineFault = LineFault::Code(InputCode::NoHeader);
 
 const HEADER_TWICE: LineFault = LineFault::Code(InputCode::HeaderTwice);
 
-const SECOND_STREAM: LineFault = LineFault::Code(InputCode::SecondStream);
-
-/// The most node taps.
-pub const MAX_NODE_TAPS: usize = 64;
-
-/// The most client taps.
-pub const MAX_CLIENT_TAPS: usize = 4_096;
-
-/// The taps in the order of their headers, the place of each by its name, how many there are of
-/// each kind, and the pids of all node records.
+/// The taps in the order of their headers, the place of each by its name, the pids of all node
+/// records, and how many taps there are of each kind.
 #[derive(Drop)]
 pub struct OpenTaps {
     alloc: Global,
     taps: Vec<OpenTap>,
     places: HashMap<String, usize>,
     pids: HashSet<String>,
-    streams: usize,
-    nodes: usize,
-    clients: usize,
+    counts: Counts,
 }
 
 impl OpenTaps {
-    pub fn new(alloc: Global) -> OpenTaps {
+    ghost use Rattle.aud_tap.specs.Kept.{Keeps, place_of, taps_so_far};
+
+    pub fn new(alloc: Global) -> OpenTaps
+        ensures taps { taps_so_far result ≡ [] }
+        ensures keeps { Keeps result }
+    {
         OpenTaps {
             alloc,
             taps: Vec::new(alloc),
             places: HashMap::new(alloc),
             pids: HashSet::new(alloc),
-            streams: 0,
-            nodes: 0,
-            clients: 0,
+            counts: Counts::new(),
         }
-    }
-
-    /// Counts one more tap of a kind, unless there are too many.
-    fn count(&mut self, of: TapKind) -> Result<(), LineFault> {
-        match of {
-            TapKind::Stream => {
-                if self.streams >= 1 {
-                    return Err(SECOND_STREAM);
-                }
-                self.streams += 1;
-            }
-            TapKind::Node => {
-                if self.nodes >= MAX_NODE_TAPS {
-                    return Err(LIMIT);
-                }
-                self.nodes += 1;
-            }
-            TapKind::Client => {
-                if self.clients >= MAX_CLIENT_TAPS {
-                    return Err(LIMIT);
-                }
-                self.clients += 1;
-            }
-        }
-        Ok(())
     }
 
     /// Puts a tap without records at the end.
-    fn push(&mut self, name: &str, of: TapKind) -> Result<(), LineFault> {
+    fn push(&mut self, name: &str, of: TapKind) -> Result<(), LineFault>
+        ensures taps { Becomes result (taps_so_far self.new) (Ok (taps_so_far self.old ++ record { name = name.now; records = no_records of } ∷ [])) }
+        ensures places { ((text : List ℕ) → get_by_text self.old.places text ≡ place_of text (taps_so_far self.old)) → place_of name.now (taps_so_far self.old) ≡ None
+            → OnOk result ((text : List ℕ) → get_by_text self.new.places text ≡ place_of text (taps_so_far self.new)) }
+        ensures others { self.new ≡ record self.old { taps = self.new.taps; places = self.new.places } }
+    {
         let Ok(key) = String::from_str(self.alloc, name) else {
             return Err(LineFault::Memory);
         };
         let Ok(name) = String::from_str(self.alloc, name) else {
             return Err(LineFault::Memory);
         };
-        if self.places.insert(key, self.taps.len()).is_err() {
+        let Ok(_) = self.places.insert(key, self.taps.len()) else {
             return Err(LineFault::Memory);
-        }
+        };
         let tap = OpenTap::new(self.alloc, Text::new(name), of);
-        match self.taps.push(tap) {
-            Ok(()) => Ok(()),
-            Err(_) => Err(LineFault::Memory),
-        }
+        let Ok(()) = self.taps.push(tap) else {
+            return Err(LineFault::Memory);
+        };
+        Ok(())
     }
 
     /// Reads the first line of a tap, which is its header.
-    fn begin(&mut self, name: &str, kind: &str, d: &Value) -> Result<(), LineFault> {
+    #[tactic(auto, unfolding(crate::specs::Bundle::with_header))]
+    fn begin(&mut self, name: &str, kind: &str, d: &Value) -> Result<(), LineFault>
+        requires keeps { Keeps self.old }
+        requires first { place_of name.now (taps_so_far self.old) ≡ None }
+        ensures taps { Becomes result (taps_so_far self.new) (with_header (taps_so_far self.old) name.now kind.now (view d.now)) }
+        ensures keeps { OnOk result (Keeps self.new) }
+    {
         if kind != "tap" {
             return Err(NO_HEADER);
         }
         let of = tap_header(d)?;
-        self.count(of)?;
-        self.push(name, of)
+        match self.counts.add(of) {
+            Ok(()) => self.push(name, of),
+            Err(e) => Err(e),
+        }
     }
 
     /// Reads a later line of the tap at a place.
-    fn go_on(&mut self, place: usize, kind: &str, d: &Value) -> Result<(), LineFault> {
+    #[tactic(auto, unfolding(crate::specs::Bundle::with_later))]
+    fn go_on(&mut self, place: usize, kind: &str, d: &Value) -> Result<(), LineFault>
+        requires keeps { Keeps self.old }
+        requires place { place < length (taps_so_far self.old) }
+        ensures taps { (name : List ℕ) → place_of name (taps_so_far self.old) ≡ Some place → Becomes result (taps_so_far self.new) (with_named (taps_so_far self.old) name kind.now (view d.now)) }
+        ensures keeps { OnOk result (Keeps self.new) }
+    {
         if kind == "tap" {
             return Err(HEADER_TWICE);
         }
-        match self.taps.get_mut(place) {
-            Some(tap) => tap.add(self.alloc, &mut self.pids, kind, d),
-            None => Err(LineFault::Memory),
-        }
+        let tap = &mut self.taps[place];
+        tap.add(self.alloc, &mut self.pids, kind, d)
     }
 
     /// Reads a line.
-    pub fn read_line(&mut self, line: &[u8]) -> Result<(), LineFault> {
+    #[tactic(auto, unfolding(crate::specs::Bundle::with_line))]
+    pub fn read_line(&mut self, line: &[u8]) -> Result<(), LineFault>
+        requires { Keeps self.old }
+        ensures taps { Becomes result (taps_so_far self.new) (with_line (taps_so_far self.old) line.now) }
+        ensures keeps { OnOk result (Keeps self.new) }
+    {
         let (name, d) = opened_line(self.alloc, line)?;
         let kind = kind_of(&d)?;
         match self.places.get(name).copied() {
@@ -124,7 +121,9 @@ impl OpenTaps {
     }
 
     /// The taps, at the end.
-    pub fn close(self) -> Result<Taps, Memory> {
+    pub fn close(self) -> Result<Taps, Memory>
+        ensures { IfOk result (λ taps. taps ≡ taps_so_far self) }
+    {
         let mut taps = Vec::new(self.alloc);
         for tap in self.taps {
             let Ok(()) = taps.push(tap.close()) else {
