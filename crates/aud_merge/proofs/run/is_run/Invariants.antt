@@ -1,4 +1,4 @@
-use Rattle.std.proofs.Common.{◌≡◌, ◌↔◌, drop}
+use Rattle.std.proofs.Common.{◌↔◌, drop}
 use Rattle.aud_merge.specs.Runs.{IsRun, RunsOn}
 use Rattle.aud_merge.proofs.run.is_run.Given as goal
 
