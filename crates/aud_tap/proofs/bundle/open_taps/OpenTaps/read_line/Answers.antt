@@ -17,7 +17,7 @@ pub returns-in-Some-clause-taps : goal.returns-in-Some-clause-taps
 returns-in-Some-clause-taps c =
     let place : place_of c.in_ok-name.name.now (taps_so_far c.args.self.now) ≡ Some c.in-Some.place =
     sym (c.requires.places c.in_ok-name.name.now) ∙ sym c.get.ensures.value ∙ sym c.copied.ensures ∙ c.in-Some.is in
-    rw (with_line-goes (taps_so_far c.args.self.now) c.args.line.now c.in_ok-name.name.now c.in_ok-kind.kind.now (view c.in_ok-name.d) c.in_ok-name.ensures c.in_ok-kind.ensures)
+    rw (with_line-goes (taps_so_far c.args.self.now) c.args.line.now c.in_ok-name.name.now c.in_ok-kind.kind.now (view c.in_ok-name.d) c.in_ok-name.ensures.reads c.in_ok-kind.ensures)
     (c.go_on.ensures.taps c.in_ok-name.name.now place)
 
 pub returns-clause-taps : goal.returns-clause-taps
@@ -25,7 +25,7 @@ returns-clause-taps c =
     let first : place_of c.in_ok-name.name.now (taps_so_far c.args.self.now) ≡ None =
     sym (c.requires.places c.in_ok-name.name.now) ∙ sym c.get.ensures.value ∙ sym c.copied.ensures ∙ c.in-None.is in
     rw (
-      with_line-goes (taps_so_far c.args.self.now) c.args.line.now c.in_ok-name.name.now c.in_ok-kind.kind.now (view c.in_ok-name.d) c.in_ok-name.ensures c.in_ok-kind.ensures,
+      with_line-goes (taps_so_far c.args.self.now) c.args.line.now c.in_ok-name.name.now c.in_ok-kind.kind.now (view c.in_ok-name.d) c.in_ok-name.ensures.reads c.in_ok-kind.ensures,
       named-first (taps_so_far c.args.self.now) c.in_ok-name.name.now c.in_ok-kind.kind.now (view c.in_ok-name.d) first,
     )
     c.begin.ensures.taps
