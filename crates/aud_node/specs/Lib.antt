@@ -17,3 +17,4 @@ pub mod Turns
 pub mod NodeIndexed
 pub mod LogsIndexed
 pub mod TapPackets
+pub mod ConnectionRead
