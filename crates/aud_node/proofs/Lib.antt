@@ -7,3 +7,4 @@ pub mod TurnLemmas
 pub mod NodeLemmas
 pub mod ReadLemmas
 pub mod ConnectionLemmas
+pub mod ClientLemmas

@@ -18,3 +18,4 @@ pub mod NodeIndexed
 pub mod LogsIndexed
 pub mod TapPackets
 pub mod ConnectionRead
+pub mod ClientRead
