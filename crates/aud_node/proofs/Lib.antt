@@ -5,3 +5,6 @@ pub mod PositionLemmas
 pub mod CursorLemmas
 pub mod TurnLemmas
 pub mod NodeLemmas
+pub mod ReadLemmas
+pub mod ConnectionLemmas
+pub mod ClientLemmas

@@ -17,3 +17,5 @@ pub mod Turns
 pub mod NodeIndexed
 pub mod LogsIndexed
 pub mod TapPackets
+pub mod ConnectionRead
+pub mod ClientRead

@@ -3,6 +3,8 @@
 //! Begin at [`logs`], which is made once from the taps; all that it lends was computed then.
 #![tactic(auto)]
 
+mod client_tap;
+mod connection;
 mod cursors;
 mod fields;
 mod logs;
@@ -15,6 +17,8 @@ mod recs;
 mod stream;
 mod turns;
 
+pub use client_tap::{ClientTap, Connection};
+pub use connection::{Placed, TapPacket};
 pub use fields::{offset, pid};
 pub use logs::Logs;
 pub use node_log::NodeLog;

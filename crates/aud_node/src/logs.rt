@@ -2,10 +2,11 @@
 ghost use Rattle.std.specs.Prelude.{◌≡◌, IfOk, map};
 ghost use Rattle.std.specs.Option.{option_copied};
 ghost use Rattle.aud_node.specs.Cluster.{cluster_of, stream_of, stream_place};
-ghost use Rattle.aud_node.specs.NodeTaps.{node_at, node_tap};
-ghost use Rattle.aud_node.specs.LogsIndexed.{node_of};
+ghost use Rattle.aud_node.specs.NodeTaps.{node_at, node_tap, client_at, client_recs};
+ghost use Rattle.aud_node.specs.LogsIndexed.{node_of, client_of};
 ghost use Rattle.aud_node.specs.Names.{place_of};
 
+use crate::client_tap::ClientTap;
 use crate::names::Names;
 use crate::node_log::NodeLog;
 use crate::stream::Stream;
@@ -18,7 +19,7 @@ use std::marker::Model;
 pub enum Log<'a> {
     Stream,
     Node(NodeLog<'a>),
-    Client,
+    Client(ClientTap<'a>),
 }
 
 /// The taps, lent, with what was made of them once: seen as the cluster. A tap is named by its place, which counts
@@ -99,10 +100,20 @@ impl<'a> Logs<'a> {
             None => None,
         }
     }
+
+    /// The client's tap at this place; none where that tap is no client's.
+    pub fn client(&self, place: usize) -> Option<&ClientTap<'a>>
+        ensures { option_copied result ≡ client_at self.now place }
+    {
+        match self.logs.get(place) {
+            Some(log) => log.client(),
+            None => None,
+        }
+    }
 }
 
 impl<'a> Log<'a> {
-    ghost use Rattle.aud_node.specs.LogsIndexed.{node_of};
+    ghost use Rattle.aud_node.specs.LogsIndexed.{node_of, client_of};
 
     /// The node's log, if it is one.
     fn node(&self) -> Option<&NodeLog<'a>>
@@ -111,7 +122,18 @@ impl<'a> Log<'a> {
         match self {
             Log::Node(log) => Some(log),
             Log::Stream => None,
-            Log::Client => None,
+            Log::Client(_) => None,
+        }
+    }
+
+    /// The client's tap, if it is one.
+    fn client(&self) -> Option<&ClientTap<'a>>
+        ensures { option_copied result ≡ client_of self.now }
+    {
+        match self {
+            Log::Client(tap) => Some(tap),
+            Log::Stream => None,
+            Log::Node(_) => None,
         }
     }
 }
@@ -146,7 +168,8 @@ fn logs_of<'a>(
     stream: &Stream<'a>,
     taps: &'a [Tap],
 ) -> Result<Vec<Log<'a>>, AllocError>
-    ensures { IfOk result (λ logs. map node_of logs.items ≡ map (node_tap stream.now) taps.now) }
+    ensures nodes { IfOk result (λ logs. map node_of logs.items ≡ map (node_tap stream.now) taps.now) }
+    ensures clients { IfOk result (λ logs. map client_of logs.items ≡ map client_recs taps.now) }
 {
     let mut logs = Vec::new(alloc);
     for tap in taps {
@@ -157,11 +180,12 @@ fn logs_of<'a>(
 
 /// What is kept of the tap.
 fn log_of<'a>(alloc: Global, stream: &Stream<'a>, tap: &'a Tap) -> Result<Log<'a>, AllocError>
-    ensures { IfOk result (λ log. node_of log ≡ node_tap stream.now tap.now) }
+    ensures node { IfOk result (λ log. node_of log ≡ node_tap stream.now tap.now) }
+    ensures client { IfOk result (λ log. client_of log ≡ client_recs tap.now) }
 {
     match &tap.records {
         Records::Stream(_) => Ok(Log::Stream),
         Records::Node(recs) => Ok(Log::Node(NodeLog::build(alloc, stream, recs.as_slice())?)),
-        Records::Client(_) => Ok(Log::Client),
+        Records::Client(recs) => { Ok(Log::Client(ClientTap::build(alloc, recs.as_slice())?)) }
     }
 }
