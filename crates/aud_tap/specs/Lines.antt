@@ -5,7 +5,7 @@ use Rattle.aud_tap.specs.declared.line.Line.{Line}
 use Rattle.aud_tap.specs.declared.fault.ReadFault.{ReadFault}
 use Rattle.aud_tap.specs.declared.fault.ReadFault.TheVariants.{Input}
 use Rattle.aud_tap.specs.declared.fault.InputCode.TheVariants.{LineTooLong}
-use Rattle.aud_tap.specs.declared.splitter.TheConstants.{LINE_LIMIT}
+use Rattle.aud_tap.specs.Limits.{max_line}
 
 -- a byte in front of the first of these pieces
 abbrev pub onto_first : ℕ → List (List ℕ) → List (List ℕ)
@@ -23,7 +23,7 @@ without_return l = if nat_lt 0 (length l) && (slice_index l (length l - 1) == 13
 
 -- a line is measured without its newline and without the carriage return that is dropped
 abbrev pub is_too_long : List ℕ → Bool
-is_too_long l = nat_lt LINE_LIMIT (length (without_return l))
+is_too_long l = nat_lt max_line (length (without_return l))
 
 -- the line of this number, or its refusal
 abbrev pub line_at : ℕ → List ℕ → Result Line ReadFault

@@ -16,10 +16,11 @@ mod write;
 
 pub use bundle::{BundleReader, read_bundle};
 pub use fault::{InputCode, Memory, ReadFault};
+pub use limits::MAX_LINE;
 pub use line::Line;
 pub use read::parse_line;
 pub use records::{ClientRec, Event, NodeRec, Rec, StreamRec, TapKind};
-pub use splitter::{LINE_LIMIT, Splitter};
+pub use splitter::Splitter;
 pub use taps::{ClientRecs, NodeRecs, Records, StreamRecs, Tap, Taps};
 pub use text::{Blobs, Bytes, Text, Texts};
 pub use write::write_line;

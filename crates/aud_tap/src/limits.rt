@@ -5,6 +5,7 @@ ghost use Rattle.aud_tap.specs.Limits.{fits, fit_rooms};
 
 use crate::text::Text;
 
+/// The most bytes of a line, without its newline and without the carriage return that is dropped.
 pub const MAX_LINE: usize = 4_194_304;
 
 pub const MAX_NAME: usize = 32;

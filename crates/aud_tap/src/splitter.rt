@@ -3,15 +3,13 @@ ghost use Rattle.std.specs.Prelude.{◌≡◌, ◌+◌, ◌-◌, ◌^◌, ◌<�
 ghost use Rattle.aud_tap.specs.Lines.{lines_of, lines_to_come, without_return, has_newline, IsPartial, line_at, line_ended, line_begun, result_of};
 
 use crate::fault::{InputCode, ReadFault};
+use crate::limits::MAX_LINE;
 use crate::line::Line;
 use crate::text::Bytes;
 use memchr::memchr;
 use std::alloc::Global;
 use std::marker::Model;
 use std::mem;
-
-/// The most bytes of a line, without its newline and without the carriage return that is dropped.
-pub const LINE_LIMIT: usize = 4_194_304;
 
 /// Cuts an input that comes in pieces into lines.
 ///
@@ -64,7 +62,7 @@ fn whole_line(number: u64, text: Vec<u8>) -> Result<Line, ReadFault>
 {
     let mut bytes = text;
     let length = strip_return(&bytes).len();
-    if length > LINE_LIMIT {
+    if length > MAX_LINE {
         return Err(ReadFault::Input(number, InputCode::LineTooLong));
     }
     bytes.truncate(length);
@@ -146,7 +144,7 @@ impl Splitter {
         let Ok(()) = self.rest.extend_from_slice(front) else {
             return refuse(&mut self.fault, ReadFault::Memory);
         };
-        if strip_return(&self.rest).len() > LINE_LIMIT {
+        if strip_return(&self.rest).len() > MAX_LINE {
             return refuse(
                 &mut self.fault,
                 ReadFault::Input(self.number, InputCode::LineTooLong),
