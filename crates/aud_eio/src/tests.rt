@@ -4,23 +4,32 @@ use crate::{
 };
 use std::test::Fail;
 
+/// The payload of the `open` packet in section "Handshake" of the document.
+const HANDSHAKE: &str =
+    r#"{"sid":"lv_VI97HAXpY6yYWAAAC","upgrades":["websocket"],"pingInterval":25000,"pingTimeout":20000,"maxPayload":1000000}"#;
+
+/// The packet types of the document, with the probe of section "Upgrade".
 #[test]
 fn texts(rt: HostRuntime) -> Result<(), Fail> {
+    let mut opening = String::from_str(rt.alloc(), "0")?;
+    opening.push_str(HANDSHAKE)?;
     let cases = [
-        (
-            "0{\"sid\":\"lv\"}",
-            Eio::Control(Control::Opening, "{\"sid\":\"lv\"}"),
-        ),
+        (opening.as_str(), Eio::Control(Control::Opening, HANDSHAKE)),
         ("1", Eio::Control(Control::Closing, "")),
         ("2", Eio::Control(Control::Ping, "")),
+        ("2probe", Eio::Control(Control::Ping, "probe")),
+        ("3", Eio::Control(Control::Pong, "")),
         ("3probe", Eio::Control(Control::Pong, "probe")),
+        ("4", Eio::Message("")),
         ("4hello", Eio::Message("hello")),
+        ("4\u{20ac}", Eio::Message("\u{20ac}")),
         ("5", Eio::Control(Control::Upgrade, "")),
         ("6", Eio::Control(Control::Noop, "")),
         (
             "bAQIDBA==",
             Eio::Own(Vec::from_array(rt.alloc(), [1, 2, 3, 4])?),
         ),
+        ("bAQI=", Eio::Own(Vec::from_array(rt.alloc(), [1, 2])?)),
     ];
     for (text, packet) in cases {
         assert_eq!(rt; encode_text(rt.alloc(), &packet)?.as_str(), text);
@@ -34,17 +43,22 @@ fn refusals(rt: HostRuntime) {
     let cases = [
         ("", EioFault::Empty),
         ("7x", EioFault::UnknownType),
+        ("B", EioFault::UnknownType),
+        ("hello", EioFault::UnknownType),
         ("\u{e9}", EioFault::UnknownType),
         ("bAQ=", EioFault::BadBase64),
         ("bAQI", EioFault::BadBase64),
         ("bAQJ=", EioFault::BadBase64),
+        ("bAQID\n", EioFault::BadBase64),
+        ("b-_8=", EioFault::BadBase64),
+        ("b=", EioFault::BadBase64),
     ];
     for (text, fault) in cases {
         assert_eq!(rt; decode_text(rt.alloc(), text).err(), Some(fault), "{text}");
     }
 }
 
-/// RFC 4648, section 10.
+/// RFC 4648, section 10; the last one has the two signs of its alphabet, section 4.
 #[test]
 fn base64_vectors(rt: HostRuntime) -> Result<(), Fail> {
     let cases = [
@@ -55,6 +69,7 @@ fn base64_vectors(rt: HostRuntime) -> Result<(), Fail> {
         ("bZm9vYg==", "foob"),
         ("bZm9vYmE=", "fooba"),
         ("bZm9vYmFy", "foobar"),
+        ("bPz8/Pj4+", "???>>>"),
     ];
     for (text, plain) in cases {
         let packet = decode_text(rt.alloc(), text)?;
@@ -66,6 +81,24 @@ fn base64_vectors(rt: HostRuntime) -> Result<(), Fail> {
         let lent = decode_binary(plain.as_bytes());
         assert_eq!(rt; encode_text(rt.alloc(), &lent)?.as_str(), text);
     }
+    Ok(())
+}
+
+/// The bodies of section "HTTP long-polling", "Packet encoding", of the document.
+#[test]
+fn bodies_of_the_document(rt: HostRuntime) -> Result<(), Fail> {
+    let packets = decode_payload(rt.alloc(), "4hello\u{1e}2\u{1e}4world")?;
+    assert_eq!(rt; packets.len(), 3);
+    assert_eq!(rt; packets[0], Eio::Message("hello"));
+    assert_eq!(rt; packets[1], Eio::Control(Control::Ping, ""));
+    assert_eq!(rt; packets[2], Eio::Message("world"));
+    let body = encode_payload(rt.alloc(), &packets)?;
+    assert_eq!(rt; body.as_str(), "4hello\u{1e}2\u{1e}4world");
+    let buffer = Vec::from_array(rt.alloc(), [1, 2, 3, 4])?;
+    let packets = decode_payload(rt.alloc(), "4hello\u{1e}bAQIDBA==")?;
+    assert_eq!(rt; packets.len(), 2);
+    assert_eq!(rt; packets[0], Eio::Message("hello"));
+    assert_eq!(rt; packets[1], Eio::Own(buffer));
     Ok(())
 }
 

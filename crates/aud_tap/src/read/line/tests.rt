@@ -1,6 +1,6 @@
 use super::parse_line;
 use crate::InputCode::{self, Field, Limit, LineTooLong, NoTapName, NotJson, UnknownKind, Version};
-use crate::{Bytes, Line, ReadFault};
+use crate::{Bytes, ClientRec, Line, NodeRec, ReadFault, Rec, StreamRec, TapKind};
 use std::alloc::Global;
 use std::test::Fail;
 
@@ -14,7 +14,7 @@ fn refusal(alloc: Global, text: &[u8]) -> Result<Option<InputCode>, Fail> {
     }
 }
 
-const REFUSED: [(&str, InputCode); 34] = [
+const REFUSED: [(&str, InputCode); 33] = [
     ("", NoTapName),
     (r#"{"k":"lost"}"#, NoTapName),
     (r#" {"k":"lost"}"#, NoTapName),
@@ -25,7 +25,6 @@ const REFUSED: [(&str, InputCode); 34] = [
     ),
     (r#"a {"k":"lost""#, NotJson),
     (r#"a {"k":"lost"}}"#, NotJson),
-    (r#"a {"k":"lost","x":"\ud800"}"#, NotJson),
     (r#"a ["k"]"#, Field),
     (r#"a {"K":"lost"}"#, Field),
     (r#"a {"k":null}"#, Field),
@@ -75,9 +74,54 @@ fn refuses(rt: HostRuntime) -> Result<(), Fail> {
             "at {text}"
         );
     }
+    Ok(())
+}
+
+/// Half a surrogate pair, at either end of it, with another half or with none.
+#[test]
+fn refuses_unpaired_surrogates(rt: HostRuntime) -> Result<(), Fail> {
+    for text in [
+        r#"a {"k":"in","t":"\ud800"}"#,
+        r#"a {"k":"in","t":"\ud800\ud800"}"#,
+        r#"a {"k":"in","t":"\ud83dx"}"#,
+        r#"a {"k":"in","t":"\ude00"}"#,
+        r#"a {"k":"in","t":"\ude00\ud83d"}"#,
+        r#"a {"k":"lost","x":"\ud800"}"#,
+        r#"a {"k":"lost","\udfff":0}"#,
+    ] {
+        assert_eq!(rt;
+            refusal(rt.alloc(), text.as_bytes())?,
+            Some(NotJson),
+            "at {text}"
+        );
+    }
+    let pair = r#"a {"k":"in","t":"\ud83d\ude00"}"#;
+    assert_eq!(rt; refusal(rt.alloc(), pair.as_bytes())?, None);
+    Ok(())
+}
+
+/// A stray byte, half a sequence, a longer form than is needed, a surrogate, and what is past the last code point
+/// (RFC 3629, section 3).
+#[test]
+fn refuses_what_is_not_utf8(rt: HostRuntime) -> Result<(), Fail> {
+    let texts = [
+        b"a {\"k\":\"in\",\"t\":\"\xff\"}".as_slice(),
+        b"a {\"k\":\"in\",\"t\":\"\x80\"}",
+        b"a {\"k\":\"in\",\"t\":\"\xc3\"}",
+        b"a {\"k\":\"in\",\"t\":\"\xc0\xaf\"}",
+        b"a {\"k\":\"in\",\"t\":\"\xed\xa0\x80\"}",
+        b"a {\"k\":\"in\",\"t\":\"\xf4\x90\x80\x80\"}",
+        b"a {\"k\":\"lost\",\"\xe9\":0}",
+        b"a {\"k\":\"lost\"}\xa0",
+    ];
+    for text in texts {
+        assert_eq!(rt; refusal(rt.alloc(), text)?, Some(NotJson));
+    }
+    let two_bytes = b"a {\"k\":\"in\",\"t\":\"\xc3\xa9\"}";
+    assert_eq!(rt; refusal(rt.alloc(), two_bytes)?, None);
     assert_eq!(rt;
-        refusal(rt.alloc(), b"a {\"k\":\"in\",\"t\":\"\xff\"}")?,
-        Some(NotJson)
+        refusal(rt.alloc(), b"\xe9 {\"k\":\"lost\"}")?,
+        Some(NoTapName)
     );
     Ok(())
 }
@@ -93,7 +137,7 @@ fn repeated(alloc: Global, begin: &str, part: &str, n: usize, end: &str) -> Resu
 }
 
 /// What is repeated between a begin and an end, how often it may be, and the refusal of one more.
-const LIMITS: [(&str, &str, usize, &str, InputCode); 12] = [
+const LIMITS: [(&str, &str, usize, &str, InputCode); 11] = [
     ("", "n", 32, r#" {"k":"lost"}"#, NoTapName),
     (r#"a {"k":"take","off":""#, "1", 64, r#""}"#, Limit),
     (r#"a {"k":"start","off":""#, "1", 64, r#""}"#, Limit),
@@ -141,7 +185,6 @@ const LIMITS: [(&str, &str, usize, &str, InputCode); 12] = [
         "]}",
         Limit,
     ),
-    (r#"c1 {"k":"lost"}"#, " ", 4_194_289, "", LineTooLong),
 ];
 
 #[test]
@@ -156,6 +199,18 @@ fn keeps_limits(rt: HostRuntime) -> Result<(), Fail> {
     Ok(())
 }
 
+#[test]
+fn reads_a_line_of_4194304_bytes(rt: HostRuntime) -> Result<(), Fail> {
+    let alloc = rt.alloc();
+    let lost = r#"c1 {"k":"lost"}"#;
+    let most = repeated(alloc, lost, " ", 4_194_289, "")?;
+    assert_eq!(rt; most.len(), 4_194_304);
+    assert_eq!(rt; refusal(alloc, most.as_bytes())?, None);
+    let more = repeated(alloc, lost, " ", 4_194_290, "")?;
+    assert_eq!(rt; refusal(alloc, more.as_bytes())?, Some(LineTooLong));
+    Ok(())
+}
+
 /// A line with so many arrays inside one another, in an object.
 fn nested(alloc: Global, arrays: usize) -> Result<String, Fail> {
     let mut text = repeated(alloc, r#"c1 {"k":"lost","x":"#, "[", arrays, "")?;
@@ -166,13 +221,127 @@ fn nested(alloc: Global, arrays: usize) -> Result<String, Fail> {
     Ok(text)
 }
 
+/// 127 objects and arrays inside one another are read, 128 are not.
 #[test]
-fn nests(rt: HostRuntime) -> Result<(), Fail> {
+fn reads_127_levels(rt: HostRuntime) -> Result<(), Fail> {
     let alloc = rt.alloc();
     assert_eq!(rt; refusal(alloc, nested(alloc, 126)?.as_bytes())?, None);
     assert_eq!(rt;
         refusal(alloc, nested(alloc, 127)?.as_bytes())?,
         Some(NotJson)
     );
+    Ok(())
+}
+
+/// The record of a line of the tap `t`.
+fn record(alloc: Global, json: &str) -> Result<Rec, Fail> {
+    let mut text = String::from_str(alloc, "t ")?;
+    text.push_str(json)?;
+    let bytes = Bytes::new(text.into_bytes());
+    let (_, rec) = parse_line(alloc, &Line { number: 1, bytes })?;
+    Ok(rec)
+}
+
+#[test]
+fn passes_over_unknown_keys(rt: HostRuntime) -> Result<(), Fail> {
+    for json in [
+        r#"{"k":"take","off":"1-0"}"#,
+        r#"{"k":"take","off":"1-0","turn":0}"#,
+        r#"{"K":"lost","OFF":"2-0","k":"take","off":"1-0"}"#,
+        r#"{"":{"k":"lost","off":[{}]},"k":"take","pid":null,"off":"1-0","v":1.5e300}"#,
+    ] {
+        let rec = record(rt.alloc(), json)?;
+        let is_read = matches!(&rec, Rec::Node(NodeRec::Take { off }) if off.as_str() == "1-0");
+        assert!(rt; is_read, "at {json}");
+    }
+    Ok(())
+}
+
+/// Also where the last value is of another kind, or refused.
+#[test]
+fn takes_the_last_of_doubled_keys(rt: HostRuntime) -> Result<(), Fail> {
+    let rec = record(rt.alloc(), r#"{"t":"first","k":"in","t":"second"}"#)?;
+    let is_last = matches!(&rec, Rec::Client(ClientRec::TextIn { t }) if t.as_str() == "second");
+    assert!(rt; is_last);
+    let rec = record(rt.alloc(), r#"{"k":"conn","c":"1","c":1,"k":"lost"}"#)?;
+    assert!(rt; matches!(rec, Rec::Client(ClientRec::Lost)));
+    let refused = refusal(rt.alloc(), br#"c1 {"k":"conn","c":1,"c":"1"}"#)?;
+    assert_eq!(rt; refused, Some(Field));
+    Ok(())
+}
+
+#[test]
+fn reads_the_fields_of_an_event(rt: HostRuntime) -> Result<(), Fail> {
+    let json =
+        r#"{"k":"ev","off":"4-0","nsp":"/n","rooms":["r"],"except":["s1","s2"],"bin":["AQI=","Aw=="],"text":"2[\"hi\",\"4-0\"]"}"#;
+    let Rec::Stream(StreamRec::Ev(event)) = record(rt.alloc(), json)? else {
+        assert!(rt; false);
+        return Ok(());
+    };
+    assert_eq!(rt; event.off.as_str(), "4-0");
+    assert_eq!(rt; event.nsp.as_str(), "/n");
+    assert_eq!(rt; event.text.as_str(), r#"2["hi","4-0"]"#);
+    assert_eq!(rt; event.rooms.as_slice().len(), 1);
+    assert_eq!(rt; event.rooms.as_slice()[0].as_str(), "r");
+    assert_eq!(rt; event.except.as_slice().len(), 2);
+    assert_eq!(rt; event.except.as_slice()[1].as_str(), "s2");
+    assert_eq!(rt; event.bin.as_slice().len(), 2);
+    assert_eq!(rt; event.bin.as_slice()[0].as_slice(), [1, 2].as_slice());
+    assert_eq!(rt; event.bin.as_slice()[1].as_slice(), [3].as_slice());
+    Ok(())
+}
+
+#[test]
+fn reads_the_fields_of_the_other_records(rt: HostRuntime) -> Result<(), Fail> {
+    let alloc = rt.alloc();
+    let header = record(alloc, r#"{"k":"tap","v":1,"of":"node"}"#)?;
+    assert!(rt;
+        matches!(
+            header,
+            Rec::Header {
+                of: TapKind::Node,
+                v: 1
+            }
+        )
+    );
+    let other = record(alloc, r#"{"k":"other","off":"2-0"}"#)?;
+    assert!(rt; matches!(&other, Rec::Stream(StreamRec::Other { off }) if off.as_str() == "2-0"));
+    let begin = record(alloc, r#"{"k":"start","off":null}"#)?;
+    assert!(rt; matches!(begin, Rec::Node(NodeRec::Start { off: None })));
+    let start = record(alloc, r#"{"k":"start","off":"1-0"}"#)?;
+    assert!(rt;
+        matches!(&start, Rec::Node(NodeRec::Start { off: Some(off) }) if off.as_str() == "1-0")
+    );
+    let open = record(alloc, r#"{"k":"open","pid":"P","sid":"s1","nsp":"/"}"#)?;
+    assert!(rt;
+        matches!(&open, Rec::Node(NodeRec::Opened { pid, sid, nsp })
+        if pid.as_str() == "P" && sid.as_str() == "s1" && nsp.as_str() == "/")
+    );
+    let join = record(alloc, r#"{"k":"join","pid":"P","room":"r"}"#)?;
+    assert!(rt;
+        matches!(&join, Rec::Node(NodeRec::Join { pid, room }) if pid.as_str() == "P" && room.as_str() == "r")
+    );
+    let leave = record(alloc, r#"{"k":"leave","pid":"P","room":"r"}"#)?;
+    assert!(rt;
+        matches!(&leave, Rec::Node(NodeRec::Leave { pid, room }) if pid.as_str() == "P" && room.as_str() == "r")
+    );
+    let broke = record(alloc, r#"{"k":"break","pid":"P","turn":0}"#)?;
+    assert!(rt;
+        matches!(&broke, Rec::Node(NodeRec::Broke { pid, turn: 0 }) if pid.as_str() == "P")
+    );
+    let back = record(alloc, r#"{"k":"back","pid":"P","turn":1}"#)?;
+    assert!(rt; matches!(&back, Rec::Node(NodeRec::Back { pid, turn: 1 }) if pid.as_str() == "P"));
+    let gone = record(alloc, r#"{"k":"gone","pid":"P"}"#)?;
+    assert!(rt; matches!(&gone, Rec::Node(NodeRec::Gone { pid }) if pid.as_str() == "P"));
+    let conn = record(alloc, r#"{"k":"conn","c":2}"#)?;
+    assert!(rt; matches!(conn, Rec::Client(ClientRec::Conn { c: 2 })));
+    let bytes = record(alloc, r#"{"k":"inb","b":"AQI="}"#)?;
+    assert!(rt;
+        matches!(&bytes, Rec::Client(ClientRec::BytesIn { b }) if b.as_slice() == [1, 2].as_slice())
+    );
+    let poll = record(alloc, r#"{"k":"poll","t":"2\u001e42[]"}"#)?;
+    assert!(rt; matches!(&poll, Rec::Client(ClientRec::Poll { t }) if t.as_str() == "2\u{1e}42[]"));
+    let out = record(alloc, r#"{"k":"out","t":"3"}"#)?;
+    assert!(rt; matches!(&out, Rec::Client(ClientRec::TextOut { t }) if t.as_str() == "3"));
     Ok(())
 }
