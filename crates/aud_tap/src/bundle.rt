@@ -12,7 +12,7 @@ ghost use Rattle.aud_tap.specs.declared.line.Line.{Line};
 ghost use Rattle.aud_tap.specs.Lines.{result_of};
 ghost use Rattle.aud_tap.specs.Bundle.{taps_of};
 
-use crate::fault::{LineFault, ReadFault};
+use crate::fault::{LineFault, ReadFault, refuse};
 use crate::line::Line;
 use crate::taps::Taps;
 use open_taps::OpenTaps;
@@ -38,15 +38,6 @@ impl Model for BundleReader {
     ghost view = { λ s. record { taps = taps_so_far s.taps; fault = s.fault } };
 
     ghost invariant = { λ s. s.fault ≡ None → Keeps s.taps };
-}
-
-/// Keeps a refusal, which is given from then on.
-fn refuse(kept: &mut Option<ReadFault>, fault: ReadFault) -> Result<(), ReadFault>
-    ensures after { kept.new ≡ Some fault }
-    ensures value { result ≡ Err fault }
-{
-    *kept = Some(fault);
-    Err(fault)
 }
 
 impl BundleReader {

@@ -1,4 +1,6 @@
 //! Why an input is refused.
+ghost use Rattle.std.specs.Prelude.{◌≡◌, Some, Err};
+
 use std::alloc::AllocError;
 
 /// Memory for a result could not be had.
@@ -60,3 +62,12 @@ pub const LIMIT: LineFault = LineFault::Code(InputCode::Limit);
 
 /// The tap has no record of this kind.
 pub const UNKNOWN_KIND: LineFault = LineFault::Code(InputCode::UnknownKind);
+
+/// Keeps a refusal, which is given from then on.
+pub fn refuse(kept: &mut Option<ReadFault>, fault: ReadFault) -> Result<(), ReadFault>
+    ensures after { kept.new ≡ Some fault }
+    ensures value { result ≡ Err fault }
+{
+    *kept = Some(fault);
+    Err(fault)
+}

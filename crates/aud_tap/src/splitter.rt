@@ -2,7 +2,7 @@
 ghost use Rattle.std.specs.Prelude.{◌≡◌, ◌+◌, ◌-◌, ◌^◌, ◌<◌, ◌≤◌, ◌++◌, [], ◌∷◌, List, ℕ, length, take, Some, None, Ok, Err, IfOk, IfErr, OnOk, IfSome, IfNone, false, ◌≢◌};
 ghost use Rattle.aud_tap.specs.Lines.{lines_of, lines_to_come, without_return, has_newline, IsPartial, line_at, line_ended, line_begun, result_of};
 
-use crate::fault::{InputCode, ReadFault};
+use crate::fault::{InputCode, ReadFault, refuse};
 use crate::limits::MAX_LINE;
 use crate::line::Line;
 use crate::text::Bytes;
@@ -70,15 +70,6 @@ fn whole_line(number: u64, text: Vec<u8>) -> Result<Line, ReadFault>
         number,
         bytes: Bytes::new(bytes),
     })
-}
-
-/// Keeps a refusal, which is given from then on.
-fn refuse(kept: &mut Option<ReadFault>, fault: ReadFault) -> Result<(), ReadFault>
-    ensures after { kept.new ≡ Some fault }
-    ensures value { result ≡ Err fault }
-{
-    *kept = Some(fault);
-    Err(fault)
 }
 
 impl Splitter {
