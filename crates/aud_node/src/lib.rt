@@ -9,6 +9,7 @@ mod cursors;
 mod fields;
 mod logs;
 mod names;
+mod naming;
 mod node_log;
 mod offsets;
 mod own_records;
