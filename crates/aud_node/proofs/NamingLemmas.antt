@@ -39,6 +39,7 @@ with_place-twice place xs = go (is_place place (slice_get xs (length xs - 1))) r
     put =
         ap (λ b. cond b (xs ++ place ∷ []) ((xs ++ place ∷ []) ++ place ∷ []))
         (ap (λ n. is_place place (slice_get (xs ++ place ∷ []) n)) (length-put xs place) ∙ ap (is_place place) (last-put xs place) ∙ is_place-same place)
+
     go : (b : Bool) → is_place place (slice_get xs (length xs - 1)) ≡ b → with_place place (cond b xs (xs ++ place ∷ [])) ≡ cond b xs (xs ++ place ∷ [])
     go true is = ap (λ b. cond b xs (xs ++ place ∷ [])) is
     go false is = put
@@ -77,6 +78,7 @@ noted-next p i kept is = ap (λ xs. cond (p i) xs kept) put ∙ filter-more p i 
   where
     below : is_place i (slice_get kept (length kept - 1)) ≡ false
     below = ap (λ xs. is_place i (slice_get xs (length xs - 1))) is ∙ is_place-below i (filter p (numbers_from 0 i)) (length (filter p (numbers_from 0 i)) - 1) (AreBelow-filter p i 0 i (omega arith))
+
     put : with_place i kept ≡ kept ++ i ∷ []
     put = ap (λ b. cond b kept (kept ++ i ∷ [])) below
 

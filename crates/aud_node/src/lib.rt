@@ -29,4 +29,8 @@ pub use replies::{Reply, reply_of};
 pub use stream::Stream;
 
 #[cfg(test)]
+mod client_tests;
+#[cfg(test)]
+mod naming_tests;
+#[cfg(test)]
 mod tests;
