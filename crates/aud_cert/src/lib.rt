@@ -16,3 +16,6 @@ pub use certificate::{Certificate, Turn};
 pub use fault::{CertFault, Fault};
 pub use read::read_cert;
 pub use write::write_cert;
+
+#[cfg(test)]
+mod tests;
