@@ -5,3 +5,5 @@ pub mod Telling
 pub mod Maps
 pub mod Kept
 pub mod Connections
+pub mod Named
+pub mod ByPlace

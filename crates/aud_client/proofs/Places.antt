@@ -92,7 +92,7 @@ has-begins n before q r e starts =
     ap (λ b. has n (cond b (stay_at before q r ∷ stays_from (before ++ q ∷ []) r) (stays_from (before ++ q ∷ []) r))) starts
     ∙ ap (λ b. b || has n (stays_from (before ++ q ∷ []) r)) (of_stay_at n before q r starts ∙ e)
 
-begins-in : (n : List ℕ) (before : List TapPacket) (q : TapPacket) → bytes_eq (namespace q) n ≡ true → begins before q ≡ not (goes_on (stay_after n before) q)
+pub begins-in : (n : List ℕ) (before : List TapPacket) (q : TapPacket) → bytes_eq (namespace q) n ≡ true → begins before q ≡ not (goes_on (stay_after n before) q)
 begins-in n before q e = ap (λ m. not (goes_on (stay_after m before) q)) (same_text (namespace q) n e)
 
 pub passed : (n : List ℕ) (before behind : List TapPacket) → Passed n before behind

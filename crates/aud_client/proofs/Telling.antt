@@ -64,7 +64,7 @@ last_of-more (x ∷ []) y = refl
 last_of-more (x ∷ z ∷ zs) y = last_of-more (z ∷ zs) y
 
 -- of one packet alone
-reply_of-one : (p : TapPacket) → reply_of (p ∷ []) ≡ reply_at p
+pub reply_of-one : (p : TapPacket) → reply_of (p ∷ []) ≡ reply_at p
 reply_of-one p = go (is_reply p) refl
   where
     go : (b : Bool) → is_reply p ≡ b → cond b (reply_at p) None ≡ reply_at p
@@ -96,6 +96,9 @@ unreplied (y ∷ ys) x e = go (is_reply y) (unreplied ys x) e
         → (cond b (reply_at y) (reply_of (ys ++ x)) ≡ reply_of x) × (cond b [] (y ∷ before_reply (ys ++ x)) ≡ y ∷ (ys ++ before_reply x))
     go true ih e = absurd (true≢false e)
     go false ih e = let both = ih e in (both.0, ap (λ l. y ∷ l) both.1)
+
+pub none_yet : (s : List TapPacket) → list_any is_reply s ≡ false → reply_of s ≡ None
+none_yet s none = sym (ap reply_of (append-nil s)) ∙ (unreplied s [] none).0
 
 asked-more : (s : List TapPacket) (p : TapPacket) (o : Option AskedSeen) → ask_of p ≡ o → last_of (filter_map ask_of (s ++ p ∷ [])) ≡ option_or o (last_of (filter_map ask_of s))
 asked-more s p None e = ap last_of (filter_map-append ask_of s (p ∷ []) ∙ ap (λ o. filter_map ask_of s ++ cons_option o []) e ∙ append-nil _)
@@ -129,9 +132,6 @@ told-more stream c (x ∷ xs) p e = same_told c (namespace x) _ _ _ _ _ _ (both 
     not_reply : list_any is_reply (x ∷ xs) ≡ true → is_reply p ≡ false
     not_reply some = ap (λ b. b && is_from_server p) (no_connect (x ∷ xs) p e some)
 
-    none_yet : list_any is_reply (x ∷ xs) ≡ false → reply_of (x ∷ xs) ≡ None
-    none_yet none = sym (ap reply_of (append-nil (x ∷ xs))) ∙ (unreplied (x ∷ xs) [] none).0
-
     all_before : list_any is_reply (x ∷ xs) ≡ false → before_reply (x ∷ xs) ≡ x ∷ xs
     all_before none = sym (ap before_reply (append-nil (x ∷ xs))) ∙ (unreplied (x ∷ xs) [] none).1 ∙ append-nil (x ∷ xs)
 
@@ -144,7 +144,7 @@ told-more stream c (x ∷ xs) p e = same_told c (namespace x) _ _ _ _ _ _ (both 
           ∙ ap (λ o. option_or o (asked_of (x ∷ xs))) (sym (no_ask p (no_connect (x ∷ xs) p e some))),
     )
     both (inr none) = (
-      (unreplied (x ∷ xs) (p ∷ []) none).0 ∙ reply_of-one p ∙ sym (or_none (reply_at p)) ∙ ap (option_or (reply_at p)) (sym (none_yet none)),
+      (unreplied (x ∷ xs) (p ∷ []) none).0 ∙ reply_of-one p ∙ sym (or_none (reply_at p)) ∙ ap (option_or (reply_at p)) (sym (none_yet (x ∷ xs) none)),
       ap (λ l. last_of (filter_map ask_of l)) (unreplied (x ∷ xs) (p ∷ []) none).1
           ∙ asked-behind (x ∷ xs) p
           ∙ ap (λ l. option_or (ask_of p) (last_of (filter_map ask_of l))) (sym (all_before none)),

@@ -5,6 +5,7 @@
 
 mod asked;
 mod frame;
+mod laws;
 mod stay;
 mod stays;
 mod tap;
@@ -13,6 +14,7 @@ mod told;
 pub use asked::Asked;
 pub use aud_node::Reply;
 pub use frame::Frame;
+pub use laws::{named_by_replies, received_by_stays};
 pub use stay::Stay;
 pub use tap::received;
 pub use told::Received;
