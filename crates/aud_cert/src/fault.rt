@@ -77,6 +77,11 @@ pub enum CertFault {
 }
 
 impl From<AllocError> for CertFault {
+    ghost use Rattle.std.specs.Prelude.{◌≡◌};
+    ghost use Rattle.aud_cert.specs.declared.fault.CertFault.TheVariants.{Memory};
+
+    ghost from_gives = { λ _ e. e ≡ Memory };
+
     fn from(_: AllocError) -> CertFault {
         CertFault::Memory
     }

@@ -9,6 +9,7 @@ mod cursors;
 mod fields;
 mod logs;
 mod names;
+mod naming;
 mod node_log;
 mod offsets;
 mod own_records;
@@ -27,5 +28,9 @@ pub use recs::Recs;
 pub use replies::{Reply, reply_of};
 pub use stream::Stream;
 
+#[cfg(test)]
+mod client_tests;
+#[cfg(test)]
+mod naming_tests;
 #[cfg(test)]
 mod tests;

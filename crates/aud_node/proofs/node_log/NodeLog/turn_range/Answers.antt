@@ -23,6 +23,6 @@ returns-in-Some-clause-within c =
     let l = c.self.inside in
     let recs = ap (λ (log : NodeTap). log.recs) c.self.view_is in
     let range : turn_range l.recs.now c.args.pid.now c.args.turn ≡ Some (c.in-Some.span.from, c.in-Some.span.to) =
-        sym (ap (option_map span_range) c.in-Some.ensures ∙ c.self.invariant.turns_are c.args.pid.now c.args.turn) in
+    sym (ap (option_map span_range) c.in-Some.ensures ∙ c.self.invariant.turns_are c.args.pid.now c.args.turn) in
     let within = subst (IsWithin (length l.recs.now)) range (turn_range-within l.recs.now c.args.pid.now c.args.turn) in
     subst (λ (rs : List NodeRec). (c.in-Some.span.from < c.in-Some.span.to) × (c.in-Some.span.to ≤ length rs)) recs within
