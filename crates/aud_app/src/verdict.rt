@@ -36,16 +36,21 @@ pub enum Fault {
     Window(u64),
 }
 
+/// How much a session received, in order, of what was due to it.
+#[derive(Clone, Copy, Drop)]
+pub struct Counts {
+    /// The events that were received.
+    pub got: usize,
+    /// The due events behind them.
+    pub tail: usize,
+    pub turns: usize,
+}
+
 /// The answer on a session.
 #[derive(Drop)]
 pub enum Verdict {
-    /// All that was received was due, in order: `got` events, with `tail` due ones outstanding,
-    /// over this many turns.
-    Yes {
-        got: usize,
-        tail: usize,
-        turns: usize,
-    },
+    /// All that was received was due, in order.
+    Yes(Counts),
     No(Fault),
 }
 
@@ -62,7 +67,19 @@ impl Entry {
     pub fn is_yes(&self) -> bool
         ensures { result ≡ is_yes self.now }
     {
-        matches!(&self.verdict, Verdict::Yes { .. })
+        matches!(&self.verdict, Verdict::Yes(_))
+    }
+}
+
+impl fmt::Display for Counts {
+    ghost use Rattle.std.specs.Prelude.{Some};
+    ghost use Rattle.aud_app.specs.Verdict.{counts_text};
+
+    ghost output = { λ c. Some (counts_text c) };
+
+    fn fmt<W: fmt::Write>(&self, f: &mut fmt::Formatter<W>) -> fmt::Result {
+        let Counts { got, tail, turns } = self;
+        write!(f, "got={got} tail={tail} turns={turns}")
     }
 }
 

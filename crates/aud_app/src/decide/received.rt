@@ -1,7 +1,7 @@
 //! What a session received, beside what was due to it.
 use crate::decide::stays::{Frame, Stay};
 use crate::decide::stream::Stream;
-use crate::verdict::{Fault, Verdict};
+use crate::verdict::{Counts, Fault, Verdict};
 use aud_tap::Text;
 use std::alloc::{AllocError, Global};
 
@@ -61,11 +61,11 @@ impl Received {
         if let Some(recovery) = self.recoveries.iter().find(|r| !r.is_right(got)) {
             return Ok(Verdict::No(Fault::Window(recovery.c)));
         }
-        Ok(Verdict::Yes {
+        Ok(Verdict::Yes(Counts {
             got: got.len(),
             tail: due.len().saturating_sub(got.len()),
             turns,
-        })
+        }))
     }
 }
 
