@@ -5,7 +5,8 @@ use Rattle.aud_app.specs.declared.answer.Flaw.TheVariants.{Syntax, UnknownTap, R
 use Rattle.aud_app.specs.declared.answer.Answer.{Answer}
 use Rattle.aud_app.specs.declared.answer.Answer.TheVariants.{Accepted, Bad}
 use Rattle.aud_app.specs.declared.answer.Certified.{Certified}
-use Rattle.aud_app.specs.Verdict.{counts_text, fault_text}
+use Rattle.aud_cert.specs.Fault.{fault_text}
+use Rattle.aud_app.specs.Verdict.{counts_text}
 
 -- the code and the name of a flaw, and the fault where the client's frames are at fault
 abbrev pub flaw_text : Flaw → List ℕ

@@ -5,7 +5,8 @@ use Rattle.aud_tap.specs.declared.fault.InputCode.TheVariants.{LineTooLong, NoTa
 use Rattle.aud_app.specs.declared.verdict.Verdict.{Verdict}
 use Rattle.aud_app.specs.declared.verdict.Verdict.TheVariants.{Yes, No}
 use Rattle.aud_app.specs.declared.verdict.Entry.{Entry}
-use Rattle.aud_app.specs.Verdict.{counts_text, fault_text, is_yes}
+use Rattle.aud_cert.specs.Fault.{fault_text}
+use Rattle.aud_app.specs.Verdict.{counts_text, is_yes}
 
 -- the line of a session
 abbrev pub line_of : List ℕ → Verdict → List ℕ

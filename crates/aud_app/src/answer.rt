@@ -1,7 +1,8 @@
 //! The answer on a certificate, and its words.
 ghost use Rattle.std.specs.Prelude.{◌≡◌};
 
-use crate::verdict::{Counts, Fault};
+use crate::verdict::Counts;
+use aud_cert::Fault;
 use aud_tap::Text;
 use std::fmt;
 

@@ -1,7 +1,8 @@
 //! What a session received, beside what was due to it.
 use crate::decide::stays::{Frame, Stay};
 use crate::decide::stream::Stream;
-use crate::verdict::{Counts, Fault, Verdict};
+use crate::verdict::{Counts, Verdict};
+use aud_cert::Fault;
 use aud_tap::Text;
 use std::alloc::{AllocError, Global};
 
