@@ -23,15 +23,15 @@ use Rattle.aud_cert.specs.Told.{TurnTold, CertificateTold, told_in}
 unfoldable pub json_of : Text → Result Data CertFault
 json_of text = if is_utf8 text then need Syntax (read text) else Err Syntax
 
--- there is an element
-abbrev pub is_some_turn : List TurnTold → Bool
-is_some_turn [] = false
-is_some_turn (t ∷ ts) = true
+-- there is a turn
+abbrev pub has_turns : List TurnTold → Bool
+has_turns [] = false
+has_turns (t ∷ ts) = true
 
 -- at least one turn, and a pid and names of the bytes and the lengths that a bundle gives them
 abbrev pub is_formed : CertificateTold → Bool
 is_formed told =
-    is_some_turn told.turns && is_session_id told.pid && is_tap_name told.client
+    has_turns told.turns && is_session_id told.pid && is_tap_name told.client
     && list_all (λ (t : TurnTold). is_tap_name t.node) told.turns
 
 -- ---- K2: the taps

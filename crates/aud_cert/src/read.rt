@@ -6,6 +6,7 @@ ghost use Rattle.aud_tap.specs.TapName.{is_tap_name};
 ghost use Rattle.aud_cert.specs.Steps.{Gives, Fails};
 ghost use Rattle.aud_cert.specs.Told.{TurnTold};
 ghost use Rattle.aud_cert.specs.Certificate.{IsOver};
+ghost use Rattle.aud_cert.specs.Sound.{IsSound};
 ghost use Rattle.aud_cert.specs.Reading.{json_of, is_formed, certificate_of};
 
 use crate::certificate::Certificate;
@@ -64,6 +65,7 @@ pub fn read_cert<'a>(
     ensures reads { Gives result (certificate_of logs.now text.now) }
     ensures over { IfOk result (λ cert. IsOver logs.now cert) }
     ensures some { IfOk result (λ cert. 0 < length cert.turns) }
+    ensures sound { IfOk result (λ cert. IsSound logs.now cert) }
 {
     let d = json(alloc, text)?;
     let told = told(alloc, &d)?;

@@ -49,9 +49,8 @@ const TWO_TURNS: &str =
 
 fn taps_of(alloc: Global, bundle: &[&str]) -> Result<Taps, Fail> {
     let mut lines = Vec::new(alloc);
-    let mut number = 0;
-    for text in bundle {
-        number += 1;
+    for (place, text) in bundle.iter().enumerate() {
+        let number = place as u64 + 1;
         let bytes = Bytes::new(text.as_bytes().to_vec(alloc)?);
         lines.push(Line { number, bytes })?;
     }
