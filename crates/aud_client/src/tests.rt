@@ -19,15 +19,25 @@ const STREAM: [&str; 7] = [
 ];
 
 const HEADER: &str = r#"c1 {"k":"tap","v":1,"of":"client"}"#;
+
 const FIRST: &str = r#"c1 {"k":"conn","c":1}"#;
+
 const SECOND: &str = r#"c1 {"k":"conn","c":2}"#;
+
 const LOST: &str = r#"c1 {"k":"lost"}"#;
+
 const ASK: &str = r#"c1 {"k":"out","t":"40{\"pid\":\"P\",\"offset\":\"1-0\"}"}"#;
+
 const REPLY: &str = r#"c1 {"k":"in","t":"40{\"sid\":\"s1\",\"pid\":\"P\"}"}"#;
+
 const EVENT_1: &str = r#"c1 {"k":"in","t":"42[\"hi\",\"1-0\"]"}"#;
+
 const EVENT_2: &str = r#"c1 {"k":"in","t":"42[\"hi\",\"2-0\"]"}"#;
+
 const EVENT_3: &str = r#"c1 {"k":"in","t":"42[\"hi\",\"3-0\"]"}"#;
+
 const SERVER_LEAVES: &str = r#"c1 {"k":"in","t":"41"}"#;
+
 const CLIENT_LEAVES: &str = r#"c1 {"k":"out","t":"41"}"#;
 
 fn line(alloc: Global, number: u64, text: &str) -> Result<Line, AllocError> {
@@ -114,14 +124,20 @@ fn frames_before_the_reply_are_the_stay_s(rt: HostRuntime) -> Result<(), Fail> {
         FIRST, REPLY, EVENT_1, LOST, SECOND, ASK, EVENT_2, REPLY, EVENT_3,
     ];
     let told = told(rt.alloc(), &records)?;
-    assert_eq!(rt; told.as_str(), "1 / reply P s1 1\n2 / reply P s1 asked P 1-0 2 3\n");
+    assert_eq!(rt;
+        told.as_str(),
+        "1 / reply P s1 1\n2 / reply P s1 asked P 1-0 2 3\n"
+    );
     Ok(())
 }
 
 #[test]
 fn a_replay_without_its_reply_is_an_orphan(rt: HostRuntime) -> Result<(), Fail> {
     let told = told(rt.alloc(), &[FIRST, REPLY, EVENT_1, SECOND, ASK, EVENT_2])?;
-    assert_eq!(rt; told.as_str(), "1 / reply P s1 1\n2 / asked P 1-0 2\norphan\n");
+    assert_eq!(rt;
+        told.as_str(),
+        "1 / reply P s1 1\n2 / asked P 1-0 2\norphan\n"
+    );
     Ok(())
 }
 
@@ -130,15 +146,25 @@ fn a_reply_that_names_nobody(rt: HostRuntime) -> Result<(), Fail> {
     let bare = r#"c1 {"k":"in","t":"40{\"sid\":\"s1\"}"}"#;
     let blank = r#"c1 {"k":"in","t":"40{\"pid\":\"P Q\"}"}"#;
 
-    assert_eq!(rt; told(rt.alloc(), &[FIRST, bare])?.as_str(), "1 / reply nobody s1\n");
-    assert_eq!(rt; told(rt.alloc(), &[FIRST, bare, EVENT_1])?.as_str(), "1 / reply nobody s1 1\norphan\n");
-    assert_eq!(rt; told(rt.alloc(), &[FIRST, EVENT_1, blank])?.as_str(), "1 / reply nobody  1\norphan\n");
+    assert_eq!(rt;
+        told(rt.alloc(), &[FIRST, bare])?.as_str(),
+        "1 / reply nobody s1\n"
+    );
+    assert_eq!(rt;
+        told(rt.alloc(), &[FIRST, bare, EVENT_1])?.as_str(),
+        "1 / reply nobody s1 1\norphan\n"
+    );
+    assert_eq!(rt;
+        told(rt.alloc(), &[FIRST, EVENT_1, blank])?.as_str(),
+        "1 / reply nobody  1\norphan\n"
+    );
     Ok(())
 }
 
 #[test]
 fn namespaces_have_stays_of_their_own(rt: HostRuntime) -> Result<(), Fail> {
-    let body = r#"c1 {"k":"poll","t":"40{\"sid\":\"s1\",\"pid\":\"P\"}\u001e451-[\"f\",{\"_placeholder\":true,\"num\":0},\"5-0\"]\u001ebAQI="}"#;
+    let body =
+        r#"c1 {"k":"poll","t":"40{\"sid\":\"s1\",\"pid\":\"P\"}\u001e451-[\"f\",{\"_placeholder\":true,\"num\":0},\"5-0\"]\u001ebAQI="}"#;
     let reply = r#"c1 {"k":"in","t":"40/n,{\"sid\":\"s2\",\"pid\":\"Q\"}"}"#;
     let event = r#"c1 {"k":"in","t":"42/n,[\"x\",\"4-0\"]"}"#;
 
@@ -153,9 +179,18 @@ fn the_last_connect_that_asks_counts(rt: HostRuntime) -> Result<(), Fail> {
     let number = r#"c1 {"k":"out","t":"40{\"pid\":7,\"offset\":\"2-0\"}"}"#;
     let no_pid = r#"c1 {"k":"out","t":"40{\"pid\":\"no pid\",\"offset\":5}"}"#;
 
-    assert_eq!(rt; told(rt.alloc(), &[FIRST, bare, REPLY])?.as_str(), "1 / reply P s1\n");
-    assert_eq!(rt; told(rt.alloc(), &[FIRST, ASK, number, bare])?.as_str(), "1 / asked P 1-0\n");
-    assert_eq!(rt; told(rt.alloc(), &[FIRST, ASK, no_pid, REPLY])?.as_str(), "1 / reply P s1 asked no pid nowhere\n");
+    assert_eq!(rt;
+        told(rt.alloc(), &[FIRST, bare, REPLY])?.as_str(),
+        "1 / reply P s1\n"
+    );
+    assert_eq!(rt;
+        told(rt.alloc(), &[FIRST, ASK, number, bare])?.as_str(),
+        "1 / asked P 1-0\n"
+    );
+    assert_eq!(rt;
+        told(rt.alloc(), &[FIRST, ASK, no_pid, REPLY])?.as_str(),
+        "1 / reply P s1 asked no pid nowhere\n"
+    );
     Ok(())
 }
 
@@ -166,17 +201,33 @@ fn stays_end(rt: HostRuntime) -> Result<(), Fail> {
     let twice = "1 / reply P s1 1\n1 / asked P 1-0 2\norphan\n";
 
     let records = [FIRST, REPLY, EVENT_1, ASK, EVENT_2];
-    assert_eq!(rt; told(rt.alloc(), &records)?.as_str(), twice, "by a CONNECT of the client");
+    assert_eq!(rt;
+        told(rt.alloc(), &records)?.as_str(),
+        twice,
+        "by a CONNECT of the client"
+    );
     let records = [FIRST, REPLY, EVENT_1, REPLY, EVENT_2];
-    assert_eq!(rt; told(rt.alloc(), &records)?.as_str(), "1 / reply P s1 1\n1 / reply P s1 2\n", "by one of the server");
+    assert_eq!(rt;
+        told(rt.alloc(), &records)?.as_str(),
+        "1 / reply P s1 1\n1 / reply P s1 2\n",
+        "by one of the server"
+    );
     for leaves in [SERVER_LEAVES, CLIENT_LEAVES] {
         let records = [FIRST, REPLY, EVENT_1, leaves, ASK, EVENT_2];
         assert_eq!(rt; told(rt.alloc(), &records)?.as_str(), twice, "by {leaves}");
         let records = [FIRST, leaves, leaves, ack, REPLY];
-        assert_eq!(rt; told(rt.alloc(), &records)?.as_str(), "1 /\n1 /\n1 / reply P s1\n", "alone by {leaves}");
+        assert_eq!(rt;
+            told(rt.alloc(), &records)?.as_str(),
+            "1 /\n1 /\n1 / reply P s1\n",
+            "alone by {leaves}"
+        );
     }
     let records = [FIRST, ASK, refused, ASK, REPLY, EVENT_2];
-    assert_eq!(rt; told(rt.alloc(), &records)?.as_str(), "1 / reply P s1 asked P 1-0 2\n", "not by CONNECT_ERROR");
+    assert_eq!(rt;
+        told(rt.alloc(), &records)?.as_str(),
+        "1 / reply P s1 asked P 1-0 2\n",
+        "not by CONNECT_ERROR"
+    );
     Ok(())
 }
 
@@ -198,7 +249,11 @@ fn what_is_no_frame(rt: HostRuntime) -> Result<(), Fail> {
         assert_eq!(rt; told.as_str(), "1 / reply P s1 2\n", "{other}");
     }
     let told = told(rt.alloc(), &[FIRST, REPLY, strange])?;
-    assert_eq!(rt; told.as_str(), "1 / reply P s1 4\n", "an offset of another namespace");
+    assert_eq!(rt;
+        told.as_str(),
+        "1 / reply P s1 4\n",
+        "an offset of another namespace"
+    );
     Ok(())
 }
 
@@ -213,7 +268,10 @@ fn the_first_bad_record(rt: HostRuntime) -> Result<(), Fail> {
 #[test]
 fn frames_are_lent_as_they_came(rt: HostRuntime) -> Result<(), Fail> {
     let header = r#"c1 {"k":"in","t":"452-[\"g\",\"5-0\"]"}"#;
-    let pieces = [r#"c1 {"k":"inb","b":"AQI="}"#, r#"c1 {"k":"inb","b":"BA=="}"#];
+    let pieces = [
+        r#"c1 {"k":"inb","b":"AQI="}"#,
+        r#"c1 {"k":"inb","b":"BA=="}"#,
+    ];
     let taps = taps(rt.alloc(), &[&STREAM, &[HEADER, FIRST, header], &pieces])?;
     let logs = Logs::build(rt.alloc(), &taps)?;
     let Some(tap) = client(&logs, "c1") else {
