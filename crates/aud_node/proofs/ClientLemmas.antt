@@ -1,10 +1,10 @@
 -- The connections of a tap, record after record.
-use Rattle.std.proofs.Common.{◌≡◌, ◌+◌, ℕ, suc, cond, List, [], ◌∷◌, ◌++◌, map, flat_map, refl, sym, ap, ◌∙◌, Option, Some, None, append-nil, append_assoc, drop, length, ◌≤◌, arith}
+use Rattle.std.proofs.Common.{◌≡◌, ◌+◌, ℕ, suc, List, [], ◌∷◌, ◌++◌, map, flat_map, refl, sym, ap, ◌∙◌, Option, Some, None, append-nil, append_assoc, drop, length, ◌≤◌, arith}
 use Rattle.aud_tap.specs.declared.records.ClientRec.{ClientRec}
 use Rattle.aud_tap.specs.declared.records.ClientRec.TheVariants.{Conn, TextIn, BytesIn, Poll, TextOut, Lost}
 use Rattle.aud_sio.specs.Wholes.{wholes_of}
 use Rattle.std.specs.List.{filter}
-use Rattle.aud_node.specs.TapPackets.{Connection, TapPacket, numbered, until_end, connections_in, messages_at, answers_in, packets_at, packets_in, is_bad, bad_in, first_of}
+use Rattle.aud_node.specs.TapPackets.{Connection, numbered, until_end, connections_in, messages_at, answers_in, packets_at, packets_in, is_bad, bad_in, first_of}
 use Rattle.aud_node.specs.ConnectionRead.{HasRead, packets_read, inside}
 use Rattle.aud_node.specs.ClientRead.{begun, bad_of, cut_seen}
 use Rattle.std.specs.Option.{option_or}

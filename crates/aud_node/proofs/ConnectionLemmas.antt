@@ -1,15 +1,14 @@
 -- A connection's records, with one more at the end.
-use Rattle.std.proofs.Common.{◌≡◌, ◌+◌, ◌<◌, ◌≤◌, ℕ, suc, Bool, true, false, cond, List, [], ◌∷◌, ◌++◌, length, map, flat_map, refl, sym, ap, ◌∙◌, subst, Option, Some, None, Ok, Err, ◌||◌, ◌&&◌, nat_eq, append-nil, append_assoc, length-append, arith, ◌⊎◌, inl, inr}
+use Rattle.std.proofs.Common.{◌≡◌, ◌+◌, ◌<◌, ◌≤◌, ℕ, suc, Bool, true, false, cond, List, [], ◌∷◌, ◌++◌, length, map, flat_map, refl, sym, ap, ◌∙◌, subst, Option, None, Ok, Err, ◌||◌, ◌&&◌, nat_eq, append-nil, append_assoc, length-append, arith, ◌⊎◌, inl, inr}
 use Rattle.std.specs.List.{list_any, filter}
-use Rattle.std.proofs.lemmas.List.{map-append}
 use Rattle.std.proofs.lemmas.Grind.{flat_map-append}
 use Rattle.std.proofs.lemmas.Bool.Decides.{eqb_tells}
 use Rattle.aud_tap.specs.declared.records.ClientRec.{ClientRec}
 use Rattle.aud_tap.specs.declared.records.ClientRec.TheVariants.{Conn, TextIn, BytesIn, Poll, TextOut, Lost}
-use Rattle.aud_sio.specs.Message.{Message, at}
+use Rattle.aud_sio.specs.Message.{at}
 use Rattle.aud_sio.specs.Wholes.{Answer, wholes_of}
 use Rattle.aud_sio.specs.Assembly.{Waits, wholes_after}
-use Rattle.aud_node.specs.TapPackets.{TapPacket, Received, received, numbered, messages_at, packets_at, is_bad, is_refused, engine_packets, first_of}
+use Rattle.aud_node.specs.TapPackets.{Received, received, numbered, messages_at, packets_at, is_bad, is_refused, engine_packets, first_of}
 use Rattle.aud_node.specs.ConnectionRead.{AreBefore, HasRead, ReadsRecord, packets_read, bad_or}
 use Rattle.aud_node.specs.declared.connection.Reader.{Reader}
 

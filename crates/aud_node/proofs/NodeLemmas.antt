@@ -5,7 +5,6 @@ use Rattle.std.proofs.lemmas.Option.{slice_get-map}
 use Rattle.aud_tap.specs.declared.taps.Tap.{Tap}
 use Rattle.aud_node.specs.declared.logs.Log.{Log}
 use Rattle.aud_node.specs.Cluster.{cluster_of, stream_of}
-use Rattle.aud_node.specs.NodeTap.{NodeTap}
 use Rattle.aud_node.specs.NodeTaps.{node_tap, node_at, client_recs, client_at}
 use Rattle.aud_node.specs.Kept.{node_of, client_of}
 

@@ -1,5 +1,5 @@
 -- Records of a connection, one after another.
-use Rattle.std.proofs.Common.{◌≡◌, ℕ, Bool, true, false, List, [], ◌∷◌, ◌++◌, map, flat_map, refl, sym, ap, ◌∙◌, subst, Option, Some, None, Result, Ok, Err, OnOk, ◌||◌, ◌&&◌, nat_eq, cond, append-nil, append_assoc}
+use Rattle.std.proofs.Common.{◌≡◌, ℕ, Bool, true, false, List, [], ◌∷◌, ◌++◌, flat_map, refl, sym, ap, ◌∙◌, subst, Option, Some, None, Result, Ok, Err, OnOk, ◌||◌, ◌&&◌, nat_eq, cond, append-nil, append_assoc}
 use Rattle.std.specs.List.{list_any}
 use Rattle.std.proofs.lemmas.List.{map-append}
 use Rattle.aud_sio.specs.Message.{Message, messages_of, at}

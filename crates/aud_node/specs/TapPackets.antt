@@ -1,5 +1,5 @@
 -- The packets of a client tap: what its records carry, connection by connection.
-use Rattle.std.specs.Prelude.{ℕ, suc, List, [], ◌∷◌, ◌++◌, Bool, true, false, map, flat_map, Option, Some, None, Result, Ok, Err, if◌then◌else◌, not, nat_eq, ◌&&◌, ◌||◌}
+use Rattle.std.specs.Prelude.{ℕ, suc, List, [], ◌∷◌, Bool, true, false, map, flat_map, Option, Some, None, Result, Ok, Err, if◌then◌else◌, nat_eq, ◌&&◌, ◌||◌}
 use Rattle.std.specs.List.{filter, list_any}
 use Rattle.aud_tap.specs.declared.records.ClientRec.{ClientRec}
 use Rattle.aud_tap.specs.declared.records.ClientRec.TheVariants.{Conn, TextIn, BytesIn, Poll, TextOut, Lost}

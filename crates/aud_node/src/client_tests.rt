@@ -1,7 +1,8 @@
 //! What the packets of a client's tap are: the records count from 0, the header not counted.
+use crate::tests::text;
 use crate::{ClientTap, Connection, Logs, TapPacket};
 use aud_sio::{PacketKind, Whole};
-use aud_tap::{Bytes, ClientRec, ClientRecs, Records, Tap, Taps, Text};
+use aud_tap::{Bytes, ClientRec, ClientRecs, Records, Tap, Taps};
 use std::alloc::{AllocError, Global};
 use std::test::Fail;
 
@@ -14,10 +15,6 @@ pub enum Did {
     Poll(&'static str),
     Out(&'static str),
     Lost,
-}
-
-fn text(alloc: Global, bytes: &str) -> Result<Text, AllocError> {
-    Ok(Text::new(String::from_str(alloc, bytes)?))
 }
 
 fn bytes(alloc: Global, bytes: &[u8]) -> Result<Bytes, AllocError> {

@@ -1,4 +1,5 @@
-//! The stream's entries by position and offset, the nodes' logs with their cursors, and the turns in them.
+//! The stream's entries by position and offset, the nodes' logs with their cursors and the turns in them, and the
+//! clients' taps with their packets and the sessions that they name.
 //!
 //! Begin at [`logs`], which is made once from the taps; all that it lends was computed then.
 #![tactic(auto)]

@@ -17,7 +17,7 @@ enum Did {
     Back(u16),
 }
 
-fn text(alloc: Global, bytes: &str) -> Result<Text, AllocError> {
+pub fn text(alloc: Global, bytes: &str) -> Result<Text, AllocError> {
     Ok(Text::new(String::from_str(alloc, bytes)?))
 }
 

@@ -2,7 +2,7 @@ use Rattle.std.proofs.Common.{◌≡◌, ◌+◌, ◌∷◌, ◌++◌, map, drop
 use Rattle.std.proofs.lemmas.List.{drop_more, take_rest}
 use Rattle.aud_node.specs.ClientRead.{connections_seen, cut_seen, begun, bad_of}
 use Rattle.std.specs.Option.{option_or}
-use Rattle.aud_node.proofs.ClientLemmas.{HasTaken, HasTaken-more, HasTaken-all}
+use Rattle.aud_node.proofs.ClientLemmas.{HasTaken-more, HasTaken-all}
 use Rattle.aud_node.proofs.client_tap.ClientTap.build.Goals as goal
 
 pub loop-number-preserved : goal.loop-number-preserved

@@ -1,7 +1,6 @@
-use Rattle.std.proofs.Common.{◌≡◌, ◌∷◌, ◌++◌, [], sym, ap, ◌∙◌, List}
+use Rattle.std.proofs.Common.{◌∷◌, ◌++◌, [], ap, ◌∙◌}
 use Rattle.std.specs.Option.{option_or}
 use Rattle.std.proofs.lemmas.List.{map-append}
-use Rattle.aud_node.specs.TapPackets.{Connection}
 use Rattle.aud_node.specs.ConnectionRead.{inside}
 use Rattle.aud_node.specs.ClientRead.{connection_seen, connections_seen}
 use Rattle.aud_node.proofs.ClientLemmas.{packets-all, bad-all}

@@ -1,4 +1,4 @@
-use Rattle.std.proofs.Common.{◌≡◌, ◌∷◌, [], List, refl, sym, ap, ◌∙◌, subst, Some, None, Ok, Err, Option, true, false, append-nil}
+use Rattle.std.proofs.Common.{◌∷◌, [], refl, sym, ◌∙◌, subst, Some, None, Ok, Err, Option, append-nil}
 use Rattle.aud_eio.specs.Packet.{view as eio_view}
 use Rattle.aud_sio.specs.Message.{messages_of}
 use Rattle.aud_sio.specs.Assembly.{Continues, answer_of, whole_view}

@@ -1,4 +1,4 @@
-use Rattle.std.proofs.Common.{◌≡◌, ℕ, ◌+◌, ◌==◌, ◌&&◌, not, suc, length, map, slice_get, sym, ap, ◌∙◌, refl, arith, Some, true, false}
+use Rattle.std.proofs.Common.{◌≡◌, ◌+◌, ◌==◌, ◌&&◌, not, suc, length, map, slice_get, sym, ap, ◌∙◌, refl, arith, Some}
 use Rattle.std.specs.List.{list_all}
 use Rattle.std.proofs.lemmas.Option.{slice_get_read}
 use Rattle.aud_node.specs.Lists.{numbers_from}

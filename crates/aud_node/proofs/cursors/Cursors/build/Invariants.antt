@@ -1,4 +1,4 @@
-use Rattle.std.proofs.Common.{◌≡◌, ℕ, suc, map, length, not, ◌==◌, ◌&&◌, slice_get}
+use Rattle.std.proofs.Common.{◌≡◌, suc, map, length, not, ◌==◌, ◌&&◌}
 use Rattle.std.specs.List.{list_all}
 use Rattle.aud_node.specs.Lists.{numbers_from}
 use Rattle.aud_node.specs.Cursors.{cursor_at}

@@ -1,4 +1,4 @@
-use Rattle.std.proofs.Common.{sym, ap, ◌∙◌, map, List, Some, None, slice_get}
+use Rattle.std.proofs.Common.{ap, ◌∙◌, map, Some, None, slice_get}
 use Rattle.std.specs.Option.{option_and_then}
 use Rattle.aud_node.specs.NodeTaps.{node_at, node_tap}
 use Rattle.aud_node.specs.Kept.{node_of}

@@ -1,6 +1,5 @@
 use Rattle.std.proofs.Common.{arith}
-use Rattle.std.proofs.lemmas.Grind.{text_groups, common_steps}
-use Rattle.std.proofs.lemmas.Map.Text.{text_keys}
+use Rattle.std.proofs.lemmas.Grind.{text_groups}
 use Rattle.aud_node.proofs.turns.Turns.keep.Goals as goal
 
 pub returns-clause-spans : goal.returns-clause-spans
