@@ -1,5 +1,8 @@
 pub mod Watched
 pub mod Written
+pub mod Input
 pub mod Verdict
 pub mod Report
+pub mod Certified
 pub mod Output
+pub mod Words

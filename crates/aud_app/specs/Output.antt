@@ -1,29 +1,65 @@
--- What a run writes, and how it ends.
-use Rattle.std.specs.Prelude.{◌≡◌, ◌<◌, ℕ, List, ◌++◌, length, count_by, Option}
+-- What a run writes for its input, and how it ends.
+use Rattle.std.specs.Prelude.{◌≡◌, ◌==◌, ℕ, List, length, count_by, if◌then◌else◌, Option, IfSome, Result, Ok, Err}
 use Rattle.std.specs.Io.KnownBytes.{Appends}
 use Rattle.aud_tap.specs.declared.fault.InputCode.{InputCode}
+use Rattle.aud_tap.specs.declared.fault.ReadFault.{ReadFault}
+use Rattle.aud_tap.specs.declared.fault.ReadFault.TheVariants.{Input, Memory}
+use Rattle.aud_tap.specs.declared.taps.Tap.{Tap}
+use Rattle.aud_app.specs.declared.choice.Mode.{Mode}
+use Rattle.aud_app.specs.declared.choice.Mode.TheVariants.{Audit}
+use Rattle.aud_app.specs.declared.input.Layout.{Layout}
+use Rattle.aud_app.specs.declared.input.Layout.TheVariants.{Bundle}
 use Rattle.aud_app.specs.declared.program.Status.{Status}
 use Rattle.aud_app.specs.declared.program.Status.TheVariants.{AllYes, SomeNo, Refused}
 use Rattle.aud_app.specs.declared.verdict.Entry.{Entry}
+use Rattle.aud_app.specs.Input.{InputSeen, input_of}
 use Rattle.aud_app.specs.Verdict.{is_yes}
 use Rattle.aud_app.specs.Report.{report_text, refusal_line}
 use Rattle.aud_app.specs.Written.{AppendsFront}
 
--- the text that goes with a status: the report of sessions that are all answered yes, or not all;
--- or the one line of a refusal
-abbrev pub IsOutput : Status → List ℕ → Type 0
-IsOutput AllYes text = (es : List Entry) × (count_by is_yes es ≡ length es) × (text ≡ report_text es)
-IsOutput SomeNo text = (es : List Entry) × (count_by is_yes es < length es) × (text ≡ report_text es)
-IsOutput Refused text = (line : ℕ) × (code : InputCode) × (text ≡ refusal_line line code)
+-- how a run ends, and the whole text that it writes
+pub record OutputSeen : Type 0 where
+  pub status : Status
+  pub text : List ℕ
 
--- the text of an output, whatever its status
-abbrev pub IsSomeOutput : List ℕ → Type 0
-IsSomeOutput text = (status : Status) × IsOutput status text
+-- how an audit with these answers ends
+abbrev pub status_of : List Entry → Status
+status_of entries = if count_by is_yes entries == length entries then AllYes else SomeNo
 
--- a text of this kind was written
-abbrev pub Writes : Option (List ℕ) → Option (List ℕ) → (List ℕ → Type 0) → Type 0
-Writes old new Is = (text : List ℕ) × Is text × Appends old new text
+-- the output of an audit with these answers
+abbrev pub report_of : List Entry → OutputSeen
+report_of entries = record { status = status_of entries; text = report_text entries }
 
--- a front of a text of this kind was written
-abbrev pub WritesFront : Option (List ℕ) → Option (List ℕ) → (List ℕ → Type 0) → Type 0
-WritesFront old new Is = (text : List ℕ) × Is text × AppendsFront old new text
+-- the output where this is the first refused line
+abbrev pub refusal_of : ℕ → InputCode → OutputSeen
+refusal_of n code = record { status = Refused; text = refusal_line n code }
+
+-- the output of an audit of these taps: the report of some answers
+abbrev pub IsReport : List Tap → OutputSeen → Type 0
+IsReport taps output = (entries : List Entry) × (output ≡ report_of entries)
+
+-- the output of a mode over what was read
+abbrev pub IsOutputOver : Mode → Result InputSeen ReadFault → OutputSeen → Type 0
+IsOutputOver Audit (Ok input) output = IsReport input.taps output
+IsOutputOver mode (Err (Input n code)) output = output ≡ refusal_of n code
+IsOutputOver mode (Err Memory) output = ⊥
+
+-- what the lines of a mode's input are
+abbrev pub layout_of : Mode → Layout
+layout_of Audit = Bundle
+
+-- the output of a mode over its input
+abbrev pub IsOutput : Mode → List ℕ → OutputSeen → Type 0
+IsOutput mode bytes output = IsOutputOver mode (input_of (layout_of mode) bytes) output
+
+-- the output of a mode over the bytes that a reader had left, where the reader tells them
+abbrev pub IsOutputOf : Mode → Option (List ℕ) → OutputSeen → Type 0
+IsOutputOf mode left output = (bytes : List ℕ) × IfSome left (λ told. bytes ≡ told) × IsOutput mode bytes output
+
+-- the whole text of such an output was written, and the run ends as the output does
+abbrev pub Writes : Option (List ℕ) → Option (List ℕ) → (OutputSeen → Type 0) → Status → Type 0
+Writes old new Is status = (output : OutputSeen) × Is output × (output.status ≡ status) × Appends old new output.text
+
+-- a front of the text of such an output was written
+abbrev pub WritesFront : Option (List ℕ) → Option (List ℕ) → (OutputSeen → Type 0) → Type 0
+WritesFront old new Is = (output : OutputSeen) × Is output × AppendsFront old new output.text

@@ -5,11 +5,12 @@ use Rattle.aud_tap.specs.declared.fault.InputCode.TheVariants.{LineTooLong, NoTa
 use Rattle.aud_app.specs.declared.verdict.Verdict.{Verdict}
 use Rattle.aud_app.specs.declared.verdict.Verdict.TheVariants.{Yes, No}
 use Rattle.aud_app.specs.declared.verdict.Entry.{Entry}
-use Rattle.aud_app.specs.Verdict.{fault_text, is_yes}
+use Rattle.aud_cert.specs.Fault.{fault_text}
+use Rattle.aud_app.specs.Verdict.{counts_text, is_yes}
 
 -- the line of a session
 abbrev pub line_of : List ℕ → Verdict → List ℕ
-line_of pid (Yes got tail turns) = codes "yes " ++ pid ++ codes " got=" ++ decimal got ++ codes " tail=" ++ decimal tail ++ codes " turns=" ++ decimal turns ++ codes "\n"
+line_of pid (Yes counts) = codes "yes " ++ pid ++ codes " " ++ counts_text counts ++ codes "\n"
 line_of pid (No fault) = codes "no " ++ pid ++ codes " " ++ fault_text fault ++ codes "\n"
 
 -- the last line: how many sessions there are, and how many of them are answered yes and no

@@ -19,7 +19,8 @@ use crate::decide::sessions::{Naming, Session, Sessions};
 use crate::decide::stays::Stay;
 use crate::decide::stream::Stream;
 use crate::decide::turns::{Turn, record_at, turns};
-use crate::verdict::{Entry, Fault, Verdict};
+use crate::verdict::{Entry, Verdict};
+use aud_cert::Fault;
 use aud_tap::{NodeRec, Records, StreamRec, Tap, Taps, Text};
 use std::alloc::{AllocError, Global};
 

@@ -4,6 +4,8 @@
 //! the reader or the writer that failed.
 #![tactic(auto)]
 
+mod answer;
+mod certified;
 mod choice;
 mod decide;
 mod input;

@@ -1,60 +1,74 @@
 //! What is written for an input.
-ghost use Rattle.std.specs.Prelude.{◌≡◌, IfOk, string_bytes};
-ghost use Rattle.aud_app.specs.Output.{IsOutput};
+ghost use Rattle.std.specs.Prelude.{◌≡◌, IfOk};
+ghost use Rattle.aud_app.specs.Output.{report_of, refusal_of, IsOutput, layout_of};
 
+use crate::choice::Mode;
 use crate::decide::decide;
-use crate::input::read_input;
+use crate::input::{Layout, read_input};
 use crate::program::Status;
-use crate::report::{count_yes, refusal_of, report_of};
+use crate::report::{count_yes, refusal_text, report_text};
 use crate::verdict::Entry;
 use aud_tap::{InputCode, ReadFault};
 use std::alloc::{AllocError, Global};
+use std::marker::Model;
 
-/// What is written for an input, and how the run ends.
+/// How a run ends, and the whole text that it writes.
 #[derive(Drop)]
 pub struct Output {
     pub status: Status,
     pub text: String,
 }
 
+impl Model for Output {
+    ghost use Rattle.std.specs.Prelude.{string_bytes};
+    ghost use Rattle.aud_app.specs.Output.{OutputSeen};
+
+    ghost Value = { OutputSeen };
+
+    ghost view = { λ o. record { status = o.status; text = string_bytes o.text } };
+}
+
 /// The report on sessions that are decided.
 fn report_on(alloc: Global, entries: &[Entry]) -> Result<Output, AllocError>
-    ensures { IfOk result (λ o. IsOutput o.status (string_bytes o.text)) }
+    ensures { IfOk result (λ o. o ≡ report_of entries.now) }
 {
-    let text = report_of(alloc, entries)?;
-    if count_yes(entries) == entries.len() {
-        Ok(Output {
-            status: Status::AllYes,
-            text,
-        })
+    let text = report_text(alloc, entries)?;
+    let status = if count_yes(entries) == entries.len() {
+        Status::AllYes
     } else {
-        Ok(Output {
-            status: Status::SomeNo,
-            text,
-        })
-    }
+        Status::SomeNo
+    };
+    Ok(Output { status, text })
 }
 
 /// The refusal of a line.
 fn refusal(alloc: Global, line: u64, code: InputCode) -> Result<Output, AllocError>
-    ensures { IfOk result (λ o. (o.status ≡ Status.Refused) × IsOutput o.status (string_bytes o.text)) }
+    ensures { IfOk result (λ o. o ≡ refusal_of line code) }
 {
-    let text = refusal_of(alloc, line, code)?;
+    let text = refusal_text(alloc, line, code)?;
     Ok(Output {
         status: Status::Refused,
         text,
     })
 }
 
-/// What is written for these bytes, and nothing but these bytes is looked at.
-pub fn audited(alloc: Global, bytes: &[u8]) -> Result<Output, AllocError>
-    ensures { IfOk result (λ o. IsOutput o.status (string_bytes o.text)) }
+/// What the lines of a mode's input are.
+fn layout_of(mode: Mode) -> Layout
+    ensures { result ≡ layout_of mode }
 {
-    match read_input(alloc, bytes) {
-        Ok(taps) => {
-            let entries = decide(alloc, &taps)?;
-            report_on(alloc, &entries)
-        }
+    match mode {
+        Mode::Audit => Layout::Bundle,
+    }
+}
+
+/// What a mode writes for these bytes; nothing but these bytes is looked at.
+pub fn output_of(alloc: Global, mode: Mode, bytes: &[u8]) -> Result<Output, AllocError>
+    ensures { IfOk result (λ o. IsOutput mode bytes.now o) }
+{
+    match read_input(alloc, layout_of(mode), bytes) {
+        Ok(input) => match mode {
+            Mode::Audit => report_on(alloc, &decide(alloc, &input.taps)?),
+        },
         Err(ReadFault::Input(line, code)) => refusal(alloc, line, code),
         Err(ReadFault::Memory) => Err(AllocError),
     }

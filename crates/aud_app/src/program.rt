@@ -1,10 +1,10 @@
 //! A whole run: bytes in, the report on them out.
 ghost use Rattle.std.specs.Prelude.{◌≡◌, ◌≤◌, ◌<◌, ◌⊎◌, true, IfOk, OnOk, Err};
 ghost use Rattle.aud_app.specs.Watched.{inner_of, calls_of, has_failed};
-ghost use Rattle.aud_app.specs.Output.{IsOutput, IsSomeOutput, Writes, WritesFront};
+ghost use Rattle.aud_app.specs.Output.{IsOutputOf, Writes, WritesFront};
 
-use crate::choice::{Mode, Options};
-use crate::output::{Output, audited};
+use crate::choice::Options;
+use crate::output::{Output, output_of};
 use crate::streams::{READ_LIMIT, read_all, write_out};
 use crate::watched::Watched;
 use std::alloc::{AllocError, Global};
@@ -52,12 +52,12 @@ pub fn run<H: Wait + Threads, R: Read, W: Write>(
     requires unread { calls_of input.old ≡ 0 }
     requires workers { (0 < options.workers) × (options.workers ≤ 64) }
 
-    // What was written is an output, whole, and the status is its status.
-    ensures ok { IfOk result (λ status. Writes (W.contents (inner_of output.old)) (W.contents (inner_of output.new)) (IsOutput status)) }
+    // What was written is the mode's output over what the reader had left, whole, and the run ends as that output does.
+    ensures ok { IfOk result (Writes (W.contents (inner_of output.old)) (W.contents (inner_of output.new)) (IsOutputOf options.mode (R.remaining (inner_of input.old)))) }
     // No read or write that failed was tried again.
     ensures unfailed { OnOk result ((has_failed input.new ≡ has_failed input.old) × (has_failed output.new ≡ has_failed output.old)) }
-    // After a failed write a front of an output was written.
-    ensures front { result ≡ Err RunFault.Write → WritesFront (W.contents (inner_of output.old)) (W.contents (inner_of output.new)) IsSomeOutput }
+    // After a failed write a front of that output was written.
+    ensures front { result ≡ Err RunFault.Write → WritesFront (W.contents (inner_of output.old)) (W.contents (inner_of output.new)) (IsOutputOf options.mode (R.remaining (inner_of input.old))) }
     // After every other fault nothing was.
     ensures nothing { (result ≡ Err RunFault.Memory) ⊎ (result ≡ Err RunFault.Read) ⊎ (result ≡ Err RunFault.Spawn)
         → output.new ≡ output.old }
@@ -65,11 +65,9 @@ pub fn run<H: Wait + Threads, R: Read, W: Write>(
     ensures write { result ≡ Err RunFault.Write → has_failed output.new ≡ true }
 {
     let bytes = read_all(alloc, input)?;
-    let Output { status, text } = match options.mode {
-        Mode::Audit => match audited(alloc, &bytes) {
-            Ok(made) => made,
-            Err(_) => return Err(RunFault::Memory),
-        },
+    let Output { status, text } = match output_of(alloc, options.mode, &bytes) {
+        Ok(made) => made,
+        Err(_) => return Err(RunFault::Memory),
     };
     write_out(output, text.as_bytes())?;
     Ok(status)

@@ -12,9 +12,7 @@ fn push_line(out: &mut String, pid: &str, verdict: &Verdict) -> Result<(), Alloc
     ensures { OnOk result (string_bytes out.new ≡ string_bytes out.old ++ line_of pid.now verdict.now) }
 {
     match verdict {
-        Verdict::Yes { got, tail, turns } => {
-            writeln!(out, "yes {pid} got={got} tail={tail} turns={turns}")
-        }
+        Verdict::Yes(counts) => writeln!(out, "yes {pid} {counts}"),
         Verdict::No(fault) => writeln!(out, "no {pid} {fault}"),
     }
 }
@@ -37,7 +35,7 @@ fn push_totals(out: &mut String, entries: &[Entry]) -> Result<(), AllocError>
 }
 
 /// The text of a report: a line for each session, and the counts.
-pub fn report_of(alloc: Global, entries: &[Entry]) -> Result<String, AllocError>
+pub fn report_text(alloc: Global, entries: &[Entry]) -> Result<String, AllocError>
     ensures { IfOk result (λ s. string_bytes s ≡ report_text entries.now) }
 {
     let mut out = String::new(alloc);
@@ -68,7 +66,7 @@ fn code_name(code: InputCode) -> &'static str
 }
 
 /// The one line that is written where a line of the input is refused.
-pub fn refusal_of(alloc: Global, line: u64, code: InputCode) -> Result<String, AllocError>
+pub fn refusal_text(alloc: Global, line: u64, code: InputCode) -> Result<String, AllocError>
     ensures { IfOk result (λ s. string_bytes s ≡ refusal_line line code) }
 {
     let mut out = String::new(alloc);

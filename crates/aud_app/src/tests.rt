@@ -2,7 +2,11 @@
 mod streams;
 
 use super::*;
+use std::alloc::{AllocError, Global};
+use std::process::Abort;
+use std::sync::Wait;
 use std::test::Fail;
+use std::thread::Threads;
 use streams::{TestReader, TestWriter};
 
 const AUDIT: Options = Options {
@@ -47,6 +51,85 @@ c1 {"k":"in","t":"40{\"sid\":\"s1\",\"pid\":\"P\"}"}
 c1 {"k":"in","t":"42[\"hi\",\"1-0\"]"}
 "#;
 
+/// What is written for an input, and how the run ends.
+fn outcome<H: Wait + Threads + Abort>(
+    rt: &H,
+    alloc: Global,
+    bundle: &[u8],
+    text: &str,
+    status: Status,
+) -> Result<(), Fail> {
+    let mut input = Watched::new(bundle);
+    let mut output = Watched::new(Vec::new(alloc));
+    let outcome = run(rt, alloc, &mut input, &mut output, AUDIT);
+    assert_eq!(rt; outcome, Ok(status), "{text}");
+    assert_eq!(rt; output.into_inner().as_slice(), text.as_bytes());
+    assert!(rt; !input.failed());
+    Ok(())
+}
+
+/// A line, with blanks behind it up to so many bytes.
+fn padded(alloc: Global, line: &str, length: usize) -> Result<Vec<u8>, AllocError> {
+    let mut bytes = line.as_bytes().to_vec(alloc)?;
+    while bytes.len() < length {
+        bytes.push(b' ')?;
+    }
+    Ok(bytes)
+}
+
+const STREAM_HEADER: &str = r#"st {"k":"tap","v":1,"of":"stream"}"#;
+
+const LATER_HEADER: &str = r#"st {"k":"tap","v":3,"of":"stream"}"#;
+
+#[test]
+fn a_line_of_4194304_bytes_is_read(rt: HostRuntime) -> Result<(), Fail> {
+    let longest = padded(rt.alloc(), STREAM_HEADER, 4_194_304)?;
+    outcome(
+        &rt,
+        rt.alloc(),
+        &longest,
+        "sessions=0 yes=0 no=0\n",
+        Status::AllYes,
+    )?;
+    let longer = padded(rt.alloc(), STREAM_HEADER, 4_194_305)?;
+    outcome(
+        &rt,
+        rt.alloc(),
+        &longer,
+        "line 1: LineTooLong\n",
+        Status::Refused,
+    )
+}
+
+#[test]
+fn the_first_refused_line_is_named(rt: HostRuntime) -> Result<(), Fail> {
+    let mut bundle = LATER_HEADER.as_bytes().to_vec(rt.alloc())?;
+    bundle.push(b'\n')?;
+    bundle.extend_from_slice(&padded(rt.alloc(), "{", 4_194_305)?)?;
+    outcome(
+        &rt,
+        rt.alloc(),
+        &bundle,
+        "line 1: Version\n",
+        Status::Refused,
+    )?;
+    let long_certificate = padded(rt.alloc(), "{", 4_194_305)?;
+    outcome(
+        &rt,
+        rt.alloc(),
+        &long_certificate,
+        "line 1: LineTooLong\n",
+        Status::Refused,
+    )?;
+    outcome(
+        &rt,
+        rt.alloc(),
+        b"{}\n",
+        "line 1: NoTapName\n",
+        Status::Refused,
+    )
+}
+
 #[test]
 fn reports(rt: HostRuntime) -> Result<(), Fail> {
     let cases = [
@@ -60,12 +143,7 @@ fn reports(rt: HostRuntime) -> Result<(), Fail> {
         (CUT, "line 7: NotJson\n", Status::Refused),
     ];
     for (bundle, text, status) in cases {
-        let mut input = Watched::new(bundle.as_bytes());
-        let mut output = Watched::new(Vec::new(rt.alloc()));
-        let outcome = run(&rt, rt.alloc(), &mut input, &mut output, AUDIT);
-        assert_eq!(rt; outcome, Ok(status), "{text}");
-        assert_eq!(rt; output.into_inner().as_slice(), text.as_bytes());
-        assert!(rt; !input.failed());
+        outcome(&rt, rt.alloc(), bundle.as_bytes(), text, status)?;
     }
     Ok(())
 }

@@ -1,5 +1,6 @@
 //! The words of the command line.
-ghost use Rattle.std.specs.Prelude.{◌≤◌, IfOk};
+ghost use Rattle.std.specs.Prelude.{◌≡◌, ◌≤◌, Some, IfOk};
+ghost use Rattle.aud_app.specs.Words.{mode_named, mode_of};
 
 use crate::choice::{Mode, Options};
 use clap::error::ErrorKind;
@@ -49,20 +50,42 @@ fn command<'a>(alloc: Global) -> Result<Command<'a>, Error> {
     Ok(command)
 }
 
+/// The mode of this name.
+fn mode_named(name: &str) -> Option<Mode>
+    ensures { result ≡ mode_named name.now }
+{
+    if name == "audit" {
+        Some(Mode::Audit)
+    } else {
+        None
+    }
+}
+
+/// The mode that the words ask for.
+fn mode_of(words: &[&str]) -> Option<Mode>
+    ensures { result ≡ mode_of words.now }
+{
+    match words {
+        [] => None,
+        [name, ..] => mode_named(name),
+    }
+}
+
 /// What the words after the program's name ask for. The error has the text to print: help that
 /// was asked for, or why the words are refused; where memory ran out its kind is `OutOfMemory`.
 pub fn options<'a>(alloc: Global, words: &'a [&'a str]) -> Result<Options, Error>
-    ensures { IfOk result (λ o. (1 ≤ o.workers) × (o.workers ≤ 64)) }
+    ensures mode { IfOk result (λ o. mode_of words.now ≡ Some o.mode) }
+    ensures workers { IfOk result (λ o. (1 ≤ o.workers) × (o.workers ≤ 64)) }
 {
     let mut command = command(alloc)?;
     let matches = command.try_get_matches_from_mut(words)?;
+    let Some(mode) = mode_of(words) else {
+        return Err(command.error(ErrorKind::InvalidSubcommand, "there is no such command")?);
+    };
     if let Some((_, audit)) = matches.subcommand() {
         if let Some(workers) = audit.get_one::<u8>("workers") {
             if 1 <= workers && workers <= 64 {
-                return Ok(Options {
-                    mode: Mode::Audit,
-                    workers,
-                });
+                return Ok(Options { mode, workers });
             }
         }
     }

@@ -8,3 +8,4 @@ pub mod NodeLemmas
 pub mod ReadLemmas
 pub mod ConnectionLemmas
 pub mod ClientLemmas
+pub mod NamingLemmas

@@ -7,7 +7,7 @@ use Rattle.aud_node.specs.declared.logs.Log.{Log}
 use Rattle.aud_node.specs.Cluster.{cluster_of, stream_of}
 use Rattle.aud_node.specs.NodeTap.{NodeTap}
 use Rattle.aud_node.specs.NodeTaps.{node_tap, node_at, client_recs, client_at}
-use Rattle.aud_node.specs.LogsIndexed.{node_of, client_of}
+use Rattle.aud_node.specs.Kept.{node_of, client_of}
 
 abbrev flat : {Y : Type 0} → Option (Option Y) → Option Y
 flat None = None

@@ -15,7 +15,10 @@ pub mod OwnRecords
 pub mod NodeIndices
 pub mod Turns
 pub mod NodeIndexed
-pub mod LogsIndexed
 pub mod TapPackets
 pub mod ConnectionRead
 pub mod ClientRead
+pub mod Replies
+pub mod Kept
+pub mod Naming
+pub mod LogsIndexed

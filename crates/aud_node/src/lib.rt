@@ -9,11 +9,13 @@ mod cursors;
 mod fields;
 mod logs;
 mod names;
+mod naming;
 mod node_log;
 mod offsets;
 mod own_records;
 mod recoverable;
 mod recs;
+mod replies;
 mod stream;
 mod turns;
 
@@ -23,7 +25,12 @@ pub use fields::{offset, pid};
 pub use logs::Logs;
 pub use node_log::NodeLog;
 pub use recs::Recs;
+pub use replies::{Reply, reply_of};
 pub use stream::Stream;
 
+#[cfg(test)]
+mod client_tests;
+#[cfg(test)]
+mod naming_tests;
 #[cfg(test)]
 mod tests;

@@ -3,11 +3,13 @@ ghost use Rattle.std.specs.Prelude.{◌≡◌, IfOk, map};
 ghost use Rattle.std.specs.Option.{option_copied};
 ghost use Rattle.aud_node.specs.Cluster.{cluster_of, stream_of, stream_place};
 ghost use Rattle.aud_node.specs.NodeTaps.{node_at, node_tap, client_at, client_recs};
-ghost use Rattle.aud_node.specs.LogsIndexed.{node_of, client_of};
+ghost use Rattle.aud_node.specs.Kept.{node_of, client_of};
 ghost use Rattle.aud_node.specs.Names.{place_of};
+ghost use Rattle.aud_node.specs.Replies.{naming_places};
 
 use crate::client_tap::ClientTap;
 use crate::names::Names;
+use crate::naming::Naming;
 use crate::node_log::NodeLog;
 use crate::stream::Stream;
 use aud_tap::{Memory, Records, StreamRec, Tap, Taps};
@@ -31,6 +33,7 @@ pub struct Logs<'a> {
     stream_place: Option<usize>,
     stream: Stream<'a>,
     logs: Vec<Log<'a>>,
+    naming: Naming,
 }
 
 impl<'a> Model for Logs<'a> {
@@ -54,12 +57,14 @@ impl<'a> Logs<'a> {
         let names = Names::build(alloc, taps)?;
         let stream = Stream::build(alloc, entries_of(taps))?;
         let logs = logs_of(alloc, &stream, taps)?;
+        let naming = Naming::build(alloc, logs.as_slice())?;
         Ok(Logs {
             taps,
             names,
             stream_place: place_of_stream(taps),
             stream,
             logs,
+            naming,
         })
     }
 
@@ -110,10 +115,17 @@ impl<'a> Logs<'a> {
             None => None,
         }
     }
+
+    /// The places, ascending, of the client taps in which a CONNECT from the server names the pid.
+    pub fn naming(&self, pid: &str) -> &[usize]
+        ensures { result.now ≡ naming_places self.now.taps pid.now }
+    {
+        self.naming.of(pid)
+    }
 }
 
 impl<'a> Log<'a> {
-    ghost use Rattle.aud_node.specs.LogsIndexed.{node_of, client_of};
+    ghost use Rattle.aud_node.specs.Kept.{node_of, client_of};
 
     /// The node's log, if it is one.
     fn node(&self) -> Option<&NodeLog<'a>>

@@ -165,8 +165,11 @@ fn turns_on_two_nodes(rt: HostRuntime) -> Result<(), Fail> {
     assert_eq!(rt; turn.len(), 2);
     assert!(rt; matches!(turn.get(0), Some(NodeRec::Back { turn: 2, .. })));
     assert!(rt; matches!(turn.get(1), Some(NodeRec::Broke { turn: 2, .. })));
+    let range = first.turn_range("P", 2).ok_or("no numbers of turn 2")?;
+    assert_eq!(rt; (range.start, range.end), (7, 9));
     let second = logs.node(2).ok_or("no second node")?;
     assert!(rt; second.turn_of("P", 2).is_none());
+    assert!(rt; second.turn_range("P", 2).is_none());
     Ok(())
 }
 

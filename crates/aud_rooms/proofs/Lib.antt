@@ -12,3 +12,6 @@ pub mod Sweep
 pub mod Kept
 pub mod Maximal
 pub mod Finished
+pub mod OwnNumbers
+pub mod Records
+pub mod Walk

@@ -9,3 +9,5 @@ pub mod Times
 pub mod RoomMap
 pub mod Reached
 pub mod Building
+pub mod TurnPlaces
+pub mod Walk

@@ -12,6 +12,8 @@ mod reached;
 mod room_set;
 mod room_spans;
 mod span;
+mod turn_place;
+mod turn_spans;
 
 pub use addressee::addressed;
 pub use builder::SpanBuilder;
@@ -19,6 +21,8 @@ pub use due::due_of;
 pub use laws::{due_by_spans_of_turns, spans_are_unique, spans_go_by_positions};
 pub use room_set::RoomSet;
 pub use span::Span;
+pub use turn_place::TurnPlace;
+pub use turn_spans::spans_of_turns;
 
 #[cfg(test)]
 mod tests;

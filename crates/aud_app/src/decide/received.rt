@@ -1,7 +1,8 @@
 //! What a session received, beside what was due to it.
 use crate::decide::stays::{Frame, Stay};
 use crate::decide::stream::Stream;
-use crate::verdict::{Fault, Verdict};
+use crate::verdict::{Counts, Verdict};
+use aud_cert::Fault;
 use aud_tap::Text;
 use std::alloc::{AllocError, Global};
 
@@ -61,11 +62,11 @@ impl Received {
         if let Some(recovery) = self.recoveries.iter().find(|r| !r.is_right(got)) {
             return Ok(Verdict::No(Fault::Window(recovery.c)));
         }
-        Ok(Verdict::Yes {
+        Ok(Verdict::Yes(Counts {
             got: got.len(),
             tail: due.len().saturating_sub(got.len()),
             turns,
-        })
+        }))
     }
 }
 

@@ -1,5 +1,5 @@
 use Rattle.std.proofs.Common.{◌≡◌, map, take}
-use Rattle.aud_node.specs.LogsIndexed.{node_of, client_of}
+use Rattle.aud_node.specs.Kept.{node_of, client_of}
 use Rattle.aud_node.specs.NodeTaps.{node_tap, client_recs}
 use Rattle.aud_node.proofs.logs.logs_of.Given as goal
 

@@ -1,7 +1,7 @@
 use Rattle.std.proofs.Common.{ap, ◌∙◌, Some, None, slice_get}
 use Rattle.std.specs.Option.{option_and_then}
 use Rattle.aud_node.specs.NodeTaps.{client_at}
-use Rattle.aud_node.specs.LogsIndexed.{client_of}
+use Rattle.aud_node.specs.Kept.{client_of}
 use Rattle.aud_node.proofs.ListLemmas.{got}
 use Rattle.aud_node.proofs.NodeLemmas.{client_at-kept}
 use Rattle.aud_node.proofs.logs.Logs.client.Goals as goal

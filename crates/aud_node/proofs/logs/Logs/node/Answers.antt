@@ -1,7 +1,7 @@
 use Rattle.std.proofs.Common.{sym, ap, ◌∙◌, map, List, Some, None, slice_get}
 use Rattle.std.specs.Option.{option_and_then}
 use Rattle.aud_node.specs.NodeTaps.{node_at, node_tap}
-use Rattle.aud_node.specs.LogsIndexed.{node_of}
+use Rattle.aud_node.specs.Kept.{node_of}
 use Rattle.aud_node.proofs.ListLemmas.{got}
 use Rattle.aud_node.proofs.NodeLemmas.{node_at-kept}
 use Rattle.aud_node.proofs.logs.Logs.node.Goals as goal

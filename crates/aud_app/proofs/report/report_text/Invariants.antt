@@ -1,7 +1,7 @@
 use Rattle.std.proofs.Common.{◌≡◌, take, flat_map, string_bytes}
 use Rattle.aud_app.specs.Report.{line_of}
 use Rattle.aud_app.specs.declared.verdict.Entry.{Entry}
-use Rattle.aud_app.proofs.report.report_of.Given as goal
+use Rattle.aud_app.proofs.report.report_text.Given as goal
 
 -- the lines of the sessions that were gone over
 abbrev pub invariant-loop-entry : goal.invariant-loop-entry

@@ -1,0 +1,112 @@
+-- The places of the client taps that name a pid.
+use Rattle.std.proofs.Common.{◌≡◌, ℕ, ◌+◌, ◌-◌, ◌<◌, ◌≤◌, zero, suc, Bool, true, false, cond, List, [], ◌∷◌, ◌++◌, length, map, take, get_or, refl, sym, ap, ◌∙◌, arith, Option, Some, None, slice_get, nat_eq, ◌||◌}
+use Rattle.std.specs.List.{filter, list_any}
+use Rattle.std.specs.Option.{option_and_then}
+use Rattle.std.proofs.lemmas.List.{length-map, take_all}
+use Rattle.std.proofs.lemmas.List.Folds.{list_any_more}
+use Rattle.std.proofs.lemmas.Bool.{eq-eqb}
+use Rattle.aud_tap.specs.declared.taps.Tap.{Tap}
+use Rattle.aud_node.specs.declared.logs.Log.{Log}
+use Rattle.aud_node.specs.Lists.{numbers_from}
+use Rattle.aud_node.specs.Stream.{Text}
+use Rattle.aud_node.specs.NodeTaps.{client_recs}
+use Rattle.aud_node.specs.Replies.{is_naming, naming_places}
+use Rattle.aud_node.specs.Kept.{client_of}
+use Rattle.aud_node.specs.Naming.{places_naming, is_place, with_place, noted}
+use Rattle.aud_node.proofs.CursorLemmas.{filter-more}
+use Rattle.aud_node.proofs.NodeLemmas.{client_at-kept}
+
+-- ---- a place that is noted twice
+
+is_place-same : (place : ℕ) → is_place place (Some place) ≡ true
+is_place-same place = eq-eqb place place refl
+
+last-put : (xs : List ℕ) (x : ℕ) → slice_get (xs ++ x ∷ []) (length xs) ≡ Some x
+last-put [] x = refl
+last-put (y ∷ ys) x = last-put ys x
+
+length-more : (xs : List ℕ) (x : ℕ) → length (xs ++ x ∷ []) ≡ suc (length xs)
+length-more [] x = refl
+length-more (y ∷ ys) x = ap suc (length-more ys x)
+
+length-put : (xs : List ℕ) (x : ℕ) → length (xs ++ x ∷ []) - 1 ≡ length xs
+length-put xs x = let more = length-more xs x in omega (arith, more)
+
+with_place-twice : (place : ℕ) (xs : List ℕ) → with_place place (with_place place xs) ≡ with_place place xs
+with_place-twice place xs = go (is_place place (slice_get xs (length xs - 1))) refl
+  where
+    put : with_place place (xs ++ place ∷ []) ≡ xs ++ place ∷ []
+    put =
+        ap (λ b. cond b (xs ++ place ∷ []) ((xs ++ place ∷ []) ++ place ∷ []))
+        (ap (λ n. is_place place (slice_get (xs ++ place ∷ []) n)) (length-put xs place) ∙ ap (is_place place) (last-put xs place) ∙ is_place-same place)
+
+    go : (b : Bool) → is_place place (slice_get xs (length xs - 1)) ≡ b → with_place place (cond b xs (xs ++ place ∷ [])) ≡ cond b xs (xs ++ place ∷ [])
+    go true is = ap (λ b. cond b xs (xs ++ place ∷ [])) is
+    go false is = put
+
+-- a place that may be noted, and then again
+pub noted-more : (place : ℕ) (a b : Bool) (xs : List ℕ) → noted place b (noted place a xs) ≡ noted place (a || b) xs
+noted-more place true true xs = with_place-twice place xs
+noted-more place true false xs = refl
+noted-more place false b xs = refl
+
+-- ---- a place behind lesser ones
+
+abbrev pub AreBelow : ℕ → List ℕ → Type 0
+AreBelow n [] = Unit {0}
+AreBelow n (x ∷ xs) = (x < n) × AreBelow n xs
+
+less-false : (x n : ℕ) → x < n → nat_eq x n ≡ false
+less-false x n h = grind arith
+
+is_place-below : (n : ℕ) (xs : List ℕ) (i : ℕ) → AreBelow n xs → is_place n (slice_get xs i) ≡ false
+is_place-below n [] i h = refl
+is_place-below n (x ∷ xs) zero h = less-false x n h.0
+is_place-below n (x ∷ xs) (suc i) h = is_place-below n xs i h.1
+
+AreBelow-filter : (p : ℕ → Bool) (n first count : ℕ) → first + count ≡ n → AreBelow n (filter p (numbers_from first count))
+AreBelow-filter p n first zero h = tt
+AreBelow-filter p n first (suc count) h = go (p first) (AreBelow-filter p n (suc first) count (omega (arith, h)))
+  where
+    go : (b : Bool) → AreBelow n (filter p (numbers_from (suc first) count)) → AreBelow n (cond b (first ∷ filter p (numbers_from (suc first) count)) (filter p (numbers_from (suc first) count)))
+    go true rest = (omega (arith, h), rest)
+    go false rest = rest
+
+-- the next place, noted where it passes
+pub noted-next : (p : ℕ → Bool) (i : ℕ) (kept : List ℕ) → kept ≡ filter p (numbers_from 0 i) → noted i (p i) kept ≡ filter p (numbers_from 0 (i + 1))
+noted-next p i kept is = ap (λ xs. cond (p i) xs kept) put ∙ filter-more p i kept is
+  where
+    below : is_place i (slice_get kept (length kept - 1)) ≡ false
+    below = ap (λ xs. is_place i (slice_get xs (length xs - 1))) is ∙ is_place-below i (filter p (numbers_from 0 i)) (length (filter p (numbers_from 0 i)) - 1) (AreBelow-filter p i 0 i (omega arith))
+
+    put : with_place i kept ≡ kept ++ i ∷ []
+    put = ap (λ b. cond b kept (kept ++ i ∷ [])) below
+
+-- ---- by what is kept of the taps, and by the taps
+
+pub list_any-seen : {X Y : Type 0} (p : Y → Bool) (f : X → Y) (xs : List X) → list_any (λ x. p (f x)) xs ≡ list_any p (map f xs)
+list_any-seen p f [] = refl
+list_any-seen p f (x ∷ xs) = ap (λ b. p (f x) || b) (list_any-seen p f xs)
+
+filter-alike : (p q : ℕ → Bool) (xs : List ℕ) → ((x : ℕ) → p x ≡ q x) → filter p xs ≡ filter q xs
+filter-alike p q [] alike = refl
+filter-alike p q (x ∷ xs) alike = ap (λ b. cond b (x ∷ filter p xs) (filter p xs)) (alike x) ∙ ap (λ ys. cond (q x) (x ∷ ys) ys) (filter-alike p q xs alike)
+
+pub places_naming-taps : (taps : List Tap) (logs : List Log) (pid : Text) → map client_of logs ≡ map client_recs taps → places_naming logs pid ≡ naming_places taps pid
+places_naming-taps taps logs pid kept =
+    filter-alike (λ place. is_naming pid (option_and_then client_of (slice_get logs place))) (λ place. is_naming pid (option_and_then client_recs (slice_get taps place))) (numbers_from 0 (length logs))
+    (λ place. ap (is_naming pid) (client_at-kept taps logs place kept))
+    ∙ ap (λ n. filter (λ place. is_naming pid (option_and_then client_recs (slice_get taps place))) (numbers_from 0 n))
+    (sym (length-map logs client_of) ∙ ap length kept ∙ length-map taps client_recs)
+
+-- ---- a loop over what may name the pid
+
+pub noted-item : {X : Type 0} (place : ℕ) (p : X → Bool) (xs : List X) (i : ℕ) (x : X) (base mid new : List ℕ) → i < length xs → x ≡ get_or xs i x
+    → mid ≡ noted place (list_any p (take i xs)) base → new ≡ noted place (p x) mid → new ≡ noted place (list_any p (take (i + 1) xs)) base
+noted-item place p xs i x base mid new within read before after =
+    after ∙ ap (noted place (p x)) before ∙ noted-more place (list_any p (take i xs)) (p x) base
+    ∙ ap (λ b. noted place b base) (ap (λ y. list_any p (take i xs) || p y) read ∙ sym (list_any_more p xs i x within))
+
+pub noted-all : {X Y : Type 0} (place : ℕ) (p : Y → Bool) (f : X → Y) (xs : List X) (i : ℕ) (base new : List ℕ) → length xs ≤ i
+    → new ≡ noted place (list_any (λ x. p (f x)) (take i xs)) base → new ≡ noted place (list_any p (map f xs)) base
+noted-all place p f xs i base new past is = is ∙ ap (λ b. noted place b base) (ap (list_any (λ x. p (f x))) (take_all i xs past) ∙ list_any-seen p f xs)

@@ -1,0 +1,317 @@
+-- What is told to the builder of spans gives the positions the rooms of the turns.
+use Rattle.std.proofs.Common.{◌≡◌, ◌<◌, ◌≤◌, ◌+◌, ◌-◌, ℕ, zero, suc, Bool, true, false, cond, List, [], ◌∷◌, ◌++◌, length, map, filter, replicate, max, Option, Some, None, slice_get, unwrap_or, option_map, refl, sym, ap, subst, ◌∙◌, ◌⊎◌, inl, inr, nat_le, arith, length-append}
+use Rattle.std.specs.List.{All}
+use Rattle.std.specs.FinSet as set
+use Rattle.std.proofs.lemmas.Bool.{cases_lt, le-leb, lt-leb}
+use Rattle.std.proofs.lemmas.List.{length-replicate}
+use Rattle.std.proofs.lemmas.List.Elements.{All-head, All-tail}
+use Rattle.aud_tap.specs.declared.records.StreamRec.{StreamRec}
+use Rattle.aud_tap.specs.declared.records.NodeRec.{NodeRec}
+use Rattle.aud_node.specs.Cluster.{Cluster, node_log}
+use Rattle.aud_node.specs.Cursors.{cursor_at}
+use Rattle.aud_node.specs.Lists.{between, numbers_from}
+use Rattle.aud_node.specs.OwnRecords.{names}
+use Rattle.aud_node.specs.Stream.{Text}
+use Rattle.aud_rooms.specs.Rooms.{Rooms, own_room, rooms_after}
+use Rattle.aud_rooms.specs.Turns.{Who, Turn, Slice, slice_of}
+use Rattle.aud_rooms.specs.TurnsDue.{rooms_at_end, rooms_at_take, rooms_for, greatest_high}
+use Rattle.aud_rooms.specs.Spans.{RoomSpan, AreSpans, AreSpansOfTurns, first_low, rooms_by_turns}
+use Rattle.aud_rooms.specs.Assigned.{Assigned, starting, covered, rooms_given, covered_upto, AreSpansOf}
+use Rattle.aud_rooms.specs.TurnPlaces.{IsWithin, IsInOrder, own_between}
+use Rattle.aud_rooms.specs.Walk.{with_record, at_cursor, walked_record, walked_records, walked_turn, walked_turns}
+use Rattle.aud_rooms.proofs.Positions.{spans_alike}
+use Rattle.aud_rooms.proofs.OwnNumbers.{own_between-is}
+use Rattle.aud_rooms.proofs.Records.{record_at, between-none, cursor_at-rises, own_cursor_at, other_rooms, rooms_at_take-is, rooms_at_end-more}
+
+get-front : {X : Type 0} (xs ys : List X) (i : ℕ) → i < length xs → slice_get (xs ++ ys) i ≡ slice_get xs i
+get-front [] ys i h = absurd (omega arith)
+get-front (x ∷ xs) ys zero h = refl
+get-front (x ∷ xs) ys (suc i) h = get-front xs ys i (omega arith)
+
+get-back : {X : Type 0} (xs : List X) (count : ℕ) (y : X) (i : ℕ) → length xs ≤ i → i < length xs + count → slice_get (xs ++ replicate count y) i ≡ Some y
+get-back [] zero y i h g = absurd (omega arith)
+get-back [] (suc count) y zero h g = refl
+get-back [] (suc count) y (suc i) h g = get-back [] count y i (omega arith) (omega arith)
+get-back (x ∷ xs) count y zero h g = absurd (omega arith)
+get-back (x ∷ xs) count y (suc i) h g = get-back xs count y i (omega arith) (omega arith)
+
+module _ (a : Assigned) (q : ℕ) where
+  pub covered-upto : covered (covered_upto q a) ≡ max (covered a) q
+  covered-upto =
+      let parts : length (a.sets ++ replicate (q - covered a) a.held) ≡ length a.sets + (q - covered a) = length-append a.sets (replicate (q - covered a) a.held) ∙ ap (λ n. length a.sets + n) (length-replicate (q - covered a) a.held) in
+      omega (arith, parts)
+
+  pub given_before : (p : ℕ) → a.low < p → p ≤ covered a → rooms_given (covered_upto q a) p ≡ rooms_given a p
+  given_before p past within = ap (λ o. unwrap_or o set.empty) (get-front a.sets (replicate (q - covered a) a.held) (p - suc a.low) (omega arith))
+
+  pub given_now : (p : ℕ) → covered a < p → p ≤ q → rooms_given (covered_upto q a) p ≡ a.held
+  given_now p past within = ap (λ o. unwrap_or o set.empty) (get-back a.sets (q - covered a) a.held (p - suc a.low) (omega arith) (omega arith))
+
+-- between two states the positions up to the one were kept, and the later ones have wanted rooms, those up to a cursor
+-- that aren't covered too
+pub record Gives (want : ℕ → Rooms) (cursor : ℕ) (a b : Assigned) : Type 0 where
+  pub low : b.low ≡ a.low
+  pub from : covered a ≤ covered b
+  pub to : covered b ≤ max (covered a) cursor
+  pub kept : (p : ℕ) → a.low < p → p ≤ covered a → rooms_given b p ≡ rooms_given a p
+  pub inside : (p : ℕ) → covered a < p → p ≤ covered b → rooms_given b p ≡ want p
+  pub now : (p : ℕ) → covered b < p → p ≤ cursor → b.held ≡ want p
+
+-- the positions up to the cursor are covered
+gives-covered : (want : ℕ → Rooms) (cursor : ℕ) (a b : Assigned) → Gives want cursor a b → Gives want cursor a (covered_upto cursor b)
+gives-covered want cursor a b g =
+    let from = g.from in
+    let to = g.to in
+    let low = g.low in
+    let all = covered-upto b cursor in
+    record {
+      low = g.low;
+      from = omega (arith, all, from);
+      to = omega (arith, all, to);
+      kept = λ p x y. given_before b cursor p (omega (arith, x, low)) (omega (arith, y, from)) ∙ g.kept p x y;
+      inside = λ p x y. elim (cases_lt (covered b) p) as (λ _. rooms_given (covered_upto cursor b) p ≡ want p) [
+        | inl past ↦ given_now b cursor p past (omega (arith, y, all, past)) ∙ g.now p past (omega (arith, y, all, past))
+        | inr within ↦ given_before b cursor p (omega (arith, x, low)) within ∙ g.inside p x within
+      ];
+      now = λ p x y. absurd (omega (arith, x, y, all));
+    }
+
+module _ (c : Cluster) (pid : Text) (t : Turn) (in_order : IsInOrder c t) (a : Assigned) (reached : cursor_at c.stream (node_log c t.node) (suc t.from) ≤ covered a) where
+  abbrev log : List NodeRec
+  log = node_log c t.node
+
+  abbrev cur : ℕ → ℕ
+  cur n = cursor_at c.stream log n
+
+  -- the rooms at the `take` of a position
+  abbrev want : ℕ → Rooms
+  want p = rooms_at_take c.stream pid p a.held (between log t.from t.to)
+
+  abbrev own : ℕ → Bool
+  own number = names (slice_get log number) pid
+
+  -- before the record with this number
+  pub record Before (x : ℕ) (b : Assigned) : Type 0 where
+    pub gives : Gives want (cur x) a b
+    pub held : b.held ≡ rooms_at_end pid a.held (between log t.from x)
+
+  some : t.from < t.to
+  some = in_order.is_within.some
+
+  within : t.to ≤ length log
+  within = in_order.is_within.within
+
+  first : Before t.from a
+  first =
+      let early : cur t.from ≤ covered a = omega (arith, cursor_at-rises c.stream log t.from (suc t.from) (omega arith), reached) in
+      record {
+        gives = record {
+          low = refl;
+          from = omega arith;
+          to = omega (arith, early);
+          kept = λ p x y. refl;
+          inside = λ p x y. absurd (omega (arith, x, y));
+          now = λ p x y. absurd (omega (arith, x, y, early));
+        };
+        held = sym (ap (rooms_at_end pid a.held) (between-none log t.from t.from (omega arith)));
+      }
+
+  -- a record of another session, or of none
+  other : (x : ℕ) (rec : NodeRec) (b : Assigned) → t.from ≤ x → x < t.to → slice_get log x ≡ Some rec → names (Some rec) pid ≡ false → Before x b → Before (suc x) b
+  other x rec b h g at not_own before =
+      let low = before.gives.low in
+      let from = before.gives.from in
+      let to = before.gives.to in
+      let rises = cursor_at-rises c.stream log x (suc x) (omega arith) in
+      record {
+        gives = record {
+          low = low;
+          from = from;
+          to = omega (arith, to, rises);
+          kept = before.gives.kept;
+          inside = before.gives.inside;
+          now = λ p past upto. elim (cases_lt (cur x) p) as (λ _. b.held ≡ want p) [
+            | inl next ↦
+                let behind : t.from < x = elim (cases_lt t.from x) as (λ _. t.from < x) [
+                  | inl later ↦ later
+                  | inr upto_it ↦ (let same : suc x ≡ suc t.from = omega (arith, upto_it, h) in absurd (omega (arith, ap cur same, reached, from, past, upto)))
+                ] in
+                before.held ∙ sym (rooms_at_take-is c.stream log in_order.ordered pid t.from t.to x rec p a.held h g within (omega (arith, behind)) at next upto)
+            | inr earlier ↦ before.gives.now p past earlier
+          ];
+        };
+        held =
+            before.held
+            ∙ sym (other_rooms pid (rooms_at_end pid a.held (between log t.from x)) rec not_own)
+            ∙ sym (rooms_at_end-more log pid t.from x rec a.held h at (omega (arith, g, within)));
+      }
+
+  -- one of the session's own records
+  its_own : (x : ℕ) (rec : NodeRec) (b : Assigned) → t.from ≤ x → x < t.to → slice_get log x ≡ Some rec → names (Some rec) pid ≡ true → Before x b → Before (suc x) (walked_record c t.node pid x b)
+  its_own x rec b h g at is_own before =
+      let stays : cur (suc x) ≡ cur x = own_cursor_at c.stream log x rec pid at is_own in
+      let here : Gives want (cur (suc x)) a (covered_upto (cur (suc x)) b) = gives-covered want (cur (suc x)) a b (subst (λ n. Gives want n a b) (sym stays) before.gives) in
+      subst (Before (suc x)) (sym (ap (λ o. at_cursor pid (cur (suc x)) o b) at))
+      (record {
+        gives = record {
+          low = here.low;
+          from = here.from;
+          to = here.to;
+          kept = here.kept;
+          inside = here.inside;
+          now = λ p past upto. absurd (omega (arith, past, upto, covered-upto b (cur (suc x))));
+        };
+        held = ap (λ held. rooms_after pid held rec) before.held ∙ sym (rooms_at_end-more log pid t.from x rec a.held h at (omega (arith, g, within)));
+      })
+
+  -- all records from this one on
+  all : (count x : ℕ) (b : Assigned) → t.from ≤ x → x + count ≡ t.to → Before x b → Before t.to (walked_records c t.node pid (filter own (numbers_from x count)) b)
+  all zero x b h e before = subst (λ n. Before n b) (omega (arith, e)) before
+  all (suc count) x b h e before =
+      let (rec, at) = record_at log x (omega (arith, e, within)) in
+      let some_left : x < t.to = omega (arith, e) in
+      go (own x)
+      (λ is. all count (suc x) (walked_record c t.node pid x b) (omega (arith, h)) (omega (arith, e)) (its_own x rec b h some_left at (ap (λ o. names o pid) (sym at) ∙ is) before))
+      (λ is. all count (suc x) b (omega (arith, h)) (omega (arith, e)) (other x rec b h some_left at (ap (λ o. names o pid) (sym at) ∙ is) before))
+      refl
+    where
+      go : (v : Bool)
+          → (own x ≡ true → Before t.to (walked_records c t.node pid (x ∷ filter own (numbers_from (suc x) count)) b))
+          → (own x ≡ false → Before t.to (walked_records c t.node pid (filter own (numbers_from (suc x) count)) b))
+          → own x ≡ v
+          → Before t.to (walked_records c t.node pid (cond v (x ∷ filter own (numbers_from (suc x) count)) (filter own (numbers_from (suc x) count))) b)
+      go true its others is = its is
+      go false its others is = others is
+
+  pub records_give : Before t.to (walked_records c t.node pid (own_between log pid t.from t.to) a)
+  records_give =
+      subst (λ numbers. Before t.to (walked_records c t.node pid numbers a)) (sym (own_between-is log pid t.from t.to (omega (arith, some)) within))
+      (all (t.to - t.from) t.from a (omega arith) (omega (arith, some)) first)
+
+-- a turn covers the positions up to its high
+record Walked (c : Cluster) (pid : Text) (t : Turn) (a b : Assigned) : Type 0 where
+  low : b.low ≡ a.low
+  upto : covered b ≡ max (covered a) (slice_of c t).high
+  kept : (p : ℕ) → a.low < p → p ≤ covered a → rooms_given b p ≡ rooms_given a p
+  inside : (p : ℕ) → covered a < p → p ≤ (slice_of c t).high
+      → rooms_given b p ≡ cond (nat_le p (slice_of c t).low) a.held (rooms_at_take c.stream pid p a.held (slice_of c t).recs)
+  held : b.held ≡ rooms_at_end pid a.held (slice_of c t).recs
+
+turn_walked : (c : Cluster) (pid : Text) (t : Turn) (in_order : IsInOrder c t) (a : Assigned) → Walked c pid t a (walked_turn c pid t a)
+turn_walked c pid t in_order a =
+    let low = (slice_of c t).low in
+    let high = (slice_of c t).high in
+    let some = in_order.is_within.some in
+    let rises : low ≤ high = cursor_at-rises c.stream (node_log c t.node) (suc t.from) t.to (omega (arith, some)) in
+    let start = covered_upto low a in
+    let begun : covered start ≡ max (covered a) low = covered-upto a low in
+    let before = records_give c pid t in_order start (omega (arith, begun)) in
+    let last = walked_records c t.node pid (own_between (node_log c t.node) pid t.from t.to) start in
+    let all : covered (covered_upto high last) ≡ max (covered last) high = covered-upto last high in
+    let ends = gives-covered (λ p. rooms_at_take c.stream pid p a.held (slice_of c t).recs) high start last before.gives in
+    let from = before.gives.from in
+    let to = before.gives.to in
+    record {
+      low = before.gives.low;
+      upto = omega (arith, begun, all, from, to, rises);
+      kept = λ p x y. ends.kept p x (omega (arith, begun, y)) ∙ given_before a low p x y;
+      inside = λ p x y. elim (cases_lt low p) as (λ _. rooms_given (covered_upto high last) p ≡ cond (nat_le p low) a.held (rooms_at_take c.stream pid p a.held (slice_of c t).recs)) [
+        | inl past ↦
+            ends.inside p (omega (arith, begun, x, past)) (omega (arith, all, y))
+            ∙ ap (λ v. cond v a.held (rooms_at_take c.stream pid p a.held (slice_of c t).recs)) (sym (lt-leb p low past))
+        | inr reached ↦
+            ends.kept p (omega (arith, x)) (omega (arith, begun, reached))
+            ∙ given_now a low p x reached
+            ∙ ap (λ v. cond v a.held (rooms_at_take c.stream pid p a.held (slice_of c t).recs)) (sym (le-leb p low reached))
+      ];
+      held = before.held;
+    }
+
+-- turns cover the positions up to the greatest high
+record AllWalked (c : Cluster) (pid : Text) (turns : List Turn) (a b : Assigned) : Type 0 where
+  low : b.low ≡ a.low
+  upto : covered b ≡ max (covered a) (greatest_high (map (slice_of c) turns))
+  kept : (p : ℕ) → a.low < p → p ≤ covered a → rooms_given b p ≡ rooms_given a p
+  inside : (p : ℕ) → covered a < p → p ≤ greatest_high (map (slice_of c) turns)
+      → rooms_for c.stream pid a.held (map (slice_of c) turns) p ≡ Some (rooms_given b p)
+
+turns_walked : (c : Cluster) (pid : Text) (turns : List Turn) → All (IsInOrder c) turns → (a : Assigned) → AllWalked c pid turns a (walked_turns c pid turns a)
+turns_walked c pid [] in_order a =
+    record { low = refl; upto = omega arith; kept = λ p x y. refl; inside = λ p x y. absurd (omega (arith, x, y)) }
+turns_walked c pid (t ∷ turns) in_order a = go (turn_walked c pid t (All-head (IsInOrder c) t turns in_order) a) (turns_walked c pid turns (All-tail (IsInOrder c) t turns in_order) (walked_turn c pid t a))
+  where
+    go : Walked c pid t a (walked_turn c pid t a) → AllWalked c pid turns (walked_turn c pid t a) (walked_turns c pid turns (walked_turn c pid t a))
+        → AllWalked c pid (t ∷ turns) a (walked_turns c pid turns (walked_turn c pid t a))
+    go one rest =
+        let upto = one.upto in
+        let all = rest.upto in
+        let low = one.low in
+        record {
+          low = rest.low ∙ one.low;
+          upto = omega (arith, upto, all);
+          kept = λ p x y. rest.kept p (omega (arith, x, low)) (omega (arith, y, upto)) ∙ one.kept p x y;
+          inside = λ p x y. elim (cases_lt (slice_of c t).high p) as (λ _. rooms_for c.stream pid a.held (map (slice_of c) (t ∷ turns)) p ≡ Some (rooms_given (walked_turns c pid turns (walked_turn c pid t a)) p)) [
+            | inl past ↦
+                ap (λ v. cond v (Some (cond (nat_le p (slice_of c t).low) a.held (rooms_at_take c.stream pid p a.held (slice_of c t).recs))) (rooms_for c.stream pid (rooms_at_end pid a.held (slice_of c t).recs) (map (slice_of c) turns) p)) (lt-leb p (slice_of c t).high past)
+                ∙ ap (λ held. rooms_for c.stream pid held (map (slice_of c) turns) p) (sym one.held)
+                ∙ rest.inside p (omega (arith, upto, x, past)) (omega (arith, past, y))
+            | inr reached ↦
+                ap (λ v. cond v (Some (cond (nat_le p (slice_of c t).low) a.held (rooms_at_take c.stream pid p a.held (slice_of c t).recs))) (rooms_for c.stream pid (rooms_at_end pid a.held (slice_of c t).recs) (map (slice_of c) turns) p)) (le-leb p (slice_of c t).high reached)
+                ∙ ap Some (sym (rest.kept p (omega (arith, x, low)) (omega (arith, upto, reached)) ∙ one.inside p x reached))
+          ];
+        }
+
+lowest : (c : Cluster) (turns : List Turn) → All (IsInOrder c) turns → first_low (map (slice_of c) turns) ≤ greatest_high (map (slice_of c) turns)
+lowest c [] in_order = omega arith
+lowest c (t ∷ turns) in_order =
+    let some = (All-head (IsInOrder c) t turns in_order).is_within.some in
+    let rises = cursor_at-rises c.stream (node_log c t.node) (suc t.from) t.to (omega (arith, some)) in
+    omega (arith, rises)
+
+module _ (c : Cluster) (pid sid nsp : Text) (turns : List Turn) (in_order : All (IsInOrder c) turns) where
+  abbrev begun : Assigned
+  begun = starting sid (first_low (map (slice_of c) turns))
+
+  abbrev told : Assigned
+  told = walked_turns c pid turns begun
+
+  abbrev by_turns : ℕ → Rooms
+  by_turns = rooms_by_turns c.stream (record { pid = pid; sid = sid; nsp = nsp }) (map (slice_of c) turns)
+
+  told_all : AllWalked c pid turns begun told
+  told_all = turns_walked c pid turns in_order begun
+
+  told_upto : covered told ≡ greatest_high (map (slice_of c) turns)
+  told_upto = (let upto = told_all.upto in let h = lowest c turns in_order in omega (arith, upto, h))
+
+  -- the spans of what was told are those of the turns
+  pub spans_of_walked : (spans : List RoomSpan) → AreSpansOf told spans → AreSpansOfTurns c.stream (record { pid = pid; sid = sid; nsp = nsp }) (map (slice_of c) turns) spans
+  spans_of_walked spans are =
+      let low : told.low ≡ first_low (map (slice_of c) turns) = told_all.low in
+      subst (λ n. AreSpans by_turns n (greatest_high (map (slice_of c) turns)) spans) low
+      (subst (λ n. AreSpans by_turns told.low n spans) told_upto
+      (spans_alike (rooms_given told) by_turns told.low (covered told) spans
+      (λ p x y. sym (ap (λ o. unwrap_or o set.empty) (told_all.inside p (omega (arith, x, low)) (omega (arith, y, told_upto))))) are))
+
+-- one record more
+pub walked_records-more : (c : Cluster) (node : ℕ) (pid : Text) (numbers : List ℕ) (number : ℕ) (a : Assigned)
+    → walked_records c node pid (numbers ++ number ∷ []) a ≡ walked_record c node pid number (walked_records c node pid numbers a)
+walked_records-more c node pid [] number a = refl
+walked_records-more c node pid (n ∷ numbers) number a = walked_records-more c node pid numbers number (walked_record c node pid n a)
+
+-- one turn more
+pub walked_turns-more : (c : Cluster) (pid : Text) (turns : List Turn) (t : Turn) (a : Assigned) → walked_turns c pid (turns ++ t ∷ []) a ≡ walked_turn c pid t (walked_turns c pid turns a)
+walked_turns-more c pid [] t a = refl
+walked_turns-more c pid (s ∷ turns) t a = walked_turns-more c pid turns t (walked_turn c pid s a)
+
+module _ {X : Type 0} (f g h : X → X) (same : (x : X) → f (g x) ≡ h x) where
+  mapped_twice : (o : Option X) → option_map f (option_map g o) ≡ option_map h o
+  mapped_twice None = refl
+  mapped_twice (Some x) = ap Some (same x)
+
+-- one record more for the builder
+pub record_told : (c : Cluster) (node : ℕ) (pid : Text) (numbers : List ℕ) (number : ℕ) (o : Option Assigned)
+    → option_map (walked_record c node pid number) (option_map (walked_records c node pid numbers) o) ≡ option_map (walked_records c node pid (numbers ++ number ∷ [])) o
+record_told c node pid numbers number o =
+    mapped_twice (walked_record c node pid number) (walked_records c node pid numbers) (walked_records c node pid (numbers ++ number ∷ []))
+    (λ a. sym (walked_records-more c node pid numbers number a)) o

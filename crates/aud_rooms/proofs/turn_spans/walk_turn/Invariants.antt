@@ -1,0 +1,11 @@
+use Rattle.std.proofs.Common.{◌≡◌, take, suc}
+use Rattle.std.specs.Option.{option_map}
+use Rattle.aud_node.specs.Cluster.{node_log}
+use Rattle.aud_node.specs.Cursors.{cursor_at}
+use Rattle.aud_rooms.specs.Assigned.{covered_upto}
+use Rattle.aud_rooms.specs.Walk.{walked_records}
+use Rattle.aud_rooms.proofs.turn_spans.walk_turn.Given as goal
+
+abbrev pub invariant-loop-number : goal.invariant-loop-number
+invariant-loop-number l =
+    l.builder ≡ option_map (walked_records l.logs l.turn.node l.pid (take l.number-index l.number-items)) l.initial.builder

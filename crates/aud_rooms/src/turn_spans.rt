@@ -1,0 +1,104 @@
+//! The spans of the turns of a session.
+ghost use Rattle.std.specs.Prelude.{◌≡◌, IfOk, OnOk, map};
+ghost use Rattle.std.specs.Option.{option_map};
+ghost use Rattle.std.specs.List.{All};
+ghost use Rattle.aud_node.specs.Stream.{Text};
+ghost use Rattle.aud_rooms.specs.Turns.{slice_of};
+ghost use Rattle.aud_rooms.specs.TurnPlaces.{IsWithin, IsInOrder};
+ghost use Rattle.aud_rooms.specs.Spans.{AreSpansOfTurns, first_low};
+ghost use Rattle.aud_rooms.specs.Walk.{with_record, walked_record, walked_turn};
+
+use crate::builder::SpanBuilder;
+use crate::span::Span;
+use crate::turn_place::TurnPlace;
+use aud_node::Logs;
+use aud_tap::{Memory, NodeRec};
+use std::alloc::Global;
+
+/// The spans of the turns of the session with this pid and sid: past the first turn's low, up to the greatest high,
+/// by the bytes of the room, then by the first position. It looks at the session's own records alone, and at the
+/// cursors there; rooms are lent by the logs.
+pub fn spans_of_turns<'a>(
+    alloc: Global,
+    logs: &Logs<'a>,
+    pid: &str,
+    sid: &'a str,
+    turns: &[TurnPlace],
+) -> Result<Vec<Span<'a>>, Memory>
+    requires { All (IsInOrder logs.now) turns.now }
+    ensures { IfOk result (λ spans. (nsp : Text) → AreSpansOfTurns logs.now.stream
+        (record { pid = pid.now; sid = sid.now; nsp = nsp }) (map (slice_of logs.now) turns.now) spans.items) }
+{
+    let mut builder = SpanBuilder::new(alloc, sid, lowest(logs, turns))?;
+    for turn in turns {
+        walk_turn(&mut builder, logs, pid, turn)?;
+    }
+    builder.finish()
+}
+
+/// The position that the first turn starts from.
+fn lowest(logs: &Logs<'_>, turns: &[TurnPlace]) -> u64
+    requires { All (IsInOrder logs.now) turns.now }
+    ensures { result ≡ first_low (map (slice_of logs.now) turns.now) }
+{
+    match turns.first() {
+        Some(turn) => turn.low(logs),
+        None => 0,
+    }
+}
+
+fn walk_turn<'a>(
+    builder: &mut SpanBuilder<'a>,
+    logs: &Logs<'a>,
+    pid: &str,
+    turn: &TurnPlace,
+) -> Result<(), Memory>
+    requires { IsWithin logs.now turn.now }
+    ensures { OnOk result (builder.new ≡ option_map (walked_turn logs.now pid.now turn.now) builder.old) }
+{
+    builder.upto(turn.low(logs))?;
+    for number in turn.own(logs, pid) {
+        walk_record(builder, logs, turn.node, pid, *number)?;
+    }
+    builder.upto(turn.high(logs))
+}
+
+/// The positions up to the cursor at the record take the rooms held so far; then the record changes them.
+fn walk_record<'a>(
+    builder: &mut SpanBuilder<'a>,
+    logs: &Logs<'a>,
+    node: usize,
+    pid: &str,
+    number: usize,
+) -> Result<(), Memory>
+    ensures { OnOk result (builder.new ≡ option_map (walked_record logs.now node pid.now number) builder.old) }
+{
+    let Some(log) = logs.node(node) else {
+        return Ok(());
+    };
+    let Some(rec) = log.recs().get(number) else {
+        return Ok(());
+    };
+    let Some(cursor) = log.cursor_after(number) else {
+        return Ok(());
+    };
+    builder.upto(cursor)?;
+    change_rooms(builder, pid, rec)
+}
+
+/// The room that the record joins or leaves, if it is the session's.
+fn change_rooms<'a>(
+    builder: &mut SpanBuilder<'a>,
+    pid: &str,
+    rec: &'a NodeRec,
+) -> Result<(), Memory>
+    ensures { OnOk result (builder.new ≡ option_map (with_record pid.now rec.now) builder.old) }
+{
+    match rec {
+        NodeRec::Join { pid: other, room } if other.as_str() == pid => builder.join(room.as_str()),
+        NodeRec::Leave { pid: other, room } if other.as_str() == pid => {
+            builder.leave(room.as_str())
+        }
+        _ => Ok(()),
+    }
+}
