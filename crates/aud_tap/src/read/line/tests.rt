@@ -292,9 +292,8 @@ fn reads_the_fields_of_an_event(rt: HostRuntime) -> Result<(), Fail> {
 }
 
 #[test]
-fn reads_the_fields_of_the_other_records(rt: HostRuntime) -> Result<(), Fail> {
-    let alloc = rt.alloc();
-    let header = record(alloc, r#"{"k":"tap","v":1,"of":"node"}"#)?;
+fn reads_headers_and_other_entries(rt: HostRuntime) -> Result<(), Fail> {
+    let header = record(rt.alloc(), r#"{"k":"tap","v":1,"of":"node"}"#)?;
     assert!(rt;
         matches!(
             header,
@@ -304,44 +303,105 @@ fn reads_the_fields_of_the_other_records(rt: HostRuntime) -> Result<(), Fail> {
             }
         )
     );
-    let other = record(alloc, r#"{"k":"other","off":"2-0"}"#)?;
-    assert!(rt; matches!(&other, Rec::Stream(StreamRec::Other { off }) if off.as_str() == "2-0"));
-    let begin = record(alloc, r#"{"k":"start","off":null}"#)?;
-    assert!(rt; matches!(begin, Rec::Node(NodeRec::Start { off: None })));
-    let start = record(alloc, r#"{"k":"start","off":"1-0"}"#)?;
-    assert!(rt;
-        matches!(&start, Rec::Node(NodeRec::Start { off: Some(off) }) if off.as_str() == "1-0")
-    );
-    let open = record(alloc, r#"{"k":"open","pid":"P","sid":"s1","nsp":"/"}"#)?;
-    assert!(rt;
-        matches!(&open, Rec::Node(NodeRec::Opened { pid, sid, nsp })
-        if pid.as_str() == "P" && sid.as_str() == "s1" && nsp.as_str() == "/")
-    );
-    let join = record(alloc, r#"{"k":"join","pid":"P","room":"r"}"#)?;
-    assert!(rt;
-        matches!(&join, Rec::Node(NodeRec::Join { pid, room }) if pid.as_str() == "P" && room.as_str() == "r")
-    );
-    let leave = record(alloc, r#"{"k":"leave","pid":"P","room":"r"}"#)?;
-    assert!(rt;
-        matches!(&leave, Rec::Node(NodeRec::Leave { pid, room }) if pid.as_str() == "P" && room.as_str() == "r")
-    );
-    let broke = record(alloc, r#"{"k":"break","pid":"P","turn":0}"#)?;
-    assert!(rt;
-        matches!(&broke, Rec::Node(NodeRec::Broke { pid, turn: 0 }) if pid.as_str() == "P")
-    );
-    let back = record(alloc, r#"{"k":"back","pid":"P","turn":1}"#)?;
-    assert!(rt; matches!(&back, Rec::Node(NodeRec::Back { pid, turn: 1 }) if pid.as_str() == "P"));
-    let gone = record(alloc, r#"{"k":"gone","pid":"P"}"#)?;
-    assert!(rt; matches!(&gone, Rec::Node(NodeRec::Gone { pid }) if pid.as_str() == "P"));
-    let conn = record(alloc, r#"{"k":"conn","c":2}"#)?;
-    assert!(rt; matches!(conn, Rec::Client(ClientRec::Conn { c: 2 })));
-    let bytes = record(alloc, r#"{"k":"inb","b":"AQI="}"#)?;
-    assert!(rt;
-        matches!(&bytes, Rec::Client(ClientRec::BytesIn { b }) if b.as_slice() == [1, 2].as_slice())
-    );
-    let poll = record(alloc, r#"{"k":"poll","t":"2\u001e42[]"}"#)?;
-    assert!(rt; matches!(&poll, Rec::Client(ClientRec::Poll { t }) if t.as_str() == "2\u{1e}42[]"));
-    let out = record(alloc, r#"{"k":"out","t":"3"}"#)?;
-    assert!(rt; matches!(&out, Rec::Client(ClientRec::TextOut { t }) if t.as_str() == "3"));
+    let Rec::Stream(StreamRec::Other { off }) = record(rt.alloc(), r#"{"k":"other","off":"2-0"}"#)?
+    else {
+        assert!(rt; false);
+        return Ok(());
+    };
+    assert_eq!(rt; off.as_str(), "2-0");
+    Ok(())
+}
+
+/// A record of a node: its variant, its texts in their order, and its turn.
+fn node_fields(rec: &NodeRec) -> (&str, &str, &str, &str, u16) {
+    match rec {
+        NodeRec::Start { off: None } => ("Start", "none", "", "", 0),
+        NodeRec::Start { off: Some(off) } => ("Start", off.as_str(), "", "", 0),
+        NodeRec::Take { off } => ("Take", off.as_str(), "", "", 0),
+        NodeRec::Opened { pid, sid, nsp } => (
+            "Opened",
+            pid.as_str(),
+            sid.as_str(),
+            nsp.as_str(),
+            0,
+        ),
+        NodeRec::Join { pid, room } => ("Join", pid.as_str(), room.as_str(), "", 0),
+        NodeRec::Leave { pid, room } => ("Leave", pid.as_str(), room.as_str(), "", 0),
+        NodeRec::Broke { pid, turn } => ("Broke", pid.as_str(), "", "", *turn),
+        NodeRec::Back { pid, turn } => ("Back", pid.as_str(), "", "", *turn),
+        NodeRec::Gone { pid } => ("Gone", pid.as_str(), "", "", 0),
+    }
+}
+
+#[test]
+fn reads_the_fields_of_a_node(rt: HostRuntime) -> Result<(), Fail> {
+    for (json, fields) in [
+        (r#"{"k":"start","off":null}"#, ("Start", "none", "", "", 0)),
+        (r#"{"k":"start","off":"1-0"}"#, ("Start", "1-0", "", "", 0)),
+        (r#"{"k":"take","off":"1-0"}"#, ("Take", "1-0", "", "", 0)),
+        (
+            r#"{"k":"open","pid":"P","sid":"s1","nsp":"/"}"#,
+            ("Opened", "P", "s1", "/", 0),
+        ),
+        (
+            r#"{"k":"join","pid":"P","room":"r"}"#,
+            ("Join", "P", "r", "", 0),
+        ),
+        (
+            r#"{"k":"leave","pid":"P","room":"r"}"#,
+            ("Leave", "P", "r", "", 0),
+        ),
+        (
+            r#"{"k":"break","pid":"P","turn":0}"#,
+            ("Broke", "P", "", "", 0),
+        ),
+        (
+            r#"{"k":"back","pid":"P","turn":1}"#,
+            ("Back", "P", "", "", 1),
+        ),
+        (r#"{"k":"gone","pid":"P"}"#, ("Gone", "P", "", "", 0)),
+    ] {
+        let Rec::Node(rec) = record(rt.alloc(), json)? else {
+            assert!(rt; false, "at {json}");
+            continue;
+        };
+        assert_eq!(rt; node_fields(&rec), fields);
+    }
+    Ok(())
+}
+
+/// A record of a client: its variant, its text or bytes, and its number.
+fn client_fields(rec: &ClientRec) -> (&str, &[u8], u64) {
+    match rec {
+        ClientRec::Conn { c } => ("Conn", b"", *c),
+        ClientRec::TextIn { t } => ("TextIn", t.as_str().as_bytes(), 0),
+        ClientRec::BytesIn { b } => ("BytesIn", b.as_slice(), 0),
+        ClientRec::Poll { t } => ("Poll", t.as_str().as_bytes(), 0),
+        ClientRec::TextOut { t } => ("TextOut", t.as_str().as_bytes(), 0),
+        ClientRec::Lost => ("Lost", b"", 0),
+    }
+}
+
+#[test]
+fn reads_the_fields_of_a_client(rt: HostRuntime) -> Result<(), Fail> {
+    for (json, variant, bytes, c) in [
+        (r#"{"k":"conn","c":2}"#, "Conn", b"".as_slice(), 2),
+        (
+            r#"{"k":"in","t":"42[\"hi\",\"1-0\"]"}"#,
+            "TextIn",
+            b"42[\"hi\",\"1-0\"]",
+            0,
+        ),
+        (r#"{"k":"inb","b":"AQI="}"#, "BytesIn", &[1, 2], 0),
+        (r#"{"k":"poll","t":"2\u001e42[]"}"#, "Poll", b"2\x1e42[]", 0),
+        (r#"{"k":"out","t":"3"}"#, "TextOut", b"3", 0),
+        (r#"{"k":"lost"}"#, "Lost", b"", 0),
+    ] {
+        let Rec::Client(rec) = record(rt.alloc(), json)? else {
+            assert!(rt; false, "at {json}");
+            continue;
+        };
+        assert_eq!(rt; client_fields(&rec), (variant, bytes, c));
+    }
     Ok(())
 }
