@@ -1,22 +1,20 @@
 -- A chain's turns are those that the nodes' logs begin.
-use Rattle.std.proofs.Common.{◌≡◌, ◌<◌, ◌≤◌, ◌+◌, ◌-◌, ℕ, zero, suc, Bool, true, false, cond, ◌&&◌, ◌||◌, not, List, [], ◌∷◌, ◌++◌, length, filter, Option, Some, None, option_map, slice_get, refl, sym, ap, subst, ◌∙◌, ◌⊎◌, inl, inr, nat_eq, arith}
+use Rattle.std.proofs.Common.{◌≡◌, ◌<◌, ◌≤◌, ◌+◌, ℕ, zero, suc, Bool, true, false, cond, ◌&&◌, ◌||◌, not, List, [], ◌∷◌, ◌++◌, length, filter, Option, Some, None, option_map, slice_get, refl, sym, ap, subst, ◌∙◌, ◌⊎◌, inl, inr, nat_eq, arith}
 use Rattle.std.specs.List.{list_any, list_all}
 use Rattle.std.proofs.lemmas.Bool.{cases_eq, eq-eqb, ne_eqb, eqb-true, false≢true}
 use Rattle.std.proofs.lemmas.Option.{same_Some, none-some, slice_get_within}
 use Rattle.std.proofs.lemmas.List.Elements.{filter-append}
 use Rattle.aud_tap.specs.declared.records.NodeRec.{NodeRec}
 use Rattle.aud_tap.specs.declared.taps.Tap.{Tap}
-use Rattle.aud_tap.specs.declared.taps.Records.{Records}
-use Rattle.aud_node.specs.Cluster.{Cluster, node_log, log_at, node_recs}
+use Rattle.aud_node.specs.Cluster.{Cluster, node_log, node_recs}
 use Rattle.aud_node.specs.Lists.{numbers_from}
 use Rattle.aud_node.specs.Stream.{Text}
 use Rattle.aud_node.specs.TurnRecords.{pid_of, begins_turn, turn_range}
-use Rattle.aud_node.specs.OwnRecords.{is_pid, names, own_numbers}
-use Rattle.aud_rooms.specs.Turns.{Who, Turn, beginning, IsTurn, AreTurns, StandsIn, IsChain}
+use Rattle.aud_node.specs.OwnRecords.{is_pid, names}
+use Rattle.aud_rooms.specs.Turns.{Who, Turn, beginning, IsTurn, IsChain}
 use Rattle.aud_maker.specs.Places.{is_none, has_own, own_places}
 use Rattle.aud_maker.specs.Begun.{placed_or, turn_begun, AreBegun, AreAllBegun, BeginsUpTo}
-use Rattle.aud_maker.specs.Chain.{HasNoChain}
-use Rattle.aud_maker.proofs.Turns.{same_text, itself_text, begins-names, beginning-begins, Stands, stands, turn_there, begins_there, turn_range-is, turn_range-none}
+use Rattle.aud_maker.proofs.Turns.{same_text, itself_text, begins-names, beginning-begins, stands, turn_there, begins_there, turn_range-is, turn_range-none}
 
 -- ---- the nodes with records of the session
 
@@ -45,7 +43,7 @@ among p first (suc count) n e a b = go (p first) refl (cases_eq first n) (λ h. 
     go false v (inl same) rest = absurd (false≢true (sym v ∙ ap p same ∙ e))
     go false v (inr other) rest = rest (omega arith)
 
-log_within : (c : Cluster) (node i : ℕ) (rec : NodeRec) → slice_get (node_log c node) i ≡ Some rec → node < length c.taps
+pub log_within : (c : Cluster) (node i : ℕ) (rec : NodeRec) → slice_get (node_log c node) i ≡ Some rec → node < length c.taps
 log_within c node i rec at = go (slice_get c.taps node) refl at
   where
     go : (o : Option Tap) → slice_get c.taps node ≡ o → slice_get (node_recs (option_map (λ (tap : Tap). tap.records) o)) i ≡ Some rec → node < length c.taps
@@ -215,6 +213,6 @@ filter-next p i b e =
     let last : i ≡ 0 + i = omega arith in
     sym
     (ap (λ n. filter p (numbers_from 0 n)) (sym next)
-      ∙ ap (filter p) (next_number 0 i ∙ ap (λ n. numbers_from 0 i ++ n ∷ []) (sym last))
-      ∙ filter-append p (numbers_from 0 i) (i ∷ [])
-      ∙ ap (λ v. filter p (numbers_from 0 i) ++ cond v (i ∷ []) []) e)
+    ∙ ap (filter p) (next_number 0 i ∙ ap (λ n. numbers_from 0 i ++ n ∷ []) (sym last))
+    ∙ filter-append p (numbers_from 0 i) (i ∷ [])
+    ∙ ap (λ v. filter p (numbers_from 0 i) ++ cond v (i ∷ []) []) e)

@@ -1,16 +1,16 @@
 -- Turns that end as they may are turns.
-use Rattle.std.proofs.Common.{◌≡◌, ◌<◌, ◌≤◌, ◌+◌, ◌-◌, ℕ, zero, suc, Bool, true, false, cond, ◌&&◌, List, [], ◌∷◌, length, take, drop, get_or, Option, Some, None, option_map, slice_get, refl, sym, ap, subst, ◌∙◌, ◌⊎◌, inl, inr, nat_eq, arith, bytes_eq}
+use Rattle.std.proofs.Common.{◌≡◌, ◌<◌, ◌≤◌, ◌+◌, ◌-◌, ℕ, zero, suc, Bool, true, false, cond, ◌&&◌, List, [], ◌∷◌, length, take, drop, get_or, Option, Some, None, option_map, slice_get, refl, sym, ap, ◌∙◌, ◌⊎◌, inl, inr, nat_eq, arith, bytes_eq}
 use Rattle.std.proofs.lemmas.Bool.{cases_eq, eq-eqb, ne_eqb, eqb-true, false≢true, and_parts}
 use Rattle.std.proofs.lemmas.List.{at_drop_more, drop_all}
 use Rattle.std.proofs.lemmas.Option.{same_Some, none-some, slice_get_within}
 use Rattle.aud_tap.specs.declared.records.NodeRec.{NodeRec}
-use Rattle.aud_tap.specs.declared.records.NodeRec.TheVariants.{Start, Take, Opened, Join, Leave, Broke, Back, Gone}
+use Rattle.aud_tap.specs.declared.records.NodeRec.TheVariants.{Opened, Broke, Back, Gone}
 use Rattle.aud_node.specs.Cluster.{Cluster, node_log}
 use Rattle.aud_node.specs.Lists.{first_index, between}
 use Rattle.aud_node.specs.Stream.{Text}
 use Rattle.aud_node.specs.TurnRecords.{begins_turn, is_begin, is_end, rest_of_turn, turn_in, turn_range}
-use Rattle.aud_rooms.specs.Turns.{Who, Turn, beginning, Part, Inner, Last, Foreign, End, ByBreak, ByGone, ByLog, part_of, end_past, turn_end, MayEnd, IsTurn, AreTurns}
-use Rattle.aud_maker.specs.Begun.{turn_begun, AreBegun}
+use Rattle.aud_rooms.specs.Turns.{Who, Turn, beginning, Inner, Last, Foreign, End, ByBreak, ByGone, ByLog, part_of, end_past, turn_end, MayEnd, AreTurns}
+use Rattle.aud_maker.specs.Begun.{AreBegun}
 use Rattle.aud_maker.specs.Chain.{names_opened, opening_of}
 use Rattle.aud_maker.specs.Ended.{end_by, may_end, is_ended, is_empty, are_ended}
 use Rattle.aud_maker.proofs.Turns.{same_text, slice_get-take, slice_get-drop, drop_at}
@@ -234,7 +234,7 @@ ended-step c pid turns n t h is ended =
     let rest = drop (n + 1) turns in
     sym
     (at_drop_more (are_ended c pid n) turns n t h
-      ∙ ap (λ u. are_ended c pid n (u ∷ rest)) (sym is)
-      ∙ ap (λ b. is_ended c pid n t b && are_ended c pid (suc n) rest) (left-empty turns (n + 1) (omega (arith, h)))
-      ∙ ap (λ b. b && are_ended c pid (suc n) rest) (sym ended)
-      ∙ ap (λ m. are_ended c pid m rest) next)
+    ∙ ap (λ u. are_ended c pid n (u ∷ rest)) (sym is)
+    ∙ ap (λ b. is_ended c pid n t b && are_ended c pid (suc n) rest) (left-empty turns (n + 1) (omega (arith, h)))
+    ∙ ap (λ b. b && are_ended c pid (suc n) rest) (sym ended)
+    ∙ ap (λ m. are_ended c pid m rest) next)

@@ -1,15 +1,13 @@
 -- Which of the faults holds first, and what is made where none does.
-use Rattle.std.proofs.Common.{◌≡◌, ◌<◌, ◌≤◌, ◌+◌, ℕ, zero, suc, Bool, true, false, cond, ◌&&◌, ◌||◌, List, [], ◌∷◌, length, map, drop, Option, Some, None, option_map, slice_get, refl, sym, ap, subst, ◌∙◌, ◌⊎◌, inl, inr, nat_eq, arith}
+use Rattle.std.proofs.Common.{◌≡◌, ◌<◌, ◌+◌, ℕ, zero, suc, Bool, true, false, cond, ◌&&◌, ◌||◌, List, [], ◌∷◌, length, drop, Option, Some, None, option_map, slice_get, refl, sym, ap, ◌∙◌, nat_eq, arith}
 use Rattle.std.specs.List.{list_any, list_all, Contains, All}
 use Rattle.std.specs.Option.{is_some}
 use Rattle.std.proofs.lemmas.Bool.{eqb-true, false≢true, and_parts}
 use Rattle.std.proofs.lemmas.Option.{same_Some, none-some}
-use Rattle.std.proofs.lemmas.List.Elements.{All-nil, All-cons, All-map, All-same, All-weaker}
+use Rattle.std.proofs.lemmas.List.Elements.{All-nil, All-cons}
 use Rattle.aud_tap.specs.declared.records.NodeRec.{NodeRec}
-use Rattle.aud_tap.specs.declared.taps.Tap.{Tap}
 use Rattle.aud_node.specs.Cluster.{Cluster, node_log}
 use Rattle.aud_node.specs.Lists.{first_index}
-use Rattle.aud_node.specs.Names.{place_of}
 use Rattle.aud_node.specs.Stream.{Text}
 use Rattle.aud_node.specs.TurnRecords.{begins_turn, turn_in, turn_range}
 use Rattle.aud_node.specs.Replies.{naming_places}
@@ -21,7 +19,7 @@ use Rattle.aud_maker.specs.Places.{own_places}
 use Rattle.aud_maker.specs.Begun.{placed_or, turn_begun}
 use Rattle.aud_maker.specs.Chain.{HasNoChain}
 use Rattle.aud_maker.specs.Faults.{HasUnordered, Holds, rank, IsFirst, NoneHolds}
-use Rattle.aud_maker.specs.Made.{is_turn_ordered, IsClient}
+use Rattle.aud_maker.specs.Made.{is_turn_ordered}
 use Rattle.aud_maker.proofs.Turns.{begins-names}
 use Rattle.aud_maker.proofs.BegunLemmas.{own_place, begun-range}
 use Rattle.aud_maker.proofs.EndedLemmas.{ranged}

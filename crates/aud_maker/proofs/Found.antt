@@ -1,11 +1,11 @@
 -- The turns that were found are the session's chain; where a test fails there is none.
-use Rattle.std.proofs.Common.{◌≡◌, ◌<◌, ℕ, suc, false, true, List, [], ◌∷◌, length, Option, Some, None, sym, ap, subst, ◌∙◌, arith}
+use Rattle.std.proofs.Common.{◌≡◌, ◌<◌, false, true, List, [], ◌∷◌, length, Some, None, sym, ap, subst, ◌∙◌, arith}
 use Rattle.std.specs.List.{list_all}
 use Rattle.std.proofs.lemmas.Bool.{false≢true}
 use Rattle.std.proofs.lemmas.Option.{none-some}
 use Rattle.aud_node.specs.Cluster.{Cluster}
 use Rattle.aud_node.specs.Stream.{Text}
-use Rattle.aud_rooms.specs.Turns.{Who, Turn, AreTurns, IsChain}
+use Rattle.aud_rooms.specs.Turns.{Who, Turn, IsChain}
 use Rattle.aud_maker.specs.Places.{own_places}
 use Rattle.aud_maker.specs.Begun.{AreAllBegun}
 use Rattle.aud_maker.specs.Ended.{are_ended}

@@ -1,5 +1,5 @@
 -- The last turn that a session's records begin.
-use Rattle.std.proofs.Common.{◌≡◌, ◌<◌, ◌≤◌, ℕ, true, false, Bool, List, [], ◌∷◌, ◌++◌, length, take, get_or, Some, slice_get, ap, sym, subst, ◌∙◌, ◌||◌, nat_eq, refl, arith}
+use Rattle.std.proofs.Common.{◌≡◌, ◌≤◌, ℕ, true, false, Bool, List, [], ◌∷◌, length, Some, slice_get, ap, sym, subst, ◌∙◌, ◌||◌, nat_eq, refl, arith}
 use Rattle.std.specs.List.{All, list_any}
 use Rattle.std.proofs.lemmas.Bool.{eqb-true, false≢true}
 use Rattle.std.proofs.lemmas.Option.{slice_get_within}

@@ -5,3 +5,5 @@ pub mod SweptLemmas
 pub mod Found
 pub mod FirstFault
 pub mod Last
+pub mod Over
+pub mod MentionLemmas

@@ -1,5 +1,5 @@
 -- The sweep over a session's records finds whether all stand in the turns.
-use Rattle.std.proofs.Common.{◌≡◌, ◌<◌, ◌≤◌, ◌+◌, ◌-◌, ℕ, zero, suc, Bool, true, false, cond, ◌&&◌, List, [], ◌∷◌, length, filter, Option, Some, None, slice_get, refl, sym, ap, subst, ◌∙◌, ◌⊎◌, inl, inr, nat_eq, nat_le, nat_lt, arith}
+use Rattle.std.proofs.Common.{◌≡◌, ◌<◌, ◌≤◌, ◌+◌, ℕ, zero, suc, Bool, true, false, cond, ◌&&◌, List, [], ◌∷◌, length, filter, Option, Some, None, slice_get, refl, sym, ap, subst, ◌∙◌, ◌⊎◌, inl, inr, nat_eq, nat_le, nat_lt, arith}
 use Rattle.std.specs.List.{list_all}
 use Rattle.std.proofs.lemmas.Bool.{cases_eq, eq-eqb, eqb-true, false≢true, and_parts, le-leb, leb-true}
 use Rattle.std.proofs.lemmas.Option.{same_Some, none-some, slice_get_within}
@@ -9,11 +9,11 @@ use Rattle.aud_node.specs.Cluster.{Cluster, node_log}
 use Rattle.aud_node.specs.Lists.{numbers_from}
 use Rattle.aud_node.specs.Stream.{Text}
 use Rattle.aud_node.specs.TurnRecords.{pid_of, begins_turn}
-use Rattle.aud_node.specs.OwnRecords.{names, own_numbers}
-use Rattle.aud_rooms.specs.Turns.{Who, Turn, beginning, IsTurn, AreTurns, StandsIn, IsChain}
+use Rattle.aud_node.specs.OwnRecords.{names}
+use Rattle.aud_rooms.specs.Turns.{Who, Turn, beginning, AreTurns, StandsIn, IsChain}
 use Rattle.aud_maker.specs.Places.{own_places}
 use Rattle.aud_maker.specs.Swept.{number_begun, turn_or, turn_past, is_in, are_in, is_swept}
-use Rattle.aud_maker.proofs.Turns.{itself_text, begins-names, begins-same, beginning-begins, no_begin_inside, Stands, stands, turn_there}
+use Rattle.aud_maker.proofs.Turns.{itself_text, begins-names, beginning-begins, no_begin_inside, stands, turn_there}
 use Rattle.aud_maker.proofs.BegunLemmas.{named, unnamed, own_place, at_place, all_places}
 
 -- ---- what the sweep passes stands in the turns

@@ -1,15 +1,16 @@
 -- The records of the turns of a chain, and what the logs' indices say of them.
-use Rattle.std.proofs.Common.{◌≡◌, ◌<◌, ◌≤◌, ◌+◌, ◌-◌, ℕ, zero, suc, Bool, true, false, cond, ◌&&◌, List, [], ◌∷◌, ◌++◌, length, take, drop, Option, Some, None, option_map, slice_get, refl, sym, ap, subst, ◌∙◌, ◌⊎◌, inl, inr, nat_eq, arith, bytes_eq}
+use Rattle.std.proofs.Common.{◌≡◌, ◌<◌, ◌≤◌, ◌+◌, ◌-◌, ℕ, zero, suc, Bool, true, false, cond, ◌&&◌, List, [], ◌∷◌, length, take, drop, Option, Some, None, option_map, slice_get, refl, sym, ap, subst, ◌∙◌, ◌⊎◌, inl, inr, nat_eq, arith, bytes_eq}
 use Rattle.std.specs.Cmp.Lexicographic.{bytes_decides}
-use Rattle.std.proofs.lemmas.Bool.{cases_eq, cases_lt, eq-eqb, eqb-true, false≢true, and_parts}
-use Rattle.std.proofs.lemmas.Option.{same_Some, none-some, slice_get_within}
+use Rattle.std.proofs.lemmas.Bool.{cases_eq, eq-eqb, eqb-true, false≢true, and_parts}
+use Rattle.std.proofs.lemmas.Option.{same_Some, none-some}
 use Rattle.aud_tap.specs.declared.records.NodeRec.{NodeRec}
-use Rattle.aud_tap.specs.declared.records.NodeRec.TheVariants.{Start, Take, Opened, Join, Leave, Broke, Back, Gone}
+use Rattle.aud_tap.specs.declared.records.NodeRec.TheVariants.{Opened, Broke, Back, Gone}
+use Rattle.aud_tap.specs.declared.taps.Tap.{Tap}
 use Rattle.aud_node.specs.Cluster.{Cluster, node_log}
 use Rattle.aud_node.specs.Lists.{first_index, between}
 use Rattle.aud_node.specs.Stream.{Text}
 use Rattle.aud_node.specs.TurnRecords.{pid_of, begins_turn, is_begin, is_end, rest_of_turn, turn_in, turn_range}
-use Rattle.aud_rooms.specs.Turns.{Who, Turn, beginning, Part, Inner, Last, Foreign, End, ByBreak, ByGone, ByLog, part_of, end_past, turn_end, MayEnd, IsTurn, AreTurns, StandsIn, IsChain}
+use Rattle.aud_rooms.specs.Turns.{Who, Turn, beginning, Part, Inner, Last, Foreign, End, ByBreak, ByGone, ByLog, part_of, end_past, turn_end, MayEnd, IsTurn, AreTurns, StandsIn}
 
 pub same_text : (a b : Text) → bytes_eq a b ≡ true → a ≡ b
 same_text a b = (bytes_decides a b).0
@@ -279,3 +280,8 @@ turn_range-is c who k t later turn only =
 
 pub turn_range-none : (log : List NodeRec) (pid : Text) (k : ℕ) → ((i : ℕ) (rec : NodeRec) → slice_get log i ≡ Some rec → begins_turn pid k rec ≡ true → ⊥) → turn_range log pid k ≡ None
 turn_range-none log pid k no_one = ap (option_map {U = ℕ × ℕ} (λ from. (from, from + length (turn_in pid (drop from log))))) (first-none (begins_turn pid k) log no_one)
+
+pub tap_there : (taps : List Tap) (place : ℕ) → place < length taps → (tap : Tap) × (slice_get taps place ≡ Some tap)
+tap_there [] place h = absurd (omega arith)
+tap_there (tap ∷ taps) zero h = (tap, refl)
+tap_there (tap ∷ taps) (suc place) h = tap_there taps place (omega arith)

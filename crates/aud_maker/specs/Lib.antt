@@ -9,3 +9,4 @@ pub mod Swept
 pub mod Chain
 pub mod Faults
 pub mod Made
+pub mod Sessions

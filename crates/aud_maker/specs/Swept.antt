@@ -1,5 +1,5 @@
 -- Whether a session's records stand in its turns, found record after record.
-use Rattle.std.specs.Prelude.{ℕ, zero, suc, Bool, true, false, List, [], ◌∷◌, ◌&&◌, Option, Some, None, nat_eq, nat_le, nat_lt, slice_get}
+use Rattle.std.specs.Prelude.{ℕ, suc, Bool, true, false, List, [], ◌∷◌, ◌&&◌, Option, Some, None, nat_eq, nat_le, nat_lt, slice_get}
 use Rattle.aud_tap.specs.declared.records.NodeRec.{NodeRec}
 use Rattle.aud_tap.specs.declared.records.NodeRec.TheVariants.{Opened, Back}
 use Rattle.aud_node.specs.Stream.{Text}

@@ -6,10 +6,15 @@ mod begun;
 mod chain;
 mod client;
 mod ended;
+mod laws;
 mod made;
 mod maker;
+mod mentioned;
+mod mentions;
 mod nodes;
 mod order;
 mod swept;
 
+pub use laws::made_is_over;
 pub use maker::{MakeFault, make};
+pub use mentions::sessions;

@@ -1,9 +1,8 @@
-use Rattle.std.proofs.Common.{◌≡◌, List, ℕ, take, sym, subst}
+use Rattle.std.proofs.Common.{List, ℕ, subst}
 use Rattle.std.specs.List.{All}
 use Rattle.std.proofs.lemmas.List.{take_all}
 use Rattle.aud_node.specs.Cluster.{node_log}
 use Rattle.aud_maker.specs.Begun.{BeginsUpTo}
-use Rattle.aud_maker.specs.Places.{own_places}
 use Rattle.aud_maker.proofs.Last.{nodes-upto}
 use Rattle.aud_maker.proofs.begun.last_begun.Goals as goal
 

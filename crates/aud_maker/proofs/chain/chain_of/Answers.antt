@@ -1,6 +1,5 @@
-use Rattle.std.proofs.Common.{◌≡◌, ◌∙◌, false, true, None, Some, List, ℕ, sym, ap, subst}
+use Rattle.std.proofs.Common.{◌∙◌, List, ℕ, sym, ap, subst}
 use Rattle.std.specs.List.{list_all}
-use Rattle.aud_rooms.specs.Turns.{Turn}
 use Rattle.aud_maker.specs.Places.{own_places}
 use Rattle.aud_maker.specs.Begun.{AreAllBegun}
 use Rattle.aud_maker.specs.Ended.{are_ended}
@@ -33,8 +32,8 @@ returns-then-not-are_swept c =
     let begun : AreAllBegun logs (own_places logs pid) pid turns = subst (λ (ns : List ℕ). AreAllBegun logs ns pid turns) c.requires c.in_ok-turns.ensures in
     not_swept logs pid turns begun
     (ap (λ ns. list_all (is_swept logs turns pid) ns) (sym c.requires)
-      ∙ ap (λ ts. list_all (is_swept logs ts pid) c.args.nodes.now) (sym c.deref-3.ensures.value)
-      ∙ sym c.if-not-are_swept.ensures)
+    ∙ ap (λ ts. list_all (is_swept logs ts pid) c.args.nodes.now) (sym c.deref-3.ensures.value)
+    ∙ sym c.if-not-are_swept.ensures)
 
 pub returns : goal.returns
 returns c =
@@ -46,5 +45,5 @@ returns c =
     (ap (opening_of logs) (sym c.deref.ensures.value) ∙ c.in-Some.ensures)
     (ap (are_ended logs pid 0) (sym c.deref-2.ensures.value) ∙ sym c.if-not-are_turns_ended.ensures)
     (ap (λ ns. list_all (is_swept logs turns pid) ns) (sym c.requires)
-      ∙ ap (λ ts. list_all (is_swept logs ts pid) c.args.nodes.now) (sym c.deref-3.ensures.value)
-      ∙ sym c.if-not-are_swept.ensures)
+    ∙ ap (λ ts. list_all (is_swept logs ts pid) c.args.nodes.now) (sym c.deref-3.ensures.value)
+    ∙ sym c.if-not-are_swept.ensures)

@@ -1,4 +1,4 @@
-use Rattle.std.proofs.Common.{◌≡◌, ◌∙◌, List, map, refl, ap, subst}
+use Rattle.std.proofs.Common.{◌∙◌, List, map, refl, ap, subst}
 use Rattle.aud_rooms.specs.Turns.{Turn, slice_of}
 use Rattle.aud_rooms.specs.Spans.{AreSpansOfTurns}
 use Rattle.aud_maker.specs.Made.{turn_seen}
@@ -12,6 +12,6 @@ returns c =
       client_is = refl;
       turns_are = c.in_ok-turns.ensures ∙ ap (map (turn_seen logs)) c.deref.ensures.value;
       spans_are = λ nsp.
-        subst (λ (ts : List Turn). AreSpansOfTurns logs.stream (record { pid = c.args.pid.now; sid = c.args.chain.now.sid.now; nsp = nsp }) (map (slice_of logs) ts) c.in_ok-spans.spans.items)
-        c.deref-2.ensures.value (c.in_ok-spans.ensures nsp);
+          subst (λ (ts : List Turn). AreSpansOfTurns logs.stream (record { pid = c.args.pid.now; sid = c.args.chain.now.sid.now; nsp = nsp }) (map (slice_of logs) ts) c.in_ok-spans.spans.items)
+          c.deref-2.ensures.value (c.in_ok-spans.ensures nsp);
     }

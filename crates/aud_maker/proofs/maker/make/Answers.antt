@@ -1,4 +1,4 @@
-use Rattle.std.proofs.Common.{◌≡◌, ◌∙◌, false, true, length, refl, sym, ap}
+use Rattle.std.proofs.Common.{◌≡◌, ◌∙◌, true, length, refl, sym, ap}
 use Rattle.std.specs.List.{list_all}
 use Rattle.std.specs.Option.{is_some}
 use Rattle.std.proofs.lemmas.Option.{MatchOption-at_none, MatchOption-at_some}
@@ -6,9 +6,7 @@ use Rattle.aud_rooms.specs.Turns.{Who, IsChain}
 use Rattle.aud_maker.specs.Places.{own_places}
 use Rattle.aud_maker.specs.Begun.{turn_begun}
 use Rattle.aud_maker.specs.Chain.{HasNoChain}
-use Rattle.aud_maker.specs.Faults.{HasUnordered}
 use Rattle.aud_maker.specs.Made.{is_turn_ordered}
-use Rattle.aud_maker.specs.declared.chain.Chain.{Chain}
 use Rattle.aud_maker.proofs.FirstFault.{not_opened, opened, unordered, not_unordered, in_order, first_no_log, first_chain, first_order, first_client, none_holds}
 use Rattle.aud_maker.proofs.maker.make.Goals as goal
 

@@ -1,4 +1,4 @@
-use Rattle.std.proofs.Common.{◌≡◌, ◌∙◌, ◌∷◌, ◌++◌, [], true, false, ap, sym, filter}
+use Rattle.std.proofs.Common.{◌∙◌, ◌∷◌, ◌++◌, [], true, false, ap, sym, filter}
 use Rattle.std.proofs.lemmas.List.{append-nil}
 use Rattle.aud_node.specs.Lists.{numbers_from}
 use Rattle.aud_maker.specs.Places.{has_own}
