@@ -1,0 +1,15 @@
+use Rattle.std.proofs.Common.{◌∙◌, sym, ap}
+use Rattle.aud_maker.specs.Sessions.{with_mention}
+use Rattle.aud_maker.proofs.MentionLemmas.{mention-known, mention-new}
+use Rattle.aud_maker.proofs.mentioned.Mentioned.mention.Goals as goal
+
+pub returns-then-contains : goal.returns-then-contains
+returns-then-contains c =
+    sym c.self.view_is
+    ∙ mention-known c.self.inside.pids.keys c.args.pid.now c.if-contains.ensures
+    ∙ ap (λ pids. with_mention pids c.args.pid.now) c.self.view_is
+
+pub returns : goal.returns
+returns c =
+    mention-new c.self.inside.pids.keys c.insert.new.self.keys c.in-Ok.owned c.args.pid.now c.in-Ok.ensures.ok c.if-contains.ensures c.in-Ok-insert.ensures.keys
+    ∙ ap (λ pids. with_mention pids c.args.pid.now) c.self.view_is

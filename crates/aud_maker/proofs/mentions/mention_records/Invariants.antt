@@ -1,0 +1,9 @@
+use Rattle.std.proofs.Common.{◌≡◌, drop}
+use Rattle.std.specs.List.{filter_map}
+use Rattle.aud_node.specs.TurnRecords.{pid_of}
+use Rattle.aud_maker.specs.Sessions.{with_mentions}
+use Rattle.aud_maker.proofs.mentions.mention_records.Given as goal
+
+abbrev pub invariant-loop-rec : goal.invariant-loop-rec
+invariant-loop-rec l =
+    with_mentions l.mentioned (filter_map pid_of (drop l.rec-index l.recs)) ≡ with_mentions l.initial.mentioned (filter_map pid_of l.recs)

@@ -1,0 +1,11 @@
+use Rattle.std.proofs.Common.{◌≡◌, [], take, flat_map}
+use Rattle.aud_node.specs.NodeTaps.{client_recs}
+use Rattle.aud_maker.specs.Sessions.{node_pids, reply_pids, with_mentions}
+use Rattle.aud_maker.proofs.mentions.sessions.Given as goal
+
+abbrev pub invariant-loop-tap : goal.invariant-loop-tap
+invariant-loop-tap l = l.mentioned ≡ with_mentions [] (flat_map node_pids (take l.tap-index l.logs.taps))
+
+abbrev pub invariant-loop-place : goal.invariant-loop-place
+invariant-loop-place l =
+    l.mentioned ≡ with_mentions (with_mentions [] (flat_map node_pids l.logs.taps)) (flat_map (λ tap. reply_pids l.logs.stream (client_recs tap)) (take l.place l.logs.taps))

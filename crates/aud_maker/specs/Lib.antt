@@ -1,0 +1,12 @@
+pub use Rattle.aud_cert.specs.Certificate
+pub use Rattle.aud_rooms.specs.Turns
+pub use Rattle.aud_node.specs.Stream
+pub use Rattle.aud_node.specs.Cluster
+pub mod Places
+pub mod Begun
+pub mod Ended
+pub mod Swept
+pub mod Chain
+pub mod Faults
+pub mod Made
+pub mod Sessions

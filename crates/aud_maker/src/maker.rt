@@ -1,0 +1,58 @@
+//! Makes the certificate of a session.
+ghost use Rattle.std.specs.Prelude.{◌≡◌, IfOk, IfErr, OnOk};
+ghost use Rattle.std.specs.Option.{is_some};
+ghost use Rattle.aud_maker.specs.Places.{own_places};
+ghost use Rattle.aud_maker.specs.Begun.{turn_begun};
+ghost use Rattle.aud_maker.specs.Faults.{NoneHolds, IsWhy};
+ghost use Rattle.aud_maker.specs.Made.{IsMade};
+
+use crate::begun::is_opened;
+use crate::chain::chain_of;
+use crate::client::only_client;
+use crate::made::certificate_of;
+use crate::nodes::own_nodes;
+use crate::order::are_ordered;
+use aud_cert::{Certificate, Fault};
+use aud_node::Logs;
+use std::alloc::Global;
+
+/// Why no certificate was made.
+#[derive(Drop)]
+pub enum MakeFault {
+    /// The session has this fault: `NoLog`, `Chain`, `Order` or `Client`.
+    Fault(Fault),
+    /// Memory for the certificate could not be had.
+    Memory,
+}
+
+/// The certificate of all turns of the session, with the spans of its rooms and the name of the one client tap with a
+/// reply that names it; or the first of the faults `NoLog`, `Chain`, `Order` and `Client` that holds. Names, records
+/// and rooms are lent by the taps. It looks at the session's own records, on the nodes where it was, and at no others.
+pub fn make<'a>(alloc: Global, logs: &Logs<'a>, pid: &str) -> Result<Certificate<'a>, MakeFault>
+    ensures made { IfOk result (λ cert. IsMade logs.now pid.now cert) }
+    ensures no_fault { OnOk result (NoneHolds logs.now pid.now) }
+    ensures why { IfErr result (IsWhy logs.now pid.now) }
+{
+    let Ok(nodes) = own_nodes(alloc, logs, pid) else {
+        return Err(MakeFault::Memory);
+    };
+    if !is_opened(logs, &nodes, pid) {
+        return Err(MakeFault::Fault(Fault::NoLog));
+    }
+    let Ok(found) = chain_of(alloc, logs, &nodes, pid) else {
+        return Err(MakeFault::Memory);
+    };
+    let Some(chain) = found else {
+        return Err(MakeFault::Fault(Fault::Chain));
+    };
+    if !are_ordered(logs, &chain.turns) {
+        return Err(MakeFault::Fault(Fault::Order));
+    }
+    let Some(client) = only_client(logs, pid) else {
+        return Err(MakeFault::Fault(Fault::Client));
+    };
+    match certificate_of(alloc, logs, pid, &chain, client) {
+        Ok(certificate) => Ok(certificate),
+        Err(_) => Err(MakeFault::Memory),
+    }
+}

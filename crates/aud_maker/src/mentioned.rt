@@ -1,0 +1,61 @@
+//! Sessions in the order of their first mentions.
+ghost use Rattle.std.specs.Prelude.{◌≡◌, IfOk, OnOk, [], map, string_bytes};
+ghost use Rattle.aud_maker.specs.Sessions.{with_mention};
+
+use aud_tap::Memory;
+use indexmap::IndexSet;
+use std::alloc::Global;
+use std::marker::Model;
+
+/// The pids of sessions, each once, in the order of their first mentions; seen as their list.
+#[derive(Drop)]
+pub(crate) struct Mentioned {
+    alloc: Global,
+    pids: IndexSet<String>,
+}
+
+impl Model for Mentioned {
+    ghost use Rattle.std.specs.Prelude.{List, ℕ, map, string_bytes};
+
+    ghost Value = { List (List ℕ) };
+
+    ghost view = { λ m. map string_bytes m.pids.keys };
+}
+
+impl Mentioned {
+    /// None yet.
+    pub(crate) fn new(alloc: Global) -> Mentioned
+        ensures { result ≡ [] }
+    {
+        Mentioned {
+            alloc,
+            pids: IndexSet::new(alloc),
+        }
+    }
+
+    /// The session is mentioned; one that was before keeps its place.
+    pub(crate) fn mention(&mut self, pid: &str) -> Result<(), Memory>
+        ensures { OnOk result (self.new ≡ with_mention self.old pid.now) }
+    {
+        if self.pids.contains(pid) {
+            return Ok(());
+        }
+        let Ok(owned) = String::from_str(self.alloc, pid) else {
+            return Err(Memory);
+        };
+        let Ok(_) = self.pids.insert(owned) else {
+            return Err(Memory);
+        };
+        Ok(())
+    }
+
+    /// The pids.
+    pub(crate) fn into_pids(self) -> Result<Vec<String>, Memory>
+        ensures { IfOk result (λ pids. map string_bytes pids.items ≡ self) }
+    {
+        match self.pids.into_iter().collect(self.alloc) {
+            Ok(pids) => Ok(pids),
+            Err(_) => Err(Memory),
+        }
+    }
+}

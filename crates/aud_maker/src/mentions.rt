@@ -1,0 +1,89 @@
+//! The sessions that the logs mention.
+ghost use Rattle.std.specs.Prelude.{◌≡◌, IfOk, OnOk, map, option_map, string_bytes};
+ghost use Rattle.std.specs.List.{filter_map};
+ghost use Rattle.aud_node.specs.TurnRecords.{pid_of};
+ghost use Rattle.aud_node.specs.NodeTaps.{client_at};
+ghost use Rattle.aud_maker.specs.Sessions.{node_pids, stay_pid, reply_pids, with_mentions, sessions_of};
+
+use crate::mentioned::Mentioned;
+use aud_client::{Stay, received};
+use aud_node::{Logs, pid};
+use aud_tap::{Memory, NodeRec, Records, Tap};
+use std::alloc::Global;
+
+/// The pids of the sessions, each once, by first mention: in the nodes' taps, in the order of their headers and then of
+/// their records, and then in the clients' taps, in the order of their headers and then of the stays whose replies
+/// name them. Each tap is gone through once.
+pub fn sessions(alloc: Global, logs: &Logs<'_>) -> Result<Vec<String>, Memory>
+    ensures { IfOk result (λ pids. map string_bytes pids.items ≡ sessions_of logs.now) }
+{
+    let mut mentioned = Mentioned::new(alloc);
+    for tap in logs.taps() {
+        mention_node(&mut mentioned, tap)?;
+    }
+    for place in 0..logs.taps().len() {
+        mention_client(alloc, &mut mentioned, logs, place)?;
+    }
+    mentioned.into_pids()
+}
+
+/// The pids that the tap's records name, if it is a node's.
+fn mention_node(mentioned: &mut Mentioned, tap: &Tap) -> Result<(), Memory>
+    ensures { OnOk result (mentioned.new ≡ with_mentions mentioned.old (node_pids tap.now)) }
+{
+    match &tap.records {
+        Records::Node(recs) => mention_records(mentioned, recs.as_slice()),
+        _ => Ok(()),
+    }
+}
+
+fn mention_records(mentioned: &mut Mentioned, recs: &[NodeRec]) -> Result<(), Memory>
+    ensures { OnOk result (mentioned.new ≡ with_mentions mentioned.old (filter_map pid_of recs.now)) }
+{
+    for rec in recs {
+        if let Some(named) = pid(rec) {
+            mentioned.mention(named)?;
+        }
+    }
+    Ok(())
+}
+
+/// The pids that the replies of the tap at this place name, if it is a client's.
+fn mention_client(
+    alloc: Global,
+    mentioned: &mut Mentioned,
+    logs: &Logs<'_>,
+    place: usize,
+) -> Result<(), Memory>
+    ensures { OnOk result (mentioned.new ≡ with_mentions mentioned.old (reply_pids logs.now.stream (client_at logs.now place))) }
+{
+    let Some(tap) = logs.client(place) else {
+        return Ok(());
+    };
+    let told = received(alloc, tap, logs.stream())?;
+    mention_replies(mentioned, &told.stays)
+}
+
+fn mention_replies(mentioned: &mut Mentioned, stays: &[Stay<'_>]) -> Result<(), Memory>
+    ensures { OnOk result (mentioned.new ≡ with_mentions mentioned.old (filter_map stay_pid stays.now)) }
+{
+    for stay in stays {
+        if let Some(named) = reply_pid(stay) {
+            mentioned.mention(named)?;
+        }
+    }
+    Ok(())
+}
+
+/// The session that the stay's reply names.
+fn reply_pid<'s>(stay: &'s Stay<'_>) -> Option<&'s str>
+    ensures { option_map (λ pid. pid.now) result ≡ stay_pid stay.now }
+{
+    let Some(reply) = &stay.reply else {
+        return None;
+    };
+    match &reply.pid {
+        Some(pid) => Some(pid.as_str()),
+        None => None,
+    }
+}

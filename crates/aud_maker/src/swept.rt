@@ -1,0 +1,78 @@
+//! Whether a session's records stand in its turns.
+ghost use Rattle.std.specs.Prelude.{◌≡◌, slice_get};
+ghost use Rattle.std.specs.List.{list_all};
+ghost use Rattle.aud_maker.specs.Swept.{number_begun, turn_past, is_in, is_swept};
+
+use aud_node::{Logs, NodeLog};
+use aud_rooms::TurnPlace;
+use aud_tap::NodeRec;
+
+/// Whether all records of the session in the nodes' logs stand each in the turn that goes on there. Each of them is
+/// looked at once.
+pub(crate) fn are_swept(logs: &Logs<'_>, nodes: &[usize], pid: &str, turns: &[TurnPlace]) -> bool
+    ensures { result ≡ list_all (is_swept logs.now turns.now pid.now) nodes.now }
+{
+    for node in nodes {
+        if !is_node_swept(logs, *node, pid, turns) {
+            return false;
+        }
+    }
+    true
+}
+
+/// The same for one node.
+fn is_node_swept(logs: &Logs<'_>, node: usize, pid: &str, turns: &[TurnPlace]) -> bool
+    ensures { result ≡ is_swept logs.now turns.now pid.now node }
+{
+    let Some(log) = logs.node(node) else {
+        return true;
+    };
+    let mut current = None;
+    for number in log.own(pid) {
+        current = turn_behind(log, *number, turns, current);
+        if !stands_in(node, *number, &current) {
+            return false;
+        }
+    }
+    true
+}
+
+/// The turn that goes on behind the record with this number.
+fn turn_behind(
+    log: &NodeLog<'_>,
+    number: usize,
+    turns: &[TurnPlace],
+    current: Option<TurnPlace>,
+) -> Option<TurnPlace>
+    ensures { result ≡ turn_past turns.now (slice_get log.now.recs number) current }
+{
+    let begun = match log.recs().get(number) {
+        Some(rec) => begun_by(rec),
+        None => None,
+    };
+    match begun {
+        Some(begun) => turns.get(usize::from(begun)).copied(),
+        None => current,
+    }
+}
+
+/// The number of the turn that the record begins.
+fn begun_by(rec: &NodeRec) -> Option<u16>
+    ensures { result ≡ number_begun rec.now }
+{
+    match rec {
+        NodeRec::Opened { .. } => Some(0),
+        NodeRec::Back { turn, .. } if *turn > 0 => Some(*turn),
+        _ => None,
+    }
+}
+
+/// Whether there is a turn, and the node's record with this number stands in it.
+fn stands_in(node: usize, number: usize, turn: &Option<TurnPlace>) -> bool
+    ensures { result ≡ is_in node number turn.now }
+{
+    match turn {
+        Some(turn) => turn.node == node && turn.from <= number && number < turn.to,
+        None => false,
+    }
+}
