@@ -1,0 +1,2 @@
+pub use Rattle.aud_merge.specs.ByTurns
+pub mod Compare

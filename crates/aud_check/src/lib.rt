@@ -1,0 +1,6 @@
+//! Checks certificates: whether a session received exactly what was due to it, in every run of the logs.
+#![tactic(auto)]
+
+mod compare;
+
+pub use compare::{Mismatch, first_mismatch};
