@@ -19,3 +19,4 @@ pub mod LogsIndexed
 pub mod TapPackets
 pub mod ConnectionRead
 pub mod ClientRead
+pub mod Replies

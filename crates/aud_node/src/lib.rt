@@ -14,6 +14,7 @@ mod offsets;
 mod own_records;
 mod recoverable;
 mod recs;
+mod replies;
 mod stream;
 mod turns;
 
@@ -23,6 +24,7 @@ pub use fields::{offset, pid};
 pub use logs::Logs;
 pub use node_log::NodeLog;
 pub use recs::Recs;
+pub use replies::{Reply, reply_of};
 pub use stream::Stream;
 
 #[cfg(test)]

@@ -17,7 +17,7 @@ mod write;
 pub use bundle::{BundleReader, read_bundle};
 pub use fault::{InputCode, Memory, ReadFault};
 pub use line::Line;
-pub use read::parse_line;
+pub use read::{is_session_id, parse_line};
 pub use records::{ClientRec, Event, NodeRec, Rec, StreamRec, TapKind};
 pub use splitter::{LINE_LIMIT, Splitter};
 pub use taps::{ClientRecs, NodeRecs, Records, StreamRecs, Tap, Taps};

@@ -8,4 +8,5 @@ pub mod record;
 pub mod stream;
 mod tap_name;
 
+pub use fields::is_session_id;
 pub use line::parse_line;

@@ -9,8 +9,10 @@ ghost use Rattle.aud_tap.specs.Fields.{is_id, is_namespace};
 ghost use Rattle.aud_tap.specs.Fields.{number_at, text_at, id_at, namespace_at};
 ghost use Rattle.aud_tap.specs.Fields.{id_or_null, id_or_null_at, decoded, as_blob, bytes_at};
 ghost use Rattle.aud_tap.specs.Fields.{each, texts_at, blobs_at};
+ghost use Rattle.aud_tap.specs.WellFormed.{is_session_id};
 
 use crate::fault::{FIELD, LineFault};
+use crate::limits::{MAX_ID, fits};
 use crate::text::{Blobs, Bytes, Text, Texts};
 use base64::DecodeAllocError;
 use base64::engine::general_purpose::STANDARD;
@@ -31,6 +33,13 @@ fn is_id(text: &str) -> bool
     ensures { result ≡ is_id text.now }
 {
     text.as_bytes().iter().all(|b| 0x21 <= *b && *b <= 0x7e)
+}
+
+/// Whether the text can be a pid or a sid: 1 to 128 bytes, each of 0x21 to 0x7e.
+pub fn is_session_id(text: &str) -> bool
+    ensures { result ≡ is_session_id text.now }
+{
+    is_id(text) && fits(MAX_ID, text)
 }
 
 fn has_no_comma(text: &str) -> bool
