@@ -1,2 +1,3 @@
 pub use Rattle.aud_merge.specs.ByTurns
 pub mod Compare
+pub mod Own

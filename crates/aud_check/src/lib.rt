@@ -2,5 +2,6 @@
 #![tactic(auto)]
 
 mod compare;
+mod own;
 
 pub use compare::{Mismatch, first_mismatch};

@@ -1,0 +1,93 @@
+-- Numbers that pass a test, cut at a number.
+use Rattle.std.proofs.Common.{◌≡◌, ◌<◌, ◌≤◌, ◌+◌, ◌-◌, ℕ, zero, suc, Bool, true, false, cond, not, List, [], ◌∷◌, length, take, drop, refl, sym, ap, ◌∙◌, ◌⊎◌, inl, inr, nat_lt, arith}
+use Rattle.std.specs.List.{filter, AllWithin}
+use Rattle.std.specs.List.Sorted.{IsPartitionPoint}
+use Rattle.std.proofs.lemmas.Bool.{cases_lt, le-leb, lt-leb}
+use Rattle.aud_node.specs.Lists.{numbers_from}
+
+pub lt_true : (a b : ℕ) → a < b → nat_lt a b ≡ true
+lt_true a b h = le-leb (suc a) b (omega arith)
+
+pub lt_false : (a b : ℕ) → b ≤ a → nat_lt a b ≡ false
+lt_false a b h = lt-leb (suc a) b (omega arith)
+
+-- where a list is parted, its front are the elements that pass, and the rest are those that don't
+pub parted : (p : ℕ → Bool) (xs : List ℕ) (i : ℕ) → i ≤ length xs → AllWithin (λ y. p y ≡ true) xs 0 i → AllWithin (λ y. p y ≡ false) xs i (length xs)
+    → (take i xs ≡ filter p xs) × (drop i xs ≡ filter (λ x. not (p x)) xs)
+parted p [] zero h front back = (refl, refl)
+parted p [] (suc i) h front back = (refl, refl)
+parted p (x ∷ xs) zero h front back =
+    let fails : p x ≡ false = back 0 x (omega arith) (omega arith) in
+    let rest = parted p xs zero (omega arith) (λ k d a b. absurd (omega arith)) (λ k d a b. back (suc k) d (omega arith) (omega arith)) in (
+      rest.0 ∙ sym (ap (λ b. cond b (x ∷ filter p xs) (filter p xs)) fails),
+      ap (λ ys. x ∷ ys) rest.1 ∙ sym (ap (λ b. cond (not b) (x ∷ filter (λ y. not (p y)) xs) (filter (λ y. not (p y)) xs)) fails),
+    )
+parted p (x ∷ xs) (suc i) h front back =
+    let passes : p x ≡ true = front 0 x (omega arith) (omega arith) in
+    let rest = parted p xs i (omega arith) (λ k d a b. front (suc k) d (omega arith) (omega arith)) (λ k d a b. back (suc k) d (omega arith) (omega arith)) in (
+      ap (λ ys. x ∷ ys) rest.0 ∙ sym (ap (λ b. cond b (x ∷ filter p xs) (filter p xs)) passes),
+      rest.1 ∙ sym (ap (λ b. cond (not b) (x ∷ filter (λ y. not (p y)) xs) (filter (λ y. not (p y)) xs)) passes),
+    )
+
+module _ (q : ℕ → Bool) where
+  -- one number in front, of which a second test is known
+  kept : (f : ℕ → Bool) (a : ℕ) (xs ys : List ℕ) (b : Bool) → f a ≡ b → filter f xs ≡ ys → filter f (cond (q a) (a ∷ xs) xs) ≡ cond b (cond (q a) (a ∷ ys) ys) ys
+  kept f a xs ys b is rest = go (q a)
+    where
+      go : (c : Bool) → filter f (cond c (a ∷ xs) xs) ≡ cond b (cond c (a ∷ ys) ys) ys
+      go true = ap (λ d. cond d (a ∷ filter f xs) (filter f xs)) is ∙ ap (λ zs. cond b (a ∷ zs) zs) rest
+      go false = rest ∙ sym (same b)
+        where
+          same : (b : Bool) → cond b ys ys ≡ ys
+          same true = refl
+          same false = refl
+
+  all_from : (from a count : ℕ) → from ≤ a → filter (λ n. not (nat_lt n from)) (filter q (numbers_from a count)) ≡ filter q (numbers_from a count)
+  all_from from a zero h = refl
+  all_from from a (suc count) h =
+      kept (λ n. not (nat_lt n from)) a (filter q (numbers_from (suc a) count)) (filter q (numbers_from (suc a) count)) true
+      (ap not (lt_false a from h)) (all_from from (suc a) count (omega arith))
+
+  none_below : (to a count : ℕ) → to ≤ a → filter (λ n. nat_lt n to) (filter q (numbers_from a count)) ≡ []
+  none_below to a zero h = refl
+  none_below to a (suc count) h =
+      kept (λ n. nat_lt n to) a (filter q (numbers_from (suc a) count)) [] false (lt_false a to h) (none_below to (suc a) count (omega arith))
+
+  -- those that aren't below a number
+  pub from_on : (from a count : ℕ) → a ≤ from → from ≤ a + count
+      → filter (λ n. not (nat_lt n from)) (filter q (numbers_from a count)) ≡ filter q (numbers_from from (a + count - from))
+  from_on from a zero h to =
+      let none : a + 0 - from ≡ 0 = omega arith in
+      sym (ap (λ n. filter q (numbers_from from n)) none)
+  from_on from a (suc count) h to = go (cases_lt a from)
+    where
+      go : (a < from) ⊎ (from ≤ a) → filter (λ n. not (nat_lt n from)) (filter q (numbers_from a (suc count))) ≡ filter q (numbers_from from (a + suc count - from))
+      go (inl below) =
+          let left : suc a + count - from ≡ a + suc count - from = omega arith in
+          kept (λ n. not (nat_lt n from)) a (filter q (numbers_from (suc a) count)) (filter q (numbers_from from (suc a + count - from))) false
+          (ap not (lt_true a from below)) (from_on from (suc a) count (omega arith) (omega arith))
+          ∙ ap (λ n. filter q (numbers_from from n)) left
+      go (inr above) =
+          let same : a ≡ from = omega arith in
+          let left : suc count ≡ a + suc count - from = omega arith in
+          all_from from a (suc count) above
+          ∙ ap (λ n. filter q (numbers_from n (suc count))) same
+          ∙ ap (λ n. filter q (numbers_from from n)) left
+
+  -- those that are below a number
+  pub below_to : (to a count : ℕ) → a ≤ to → to ≤ a + count
+      → filter (λ n. nat_lt n to) (filter q (numbers_from a count)) ≡ filter q (numbers_from a (to - a))
+  below_to to a zero h end =
+      let none : to - a ≡ 0 = omega arith in
+      sym (ap (λ n. filter q (numbers_from a n)) none)
+  below_to to a (suc count) h end = go (cases_lt a to)
+    where
+      go : (a < to) ⊎ (to ≤ a) → filter (λ n. nat_lt n to) (filter q (numbers_from a (suc count))) ≡ filter q (numbers_from a (to - a))
+      go (inl below) =
+          let left : suc (to - suc a) ≡ to - a = omega arith in
+          kept (λ n. nat_lt n to) a (filter q (numbers_from (suc a) count)) (filter q (numbers_from (suc a) (to - suc a))) true
+          (lt_true a to below) (below_to to (suc a) count (omega arith) (omega arith))
+          ∙ ap (λ n. filter q (numbers_from a n)) left
+      go (inr above) =
+          let none : to - a ≡ 0 = omega arith in
+          none_below to a (suc count) above ∙ sym (ap (λ n. filter q (numbers_from a n)) none)
