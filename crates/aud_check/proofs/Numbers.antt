@@ -1,7 +1,9 @@
 -- Numbers that pass a test, cut at a number.
-use Rattle.std.proofs.Common.{◌≡◌, ◌<◌, ◌≤◌, ◌+◌, ◌-◌, ℕ, zero, suc, Bool, true, false, cond, not, List, [], ◌∷◌, length, take, drop, refl, sym, ap, ◌∙◌, ◌⊎◌, inl, inr, nat_lt, arith}
-use Rattle.std.specs.List.{filter, AllWithin}
-use Rattle.std.specs.List.Sorted.{IsPartitionPoint}
+use Rattle.std.proofs.Common.{◌≡◌, ◌<◌, ◌≤◌, ◌+◌, ◌-◌, ℕ, zero, suc, Bool, true, false, cond, not, List, [], ◌∷◌, length, take, drop, get_or, refl, sym, ap, subst, ◌∙◌, ◌⊎◌, inl, inr, nat_lt, arith}
+use Rattle.std.specs.List.{filter, AllWithin, AllPairs}
+use Rattle.std.specs.List.Sorted.{IsPartitionPoint, IsPartitionedBy, IsStrictlyIncreasing, IsNonDecreasingBy}
+use Rattle.std.proofs.lemmas.List.Sorted.{IsPartitionedBy-ltb}
+use Rattle.std.proofs.lemmas.List.Kept.{AllPairs-from_increasing, IsStrictlyIncreasing-filter}
 use Rattle.std.proofs.lemmas.Bool.{cases_lt, le-leb, lt-leb}
 use Rattle.aud_node.specs.Lists.{numbers_from}
 
@@ -91,3 +93,57 @@ module _ (q : ℕ → Bool) where
       go (inr above) =
           let none : to - a ≡ 0 = omega arith in
           none_below to a (suc count) above ∙ sym (ap (λ n. filter q (numbers_from a n)) none)
+
+-- ---- cut by binary searches
+
+get_or-numbers : (a count k d : ℕ) → k < count → get_or (numbers_from a count) k d ≡ a + k
+get_or-numbers a zero k d h = absurd (omega arith)
+get_or-numbers a (suc count) zero d h = omega arith
+get_or-numbers a (suc count) (suc k) d h = get_or-numbers (suc a) count k d (omega arith) ∙ omega arith
+
+length-numbers : (a count : ℕ) → length (numbers_from a count) ≡ count
+length-numbers a zero = refl
+length-numbers a (suc count) = ap suc (length-numbers (suc a) count)
+
+increasing : (a count : ℕ) → IsStrictlyIncreasing (numbers_from a count)
+increasing a count k h =
+    let long = length-numbers a count in
+    let one = get_or-numbers a count k 0 (omega (arith, long)) in
+    let other = get_or-numbers a count (k + 1) 0 (omega (arith, long)) in
+    omega (arith, one, other)
+
+-- numbers in order are parted by a bound
+pub parts : (t : ℕ) (q : ℕ → Bool) (a count : ℕ) (xs : List ℕ) → xs ≡ filter q (numbers_from a count) → IsPartitionedBy (λ n. nat_lt n t) xs
+parts t q a count xs is = subst (IsPartitionedBy (λ n. nat_lt n t)) (sym is) (IsPartitionedBy-ltb (λ n. n) ys t rises)
+  where
+    ys : List ℕ
+    ys = filter q (numbers_from a count)
+
+    pairs : AllPairs (λ x y. x < y) ys
+    pairs = AllPairs-from_increasing ys (IsStrictlyIncreasing-filter q (numbers_from a count) (increasing a count))
+
+    rises : IsNonDecreasingBy (λ n. n) ys
+    rises i j d below within = elim (cases_lt i j) as (λ _. get_or ys i d ≤ get_or ys j d) [
+      | inl less ↦ (let x = pairs i j d less within in omega (arith, x))
+      | inr more ↦ (let same : i ≡ j = omega arith in let x = ap (λ k. get_or ys k d) same in omega (arith, x))
+    ]
+
+-- behind the first cut
+pub behind_cut : (q : ℕ → Bool) (all from i : ℕ) (own : List ℕ) → own ≡ filter q (numbers_from 0 all) → from ≤ all
+    → i ≤ length own → IsPartitionPoint (λ y. nat_lt y from ≡ true) (λ y. nat_lt y from ≡ false) own i
+    → drop i own ≡ filter q (numbers_from from (all - from))
+behind_cut q all from i own is h fits (front, back) =
+    let count : 0 + all - from ≡ all - from = omega arith in
+    (parted (λ n. nat_lt n from) own i fits front back).1
+    ∙ ap (filter (λ n. not (nat_lt n from))) is
+    ∙ from_on q from 0 all (omega arith) (omega arith)
+    ∙ ap (λ n. filter q (numbers_from from n)) count
+
+-- between the two cuts
+pub between_cuts : (q : ℕ → Bool) (all from to j : ℕ) (behind : List ℕ) → behind ≡ filter q (numbers_from from (all - from)) → from ≤ to → to ≤ all
+    → j ≤ length behind → IsPartitionPoint (λ y. nat_lt y to ≡ true) (λ y. nat_lt y to ≡ false) behind j
+    → take j behind ≡ filter q (numbers_from from (to - from))
+between_cuts q all from to j behind is h end fits (front, back) =
+    (parted (λ n. nat_lt n to) behind j fits front back).0
+    ∙ ap (filter (λ n. nat_lt n to)) is
+    ∙ below_to q to from (all - from) h (omega arith)

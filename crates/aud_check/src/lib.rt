@@ -3,5 +3,9 @@
 
 mod compare;
 mod own;
+mod refusal;
+mod turn;
+mod turn_end;
 
 pub use compare::{Mismatch, first_mismatch};
+pub use refusal::Refusal;
