@@ -1,8 +1,9 @@
 -- Numbers that pass a test, cut at a number.
 use Rattle.std.proofs.Common.{◌≡◌, ◌<◌, ◌≤◌, ◌+◌, ◌-◌, ℕ, zero, suc, Bool, true, false, cond, not, List, [], ◌∷◌, length, take, drop, get_or, refl, sym, ap, subst, ◌∙◌, ◌⊎◌, inl, inr, nat_lt, arith}
-use Rattle.std.specs.List.{filter, AllWithin, AllPairs}
+use Rattle.std.specs.List.{filter, All, AllWithin, AllPairs}
 use Rattle.std.specs.List.Sorted.{IsPartitionPoint, IsPartitionedBy, IsStrictlyIncreasing, IsNonDecreasingBy}
 use Rattle.std.proofs.lemmas.List.Sorted.{IsPartitionedBy-ltb}
+use Rattle.std.proofs.lemmas.List.Elements.{All-nil, All-cons, All-filter, All-get_or, All-same}
 use Rattle.std.proofs.lemmas.List.Kept.{AllPairs-from_increasing, IsStrictlyIncreasing-filter}
 use Rattle.std.proofs.lemmas.Bool.{cases_lt, le-leb, lt-leb}
 use Rattle.aud_node.specs.Lists.{numbers_from}
@@ -61,15 +62,16 @@ module _ (q : ℕ → Bool) where
   from_on from a zero h to =
       let none : a + 0 - from ≡ 0 = omega arith in
       sym (ap (λ n. filter q (numbers_from from n)) none)
-  from_on from a (suc count) h to = go (cases_lt a from)
+  from_on from a (suc count) h to = go (cases_lt a from) (λ below. from_on from (suc a) count (omega arith) (omega arith))
     where
-      go : (a < from) ⊎ (from ≤ a) → filter (λ n. not (nat_lt n from)) (filter q (numbers_from a (suc count))) ≡ filter q (numbers_from from (a + suc count - from))
-      go (inl below) =
+      go : (a < from) ⊎ (from ≤ a) → (a < from → filter (λ n. not (nat_lt n from)) (filter q (numbers_from (suc a) count)) ≡ filter q (numbers_from from (suc a + count - from)))
+          → filter (λ n. not (nat_lt n from)) (filter q (numbers_from a (suc count))) ≡ filter q (numbers_from from (a + suc count - from))
+      go (inl below) ih =
           let left : suc a + count - from ≡ a + suc count - from = omega arith in
           kept (λ n. not (nat_lt n from)) a (filter q (numbers_from (suc a) count)) (filter q (numbers_from from (suc a + count - from))) false
-          (ap not (lt_true a from below)) (from_on from (suc a) count (omega arith) (omega arith))
+          (ap not (lt_true a from below)) (ih below)
           ∙ ap (λ n. filter q (numbers_from from n)) left
-      go (inr above) =
+      go (inr above) ih =
           let same : a ≡ from = omega arith in
           let left : suc count ≡ a + suc count - from = omega arith in
           all_from from a (suc count) above
@@ -82,15 +84,16 @@ module _ (q : ℕ → Bool) where
   below_to to a zero h end =
       let none : to - a ≡ 0 = omega arith in
       sym (ap (λ n. filter q (numbers_from a n)) none)
-  below_to to a (suc count) h end = go (cases_lt a to)
+  below_to to a (suc count) h end = go (cases_lt a to) (λ below. below_to to (suc a) count (omega arith) (omega arith))
     where
-      go : (a < to) ⊎ (to ≤ a) → filter (λ n. nat_lt n to) (filter q (numbers_from a (suc count))) ≡ filter q (numbers_from a (to - a))
-      go (inl below) =
+      go : (a < to) ⊎ (to ≤ a) → (a < to → filter (λ n. nat_lt n to) (filter q (numbers_from (suc a) count)) ≡ filter q (numbers_from (suc a) (to - suc a)))
+          → filter (λ n. nat_lt n to) (filter q (numbers_from a (suc count))) ≡ filter q (numbers_from a (to - a))
+      go (inl below) ih =
           let left : suc (to - suc a) ≡ to - a = omega arith in
           kept (λ n. nat_lt n to) a (filter q (numbers_from (suc a) count)) (filter q (numbers_from (suc a) (to - suc a))) true
-          (lt_true a to below) (below_to to (suc a) count (omega arith) (omega arith))
+          (lt_true a to below) (ih below)
           ∙ ap (λ n. filter q (numbers_from a n)) left
-      go (inr above) =
+      go (inr above) ih =
           let none : to - a ≡ 0 = omega arith in
           none_below to a (suc count) above ∙ sym (ap (λ n. filter q (numbers_from a n)) none)
 
@@ -147,3 +150,13 @@ between_cuts q all from to j behind is h end fits (front, back) =
     (parted (λ n. nat_lt n to) behind j fits front back).0
     ∙ ap (filter (λ n. nat_lt n to)) is
     ∙ below_to q to from (all - from) h (omega arith)
+
+numbers_below : (a count top : ℕ) → a + count ≤ top → All (λ n. n < top) (numbers_from a count)
+numbers_below a zero top h = All-nil (λ n. n < top)
+numbers_below a (suc count) top h = All-cons (λ n. n < top) a (numbers_from (suc a) count) (omega arith) (numbers_below (suc a) count top (omega arith))
+
+-- numbers that pass stay below the end
+pub below_end : (q : ℕ → Bool) (from to i : ℕ) (own : List ℕ) → own ≡ filter q (numbers_from from (to - from)) → from ≤ to → i < length own → get_or own i 0 < to
+below_end q from to i own is h within =
+    let all = All-filter q (λ n. n < to) (numbers_from from (to - from)) (numbers_below from (to - from) to (omega arith)) in
+    All-get_or (λ n. n < to) own i 0 within (All-same (λ n. n < to) own (filter q (numbers_from from (to - from))) is all)

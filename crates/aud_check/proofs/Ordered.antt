@@ -1,8 +1,8 @@
 -- A record of an ordered log, behind the first one.
 use Rattle.std.proofs.Common.{◌≡◌, ◌<◌, ◌≤◌, ◌+◌, ℕ, zero, suc, Bool, true, false, cond, ◌&&◌, List, [], ◌∷◌, length, Option, Some, None, slice_get, refl, sym, ap, ◌∙◌, ◌⊎◌, inl, inr, nat_eq, arith, true≢false}
 use Rattle.std.specs.List.{list_all}
-use Rattle.std.specs.Str.{bytes_eq}
-use Rattle.std.proofs.lemmas.Bool.{cases_eq, eqb-eq}
+use Rattle.std.specs.FinSet as set
+use Rattle.std.proofs.lemmas.Bool.{cases_eq, eqb-true}
 use Rattle.std.proofs.lemmas.Option.{slice_get_within}
 use Rattle.aud_tap.specs.declared.records.StreamRec.{StreamRec}
 use Rattle.aud_tap.specs.declared.records.NodeRec.{NodeRec}
@@ -16,12 +16,13 @@ use Rattle.aud_rooms.specs.Rooms.{Rooms, rooms_after}
 
 all_at : (f : ℕ → Bool) (a count n : ℕ) → list_all f (numbers_from a count) ≡ true → a ≤ n → n < a + count → f n ≡ true
 all_at f a zero n all from to = absurd (omega arith)
-all_at f a (suc count) n all from to = go (f a) refl all (cases_eq a n)
+all_at f a (suc count) n all from to = go (f a) refl all (cases_eq a n) (λ more rest. all_at f (suc a) count n rest (omega (arith, more)) (omega arith))
   where
-    go : (b : Bool) → f a ≡ b → (b && list_all f (numbers_from (suc a) count)) ≡ true → (a ≡ n) ⊎ (a ≡ n → ⊥) → f n ≡ true
-    go true is rest (inl same) = ap f (sym same) ∙ is
-    go true is rest (inr more) = all_at f (suc a) count n rest (omega (arith, more)) (omega arith)
-    go false is rest at = absurd (true≢false (sym rest))
+    go : (b : Bool) → f a ≡ b → (b && list_all f (numbers_from (suc a) count)) ≡ true → (a ≡ n) ⊎ (a ≡ n → ⊥)
+        → ((a ≡ n → ⊥) → list_all f (numbers_from (suc a) count) ≡ true → f n ≡ true) → f n ≡ true
+    go true is rest (inl same) ih = ap f (sym same) ∙ is
+    go true is rest (inr more) ih = ih more rest
+    go false is rest at ih = absurd (true≢false (sym rest))
 
 in_order_at : (stream : List StreamRec) (log : List NodeRec) (n : ℕ) (rec : NodeRec) → is_ordered stream log ≡ true → slice_get log n ≡ Some rec
     → is_in_order stream n (cursor_at stream log n) rec ≡ true
@@ -47,8 +48,8 @@ pub rooms_of_others : (pid : Text) (held : Rooms) (rec : NodeRec) → names (Som
 rooms_of_others pid held (Start off) e = refl
 rooms_of_others pid held (Take off) e = refl
 rooms_of_others pid held (Opened other sid nsp) e = refl
-rooms_of_others pid held (Join other room) e = ap (λ b. cond b _ held) e
-rooms_of_others pid held (Leave other room) e = ap (λ b. cond b _ held) e
+rooms_of_others pid held (Join other room) e = ap (λ b. cond b (set.insert held room) held) e
+rooms_of_others pid held (Leave other room) e = ap (λ b. cond b (set.remove held room) held) e
 rooms_of_others pid held (Broke other number) e = refl
 rooms_of_others pid held (Back other number) e = refl
 rooms_of_others pid held (Gone other) e = refl
@@ -56,7 +57,7 @@ rooms_of_others pid held (Gone other) e = refl
 module _ (stream : List StreamRec) (log : List NodeRec) (pid : Text) (ordered : is_ordered stream log ≡ true) where
   at_position : (o : Option ℕ) (q p : ℕ) → is_position o q ≡ true → is_position o p ≡ nat_eq q p
   at_position None q p e = absurd (true≢false (sym e))
-  at_position (Some r) q p e = ap (λ n. nat_eq n p) (eqb-eq r q e)
+  at_position (Some r) q p e = ap (λ n. nat_eq n p) (eqb-true r q e)
 
   -- a record behind the first one takes the next position or none
   pub step : (i : ℕ) (rec : NodeRec) → slice_get log (suc i) ≡ Some rec

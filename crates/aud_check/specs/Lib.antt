@@ -5,4 +5,3 @@ pub mod Own
 pub mod Named
 pub mod TurnEnd
 pub mod TurnRefusals
-pub mod Walked

@@ -45,9 +45,15 @@ RefusesTurn c pid k t later NoEnd = Ends c pid k t later → ⊥
 RefusesTurn c pid k t later Cursor = HasCursors c.stream (log_named c t.node) t → ⊥
 RefusesTurn c pid k t later _ = ⊥
 
--- nothing refuses the turn
-abbrev pub IsTurnAccepted : Cluster → Text → ℕ → TurnSeen → List TurnSeen → Type 0
-IsTurnAccepted c pid k t later = (refusal : Refusal) → RefusesTurn c pid k t later refusal → ⊥
+-- the turn begins, ends and has the cursors that it should
+pub record IsTurnAccepted (c : Cluster) (pid : Text) (k : ℕ) (t : TurnSeen) (later : List TurnSeen) : Type 0 where
+  pub begins : is_begun_by pid k (slice_get t.recs 0) ≡ true
+  pub ends : Ends c pid k t later
+  pub cursors : HasCursors c.stream (log_named c t.node) t
+
+-- so do all of the turns
+abbrev pub AreTurnsAccepted : Cluster → Text → List TurnSeen → Type 0
+AreTurnsAccepted c pid turns = (k : ℕ) (t : TurnSeen) → slice_get turns k ≡ Some t → IsTurnAccepted c pid k t (drop (suc k) turns)
 
 -- ---- the order
 

@@ -34,9 +34,8 @@ pub(crate) fn check_turn(
     if !is_begun_by(turn.recs.get(0), pid, number) {
         return Err(Refusal::NotItsTurn);
     }
-    let second = turn.from as usize + 1;
     let to = (turn.to as usize).min(log.recs().len());
-    let Some(end) = turn_end(log, pid, number, second, to) else {
+    let Some(end) = turn_end(log, pid, number, turn.from as usize + 1, to) else {
         return Err(Refusal::EndInside);
     };
     if !may_end(log, turn, end, later) {
@@ -101,7 +100,7 @@ fn has_cursors(log: &NodeLog<'_>, turn: &Turn<'_>) -> bool
 }
 
 /// The cursor after the record with this number, which the log has.
-fn cursor_after(log: &NodeLog<'_>, number: usize) -> u64
+pub(crate) fn cursor_after(log: &NodeLog<'_>, number: usize) -> u64
     requires { number < length log.now.recs }
     ensures { result ≡ cursor_at log.now.stream log.now.recs (suc number) }
 {
