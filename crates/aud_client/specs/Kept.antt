@@ -8,10 +8,16 @@ use Rattle.std.specs.BTreeMap as tree
 use Rattle.aud_tap.specs.declared.records.StreamRec.{StreamRec}
 use Rattle.aud_node.specs.Stream.{Text}
 use Rattle.aud_node.specs.TapPackets.{TapPacket}
+use Rattle.aud_node.specs.ConnectionRead.{packet_seen}
+use Rattle.aud_node.specs.declared.connection.Placed.{Placed}
 use Rattle.aud_client.specs.declared.stays.Stays.{Stays}
 use Rattle.aud_client.specs.Stays.{namespace, is_connect, stays}
 use Rattle.aud_client.specs.Open.{open_place}
 use Rattle.aud_client.specs.Told.{StaySeen, told, reply_at, ask_of, frame_of}
+
+-- what contracts see of a connection's packets
+abbrev pub packets_seen : List Placed → List TapPacket
+packets_seen placed = map (λ (p : Placed). packet_seen p.packet) placed
 
 -- what is known of a stay without packets
 abbrev pub fresh : ℕ → Text → StaySeen

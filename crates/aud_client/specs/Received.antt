@@ -1,6 +1,7 @@
 -- What a client received: the stays of all connections of its tap, and the received list of a session.
 use Rattle.std.specs.Prelude.{ℕ, Bool, true, false, not, ◌&&◌, List, [], ◌∷◌, ◌++◌, map, flat_map, Option, Some, None, is_some, if◌then◌else◌}
-use Rattle.std.specs.List.{filter, list_any}
+use Rattle.std.specs.List.{filter, list_any, list_all}
+use Rattle.std.specs.Str.{bytes_eq}
 use Rattle.aud_tap.specs.declared.records.StreamRec.{StreamRec}
 use Rattle.aud_tap.specs.declared.records.ClientRec.{ClientRec}
 use Rattle.aud_node.specs.Stream.{Text}
@@ -62,6 +63,10 @@ is_recovered stay = asked_for_reply stay.asked stay.reply
 
 abbrev pub stays_naming : Text → List StaySeen → List StaySeen
 stays_naming pid ss = filter (names pid) ss
+
+-- all of these stays are in the namespace
+abbrev pub are_in : Text → List StaySeen → Bool
+are_in nsp ss = list_all (λ stay. bytes_eq stay.nsp nsp) ss
 
 -- the frames of the stays that name the session, stay after stay
 abbrev pub frames_by_stay : Text → List StaySeen → List FrameSeen

@@ -1,5 +1,5 @@
 -- The records of one turn of a session in a node's log.
-use Rattle.std.specs.Prelude.{ℕ, zero, suc, Bool, false, List, [], ◌∷◌, drop, Option, Some, None, if◌then◌else◌, nat_eq, ◌&&◌}
+use Rattle.std.specs.Prelude.{ℕ, zero, suc, ◌+◌, Bool, false, List, [], ◌∷◌, length, drop, Option, Some, None, if◌then◌else◌, nat_eq, ◌&&◌}
 use Rattle.std.specs.Option.{option_map}
 use Rattle.std.specs.Str.{bytes_eq}
 use Rattle.aud_tap.specs.declared.records.NodeRec.{NodeRec}
@@ -52,3 +52,7 @@ turn_in pid (first ∷ others) = first ∷ rest_of_turn pid others
 -- the records of turn k of the session, from the first record that begins it on; none where no record begins it
 abbrev pub turn_of : List NodeRec → Text → ℕ → Option (List NodeRec)
 turn_of log pid k = option_map (λ from. turn_in pid (drop from log)) (first_index (begins_turn pid k) log)
+
+-- the numbers of those records, from the first one on, before the second; none where no record begins the turn
+abbrev pub turn_range : List NodeRec → Text → ℕ → Option (ℕ × ℕ)
+turn_range log pid k = option_map (λ from. (from, from + length (turn_in pid (drop from log)))) (first_index (begins_turn pid k) log)

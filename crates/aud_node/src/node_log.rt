@@ -1,6 +1,7 @@
 //! A node's log.
-ghost use Rattle.std.specs.Prelude.{◌≡◌, IfOk, length, slice_get, map};
-ghost use Rattle.aud_node.specs.TurnRecords.{turn_of};
+ghost use Rattle.std.specs.Prelude.{◌≡◌, ◌<◌, ◌≤◌, IfOk, IfSome, length, option_map};
+ghost use Rattle.aud_node.specs.Lists.{between};
+ghost use Rattle.aud_node.specs.TurnRecords.{turn_of, turn_range};
 ghost use Rattle.aud_node.specs.Ordered.{is_ordered};
 ghost use Rattle.aud_node.specs.OwnRecords.{own_numbers};
 ghost use Rattle.aud_node.specs.NodeTap.{cursor_after};
@@ -13,6 +14,7 @@ use crate::turns::Turns;
 use aud_tap::{NodeRec, StreamRec};
 use std::alloc::{AllocError, Global};
 use std::marker::Model;
+use std::ops::Range;
 
 /// The records of a node's tap, lent, with the stream that the node takes from.
 #[derive(Drop)]
@@ -87,6 +89,18 @@ impl<'a> NodeLog<'a> {
     {
         match self.turns.get(pid, turn) {
             Some(span) => Some(self.recs().between(span.from, span.to)),
+            None => None,
+        }
+    }
+
+    /// The numbers of the records of that turn, which count from 0.
+    pub fn turn_range(&self, pid: &str, turn: u16) -> Option<Range<usize>>
+        ensures value { option_map (λ range. (range.start, range.end)) result ≡ turn_range self.now.recs pid.now turn }
+        ensures records { option_map (λ range. between self.now.recs range.start range.end) result ≡ turn_of self.now.recs pid.now turn }
+        ensures within { IfSome result (λ range. (range.start < range.end) × (range.end ≤ length self.now.recs)) }
+    {
+        match self.turns.get(pid, turn) {
+            Some(span) => Some(span.from..span.to),
             None => None,
         }
     }

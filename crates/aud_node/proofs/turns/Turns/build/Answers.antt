@@ -1,6 +1,6 @@
-use Rattle.std.proofs.Common.{arith}
+use Rattle.std.proofs.Common.{◌≡◌, ℕ, arith, subst}
 use Rattle.aud_node.proofs.ListLemmas.{drop-read}
-use Rattle.aud_node.proofs.TurnLemmas.{step}
+use Rattle.aud_node.proofs.TurnLemmas.{step, HoldsFrom, HoldsFrom-first}
 use Rattle.aud_node.proofs.turns.Turns.build.Goals as goal
 
 pub loop-number-preserved : goal.loop-number-preserved
@@ -8,3 +8,9 @@ loop-number-preserved c =
     step c.args.recs.now _ c.loop-number.number (omega arith) c.index-recs-number.result
     (drop-read c.args.recs.now c.loop-number.number c.index-recs-number.result (omega arith) (omega arith) c.index-recs-number.is)
     c.loop-number.turns c.put.new.self c.loop-number.invariant c.in_ok-put.ensures.spans c.in_ok-put.ensures.ends
+
+pub returns : goal.returns
+returns c =
+    let none : c.loop-number.number ≡ 0 = omega arith in
+    let P : ℕ → Type 0 = λ n. HoldsFrom c.args.recs.now n c.loop-number.turns in
+    HoldsFrom-first c.args.recs.now c.loop-number.turns (subst P none c.loop-number.invariant)

@@ -1,0 +1,286 @@
+-- The received list by place, and the frames of the naming stays, stay after stay.
+use Rattle.std.proofs.Common.{◌≡◌, ℕ, Bool, true, false, not, ◌&&◌, cond, List, [], ◌∷◌, ◌++◌, map, flat_map, refl, sym, ap, ◌∙◌, inl, inr, Option, Some, None}
+use Rattle.std.specs.List.{filter, list_all}
+use Rattle.std.specs.Str.{bytes_eq}
+use Rattle.std.proofs.lemmas.Bool.{true≢false, false≢true, cases_Bool, not-true, not-false, and_parts}
+use Rattle.std.proofs.lemmas.List.{append_assoc, append-nil}
+use Rattle.std.proofs.lemmas.List.Elements.{filter-append, filter_map-append}
+use Rattle.std.proofs.lemmas.List.Folds.{list_all-append}
+use Rattle.std.proofs.lemmas.List.Concat.{flat_map-append}
+use Rattle.aud_tap.specs.declared.records.StreamRec.{StreamRec}
+use Rattle.aud_tap.specs.declared.records.ClientRec.{ClientRec}
+use Rattle.aud_node.specs.Stream.{Text}
+use Rattle.aud_node.specs.TapPackets.{TapPacket, Connection, tap_packets}
+use Rattle.aud_client.specs.Stays.{namespace, in_namespace, goes_on, whole_stay, stay_after, stay_at, begins, stays_from, stays}
+use Rattle.aud_client.specs.Open.{of_namespace}
+use Rattle.aud_client.specs.Told.{FrameSeen, StaySeen, told, frame_of, frames_of, namespace_of}
+use Rattle.aud_client.specs.Received.{packets_of, stays_of, tap_stays, names, stays_naming, frames_by_stay, frames_at, received_from, received_list, received_of, are_in}
+use Rattle.aud_client.proofs.Places.{same_text, itself_text, stay_after-same, stay_after-other, begins-in, of_stay_at}
+use Rattle.aud_client.proofs.Named.{stay_names}
+
+-- what follows of the stay among the packets behind, all of one namespace
+abbrev pub rest_of : List TapPacket → List TapPacket → List TapPacket
+rest_of stay [] = []
+rest_of stay (q ∷ behind) = cond (goes_on stay q) (q ∷ rest_of (stay ++ q ∷ []) behind) []
+
+front_and_rest : (stay behind : List TapPacket) → whole_stay stay behind ≡ stay ++ rest_of stay behind
+front_and_rest stay [] = sym (append-nil stay)
+front_and_rest stay (q ∷ behind) = go (front_and_rest (stay ++ q ∷ []) behind) (goes_on stay q)
+  where
+    go : whole_stay (stay ++ q ∷ []) behind ≡ (stay ++ q ∷ []) ++ rest_of (stay ++ q ∷ []) behind → (b : Bool)
+        → cond b (whole_stay (stay ++ q ∷ []) behind) stay ≡ stay ++ cond b (q ∷ rest_of (stay ++ q ∷ []) behind) []
+    go ih true = ih ∙ append_assoc stay (q ∷ []) (rest_of (stay ++ q ∷ []) behind)
+    go ih false = sym (append-nil stay)
+
+module _ (stream : List StreamRec) (pid n : Text) where
+  -- the frames, if they are of a stay that names the session
+  abbrev pub if_named : Bool → List TapPacket → List FrameSeen
+  if_named b packets = cond b (frames_of stream packets) []
+
+  abbrev pub of_stay : List TapPacket → List FrameSeen
+  of_stay stay = if_named (stay_names pid stay) stay
+
+  -- the stay doesn't name the session, unless it is in the namespace
+  abbrev pub fits : List TapPacket → Bool
+  fits stay = cond (stay_names pid stay) (of_namespace n stay) true
+
+  -- those packets behind that are in the stay that stands open in the namespace, and the stays that begin behind
+  abbrev pub Goes : List TapPacket → List TapPacket → Type 0
+  Goes before behind =
+      received_from stream pid before behind
+      ≡ if_named (stay_names pid (whole_stay (stay_after n before) (in_namespace n behind))) (rest_of (stay_after n before) (in_namespace n behind))
+      ++ flat_map of_stay (stays_from before behind)
+
+  -- no stay that stands open in another namespace names the session
+  abbrev pub OthersDont : List TapPacket → List TapPacket → Type 0
+  OthersDont before behind = (m : Text) → bytes_eq m n ≡ false → stay_names pid (whole_stay (stay_after m before) (in_namespace m behind)) ≡ false
+
+  nothing : (b : Bool) → if_named b [] ≡ []
+  nothing true = refl
+  nothing false = refl
+
+  one_and_rest : (b : Bool) (q : TapPacket) (r : List TapPacket) (more : List FrameSeen)
+      → if_named b (q ∷ []) ++ (if_named b r ++ more) ≡ if_named b (q ∷ r) ++ more
+  one_and_rest true q r more =
+      sym (append_assoc (frames_of stream (q ∷ [])) (frames_of stream r) more)
+      ∙ ap (λ l. l ++ more) (sym (filter_map-append (frame_of stream) (q ∷ []) r))
+  one_and_rest false q r more = refl
+
+  -- ---- one packet
+
+  here : (m : Text) (q : TapPacket) (r : List TapPacket) → bytes_eq (namespace q) m ≡ true → in_namespace m (q ∷ r) ≡ q ∷ in_namespace m r
+  here m q r is = ap (λ b. cond b (q ∷ in_namespace m r) (in_namespace m r)) is
+
+  elsewhere : (m : Text) (q : TapPacket) (r : List TapPacket) → bytes_eq (namespace q) m ≡ false → in_namespace m (q ∷ r) ≡ in_namespace m r
+  elsewhere m q r is = ap (λ b. cond b (q ∷ in_namespace m r) (in_namespace m r)) is
+
+  -- the stays that begin at the packet or behind it
+  abbrev begin_at : (b : Bool) → List TapPacket → TapPacket → List TapPacket → List (List TapPacket)
+  begin_at b before q r = cond b (stay_at before q r ∷ stays_from (before ++ q ∷ []) r) (stays_from (before ++ q ∷ []) r)
+
+  -- the packet's stay stands open before it, where the packet goes on with it
+  stands_open : (before : List TapPacket) (q : TapPacket) (r : List TapPacket) → begins before q ≡ false
+      → whole_stay (stay_after (namespace q) before) (in_namespace (namespace q) (q ∷ r)) ≡ stay_at before q r
+  stands_open before q r goes =
+      let m = namespace q in
+      let on : goes_on (stay_after m before) q ≡ true = not-false _ goes in
+      ap (whole_stay (stay_after m before)) (here m q r (itself_text m))
+      ∙ ap (λ b. cond b (whole_stay (stay_after m before ++ q ∷ []) (in_namespace m r)) (stay_after m before)) on
+      ∙ ap (λ s. whole_stay s (in_namespace m r))
+      (sym (stay_after-same m before q (itself_text m) ∙ ap (λ b. cond b (stay_after m before ++ q ∷ []) (q ∷ [])) on))
+
+  unfit : (b : Bool) → cond b false true ≡ true → b ≡ false
+  unfit true e = absurd (false≢true e)
+  unfit false e = refl
+
+  -- a packet of another namespace is in no stay that names the session
+  other_dont : (before : List TapPacket) (q : TapPacket) (r : List TapPacket) → list_all fits (stays_from before (q ∷ r)) ≡ true → OthersDont before (q ∷ r)
+      → bytes_eq (namespace q) n ≡ false → stay_names pid (stay_at before q r) ≡ false
+  other_dont before q r fit others other = elim (cases_Bool (begins before q)) [
+    | inl starts ↦
+        let first : fits (stay_at before q r) ≡ true =
+        (and_parts _ _ (sym (ap (λ b. list_all fits (begin_at b before q r)) starts) ∙ fit)).0 in
+        unfit _ (sym (ap (λ b. cond (stay_names pid (stay_at before q r)) b true) (of_stay_at n before q r starts ∙ other)) ∙ first)
+    | inr goes ↦ ap (stay_names pid) (sym (stands_open before q r goes)) ∙ others (namespace q) other
+  ]
+
+  fit_behind : (before : List TapPacket) (q : TapPacket) (r : List TapPacket) → list_all fits (stays_from before (q ∷ r)) ≡ true
+      → list_all fits (stays_from (before ++ q ∷ []) r) ≡ true
+  fit_behind before q r fit = go (begins before q) fit
+    where
+      go : (b : Bool) → list_all fits (begin_at b before q r) ≡ true → list_all fits (stays_from (before ++ q ∷ []) r) ≡ true
+      go true e = (and_parts _ _ e).1
+      go false e = e
+
+  others_behind : (before : List TapPacket) (q : TapPacket) (r : List TapPacket) → list_all fits (stays_from before (q ∷ r)) ≡ true → OthersDont before (q ∷ r)
+      → OthersDont (before ++ q ∷ []) r
+  others_behind before q r fit others m other = elim (cases_Bool (bytes_eq (namespace q) m)) [
+    | inl is ↦
+        let same = same_text (namespace q) m is in
+        ap (λ k. stay_names pid (whole_stay (stay_after k (before ++ q ∷ [])) (in_namespace k r))) (sym same)
+        ∙ other_dont before q r fit others (ap (λ k. bytes_eq k n) same ∙ other)
+    | inr not ↦
+        ap (λ s. stay_names pid (whole_stay s (in_namespace m r))) (stay_after-other m before q not)
+        ∙ ap (λ l. stay_names pid (whole_stay (stay_after m before) l)) (sym (elsewhere m q r not))
+        ∙ others m other
+  ]
+
+  -- ---- the packet in front of those behind
+
+  -- what the stay that stands open gives
+  abbrev from_open : List TapPacket → List TapPacket → List FrameSeen
+  from_open stay l = if_named (stay_names pid (whole_stay stay l)) (rest_of stay l)
+
+  goes-other : (before : List TapPacket) (q : TapPacket) (r : List TapPacket) → bytes_eq (namespace q) n ≡ false
+      → stay_names pid (stay_at before q r) ≡ false → Goes (before ++ q ∷ []) r → Goes before (q ∷ r)
+  goes-other before q r other names_not ih =
+      ap (λ b. if_named b (q ∷ []) ++ received_from stream pid (before ++ q ∷ []) r) names_not
+      ∙ ih
+      ∙ ap (λ s. from_open s (in_namespace n r) ++ flat_map of_stay (stays_from (before ++ q ∷ []) r)) (stay_after-other n before q other)
+      ∙ ap (λ l. from_open (stay_after n before) l ++ flat_map of_stay (stays_from (before ++ q ∷ []) r)) (sym (elsewhere n q r other))
+      ∙ ap (λ l. from_open (stay_after n before) (in_namespace n (q ∷ r)) ++ l) (sym (dropped (begins before q)))
+    where
+      dropped : (b : Bool) → flat_map of_stay (begin_at b before q r) ≡ flat_map of_stay (stays_from (before ++ q ∷ []) r)
+      dropped true = ap (λ b. if_named b (stay_at before q r) ++ flat_map of_stay (stays_from (before ++ q ∷ []) r)) names_not
+      dropped false = refl
+
+  goes-on : (before : List TapPacket) (q : TapPacket) (r : List TapPacket) → bytes_eq (namespace q) n ≡ true → goes_on (stay_after n before) q ≡ true
+      → Goes (before ++ q ∷ []) r → Goes before (q ∷ r)
+  goes-on before q r same on ih =
+      ap (λ s. if_named (stay_names pid s) (q ∷ []) ++ received_from stream pid (before ++ q ∷ []) r) at
+      ∙ ap (λ l. if_named (stay_names pid (whole_stay longer (in_namespace n r))) (q ∷ []) ++ l)
+      (ih ∙ ap (λ s. from_open s (in_namespace n r) ++ later) grows)
+      ∙ one_and_rest (stay_names pid (whole_stay longer (in_namespace n r))) q (rest_of longer (in_namespace n r)) later
+      ∙ sym right
+    where
+      longer : List TapPacket
+      longer = stay_after n before ++ q ∷ []
+
+      later : List FrameSeen
+      later = flat_map of_stay (stays_from (before ++ q ∷ []) r)
+
+      grows : stay_after n (before ++ q ∷ []) ≡ longer
+      grows = stay_after-same n before q same ∙ ap (λ b. cond b longer (q ∷ [])) on
+
+      at : stay_at before q r ≡ whole_stay longer (in_namespace n r)
+      at = ap (λ k. whole_stay (stay_after k (before ++ q ∷ [])) (in_namespace k r)) (same_text (namespace q) n same) ∙ ap (λ s. whole_stay s (in_namespace n r)) grows
+
+      right : from_open (stay_after n before) (in_namespace n (q ∷ r)) ++ flat_map of_stay (stays_from before (q ∷ r))
+          ≡ if_named (stay_names pid (whole_stay longer (in_namespace n r))) (q ∷ rest_of longer (in_namespace n r)) ++ later
+      right =
+          ap (λ l. from_open (stay_after n before) l ++ flat_map of_stay (stays_from before (q ∷ r))) (here n q r same)
+          ∙ ap (λ b. if_named (stay_names pid (cond b (whole_stay longer (in_namespace n r)) (stay_after n before))) (cond b (q ∷ rest_of longer (in_namespace n r)) []) ++ flat_map of_stay (stays_from before (q ∷ r))) on
+          ∙ ap (λ b. if_named (stay_names pid (whole_stay longer (in_namespace n r))) (q ∷ rest_of longer (in_namespace n r)) ++ flat_map of_stay (begin_at b before q r))
+          (begins-in n before q same ∙ ap not on)
+
+  goes-begins : (before : List TapPacket) (q : TapPacket) (r : List TapPacket) → bytes_eq (namespace q) n ≡ true → goes_on (stay_after n before) q ≡ false
+      → Goes (before ++ q ∷ []) r → Goes before (q ∷ r)
+  goes-begins before q r same starts ih =
+      ap (λ s. if_named (stay_names pid s) (q ∷ []) ++ received_from stream pid (before ++ q ∷ []) r) at
+      ∙ ap (λ l. if_named (stay_names pid stay) (q ∷ []) ++ l) (ih ∙ ap (λ s. from_open s (in_namespace n r) ++ later) alone)
+      ∙ one_and_rest (stay_names pid stay) q (rest_of (q ∷ []) (in_namespace n r)) later
+      ∙ ap (λ l. if_named (stay_names pid stay) l ++ later) (sym (front_and_rest (q ∷ []) (in_namespace n r)))
+      ∙ sym right
+    where
+      stay : List TapPacket
+      stay = whole_stay (q ∷ []) (in_namespace n r)
+
+      later : List FrameSeen
+      later = flat_map of_stay (stays_from (before ++ q ∷ []) r)
+
+      alone : stay_after n (before ++ q ∷ []) ≡ q ∷ []
+      alone = stay_after-same n before q same ∙ ap (λ b. cond b (stay_after n before ++ q ∷ []) (q ∷ [])) starts
+
+      at : stay_at before q r ≡ stay
+      at = ap (λ k. whole_stay (stay_after k (before ++ q ∷ [])) (in_namespace k r)) (same_text (namespace q) n same) ∙ ap (λ s. whole_stay s (in_namespace n r)) alone
+
+      right : from_open (stay_after n before) (in_namespace n (q ∷ r)) ++ flat_map of_stay (stays_from before (q ∷ r)) ≡ if_named (stay_names pid stay) stay ++ later
+      right =
+          ap (λ l. from_open (stay_after n before) l ++ flat_map of_stay (stays_from before (q ∷ r))) (here n q r same)
+          ∙ ap (λ b. if_named (stay_names pid (cond b (whole_stay (stay_after n before ++ q ∷ []) (in_namespace n r)) (stay_after n before))) (cond b (q ∷ rest_of (stay_after n before ++ q ∷ []) (in_namespace n r)) []) ++ flat_map of_stay (stays_from before (q ∷ r))) starts
+          ∙ ap (λ l. l ++ flat_map of_stay (stays_from before (q ∷ r))) (nothing (stay_names pid (stay_after n before)))
+          ∙ ap (λ b. flat_map of_stay (begin_at b before q r)) (begins-in n before q same ∙ ap not starts)
+          ∙ ap (λ s. of_stay s ++ later) at
+
+  goes : (before behind : List TapPacket) → list_all fits (stays_from before behind) ≡ true → OthersDont before behind → Goes before behind
+  goes before [] fit others = sym (ap (λ l. l ++ []) (nothing (stay_names pid (stay_after n before))))
+  goes before (q ∷ r) fit others = elim (cases_Bool (bytes_eq (namespace q) n)) [
+    | inr other ↦
+        goes-other before q r other (other_dont before q r fit others other)
+        (goes (before ++ q ∷ []) r (fit_behind before q r fit) (others_behind before q r fit others))
+    | inl same ↦ elim (cases_Bool (goes_on (stay_after n before) q)) [
+      | inl on ↦ goes-on before q r same on (goes (before ++ q ∷ []) r (fit_behind before q r fit) (others_behind before q r fit others))
+      | inr starts ↦ goes-begins before q r same starts (goes (before ++ q ∷ []) r (fit_behind before q r fit) (others_behind before q r fit others))
+    ]
+  ]
+
+  -- ---- a connection
+
+  whole-nil : (m : List TapPacket) → whole_stay [] m ≡ []
+  whole-nil [] = refl
+  whole-nil (q ∷ m) = refl
+
+  rest-nil : (m : List TapPacket) → rest_of [] m ≡ []
+  rest-nil [] = refl
+  rest-nil (q ∷ m) = refl
+
+  by_place : (l : List TapPacket) → list_all fits (stays l) ≡ true → received_from stream pid [] l ≡ flat_map of_stay (stays l)
+  by_place l fit =
+      goes [] l fit (λ m other. ap (stay_names pid) (whole-nil (in_namespace m l)))
+      ∙ ap (λ x. if_named (stay_names pid (whole_stay [] (in_namespace n l))) x ++ flat_map of_stay (stays l)) (rest-nil (in_namespace n l))
+      ∙ ap (λ x. x ++ flat_map of_stay (stays l)) (nothing (stay_names pid (whole_stay [] (in_namespace n l))))
+
+  by_stay : (c : ℕ) (ss : List (List TapPacket)) → flat_map of_stay ss ≡ frames_by_stay pid (map (told stream c) ss)
+  by_stay c [] = refl
+  by_stay c (s ∷ ss) = go (stay_names pid s) (by_stay c ss)
+    where
+      go : (b : Bool) → flat_map of_stay ss ≡ frames_by_stay pid (map (told stream c) ss)
+          → if_named b s ++ flat_map of_stay ss
+          ≡ flat_map (λ stay. stay.frames) (cond b (told stream c s ∷ stays_naming pid (map (told stream c) ss)) (stays_naming pid (map (told stream c) ss)))
+      go true ih = ap (λ l. frames_of stream s ++ l) ih
+      go false ih = ih
+
+  both_true : (a b : Bool) → a ≡ true → b ≡ true → (a && b) ≡ true
+  both_true true b p q = q
+  both_true false b p q = absurd (false≢true p)
+
+  fit : (c : ℕ) (ss : List (List TapPacket)) → are_in n (stays_naming pid (map (told stream c) ss)) ≡ true → list_all fits ss ≡ true
+  fit c [] e = refl
+  fit c (s ∷ ss) e = go (stay_names pid s) refl e (fit c ss)
+    where
+      in_it : (s : List TapPacket) → stay_names pid s ≡ true → bytes_eq (namespace_of s) n ≡ true → of_namespace n s ≡ true
+      in_it [] names_it e = absurd (false≢true names_it)
+      in_it (p ∷ ps) names_it e = e
+
+      go : (b : Bool) → stay_names pid s ≡ b
+          → are_in n (cond b (told stream c s ∷ stays_naming pid (map (told stream c) ss)) (stays_naming pid (map (told stream c) ss))) ≡ true
+          → (are_in n (stays_naming pid (map (told stream c) ss)) ≡ true → list_all fits ss ≡ true)
+          → (cond b (of_namespace n s) true && list_all fits ss) ≡ true
+      go true is e ih =
+          let parts = and_parts (bytes_eq (namespace_of s) n) (are_in n (stays_naming pid (map (told stream c) ss))) e in
+          both_true _ _ (in_it s is parts.0) (ih parts.1)
+      go false is e ih = ih e
+
+  -- ---- a tap
+
+  joined_frames : (ss us : List StaySeen) → frames_by_stay pid (ss ++ us) ≡ frames_by_stay pid ss ++ frames_by_stay pid us
+  joined_frames ss us = ap (flat_map (λ (stay : StaySeen). stay.frames)) (filter-append (names pid) ss us) ∙ flat_map-append (λ (stay : StaySeen). stay.frames) (stays_naming pid ss) (stays_naming pid us)
+
+  of_connections : (connections : List Connection) → are_in n (stays_naming pid (flat_map (stays_of stream) connections)) ≡ true
+      → flat_map (λ (connection : Connection). received_from stream pid [] (packets_of connection)) connections ≡ frames_by_stay pid (flat_map (stays_of stream) connections)
+  of_connections [] e = refl
+  of_connections (connection ∷ connections) e =
+      let behind = flat_map (stays_of stream) connections in
+      let parts =
+      and_parts (are_in n (stays_naming pid (stays_of stream connection))) (are_in n (stays_naming pid behind))
+      (sym (ap (are_in n) (filter-append (names pid) (stays_of stream connection) behind)
+      ∙ list_all-append (λ (stay : StaySeen). bytes_eq stay.nsp n) (stays_naming pid (stays_of stream connection)) (stays_naming pid behind))
+      ∙ e) in
+      ap (λ l. l ++ flat_map (λ (c : Connection). received_from stream pid [] (packets_of c)) connections)
+      (by_place (packets_of connection) (fit connection.c (stays (packets_of connection)) parts.0) ∙ by_stay connection.c (stays (packets_of connection)))
+      ∙ ap (λ l. frames_by_stay pid (stays_of stream connection) ++ l) (of_connections connections parts.1)
+      ∙ sym (joined_frames (stays_of stream connection) behind)
+
+pub received_by_stays : (stream : List StreamRec) (recs : List ClientRec) (pid nsp : Text) → are_in nsp (stays_naming pid (received_of stream recs).stays) ≡ true
+    → received_list stream recs pid ≡ frames_by_stay pid (received_of stream recs).stays
+received_by_stays stream recs pid nsp e = of_connections stream pid nsp (tap_packets recs).connections e

@@ -1,0 +1,9 @@
+pub mod Places
+pub mod OnePass
+pub mod Steps
+pub mod Telling
+pub mod Maps
+pub mod Kept
+pub mod Connections
+pub mod Named
+pub mod ByPlace

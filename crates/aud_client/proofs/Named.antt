@@ -1,0 +1,139 @@
+-- Where a packet is a reply that names a session, the reply of a stay does, and the other way round.
+use Rattle.std.proofs.Common.{◌≡◌, ℕ, Bool, true, false, not, ◌&&◌, ◌||◌, cond, List, [], ◌∷◌, ◌++◌, map, flat_map, refl, sym, ap, ◌∙◌, inl, inr, Option, Some, None}
+use Rattle.std.specs.List.{list_any}
+use Rattle.std.proofs.lemmas.Bool.{true≢false, false≢true, cases_Bool, not-false}
+use Rattle.std.proofs.lemmas.List.{append_assoc, append-nil}
+use Rattle.std.proofs.lemmas.List.Folds.{list_any-append}
+use Rattle.aud_tap.specs.declared.records.StreamRec.{StreamRec}
+use Rattle.aud_tap.specs.declared.records.ClientRec.{ClientRec}
+use Rattle.aud_node.specs.Stream.{Text}
+use Rattle.aud_node.specs.TapPackets.{TapPacket, Received, Sent, Connection, tap_packets}
+use Rattle.aud_node.specs.Replies.{reply_names, packet_names, connection_names, tap_names}
+use Rattle.aud_client.specs.Stays.{namespace, is_reply, is_from_server, goes_on, stay_after, begins, stays}
+use Rattle.aud_client.specs.Open.{of_namespace, has}
+use Rattle.aud_client.specs.Told.{reply_at, reply_of, told}
+use Rattle.aud_client.specs.Received.{packets_of, stays_of, tap_stays, names, received_of}
+use Rattle.aud_client.proofs.OnePass.{grow, last_in, last_in-none, last_in-stays, stays-begins, stays-goes_on}
+use Rattle.aud_client.proofs.Telling.{no_reply_at, reply_of-one, replied, unreplied, none_yet, no_connect}
+
+-- the stay's reply names the session
+abbrev pub stay_names : Text → List TapPacket → Bool
+stay_names pid stay = reply_names pid (reply_of stay)
+
+or_assoc : (a b d : Bool) → (a || (b || d)) ≡ ((a || b) || d)
+or_assoc true b d = refl
+or_assoc false b d = refl
+
+or_swap : (a b d : Bool) → ((a || b) || d) ≡ ((a || d) || b)
+or_swap true b d = refl
+or_swap false true true = refl
+or_swap false true false = refl
+or_swap false false true = refl
+or_swap false false false = refl
+
+or_false : (a : Bool) → (a || false) ≡ a
+or_false true = refl
+or_false false = refl
+
+any_map : {X Y : Type 0} (test : Y → Bool) (f : X → Y) (xs : List X) → list_any test (map f xs) ≡ list_any (λ x. test (f x)) xs
+any_map test f [] = refl
+any_map test f (x ∷ xs) = ap (λ b. test (f x) || b) (any_map test f xs)
+
+-- ---- one packet more
+
+at_packet : (pid : Text) (p : TapPacket) → reply_names pid (reply_at p) ≡ packet_names pid p
+at_packet pid (Received whole) = refl
+at_packet pid (Sent packet) = refl
+
+alone : (pid : Text) (p : TapPacket) → stay_names pid (p ∷ []) ≡ packet_names pid p
+alone pid p = ap (reply_names pid) (reply_of-one p) ∙ at_packet pid p
+
+names-more : (pid : Text) (s : List TapPacket) (p : TapPacket) → goes_on s p ≡ true → stay_names pid (s ++ p ∷ []) ≡ (stay_names pid s || packet_names pid p)
+names-more pid s p e = elim (cases_Bool (list_any is_reply s)) [
+  | inl some ↦
+      ap (reply_names pid) (replied s (p ∷ []) some).0
+      ∙ sym (or_false (stay_names pid s))
+      ∙ ap (λ b. stay_names pid s || b)
+      (sym (sym (at_packet pid p) ∙ ap (reply_names pid) (no_reply_at p (ap (λ b. b && is_from_server p) (no_connect s p e some)))))
+  | inr none ↦
+      ap (reply_names pid) (unreplied s (p ∷ []) none).0
+      ∙ alone pid p
+      ∙ ap (λ o. reply_names pid o || packet_names pid p) (sym (none_yet s none))
+]
+
+any-grow : (test : List TapPacket → Bool) (b : Bool) (n : Text) (p : TapPacket) (ss : List (List TapPacket)) → has n ss ≡ true
+    → test (last_in n ss ++ p ∷ []) ≡ (test (last_in n ss) || b) → list_any test (grow n p ss) ≡ (list_any test ss || b)
+any-grow test b n p [] some e = absurd (false≢true some)
+any-grow test b n p (s ∷ ss) some e = go (any-grow test b n p ss) (of_namespace n s) (has n ss) refl some e
+  where
+    either : (a : Bool) → list_any test (cond (a && false) ((s ++ p ∷ []) ∷ ss) (s ∷ grow n p ss)) ≡ (test s || list_any test (grow n p ss))
+    either true = refl
+    either false = refl
+
+    go : (has n ss ≡ true → test (last_in n ss ++ p ∷ []) ≡ (test (last_in n ss) || b) → list_any test (grow n p ss) ≡ (list_any test ss || b))
+        → (a h : Bool) → has n ss ≡ h → (a || h) ≡ true
+        → test (cond h (last_in n ss) (cond a s []) ++ p ∷ []) ≡ (test (cond h (last_in n ss) (cond a s [])) || b)
+        → list_any test (cond (a && not h) ((s ++ p ∷ []) ∷ ss) (s ∷ grow n p ss)) ≡ ((test s || list_any test ss) || b)
+    go ih a true is some e = either a ∙ ap (λ x. test s || x) (ih is e) ∙ or_assoc (test s) (list_any test ss) b
+    go ih true false is some e = ap (λ x. x || list_any test ss) e ∙ or_swap (test s) b (list_any test ss)
+    go ih false false is some e = absurd (false≢true some)
+
+-- where a packet goes on with a stay, there is one
+has-goes_on : (l : List TapPacket) (p : TapPacket) → begins l p ≡ false → has (namespace p) (stays l) ≡ true
+has-goes_on l p e = elim (cases_Bool (has (namespace p) (stays l))) [
+  | inl some ↦ some
+  | inr none ↦
+      absurd (true≢false (ap (λ s. not (goes_on s p)) (sym (sym (last_in-stays (namespace p) l) ∙ last_in-none (namespace p) (stays l) none)) ∙ e))
+]
+
+-- ---- a connection, and a tap
+
+abbrev pub NamedAlike : Text → List TapPacket → Type 0
+NamedAlike pid l = list_any (stay_names pid) (stays l) ≡ list_any (packet_names pid) l
+
+one_more : (pid : Text) (l : List TapPacket) (p : TapPacket) → NamedAlike pid l → NamedAlike pid (l ++ p ∷ [])
+one_more pid l p ih = stay_side ∙ ap (λ b. b || packet_names pid p) ih ∙ sym packet_side
+  where
+    packet_side : list_any (packet_names pid) (l ++ p ∷ []) ≡ (list_any (packet_names pid) l || packet_names pid p)
+    packet_side = list_any-append (packet_names pid) l (p ∷ []) ∙ ap (λ b. list_any (packet_names pid) l || b) (or_false (packet_names pid p))
+
+    stay_side : list_any (stay_names pid) (stays (l ++ p ∷ [])) ≡ (list_any (stay_names pid) (stays l) || packet_names pid p)
+    stay_side = elim (cases_Bool (begins l p)) [
+      | inl starts ↦
+          ap (list_any (stay_names pid)) (stays-begins [] l p starts)
+          ∙ list_any-append (stay_names pid) (stays l) ((p ∷ []) ∷ [])
+          ∙ ap (λ b. list_any (stay_names pid) (stays l) || b) (or_false (stay_names pid (p ∷ [])) ∙ alone pid p)
+      | inr goes ↦
+          ap (list_any (stay_names pid)) (stays-goes_on [] l p goes)
+          ∙ any-grow (stay_names pid) (packet_names pid p) (namespace p) p (stays l) (has-goes_on l p goes)
+          (ap (λ s. stay_names pid (s ++ p ∷ [])) (last_in-stays (namespace p) l)
+          ∙ names-more pid (stay_after (namespace p) l) p (not-false _ goes)
+          ∙ ap (λ s. stay_names pid s || packet_names pid p) (sym (last_in-stays (namespace p) l)))
+    ]
+
+all_more : (pid : Text) (done behind : List TapPacket) → NamedAlike pid done → NamedAlike pid (done ++ behind)
+all_more pid done [] ih = ap (λ l. list_any (stay_names pid) (stays l)) (append-nil done) ∙ ih ∙ ap (list_any (packet_names pid)) (sym (append-nil done))
+all_more pid done (p ∷ behind) ih =
+    ap (λ l. list_any (stay_names pid) (stays l)) (sym (append_assoc done (p ∷ []) behind))
+    ∙ all_more pid (done ++ p ∷ []) behind (one_more pid done p ih)
+    ∙ ap (list_any (packet_names pid)) (append_assoc done (p ∷ []) behind)
+
+pub named_alike : (pid : Text) (l : List TapPacket) → NamedAlike pid l
+named_alike pid l = all_more pid [] l refl
+
+in_connection : (stream : List StreamRec) (pid : Text) (connection : Connection) → list_any (names pid) (stays_of stream connection) ≡ connection_names pid connection
+in_connection stream pid connection =
+    any_map (names pid) (told stream connection.c) (stays (packets_of connection))
+    ∙ named_alike pid (packets_of connection)
+    ∙ any_map (packet_names pid) (λ (placed : ℕ × TapPacket). placed.1) connection.packets
+
+in_connections : (stream : List StreamRec) (pid : Text) (connections : List Connection)
+    → list_any (names pid) (flat_map (stays_of stream) connections) ≡ list_any (connection_names pid) connections
+in_connections stream pid [] = refl
+in_connections stream pid (connection ∷ connections) =
+    list_any-append (names pid) (stays_of stream connection) (flat_map (stays_of stream) connections)
+    ∙ ap (λ b. b || list_any (names pid) (flat_map (stays_of stream) connections)) (in_connection stream pid connection)
+    ∙ ap (λ b. connection_names pid connection || b) (in_connections stream pid connections)
+
+pub named_by_replies : (stream : List StreamRec) (recs : List ClientRec) (pid : Text) → list_any (names pid) (received_of stream recs).stays ≡ tap_names pid recs
+named_by_replies stream recs pid = in_connections stream pid (tap_packets recs).connections

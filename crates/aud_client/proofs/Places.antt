@@ -1,0 +1,114 @@
+-- The stays of packets, and one packet more.
+use Rattle.std.proofs.Common.{◌≡◌, ℕ, Bool, true, false, not, ◌||◌, cond, List, [], ◌∷◌, ◌++◌, refl, sym, ap, ◌∙◌, inl, inr, subst}
+use Rattle.std.specs.Str.{bytes_eq}
+use Rattle.std.specs.Cmp.Lexicographic.{bytes_decides}
+use Rattle.std.proofs.lemmas.Bool.{true≢false, false≢true, cases_Bool, not-true}
+use Rattle.std.proofs.lemmas.List.{append_assoc, append-nil}
+use Rattle.std.proofs.lemmas.List.Elements.{filter-append}
+use Rattle.aud_node.specs.TapPackets.{TapPacket}
+use Rattle.aud_client.specs.Open.{of_namespace, has}
+use Rattle.aud_client.specs.Stays.{namespace, in_namespace, goes_on, whole_stay, last_stay, stay_after, stay_at, begins, stays_from}
+
+pub same_text : (a b : List ℕ) → bytes_eq a b ≡ true → a ≡ b
+same_text a b = (bytes_decides a b).0
+
+pub itself_text : (a : List ℕ) → bytes_eq a a ≡ true
+itself_text a = (bytes_decides a a).1 refl
+
+pub swap_text : (a b : List ℕ) → bytes_eq a b ≡ false → bytes_eq b a ≡ false
+swap_text a b e = elim (cases_Bool (bytes_eq b a)) [ inl same ↦ absurd (true≢false (sym (itself_text a) ∙ ap (bytes_eq a) (sym (same_text b a same)) ∙ e)) | inr other ↦ other ]
+
+-- the last stay, after one packet more
+abbrev pub joined : List TapPacket → TapPacket → List TapPacket
+joined stay q = cond (goes_on stay q) (stay ++ q ∷ []) (q ∷ [])
+
+last_stay-more : (stay l : List TapPacket) (q : TapPacket) → last_stay stay (l ++ q ∷ []) ≡ joined (last_stay stay l) q
+last_stay-more stay [] q = refl
+last_stay-more stay (x ∷ l) q = last_stay-more (joined stay x) l q
+
+pub in_namespace-same : (n : List ℕ) (l : List TapPacket) (q : TapPacket) → bytes_eq (namespace q) n ≡ true → in_namespace n (l ++ q ∷ []) ≡ in_namespace n l ++ q ∷ []
+in_namespace-same n l q e = filter-append (λ p. bytes_eq (namespace p) n) l (q ∷ []) ∙ ap (λ b. in_namespace n l ++ cond b (q ∷ []) []) e
+
+pub in_namespace-other : (n : List ℕ) (l : List TapPacket) (q : TapPacket) → bytes_eq (namespace q) n ≡ false → in_namespace n (l ++ q ∷ []) ≡ in_namespace n l
+in_namespace-other n l q e = filter-append (λ p. bytes_eq (namespace p) n) l (q ∷ []) ∙ ap (λ b. in_namespace n l ++ cond b (q ∷ []) []) e ∙ append-nil _
+
+pub stay_after-same : (n : List ℕ) (l : List TapPacket) (q : TapPacket) → bytes_eq (namespace q) n ≡ true → stay_after n (l ++ q ∷ []) ≡ joined (stay_after n l) q
+stay_after-same n l q e = ap (last_stay []) (in_namespace-same n l q e) ∙ last_stay-more [] (in_namespace n l) q
+
+pub stay_after-other : (n : List ℕ) (l : List TapPacket) (q : TapPacket) → bytes_eq (namespace q) n ≡ false → stay_after n (l ++ q ∷ []) ≡ stay_after n l
+stay_after-other n l q e = ap (last_stay []) (in_namespace-other n l q e)
+
+-- a packet that begins a stay stands in it alone
+pub begun : (before : List TapPacket) (q : TapPacket) → begins before q ≡ true → stay_after (namespace q) (before ++ q ∷ []) ≡ q ∷ []
+begun before q e = stay_after-same (namespace q) before q (itself_text (namespace q)) ∙ ap (λ b. cond b (stay_after (namespace q) before ++ q ∷ []) (q ∷ [])) (not-true _ e)
+
+whole_stay-first : (n : List ℕ) (q : TapPacket) (s m : List TapPacket) → of_namespace n (whole_stay (q ∷ s) m) ≡ bytes_eq (namespace q) n
+whole_stay-first n q s [] = refl
+whole_stay-first n q s (x ∷ m) =
+    elim (goes_on (q ∷ s) x) as (λ b. of_namespace n (cond b (whole_stay (q ∷ (s ++ x ∷ [])) m) (q ∷ s)) ≡ bytes_eq (namespace q) n) [ true ↦ whole_stay-first n q (s ++ x ∷ []) m | false ↦ refl ]
+
+pub of_stay_at : (n : List ℕ) (before : List TapPacket) (q : TapPacket) (r : List TapPacket) → begins before q ≡ true → of_namespace n (stay_at before q r) ≡ bytes_eq (namespace q) n
+of_stay_at n before q r e = ap (λ s. of_namespace n (whole_stay s (in_namespace (namespace q) r))) (begun before q e) ∙ whole_stay-first n q [] (in_namespace (namespace q) r)
+
+-- going through the packets m of a namespace, from the stay s: none begins another stay, and e is the last; or one does
+pub record Pass (h : Bool) (s m e : List TapPacket) : Type 0 where
+  pub on : h ≡ false → (x : List TapPacket) → whole_stay s (m ++ x) ≡ whole_stay e x
+  pub stopped : h ≡ true → (x : List TapPacket) → whole_stay s (m ++ x) ≡ whole_stay s m
+
+along : (h k : Bool) (s t m l e f : List TapPacket) → h ≡ k → s ≡ t → m ≡ l → e ≡ f → Pass h s m e → Pass k t l f
+along h k s t m l e f p q r u pass =
+    subst (λ x. Pass k t l x) u (subst (λ x. Pass k t x e) r (subst (λ x. Pass k x m e) q (subst (λ x. Pass x s m e) p pass)))
+
+pass-on : (h : Bool) (s m e : List TapPacket) (q : TapPacket) → goes_on s q ≡ true → Pass h (s ++ q ∷ []) m e → Pass h s (q ∷ m) e
+pass-on h s m e q g ih =
+    record {
+      on = λ none x. ap (λ b. cond b (whole_stay (s ++ q ∷ []) (m ++ x)) s) g ∙ ih.on none x;
+      stopped = λ some x. ap (λ b. cond b (whole_stay (s ++ q ∷ []) (m ++ x)) s) g ∙ ih.stopped some x ∙ sym (ap (λ b. cond b (whole_stay (s ++ q ∷ []) m) s) g);
+    }
+
+pass-stop : (h : Bool) (s m e : List TapPacket) (q : TapPacket) → h ≡ true → goes_on s q ≡ false → Pass h s (q ∷ m) e
+pass-stop h s m e q some g =
+    record {
+      on = λ none x. absurd (true≢false (sym some ∙ none));
+      stopped = λ starts x. ap (λ b. cond b (whole_stay (s ++ q ∷ []) (m ++ x)) s) g ∙ sym (ap (λ b. cond b (whole_stay (s ++ q ∷ []) m) s) g);
+    }
+
+abbrev pub Passed : List ℕ → List TapPacket → List TapPacket → Type 0
+Passed n before behind = Pass (has n (stays_from before behind)) (stay_after n before) (in_namespace n behind) (stay_after n (before ++ behind))
+
+has-other : (n : List ℕ) (before : List TapPacket) (q : TapPacket) (r : List TapPacket) → bytes_eq (namespace q) n ≡ false → has n (stays_from (before ++ q ∷ []) r) ≡ has n (stays_from before (q ∷ r))
+has-other n before q r e = elim (cases_Bool (begins before q)) [
+  | inl starts ↦
+      ap (λ b. b || has n (stays_from (before ++ q ∷ []) r)) (sym (of_stay_at n before q r starts ∙ e))
+      ∙ sym (ap (λ b. has n (cond b (stay_at before q r ∷ stays_from (before ++ q ∷ []) r) (stays_from (before ++ q ∷ []) r))) starts)
+  | inr stays_on ↦ sym (ap (λ b. has n (cond b (stay_at before q r ∷ stays_from (before ++ q ∷ []) r) (stays_from (before ++ q ∷ []) r))) stays_on)
+]
+
+has-joins : (n : List ℕ) (before : List TapPacket) (q : TapPacket) (r : List TapPacket) → begins before q ≡ false → has n (stays_from (before ++ q ∷ []) r) ≡ has n (stays_from before (q ∷ r))
+has-joins n before q r stays_on = sym (ap (λ b. has n (cond b (stay_at before q r ∷ stays_from (before ++ q ∷ []) r) (stays_from (before ++ q ∷ []) r))) stays_on)
+
+has-begins : (n : List ℕ) (before : List TapPacket) (q : TapPacket) (r : List TapPacket) → bytes_eq (namespace q) n ≡ true → begins before q ≡ true → has n (stays_from before (q ∷ r)) ≡ true
+has-begins n before q r e starts =
+    ap (λ b. has n (cond b (stay_at before q r ∷ stays_from (before ++ q ∷ []) r) (stays_from (before ++ q ∷ []) r))) starts
+    ∙ ap (λ b. b || has n (stays_from (before ++ q ∷ []) r)) (of_stay_at n before q r starts ∙ e)
+
+pub begins-in : (n : List ℕ) (before : List TapPacket) (q : TapPacket) → bytes_eq (namespace q) n ≡ true → begins before q ≡ not (goes_on (stay_after n before) q)
+begins-in n before q e = ap (λ m. not (goes_on (stay_after m before) q)) (same_text (namespace q) n e)
+
+pub passed : (n : List ℕ) (before behind : List TapPacket) → Passed n before behind
+passed n before [] = record { on = λ none x. ap (λ l. whole_stay (stay_after n l) x) (sym (append-nil before)); stopped = λ some x. absurd (false≢true some) }
+passed n before (q ∷ r) = elim (cases_Bool (bytes_eq (namespace q) n)) [
+  | inr other ↦ along _ _ _ _ _ _ _ _ (has-other n before q r other) (stay_after-other n before q other) (sym (ap (λ b. cond b (q ∷ in_namespace n r) (in_namespace n r)) other)) next (passed n (before ++ q ∷ []) r)
+  | inl same ↦ elim (cases_Bool (goes_on (stay_after n before) q)) [
+    | inl g ↦
+        along _ _ _ _ _ _ _ _ (has-joins n before q r (begins-in n before q same ∙ ap not g)) refl (sym (ap (λ b. cond b (q ∷ in_namespace n r) (in_namespace n r)) same)) next
+        (pass-on _ _ _ _ q g
+        (along _ _ _ _ _ _ _ _ refl (stay_after-same n before q same ∙ ap (λ b. cond b (stay_after n before ++ q ∷ []) (q ∷ [])) g) refl refl (passed n (before ++ q ∷ []) r)))
+    | inr g ↦
+        along _ _ _ _ _ _ _ _ refl refl (sym (ap (λ b. cond b (q ∷ in_namespace n r) (in_namespace n r)) same)) refl
+        (pass-stop _ (stay_after n before) (in_namespace n r) _ q (has-begins n before q r same (begins-in n before q same ∙ ap not g)) g)
+  ]
+]
+  where
+    next : stay_after n ((before ++ q ∷ []) ++ r) ≡ stay_after n (before ++ q ∷ r)
+    next = ap (stay_after n) (append_assoc before (q ∷ []) r)

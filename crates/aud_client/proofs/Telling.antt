@@ -1,0 +1,151 @@
+-- What is known of a stay with one packet more.
+use Rattle.std.proofs.Common.{◌≡◌, ℕ, Bool, true, false, not, ◌&&◌, ◌||◌, cond, List, [], ◌∷◌, ◌++◌, refl, sym, ap, ◌∙◌, ◌⊎◌, inl, inr, Option, Some, None, is_some}
+use Rattle.std.specs.List.{list_any, filter_map, cons_option}
+use Rattle.std.specs.Option.{option_or, option_and_then}
+use Rattle.std.proofs.lemmas.Bool.{true≢false, false≢true, cases_Bool, not-true, and_parts}
+use Rattle.std.proofs.lemmas.List.{append-nil}
+use Rattle.std.proofs.lemmas.List.Elements.{filter_map-append}
+use Rattle.aud_tap.specs.declared.records.StreamRec.{StreamRec}
+use Rattle.aud_node.specs.Stream.{Text}
+use Rattle.aud_node.specs.TapPackets.{TapPacket, Received, Sent}
+use Rattle.aud_node.specs.Replies.{ReplySeen, told_by, value_of, is_connect as is_connect_kind}
+use Rattle.aud_client.specs.Stays.{namespace, is_connect, is_disconnect, is_reply, is_from_server, goes_on}
+use Rattle.aud_client.specs.Told.{AskedSeen, FrameSeen, StaySeen, told, reply_at, reply_of, before_reply, asked_by, ask_of, last_of, asked_of, frame_of, frames_of}
+use Rattle.aud_client.specs.Kept.{fresh, grown}
+
+-- ---- one packet
+
+bare : (b : Bool) → (b && true) ≡ b
+bare true = refl
+bare false = refl
+
+never : (b : Bool) → (b && false) ≡ false
+never true = refl
+never false = refl
+
+-- a packet that is no reply tells none
+pub no_reply_at : (p : TapPacket) → is_reply p ≡ false → reply_at p ≡ None
+no_reply_at (Sent packet) e = refl
+no_reply_at (Received whole) e =
+    ap (λ b. cond b (Some (told_by (value_of whole.packet.payload))) None) (sym (bare (is_connect_kind whole.packet.kind)) ∙ e)
+
+-- a reply tells one
+pub reply_at-some : (p : TapPacket) → is_reply p ≡ true → is_some (reply_at p) ≡ true
+reply_at-some (Sent packet) e = absurd (false≢true (sym (never (is_connect_kind packet.kind)) ∙ e))
+reply_at-some (Received whole) e =
+    ap (λ b. is_some (cond b (Some (told_by (value_of whole.packet.payload))) None)) (sym (bare (is_connect_kind whole.packet.kind)) ∙ e)
+
+-- a reply asks for nothing, nor does what is no CONNECT
+no_ask-reply : (p : TapPacket) → is_reply p ≡ true → ask_of p ≡ None
+no_ask-reply (Received whole) e = refl
+no_ask-reply (Sent packet) e = absurd (false≢true (sym (never (is_connect_kind packet.kind)) ∙ e))
+
+no_ask : (p : TapPacket) → is_connect p ≡ false → ask_of p ≡ None
+no_ask (Received whole) e = refl
+no_ask (Sent packet) e = go (is_connect_kind packet.kind) e
+  where
+    go : (b : Bool) → b ≡ false → cond b (option_and_then asked_by (value_of packet.payload)) None ≡ None
+    go true e = absurd (true≢false e)
+    go false e = refl
+
+-- ---- a stay, and one packet more
+
+same_told : (c : ℕ) (n : Text) (r u : Option ReplySeen) (a b : Option AskedSeen) (f g : List FrameSeen) → r ≡ u → a ≡ b → f ≡ g
+    → ◌≡◌ {A = StaySeen} (record { c = c; nsp = n; reply = r; asked = a; frames = f }) (record { c = c; nsp = n; reply = u; asked = b; frames = g })
+same_told c n r u a b f g q v w = λ i. record { c = c; nsp = n; reply = q i; asked = v i; frames = w i }
+
+or_none : {X : Type 0} (o : Option X) → option_or o None ≡ o
+or_none None = refl
+or_none (Some x) = refl
+
+last_of-more : (xs : List AskedSeen) (y : AskedSeen) → last_of (xs ++ y ∷ []) ≡ Some y
+last_of-more [] y = refl
+last_of-more (x ∷ []) y = refl
+last_of-more (x ∷ z ∷ zs) y = last_of-more (z ∷ zs) y
+
+-- of one packet alone
+pub reply_of-one : (p : TapPacket) → reply_of (p ∷ []) ≡ reply_at p
+reply_of-one p = go (is_reply p) refl
+  where
+    go : (b : Bool) → is_reply p ≡ b → cond b (reply_at p) None ≡ reply_at p
+    go true e = refl
+    go false e = sym (no_reply_at p e)
+
+pub has_reply : (s : List TapPacket) → is_some (reply_of s) ≡ list_any is_reply s
+has_reply [] = refl
+has_reply (x ∷ xs) = go (has_reply xs) (is_reply x) refl
+  where
+    go : is_some (reply_of xs) ≡ list_any is_reply xs → (b : Bool) → is_reply x ≡ b → is_some (cond b (reply_at x) (reply_of xs)) ≡ (b || list_any is_reply xs)
+    go ih true e = reply_at-some x e
+    go ih false e = ih
+
+pub replied : (s x : List TapPacket) → list_any is_reply s ≡ true → (reply_of (s ++ x) ≡ reply_of s) × (before_reply (s ++ x) ≡ before_reply s)
+replied [] x e = absurd (false≢true e)
+replied (y ∷ ys) x e = go (is_reply y) (replied ys x) e
+  where
+    go : (b : Bool) → (list_any is_reply ys ≡ true → (reply_of (ys ++ x) ≡ reply_of ys) × (before_reply (ys ++ x) ≡ before_reply ys)) → (b || list_any is_reply ys) ≡ true
+        → (cond b (reply_at y) (reply_of (ys ++ x)) ≡ cond b (reply_at y) (reply_of ys)) × (cond b [] (y ∷ before_reply (ys ++ x)) ≡ cond b [] (y ∷ before_reply ys))
+    go true ih e = (refl, refl)
+    go false ih e = let both = ih e in (both.0, ap (λ l. y ∷ l) both.1)
+
+pub unreplied : (s x : List TapPacket) → list_any is_reply s ≡ false → (reply_of (s ++ x) ≡ reply_of x) × (before_reply (s ++ x) ≡ s ++ before_reply x)
+unreplied [] x e = (refl, refl)
+unreplied (y ∷ ys) x e = go (is_reply y) (unreplied ys x) e
+  where
+    go : (b : Bool) → (list_any is_reply ys ≡ false → (reply_of (ys ++ x) ≡ reply_of x) × (before_reply (ys ++ x) ≡ ys ++ before_reply x)) → (b || list_any is_reply ys) ≡ false
+        → (cond b (reply_at y) (reply_of (ys ++ x)) ≡ reply_of x) × (cond b [] (y ∷ before_reply (ys ++ x)) ≡ y ∷ (ys ++ before_reply x))
+    go true ih e = absurd (true≢false e)
+    go false ih e = let both = ih e in (both.0, ap (λ l. y ∷ l) both.1)
+
+pub none_yet : (s : List TapPacket) → list_any is_reply s ≡ false → reply_of s ≡ None
+none_yet s none = sym (ap reply_of (append-nil s)) ∙ (unreplied s [] none).0
+
+asked-more : (s : List TapPacket) (p : TapPacket) (o : Option AskedSeen) → ask_of p ≡ o → last_of (filter_map ask_of (s ++ p ∷ [])) ≡ option_or o (last_of (filter_map ask_of s))
+asked-more s p None e = ap last_of (filter_map-append ask_of s (p ∷ []) ∙ ap (λ o. filter_map ask_of s ++ cons_option o []) e ∙ append-nil _)
+asked-more s p (Some x) e = ap last_of (filter_map-append ask_of s (p ∷ []) ∙ ap (λ o. filter_map ask_of s ++ cons_option o []) e) ∙ last_of-more (filter_map ask_of s) x
+
+-- a packet behind packets without a reply, itself in front of the reply or the reply
+asked-behind : (s : List TapPacket) (p : TapPacket) → last_of (filter_map ask_of (s ++ before_reply (p ∷ []))) ≡ option_or (ask_of p) (last_of (filter_map ask_of s))
+asked-behind s p = go (is_reply p) refl
+  where
+    go : (b : Bool) → is_reply p ≡ b → last_of (filter_map ask_of (s ++ cond b [] (p ∷ []))) ≡ option_or (ask_of p) (last_of (filter_map ask_of s))
+    go true e = ap (λ l. last_of (filter_map ask_of l)) (append-nil s) ∙ ap (λ o. option_or o (last_of (filter_map ask_of s))) (sym (no_ask-reply p e))
+    go false e = asked-more s p (ask_of p) refl
+
+pub told-first : (stream : List StreamRec) (c : ℕ) (p : TapPacket) → told stream c (p ∷ []) ≡ grown stream (fresh c (namespace p)) p
+told-first stream c p =
+    same_told c (namespace p) _ _ _ _ _ _ (reply_of-one p ∙ sym (or_none (reply_at p))) (asked-behind [] p) (filter_map-append (frame_of stream) [] (p ∷ []))
+
+-- after a reply no CONNECT goes on
+pub no_connect : (s : List TapPacket) (p : TapPacket) → goes_on s p ≡ true → list_any is_reply s ≡ true → is_connect p ≡ false
+no_connect [] p e some = absurd (false≢true e)
+no_connect (x ∷ xs) p e some =
+    sym (bare (is_connect p))
+    ∙ ap (λ b. is_connect p && b) (sym some)
+    ∙ not-true (is_connect p && list_any is_reply (x ∷ xs)) ((and_parts (not (list_any is_disconnect (x ∷ xs))) (not (is_connect p && list_any is_reply (x ∷ xs))) e).1)
+
+pub told-more : (stream : List StreamRec) (c : ℕ) (s : List TapPacket) (p : TapPacket) → goes_on s p ≡ true
+    → told stream c (s ++ p ∷ []) ≡ grown stream (told stream c s) p
+told-more stream c [] p e = absurd (false≢true e)
+told-more stream c (x ∷ xs) p e = same_told c (namespace x) _ _ _ _ _ _ (both (cases_Bool (list_any is_reply (x ∷ xs)))).0 (both (cases_Bool (list_any is_reply (x ∷ xs)))).1 (filter_map-append (frame_of stream) (x ∷ xs) (p ∷ []))
+  where
+    not_reply : list_any is_reply (x ∷ xs) ≡ true → is_reply p ≡ false
+    not_reply some = ap (λ b. b && is_from_server p) (no_connect (x ∷ xs) p e some)
+
+    all_before : list_any is_reply (x ∷ xs) ≡ false → before_reply (x ∷ xs) ≡ x ∷ xs
+    all_before none = sym (ap before_reply (append-nil (x ∷ xs))) ∙ (unreplied (x ∷ xs) [] none).1 ∙ append-nil (x ∷ xs)
+
+    both : (list_any is_reply (x ∷ xs) ≡ true) ⊎ (list_any is_reply (x ∷ xs) ≡ false)
+        → (reply_of (x ∷ xs ++ p ∷ []) ≡ option_or (reply_at p) (reply_of (x ∷ xs)))
+        × (asked_of (x ∷ xs ++ p ∷ []) ≡ option_or (ask_of p) (asked_of (x ∷ xs)))
+    both (inl some) = (
+      (replied (x ∷ xs) (p ∷ []) some).0 ∙ ap (λ o. option_or o (reply_of (x ∷ xs))) (sym (no_reply_at p (not_reply some))),
+      ap (λ l. last_of (filter_map ask_of l)) (replied (x ∷ xs) (p ∷ []) some).1
+          ∙ ap (λ o. option_or o (asked_of (x ∷ xs))) (sym (no_ask p (no_connect (x ∷ xs) p e some))),
+    )
+    both (inr none) = (
+      (unreplied (x ∷ xs) (p ∷ []) none).0 ∙ reply_of-one p ∙ sym (or_none (reply_at p)) ∙ ap (option_or (reply_at p)) (sym (none_yet (x ∷ xs) none)),
+      ap (λ l. last_of (filter_map ask_of l)) (unreplied (x ∷ xs) (p ∷ []) none).1
+          ∙ asked-behind (x ∷ xs) p
+          ∙ ap (λ l. option_or (ask_of p) (last_of (filter_map ask_of l))) (sym (all_before none)),
+    )

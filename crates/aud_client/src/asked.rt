@@ -1,0 +1,87 @@
+//! What a client asks to recover.
+ghost use Rattle.std.specs.Prelude.{◌≡◌, IfOk, string_bytes};
+ghost use Rattle.std.specs.Option.{option_copied, option_map, option_and_then};
+ghost use Rattle.serde_json.specs.Read.{read};
+ghost use Rattle.serde_json.specs.View.{view as data_of};
+ghost use Rattle.aud_tap.specs.Fields.{text_at};
+ghost use Rattle.aud_sio.specs.Packet.{view};
+ghost use Rattle.aud_client.specs.Told.{asked_in, asked_by};
+
+use aud_sio::{Packet, PacketKind};
+use aud_tap::Memory;
+use serde_json::{Category, Value};
+use std::alloc::Global;
+use std::marker::Model;
+
+/// The payload of a CONNECT by which a client asks for a session that it had (Socket.IO's documentation, "Connection
+/// state recovery").
+#[derive(Drop)]
+pub struct Asked {
+    /// Any text, also one that no session can have.
+    pub pid: String,
+    /// The offset of the last event that the client has seen; none where the payload has none, or no text.
+    pub offset: Option<String>,
+}
+
+impl Model for Asked {
+    ghost use Rattle.std.specs.Prelude.{string_bytes};
+    ghost use Rattle.std.specs.Option.{option_map};
+    ghost use Rattle.aud_client.specs.Told.{AskedSeen};
+
+    ghost Value = { AskedSeen };
+
+    ghost view = { λ a. record { pid = string_bytes a.pid; offset = option_map string_bytes a.offset } };
+}
+
+/// What a packet of the client asks for, if it is a CONNECT that does.
+pub(crate) fn asked_in(alloc: Global, packet: &Packet<'_>) -> Result<Option<Asked>, Memory>
+    ensures { IfOk result (λ asked. asked ≡ asked_in (view packet.now)) }
+{
+    match (packet.kind, packet.payload) {
+        (PacketKind::Connect, Some(payload)) => asked_by_text(alloc, payload),
+        _ => Ok(None),
+    }
+}
+
+/// What the payload asks for.
+fn asked_by_text(alloc: Global, payload: &str) -> Result<Option<Asked>, Memory>
+    ensures { IfOk result (λ asked. asked ≡ option_and_then asked_by (read payload.now)) }
+{
+    match Value::from_str(alloc, payload) {
+        Ok(json) => asked_by(alloc, &json),
+        Err(error) => match error.classify() {
+            Category::Memory => Err(Memory),
+            _ => Ok(None),
+        },
+    }
+}
+
+/// What the value asks for: an object with a text `pid` does.
+fn asked_by(alloc: Global, json: &Value) -> Result<Option<Asked>, Memory>
+    ensures { IfOk result (λ asked. asked ≡ asked_by (data_of json.now)) }
+{
+    let Some(pid) = text_at(json, "pid") else {
+        return Ok(None);
+    };
+    Ok(Some(Asked {
+        pid: String::from_str(alloc, pid)?,
+        offset: owned(alloc, text_at(json, "offset"))?,
+    }))
+}
+
+/// The text at the key of an object.
+fn text_at<'v>(json: &'v Value, key: &str) -> Option<&'v str>
+    ensures { option_copied result ≡ text_at key.now (data_of json.now) }
+{
+    json.get(key)?.as_str()
+}
+
+/// The text, in memory of its own.
+fn owned(alloc: Global, text: Option<&str>) -> Result<Option<String>, Memory>
+    ensures { IfOk result (λ own. option_map string_bytes own ≡ option_copied text.entry) }
+{
+    match text {
+        Some(text) => Ok(Some(String::from_str(alloc, text)?)),
+        None => Ok(None),
+    }
+}

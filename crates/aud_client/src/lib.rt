@@ -1,0 +1,20 @@
+//! What a client received: the stays of its connections, and the frames in them.
+//!
+//! Begin at [`received`], which goes through a tap's packets once.
+#![tactic(auto)]
+
+mod asked;
+mod frame;
+mod laws;
+mod stay;
+mod stays;
+mod tap;
+mod told;
+
+pub use asked::Asked;
+pub use aud_node::Reply;
+pub use frame::Frame;
+pub use laws::{named_by_replies, received_by_stays};
+pub use stay::Stay;
+pub use tap::received;
+pub use told::Received;

@@ -1,0 +1,106 @@
+//! A stay of a client in a namespace.
+ghost use Rattle.std.specs.Prelude.{◌≡◌, ◌++◌, List, [], OnOk};
+ghost use Rattle.std.specs.List.{cons_option};
+ghost use Rattle.aud_tap.specs.declared.records.StreamRec.{StreamRec};
+ghost use Rattle.aud_sio.specs.Packet.{view};
+ghost use Rattle.aud_sio.specs.Assembly.{whole_view};
+ghost use Rattle.aud_node.specs.TapPackets.{Received, Sent};
+ghost use Rattle.aud_node.specs.ConnectionRead.{packet_seen};
+ghost use Rattle.aud_client.specs.Kept.{fresh, grown};
+
+use crate::asked::{Asked, asked_in};
+use crate::frame::{Frame, frame_of};
+use aud_node::{Reply, Stream, TapPacket, reply_of};
+use aud_sio::{Packet, Whole};
+use aud_tap::Memory;
+use std::alloc::{AllocError, Global};
+use std::marker::Model;
+
+/// What the packets of one stay tell: one connection of a client to a namespace, from its first packet to a
+/// DISCONNECT, to the CONNECT that begins the next one, or to the end of the connection that carries it.
+#[derive(Drop)]
+pub struct Stay<'a> {
+    /// The number that the tap gave the connection.
+    pub c: u64,
+    pub nsp: &'a str,
+    /// The server's answer to the CONNECT, if it came.
+    pub reply: Option<Reply>,
+    /// What the last CONNECT before the reply asked for, of those that asked.
+    pub asked: Option<Asked>,
+    /// The events of the stream that came, before the reply or behind it, in the order in which they were whole.
+    pub frames: Vec<Frame<'a>>,
+}
+
+impl<'a> Model for Stay<'a> {
+    ghost use Rattle.aud_client.specs.Told.{StaySeen};
+
+    ghost Value = { StaySeen };
+
+    ghost view = { λ s. record { c = s.c; nsp = s.nsp.now; reply = s.reply; asked = s.asked; frames = s.frames.items } };
+}
+
+impl<'a> Stay<'a> {
+    /// A stay without packets.
+    pub(crate) fn new(alloc: Global, c: u64, nsp: &'a str) -> Stay<'a>
+        ensures { result ≡ fresh c nsp.now }
+    {
+        Stay {
+            c,
+            nsp,
+            reply: None,
+            asked: None,
+            frames: Vec::new(alloc),
+        }
+    }
+
+    /// One packet more.
+    pub(crate) fn add(
+        &mut self,
+        alloc: Global,
+        stream: &Stream<'_>,
+        packet: &'a TapPacket<'a>,
+    ) -> Result<(), Memory>
+        ensures { OnOk result (self.new ≡ grown stream.now self.old (packet_seen packet.now)) }
+    {
+        match packet {
+            TapPacket::Received(whole) => self.receive(alloc, stream, whole),
+            TapPacket::Sent(packet) => self.ask(alloc, packet),
+        }
+    }
+
+    /// A packet of the server.
+    fn receive(
+        &mut self,
+        alloc: Global,
+        stream: &Stream<'_>,
+        whole: &'a Whole<'a>,
+    ) -> Result<(), Memory>
+        ensures { OnOk result (self.new ≡ grown stream.now self.old (Received (whole_view whole.now))) }
+    {
+        if let Some(reply) = reply_of(alloc, whole)? {
+            self.reply = Some(reply);
+        }
+        self.keep(frame_of(stream, whole))?;
+        Ok(())
+    }
+
+    /// The frame, if there is one, comes behind the others.
+    fn keep(&mut self, frame: Option<Frame<'a>>) -> Result<(), AllocError>
+        ensures { OnOk result (self.new ≡ record self.old { frames = self.old.frames ++ cons_option frame.entry [] }) }
+    {
+        if let Some(frame) = frame {
+            self.frames.push(frame)?;
+        }
+        Ok(())
+    }
+
+    /// A packet of the client.
+    fn ask(&mut self, alloc: Global, packet: &Packet<'_>) -> Result<(), Memory>
+        ensures { (stream : List StreamRec) → OnOk result (self.new ≡ grown stream self.old (Sent (view packet.now))) }
+    {
+        if let Some(asked) = asked_in(alloc, packet)? {
+            self.asked = Some(asked);
+        }
+        Ok(())
+    }
+}

@@ -1,0 +1,202 @@
+//! The stays of a tap, as its packets come.
+ghost use Rattle.std.specs.Prelude.{◌≡◌, ℕ, ◌++◌, ◌∷◌, List, [], OnOk, length, Some, None, if◌then◌else◌, slice_get, set};
+ghost use Rattle.std.specs.Str.{bytes_eq};
+ghost use Rattle.std.specs.Option.{option_and_then};
+ghost use Rattle.aud_tap.specs.declared.records.StreamRec.{StreamRec};
+ghost use Rattle.aud_node.specs.TapPackets.{TapPacket as TapPacketSeen};
+ghost use Rattle.aud_node.specs.ClientRead.{connection_seen};
+ghost use Rattle.aud_node.specs.ConnectionRead.{packet_seen};
+ghost use Rattle.aud_client.specs.Stays.{is_connect, is_disconnect, namespace, packet_in};
+ghost use Rattle.aud_sio.specs.Packet.{view};
+ghost use Rattle.aud_client.specs.Told.{StaySeen};
+ghost use Rattle.aud_client.specs.Received.{stays_of};
+ghost use Rattle.aud_client.specs.Kept.{Keeps, open_at, place_for, unless_replied, fresh, grown};
+
+use crate::stay::Stay;
+use aud_node::{Connection, Stream, TapPacket};
+use aud_sio::{Packet, PacketKind};
+use aud_tap::Memory;
+use std::alloc::{AllocError, Global};
+use std::collections::BTreeMap;
+
+/// The stays so far, and for each namespace of the connection the place of the stay that goes on.
+#[derive(Drop)]
+pub struct Stays<'a> {
+    alloc: Global,
+    /// The stays in the order of their first packets.
+    pub stays: Vec<Stay<'a>>,
+    open: BTreeMap<&'a str, usize>,
+}
+
+impl<'a> Stays<'a> {
+    /// No stay.
+    pub fn new(alloc: Global) -> Stays<'a>
+        ensures { result.stays.items ≡ [] }
+    {
+        Stays {
+            alloc,
+            stays: Vec::new(alloc),
+            open: BTreeMap::new(alloc),
+        }
+    }
+
+    /// The tap's next connection, all of it.
+    pub fn connection(
+        &mut self,
+        stream: &Stream<'_>,
+        connection: &'a Connection<'a>,
+    ) -> Result<(), Memory>
+        ensures { OnOk result (self.new.stays.items ≡ self.old.stays.items ++ stays_of stream.now (connection_seen connection.now)) }
+    {
+        self.begin_connection();
+        for placed in connection.packets.as_slice() {
+            self.take(stream, connection.c, &placed.packet)?;
+        }
+        Ok(())
+    }
+
+    /// No stay goes on.
+    fn begin_connection(&mut self)
+        ensures { (stream : List StreamRec) (c : ℕ) → Keeps stream c self.new self.old.stays.items [] }
+    {
+        self.open.clear();
+    }
+
+    /// The next packet of the connection with this number.
+    fn take(
+        &mut self,
+        stream: &Stream<'_>,
+        c: u64,
+        packet: &'a TapPacket<'a>,
+    ) -> Result<(), Memory>
+        ensures { (done : List StaySeen) (packets : List TapPacketSeen) → Keeps stream.now c self.old done packets → OnOk result (Keeps stream.now c self.new done (packets ++ packet_seen packet.now ∷ [])) }
+    {
+        match self.place_for(packet) {
+            Some(place) => self.go_on(stream, place, packet),
+            None => self.begin(stream, c, packet),
+        }
+    }
+
+    /// The place of the stay that the packet goes on with.
+    fn place_for(&self, packet: &TapPacket<'_>) -> Option<usize>
+        ensures { result ≡ place_for self.now (packet_seen packet.now) }
+    {
+        match self.open.get(namespace(packet)) {
+            Some(place) => self.unless_replied(*place, packet),
+            None => None,
+        }
+    }
+
+    /// The place, unless the packet is a CONNECT and the stay there has a reply.
+    fn unless_replied(&self, place: usize, packet: &TapPacket<'_>) -> Option<usize>
+        ensures { result ≡ option_and_then (unless_replied (packet_seen packet.now) place) (slice_get self.now.stays.items place) }
+    {
+        match self.stays.get(place) {
+            Some(stay) => {
+                if is_connect(packet) && stay.reply.is_some() {
+                    None
+                } else {
+                    Some(place)
+                }
+            }
+            None => None,
+        }
+    }
+
+    /// The packet begins a stay.
+    fn begin(
+        &mut self,
+        stream: &Stream<'_>,
+        c: u64,
+        packet: &'a TapPacket<'a>,
+    ) -> Result<(), Memory>
+        ensures stays { OnOk result (self.new.stays.items ≡ self.old.stays.items ++ grown stream.now (fresh c (namespace (packet_seen packet.now))) (packet_seen packet.now) ∷ []) }
+        ensures open { OnOk result ((n : List ℕ) → open_at self.new n ≡ (if bytes_eq (namespace (packet_seen packet.now)) n then (if is_disconnect (packet_seen packet.now) then None else Some (length self.old.stays.items)) else open_at self.old n)) }
+    {
+        let mut stay = Stay::new(self.alloc, c, namespace(packet));
+        stay.add(self.alloc, stream, packet)?;
+        let place = self.stays.len();
+        match self.stays.push(stay) {
+            Ok(()) => Ok(self.mark(packet, place)?),
+            Err(_) => Err(Memory),
+        }
+    }
+
+    /// The stay at the place goes on in the packet's namespace, unless the packet ends it.
+    fn mark(&mut self, packet: &'a TapPacket<'a>, place: usize) -> Result<(), AllocError>
+        ensures stays { self.new.stays.items ≡ self.old.stays.items }
+        ensures open { OnOk result ((n : List ℕ) → open_at self.new n ≡ (if bytes_eq (namespace (packet_seen packet.now)) n then (if is_disconnect (packet_seen packet.now) then None else Some place) else open_at self.old n)) }
+    {
+        let nsp = namespace(packet);
+        if is_disconnect(packet) {
+            self.open.remove(nsp);
+        } else {
+            self.open.insert(nsp, place)?;
+        }
+        Ok(())
+    }
+
+    /// The packet goes on with the stay at the place.
+    fn go_on(
+        &mut self,
+        stream: &Stream<'_>,
+        place: usize,
+        packet: &'a TapPacket<'a>,
+    ) -> Result<(), Memory>
+        ensures stays { (t : StaySeen) → slice_get self.old.stays.items place ≡ Some t → OnOk result (self.new.stays.items ≡ set self.old.stays.items place (grown stream.now t (packet_seen packet.now))) }
+        ensures open { OnOk result ((n : List ℕ) → open_at self.new n ≡ (if bytes_eq (namespace (packet_seen packet.now)) n then (if is_disconnect (packet_seen packet.now) then None else open_at self.old n) else open_at self.old n)) }
+    {
+        self.grow(stream, place, packet)?;
+        if is_disconnect(packet) {
+            self.open.remove(namespace(packet));
+        }
+        Ok(())
+    }
+
+    /// The stay at the place has the packet too.
+    fn grow(
+        &mut self,
+        stream: &Stream<'_>,
+        place: usize,
+        packet: &'a TapPacket<'a>,
+    ) -> Result<(), Memory>
+        ensures stays { (t : StaySeen) → slice_get self.old.stays.items place ≡ Some t → OnOk result (self.new.stays.items ≡ set self.old.stays.items place (grown stream.now t (packet_seen packet.now))) }
+        ensures open { (n : List ℕ) → open_at self.new n ≡ open_at self.old n }
+    {
+        match self.stays.get_mut(place) {
+            Some(stay) => stay.add(self.alloc, stream, packet),
+            None => Ok(()),
+        }
+    }
+}
+
+/// The packet itself, without its attachments and its way.
+fn packet_in<'a, 'b>(packet: &'b TapPacket<'a>) -> &'b Packet<'a>
+    ensures { view result.now ≡ packet_in (packet_seen packet.now) }
+{
+    match packet {
+        TapPacket::Received(whole) => &whole.packet,
+        TapPacket::Sent(packet) => packet,
+    }
+}
+
+/// The packet's namespace, lent from the tap's records.
+fn namespace<'a>(packet: &TapPacket<'a>) -> &'a str
+    ensures { result.now ≡ namespace (packet_seen packet.now) }
+{
+    packet_in(packet).nsp
+}
+
+/// Whether the packet is a CONNECT, in either direction.
+fn is_connect(packet: &TapPacket<'_>) -> bool
+    ensures { result ≡ is_connect (packet_seen packet.now) }
+{
+    matches!(packet_in(packet).kind, PacketKind::Connect)
+}
+
+/// Whether the packet is a DISCONNECT, in either direction.
+fn is_disconnect(packet: &TapPacket<'_>) -> bool
+    ensures { result ≡ is_disconnect (packet_seen packet.now) }
+{
+    matches!(packet_in(packet).kind, PacketKind::Disconnect)
+}
