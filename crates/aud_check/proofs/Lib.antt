@@ -6,3 +6,10 @@ pub mod OwnEnd
 pub mod TurnRefusals
 pub mod Covered
 pub mod Ordered
+pub mod Walk
+pub mod WalkTurns
+pub mod Accepted
+pub mod Cuts
+pub mod Ranks
+pub mod Ascending
+pub mod Headline

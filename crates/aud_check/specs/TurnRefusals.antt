@@ -9,8 +9,7 @@ use Rattle.aud_node.specs.Cluster.{Cluster}
 use Rattle.aud_node.specs.TurnRecords.{begins_turn}
 use Rattle.aud_rooms.specs.Turns.{End, turn_end, MayEnd}
 use Rattle.aud_cert.specs.Certificate.{TurnSeen, turn_at, log_named}
-use Rattle.aud_cert.specs.declared.fault.Fault.{Fault}
-use Rattle.aud_cert.specs.declared.fault.Fault.TheVariants.{Frame, Orphan, Content, Extra, Doubled, Swapped, Lost, Window}
+use Rattle.aud_check.specs.Faults.{fault_rank}
 use Rattle.aud_check.specs.declared.refusal.Refusal.{Refusal}
 use Rattle.aud_check.specs.declared.refusal.Refusal.TheVariants.{NotItsTurn, EndInside, NoEnd, Cursor, Span, Names, Received, Memory}
 
@@ -57,18 +56,6 @@ AreTurnsAccepted c pid turns = (k : ℕ) (t : TurnSeen) → slice_get turns k �
 
 -- ---- the order
 
--- the order of the faults that a received list can have
-abbrev pub fault_rank : Fault → ℕ
-fault_rank Frame = 0
-fault_rank Orphan = 1
-fault_rank (Content off) = 2
-fault_rank (Extra off) = 3
-fault_rank (Doubled off) = 3
-fault_rank (Swapped off) = 3
-fault_rank (Lost off) = 3
-fault_rank (Window connection) = 4
-fault_rank _ = 5
-
 -- the order of the refusals at one place
 abbrev pub refusal_rank : Refusal → ℕ
 refusal_rank NotItsTurn = 0
@@ -84,3 +71,11 @@ refusal_rank Memory = 8
 pub record IsFirstOfTurn (c : Cluster) (pid : Text) (k : ℕ) (t : TurnSeen) (later : List TurnSeen) (refusal : Refusal) : Type 0 where
   pub refuses : RefusesTurn c pid k t later refusal
   pub none_before : (other : Refusal) → refusal_rank other < refusal_rank refusal → RefusesTurn c pid k t later other → ⊥
+
+-- of all that refuses the turns this is the first: the turns in front are accepted
+pub record IsFirstOfTurns (c : Cluster) (pid : Text) (turns : List TurnSeen) (refusal : Refusal) : Type 0 where
+  pub number : ℕ
+  pub turn : TurnSeen
+  pub stands : slice_get turns number ≡ Some turn
+  pub is_first : IsFirstOfTurn c pid number turn (drop (suc number) turns) refusal
+  pub accepted : (k : ℕ) (t : TurnSeen) → k < number → slice_get turns k ≡ Some t → IsTurnAccepted c pid k t (drop (suc k) turns)

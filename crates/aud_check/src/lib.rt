@@ -2,10 +2,17 @@
 #![tactic(auto)]
 
 mod compare;
+mod content;
+mod due;
 mod own;
+mod received;
 mod refusal;
+mod session;
+mod spans;
+mod stays;
 mod turn;
 mod turn_end;
+mod window;
 
 pub use compare::{Mismatch, first_mismatch};
 pub use refusal::Refusal;

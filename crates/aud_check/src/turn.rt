@@ -1,5 +1,6 @@
 //! One turn of a certificate against the logs.
 ghost use Rattle.std.specs.Prelude.{◌≡◌, ◌↔◌, ◌<◌, ◌≤◌, IfErr, IsTrue, OnOk, length, map, suc};
+ghost use Rattle.std.specs.List.{All};
 ghost use Rattle.std.specs.Option.{option_copied};
 ghost use Rattle.aud_node.specs.Cluster.{Cluster};
 ghost use Rattle.aud_node.specs.Cursors.{cursor_at};
@@ -7,13 +8,30 @@ ghost use Rattle.aud_rooms.specs.Turns.{MayEnd};
 ghost use Rattle.aud_cert.specs.Certificate.{IsTurnOver, log_named, turn_at};
 ghost use Rattle.aud_check.specs.Named.{node_named};
 ghost use Rattle.aud_check.specs.TurnEnd.{end_seen};
-ghost use Rattle.aud_check.specs.TurnRefusals.{HasCursors, IsFirstOfTurn, IsTurnAccepted, is_begun_by};
+ghost use Rattle.aud_check.specs.TurnRefusals.{AreTurnsAccepted, HasCursors, IsFirstOfTurn, IsFirstOfTurns, IsTurnAccepted, is_begun_by};
 
 use crate::refusal::Refusal;
 use crate::turn_end::{End, turn_end};
 use aud_cert::Turn;
 use aud_node::{Logs, NodeLog};
 use aud_tap::NodeRec;
+
+/// Whether the turns are the session's, turn 0 first. The first refusal that holds is answered: the turns are looked at
+/// one after the other.
+pub(crate) fn check_turns(logs: &Logs<'_>, pid: &str, turns: &[Turn<'_>]) -> Result<(), Refusal>
+    requires { All (IsTurnOver logs.now) turns.now }
+    ensures accepted { OnOk result (AreTurnsAccepted logs.now pid.now turns.now) }
+    ensures refused { IfErr result (IsFirstOfTurns logs.now pid.now turns.now) }
+{
+    for (number, turn) in turns.iter().enumerate() {
+        let (_, later) = turns.split_at(number + 1);
+        match check_turn(logs, pid, number, turn, later) {
+            Ok(()) => {}
+            Err(refusal) => return Err(refusal),
+        }
+    }
+    Ok(())
+}
 
 /// Whether the turn is the session's with this number, and stands before these: its records begin and end it, the node
 /// is ordered, and the cursors are the node's. The first refusal that holds is answered.
