@@ -13,3 +13,4 @@ pub mod Cuts
 pub mod Ranks
 pub mod Ascending
 pub mod Headline
+pub mod Builders

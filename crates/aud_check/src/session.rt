@@ -8,7 +8,7 @@ use aud_tap::NodeRec;
 use std::marker::Model;
 
 /// The session that a certificate shows, as its `open` names it; lent.
-#[derive(Clone, Copy, Drop)]
+#[derive(Drop)]
 pub(crate) struct Session<'s> {
     pub(crate) pid: &'s str,
     pub(crate) sid: &'s str,
