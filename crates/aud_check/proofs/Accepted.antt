@@ -135,21 +135,21 @@ later_turns c who k (t ∷ later) over (is, others) =
       later_turns c who (suc k) later (All-tail (IsTurnOver c) t later over) others,
     )
 
+-- the session that turns name
+abbrev pub who_in : Text → List TurnSeen → Who
+who_in pid turns = record { pid = pid; sid = opened_sid (first_record turns); nsp = opened_nsp (first_record turns) }
+
+turns_named : (c : Cluster) (pid : Text) (turns : List TurnSeen) → All (IsTurnOver c) turns → AcceptedFrom c pid 0 turns → AreTurns c (who_in pid turns) 0 (map (turn_at c) turns)
+turns_named c pid [] over all = tt
+turns_named c pid (t ∷ later) over (is, others) =
+    let here = All-head (IsTurnOver c) t later over in
+    let opened = opens pid (first c pid 0 t later here is).0 (begins c pid 0 t later here is) in
+    let same = first_of_recs c pid 0 t later here is in
+    let begun = opened ∙ ap (λ o. Opened pid (opened_sid o) (opened_nsp o)) (sym same) in (
+      is_turn c pid 0 t later here is (who_in pid (t ∷ later)) refl begun,
+      later_turns c (who_in pid (t ∷ later)) 0 later (All-tail (IsTurnOver c) t later over) others,
+    )
+
 -- the turns of an accepted certificate
 pub are_turns : (c : Cluster) (cert : CertificateSeen) → All (IsTurnOver c) cert.turns → AcceptedFrom c cert.pid 0 cert.turns → AreTurns c (who_of cert) 0 (map (turn_at c) cert.turns)
-are_turns c cert over all = go cert.turns over all
-  where
-    named : List TurnSeen → Who
-    named turns = record { pid = cert.pid; sid = opened_sid (first_record turns); nsp = opened_nsp (first_record turns) }
-
-    go : (turns : List TurnSeen) → All (IsTurnOver c) turns → AcceptedFrom c cert.pid 0 turns → AreTurns c (named turns) 0 (map (turn_at c) turns)
-    unfolding named
-    go [] over all = tt
-    go (t ∷ later) over (is, others) =
-        let here = All-head (IsTurnOver c) t later over in
-        let opened = opens cert.pid (first c cert.pid 0 t later here is).0 (begins c cert.pid 0 t later here is) in
-        let same = first_of_recs c cert.pid 0 t later here is in
-        let begun = opened ∙ ap (λ o. Opened cert.pid (opened_sid o) (opened_nsp o)) (sym same) in (
-          is_turn c cert.pid 0 t later here is (named (t ∷ later)) refl begun,
-          later_turns c (named (t ∷ later)) 0 later (All-tail (IsTurnOver c) t later over) others,
-        )
+are_turns c cert over all = turns_named c cert.pid cert.turns over all

@@ -14,3 +14,6 @@ pub mod Ranks
 pub mod Ascending
 pub mod Headline
 pub mod Builders
+pub mod Steps
+pub mod Windows
+pub mod FirstFault

@@ -44,6 +44,7 @@ module _ (c : Cluster) (cert : CertificateSeen) where
           → RefusesTurn c cert.pid k t (drop (suc k) cert.turns) other → (k < is.number) ⊎ (is.number ≤ k) → ⊥
       at_turn k other before t at h (inl less) = not_refused c cert.pid k t (drop (suc k) cert.turns) (is.accepted k t less at) other h
       at_turn k other before t at h (inr more) =
+          let four = own in
           let same : k ≡ is.number = omega arith in
           let turn : t ≡ is.turn = same_Some t is.turn (sym at ∙ ap (slice_get cert.turns) same ∙ is.stands) in
           is.is_first.none_before other (omega arith)
@@ -53,6 +54,7 @@ module _ (c : Cluster) (cert : CertificateSeen) where
       go (AtTurn k) other before (t, at, h) = at_turn k other before t at h (cases_lt k is.number)
       go AtWhole other before h =
           let within = slice_get_within cert.turns is.number is.turn is.stands in
+          let four = own in
           omega arith
 
   -- where the turns are accepted, the first that refuses the whole is the first of all
@@ -70,13 +72,13 @@ entry_of : (stream : List StreamRec) (before : List FrameSeen) (altered : FrameS
 entry_of stream [] altered behind (is, rest) = is
 entry_of stream (frame ∷ before) altered behind (is, rest) = entry_of stream before altered behind rest
 
-no_altered : (stream : List StreamRec) (frames : List FrameSeen) (altered : FrameSeen) → AreEntries stream frames → IsFirstAltered stream frames altered → ⊥
+pub no_altered : (stream : List StreamRec) (frames : List FrameSeen) (altered : FrameSeen) → AreEntries stream frames → IsFirstAltered stream frames altered → ⊥
 no_altered stream frames altered are is = is.is_altered (entry_of stream is.before altered is.behind (subst (AreEntries stream) is.parts are))
 
 pub no_mismatch : (case : Case) → mismatch (positions_in case) case.due ≡ None → (f : Fault) → mismatch_fault case ≡ Some f → ⊥
 no_mismatch case none f h = none-some f (sym (ap (option_map (fault_of case.stream)) none) ∙ h)
 
-some_or_none : {A : Type 0} (o : Option A) → o ≡ None → IsSome o → ⊥
+pub some_or_none : {A : Type 0} (o : Option A) → o ≡ None → IsSome o → ⊥
 some_or_none None e h = true≢false (sym h)
 some_or_none (Some x) e h = none-some x (sym e)
 

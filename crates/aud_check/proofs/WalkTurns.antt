@@ -163,7 +163,7 @@ module _ (c : Cluster) (pid : Text) where
 
 -- the spans that a builder makes of the turns are those of the turns
 module _ (c : Cluster) (who : Who) (t : TurnSeen) (later : List TurnSeen) (stand : AllStand c who.pid (t ∷ later)) where
-  begun : Assigned
+  abbrev begun : Assigned
   begun = starting who.sid t.low
 
   all : PassesAll c who.pid (t ∷ later) begun (turns_walked c who.pid (t ∷ later) begun)

@@ -35,6 +35,11 @@ who_of cert =
 abbrev pub slices_at : Cluster → List TurnSeen → List Slice
 slices_at c turns = map (slice_of c) (map (turn_at c) turns)
 
+-- the position that turns show to start from
+abbrev pub shown_low : List TurnSeen → ℕ
+shown_low [] = 0
+shown_low (t ∷ later) = t.low
+
 -- the greatest position that turns show
 abbrev pub shown_high : List TurnSeen → ℕ
 shown_high [] = 0

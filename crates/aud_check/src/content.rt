@@ -46,9 +46,16 @@ fn are_blobs(blobs: &[Blob<'_>], bytes: &[Bytes]) -> bool
         return false;
     }
     for (i, blob) in blobs.iter().enumerate() {
-        if blob.as_slice() != bytes[i].as_slice() {
+        if !is_blob(blob, &bytes[i]) {
             return false;
         }
     }
     true
+}
+
+/// Whether the attachment is these bytes.
+fn is_blob(blob: &Blob<'_>, bytes: &Bytes) -> bool
+    ensures { IsTrue result ↔ (bytes_of (blob_view blob.now) ≡ bytes.now) }
+{
+    blob.as_slice() == bytes.as_slice()
 }

@@ -2,7 +2,7 @@
 ghost use Rattle.std.specs.Prelude.{◌≡◌, ◌<◌, IfOk, length};
 ghost use Rattle.aud_rooms.specs.Spans.{AreSpansOfTurns};
 ghost use Rattle.aud_rooms.specs.TurnsDue.{turns_due};
-ghost use Rattle.aud_check.specs.Shown.{shown_high, slices_at};
+ghost use Rattle.aud_check.specs.Shown.{shown_high, shown_low, slices_at};
 ghost use Rattle.aud_check.specs.TurnRefusals.{AreTurnsAccepted};
 
 use crate::session::Session;
@@ -26,9 +26,19 @@ pub(crate) fn due_by_turns(
     ensures { IfOk result (λ due. due.items ≡ turns_due logs.now.stream session.now (slices_at logs.now turns.now)) }
 {
     due_by_spans_of_turns();
-    let birth = turns[0].low;
+    let birth = first_low(turns);
     let high = greatest_high(turns);
     due_of(alloc, spans, logs.stream(), session.nsp, birth, high)
+}
+
+/// The position that the first turn starts from.
+pub(crate) fn first_low(turns: &[Turn<'_>]) -> u64
+    ensures { result ≡ shown_low turns.now }
+{
+    match turns.first() {
+        Some(turn) => turn.low,
+        None => 0,
+    }
 }
 
 /// The greatest position that the turns reach.

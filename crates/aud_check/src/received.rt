@@ -68,11 +68,17 @@ fn positions_of(alloc: Global, frames: &[&Frame<'_>]) -> Result<Vec<u64>, Memory
 {
     let mut positions = Vec::new(alloc);
     for frame in frames {
-        let Ok(()) = positions.push(frame.position) else {
+        let Ok(()) = positions.push(position_of(*frame)) else {
             return Err(Memory);
         };
     }
     Ok(positions)
+}
+
+fn position_of(frame: &Frame<'_>) -> u64
+    ensures { result ≡ frame.now.position }
+{
+    frame.position
 }
 
 /// The fault that the frame at the position isn't its entry.

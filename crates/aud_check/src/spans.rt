@@ -8,6 +8,7 @@ ghost use Rattle.aud_check.specs.Shown.{slices_at};
 ghost use Rattle.aud_check.specs.TurnRefusals.{AreTurnsAccepted};
 ghost use Rattle.aud_check.specs.Walked.{IsWithin, changed_by, past_record, turn_walked, turns_walked};
 
+use crate::due::first_low;
 use crate::own::own_between;
 use crate::session::Session;
 use crate::turn::{cursor_after, node_named};
@@ -32,7 +33,7 @@ pub(crate) fn are_spans<'s>(
 {
     spans_are_unique();
     spans_go_by_positions();
-    let mut builder = SpanBuilder::new(alloc, session.sid, turns[0].low)?;
+    let mut builder = SpanBuilder::new(alloc, session.sid, first_low(turns))?;
     walk_turns(&mut builder, logs, session.pid, turns)?;
     let built = builder.finish()?;
     Ok(are_same(built.as_slice(), spans))
@@ -68,7 +69,8 @@ fn walk_turn<'s>(
     requires within { turn.now.to ≤ length log.now.recs }
     ensures { OnOk result (builder.new ≡ option_map (turn_walked log.now.stream log.now.recs pid.now turn.now) builder.old) }
 {
-    let own = own_between(log, pid, turn.from as usize + 1, turn.to as usize);
+    let to = turn.to as usize;
+    let own = own_between(log, pid, turn.from as usize + 1, to);
     for number in own {
         pass_record(builder, log, pid, *number)?;
     }

@@ -1,5 +1,6 @@
 //! The stays whose reply names a session.
 ghost use Rattle.std.specs.Prelude.{◌≡◌, ◌++◌, IfOk, OnOk, map};
+ghost use Rattle.std.specs.List.{list_all};
 ghost use Rattle.aud_client.specs.Received.{is_recovered, names, stays_naming};
 ghost use Rattle.aud_check.specs.NamedStays.{are_of_session, has_sid, is_of_session};
 ghost use Rattle.aud_check.specs.Frames.{frames_in};
@@ -55,7 +56,16 @@ pub(crate) fn is_recovered(stay: &Stay<'_>) -> bool
 pub(crate) fn are_of_session(session: &Session<'_>, stays: &[&Stay<'_>]) -> bool
     ensures { result ≡ are_of_session session.now (map (λ stay. stay.now) stays.now) }
 {
-    !stays.is_empty() && stays.iter().all(|stay| is_of_session(session, *stay))
+    if stays.is_empty() {
+        return false;
+    }
+    all_are_of_session(session, stays)
+}
+
+fn all_are_of_session(session: &Session<'_>, stays: &[&Stay<'_>]) -> bool
+    ensures { result ≡ list_all (λ stay. is_of_session session.now stay.now) stays.now }
+{
+    stays.iter().all(|stay| is_of_session(session, *stay))
 }
 
 /// Whether the stay is of the session's namespace, and its reply has the session's sid.

@@ -1,6 +1,7 @@
 //! What a client asked for when it came back.
-ghost use Rattle.std.specs.Prelude.{◌≡◌, ◌≤◌, [], length, map};
+ghost use Rattle.std.specs.Prelude.{◌≡◌, ◌≤◌, ◌&&◌, [], length, map, not};
 ghost use Rattle.aud_client.specs.Told.{FrameSeen};
+ghost use Rattle.aud_client.specs.Received.{is_recovered};
 ghost use Rattle.aud_check.specs.Ascending.{IsAscending, is_cut, is_cut_or_not};
 ghost use Rattle.aud_check.specs.Frames.{asked_position, frames_in, wrong_window};
 
@@ -23,12 +24,29 @@ pub(crate) fn wrong_window(
     let mut count = 0;
     for stay in stays {
         let stay: &Stay<'_> = *stay;
-        if is_recovered(stay) && !is_asked_between(stream, &stay.asked, positions, count) {
+        if is_asked_wrongly(stream, stay, positions, count) {
             return Some(stay.c);
         }
         count += stay.frames.len();
     }
     None
+}
+
+/// Whether the stay is recovered, and its client asked for no position that lies behind so many and before the others.
+fn is_asked_wrongly(
+    stream: &Stream<'_>,
+    stay: &Stay<'_>,
+    positions: &[u64],
+    count: usize,
+) -> bool
+    requires within { count ≤ length positions.now }
+    requires ascending { IsAscending positions.now }
+    ensures { result ≡ (is_recovered stay.now && not (is_cut_or_not positions.now count (asked_position stream.now stay.now.asked))) }
+{
+    if !is_recovered(stay) {
+        return false;
+    }
+    !is_asked_between(stream, &stay.asked, positions, count)
 }
 
 /// Whether the position that was asked for is known, and lies behind so many positions and before the others.

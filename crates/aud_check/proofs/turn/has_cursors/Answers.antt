@@ -19,4 +19,4 @@ returns c =
     let Some : TurnSeen → Type 0 = λ t. t.from < t.to in
     let some = subst Some (sym c.turn.view_is) c.requires.some in
     let both = subst P c.turn.view_is (cursors_by log.stream log.recs seen c.cursor_after.result c.cursor_after-2.result (sym c.ordered.ensures ∙ c.if-not-ordered.false) c.if-cursor_after-turn.false c.cursor_after.ensures c.cursor_after-2.ensures some) in
-    ?
+    both
