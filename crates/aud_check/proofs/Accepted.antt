@@ -1,5 +1,5 @@
 -- Accepted turns are turns of the session.
-use Rattle.std.proofs.Common.{◌≡◌, ◌<◌, ◌≤◌, ◌+◌, ◌-◌, ℕ, zero, suc, Bool, true, false, ◌&&◌, List, [], ◌∷◌, map, length, take, drop, Option, Some, None, slice_get, nat_eq, refl, sym, ap, subst, ◌∙◌, arith, true≢false}
+use Rattle.std.proofs.Common.{◌≡◌, ◌<◌, ◌≤◌, ◌+◌, ◌-◌, ℕ, zero, suc, Bool, true, false, ◌&&◌, List, [], ◌∷◌, map, max, length, take, drop, Option, Some, None, slice_get, nat_eq, refl, sym, ap, subst, ◌∙◌, arith, true≢false}
 use Rattle.std.specs.List.{All}
 use Rattle.std.specs.Str.{bytes_eq}
 use Rattle.std.specs.Cmp.Lexicographic.{bytes_decides}
@@ -11,9 +11,11 @@ use Rattle.aud_node.specs.Lists.{between}
 use Rattle.aud_node.specs.Stream.{Text}
 use Rattle.aud_node.specs.Cluster.{Cluster, node_log}
 use Rattle.aud_node.specs.TurnRecords.{begins_turn}
-use Rattle.aud_rooms.specs.Turns.{Who, IsTurn, AreTurns, beginning, turn_end}
+use Rattle.aud_rooms.specs.Turns.{Who, IsTurn, AreTurns, beginning, turn_end, slice_of}
 use Rattle.aud_cert.specs.Certificate.{TurnSeen, CertificateSeen, IsTurnOver, turn_at, log_named}
-use Rattle.aud_check.specs.Shown.{opened_sid, opened_nsp, first_record, who_of}
+use Rattle.aud_rooms.specs.TurnsDue.{greatest_high}
+use Rattle.aud_rooms.specs.Spans.{first_low}
+use Rattle.aud_check.specs.Shown.{opened_sid, opened_nsp, first_record, who_in, who_of, shown_low, shown_high, slices_at}
 use Rattle.aud_check.specs.TurnRefusals.{is_begun_by, IsTurnAccepted, AreTurnsAccepted}
 use Rattle.aud_check.specs.Walked.{IsWithin}
 use Rattle.aud_check.proofs.Slices.{within_at, between-more}
@@ -56,17 +58,18 @@ module _ (c : Cluster) (pid : Text) (k : ℕ) (t : TurnSeen) (later : List TurnS
   some_recs = begun-some pid k t.recs is.begins
 
   pub below : t.from < t.to
-  pub inside : t.from < length (log_named c t.node)
   below = from_to (log_named c t.node) t.from t.to t.recs over some_recs
+
+  pub inside : t.from < length (log_named c t.node)
   inside = from_within (log_named c t.node) t.from t.to t.recs over some_recs
 
-  first : (rec : NodeRec) × (slice_get (log_named c t.node) t.from ≡ Some rec)
+  pub first : (rec : NodeRec) × (slice_get (log_named c t.node) t.from ≡ Some rec)
   first = within_at (log_named c t.node) t.from inside
 
   recs_are : t.recs ≡ first.0 ∷ between (log_named c t.node) (suc t.from) t.to
   recs_are = over ∙ between-more (log_named c t.node) t.from t.to first.0 below first.1
 
-  begins : begins_turn pid k first.0 ≡ true
+  pub begins : begins_turn pid k first.0 ≡ true
   begins = sym (ap (λ recs. is_begun_by pid k (slice_get recs 0)) recs_are) ∙ is.begins
 
   pub first_of_recs : slice_get t.recs 0 ≡ Some first.0
@@ -135,10 +138,6 @@ later_turns c who k (t ∷ later) over (is, others) =
       later_turns c who (suc k) later (All-tail (IsTurnOver c) t later over) others,
     )
 
--- the session that turns name
-abbrev pub who_in : Text → List TurnSeen → Who
-who_in pid turns = record { pid = pid; sid = opened_sid (first_record turns); nsp = opened_nsp (first_record turns) }
-
 turns_named : (c : Cluster) (pid : Text) (turns : List TurnSeen) → All (IsTurnOver c) turns → AcceptedFrom c pid 0 turns → AreTurns c (who_in pid turns) 0 (map (turn_at c) turns)
 turns_named c pid [] over all = tt
 turns_named c pid (t ∷ later) over (is, others) =
@@ -153,3 +152,14 @@ turns_named c pid (t ∷ later) over (is, others) =
 -- the turns of an accepted certificate
 pub are_turns : (c : Cluster) (cert : CertificateSeen) → All (IsTurnOver c) cert.turns → AcceptedFrom c cert.pid 0 cert.turns → AreTurns c (who_of cert) 0 (map (turn_at c) cert.turns)
 are_turns c cert over all = turns_named c cert.pid cert.turns over all
+
+-- where accepted turns start, and how far they reach
+pub lows : (c : Cluster) (pid : Text) (k : ℕ) (turns : List TurnSeen) → 0 < length turns → AcceptedFrom c pid k turns → shown_low turns ≡ first_low (slices_at c turns)
+lows c pid k [] some all = absurd (omega arith)
+lows c pid k (t ∷ later) some (is, others) = is.cursors.low_is
+
+pub highs : (c : Cluster) (pid : Text) (k : ℕ) (turns : List TurnSeen) → AcceptedFrom c pid k turns → shown_high turns ≡ greatest_high (slices_at c turns)
+highs c pid k [] all = refl
+highs c pid k (t ∷ later) (is, others) =
+    ap (λ n. max n (shown_high later)) is.cursors.high_is
+    ∙ ap (λ n. max (slice_of c (turn_at c t)).high n) (highs c pid (suc k) later others)

@@ -14,7 +14,7 @@ use Rattle.aud_rooms.specs.TurnsDue.{greatest_high}
 use Rattle.aud_rooms.specs.Spans.{RoomSpan, AreSpans, AreSpansOfTurns, first_low, rooms_by_turns}
 use Rattle.aud_rooms.specs.Assigned.{Assigned, covered, rooms_given, starting, AreSpansOf}
 use Rattle.aud_cert.specs.Certificate.{TurnSeen, log_named}
-use Rattle.aud_check.specs.Shown.{slices_at}
+use Rattle.aud_check.specs.Shown.{shown_low, slices_at}
 use Rattle.aud_check.specs.Walked.{past_record, walked, turn_walked, turns_walked, IsWithin}
 use Rattle.aud_check.proofs.WalkTurns.{AllStand, low_same, high_same, rooms_same}
 
@@ -58,6 +58,13 @@ built_are_spans law c who t later stand spans are =
     (rooms_same c who t later stand)
     (subst (λ n. AreSpans (rooms_given built) n (greatest_high (slices_at c (t ∷ later))) spans) low
     (subst (λ n. AreSpans (rooms_given built) built.low n spans) high are))
+
+-- the same of any turns, at least one
+pub built_for : ((rooms_at other : ℕ → Rooms) (low high : ℕ) (spans : List RoomSpan) → ((p : ℕ) → low < p → p ≤ high → rooms_at p ≡ other p) → AreSpans rooms_at low high spans → AreSpans other low high spans)
+    → (c : Cluster) (who : Who) (turns : List TurnSeen) → 0 < length turns → AllStand c who.pid turns → (spans : List RoomSpan)
+    → AreSpansOf (turns_walked c who.pid turns (starting who.sid (shown_low turns))) spans → AreSpansOfTurns c.stream who (slices_at c turns) spans
+built_for law c who [] some stand spans are = absurd (omega arith)
+built_for law c who (t ∷ later) some stand spans are = built_are_spans law c who t later stand spans are
 
 -- turns that stand in their logs are within them
 pub all_within : (c : Cluster) (pid : Text) (turns : List TurnSeen) → AllStand c pid turns → All (IsWithin c) turns

@@ -17,3 +17,5 @@ pub mod Builders
 pub mod Steps
 pub mod Windows
 pub mod FirstFault
+pub mod ClientCase
+pub mod Judged

@@ -44,13 +44,13 @@ module _ {X : Type 0} (f : X → FrameSeen) (stream : List StreamRec) (xs : List
   entries_more entry = subst (AreEntries stream) (sym (take_at (map f xs) i (f x) (at_map f xs i x h is))) (entries_both stream (take i (map f xs)) (f x) all entry)
 
   pub altered_at : (IsEntry stream (f x) → ⊥) → IsFirstAltered stream (map f xs) (f x)
-  altered_at no =
+  altered_at fails =
       record {
         before = take i (map f xs);
         behind = drop (i + 1) (map f xs);
         parts = sym (take-append-drop i (map f xs)) ∙ ap (λ ys. take i (map f xs) ++ ys) (drop_from (map f xs) i (f x) (at_map f xs i x h is));
         are_entries = all;
-        is_altered = no;
+        is_altered = fails;
       }
 
 -- ---- frames of stays
@@ -99,7 +99,7 @@ module _ {X Y Z : Type 0} (f : X → Y) (g : Y → Z) (xs : List X) (zs : List Z
       ∙ sym (take_at zs i z right_at)
 
   pub differ_at : (g (f x) ≡ z → ⊥) → map g (map f xs) ≡ zs → ⊥
-  differ_at no same = no (same_Some (g (f x)) z (sym left_at ∙ ap (λ ys. slice_get ys i) same ∙ right_at))
+  differ_at fails same = fails (same_Some (g (f x)) z (sym left_at ∙ ap (λ ys. slice_get ys i) same ∙ right_at))
 
 -- ---- stays of a session
 

@@ -13,4 +13,5 @@ pub mod Frames
 pub mod Faults
 pub mod Wrong
 pub mod TurnRefusals
+pub mod Client
 pub mod Refusals

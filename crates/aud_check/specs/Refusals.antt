@@ -1,31 +1,30 @@
 -- What refuses a certificate, and which refusal comes first.
-use Rattle.std.specs.Prelude.{◌≡◌, ◌<◌, ◌+◌, ◌*◌, ℕ, suc, true, false, length, drop, slice_get, Option, Some}
+use Rattle.std.specs.Prelude.{◌≡◌, ◌<◌, ◌+◌, ◌*◌, ℕ, suc, true, false, List, length, drop, slice_get, Option, Some}
+use Rattle.aud_node.specs.Stream.{Text}
 use Rattle.aud_node.specs.Cluster.{Cluster}
-use Rattle.aud_rooms.specs.Spans.{AreSpansOfTurns}
+use Rattle.aud_rooms.specs.Spans.{RoomSpan, AreSpansOfTurns}
 use Rattle.aud_cert.specs.Certificate.{CertificateSeen, TurnSeen}
 use Rattle.aud_cert.specs.declared.fault.Fault.TheVariants.{Extra, Doubled, Swapped, Lost}
 use Rattle.aud_check.specs.declared.refusal.Refusal.{Refusal}
 use Rattle.aud_check.specs.declared.refusal.Refusal.TheVariants.{NotItsTurn, EndInside, NoEnd, Cursor, Span, Names, Received, Memory}
-use Rattle.aud_check.specs.Shown.{who_of, slices_of, shown_due, told_to, stays_of, frames_received}
+use Rattle.aud_check.specs.Shown.{who_of, slices_of, shown_due}
+use Rattle.aud_check.specs.Client.{case_for}
 use Rattle.aud_check.specs.NamedStays.{are_of_session}
 use Rattle.aud_check.specs.Faults.{Case, HasFault, IsReceived}
 use Rattle.aud_check.specs.TurnRefusals.{RefusesTurn, AreTurnsAccepted, refusal_rank}
 
 -- what the certificate's session received, against what was due to it by the shown turns
 abbrev pub case_of : Cluster → CertificateSeen → Case
-case_of c cert =
-    record {
-      stream = c.stream;
-      told = told_to c cert;
-      stays = stays_of c cert;
-      frames = frames_received c cert;
-      due = shown_due c cert;
-    }
+case_of c cert = case_for c cert.client cert.pid (shown_due c cert)
+
+-- the certificate with these parts
+abbrev pub seen_as : Text → Text → List TurnSeen → List RoomSpan → CertificateSeen
+seen_as pid client turns spans = record { pid = pid; client = client; turns = turns; spans = spans }
 
 -- what refuses a certificate as a whole
 abbrev pub RefusesWhole : Cluster → CertificateSeen → Refusal → Type 0
 RefusesWhole c cert Span = AreSpansOfTurns c.stream (who_of cert) (slices_of c cert) cert.spans → ⊥
-RefusesWhole c cert Names = are_of_session (who_of cert) (stays_of c cert) ≡ false
+RefusesWhole c cert Names = are_of_session (who_of cert) (case_of c cert).stays ≡ false
 RefusesWhole c cert (Received fault) = HasFault (case_of c cert) fault
 RefusesWhole c cert _ = ⊥
 
@@ -60,7 +59,7 @@ pub record IsFirst (c : Cluster) (cert : CertificateSeen) (refusal : Refusal) : 
 pub record IsAccepted (c : Cluster) (cert : CertificateSeen) : Type 0 where
   pub are_turns : AreTurnsAccepted c cert.pid cert.turns
   pub are_spans : AreSpansOfTurns c.stream (who_of cert) (slices_of c cert) cert.spans
-  pub are_named : are_of_session (who_of cert) (stays_of c cert) ≡ true
+  pub are_named : are_of_session (who_of cert) (case_of c cert).stays ≡ true
   pub is_received : IsReceived (case_of c cert)
 
 -- it is the first refusal, unless memory ran out

@@ -9,8 +9,8 @@ use Rattle.aud_node.specs.NodeTaps.{client_at}
 use Rattle.aud_rooms.specs.Turns.{Who, Turn, Slice, slice_of}
 use Rattle.aud_rooms.specs.TurnsDue.{turns_due}
 use Rattle.aud_cert.specs.Certificate.{CertificateSeen, TurnSeen, turn_at, place_named}
-use Rattle.aud_client.specs.Told.{StaySeen, FrameSeen}
-use Rattle.aud_client.specs.Received.{ReceivedSeen, received_of, received_list, stays_naming}
+use Rattle.aud_client.specs.Told.{FrameSeen}
+use Rattle.aud_client.specs.Received.{received_list}
 
 -- the sid and the namespace that the record opens a session with; empty texts where it is no `open`
 abbrev pub opened_sid : Option NodeRec → Text
@@ -26,10 +26,13 @@ abbrev pub first_record : List TurnSeen → Option NodeRec
 first_record [] = None
 first_record (t ∷ later) = slice_get t.recs 0
 
--- the session
+-- the session of this pid, as the first record of its turns opens it
+abbrev pub who_in : Text → List TurnSeen → Who
+who_in pid turns = record { pid = pid; sid = opened_sid (first_record turns); nsp = opened_nsp (first_record turns) }
+
+-- the session of the certificate
 abbrev pub who_of : CertificateSeen → Who
-who_of cert =
-    record { pid = cert.pid; sid = opened_sid (first_record cert.turns); nsp = opened_nsp (first_record cert.turns) }
+who_of cert = who_in cert.pid cert.turns
 
 -- the records of turns, with the nodes' cursors, where they stand in the logs
 abbrev pub slices_at : Cluster → List TurnSeen → List Slice
@@ -65,14 +68,6 @@ recs_or_none (Some recs) = recs
 -- the records of the client's tap with this name
 abbrev pub client_log : Cluster → Text → List ClientRec
 client_log c name = recs_or_none (client_at c (place_named c name))
-
--- what the client's tap tells
-abbrev pub told_to : Cluster → CertificateSeen → ReceivedSeen
-told_to c cert = received_of c.stream (client_log c cert.client)
-
--- the stays of the client's tap whose reply names the session
-abbrev pub stays_of : Cluster → CertificateSeen → List StaySeen
-stays_of c cert = stays_naming cert.pid (told_to c cert).stays
 
 -- the events that the client received of the session, in the order of its tap
 abbrev pub frames_received : Cluster → CertificateSeen → List FrameSeen

@@ -13,7 +13,7 @@ use aud_tap::Memory;
 use std::alloc::Global;
 
 /// What is due to the session by the turns, which were accepted, and whose spans these are.
-pub(crate) fn due_by_turns(
+pub(crate) fn shown_due(
     alloc: Global,
     logs: &Logs<'_>,
     session: &Session<'_>,
@@ -28,7 +28,8 @@ pub(crate) fn due_by_turns(
     due_by_spans_of_turns();
     let birth = first_low(turns);
     let high = greatest_high(turns);
-    due_of(alloc, spans, logs.stream(), session.nsp, birth, high)
+    let due = due_of(alloc, spans, logs.stream(), session.nsp, birth, high)?;
+    Ok(due)
 }
 
 /// The position that the first turn starts from.

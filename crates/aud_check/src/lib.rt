@@ -1,6 +1,10 @@
 //! Checks certificates: whether a session received exactly what was due to it, in every run of the logs.
+//!
+//! Begin at [`check`]; [`Refusal`] says what it looks for, and in which order.
 #![tactic(auto)]
 
+mod certificate;
+mod client;
 mod compare;
 mod content;
 mod due;
@@ -14,5 +18,6 @@ mod turn;
 mod turn_end;
 mod window;
 
+pub use certificate::{Accepted, check};
 pub use compare::{Mismatch, first_mismatch};
 pub use refusal::Refusal;

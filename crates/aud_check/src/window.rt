@@ -21,13 +21,13 @@ pub(crate) fn wrong_window(
     requires ascending { IsAscending positions.now }
     ensures { result ≡ wrong_window stream.now [] (map (λ stay. stay.now) stays.now) }
 {
-    let mut count = 0;
+    let mut left = positions.len();
     for stay in stays {
         let stay: &Stay<'_> = *stay;
-        if is_asked_wrongly(stream, stay, positions, count) {
+        if is_asked_wrongly(stream, stay, positions, positions.len() - left) {
             return Some(stay.c);
         }
-        count += stay.frames.len();
+        left -= stay.frames.len();
     }
     None
 }

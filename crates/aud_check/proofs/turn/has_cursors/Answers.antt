@@ -7,7 +7,7 @@ use Rattle.aud_check.proofs.turn.has_cursors.Goals as goal
 pub returns : goal.returns
 returns c =
     let log = c.args.log.now in
-    let P : TurnSeen → Type 0 = λ t. (nat_eq c.cursor_after-2.result t.high ≡ true → HasCursors log.stream log.recs t) × (HasCursors log.stream log.recs t → nat_eq c.cursor_after-2.result t.high ≡ true) in
+    let P : TurnSeen → Type 0 = λ t. (nat_eq c.cursor_after-2.result c.turn.inside.high ≡ true → HasCursors log.stream log.recs t) × (HasCursors log.stream log.recs t → nat_eq c.cursor_after-2.result c.turn.inside.high ≡ true) in
     let seen : TurnSeen = record {
       node = c.turn.inside.node.now;
       from = c.turn.inside.from;

@@ -11,7 +11,7 @@ returns-in-Some c =
           | else-count-gt0-via-then-count-gt0+else-positions-count w ↦ inr (omega arith)
           | else-count-gt0-via-else-count-gt0 w ↦ inl (omega arith)
         ] in
-    ap (nat_lt c.args.position) (found.1 0) ∙ cut_next c.args.positions.now c.args.count c.args.position c.requires.ascending c.requires.within front found.0
+    ap (nat_lt c.args.position) (found.3.1 0) ∙ cut_next c.args.positions.now c.args.count c.args.position c.requires.ascending c.requires.within front found.3.0
 
 pub returns-in-None : goal.returns-in-None
 returns-in-None c =
@@ -20,4 +20,4 @@ returns-in-None c =
           | else-count-gt0-via-then-count-gt0+else-positions-count w ↦ inr (omega arith)
           | else-count-gt0-via-else-count-gt0 w ↦ inl (omega arith)
         ] in
-    cut_end c.args.positions.now c.args.count c.args.position c.requires.ascending c.requires.within front c.in-None.ensures.lookup
+    cut_end c.args.positions.now c.args.count c.args.position c.requires.ascending c.requires.within front c.in-None.ensures.lookup.3
