@@ -17,7 +17,7 @@ use Rattle.aud_check.specs.Faults.{Case, HasFault, mismatch_fault, positions_in}
 use Rattle.aud_check.specs.Shown.{who_of, turns_of, shown_due}
 use Rattle.aud_check.specs.TurnRefusals.{AreTurnsAccepted}
 use Rattle.aud_check.specs.Refusals.{Place, AtTurn, AtWhole, Refuses, IsFirst, IsMismatch, case_of}
-use Rattle.aud_check.proofs.Accepted.{all_accepted, are_turns}
+use Rattle.aud_check.proofs.AcceptedTurns.{all_accepted, are_turns}
 use Rattle.aud_check.proofs.Prefixes.{prefix_of_prefix}
 use Rattle.aud_check.proofs.Ranks.{no_mismatch}
 use Rattle.aud_check.proofs.Agreed.{mismatch-none}

@@ -8,7 +8,7 @@ pub mod Covered
 pub mod Ordered
 pub mod Walk
 pub mod WalkTurns
-pub mod Accepted
+pub mod AcceptedTurns
 pub mod Cuts
 pub mod Ranks
 pub mod Ascending

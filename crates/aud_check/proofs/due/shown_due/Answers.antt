@@ -3,7 +3,7 @@ use Rattle.aud_rooms.specs.Turns.{Who}
 use Rattle.aud_rooms.specs.TurnsDue.{greatest_high}
 use Rattle.aud_rooms.specs.Spans.{due_by_spans, first_low}
 use Rattle.aud_check.specs.Shown.{slices_at}
-use Rattle.aud_check.proofs.Accepted.{all_accepted, lows, highs}
+use Rattle.aud_check.proofs.AcceptedTurns.{all_accepted, lows, highs}
 use Rattle.aud_check.proofs.due.shown_due.Goals as goal
 
 pub returns : goal.returns

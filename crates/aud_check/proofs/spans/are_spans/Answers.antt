@@ -7,7 +7,7 @@ use Rattle.aud_rooms.specs.Spans.{RoomSpan, AreSpansOfTurns, first_low, rooms_by
 use Rattle.aud_rooms.specs.Assigned.{Assigned, AreSpansOf, starting}
 use Rattle.aud_check.specs.Shown.{shown_low, slices_at}
 use Rattle.aud_check.specs.Walked.{turns_walked}
-use Rattle.aud_check.proofs.Accepted.{all_accepted, all_stand}
+use Rattle.aud_check.proofs.AcceptedTurns.{all_accepted, all_stand}
 use Rattle.aud_check.proofs.Builders.{all_within, built_for}
 use Rattle.aud_check.proofs.WalkTurns.{AllStand}
 use Rattle.aud_check.proofs.spans.are_spans.Goals as goal
