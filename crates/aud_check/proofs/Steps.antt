@@ -110,3 +110,7 @@ list_all_map f test (x ∷ xs) = ap (λ b. test (f x) && b) (list_all_map f test
 pub all_of_session : {X : Type 0} (f : X → StaySeen) (who : Who) (xs : List X) (r : Bool) → 0 < length xs → r ≡ list_all (λ x. is_of_session who (f x)) xs → r ≡ are_of_session who (map f xs)
 all_of_session f who [] r some is = absurd (omega arith)
 all_of_session f who (x ∷ xs) r some is = is ∙ sym (list_all_map f (is_of_session who) (x ∷ xs))
+
+pub some_where_not : {X : Type 0} (xs : List X) → (length xs == 0) ≡ false → 0 < length xs
+some_where_not [] e = absurd (true≢false e)
+some_where_not (x ∷ xs) e = omega arith

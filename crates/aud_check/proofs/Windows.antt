@@ -9,7 +9,7 @@ use Rattle.aud_check.specs.Frames.{asked_position, frames_in, is_asked_wrongly, 
 use Rattle.aud_check.proofs.Cuts.{position_of, is_between-cut}
 use Rattle.aud_check.proofs.Steps.{take_at, drop_from, flat_more}
 
-length-map : {X Y : Type 0} (f : X → Y) (xs : List X) → length (map f xs) ≡ length xs
+pub length-map : {X Y : Type 0} (f : X → Y) (xs : List X) → length (map f xs) ≡ length xs
 length-map f [] = refl
 length-map f (x ∷ xs) = ap suc (length-map f xs)
 

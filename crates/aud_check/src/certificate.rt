@@ -88,14 +88,10 @@ fn judge(
     ensures turns { IfOk result (λ a. a.turns ≡ length cert.now.turns) }
 {
     let session = session_of(cert);
-    judge_parts(
-        alloc,
-        logs,
-        &session,
-        cert.client,
-        cert.turns.as_slice(),
-        cert.spans.as_slice(),
-    )
+    let turns = cert.turns.as_slice();
+    let spans = cert.spans.as_slice();
+    let judged = judge_parts(alloc, logs, &session, cert.client, turns, spans);
+    judged
 }
 
 /// The same of a certificate with these parts: the turns, then the spans, and then what the client received.
