@@ -74,10 +74,10 @@ pub fn check(
 }
 
 /// The same by one certificate's parts.
-fn judge(
+fn judge<'s>(
     alloc: Global,
-    logs: &Logs<'_>,
-    cert: &Certificate<'_>,
+    logs: &'s Logs<'_>,
+    cert: &'s Certificate<'_>,
 ) -> Result<Accepted, Refusal>
     requires over { IsOver logs.now cert.now }
     requires some { 0 < length cert.now.turns }
