@@ -1,5 +1,6 @@
 -- What an accepted certificate says of every run, and a mismatch.
-use Rattle.std.proofs.Common.{◌≡◌, ◌<◌, ◌≤◌, ◌+◌, ℕ, suc, List, length, map, Option, Some, None, refl, sym, ap, subst, ◌∙◌}
+use Rattle.std.specs.Result.{OnOk, IfOk, IfErr}
+use Rattle.std.proofs.Common.{Result, Ok, Err, ◌≡◌, ◌<◌, ◌≤◌, ◌+◌, ℕ, suc, List, length, map, Option, Some, None, refl, sym, ap, subst, ◌∙◌}
 use Rattle.std.proofs.lemmas.Option.{none-some}
 use Rattle.aud_node.specs.Cluster.{Cluster}
 use Rattle.aud_rooms.specs.Turns.{Who, Turn, AreTurns, IsChain, slice_of}
@@ -16,7 +17,7 @@ use Rattle.aud_check.specs.declared.refusal.Refusal.TheVariants.{NotItsTurn, End
 use Rattle.aud_check.specs.Faults.{Case, HasFault, mismatch_fault, positions_in}
 use Rattle.aud_check.specs.Shown.{who_of, turns_of, shown_due}
 use Rattle.aud_check.specs.TurnRefusals.{AreTurnsAccepted}
-use Rattle.aud_check.specs.Refusals.{Place, AtTurn, AtWhole, Refuses, IsFirst, IsMismatch, case_of}
+use Rattle.aud_check.specs.Refusals.{Place, AtTurn, AtWhole, Refuses, IsFirst, IsFirstRefusal, IsMismatch, case_of}
 use Rattle.aud_check.proofs.AcceptedTurns.{all_accepted, are_turns}
 use Rattle.aud_check.proofs.Prefixes.{prefix_of_prefix}
 use Rattle.aud_check.proofs.Ranks.{no_mismatch}
@@ -80,3 +81,28 @@ module _ (c : Cluster) (cert : CertificateSeen) where
   in_no_run Span is about law = absurd about
   in_no_run Names is about law = absurd about
   in_no_run Memory is about law = absurd about
+
+-- ---- through an answer
+
+pub on_ok : {A E : Type 0} (r : Result A E) (P Q : Type 0) → (P → Q) → OnOk r P → OnOk r Q
+on_ok (Ok x) P Q f p = f p
+on_ok (Err e) P Q f p = p
+
+pub if_ok : {A E : Type 0} (r : Result A E) (P Q : A → Type 0) → ((x : A) → P x → Q x) → IfOk r P → IfOk r Q
+if_ok (Ok x) P Q f p = f x p
+if_ok (Err e) P Q f p = p
+
+pub if_err : {A E : Type 0} (r : Result A E) (P Q : E → Type 0) → ((e : E) → P e → Q e) → IfErr r P → IfErr r Q
+if_err (Ok x) P Q f p = p
+if_err (Err e) P Q f p = f e p
+
+-- a mismatch is no want of memory
+pub first_of_all : (c : Cluster) (cert : CertificateSeen) (refusal : Refusal) → IsMismatch refusal → IsFirstRefusal c cert refusal → IsFirst c cert refusal
+first_of_all c cert NotItsTurn about is = is
+first_of_all c cert EndInside about is = is
+first_of_all c cert NoEnd about is = is
+first_of_all c cert Cursor about is = is
+first_of_all c cert Span about is = is
+first_of_all c cert Names about is = is
+first_of_all c cert (Received f) about is = is
+first_of_all c cert Memory about is = absurd about
