@@ -5,7 +5,7 @@ ghost use Rattle.aud_merge.specs.declared.step.Step.{Step};
 ghost use Rattle.aud_merge.specs.Runs.{IsRun};
 ghost use Rattle.aud_merge.specs.Due.{due};
 ghost use Rattle.aud_merge.specs.ByTurns.{IsPrefixOf};
-ghost use Rattle.aud_rooms.specs.Turns.{IsChain};
+ghost use Rattle.aud_rooms.specs.Turns.{AreTurns, IsChain};
 ghost use Rattle.aud_cert.specs.Certificate.{IsOver, IsTurnOver};
 ghost use Rattle.aud_check.specs.Faults.{positions_in};
 ghost use Rattle.aud_check.specs.Frames.{AreEntries};
@@ -40,7 +40,7 @@ pub struct Accepted {
 /// what was due to it by these turns, up to the last event received. Else the first refusal is answered, in the order of
 /// [`Refusal`], or want of memory.
 ///
-/// What it says of every run needs no run: where the logs have none, it says nothing.
+/// Where the logs have no run, what is said of every run says nothing.
 pub fn check(
     alloc: Global,
     logs: &Logs<'_>,
@@ -58,6 +58,9 @@ pub fn check(
     ensures tail { IfOk result (λ a. a.got + a.tail ≡ length (shown_due logs.now cert.now)) }
     ensures turns { IfOk result (λ a. a.turns ≡ length cert.now.turns) }
 
+    // The turns are the session's, from turn 0 on.
+    ensures are_turns { OnOk result (AreTurns logs.now (who_of cert.now) 0 (turns_of logs.now cert.now)) }
+
     // Delivery in every run.
     ensures in_every_run { OnOk result ((run : List Step) → IsRun logs.now run
         → IsPrefixOf (positions_in (case_of logs.now cert.now)) (due logs.now run cert.now.pid)) }
@@ -73,7 +76,7 @@ pub fn check(
     judge(alloc, logs, cert)
 }
 
-/// The same by one certificate's parts.
+/// The answer of [`check`], by what it says of this certificate alone.
 fn judge<'s>(
     alloc: Global,
     logs: &'s Logs<'_>,
@@ -94,7 +97,8 @@ fn judge<'s>(
     judged
 }
 
-/// The same of a certificate with these parts: the turns, then the spans, and then what the client received.
+/// The same of a certificate with these parts. The turns are looked at first, then the spans, and then what the client
+/// received.
 fn judge_parts<'s>(
     alloc: Global,
     logs: &'s Logs<'_>,

@@ -21,3 +21,6 @@ mod window;
 pub use certificate::{Accepted, check};
 pub use compare::{Mismatch, first_mismatch};
 pub use refusal::Refusal;
+
+#[cfg(test)]
+mod tests;

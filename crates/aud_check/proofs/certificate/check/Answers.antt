@@ -3,12 +3,13 @@ use Rattle.aud_merge.specs.declared.step.Step.{Step}
 use Rattle.aud_merge.specs.Runs.{IsRun}
 use Rattle.aud_merge.specs.Due.{due}
 use Rattle.aud_merge.specs.ByTurns.{IsPrefixOf}
-use Rattle.aud_rooms.specs.Turns.{IsChain}
+use Rattle.aud_rooms.specs.Turns.{AreTurns, IsChain}
 use Rattle.aud_check.specs.declared.certificate.Accepted.{Accepted}
 use Rattle.aud_check.specs.declared.refusal.Refusal.{Refusal}
 use Rattle.aud_check.specs.Faults.{positions_in}
 use Rattle.aud_check.specs.Shown.{shown_due, turns_of, who_of}
 use Rattle.aud_check.specs.Refusals.{IsAccepted, IsFirstRefusal, IsMismatch, Place, Refuses, case_of}
+use Rattle.aud_check.proofs.AcceptedTurns.{all_accepted, are_turns}
 use Rattle.aud_check.proofs.Headline.{on_ok, if_ok, if_err, first_of_all, in_every_run, in_no_run}
 use Rattle.aud_check.proofs.Ranks.{nothing_refuses}
 use Rattle.aud_check.proofs.certificate.check.Goals as goal
@@ -17,6 +18,13 @@ pub returns-clause-not_refused : goal.returns-clause-not_refused
 returns-clause-not_refused c =
     on_ok c.judge.result (IsAccepted c.args.logs.now c.args.cert.now) ((place : Place) (refusal : Refusal) → Refuses c.args.logs.now c.args.cert.now place refusal → ⊥)
     (nothing_refuses c.args.logs.now c.args.cert.now) c.judge.ensures.accepted
+
+pub returns-clause-are_turns : goal.returns-clause-are_turns
+returns-clause-are_turns c =
+    let C = c.args.logs.now in
+    let cert = c.args.cert.now in
+    on_ok c.judge.result (IsAccepted C cert) (AreTurns C (who_of cert) 0 (turns_of C cert))
+    (λ (is : IsAccepted C cert). are_turns C cert c.requires.over (all_accepted C cert.pid cert.turns is.are_turns)) c.judge.ensures.accepted
 
 pub returns-clause-in_every_run : goal.returns-clause-in_every_run
 returns-clause-in_every_run c =
