@@ -1,0 +1,165 @@
+-- Accepted turns are turns of the session.
+use Rattle.std.proofs.Common.{◌≡◌, ◌<◌, ◌≤◌, ◌+◌, ◌-◌, ℕ, zero, suc, Bool, true, false, ◌&&◌, List, [], ◌∷◌, map, max, length, take, drop, Option, Some, None, slice_get, nat_eq, refl, sym, ap, subst, ◌∙◌, arith, true≢false}
+use Rattle.std.specs.List.{All}
+use Rattle.std.specs.Str.{bytes_eq}
+use Rattle.std.specs.Cmp.Lexicographic.{bytes_decides}
+use Rattle.std.proofs.lemmas.Bool.{eqb-true}
+use Rattle.std.proofs.lemmas.List.Elements.{All-head, All-tail}
+use Rattle.aud_tap.specs.declared.records.NodeRec.{NodeRec}
+use Rattle.aud_tap.specs.declared.records.NodeRec.TheVariants.{Start, Take, Opened, Join, Leave, Broke, Back, Gone}
+use Rattle.aud_node.specs.Lists.{between}
+use Rattle.aud_node.specs.Stream.{Text}
+use Rattle.aud_node.specs.Cluster.{Cluster, node_log}
+use Rattle.aud_node.specs.TurnRecords.{begins_turn}
+use Rattle.aud_rooms.specs.Turns.{Who, IsTurn, AreTurns, beginning, turn_end, slice_of}
+use Rattle.aud_cert.specs.Certificate.{TurnSeen, CertificateSeen, IsTurnOver, turn_at, log_named}
+use Rattle.aud_rooms.specs.TurnsDue.{greatest_high}
+use Rattle.aud_rooms.specs.Spans.{first_low}
+use Rattle.aud_check.specs.Shown.{opened_sid, opened_nsp, first_record, who_in, who_of, shown_low, shown_high, slices_at}
+use Rattle.aud_check.specs.TurnRefusals.{is_begun_by, IsTurnAccepted, AreTurnsAccepted}
+use Rattle.aud_check.specs.Walked.{IsWithin}
+use Rattle.aud_check.proofs.Slices.{within_at, between-more}
+use Rattle.aud_check.proofs.TurnRefusals.{begun-some, from_within, from_to}
+use Rattle.aud_check.proofs.WalkTurns.{Stands, AllStand}
+
+same_text : (a b : Text) → bytes_eq a b ≡ true → a ≡ b
+same_text a b e = (bytes_decides a b).0 e
+
+and_both : (a b : Bool) → (a && b) ≡ true → (a ≡ true) × (b ≡ true)
+and_both true b e = (refl, e)
+and_both false b e = absurd (true≢false (sym e))
+
+-- the session's `open` as the turn's first record
+opens : (pid : Text) (rec : NodeRec) → begins_turn pid 0 rec ≡ true → rec ≡ Opened pid (opened_sid (Some rec)) (opened_nsp (Some rec))
+opens pid (Opened other sid nsp) e = ap (λ x. Opened x sid nsp) (same_text other pid e)
+opens pid (Start off) e = absurd (true≢false (sym e))
+opens pid (Take off) e = absurd (true≢false (sym e))
+opens pid (Join other room) e = absurd (true≢false (sym e))
+opens pid (Leave other room) e = absurd (true≢false (sym e))
+opens pid (Broke other number) e = absurd (true≢false (sym e))
+opens pid (Back other number) e = absurd (true≢false (sym e))
+opens pid (Gone other) e = absurd (true≢false (sym e))
+
+-- its `back` as a later turn's
+comes_back : (pid : Text) (k : ℕ) (rec : NodeRec) → begins_turn pid (suc k) rec ≡ true → rec ≡ Back pid (suc k)
+comes_back pid k (Back other number) e =
+    let (same, counted) = and_both (bytes_eq other pid) (nat_eq number (suc k)) e in
+    ap (λ x. Back x number) (same_text other pid same) ∙ ap (Back pid) (eqb-true number (suc k) counted)
+comes_back pid k (Start off) e = absurd (true≢false (sym e))
+comes_back pid k (Take off) e = absurd (true≢false (sym e))
+comes_back pid k (Opened other sid nsp) e = absurd (true≢false (sym e))
+comes_back pid k (Join other room) e = absurd (true≢false (sym e))
+comes_back pid k (Leave other room) e = absurd (true≢false (sym e))
+comes_back pid k (Broke other number) e = absurd (true≢false (sym e))
+comes_back pid k (Gone other) e = absurd (true≢false (sym e))
+
+module _ (c : Cluster) (pid : Text) (k : ℕ) (t : TurnSeen) (later : List TurnSeen) (over : IsTurnOver c t) (is : IsTurnAccepted c pid k t later) where
+  some_recs : 0 < length t.recs
+  some_recs = begun-some pid k t.recs is.begins
+
+  pub below : t.from < t.to
+  below = from_to (log_named c t.node) t.from t.to t.recs over some_recs
+
+  pub inside : t.from < length (log_named c t.node)
+  inside = from_within (log_named c t.node) t.from t.to t.recs over some_recs
+
+  pub first : (rec : NodeRec) × (slice_get (log_named c t.node) t.from ≡ Some rec)
+  first = within_at (log_named c t.node) t.from inside
+
+  recs_are : t.recs ≡ first.0 ∷ between (log_named c t.node) (suc t.from) t.to
+  recs_are = over ∙ between-more (log_named c t.node) t.from t.to first.0 below first.1
+
+  pub begins : begins_turn pid k first.0 ≡ true
+  begins = sym (ap (λ recs. is_begun_by pid k (slice_get recs 0)) recs_are) ∙ is.begins
+
+  pub first_of_recs : slice_get t.recs 0 ≡ Some first.0
+  first_of_recs = ap (λ recs. slice_get recs 0) recs_are
+
+  pub stands : Stands c.stream (log_named c t.node) pid t
+  stands =
+      record {
+        some = below;
+        within = is.ends.within;
+        ordered = is.cursors.ordered;
+        first = first.0;
+        at = first.1;
+        number = k;
+        begins = begins;
+        low_is = is.cursors.low_is;
+        high_is = is.cursors.high_is;
+      }
+
+  -- a turn of the session, where its first record is the one that begins it
+  pub is_turn : (who : Who) → who.pid ≡ pid → first.0 ≡ beginning who k → IsTurn c who k (turn_at c t) (map (turn_at c) later)
+  is_turn who same begun =
+      record {
+        within = is.ends.within;
+        some = below;
+        begins = first.1 ∙ ap Some begun;
+        end = is.ends.end;
+        ends =
+            ap (λ p. turn_end p k (between (log_named c t.node) (suc t.from) t.to)) same
+            ∙ sym (ap (λ recs. turn_end pid k (drop 1 recs)) recs_are)
+            ∙ is.ends.is_end;
+        may_end = is.ends.may_end;
+      }
+
+-- accepted turns, the first of which has this number
+abbrev pub AcceptedFrom : Cluster → Text → ℕ → List TurnSeen → Type 0
+AcceptedFrom c pid k [] = Unit {0}
+AcceptedFrom c pid k (t ∷ later) = IsTurnAccepted c pid k t later × AcceptedFrom c pid (suc k) later
+
+pub accepted_from : (c : Cluster) (pid : Text) (turns : List TurnSeen) (k : ℕ)
+    → ((i : ℕ) (t : TurnSeen) → slice_get turns i ≡ Some t → IsTurnAccepted c pid (k + i) t (drop (suc i) turns)) → AcceptedFrom c pid k turns
+accepted_from c pid [] k all = tt
+accepted_from c pid (t ∷ later) k all =
+    let here : k + 0 ≡ k = omega arith in (
+      subst (λ n. IsTurnAccepted c pid n t later) here (all 0 t refl),
+      accepted_from c pid later (suc k) (λ i s at. let next : k + suc i ≡ suc k + i = omega arith in subst (λ n. IsTurnAccepted c pid n s (drop (suc i) later)) next (all (suc i) s at)),
+    )
+
+pub all_accepted : (c : Cluster) (pid : Text) (turns : List TurnSeen) → AreTurnsAccepted c pid turns → AcceptedFrom c pid 0 turns
+all_accepted c pid turns all =
+    accepted_from c pid turns 0 (λ i t at. let same : i ≡ 0 + i = omega arith in subst (λ n. IsTurnAccepted c pid n t (drop (suc i) turns)) same (all i t at))
+
+pub all_stand : (c : Cluster) (pid : Text) (k : ℕ) (turns : List TurnSeen) → All (IsTurnOver c) turns → AcceptedFrom c pid k turns → AllStand c pid turns
+all_stand c pid k [] over all = tt
+all_stand c pid k (t ∷ later) over (first, others) = (
+  stands c pid k t later (All-head (IsTurnOver c) t later over) first,
+  all_stand c pid (suc k) later (All-tail (IsTurnOver c) t later over) others,
+)
+
+-- later turns are turns of the session
+later_turns : (c : Cluster) (who : Who) (k : ℕ) (turns : List TurnSeen) → All (IsTurnOver c) turns → AcceptedFrom c who.pid (suc k) turns → AreTurns c who (suc k) (map (turn_at c) turns)
+later_turns c who k [] over all = tt
+later_turns c who k (t ∷ later) over (is, others) =
+    let here = All-head (IsTurnOver c) t later over in (
+      is_turn c who.pid (suc k) t later here is who refl (comes_back who.pid k (first c who.pid (suc k) t later here is).0 (begins c who.pid (suc k) t later here is)),
+      later_turns c who (suc k) later (All-tail (IsTurnOver c) t later over) others,
+    )
+
+turns_named : (c : Cluster) (pid : Text) (turns : List TurnSeen) → All (IsTurnOver c) turns → AcceptedFrom c pid 0 turns → AreTurns c (who_in pid turns) 0 (map (turn_at c) turns)
+turns_named c pid [] over all = tt
+turns_named c pid (t ∷ later) over (is, others) =
+    let here = All-head (IsTurnOver c) t later over in
+    let opened = opens pid (first c pid 0 t later here is).0 (begins c pid 0 t later here is) in
+    let same = first_of_recs c pid 0 t later here is in
+    let begun = opened ∙ ap (λ o. Opened pid (opened_sid o) (opened_nsp o)) (sym same) in (
+      is_turn c pid 0 t later here is (who_in pid (t ∷ later)) refl begun,
+      later_turns c (who_in pid (t ∷ later)) 0 later (All-tail (IsTurnOver c) t later over) others,
+    )
+
+-- the turns of an accepted certificate
+pub are_turns : (c : Cluster) (cert : CertificateSeen) → All (IsTurnOver c) cert.turns → AcceptedFrom c cert.pid 0 cert.turns → AreTurns c (who_of cert) 0 (map (turn_at c) cert.turns)
+are_turns c cert over all = turns_named c cert.pid cert.turns over all
+
+-- where accepted turns start, and how far they reach
+pub lows : (c : Cluster) (pid : Text) (k : ℕ) (turns : List TurnSeen) → 0 < length turns → AcceptedFrom c pid k turns → shown_low turns ≡ first_low (slices_at c turns)
+lows c pid k [] some all = absurd (omega arith)
+lows c pid k (t ∷ later) some (is, others) = is.cursors.low_is
+
+pub highs : (c : Cluster) (pid : Text) (k : ℕ) (turns : List TurnSeen) → AcceptedFrom c pid k turns → shown_high turns ≡ greatest_high (slices_at c turns)
+highs c pid k [] all = refl
+highs c pid k (t ∷ later) (is, others) =
+    ap (λ n. max n (shown_high later)) is.cursors.high_is
+    ∙ ap (λ n. max (slice_of c (turn_at c t)).high n) (highs c pid (suc k) later others)

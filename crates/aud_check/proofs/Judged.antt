@@ -1,0 +1,99 @@
+-- The first refusal of a certificate, by what was found before it.
+use Rattle.std.proofs.Common.{◌≡◌, ◌<◌, ◌≤◌, ◌+◌, ◌-◌, ℕ, true, false, List, length, map, refl, sym, ap, subst, ◌∙◌, arith, true≢false}
+use Rattle.aud_tap.specs.declared.records.StreamRec.{StreamRec}
+use Rattle.aud_node.specs.Stream.{Text}
+use Rattle.aud_node.specs.Cluster.{Cluster}
+use Rattle.aud_rooms.specs.Turns.{Who}
+use Rattle.aud_rooms.specs.TurnsDue.{turns_due}
+use Rattle.aud_rooms.specs.Spans.{RoomSpan, AreSpansOfTurns}
+use Rattle.aud_client.specs.Told.{FrameSeen}
+use Rattle.aud_cert.specs.Certificate.{CertificateSeen, TurnSeen}
+use Rattle.aud_check.specs.declared.refusal.Refusal.{Refusal}
+use Rattle.aud_check.specs.declared.refusal.Refusal.TheVariants.{NotItsTurn, EndInside, NoEnd, Cursor, Span, Names, Received, Memory}
+use Rattle.aud_check.specs.Client.{case_for, IsClientRefusal}
+use Rattle.aud_check.specs.Faults.{Case, IsReceived, positions_in}
+use Rattle.aud_check.specs.NamedStays.{are_of_session}
+use Rattle.aud_check.specs.Shown.{slices_at, slices_of, who_in, who_of, shown_due}
+use Rattle.aud_check.specs.TurnRefusals.{AreTurnsAccepted, IsFirstOfTurns}
+use Rattle.aud_check.specs.Refusals.{IsFirst, IsFirstRefusal, IsAccepted, case_of, seen_as}
+use Rattle.aud_check.proofs.Ranks.{first_of_turns, first_span, first_names, first_fault}
+use Rattle.aud_check.proofs.ClientCase.{prefix_within}
+use Rattle.aud_check.proofs.Windows.{length-map}
+
+pub first_refusal : (c : Cluster) (cert : CertificateSeen) (refusal : Refusal) → IsFirst c cert refusal → IsFirstRefusal c cert refusal
+first_refusal c cert NotItsTurn is = is
+first_refusal c cert EndInside is = is
+first_refusal c cert NoEnd is = is
+first_refusal c cert Cursor is = is
+first_refusal c cert Span is = is
+first_refusal c cert Names is = is
+first_refusal c cert (Received f) is = is
+first_refusal c cert Memory is = tt
+
+pub turns_first : (c : Cluster) (cert : CertificateSeen) (refusal : Refusal) → IsFirstOfTurns c cert.pid cert.turns refusal → IsFirstRefusal c cert refusal
+turns_first c cert refusal is = first_refusal c cert refusal (first_of_turns c cert refusal is)
+
+-- where turns and spans are right, a refusal of the tap is the first
+pub client_first : (c : Cluster) (cert : CertificateSeen) → AreTurnsAccepted c cert.pid cert.turns → AreSpansOfTurns c.stream (who_of cert) (slices_of c cert) cert.spans
+    → (refusal : Refusal) → IsClientRefusal (who_of cert) (case_of c cert) refusal → IsFirstRefusal c cert refusal
+client_first c cert turns spans Names h = first_names c cert turns (λ not. not spans) h
+client_first c cert turns spans (Received f) (named, first) = first_fault c cert turns (λ not. not spans) (λ h. true≢false (sym named ∙ h)) f first
+client_first c cert turns spans Memory h = tt
+client_first c cert turns spans NotItsTurn h = absurd h
+client_first c cert turns spans EndInside h = absurd h
+client_first c cert turns spans NoEnd h = absurd h
+client_first c cert turns spans Cursor h = absurd h
+client_first c cert turns spans Span h = absurd h
+
+module _ (c : Cluster) (who : Who) (client : Text) (turns : List TurnSeen) (spans : List RoomSpan) (named : who ≡ who_in who.pid turns) where
+  abbrev cert : CertificateSeen
+  cert = seen_as who.pid client turns spans
+
+  -- spans of the session's turns are those of the certificate's session
+  spans_are : AreSpansOfTurns c.stream who (slices_at c turns) spans → AreSpansOfTurns c.stream (who_of cert) (slices_of c cert) spans
+  spans_are = subst (λ (w : Who). AreSpansOfTurns c.stream w (slices_at c turns) spans) named
+
+  pub span_first : AreTurnsAccepted c who.pid turns → (AreSpansOfTurns c.stream who (slices_at c turns) spans → ⊥) → IsFirstRefusal c cert Span
+  span_first accepted not =
+      first_span c cert accepted (λ are. not (subst (λ (w : Who). AreSpansOfTurns c.stream w (slices_at c turns) spans) (sym named) are))
+
+  module _ (due : List ℕ) (is : due ≡ turns_due c.stream who (slices_at c turns)) where
+    due_is : due ≡ shown_due c cert
+    due_is = is ∙ ap (λ (w : Who). turns_due c.stream w (slices_at c turns)) named
+
+    case_same : case_for c client who.pid due ≡ case_of c cert
+    case_same = ap (case_for c client who.pid) due_is
+
+    pub refused_first : AreTurnsAccepted c who.pid turns → AreSpansOfTurns c.stream who (slices_at c turns) spans
+        → (refusal : Refusal) → IsClientRefusal who (case_for c client who.pid due) refusal → IsFirstRefusal c cert refusal
+    refused_first accepted are refusal h =
+        client_first c cert accepted (spans_are are) refusal
+        (subst (λ (w : Who). IsClientRefusal w (case_of c cert) refusal) named (subst (λ (case : Case). IsClientRefusal who case refusal) case_same h))
+
+    pub judged : AreTurnsAccepted c who.pid turns → AreSpansOfTurns c.stream who (slices_at c turns) spans
+        → are_of_session who (case_for c client who.pid due).stays ≡ true → IsReceived (case_for c client who.pid due) → IsAccepted c cert
+    judged accepted are of_session received =
+        record {
+          are_turns = accepted;
+          are_spans = spans_are are;
+          are_named = subst (λ (w : Who). are_of_session w (case_of c cert).stays ≡ true) named (subst (λ (case : Case). are_of_session who case.stays ≡ true) case_same of_session);
+          is_received = subst IsReceived case_same received;
+        }
+
+    pub got_is : (got : ℕ) → got ≡ length (case_for c client who.pid due).frames → got ≡ length (case_of c cert).frames
+    got_is got e = e ∙ ap (λ (case : Case). length case.frames) case_same
+
+    pub got_within : (got : ℕ) → got ≡ length (case_for c client who.pid due).frames → IsReceived (case_for c client who.pid due) → got ≤ length due
+    got_within got e received =
+        let short = prefix_within (positions_in (case_for c client who.pid due)) due received.is_prefix in
+        let long = length-map (λ (frame : FrameSeen). frame.position) (case_for c client who.pid due).frames in
+        omega (arith, e, short, long)
+
+    pub tail_is : (got : ℕ) → got ≤ length due → got + (length due - got) ≡ length (shown_due c cert)
+    tail_is got within = let all : got + (length due - got) ≡ length due = omega arith in all ∙ ap length due_is
+
+-- a certificate by its parts
+pub same_cert : (cert : CertificateSeen) (pid client : Text) (turns : List TurnSeen) (spans : List RoomSpan) → pid ≡ cert.pid → client ≡ cert.client → turns ≡ cert.turns → spans ≡ cert.spans → seen_as pid client turns spans ≡ cert
+same_cert cert pid client turns spans a b d e =
+    ap (λ x. seen_as x client turns spans) a ∙ ap (λ x. seen_as cert.pid x turns spans) b ∙ ap (λ x. seen_as cert.pid cert.client x spans) d
+    ∙ ap (λ x. seen_as cert.pid cert.client cert.turns x) e

@@ -1,0 +1,142 @@
+-- What comes first.
+use Rattle.std.proofs.Common.{◌≡◌, ◌<◌, ◌≤◌, ◌+◌, ◌*◌, ℕ, suc, Bool, true, false, List, ◌∷◌, ◌++◌, [], length, drop, Option, Some, None, slice_get, refl, sym, ap, subst, ◌∙◌, ◌⊎◌, inl, inr, arith, true≢false}
+use Rattle.std.specs.Option.{IsSome, option_map}
+use Rattle.std.proofs.lemmas.Bool.{cases_lt, cases_eq}
+use Rattle.std.proofs.lemmas.Option.{none-some, same_Some, slice_get_within}
+use Rattle.aud_node.specs.Stream.{Text}
+use Rattle.aud_node.specs.Cluster.{Cluster}
+use Rattle.aud_tap.specs.declared.records.StreamRec.{StreamRec}
+use Rattle.aud_client.specs.Told.{FrameSeen}
+use Rattle.aud_cert.specs.Certificate.{CertificateSeen, TurnSeen}
+use Rattle.aud_cert.specs.declared.fault.Fault.{Fault}
+use Rattle.aud_cert.specs.declared.fault.Fault.TheVariants as fault
+use Rattle.aud_check.specs.declared.refusal.Refusal.{Refusal}
+use Rattle.aud_check.specs.declared.refusal.Refusal.TheVariants.{NotItsTurn, EndInside, NoEnd, Cursor, Span, Names, Received, Memory}
+use Rattle.aud_check.specs.Compare.{mismatch}
+use Rattle.aud_check.specs.Frames.{AreEntries, IsEntry, IsFirstAltered}
+use Rattle.aud_check.specs.Faults.{Case, HasFault, IsReceived, IsFirstFault, fault_of, mismatch_fault, positions_in, fault_rank}
+use Rattle.aud_check.specs.TurnRefusals.{RefusesTurn, IsFirstOfTurns, AreTurnsAccepted, refusal_rank}
+use Rattle.aud_check.specs.Refusals.{Place, AtTurn, AtWhole, Refuses, RefusesWhole, RefuseNone, IsFirst, IsAccepted, rank, case_of}
+use Rattle.aud_check.proofs.Agreed.{mismatch-none}
+use Rattle.aud_check.proofs.TurnRefusals.{not_refused}
+
+-- a turn is refused by the first four alone
+turn_rank : (c : Cluster) (pid : Text) (k : ℕ) (t : TurnSeen) (later : List TurnSeen) (refusal : Refusal) → RefusesTurn c pid k t later refusal → refusal_rank refusal ≤ 3
+turn_rank c pid k t later NotItsTurn h = omega arith
+turn_rank c pid k t later EndInside h = omega arith
+turn_rank c pid k t later NoEnd h = omega arith
+turn_rank c pid k t later Cursor h = omega arith
+turn_rank c pid k t later Span h = absurd h
+turn_rank c pid k t later Names h = absurd h
+turn_rank c pid k t later (Received f) h = absurd h
+turn_rank c pid k t later Memory h = absurd h
+
+module _ (c : Cluster) (cert : CertificateSeen) where
+  -- the first that refuses the turns is the first of all
+  pub first_of_turns : (refusal : Refusal) → IsFirstOfTurns c cert.pid cert.turns refusal → IsFirst c cert refusal
+  first_of_turns refusal is =
+      record { place = AtTurn is.number; refuses = (is.turn, is.stands, is.is_first.refuses); none_before = go }
+    where
+      own : refusal_rank refusal ≤ 3
+      own = turn_rank c cert.pid is.number is.turn (drop (suc is.number) cert.turns) refusal is.is_first.refuses
+
+      at_turn : (k : ℕ) (other : Refusal) → 4 * k + refusal_rank other < 4 * is.number + refusal_rank refusal → (t : TurnSeen) → slice_get cert.turns k ≡ Some t
+          → RefusesTurn c cert.pid k t (drop (suc k) cert.turns) other → (k < is.number) ⊎ (is.number ≤ k) → ⊥
+      at_turn k other before t at h (inl less) = not_refused c cert.pid k t (drop (suc k) cert.turns) (is.accepted k t less at) other h
+      at_turn k other before t at h (inr more) =
+          let four = own in
+          let same : k ≡ is.number = omega arith in
+          let turn : t ≡ is.turn = same_Some t is.turn (sym at ∙ ap (slice_get cert.turns) same ∙ is.stands) in
+          is.is_first.none_before other (omega arith)
+          (subst (λ s. RefusesTurn c cert.pid is.number s (drop (suc is.number) cert.turns) other) turn (subst (λ n. RefusesTurn c cert.pid n t (drop (suc n) cert.turns) other) same h))
+
+      go : (place : Place) (other : Refusal) → rank cert place other < 4 * is.number + refusal_rank refusal → Refuses c cert place other → ⊥
+      go (AtTurn k) other before (t, at, h) = at_turn k other before t at h (cases_lt k is.number)
+      go AtWhole other before h =
+          let within = slice_get_within cert.turns is.number is.turn is.stands in
+          let four = own in
+          omega arith
+
+  -- where the turns are accepted, the first that refuses the whole is the first of all
+  pub first_of_whole : AreTurnsAccepted c cert.pid cert.turns → (refusal : Refusal) → RefusesWhole c cert refusal
+      → ((other : Refusal) → refusal_rank other < refusal_rank refusal → RefusesWhole c cert other → ⊥) → IsFirst c cert refusal
+  first_of_whole turns refusal h none = record { place = AtWhole; refuses = h; none_before = go }
+    where
+      go : (place : Place) (other : Refusal) → rank cert place other < 4 * length cert.turns + refusal_rank refusal → Refuses c cert place other → ⊥
+      go (AtTurn k) other before (t, at, refuses) = not_refused c cert.pid k t (drop (suc k) cert.turns) (turns k t at) other refuses
+      go AtWhole other before refuses = none other (omega arith) refuses
+
+-- ---- faults
+
+entry_of : (stream : List StreamRec) (before : List FrameSeen) (altered : FrameSeen) (behind : List FrameSeen) → AreEntries stream (before ++ altered ∷ behind) → IsEntry stream altered
+entry_of stream [] altered behind (is, rest) = is
+entry_of stream (frame ∷ before) altered behind (is, rest) = entry_of stream before altered behind rest
+
+pub no_altered : (stream : List StreamRec) (frames : List FrameSeen) (altered : FrameSeen) → AreEntries stream frames → IsFirstAltered stream frames altered → ⊥
+no_altered stream frames altered are is = is.is_altered (entry_of stream is.before altered is.behind (subst (AreEntries stream) is.parts are))
+
+pub no_mismatch : (case : Case) → mismatch (positions_in case) case.due ≡ None → (f : Fault) → mismatch_fault case ≡ Some f → ⊥
+no_mismatch case none f h = none-some f (sym (ap (option_map (fault_of case.stream)) none) ∙ h)
+
+pub some_or_none : {A : Type 0} (o : Option A) → o ≡ None → IsSome o → ⊥
+some_or_none None e h = true≢false (sym h)
+some_or_none (Some x) e h = none-some x (sym e)
+
+-- nothing is wrong with what was received
+pub no_fault : (case : Case) → IsReceived case → (f : Fault) → HasFault case f → ⊥
+no_fault case is fault.Frame h = some_or_none case.told.bad is.decodes h
+no_fault case is fault.Orphan h = true≢false (sym h ∙ is.has_no_orphan)
+no_fault case is (fault.Content off) (altered, first, named) = no_altered case.stream case.frames altered is.are_entries first
+no_fault case is (fault.Extra off) h = no_mismatch case ((mismatch-none (positions_in case) case.due).1 is.is_prefix) (fault.Extra off) h
+no_fault case is (fault.Doubled off) h = no_mismatch case ((mismatch-none (positions_in case) case.due).1 is.is_prefix) (fault.Doubled off) h
+no_fault case is (fault.Swapped off) h = no_mismatch case ((mismatch-none (positions_in case) case.due).1 is.is_prefix) (fault.Swapped off) h
+no_fault case is (fault.Lost off) h = no_mismatch case ((mismatch-none (positions_in case) case.due).1 is.is_prefix) (fault.Lost off) h
+no_fault case is (fault.Window connection) h = none-some connection (sym is.has_no_window ∙ h)
+no_fault case is fault.NoLog h = h
+no_fault case is fault.Chain h = h
+no_fault case is fault.Order h = h
+no_fault case is fault.Client h = h
+no_fault case is fault.Names h = h
+no_fault case is (fault.Tail n) h = h
+
+module _ (c : Cluster) (cert : CertificateSeen) where
+  pub first_span : AreTurnsAccepted c cert.pid cert.turns → RefusesWhole c cert Span → IsFirst c cert Span
+  first_span turns h = first_of_whole c cert turns Span h (λ other before refuses. absurd (omega arith))
+
+  pub first_names : AreTurnsAccepted c cert.pid cert.turns → (RefusesWhole c cert Span → ⊥) → RefusesWhole c cert Names → IsFirst c cert Names
+  first_names turns spans h = first_of_whole c cert turns Names h go
+    where
+      go : (other : Refusal) → refusal_rank other < 1 → RefusesWhole c cert other → ⊥
+      go Span before refuses = spans refuses
+      go Names before refuses = absurd (omega arith)
+      go (Received f) before refuses = absurd (omega arith)
+      go NotItsTurn before refuses = refuses
+      go EndInside before refuses = refuses
+      go NoEnd before refuses = refuses
+      go Cursor before refuses = refuses
+      go Memory before refuses = refuses
+
+  pub first_fault : AreTurnsAccepted c cert.pid cert.turns → (RefusesWhole c cert Span → ⊥) → (RefusesWhole c cert Names → ⊥) → (f : Fault) → IsFirstFault (case_of c cert) f → IsFirst c cert (Received f)
+  first_fault turns spans names f is = first_of_whole c cert turns (Received f) is.holds go
+    where
+      go : (other : Refusal) → refusal_rank other < 2 + fault_rank f → RefusesWhole c cert other → ⊥
+      go Span before refuses = spans refuses
+      go Names before refuses = names refuses
+      go (Received g) before refuses = is.none_before g (omega arith) refuses
+      go NotItsTurn before refuses = refuses
+      go EndInside before refuses = refuses
+      go NoEnd before refuses = refuses
+      go Cursor before refuses = refuses
+      go Memory before refuses = refuses
+
+  -- nothing refuses an accepted certificate
+  pub nothing_refuses : IsAccepted c cert → (place : Place) (refusal : Refusal) → Refuses c cert place refusal → ⊥
+  nothing_refuses is (AtTurn k) refusal (t, at, h) = not_refused c cert.pid k t (drop (suc k) cert.turns) (is.are_turns k t at) refusal h
+  nothing_refuses is AtWhole Span h = h is.are_spans
+  nothing_refuses is AtWhole Names h = true≢false (sym is.are_named ∙ h)
+  nothing_refuses is AtWhole (Received f) h = no_fault (case_of c cert) is.is_received f h
+  nothing_refuses is AtWhole NotItsTurn h = h
+  nothing_refuses is AtWhole EndInside h = h
+  nothing_refuses is AtWhole NoEnd h = h
+  nothing_refuses is AtWhole Cursor h = h
+  nothing_refuses is AtWhole Memory h = h

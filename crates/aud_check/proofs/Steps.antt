@@ -1,0 +1,116 @@
+-- One element more of a list, as a loop reads it.
+use Rattle.std.proofs.Common.{◌≡◌, ◌<◌, ◌≤◌, ◌+◌, ◌-◌, ◌==◌, ℕ, zero, suc, Bool, true, false, not, ◌&&◌, List, [], ◌∷◌, ◌++◌, length, map, flat_map, take, drop, get_or, Option, Some, None, slice_get, refl, sym, ap, subst, ◌∙◌, arith, append-nil, true≢false}
+use Rattle.std.specs.List.{list_all}
+use Rattle.std.specs.Option.{option_map}
+use Rattle.std.proofs.lemmas.List.{take-append-drop, append_assoc}
+use Rattle.std.proofs.lemmas.Option.{same_Some, none-some, slice_get-map, slice_get_read}
+use Rattle.aud_tap.specs.declared.records.StreamRec.{StreamRec}
+use Rattle.aud_rooms.specs.Turns.{Who}
+use Rattle.aud_client.specs.Told.{StaySeen, FrameSeen}
+use Rattle.aud_check.specs.Frames.{AreEntries, IsEntry, IsFirstAltered, frames_in}
+use Rattle.aud_check.specs.NamedStays.{are_of_session, is_of_session, is_empty}
+use Rattle.aud_check.proofs.Slices.{drop_at}
+
+pub at_map : {X Y : Type 0} (f : X → Y) (xs : List X) (i : ℕ) (x : X) → i < length xs → x ≡ get_or xs i x → slice_get (map f xs) i ≡ Some (f x)
+at_map {X} {Y} f xs i x h is =
+    slice_get-map f xs i ∙ go (slice_get xs i) (slice_get_read xs (length xs) i x refl h is)
+  where
+    go : (o : Option X) → o ≡ Some x → option_map f o ≡ Some (f x)
+    go o e = ap (option_map f) e
+
+pub take_at : {Y : Type 0} (ys : List Y) (i : ℕ) (y : Y) → slice_get ys i ≡ Some y → take (i + 1) ys ≡ take i ys ++ y ∷ []
+take_at {Y} ys i y at = ap (λ n. take n ys) (let e : i + 1 ≡ suc i = omega arith in e) ∙ go ys i at
+  where
+    go : (ys : List Y) (i : ℕ) → slice_get ys i ≡ Some y → take (suc i) ys ≡ take i ys ++ y ∷ []
+    go [] i at = absurd (none-some y at)
+    go (x ∷ ys) zero at = none ys ∙ ap (λ z. z ∷ []) (same_Some x y at)
+      where
+        none : (zs : List Y) → x ∷ take zero zs ≡ x ∷ []
+        none [] = refl
+        none (z ∷ zs) = refl
+    go (x ∷ ys) (suc i) at = ap (λ zs. x ∷ zs) (go ys i at)
+
+pub drop_from : {Y : Type 0} (ys : List Y) (i : ℕ) (y : Y) → slice_get ys i ≡ Some y → drop i ys ≡ y ∷ drop (i + 1) ys
+drop_from ys i y at = drop_at ys i y at ∙ ap (λ n. y ∷ drop n ys) (let e : suc i ≡ i + 1 = omega arith in e)
+
+-- ---- frames and entries
+
+entries_both : (stream : List StreamRec) (before : List FrameSeen) (frame : FrameSeen) → AreEntries stream before → IsEntry stream frame → AreEntries stream (before ++ frame ∷ [])
+entries_both stream [] frame all is = (is, tt)
+entries_both stream (x ∷ before) frame (first, rest) is = (first, entries_both stream before frame rest is)
+
+module _ {X : Type 0} (f : X → FrameSeen) (stream : List StreamRec) (xs : List X) (i : ℕ) (x : X) (h : i < length xs) (is : x ≡ get_or xs i x) (all : AreEntries stream (take i (map f xs))) where
+  pub entries_more : IsEntry stream (f x) → AreEntries stream (take (i + 1) (map f xs))
+  entries_more entry = subst (AreEntries stream) (sym (take_at (map f xs) i (f x) (at_map f xs i x h is))) (entries_both stream (take i (map f xs)) (f x) all entry)
+
+  pub altered_at : (IsEntry stream (f x) → ⊥) → IsFirstAltered stream (map f xs) (f x)
+  altered_at fails =
+      record {
+        before = take i (map f xs);
+        behind = drop (i + 1) (map f xs);
+        parts = sym (take-append-drop i (map f xs)) ∙ ap (λ ys. take i (map f xs) ++ ys) (drop_from (map f xs) i (f x) (at_map f xs i x h is));
+        are_entries = all;
+        is_altered = fails;
+      }
+
+-- ---- frames of stays
+
+pub flat_more : {X Y : Type 0} (f : X → List Y) (xs ys : List X) → flat_map f (xs ++ ys) ≡ flat_map f xs ++ flat_map f ys
+flat_more f [] ys = refl
+flat_more f (x ∷ xs) ys = ap (λ zs. f x ++ zs) (flat_more f xs ys) ∙ sym (append_assoc (f x) (flat_map f xs) (flat_map f ys))
+
+pub frames_more : {X : Type 0} (f : X → StaySeen) (xs : List X) (i : ℕ) (x : X) (old new : List FrameSeen) → i < length xs → x ≡ get_or xs i x
+    → old ≡ frames_in (take i (map f xs)) → new ≡ old ++ (f x).frames → new ≡ frames_in (take (i + 1) (map f xs))
+frames_more f xs i x old new h is was more =
+    more ∙ ap (λ fs. fs ++ (f x).frames) was
+    ∙ ap (λ fs. frames_in (take i (map f xs)) ++ fs) (sym (append-nil (f x).frames))
+    ∙ sym (flat_more (λ (stay : StaySeen). stay.frames) (take i (map f xs)) (f x ∷ []))
+    ∙ sym (ap frames_in (take_at (map f xs) i (f x) (at_map f xs i x h is)))
+
+map_more : {X Y : Type 0} (g : X → Y) (xs ys : List X) → map g (xs ++ ys) ≡ map g xs ++ map g ys
+map_more g [] ys = refl
+map_more g (x ∷ xs) ys = ap (λ zs. g x ∷ zs) (map_more g xs ys)
+
+pub mapped_more : {X Y Z : Type 0} (f : X → Y) (g : Y → Z) (xs : List X) (i : ℕ) (x : X) (old new : List Z) → i < length xs → x ≡ get_or xs i x
+    → old ≡ map g (take i (map f xs)) → new ≡ old ++ g (f x) ∷ [] → new ≡ map g (take (i + 1) (map f xs))
+mapped_more f g xs i x old new h is was more =
+    more ∙ ap (λ zs. zs ++ g (f x) ∷ []) was
+    ∙ sym (map_more g (take i (map f xs)) (f x ∷ []))
+    ∙ sym (ap (map g) (take_at (map f xs) i (f x) (at_map f xs i x h is)))
+
+-- ---- attachments
+
+same_map : {X Y Z : Type 0} (f : X → Y) (g : Y → Z) (xs : List X) → map g (map f xs) ≡ map (λ x. g (f x)) xs
+same_map f g [] = refl
+same_map f g (x ∷ xs) = ap (λ zs. g (f x) ∷ zs) (same_map f g xs)
+
+module _ {X Y Z : Type 0} (f : X → Y) (g : Y → Z) (xs : List X) (zs : List Z) (i : ℕ) (x : X) (z : Z) (h : i < length xs) (is : x ≡ get_or xs i x) (k : i < length zs) (at : z ≡ get_or zs i z) where
+  left_at : slice_get (map g (map f xs)) i ≡ Some (g (f x))
+  left_at = ap (λ ys. slice_get ys i) (same_map f g xs) ∙ at_map (λ y. g (f y)) xs i x h is
+
+  right_at : slice_get zs i ≡ Some z
+  right_at = slice_get_read zs (length zs) i z refl k at
+
+  pub same_more : g (f x) ≡ z → take i (map g (map f xs)) ≡ take i zs → take (i + 1) (map g (map f xs)) ≡ take (i + 1) zs
+  same_more e front =
+      take_at (map g (map f xs)) i (g (f x)) left_at
+      ∙ ap (λ ys. ys ++ g (f x) ∷ []) front
+      ∙ ap (λ y. take i zs ++ y ∷ []) e
+      ∙ sym (take_at zs i z right_at)
+
+  pub differ_at : (g (f x) ≡ z → ⊥) → map g (map f xs) ≡ zs → ⊥
+  differ_at fails same = fails (same_Some (g (f x)) z (sym left_at ∙ ap (λ ys. slice_get ys i) same ∙ right_at))
+
+-- ---- stays of a session
+
+list_all_map : {X : Type 0} (f : X → StaySeen) (test : StaySeen → Bool) (xs : List X) → list_all test (map f xs) ≡ list_all (λ x. test (f x)) xs
+list_all_map f test [] = refl
+list_all_map f test (x ∷ xs) = ap (λ b. test (f x) && b) (list_all_map f test xs)
+
+pub all_of_session : {X : Type 0} (f : X → StaySeen) (who : Who) (xs : List X) (r : Bool) → 0 < length xs → r ≡ list_all (λ x. is_of_session who (f x)) xs → r ≡ are_of_session who (map f xs)
+all_of_session f who [] r some is = absurd (omega arith)
+all_of_session f who (x ∷ xs) r some is = is ∙ sym (list_all_map f (is_of_session who) (x ∷ xs))
+
+pub some_where_not : {X : Type 0} (xs : List X) → (length xs == 0) ≡ false → 0 < length xs
+some_where_not [] e = absurd (true≢false e)
+some_where_not (x ∷ xs) e = omega arith

@@ -1,0 +1,139 @@
+//! The check of a certificate.
+ghost use Rattle.std.specs.Prelude.{◌≡◌, ◌<◌, ◌+◌, List, length, IfErr, IfOk, OnOk};
+ghost use Rattle.std.specs.List.{All};
+ghost use Rattle.aud_merge.specs.declared.step.Step.{Step};
+ghost use Rattle.aud_merge.specs.Runs.{IsRun};
+ghost use Rattle.aud_merge.specs.Due.{due};
+ghost use Rattle.aud_merge.specs.ByTurns.{IsPrefixOf};
+ghost use Rattle.aud_rooms.specs.Turns.{AreTurns, IsChain};
+ghost use Rattle.aud_cert.specs.Certificate.{IsOver, IsTurnOver};
+ghost use Rattle.aud_check.specs.Faults.{positions_in};
+ghost use Rattle.aud_check.specs.Frames.{AreEntries};
+ghost use Rattle.aud_check.specs.Refusals.{IsAccepted, IsFirstRefusal, IsMismatch, Place, Refuses, case_of, seen_as};
+ghost use Rattle.aud_check.specs.Shown.{frames_received, shown_due, turns_of, who_in, who_of};
+
+use crate::client::check_client;
+use crate::due::shown_due;
+use crate::refusal::Refusal;
+use crate::session::{Session, session_of};
+use crate::spans::are_spans;
+use crate::turn::check_turns;
+use aud_cert::{Certificate, Turn};
+use aud_merge::due_by_turns;
+use aud_node::Logs;
+use aud_rooms::Span;
+use std::alloc::Global;
+
+/// What an accepted certificate shows.
+#[derive(Clone, Copy, Debug, PartialEq, Eq, Drop)]
+pub struct Accepted {
+    /// How many of the due events were received.
+    pub got: usize,
+    /// How many due events behind the last one received were not.
+    pub tail: usize,
+    /// How many turns the certificate shows.
+    pub turns: usize,
+}
+
+/// Accepts a certificate over these logs exactly where nothing refuses it: the turns are the session's, from its `open`
+/// on; the spans are those of the turns; the named client's tap tells of this session; and what the client received is
+/// what was due to it by these turns, up to the last event received. Else the first refusal is answered, in the order of
+/// [`Refusal`], or want of memory.
+///
+/// Where the logs have no run, what is said of every run says nothing.
+pub fn check(
+    alloc: Global,
+    logs: &Logs<'_>,
+    cert: &Certificate<'_>,
+) -> Result<Accepted, Refusal>
+    requires over { IsOver logs.now cert.now }
+    requires some { 0 < length cert.now.turns }
+
+    // Exactly: nothing refuses what is accepted, and what is refused is refused by this first.
+    ensures accepted { OnOk result (IsAccepted logs.now cert.now) }
+    ensures not_refused { OnOk result ((place : Place) (refusal : Refusal) → Refuses logs.now cert.now place refusal → ⊥) }
+    ensures refused { IfErr result (IsFirstRefusal logs.now cert.now) }
+
+    ensures got { IfOk result (λ a. a.got ≡ length (frames_received logs.now cert.now)) }
+    ensures tail { IfOk result (λ a. a.got + a.tail ≡ length (shown_due logs.now cert.now)) }
+    ensures turns { IfOk result (λ a. a.turns ≡ length cert.now.turns) }
+
+    // The turns are the session's, from turn 0 on.
+    ensures are_turns { OnOk result (AreTurns logs.now (who_of cert.now) 0 (turns_of logs.now cert.now)) }
+
+    // Delivery in every run.
+    ensures in_every_run { OnOk result ((run : List Step) → IsRun logs.now run
+        → IsPrefixOf (positions_in (case_of logs.now cert.now)) (due logs.now run cert.now.pid)) }
+    ensures frames_are_entries { OnOk result (AreEntries logs.now.stream (frames_received logs.now cert.now)) }
+    ensures counts_in_every_run { IfOk result (λ a. IsChain logs.now (who_of cert.now) (turns_of logs.now cert.now)
+        → (run : List Step) → IsRun logs.now run → a.got + a.tail ≡ length (due logs.now run cert.now.pid)) }
+    ensures in_no_run { IfErr result (λ refusal. IsMismatch refusal
+        → IsChain logs.now (who_of cert.now) (turns_of logs.now cert.now)
+        → (run : List Step) → IsRun logs.now run
+        → IsPrefixOf (positions_in (case_of logs.now cert.now)) (due logs.now run cert.now.pid) → ⊥) }
+{
+    due_by_turns();
+    judge(alloc, logs, cert)
+}
+
+/// The answer of [`check`], by what it says of this certificate alone.
+fn judge<'s>(
+    alloc: Global,
+    logs: &'s Logs<'_>,
+    cert: &'s Certificate<'_>,
+) -> Result<Accepted, Refusal>
+    requires over { IsOver logs.now cert.now }
+    requires some { 0 < length cert.now.turns }
+    ensures accepted { OnOk result (IsAccepted logs.now cert.now) }
+    ensures refused { IfErr result (IsFirstRefusal logs.now cert.now) }
+    ensures got { IfOk result (λ a. a.got ≡ length (frames_received logs.now cert.now)) }
+    ensures tail { IfOk result (λ a. a.got + a.tail ≡ length (shown_due logs.now cert.now)) }
+    ensures turns { IfOk result (λ a. a.turns ≡ length cert.now.turns) }
+{
+    let session = session_of(cert);
+    let turns = cert.turns.as_slice();
+    let spans = cert.spans.as_slice();
+    let judged = judge_parts(alloc, logs, &session, cert.client, turns, spans);
+    judged
+}
+
+/// The same of a certificate with these parts. The turns are looked at first, then the spans, and then what the client
+/// received.
+fn judge_parts<'s>(
+    alloc: Global,
+    logs: &'s Logs<'_>,
+    session: &Session<'s>,
+    client: &str,
+    turns: &[Turn<'_>],
+    spans: &[Span<'_>],
+) -> Result<Accepted, Refusal>
+    requires over { All (IsTurnOver logs.now) turns.now }
+    requires some { 0 < length turns.now }
+    requires session { session.now ≡ who_in session.now.pid turns.now }
+    ensures accepted { OnOk result (IsAccepted logs.now (seen_as session.now.pid client.now turns.now spans.now)) }
+    ensures refused { IfErr result (IsFirstRefusal logs.now (seen_as session.now.pid client.now turns.now spans.now)) }
+    ensures got { IfOk result (λ a. a.got ≡ length (frames_received logs.now (seen_as session.now.pid client.now turns.now spans.now))) }
+    ensures tail { IfOk result (λ a. a.got + a.tail ≡ length (shown_due logs.now (seen_as session.now.pid client.now turns.now spans.now))) }
+    ensures turns { IfOk result (λ a. a.turns ≡ length turns.now) }
+{
+    match check_turns(logs, session.pid, turns) {
+        Ok(()) => {}
+        Err(refusal) => return Err(refusal),
+    }
+    match are_spans(alloc, logs, session, turns, spans) {
+        Ok(true) => {}
+        Ok(false) => return Err(Refusal::Span),
+        Err(_) => return Err(Refusal::Memory),
+    }
+    let Ok(due) = shown_due(alloc, logs, session, turns, spans) else {
+        return Err(Refusal::Memory);
+    };
+    match check_client(alloc, logs, session, client, due.as_slice()) {
+        Ok(got) => Ok(Accepted {
+            got,
+            tail: due.len() - got,
+            turns: turns.len(),
+        }),
+        Err(refusal) => Err(refusal),
+    }
+}

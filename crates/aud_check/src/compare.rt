@@ -1,0 +1,61 @@
+//! The received positions against those due.
+ghost use Rattle.std.specs.Prelude.{◌≡◌, ◌↔◌, ◌<◌, length, IsNone};
+ghost use Rattle.aud_merge.specs.ByTurns.{IsPrefixOf};
+ghost use Rattle.aud_check.specs.Compare.{agreed, mismatch, wrong_there};
+
+/// What is wrong with the received positions, at the first place where they aren't those due.
+#[derive(Clone, Copy, Debug, PartialEq, Eq)]
+pub enum Mismatch {
+    /// This one was received and isn't due.
+    Extra(u64),
+    /// This one was received before.
+    Doubled(u64),
+    /// This one is due here, and received later.
+    Swapped(u64),
+    /// This one is due here, and isn't received.
+    Lost(u64),
+}
+
+/// The first mismatch of the received positions with those due; none where the due ones begin with the received
+/// ones. Both are gone through once, and once more at the mismatch.
+pub fn first_mismatch(received: &[u64], due: &[u64]) -> Option<Mismatch>
+    ensures first { result ≡ mismatch received.now due.now }
+    ensures none_where_prefix { IsNone result ↔ IsPrefixOf received.now due.now }
+{
+    let place = agreed_len(received, due);
+    match received.get(place) {
+        Some(position) => Some(wrong_at(received, due, place, *position)),
+        None => None,
+    }
+}
+
+/// How far the lists agree.
+fn agreed_len(received: &[u64], due: &[u64]) -> usize
+    ensures { result ≡ agreed received.now due.now }
+{
+    let mut i = 0;
+    while i < received.len() && i < due.len() && received[i] == due[i] {
+        i += 1;
+    }
+    i
+}
+
+/// What is wrong at this place, where this position was received and another one is due, or none.
+fn wrong_at(received: &[u64], due: &[u64], place: usize, position: u64) -> Mismatch
+    requires { place < length received.now }
+    ensures { result ≡ wrong_there received.now due.now place position }
+{
+    if !due.contains(&position) {
+        return Mismatch::Extra(position);
+    }
+    let (before, _) = received.split_at(place);
+    if before.contains(&position) {
+        return Mismatch::Doubled(position);
+    }
+    let (_, later) = received.split_at(place + 1);
+    match due.get(place) {
+        Some(other) if later.contains(other) => Mismatch::Swapped(*other),
+        Some(other) => Mismatch::Lost(*other),
+        None => Mismatch::Doubled(position),
+    }
+}

@@ -1,0 +1,54 @@
+//! What is due by the turns of a certificate.
+ghost use Rattle.std.specs.Prelude.{◌≡◌, ◌<◌, IfOk, length};
+ghost use Rattle.aud_rooms.specs.Spans.{AreSpansOfTurns};
+ghost use Rattle.aud_rooms.specs.TurnsDue.{turns_due};
+ghost use Rattle.aud_check.specs.Shown.{shown_high, shown_low, slices_at};
+ghost use Rattle.aud_check.specs.TurnRefusals.{AreTurnsAccepted};
+
+use crate::session::Session;
+use aud_cert::Turn;
+use aud_node::Logs;
+use aud_rooms::{Span, due_by_spans_of_turns, due_of};
+use aud_tap::Memory;
+use std::alloc::Global;
+
+/// What is due to the session by the turns, which were accepted, and whose spans these are.
+pub(crate) fn shown_due(
+    alloc: Global,
+    logs: &Logs<'_>,
+    session: &Session<'_>,
+    turns: &[Turn<'_>],
+    spans: &[Span<'_>],
+) -> Result<Vec<u64>, Memory>
+    requires some { 0 < length turns.now }
+    requires accepted { AreTurnsAccepted logs.now session.now.pid turns.now }
+    requires spans { AreSpansOfTurns logs.now.stream session.now (slices_at logs.now turns.now) spans.now }
+    ensures { IfOk result (λ due. due.items ≡ turns_due logs.now.stream session.now (slices_at logs.now turns.now)) }
+{
+    due_by_spans_of_turns();
+    let birth = first_low(turns);
+    let high = greatest_high(turns);
+    let due = due_of(alloc, spans, logs.stream(), session.nsp, birth, high)?;
+    Ok(due)
+}
+
+/// The position that the first turn starts from.
+pub(crate) fn first_low(turns: &[Turn<'_>]) -> u64
+    ensures { result ≡ shown_low turns.now }
+{
+    match turns.first() {
+        Some(turn) => turn.low,
+        None => 0,
+    }
+}
+
+/// The greatest position that the turns reach.
+fn greatest_high(turns: &[Turn<'_>]) -> u64
+    ensures { result ≡ shown_high turns.now }
+{
+    let mut high = 0;
+    for turn in turns {
+        high = turn.high.max(high);
+    }
+    high
+}

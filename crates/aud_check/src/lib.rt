@@ -1,0 +1,26 @@
+//! Checks certificates: whether a session received exactly what was due to it, in every run of the logs.
+//!
+//! Begin at [`check`]; [`Refusal`] says what it looks for, and in which order.
+#![tactic(auto)]
+
+mod certificate;
+mod client;
+mod compare;
+mod content;
+mod due;
+mod own;
+mod received;
+mod refusal;
+mod session;
+mod spans;
+mod stays;
+mod turn;
+mod turn_end;
+mod window;
+
+pub use certificate::{Accepted, check};
+pub use compare::{Mismatch, first_mismatch};
+pub use refusal::Refusal;
+
+#[cfg(test)]
+mod tests;

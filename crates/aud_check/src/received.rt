@@ -1,0 +1,140 @@
+//! What a client received of a session against what was due to it.
+ghost use Rattle.std.specs.Prelude.{◌≡◌, IfErr, IfOk, OnOk, length, map};
+ghost use Rattle.aud_client.specs.Told.{FrameSeen};
+ghost use Rattle.aud_cert.specs.declared.fault.Fault.TheVariants.{Content};
+ghost use Rattle.aud_check.specs.Ascending.{IsAscending};
+ghost use Rattle.aud_check.specs.Faults.{IsReceived, fault_of, named, position_in};
+ghost use Rattle.aud_check.specs.Frames.{frames_in, offset_at};
+ghost use Rattle.aud_check.specs.Wrong.{IsFault, IsFirstWrong, by_stays};
+
+use crate::compare::{Mismatch, first_mismatch};
+use crate::content::first_altered;
+use crate::stays::frames_in;
+use crate::window::wrong_window;
+use aud_cert::Fault;
+use aud_client::{Frame, Received, Stay};
+use aud_node::{Stream, offset};
+use aud_tap::{Memory, Text};
+use std::alloc::Global;
+
+/// What is wrong with what a client received, or want of memory.
+#[derive(Drop)]
+pub(crate) enum Wrong {
+    Fault(Fault),
+    Memory,
+}
+
+/// How many of the due positions were received, where nothing is wrong; else the first fault that holds. The stays are
+/// those that name the session.
+pub(crate) fn check_received(
+    alloc: Global,
+    stream: &Stream<'_>,
+    received: &Received<'_>,
+    stays: &[&Stay<'_>],
+    due: &[u64],
+) -> Result<usize, Wrong>
+    requires { IsAscending due.now }
+    ensures received { OnOk result (IsReceived (by_stays stream.now received.now (map (λ stay. stay.now) stays.now) due.now)) }
+    ensures got { IfOk result (λ got. got ≡ length (frames_in (map (λ stay. stay.now) stays.now))) }
+    ensures wrong { IfErr result (IsFirstWrong (by_stays stream.now received.now (map (λ stay. stay.now) stays.now) due.now)) }
+{
+    if received.bad.is_some() {
+        return Err(Wrong::Fault(Fault::Frame));
+    }
+    if received.orphan {
+        return Err(Wrong::Fault(Fault::Orphan));
+    }
+    let Ok(frames) = frames_in(alloc, stays) else {
+        return Err(Wrong::Memory);
+    };
+    if let Some(frame) = first_altered(stream, frames.as_slice()) {
+        return Err(content(alloc, stream, frame.position));
+    }
+    let Ok(positions) = positions_of(alloc, frames.as_slice()) else {
+        return Err(Wrong::Memory);
+    };
+    if let Some(mismatch) = first_mismatch(positions.as_slice(), due) {
+        return Err(fault_of(alloc, stream, mismatch));
+    }
+    match wrong_window(stream, stays, positions.as_slice()) {
+        Some(c) => Err(Wrong::Fault(Fault::Window(c))),
+        None => Ok(positions.len()),
+    }
+}
+
+/// The positions of the frames.
+fn positions_of(alloc: Global, frames: &[&Frame<'_>]) -> Result<Vec<u64>, Memory>
+    ensures { IfOk result (λ positions. positions.items ≡ map (λ (frame : FrameSeen). frame.position) (map (λ frame. frame.now) frames.now)) }
+{
+    let mut positions = Vec::new(alloc);
+    for frame in frames {
+        let Ok(()) = positions.push(position_of(*frame)) else {
+            return Err(Memory);
+        };
+    }
+    Ok(positions)
+}
+
+fn position_of(frame: &Frame<'_>) -> u64
+    ensures { result ≡ frame.now.position }
+{
+    frame.position
+}
+
+/// The fault that the frame at the position isn't its entry.
+fn content(alloc: Global, stream: &Stream<'_>, position: u64) -> Wrong
+    ensures { IsFault (Content (offset_at stream.now position)) result }
+{
+    match offset_at(alloc, stream, position) {
+        Ok(off) => Wrong::Fault(Fault::Content(off)),
+        Err(Memory) => Wrong::Memory,
+    }
+}
+
+/// The mismatch as a fault.
+fn fault_of(alloc: Global, stream: &Stream<'_>, mismatch: Mismatch) -> Wrong
+    ensures { IsFault (fault_of stream.now mismatch) result }
+{
+    match offset_at(alloc, stream, position_in(mismatch)) {
+        Ok(off) => Wrong::Fault(named(mismatch, off)),
+        Err(Memory) => Wrong::Memory,
+    }
+}
+
+/// The position that the mismatch is about.
+fn position_in(mismatch: Mismatch) -> u64
+    ensures { result ≡ position_in mismatch }
+{
+    match mismatch {
+        Mismatch::Extra(position) => position,
+        Mismatch::Doubled(position) => position,
+        Mismatch::Swapped(position) => position,
+        Mismatch::Lost(position) => position,
+    }
+}
+
+/// The mismatch as a fault about this offset.
+fn named(mismatch: Mismatch, off: Text) -> Fault
+    ensures { result ≡ named mismatch off }
+{
+    match mismatch {
+        Mismatch::Extra(_) => Fault::Extra(off),
+        Mismatch::Doubled(_) => Fault::Doubled(off),
+        Mismatch::Swapped(_) => Fault::Swapped(off),
+        Mismatch::Lost(_) => Fault::Lost(off),
+    }
+}
+
+/// The offset of the entry at the position, in memory of its own; the empty text where there is none.
+fn offset_at(alloc: Global, stream: &Stream<'_>, position: u64) -> Result<Text, Memory>
+    ensures { IfOk result (λ off. off ≡ offset_at stream.now position) }
+{
+    let off = match stream.entry(position) {
+        Some(entry) => offset(entry),
+        None => "",
+    };
+    match String::from_str(alloc, off) {
+        Ok(off) => Ok(Text::new(off)),
+        Err(_) => Err(Memory),
+    }
+}

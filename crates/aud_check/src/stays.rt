@@ -1,0 +1,112 @@
+//! The stays whose reply names a session.
+ghost use Rattle.std.specs.Prelude.{◌≡◌, ◌++◌, IfOk, OnOk, map};
+ghost use Rattle.std.specs.List.{list_all};
+ghost use Rattle.aud_client.specs.Received.{is_recovered, names, stays_naming};
+ghost use Rattle.aud_check.specs.NamedStays.{are_of_session, has_sid, is_of_session};
+ghost use Rattle.aud_check.specs.Frames.{frames_in};
+
+use crate::session::Session;
+use aud_client::{Frame, Reply, Stay};
+use aud_tap::Memory;
+use std::alloc::Global;
+
+/// The stays whose reply names the session, lent.
+pub(crate) fn stays_naming<'s>(
+    alloc: Global,
+    pid: &str,
+    stays: &'s [Stay<'s>],
+) -> Result<Vec<&'s Stay<'s>>, Memory>
+    ensures { IfOk result (λ naming. map (λ stay. stay.now) naming.items ≡ stays_naming pid.now stays.now) }
+{
+    let mut naming = Vec::new(alloc);
+    for stay in stays {
+        if names(pid, stay) {
+            let Ok(()) = naming.push(stay) else {
+                return Err(Memory);
+            };
+        }
+    }
+    Ok(naming)
+}
+
+/// Whether the stay's reply names the session.
+pub(crate) fn names(pid: &str, stay: &Stay<'_>) -> bool
+    ensures { result ≡ names pid.now stay.now }
+{
+    match &stay.reply {
+        Some(reply) => match &reply.pid {
+            Some(other) => other.as_str() == pid,
+            None => false,
+        },
+        None => false,
+    }
+}
+
+/// Whether the stay was asked with the pid that its reply names.
+pub(crate) fn is_recovered(stay: &Stay<'_>) -> bool
+    ensures { result ≡ is_recovered stay.now }
+{
+    match &stay.asked {
+        Some(asked) => names(asked.pid.as_str(), stay),
+        None => false,
+    }
+}
+
+/// Whether there are stays, and each is of the session's namespace and has a reply with the session's sid.
+pub(crate) fn are_of_session(session: &Session<'_>, stays: &[&Stay<'_>]) -> bool
+    ensures { result ≡ are_of_session session.now (map (λ stay. stay.now) stays.now) }
+{
+    if stays.is_empty() {
+        return false;
+    }
+    all_are_of_session(session, stays)
+}
+
+fn all_are_of_session(session: &Session<'_>, stays: &[&Stay<'_>]) -> bool
+    ensures { result ≡ list_all (λ stay. is_of_session session.now stay.now) stays.now }
+{
+    stays.iter().all(|stay| is_of_session(session, *stay))
+}
+
+/// Whether the stay is of the session's namespace, and its reply has the session's sid.
+fn is_of_session(session: &Session<'_>, stay: &Stay<'_>) -> bool
+    ensures { result ≡ is_of_session session.now stay.now }
+{
+    stay.nsp == session.nsp && has_sid(session.sid, &stay.reply)
+}
+
+/// Whether there is a reply, and it has this sid.
+fn has_sid(sid: &str, reply: &Option<Reply>) -> bool
+    ensures { result ≡ has_sid sid.now reply.now }
+{
+    match reply {
+        Some(reply) => reply.sid.as_str() == sid,
+        None => false,
+    }
+}
+
+/// The frames of the stays, stay after stay, lent.
+pub(crate) fn frames_in<'s>(
+    alloc: Global,
+    stays: &[&'s Stay<'s>],
+) -> Result<Vec<&'s Frame<'s>>, Memory>
+    ensures { IfOk result (λ frames. map (λ frame. frame.now) frames.items ≡ frames_in (map (λ stay. stay.now) stays.now)) }
+{
+    let mut frames = Vec::new(alloc);
+    for stay in stays {
+        push_frames(&mut frames, *stay)?;
+    }
+    Ok(frames)
+}
+
+/// Adds the frames of the stay.
+fn push_frames<'s>(frames: &mut Vec<&'s Frame<'s>>, stay: &'s Stay<'s>) -> Result<(), Memory>
+    ensures { OnOk result (map (λ frame. frame.now) frames.new.items ≡ map (λ frame. frame.now) frames.old.items ++ stay.now.frames) }
+{
+    for frame in &stay.frames {
+        let Ok(()) = frames.push(frame) else {
+            return Err(Memory);
+        };
+    }
+    Ok(())
+}
