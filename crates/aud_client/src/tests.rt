@@ -1,5 +1,5 @@
 //! Worked examples: the values are those that the rules of stays and frames give.
-use crate::{Received, Stay, received};
+use crate::{Frame, Stay, received};
 use aud_node::{ClientTap, Logs};
 use aud_tap::{Bytes, Line, Taps, read_bundle};
 use std::alloc::{AllocError, Global};
@@ -47,21 +47,27 @@ fn line(alloc: Global, number: u64, text: &str) -> Result<Line, AllocError> {
     })
 }
 
-/// The taps of the lines.
-fn taps(alloc: Global, parts: &[&[&str]]) -> Result<Taps, Fail> {
-    let mut lines = Vec::new(alloc);
-    for part in parts {
-        for text in part.iter() {
-            let number = lines.len() as u64 + 1;
-            lines.push(line(alloc, number, text)?)?;
-        }
+/// The lines come behind the others.
+fn push_lines(alloc: Global, lines: &mut Vec<Line>, texts: &[&str]) -> Result<(), AllocError> {
+    for text in texts {
+        let number = lines.len() as u64 + 1;
+        lines.push(line(alloc, number, text)?)?;
     }
+    Ok(())
+}
+
+/// The stream, and the tap `c1` with these records.
+fn taps(alloc: Global, records: &[&str]) -> Result<Taps, Fail> {
+    let mut lines = Vec::new(alloc);
+    push_lines(alloc, &mut lines, &STREAM)?;
+    push_lines(alloc, &mut lines, &[HEADER])?;
+    push_lines(alloc, &mut lines, records)?;
     Ok(read_bundle(alloc, lines.as_slice())?)
 }
 
-/// The client's tap with the name.
-fn client<'a, 'b>(logs: &'b Logs<'a>, name: &str) -> Option<&'b ClientTap<'a>> {
-    logs.client(logs.place_of(name)?)
+/// The tap `c1`.
+fn client<'a, 'b>(logs: &'b Logs<'a>) -> Option<&'b ClientTap<'a>> {
+    logs.client(logs.place_of("c1")?)
 }
 
 /// A line for each stay: the connection, the namespace, the reply's pid and sid, the pid and the offset that were asked
@@ -86,7 +92,10 @@ fn write_stay(out: &mut String, stay: &Stay<'_>) -> Result<(), AllocError> {
     writeln!(out, "")
 }
 
-fn written(alloc: Global, got: &Received<'_>) -> Result<String, AllocError> {
+/// The stays of the tap `c1`, whether it has an orphan, and its first bad record.
+fn written(alloc: Global, logs: &Logs<'_>) -> Result<String, Fail> {
+    let tap = client(logs).ok_or("no such tap")?;
+    let got = received(alloc, tap, logs.stream())?;
     let mut out = String::new(alloc);
     for stay in got.stays.iter() {
         write_stay(&mut out, stay)?;
@@ -102,13 +111,36 @@ fn written(alloc: Global, got: &Received<'_>) -> Result<String, AllocError> {
 
 /// What the tap `c1` with these records tells.
 fn told(alloc: Global, records: &[&str]) -> Result<String, Fail> {
-    let taps = taps(alloc, &[&STREAM, &[HEADER], records])?;
+    let taps = taps(alloc, records)?;
     let logs = Logs::build(alloc, &taps)?;
-    let Some(tap) = client(&logs, "c1") else {
-        return Err(Fail::new("no such tap"));
-    };
+    written(alloc, &logs)
+}
+
+/// A line for each frame: its position, its text, and how many bytes each attachment has, and which is the first.
+fn write_frame(out: &mut String, frame: &Frame<'_>) -> Result<(), AllocError> {
+    let (position, text) = (frame.position, frame.text);
+    write!(out, "{position} {text}")?;
+    for blob in frame.bin {
+        let (length, first) = (
+            blob.as_slice().len(),
+            blob.as_slice().first().copied().unwrap_or(0),
+        );
+        write!(out, " {length}:{first}")?;
+    }
+    writeln!(out, "")
+}
+
+/// The frames of the tap `c1`.
+fn frames(alloc: Global, logs: &Logs<'_>) -> Result<String, Fail> {
+    let tap = client(logs).ok_or("no such tap")?;
     let got = received(alloc, tap, logs.stream())?;
-    Ok(written(alloc, &got)?)
+    let mut out = String::new(alloc);
+    for stay in got.stays.iter() {
+        for frame in stay.frames.iter() {
+            write_frame(&mut out, frame)?;
+        }
+    }
+    Ok(out)
 }
 
 #[test]
@@ -268,24 +300,11 @@ fn the_first_bad_record(rt: HostRuntime) -> Result<(), Fail> {
 #[test]
 fn frames_are_lent_as_they_came(rt: HostRuntime) -> Result<(), Fail> {
     let header = r#"c1 {"k":"in","t":"452-[\"g\",\"5-0\"]"}"#;
-    let pieces = [
-        r#"c1 {"k":"inb","b":"AQI="}"#,
-        r#"c1 {"k":"inb","b":"BA=="}"#,
-    ];
-    let taps = taps(rt.alloc(), &[&STREAM, &[HEADER, FIRST, header], &pieces])?;
+    let first = r#"c1 {"k":"inb","b":"AQI="}"#;
+    let last = r#"c1 {"k":"poll","t":"bBA=="}"#;
+    let taps = taps(rt.alloc(), &[FIRST, header, first, last])?;
     let logs = Logs::build(rt.alloc(), &taps)?;
-    let Some(tap) = client(&logs, "c1") else {
-        return Err(Fail::new("no such tap"));
-    };
-    let got = received(rt.alloc(), tap, logs.stream())?;
-
-    assert_eq!(rt; got.stays.len(), 1);
-    let frames = got.stays[0].frames.as_slice();
-    assert_eq!(rt; frames.len(), 1);
-    assert_eq!(rt; frames[0].position, 5);
-    assert_eq!(rt; frames[0].text, r#"52-["g","5-0"]"#);
-    assert_eq!(rt; frames[0].bin.len(), 2);
-    assert_eq!(rt; frames[0].bin[0].as_slice(), &[1u8, 2][..]);
-    assert_eq!(rt; frames[0].bin[1].as_slice(), &[4u8][..]);
+    let frames = frames(rt.alloc(), &logs)?;
+    assert_eq!(rt; frames.as_str(), "5 52-[\"g\",\"5-0\"] 2:1 1:4\n");
     Ok(())
 }

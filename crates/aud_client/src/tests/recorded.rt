@@ -1,7 +1,7 @@
 //! Taps recorded from clients of python-socketio 5.7.2, each with the stream.
-use crate::received;
-use crate::tests::{client, taps, written};
+use crate::tests::{push_lines, written};
 use aud_node::Logs;
+use aud_tap::read_bundle;
 use std::alloc::Global;
 use std::test::Fail;
 
@@ -56,14 +56,12 @@ const RESTARTED: [&str; 15] = [
     r#"c1 {"k":"in","t":"42[\"two\",\"1795330280429-0\"]"}"#,
 ];
 
-fn told(alloc: Global, lines: &[&str]) -> Result<String, Fail> {
-    let taps = taps(alloc, &[lines])?;
+fn told(alloc: Global, texts: &[&str]) -> Result<String, Fail> {
+    let mut lines = Vec::new(alloc);
+    push_lines(alloc, &mut lines, texts)?;
+    let taps = read_bundle(alloc, lines.as_slice())?;
     let logs = Logs::build(alloc, &taps)?;
-    let Some(tap) = client(&logs, "c1") else {
-        return Err(Fail::new("no such tap"));
-    };
-    let got = received(alloc, tap, logs.stream())?;
-    Ok(written(alloc, &got)?)
+    written(alloc, &logs)
 }
 
 #[test]
