@@ -74,3 +74,6 @@ pub fn value_record(alloc: Global, d: &Value) -> Result<Rec, LineFault>
     let kind = kind_of(d)?;
     record(alloc, kind, d)
 }
+
+#[cfg(test)]
+mod tests;
