@@ -13,10 +13,7 @@ use Rattle.aud_client.specs.Stays.{stays}
 use Rattle.aud_client.specs.Told.{StaySeen, told}
 use Rattle.aud_client.specs.Received.{stays_of}
 use Rattle.aud_client.specs.Kept.{Keeps, packets_seen}
-
-map_more : {X Y : Type 0} (f : X → Y) (xs : List X) (x : X) → map f (xs ++ x ∷ []) ≡ map f xs ++ f x ∷ []
-map_more f [] x = refl
-map_more f (y ∷ ys) x = ap (λ l. f y ∷ l) (map_more f ys x)
+use Rattle.aud_client.proofs.Maps.{map_more}
 
 pub packet_more : (stream : List StreamRec) (c : ℕ) (st : Stays) (done : List StaySeen) (packets : List Placed) (i : ℕ) (p : Placed)
     → i < length packets → p ≡ get_or packets i p

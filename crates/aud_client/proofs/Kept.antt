@@ -15,7 +15,7 @@ use Rattle.aud_client.specs.Kept.{Keeps, open_at, place_for, unless_replied, fre
 use Rattle.aud_client.proofs.OnePass.{stays-begins, stays-goes_on}
 use Rattle.aud_client.proofs.Steps.{open-none, open-some, open-begins, open-goes_on}
 use Rattle.aud_client.proofs.Telling.{has_reply, told-first, told-more}
-use Rattle.aud_client.proofs.Maps.{get_map, set_map, get_behind, set_behind}
+use Rattle.aud_client.proofs.Maps.{get_map, set_map, map_more, get_behind, set_behind}
 
 get_at : (xs : List StaySeen) (k : ℕ) (s : StaySeen) → k < length xs → s ≡ get_or xs k s → slice_get xs k ≡ Some s
 get_at [] k s h e = absurd (omega arith)
@@ -32,10 +32,6 @@ grown_at stream (Ok x) items place s new p t h at is w =
     ap (set items place) (w ∙ ap (λ u. grown stream u p) here)
 
 module _ (stream : List StreamRec) (c : ℕ) where
-  map_more : {X Y : Type 0} (f : X → Y) (xs : List X) (x : X) → map f (xs ++ x ∷ []) ≡ map f xs ++ f x ∷ []
-  map_more f [] x = refl
-  map_more f (y ∷ ys) x = ap (λ l. f y ∷ l) (map_more f ys x)
-
   -- the stay that stands open in the packet's namespace
   told_at : (st : Stays) (done : List StaySeen) (l : List TapPacket) (p : TapPacket) (k : ℕ) → Keeps stream c st done l → open_place (namespace p) l ≡ Some k
       → slice_get st.stays.items (length done + k) ≡ Some (told stream c (stay_after (namespace p) l))
