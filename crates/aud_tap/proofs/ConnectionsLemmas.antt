@@ -4,7 +4,7 @@ use Rattle.std.specs.List.{filter_map, last_or}
 use Rattle.std.proofs.lemmas.List.Elements.{filter_map-append}
 use Rattle.aud_tap.specs.declared.records.ClientRec.{ClientRec}
 use Rattle.aud_tap.specs.declared.records.ClientRec.TheVariants.{Conn, TextIn, BytesIn, Poll, TextOut, Lost}
-use Rattle.aud_tap.specs.Connections.{begins, opens, last_begun, connection_is_open, Connected}
+use Rattle.aud_tap.specs.Connections.{begins, opens, Connected}
 
 -- the last of two
 abbrev pub later : {A : Type 0} → Option A → Option A → Option A

@@ -1,6 +1,5 @@
 -- What the reader of a bundle keeps, as taps and records are added.
-use Rattle.std.proofs.Common.{◌≡◌, ℕ, zero, suc, ◌+◌, ◌<◌, ◌≤◌, ◌==◌, List, [], ◌∷◌, ◌++◌, length, map, take, drop, get_or, set, Bool, true, false, cond, Option, Some, None, option_map, Result, Ok, Err, refl, sym, ap, ◌∙◌, arith, append_assoc, append-nil, codes, not}
-use Rattle.std.specs.List.{flat_map, count_by}
+use Rattle.std.proofs.Common.{◌≡◌, ℕ, zero, suc, ◌<◌, List, [], ◌∷◌, ◌++◌, length, get_or, set, Bool, true, false, cond, Option, Some, None, option_map, Result, Ok, Err, refl, sym, ap, ◌∙◌, arith, append_assoc, append-nil, codes, not}
 use Rattle.std.specs.HashMap.{HashMap, get_by_text, UpdatesBy}
 use Rattle.std.specs.Str.{bytes_eq}
 use Rattle.std.specs.String.{string_bytes, string_eq}
@@ -8,7 +7,6 @@ use Rattle.std.specs.declared.string.String.{String}
 use Rattle.std.proofs.lemmas.Cmp.{nat_list_eq_equiv}
 use Rattle.std.proofs.lemmas.Slice.Eq.{bytes_eq-Decides}
 use Rattle.std.proofs.lemmas.Grind.{flat_map-append}
-use Rattle.std.proofs.lemmas.List.{map-append}
 use Rattle.std.proofs.lemmas.List.Sums.{sum_by-set}
 use Rattle.std.proofs.lemmas.Map.Text.{hash_map_updates_text}
 use Rattle.serde_json.specs.Data.{Data}
@@ -26,10 +24,9 @@ use Rattle.aud_tap.specs.Fields.{is_text}
 use Rattle.aud_tap.specs.Header.{header_of}
 use Rattle.aud_tap.specs.Record.{opened_line, kind_of}
 use Rattle.aud_tap.specs.Bundle.{with_entry, with_node_record, with_client_record, with_record, tap_named, with_records, kind_of_tap, taps_on, same_kind, pids_in, pids_of, no_records, another_tap, with_header, with_later, with_kind, with_named, with_line}
-use Rattle.aud_tap.specs.Kept.{place_of, taps_so_far, tap_so_far, Counted, Keeps}
+use Rattle.aud_tap.specs.Kept.{place_of, taps_so_far, Counted, Keeps}
 use Rattle.aud_tap.specs.Changes.{Becomes}
 use Rattle.aud_tap.specs.Texts.{HasPids}
-use Rattle.aud_tap.specs.declared.bundle.counts.Counts.{Counts}
 use Rattle.aud_tap.specs.declared.bundle.open_taps.OpenTaps.{OpenTaps}
 use Rattle.std.specs.Result.{OnOk}
 

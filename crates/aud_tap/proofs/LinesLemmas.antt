@@ -1,9 +1,7 @@
 -- What a newline and the end of a piece do to the lines of a text.
-use Rattle.std.proofs.Common.{◌≡◌, ℕ, zero, suc, ◌+◌, ◌-◌, ◌<◌, ◌≤◌, ◌==◌, ◌&&◌, ◌||◌, nat_lt, List, [], ◌∷◌, ◌++◌, length, take, drop, Bool, true, false, cond, Option, Some, None, refl, sym, ap, ◌∙◌, arith, append_assoc, append-nil, length-append, drop-cons, add-one, slice_index, ◌⊎◌, inl, inr, Result, Ok, Err}
-use Rattle.std.specs.List.{list_any}
+use Rattle.std.proofs.Common.{◌≡◌, ℕ, zero, suc, ◌+◌, ◌-◌, ◌<◌, ◌≤◌, ◌==◌, ◌&&◌, ◌||◌, nat_lt, List, [], ◌∷◌, ◌++◌, length, take, drop, Bool, true, false, cond, Option, Some, None, refl, sym, ap, ◌∙◌, arith, append_assoc, append-nil, length-append, drop-cons, add-one, slice_index, ◌⊎◌, inl, inr, Ok, Err}
 use Rattle.std.proofs.lemmas.Bool.{eqb-true, ltb-true, lt-ltb}
 use Rattle.std.proofs.lemmas.List.{take-append-drop, take_rest}
-use Rattle.std.proofs.lemmas.Grind.{common_steps}
 use Rattle.std.proofs.lemmas.List.Folds.{list_any-append}
 use Rattle.std.proofs.Math.ListN.{length-take}
 use Rattle.std.proofs.Math.Seq.{take-length}
@@ -12,7 +10,7 @@ use Rattle.aud_tap.specs.declared.line.Line.{Line}
 use Rattle.aud_tap.specs.declared.fault.ReadFault.{ReadFault}
 use Rattle.aud_tap.specs.declared.fault.ReadFault.TheVariants.{Input}
 use Rattle.aud_tap.specs.declared.fault.InputCode.TheVariants.{LineTooLong}
-use Rattle.aud_tap.specs.Lines.{Lines, Split, IsPartial, pieces_of, onto_first, without_return, is_too_long, numbered, lines_to_come, line_ended, line_begun, line_at, line_then, with_line, result_of, after_lines, has_newline}
+use Rattle.aud_tap.specs.Lines.{Split, IsPartial, pieces_of, onto_first, without_return, is_too_long, numbered, lines_to_come, line_ended, line_begun, line_at, with_line, result_of, after_lines, has_newline}
 
 decide : (b : Bool) → (b ≡ true) ⊎ (b ≡ false)
 decide true = inl refl

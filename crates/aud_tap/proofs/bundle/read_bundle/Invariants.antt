@@ -1,4 +1,4 @@
-use Rattle.std.proofs.Common.{◌≡◌, drop, None}
+use Rattle.std.proofs.Common.{◌≡◌, drop}
 use Rattle.aud_tap.specs.Bundle.{taps_of, taps_to_come}
 use Rattle.aud_tap.proofs.bundle.read_bundle.Given as goal
 

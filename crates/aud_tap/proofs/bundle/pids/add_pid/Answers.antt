@@ -1,4 +1,4 @@
-use Rattle.std.proofs.Common.{◌≡◌, ◌∷◌, ◌++◌, [], ◌<◌, ◌≤◌, length, arith, sym}
+use Rattle.std.proofs.Common.{◌∷◌, ◌++◌, [], ◌<◌, ◌≤◌, length, arith, sym}
 use Rattle.aud_tap.specs.Bundle.{max_pids}
 use Rattle.aud_tap.proofs.TextsLemmas.{fit-ok, pids-known, pids-put, pids-full}
 use Rattle.aud_tap.proofs.bundle.pids.add_pid.Goals as goal

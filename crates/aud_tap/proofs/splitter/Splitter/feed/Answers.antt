@@ -1,4 +1,4 @@
-use Rattle.std.proofs.Common.{◌≡◌, ◌++◌, ◌∙◌, arith, length, ◌∷◌, length-append, ap, Ok, Err}
+use Rattle.std.proofs.Common.{◌∙◌, arith, length, ◌∷◌, length-append, ap}
 use Rattle.aud_tap.proofs.LinesLemmas.{to_come-next, to_come-line_begun, rest-line_ended, to_come-refused, none_of, some_of}
 use Rattle.aud_tap.proofs.splitter.Splitter.feed.Goals as goal
 

@@ -1,5 +1,4 @@
 use Rattle.std.proofs.Common.{inl, inr}
-use Rattle.aud_tap.specs.declared.records.ClientRec.TheVariants.{Conn, Lost}
 use Rattle.aud_tap.proofs.ConnectionsLemmas.{connected-conn, connected-lost, connected-text_in, connected-bytes_in, connected-poll, connected-text_out}
 use Rattle.aud_tap.proofs.bundle.client_log.ClientLog.connection_after.Goals as goal
 

@@ -1,11 +1,11 @@
-use Rattle.std.proofs.Common.{◌≡◌, ◌∙◌, ◌++◌, map, get_or, sym, ap, refl}
+use Rattle.std.proofs.Common.{◌≡◌, ◌∙◌, ◌++◌, get_or, sym, ap, refl}
 use Rattle.std.proofs.Math.ListN.{get_or-map}
 use Rattle.std.proofs.lemmas.List.{map-set}
 use Rattle.serde_json.specs.View.{view}
 use Rattle.aud_tap.specs.Bundle.{with_record, pids_in, pids_of}
 use Rattle.aud_tap.specs.Changes.{Becomes}
 use Rattle.aud_tap.specs.Texts.{HasPids}
-use Rattle.aud_tap.specs.Kept.{tap_so_far, taps_so_far, records_so_far}
+use Rattle.aud_tap.specs.Kept.{tap_so_far, taps_so_far}
 use Rattle.aud_tap.proofs.KeptLemmas.{around, go_on-taps, go_on-keeps, header-twice}
 use Rattle.aud_tap.proofs.bundle.open_taps.OpenTaps.go_on.Goals as goal
 

@@ -1,4 +1,4 @@
-use Rattle.std.proofs.Common.{◌≡◌, ◌∷◌, [], ◌∙◌, length, None, arith}
+use Rattle.std.proofs.Common.{◌≡◌, ◌∷◌, [], length, None, arith}
 use Rattle.std.specs.String.{string_bytes}
 use Rattle.std.proofs.lemmas.List.{length-map, map-append}
 use Rattle.aud_tap.specs.Kept.{place_of, tap_so_far, taps_so_far}
