@@ -1,4 +1,4 @@
-use Rattle.std.proofs.Common.{◌≡◌, ◌<◌, length, true, false, sym, ◌∙◌, true≢false, arith}
+use Rattle.std.proofs.Common.{◌<◌, length, sym, ◌∙◌, true≢false, arith}
 use Rattle.aud_sio.specs.Message.{bytes_of}
 use Rattle.aud_sio.specs.Assembly.{blob_view}
 use Rattle.aud_check.proofs.Steps.{same_more, differ_at}

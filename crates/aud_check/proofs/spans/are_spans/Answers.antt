@@ -3,7 +3,7 @@ use Rattle.std.specs.Option.{option_map}
 use Rattle.std.proofs.lemmas.Option.{MatchOption-at_some}
 use Rattle.aud_rooms.specs.Turns.{Who}
 use Rattle.aud_rooms.specs.TurnsDue.{greatest_high}
-use Rattle.aud_rooms.specs.Spans.{RoomSpan, AreSpansOfTurns, first_low, rooms_by_turns}
+use Rattle.aud_rooms.specs.Spans.{AreSpansOfTurns, first_low, rooms_by_turns}
 use Rattle.aud_rooms.specs.Assigned.{Assigned, AreSpansOf, starting}
 use Rattle.aud_check.specs.Shown.{shown_low, slices_at}
 use Rattle.aud_check.specs.Walked.{turns_walked}
