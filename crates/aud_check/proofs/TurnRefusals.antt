@@ -162,8 +162,8 @@ module _ (c : Cluster) (pid : Text) (k : ℕ) (t : TurnSeen) (later : List TurnS
           go ends =
               let same : ends.end ≡ end = same_Some ends.end end (sym ends.is_end ∙ end_found ∙ some) in
               not (
-              subst (λ log. t.to ≤ length log) (sym of_log) ends.within,
-              subst (MayEnd c (turn_at c t) (map (turn_at c) later)) same ends.may_end,
+                subst (λ log. t.to ≤ length log) (sym of_log) ends.within,
+                subst (MayEnd c (turn_at c t) (map (turn_at c) later)) same ends.may_end,
               )
 
       module _ (may : (t.to ≤ length tap.recs) × MayEnd c (turn_at c t) (map (turn_at c) later) end) where
