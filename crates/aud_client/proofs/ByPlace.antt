@@ -1,8 +1,8 @@
 -- The received list by place, and the frames of the naming stays, stay after stay.
-use Rattle.std.proofs.Common.{◌≡◌, ℕ, Bool, true, false, not, ◌&&◌, cond, List, [], ◌∷◌, ◌++◌, map, flat_map, refl, sym, ap, ◌∙◌, inl, inr, Option, Some, None}
-use Rattle.std.specs.List.{filter, list_all}
+use Rattle.std.proofs.Common.{◌≡◌, ℕ, Bool, true, false, not, ◌&&◌, cond, List, [], ◌∷◌, ◌++◌, map, flat_map, refl, sym, ap, ◌∙◌, inl, inr}
+use Rattle.std.specs.List.{list_all}
 use Rattle.std.specs.Str.{bytes_eq}
-use Rattle.std.proofs.lemmas.Bool.{true≢false, false≢true, cases_Bool, not-true, not-false, and_parts}
+use Rattle.std.proofs.lemmas.Bool.{false≢true, cases_Bool, not-false, and_parts}
 use Rattle.std.proofs.lemmas.List.{append_assoc, append-nil}
 use Rattle.std.proofs.lemmas.List.Elements.{filter-append, filter_map-append}
 use Rattle.std.proofs.lemmas.List.Folds.{list_all-append}
@@ -14,7 +14,7 @@ use Rattle.aud_node.specs.TapPackets.{TapPacket, Connection, tap_packets}
 use Rattle.aud_client.specs.Stays.{namespace, in_namespace, goes_on, whole_stay, stay_after, stay_at, begins, stays_from, stays}
 use Rattle.aud_client.specs.Open.{of_namespace}
 use Rattle.aud_client.specs.Told.{FrameSeen, StaySeen, told, frame_of, frames_of, namespace_of}
-use Rattle.aud_client.specs.Received.{packets_of, stays_of, tap_stays, names, stays_naming, frames_by_stay, frames_at, received_from, received_list, received_of, are_in}
+use Rattle.aud_client.specs.Received.{packets_of, stays_of, names, stays_naming, frames_by_stay, received_from, received_list, received_of, are_in}
 use Rattle.aud_client.proofs.Places.{same_text, itself_text, stay_after-same, stay_after-other, begins-in, of_stay_at}
 use Rattle.aud_client.proofs.Named.{stay_names}
 

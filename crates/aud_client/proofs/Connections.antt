@@ -11,7 +11,7 @@ use Rattle.aud_node.specs.declared.client_tap.Connection.{Connection}
 use Rattle.aud_client.specs.declared.stays.Stays.{Stays}
 use Rattle.aud_client.specs.Stays.{stays}
 use Rattle.aud_client.specs.Told.{StaySeen, told}
-use Rattle.aud_client.specs.Received.{packets_of, stays_of}
+use Rattle.aud_client.specs.Received.{stays_of}
 use Rattle.aud_client.specs.Kept.{Keeps, packets_seen}
 
 map_more : {X Y : Type 0} (f : X → Y) (xs : List X) (x : X) → map f (xs ++ x ∷ []) ≡ map f xs ++ f x ∷ []

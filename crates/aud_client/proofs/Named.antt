@@ -1,5 +1,5 @@
 -- Where a packet is a reply that names a session, the reply of a stay does, and the other way round.
-use Rattle.std.proofs.Common.{◌≡◌, ℕ, Bool, true, false, not, ◌&&◌, ◌||◌, cond, List, [], ◌∷◌, ◌++◌, map, flat_map, refl, sym, ap, ◌∙◌, inl, inr, Option, Some, None}
+use Rattle.std.proofs.Common.{◌≡◌, ℕ, Bool, true, false, not, ◌&&◌, ◌||◌, cond, List, [], ◌∷◌, ◌++◌, map, flat_map, refl, sym, ap, ◌∙◌, inl, inr}
 use Rattle.std.specs.List.{list_any}
 use Rattle.std.proofs.lemmas.Bool.{true≢false, false≢true, cases_Bool, not-false}
 use Rattle.std.proofs.lemmas.List.{append_assoc, append-nil}
@@ -12,7 +12,7 @@ use Rattle.aud_node.specs.Replies.{reply_names, packet_names, connection_names, 
 use Rattle.aud_client.specs.Stays.{namespace, is_reply, is_from_server, goes_on, stay_after, begins, stays}
 use Rattle.aud_client.specs.Open.{of_namespace, has}
 use Rattle.aud_client.specs.Told.{reply_at, reply_of, told}
-use Rattle.aud_client.specs.Received.{packets_of, stays_of, tap_stays, names, received_of}
+use Rattle.aud_client.specs.Received.{packets_of, stays_of, names, received_of}
 use Rattle.aud_client.proofs.OnePass.{grow, last_in, last_in-none, last_in-stays, stays-begins, stays-goes_on}
 use Rattle.aud_client.proofs.Telling.{no_reply_at, reply_of-one, replied, unreplied, none_yet, no_connect}
 

@@ -10,7 +10,7 @@ use Rattle.aud_node.specs.Stream.{Text}
 use Rattle.aud_node.specs.TapPackets.{TapPacket, Received, Sent}
 use Rattle.aud_node.specs.Replies.{ReplySeen, told_by, value_of, is_connect as is_connect_kind}
 use Rattle.aud_client.specs.Stays.{namespace, is_connect, is_disconnect, is_reply, is_from_server, goes_on}
-use Rattle.aud_client.specs.Told.{AskedSeen, FrameSeen, StaySeen, told, reply_at, reply_of, before_reply, asked_by, ask_of, last_of, asked_of, frame_of, frames_of}
+use Rattle.aud_client.specs.Told.{AskedSeen, FrameSeen, StaySeen, told, reply_at, reply_of, before_reply, asked_by, ask_of, last_of, asked_of, frame_of}
 use Rattle.aud_client.specs.Kept.{fresh, grown}
 
 -- ---- one packet

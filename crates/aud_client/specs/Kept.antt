@@ -1,8 +1,9 @@
 -- What the code keeps of the stays while it goes through the packets.
-use Rattle.std.specs.Prelude.{◌≡◌, ℕ, ◌+◌, ◌&&◌, List, [], ◌∷◌, ◌++◌, map, length, Option, Some, None, if◌then◌else◌, slice_get, is_some}
+use Rattle.std.specs.Prelude.{◌≡◌, ℕ, ◌+◌, ◌&&◌, List, [], ◌++◌, map, length, Option, Some, None, if◌then◌else◌, slice_get, is_some}
 use Rattle.std.specs.List.{cons_option}
 use Rattle.std.specs.Option.{option_map, option_and_then, option_or}
 use Rattle.std.specs.Ordering.{nat_cmp}
+use Rattle.std.specs.Str.{bytes_eq}
 use Rattle.std.specs.Cmp.Lexicographic.{slice_cmp}
 use Rattle.std.specs.BTreeMap as tree
 use Rattle.aud_tap.specs.declared.records.StreamRec.{StreamRec}
@@ -11,7 +12,7 @@ use Rattle.aud_node.specs.TapPackets.{TapPacket}
 use Rattle.aud_node.specs.ConnectionRead.{packet_seen}
 use Rattle.aud_node.specs.declared.connection.Placed.{Placed}
 use Rattle.aud_client.specs.declared.stays.Stays.{Stays}
-use Rattle.aud_client.specs.Stays.{namespace, is_connect, stays}
+use Rattle.aud_client.specs.Stays.{namespace, is_connect, is_disconnect, stays}
 use Rattle.aud_client.specs.Open.{open_place}
 use Rattle.aud_client.specs.Told.{StaySeen, told, reply_at, ask_of, frame_of}
 
@@ -44,6 +45,16 @@ unless_replied p k s = if is_connect p && is_some s.reply then None else Some k
 -- the place of the stay that the packet goes on with
 abbrev pub place_for : Stays → TapPacket → Option ℕ
 place_for st p = option_and_then (λ k. option_and_then (unless_replied p k) (slice_get st.stays.items k)) (open_at st (namespace p))
+
+-- in the packet's namespace the stay at the place goes on, unless the packet ends it
+abbrev pub BeginsAt : TapPacket → ℕ → Stays → Stays → Type 0
+BeginsAt p place old new = (n : Text)
+    → open_at new n ≡ (if bytes_eq (namespace p) n then (if is_disconnect p then None else Some place) else open_at old n)
+
+-- in the packet's namespace the stay that went on does so still, unless the packet ends it
+abbrev pub GoesOn : TapPacket → Stays → Stays → Type 0
+GoesOn p old new = (n : Text)
+    → open_at new n ≡ (if bytes_eq (namespace p) n then (if is_disconnect p then None else open_at old n) else open_at old n)
 
 -- the stays of earlier connections, and those of this one's packets so far
 pub record Keeps (stream : List StreamRec) (c : ℕ) (st : Stays) (done : List StaySeen) (packets : List TapPacket) : Type 0 where

@@ -1,5 +1,5 @@
 -- What a stay tells.
-use Rattle.std.specs.Prelude.{ℕ, List, [], ◌∷◌, ◌++◌, codes, map, Bool, true, false, ◌&&◌, Option, Some, None, is_none, if◌then◌else◌}
+use Rattle.std.specs.Prelude.{ℕ, List, [], ◌∷◌, codes, map, ◌&&◌, Option, Some, None, is_none, if◌then◌else◌}
 use Rattle.std.specs.List.{filter_map}
 use Rattle.std.specs.Option.{option_map, option_and_then}
 use Rattle.serde_json.specs.Data.{Data}

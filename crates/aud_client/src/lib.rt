@@ -18,3 +18,6 @@ pub use laws::{named_by_replies, received_by_stays};
 pub use stay::Stay;
 pub use tap::received;
 pub use told::Received;
+
+#[cfg(test)]
+mod tests;

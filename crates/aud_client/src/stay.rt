@@ -1,11 +1,14 @@
 //! A stay of a client in a namespace.
 ghost use Rattle.std.specs.Prelude.{◌≡◌, ◌++◌, List, [], OnOk};
 ghost use Rattle.std.specs.List.{cons_option};
+ghost use Rattle.std.specs.Option.{option_copied};
 ghost use Rattle.aud_tap.specs.declared.records.StreamRec.{StreamRec};
 ghost use Rattle.aud_sio.specs.Packet.{view};
 ghost use Rattle.aud_sio.specs.Assembly.{whole_view};
 ghost use Rattle.aud_node.specs.TapPackets.{Received, Sent};
 ghost use Rattle.aud_node.specs.ConnectionRead.{packet_seen};
+ghost use Rattle.aud_node.specs.Replies.{is_this};
+ghost use Rattle.aud_client.specs.Received.{names, is_recovered};
 ghost use Rattle.aud_client.specs.Kept.{fresh, grown};
 
 use crate::asked::{Asked, asked_in};
@@ -40,6 +43,26 @@ impl<'a> Model for Stay<'a> {
 }
 
 impl<'a> Stay<'a> {
+    /// Whether the reply names the session.
+    pub fn names(&self, pid: &str) -> bool
+        ensures { result ≡ names pid.now self.now }
+    {
+        match self.reply.as_ref() {
+            Some(reply) => is_this(reply.pid.as_deref(), pid),
+            None => false,
+        }
+    }
+
+    /// Whether the reply names the session that was asked for.
+    pub fn is_recovered(&self) -> bool
+        ensures { result ≡ is_recovered self.now }
+    {
+        match self.asked.as_ref() {
+            Some(asked) => self.names(asked.pid.as_str()),
+            None => false,
+        }
+    }
+
     /// A stay without packets.
     pub(crate) fn new(alloc: Global, c: u64, nsp: &'a str) -> Stay<'a>
         ensures { result ≡ fresh c nsp.now }
@@ -102,5 +125,15 @@ impl<'a> Stay<'a> {
             self.asked = Some(asked);
         }
         Ok(())
+    }
+}
+
+/// Whether there is a pid, and it is this one.
+fn is_this(named: Option<&str>, pid: &str) -> bool
+    ensures { result ≡ is_this pid.now (option_copied named.entry) }
+{
+    match named {
+        Some(named) => named == pid,
+        None => false,
     }
 }

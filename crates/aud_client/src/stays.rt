@@ -1,6 +1,5 @@
 //! The stays of a tap, as its packets come.
-ghost use Rattle.std.specs.Prelude.{◌≡◌, ℕ, ◌++◌, ◌∷◌, List, [], OnOk, length, Some, None, if◌then◌else◌, slice_get, set};
-ghost use Rattle.std.specs.Str.{bytes_eq};
+ghost use Rattle.std.specs.Prelude.{◌≡◌, ℕ, ◌++◌, ◌∷◌, List, [], OnOk, length, Some, slice_get, set};
 ghost use Rattle.std.specs.Option.{option_and_then};
 ghost use Rattle.aud_tap.specs.declared.records.StreamRec.{StreamRec};
 ghost use Rattle.aud_node.specs.TapPackets.{TapPacket as TapPacketSeen};
@@ -10,7 +9,7 @@ ghost use Rattle.aud_client.specs.Stays.{is_connect, is_disconnect, namespace, p
 ghost use Rattle.aud_sio.specs.Packet.{view};
 ghost use Rattle.aud_client.specs.Told.{StaySeen};
 ghost use Rattle.aud_client.specs.Received.{stays_of};
-ghost use Rattle.aud_client.specs.Kept.{Keeps, open_at, place_for, unless_replied, fresh, grown};
+ghost use Rattle.aud_client.specs.Kept.{Keeps, BeginsAt, GoesOn, open_at, place_for, unless_replied, fresh, grown};
 
 use crate::stay::Stay;
 use aud_node::{Connection, Stream, TapPacket};
@@ -63,12 +62,7 @@ impl<'a> Stays<'a> {
     }
 
     /// The next packet of the connection with this number.
-    fn take(
-        &mut self,
-        stream: &Stream<'_>,
-        c: u64,
-        packet: &'a TapPacket<'a>,
-    ) -> Result<(), Memory>
+    fn take(&mut self, stream: &Stream<'_>, c: u64, packet: &'a TapPacket<'a>) -> Result<(), Memory>
         ensures { (done : List StaySeen) (packets : List TapPacketSeen) → Keeps stream.now c self.old done packets → OnOk result (Keeps stream.now c self.new done (packets ++ packet_seen packet.now ∷ [])) }
     {
         match self.place_for(packet) {
@@ -111,7 +105,7 @@ impl<'a> Stays<'a> {
         packet: &'a TapPacket<'a>,
     ) -> Result<(), Memory>
         ensures stays { OnOk result (self.new.stays.items ≡ self.old.stays.items ++ grown stream.now (fresh c (namespace (packet_seen packet.now))) (packet_seen packet.now) ∷ []) }
-        ensures open { OnOk result ((n : List ℕ) → open_at self.new n ≡ (if bytes_eq (namespace (packet_seen packet.now)) n then (if is_disconnect (packet_seen packet.now) then None else Some (length self.old.stays.items)) else open_at self.old n)) }
+        ensures open { OnOk result (BeginsAt (packet_seen packet.now) (length self.old.stays.items) self.old self.new) }
     {
         let mut stay = Stay::new(self.alloc, c, namespace(packet));
         stay.add(self.alloc, stream, packet)?;
@@ -125,7 +119,7 @@ impl<'a> Stays<'a> {
     /// The stay at the place goes on in the packet's namespace, unless the packet ends it.
     fn mark(&mut self, packet: &'a TapPacket<'a>, place: usize) -> Result<(), AllocError>
         ensures stays { self.new.stays.items ≡ self.old.stays.items }
-        ensures open { OnOk result ((n : List ℕ) → open_at self.new n ≡ (if bytes_eq (namespace (packet_seen packet.now)) n then (if is_disconnect (packet_seen packet.now) then None else Some place) else open_at self.old n)) }
+        ensures open { OnOk result (BeginsAt (packet_seen packet.now) place self.old self.new) }
     {
         let nsp = namespace(packet);
         if is_disconnect(packet) {
@@ -144,7 +138,7 @@ impl<'a> Stays<'a> {
         packet: &'a TapPacket<'a>,
     ) -> Result<(), Memory>
         ensures stays { (t : StaySeen) → slice_get self.old.stays.items place ≡ Some t → OnOk result (self.new.stays.items ≡ set self.old.stays.items place (grown stream.now t (packet_seen packet.now))) }
-        ensures open { OnOk result ((n : List ℕ) → open_at self.new n ≡ (if bytes_eq (namespace (packet_seen packet.now)) n then (if is_disconnect (packet_seen packet.now) then None else open_at self.old n) else open_at self.old n)) }
+        ensures open { OnOk result (GoesOn (packet_seen packet.now) self.old self.new) }
     {
         self.grow(stream, place, packet)?;
         if is_disconnect(packet) {
