@@ -76,7 +76,28 @@ pub enum CertFault {
     Memory,
 }
 
+impl fmt::Display for CertFault {
+    ghost use Rattle.std.specs.Prelude.{Some};
+    ghost use Rattle.aud_cert.specs.Fault.{cert_fault_text};
+
+    ghost output = { λ f. Some (cert_fault_text f) };
+
+    fn fmt<W: fmt::Write>(&self, f: &mut fmt::Formatter<W>) -> fmt::Result {
+        match self {
+            CertFault::Syntax => write!(f, "K1 Syntax"),
+            CertFault::UnknownTap => write!(f, "K2 UnknownTap"),
+            CertFault::Range => write!(f, "K3 Range"),
+            CertFault::Memory => write!(f, "K4 Memory"),
+        }
+    }
+}
+
 impl From<AllocError> for CertFault {
+    ghost use Rattle.std.specs.Prelude.{◌≡◌};
+    ghost use Rattle.aud_cert.specs.declared.fault.CertFault.TheVariants.{Memory};
+
+    ghost from_gives = { λ _ e. e ≡ Memory };
+
     fn from(_: AllocError) -> CertFault {
         CertFault::Memory
     }

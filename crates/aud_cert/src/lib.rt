@@ -5,6 +5,17 @@
 
 mod certificate;
 mod fault;
+mod form;
+mod lend;
+mod read;
+mod told;
+mod within;
+mod write;
 
 pub use certificate::{Certificate, Turn};
 pub use fault::{CertFault, Fault};
+pub use read::read_cert;
+pub use write::write_cert;
+
+#[cfg(test)]
+mod tests;

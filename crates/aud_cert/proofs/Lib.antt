@@ -1,0 +1,5 @@
+pub mod Json
+pub mod Lists
+pub mod Named
+pub mod Over
+pub mod Back
