@@ -1,5 +1,5 @@
 -- Accepted turns are turns of the session.
-use Rattle.std.proofs.Common.{◌≡◌, ◌<◌, ◌≤◌, ◌+◌, ◌-◌, ℕ, zero, suc, Bool, true, false, ◌&&◌, List, [], ◌∷◌, map, max, length, take, drop, Option, Some, None, slice_get, nat_eq, refl, sym, ap, subst, ◌∙◌, arith, true≢false}
+use Rattle.std.proofs.Common.{◌≡◌, ◌<◌, ◌+◌, ℕ, suc, Bool, true, false, ◌&&◌, List, [], ◌∷◌, map, max, length, drop, Some, slice_get, nat_eq, refl, sym, ap, subst, ◌∙◌, arith, true≢false}
 use Rattle.std.specs.List.{All}
 use Rattle.std.specs.Str.{bytes_eq}
 use Rattle.std.specs.Cmp.Lexicographic.{bytes_decides}
@@ -9,15 +9,14 @@ use Rattle.aud_tap.specs.declared.records.NodeRec.{NodeRec}
 use Rattle.aud_tap.specs.declared.records.NodeRec.TheVariants.{Start, Take, Opened, Join, Leave, Broke, Back, Gone}
 use Rattle.aud_node.specs.Lists.{between}
 use Rattle.aud_node.specs.Stream.{Text}
-use Rattle.aud_node.specs.Cluster.{Cluster, node_log}
+use Rattle.aud_node.specs.Cluster.{Cluster}
 use Rattle.aud_node.specs.TurnRecords.{begins_turn}
 use Rattle.aud_rooms.specs.Turns.{Who, IsTurn, AreTurns, beginning, turn_end, slice_of}
 use Rattle.aud_cert.specs.Certificate.{TurnSeen, CertificateSeen, IsTurnOver, turn_at, log_named}
 use Rattle.aud_rooms.specs.TurnsDue.{greatest_high}
 use Rattle.aud_rooms.specs.Spans.{first_low}
-use Rattle.aud_check.specs.Shown.{opened_sid, opened_nsp, first_record, who_in, who_of, shown_low, shown_high, slices_at}
+use Rattle.aud_check.specs.Shown.{opened_sid, opened_nsp, who_in, who_of, shown_low, shown_high, slices_at}
 use Rattle.aud_check.specs.TurnRefusals.{is_begun_by, IsTurnAccepted, AreTurnsAccepted}
-use Rattle.aud_check.specs.Walked.{IsWithin}
 use Rattle.aud_check.proofs.Slices.{within_at, between-more}
 use Rattle.aud_check.proofs.TurnRefusals.{begun-some, from_within, from_to}
 use Rattle.aud_check.proofs.WalkTurns.{Stands, AllStand}

@@ -1,5 +1,5 @@
 -- A builder of spans, told of records one after another.
-use Rattle.std.proofs.Common.{◌≡◌, ◌<◌, ◌≤◌, ◌+◌, ℕ, suc, List, [], ◌∷◌, length, drop, get_or, Option, Some, None, refl, sym, ap, subst, ◌∙◌, arith}
+use Rattle.std.proofs.Common.{◌≡◌, ◌<◌, ◌≤◌, ◌+◌, ℕ, List, [], ◌∷◌, length, drop, get_or, Option, Some, None, refl, sym, ap, subst, ◌∙◌, arith}
 use Rattle.std.specs.Option.{option_map}
 use Rattle.std.specs.List.{All}
 use Rattle.std.proofs.lemmas.List.{drop_more}
@@ -12,7 +12,7 @@ use Rattle.aud_rooms.specs.Rooms.{Rooms}
 use Rattle.aud_rooms.specs.Turns.{Who}
 use Rattle.aud_rooms.specs.TurnsDue.{greatest_high}
 use Rattle.aud_rooms.specs.Spans.{RoomSpan, AreSpans, AreSpansOfTurns, first_low, rooms_by_turns}
-use Rattle.aud_rooms.specs.Assigned.{Assigned, covered, rooms_given, starting, AreSpansOf}
+use Rattle.aud_rooms.specs.Assigned.{Assigned, rooms_given, starting, AreSpansOf}
 use Rattle.aud_cert.specs.Certificate.{TurnSeen, log_named}
 use Rattle.aud_check.specs.Shown.{shown_low, slices_at}
 use Rattle.aud_check.specs.Walked.{past_record, walked, turn_walked, turns_walked, IsWithin}

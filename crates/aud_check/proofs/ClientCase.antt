@@ -1,5 +1,5 @@
 -- What a client received, by its stays.
-use Rattle.std.proofs.Common.{◌≡◌, ◌<◌, ◌≤◌, ◌+◌, ℕ, Bool, true, false, ◌&&◌, not, List, [], ◌∷◌, ◌++◌, length, map, Option, Some, None, refl, sym, ap, ◌∙◌, arith, true≢false, length-append}
+use Rattle.std.proofs.Common.{◌≡◌, ◌≤◌, ℕ, Bool, true, false, ◌&&◌, not, List, [], ◌∷◌, length, Some, None, refl, sym, ap, ◌∙◌, arith, true≢false, length-append}
 use Rattle.std.specs.List.{list_all}
 use Rattle.std.specs.Str.{bytes_eq}
 use Rattle.aud_tap.specs.declared.records.StreamRec.{StreamRec}
@@ -9,12 +9,11 @@ use Rattle.aud_node.specs.Cluster.{Cluster}
 use Rattle.aud_node.specs.NodeTaps.{client_at}
 use Rattle.aud_rooms.specs.Turns.{Who}
 use Rattle.aud_cert.specs.Certificate.{place_named}
-use Rattle.aud_client.specs.Told.{StaySeen, FrameSeen}
+use Rattle.aud_client.specs.Told.{StaySeen}
 use Rattle.aud_client.specs.Received.{received_of, received_list, stays_naming, frames_by_stay, are_in}
 use Rattle.aud_merge.specs.ByTurns.{IsPrefixOf}
 use Rattle.aud_check.specs.Client.{case_for}
 use Rattle.aud_check.specs.Faults.{Case}
-use Rattle.aud_check.specs.Frames.{frames_in}
 use Rattle.aud_check.specs.NamedStays.{are_of_session, is_of_session, is_empty, has_sid}
 use Rattle.aud_check.specs.Shown.{recs_or_none}
 use Rattle.aud_check.specs.Wrong.{by_stays}

@@ -1,5 +1,5 @@
 -- Positions that take the rooms held.
-use Rattle.std.proofs.Common.{◌≡◌, ◌<◌, ◌≤◌, ◌+◌, ◌-◌, ℕ, zero, suc, List, [], ◌∷◌, ◌++◌, length, replicate, max, Option, Some, None, slice_get, unwrap_or, refl, sym, ap, ◌∙◌, arith, length-append}
+use Rattle.std.proofs.Common.{◌≡◌, ◌<◌, ◌≤◌, ◌+◌, ◌-◌, ℕ, zero, suc, List, [], ◌∷◌, ◌++◌, length, replicate, max, Some, slice_get, unwrap_or, refl, ap, ◌∙◌, arith, length-append}
 use Rattle.std.proofs.lemmas.List.{length-replicate}
 use Rattle.std.specs.FinSet as set
 use Rattle.aud_rooms.specs.Rooms.{Rooms}
@@ -20,7 +20,7 @@ back (y ∷ xs) x count (suc i) h upto = back xs x count i (omega arith) (omega 
 pub covered-upto : (a : Assigned) (position : ℕ) → covered (covered_upto position a) ≡ max (covered a) position
 covered-upto a position =
     let long : length (a.sets ++ replicate (position - covered a) a.held) ≡ length a.sets + (position - covered a) =
-        length-append a.sets (replicate (position - covered a) a.held) ∙ ap (λ n. length a.sets + n) (length-replicate (position - covered a) a.held) in
+    length-append a.sets (replicate (position - covered a) a.held) ∙ ap (λ n. length a.sets + n) (length-replicate (position - covered a) a.held) in
     omega (arith, long)
 
 -- those that are covered keep theirs

@@ -1,7 +1,6 @@
 -- The first fault, by what was found before it.
-use Rattle.std.proofs.Common.{◌≡◌, ◌<◌, ◌≤◌, ◌+◌, ℕ, true, false, List, [], map, Option, Some, None, refl, sym, ap, subst, ◌∙◌, arith, true≢false}
+use Rattle.std.proofs.Common.{◌≡◌, ◌<◌, ℕ, false, [], Some, None, sym, ap, subst, ◌∙◌, arith, true≢false}
 use Rattle.std.specs.Option.{option_map}
-use Rattle.std.proofs.lemmas.Option.{none-some}
 use Rattle.aud_cert.specs.declared.fault.Fault.{Fault}
 use Rattle.aud_cert.specs.declared.fault.Fault.TheVariants.{NoLog, Chain, Order, Client, Names, Frame, Orphan, Content, Extra, Doubled, Swapped, Lost, Window, Tail}
 use Rattle.aud_check.specs.declared.compare.Mismatch.{Mismatch}
@@ -11,7 +10,7 @@ use Rattle.aud_check.specs.declared.received.Wrong.TheVariants as found
 use Rattle.aud_merge.specs.ByTurns.{IsPrefixOf}
 use Rattle.aud_check.specs.Compare.{mismatch}
 use Rattle.aud_check.specs.Frames.{AreEntries, wrong_window}
-use Rattle.aud_check.specs.Faults.{Case, HasFault, IsFirstFault, fault_of, fault_rank, mismatch_fault, positions_in}
+use Rattle.aud_check.specs.Faults.{Case, HasFault, IsFirstFault, fault_of, fault_rank, positions_in}
 use Rattle.aud_check.specs.Wrong.{IsFault, IsFirstWrong}
 use Rattle.aud_check.proofs.Agreed.{mismatch-none}
 use Rattle.aud_check.proofs.Ranks.{no_altered, no_mismatch, some_or_none}

@@ -1,7 +1,6 @@
 -- What an accepted certificate says of every run, and a mismatch.
 use Rattle.std.specs.Result.{OnOk, IfOk, IfErr}
-use Rattle.std.proofs.Common.{Result, Ok, Err, ◌≡◌, ◌<◌, ◌≤◌, ◌+◌, ℕ, suc, List, length, map, Option, Some, None, refl, sym, ap, subst, ◌∙◌}
-use Rattle.std.proofs.lemmas.Option.{none-some}
+use Rattle.std.proofs.Common.{Result, Ok, Err, ◌≡◌, List, map, Some, subst}
 use Rattle.aud_node.specs.Cluster.{Cluster}
 use Rattle.aud_rooms.specs.Turns.{Who, Turn, AreTurns, IsChain, slice_of}
 use Rattle.aud_rooms.specs.TurnsDue.{turns_due}
@@ -9,12 +8,12 @@ use Rattle.aud_merge.specs.declared.step.Step.{Step}
 use Rattle.aud_merge.specs.Runs.{IsRun}
 use Rattle.aud_merge.specs.Due.{due}
 use Rattle.aud_merge.specs.ByTurns.{IsPrefixOf}
-use Rattle.aud_cert.specs.Certificate.{CertificateSeen, TurnSeen, IsOver}
+use Rattle.aud_cert.specs.Certificate.{CertificateSeen, IsOver}
 use Rattle.aud_cert.specs.declared.fault.Fault.{Fault}
 use Rattle.aud_cert.specs.declared.fault.Fault.TheVariants as fault
 use Rattle.aud_check.specs.declared.refusal.Refusal.{Refusal}
 use Rattle.aud_check.specs.declared.refusal.Refusal.TheVariants.{NotItsTurn, EndInside, NoEnd, Cursor, Span, Names, Received, Memory}
-use Rattle.aud_check.specs.Faults.{Case, HasFault, mismatch_fault, positions_in}
+use Rattle.aud_check.specs.Faults.{mismatch_fault, positions_in}
 use Rattle.aud_check.specs.Shown.{who_of, turns_of, shown_due}
 use Rattle.aud_check.specs.TurnRefusals.{AreTurnsAccepted}
 use Rattle.aud_check.specs.Refusals.{Place, AtTurn, AtWhole, Refuses, IsFirst, IsFirstRefusal, IsMismatch, case_of}

@@ -1,6 +1,5 @@
 -- The first refusal of a certificate, by what was found before it.
-use Rattle.std.proofs.Common.{◌≡◌, ◌<◌, ◌≤◌, ◌+◌, ◌-◌, ℕ, true, false, List, length, map, refl, sym, ap, subst, ◌∙◌, arith, true≢false}
-use Rattle.aud_tap.specs.declared.records.StreamRec.{StreamRec}
+use Rattle.std.proofs.Common.{◌≡◌, ◌≤◌, ◌+◌, ◌-◌, ℕ, true, List, length, sym, ap, subst, ◌∙◌, arith, true≢false}
 use Rattle.aud_node.specs.Stream.{Text}
 use Rattle.aud_node.specs.Cluster.{Cluster}
 use Rattle.aud_rooms.specs.Turns.{Who}

@@ -1,7 +1,7 @@
 -- What comes first.
-use Rattle.std.proofs.Common.{◌≡◌, ◌<◌, ◌≤◌, ◌+◌, ◌*◌, ℕ, suc, Bool, true, false, List, ◌∷◌, ◌++◌, [], length, drop, Option, Some, None, slice_get, refl, sym, ap, subst, ◌∙◌, ◌⊎◌, inl, inr, arith, true≢false}
+use Rattle.std.proofs.Common.{◌≡◌, ◌<◌, ◌≤◌, ◌+◌, ◌*◌, ℕ, suc, List, ◌∷◌, ◌++◌, [], length, drop, Option, Some, None, slice_get, sym, ap, subst, ◌∙◌, ◌⊎◌, inl, inr, arith, true≢false}
 use Rattle.std.specs.Option.{IsSome, option_map}
-use Rattle.std.proofs.lemmas.Bool.{cases_lt, cases_eq}
+use Rattle.std.proofs.lemmas.Bool.{cases_lt}
 use Rattle.std.proofs.lemmas.Option.{none-some, same_Some, slice_get_within}
 use Rattle.aud_node.specs.Stream.{Text}
 use Rattle.aud_node.specs.Cluster.{Cluster}
@@ -16,7 +16,7 @@ use Rattle.aud_check.specs.Compare.{mismatch}
 use Rattle.aud_check.specs.Frames.{AreEntries, IsEntry, IsFirstAltered}
 use Rattle.aud_check.specs.Faults.{Case, HasFault, IsReceived, IsFirstFault, fault_of, mismatch_fault, positions_in, fault_rank}
 use Rattle.aud_check.specs.TurnRefusals.{RefusesTurn, IsFirstOfTurns, AreTurnsAccepted, refusal_rank}
-use Rattle.aud_check.specs.Refusals.{Place, AtTurn, AtWhole, Refuses, RefusesWhole, RefuseNone, IsFirst, IsAccepted, rank, case_of}
+use Rattle.aud_check.specs.Refusals.{Place, AtTurn, AtWhole, Refuses, RefusesWhole, IsFirst, IsAccepted, rank, case_of}
 use Rattle.aud_check.proofs.Agreed.{mismatch-none}
 use Rattle.aud_check.proofs.TurnRefusals.{not_refused}
 

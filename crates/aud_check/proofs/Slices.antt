@@ -1,5 +1,5 @@
 -- Consecutive records of a log.
-use Rattle.std.proofs.Common.{◌≡◌, ◌<◌, ◌≤◌, ◌+◌, ◌-◌, ℕ, zero, suc, List, [], ◌∷◌, length, take, drop, min, Some, slice_get, get_or, sym, refl, ap, ◌∙◌, arith, length-take, length-drop}
+use Rattle.std.proofs.Common.{◌≡◌, ◌<◌, ◌≤◌, ◌-◌, ℕ, zero, suc, List, [], ◌∷◌, length, take, drop, min, Some, slice_get, refl, ap, ◌∙◌, arith, length-take, length-drop}
 use Rattle.std.proofs.lemmas.Option.{same_Some, none-some}
 use Rattle.aud_tap.specs.declared.records.NodeRec.{NodeRec}
 use Rattle.aud_node.specs.Lists.{between}

@@ -1,5 +1,5 @@
 -- One element more of a list, as a loop reads it.
-use Rattle.std.proofs.Common.{◌≡◌, ◌<◌, ◌≤◌, ◌+◌, ◌-◌, ◌==◌, ℕ, zero, suc, Bool, true, false, not, ◌&&◌, List, [], ◌∷◌, ◌++◌, length, map, flat_map, take, drop, get_or, Option, Some, None, slice_get, refl, sym, ap, subst, ◌∙◌, arith, append-nil, true≢false}
+use Rattle.std.proofs.Common.{◌≡◌, ◌<◌, ◌+◌, ◌==◌, ℕ, zero, suc, Bool, false, ◌&&◌, List, [], ◌∷◌, ◌++◌, length, map, flat_map, take, drop, get_or, Option, Some, slice_get, refl, sym, ap, subst, ◌∙◌, arith, append-nil, true≢false}
 use Rattle.std.specs.List.{list_all}
 use Rattle.std.specs.Option.{option_map}
 use Rattle.std.proofs.lemmas.List.{take-append-drop, append_assoc}
@@ -8,7 +8,7 @@ use Rattle.aud_tap.specs.declared.records.StreamRec.{StreamRec}
 use Rattle.aud_rooms.specs.Turns.{Who}
 use Rattle.aud_client.specs.Told.{StaySeen, FrameSeen}
 use Rattle.aud_check.specs.Frames.{AreEntries, IsEntry, IsFirstAltered, frames_in}
-use Rattle.aud_check.specs.NamedStays.{are_of_session, is_of_session, is_empty}
+use Rattle.aud_check.specs.NamedStays.{are_of_session, is_of_session}
 use Rattle.aud_check.proofs.Slices.{drop_at}
 
 pub at_map : {X Y : Type 0} (f : X → Y) (xs : List X) (i : ℕ) (x : X) → i < length xs → x ≡ get_or xs i x → slice_get (map f xs) i ≡ Some (f x)

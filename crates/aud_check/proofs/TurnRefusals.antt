@@ -1,5 +1,5 @@
 -- What refuses a turn, and what comes first.
-use Rattle.std.proofs.Common.{◌≡◌, ◌<◌, ◌≤◌, ◌+◌, ◌-◌, ℕ, zero, suc, Bool, true, false, List, [], ◌∷◌, map, length, take, drop, min, Option, Some, None, slice_get, refl, sym, ap, subst, ◌∙◌, ◌⊎◌, inl, inr, arith, nat_eq, true≢false, length-drop}
+use Rattle.std.proofs.Common.{◌≡◌, ◌<◌, ◌≤◌, ◌+◌, ◌-◌, ℕ, suc, true, false, List, [], ◌∷◌, map, length, drop, min, Option, Some, None, slice_get, sym, ap, subst, ◌∙◌, ◌⊎◌, inl, inr, arith, nat_eq, true≢false, length-drop}
 use Rattle.std.proofs.lemmas.Bool.{cases_lt, eqb-true, eq-eqb}
 use Rattle.std.specs.Option.{option_and_then, option_map}
 use Rattle.std.proofs.lemmas.Option.{none-some, same_Some}
@@ -21,7 +21,7 @@ use Rattle.aud_cert.specs.Certificate.{TurnSeen, IsTurnOver, turn_at, place_name
 use Rattle.aud_check.specs.declared.refusal.Refusal.{Refusal}
 use Rattle.aud_check.specs.declared.refusal.Refusal.TheVariants.{NotItsTurn, EndInside, NoEnd, Cursor, Span, Names, Received, Memory}
 use Rattle.aud_check.specs.TurnRefusals.{is_begun_by, end_of, Ends, HasCursors, RefusesTurn, IsTurnAccepted, IsFirstOfTurn, refusal_rank}
-use Rattle.aud_check.proofs.Slices.{within_at, between-more, between-none, length-between}
+use Rattle.aud_check.proofs.Slices.{within_at, between-more, length-between}
 
 module _ (c : Cluster) (pid : Text) (k : ℕ) (t : TurnSeen) (later : List TurnSeen) where
   -- nothing refuses an accepted turn
@@ -162,8 +162,8 @@ module _ (c : Cluster) (pid : Text) (k : ℕ) (t : TurnSeen) (later : List TurnS
           go ends =
               let same : ends.end ≡ end = same_Some ends.end end (sym ends.is_end ∙ end_found ∙ some) in
               not (
-              subst (λ log. t.to ≤ length log) (sym of_log) ends.within,
-              subst (MayEnd c (turn_at c t) (map (turn_at c) later)) same ends.may_end,
+                subst (λ log. t.to ≤ length log) (sym of_log) ends.within,
+                subst (MayEnd c (turn_at c t) (map (turn_at c) later)) same ends.may_end,
               )
 
       module _ (may : (t.to ≤ length tap.recs) × MayEnd c (turn_at c t) (map (turn_at c) later) end) where

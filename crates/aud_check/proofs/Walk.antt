@@ -1,20 +1,19 @@
 -- The rooms of positions, past records of an ordered log.
-use Rattle.std.proofs.Common.{◌≡◌, ◌<◌, ◌≤◌, ◌+◌, ◌-◌, ℕ, zero, suc, Bool, true, false, cond, List, [], ◌∷◌, length, max, Option, Some, None, slice_get, unwrap_or, refl, sym, ap, subst, ◌∙◌, ◌⊎◌, inl, inr, nat_eq, arith, true≢false}
+use Rattle.std.proofs.Common.{◌≡◌, ◌<◌, ◌≤◌, ◌+◌, ◌-◌, ℕ, zero, suc, Bool, true, false, cond, List, ◌∷◌, length, max, Some, slice_get, refl, sym, ap, subst, ◌∙◌, ◌⊎◌, inl, inr, nat_eq, arith, true≢false}
 use Rattle.std.specs.List.{filter}
-use Rattle.std.proofs.lemmas.Bool.{cases_eq, cases_lt, eq-eqb, ne_eqb}
+use Rattle.std.proofs.lemmas.Bool.{cases_eq, eq-eqb, ne_eqb}
 use Rattle.aud_tap.specs.declared.records.StreamRec.{StreamRec}
 use Rattle.aud_tap.specs.declared.records.NodeRec.{NodeRec}
-use Rattle.aud_tap.specs.declared.records.NodeRec.TheVariants.{Start, Take, Opened, Join, Leave, Broke, Back, Gone}
 use Rattle.aud_node.specs.Lists.{between, numbers_from}
 use Rattle.aud_node.specs.Stream.{Text}
-use Rattle.aud_node.specs.Cursors.{takes, cursor_at}
+use Rattle.aud_node.specs.Cursors.{cursor_at}
 use Rattle.aud_node.specs.Ordered.{is_ordered}
 use Rattle.aud_node.specs.OwnRecords.{names}
 use Rattle.aud_rooms.specs.Rooms.{Rooms, rooms_after}
 use Rattle.aud_rooms.specs.TurnsDue.{rooms_at_end, rooms_at_take}
 use Rattle.aud_rooms.specs.Assigned.{Assigned, covered, rooms_given, covered_upto}
 use Rattle.aud_check.specs.Own.{own_between}
-use Rattle.aud_check.specs.Walked.{changed_by, past_record, walked}
+use Rattle.aud_check.specs.Walked.{changed_by, walked}
 use Rattle.aud_check.proofs.Slices.{within_at, between-more, between-none}
 use Rattle.aud_check.proofs.Covered.{covered-upto, given-kept, given-new}
 use Rattle.aud_check.proofs.Ordered.{Takes, TakesNone, step, rooms_of_others}

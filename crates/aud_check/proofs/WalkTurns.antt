@@ -1,21 +1,21 @@
 -- The rooms of positions, past turns, are those that the turns give.
-use Rattle.std.proofs.Common.{◌≡◌, ◌<◌, ◌≤◌, ◌+◌, ◌-◌, ℕ, zero, suc, Bool, true, false, cond, List, [], ◌∷◌, map, length, max, Option, Some, None, slice_get, unwrap_or, nat_le, refl, sym, ap, subst, ◌∙◌, ◌⊎◌, inl, inr, arith, true≢false}
+use Rattle.std.proofs.Common.{◌≡◌, ◌<◌, ◌≤◌, ℕ, zero, suc, true, false, cond, List, [], ◌∷◌, length, max, Some, slice_get, unwrap_or, nat_le, refl, sym, ap, subst, ◌∙◌, ◌⊎◌, inl, inr, arith, true≢false}
 use Rattle.std.specs.FinSet as set
 use Rattle.std.proofs.lemmas.Bool.{cases_lt, le-leb, lt-leb}
 use Rattle.aud_tap.specs.declared.records.StreamRec.{StreamRec}
 use Rattle.aud_tap.specs.declared.records.NodeRec.{NodeRec}
-use Rattle.aud_tap.specs.declared.records.NodeRec.TheVariants.{Start, Take, Opened, Join, Leave, Broke, Back, Gone}
+use Rattle.aud_tap.specs.declared.records.NodeRec.TheVariants.{Take, Join, Leave}
 use Rattle.aud_node.specs.Lists.{between}
 use Rattle.aud_node.specs.Stream.{Text}
 use Rattle.aud_node.specs.Cursors.{takes, cursor_at}
 use Rattle.aud_node.specs.Ordered.{is_ordered}
 use Rattle.aud_node.specs.Cluster.{Cluster}
 use Rattle.aud_node.specs.TurnRecords.{begins_turn}
-use Rattle.aud_rooms.specs.Rooms.{Rooms, rooms_after, own_room}
+use Rattle.aud_rooms.specs.Rooms.{Rooms, rooms_after}
 use Rattle.aud_rooms.specs.Turns.{Who, Slice, slice_of}
 use Rattle.aud_rooms.specs.TurnsDue.{rooms_at_end, rooms_at_take, rooms_for, greatest_high}
-use Rattle.aud_rooms.specs.Spans.{RoomSpan, AreSpansOfTurns, first_low, rooms_by_turns}
-use Rattle.aud_rooms.specs.Assigned.{Assigned, covered, rooms_given, covered_upto, starting, AreSpansOf}
+use Rattle.aud_rooms.specs.Spans.{first_low, rooms_by_turns}
+use Rattle.aud_rooms.specs.Assigned.{Assigned, covered, rooms_given, covered_upto, starting}
 use Rattle.aud_cert.specs.Certificate.{TurnSeen, turn_at, log_named}
 use Rattle.aud_check.specs.Own.{own_between}
 use Rattle.aud_check.specs.Shown.{slices_at}

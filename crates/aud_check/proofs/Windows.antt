@@ -1,8 +1,8 @@
 -- What the stays asked for, one after another.
-use Rattle.std.proofs.Common.{◌≡◌, ◌<◌, ◌≤◌, ◌+◌, ℕ, suc, Bool, true, false, cond, not, ◌&&◌, List, [], ◌∷◌, ◌++◌, length, map, take, drop, Option, Some, None, slice_get, refl, sym, ap, ◌∙◌, arith, append-nil, length-append}
+use Rattle.std.proofs.Common.{◌≡◌, ◌≤◌, ◌+◌, ℕ, suc, Bool, true, false, cond, not, ◌&&◌, List, [], ◌∷◌, ◌++◌, length, map, take, drop, Some, slice_get, refl, sym, ap, ◌∙◌, arith, append-nil, length-append}
 use Rattle.std.proofs.lemmas.List.{take-append-drop}
 use Rattle.aud_tap.specs.declared.records.StreamRec.{StreamRec}
-use Rattle.aud_client.specs.Told.{StaySeen, FrameSeen}
+use Rattle.aud_client.specs.Told.{StaySeen}
 use Rattle.aud_client.specs.Received.{is_recovered}
 use Rattle.aud_check.specs.Ascending.{is_cut_or_not}
 use Rattle.aud_check.specs.Frames.{asked_position, frames_in, is_asked_wrongly, wrong_window}

@@ -41,11 +41,7 @@ pub struct Accepted {
 /// [`Refusal`], or want of memory.
 ///
 /// Where the logs have no run, what is said of every run says nothing.
-pub fn check(
-    alloc: Global,
-    logs: &Logs<'_>,
-    cert: &Certificate<'_>,
-) -> Result<Accepted, Refusal>
+pub fn check(alloc: Global, logs: &Logs<'_>, cert: &Certificate<'_>) -> Result<Accepted, Refusal>
     requires over { IsOver logs.now cert.now }
     requires some { 0 < length cert.now.turns }
 

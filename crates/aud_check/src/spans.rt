@@ -97,11 +97,7 @@ fn pass_record<'s>(
 }
 
 /// Tells the builder which room the session joins or leaves with the record, if it does.
-fn change<'s>(
-    builder: &mut SpanBuilder<'s>,
-    pid: &str,
-    rec: &'s NodeRec,
-) -> Result<(), Memory>
+fn change<'s>(builder: &mut SpanBuilder<'s>, pid: &str, rec: &'s NodeRec) -> Result<(), Memory>
     ensures { OnOk result (builder.new ≡ option_map (changed_by pid.now (Some rec.now)) builder.old) }
 {
     match rec {

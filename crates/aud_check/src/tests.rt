@@ -37,18 +37,21 @@ const LINES: [&str; 24] = [
 ];
 
 /// What the client asks for when it comes back.
-const ASKED: &str = "c1 {\"k\":\"out\",\"t\":\"40{\\\"pid\\\":\\\"P\\\",\\\"offset\\\":\\\"1-0\\\"}\"}";
+const ASKED: &str =
+    "c1 {\"k\":\"out\",\"t\":\"40{\\\"pid\\\":\\\"P\\\",\\\"offset\\\":\\\"1-0\\\"}\"}";
 
 /// The event that comes again after the recovery.
 const REPLAYED: &str = "c1 {\"k\":\"in\",\"t\":\"42[\\\"hi\\\",\\\"2-0\\\"]\"}";
 
 /// The answer to that, behind the event.
-const RECOVERED: &str = "c1 {\"k\":\"in\",\"t\":\"40{\\\"sid\\\":\\\"s1\\\",\\\"pid\\\":\\\"P\\\"} \"}";
+const RECOVERED: &str =
+    "c1 {\"k\":\"in\",\"t\":\"40{\\\"sid\\\":\\\"s1\\\",\\\"pid\\\":\\\"P\\\"} \"}";
 
 /// A turn as a certificate writes it: node, records from one number on and before another, and cursors.
 type Shown = (&'static str, u64, u64, u64, u64);
 
 const FIRST: Shown = ("a", 1, 5, 0, 1);
+
 const SECOND: Shown = ("b", 3, 4, 2, 2);
 
 /// The taps of the lines, with the second of these in place of the first.
@@ -114,14 +117,28 @@ const SPANS: [(&str, u64, u64); 2] = [("r", 1, 2), ("s1", 1, 2)];
 #[test]
 fn both_turns(rt: HostRuntime) -> Result<(), Fail> {
     let answer = checked(rt.alloc(), AS_IT_IS, &[FIRST, SECOND], &SPANS)?;
-    assert!(rt; matches!(answer, Ok(Accepted { got: 2, tail: 0, turns: 2 })));
+    assert!(rt;
+        matches!(
+            answer,
+            Ok(Accepted {
+                got: 2,
+                tail: 0,
+                turns: 2
+            })
+        )
+    );
     Ok(())
 }
 
 /// A room held too long.
 #[test]
 fn another_span(rt: HostRuntime) -> Result<(), Fail> {
-    let answer = checked(rt.alloc(), AS_IT_IS, &[FIRST, SECOND], &[("r", 1, 3), ("s1", 1, 2)])?;
+    let answer = checked(
+        rt.alloc(),
+        AS_IT_IS,
+        &[FIRST, SECOND],
+        &[("r", 1, 3), ("s1", 1, 2)],
+    )?;
     assert!(rt; matches!(answer, Err(Refusal::Span)));
     Ok(())
 }
@@ -154,7 +171,16 @@ fn last_turn_left_out(rt: HostRuntime) -> Result<(), Fail> {
     };
     assert_eq!(rt; off.as_str(), "2-0");
     let answer = checked(rt.alloc(), (REPLAYED, PING), &[FIRST], &spans)?;
-    assert!(rt; matches!(answer, Ok(Accepted { got: 1, tail: 0, turns: 1 })));
+    assert!(rt;
+        matches!(
+            answer,
+            Ok(Accepted {
+                got: 1,
+                tail: 0,
+                turns: 1
+            })
+        )
+    );
     Ok(())
 }
 
@@ -197,7 +223,8 @@ fn other_replies(rt: HostRuntime) -> Result<(), Fail> {
 /// A recovery that asks for an offset that the stream doesn't have.
 #[test]
 fn unknown_offset(rt: HostRuntime) -> Result<(), Fail> {
-    let unknown = "c1 {\"k\":\"out\",\"t\":\"40{\\\"pid\\\":\\\"P\\\",\\\"offset\\\":\\\"9-9\\\"}\"}";
+    let unknown =
+        "c1 {\"k\":\"out\",\"t\":\"40{\\\"pid\\\":\\\"P\\\",\\\"offset\\\":\\\"9-9\\\"}\"}";
     let answer = checked(rt.alloc(), (ASKED, unknown), &[FIRST, SECOND], &SPANS)?;
     assert!(rt; matches!(answer, Err(Refusal::Received(Fault::Window(2)))));
     Ok(())

@@ -81,10 +81,12 @@ fn is_begun_by(rec: Option<&NodeRec>, pid: &str, turn: usize) -> bool
 {
     match rec {
         Some(NodeRec::Opened { pid: other, .. }) => turn == 0 && other.as_str() == pid,
-        Some(NodeRec::Back {
-            pid: other,
-            turn: number,
-        }) => turn > 0 && other.as_str() == pid && usize::from(*number) == turn,
+        Some(
+            NodeRec::Back {
+                pid: other,
+                turn: number,
+            },
+        ) => turn > 0 && other.as_str() == pid && usize::from(*number) == turn,
         _ => false,
     }
 }

@@ -33,12 +33,7 @@ pub(crate) fn wrong_window(
 }
 
 /// Whether the stay is recovered, and its client asked for no position that lies behind so many and before the others.
-fn is_asked_wrongly(
-    stream: &Stream<'_>,
-    stay: &Stay<'_>,
-    positions: &[u64],
-    count: usize,
-) -> bool
+fn is_asked_wrongly(stream: &Stream<'_>, stay: &Stay<'_>, positions: &[u64], count: usize) -> bool
     requires within { count ≤ length positions.now }
     requires ascending { IsAscending positions.now }
     ensures { result ≡ (is_recovered stay.now && not (is_cut_or_not positions.now count (asked_position stream.now stay.now.asked))) }

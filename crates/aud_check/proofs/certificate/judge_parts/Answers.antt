@@ -1,10 +1,8 @@
-use Rattle.std.proofs.Common.{◌≡◌, false, length, refl, sym, ap, subst, ◌∙◌, true≢false}
+use Rattle.std.proofs.Common.{length, sym, subst, ◌∙◌, true≢false}
 use Rattle.aud_rooms.specs.Turns.{Who}
-use Rattle.aud_node.specs.Stream.{positions_after}
 use Rattle.aud_rooms.specs.TurnsDue.{is_turn_due}
 use Rattle.aud_check.specs.Ascending.{IsAscending}
 use Rattle.aud_check.specs.Shown.{slices_at}
-use Rattle.aud_check.specs.Client.{case_for, IsClientRefusal}
 use Rattle.aud_check.specs.Refusals.{seen_as}
 use Rattle.aud_check.specs.TurnRefusals.{AreTurnsAccepted, IsFirstOfTurns}
 use Rattle.aud_check.proofs.Ascending.{ascending}

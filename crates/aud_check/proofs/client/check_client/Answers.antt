@@ -18,18 +18,18 @@ returns-in-Ok-check_received-clause-received c =
     let at = sym c.in-Some.ensures in
     let told : c.in-Ok.told ≡ received_of C.stream recs = c.in-Ok.ensures ∙ ap (λ stream. received_of stream recs) c.stream.ensures in
     let S = map (λ stay. stay.now) c.as_slice-2.result.now in
-    let stays : S ≡ stays_naming who.pid (received_of C.stream recs).stays = 
-        ap (map (λ stay. stay.now)) c.as_slice-2.ensures.value ∙ c.in-Ok-stays_naming.ensures
-        ∙ ap (λ pid. stays_naming pid c.as_slice.result.now) (ap (λ (w : Who). w.pid) c.session.view_is)
-        ∙ ap (stays_naming who.pid) (c.as_slice.ensures.value ∙ ap (λ (r : ReceivedSeen). r.stays) (c.told.view_is ∙ told)) in
+    let stays : S ≡ stays_naming who.pid (received_of C.stream recs).stays =
+    ap (map (λ stay. stay.now)) c.as_slice-2.ensures.value ∙ c.in-Ok-stays_naming.ensures
+    ∙ ap (λ pid. stays_naming pid c.as_slice.result.now) (ap (λ (w : Who). w.pid) c.session.view_is)
+    ∙ ap (stays_naming who.pid) (c.as_slice.ensures.value ∙ ap (λ (r : ReceivedSeen). r.stays) (c.told.view_is ∙ told)) in
     let named : are_of_session who (stays_naming who.pid (received_of C.stream recs).stays) ≡ true = subst (λ ss. are_of_session who ss ≡ true) stays (sym c.are_of_session.ensures ∙ c.if-not-are_of_session.false) in
     let case = case_is C client who.pid due c.received_by_stays.ensures who recs at named in
     let by : by_stays c.stream-2.result.now c.in-Ok.told (map (λ stay. stay.now) c.as_slice-3.result.now) due ≡ case_for C client who.pid due =
-        ap (λ stream. by_stays stream c.in-Ok.told (map (λ stay. stay.now) c.as_slice-3.result.now) due) c.stream-2.ensures
-        ∙ ap (λ t. by_stays C.stream t (map (λ stay. stay.now) c.as_slice-3.result.now) due) told
-        ∙ ap (λ items. by_stays C.stream (received_of C.stream recs) (map (λ stay. stay.now) items) due) (c.as_slice-3.ensures.value ∙ sym c.as_slice-2.ensures.value)
-        ∙ ap (λ ss. by_stays C.stream (received_of C.stream recs) ss due) stays
-        ∙ sym case in
+    ap (λ stream. by_stays stream c.in-Ok.told (map (λ stay. stay.now) c.as_slice-3.result.now) due) c.stream-2.ensures
+    ∙ ap (λ t. by_stays C.stream t (map (λ stay. stay.now) c.as_slice-3.result.now) due) told
+    ∙ ap (λ items. by_stays C.stream (received_of C.stream recs) (map (λ stay. stay.now) items) due) (c.as_slice-3.ensures.value ∙ sym c.as_slice-2.ensures.value)
+    ∙ ap (λ ss. by_stays C.stream (received_of C.stream recs) ss due) stays
+    ∙ sym case in
     subst IsReceived by c.in-Ok-check_received.ensures.received
 
 pub returns-in-Ok-check_received-clause-got : goal.returns-in-Ok-check_received-clause-got
@@ -42,18 +42,18 @@ returns-in-Ok-check_received-clause-got c =
     let at = sym c.in-Some.ensures in
     let told : c.in-Ok.told ≡ received_of C.stream recs = c.in-Ok.ensures ∙ ap (λ stream. received_of stream recs) c.stream.ensures in
     let S = map (λ stay. stay.now) c.as_slice-2.result.now in
-    let stays : S ≡ stays_naming who.pid (received_of C.stream recs).stays = 
-        ap (map (λ stay. stay.now)) c.as_slice-2.ensures.value ∙ c.in-Ok-stays_naming.ensures
-        ∙ ap (λ pid. stays_naming pid c.as_slice.result.now) (ap (λ (w : Who). w.pid) c.session.view_is)
-        ∙ ap (stays_naming who.pid) (c.as_slice.ensures.value ∙ ap (λ (r : ReceivedSeen). r.stays) (c.told.view_is ∙ told)) in
+    let stays : S ≡ stays_naming who.pid (received_of C.stream recs).stays =
+    ap (map (λ stay. stay.now)) c.as_slice-2.ensures.value ∙ c.in-Ok-stays_naming.ensures
+    ∙ ap (λ pid. stays_naming pid c.as_slice.result.now) (ap (λ (w : Who). w.pid) c.session.view_is)
+    ∙ ap (stays_naming who.pid) (c.as_slice.ensures.value ∙ ap (λ (r : ReceivedSeen). r.stays) (c.told.view_is ∙ told)) in
     let named : are_of_session who (stays_naming who.pid (received_of C.stream recs).stays) ≡ true = subst (λ ss. are_of_session who ss ≡ true) stays (sym c.are_of_session.ensures ∙ c.if-not-are_of_session.false) in
     let case = case_is C client who.pid due c.received_by_stays.ensures who recs at named in
     let by : by_stays c.stream-2.result.now c.in-Ok.told (map (λ stay. stay.now) c.as_slice-3.result.now) due ≡ case_for C client who.pid due =
-        ap (λ stream. by_stays stream c.in-Ok.told (map (λ stay. stay.now) c.as_slice-3.result.now) due) c.stream-2.ensures
-        ∙ ap (λ t. by_stays C.stream t (map (λ stay. stay.now) c.as_slice-3.result.now) due) told
-        ∙ ap (λ items. by_stays C.stream (received_of C.stream recs) (map (λ stay. stay.now) items) due) (c.as_slice-3.ensures.value ∙ sym c.as_slice-2.ensures.value)
-        ∙ ap (λ ss. by_stays C.stream (received_of C.stream recs) ss due) stays
-        ∙ sym case in
+    ap (λ stream. by_stays stream c.in-Ok.told (map (λ stay. stay.now) c.as_slice-3.result.now) due) c.stream-2.ensures
+    ∙ ap (λ t. by_stays C.stream t (map (λ stay. stay.now) c.as_slice-3.result.now) due) told
+    ∙ ap (λ items. by_stays C.stream (received_of C.stream recs) (map (λ stay. stay.now) items) due) (c.as_slice-3.ensures.value ∙ sym c.as_slice-2.ensures.value)
+    ∙ ap (λ ss. by_stays C.stream (received_of C.stream recs) ss due) stays
+    ∙ sym case in
     c.in-Ok-check_received.ensures.got ∙ ap (λ (case : Case). length case.frames) by
 
 pub returns-in-Err-Fault-clause-refused : goal.returns-in-Err-Fault-clause-refused
@@ -66,18 +66,18 @@ returns-in-Err-Fault-clause-refused c =
     let at = sym c.in-Some.ensures in
     let told : c.in-Ok.told ≡ received_of C.stream recs = c.in-Ok.ensures ∙ ap (λ stream. received_of stream recs) c.stream.ensures in
     let S = map (λ stay. stay.now) c.as_slice-2.result.now in
-    let stays : S ≡ stays_naming who.pid (received_of C.stream recs).stays = 
-        ap (map (λ stay. stay.now)) c.as_slice-2.ensures.value ∙ c.in-Ok-stays_naming.ensures
-        ∙ ap (λ pid. stays_naming pid c.as_slice.result.now) (ap (λ (w : Who). w.pid) c.session.view_is)
-        ∙ ap (stays_naming who.pid) (c.as_slice.ensures.value ∙ ap (λ (r : ReceivedSeen). r.stays) (c.told.view_is ∙ told)) in
+    let stays : S ≡ stays_naming who.pid (received_of C.stream recs).stays =
+    ap (map (λ stay. stay.now)) c.as_slice-2.ensures.value ∙ c.in-Ok-stays_naming.ensures
+    ∙ ap (λ pid. stays_naming pid c.as_slice.result.now) (ap (λ (w : Who). w.pid) c.session.view_is)
+    ∙ ap (stays_naming who.pid) (c.as_slice.ensures.value ∙ ap (λ (r : ReceivedSeen). r.stays) (c.told.view_is ∙ told)) in
     let named : are_of_session who (stays_naming who.pid (received_of C.stream recs).stays) ≡ true = subst (λ ss. are_of_session who ss ≡ true) stays (sym c.are_of_session.ensures ∙ c.if-not-are_of_session.false) in
     let case = case_is C client who.pid due c.received_by_stays.ensures who recs at named in
     let by : by_stays c.stream-2.result.now c.in-Ok.told (map (λ stay. stay.now) c.as_slice-3.result.now) due ≡ case_for C client who.pid due =
-        ap (λ stream. by_stays stream c.in-Ok.told (map (λ stay. stay.now) c.as_slice-3.result.now) due) c.stream-2.ensures
-        ∙ ap (λ t. by_stays C.stream t (map (λ stay. stay.now) c.as_slice-3.result.now) due) told
-        ∙ ap (λ items. by_stays C.stream (received_of C.stream recs) (map (λ stay. stay.now) items) due) (c.as_slice-3.ensures.value ∙ sym c.as_slice-2.ensures.value)
-        ∙ ap (λ ss. by_stays C.stream (received_of C.stream recs) ss due) stays
-        ∙ sym case in
+    ap (λ stream. by_stays stream c.in-Ok.told (map (λ stay. stay.now) c.as_slice-3.result.now) due) c.stream-2.ensures
+    ∙ ap (λ t. by_stays C.stream t (map (λ stay. stay.now) c.as_slice-3.result.now) due) told
+    ∙ ap (λ items. by_stays C.stream (received_of C.stream recs) (map (λ stay. stay.now) items) due) (c.as_slice-3.ensures.value ∙ sym c.as_slice-2.ensures.value)
+    ∙ ap (λ ss. by_stays C.stream (received_of C.stream recs) ss due) stays
+    ∙ sym case in
     let first = rw c.in-Err-Fault.field-0-is at c.in-Err-Fault.ensures.wrong in (
       subst (λ ss. are_of_session who ss ≡ true) (sym (stays_are C client who.pid due recs at)) named,
       subst (λ (case : Case). IsFirstFault case c.in-Err-Fault.fault) by first,

@@ -1,4 +1,4 @@
-use Rattle.std.proofs.Common.{◌≡◌, ◌<◌, length, true, false, sym, ◌∙◌, true≢false, arith}
+use Rattle.std.proofs.Common.{◌<◌, length, sym, ◌∙◌, true≢false, arith}
 use Rattle.aud_sio.specs.Message.{bytes_of}
 use Rattle.aud_sio.specs.Assembly.{blob_view}
 use Rattle.aud_check.proofs.Steps.{same_more, differ_at}
@@ -9,7 +9,7 @@ returns-then-not-is_blob c =
     let within : c.loop-i.i < length c.args.bytes.now = omega arith in (
       (λ e. absurd (true≢false (sym e))),
       (λ same. absurd (differ_at blob_view bytes_of c.args.blobs.now c.args.bytes.now c.loop-i.i c.index-blobs-i.result c.index-bytes-i.result c.loop-i-test.true c.index-blobs-i.is within c.index-bytes-i.is
-      (λ e. true≢false (sym (c.is_blob.ensures.1 e) ∙ c.if-not-is_blob.true)) same)),
+          (λ e. true≢false (sym (c.is_blob.ensures.1 e) ∙ c.if-not-is_blob.true)) same)),
     )
 
 pub loop-i-preserved : goal.loop-i-preserved

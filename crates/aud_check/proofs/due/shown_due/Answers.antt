@@ -1,6 +1,5 @@
-use Rattle.std.proofs.Common.{◌≡◌, sym, ap, subst, ◌∙◌}
+use Rattle.std.proofs.Common.{◌≡◌, ap, ◌∙◌}
 use Rattle.aud_rooms.specs.Turns.{Who}
-use Rattle.aud_rooms.specs.TurnsDue.{greatest_high}
 use Rattle.aud_rooms.specs.Spans.{due_by_spans, first_low}
 use Rattle.aud_check.specs.Shown.{slices_at}
 use Rattle.aud_check.proofs.AcceptedTurns.{all_accepted, lows, highs}

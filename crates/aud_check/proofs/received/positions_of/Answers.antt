@@ -1,4 +1,4 @@
-use Rattle.std.proofs.Common.{◌≡◌, ◌++◌, ◌∷◌, [], ap, ◌∙◌}
+use Rattle.std.proofs.Common.{◌++◌, ◌∷◌, [], ap, ◌∙◌}
 use Rattle.aud_check.proofs.Cuts.{position_of}
 use Rattle.aud_check.proofs.Steps.{mapped_more}
 use Rattle.aud_check.proofs.received.positions_of.Goals as goal

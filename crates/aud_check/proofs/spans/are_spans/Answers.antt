@@ -3,7 +3,7 @@ use Rattle.std.specs.Option.{option_map}
 use Rattle.std.proofs.lemmas.Option.{MatchOption-at_some}
 use Rattle.aud_rooms.specs.Turns.{Who}
 use Rattle.aud_rooms.specs.TurnsDue.{greatest_high}
-use Rattle.aud_rooms.specs.Spans.{RoomSpan, AreSpansOfTurns, first_low, rooms_by_turns}
+use Rattle.aud_rooms.specs.Spans.{AreSpansOfTurns, first_low, rooms_by_turns}
 use Rattle.aud_rooms.specs.Assigned.{Assigned, AreSpansOf, starting}
 use Rattle.aud_check.specs.Shown.{shown_low, slices_at}
 use Rattle.aud_check.specs.Walked.{turns_walked}
@@ -26,12 +26,12 @@ returns c =
     let stand = all_stand C who.pid 0 turns c.requires.over (all_accepted C who.pid turns c.requires.accepted) in
     let stand_seen = subst (λ (w : Who). AllStand C w.pid turns) (sym c.session.view_is) stand in
     let walked : c.walk_turns.new.builder ≡ Some (turns_walked C seen.pid turns (starting seen.sid (shown_low turns))) =
-        c.in_ok-walk_turns.ensures
-        ∙ ap (option_map (turns_walked C seen.pid turns)) (c.in_ok-builder.ensures ∙ ap (λ n. Some (starting seen.sid n)) c.first_low.ensures) in
+    c.in_ok-walk_turns.ensures
+    ∙ ap (option_map (turns_walked C seen.pid turns)) (c.in_ok-builder.ensures ∙ ap (λ n. Some (starting seen.sid n)) c.first_low.ensures) in
     let built = MatchOption-at_some ⊥ (λ (given : Assigned). AreSpansOf given c.in_ok-built.built.items) (turns_walked C seen.pid turns (starting seen.sid (shown_low turns))) walked c.in_ok-built.ensures.spans in
     let are = subst (λ (w : Who). AreSpansOfTurns C.stream w (slices_at C turns) c.in_ok-built.built.items) c.session.view_is
-        (built_for c.spans_go_by_positions.ensures C seen turns c.requires.some stand_seen c.in_ok-built.built.items built) in (
+    (built_for c.spans_go_by_positions.ensures C seen turns c.requires.some stand_seen c.in_ok-built.built.items built) in (
       (λ e. subst (λ spans. AreSpansOfTurns C.stream who (slices_at C turns) spans) (sym c.as_slice.ensures.value ∙ c.are_same.ensures.0 e) are),
       (λ others. c.are_same.ensures.1 (c.as_slice.ensures.value
-      ∙ c.spans_are_unique.ensures (rooms_by_turns C.stream who (slices_at C turns)) (first_low (slices_at C turns)) (greatest_high (slices_at C turns)) c.in_ok-built.built.items c.args.spans.now are others)),
+          ∙ c.spans_are_unique.ensures (rooms_by_turns C.stream who (slices_at C turns)) (first_low (slices_at C turns)) (greatest_high (slices_at C turns)) c.in_ok-built.built.items c.args.spans.now are others)),
     )

@@ -1,4 +1,4 @@
-use Rattle.std.proofs.Common.{◌≡◌, ◌+◌, ◌<◌, ◌≤◌, ℕ, suc, Bool, length, slice_get, sym, ap, subst, ◌∙◌, arith}
+use Rattle.std.proofs.Common.{◌+◌, ◌<◌, ◌≤◌, ℕ, Bool, length, slice_get, sym, subst, arith}
 use Rattle.aud_node.specs.OwnRecords.{names}
 use Rattle.aud_cert.specs.Certificate.{TurnSeen}
 use Rattle.aud_check.proofs.Numbers.{below_end}

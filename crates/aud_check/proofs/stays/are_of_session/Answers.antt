@@ -1,5 +1,3 @@
-use Rattle.std.proofs.Common.{arith}
-use Rattle.std.proofs.lemmas.Grind.{common_steps}
 use Rattle.aud_check.proofs.Steps.{all_of_session, some_where_not}
 use Rattle.aud_check.proofs.stays.are_of_session.Goals as goal
 use Rattle.std.proofs.Common.{sym, ◌∙◌}
