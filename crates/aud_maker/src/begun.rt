@@ -70,7 +70,7 @@ fn turn_on(logs: &Logs<'_>, node: usize, pid: &str, number: u16) -> Option<TurnP
     }
 }
 
-/// A number that no turn passes which a record in the nodes' logs begins.
+/// A number; no record in the nodes' logs begins a turn of a greater one.
 fn last_begun(logs: &Logs<'_>, nodes: &[usize], pid: &str) -> u16
     requires { nodes.now ≡ own_places logs.now pid.now }
     ensures { (node : ℕ) → BeginsUpTo (node_log logs.now node) pid.now result }
@@ -84,7 +84,7 @@ fn last_begun(logs: &Logs<'_>, nodes: &[usize], pid: &str) -> u16
     last
 }
 
-/// A number that no turn passes which a record of the log begins.
+/// A number; no record of the log begins a turn of a greater one.
 fn last_in(log: &NodeLog<'_>, pid: &str) -> u16
     ensures { BeginsUpTo log.now.recs pid.now result }
 {

@@ -47,6 +47,19 @@ const B_GOES_ON: [&str; 3] = [
     r#"b {"k":"back","pid":"P","turn":3}"#,
 ];
 
+// Recovers the session behind the third entry.
+const LATER_B: [&str; 9] = [
+    r#"b {"k":"tap","v":1,"of":"node"}"#,
+    r#"b {"k":"start","off":null}"#,
+    r#"b {"k":"take","off":"1-0"}"#,
+    r#"b {"k":"take","off":"2-0"}"#,
+    r#"b {"k":"take","off":"3-0"}"#,
+    r#"b {"k":"back","pid":"P","turn":1}"#,
+    r#"b {"k":"leave","pid":"P","room":"r"}"#,
+    r#"b {"k":"join","pid":"P","room":"q"}"#,
+    r#"b {"k":"take","off":"4-0"}"#,
+];
+
 // Takes the second entry first.
 const UNORDERED: [&str; 5] = [
     r#"b {"k":"tap","v":1,"of":"node"}"#,
@@ -133,6 +146,21 @@ fn four_turns_on_two_nodes(rt: HostRuntime) -> Result<(), Fail> {
     assert_eq!(rt;
         text.as_str(),
         r#"{"client":"c1","pid":"P","spans":[["r",1,4],["s1",1,4]],"turns":[["a",1,5,0,1],["b",3,5,2,2],["a",7,9,3,3],["b",7,8,4,4]]}"#
+    );
+    Ok(())
+}
+
+/// Positions 2 and 3 are judged by the rooms at the recovery, before the session leaves `r` and joins `q`.
+#[test]
+fn rooms_across_a_recovery(rt: HostRuntime) -> Result<(), Fail> {
+    let text = outcome(
+        rt.alloc(),
+        &[&STREAM, &NODE_A, &A_GOES_ON[..1], &LATER_B, &CLIENT_OF_P],
+        "P",
+    )?;
+    assert_eq!(rt;
+        text.as_str(),
+        r#"{"client":"c1","pid":"P","spans":[["q",4,4],["r",1,3],["s1",1,4]],"turns":[["a",1,5,0,1],["b",4,8,3,4]]}"#
     );
     Ok(())
 }
