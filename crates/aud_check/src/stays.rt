@@ -1,7 +1,7 @@
 //! The stays whose reply names a session.
 ghost use Rattle.std.specs.Prelude.{◌≡◌, ◌++◌, IfOk, OnOk, map};
 ghost use Rattle.std.specs.List.{list_all};
-ghost use Rattle.aud_client.specs.Received.{is_recovered, names, stays_naming};
+ghost use Rattle.aud_client.specs.Received.{stays_naming};
 ghost use Rattle.aud_check.specs.NamedStays.{are_of_session, has_sid, is_of_session};
 ghost use Rattle.aud_check.specs.Frames.{frames_in};
 
@@ -20,36 +20,13 @@ pub(crate) fn stays_naming<'s>(
 {
     let mut naming = Vec::new(alloc);
     for stay in stays {
-        if names(pid, stay) {
+        if stay.names(pid) {
             let Ok(()) = naming.push(stay) else {
                 return Err(Memory);
             };
         }
     }
     Ok(naming)
-}
-
-/// Whether the stay's reply names the session.
-pub(crate) fn names(pid: &str, stay: &Stay<'_>) -> bool
-    ensures { result ≡ names pid.now stay.now }
-{
-    match &stay.reply {
-        Some(reply) => match &reply.pid {
-            Some(other) => other.as_str() == pid,
-            None => false,
-        },
-        None => false,
-    }
-}
-
-/// Whether the stay was asked with the pid that its reply names.
-pub(crate) fn is_recovered(stay: &Stay<'_>) -> bool
-    ensures { result ≡ is_recovered stay.now }
-{
-    match &stay.asked {
-        Some(asked) => names(asked.pid.as_str(), stay),
-        None => false,
-    }
 }
 
 /// Whether there are stays, and each is of the session's namespace and has a reply with the session's sid.

@@ -5,7 +5,6 @@ ghost use Rattle.aud_client.specs.Received.{is_recovered};
 ghost use Rattle.aud_check.specs.Ascending.{IsAscending, is_cut, is_cut_or_not};
 ghost use Rattle.aud_check.specs.Frames.{asked_position, frames_in, wrong_window};
 
-use crate::stays::is_recovered;
 use aud_client::{Asked, Stay};
 use aud_node::Stream;
 
@@ -38,7 +37,7 @@ fn is_asked_wrongly(stream: &Stream<'_>, stay: &Stay<'_>, positions: &[u64], cou
     requires ascending { IsAscending positions.now }
     ensures { result ≡ (is_recovered stay.now && not (is_cut_or_not positions.now count (asked_position stream.now stay.now.asked))) }
 {
-    if !is_recovered(stay) {
+    if !stay.is_recovered() {
         return false;
     }
     !is_asked_between(stream, &stay.asked, positions, count)
