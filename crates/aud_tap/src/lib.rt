@@ -5,7 +5,6 @@
 
 mod bundle;
 mod fault;
-mod laws;
 mod limits;
 mod line;
 mod read;
@@ -17,7 +16,6 @@ mod write;
 
 pub use bundle::{BundleReader, read_bundle};
 pub use fault::{InputCode, Memory, ReadFault};
-pub use laws::names_stand_once;
 pub use limits::MAX_LINE;
 pub use line::Line;
 pub use read::{is_session_id, parse_line};
