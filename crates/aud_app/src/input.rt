@@ -1,7 +1,7 @@
 //! The taps of an input, and its certificates.
 ghost use Rattle.std.specs.Prelude.{◌≡◌, ◌≢◌, Ok, Err, IfOk, IfErr};
 ghost use Rattle.aud_tap.specs.Lines.{lines_of};
-ghost use Rattle.aud_app.specs.Input.{opens_object, is_certificate, parts_of, input_of};
+ghost use Rattle.aud_app.specs.Input.{opens_object, is_certificate, parts_of, input_of, AreNamedOnce};
 
 use aud_tap::{BundleReader, Line, ReadFault, Splitter, Taps};
 use std::alloc::Global;
@@ -108,9 +108,10 @@ fn read_lines(alloc: Global, layout: Layout, lines: Vec<Line>) -> Result<Input, 
 }
 
 /// The taps and the certificates of the input, or the first refused line: also where a later line
-/// is too long.
+/// is too long. No two taps have one name.
 pub fn read_input(alloc: Global, layout: Layout, bytes: &[u8]) -> Result<Input, ReadFault>
     ensures read { IfOk result (λ input. input_of layout bytes.now ≡ Ok input) }
+    ensures names { IfOk result (λ input. AreNamedOnce input.taps) }
     ensures refused { IfErr result (λ e. e ≢ ReadFault.Memory → input_of layout bytes.now ≡ Err e) }
 {
     let InputLines { lines, fault } = lines_of_input(alloc, bytes)?;

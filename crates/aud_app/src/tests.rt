@@ -71,7 +71,7 @@ fn outcome<H: Wait + Threads + Abort>(
 /// A line, with blanks behind it up to so many bytes.
 fn padded(alloc: Global, line: &str, length: usize) -> Result<Vec<u8>, AllocError> {
     let mut bytes = line.as_bytes().to_vec(alloc)?;
-    while bytes.len() < length {
+    for _ in bytes.len()..length {
         bytes.push(b' ')?;
     }
     Ok(bytes)
