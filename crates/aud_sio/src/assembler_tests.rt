@@ -80,14 +80,14 @@ fn packets_of_polling_bodies(rt: HostRuntime) -> Result<(), Fail> {
     }
     assert!(rt; texts.next().is_none());
     let body = "451-[\"baz\",{\"_placeholder\":true,\"num\":0}]\u{1e}bAQIDBA==";
-    let mut wholes = 0;
+    let mut came = false;
     for packet in decode_payload(rt.alloc(), body)? {
         if let Some(whole) = assembler.feed(packet)? {
-            assert_eq!(rt; whole.packet.attachments, 1);
+            assert_eq!(rt; whole.bin.len(), 1);
             assert_eq!(rt; whole.bin[0].as_slice(), [1, 2, 3, 4].as_slice());
-            wholes += 1;
+            came = true;
         }
     }
-    assert_eq!(rt; wholes, 1);
+    assert!(rt; came);
     Ok(())
 }

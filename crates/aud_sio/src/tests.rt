@@ -122,13 +122,13 @@ fn reads_the_examples_of_the_document(rt: HostRuntime) -> Result<(), Fail> {
     ];
     for (text, kind, attachments, nsp, id, payload) in cases {
         let packet = decode(rt.alloc(), text)?;
-        assert_eq!(rt; packet.kind, kind, "{text}");
-        assert_eq!(rt; packet.attachments, attachments, "{text}");
-        assert_eq!(rt; packet.nsp, nsp, "{text}");
-        assert_eq!(rt; packet.id, id, "{text}");
-        assert_eq!(rt; packet.payload, payload, "{text}");
+        assert_eq!(rt; packet.kind, kind);
+        assert_eq!(rt; packet.attachments, attachments);
+        assert!(rt; packet.nsp == nsp);
+        assert_eq!(rt; packet.id, id);
+        assert!(rt; packet.payload == payload);
         let written = encode(rt.alloc(), &packet)?;
-        assert_eq!(rt; written.as_str(), text);
+        assert!(rt; written.as_str() == text);
     }
     Ok(())
 }
