@@ -5,6 +5,8 @@
 pub enum Mode {
     /// A verdict for each session.
     Audit,
+    /// An answer on each certificate of the input.
+    Verify,
 }
 
 /// What the words of the command line ask for.

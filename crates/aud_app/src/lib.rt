@@ -9,6 +9,7 @@ mod certified;
 mod choice;
 mod decide;
 mod input;
+mod judge;
 mod output;
 mod program;
 mod report;
@@ -16,6 +17,7 @@ mod streams;
 #[cfg(test)]
 mod tests;
 mod verdict;
+mod verify;
 mod watched;
 mod words;
 

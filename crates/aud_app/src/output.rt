@@ -1,13 +1,17 @@
 //! What is written for an input.
 ghost use Rattle.std.specs.Prelude.{◌≡◌, IfOk};
-ghost use Rattle.aud_app.specs.Output.{report_of, refusal_of, IsOutput, layout_of};
+ghost use Rattle.aud_app.specs.Output.{status_of, report_of, refusal_of, verification_of, IsVerification, IsOutput, layout_of};
 
+use crate::answer::Certified;
+use crate::certified::{count_accepted, verify_text};
 use crate::choice::Mode;
 use crate::decide::decide;
-use crate::input::{Layout, read_input};
+use crate::input::{Input, Layout, read_input};
 use crate::program::Status;
 use crate::report::{count_yes, refusal_text, report_text};
 use crate::verdict::Entry;
+use crate::verify::answers;
+use aud_node::Logs;
 use aud_tap::{InputCode, ReadFault};
 use std::alloc::{AllocError, Global};
 use std::marker::Model;
@@ -28,17 +32,44 @@ impl Model for Output {
     ghost view = { λ o. record { status = o.status; text = string_bytes o.text } };
 }
 
+/// How a run ends where so many of all answers are good.
+fn status_of(good: usize, all: usize) -> Status
+    ensures { result ≡ status_of good all }
+{
+    if good == all {
+        Status::AllYes
+    } else {
+        Status::SomeNo
+    }
+}
+
 /// The report on sessions that are decided.
 fn report_on(alloc: Global, entries: &[Entry]) -> Result<Output, AllocError>
     ensures { IfOk result (λ o. o ≡ report_of entries.now) }
 {
     let text = report_text(alloc, entries)?;
-    let status = if count_yes(entries) == entries.len() {
-        Status::AllYes
-    } else {
-        Status::SomeNo
-    };
+    let status = status_of(count_yes(entries), entries.len());
     Ok(Output { status, text })
+}
+
+/// The text on certificates that are answered.
+fn verification_on(alloc: Global, all: &[Certified]) -> Result<Output, AllocError>
+    ensures { IfOk result (λ o. o ≡ verification_of all.now) }
+{
+    let text = verify_text(alloc, all)?;
+    let status = status_of(count_accepted(all), all.len());
+    Ok(Output { status, text })
+}
+
+/// The answers on the certificates of an input.
+fn verified(alloc: Global, input: &Input) -> Result<Output, AllocError>
+    ensures { IfOk result (λ o. IsVerification input.now o) }
+{
+    let Ok(logs) = Logs::build(alloc, &input.taps) else {
+        return Err(AllocError);
+    };
+    let all = answers(alloc, &logs, &input.certificates)?;
+    verification_on(alloc, &all)
 }
 
 /// The refusal of a line.
@@ -58,6 +89,7 @@ fn layout_of(mode: Mode) -> Layout
 {
     match mode {
         Mode::Audit => Layout::Bundle,
+        Mode::Verify => Layout::BundleAndCertificates,
     }
 }
 
@@ -68,6 +100,7 @@ pub fn output_of(alloc: Global, mode: Mode, bytes: &[u8]) -> Result<Output, Allo
     match read_input(alloc, layout_of(mode), bytes) {
         Ok(input) => match mode {
             Mode::Audit => report_on(alloc, &decide(alloc, &input.taps)?),
+            Mode::Verify => verified(alloc, &input),
         },
         Err(ReadFault::Input(line, code)) => refusal(alloc, line, code),
         Err(ReadFault::Memory) => Err(AllocError),
