@@ -8,6 +8,7 @@ use Rattle.aud_cert.specs.Certificate.{CertificateSeen}
 use Rattle.aud_cert.specs.Steps.{Fails}
 use Rattle.aud_check.specs.declared.refusal.Refusal.{Refusal}
 use Rattle.aud_check.specs.declared.refusal.Refusal.TheVariants as check
+use Rattle.aud_check.specs.Refusals.{IsFirst, IsFirstRefusal}
 use Rattle.aud_app.specs.declared.answer.Flaw.{Flaw}
 use Rattle.aud_app.specs.declared.answer.Answer.TheVariants.{Bad}
 use Rattle.aud_app.specs.declared.answer.Certified.{Certified}
@@ -23,6 +24,17 @@ answer_unread c read reading.Memory flaw fails e = cc
 -- a refusal with a flaw is no want of memory
 pub is_refused : (refusal : Refusal) (flaw : Flaw) → flaw_found refusal ≡ Some flaw → refusal ≡ check.Memory → ⊥
 is_refused refusal flaw found e = let none : None ≡ Some flaw = rw e at found in cc
+
+-- a refusal that is no want of memory is the first
+pub is_first : (c : Cluster) (cert : CertificateSeen) (refusal : Refusal) → IsFirstRefusal c cert refusal → (refusal ≡ check.Memory → ⊥) → IsFirst c cert refusal
+is_first c cert check.NotItsTurn first other = first
+is_first c cert check.EndInside first other = first
+is_first c cert check.NoEnd first other = first
+is_first c cert check.Cursor first other = first
+is_first c cert check.Span first other = first
+is_first c cert check.Names first other = first
+is_first c cert (check.Received fault) first other = first
+is_first c cert check.Memory first other = absurd (other refl)
 
 -- one more answer
 pub answered_more : (c : Cluster) (lines : List Line) (answers : List Certified) (line : Line) (certified : Certified)

@@ -1,10 +1,11 @@
--- The verdict on a session.
-use Rattle.std.specs.Prelude.{◌≡◌, ◌⊎◌, Option, Some, None}
+-- The verdict on each session, and its certificate.
+use Rattle.std.specs.Prelude.{◌≡◌, ◌⊎◌, List, [], ◌∷◌, Option, Some, None}
 use Rattle.aud_node.specs.Stream.{Text}
 use Rattle.aud_node.specs.Cluster.{Cluster}
 use Rattle.aud_cert.specs.declared.fault.Fault.{Fault}
 use Rattle.aud_cert.specs.declared.fault.Fault.TheVariants as fault
 use Rattle.aud_cert.specs.Certificate.{CertificateSeen}
+use Rattle.aud_cert.specs.Text.{text_of}
 use Rattle.aud_maker.specs.Made.{IsMade}
 use Rattle.aud_maker.specs.Faults as maker
 use Rattle.aud_check.specs.declared.refusal.Refusal.{Refusal}
@@ -13,6 +14,7 @@ use Rattle.aud_check.specs.Refusals.{IsFirst, IsAccepted}
 use Rattle.aud_app.specs.declared.verdict.Counts.{Counts}
 use Rattle.aud_app.specs.declared.verdict.Verdict.{Verdict}
 use Rattle.aud_app.specs.declared.verdict.Verdict.TheVariants.{Yes, No}
+use Rattle.aud_app.specs.declared.verdict.Entry.{Entry}
 use Rattle.aud_app.specs.declared.judge.Judged.{Judged}
 use Rattle.aud_app.specs.declared.judge.Judged.TheVariants.{Shown, Faulty}
 use Rattle.aud_app.specs.Verified.{counts_of}
@@ -42,3 +44,24 @@ IsJudged c pid (Faulty fault) = IsFaulty c pid fault
 abbrev pub IsVerdict : Cluster → Text → Verdict → Type 0
 IsVerdict c pid (Yes counts) = (cert : CertificateSeen) × IsShown c pid cert counts
 IsVerdict c pid (No fault) = IsFaulty c pid fault
+
+-- the answer on a session
+abbrev pub IsEntry : Cluster → Text → Entry → Type 0
+IsEntry c pid entry = (entry.pid ≡ pid) × IsVerdict c pid entry.verdict
+
+-- the answers on these sessions, one for each, in order
+abbrev pub AreVerdicts : Cluster → List Text → List Entry → Type 0
+AreVerdicts c [] [] = Unit {0}
+AreVerdicts c (pid ∷ pids) (entry ∷ entries) = IsEntry c pid entry × AreVerdicts c pids entries
+AreVerdicts c _ _ = ⊥
+
+-- the text of the session's certificate, where the verdict is yes; none where it is no
+abbrev pub IsProof : Cluster → Text → Option Text → Type 0
+IsProof c pid (Some text) = (cert : CertificateSeen) × (counts : Counts) × IsShown c pid cert counts × (text ≡ text_of cert)
+IsProof c pid None = (fault : Fault) × IsFaulty c pid fault
+
+-- the certificates of these sessions, a place for each, in order
+abbrev pub AreProofs : Cluster → List Text → List (Option Text) → Type 0
+AreProofs c [] [] = Unit {0}
+AreProofs c (pid ∷ pids) (proof ∷ proofs) = IsProof c pid proof × AreProofs c pids proofs
+AreProofs c _ _ = ⊥

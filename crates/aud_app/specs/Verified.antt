@@ -9,7 +9,7 @@ use Rattle.aud_cert.specs.Certificate.{CertificateSeen}
 use Rattle.aud_cert.specs.Reading.{certificate_of}
 use Rattle.aud_check.specs.declared.refusal.Refusal.{Refusal}
 use Rattle.aud_check.specs.declared.refusal.Refusal.TheVariants as check
-use Rattle.aud_check.specs.Shown.{shown_due, positions_received}
+use Rattle.aud_check.specs.Shown.{shown_due, frames_received}
 use Rattle.aud_check.specs.Refusals.{IsFirst, IsAccepted}
 use Rattle.aud_app.specs.declared.verdict.Counts.{Counts}
 use Rattle.aud_app.specs.declared.answer.Flaw.{Flaw}
@@ -39,8 +39,8 @@ flaw_found check.Memory = None
 -- how much of what is due by the shown turns the session received
 abbrev pub counts_of : Cluster → CertificateSeen → Counts
 counts_of c cert = record {
-  got = length (positions_received c cert);
-  tail = length (shown_due c cert) - length (positions_received c cert);
+  got = length (frames_received c cert);
+  tail = length (shown_due c cert) - length (frames_received c cert);
   turns = length cert.turns;
 }
 

@@ -5,6 +5,8 @@
 pub enum Mode {
     /// A verdict for each session.
     Audit,
+    /// The certificate of each session that is answered yes.
+    Prove,
     /// An answer on each certificate of the input.
     Verify,
 }

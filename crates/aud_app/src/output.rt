@@ -1,18 +1,19 @@
 //! What is written for an input.
 ghost use Rattle.std.specs.Prelude.{◌≡◌, IfOk};
-ghost use Rattle.aud_app.specs.Output.{status_of, report_of, refusal_of, verification_of, IsVerification, IsOutput, layout_of};
+ghost use Rattle.aud_app.specs.Input.{AreNamedOnce};
+ghost use Rattle.aud_app.specs.Output.{status_of, report_of, refusal_of, proving_of, verification_of, IsReport, IsProving, IsVerification, IsOutput, layout_of};
 
 use crate::answer::Certified;
-use crate::certified::{count_accepted, verify_text};
+use crate::certified::{are_all_shown, count_accepted, prove_text, verify_text};
 use crate::choice::Mode;
-use crate::decide::decide;
 use crate::input::{Input, Layout, read_input};
 use crate::program::Status;
 use crate::report::{count_yes, refusal_text, report_text};
+use crate::sessions::{decide, prove};
 use crate::verdict::Entry;
 use crate::verify::answers;
 use aud_node::Logs;
-use aud_tap::{InputCode, ReadFault};
+use aud_tap::{InputCode, ReadFault, Taps, Text};
 use std::alloc::{AllocError, Global};
 use std::marker::Model;
 
@@ -52,6 +53,43 @@ fn report_on(alloc: Global, entries: &[Entry]) -> Result<Output, AllocError>
     Ok(Output { status, text })
 }
 
+/// The report on the sessions of these taps.
+fn audited(alloc: Global, taps: &Taps) -> Result<Output, AllocError>
+    requires { AreNamedOnce taps.now }
+    ensures { IfOk result (λ o. IsReport taps.now o) }
+{
+    let Ok(logs) = Logs::build(alloc, taps) else {
+        return Err(AllocError);
+    };
+    let entries = decide(alloc, &logs)?;
+    report_on(alloc, &entries)
+}
+
+/// The lines of certificates.
+fn proving_on(alloc: Global, proofs: &[Option<Text>]) -> Result<Output, AllocError>
+    ensures { IfOk result (λ o. o ≡ proving_of proofs.now) }
+{
+    let text = prove_text(alloc, proofs)?;
+    let status = if are_all_shown(proofs) {
+        Status::AllYes
+    } else {
+        Status::SomeNo
+    };
+    Ok(Output { status, text })
+}
+
+/// The certificates of the sessions of these taps.
+fn proved(alloc: Global, taps: &Taps) -> Result<Output, AllocError>
+    requires { AreNamedOnce taps.now }
+    ensures { IfOk result (λ o. IsProving taps.now o) }
+{
+    let Ok(logs) = Logs::build(alloc, taps) else {
+        return Err(AllocError);
+    };
+    let proofs = prove(alloc, &logs)?;
+    proving_on(alloc, &proofs)
+}
+
 /// The text on certificates that are answered.
 fn verification_on(alloc: Global, all: &[Certified]) -> Result<Output, AllocError>
     ensures { IfOk result (λ o. o ≡ verification_of all.now) }
@@ -88,7 +126,7 @@ fn layout_of(mode: Mode) -> Layout
     ensures { result ≡ layout_of mode }
 {
     match mode {
-        Mode::Audit => Layout::Bundle,
+        Mode::Audit | Mode::Prove => Layout::Bundle,
         Mode::Verify => Layout::BundleAndCertificates,
     }
 }
@@ -99,7 +137,8 @@ pub fn output_of(alloc: Global, mode: Mode, bytes: &[u8]) -> Result<Output, Allo
 {
     match read_input(alloc, layout_of(mode), bytes) {
         Ok(input) => match mode {
-            Mode::Audit => report_on(alloc, &decide(alloc, &input.taps)?),
+            Mode::Audit => audited(alloc, &input.taps),
+            Mode::Prove => proved(alloc, &input.taps),
             Mode::Verify => verified(alloc, &input),
         },
         Err(ReadFault::Input(line, code)) => refusal(alloc, line, code),

@@ -12,13 +12,24 @@ const ABOUT: &str = "Audits what the sessions of a Socket.IO cluster received";
 const STATUSES: &str = "\
 The bundle is read from standard input: the logs of the stream, of the nodes and of the
 clients, a record a line. docs/FORMAT.md describes it.
+  audit   says of each session whether it received what was due to it
+  prove   writes a certificate for each session that did
+  verify  checks certificates against the logs; they stand among the lines of the bundle
 
 Exit status:
-  0  every session received what was due to it
-  1  some session did not
+  0  every session received what was due to it, or every certificate is ok
+  1  some session did not, or some certificate is bad
   2  a line of the bundle is refused; the output names it
   3  a read or a write failed, or there was no memory or no thread
   4  these words are not understood";
+
+const PROVE_ABOUT: &str =
+    "Reads a bundle and writes the certificate of each session that received what was due to it";
+
+const PROVE_LINES: &str = "\
+A certificate is a line of JSON: the session and its client's tap, its turns on the nodes, and
+the rooms that it held at which positions. Put behind the bundle's lines, `verify` accepts it.
+The sessions that audit answers no have no line, and the exit status is then 1.";
 
 const VERIFY_ABOUT: &str =
     "Reads a bundle and certificates, and writes an answer on each certificate";
@@ -49,6 +60,9 @@ fn command<'a>(alloc: Global) -> Result<Command<'a>, Error> {
         .about(AUDIT_ABOUT)
         .after_help(AUDIT_LINES)
         .arg(workers)?;
+    let prove = Command::new(alloc, "prove")
+        .about(PROVE_ABOUT)
+        .after_help(PROVE_LINES);
     let verify = Command::new(alloc, "verify")
         .about(VERIFY_ABOUT)
         .after_help(VERIFY_LINES);
@@ -59,6 +73,7 @@ fn command<'a>(alloc: Global) -> Result<Command<'a>, Error> {
         .bin_name("sioaudit")?
         .subcommand_required(true)
         .subcommand(audit)?
+        .subcommand(prove)?
         .subcommand(verify)?;
     Ok(command)
 }
@@ -69,6 +84,8 @@ fn mode_named(name: &str) -> Option<Mode>
 {
     if name == "audit" {
         Some(Mode::Audit)
+    } else if name == "prove" {
+        Some(Mode::Prove)
     } else if name == "verify" {
         Some(Mode::Verify)
     } else {
@@ -112,7 +129,7 @@ pub fn options<'a>(alloc: Global, words: &'a [&'a str]) -> Result<Options, Error
     };
     let workers = match mode {
         Mode::Audit => workers_of(&matches),
-        Mode::Verify => Some(1),
+        Mode::Prove | Mode::Verify => Some(1),
     };
     match workers {
         Some(workers) => Ok(Options { mode, workers }),
