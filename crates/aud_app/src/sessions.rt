@@ -1,9 +1,8 @@
 //! The verdicts on the sessions, and their certificates.
-ghost use Rattle.std.specs.Prelude.{◌≡◌, IfOk, map, string_bytes};
-ghost use Rattle.aud_node.specs.Cluster.{cluster_of};
+ghost use Rattle.std.specs.Prelude.{IfOk, map, string_bytes};
 ghost use Rattle.aud_maker.specs.Sessions.{sessions_of};
 ghost use Rattle.aud_app.specs.Input.{AreNamedOnce};
-ghost use Rattle.aud_app.specs.Decided.{IsVerdict, AreVerdicts, IsProof, AreProofs};
+ghost use Rattle.aud_app.specs.Decided.{AreVerdicts, IsProof, AreProofs};
 
 use crate::judge::{Judged, judge, verdict};
 use crate::verdict::Entry;

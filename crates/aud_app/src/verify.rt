@@ -1,9 +1,8 @@
 //! The answers on the certificates of an input.
-ghost use Rattle.std.specs.Prelude.{◌≡◌, ◌<◌, length, Some, Ok, Err, IfOk};
-ghost use Rattle.aud_node.specs.Cluster.{cluster_of};
+ghost use Rattle.std.specs.Prelude.{◌≡◌, ◌<◌, length, Some, IfOk};
 ghost use Rattle.aud_cert.specs.Certificate.{IsOver};
 ghost use Rattle.aud_cert.specs.Reading.{certificate_of};
-ghost use Rattle.aud_app.specs.Verified.{flaw_read, flaw_found, IsAnswerOn, IsAnswerTo, IsAnswered, AreAnswered};
+ghost use Rattle.aud_app.specs.Verified.{flaw_read, flaw_found, IsAnswerOn, IsAnswerTo, AreAnswered};
 
 use crate::answer::{Answer, Certified, Flaw};
 use crate::verdict::Counts;
