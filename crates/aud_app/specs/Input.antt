@@ -1,5 +1,5 @@
 -- The input of a mode: the taps of its bundle, and the certificates where it has some.
-use Rattle.std.specs.Prelude.{◌≡◌, ℕ, ◌==◌, List, [], ◌∷◌, filter, Bool, false, not, Option, Some, None, Result, Ok, Err, slice_get}
+use Rattle.std.specs.Prelude.{◌≡◌, ℕ, ◌==◌, List, [], ◌∷◌, filter, Bool, true, false, not, Option, Some, None, Result, Ok, Err, slice_get}
 use Rattle.aud_tap.specs.declared.line.Line.{Line}
 use Rattle.aud_tap.specs.declared.fault.ReadFault.{ReadFault}
 use Rattle.aud_tap.specs.declared.taps.Tap.{Tap}

@@ -4,5 +4,7 @@ pub mod Input
 pub mod Verdict
 pub mod Report
 pub mod Certified
+pub mod Verified
+pub mod Decided
 pub mod Output
 pub mod Words

@@ -3,7 +3,7 @@ use Rattle.std.specs.Prelude.{ℕ, List, [], ◌∷◌, codes, Option, Some, Non
 use Rattle.std.specs.Borrow.{Bor}
 use Rattle.aud_tap.specs.Fields.{is_text}
 use Rattle.aud_app.specs.declared.choice.Mode.{Mode}
-use Rattle.aud_app.specs.declared.choice.Mode.TheVariants.{Audit}
+use Rattle.aud_app.specs.declared.choice.Mode.TheVariants.{Audit, Prove, Verify}
 
 -- words, as a command line has them
 abbrev pub Words : Type 0
@@ -11,7 +11,10 @@ Words = List (Bor (List ℕ))
 
 -- the mode of this name
 abbrev pub mode_named : List ℕ → Option Mode
-mode_named name = if is_text name (codes "audit") then Some Audit else None
+mode_named name =
+    if is_text name (codes "audit") then Some Audit
+    else (if is_text name (codes "prove") then Some Prove
+    else (if is_text name (codes "verify") then Some Verify else None))
 
 -- the mode that the words ask for: the first of them names it
 abbrev pub mode_of : Words → Option Mode

@@ -5,6 +5,10 @@
 pub enum Mode {
     /// A verdict for each session.
     Audit,
+    /// The certificate of each session that is answered yes.
+    Prove,
+    /// An answer on each certificate of the input.
+    Verify,
 }
 
 /// What the words of the command line ask for.

@@ -7,15 +7,17 @@
 mod answer;
 mod certified;
 mod choice;
-mod decide;
 mod input;
+mod judge;
 mod output;
 mod program;
 mod report;
+mod sessions;
 mod streams;
 #[cfg(test)]
 mod tests;
 mod verdict;
+mod verify;
 mod watched;
 mod words;
 

@@ -1,4 +1,5 @@
 //! Runs over memory, with readers and writers that fail.
+mod certificates;
 mod streams;
 
 use super::*;
@@ -51,7 +52,7 @@ c1 {"k":"in","t":"40{\"sid\":\"s1\",\"pid\":\"P\"}"}
 c1 {"k":"in","t":"42[\"hi\",\"1-0\"]"}
 "#;
 
-/// What is written for an input, and how the run ends.
+/// What an audit writes for an input, and how the run ends.
 fn outcome<H: Wait + Threads + Abort>(
     rt: &H,
     alloc: Global,
@@ -59,9 +60,21 @@ fn outcome<H: Wait + Threads + Abort>(
     text: &str,
     status: Status,
 ) -> Result<(), Fail> {
+    outcome_of(rt, alloc, AUDIT, bundle, text, status)
+}
+
+/// What is written for an input, and how the run ends.
+fn outcome_of<H: Wait + Threads + Abort>(
+    rt: &H,
+    alloc: Global,
+    options: Options,
+    bundle: &[u8],
+    text: &str,
+    status: Status,
+) -> Result<(), Fail> {
     let mut input = Watched::new(bundle);
     let mut output = Watched::new(Vec::new(alloc));
-    let outcome = run(rt, alloc, &mut input, &mut output, AUDIT);
+    let outcome = run(rt, alloc, &mut input, &mut output, options);
     assert_eq!(rt; outcome, Ok(status), "{text}");
     assert_eq!(rt; output.into_inner().as_slice(), text.as_bytes());
     assert!(rt; !input.failed());
@@ -232,6 +245,21 @@ fn words_that_are_accepted(rt: HostRuntime) -> Result<(), Fail> {
     Ok(())
 }
 
+#[test]
+fn modes_that_are_named(rt: HostRuntime) -> Result<(), Fail> {
+    for (words, mode) in [
+        (["audit"].as_slice(), Mode::Audit),
+        (["prove"].as_slice(), Mode::Prove),
+        (["verify"].as_slice(), Mode::Verify),
+    ] {
+        match options(rt.alloc(), words) {
+            Ok(chosen) => assert_eq!(rt; chosen.mode, mode),
+            Err(_) => assert!(rt; false, "{words:?}"),
+        }
+    }
+    Ok(())
+}
+
 static NO_WORDS: [&str; 0] = [];
 
 #[test]
@@ -239,10 +267,16 @@ fn words_that_are_refused(rt: HostRuntime) -> Result<(), Fail> {
     for (words, text) in [
         (["audit", "--workers", "65"].as_slice(), "65"),
         (["audit", "--workers", "0"].as_slice(), "0"),
-        (["prove"].as_slice(), "prove"),
+        (["judge"].as_slice(), "judge"),
+        (["prove", "--workers", "4"].as_slice(), "--workers"),
+        (["verify", "--workers", "4"].as_slice(), "--workers"),
+        (["verify", "--whole"].as_slice(), "--whole"),
         (NO_WORDS.as_slice(), "Usage"),
         (["--help"].as_slice(), "Exit status"),
+        (["--help"].as_slice(), "verify"),
         (["audit", "--help"].as_slice(), "--workers"),
+        (["prove", "--help"].as_slice(), "certificate"),
+        (["verify", "--help"].as_slice(), "bad <line>"),
     ] {
         match options(rt.alloc(), words) {
             Ok(_) => assert!(rt; false, "{words:?}"),
