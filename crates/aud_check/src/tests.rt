@@ -54,13 +54,20 @@ const FIRST: Shown = ("a", 1, 5, 0, 1);
 
 const SECOND: Shown = ("b", 3, 4, 2, 2);
 
+/// The line, or the new one in place of the old one.
+fn replaced<'a>(line: &'a str, old: &str, new: &'a str) -> &'a str {
+    if line == old { new } else { line }
+}
+
 /// The taps of the lines, with the second of these in place of the first.
-fn taps(alloc: Global, (old, new): (&str, &str)) -> Result<Taps, Fail> {
-    let mut splitter = Splitter::new(alloc);
+fn taps(alloc: Global, old: &str, new: &str) -> Result<Taps, Fail> {
+    let mut text = String::new(alloc);
     for line in LINES {
-        splitter.feed(if line == old { new } else { line }.as_bytes())?;
-        splitter.feed(b"\n")?;
+        text.push_str(replaced(line, old, new))?;
+        text.push_str("\n")?;
     }
+    let mut splitter = Splitter::new(alloc);
+    splitter.feed(text.as_str().as_bytes())?;
     Ok(read_bundle(alloc, &splitter.finish()?)?)
 }
 
@@ -81,11 +88,12 @@ fn turn<'a>(logs: &Logs<'a>, shown: Shown) -> Result<Turn<'a>, Fail> {
 /// What the check answers to a certificate of these turns and spans.
 fn checked(
     alloc: Global,
-    replaced: (&str, &str),
+    old: &str,
+    new: &str,
     shown: &[Shown],
     spans: &[(&'static str, u64, u64)],
 ) -> Result<Result<Accepted, Refusal>, Fail> {
-    let taps = taps(alloc, replaced)?;
+    let taps = taps(alloc, old, new)?;
     let logs = Logs::build(alloc, &taps)?;
     let mut turns = Vec::new(alloc);
     for one in shown {
@@ -108,15 +116,13 @@ fn checked(
     Ok(check(alloc, &logs, &cert))
 }
 
-const AS_IT_IS: (&str, &str) = ("", "");
-
 const PING: &str = "c1 {\"k\":\"out\",\"t\":\"2\"}";
 
 const SPANS: [(&str, u64, u64); 2] = [("r", 1, 2), ("s1", 1, 2)];
 
 #[test]
 fn both_turns(rt: HostRuntime) -> Result<(), Fail> {
-    let answer = checked(rt.alloc(), AS_IT_IS, &[FIRST, SECOND], &SPANS)?;
+    let answer = checked(rt.alloc(), "", "", &[FIRST, SECOND], &SPANS)?;
     assert!(rt;
         matches!(
             answer,
@@ -135,7 +141,8 @@ fn both_turns(rt: HostRuntime) -> Result<(), Fail> {
 fn another_span(rt: HostRuntime) -> Result<(), Fail> {
     let answer = checked(
         rt.alloc(),
-        AS_IT_IS,
+        "",
+        "",
         &[FIRST, SECOND],
         &[("r", 1, 3), ("s1", 1, 2)],
     )?;
@@ -146,7 +153,7 @@ fn another_span(rt: HostRuntime) -> Result<(), Fail> {
 /// The first turn without its `break`.
 #[test]
 fn no_end(rt: HostRuntime) -> Result<(), Fail> {
-    let answer = checked(rt.alloc(), AS_IT_IS, &[("a", 1, 4, 0, 1), SECOND], &SPANS)?;
+    let answer = checked(rt.alloc(), "", "", &[("a", 1, 4, 0, 1), SECOND], &SPANS)?;
     assert!(rt; matches!(answer, Err(Refusal::NoEnd)));
     Ok(())
 }
@@ -154,9 +161,9 @@ fn no_end(rt: HostRuntime) -> Result<(), Fail> {
 /// The second turn from a `take` on, and the first from a later cursor on.
 #[test]
 fn other_records_and_cursors(rt: HostRuntime) -> Result<(), Fail> {
-    let answer = checked(rt.alloc(), AS_IT_IS, &[FIRST, ("b", 2, 4, 2, 2)], &SPANS)?;
+    let answer = checked(rt.alloc(), "", "", &[FIRST, ("b", 2, 4, 2, 2)], &SPANS)?;
     assert!(rt; matches!(answer, Err(Refusal::NotItsTurn)));
-    let answer = checked(rt.alloc(), AS_IT_IS, &[("a", 1, 5, 1, 1), SECOND], &SPANS)?;
+    let answer = checked(rt.alloc(), "", "", &[("a", 1, 5, 1, 1), SECOND], &SPANS)?;
     assert!(rt; matches!(answer, Err(Refusal::Cursor)));
     Ok(())
 }
@@ -165,12 +172,12 @@ fn other_records_and_cursors(rt: HostRuntime) -> Result<(), Fail> {
 #[test]
 fn last_turn_left_out(rt: HostRuntime) -> Result<(), Fail> {
     let spans = [("r", 1, 1), ("s1", 1, 1)];
-    let answer = checked(rt.alloc(), AS_IT_IS, &[FIRST], &spans)?;
+    let answer = checked(rt.alloc(), "", "", &[FIRST], &spans)?;
     let Err(Refusal::Received(Fault::Extra(off))) = &answer else {
         return Err("not extra".into());
     };
     assert_eq!(rt; off.as_str(), "2-0");
-    let answer = checked(rt.alloc(), (REPLAYED, PING), &[FIRST], &spans)?;
+    let answer = checked(rt.alloc(), REPLAYED, PING, &[FIRST], &spans)?;
     assert!(rt;
         matches!(
             answer,
@@ -188,7 +195,7 @@ fn last_turn_left_out(rt: HostRuntime) -> Result<(), Fail> {
 #[test]
 fn another_text(rt: HostRuntime) -> Result<(), Fail> {
     let altered = "c1 {\"k\":\"in\",\"t\":\"42[\\\"ho\\\",\\\"2-0\\\"]\"}";
-    let answer = checked(rt.alloc(), (REPLAYED, altered), &[FIRST, SECOND], &SPANS)?;
+    let answer = checked(rt.alloc(), REPLAYED, altered, &[FIRST, SECOND], &SPANS)?;
     let Err(Refusal::Received(Fault::Content(off))) = &answer else {
         return Err("not content".into());
     };
@@ -200,7 +207,7 @@ fn another_text(rt: HostRuntime) -> Result<(), Fail> {
 #[test]
 fn received_again(rt: HostRuntime) -> Result<(), Fail> {
     let again = "c1 {\"k\":\"in\",\"t\":\"42[\\\"hi\\\",\\\"1-0\\\"]\"}";
-    let answer = checked(rt.alloc(), (REPLAYED, again), &[FIRST, SECOND], &SPANS)?;
+    let answer = checked(rt.alloc(), REPLAYED, again, &[FIRST, SECOND], &SPANS)?;
     let Err(Refusal::Received(Fault::Doubled(off))) = &answer else {
         return Err("not doubled".into());
     };
@@ -212,10 +219,10 @@ fn received_again(rt: HostRuntime) -> Result<(), Fail> {
 #[test]
 fn other_replies(rt: HostRuntime) -> Result<(), Fail> {
     let other = "c1 {\"k\":\"in\",\"t\":\"40{\\\"sid\\\":\\\"s2\\\",\\\"pid\\\":\\\"P\\\"}\"}";
-    let answer = checked(rt.alloc(), (RECOVERED, other), &[FIRST, SECOND], &SPANS)?;
+    let answer = checked(rt.alloc(), RECOVERED, other, &[FIRST, SECOND], &SPANS)?;
     assert!(rt; matches!(answer, Err(Refusal::Names)));
     let nobody = "c1 {\"k\":\"in\",\"t\":\"40{\\\"sid\\\":\\\"s1\\\"}\"}";
-    let answer = checked(rt.alloc(), (RECOVERED, nobody), &[FIRST, SECOND], &SPANS)?;
+    let answer = checked(rt.alloc(), RECOVERED, nobody, &[FIRST, SECOND], &SPANS)?;
     assert!(rt; matches!(answer, Err(Refusal::Received(Fault::Orphan))));
     Ok(())
 }
@@ -225,7 +232,7 @@ fn other_replies(rt: HostRuntime) -> Result<(), Fail> {
 fn unknown_offset(rt: HostRuntime) -> Result<(), Fail> {
     let unknown =
         "c1 {\"k\":\"out\",\"t\":\"40{\\\"pid\\\":\\\"P\\\",\\\"offset\\\":\\\"9-9\\\"}\"}";
-    let answer = checked(rt.alloc(), (ASKED, unknown), &[FIRST, SECOND], &SPANS)?;
+    let answer = checked(rt.alloc(), ASKED, unknown, &[FIRST, SECOND], &SPANS)?;
     assert!(rt; matches!(answer, Err(Refusal::Received(Fault::Window(2)))));
     Ok(())
 }
