@@ -1,11 +1,9 @@
 //! Certificates made by hand over small logs: the answers are those that the rules of the cluster give.
 use crate::{Accepted, Refusal, check};
-use aud_cert::{Certificate, Fault, Turn};
-use aud_node::{Logs, Recs};
-use aud_rooms::Span;
-use aud_tap::{Splitter, Taps, read_bundle};
-use std::alloc::Global;
-use std::borrow::CowStr;
+use aud_cert::{Fault, read_cert};
+use aud_node::Logs;
+use aud_tap::{Bytes, Line, Taps, read_bundle};
+use std::alloc::{AllocError, Global};
 use std::test::Fail;
 
 /// One session, on node a up to the first event and on node b from the second on; a third event comes to neither.
@@ -47,76 +45,53 @@ const REPLAYED: &str = "c1 {\"k\":\"in\",\"t\":\"42[\\\"hi\\\",\\\"2-0\\\"]\"}";
 const RECOVERED: &str =
     "c1 {\"k\":\"in\",\"t\":\"40{\\\"sid\\\":\\\"s1\\\",\\\"pid\\\":\\\"P\\\"} \"}";
 
-/// A turn as a certificate writes it: node, records from one number on and before another, and cursors.
-type Shown = (&'static str, u64, u64, u64, u64);
+/// The certificate of both turns.
+const TWO_TURNS: &str =
+    r#"{"client":"c1","pid":"P","spans":[["r",1,2],["s1",1,2]],"turns":[["a",1,5,0,1],["b",3,4,2,2]]}"#;
 
-const FIRST: Shown = ("a", 1, 5, 0, 1);
+/// The certificate of the first turn, which shows the first event alone.
+const ONE_TURN: &str =
+    r#"{"client":"c1","pid":"P","spans":[["r",1,1],["s1",1,1]],"turns":[["a",1,5,0,1]]}"#;
 
-const SECOND: Shown = ("b", 3, 4, 2, 2);
-
-/// The taps of the lines, with the second of these in place of the first.
-fn taps(alloc: Global, (old, new): (&str, &str)) -> Result<Taps, Fail> {
-    let mut splitter = Splitter::new(alloc);
-    for line in LINES {
-        splitter.feed(if line == old { new } else { line }.as_bytes())?;
-        splitter.feed(b"\n")?;
-    }
-    Ok(read_bundle(alloc, &splitter.finish()?)?)
-}
-
-fn turn<'a>(logs: &Logs<'a>, shown: Shown) -> Result<Turn<'a>, Fail> {
-    let (node, from, to, low, high) = shown;
-    let place = logs.place_of(node).ok_or("no such tap")?;
-    let log = logs.node(place).ok_or("no node")?;
-    Ok(Turn {
-        node,
-        from,
-        to,
-        low,
-        high,
-        recs: log.recs().between(from as usize, to as usize),
+fn line(alloc: Global, number: u64, text: &str) -> Result<Line, AllocError> {
+    Ok(Line {
+        number,
+        bytes: Bytes::new(text.as_bytes().to_vec(alloc)?),
     })
 }
 
-/// What the check answers to a certificate of these turns and spans.
+/// The taps of the lines, with the second of these in place of the first.
+fn taps(alloc: Global, old: &str, new: &str) -> Result<Taps, Fail> {
+    let mut lines = Vec::new(alloc);
+    for text in LINES.iter() {
+        let number = lines.len() as u64 + 1;
+        if *text == old {
+            lines.push(line(alloc, number, new)?)?;
+        } else {
+            lines.push(line(alloc, number, text)?)?;
+        }
+    }
+    Ok(read_bundle(alloc, lines.as_slice())?)
+}
+
+/// What the check answers to the certificate of a text, over the lines with the second of these in place of the first.
 fn checked(
     alloc: Global,
-    replaced: (&str, &str),
-    shown: &[Shown],
-    spans: &[(&'static str, u64, u64)],
+    old: &str,
+    new: &str,
+    text: &str,
 ) -> Result<Result<Accepted, Refusal>, Fail> {
-    let taps = taps(alloc, replaced)?;
+    let taps = taps(alloc, old, new)?;
     let logs = Logs::build(alloc, &taps)?;
-    let mut turns = Vec::new(alloc);
-    for one in shown {
-        turns.push(turn(&logs, *one)?)?;
-    }
-    let mut held = Vec::new(alloc);
-    for (room, first, last) in spans {
-        held.push(Span {
-            room: CowStr::Borrowed(*room),
-            first: *first,
-            last: *last,
-        })?;
-    }
-    let cert = Certificate {
-        pid: String::from_str(alloc, "P")?,
-        client: "c1",
-        turns,
-        spans: held,
-    };
+    let cert = read_cert(alloc, text.as_bytes(), &logs)?;
     Ok(check(alloc, &logs, &cert))
 }
 
-const AS_IT_IS: (&str, &str) = ("", "");
-
 const PING: &str = "c1 {\"k\":\"out\",\"t\":\"2\"}";
-
-const SPANS: [(&str, u64, u64); 2] = [("r", 1, 2), ("s1", 1, 2)];
 
 #[test]
 fn both_turns(rt: HostRuntime) -> Result<(), Fail> {
-    let answer = checked(rt.alloc(), AS_IT_IS, &[FIRST, SECOND], &SPANS)?;
+    let answer = checked(rt.alloc(), "", "", TWO_TURNS)?;
     assert!(rt;
         matches!(
             answer,
@@ -133,12 +108,9 @@ fn both_turns(rt: HostRuntime) -> Result<(), Fail> {
 /// A room held too long.
 #[test]
 fn another_span(rt: HostRuntime) -> Result<(), Fail> {
-    let answer = checked(
-        rt.alloc(),
-        AS_IT_IS,
-        &[FIRST, SECOND],
-        &[("r", 1, 3), ("s1", 1, 2)],
-    )?;
+    let text =
+        r#"{"client":"c1","pid":"P","spans":[["r",1,3],["s1",1,2]],"turns":[["a",1,5,0,1],["b",3,4,2,2]]}"#;
+    let answer = checked(rt.alloc(), "", "", text)?;
     assert!(rt; matches!(answer, Err(Refusal::Span)));
     Ok(())
 }
@@ -146,7 +118,9 @@ fn another_span(rt: HostRuntime) -> Result<(), Fail> {
 /// The first turn without its `break`.
 #[test]
 fn no_end(rt: HostRuntime) -> Result<(), Fail> {
-    let answer = checked(rt.alloc(), AS_IT_IS, &[("a", 1, 4, 0, 1), SECOND], &SPANS)?;
+    let text =
+        r#"{"client":"c1","pid":"P","spans":[["r",1,2],["s1",1,2]],"turns":[["a",1,4,0,1],["b",3,4,2,2]]}"#;
+    let answer = checked(rt.alloc(), "", "", text)?;
     assert!(rt; matches!(answer, Err(Refusal::NoEnd)));
     Ok(())
 }
@@ -154,9 +128,13 @@ fn no_end(rt: HostRuntime) -> Result<(), Fail> {
 /// The second turn from a `take` on, and the first from a later cursor on.
 #[test]
 fn other_records_and_cursors(rt: HostRuntime) -> Result<(), Fail> {
-    let answer = checked(rt.alloc(), AS_IT_IS, &[FIRST, ("b", 2, 4, 2, 2)], &SPANS)?;
+    let text =
+        r#"{"client":"c1","pid":"P","spans":[["r",1,2],["s1",1,2]],"turns":[["a",1,5,0,1],["b",2,4,2,2]]}"#;
+    let answer = checked(rt.alloc(), "", "", text)?;
     assert!(rt; matches!(answer, Err(Refusal::NotItsTurn)));
-    let answer = checked(rt.alloc(), AS_IT_IS, &[("a", 1, 5, 1, 1), SECOND], &SPANS)?;
+    let text =
+        r#"{"client":"c1","pid":"P","spans":[["r",1,2],["s1",1,2]],"turns":[["a",1,5,1,1],["b",3,4,2,2]]}"#;
+    let answer = checked(rt.alloc(), "", "", text)?;
     assert!(rt; matches!(answer, Err(Refusal::Cursor)));
     Ok(())
 }
@@ -164,13 +142,12 @@ fn other_records_and_cursors(rt: HostRuntime) -> Result<(), Fail> {
 /// The first turn alone shows the first event alone.
 #[test]
 fn last_turn_left_out(rt: HostRuntime) -> Result<(), Fail> {
-    let spans = [("r", 1, 1), ("s1", 1, 1)];
-    let answer = checked(rt.alloc(), AS_IT_IS, &[FIRST], &spans)?;
+    let answer = checked(rt.alloc(), "", "", ONE_TURN)?;
     let Err(Refusal::Received(Fault::Extra(off))) = &answer else {
         return Err("not extra".into());
     };
     assert_eq!(rt; off.as_str(), "2-0");
-    let answer = checked(rt.alloc(), (REPLAYED, PING), &[FIRST], &spans)?;
+    let answer = checked(rt.alloc(), REPLAYED, PING, ONE_TURN)?;
     assert!(rt;
         matches!(
             answer,
@@ -188,7 +165,7 @@ fn last_turn_left_out(rt: HostRuntime) -> Result<(), Fail> {
 #[test]
 fn another_text(rt: HostRuntime) -> Result<(), Fail> {
     let altered = "c1 {\"k\":\"in\",\"t\":\"42[\\\"ho\\\",\\\"2-0\\\"]\"}";
-    let answer = checked(rt.alloc(), (REPLAYED, altered), &[FIRST, SECOND], &SPANS)?;
+    let answer = checked(rt.alloc(), REPLAYED, altered, TWO_TURNS)?;
     let Err(Refusal::Received(Fault::Content(off))) = &answer else {
         return Err("not content".into());
     };
@@ -200,7 +177,7 @@ fn another_text(rt: HostRuntime) -> Result<(), Fail> {
 #[test]
 fn received_again(rt: HostRuntime) -> Result<(), Fail> {
     let again = "c1 {\"k\":\"in\",\"t\":\"42[\\\"hi\\\",\\\"1-0\\\"]\"}";
-    let answer = checked(rt.alloc(), (REPLAYED, again), &[FIRST, SECOND], &SPANS)?;
+    let answer = checked(rt.alloc(), REPLAYED, again, TWO_TURNS)?;
     let Err(Refusal::Received(Fault::Doubled(off))) = &answer else {
         return Err("not doubled".into());
     };
@@ -212,10 +189,10 @@ fn received_again(rt: HostRuntime) -> Result<(), Fail> {
 #[test]
 fn other_replies(rt: HostRuntime) -> Result<(), Fail> {
     let other = "c1 {\"k\":\"in\",\"t\":\"40{\\\"sid\\\":\\\"s2\\\",\\\"pid\\\":\\\"P\\\"}\"}";
-    let answer = checked(rt.alloc(), (RECOVERED, other), &[FIRST, SECOND], &SPANS)?;
+    let answer = checked(rt.alloc(), RECOVERED, other, TWO_TURNS)?;
     assert!(rt; matches!(answer, Err(Refusal::Names)));
     let nobody = "c1 {\"k\":\"in\",\"t\":\"40{\\\"sid\\\":\\\"s1\\\"}\"}";
-    let answer = checked(rt.alloc(), (RECOVERED, nobody), &[FIRST, SECOND], &SPANS)?;
+    let answer = checked(rt.alloc(), RECOVERED, nobody, TWO_TURNS)?;
     assert!(rt; matches!(answer, Err(Refusal::Received(Fault::Orphan))));
     Ok(())
 }
@@ -225,7 +202,7 @@ fn other_replies(rt: HostRuntime) -> Result<(), Fail> {
 fn unknown_offset(rt: HostRuntime) -> Result<(), Fail> {
     let unknown =
         "c1 {\"k\":\"out\",\"t\":\"40{\\\"pid\\\":\\\"P\\\",\\\"offset\\\":\\\"9-9\\\"}\"}";
-    let answer = checked(rt.alloc(), (ASKED, unknown), &[FIRST, SECOND], &SPANS)?;
+    let answer = checked(rt.alloc(), ASKED, unknown, TWO_TURNS)?;
     assert!(rt; matches!(answer, Err(Refusal::Received(Fault::Window(2)))));
     Ok(())
 }
