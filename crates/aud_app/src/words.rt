@@ -11,10 +11,8 @@ const ABOUT: &str = "Audits what the sessions of a Socket.IO cluster received";
 
 const STATUSES: &str = "\
 The bundle is read from standard input: the logs of the stream, of the nodes and of the
-clients, a record a line. docs/FORMAT.md describes it.
-  audit   says of each session whether it received what was due to it
-  prove   writes a certificate for each session that did
-  verify  checks certificates against the logs; they stand among the lines of the bundle
+clients, a record a line. For verify, the lines that begin with { are certificates.
+docs/FORMAT.md describes both, and the help of a command shows what it writes.
 
 Exit status:
   0  every session received what was due to it, or every certificate is ok
