@@ -60,20 +60,21 @@ fn outcome<H: Wait + Threads + Abort>(
     text: &str,
     status: Status,
 ) -> Result<(), Fail> {
-    outcome_of(rt, alloc, AUDIT, bundle, text, status)
+    outcome_of(rt, alloc, Mode::Audit, bundle, text, status)
 }
 
-/// What is written for an input, and how the run ends.
+/// What a mode writes for an input, and how the run ends.
 fn outcome_of<H: Wait + Threads + Abort>(
     rt: &H,
     alloc: Global,
-    options: Options,
+    mode: Mode,
     bundle: &[u8],
     text: &str,
     status: Status,
 ) -> Result<(), Fail> {
     let mut input = Watched::new(bundle);
     let mut output = Watched::new(Vec::new(alloc));
+    let options = Options { mode, workers: 4 };
     let outcome = run(rt, alloc, &mut input, &mut output, options);
     assert_eq!(rt; outcome, Ok(status), "{text}");
     assert_eq!(rt; output.into_inner().as_slice(), text.as_bytes());

@@ -1,17 +1,7 @@
 //! Certificates that are written, and answers on certificates.
 use super::{BUNDLE_A, NOT_DUE, outcome_of};
-use crate::{Mode, Options, Status};
+use crate::{Mode, Status};
 use std::test::Fail;
-
-const PROVE: Options = Options {
-    mode: Mode::Prove,
-    workers: 1,
-};
-
-const VERIFY: Options = Options {
-    mode: Mode::Verify,
-    workers: 1,
-};
 
 const PROOF_A: &str =
     r#"{"client":"c1","pid":"P","spans":[["r",1,1],["s1",1,1]],"turns":[["a",1,4,0,1]]}
@@ -51,7 +41,14 @@ fn certificates_of_the_sessions_answered_yes(rt: HostRuntime) -> Result<(), Fail
         (NOT_DUE, "", Status::SomeNo),
         ("", "", Status::AllYes),
     ] {
-        outcome_of(&rt, rt.alloc(), PROVE, bundle.as_bytes(), text, status)?;
+        outcome_of(
+            &rt,
+            rt.alloc(),
+            Mode::Prove,
+            bundle.as_bytes(),
+            text,
+            status,
+        )?;
     }
     Ok(())
 }
@@ -82,7 +79,7 @@ fn answers_on_certificates(rt: HostRuntime) -> Result<(), Fail> {
     ] {
         let mut input = BUNDLE_B.as_bytes().to_vec(rt.alloc())?;
         input.extend_from_slice(certificate.as_bytes())?;
-        outcome_of(&rt, rt.alloc(), VERIFY, &input, text, status)?;
+        outcome_of(&rt, rt.alloc(), Mode::Verify, &input, text, status)?;
     }
     Ok(())
 }
@@ -95,7 +92,7 @@ fn written_certificates_are_accepted(rt: HostRuntime) -> Result<(), Fail> {
     outcome_of(
         &rt,
         rt.alloc(),
-        VERIFY,
+        Mode::Verify,
         &input,
         "ok 12 P got=1 tail=0 turns=1\ncerts=1 ok=1 bad=0\n",
         Status::AllYes,
