@@ -20,4 +20,6 @@ pub use tap::received;
 pub use told::Received;
 
 #[cfg(test)]
+mod recorded_tests;
+#[cfg(test)]
 mod tests;

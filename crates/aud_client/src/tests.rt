@@ -5,8 +5,6 @@ use aud_tap::{Bytes, Line, Taps, read_bundle};
 use std::alloc::{AllocError, Global};
 use std::test::Fail;
 
-mod recorded;
-
 // Three events of `/`, one of `/n`, an event with attachments, and an entry of another kind.
 const STREAM: [&str; 7] = [
     r#"st {"k":"tap","v":1,"of":"stream"}"#,
@@ -48,7 +46,7 @@ fn line(alloc: Global, number: u64, text: &str) -> Result<Line, AllocError> {
 }
 
 /// The lines come behind the others.
-fn push_lines(alloc: Global, lines: &mut Vec<Line>, texts: &[&str]) -> Result<(), AllocError> {
+pub fn push_lines(alloc: Global, lines: &mut Vec<Line>, texts: &[&str]) -> Result<(), AllocError> {
     for text in texts {
         let number = lines.len() as u64 + 1;
         lines.push(line(alloc, number, text)?)?;
@@ -65,9 +63,9 @@ fn taps(alloc: Global, records: &[&str]) -> Result<Taps, Fail> {
     Ok(read_bundle(alloc, lines.as_slice())?)
 }
 
-/// The tap `c1`.
-fn client<'a, 'b>(logs: &'b Logs<'a>) -> Option<&'b ClientTap<'a>> {
-    logs.client(logs.place_of("c1")?)
+/// The client's tap with this name.
+pub fn client<'a, 'b>(logs: &'b Logs<'a>, name: &str) -> Option<&'b ClientTap<'a>> {
+    logs.client(logs.place_of(name)?)
 }
 
 /// A line for each stay: the connection, the namespace, the reply's pid and sid, the pid and the offset that were asked
@@ -92,9 +90,9 @@ fn write_stay(out: &mut String, stay: &Stay<'_>) -> Result<(), AllocError> {
     writeln!(out, "")
 }
 
-/// The stays of the tap `c1`, whether it has an orphan, and its first bad record.
-fn written(alloc: Global, logs: &Logs<'_>) -> Result<String, Fail> {
-    let tap = client(logs).ok_or("no such tap")?;
+/// The stays of the tap with this name, whether it has an orphan, and its first bad record.
+pub fn written(alloc: Global, logs: &Logs<'_>, name: &str) -> Result<String, Fail> {
+    let tap = client(logs, name).ok_or("no such tap")?;
     let got = received(alloc, tap, logs.stream())?;
     let mut out = String::new(alloc);
     for stay in got.stays.iter() {
@@ -113,7 +111,7 @@ fn written(alloc: Global, logs: &Logs<'_>) -> Result<String, Fail> {
 fn told(alloc: Global, records: &[&str]) -> Result<String, Fail> {
     let taps = taps(alloc, records)?;
     let logs = Logs::build(alloc, &taps)?;
-    written(alloc, &logs)
+    written(alloc, &logs, "c1")
 }
 
 /// A line for each frame: its position, its text, and how many bytes each attachment has, and which is the first.
@@ -130,9 +128,9 @@ fn write_frame(out: &mut String, frame: &Frame<'_>) -> Result<(), AllocError> {
     writeln!(out, "")
 }
 
-/// The frames of the tap `c1`.
-fn frames(alloc: Global, logs: &Logs<'_>) -> Result<String, Fail> {
-    let tap = client(logs).ok_or("no such tap")?;
+/// The frames of the tap with this name.
+pub fn frames(alloc: Global, logs: &Logs<'_>, name: &str) -> Result<String, Fail> {
+    let tap = client(logs, name).ok_or("no such tap")?;
     let got = received(alloc, tap, logs.stream())?;
     let mut out = String::new(alloc);
     for stay in got.stays.iter() {
@@ -304,7 +302,7 @@ fn frames_are_lent_as_they_came(rt: HostRuntime) -> Result<(), Fail> {
     let last = r#"c1 {"k":"poll","t":"bBA=="}"#;
     let taps = taps(rt.alloc(), &[FIRST, header, first, last])?;
     let logs = Logs::build(rt.alloc(), &taps)?;
-    let frames = frames(rt.alloc(), &logs)?;
+    let frames = frames(rt.alloc(), &logs, "c1")?;
     assert_eq!(rt; frames.as_str(), "5 52-[\"g\",\"5-0\"] 2:1 1:4\n");
     Ok(())
 }
