@@ -1,10 +1,12 @@
--- The places of the client taps that name a pid.
-use Rattle.std.proofs.Common.{◌≡◌, ℕ, ◌+◌, ◌-◌, ◌<◌, ◌≤◌, zero, suc, Bool, true, false, cond, List, [], ◌∷◌, ◌++◌, length, map, take, get_or, refl, sym, ap, ◌∙◌, arith, Some, slice_get, nat_eq, ◌||◌}
+-- The places of the taps that name a pid.
+use Rattle.std.proofs.Common.{◌≡◌, ℕ, ◌+◌, ◌-◌, ◌<◌, ◌≤◌, zero, suc, Bool, true, false, cond, not, List, [], ◌∷◌, ◌++◌, length, map, take, get_or, refl, sym, ap, ◌∙◌, arith, Some, slice_get, nat_eq, ◌||◌}
 use Rattle.std.specs.List.{filter, list_any}
 use Rattle.std.specs.Option.{option_and_then}
 use Rattle.std.proofs.lemmas.List.{length-map, take_all}
 use Rattle.std.proofs.lemmas.List.Folds.{list_any_more}
 use Rattle.std.proofs.lemmas.Bool.{eq-eqb}
+use Rattle.std.proofs.lemmas.Option.{slice_get_read}
+use Rattle.aud_tap.specs.declared.records.NodeRec.{NodeRec}
 use Rattle.aud_tap.specs.declared.taps.Tap.{Tap}
 use Rattle.aud_node.specs.declared.logs.Log.{Log}
 use Rattle.aud_node.specs.Lists.{numbers_from}
@@ -12,6 +14,8 @@ use Rattle.aud_node.specs.Stream.{Text}
 use Rattle.aud_node.specs.NodeTaps.{client_recs}
 use Rattle.aud_node.specs.Replies.{is_naming, naming_places}
 use Rattle.aud_node.specs.Kept.{client_of}
+use Rattle.aud_node.specs.OwnRecords.{names}
+use Rattle.aud_node.specs.OwnPlaces.{is_none}
 use Rattle.aud_node.specs.Naming.{places_naming, is_place, with_place, noted}
 use Rattle.aud_node.proofs.CursorLemmas.{filter-more}
 use Rattle.aud_node.proofs.NodeLemmas.{client_at-kept}
@@ -81,6 +85,43 @@ noted-next p i kept is = ap (λ xs. cond (p i) xs kept) put ∙ filter-more p i 
 
     put : with_place i kept ≡ kept ++ i ∷ []
     put = ap (λ b. cond b kept (kept ++ i ∷ [])) below
+
+-- ---- a node's records
+
+some-put : (xs : List ℕ) (x : ℕ) → is_none (xs ++ x ∷ []) ≡ false
+some-put [] x = refl
+some-put (y ∷ ys) x = refl
+
+or-true : (b : Bool) → true ≡ b || true
+or-true true = refl
+or-true false = refl
+
+or-false : (b : Bool) → b ≡ b || false
+or-false true = refl
+or-false false = refl
+
+-- whether any number passes, with one number more
+some-more : (p : ℕ → Bool) (i : ℕ) → not (is_none (filter p (numbers_from 0 (i + 1)))) ≡ not (is_none (filter p (numbers_from 0 i))) || p i
+some-more p i = ap (λ xs. not (is_none xs)) (sym (filter-more p i (filter p (numbers_from 0 i)) refl)) ∙ go (p i) (filter p (numbers_from 0 i))
+  where
+    go : (b : Bool) (xs : List ℕ) → not (is_none (cond b (xs ++ i ∷ []) xs)) ≡ not (is_none xs) || b
+    go true xs = ap not (some-put xs i) ∙ or-true (not (is_none xs))
+    go false xs = or-false (not (is_none xs))
+
+-- one of the first records names the pid
+abbrev pub some_names : List NodeRec → Text → ℕ → Bool
+some_names recs pid i = not (is_none (filter (λ number. names (slice_get recs number) pid) (numbers_from 0 i)))
+
+-- the place, noted where the next record names the pid
+pub noted-record : (place : ℕ) (recs : List NodeRec) (pid : Text) (i : ℕ) (rec : NodeRec) (base mid new : List ℕ) → i < length recs → rec ≡ get_or recs i rec
+    → mid ≡ noted place (some_names recs pid i) base → new ≡ noted place (names (Some rec) pid) mid → new ≡ noted place (some_names recs pid (i + 1)) base
+noted-record place recs pid i rec base mid new within read before after =
+    after
+    ∙ ap (noted place (names (Some rec) pid)) before
+    ∙ noted-more place (some_names recs pid i) (names (Some rec) pid) base
+    ∙ ap (λ b. noted place b base)
+    (ap (λ o. some_names recs pid i || names o pid) (sym (slice_get_read recs (length recs) i rec refl within read))
+    ∙ sym (some-more (λ number. names (slice_get recs number) pid) i))
 
 -- ---- by what is kept of the taps, and by the taps
 

@@ -12,6 +12,7 @@ pub mod AtPosition
 pub mod Offsets
 pub mod StreamIndices
 pub mod OwnRecords
+pub mod OwnPlaces
 pub mod NodeIndices
 pub mod Turns
 pub mod NodeIndexed

@@ -5,6 +5,7 @@ ghost use Rattle.aud_node.specs.Cluster.{cluster_of, stream_of, stream_place};
 ghost use Rattle.aud_node.specs.NodeTaps.{node_at, node_tap, client_at, client_recs};
 ghost use Rattle.aud_node.specs.Kept.{node_of, client_of};
 ghost use Rattle.aud_node.specs.Names.{place_of};
+ghost use Rattle.aud_node.specs.OwnPlaces.{own_places};
 ghost use Rattle.aud_node.specs.Replies.{naming_places};
 
 use crate::client_tap::ClientTap;
@@ -34,6 +35,7 @@ pub struct Logs<'a> {
     stream: Stream<'a>,
     logs: Vec<Log<'a>>,
     naming: Naming,
+    nodes: Naming,
 }
 
 impl<'a> Model for Logs<'a> {
@@ -57,7 +59,8 @@ impl<'a> Logs<'a> {
         let names = Names::build(alloc, taps)?;
         let stream = Stream::build(alloc, entries_of(taps))?;
         let logs = logs_of(alloc, &stream, taps)?;
-        let naming = Naming::build(alloc, logs.as_slice())?;
+        let naming = Naming::build_clients(alloc, logs.as_slice())?;
+        let nodes = Naming::build_nodes(alloc, taps)?;
         Ok(Logs {
             taps,
             names,
@@ -65,6 +68,7 @@ impl<'a> Logs<'a> {
             stream,
             logs,
             naming,
+            nodes,
         })
     }
 
@@ -104,6 +108,13 @@ impl<'a> Logs<'a> {
             Some(log) => log.node(),
             None => None,
         }
+    }
+
+    /// The places, ascending, of the nodes whose logs have records that name the pid.
+    pub fn nodes_of(&self, pid: &str) -> &[usize]
+        ensures { result.now ≡ own_places self.now pid.now }
+    {
+        self.nodes.of(pid)
     }
 
     /// The client's tap at this place; none where that tap is no client's.

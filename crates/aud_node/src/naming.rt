@@ -1,22 +1,26 @@
-//! Which client taps name a session.
-ghost use Rattle.std.specs.Prelude.{◌≡◌, IfOk, OnOk, string_bytes};
+//! Which taps name a session: of the clients' taps those with a reply that does, of the nodes' those with a record.
+ghost use Rattle.std.specs.Prelude.{◌≡◌, ◌-◌, IfOk, OnOk, [], Some, length, not, slice_get, string_bytes};
 ghost use Rattle.std.specs.Str.{bytes_eq};
 ghost use Rattle.aud_node.specs.Stream.{Text};
 ghost use Rattle.aud_node.specs.ConnectionRead.{packet_seen};
 ghost use Rattle.aud_node.specs.ClientRead.{connection_seen};
 ghost use Rattle.aud_node.specs.Replies.{connection_names, is_naming, packet_names, reply_names, tap_names};
 ghost use Rattle.aud_node.specs.Kept.{client_of};
-ghost use Rattle.aud_node.specs.Naming.{kept_places, noted, places_naming, with_place};
+ghost use Rattle.aud_node.specs.Cluster.{cluster_of, node_recs};
+ghost use Rattle.aud_node.specs.OwnRecords.{names, own_numbers};
+ghost use Rattle.aud_node.specs.OwnPlaces.{is_none, own_places};
+ghost use Rattle.aud_node.specs.Naming.{is_place, kept_places, noted, places_naming, with_place};
 
 use crate::client_tap::{ClientTap, Connection};
 use crate::connection::TapPacket;
+use crate::fields::pid;
 use crate::logs::Log;
 use crate::replies::{Reply, reply_of};
-use aud_tap::Memory;
+use aud_tap::{Memory, NodeRec, Records, Tap};
 use std::alloc::{AllocError, Global};
 use std::collections::BTreeMap;
 
-/// Of each pid, the places of the client taps that name it.
+/// Of each pid, the places of the taps that name it.
 #[derive(Drop)]
 pub struct Naming {
     alloc: Global,
@@ -24,16 +28,35 @@ pub struct Naming {
 }
 
 impl Naming {
-    /// The places among these taps. Of a tap, the CONNECT packets from the server are looked at, each once.
-    pub fn build(alloc: Global, logs: &[Log<'_>]) -> Result<Naming, Memory>
-        ensures { IfOk result (λ naming. (pid : Text) → kept_places naming pid ≡ places_naming logs.now pid) }
+    /// No places.
+    fn new(alloc: Global) -> Naming
+        ensures { (pid : Text) → kept_places result pid ≡ [] }
     {
-        let mut naming = Naming {
+        Naming {
             alloc,
             places: BTreeMap::new(alloc),
-        };
+        }
+    }
+
+    /// The places of the client taps among these. Of a tap, the CONNECT packets from the server are looked at, each
+    /// once.
+    pub fn build_clients(alloc: Global, logs: &[Log<'_>]) -> Result<Naming, Memory>
+        ensures { IfOk result (λ naming. (pid : Text) → kept_places naming pid ≡ places_naming logs.now pid) }
+    {
+        let mut naming = Naming::new(alloc);
         for (place, log) in logs.iter().enumerate() {
             naming.note_log(place, log)?;
+        }
+        Ok(naming)
+    }
+
+    /// The places of the nodes' taps among these. Each record is looked at once.
+    pub fn build_nodes(alloc: Global, taps: &[Tap]) -> Result<Naming, Memory>
+        ensures { IfOk result (λ naming. (pid : Text) → kept_places naming pid ≡ own_places (cluster_of taps.now) pid) }
+    {
+        let mut naming = Naming::new(alloc);
+        for (place, tap) in taps.iter().enumerate() {
+            naming.note_node(place, tap)?;
         }
         Ok(naming)
     }
@@ -103,6 +126,48 @@ impl Naming {
         }
     }
 
+    /// The tap at this place, behind all those seen so far.
+    fn note_node(&mut self, place: usize, tap: &Tap) -> Result<(), Memory>
+        ensures { OnOk result ((q : Text) → kept_places self.new q ≡ noted place (not (is_none (own_numbers (node_recs (Some tap.now.records)) q))) (kept_places self.old q)) }
+    {
+        match &tap.records {
+            Records::Node(recs) => self.note_records(place, recs.as_slice()),
+            Records::Stream(_) => Ok(()),
+            Records::Client(_) => Ok(()),
+        }
+    }
+
+    fn note_records(&mut self, place: usize, recs: &[NodeRec]) -> Result<(), Memory>
+        ensures { OnOk result ((q : Text) → kept_places self.new q ≡ noted place (not (is_none (own_numbers recs.now q))) (kept_places self.old q)) }
+    {
+        for rec in recs {
+            self.note_record(place, rec)?;
+        }
+        Ok(())
+    }
+
+    fn note_record(&mut self, place: usize, rec: &NodeRec) -> Result<(), Memory>
+        ensures { OnOk result ((q : Text) → kept_places self.new q ≡ noted place (names (Some rec.now) q) (kept_places self.old q)) }
+    {
+        match pid(rec) {
+            Some(pid) => self.note_text(place, pid),
+            None => Ok(()),
+        }
+    }
+
+    /// The tap at this place names the pid, which is copied where no record of the tap in front did.
+    fn note_text(&mut self, place: usize, pid: &str) -> Result<(), Memory>
+        ensures { OnOk result ((q : Text) → kept_places self.new q ≡ noted place (bytes_eq pid.now q) (kept_places self.old q)) }
+    {
+        if is_last(self.of(pid), place) {
+            return Ok(());
+        }
+        match String::from_str(self.alloc, pid) {
+            Ok(own) => self.note(place, own),
+            Err(_) => Err(Memory),
+        }
+    }
+
     /// The tap at this place names the pid.
     fn note(&mut self, place: usize, pid: String) -> Result<(), Memory>
         ensures { OnOk result ((q : Text) → kept_places self.new q ≡ noted place (bytes_eq (string_bytes pid) q) (kept_places self.old q)) }
@@ -118,11 +183,19 @@ impl Naming {
 fn push_last(places: &mut Vec<usize>, place: usize) -> Result<(), AllocError>
     ensures { OnOk result (places.new.items ≡ with_place place places.old.items) }
 {
+    if is_last(places, place) {
+        return Ok(());
+    }
+    places.push(place)?;
+    Ok(())
+}
+
+/// Whether the place is the last of these.
+fn is_last(places: &[usize], place: usize) -> bool
+    ensures { result ≡ is_place place (slice_get places.now (length places.now - 1)) }
+{
     match places.last() {
-        Some(last) if *last == place => Ok(()),
-        _ => {
-            places.push(place)?;
-            Ok(())
-        }
+        Some(last) => *last == place,
+        None => false,
     }
 }

@@ -6,7 +6,7 @@ use aud_tap::{
 use std::alloc::{AllocError, Global};
 use std::test::Fail;
 
-/// A record of a node with one session, `P`.
+/// A record of a node with the session `P`, or the end of the session with this pid.
 #[derive(Clone, Copy)]
 enum Did {
     Start,
@@ -15,6 +15,7 @@ enum Did {
     Join,
     Broke(u16),
     Back(u16),
+    Gone(&'static str),
 }
 
 pub fn text(alloc: Global, bytes: &str) -> Result<Text, AllocError> {
@@ -47,6 +48,9 @@ fn record(alloc: Global, did: Did) -> Result<NodeRec, AllocError> {
         Did::Back(turn) => Ok(NodeRec::Back {
             pid: text(alloc, "P")?,
             turn,
+        }),
+        Did::Gone(pid) => Ok(NodeRec::Gone {
+            pid: text(alloc, pid)?,
         }),
     }
 }
@@ -170,6 +174,21 @@ fn turns_on_two_nodes(rt: HostRuntime) -> Result<(), Fail> {
     let second = logs.node(2).ok_or("no second node")?;
     assert!(rt; second.turn_of("P", 2).is_none());
     assert!(rt; second.turn_range("P", 2).is_none());
+    Ok(())
+}
+
+/// Each node with a record that names the pid once, in the order of the taps, whichever records these are.
+#[test]
+fn nodes_of_a_session(rt: HostRuntime) -> Result<(), Fail> {
+    let first = [Did::Start, Did::Open, Did::Join, Did::Broke(0)];
+    let second = [Did::Start, Did::Take("1-0"), Did::Gone("Q")];
+    let third = [Did::Start, Did::Gone("P"), Did::Gone("Q"), Did::Gone("P")];
+    let taps = taps(rt.alloc(), &EVENTS[..1], &[&first, &second, &third])?;
+    let logs = Logs::build(rt.alloc(), &taps)?;
+
+    assert_eq!(rt; logs.nodes_of("P"), [1, 3].as_slice());
+    assert_eq!(rt; logs.nodes_of("Q"), [2, 3].as_slice());
+    assert_eq!(rt; logs.nodes_of("R").len(), 0);
     Ok(())
 }
 

@@ -14,4 +14,5 @@ invariant_of-result c = record {
       c.in_ok-naming.ensures pid
       ∙ ap (λ logs. places_naming logs pid) c.as_slice.ensures.value
       ∙ places_naming-taps c.as_slice-taps.result.now c.in_ok-logs.logs.items pid c.in_ok-logs.ensures.clients;
+  own_are = c.in_ok-nodes.ensures;
 }

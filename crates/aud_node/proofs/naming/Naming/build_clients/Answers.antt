@@ -5,7 +5,7 @@ use Rattle.aud_node.specs.Kept.{client_of}
 use Rattle.aud_node.specs.Naming.{kept_places, noted}
 use Rattle.aud_node.specs.Replies.{is_naming}
 use Rattle.aud_node.proofs.NamingLemmas.{noted-next}
-use Rattle.aud_node.proofs.naming.Naming.build.Goals as goal
+use Rattle.aud_node.proofs.naming.Naming.build_clients.Goals as goal
 
 pub loop-place-preserved : goal.loop-place-preserved
 loop-place-preserved c = λ q.
