@@ -12,7 +12,7 @@ use Rattle.aud_node.specs.Stream.{Text}
 use Rattle.aud_node.specs.TurnRecords.{pid_of, begins_turn, turn_range}
 use Rattle.aud_node.specs.OwnRecords.{is_pid, names}
 use Rattle.aud_rooms.specs.Turns.{Who, Turn, beginning, IsTurn, IsChain}
-use Rattle.aud_maker.specs.Places.{is_none, has_own, own_places}
+use Rattle.aud_node.specs.OwnPlaces.{is_none, has_own, own_places}
 use Rattle.aud_maker.specs.Begun.{placed_or, turn_begun, AreBegun, AreAllBegun, BeginsUpTo}
 use Rattle.aud_maker.proofs.Turns.{same_text, itself_text, begins-names, beginning-begins, stands, turn_there, begins_there, turn_range-is, turn_range-none}
 

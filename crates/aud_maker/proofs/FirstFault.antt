@@ -15,7 +15,7 @@ use Rattle.aud_rooms.specs.Turns.{Who, Turn, AreTurns, HasNoTurn, IsChain}
 use Rattle.aud_rooms.specs.TurnPlaces.{IsInOrder}
 use Rattle.aud_cert.specs.declared.fault.Fault.{Fault}
 use Rattle.aud_cert.specs.declared.fault.Fault.TheVariants.{NoLog, Chain, Order, Client}
-use Rattle.aud_maker.specs.Places.{own_places}
+use Rattle.aud_node.specs.OwnPlaces.{own_places}
 use Rattle.aud_maker.specs.Begun.{placed_or, turn_begun}
 use Rattle.aud_maker.specs.Chain.{HasNoChain}
 use Rattle.aud_maker.specs.Faults.{HasUnordered, Holds, rank, IsFirst, NoneHolds}

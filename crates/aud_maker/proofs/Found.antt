@@ -6,7 +6,7 @@ use Rattle.std.proofs.lemmas.Option.{none-some}
 use Rattle.aud_node.specs.Cluster.{Cluster}
 use Rattle.aud_node.specs.Stream.{Text}
 use Rattle.aud_rooms.specs.Turns.{Who, Turn, IsChain}
-use Rattle.aud_maker.specs.Places.{own_places}
+use Rattle.aud_node.specs.OwnPlaces.{own_places}
 use Rattle.aud_maker.specs.Begun.{AreAllBegun}
 use Rattle.aud_maker.specs.Ended.{are_ended}
 use Rattle.aud_maker.specs.Swept.{is_swept}

@@ -9,7 +9,7 @@ use Rattle.aud_node.specs.Cluster.{Cluster, node_log}
 use Rattle.aud_node.specs.Stream.{Text}
 use Rattle.aud_node.specs.TurnRecords.{begins_turn}
 use Rattle.aud_node.specs.OwnRecords.{names, own_numbers}
-use Rattle.aud_maker.specs.Places.{own_places}
+use Rattle.aud_node.specs.OwnPlaces.{own_places}
 use Rattle.aud_maker.specs.Begun.{BeginsUpTo}
 use Rattle.aud_maker.proofs.Turns.{begins-names}
 use Rattle.aud_maker.proofs.BegunLemmas.{among, named, own_place}

@@ -7,3 +7,4 @@ pub mod FirstFault
 pub mod Last
 pub mod Over
 pub mod MentionLemmas
+pub mod FirstMentions

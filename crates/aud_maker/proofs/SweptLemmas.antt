@@ -11,7 +11,7 @@ use Rattle.aud_node.specs.Stream.{Text}
 use Rattle.aud_node.specs.TurnRecords.{pid_of, begins_turn}
 use Rattle.aud_node.specs.OwnRecords.{names}
 use Rattle.aud_rooms.specs.Turns.{Who, Turn, beginning, AreTurns, StandsIn, IsChain}
-use Rattle.aud_maker.specs.Places.{own_places}
+use Rattle.aud_node.specs.OwnPlaces.{own_places}
 use Rattle.aud_maker.specs.Swept.{number_begun, turn_or, turn_past, is_in, are_in, is_swept}
 use Rattle.aud_maker.proofs.Turns.{itself_text, begins-names, beginning-begins, no_begin_inside, stands, turn_there}
 use Rattle.aud_maker.proofs.BegunLemmas.{named, unnamed, own_place, at_place, all_places}

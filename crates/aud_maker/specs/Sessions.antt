@@ -1,11 +1,13 @@
 -- The sessions that the logs mention, in the order of their first mentions.
-use Rattle.std.specs.Prelude.{List, [], ◌∷◌, ◌++◌, flat_map, Option, Some, None, if◌then◌else◌}
+use Rattle.std.specs.Prelude.{ℕ, not, List, [], ◌++◌, length, take, flat_map, Option, Some, None, slice_get}
 use Rattle.std.specs.List.{filter_map, list_any}
 use Rattle.std.specs.Option.{option_and_then}
 use Rattle.std.specs.Str.{bytes_eq}
+use Rattle.aud_tap.specs.Fields.{passing}
 use Rattle.aud_tap.specs.declared.records.StreamRec.{StreamRec}
 use Rattle.aud_tap.specs.declared.records.ClientRec.{ClientRec}
 use Rattle.aud_tap.specs.declared.taps.Tap.{Tap}
+use Rattle.aud_node.specs.Lists.{numbers_from}
 use Rattle.aud_node.specs.Stream.{Text}
 use Rattle.aud_node.specs.Cluster.{Cluster, node_recs}
 use Rattle.aud_node.specs.NodeTaps.{client_recs}
@@ -30,15 +32,14 @@ reply_pids stream (Some recs) = filter_map stay_pid (received_of stream recs).st
 abbrev pub mentions : Cluster → List Text
 mentions c = flat_map node_pids c.taps ++ flat_map (λ tap. reply_pids c.stream (client_recs tap)) c.taps
 
--- the text goes last, unless it is there
-abbrev pub with_mention : List Text → Text → List Text
-with_mention pids pid = if list_any (bytes_eq pid) pids then pids else pids ++ pid ∷ []
+-- the mention at this place, where none before it is of the same pid
+abbrev pub first_mention : List Text → ℕ → Option Text
+first_mention pids place = option_and_then (passing (λ pid. not (list_any (bytes_eq pid) (take place pids)))) (slice_get pids place)
 
--- texts that go in one after another
-abbrev pub with_mentions : List Text → List Text → List Text
-with_mentions pids [] = pids
-with_mentions pids (pid ∷ later) = with_mentions (with_mention pids pid) later
+-- the first mentions, in their order
+abbrev pub first_mentions : List Text → List Text
+first_mentions pids = filter_map (first_mention pids) (numbers_from 0 (length pids))
 
 -- each session once, where it is first mentioned
 abbrev pub sessions_of : Cluster → List Text
-sessions_of c = with_mentions [] (mentions c)
+sessions_of c = first_mentions (mentions c)

@@ -3,7 +3,7 @@ ghost use Rattle.std.specs.Prelude.{◌≡◌, ◌≤◌, ℕ, List, IfOk, true,
 ghost use Rattle.std.specs.Option.{is_some};
 ghost use Rattle.aud_node.specs.Cluster.{node_log};
 ghost use Rattle.aud_node.specs.TurnRecords.{begins_turn, turn_range};
-ghost use Rattle.aud_maker.specs.Places.{own_places};
+ghost use Rattle.aud_node.specs.OwnPlaces.{own_places};
 ghost use Rattle.aud_maker.specs.Begun.{placed_or, turn_begun, AreAllBegun, BeginsUpTo};
 
 use aud_node::{Logs, NodeLog};

@@ -1,7 +1,7 @@
 //! The turns of a session.
 ghost use Rattle.std.specs.Prelude.{◌≡◌, IfOk, MatchOption, None, Some};
 ghost use Rattle.aud_rooms.specs.Turns.{IsChain};
-ghost use Rattle.aud_maker.specs.Places.{own_places};
+ghost use Rattle.aud_node.specs.OwnPlaces.{own_places};
 ghost use Rattle.aud_maker.specs.Chain.{HasNoChain, opening_of};
 
 use crate::begun::begun_turns;

@@ -11,7 +11,6 @@ mod made;
 mod maker;
 mod mentioned;
 mod mentions;
-mod nodes;
 mod order;
 mod swept;
 

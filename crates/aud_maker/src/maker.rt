@@ -1,7 +1,7 @@
 //! Makes the certificate of a session.
 ghost use Rattle.std.specs.Prelude.{◌≡◌, IfOk, IfErr, OnOk};
 ghost use Rattle.std.specs.Option.{is_some};
-ghost use Rattle.aud_maker.specs.Places.{own_places};
+ghost use Rattle.aud_node.specs.OwnPlaces.{own_places};
 ghost use Rattle.aud_maker.specs.Begun.{turn_begun};
 ghost use Rattle.aud_maker.specs.Faults.{NoneHolds, IsWhy};
 ghost use Rattle.aud_maker.specs.Made.{IsMade};
@@ -10,7 +10,6 @@ use crate::begun::is_opened;
 use crate::chain::chain_of;
 use crate::client::only_client;
 use crate::made::certificate_of;
-use crate::nodes::own_nodes;
 use crate::order::are_ordered;
 use aud_cert::{Certificate, Fault};
 use aud_node::Logs;
@@ -33,13 +32,11 @@ pub fn make<'a>(alloc: Global, logs: &Logs<'a>, pid: &str) -> Result<Certificate
     ensures no_fault { OnOk result (NoneHolds logs.now pid.now) }
     ensures why { IfErr result (IsWhy logs.now pid.now) }
 {
-    let Ok(nodes) = own_nodes(alloc, logs, pid) else {
-        return Err(MakeFault::Memory);
-    };
-    if !is_opened(logs, &nodes, pid) {
+    let nodes = logs.nodes_of(pid);
+    if !is_opened(logs, nodes, pid) {
         return Err(MakeFault::Fault(Fault::NoLog));
     }
-    let Ok(found) = chain_of(alloc, logs, &nodes, pid) else {
+    let Ok(found) = chain_of(alloc, logs, nodes, pid) else {
         return Err(MakeFault::Memory);
     };
     let Some(chain) = found else {

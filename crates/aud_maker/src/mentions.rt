@@ -3,7 +3,8 @@ ghost use Rattle.std.specs.Prelude.{◌≡◌, IfOk, OnOk, map, option_map, stri
 ghost use Rattle.std.specs.List.{filter_map};
 ghost use Rattle.aud_node.specs.TurnRecords.{pid_of};
 ghost use Rattle.aud_node.specs.NodeTaps.{client_at};
-ghost use Rattle.aud_maker.specs.Sessions.{node_pids, stay_pid, reply_pids, with_mentions, sessions_of};
+ghost use Rattle.aud_maker.specs.Sessions.{node_pids, stay_pid, reply_pids, sessions_of};
+ghost use Rattle.aud_maker.specs.Mentioned.{with_mentions};
 
 use crate::mentioned::Mentioned;
 use aud_client::{Stay, received};

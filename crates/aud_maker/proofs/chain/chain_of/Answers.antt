@@ -1,6 +1,6 @@
 use Rattle.std.proofs.Common.{◌∙◌, List, ℕ, sym, ap, subst}
 use Rattle.std.specs.List.{list_all}
-use Rattle.aud_maker.specs.Places.{own_places}
+use Rattle.aud_node.specs.OwnPlaces.{own_places}
 use Rattle.aud_maker.specs.Begun.{AreAllBegun}
 use Rattle.aud_maker.specs.Ended.{are_ended}
 use Rattle.aud_maker.specs.Swept.{is_swept}

@@ -8,8 +8,10 @@ use Rattle.std.proofs.lemmas.Result.{IfOk-weaker}
 use Rattle.aud_tap.specs.declared.taps.Tap.{Tap}
 use Rattle.aud_node.specs.NodeTaps.{client_recs}
 use Rattle.aud_node.specs.Stream.{Text}
-use Rattle.aud_maker.specs.Sessions.{node_pids, reply_pids, with_mentions, sessions_of}
+use Rattle.aud_maker.specs.Sessions.{node_pids, reply_pids, mentions, sessions_of}
+use Rattle.aud_maker.specs.Mentioned.{with_mentions}
 use Rattle.aud_maker.proofs.MentionLemmas.{with_mentions-append, mentions-more}
+use Rattle.aud_maker.proofs.FirstMentions.{first-mentions}
 use Rattle.aud_maker.proofs.Turns.{tap_there}
 use Rattle.aud_maker.proofs.mentions.sessions.Goals as goal
 
@@ -46,7 +48,8 @@ returns c =
     let all : c.loop-place.mentioned ≡ sessions_of logs =
     c.loop-place.invariant
     ∙ ap (λ (ts : List Tap). with_mentions (with_mentions [] (flat_map node_pids taps)) (flat_map replies ts)) (take_all c.loop-place.place taps end)
-    ∙ sym (with_mentions-append [] (flat_map node_pids taps) (flat_map replies taps)) in
+    ∙ sym (with_mentions-append [] (flat_map node_pids taps) (flat_map replies taps))
+    ∙ first-mentions (mentions logs) in
     IfOk-weaker c.into_pids.result
     (λ pids. map string_bytes pids.items ≡ c.loop-place.mentioned)
     (λ pids. map string_bytes pids.items ≡ sessions_of logs)
