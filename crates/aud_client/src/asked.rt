@@ -1,15 +1,15 @@
 //! What a client asks to recover.
 ghost use Rattle.std.specs.Prelude.{◌≡◌, IfOk, string_bytes};
 ghost use Rattle.std.specs.Option.{option_copied, option_map, option_and_then};
-ghost use Rattle.serde_json.specs.Read.{read};
 ghost use Rattle.serde_json.specs.View.{view as data_of};
-ghost use Rattle.aud_tap.specs.Fields.{text_at};
+ghost use Rattle.aud_node.specs.Replies.{value_of};
 ghost use Rattle.aud_sio.specs.Packet.{view};
 ghost use Rattle.aud_client.specs.Told.{asked_in, asked_by};
 
+use aud_node::{text_at, value_of};
 use aud_sio::{Packet, PacketKind};
 use aud_tap::Memory;
-use serde_json::{Category, Value};
+use serde_json::Value;
 use std::alloc::Global;
 use std::marker::Model;
 
@@ -37,22 +37,19 @@ impl Model for Asked {
 pub(crate) fn asked_in(alloc: Global, packet: &Packet<'_>) -> Result<Option<Asked>, Memory>
     ensures { IfOk result (λ asked. asked ≡ asked_in (view packet.now)) }
 {
-    match (packet.kind, packet.payload) {
-        (PacketKind::Connect, Some(payload)) => asked_by_text(alloc, payload),
+    match packet.kind {
+        PacketKind::Connect => asked_by_payload(alloc, packet.payload),
         _ => Ok(None),
     }
 }
 
 /// What the payload asks for.
-fn asked_by_text(alloc: Global, payload: &str) -> Result<Option<Asked>, Memory>
-    ensures { IfOk result (λ asked. asked ≡ option_and_then asked_by (read payload.now)) }
+fn asked_by_payload(alloc: Global, payload: Option<&str>) -> Result<Option<Asked>, Memory>
+    ensures { IfOk result (λ asked. asked ≡ option_and_then asked_by (value_of (option_map (λ text. text.now) payload.entry))) }
 {
-    match Value::from_str(alloc, payload) {
-        Ok(json) => asked_by(alloc, &json),
-        Err(error) => match error.classify() {
-            Category::Memory => Err(Memory),
-            _ => Ok(None),
-        },
+    match value_of(alloc, payload)? {
+        Some(json) => asked_by(alloc, &json),
+        None => Ok(None),
     }
 }
 
@@ -67,13 +64,6 @@ fn asked_by(alloc: Global, json: &Value) -> Result<Option<Asked>, Memory>
         pid: String::from_str(alloc, pid)?,
         offset: owned(alloc, text_at(json, "offset"))?,
     }))
-}
-
-/// The text at the key of an object.
-fn text_at<'v>(json: &'v Value, key: &str) -> Option<&'v str>
-    ensures { option_copied result ≡ text_at key.now (data_of json.now) }
-{
-    json.get(key)?.as_str()
 }
 
 /// The text, in memory of its own.

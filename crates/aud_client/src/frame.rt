@@ -3,12 +3,11 @@ ghost use Rattle.std.specs.Prelude.{◌≡◌};
 ghost use Rattle.std.specs.Option.{option_copied};
 ghost use Rattle.aud_sio.specs.Packet.{view};
 ghost use Rattle.aud_sio.specs.Assembly.{whole_view};
-ghost use Rattle.aud_node.specs.Recoverable.{is_event};
 ghost use Rattle.aud_node.specs.TapPackets.{Received};
 ghost use Rattle.aud_client.specs.Told.{frame_of, offset_in, recoverable_position};
 
-use aud_node::Stream;
-use aud_sio::{Blob, Packet, PacketKind, Whole, last_text};
+use aud_node::{Stream, is_event};
+use aud_sio::{Blob, Packet, Whole, last_text};
 use std::marker::Model;
 
 /// An event that came, lent from the packets of the tap.
@@ -55,13 +54,6 @@ fn offset_in<'a>(packet: &'a Packet<'_>) -> Option<&'a str>
     } else {
         None
     }
-}
-
-/// Whether packets of the kind carry an event.
-fn is_event(kind: PacketKind) -> bool
-    ensures { result ≡ is_event kind }
-{
-    matches!(kind, PacketKind::Event | PacketKind::BinaryEvent)
 }
 
 /// The position of the recoverable entry that has the offset.

@@ -290,8 +290,7 @@ fn a_restarted_node_names_another_session(rt: HostRuntime) -> Result<(), Fail> {
 
 #[test]
 fn the_bodies_of_polls(rt: HostRuntime) -> Result<(), Fail> {
-    let stays =
-        ["1 / reply glprlgA_o5Xe5jBVAAAC wx8cjrxfwiuhPoauAAAB 1 2 3 4 5 6 7 8 9"];
+    let stays = ["1 / reply glprlgA_o5Xe5jBVAAAC wx8cjrxfwiuhPoauAAAB 1 2 3 4 5 6 7 8 9"];
     let told = told(rt.alloc(), &POLLING, "c0")?;
     assert!(rt; told.lines().eq(stays.into_iter()), "{told}");
     Ok(())

@@ -44,8 +44,8 @@ fn is_packet_of(event: &Event, packet: &Packet<'_>) -> bool
         && usize::from(packet.attachments) == event.bin.as_slice().len()
 }
 
-/// Whether the kind carries an event.
-fn is_event(kind: PacketKind) -> bool
+/// Whether packets of the kind carry an event, with or without attachments.
+pub fn is_event(kind: PacketKind) -> bool
     ensures { result ≡ is_event kind }
 {
     match kind {

@@ -4,9 +4,10 @@ ghost use Rattle.serde_json.specs.View.{view as data_of};
 ghost use Rattle.aud_sio.specs.Assembly.{whole_view};
 ghost use Rattle.aud_node.specs.Replies.{is_connect, pid_in, reply_in, sid_in, told_by, value_of};
 
+use crate::payload::{text_at, value_of};
 use aud_sio::{PacketKind, Whole};
 use aud_tap::{Memory, is_session_id};
-use serde_json::{Category, Value};
+use serde_json::Value;
 use std::alloc::Global;
 use std::marker::Model;
 
@@ -62,27 +63,11 @@ fn told_by(alloc: Global, payload: Option<&str>) -> Result<Reply, Memory>
     Ok(Reply { pid, sid })
 }
 
-/// The value of the payload, where there is one.
-fn value_of(alloc: Global, payload: Option<&str>) -> Result<Option<Value>, Memory>
-    ensures { IfOk result (λ json. option_map data_of json ≡ value_of (option_map (λ text. text.now) payload.entry)) }
-{
-    let Some(text) = payload else {
-        return Ok(None);
-    };
-    match Value::from_str(alloc, text) {
-        Ok(json) => Ok(Some(json)),
-        Err(e) => match e.classify() {
-            Category::Memory => Err(Memory),
-            _ => Ok(None),
-        },
-    }
-}
-
 /// The session that the value names.
 fn pid_in(alloc: Global, json: &Value) -> Result<Option<String>, Memory>
     ensures { IfOk result (λ pid. option_map string_bytes pid ≡ pid_in (data_of json.now)) }
 {
-    match json.get("pid").and_then(Value::as_str) {
+    match text_at(json, "pid") {
         Some(pid) if is_session_id(pid) => Ok(Some(String::from_str(alloc, pid)?)),
         _ => Ok(None),
     }
@@ -92,7 +77,7 @@ fn pid_in(alloc: Global, json: &Value) -> Result<Option<String>, Memory>
 fn sid_in(alloc: Global, json: &Value) -> Result<String, Memory>
     ensures { IfOk result (λ sid. string_bytes sid ≡ sid_in (data_of json.now)) }
 {
-    match json.get("sid").and_then(Value::as_str) {
+    match text_at(json, "sid") {
         Some(sid) => Ok(String::from_str(alloc, sid)?),
         None => Ok(String::new(alloc)),
     }
