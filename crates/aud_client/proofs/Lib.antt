@@ -7,3 +7,4 @@ pub mod Kept
 pub mod Connections
 pub mod Named
 pub mod ByPlace
+pub mod BySession

@@ -5,3 +5,6 @@ pub mod Told
 pub mod Received
 pub mod Open
 pub mod Kept
+pub mod BySession
+pub mod ReadTap
+pub mod Clients

@@ -1,0 +1,83 @@
+//! A client's tap that was read, with its stays by session.
+ghost use Rattle.std.specs.Prelude.{◌≡◌, IfOk, map};
+ghost use Rattle.aud_client.specs.Received.{received_of, stays_naming};
+ghost use Rattle.aud_client.specs.BySession.{stays_numbered};
+
+use crate::by_session::BySession;
+use crate::stay::Stay;
+use crate::tap::received;
+use crate::told::Received;
+use aud_node::{ClientTap, Stream};
+use aud_tap::Memory;
+use std::alloc::Global;
+use std::marker::Model;
+
+/// What a client's tap tells, and which of its stays name which session: a session then costs its own stays. Seen as
+/// what the tap tells.
+#[derive(Drop)]
+pub struct ReadTap<'a> {
+    received: Received<'a>,
+    by_session: BySession,
+}
+
+impl<'a> Model for ReadTap<'a> {
+    ghost use Rattle.aud_client.specs.Received.{ReceivedSeen};
+    ghost use Rattle.aud_client.specs.ReadTap.{IsIndexed};
+
+    ghost Value = { ReceivedSeen };
+
+    ghost view = { λ t. t.received };
+
+    ghost invariant = { IsIndexed };
+}
+
+impl<'a> ReadTap<'a> {
+    /// Reads the tap, all of it once. The frames are lent from the tap's packets.
+    pub fn read(
+        alloc: Global,
+        tap: &'a ClientTap<'a>,
+        stream: &Stream<'_>,
+    ) -> Result<ReadTap<'a>, Memory>
+        ensures { IfOk result (λ told. told ≡ received_of stream.now tap.now) }
+    {
+        let received = received(alloc, tap, stream)?;
+        let by_session = BySession::build(alloc, &received.stays)?;
+        Ok(ReadTap {
+            received,
+            by_session,
+        })
+    }
+
+    /// What the tap tells, lent.
+    pub fn received(&self) -> &Received<'a>
+        ensures { result.now ≡ self.now }
+    {
+        &self.received
+    }
+
+    /// The stays whose reply names the session, in the tap's order, lent. No other stay is looked at.
+    pub fn naming<'s>(&'s self, alloc: Global, pid: &str) -> Result<Vec<&'s Stay<'a>>, Memory>
+        ensures { IfOk result (λ naming. map (λ stay. stay.now) naming.items ≡ stays_naming pid.now self.now.stays) }
+    {
+        stays_at(alloc, &self.received.stays, self.by_session.of(pid))
+    }
+}
+
+/// The stays with these numbers, lent.
+fn stays_at<'s, 'a>(
+    alloc: Global,
+    stays: &'s [Stay<'a>],
+    numbers: &[usize],
+) -> Result<Vec<&'s Stay<'a>>, Memory>
+    ensures { IfOk result (λ at. map (λ stay. stay.now) at.items ≡ stays_numbered stays.now numbers.now) }
+{
+    let mut at = Vec::new(alloc);
+    for number in numbers {
+        if let Some(stay) = stays.get(*number) {
+            let Ok(()) = at.push(stay) else {
+                return Err(Memory);
+            };
+        }
+    }
+    Ok(at)
+}
