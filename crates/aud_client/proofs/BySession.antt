@@ -1,6 +1,6 @@
 -- The stays of a tap by the sessions that their replies name.
-use Rattle.std.proofs.Common.{◌≡◌, ℕ, ◌+◌, ◌<◌, Bool, true, false, cond, List, [], ◌∷◌, ◌++◌, length, take, get_or, refl, sym, ap, ◌∙◌, Some, slice_get}
-use Rattle.std.specs.List.{filter_map}
+use Rattle.std.proofs.Common.{◌≡◌, ℕ, ◌+◌, ◌<◌, Bool, true, false, cond, List, [], ◌∷◌, ◌++◌, length, take, get_or, refl, sym, ap, ◌∙◌, Option, Some, slice_get}
+use Rattle.std.specs.List.{filter_map, cons_option}
 use Rattle.std.proofs.lemmas.List.{take_more, append-nil}
 use Rattle.std.proofs.lemmas.List.Elements.{filter-append, filter_map-append}
 use Rattle.std.proofs.lemmas.Option.{slice_get_within, get_or_from_slice_get}
@@ -18,7 +18,7 @@ naming-more q xs s = filter-append (names q) xs (s ∷ []) ∙ go (names q s)
     go false = append-nil (stays_naming q xs)
 
 -- one number more
-pub numbered-more : (ss : List StaySeen) (numbers : List ℕ) (i : ℕ) → stays_numbered ss (numbers ++ i ∷ []) ≡ stays_numbered ss numbers ++ stays_numbered ss (i ∷ [])
+numbered-more : (ss : List StaySeen) (numbers : List ℕ) (i : ℕ) → stays_numbered ss (numbers ++ i ∷ []) ≡ stays_numbered ss numbers ++ stays_numbered ss (i ∷ [])
 numbered-more ss numbers i = filter_map-append (slice_get ss) numbers (i ∷ [])
 
 numbered-one : (ss : List StaySeen) (i : ℕ) (s : StaySeen) → slice_get ss i ≡ Some s → stays_numbered ss (i ∷ []) ≡ s ∷ []
@@ -37,3 +37,11 @@ kept-more ss q i s old new is before after =
     go : (b : Bool) → b ≡ b → stays_numbered ss (cond b (old ++ i ∷ []) old) ≡ cond b (stays_naming q (take i ss) ++ s ∷ []) (stays_naming q (take i ss))
     go true _ = numbered-more ss old i ∙ ap (λ xs. stays_numbered ss old ++ xs) (numbered-one ss i s is) ∙ ap (λ xs. xs ++ s ∷ []) before
     go false _ = before
+
+-- the stays with the first of these numbers, with one number more
+pub numbered-next : (ss : List StaySeen) (numbers : List ℕ) (i : ℕ) (one : Option StaySeen) (old new : List StaySeen) → i < length numbers
+    → old ≡ stays_numbered ss (take i numbers) → one ≡ slice_get ss (get_or numbers i 0) → new ≡ old ++ cons_option one []
+    → new ≡ stays_numbered ss (take (i + 1) numbers)
+numbered-next ss numbers i one old new within before is after =
+    after ∙ ap (λ xs. xs ++ cons_option one []) before ∙ ap (λ o. stays_numbered ss (take i numbers) ++ cons_option o []) is
+    ∙ sym (ap (stays_numbered ss) (take_more numbers i 0 within) ∙ numbered-more ss (take i numbers) (get_or numbers i 0))

@@ -8,3 +8,4 @@ pub mod Connections
 pub mod Named
 pub mod ByPlace
 pub mod BySession
+pub mod ClientTaps

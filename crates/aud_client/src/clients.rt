@@ -29,7 +29,7 @@ impl<'l> Model for Clients<'l> {
 
 impl<'l> Clients<'l> {
     /// Reads each client's tap once. What they tell is lent from the logs.
-    pub fn read(alloc: Global, logs: &'l Logs<'l>) -> Result<Clients<'l>, Memory>
+    pub fn read(alloc: Global, logs: &'l Logs<'_>) -> Result<Clients<'l>, Memory>
         ensures { IfOk result (λ clients. clients ≡ clients_of logs.now) }
     {
         let mut told = Vec::new(alloc);
@@ -56,7 +56,7 @@ impl<'l> Clients<'l> {
 /// What the tap at this place tells, if it is a client's.
 fn told_by<'l>(
     alloc: Global,
-    logs: &'l Logs<'l>,
+    logs: &'l Logs<'_>,
     place: usize,
 ) -> Result<Option<ReadTap<'l>>, Memory>
     ensures { IfOk result (λ told. told ≡ option_map (received_of logs.now.stream) (client_at logs.now place)) }

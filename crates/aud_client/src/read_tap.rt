@@ -1,5 +1,7 @@
 //! A client's tap that was read, with its stays by session.
-ghost use Rattle.std.specs.Prelude.{◌≡◌, IfOk, map};
+ghost use Rattle.std.specs.Prelude.{◌≡◌, ◌++◌, [], IfOk, OnOk, map, slice_get};
+ghost use Rattle.std.specs.List.{cons_option};
+ghost use Rattle.std.specs.Option.{option_copied};
 ghost use Rattle.aud_client.specs.Received.{received_of, stays_naming};
 ghost use Rattle.aud_client.specs.BySession.{stays_numbered};
 
@@ -73,11 +75,27 @@ fn stays_at<'s, 'a>(
 {
     let mut at = Vec::new(alloc);
     for number in numbers {
-        if let Some(stay) = stays.get(*number) {
-            let Ok(()) = at.push(stay) else {
-                return Err(Memory);
-            };
-        }
+        push_stay(&mut at, stay_at(stays, *number))?;
     }
     Ok(at)
+}
+
+/// The stay with this number.
+fn stay_at<'s, 'a>(stays: &'s [Stay<'a>], number: usize) -> Option<&'s Stay<'a>>
+    ensures { option_copied result ≡ slice_get stays.now number }
+{
+    stays.get(number)
+}
+
+/// The stay, if there is one, comes behind the others.
+fn push_stay<'s, 'a>(at: &mut Vec<&'s Stay<'a>>, stay: Option<&'s Stay<'a>>) -> Result<(), Memory>
+    ensures { OnOk result (map (λ stay. stay.now) at.new.items ≡ map (λ stay. stay.now) at.old.items ++ cons_option (option_copied stay.entry) []) }
+{
+    let Some(stay) = stay else {
+        return Ok(());
+    };
+    match at.push(stay) {
+        Ok(()) => Ok(()),
+        Err(_) => Err(Memory),
+    }
 }
