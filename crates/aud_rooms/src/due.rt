@@ -15,7 +15,8 @@ use aud_tap::Memory;
 use std::alloc::Global;
 
 /// The recoverable positions past `birth` up to `high` that are addressed to the namespace and to the rooms whose spans
-/// hold them, ascending. The spans may stand in any order and overlap. Each position is asked once.
+/// hold them, ascending; positions count from 1. The spans may stand in any order and overlap. Each position is asked
+/// once. The one error is want of memory.
 pub fn due_of(
     alloc: Global,
     spans: &[Span],

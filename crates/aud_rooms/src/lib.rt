@@ -26,3 +26,5 @@ pub use turn_spans::spans_of_turns;
 
 #[cfg(test)]
 mod tests;
+#[cfg(test)]
+mod turn_tests;

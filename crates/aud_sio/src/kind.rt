@@ -5,7 +5,7 @@ ghost use Rattle.aud_sio.specs.Kind.{is_binary, kind_at, kind_of, type_digit, wa
 
 use crate::fault::SioFault;
 
-/// The types of the protocol, in the order of their digits, from 0.
+/// The types of the protocol, in the order of their digits, from 0 (Socket.IO protocol 5, section "Packet encoding").
 #[derive(Clone, Copy, Debug, PartialEq, Eq, Drop)]
 pub enum PacketKind {
     Connect,
