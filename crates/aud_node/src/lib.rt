@@ -4,6 +4,7 @@
 //! Begin at [`logs`], which is made once from the taps; all that it lends was computed then.
 #![tactic(auto)]
 
+mod addressees;
 mod client_tap;
 mod connection;
 mod cursors;
@@ -14,6 +15,7 @@ mod naming;
 mod node_log;
 mod offsets;
 mod own_records;
+mod positions;
 mod recoverable;
 mod recs;
 mod replies;
@@ -33,5 +35,7 @@ pub use stream::Stream;
 mod client_tests;
 #[cfg(test)]
 mod naming_tests;
+#[cfg(test)]
+mod stream_tests;
 #[cfg(test)]
 mod tests;
