@@ -9,7 +9,7 @@ fn text(alloc: Global, bytes: &str) -> Result<Text, AllocError> {
     Ok(Text::new(String::from_str(alloc, bytes)?))
 }
 
-fn texts(alloc: Global, names: &[&str]) -> Result<Texts, AllocError> {
+pub fn texts(alloc: Global, names: &[&str]) -> Result<Texts, AllocError> {
     let mut texts = Vec::new(alloc);
     for name in names {
         texts.push(text(alloc, name)?)?;
