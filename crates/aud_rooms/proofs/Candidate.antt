@@ -1,5 +1,5 @@
 -- The positions that may be due by spans, and those that are.
-use Rattle.std.proofs.Common.{◌≡◌, ◌<◌, ◌≤◌, ◌-◌, ℕ, suc, Bool, true, false, cond, ◌&&◌, ◌||◌, not, List, [], ◌∷◌, ◌++◌, filter, length, take, get_or, min, max, ◌+◌, Option, Some, None, refl, sym, ap, ◌∙◌, ◌⊎◌, inl, inr, arith, nat_eq, nat_le, nat_lt, ◌==◌, true≢false}
+use Rattle.std.proofs.Common.{◌≡◌, ◌<◌, ◌≤◌, ◌-◌, ℕ, Bool, true, false, cond, ◌&&◌, ◌||◌, List, [], ◌∷◌, ◌++◌, filter, length, take, get_or, min, max, ◌+◌, Option, Some, None, refl, sym, ap, ◌∙◌, ◌⊎◌, inl, inr, arith, nat_le, nat_lt, ◌==◌, true≢false}
 use Rattle.std.specs.List.{list_any}
 use Rattle.std.specs.Ordering.{nat_cmp, is_eq}
 use Rattle.std.specs.Cmp.Lexicographic.{slice_cmp}
@@ -15,7 +15,7 @@ use Rattle.aud_tap.specs.declared.records.StreamRec.TheVariants.{Ev, Other}
 use Rattle.aud_node.specs.Stream.{Text, entry, positions_after}
 use Rattle.aud_node.specs.Recoverable.{is_recoverable}
 use Rattle.aud_node.specs.Addressees.{is_to_all, is_to_room, positions_to_all, positions_to_room}
-use Rattle.aud_rooms.specs.Rooms.{is_addressed, is_empty, is_for}
+use Rattle.aud_rooms.specs.Rooms.{is_empty, is_for}
 use Rattle.aud_rooms.specs.Spans.{RoomSpan, is_within, rooms_by_spans, is_due_by_spans, due_by_spans}
 use Rattle.aud_rooms.specs.Candidates.{is_among, is_past_upto, is_to_span, is_candidate, candidates, is_for_spans}
 use Rattle.aud_rooms.proofs.Times.{and_false, or_false, or_none, lt_true, lt_false}

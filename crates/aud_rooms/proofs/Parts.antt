@@ -1,5 +1,5 @@
 -- The parts of a list before and behind the place where a test begins to fail.
-use Rattle.std.proofs.Common.{◌≡◌, ◌≤◌, ◌+◌, ℕ, zero, suc, Bool, true, false, cond, List, [], ◌∷◌, length, take, drop, get_or, filter, refl, ap, ◌∙◌, arith}
+use Rattle.std.proofs.Common.{◌≡◌, ◌≤◌, ℕ, zero, suc, Bool, true, false, cond, List, [], ◌∷◌, length, take, drop, get_or, filter, refl, ap, ◌∙◌, arith}
 use Rattle.std.specs.List.{AllByRecursion, AllWithin}
 
 -- a test that holds of the first elements alone keeps these

@@ -1,6 +1,5 @@
 -- Lists of consecutive positions.
-use Rattle.std.proofs.Common.{◌≡◌, ◌<◌, ◌≤◌, ◌+◌, ◌-◌, ℕ, zero, suc, Bool, false, cond, [], ◌∷◌, ◌++◌, map, filter, length, replicate, refl, sym, ap, ◌∙◌, zero-add, add-zero, arith}
-use Rattle.std.proofs.lemmas.List.Elements.{filter-append}
+use Rattle.std.proofs.Common.{◌≡◌, ◌<◌, ◌≤◌, ◌+◌, ℕ, zero, suc, ◌∷◌, ◌++◌, map, length, replicate, refl, sym, ap, ◌∙◌, zero-add, add-zero, arith}
 use Rattle.aud_node.specs.Stream.{positions_after}
 
 pub map_positions : {X : Type 0} (f g : ℕ → X) (low count : ℕ) → ((p : ℕ) → low < p → p ≤ low + count → f p ≡ g p) → map f (positions_after low count) ≡ map g (positions_after low count)

@@ -1,4 +1,4 @@
-use Rattle.std.proofs.Common.{◌≡◌, length, nat_eq, sym, ap, ◌∙◌}
+use Rattle.std.proofs.Common.{length, nat_eq, sym, ap, ◌∙◌}
 use Rattle.std.proofs.lemmas.List.Filters.{dedup_is}
 use Rattle.std.proofs.lemmas.List.Kept.{AllPairs-from_increasing}
 use Rattle.std.proofs.lemmas.List.Sorted.{list_any-IsPermutation}

@@ -1,4 +1,4 @@
-use Rattle.std.proofs.Common.{List, map, take, sym, ap, subst}
+use Rattle.std.proofs.Common.{map, take, sym, subst}
 use denote.Ref.{Bor}
 use Rattle.std.specs.List.{AllByRecursion}
 use Rattle.std.proofs.Common.{◌<◌, ◌≤◌}

@@ -1,4 +1,4 @@
-use Rattle.std.proofs.Common.{◌≡◌, List, filter, length, map, sym, ap, subst, ◌∙◌}
+use Rattle.std.proofs.Common.{List, filter, length, map, sym, ap, subst, ◌∙◌}
 use Rattle.std.specs.List.Sorted.{IsNonDecreasing}
 use Rattle.std.proofs.lemmas.Result.{IfOk-weaker}
 use denote.Ref.{Bor}
