@@ -1,5 +1,5 @@
 //! What is due by spans, in worked examples: the values are those that the rules of the cluster give.
-use crate::tests::texts;
+use crate::tests::text;
 use crate::{Span, due_of};
 use aud_node::Logs;
 use aud_tap::{Blobs, Event, Records, StreamRec, StreamRecs, Tap, Taps, Text, Texts};
@@ -7,12 +7,24 @@ use std::alloc::{AllocError, Global};
 use std::borrow::CowStr;
 use std::test::Fail;
 
+/// The names that aren't empty.
+fn names(alloc: Global, first: &str, second: &str) -> Result<Texts, AllocError> {
+    let mut names = Vec::new(alloc);
+    if !first.is_empty() {
+        names.push(text(alloc, first)?)?;
+    }
+    if !second.is_empty() {
+        names.push(text(alloc, second)?)?;
+    }
+    Ok(Texts::new(names))
+}
+
 /// An event with the offset `n-0`.
 fn event(
     alloc: Global,
     n: usize,
     nsp: &str,
-    rooms: &[&str],
+    rooms: Texts,
     except: Texts,
 ) -> Result<StreamRec, AllocError> {
     let packet = if nsp == "/" {
@@ -22,24 +34,25 @@ fn event(
     };
     Ok(StreamRec::Ev(Event {
         off: Text::new(format!(in alloc; "{n}-0")?),
-        nsp: Text::new(String::from_str(alloc, nsp)?),
-        rooms: texts(alloc, rooms)?,
+        nsp: text(alloc, nsp)?,
+        rooms,
         except,
         text: Text::new(packet),
         bin: Blobs::new(Vec::new(alloc)),
     }))
 }
 
-/// A stream of events, each with its namespace, its rooms and its excepted rooms.
-fn taps(alloc: Global, events: &[(&str, &[&str], &[&str])]) -> Result<Taps, AllocError> {
+/// A stream of events, each with its namespace, two rooms and an excepted room; an empty name is none.
+fn taps(alloc: Global, events: &[(&str, &str, &str, &str)]) -> Result<Taps, AllocError> {
     let mut entries = Vec::new(alloc);
-    for (i, (nsp, rooms, except)) in events.iter().enumerate() {
-        let except = texts(alloc, except)?;
+    for (i, (nsp, first, second, except)) in events.iter().enumerate() {
+        let rooms = names(alloc, first, second)?;
+        let except = names(alloc, except, "")?;
         entries.push(event(alloc, i + 1, nsp, rooms, except)?)?;
     }
     let mut taps = Vec::new(alloc);
     taps.push(Tap {
-        name: Text::new(String::from_str(alloc, "st")?),
+        name: text(alloc, "st")?,
         records: Records::Stream(StreamRecs::new(entries)),
     })?;
     Ok(Taps::new(taps))
@@ -56,12 +69,12 @@ fn span(room: &'static str, first: u64, last: u64) -> Span<'static> {
 /// An event for two rooms that are both held counts once. Spans of one room may overlap too, in any order.
 #[test]
 fn spans_that_overlap(rt: HostRuntime) -> Result<(), Fail> {
-    let events: [(&str, &[&str], &[&str]); 5] = [
-        ("/", &["r"], &[]),
-        ("/", &["q", "r"], &[]),
-        ("/", &["q", "q"], &[]),
-        ("/", &[], &[]),
-        ("/", &["r"], &[]),
+    let events = [
+        ("/", "r", "", ""),
+        ("/", "q", "r", ""),
+        ("/", "q", "q", ""),
+        ("/", "", "", ""),
+        ("/", "r", "", ""),
     ];
     let taps = taps(rt.alloc(), &events)?;
     let logs = Logs::build(rt.alloc(), &taps)?;
@@ -80,11 +93,7 @@ fn spans_that_overlap(rt: HostRuntime) -> Result<(), Fail> {
 /// The room `q`, which is excepted, is held at the second position alone.
 #[test]
 fn excepted_room(rt: HostRuntime) -> Result<(), Fail> {
-    let events: [(&str, &[&str], &[&str]); 3] = [
-        ("/", &["r"], &["q"]),
-        ("/", &["r"], &["q"]),
-        ("/", &[], &["q"]),
-    ];
+    let events = [("/", "r", "", "q"), ("/", "r", "", "q"), ("/", "", "", "q")];
     let taps = taps(rt.alloc(), &events)?;
     let logs = Logs::build(rt.alloc(), &taps)?;
     let spans = [span("r", 1, 3), span("q", 2, 2)];
@@ -97,11 +106,11 @@ fn excepted_room(rt: HostRuntime) -> Result<(), Fail> {
 /// A room of another namespace with the same name, and the events for a whole namespace, which are due without spans.
 #[test]
 fn other_namespace(rt: HostRuntime) -> Result<(), Fail> {
-    let events: [(&str, &[&str], &[&str]); 4] = [
-        ("/n", &["r"], &[]),
-        ("/n", &[], &[]),
-        ("/", &["r"], &[]),
-        ("/", &[], &[]),
+    let events = [
+        ("/n", "r", "", ""),
+        ("/n", "", "", ""),
+        ("/", "r", "", ""),
+        ("/", "", "", ""),
     ];
     let taps = taps(rt.alloc(), &events)?;
     let logs = Logs::build(rt.alloc(), &taps)?;

@@ -5,11 +5,11 @@ use aud_tap::{Blobs, Event, Records, StreamRec, StreamRecs, Tap, Taps, Text, Tex
 use std::alloc::{AllocError, Global};
 use std::test::Fail;
 
-fn text(alloc: Global, bytes: &str) -> Result<Text, AllocError> {
+pub fn text(alloc: Global, bytes: &str) -> Result<Text, AllocError> {
     Ok(Text::new(String::from_str(alloc, bytes)?))
 }
 
-pub fn texts(alloc: Global, names: &[&str]) -> Result<Texts, AllocError> {
+fn texts(alloc: Global, names: &[&str]) -> Result<Texts, AllocError> {
     let mut texts = Vec::new(alloc);
     for name in names {
         texts.push(text(alloc, name)?)?;
