@@ -4,6 +4,7 @@
 mod addressee;
 mod builder;
 mod building;
+mod candidates;
 mod due;
 mod holding;
 mod interval;
@@ -24,6 +25,8 @@ pub use span::Span;
 pub use turn_place::TurnPlace;
 pub use turn_spans::spans_of_turns;
 
+#[cfg(test)]
+mod due_tests;
 #[cfg(test)]
 mod tests;
 #[cfg(test)]
