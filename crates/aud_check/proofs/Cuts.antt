@@ -5,7 +5,12 @@ use Rattle.std.proofs.lemmas.Bool.{cases_lt, le-leb, lt-leb}
 use Rattle.aud_client.specs.Told.{FrameSeen}
 use Rattle.aud_check.specs.Ascending.{IsAscending, is_cut, is_cut_or_not}
 use Rattle.aud_check.specs.Frames.{is_between}
-use Rattle.aud_check.proofs.Numbers.{lt_true, lt_false}
+
+lt_true : (a b : ℕ) → a < b → nat_lt a b ≡ true
+lt_true a b h = le-leb (suc a) b (omega arith)
+
+lt_false : (a b : ℕ) → b ≤ a → nat_lt a b ≡ false
+lt_false a b h = lt-leb (suc a) b (omega arith)
 
 none_end : (b : Bool) → (b && false) ≡ false
 none_end true = refl

@@ -91,8 +91,11 @@ module _ (c : Cluster) (who : Who) (client : Text) (turns : List TurnSeen) (span
     pub tail_is : (got : ℕ) → got ≤ length due → got + (length due - got) ≡ length (shown_due c cert)
     tail_is got within = let all : got + (length due - got) ≡ length due = omega arith in all ∙ ap length due_is
 
--- a certificate by its parts
-pub same_cert : (cert : CertificateSeen) (pid client : Text) (turns : List TurnSeen) (spans : List RoomSpan) → pid ≡ cert.pid → client ≡ cert.client → turns ≡ cert.turns → spans ≡ cert.spans → seen_as pid client turns spans ≡ cert
-same_cert cert pid client turns spans a b d e =
-    ap (λ x. seen_as x client turns spans) a ∙ ap (λ x. seen_as cert.pid x turns spans) b ∙ ap (λ x. seen_as cert.pid cert.client x spans) d
-    ∙ ap (λ x. seen_as cert.pid cert.client cert.turns x) e
+-- a certificate by its parts, as they stand in the value that it is read from
+pub same_cert : (cert : CertificateSeen) (who : Who) (client : Text) (turns : List TurnSeen) (spans : List RoomSpan) {inner : CertificateSeen}
+    → who ≡ who_of cert → inner ≡ cert → client ≡ inner.client → turns ≡ inner.turns → spans ≡ inner.spans → seen_as who.pid client turns spans ≡ cert
+same_cert cert who client turns spans {inner} named view a b d =
+    ap (λ x. seen_as x client turns spans) (ap (λ (w : Who). w.pid) named)
+    ∙ ap (λ x. seen_as cert.pid x turns spans) (a ∙ ap (λ (x : CertificateSeen). x.client) view)
+    ∙ ap (λ x. seen_as cert.pid cert.client x spans) (b ∙ ap (λ (x : CertificateSeen). x.turns) view)
+    ∙ ap (seen_as cert.pid cert.client cert.turns) (d ∙ ap (λ (x : CertificateSeen). x.spans) view)
