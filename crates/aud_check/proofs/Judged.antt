@@ -92,9 +92,9 @@ module _ (c : Cluster) (who : Who) (client : Text) (turns : List TurnSeen) (span
     tail_is got within = let all : got + (length due - got) ≡ length due = omega arith in all ∙ ap length due_is
 
 -- a certificate by its parts, as they stand in the value that it is read from
-pub same_cert : (cert : CertificateSeen) (who : Who) (client : Text) (turns : List TurnSeen) (spans : List RoomSpan) {inner : CertificateSeen}
+pub same_cert : {cert inner : CertificateSeen} {who : Who} {client : Text} {turns : List TurnSeen} {spans : List RoomSpan}
     → who ≡ who_of cert → inner ≡ cert → client ≡ inner.client → turns ≡ inner.turns → spans ≡ inner.spans → seen_as who.pid client turns spans ≡ cert
-same_cert cert who client turns spans {inner} named view a b d =
+same_cert {cert} {inner} {who} {client} {turns} {spans} named view a b d =
     ap (λ x. seen_as x client turns spans) (ap (λ (w : Who). w.pid) named)
     ∙ ap (λ x. seen_as cert.pid x turns spans) (a ∙ ap (λ (x : CertificateSeen). x.client) view)
     ∙ ap (λ x. seen_as cert.pid cert.client x spans) (b ∙ ap (λ (x : CertificateSeen). x.turns) view)

@@ -1,27 +1,19 @@
 -- What refuses a turn, and what comes first.
-use Rattle.std.proofs.Common.{◌≡◌, ◌<◌, ◌≤◌, ◌+◌, ◌-◌, ℕ, suc, true, false, List, [], ◌∷◌, map, length, drop, min, Option, Some, None, slice_get, sym, ap, subst, ◌∙◌, ◌⊎◌, inl, inr, arith, nat_eq, true≢false, length-drop}
-use Rattle.std.proofs.lemmas.Bool.{cases_lt, eqb-true, eq-eqb}
-use Rattle.std.specs.Option.{option_and_then, option_map}
-use Rattle.std.proofs.lemmas.Option.{none-some, same_Some}
-use Rattle.std.proofs.lemmas.List.{take_all}
-use Rattle.aud_tap.specs.declared.records.StreamRec.{StreamRec}
+use Rattle.std.proofs.Common.{◌≡◌, ◌<◌, ℕ, suc, true, false, List, [], ◌∷◌, length, Some, None, slice_get, sym, ap, subst, ◌∙◌, arith, nat_eq, true≢false}
+use Rattle.std.proofs.lemmas.Bool.{eqb-true, eq-eqb}
+use Rattle.std.proofs.lemmas.Option.{none-some}
 use Rattle.aud_tap.specs.declared.records.NodeRec.{NodeRec}
-use Rattle.aud_tap.specs.declared.taps.Tap.{Tap}
-use Rattle.aud_tap.specs.declared.taps.Records.{Records}
-use Rattle.aud_tap.specs.declared.taps.Records.TheVariants.{Stream, Node, Client}
 use Rattle.aud_node.specs.Stream.{Text}
 use Rattle.aud_node.specs.Lists.{between}
 use Rattle.aud_node.specs.Cursors.{cursor_at}
 use Rattle.aud_node.specs.Ordered.{is_ordered}
-use Rattle.aud_node.specs.Cluster.{Cluster, node_log, node_recs}
-use Rattle.aud_node.specs.NodeTap.{NodeTap}
-use Rattle.aud_node.specs.NodeTaps.{node_at, node_tap, node_of_records}
-use Rattle.aud_rooms.specs.Turns.{End, Turn, MayEnd, slice_of}
-use Rattle.aud_cert.specs.Certificate.{TurnSeen, IsTurnOver, turn_at, place_named, log_named}
+use Rattle.aud_node.specs.Cluster.{Cluster, node_log}
+use Rattle.aud_rooms.specs.Turns.{End, Turn, slice_of}
+use Rattle.aud_cert.specs.Certificate.{TurnSeen, IsTurnOver, turn_at, log_named}
 use Rattle.aud_check.specs.declared.refusal.Refusal.{Refusal}
 use Rattle.aud_check.specs.declared.refusal.Refusal.TheVariants.{NotItsTurn, EndInside, NoEnd, Cursor, Span, Names, Received, Memory}
 use Rattle.aud_check.specs.TurnRefusals.{is_begun_by, end_of, Ends, HasCursors, RefusesTurn, IsTurnAccepted, IsFirstOfTurn, refusal_rank}
-use Rattle.aud_check.proofs.Slices.{within_at, between-more, length-between}
+use Rattle.aud_check.proofs.Slices.{length-between}
 
 module _ (c : Cluster) (pid : Text) (k : ℕ) (t : TurnSeen) (later : List TurnSeen) where
   -- nothing refuses an accepted turn

@@ -21,9 +21,7 @@ pub returns-clause-not_refused : goal.returns-clause-not_refused
 returns-clause-not_refused c =
     let C = c.args.logs.now in
     let cert = c.args.cert.now in
-    let parts =
-    same_cert cert c.session_of-session.result c.cert.inside.client.now c.as_slice-turns.result.now c.as_slice-spans.result.now c.session_of-session.ensures c.cert.view_is refl
-    c.as_slice-turns.ensures.value c.as_slice-spans.ensures.value in
+    let parts = same_cert c.session_of-session.ensures c.cert.view_is refl c.as_slice-turns.ensures.value c.as_slice-spans.ensures.value in
     let accepted = subst (λ (x : CertificateSeen). OnOk c.judge.result (IsAccepted C x)) parts c.judge.ensures.accepted in
     on_ok c.judge.result (IsAccepted C cert) ((place : Place) (refusal : Refusal) → Refuses C cert place refusal → ⊥) (nothing_refuses C cert) accepted
 
@@ -31,9 +29,7 @@ pub returns-clause-are_turns : goal.returns-clause-are_turns
 returns-clause-are_turns c =
     let C = c.args.logs.now in
     let cert = c.args.cert.now in
-    let parts =
-    same_cert cert c.session_of-session.result c.cert.inside.client.now c.as_slice-turns.result.now c.as_slice-spans.result.now c.session_of-session.ensures c.cert.view_is refl
-    c.as_slice-turns.ensures.value c.as_slice-spans.ensures.value in
+    let parts = same_cert c.session_of-session.ensures c.cert.view_is refl c.as_slice-turns.ensures.value c.as_slice-spans.ensures.value in
     let accepted = subst (λ (x : CertificateSeen). OnOk c.judge.result (IsAccepted C x)) parts c.judge.ensures.accepted in
     on_ok c.judge.result (IsAccepted C cert) (AreTurns C (who_of cert) 0 (turns_of C cert))
     (λ (is : IsAccepted C cert). are_turns C cert c.requires.over (all_accepted C cert.pid cert.turns is.are_turns)) accepted
@@ -42,9 +38,7 @@ pub returns-clause-in_every_run : goal.returns-clause-in_every_run
 returns-clause-in_every_run c =
     let C = c.args.logs.now in
     let cert = c.args.cert.now in
-    let parts =
-    same_cert cert c.session_of-session.result c.cert.inside.client.now c.as_slice-turns.result.now c.as_slice-spans.result.now c.session_of-session.ensures c.cert.view_is refl
-    c.as_slice-turns.ensures.value c.as_slice-spans.ensures.value in
+    let parts = same_cert c.session_of-session.ensures c.cert.view_is refl c.as_slice-turns.ensures.value c.as_slice-spans.ensures.value in
     let accepted = subst (λ (x : CertificateSeen). OnOk c.judge.result (IsAccepted C x)) parts c.judge.ensures.accepted in
     on_ok c.judge.result (IsAccepted C cert) ((run : List Step) → IsRun C run → IsPrefixOf (positions_in (case_of C cert)) (due C run cert.pid))
     (λ (is : IsAccepted C cert). in_every_run C cert c.due_by_turns.ensures.prefix c.requires.over is.are_turns is.is_received.is_prefix) accepted
@@ -53,9 +47,7 @@ pub returns-clause-counts_in_every_run : goal.returns-clause-counts_in_every_run
 returns-clause-counts_in_every_run c =
     let C = c.args.logs.now in
     let cert = c.args.cert.now in
-    let parts =
-    same_cert cert c.session_of-session.result c.cert.inside.client.now c.as_slice-turns.result.now c.as_slice-spans.result.now c.session_of-session.ensures c.cert.view_is refl
-    c.as_slice-turns.ensures.value c.as_slice-spans.ensures.value in
+    let parts = same_cert c.session_of-session.ensures c.cert.view_is refl c.as_slice-turns.ensures.value c.as_slice-spans.ensures.value in
     let tail = subst (λ (x : CertificateSeen). IfOk c.judge.result (λ (a : Accepted). a.got + a.tail ≡ length (shown_due C x))) parts c.judge.ensures.tail in
     if_ok c.judge.result (λ (a : Accepted). a.got + a.tail ≡ length (shown_due C cert))
     (λ (a : Accepted). IsChain C (who_of cert) (turns_of C cert) → (run : List Step) → IsRun C run → a.got + a.tail ≡ length (due C run cert.pid))
@@ -65,9 +57,7 @@ pub returns-clause-in_no_run : goal.returns-clause-in_no_run
 returns-clause-in_no_run c =
     let C = c.args.logs.now in
     let cert = c.args.cert.now in
-    let parts =
-    same_cert cert c.session_of-session.result c.cert.inside.client.now c.as_slice-turns.result.now c.as_slice-spans.result.now c.session_of-session.ensures c.cert.view_is refl
-    c.as_slice-turns.ensures.value c.as_slice-spans.ensures.value in
+    let parts = same_cert c.session_of-session.ensures c.cert.view_is refl c.as_slice-turns.ensures.value c.as_slice-spans.ensures.value in
     let refused = subst (λ (x : CertificateSeen). IfErr c.judge.result (IsFirstRefusal C x)) parts c.judge.ensures.refused in
     if_err c.judge.result (IsFirstRefusal C cert)
     (λ (refusal : Refusal). IsMismatch refusal → IsChain C (who_of cert) (turns_of C cert) → (run : List Step) → IsRun C run → IsPrefixOf (positions_in (case_of C cert)) (due C run cert.pid) → ⊥)

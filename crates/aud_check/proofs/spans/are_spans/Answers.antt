@@ -1,4 +1,4 @@
-use Rattle.std.proofs.Common.{List, map, sym, ap, subst, ◌∙◌}
+use Rattle.std.proofs.Common.{List, map, sym, subst, ◌∙◌}
 use Rattle.std.specs.List.{All}
 use Rattle.aud_rooms.specs.Turns.{Who, Turn, slice_of}
 use Rattle.aud_rooms.specs.TurnPlaces.{IsInOrder}
