@@ -1,5 +1,5 @@
 -- What a client received, by its stays.
-use Rattle.std.proofs.Common.{◌≡◌, ◌≤◌, ℕ, Bool, true, false, ◌&&◌, not, List, [], ◌∷◌, length, Some, None, refl, sym, ap, ◌∙◌, arith, true≢false, length-append}
+use Rattle.std.proofs.Common.{◌≡◌, ◌≤◌, ℕ, Bool, true, false, ◌&&◌, not, List, [], ◌∷◌, length, Some, refl, sym, ap, ◌∙◌, arith, true≢false, length-append}
 use Rattle.std.specs.List.{list_all}
 use Rattle.std.specs.Str.{bytes_eq}
 use Rattle.aud_tap.specs.declared.records.StreamRec.{StreamRec}
@@ -51,10 +51,6 @@ module _ (c : Cluster) (client pid : Text) (due : List ℕ) where
 
   found : (recs : List ClientRec) → client_at c (place_named c client) ≡ Some recs → case_for c client pid due ≡ case_with recs
   found recs at = ap (λ o. case_with (recs_or_none o)) at
-
-  -- no tap
-  pub no_stays : client_at c (place_named c client) ≡ None → (who : Who) → are_of_session who (case_for c client pid due).stays ≡ false
-  no_stays at who = ap (λ o. are_of_session who (case_with (recs_or_none o)).stays) at
 
   pub stays_are : (recs : List ClientRec) → client_at c (place_named c client) ≡ Some recs → (case_for c client pid due).stays ≡ stays_naming pid (received_of c.stream recs).stays
   stays_are recs at = ap (λ (case : Case). case.stays) (found recs at)

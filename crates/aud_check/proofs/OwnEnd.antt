@@ -1,9 +1,8 @@
 -- How a turn ends, by the session's own records alone.
-use Rattle.std.proofs.Common.{◌≡◌, ◌<◌, ◌≤◌, ◌+◌, ℕ, zero, suc, Bool, true, false, cond, ◌&&◌, List, [], ◌∷◌, length, drop, min, max, Option, Some, None, slice_get, get_or, refl, sym, ap, subst, ◌∙◌, ◌⊎◌, inl, inr, nat_eq, nat_lt, arith, true≢false}
+use Rattle.std.proofs.Common.{◌≡◌, ◌<◌, ◌≤◌, ◌+◌, ℕ, zero, suc, Bool, true, false, cond, ◌&&◌, List, [], ◌∷◌, length, min, max, Option, Some, None, slice_get, get_or, refl, sym, ap, subst, ◌∙◌, ◌⊎◌, inl, inr, nat_eq, nat_lt, arith, true≢false}
 use Rattle.std.specs.List.{filter}
 use Rattle.std.proofs.lemmas.Bool.{cases_eq, cases_lt, eq-eqb, ne_eqb, le-leb, lt-leb}
 use Rattle.std.proofs.lemmas.Option.{slice_get_within}
-use Rattle.std.proofs.lemmas.List.{drop_more}
 use Rattle.std.proofs.lemmas.List.Elements.{All-get_or, filter_passes}
 use Rattle.aud_tap.specs.declared.records.NodeRec.{NodeRec}
 use Rattle.aud_tap.specs.declared.records.NodeRec.TheVariants.{Start, Take, Opened, Join, Leave, Broke, Back, Gone}
@@ -131,13 +130,6 @@ module _ (pid : Text) (k : ℕ) (log : List NodeRec) (from to : ℕ) where
   turn_end-own =
       let same : from ≡ max from 0 = omega arith in
       ap (λ n. turn_end pid k (between log n to)) same ∙ sym (own_end-from (length log) 0 (omega arith))
-
-  -- one record more
-  pub own_end-more : (numbers : List ℕ) (i : ℕ) → i < length numbers → (n : ℕ) → n ≡ get_or numbers i n
-      → own_end pid k log last (drop i numbers) ≡ numbered_end (part_at pid k (slice_get log n)) (nat_eq (n + 1) last) (own_end pid k log last (drop (i + 1) numbers))
-  own_end-more numbers i h n is =
-      ap (own_end pid k log last) (drop_more numbers i n h)
-      ∙ ap (λ m. own_end pid k log last (m ∷ drop (i + 1) numbers)) (sym is)
 
   not_high : (number : ℕ) → to ≤ number → (number < from) ⊎ (from ≤ number) → is_between from to number ≡ false
   not_high number high (inl low) = too_low from to number low
