@@ -76,7 +76,6 @@ module _ (c : Cluster) (who : Who) (client : Text) (turns : List TurnSeen) (span
           is_received = subst IsReceived case_same received;
         }
 
-
 -- a certificate by its parts, as they stand in the value that it is read from
 pub same_cert : {cert inner : CertificateSeen} {who : Who} {client : Text} {turns : List TurnSeen} {spans : List RoomSpan}
     → who ≡ who_of cert → inner ≡ cert → client ≡ inner.client → turns ≡ inner.turns → spans ≡ inner.spans → seen_as who.pid client turns spans ≡ cert

@@ -33,12 +33,7 @@ enum Part {
 
 /// How the session's turn with this number ends, whose records stand at this place; none where those behind the first
 /// one aren't records of it. Only the session's own records are looked at.
-pub(crate) fn turn_end(
-    logs: &Logs<'_>,
-    place: &TurnPlace,
-    pid: &str,
-    turn: usize,
-) -> Option<End>
+pub(crate) fn turn_end(logs: &Logs<'_>, place: &TurnPlace, pid: &str, turn: usize) -> Option<End>
     requires { place.now.from < place.now.to }
     ensures { option_map end_seen result ≡ end_of pid.now turn (slice_of logs.now place.now).recs }
 {
