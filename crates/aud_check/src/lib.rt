@@ -8,7 +8,7 @@ mod client;
 mod compare;
 mod content;
 mod due;
-mod own;
+mod place;
 mod received;
 mod refusal;
 mod session;
@@ -19,7 +19,6 @@ mod turn_end;
 mod window;
 
 pub use certificate::{Accepted, check};
-pub use compare::{Mismatch, first_mismatch};
 pub use refusal::Refusal;
 
 #[cfg(test)]

@@ -7,7 +7,7 @@ use Rattle.aud_check.specs.Refusals.{seen_as}
 use Rattle.aud_check.specs.TurnRefusals.{AreTurnsAccepted, IsFirstOfTurns}
 use Rattle.aud_check.proofs.Ascending.{ascending}
 use Rattle.aud_check.proofs.Judged.{turns_first, span_first, refused_first, judged}
-use Rattle.aud_check.proofs.certificate.judge_parts.Goals as goal
+use Rattle.aud_check.proofs.certificate.judge.Goals as goal
 
 pub returns-in-Err-clause-refused : goal.returns-in-Err-clause-refused
 returns-in-Err-clause-refused c =
