@@ -17,6 +17,7 @@ mod stays;
 mod turn;
 mod turn_end;
 mod window;
+mod words;
 
 pub use certificate::{Accepted, check};
 pub use compare::{Mismatch, first_mismatch};
@@ -24,3 +25,5 @@ pub use refusal::Refusal;
 
 #[cfg(test)]
 mod tests;
+#[cfg(test)]
+mod words_tests;
