@@ -12,3 +12,4 @@ pub mod Wrong
 pub mod TurnRefusals
 pub mod Client
 pub mod Refusals
+pub mod Words

@@ -17,9 +17,12 @@ mod stays;
 mod turn;
 mod turn_end;
 mod window;
+mod words;
 
 pub use certificate::{Accepted, check};
 pub use refusal::Refusal;
 
 #[cfg(test)]
 mod tests;
+#[cfg(test)]
+mod words_tests;

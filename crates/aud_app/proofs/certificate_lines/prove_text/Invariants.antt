@@ -1,6 +1,6 @@
 use Rattle.std.proofs.Common.{◌≡◌, take, flat_map, string_bytes}
-use Rattle.aud_app.specs.Certified.{proof_line}
-use Rattle.aud_app.proofs.certified.prove_text.Given as goal
+use Rattle.aud_app.specs.CertificateLines.{proof_line}
+use Rattle.aud_app.proofs.certificate_lines.prove_text.Given as goal
 
 -- the certificates of the sessions that were gone over
 abbrev pub invariant-loop-proof : goal.invariant-loop-proof

@@ -1,35 +1,43 @@
 //! The lines on certificates, and certificates as lines.
 ghost use Rattle.std.specs.Prelude.{◌≡◌, ◌++◌, IfOk, OnOk, string_bytes, count_by, is_some};
 ghost use Rattle.std.specs.List.{list_all};
-ghost use Rattle.aud_app.specs.Certified.{is_accepted, answer_line, counts_line, verify_text, proof_line, prove_text};
+ghost use Rattle.aud_app.specs.CertificateLines.{is_accepted, answer_line, counts_line, verify_text, proof_line, prove_text};
 
-use crate::answer::{Answer, Certified};
+use crate::answer::{Answer, Answered};
 use aud_tap::Text;
 use std::alloc::{AllocError, Global};
 
-/// Puts a certificate's line at the end.
-fn push_answer(out: &mut String, certified: &Certified) -> Result<(), AllocError>
-    ensures { OnOk result (string_bytes out.new ≡ string_bytes out.old ++ answer_line certified.now) }
+/// Puts the line on a certificate at the end.
+fn push_answer(out: &mut String, answered: &Answered) -> Result<(), AllocError>
+    ensures { OnOk result (string_bytes out.new ≡ string_bytes out.old ++ answer_line answered.now) }
 {
-    let line = certified.line;
-    match &certified.answer {
+    let line = answered.line;
+    match &answered.answer {
         Answer::Accepted { pid, counts } => {
             let pid = pid.as_str();
             writeln!(out, "ok {line} {pid} {counts}")
         }
-        Answer::Bad(flaw) => writeln!(out, "bad {line} {flaw}"),
+        Answer::Unread(fault) => writeln!(out, "bad {line} {fault}"),
+        Answer::Refused(refusal) => writeln!(out, "bad {line} {refusal}"),
     }
 }
 
+/// Whether each certificate is accepted.
+pub fn are_all_accepted(all: &[Answered]) -> bool
+    ensures { result ≡ list_all is_accepted all.now }
+{
+    all.iter().all(|answered| answered.is_accepted())
+}
+
 /// How many certificates are accepted.
-pub fn count_accepted(all: &[Certified]) -> usize
+fn count_accepted(all: &[Answered]) -> usize
     ensures { result ≡ count_by is_accepted all.now }
 {
-    all.iter().filter(|c| c.is_accepted()).count()
+    all.iter().filter(|answered| answered.is_accepted()).count()
 }
 
 /// Puts the counts at the end.
-fn push_counts(out: &mut String, all: &[Certified]) -> Result<(), AllocError>
+fn push_counts(out: &mut String, all: &[Answered]) -> Result<(), AllocError>
     ensures { OnOk result (string_bytes out.new ≡ string_bytes out.old ++ counts_line all.now) }
 {
     let certs = all.len();
@@ -39,12 +47,12 @@ fn push_counts(out: &mut String, all: &[Certified]) -> Result<(), AllocError>
 }
 
 /// The text on certificates: a line for each, and the counts.
-pub fn verify_text(alloc: Global, all: &[Certified]) -> Result<String, AllocError>
+pub fn verify_text(alloc: Global, all: &[Answered]) -> Result<String, AllocError>
     ensures { IfOk result (λ s. string_bytes s ≡ verify_text all.now) }
 {
     let mut out = String::new(alloc);
-    for certified in all {
-        push_answer(&mut out, certified)?;
+    for answered in all {
+        push_answer(&mut out, answered)?;
     }
     push_counts(&mut out, all)?;
     Ok(out)
