@@ -14,6 +14,7 @@ use std::alloc::Global;
 /// A packet, whose namespace and payload are lent from the text that it was read from.
 #[derive(Drop)]
 pub struct Packet<'a> {
+    /// The type at the front of the text.
     pub kind: PacketKind,
     /// How many binary messages follow: 0 to 64, and 0 where the kind is not binary.
     pub attachments: u8,

@@ -5,8 +5,11 @@ use crate::text::{Blobs, Bytes, Text, Texts};
 /// What a tap was put on.
 #[derive(Clone, Copy, Debug, PartialEq, Eq, Drop)]
 pub enum TapKind {
+    /// The event stream; a bundle has one such tap at most.
     Stream,
+    /// A node of the cluster; a bundle has 64 at most.
     Node,
+    /// A client; a bundle has 4,096 at most.
     Client,
 }
 
@@ -30,6 +33,7 @@ pub struct Event {
 /// A record of the stream's tap: an entry of the stream.
 #[derive(Drop)]
 pub enum StreamRec {
+    /// An event, which nodes send to whom it is for.
     Ev(Event),
     /// An entry that is no event.
     Other { off: Text },
