@@ -88,7 +88,7 @@ impl<'a> Stream<'a> {
     }
 
     /// The positions, ascending, of the recoverable entries of the namespace that name the room.
-    pub fn to_room(&self, nsp: &str, room: &str) -> &[u64]
+    pub fn positions(&self, nsp: &str, room: &str) -> &[u64]
         ensures { result.now ≡ positions_to_room self.now nsp.now room.now }
     {
         self.addressees.to_room(nsp, room)

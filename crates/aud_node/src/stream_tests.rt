@@ -50,10 +50,10 @@ fn entries_by_addressee(rt: HostRuntime) -> Result<(), Fail> {
     let logs = Logs::build(rt.alloc(), &taps)?;
     let stream = logs.stream();
 
-    assert_eq!(rt; stream.to_room("/", "r"), [1, 2].as_slice());
-    assert_eq!(rt; stream.to_room("/", "q"), [2].as_slice());
-    assert_eq!(rt; stream.to_room("/n", "r"), [4].as_slice());
-    assert_eq!(rt; stream.to_room("/n", "q").len(), 0);
+    assert_eq!(rt; stream.positions("/", "r"), [1, 2].as_slice());
+    assert_eq!(rt; stream.positions("/", "q"), [2].as_slice());
+    assert_eq!(rt; stream.positions("/n", "r"), [4].as_slice());
+    assert_eq!(rt; stream.positions("/n", "q").len(), 0);
     assert_eq!(rt; stream.to_all("/"), [3].as_slice());
     assert_eq!(rt; stream.to_all("/n"), [6].as_slice());
     assert_eq!(rt; stream.to_all("/m").len(), 0);

@@ -40,7 +40,7 @@ fn gathered(
 {
     let mut found = Vec::from_slice(alloc, inside(stream.to_all(nsp), birth, high))?;
     for span in spans {
-        let positions = stream.to_room(nsp, span.room.as_str());
+        let positions = stream.positions(nsp, span.room.as_str());
         let after = birth.max(span.first.saturating_sub(1));
         found.extend_from_slice(inside(positions, after, high.min(span.last)))?;
     }

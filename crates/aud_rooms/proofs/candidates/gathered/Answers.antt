@@ -24,7 +24,7 @@ pub inside-requires-in-loop-span : goal.inside-requires-in-loop-span
 inside-requires-in-loop-span c =
     let stream = c.args.stream.now in
     let room = c.as_str.result.now in
-    subst IsNonDecreasing (sym c.to_room-positions.ensures)
+    subst IsNonDecreasing (sym c.positions-positions.ensures)
     (non_decreasing (positions_to_room stream c.args.nsp.now room) (ascends-positions (λ p. is_to_room (entry stream p) c.args.nsp.now room) 0 (length stream)))
 
 pub loop-span-preserved : goal.loop-span-preserved
@@ -42,7 +42,7 @@ loop-span-preserved c =
     (c.in_ok-extend_from_slice.ensures.items
     ∙ ap (λ ps. c.loop-span.found.items ++ ps)
     (c.inside-in-loop-span.ensures
-    ∙ ap (filter (is_past_upto after upto)) (c.to_room-positions.ensures ∙ ap (positions_to_room stream nsp) c.as_str.ensures.value)
+    ∙ ap (filter (is_past_upto after upto)) (c.positions-positions.ensures ∙ ap (positions_to_room stream nsp) c.as_str.ensures.value)
     ∙ ap (λ n. filter (is_past_upto n upto) (positions_to_room stream nsp (cow_str_bytes s.room))) (c.max-after.ensures ∙ ap (max birth) c.saturating_sub.ensures)
     ∙ ap (λ n. filter (is_past_upto (max birth (s.first - 1)) n) (positions_to_room stream nsp (cow_str_bytes s.room))) c.min.ensures
     ∙ ap cut c.span.view_is))
