@@ -1,5 +1,5 @@
 -- A made certificate is refused neither for a turn nor for its spans.
-use Rattle.std.proofs.Common.{◌≡◌, ◌<◌, ◌≤◌, ◌+◌, ◌-◌, ◌&&◌, ℕ, zero, suc, Bool, true, false, List, [], ◌∷◌, length, map, take, drop, get_or, slice_get, Option, Some, None, refl, sym, ap, ◌∙◌, arith, drop-cons, eq-eqb}
+use Rattle.std.proofs.Common.{◌≡◌, ◌<◌, ◌+◌, ◌-◌, ◌&&◌, ℕ, zero, suc, Bool, true, false, List, [], ◌∷◌, length, map, drop, slice_get, Some, None, refl, sym, ap, ◌∙◌, arith, drop-cons, eq-eqb}
 use Rattle.std.specs.List.{list_all}
 use Rattle.std.specs.Str.{bytes_eq}
 use Rattle.std.proofs.lemmas.Slice.Eq.{bytes_eq-Decides}
@@ -10,15 +10,16 @@ use Rattle.aud_node.specs.Lists.{between}
 use Rattle.aud_node.specs.Cursors.{cursor_at}
 use Rattle.aud_node.specs.Cluster.{Cluster, node_log}
 use Rattle.aud_node.specs.TurnRecords.{begins_turn}
-use Rattle.aud_rooms.specs.Turns.{Who, Turn, beginning, IsTurn, AreTurns, slice_of}
+use Rattle.aud_rooms.specs.Turns.{Who, Turn, beginning, IsTurn, AreTurns}
 use Rattle.aud_rooms.specs.Spans.{AreSpansOfTurns}
+use Rattle.aud_cert.specs.declared.fault.Fault.{Fault}
 use Rattle.aud_cert.specs.Certificate.{TurnSeen, CertificateSeen, turn_at, place_named}
 use Rattle.aud_maker.specs.Made.{name_at, turn_seen, is_turn_ordered, IsMade}
 use Rattle.aud_check.specs.declared.refusal.Refusal.{Refusal}
 use Rattle.aud_check.specs.declared.refusal.Refusal.TheVariants.{NotItsTurn, EndInside, NoEnd, Cursor, Span, Names, Received, Memory}
-use Rattle.aud_check.specs.Shown.{who_of, slices_of, first_record, opened_sid, opened_nsp}
+use Rattle.aud_check.specs.Shown.{who_of, slices_of, first_record}
 use Rattle.aud_check.specs.TurnRefusals.{RefusesTurn, IsTurnAccepted, AreTurnsAccepted}
-use Rattle.aud_check.specs.Refusals.{RefusesWhole, Refuses, Place, AtTurn, AtWhole, IsFirst}
+use Rattle.aud_check.specs.Refusals.{RefusesWhole, Refuses, Place, AtTurn, AtWhole, IsFirst, IsFirstRefusal}
 use Rattle.aud_app.specs.Decided.{fault_found}
 
 -- the records of a turn are the one that begins it, and those behind
@@ -112,8 +113,30 @@ refused-at : (c : Cluster) (cert : CertificateSeen) (place : Place) (refusal : R
 refused-at c cert (AtTurn k) refusal refuses none turns spans = refused-turn c cert.pid k refuses.0 (drop (suc k) cert.turns) refusal refuses.2 (turns k refuses.0 refuses.1)
 refused-at c cert AtWhole refusal refuses none turns spans = refused-whole c cert refusal refuses none spans
 
+no_fault : (refusal : Refusal) → (refusal ≡ Names → ⊥) → ((fault : Fault) → refusal ≡ Received fault → ⊥) → fault_found refusal ≡ None
+no_fault NotItsTurn no_names no_received = refl
+no_fault EndInside no_names no_received = refl
+no_fault NoEnd no_names no_received = refl
+no_fault Cursor no_names no_received = refl
+no_fault Span no_names no_received = refl
+no_fault Names no_names no_received = absurd (no_names refl)
+no_fault (Received fault) no_names no_received = absurd (no_received fault refl)
+no_fault Memory no_names no_received = refl
+
+-- a refusal that is no want of memory is the first
+is_first : (c : Cluster) (cert : CertificateSeen) (refusal : Refusal) → IsFirstRefusal c cert refusal → (refusal ≡ Memory → ⊥) → IsFirst c cert refusal
+is_first c cert NotItsTurn first no_memory = first
+is_first c cert EndInside first no_memory = first
+is_first c cert NoEnd first no_memory = first
+is_first c cert Cursor first no_memory = first
+is_first c cert Span first no_memory = first
+is_first c cert Names first no_memory = first
+is_first c cert (Received fault) first no_memory = first
+is_first c cert Memory first no_memory = absurd (no_memory refl)
+
 -- a made certificate is refused for its names or for what the client received alone
 pub never_so : (c : Cluster) (pid : Text) (cert : CertificateSeen) (refusal : Refusal) → (made : IsMade c pid cert) → map (turn_at c) cert.turns ≡ made.turns
-    → IsFirst c cert refusal → fault_found refusal ≡ None → ⊥
-never_so c pid cert refusal made there first none =
-    refused-at c cert first.place refusal first.refuses none (made-accepted c pid cert made there) (made-spans c pid cert made there)
+    → IsFirstRefusal c cert refusal → (refusal ≡ Names → ⊥) → ((fault : Fault) → refusal ≡ Received fault → ⊥) → (refusal ≡ Memory → ⊥) → ⊥
+never_so c pid cert refusal made there refused no_names no_received no_memory =
+    let first = is_first c cert refusal refused no_memory in
+    refused-at c cert first.place refusal first.refuses (no_fault refusal no_names no_received) (made-accepted c pid cert made there) (made-spans c pid cert made there)

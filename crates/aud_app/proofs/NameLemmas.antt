@@ -1,5 +1,5 @@
 -- No two taps of a bundle have one name.
-use Rattle.std.proofs.Common.{◌≡◌, ℕ, zero, suc, List, [], ◌∷◌, ◌++◌, find, slice_get, Bool, true, false, cond, Option, Some, None, option_map, Result, Ok, Err, refl, sym, ap, ◌∙◌, codes, not}
+use Rattle.std.proofs.Common.{◌≡◌, ℕ, zero, suc, List, [], ◌∷◌, ◌++◌, slice_get, Bool, true, false, cond, Option, Some, None, Result, Ok, Err, refl, sym, ap, ◌∙◌, codes, not}
 use Rattle.std.specs.Str.{bytes_eq}
 use Rattle.std.proofs.lemmas.Slice.Eq.{bytes_eq-Decides}
 use Rattle.serde_json.specs.Data.{Data}
@@ -13,10 +13,10 @@ use Rattle.aud_tap.specs.Steps.{◌>>=◌, guard}
 use Rattle.aud_tap.specs.Fields.{is_text}
 use Rattle.aud_tap.specs.Header.{header_of}
 use Rattle.aud_tap.specs.Record.{opened_line, kind_of}
-use Rattle.aud_tap.specs.Bundle.{tap_named, with_records, with_record, pids_of, another_tap, no_records, with_header, with_later, with_kind, with_named, with_line, at_line, passing_empty, taps_after, then_on, taps_from, taps_of}
-use Rattle.aud_node.specs.Names.{place_of}
+use Rattle.aud_tap.specs.Bundle.{tap_named, with_records, with_record, pids_of, another_tap, no_records, with_header, with_later, with_kind, with_line, at_line, passing_empty, taps_after, then_on, taps_from, taps_of}
+use Rattle.aud_node.specs.Names.{place_of, AreNamedOnce}
 use Rattle.aud_app.specs.declared.input.Layout.{Layout}
-use Rattle.aud_app.specs.Input.{InputSeen, certificates_in, bundle_in, with_certificates, parts_of, AreNamedOnce}
+use Rattle.aud_app.specs.Input.{InputSeen, certificates_in, bundle_in, with_certificates, parts_of}
 
 -- ---- different names
 

@@ -1,5 +1,5 @@
 -- The verdict on each session, and its certificate.
-use Rattle.std.specs.Prelude.{◌≡◌, ◌⊎◌, List, [], ◌∷◌, Option, Some, None}
+use Rattle.std.specs.Prelude.{◌≡◌, ◌⊎◌, List, Option, Some, None}
 use Rattle.aud_node.specs.Stream.{Text}
 use Rattle.aud_node.specs.Cluster.{Cluster}
 use Rattle.aud_cert.specs.declared.fault.Fault.{Fault}
@@ -8,15 +8,16 @@ use Rattle.aud_cert.specs.Certificate.{CertificateSeen}
 use Rattle.aud_cert.specs.Text.{text_of}
 use Rattle.aud_maker.specs.Made.{IsMade}
 use Rattle.aud_maker.specs.Faults as maker
+use Rattle.aud_check.specs.declared.certificate.Accepted.{Accepted}
 use Rattle.aud_check.specs.declared.refusal.Refusal.{Refusal}
 use Rattle.aud_check.specs.declared.refusal.Refusal.TheVariants as check
 use Rattle.aud_check.specs.Refusals.{IsFirst, IsAccepted}
-use Rattle.aud_app.specs.declared.verdict.Counts.{Counts}
 use Rattle.aud_app.specs.declared.verdict.Verdict.{Verdict}
 use Rattle.aud_app.specs.declared.verdict.Verdict.TheVariants.{Yes, No}
 use Rattle.aud_app.specs.declared.verdict.Entry.{Entry}
 use Rattle.aud_app.specs.declared.judge.Judged.{Judged}
 use Rattle.aud_app.specs.declared.judge.Judged.TheVariants.{Shown, Faulty}
+use Rattle.aud_app.specs.OneForEach.{OneForEach}
 use Rattle.aud_app.specs.Verified.{counts_of}
 
 -- the fault of the session whose certificate is refused so; of the other refusals a made certificate has none
@@ -32,7 +33,7 @@ IsFaulty c pid fault =
     ⊎ ((cert : CertificateSeen) × (refusal : Refusal) × IsMade c pid cert × IsFirst c cert refusal × (fault_found refusal ≡ Some fault))
 
 -- the session's certificate is accepted, with these numbers
-abbrev pub IsShown : Cluster → Text → CertificateSeen → Counts → Type 0
+abbrev pub IsShown : Cluster → Text → CertificateSeen → Accepted → Type 0
 IsShown c pid cert counts = IsMade c pid cert × IsAccepted c cert × (counts ≡ counts_of c cert)
 
 -- what is found of a session
@@ -51,17 +52,13 @@ IsEntry c pid entry = (entry.pid ≡ pid) × IsVerdict c pid entry.verdict
 
 -- the answers on these sessions, one for each, in order
 abbrev pub AreVerdicts : Cluster → List Text → List Entry → Type 0
-AreVerdicts c [] [] = Unit {0}
-AreVerdicts c (pid ∷ pids) (entry ∷ entries) = IsEntry c pid entry × AreVerdicts c pids entries
-AreVerdicts c _ _ = ⊥
+AreVerdicts c = OneForEach (IsEntry c)
 
 -- the text of the session's certificate, where the verdict is yes; none where it is no
 abbrev pub IsProof : Cluster → Text → Option Text → Type 0
-IsProof c pid (Some text) = (cert : CertificateSeen) × (counts : Counts) × IsShown c pid cert counts × (text ≡ text_of cert)
+IsProof c pid (Some text) = (cert : CertificateSeen) × (counts : Accepted) × IsShown c pid cert counts × (text ≡ text_of cert)
 IsProof c pid None = (fault : Fault) × IsFaulty c pid fault
 
 -- the certificates of these sessions, a place for each, in order
 abbrev pub AreProofs : Cluster → List Text → List (Option Text) → Type 0
-AreProofs c [] [] = Unit {0}
-AreProofs c (pid ∷ pids) (proof ∷ proofs) = IsProof c pid proof × AreProofs c pids proofs
-AreProofs c _ _ = ⊥
+AreProofs c = OneForEach (IsProof c)

@@ -1,11 +1,10 @@
 -- The input of a mode: the taps of its bundle, and the certificates where it has some.
-use Rattle.std.specs.Prelude.{◌≡◌, ℕ, ◌==◌, List, [], ◌∷◌, filter, Bool, true, false, not, Option, Some, None, Result, Ok, Err, slice_get}
+use Rattle.std.specs.Prelude.{ℕ, ◌==◌, List, [], ◌∷◌, filter, Bool, false, not, Option, Some, None, Result, Ok, Err}
 use Rattle.aud_tap.specs.declared.line.Line.{Line}
 use Rattle.aud_tap.specs.declared.fault.ReadFault.{ReadFault}
 use Rattle.aud_tap.specs.declared.taps.Tap.{Tap}
 use Rattle.aud_tap.specs.Lines.{lines_of}
 use Rattle.aud_tap.specs.Bundle.{taps_of}
-use Rattle.aud_node.specs.Names.{place_of}
 use Rattle.aud_app.specs.declared.input.Layout.{Layout}
 use Rattle.aud_app.specs.declared.input.Layout.TheVariants.{Bundle, BundleAndCertificates}
 
@@ -50,7 +49,3 @@ unless_cut (Some fault) (Err earlier) = Err earlier
 -- the taps and the certificates of an input, or its first refused line
 abbrev pub input_of : Layout → List ℕ → Result InputSeen ReadFault
 input_of layout bytes = unless_cut (lines_of bytes).fault (parts_of layout (lines_of bytes).lines)
-
--- each tap is the first with its name
-abbrev pub AreNamedOnce : List Tap → Type 0
-AreNamedOnce taps = (place : ℕ) (tap : Tap) → slice_get taps place ≡ Some tap → place_of taps tap.name ≡ Some place

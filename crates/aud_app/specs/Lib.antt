@@ -1,9 +1,10 @@
 pub mod Watched
 pub mod Written
+pub mod OneForEach
 pub mod Input
 pub mod Verdict
 pub mod Report
-pub mod Certified
+pub mod CertificateLines
 pub mod Verified
 pub mod Decided
 pub mod Output

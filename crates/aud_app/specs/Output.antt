@@ -1,13 +1,13 @@
 -- What a run writes for its input, and how it ends.
-use Rattle.std.specs.Prelude.{◌≡◌, ◌==◌, ℕ, List, length, count_by, if◌then◌else◌, Option, is_some, IfSome, Result, Ok, Err}
+use Rattle.std.specs.Prelude.{◌≡◌, ℕ, List, Bool, if◌then◌else◌, Option, is_some, IfSome, Result, Ok, Err}
 use Rattle.std.specs.List.{list_all}
 use Rattle.std.specs.Io.KnownBytes.{Appends}
 use Rattle.aud_tap.specs.declared.fault.InputCode.{InputCode}
 use Rattle.aud_tap.specs.declared.fault.ReadFault.{ReadFault}
 use Rattle.aud_tap.specs.declared.fault.ReadFault.TheVariants.{Input, Memory}
-use Rattle.aud_tap.specs.declared.taps.Tap.{Tap}
+use Rattle.aud_tap.specs.declared.line.Line.{Line}
 use Rattle.aud_node.specs.Stream.{Text}
-use Rattle.aud_node.specs.Cluster.{cluster_of}
+use Rattle.aud_node.specs.Cluster.{Cluster, cluster_of}
 use Rattle.aud_maker.specs.Sessions.{sessions_of}
 use Rattle.aud_app.specs.declared.choice.Mode.{Mode}
 use Rattle.aud_app.specs.declared.choice.Mode.TheVariants.{Audit, Prove, Verify}
@@ -16,11 +16,11 @@ use Rattle.aud_app.specs.declared.input.Layout.TheVariants.{Bundle, BundleAndCer
 use Rattle.aud_app.specs.declared.program.Status.{Status}
 use Rattle.aud_app.specs.declared.program.Status.TheVariants.{AllYes, SomeNo, Refused}
 use Rattle.aud_app.specs.declared.verdict.Entry.{Entry}
-use Rattle.aud_app.specs.declared.answer.Certified.{Certified}
+use Rattle.aud_app.specs.declared.answer.Answered.{Answered}
 use Rattle.aud_app.specs.Input.{InputSeen, input_of}
 use Rattle.aud_app.specs.Verdict.{is_yes}
 use Rattle.aud_app.specs.Report.{report_text, refusal_line}
-use Rattle.aud_app.specs.Certified.{is_accepted, verify_text, prove_text}
+use Rattle.aud_app.specs.CertificateLines.{is_accepted, verify_text, prove_text}
 use Rattle.aud_app.specs.Verified.{AreAnswered}
 use Rattle.aud_app.specs.Decided.{AreVerdicts, AreProofs}
 use Rattle.aud_app.specs.Written.{AppendsFront}
@@ -30,17 +30,17 @@ pub record OutputSeen : Type 0 where
   pub status : Status
   pub text : List ℕ
 
--- how a run ends where so many of all answers are good
-abbrev pub status_of : ℕ → ℕ → Status
-status_of good all = if good == all then AllYes else SomeNo
+-- how a run ends whose answers are all good, or are not
+abbrev pub status_of : Bool → Status
+status_of are_good = if are_good then AllYes else SomeNo
 
 -- the output of an audit with these answers
 abbrev pub report_of : List Entry → OutputSeen
-report_of entries = record { status = status_of (count_by is_yes entries) (length entries); text = report_text entries }
+report_of entries = record { status = status_of (list_all is_yes entries); text = report_text entries }
 
 -- the output on certificates with these answers
-abbrev pub verification_of : List Certified → OutputSeen
-verification_of answers = record { status = status_of (count_by is_accepted answers) (length answers); text = verify_text answers }
+abbrev pub verification_of : List Answered → OutputSeen
+verification_of answers = record { status = status_of (list_all is_accepted answers); text = verify_text answers }
 
 -- the output where this is the first refused line
 abbrev pub refusal_of : ℕ → InputCode → OutputSeen
@@ -48,25 +48,25 @@ refusal_of n code = record { status = Refused; text = refusal_line n code }
 
 -- the output with these certificates, a place for each session
 abbrev pub proving_of : List (Option Text) → OutputSeen
-proving_of proofs = record { status = if list_all is_some proofs then AllYes else SomeNo; text = prove_text proofs }
+proving_of proofs = record { status = status_of (list_all is_some proofs); text = prove_text proofs }
 
--- the output of an audit of these taps: the report of the verdicts on all sessions, in the order of their first mentions
-abbrev pub IsReport : List Tap → OutputSeen → Type 0
-IsReport taps output = (entries : List Entry) × AreVerdicts (cluster_of taps) (sessions_of (cluster_of taps)) entries × (output ≡ report_of entries)
+-- the output of an audit: the report of the verdicts on all sessions, in the order of their first mentions
+abbrev pub IsReport : Cluster → OutputSeen → Type 0
+IsReport c output = (entries : List Entry) × AreVerdicts c (sessions_of c) entries × (output ≡ report_of entries)
 
--- the certificates of these taps: those of all sessions that are answered yes, in the order of their first mentions
-abbrev pub IsProving : List Tap → OutputSeen → Type 0
-IsProving taps output = (proofs : List (Option Text)) × AreProofs (cluster_of taps) (sessions_of (cluster_of taps)) proofs × (output ≡ proving_of proofs)
+-- the certificates of all sessions that are answered yes, in the order of their first mentions
+abbrev pub IsProving : Cluster → OutputSeen → Type 0
+IsProving c output = (proofs : List (Option Text)) × AreProofs c (sessions_of c) proofs × (output ≡ proving_of proofs)
 
--- the output on the certificates of an input
-abbrev pub IsVerification : InputSeen → OutputSeen → Type 0
-IsVerification input output = (answers : List Certified) × AreAnswered (cluster_of input.taps) input.certificates answers × (output ≡ verification_of answers)
+-- the output on these certificates: an answer on each, in order
+abbrev pub IsVerification : Cluster → List Line → OutputSeen → Type 0
+IsVerification c certificates output = (answers : List Answered) × AreAnswered c certificates answers × (output ≡ verification_of answers)
 
 -- the output of a mode over what was read
 abbrev pub IsOutputOver : Mode → Result InputSeen ReadFault → OutputSeen → Type 0
-IsOutputOver Audit (Ok input) output = IsReport input.taps output
-IsOutputOver Prove (Ok input) output = IsProving input.taps output
-IsOutputOver Verify (Ok input) output = IsVerification input output
+IsOutputOver Audit (Ok input) output = IsReport (cluster_of input.taps) output
+IsOutputOver Prove (Ok input) output = IsProving (cluster_of input.taps) output
+IsOutputOver Verify (Ok input) output = IsVerification (cluster_of input.taps) input.certificates output
 IsOutputOver mode (Err (Input n code)) output = output ≡ refusal_of n code
 IsOutputOver mode (Err Memory) output = ⊥
 

@@ -1,4 +1,4 @@
--- The lines of the output.
+-- The report, and what is written in its place where a line is refused.
 use Rattle.std.specs.Prelude.{ℕ, ◌-◌, List, ◌++◌, codes, decimal, flat_map, length, count_by}
 use Rattle.aud_tap.specs.declared.fault.InputCode.{InputCode}
 use Rattle.aud_tap.specs.declared.fault.InputCode.TheVariants.{LineTooLong, NoTapName, NotJson, NoHeader, UnknownKind, Field, Limit, SecondStream, OffsetTwice, HeaderTwice, Version}
@@ -6,20 +6,21 @@ use Rattle.aud_app.specs.declared.verdict.Verdict.{Verdict}
 use Rattle.aud_app.specs.declared.verdict.Verdict.TheVariants.{Yes, No}
 use Rattle.aud_app.specs.declared.verdict.Entry.{Entry}
 use Rattle.aud_cert.specs.Fault.{fault_text}
-use Rattle.aud_app.specs.Verdict.{counts_text, is_yes}
+use Rattle.aud_check.specs.Words.{accepted_text}
+use Rattle.aud_app.specs.Verdict.{is_yes}
 
 -- the line of a session
 abbrev pub line_of : List ℕ → Verdict → List ℕ
-line_of pid (Yes counts) = codes "yes " ++ pid ++ codes " " ++ counts_text counts ++ codes "\n"
+line_of pid (Yes counts) = codes "yes " ++ pid ++ codes " " ++ accepted_text counts ++ codes "\n"
 line_of pid (No fault) = codes "no " ++ pid ++ codes " " ++ fault_text fault ++ codes "\n"
 
 -- the last line: how many sessions there are, and how many of them are answered yes and no
 abbrev pub totals_line : List Entry → List ℕ
-totals_line es = codes "sessions=" ++ decimal (length es) ++ codes " yes=" ++ decimal (count_by is_yes es) ++ codes " no=" ++ decimal (length es - count_by is_yes es) ++ codes "\n"
+totals_line entries = codes "sessions=" ++ decimal (length entries) ++ codes " yes=" ++ decimal (count_by is_yes entries) ++ codes " no=" ++ decimal (length entries - count_by is_yes entries) ++ codes "\n"
 
 -- the report: a line for each session, and the counts
 abbrev pub report_text : List Entry → List ℕ
-report_text es = flat_map (λ e. line_of e.pid e.verdict) es ++ totals_line es
+report_text entries = flat_map (λ entry. line_of entry.pid entry.verdict) entries ++ totals_line entries
 
 -- the name of a refusal
 abbrev pub code_text : InputCode → List ℕ

@@ -1,7 +1,8 @@
 //! The taps of an input, and its certificates.
 ghost use Rattle.std.specs.Prelude.{◌≡◌, ◌≢◌, Ok, Err, IfOk, IfErr};
 ghost use Rattle.aud_tap.specs.Lines.{lines_of};
-ghost use Rattle.aud_app.specs.Input.{opens_object, is_certificate, parts_of, input_of, AreNamedOnce};
+ghost use Rattle.aud_app.specs.Input.{opens_object, is_certificate, parts_of, input_of};
+ghost use Rattle.aud_node.specs.Names.{AreNamedOnce};
 
 use aud_tap::{BundleReader, Line, ReadFault, Splitter, Taps};
 use std::alloc::Global;
@@ -46,13 +47,13 @@ impl Model for Input {
     ghost view = { λ s. record { taps = s.taps; certificates = s.certificates.items } };
 }
 
-/// The lines of an input.
-fn lines_of_input(alloc: Global, bytes: &[u8]) -> Result<InputLines, ReadFault>
-    ensures lines { IfOk result (λ cut. cut ≡ lines_of bytes.now) }
+/// The lines of an input, whose bytes are let go.
+fn lines_of_input(alloc: Global, bytes: Vec<u8>) -> Result<InputLines, ReadFault>
+    ensures lines { IfOk result (λ cut. cut ≡ lines_of bytes.items) }
     ensures memory { IfErr result (λ e. e ≡ ReadFault.Memory) }
 {
     let mut splitter = Splitter::new(alloc);
-    match splitter.feed(bytes) {
+    match splitter.feed(&bytes) {
         Ok(()) => match splitter.finish() {
             Ok(lines) => Ok(InputLines { lines, fault: None }),
             Err(_) => Err(ReadFault::Memory),
@@ -109,10 +110,10 @@ fn read_lines(alloc: Global, layout: Layout, lines: Vec<Line>) -> Result<Input, 
 
 /// The taps and the certificates of the input, or the first refused line: also where a later line
 /// is too long. No two taps have one name.
-pub fn read_input(alloc: Global, layout: Layout, bytes: &[u8]) -> Result<Input, ReadFault>
-    ensures read { IfOk result (λ input. input_of layout bytes.now ≡ Ok input) }
+pub fn read_input(alloc: Global, layout: Layout, bytes: Vec<u8>) -> Result<Input, ReadFault>
+    ensures read { IfOk result (λ input. input_of layout bytes.items ≡ Ok input) }
     ensures names { IfOk result (λ input. AreNamedOnce input.taps) }
-    ensures refused { IfErr result (λ e. e ≢ ReadFault.Memory → input_of layout bytes.now ≡ Err e) }
+    ensures refused { IfErr result (λ e. e ≢ ReadFault.Memory → input_of layout bytes.items ≡ Err e) }
 {
     let InputLines { lines, fault } = lines_of_input(alloc, bytes)?;
     match read_lines(alloc, layout, lines) {

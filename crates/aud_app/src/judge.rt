@@ -1,11 +1,11 @@
 //! What is found of a session: its certificate is made, and then checked.
-ghost use Rattle.std.specs.Prelude.{◌≡◌, ◌≢◌, IfOk};
-ghost use Rattle.aud_app.specs.Input.{AreNamedOnce};
-ghost use Rattle.aud_app.specs.Decided.{fault_found, IsJudged, IsVerdict};
+ghost use Rattle.std.specs.Prelude.{IfOk};
+ghost use Rattle.aud_node.specs.Names.{AreNamedOnce};
+ghost use Rattle.aud_app.specs.Decided.{IsJudged, IsVerdict};
 
-use crate::verdict::{Counts, Verdict};
+use crate::verdict::Verdict;
 use aud_cert::{Certificate, Fault};
-use aud_check::{Refusal, check};
+use aud_check::{Accepted, Refusal, check};
 use aud_maker::{MakeFault, made_is_over, make};
 use aud_node::Logs;
 use std::alloc::{AllocError, Global};
@@ -14,25 +14,9 @@ use std::alloc::{AllocError, Global};
 #[derive(Drop)]
 pub enum Judged<'a> {
     /// The certificate that shows that the session received what was due to it, and how much.
-    Shown(Certificate<'a>, Counts),
+    Shown(Certificate<'a>, Accepted),
     /// The first fault that holds.
     Faulty(Fault),
-}
-
-/// The fault of the session whose certificate is refused so.
-fn fault_found(refusal: Refusal) -> Result<Option<Fault>, AllocError>
-    ensures { IfOk result (λ found. (found ≡ fault_found refusal) × (refusal ≢ Refusal.Memory)) }
-{
-    match refusal {
-        Refusal::Names => Ok(Some(Fault::Names)),
-        Refusal::Received(fault) => Ok(Some(fault)),
-        Refusal::Memory => Err(AllocError),
-        Refusal::NotItsTurn => Ok(None),
-        Refusal::EndInside => Ok(None),
-        Refusal::NoEnd => Ok(None),
-        Refusal::Cursor => Ok(None),
-        Refusal::Span => Ok(None),
-    }
 }
 
 /// What is found of a session.
@@ -47,20 +31,14 @@ pub fn judge<'a>(alloc: Global, logs: &Logs<'a>, pid: &str) -> Result<Judged<'a>
     };
     made_is_over();
     match check(alloc, logs, &cert) {
-        Ok(accepted) => {
-            let counts = Counts {
-                got: accepted.got,
-                tail: accepted.tail,
-                turns: accepted.turns,
-            };
-            Ok(Judged::Shown(cert, counts))
-        }
-        Err(refusal) => {
-            let Some(fault) = fault_found(refusal)? else {
-                unreachable!()
-            };
-            Ok(Judged::Faulty(fault))
-        }
+        Ok(counts) => Ok(Judged::Shown(cert, counts)),
+        Err(refusal) => match refusal {
+            Refusal::Names => Ok(Judged::Faulty(Fault::Names)),
+            Refusal::Received(fault) => Ok(Judged::Faulty(fault)),
+            Refusal::Memory => Err(AllocError),
+            // The turns and the spans of a certificate that was made are the session's.
+            _ => unreachable!(),
+        },
     }
 }
 

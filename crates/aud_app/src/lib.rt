@@ -5,7 +5,7 @@
 #![tactic(auto)]
 
 mod answer;
-mod certified;
+mod certificate_lines;
 mod choice;
 mod input;
 mod judge;

@@ -1,19 +1,19 @@
 //! What is written for an input.
-ghost use Rattle.std.specs.Prelude.{◌≡◌, IfOk};
-ghost use Rattle.aud_app.specs.Input.{AreNamedOnce};
-ghost use Rattle.aud_app.specs.Output.{status_of, report_of, refusal_of, proving_of, verification_of, IsReport, IsProving, IsVerification, IsOutput, layout_of};
+ghost use Rattle.std.specs.Prelude.{◌≡◌, IfOk, Ok};
+ghost use Rattle.aud_node.specs.Names.{AreNamedOnce};
+ghost use Rattle.aud_app.specs.Output.{status_of, report_of, refusal_of, proving_of, verification_of, IsReport, IsProving, IsVerification, IsOutputOver, IsOutput, layout_of};
 
-use crate::answer::Certified;
-use crate::certified::{are_all_shown, count_accepted, prove_text, verify_text};
+use crate::answer::Answered;
+use crate::certificate_lines::{are_all_accepted, are_all_shown, prove_text, verify_text};
 use crate::choice::Mode;
 use crate::input::{Input, Layout, read_input};
 use crate::program::Status;
-use crate::report::{count_yes, refusal_text, report_text};
+use crate::report::{are_all_yes, refusal_text, report_text};
 use crate::sessions::{decide, prove};
 use crate::verdict::Entry;
 use crate::verify::answers;
 use aud_node::Logs;
-use aud_tap::{InputCode, ReadFault, Taps, Text};
+use aud_tap::{InputCode, Line, ReadFault, Text};
 use std::alloc::{AllocError, Global};
 use std::marker::Model;
 
@@ -33,11 +33,11 @@ impl Model for Output {
     ghost view = { λ o. record { status = o.status; text = string_bytes o.text } };
 }
 
-/// How a run ends where so many of all answers are good.
-fn status_of(good: usize, all: usize) -> Status
-    ensures { result ≡ status_of good all }
+/// How a run ends whose answers are all good, or are not.
+fn status_of(are_good: bool) -> Status
+    ensures { result ≡ status_of are_good }
 {
-    if good == all {
+    if are_good {
         Status::AllYes
     } else {
         Status::SomeNo
@@ -49,19 +49,16 @@ fn report_on(alloc: Global, entries: &[Entry]) -> Result<Output, AllocError>
     ensures { IfOk result (λ o. o ≡ report_of entries.now) }
 {
     let text = report_text(alloc, entries)?;
-    let status = status_of(count_yes(entries), entries.len());
+    let status = status_of(are_all_yes(entries));
     Ok(Output { status, text })
 }
 
-/// The report on the sessions of these taps.
-fn audited(alloc: Global, taps: &Taps) -> Result<Output, AllocError>
-    requires { AreNamedOnce taps.now }
-    ensures { IfOk result (λ o. IsReport taps.now o) }
+/// The report on the sessions of these logs.
+fn audited(alloc: Global, logs: &Logs<'_>) -> Result<Output, AllocError>
+    requires { AreNamedOnce logs.now.taps }
+    ensures { IfOk result (λ o. IsReport logs.now o) }
 {
-    let Ok(logs) = Logs::build(alloc, taps) else {
-        return Err(AllocError);
-    };
-    let entries = decide(alloc, &logs)?;
+    let entries = decide(alloc, logs)?;
     report_on(alloc, &entries)
 }
 
@@ -70,43 +67,33 @@ fn proving_on(alloc: Global, proofs: &[Option<Text>]) -> Result<Output, AllocErr
     ensures { IfOk result (λ o. o ≡ proving_of proofs.now) }
 {
     let text = prove_text(alloc, proofs)?;
-    let status = if are_all_shown(proofs) {
-        Status::AllYes
-    } else {
-        Status::SomeNo
-    };
+    let status = status_of(are_all_shown(proofs));
     Ok(Output { status, text })
 }
 
-/// The certificates of the sessions of these taps.
-fn proved(alloc: Global, taps: &Taps) -> Result<Output, AllocError>
-    requires { AreNamedOnce taps.now }
-    ensures { IfOk result (λ o. IsProving taps.now o) }
+/// The certificates of the sessions of these logs.
+fn proved(alloc: Global, logs: &Logs<'_>) -> Result<Output, AllocError>
+    requires { AreNamedOnce logs.now.taps }
+    ensures { IfOk result (λ o. IsProving logs.now o) }
 {
-    let Ok(logs) = Logs::build(alloc, taps) else {
-        return Err(AllocError);
-    };
-    let proofs = prove(alloc, &logs)?;
+    let proofs = prove(alloc, logs)?;
     proving_on(alloc, &proofs)
 }
 
 /// The text on certificates that are answered.
-fn verification_on(alloc: Global, all: &[Certified]) -> Result<Output, AllocError>
+fn verification_on(alloc: Global, all: &[Answered]) -> Result<Output, AllocError>
     ensures { IfOk result (λ o. o ≡ verification_of all.now) }
 {
     let text = verify_text(alloc, all)?;
-    let status = status_of(count_accepted(all), all.len());
+    let status = status_of(are_all_accepted(all));
     Ok(Output { status, text })
 }
 
-/// The answers on the certificates of an input.
-fn verified(alloc: Global, input: &Input) -> Result<Output, AllocError>
-    ensures { IfOk result (λ o. IsVerification input.now o) }
+/// The answers on these certificates.
+fn verified(alloc: Global, logs: &Logs<'_>, certificates: &[Line]) -> Result<Output, AllocError>
+    ensures { IfOk result (λ o. IsVerification logs.now certificates.now o) }
 {
-    let Ok(logs) = Logs::build(alloc, &input.taps) else {
-        return Err(AllocError);
-    };
-    let all = answers(alloc, &logs, &input.certificates)?;
+    let all = answers(alloc, logs, certificates)?;
     verification_on(alloc, &all)
 }
 
@@ -131,16 +118,27 @@ fn layout_of(mode: Mode) -> Layout
     }
 }
 
-/// What a mode writes for these bytes; nothing but these bytes is looked at.
-pub fn output_of(alloc: Global, mode: Mode, bytes: &[u8]) -> Result<Output, AllocError>
-    ensures { IfOk result (λ o. IsOutput mode bytes.now o) }
+/// What a mode writes for the taps and the certificates of its input.
+fn output_over(alloc: Global, mode: Mode, input: &Input) -> Result<Output, AllocError>
+    requires { AreNamedOnce input.now.taps }
+    ensures { IfOk result (λ o. IsOutputOver mode (Ok input.now) o) }
+{
+    let Ok(logs) = Logs::build(alloc, &input.taps) else {
+        return Err(AllocError);
+    };
+    match mode {
+        Mode::Audit => audited(alloc, &logs),
+        Mode::Prove => proved(alloc, &logs),
+        Mode::Verify => verified(alloc, &logs, &input.certificates),
+    }
+}
+
+/// What a mode writes for these bytes; nothing but these bytes is looked at. They are let go before the logs are made.
+pub fn output_of(alloc: Global, mode: Mode, bytes: Vec<u8>) -> Result<Output, AllocError>
+    ensures { IfOk result (λ o. IsOutput mode bytes.items o) }
 {
     match read_input(alloc, layout_of(mode), bytes) {
-        Ok(input) => match mode {
-            Mode::Audit => audited(alloc, &input.taps),
-            Mode::Prove => proved(alloc, &input.taps),
-            Mode::Verify => verified(alloc, &input),
-        },
+        Ok(input) => output_over(alloc, mode, &input),
         Err(ReadFault::Input(line, code)) => refusal(alloc, line, code),
         Err(ReadFault::Memory) => Err(AllocError),
     }

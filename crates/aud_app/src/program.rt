@@ -36,6 +36,11 @@ pub enum RunFault {
 }
 
 impl From<AllocError> for RunFault {
+    ghost use Rattle.std.specs.Prelude.{◌≡◌};
+    ghost use Rattle.aud_app.specs.declared.program.RunFault.TheVariants.{Memory};
+
+    ghost from_gives = { λ _ e. e ≡ Memory };
+
     fn from(_: AllocError) -> RunFault {
         RunFault::Memory
     }
@@ -65,10 +70,7 @@ pub fn run<H: Wait + Threads, R: Read, W: Write>(
     ensures write { result ≡ Err RunFault.Write → has_failed output.new ≡ true }
 {
     let bytes = read_all(alloc, input)?;
-    let Output { status, text } = match output_of(alloc, options.mode, &bytes) {
-        Ok(made) => made,
-        Err(_) => return Err(RunFault::Memory),
-    };
+    let Output { status, text } = output_of(alloc, options.mode, bytes)?;
     write_out(output, text.as_bytes())?;
     Ok(status)
 }

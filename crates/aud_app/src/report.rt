@@ -1,5 +1,6 @@
-//! The lines of the output.
+//! The report, and what is written in its place where a line is refused.
 ghost use Rattle.std.specs.Prelude.{◌≡◌, ◌++◌, IfOk, OnOk, string_bytes, count_by};
+ghost use Rattle.std.specs.List.{list_all};
 ghost use Rattle.aud_app.specs.Verdict.{is_yes};
 ghost use Rattle.aud_app.specs.Report.{line_of, totals_line, report_text, code_text, refusal_line};
 
@@ -17,11 +18,18 @@ fn push_line(out: &mut String, pid: &str, verdict: &Verdict) -> Result<(), Alloc
     }
 }
 
+/// Whether each answer is yes.
+pub fn are_all_yes(entries: &[Entry]) -> bool
+    ensures { result ≡ list_all is_yes entries.now }
+{
+    entries.iter().all(|entry| entry.is_yes())
+}
+
 /// How many answers are yes.
-pub fn count_yes(entries: &[Entry]) -> usize
+fn count_yes(entries: &[Entry]) -> usize
     ensures { result ≡ count_by is_yes entries.now }
 {
-    entries.iter().filter(|e| e.is_yes()).count()
+    entries.iter().filter(|entry| entry.is_yes()).count()
 }
 
 /// Puts the counts at the end.

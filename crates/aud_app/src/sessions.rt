@@ -1,7 +1,7 @@
 //! The verdicts on the sessions, and their certificates.
 ghost use Rattle.std.specs.Prelude.{IfOk, map, string_bytes};
 ghost use Rattle.aud_maker.specs.Sessions.{sessions_of};
-ghost use Rattle.aud_app.specs.Input.{AreNamedOnce};
+ghost use Rattle.aud_node.specs.Names.{AreNamedOnce};
 ghost use Rattle.aud_app.specs.Decided.{AreVerdicts, IsProof, AreProofs};
 
 use crate::judge::{Judged, judge, verdict};

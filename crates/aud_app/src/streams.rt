@@ -27,9 +27,7 @@ pub fn read_all<R: Read>(alloc: Global, input: &mut Watched<R>) -> Result<Vec<u8
         match input.read(&mut piece) {
             Ok(0) => return Ok(all),
             Ok(n) => {
-                if all.extend_from_slice(&piece[..n]).is_err() {
-                    return Err(RunFault::Memory);
-                }
+                all.extend_from_slice(&piece[..n])?;
             }
             Err(_) => return Err(RunFault::Read),
         }

@@ -107,6 +107,7 @@ fn workers_of(matches: &ArgMatches<'_>) -> Option<u8>
 {
     let (_, audit) = matches.subcommand()?;
     let workers = audit.get_one::<u8>("workers")?;
+    // The parser refuses other numbers, but its contract doesn't say so here.
     if 1 <= workers && workers <= 64 {
         Some(workers)
     } else {

@@ -3,7 +3,7 @@ use aud_tap::Text;
 use std::alloc::AllocError;
 use std::fmt;
 
-/// Why a session is not answered yes. docs/FORMAT.md says when each holds.
+/// Why a session is not answered yes: the first of these that holds. docs/MODEL.md says when each does.
 #[derive(Drop)]
 pub enum Fault {
     /// No node opened the session.
@@ -30,7 +30,7 @@ pub enum Fault {
     Swapped(Text),
     /// The event of this offset was not received, though a later one was.
     Lost(Text),
-    /// The recovery on this connection asked for another position than it had to.
+    /// The recovery on the connection with this number asked for another position than it had to.
     Window(u64),
     /// So many events that were due, behind the last one received, did not come.
     Tail(u64),

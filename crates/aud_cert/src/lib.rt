@@ -5,7 +5,6 @@
 
 mod certificate;
 mod fault;
-mod form;
 mod lend;
 mod read;
 mod told;

@@ -11,11 +11,11 @@ ghost use Rattle.aud_cert.specs.Reading.{json_of, is_formed, certificate_of};
 
 use crate::certificate::Certificate;
 use crate::fault::CertFault;
-use crate::form::{is_pid, is_tap_name};
 use crate::lend::certificate;
 use crate::told::{CertificateTold, TurnTold, told};
 use crate::within::is_within;
 use aud_node::Logs;
+use aud_tap::{is_session_id, is_tap_name};
 use serde_json::{Category, Value};
 use std::alloc::Global;
 
@@ -47,7 +47,7 @@ fn is_formed(told: &CertificateTold<'_, '_>) -> bool
     if told.turns.as_slice().is_empty() {
         return false;
     }
-    if !is_pid(told.pid) || !is_tap_name(told.client) {
+    if !is_session_id(told.pid) || !is_tap_name(told.client) {
         return false;
     }
     are_nodes_named(told.turns.as_slice())
@@ -55,7 +55,8 @@ fn is_formed(told: &CertificateTold<'_, '_>) -> bool
 
 /// The certificate of a text, which lends its names and records from the logs. Unknown keys are passed over, and of a
 /// key that stands twice the last value counts. `Syntax` comes before `UnknownTap`, and that before `Range`, wherever
-/// in the text they are found; docs/FORMAT.md says when each holds.
+/// in the text they are found; docs/FORMAT.md says when each holds. `Memory` may come in place of each. Rooms and the pid
+/// are copied; whether the spans and the turns are the session's is not asked.
 #[tactic(auto, unfolding(crate::specs::Reading::certificate_of))]
 pub fn read_cert<'a>(
     alloc: Global,

@@ -64,7 +64,8 @@ fn certificate_json(alloc: Global, cert: &Certificate<'_>) -> Result<String, All
     value.to_string(alloc)
 }
 
-/// The text of a certificate: one line of JSON without blanks, its keys in byte order. Only want of memory is refused.
+/// The text of a certificate: one line of JSON without blanks and without a newline, its keys in byte order. Its records
+/// are not written. The one error is `Memory`.
 pub fn write_cert(alloc: Global, cert: &Certificate<'_>) -> Result<String, CertFault>
     ensures written { IfOk result (λ text. string_bytes text ≡ text_of cert.now) }
     ensures refused { IfErr result (λ e. e ≡ Memory) }

@@ -4,7 +4,7 @@ use Rattle.std.specs.List.{All}
 use Rattle.std.specs.Str.{bytes_eq}
 use Rattle.std.specs.Cmp.Lexicographic.{bytes_decides}
 use Rattle.std.proofs.lemmas.Bool.{eqb-true}
-use Rattle.std.proofs.lemmas.List.Elements.{All-head, All-tail}
+use Rattle.std.proofs.lemmas.List.Elements.{All-head, All-tail, All-nil, All-cons}
 use Rattle.aud_tap.specs.declared.records.NodeRec.{NodeRec}
 use Rattle.aud_tap.specs.declared.records.NodeRec.TheVariants.{Start, Take, Opened, Join, Leave, Broke, Back, Gone}
 use Rattle.aud_node.specs.Lists.{between}
@@ -13,13 +13,13 @@ use Rattle.aud_node.specs.Cluster.{Cluster}
 use Rattle.aud_node.specs.TurnRecords.{begins_turn}
 use Rattle.aud_rooms.specs.Turns.{Who, IsTurn, AreTurns, beginning, turn_end, slice_of}
 use Rattle.aud_cert.specs.Certificate.{TurnSeen, CertificateSeen, IsTurnOver, turn_at, log_named}
+use Rattle.aud_rooms.specs.TurnPlaces.{IsInOrder}
 use Rattle.aud_rooms.specs.TurnsDue.{greatest_high}
 use Rattle.aud_rooms.specs.Spans.{first_low}
 use Rattle.aud_check.specs.Shown.{opened_sid, opened_nsp, who_in, who_of, shown_low, shown_high, slices_at}
 use Rattle.aud_check.specs.TurnRefusals.{is_begun_by, IsTurnAccepted, AreTurnsAccepted}
 use Rattle.aud_check.proofs.Slices.{within_at, between-more}
 use Rattle.aud_check.proofs.TurnRefusals.{begun-some, from_within, from_to}
-use Rattle.aud_check.proofs.WalkTurns.{Stands, AllStand}
 
 same_text : (a b : Text) → bytes_eq a b ≡ true → a ≡ b
 same_text a b e = (bytes_decides a b).0 e
@@ -74,19 +74,8 @@ module _ (c : Cluster) (pid : Text) (k : ℕ) (t : TurnSeen) (later : List TurnS
   pub first_of_recs : slice_get t.recs 0 ≡ Some first.0
   first_of_recs = ap (λ recs. slice_get recs 0) recs_are
 
-  pub stands : Stands c.stream (log_named c t.node) pid t
-  stands =
-      record {
-        some = below;
-        within = is.ends.within;
-        ordered = is.cursors.ordered;
-        first = first.0;
-        at = first.1;
-        number = k;
-        begins = begins;
-        low_is = is.cursors.low_is;
-        high_is = is.cursors.high_is;
-      }
+  pub in_order : IsInOrder c (turn_at c t)
+  in_order = record { is_within = record { some = below; within = is.ends.within }; ordered = is.cursors.ordered }
 
   -- a turn of the session, where its first record is the one that begins it
   pub is_turn : (who : Who) → who.pid ≡ pid → first.0 ≡ beginning who k → IsTurn c who k (turn_at c t) (map (turn_at c) later)
@@ -121,12 +110,13 @@ pub all_accepted : (c : Cluster) (pid : Text) (turns : List TurnSeen) → AreTur
 all_accepted c pid turns all =
     accepted_from c pid turns 0 (λ i t at. let same : i ≡ 0 + i = omega arith in subst (λ n. IsTurnAccepted c pid n t (drop (suc i) turns)) same (all i t at))
 
-pub all_stand : (c : Cluster) (pid : Text) (k : ℕ) (turns : List TurnSeen) → All (IsTurnOver c) turns → AcceptedFrom c pid k turns → AllStand c pid turns
-all_stand c pid k [] over all = tt
-all_stand c pid k (t ∷ later) over (first, others) = (
-  stands c pid k t later (All-head (IsTurnOver c) t later over) first,
-  all_stand c pid (suc k) later (All-tail (IsTurnOver c) t later over) others,
-)
+-- they stand in ordered logs
+pub all_in_order : (c : Cluster) (pid : Text) (k : ℕ) (turns : List TurnSeen) → All (IsTurnOver c) turns → AcceptedFrom c pid k turns → All (IsInOrder c) (map (turn_at c) turns)
+all_in_order c pid k [] over all = All-nil (IsInOrder c)
+all_in_order c pid k (t ∷ later) over (first, others) =
+    All-cons (IsInOrder c) (turn_at c t) (map (turn_at c) later)
+    (in_order c pid k t later (All-head (IsTurnOver c) t later over) first)
+    (all_in_order c pid (suc k) later (All-tail (IsTurnOver c) t later over) others)
 
 -- later turns are turns of the session
 later_turns : (c : Cluster) (who : Who) (k : ℕ) (turns : List TurnSeen) → All (IsTurnOver c) turns → AcceptedFrom c who.pid (suc k) turns → AreTurns c who (suc k) (map (turn_at c) turns)
@@ -153,9 +143,9 @@ pub are_turns : (c : Cluster) (cert : CertificateSeen) → All (IsTurnOver c) ce
 are_turns c cert over all = turns_named c cert.pid cert.turns over all
 
 -- where accepted turns start, and how far they reach
-pub lows : (c : Cluster) (pid : Text) (k : ℕ) (turns : List TurnSeen) → 0 < length turns → AcceptedFrom c pid k turns → shown_low turns ≡ first_low (slices_at c turns)
-lows c pid k [] some all = absurd (omega arith)
-lows c pid k (t ∷ later) some (is, others) = is.cursors.low_is
+pub lows : (c : Cluster) (pid : Text) (k : ℕ) (turns : List TurnSeen) → AcceptedFrom c pid k turns → shown_low turns ≡ first_low (slices_at c turns)
+lows c pid k [] all = refl
+lows c pid k (t ∷ later) (is, others) = is.cursors.low_is
 
 pub highs : (c : Cluster) (pid : Text) (k : ℕ) (turns : List TurnSeen) → AcceptedFrom c pid k turns → shown_high turns ≡ greatest_high (slices_at c turns)
 highs c pid k [] all = refl

@@ -1,8 +1,6 @@
 -- How far two lists agree.
-use Rattle.std.proofs.Common.{◌≡◌, ◌<◌, ◌≤◌, ◌+◌, ◌↔◌, ℕ, zero, suc, true, false, cond, List, [], ◌∷◌, ◌++◌, length, drop, Option, Some, None, slice_get, get_or, refl, sym, ap, ◌∙◌, nat_eq, arith, length-append}
+use Rattle.std.proofs.Common.{◌≡◌, ◌<◌, ◌≤◌, ◌+◌, ◌↔◌, ℕ, zero, suc, true, false, cond, List, [], ◌∷◌, ◌++◌, length, drop, Option, Some, None, slice_get, refl, sym, ap, ◌∙◌, nat_eq, arith}
 use Rattle.std.proofs.lemmas.Option.{none-some, slice_get_past}
-use Rattle.std.proofs.lemmas.List.Sums.{common_prefix_len-drop_no, common_prefix_len-drop_yes}
-use Rattle.std.proofs.Math.Seq.{drop-append_seam}
 use Rattle.aud_merge.specs.ByTurns.{IsPrefixOf}
 use Rattle.aud_check.specs.Compare.{agreed, mismatch, wrong_there, wrong_from}
 
@@ -52,25 +50,6 @@ mismatch-none received due = (there, back)
     back (rest, is) =
         let all : agreed received due ≡ length received = ap (agreed received) (sym is) ∙ agreed_of_prefix received rest in
         ap (wrong_from received due (agreed received due)) (slice_get_past received (agreed received due) (omega arith))
-
-pub prefix-counts : (received due : List ℕ) → IsPrefixOf received due → length received + length (drop (length received) due) ≡ length due
-prefix-counts received due (rest, is) =
-    ap (λ ds. length received + length (drop (length received) ds)) (sym is)
-    ∙ ap (λ ds. length received + length ds) (drop-append_seam received rest)
-    ∙ sums received rest
-    ∙ ap length is
-  where
-    sums : (xs ys : List ℕ) → length xs + length ys ≡ length (xs ++ ys)
-    sums xs ys = sym (length-append xs ys)
-
--- at a place that both lists reach
-pub agreed_step : (xs ys : List ℕ) (i : ℕ) → i < length xs → i < length ys → nat_eq (get_or xs i 0) (get_or ys i 0) ≡ true
-    → agreed xs ys ≡ i + agreed (drop i xs) (drop i ys) → agreed xs ys ≡ (i + 1) + agreed (drop (i + 1) xs) (drop (i + 1) ys)
-agreed_step xs ys i a b e is = is ∙ ap (λ n. i + n) (common_prefix_len-drop_yes nat_eq xs ys i 0 0 a b e) ∙ omega arith
-
-pub agreed_stop : (xs ys : List ℕ) (i : ℕ) → i < length xs → i < length ys → nat_eq (get_or xs i 0) (get_or ys i 0) ≡ false
-    → agreed xs ys ≡ i + agreed (drop i xs) (drop i ys) → i ≡ agreed xs ys
-agreed_stop xs ys i a b e is = let z = common_prefix_len-drop_no nat_eq xs ys i 0 0 a b e in omega arith
 
 agreed_empty : (xs : List ℕ) → agreed xs [] ≡ 0
 agreed_empty [] = refl

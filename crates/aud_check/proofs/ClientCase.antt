@@ -1,5 +1,5 @@
 -- What a client received, by its stays.
-use Rattle.std.proofs.Common.{◌≡◌, ◌≤◌, ℕ, Bool, true, false, ◌&&◌, not, List, [], ◌∷◌, length, Some, None, refl, sym, ap, ◌∙◌, arith, true≢false, length-append}
+use Rattle.std.proofs.Common.{◌≡◌, ℕ, Bool, true, false, ◌&&◌, not, List, [], ◌∷◌, Some, refl, sym, ap, ◌∙◌, true≢false}
 use Rattle.std.specs.List.{list_all}
 use Rattle.std.specs.Str.{bytes_eq}
 use Rattle.aud_tap.specs.declared.records.StreamRec.{StreamRec}
@@ -11,7 +11,6 @@ use Rattle.aud_rooms.specs.Turns.{Who}
 use Rattle.aud_cert.specs.Certificate.{place_named}
 use Rattle.aud_client.specs.Told.{StaySeen}
 use Rattle.aud_client.specs.Received.{received_of, received_list, stays_naming, frames_by_stay, are_in}
-use Rattle.aud_merge.specs.ByTurns.{IsPrefixOf}
 use Rattle.aud_check.specs.Client.{case_for}
 use Rattle.aud_check.specs.Faults.{Case}
 use Rattle.aud_check.specs.NamedStays.{are_of_session, is_of_session, is_empty, has_sid}
@@ -52,10 +51,6 @@ module _ (c : Cluster) (client pid : Text) (due : List ℕ) where
   found : (recs : List ClientRec) → client_at c (place_named c client) ≡ Some recs → case_for c client pid due ≡ case_with recs
   found recs at = ap (λ o. case_with (recs_or_none o)) at
 
-  -- no tap
-  pub no_stays : client_at c (place_named c client) ≡ None → (who : Who) → are_of_session who (case_for c client pid due).stays ≡ false
-  no_stays at who = ap (λ o. are_of_session who (case_with (recs_or_none o)).stays) at
-
   pub stays_are : (recs : List ClientRec) → client_at c (place_named c client) ≡ Some recs → (case_for c client pid due).stays ≡ stays_naming pid (received_of c.stream recs).stays
   stays_are recs at = ap (λ (case : Case). case.stays) (found recs at)
 
@@ -68,7 +63,3 @@ module _ (c : Cluster) (client pid : Text) (due : List ℕ) where
       found recs at
       ∙ ap (λ fs. record { stream = c.stream; told = received_of c.stream recs; stays = stays_naming pid (received_of c.stream recs).stays; frames = fs; due = due })
       (law c.stream recs pid who.nsp (one_namespace who (stays_naming pid (received_of c.stream recs).stays) named))
-
--- a prefix is no longer
-pub prefix_within : (xs ys : List ℕ) → IsPrefixOf xs ys → length xs ≤ length ys
-prefix_within xs ys (rest, is) = let long = sym (length-append xs rest) ∙ ap length is in omega (arith, long)

@@ -5,7 +5,12 @@ use Rattle.std.proofs.lemmas.Bool.{cases_lt, le-leb, lt-leb}
 use Rattle.aud_client.specs.Told.{FrameSeen}
 use Rattle.aud_check.specs.Ascending.{IsAscending, is_cut, is_cut_or_not}
 use Rattle.aud_check.specs.Frames.{is_between}
-use Rattle.aud_check.proofs.Numbers.{lt_true, lt_false}
+
+lt_true : (a b : ℕ) → a < b → nat_lt a b ≡ true
+lt_true a b h = le-leb (suc a) b (omega arith)
+
+lt_false : (a b : ℕ) → b ≤ a → nat_lt a b ≡ false
+lt_false a b h = lt-leb (suc a) b (omega arith)
 
 none_end : (b : Bool) → (b && false) ≡ false
 none_end true = refl
@@ -39,10 +44,6 @@ back_some q (x ∷ xs) zero b h = ap (λ b. b && list_all (λ p. nat_lt q p) xs)
 back_some q (x ∷ xs) (suc count) b h = back_some q xs count (omega arith) h
 
 module _ (xs : List ℕ) (count q : ℕ) (ascending : IsAscending xs) (within : count ≤ length xs) where
-  -- the last one in front is past the position
-  pub cut_passed : 0 < count → q < get_or xs (count - 1) 0 → false ≡ is_cut xs count q
-  cut_passed some past = sym (ap (λ b. b && list_all (λ p. nat_lt q p) (drop count xs)) (front_some q xs count (count - 1) (omega arith) (omega arith) past))
-
   front_holds : (count ≡ 0) ⊎ (get_or xs (count - 1) 0 ≤ q) → list_all (λ p. nat_le p q) (take count xs) ≡ true
   front_holds (inl none) = front_all q xs count (λ i a b. absurd (omega arith))
   front_holds (inr last) = front_all q xs count (λ i a b. below i a (cases_lt i (count - 1)))

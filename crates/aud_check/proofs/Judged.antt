@@ -1,23 +1,20 @@
 -- The first refusal of a certificate, by what was found before it.
-use Rattle.std.proofs.Common.{◌≡◌, ◌≤◌, ◌+◌, ◌-◌, ℕ, true, List, length, sym, ap, subst, ◌∙◌, arith, true≢false}
+use Rattle.std.proofs.Common.{◌≡◌, ℕ, true, List, sym, ap, subst, ◌∙◌, true≢false}
 use Rattle.aud_node.specs.Stream.{Text}
 use Rattle.aud_node.specs.Cluster.{Cluster}
 use Rattle.aud_rooms.specs.Turns.{Who}
 use Rattle.aud_rooms.specs.TurnsDue.{turns_due}
 use Rattle.aud_rooms.specs.Spans.{RoomSpan, AreSpansOfTurns}
-use Rattle.aud_client.specs.Told.{FrameSeen}
 use Rattle.aud_cert.specs.Certificate.{CertificateSeen, TurnSeen}
 use Rattle.aud_check.specs.declared.refusal.Refusal.{Refusal}
 use Rattle.aud_check.specs.declared.refusal.Refusal.TheVariants.{NotItsTurn, EndInside, NoEnd, Cursor, Span, Names, Received, Memory}
 use Rattle.aud_check.specs.Client.{case_for, IsClientRefusal}
-use Rattle.aud_check.specs.Faults.{Case, IsReceived, positions_in}
+use Rattle.aud_check.specs.Faults.{Case, IsReceived}
 use Rattle.aud_check.specs.NamedStays.{are_of_session}
 use Rattle.aud_check.specs.Shown.{slices_at, slices_of, who_in, who_of, shown_due}
 use Rattle.aud_check.specs.TurnRefusals.{AreTurnsAccepted, IsFirstOfTurns}
 use Rattle.aud_check.specs.Refusals.{IsFirst, IsFirstRefusal, IsAccepted, case_of, seen_as}
 use Rattle.aud_check.proofs.Ranks.{first_of_turns, first_span, first_names, first_fault}
-use Rattle.aud_check.proofs.ClientCase.{prefix_within}
-use Rattle.aud_check.proofs.Windows.{length-map}
 
 pub first_refusal : (c : Cluster) (cert : CertificateSeen) (refusal : Refusal) → IsFirst c cert refusal → IsFirstRefusal c cert refusal
 first_refusal c cert NotItsTurn is = is
@@ -79,20 +76,11 @@ module _ (c : Cluster) (who : Who) (client : Text) (turns : List TurnSeen) (span
           is_received = subst IsReceived case_same received;
         }
 
-    pub got_is : (got : ℕ) → got ≡ length (case_for c client who.pid due).frames → got ≡ length (case_of c cert).frames
-    got_is got e = e ∙ ap (λ (case : Case). length case.frames) case_same
-
-    pub got_within : (got : ℕ) → got ≡ length (case_for c client who.pid due).frames → IsReceived (case_for c client who.pid due) → got ≤ length due
-    got_within got e received =
-        let short = prefix_within (positions_in (case_for c client who.pid due)) due received.is_prefix in
-        let long = length-map (λ (frame : FrameSeen). frame.position) (case_for c client who.pid due).frames in
-        omega (arith, e, short, long)
-
-    pub tail_is : (got : ℕ) → got ≤ length due → got + (length due - got) ≡ length (shown_due c cert)
-    tail_is got within = let all : got + (length due - got) ≡ length due = omega arith in all ∙ ap length due_is
-
--- a certificate by its parts
-pub same_cert : (cert : CertificateSeen) (pid client : Text) (turns : List TurnSeen) (spans : List RoomSpan) → pid ≡ cert.pid → client ≡ cert.client → turns ≡ cert.turns → spans ≡ cert.spans → seen_as pid client turns spans ≡ cert
-same_cert cert pid client turns spans a b d e =
-    ap (λ x. seen_as x client turns spans) a ∙ ap (λ x. seen_as cert.pid x turns spans) b ∙ ap (λ x. seen_as cert.pid cert.client x spans) d
-    ∙ ap (λ x. seen_as cert.pid cert.client cert.turns x) e
+-- a certificate by its parts, as they stand in the value that it is read from
+pub same_cert : {cert inner : CertificateSeen} {who : Who} {client : Text} {turns : List TurnSeen} {spans : List RoomSpan}
+    → who ≡ who_of cert → inner ≡ cert → client ≡ inner.client → turns ≡ inner.turns → spans ≡ inner.spans → seen_as who.pid client turns spans ≡ cert
+same_cert {cert} {inner} {who} {client} {turns} {spans} named view a b d =
+    ap (λ x. seen_as x client turns spans) (ap (λ (w : Who). w.pid) named)
+    ∙ ap (λ x. seen_as cert.pid x turns spans) (a ∙ ap (λ (x : CertificateSeen). x.client) view)
+    ∙ ap (λ x. seen_as cert.pid cert.client x spans) (b ∙ ap (λ (x : CertificateSeen). x.turns) view)
+    ∙ ap (seen_as cert.pid cert.client cert.turns) (d ∙ ap (λ (x : CertificateSeen). x.spans) view)

@@ -1,16 +1,17 @@
 -- How a turn ends, by the session's own records alone.
-use Rattle.std.proofs.Common.{◌≡◌, ◌<◌, ◌≤◌, ◌+◌, ◌-◌, ℕ, zero, suc, Bool, true, false, cond, List, [], ◌∷◌, length, drop, Option, Some, None, slice_get, get_or, refl, sym, ap, ◌∙◌, ◌⊎◌, inl, inr, nat_eq, arith}
+use Rattle.std.proofs.Common.{◌≡◌, ◌<◌, ◌≤◌, ◌+◌, ℕ, zero, suc, Bool, true, false, cond, ◌&&◌, List, [], ◌∷◌, length, min, max, Option, Some, None, slice_get, get_or, refl, sym, ap, subst, ◌∙◌, ◌⊎◌, inl, inr, nat_eq, nat_lt, arith, true≢false}
 use Rattle.std.specs.List.{filter}
-use Rattle.std.proofs.lemmas.Bool.{cases_eq, eq-eqb, ne_eqb}
-use Rattle.std.proofs.lemmas.List.{drop_more}
+use Rattle.std.proofs.lemmas.Bool.{cases_eq, cases_lt, eq-eqb, ne_eqb, le-leb, lt-leb}
+use Rattle.std.proofs.lemmas.Option.{slice_get_within}
+use Rattle.std.proofs.lemmas.List.Elements.{All-get_or, filter_passes}
 use Rattle.aud_tap.specs.declared.records.NodeRec.{NodeRec}
 use Rattle.aud_tap.specs.declared.records.NodeRec.TheVariants.{Start, Take, Opened, Join, Leave, Broke, Back, Gone}
 use Rattle.aud_node.specs.Lists.{between, numbers_from}
 use Rattle.aud_node.specs.Stream.{Text}
-use Rattle.aud_node.specs.OwnRecords.{names}
+use Rattle.aud_node.specs.OwnRecords.{names, own_numbers}
+use Rattle.aud_rooms.specs.TurnPlaces.{is_between, own_between}
 use Rattle.aud_rooms.specs.Turns.{Part, Inner, Last, Foreign, End, ByBreak, ByGone, ByLog, part_of, end_past, turn_end}
-use Rattle.aud_check.specs.Own.{own_between}
-use Rattle.aud_check.proofs.Slices.{within_at, between-more, between-none}
+use Rattle.aud_check.proofs.Slices.{within_at, between-more, between-past}
 
 abbrev pub part_at : Text → ℕ → Option NodeRec → Part
 part_at pid k None = Foreign
@@ -38,51 +39,109 @@ inner_of_others pid k (Broke other number) e = ap (λ b. cond b (cond (nat_eq nu
 inner_of_others pid k (Back other number) e = ap (λ b. cond b Foreign Inner) e
 inner_of_others pid k (Gone other) e = ap (λ b. cond b (Last ByGone) Inner) e
 
-module _ (pid : Text) (k : ℕ) (log : List NodeRec) (to : ℕ) (end : to ≤ length log) where
-  -- what a record makes of the end behind it, by its number or by the records behind it
-  numbered : (i : ℕ) (part : Part) (rest : Option End) → i < to → numbered_end part (nat_eq (i + 1) to) rest ≡ end_past part (between log (suc i) to) rest
-  numbered i Inner rest h = refl
-  numbered i Foreign rest h = refl
-  numbered i (Last e) rest h = go (cases_eq (i + 1) to)
-    where
-      go : (i + 1 ≡ to) ⊎ (i + 1 ≡ to → ⊥) → numbered_end (Last e) (nat_eq (i + 1) to) rest ≡ end_past (Last e) (between log (suc i) to) rest
-      go (inl last) =
-          ap (λ b. numbered_end (Last e) b rest) (eq-eqb (i + 1) to last)
-          ∙ sym (ap (λ recs. end_past (Last e) recs rest) (between-none log (suc i) to (omega arith)))
-      go (inr more) =
-          let (next, at) = within_at log (suc i) (omega arith) in
-          ap (λ b. numbered_end (Last e) b rest) (ne_eqb (i + 1) to more)
-          ∙ sym (ap (λ recs. end_past (Last e) recs rest) (between-more log (suc i) to next (omega arith) at))
+-- a number that isn't kept, behind another test
+left_out : (test : ℕ → Bool) (a : ℕ) (rest : List ℕ) (b : Bool) → test a ≡ false → filter test (cond b (a ∷ rest) rest) ≡ filter test rest
+left_out test a rest true e = ap (λ c. cond c (a ∷ filter test rest) (filter test rest)) e
+left_out test a rest false e = refl
 
-  own_end-from : (count from : ℕ) → from + count ≡ to → own_end pid k log to (filter (λ number. names (slice_get log number) pid) (numbers_from from count)) ≡ turn_end pid k (between log from to)
-  own_end-from zero from e = sym (ap (turn_end pid k) (between-none log from to (omega arith)))
-  own_end-from (suc count) from e =
-      let (rec, at) = within_at log from (omega arith) in
-      let rest : List ℕ = filter (λ number. names (slice_get log number) pid) (numbers_from (suc from) count) in
-      let ih : own_end pid k log to rest ≡ turn_end pid k (between log (suc from) to) = own_end-from count (suc from) (omega arith) in
-      let some : between log from to ≡ rec ∷ between log (suc from) to = between-more log from to rec (omega arith) at in
-      go rec at rest ih (names (Some rec) pid) refl ∙ sym (ap (turn_end pid k) some)
+-- and one that is
+left_in : (test : ℕ → Bool) (a : ℕ) (rest : List ℕ) (b : Bool) → test a ≡ true → filter test (cond b (a ∷ rest) rest) ≡ cond b (a ∷ filter test rest) (filter test rest)
+left_in test a rest true e = ap (λ c. cond c (a ∷ filter test rest) (filter test rest)) e
+left_in test a rest false e = refl
+
+too_low : (from to n : ℕ) → n < from → is_between from to n ≡ false
+too_low from to n h = ap (λ b. b && nat_lt n to) (lt-leb from n h)
+
+too_high : (from to n : ℕ) → from ≤ n → to ≤ n → is_between from to n ≡ false
+too_high from to n h g = ap (λ b. b && nat_lt n to) (le-leb from n h) ∙ lt-leb (suc n) to (omega arith)
+
+inside : (from to n : ℕ) → from ≤ n → n < to → is_between from to n ≡ true
+inside from to n h g = ap (λ b. b && nat_lt n to) (le-leb from n h) ∙ le-leb (suc n) to (omega arith)
+
+module _ (pid : Text) (k : ℕ) (log : List NodeRec) (from to : ℕ) where
+  -- the number behind the last record
+  abbrev last : ℕ
+  last = min to (length log)
+
+  abbrev own : ℕ → Bool
+  own number = names (slice_get log number) pid
+
+  -- what a record makes of the end behind it, by its number or by the records behind it
+  numbered : (i : ℕ) (part : Part) (rest : Option End) → i < to → i < length log → numbered_end part (nat_eq (i + 1) last) rest ≡ end_past part (between log (suc i) to) rest
+  numbered i Inner rest h g = refl
+  numbered i Foreign rest h g = refl
+  numbered i (Last e) rest h g = go (cases_eq (i + 1) last)
     where
-      go : (rec : NodeRec) → slice_get log from ≡ Some rec → (rest : List ℕ) → own_end pid k log to rest ≡ turn_end pid k (between log (suc from) to)
-          → (b : Bool) → names (Some rec) pid ≡ b
-          → own_end pid k log to (cond (names (slice_get log from) pid) (from ∷ rest) rest) ≡ end_past (part_of pid k rec) (between log (suc from) to) (turn_end pid k (between log (suc from) to))
-      go rec at rest ih true named =
-          ap (λ b. own_end pid k log to (cond b (from ∷ rest) rest)) (ap (λ o. names o pid) at ∙ named)
-          ∙ ap (λ o. numbered_end (part_at pid k o) (nat_eq (from + 1) to) (own_end pid k log to rest)) at
-          ∙ ap (numbered_end (part_of pid k rec) (nat_eq (from + 1) to)) ih
-          ∙ numbered from (part_of pid k rec) (turn_end pid k (between log (suc from) to)) (omega arith)
-      go rec at rest ih false other =
-          ap (λ b. own_end pid k log to (cond b (from ∷ rest) rest)) (ap (λ o. names o pid) at ∙ other)
-          ∙ ih
-          ∙ sym (ap (λ part. end_past part (between log (suc from) to) (turn_end pid k (between log (suc from) to))) (inner_of_others pid k rec other))
+      go : (i + 1 ≡ last) ⊎ (i + 1 ≡ last → ⊥) → numbered_end (Last e) (nat_eq (i + 1) last) rest ≡ end_past (Last e) (between log (suc i) to) rest
+      go (inl same) =
+          ap (λ b. numbered_end (Last e) b rest) (eq-eqb (i + 1) last same)
+          ∙ sym (ap (λ recs. end_past (Last e) recs rest) (between-past log (suc i) to (omega arith)))
+      go (inr more) =
+          let (next, at) = within_at log (suc i) (omega (arith, more)) in
+          ap (λ b. numbered_end (Last e) b rest) (ne_eqb (i + 1) last more)
+          ∙ sym (ap (λ recs. end_past (Last e) recs rest) (between-more log (suc i) to next (omega (arith, more)) at))
+
+  -- of the numbers from one on
+  abbrev EndsFrom : ℕ → List ℕ → Type 0
+  EndsFrom a numbers = own_end pid k log last (filter (is_between from to) numbers) ≡ turn_end pid k (between log (max from a) to)
+
+  -- one record in front, by where it stands
+  step : (a : ℕ) (rec : NodeRec) → slice_get log a ≡ Some rec → (rest : List ℕ) → EndsFrom (suc a) rest → (b : Bool) → names (Some rec) pid ≡ b
+      → (a < from) ⊎ (from ≤ a) → (a < to) ⊎ (to ≤ a) → EndsFrom a (cond b (a ∷ rest) rest)
+  step a rec at rest ih b named (inl low) upto =
+      let same : max from (suc a) ≡ max from a = omega arith in
+      ap (own_end pid k log last) (left_out (is_between from to) a rest b (too_low from to a low))
+      ∙ ih ∙ ap (λ n. turn_end pid k (between log n to)) same
+  step a rec at rest ih b named (inr above) (inr high) =
+      ap (own_end pid k log last) (left_out (is_between from to) a rest b (too_high from to a above high))
+      ∙ ih
+      ∙ ap (turn_end pid k) (between-past log (max from (suc a)) to (omega arith) ∙ sym (between-past log (max from a) to (omega arith)))
+  step a rec at rest ih b named (inr above) (inl below) =
+      let here : max from a ≡ a = omega arith in
+      let next : max from (suc a) ≡ suc a = omega arith in
+      ap (own_end pid k log last) (left_in (is_between from to) a rest b (inside from to a above below))
+      ∙ go b named (ih ∙ ap (λ n. turn_end pid k (between log n to)) next)
+      ∙ sym (ap (λ n. turn_end pid k (between log n to)) here ∙ ap (turn_end pid k) (between-more log a to rec below at))
+    where
+      kept : List ℕ
+      kept = filter (is_between from to) rest
+
+      behind : Option End
+      behind = turn_end pid k (between log (suc a) to)
+
+      go : (b : Bool) → names (Some rec) pid ≡ b → own_end pid k log last kept ≡ behind → own_end pid k log last (cond b (a ∷ kept) kept) ≡ end_past (part_of pid k rec) (between log (suc a) to) behind
+      go true is ih =
+          ap (λ o. numbered_end (part_at pid k o) (nat_eq (a + 1) last) (own_end pid k log last kept)) at
+          ∙ ap (numbered_end (part_of pid k rec) (nat_eq (a + 1) last)) ih
+          ∙ numbered a (part_of pid k rec) behind below (slice_get_within log a rec at)
+      go false is ih = ih ∙ sym (ap (λ part. end_past part (between log (suc a) to) behind) (inner_of_others pid k rec is))
+
+  own_end-from : (count a : ℕ) → a + count ≡ length log → EndsFrom a (filter own (numbers_from a count))
+  own_end-from zero a e = sym (ap (turn_end pid k) (between-past log (max from a) to (omega arith)))
+  own_end-from (suc count) a e =
+      let (rec, at) = within_at log a (omega arith) in
+      let rest : List ℕ = filter own (numbers_from (suc a) count) in
+      let ih : EndsFrom (suc a) rest = own_end-from count (suc a) (omega arith) in
+      subst (λ b. EndsFrom a (cond b (a ∷ rest) rest)) (sym (ap (λ o. names o pid) at))
+      (step a rec at rest ih (names (Some rec) pid) refl (cases_lt a from) (cases_lt a to))
 
   -- the turn's end by its records, and by those that name the session
-  pub turn_end-own : (from : ℕ) → from ≤ to → turn_end pid k (between log from to) ≡ own_end pid k log to (own_between log pid from to)
-  turn_end-own from h = sym (own_end-from (to - from) from (omega arith))
+  pub turn_end-own : turn_end pid k (between log from to) ≡ own_end pid k log last (own_between log pid from to)
+  turn_end-own =
+      let same : from ≡ max from 0 = omega arith in
+      ap (λ n. turn_end pid k (between log n to)) same ∙ sym (own_end-from (length log) 0 (omega arith))
 
-  -- one record more
-  pub own_end-more : (own : List ℕ) (i : ℕ) → i < length own → (n : ℕ) → n ≡ get_or own i n
-      → own_end pid k log to (drop i own) ≡ numbered_end (part_at pid k (slice_get log n)) (nat_eq (n + 1) to) (own_end pid k log to (drop (i + 1) own))
-  own_end-more own i h n is =
-      ap (own_end pid k log to) (drop_more own i n h)
-      ∙ ap (λ m. own_end pid k log to (m ∷ drop (i + 1) own)) (sym is)
+  not_high : (number : ℕ) → to ≤ number → (number < from) ⊎ (from ≤ number) → is_between from to number ≡ false
+  not_high number high (inl low) = too_low from to number low
+  not_high number high (inr above) = too_high from to number above high
+
+  below_to : (number : ℕ) → is_between from to number ≡ true → (number < to) ⊎ (to ≤ number) → number < to
+  below_to number e (inl below) = below
+  below_to number e (inr high) = absurd (true≢false (sym e ∙ not_high number high (cases_lt number from)))
+
+  -- those numbers are below the end
+  pub below_end : (i : ℕ) → i < length (own_between log pid from to) → get_or (own_between log pid from to) i 0 < to
+  below_end i h =
+      let number = get_or (own_between log pid from to) i 0 in
+      let passes = All-get_or (λ n. is_between from to n ≡ true) (own_between log pid from to) i 0 h (filter_passes (is_between from to) (own_numbers log pid)) in
+      below_to number passes (cases_lt number to)

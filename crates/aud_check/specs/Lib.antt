@@ -2,11 +2,8 @@ pub use Rattle.aud_merge.specs.ByTurns
 pub use Rattle.aud_cert.specs.Certificate
 pub use Rattle.aud_client.specs.Received
 pub mod Compare
-pub mod Own
-pub mod Named
 pub mod TurnEnd
 pub mod Shown
-pub mod Walked
 pub mod NamedStays
 pub mod Ascending
 pub mod Frames
@@ -15,3 +12,4 @@ pub mod Wrong
 pub mod TurnRefusals
 pub mod Client
 pub mod Refusals
+pub mod Words

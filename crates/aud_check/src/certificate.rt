@@ -69,42 +69,23 @@ pub fn check(alloc: Global, logs: &Logs<'_>, cert: &Certificate<'_>) -> Result<A
         → IsPrefixOf (positions_in (case_of logs.now cert.now)) (due logs.now run cert.now.pid) → ⊥) }
 {
     due_by_turns();
-    judge(alloc, logs, cert)
-}
-
-/// The answer of [`check`], by what it says of this certificate alone.
-fn judge<'s>(
-    alloc: Global,
-    logs: &'s Logs<'_>,
-    cert: &'s Certificate<'_>,
-) -> Result<Accepted, Refusal>
-    requires over { IsOver logs.now cert.now }
-    requires some { 0 < length cert.now.turns }
-    ensures accepted { OnOk result (IsAccepted logs.now cert.now) }
-    ensures refused { IfErr result (IsFirstRefusal logs.now cert.now) }
-    ensures got { IfOk result (λ a. a.got ≡ length (frames_received logs.now cert.now)) }
-    ensures tail { IfOk result (λ a. a.got + a.tail ≡ length (shown_due logs.now cert.now)) }
-    ensures turns { IfOk result (λ a. a.turns ≡ length cert.now.turns) }
-{
-    let session = session_of(cert);
+    let session = session_of(logs, cert);
     let turns = cert.turns.as_slice();
     let spans = cert.spans.as_slice();
-    let judged = judge_parts(alloc, logs, &session, cert.client, turns, spans);
-    judged
+    judge(alloc, logs, &session, cert.client, turns, spans)
 }
 
-/// The same of a certificate with these parts. The turns are looked at first, then the spans, and then what the client
-/// received.
-fn judge_parts<'s>(
+/// The answer on the certificate with these parts, by what it says of this certificate alone: the turns are looked at
+/// first, then the spans, and then what the client received.
+fn judge<'a>(
     alloc: Global,
-    logs: &'s Logs<'_>,
-    session: &Session<'s>,
+    logs: &Logs<'a>,
+    session: &Session<'_, 'a>,
     client: &str,
     turns: &[Turn<'_>],
     spans: &[Span<'_>],
 ) -> Result<Accepted, Refusal>
     requires over { All (IsTurnOver logs.now) turns.now }
-    requires some { 0 < length turns.now }
     requires session { session.now ≡ who_in session.now.pid turns.now }
     ensures accepted { OnOk result (IsAccepted logs.now (seen_as session.now.pid client.now turns.now spans.now)) }
     ensures refused { IfErr result (IsFirstRefusal logs.now (seen_as session.now.pid client.now turns.now spans.now)) }

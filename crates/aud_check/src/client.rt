@@ -21,7 +21,7 @@ use std::alloc::Global;
 pub(crate) fn check_client(
     alloc: Global,
     logs: &Logs<'_>,
-    session: &Session<'_>,
+    session: &Session<'_, '_>,
     client: &str,
     due: &[u64],
 ) -> Result<usize, Refusal>

@@ -5,7 +5,7 @@ ghost use Rattle.aud_check.specs.Compare.{agreed, mismatch, wrong_there};
 
 /// What is wrong with the received positions, at the first place where they aren't those due.
 #[derive(Clone, Copy, Debug, PartialEq, Eq)]
-pub enum Mismatch {
+pub(crate) enum Mismatch {
     /// This one was received and isn't due.
     Extra(u64),
     /// This one was received before.
@@ -18,7 +18,7 @@ pub enum Mismatch {
 
 /// The first mismatch of the received positions with those due; none where the due ones begin with the received
 /// ones. Both are gone through once, and once more at the mismatch.
-pub fn first_mismatch(received: &[u64], due: &[u64]) -> Option<Mismatch>
+pub(crate) fn first_mismatch(received: &[u64], due: &[u64]) -> Option<Mismatch>
     ensures first { result ≡ mismatch received.now due.now }
     ensures none_where_prefix { IsNone result ↔ IsPrefixOf received.now due.now }
 {

@@ -1,5 +1,5 @@
 //! What is due by the turns of a certificate.
-ghost use Rattle.std.specs.Prelude.{◌≡◌, ◌<◌, IfOk, length};
+ghost use Rattle.std.specs.Prelude.{◌≡◌, IfOk};
 ghost use Rattle.aud_rooms.specs.Spans.{AreSpansOfTurns};
 ghost use Rattle.aud_rooms.specs.TurnsDue.{turns_due};
 ghost use Rattle.aud_check.specs.Shown.{shown_high, shown_low, slices_at};
@@ -16,11 +16,10 @@ use std::alloc::Global;
 pub(crate) fn shown_due(
     alloc: Global,
     logs: &Logs<'_>,
-    session: &Session<'_>,
+    session: &Session<'_, '_>,
     turns: &[Turn<'_>],
     spans: &[Span<'_>],
 ) -> Result<Vec<u64>, Memory>
-    requires some { 0 < length turns.now }
     requires accepted { AreTurnsAccepted logs.now session.now.pid turns.now }
     requires spans { AreSpansOfTurns logs.now.stream session.now (slices_at logs.now turns.now) spans.now }
     ensures { IfOk result (λ due. due.items ≡ turns_due logs.now.stream session.now (slices_at logs.now turns.now)) }
@@ -33,7 +32,7 @@ pub(crate) fn shown_due(
 }
 
 /// The position that the first turn starts from.
-pub(crate) fn first_low(turns: &[Turn<'_>]) -> u64
+fn first_low(turns: &[Turn<'_>]) -> u64
     ensures { result ≡ shown_low turns.now }
 {
     match turns.first() {

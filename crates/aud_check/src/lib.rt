@@ -8,7 +8,7 @@ mod client;
 mod compare;
 mod content;
 mod due;
-mod own;
+mod place;
 mod received;
 mod refusal;
 mod session;
@@ -17,10 +17,12 @@ mod stays;
 mod turn;
 mod turn_end;
 mod window;
+mod words;
 
 pub use certificate::{Accepted, check};
-pub use compare::{Mismatch, first_mismatch};
 pub use refusal::Refusal;
 
 #[cfg(test)]
 mod tests;
+#[cfg(test)]
+mod words_tests;

@@ -30,7 +30,7 @@ pub(crate) fn stays_naming<'s>(
 }
 
 /// Whether there are stays, and each is of the session's namespace and has a reply with the session's sid.
-pub(crate) fn are_of_session(session: &Session<'_>, stays: &[&Stay<'_>]) -> bool
+pub(crate) fn are_of_session(session: &Session<'_, '_>, stays: &[&Stay<'_>]) -> bool
     ensures { result ≡ are_of_session session.now (map (λ stay. stay.now) stays.now) }
 {
     if stays.is_empty() {
@@ -39,14 +39,14 @@ pub(crate) fn are_of_session(session: &Session<'_>, stays: &[&Stay<'_>]) -> bool
     all_are_of_session(session, stays)
 }
 
-fn all_are_of_session(session: &Session<'_>, stays: &[&Stay<'_>]) -> bool
+fn all_are_of_session(session: &Session<'_, '_>, stays: &[&Stay<'_>]) -> bool
     ensures { result ≡ list_all (λ stay. is_of_session session.now stay.now) stays.now }
 {
     stays.iter().all(|stay| is_of_session(session, *stay))
 }
 
 /// Whether the stay is of the session's namespace, and its reply has the session's sid.
-fn is_of_session(session: &Session<'_>, stay: &Stay<'_>) -> bool
+fn is_of_session(session: &Session<'_, '_>, stay: &Stay<'_>) -> bool
     ensures { result ≡ is_of_session session.now stay.now }
 {
     stay.nsp == session.nsp && has_sid(session.sid, &stay.reply)

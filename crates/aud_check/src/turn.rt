@@ -1,19 +1,21 @@
 //! One turn of a certificate against the logs.
-ghost use Rattle.std.specs.Prelude.{◌≡◌, ◌↔◌, ◌<◌, ◌≤◌, IfErr, IsTrue, OnOk, length, map, suc};
+ghost use Rattle.std.specs.Prelude.{◌≡◌, ◌↔◌, ◌≤◌, IfErr, IsTrue, OnOk, length, map};
 ghost use Rattle.std.specs.List.{All};
 ghost use Rattle.std.specs.Option.{option_copied};
-ghost use Rattle.aud_node.specs.Cluster.{Cluster};
-ghost use Rattle.aud_node.specs.Cursors.{cursor_at};
+ghost use Rattle.aud_node.specs.Cluster.{node_log};
+ghost use Rattle.aud_node.specs.Ordered.{is_ordered};
+ghost use Rattle.aud_rooms.specs.TurnPlaces.{IsWithin};
 ghost use Rattle.aud_rooms.specs.Turns.{MayEnd};
 ghost use Rattle.aud_cert.specs.Certificate.{IsTurnOver, log_named, turn_at};
-ghost use Rattle.aud_check.specs.Named.{node_named};
 ghost use Rattle.aud_check.specs.TurnEnd.{end_seen};
 ghost use Rattle.aud_check.specs.TurnRefusals.{AreTurnsAccepted, HasCursors, IsFirstOfTurn, IsFirstOfTurns, IsTurnAccepted, is_begun_by};
 
+use crate::place::{place_of, records_at};
 use crate::refusal::Refusal;
 use crate::turn_end::{End, turn_end};
 use aud_cert::Turn;
-use aud_node::{Logs, NodeLog};
+use aud_node::Logs;
+use aud_rooms::TurnPlace;
 use aud_tap::NodeRec;
 
 /// Whether the turns are the session's, turn 0 first. The first refusal that holds is answered: the turns are looked at
@@ -46,33 +48,20 @@ pub(crate) fn check_turn(
     ensures accepted { OnOk result (IsTurnAccepted logs.now pid.now number turn.now later.now) }
     ensures refused { IfErr result (IsFirstOfTurn logs.now pid.now number turn.now later.now) }
 {
-    let Some(log) = node_named(logs, turn.node) else {
-        return Err(Refusal::NotItsTurn);
-    };
     if !is_begun_by(turn.recs.get(0), pid, number) {
         return Err(Refusal::NotItsTurn);
     }
-    let to = (turn.to as usize).min(log.recs().len());
-    let Some(end) = turn_end(log, pid, number, turn.from as usize + 1, to) else {
+    let place = place_of(logs, turn);
+    let Some(end) = turn_end(logs, &place, pid, number) else {
         return Err(Refusal::EndInside);
     };
-    if !may_end(log, turn, end, later) {
+    if !may_end(logs, &place, end, later) {
         return Err(Refusal::NoEnd);
     }
-    if !has_cursors(log, turn) {
+    if !has_cursors(logs, &place, turn) {
         return Err(Refusal::Cursor);
     }
     Ok(())
-}
-
-/// The log of the node whose tap has this name.
-pub(crate) fn node_named<'l, 'a>(logs: &'l Logs<'a>, name: &str) -> Option<&'l NodeLog<'a>>
-    ensures { option_copied result ≡ node_named logs.now name.now }
-{
-    match logs.place_of(name) {
-        Some(place) => logs.node(place),
-        None => None,
-    }
 }
 
 /// Whether there is a record, and it begins the session's turn with this number.
@@ -92,40 +81,48 @@ fn is_begun_by(rec: Option<&NodeRec>, pid: &str, turn: usize) -> bool
 }
 
 /// Whether the turn ends within the log of its node, and may end so before these.
-fn may_end(log: &NodeLog<'_>, turn: &Turn<'_>, end: End, later: &[Turn<'_>]) -> bool
-    ensures { (c : Cluster) → log_named c turn.now.node ≡ log.now.recs
-        → (IsTrue result ↔ ((turn.now.to ≤ length log.now.recs) × MayEnd c (turn_at c turn.now) (map (turn_at c) later.now) (end_seen end))) }
+fn may_end(logs: &Logs<'_>, place: &TurnPlace, end: End, later: &[Turn<'_>]) -> bool
+    ensures { IsTrue result ↔ ((place.now.to ≤ length (node_log logs.now place.now.node)) × MayEnd logs.now place.now (map (turn_at logs.now) later.now) (end_seen end)) }
 {
-    let len = log.recs().len() as u64;
+    let len = count_of(logs, place.node);
     match end {
-        End::Break => turn.to <= len,
-        End::Gone => turn.to <= len && later.is_empty(),
-        End::Log => turn.to == len && later.is_empty(),
+        End::Break => place.to <= len,
+        End::Gone => place.to <= len && later.is_empty(),
+        End::Log => place.to == len && later.is_empty(),
+    }
+}
+
+/// How many records the node at this place has.
+fn count_of(logs: &Logs<'_>, node: usize) -> usize
+    ensures { result ≡ length (node_log logs.now node) }
+{
+    match records_at(logs, node) {
+        Some(recs) => recs.len(),
+        None => 0,
     }
 }
 
 /// Whether the log is ordered, and the turn's cursors are those of the log.
-fn has_cursors(log: &NodeLog<'_>, turn: &Turn<'_>) -> bool
-    requires some { turn.now.from < turn.now.to }
-    requires within { turn.now.to ≤ length log.now.recs }
-    ensures { IsTrue result ↔ HasCursors log.now.stream log.now.recs turn.now }
+fn has_cursors(logs: &Logs<'_>, place: &TurnPlace, turn: &Turn<'_>) -> bool
+    requires place { place.now ≡ turn_at logs.now turn.now }
+    requires within { IsWithin logs.now place.now }
+    ensures { IsTrue result ↔ HasCursors logs.now.stream (log_named logs.now turn.now.node) turn.now }
 {
-    if !log.ordered() {
+    if !is_ordered(logs, place.node) {
         return false;
     }
-    if cursor_after(log, turn.from as usize) != turn.low {
+    if place.low(logs) != turn.low {
         return false;
     }
-    cursor_after(log, turn.to as usize - 1) == turn.high
+    place.high(logs) == turn.high
 }
 
-/// The cursor after the record with this number, which the log has.
-pub(crate) fn cursor_after(log: &NodeLog<'_>, number: usize) -> u64
-    requires { number < length log.now.recs }
-    ensures { result ≡ cursor_at log.now.stream log.now.recs (suc number) }
+/// Whether the log of the node at this place is ordered.
+fn is_ordered(logs: &Logs<'_>, node: usize) -> bool
+    ensures { result ≡ is_ordered logs.now.stream (node_log logs.now node) }
 {
-    match log.cursor_after(number) {
-        Some(cursor) => cursor,
-        None => unreachable!(),
+    match logs.node(node) {
+        Some(log) => log.ordered(),
+        None => false,
     }
 }

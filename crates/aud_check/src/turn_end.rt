@@ -1,12 +1,15 @@
 //! How the records of a turn end.
-ghost use Rattle.std.specs.Prelude.{◌≡◌, ◌≤◌, length, if◌then◌else◌};
+ghost use Rattle.std.specs.Prelude.{◌≡◌, ◌<◌, suc, if◌then◌else◌};
 ghost use Rattle.std.specs.Option.{option_map};
-ghost use Rattle.aud_node.specs.Lists.{between};
-ghost use Rattle.aud_rooms.specs.Turns.{part_of, turn_end};
+ghost use Rattle.aud_node.specs.Cluster.{node_log};
+ghost use Rattle.aud_rooms.specs.TurnPlaces.{own_between};
+ghost use Rattle.aud_rooms.specs.Turns.{part_of, slice_of};
 ghost use Rattle.aud_check.specs.TurnEnd.{end_seen, part_seen};
+ghost use Rattle.aud_check.specs.TurnRefusals.{end_of};
 
-use crate::own::own_between;
-use aud_node::NodeLog;
+use crate::place::records_at;
+use aud_node::Logs;
+use aud_rooms::TurnPlace;
 use aud_tap::NodeRec;
 
 /// How a turn ends.
@@ -28,32 +31,41 @@ enum Part {
     Foreign,
 }
 
-/// How the session's turn with this number ends, whose records behind the first one stand from one number on and before
-/// another; none where they aren't records of it. Only the session's own records are looked at.
-pub(crate) fn turn_end(
-    log: &NodeLog<'_>,
-    pid: &str,
-    turn: usize,
-    from: usize,
-    to: usize,
-) -> Option<End>
-    requires ordered { from ≤ to }
-    requires within { to ≤ length log.now.recs }
-    ensures { option_map end_seen result ≡ turn_end pid.now turn (between log.now.recs from to) }
+/// How the session's turn with this number ends, whose records stand at this place; none where those behind the first
+/// one aren't records of it. Only the session's own records are looked at.
+pub(crate) fn turn_end(logs: &Logs<'_>, place: &TurnPlace, pid: &str, turn: usize) -> Option<End>
+    requires { place.now.from < place.now.to }
+    ensures { option_map end_seen result ≡ end_of pid.now turn (slice_of logs.now place.now).recs }
 {
-    let own = own_between(log, pid, from, to);
-    for number in own {
-        let Some(rec) = log.recs().get(*number) else {
+    let Some(recs) = records_at(logs, place.node) else {
+        return Some(End::Log);
+    };
+    let last = place.to.min(recs.len());
+    for number in own_behind_first(logs, place, pid) {
+        let Some(rec) = recs.get(*number) else {
             return None;
         };
         match part_of(rec, pid, turn) {
             Part::Inner => {}
-            Part::Last(end) if *number + 1 == to => return Some(end),
+            Part::Last(end) if *number + 1 == last => return Some(end),
             Part::Last(_) => return None,
             Part::Foreign => return None,
         }
     }
     Some(End::Log)
+}
+
+/// The numbers, ascending, of the records at this place behind the first one that name the pid.
+fn own_behind_first<'l>(logs: &'l Logs<'_>, place: &TurnPlace, pid: &str) -> &'l [usize]
+    requires { place.now.from < place.now.to }
+    ensures { result.now ≡ own_between (node_log logs.now place.now.node) pid.now (suc place.now.from) place.now.to }
+{
+    let behind_first = TurnPlace {
+        node: place.node,
+        from: place.from + 1,
+        to: place.to,
+    };
+    behind_first.own(logs, pid)
 }
 
 /// What the record is to the session's turn with this number.

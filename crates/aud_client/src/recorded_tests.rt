@@ -1,10 +1,10 @@
 //! Taps recorded from clients of python-socketio 5.7.2, over python-engineio 4.3.4, each with the stream. Of longer
 //! recordings some records are left out; those that stand here are as they were recorded.
-use crate::received;
 use crate::tests::{client, frames, push_lines, written};
+use crate::{Stay, received};
 use aud_node::Logs;
 use aud_tap::{Taps, read_bundle};
-use std::alloc::Global;
+use std::alloc::{AllocError, Global};
 use std::test::Fail;
 
 // The connection is reset after the replay and before the reply; the client comes back and gets all.
@@ -353,29 +353,39 @@ fn a_recovery_by_polling(rt: HostRuntime) -> Result<(), Fail> {
     Ok(())
 }
 
-/// Whether each stay's reply names the session, and whether the stay is recovered.
-fn recovered(alloc: Global, texts: &[&str], name: &str, pid: &str) -> Result<String, Fail> {
-    let taps = taps(alloc, texts)?;
-    let logs = Logs::build(alloc, &taps)?;
-    let tap = client(&logs, name).ok_or("no such tap")?;
+/// Whether the stay's reply names the session, and whether the stay is recovered.
+fn write_recovered(out: &mut String, stay: &Stay<'_>, pid: &str) -> Result<(), AllocError> {
+    let (names, recovered) = (stay.names(pid), stay.is_recovered());
+    writeln!(out, "{names} {recovered}")
+}
+
+/// A line for each stay of the tap with this name.
+fn recovered(alloc: Global, logs: &Logs<'_>, name: &str, pid: &str) -> Result<String, Fail> {
+    let tap = client(logs, name).ok_or("no such tap")?;
     let got = received(alloc, tap, logs.stream())?;
     let mut out = String::new(alloc);
     for stay in got.stays.iter() {
-        let (names, recovered) = (stay.names(pid), stay.is_recovered());
-        writeln!(&mut out, "{names} {recovered}")?;
+        write_recovered(&mut out, stay, pid)?;
     }
     Ok(out)
+}
+
+/// The same of a tap in the bundle of these lines.
+fn recovered_of(alloc: Global, texts: &[&str], name: &str, pid: &str) -> Result<String, Fail> {
+    let taps = taps(alloc, texts)?;
+    let logs = Logs::build(alloc, &taps)?;
+    recovered(alloc, &logs, name, pid)
 }
 
 #[test]
 fn which_stays_are_recovered(rt: HostRuntime) -> Result<(), Fail> {
     let first = "g9WrVZnpmmxvKKbTAAAC";
     let restarted = "ny_MMuhUIkdYjQiXAAAC";
-    let told = recovered(rt.alloc(), &RECOVERED, "c0", first)?;
+    let told = recovered_of(rt.alloc(), &RECOVERED, "c0", first)?;
     assert!(rt; told.as_str() == "true false\ntrue true\n", "{told}");
-    let told = recovered(rt.alloc(), &RECOVERED, "c0", restarted)?;
+    let told = recovered_of(rt.alloc(), &RECOVERED, "c0", restarted)?;
     assert!(rt; told.as_str() == "false false\nfalse true\n", "{told}");
-    let told = recovered(rt.alloc(), &RESTARTED, "c1", restarted)?;
+    let told = recovered_of(rt.alloc(), &RESTARTED, "c1", restarted)?;
     assert!(rt; told.as_str() == "false false\ntrue false\n", "{told}");
     Ok(())
 }

@@ -8,8 +8,9 @@ use crate::text::{decode_text, push_packet};
 use crate::{Eio, EioFault};
 use std::alloc::{AllocError, Global};
 
-/// The packets of a body, cut at every byte 0x1e; the fault is that of the first piece that is no packet.
-/// A body without a byte is one empty piece.
+/// The packets of a body of HTTP long-polling, cut at every byte 0x1e (Engine.IO protocol 4, section "HTTP
+/// long-polling"); their texts are lent from it. The fault is that of the first piece that is no packet, or `Memory`.
+/// A body without a byte is one empty piece, and refused as `Empty`.
 pub fn decode_payload(alloc: Global, body: &str) -> Result<Vec<Eio<'_>>, EioFault>
     ensures { Gives (λ packets. map view packets.items) result (packets_of body.now) }
 {
@@ -27,7 +28,8 @@ pub fn decode_payload(alloc: Global, body: &str) -> Result<Vec<Eio<'_>>, EioFaul
     Ok(packets)
 }
 
-/// The body of packets, with byte 0x1e between each two; bytes read back as own bytes.
+/// The body of packets, with byte 0x1e between each two; bytes read back as own bytes. There is at least one packet,
+/// and no text of one holds that byte. The one error is `Memory`.
 pub fn encode_payload(alloc: Global, packets: &[Eio<'_>]) -> Result<String, EioFault>
     requires some { 0 < length packets.now }
     requires fit { All (λ packet. FitsBody (view packet)) packets.now }

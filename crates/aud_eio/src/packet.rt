@@ -1,6 +1,6 @@
 //! An Engine.IO packet, and why a text is none.
 
-/// A packet type other than a message.
+/// A packet type other than a message (Engine.IO protocol 4, section "Packet encoding").
 #[derive(Clone, Copy, Debug, PartialEq, Eq, Drop)]
 pub enum Control {
     /// Digit 0, `open`.
@@ -17,16 +17,16 @@ pub enum Control {
     Noop,
 }
 
-/// A packet. Texts, without the type digit, lie in the text or body that the packet was read from.
+/// A packet. Texts, without the type digit, are lent from the text or body that the packet was read from.
 #[derive(Debug, PartialEq, Eq, Drop)]
 pub enum Eio<'a> {
     /// Any packet that is no message, with its payload.
     Control(Control, &'a str),
     /// Digit 4: a message of text.
     Message(&'a str),
-    /// A message of bytes that came as bytes.
+    /// A message of bytes that came as bytes, which it lends.
     Lent(&'a [u8]),
-    /// A message of bytes that came as `b` and base64.
+    /// A message of bytes that came as `b` and base64: the bytes that this spells.
     Own(Vec<u8>),
 }
 
@@ -39,5 +39,6 @@ pub enum EioFault {
     UnknownType,
     /// What follows `b` is not base64 of the standard alphabet, padded, with unused bits zero (RFC 4648, section 4).
     BadBase64,
+    /// Memory could not be had.
     Memory,
 }

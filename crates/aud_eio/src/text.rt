@@ -10,7 +10,9 @@ use base64::DecodeAllocError;
 use base64::engine::general_purpose::STANDARD;
 use std::alloc::{AllocError, Global};
 
-/// The packet of a text. A `b` packet is read on either transport, and it alone takes memory.
+/// The packet of a text, which it lends (Engine.IO protocol 4, section "Packet encoding"). Over WebSocket each text
+/// message is one packet. A `b` packet is read on either transport, and it alone takes memory: the other packets are
+/// never refused as `Memory`.
 pub fn decode_text(alloc: Global, text: &str) -> Result<Eio<'_>, EioFault>
     ensures packet { Gives view result (packet_of text.now) }
     ensures memory { result ≡ Err EioFault.Memory → slice_index text.now 0 ≡ 98 }
@@ -35,7 +37,7 @@ pub fn decode_binary(bytes: &[u8]) -> Eio<'_>
     Eio::Lent(bytes)
 }
 
-/// The text of a packet; bytes are written as `b` and base64, and read back as own bytes.
+/// The text of a packet; bytes are written as `b` and base64, and read back as own bytes. The one error is `Memory`.
 pub fn encode_text(alloc: Global, packet: &Eio<'_>) -> Result<String, EioFault>
     ensures text { IfOk result (λ text. string_bytes text ≡ text_of (view packet.now)) }
     ensures reads_back { IfOk result (λ text. packet_of (string_bytes text) ≡ Ok (delivered (view packet.now))) }

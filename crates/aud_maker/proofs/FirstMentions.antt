@@ -1,5 +1,5 @@
 -- Texts that go in one after another are the first mentions.
-use Rattle.std.proofs.Common.{◌≡◌, ℕ, suc, Bool, true, false, cond, not, ◌||◌, List, [], ◌∷◌, ◌++◌, length, take, refl, sym, ap, ◌∙◌, Some, slice_get, append-nil, append_assoc, bytes_eq}
+use Rattle.std.proofs.Common.{◌≡◌, suc, Bool, true, false, cond, not, ◌||◌, List, [], ◌∷◌, ◌++◌, length, take, refl, sym, ap, ◌∙◌, Some, slice_get, append-nil, append_assoc, bytes_eq}
 use Rattle.std.specs.List.{list_any, filter_map, cons_option}
 use Rattle.std.specs.Option.{option_and_then}
 use Rattle.std.proofs.lemmas.List.Folds.{list_any-append}
@@ -49,7 +49,7 @@ any-mentions pid pids (t ∷ texts) =
     ∙ or-assoc (list_any (bytes_eq pid) pids) (bytes_eq pid t) (list_any (bytes_eq pid) texts)
 
 -- the texts behind these that differ from all in front of them
-new_behind : List Text → List Text → List Text
+abbrev new_behind : List Text → List Text → List Text
 new_behind before [] = []
 new_behind before (t ∷ behind) = cond (list_any (bytes_eq t) before) (new_behind (before ++ t ∷ []) behind) (t ∷ new_behind (before ++ t ∷ []) behind)
 

@@ -4,13 +4,13 @@ use Rattle.std.specs.List.{list_all}
 use Rattle.aud_tap.specs.declared.taps.Tap.{Tap}
 use Rattle.aud_node.specs.Stream.{Text}
 use Rattle.aud_node.specs.Cluster.{Cluster, node_log}
-use Rattle.aud_node.specs.Names.{place_of}
 use Rattle.aud_node.specs.Ordered.{is_ordered}
 use Rattle.aud_node.specs.Replies.{naming_places}
 use Rattle.aud_rooms.specs.Turns.{Who, Turn, slice_of, IsChain}
 use Rattle.aud_rooms.specs.Spans.{AreSpansOfTurns}
 use Rattle.aud_cert.specs.Certificate.{TurnSeen, CertificateSeen}
 
+-- the name of a tap, and an empty one of none
 abbrev pub tap_name : Option Tap → Text
 tap_name None = []
 tap_name (Some tap) = tap.name
@@ -58,7 +58,3 @@ pub record IsMade (c : Cluster) (pid : Text) (cert : CertificateSeen) : Type 0 w
   pub ordered : list_all (is_turn_ordered c) turns ≡ true
   pub client : IsClient c pid cert.client
   pub is : IsCertificateOf c pid who.sid cert.client turns cert
-
--- each tap is the first with its name
-abbrev pub AreNamedOnce : List Tap → Type 0
-AreNamedOnce taps = (place : ℕ) (tap : Tap) → slice_get taps place ≡ Some tap → place_of taps tap.name ≡ Some place

@@ -2,8 +2,9 @@
 ghost use Rattle.std.specs.Prelude.{◌≡◌, ◌<◌, length, map};
 ghost use Rattle.aud_node.specs.Stream.{Text};
 ghost use Rattle.aud_node.specs.Cluster.{Cluster};
+ghost use Rattle.aud_node.specs.Names.{AreNamedOnce};
 ghost use Rattle.aud_cert.specs.Certificate.{CertificateSeen, IsOver, turn_at};
-ghost use Rattle.aud_maker.specs.Made.{IsMade, AreNamedOnce};
+ghost use Rattle.aud_maker.specs.Made.{IsMade};
 
 /// Where each tap is the first with its name, the records of a made certificate's turns are those that it names, and
 /// they stand where it says.

@@ -9,3 +9,4 @@ pub mod ReadLemmas
 pub mod ConnectionLemmas
 pub mod ClientLemmas
 pub mod NamingLemmas
+pub mod AddresseeLemmas

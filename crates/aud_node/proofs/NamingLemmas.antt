@@ -63,12 +63,12 @@ AreBelow n (x ∷ xs) = (x < n) × AreBelow n xs
 less-false : (x n : ℕ) → x < n → nat_eq x n ≡ false
 less-false x n h = grind arith
 
-is_place-below : (n : ℕ) (xs : List ℕ) (i : ℕ) → AreBelow n xs → is_place n (slice_get xs i) ≡ false
+pub is_place-below : (n : ℕ) (xs : List ℕ) (i : ℕ) → AreBelow n xs → is_place n (slice_get xs i) ≡ false
 is_place-below n [] i h = refl
 is_place-below n (x ∷ xs) zero h = less-false x n h.0
 is_place-below n (x ∷ xs) (suc i) h = is_place-below n xs i h.1
 
-AreBelow-filter : (p : ℕ → Bool) (n first count : ℕ) → first + count ≡ n → AreBelow n (filter p (numbers_from first count))
+pub AreBelow-filter : (p : ℕ → Bool) (n first count : ℕ) → first + count ≡ n → AreBelow n (filter p (numbers_from first count))
 AreBelow-filter p n first zero h = tt
 AreBelow-filter p n first (suc count) h = go (p first) (AreBelow-filter p n (suc first) count (omega (arith, h)))
   where

@@ -10,7 +10,6 @@ pub mod NodeTaps
 pub mod Names
 pub mod AtPosition
 pub mod Offsets
-pub mod StreamIndices
 pub mod OwnRecords
 pub mod OwnPlaces
 pub mod NodeIndices
@@ -22,4 +21,6 @@ pub mod ClientRead
 pub mod Replies
 pub mod Kept
 pub mod Naming
+pub mod Addressees
+pub mod StreamIndices
 pub mod LogsIndexed

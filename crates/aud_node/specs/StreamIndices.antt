@@ -2,9 +2,11 @@
 use Rattle.std.specs.Prelude.{◌≡◌, map}
 use Rattle.aud_node.specs.Recoverable.{is_recoverable}
 use Rattle.aud_node.specs.Offsets.{HoldsOffsets}
+use Rattle.aud_node.specs.Addressees.{HoldsAddressees}
 use Rattle.aud_node.specs.declared.stream.Stream.TheInside.{Inside}
 
--- the positions and the flags are those of the entries
+-- the positions, the flags and the addressees are those of the entries
 pub record IsIndexed (s : Inside) : Type 0 where
   pub offsets_are : HoldsOffsets s.entries.now s.offsets
   pub flags_are : s.recoverable.items ≡ map is_recoverable s.entries.now
+  pub addressees_are : HoldsAddressees s.entries.now s.addressees

@@ -4,6 +4,7 @@
 //! Begin at [`logs`], which is made once from the taps; all that it lends was computed then.
 #![tactic(auto)]
 
+mod addressees;
 mod client_tap;
 mod connection;
 mod cursors;
@@ -15,6 +16,7 @@ mod node_log;
 mod offsets;
 mod own_records;
 mod payload;
+mod positions;
 mod recoverable;
 mod recs;
 mod replies;
@@ -36,5 +38,7 @@ pub use stream::Stream;
 mod client_tests;
 #[cfg(test)]
 mod naming_tests;
+#[cfg(test)]
+mod stream_tests;
 #[cfg(test)]
 mod tests;

@@ -3,7 +3,9 @@ ghost use Rattle.std.specs.Prelude.{◌≡◌, IfOk};
 ghost use Rattle.std.specs.Option.{option_copied};
 ghost use Rattle.aud_node.specs.Stream.{position, entry};
 ghost use Rattle.aud_node.specs.AtPosition.{is_recoverable_at, next_position};
+ghost use Rattle.aud_node.specs.Addressees.{positions_to_all, positions_to_room};
 
+use crate::addressees::Addressees;
 use crate::fields::offset;
 use crate::offsets::Offsets;
 use crate::recoverable::recoverable_of;
@@ -17,6 +19,7 @@ pub struct Stream<'a> {
     entries: &'a [StreamRec],
     offsets: Offsets<'a>,
     recoverable: Vec<bool>,
+    addressees: Addressees<'a>,
 }
 
 impl<'a> Model for Stream<'a> {
@@ -38,10 +41,12 @@ impl<'a> Stream<'a> {
     {
         let offsets = Offsets::build(alloc, entries)?;
         let recoverable = recoverable_of(alloc, entries)?;
+        let addressees = Addressees::build(alloc, entries, &recoverable)?;
         Ok(Stream {
             entries,
             offsets,
             recoverable,
+            addressees,
         })
     }
 
@@ -80,6 +85,20 @@ impl<'a> Stream<'a> {
             .get(position as usize - 1)
             .copied()
             .unwrap_or(false)
+    }
+
+    /// The positions, ascending, of the recoverable entries of the namespace that name the room.
+    pub fn positions(&self, nsp: &str, room: &str) -> &[u64]
+        ensures { result.now ≡ positions_to_room self.now nsp.now room.now }
+    {
+        self.addressees.to_room(nsp, room)
+    }
+
+    /// The positions, ascending, of the recoverable entries for the whole namespace.
+    pub fn to_all(&self, nsp: &str) -> &[u64]
+        ensures { result.now ≡ positions_to_all self.now nsp.now }
+    {
+        self.addressees.to_all(nsp)
     }
 
     /// The position behind the cursor, if the offset stands there. It is compared with that of the entry there, and

@@ -12,6 +12,9 @@ pub mod Sweep
 pub mod Kept
 pub mod Maximal
 pub mod Finished
+pub mod Parts
+pub mod Among
+pub mod Candidate
 pub mod OwnNumbers
 pub mod Records
 pub mod Walk

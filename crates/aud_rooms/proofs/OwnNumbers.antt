@@ -1,25 +1,15 @@
 -- The numbers of a session's records, between two numbers.
-use Rattle.std.proofs.Common.{◌≡◌, ◌<◌, ◌≤◌, ◌+◌, ◌-◌, ℕ, zero, suc, Bool, true, false, cond, ◌&&◌, List, [], ◌∷◌, ◌++◌, length, take, drop, get_or, filter, refl, sym, ap, ◌∙◌, ◌⊎◌, inl, inr, nat_le, nat_lt, arith, slice_get}
+use Rattle.std.proofs.Common.{◌≡◌, ◌<◌, ◌≤◌, ◌+◌, ◌-◌, ℕ, zero, suc, Bool, true, false, cond, ◌&&◌, List, [], ◌∷◌, ◌++◌, length, take, drop, get_or, filter, refl, ap, ◌∙◌, nat_lt, arith, slice_get}
 use Rattle.std.specs.List.{AllWithin}
 use Rattle.std.specs.List.Sorted.{IsNonDecreasing}
-use Rattle.std.proofs.lemmas.Bool.{cases_lt, le-leb, lt-leb, leb-true, leb-false}
+use Rattle.std.proofs.lemmas.Bool.{le-leb, lt-leb, leb-true, leb-false}
 use Rattle.std.proofs.lemmas.List.Elements.{filter-append}
 use Rattle.aud_tap.specs.declared.records.NodeRec.{NodeRec}
 use Rattle.aud_node.specs.Lists.{numbers_from}
 use Rattle.aud_node.specs.Stream.{Text}
 use Rattle.aud_node.specs.OwnRecords.{names, own_numbers}
 use Rattle.aud_rooms.specs.TurnPlaces.{is_between, own_between}
-
--- a test that holds of the first elements alone keeps these
-filter_take : (p : ℕ → Bool) (xs : List ℕ) (i : ℕ) → AllWithin (λ y. p y ≡ true) xs 0 i → AllWithin (λ y. p y ≡ false) xs i (length xs) → i ≤ length xs → filter p xs ≡ take i xs
-filter_take p [] zero front back h = refl
-filter_take p [] (suc i) front back h = refl
-filter_take p (x ∷ xs) zero front back h =
-    ap (λ b. cond b (x ∷ filter p xs) (filter p xs)) (back 0 x (omega arith) (omega arith))
-    ∙ filter_take p xs zero (λ k d a b. absurd (omega arith)) (λ k d a b. back (suc k) d (omega arith) (omega arith)) (omega arith)
-filter_take p (x ∷ xs) (suc i) front back h =
-    ap (λ b. cond b (x ∷ filter p xs) (filter p xs)) (front 0 x (omega arith) (omega arith))
-    ∙ ap (λ ys. x ∷ ys) (filter_take p xs i (λ k d a b. front (suc k) d (omega arith) (omega arith)) (λ k d a b. back (suc k) d (omega arith) (omega arith)) (omega arith))
+use Rattle.aud_rooms.proofs.Parts.{middle_parts}
 
 module _ (from to : ℕ) where
   too_low : (y : ℕ) → nat_lt y from ≡ true → is_between from to y ≡ false
@@ -33,18 +23,7 @@ module _ (from to : ℕ) where
       → AllWithin (λ y. nat_lt y from ≡ true) xs 0 before → AllWithin (λ y. nat_lt y from ≡ false) xs before (length xs) → before ≤ length xs
       → AllWithin (λ y. nat_lt y to ≡ true) (drop before xs) 0 count → AllWithin (λ y. nat_lt y to ≡ false) (drop before xs) count (length (drop before xs)) → count ≤ length (drop before xs)
       → filter (is_between from to) xs ≡ take count (drop before xs)
-  between_parts [] zero zero low high h front back g = refl
-  between_parts [] zero (suc count) low high h front back g = refl
-  between_parts [] (suc before) zero low high h front back g = refl
-  between_parts [] (suc before) (suc count) low high h front back g = refl
-  between_parts (x ∷ xs) zero count low high h front back g =
-      filter_take (is_between from to) (x ∷ xs) count
-      (λ k d a b. high_enough (get_or (x ∷ xs) k d) true (high k d (omega arith) (omega arith)) (front k d a b))
-      (λ k d a b. high_enough (get_or (x ∷ xs) k d) false (high k d (omega arith) b) (back k d a b))
-      g
-  between_parts (x ∷ xs) (suc before) count low high h front back g =
-      ap (λ b. cond b (x ∷ filter (is_between from to) xs) (filter (is_between from to) xs)) (too_low x (low 0 x (omega arith) (omega arith)))
-      ∙ between_parts xs before count (λ k d a b. low (suc k) d (omega arith) (omega arith)) (λ k d a b. high (suc k) d (omega arith) (omega arith)) (omega arith) front back g
+  between_parts = middle_parts (λ y. nat_lt y from) (λ y. nat_lt y to) (is_between from to) too_low high_enough
 
 -- numbers that don't fall, from one on
 abbrev Rises : ℕ → List ℕ → Type 0

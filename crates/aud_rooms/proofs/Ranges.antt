@@ -1,6 +1,5 @@
 -- Lists of consecutive positions.
-use Rattle.std.proofs.Common.{◌≡◌, ◌<◌, ◌≤◌, ◌+◌, ◌-◌, ℕ, zero, suc, Bool, false, cond, [], ◌∷◌, ◌++◌, map, filter, length, replicate, refl, sym, ap, ◌∙◌, zero-add, add-zero, arith}
-use Rattle.std.proofs.lemmas.List.Elements.{filter-append}
+use Rattle.std.proofs.Common.{◌≡◌, ◌<◌, ◌≤◌, ◌+◌, ℕ, zero, suc, ◌∷◌, ◌++◌, map, length, replicate, refl, sym, ap, ◌∙◌, zero-add, add-zero, arith}
 use Rattle.aud_node.specs.Stream.{positions_after}
 
 pub map_positions : {X : Type 0} (f g : ℕ → X) (low count : ℕ) → ((p : ℕ) → low < p → p ≤ low + count → f p ≡ g p) → map f (positions_after low count) ≡ map g (positions_after low count)
@@ -23,33 +22,3 @@ map_more f low (suc one) more =
 pub map_same : {X : Type 0} (x : X) (low count : ℕ) → map (λ _. x) (positions_after low count) ≡ replicate count x
 map_same x low zero = refl
 map_same x low (suc count) = ap (λ xs. x ∷ xs) (map_same x (suc low) count)
-
-pub positions_more : (low one more : ℕ) → positions_after low (one + more) ≡ positions_after low one ++ positions_after (low + one) more
-positions_more low zero more = ap (positions_after low) (zero-add more) ∙ ap (λ n. positions_after n more) (sym (add-zero low))
-positions_more low (suc one) more =
-    ap (positions_after low) (let e : suc one + more ≡ suc (one + more) = omega arith in e)
-    ∙ ap (λ xs. suc low ∷ xs) (positions_more (suc low) one more)
-    ∙ ap (λ n. suc low ∷ (positions_after (suc low) one ++ positions_after n more)) (let e : suc low + one ≡ low + suc one = omega arith in e)
-
-pub filter_positions : (f g : ℕ → Bool) (low count : ℕ) → ((p : ℕ) → low < p → p ≤ low + count → f p ≡ g p) → filter f (positions_after low count) ≡ filter g (positions_after low count)
-filter_positions f g low zero same = refl
-filter_positions f g low (suc count) same =
-    ap (λ b. cond b (suc low ∷ filter f (positions_after (suc low) count)) (filter f (positions_after (suc low) count))) (same (suc low) (omega arith) (omega arith))
-    ∙ ap (λ xs. cond (g (suc low)) (suc low ∷ xs) xs) (filter_positions f g (suc low) count (λ p a b. same p (omega arith) (omega arith)))
-
-pub filter_none : (f : ℕ → Bool) (low count : ℕ) → ((p : ℕ) → low < p → p ≤ low + count → f p ≡ false) → filter f (positions_after low count) ≡ []
-filter_none f low zero none = refl
-filter_none f low (suc count) none =
-    ap (λ b. cond b (suc low ∷ filter f (positions_after (suc low) count)) (filter f (positions_after (suc low) count))) (none (suc low) (omega arith) (omega arith))
-    ∙ filter_none f (suc low) count (λ p a b. none p (omega arith) (omega arith))
-
--- one more position
-pub filter_more : (f : ℕ → Bool) (low p : ℕ) (b : Bool) → low ≤ p → f (p + 1) ≡ b → filter f (positions_after low (p + 1 - low)) ≡ filter f (positions_after low (p - low)) ++ cond b ((p + 1) ∷ []) []
-filter_more f low p b from is =
-    let count : p + 1 - low ≡ (p - low) + 1 = omega arith in
-    let at : suc (low + (p - low)) ≡ p + 1 = omega arith in
-    ap (λ n. filter f (positions_after low n)) count
-    ∙ ap (filter f) (positions_more low (p - low) 1)
-    ∙ filter-append f (positions_after low (p - low)) (suc (low + (p - low)) ∷ [])
-    ∙ ap (λ q. filter f (positions_after low (p - low)) ++ filter f (q ∷ [])) at
-    ∙ ap (λ z. filter f (positions_after low (p - low)) ++ cond z ((p + 1) ∷ []) []) is

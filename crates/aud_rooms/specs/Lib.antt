@@ -8,6 +8,7 @@ pub mod Assigned
 pub mod Times
 pub mod RoomMap
 pub mod Reached
+pub mod Candidates
 pub mod Building
 pub mod TurnPlaces
 pub mod Walk

@@ -17,7 +17,7 @@ pub(crate) trait Holds {
 
 /// Whether an entry is addressed to a session of this namespace that holds these rooms: the namespace is the
 /// entry's, its rooms are none or one of them is held, and none of its excepted rooms is held. An entry that is no
-/// event is addressed to nobody.
+/// event is addressed to nobody. Whether it is recoverable is not asked.
 pub fn addressed(entry: &StreamRec, nsp: &str, rooms: &RoomSet) -> bool
     ensures { result ≡ is_addressed entry.now nsp.now rooms.now }
 {

@@ -1,13 +1,15 @@
 //! What is due by spans.
-ghost use Rattle.std.specs.Prelude.{◌≡◌, ◌≤◌, ◌-◌, ◌++◌, length, map, min, OnOk, IfOk};
+ghost use Rattle.std.specs.Prelude.{◌≡◌, ◌++◌, map, OnOk, IfOk};
 ghost use Rattle.std.specs.List.{filter};
-ghost use Rattle.std.specs.List.Sorted.{IsPermutation};
-ghost use Rattle.aud_node.specs.Stream.{entry, positions_after};
+ghost use Rattle.std.specs.List.Sorted.{IsNonDecreasing, IsPermutation};
+ghost use Rattle.aud_node.specs.Stream.{entry};
 ghost use Rattle.aud_rooms.specs.Rooms.{is_for};
 ghost use Rattle.aud_rooms.specs.Spans.{due_by_spans};
+ghost use Rattle.aud_rooms.specs.Candidates.{is_for_spans};
 ghost use Rattle.aud_rooms.specs.Reached.{AreByFirst, is_due_at};
 
 use crate::addressee::{Holds, is_for_holder};
+use crate::candidates::{candidates_of, cut_before};
 use crate::reached::Reached;
 use crate::span::Span;
 use aud_node::Stream;
@@ -15,7 +17,9 @@ use aud_tap::Memory;
 use std::alloc::Global;
 
 /// The recoverable positions past `birth` up to `high` that are addressed to the namespace and to the rooms whose spans
-/// hold them, ascending. The spans may stand in any order and overlap. Each position is asked once.
+/// hold them, ascending; positions count from 1. The spans may stand in any order and overlap. The entries that are for
+/// one of the rooms or for the whole namespace are found by the stream's index, and no others are looked at. The one
+/// error is want of memory.
 pub fn due_of(
     alloc: Global,
     spans: &[Span],
@@ -26,8 +30,9 @@ pub fn due_of(
 ) -> Result<Vec<u64>, Memory>
     ensures { IfOk result (λ due. due.items ≡ due_by_spans spans.now stream.now nsp.now birth high) }
 {
+    let found = candidates_of(alloc, spans, stream, nsp, birth, high)?;
     let begins = by_first(alloc, spans)?;
-    due_by_first(alloc, &begins, stream, nsp, birth, high)
+    due_by_first(alloc, &begins, &found, stream, nsp)
 }
 
 /// The spans in the order of their first positions.
@@ -50,51 +55,48 @@ fn lent<'s, 'a>(alloc: Global, spans: &'s [Span<'a>]) -> Result<Vec<&'s Span<'a>
     Ok(lent)
 }
 
-/// The same for spans in the order of their first positions: between two begins the same spans have begun.
+/// Of ascending positions, those that are addressed to the namespace and to the rooms whose spans hold them. The spans
+/// stand in the order of their first positions: between two begins the same spans have begun.
 fn due_by_first(
     alloc: Global,
     begins: &[&Span],
+    found: &[u64],
     stream: &Stream,
     nsp: &str,
-    birth: u64,
-    high: u64,
 ) -> Result<Vec<u64>, Memory>
-    requires { AreByFirst (map (λ s. s.now) begins.now) }
-    ensures { IfOk result (λ due. due.items ≡ due_by_spans (map (λ s. s.now) begins.now) stream.now nsp.now birth high) }
+    requires by_first { AreByFirst (map (λ s. s.now) begins.now) }
+    requires ascending { IsNonDecreasing found.now }
+    ensures { IfOk result (λ due. due.items ≡ filter (is_for_spans (map (λ s. s.now) begins.now) stream.now nsp.now) found.now) }
 {
-    let end = high.min(stream.entries().len() as u64);
     let mut reached = Reached::new(alloc);
     let mut due = Vec::new(alloc);
-    let mut at = birth;
+    let mut rest = found;
     for span in begins {
         let span: &Span = *span;
-        let upto = end.min(span.first.saturating_sub(1));
-        push_due(&mut due, &mut reached, stream, nsp, at, upto)?;
-        at = at.max(upto);
+        let (before, later) = cut_before(rest, span.first);
+        push_due(&mut due, &mut reached, stream, nsp, before)?;
         reached.reach(span)?;
+        rest = later;
     }
-    push_due(&mut due, &mut reached, stream, nsp, at, end)?;
+    push_due(&mut due, &mut reached, stream, nsp, rest)?;
     Ok(due)
 }
 
-/// Adds what is due past `from` up to `upto`, where no span begins in between.
+/// Adds those of the positions that are due, where no span begins in between.
 fn push_due(
     due: &mut Vec<u64>,
     reached: &mut Reached,
     stream: &Stream,
     nsp: &str,
-    from: u64,
-    upto: u64,
+    positions: &[u64],
 ) -> Result<(), Memory>
-    requires { upto ≤ length stream.now }
-    ensures due { OnOk result (due.new.items
-        ≡ due.old.items ++ filter (is_due_at reached.old.last_of.entries stream.now nsp.now) (positions_after from (upto - from))) }
+    ensures due { OnOk result (due.new.items ≡ due.old.items ++ filter (is_due_at reached.old.last_of.entries stream.now nsp.now) positions.now) }
     ensures reached { reached.new.last_of ≡ reached.old.last_of }
 {
-    for passed in from..upto {
-        reached.position = passed + 1;
-        if is_due(stream, nsp, reached.position, reached) {
-            let Ok(()) = due.push(reached.position) else {
+    for position in positions {
+        reached.position = *position;
+        if is_due(stream, nsp, *position, reached) {
+            let Ok(()) = due.push(*position) else {
                 return Err(Memory);
             };
         }

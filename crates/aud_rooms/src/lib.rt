@@ -4,6 +4,7 @@
 mod addressee;
 mod builder;
 mod building;
+mod candidates;
 mod due;
 mod holding;
 mod interval;
@@ -25,4 +26,8 @@ pub use turn_place::TurnPlace;
 pub use turn_spans::spans_of_turns;
 
 #[cfg(test)]
+mod due_tests;
+#[cfg(test)]
 mod tests;
+#[cfg(test)]
+mod turn_tests;

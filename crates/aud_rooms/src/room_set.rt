@@ -45,7 +45,8 @@ impl<'a> RoomSet<'a> {
         self.rooms.contains(room)
     }
 
-    /// The room is held from now on; one that is held already changes nothing.
+    /// The room is held from now on; one that is held already changes nothing. Where memory is wanted, the rooms are as
+    /// they were.
     pub fn join(&mut self, room: &'a str) -> Result<(), Memory>
         ensures joined { OnOk result (self.new ≡ set.insert self.old room.now) }
         ensures unchanged { OnErr result (self.new ≡ self.old) }

@@ -5,7 +5,7 @@ use aud_tap::{Blobs, Event, Records, StreamRec, StreamRecs, Tap, Taps, Text, Tex
 use std::alloc::{AllocError, Global};
 use std::test::Fail;
 
-fn text(alloc: Global, bytes: &str) -> Result<Text, AllocError> {
+pub fn text(alloc: Global, bytes: &str) -> Result<Text, AllocError> {
     Ok(Text::new(String::from_str(alloc, bytes)?))
 }
 

@@ -30,7 +30,7 @@ impl Model for TurnPlace {
 }
 
 impl TurnPlace {
-    /// The node's cursor after the first record.
+    /// The node's cursor after the first record: the last position that it had taken, 0 before any.
     pub fn low(&self, logs: &Logs<'_>) -> u64
         requires { IsWithin logs.now self.now }
         ensures { result ≡ (slice_of logs.now self.now).low }
@@ -38,7 +38,7 @@ impl TurnPlace {
         cursor_after(logs, self.node, self.from)
     }
 
-    /// The node's cursor after the last record.
+    /// The node's cursor after the last record: the last position that it had taken, 0 before any.
     pub fn high(&self, logs: &Logs<'_>) -> u64
         requires { IsWithin logs.now self.now }
         ensures { result ≡ (slice_of logs.now self.now).high }
@@ -46,8 +46,8 @@ impl TurnPlace {
         cursor_after(logs, self.node, self.to - 1)
     }
 
-    /// The numbers, ascending, of those of the records that name the pid; found by the node's index, without a look at
-    /// the others.
+    /// The numbers in the node's log, ascending, of those of the records that name the pid; lent from the node's index,
+    /// by which they are found without a look at the others.
     pub fn own<'l>(&self, logs: &'l Logs<'_>, pid: &str) -> &'l [usize]
         ensures { result.now ≡ own_between (node_log logs.now self.now.node) pid.now self.now.from self.now.to }
     {

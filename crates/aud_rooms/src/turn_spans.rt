@@ -16,8 +16,9 @@ use aud_tap::{Memory, NodeRec};
 use std::alloc::Global;
 
 /// The spans of the turns of the session with this pid and sid: past the first turn's low, up to the greatest high,
-/// by the bytes of the room, then by the first position. It looks at the session's own records alone, and at the
-/// cursors there; rooms are lent by the logs.
+/// by the bytes of the room, then by the first position. Each turn stands in the log of a node that took the stream in
+/// order. It looks at the session's own records alone, and at the cursors there; rooms are lent by the logs. The one
+/// error is want of memory.
 pub fn spans_of_turns<'a>(
     alloc: Global,
     logs: &Logs<'a>,

@@ -41,9 +41,11 @@ impl<'a> Assembler<'a> {
         Assembler { alloc, half: None }
     }
 
-    /// The next Engine.IO packet. A packet is given with its last attachment, or at once where it has none.
+    /// The next Engine.IO packet. A packet is given with its last attachment, or at once where it has none; it lends
+    /// what the Engine.IO packets lend.
     ///
-    /// After a refusal, want of memory too, the assembler is at rest: it holds nothing of the refused packet.
+    /// A text is refused as `TextWhileBinary` where attachments are awaited, and else as [`decode`] refuses it; bytes
+    /// as `StrayBinary` where none are. Control packets are read past. After a refusal, want of memory too, the assembler is at rest: it holds nothing of the refused packet.
     pub fn feed(&mut self, packet: Eio<'a>) -> Result<Option<Whole<'a>>, SioFault>
         ensures answers { Feeds self.old (messages_of (packet_view packet.entry)) result self.new }
         ensures control { messages_of (packet_view packet.entry) ≡ [] → (result ≡ Ok None) × (self.new ≡ self.old) }

@@ -1,6 +1,6 @@
 //! Why a message is refused.
 
-/// Why a message is refused; the first of these that holds is the one given.
+/// Why a message is refused; the first of these that holds is the one given. `Memory` may come in place of each.
 #[derive(Clone, Copy, Debug, PartialEq, Eq, Drop)]
 pub enum SioFault {
     /// A text message comes where attachments are awaited.

@@ -5,15 +5,22 @@ ghost use Rattle.aud_sio.specs.Kind.{is_binary, kind_at, kind_of, type_digit, wa
 
 use crate::fault::SioFault;
 
-/// The types of the protocol, in the order of their digits, from 0.
+/// The types of the protocol, in the order of their digits, from 0 (Socket.IO protocol 5, section "Packet encoding").
 #[derive(Clone, Copy, Debug, PartialEq, Eq, Drop)]
 pub enum PacketKind {
+    /// Digit 0: a client asks for a namespace, or the server lets it in.
     Connect,
+    /// Digit 1.
     Disconnect,
+    /// Digit 2.
     Event,
+    /// Digit 3: the answer to an event that has an acknowledgement id.
     Ack,
+    /// Digit 4: the server doesn't let the client in.
     ConnectError,
+    /// Digit 5: an event with attachments.
     BinaryEvent,
+    /// Digit 6: an answer with attachments.
     BinaryAck,
 }
 

@@ -1,8 +1,8 @@
 //! Packets of the Socket.IO protocol, version 5: the packet of a text, the text of a packet, and
 //! packets with their attachments, out of Engine.IO packets.
 //!
-//! Begin at [`packet`], whose parts `kind` to `payload` are modules of their own, and at
-//! [`assembler`].
+//! Begin at [`decode`], whose parts `kind` to `payload` are modules of their own, and at
+//! [`Assembler`].
 #![tactic(auto)]
 
 mod ack_id;

@@ -11,9 +11,10 @@ use crate::namespace::namespace_at;
 use crate::payload::payload_at;
 use std::alloc::Global;
 
-/// A packet, whose namespace and payload lie in the text that it was read from.
+/// A packet, whose namespace and payload are lent from the text that it was read from.
 #[derive(Drop)]
 pub struct Packet<'a> {
+    /// The type at the front of the text.
     pub kind: PacketKind,
     /// How many binary messages follow: 0 to 64, and 0 where the kind is not binary.
     pub attachments: u8,
@@ -21,7 +22,7 @@ pub struct Packet<'a> {
     pub nsp: &'a str,
     /// The acknowledgement id, of at most 18 digits.
     pub id: Option<u64>,
-    /// The JSON text that ends the packet.
+    /// The JSON text that ends the packet; an array where the kind carries arguments.
     pub payload: Option<&'a str>,
     /// The last element of a payload that is an array, where that element is a text: decoded, of
     /// its own memory.
@@ -32,7 +33,7 @@ pub struct Packet<'a> {
 /// namespace and its payload are lent from the text; memory is kept for `last` alone.
 ///
 /// An error is of the first part that is refused, in the order type, count of attachments,
-/// acknowledgement id, payload. That there are at most 64 attachments and at most 18 digits of an id,
+/// acknowledgement id, payload; or `Memory`, at the payload. That there are at most 64 attachments and at most 18 digits of an id,
 /// and that CONNECT, DISCONNECT and CONNECT_ERROR take any JSON or none, is this crate's choice.
 #[tactic(auto, unfolding(crate::specs::Packet::packet_of))]
 pub fn decode(alloc: Global, text: &str) -> Result<Packet<'_>, SioFault>
@@ -54,7 +55,7 @@ pub fn decode(alloc: Global, text: &str) -> Result<Packet<'_>, SioFault>
     })
 }
 
-/// The text at the end of the packet's payload, lent.
+/// The text at the end of the packet's payload, decoded, lent from `last`; none where another element stands there.
 pub fn last_text<'a>(packet: &'a Packet<'_>) -> Option<&'a str>
     ensures { option_map (λ s. s.now) result ≡ (view packet.now).last }
 {

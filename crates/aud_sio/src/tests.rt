@@ -1,6 +1,8 @@
-//! The examples of the Socket.IO protocol 5 document, and the bounds of each part.
+//! The examples of the Socket.IO protocol 5 document, section "Packet encoding", with the frames of its sample session;
+//! and the bounds of each part.
 use crate::PacketKind::{Ack, BinaryAck, BinaryEvent, Connect, ConnectError, Disconnect, Event};
-use crate::{SioFault, decode, encode, last_text};
+use crate::{PacketKind, SioFault, decode, encode, last_text};
+use std::alloc::Global;
 use std::test::Fail;
 
 #[test]
@@ -23,112 +25,144 @@ fn refuses(rt: HostRuntime) {
     }
 }
 
-/// Section "Packet encoding" of the document, with the frames of its sample session.
+/// The kind of a packet, the count of its attachments, its namespace, its acknowledgement id and its payload.
+type Parts<'a> = (PacketKind, u8, &'a str, Option<u64>, Option<&'a str>);
+
+/// What a text is read as, and what is then written.
+fn there_and_back<'a>(alloc: Global, text: &'a str) -> Result<(Parts<'a>, String), Fail> {
+    let packet = decode(alloc, text)?;
+    let written = encode(alloc, &packet)?;
+    let parts = (
+        packet.kind,
+        packet.attachments,
+        packet.nsp,
+        packet.id,
+        packet.payload,
+    );
+    Ok((parts, written))
+}
+
 #[test]
-fn reads_the_examples_of_the_document(rt: HostRuntime) -> Result<(), Fail> {
-    let token = Some(r#"{"token":"123"}"#);
-    let sid = Some(r#"{"sid":"CjdVH4TQvovi1VvgAC5Z"}"#);
-    let refused = Some(r#"{"message":"Not authorized"}"#);
-    let one = Some(r#"["baz",{"_placeholder":true,"num":0}]"#);
-    let two = Some(r#"["baz",{"_placeholder":true,"num":0},{"_placeholder":true,"num":1}]"#);
-    let answer = Some(r#"["bar",{"_placeholder":true,"num":0}]"#);
-    let alone = Some(r#"[{"_placeholder":true,"num":0}]"#);
-    let cases = [
-        (r#"0{"token":"123"}"#, Connect, 0, "/", None, token),
+fn a_connect_may_have_a_payload(rt: HostRuntime) -> Result<(), Fail> {
+    for (text, nsp, payload) in [
+        (r#"0{"token":"123"}"#, "/", Some(r#"{"token":"123"}"#)),
         (
             r#"0{"sid":"CjdVH4TQvovi1VvgAC5Z"}"#,
-            Connect,
-            0,
             "/",
-            None,
-            sid,
+            Some(r#"{"sid":"CjdVH4TQvovi1VvgAC5Z"}"#),
         ),
-        ("0/admin,", Connect, 0, "/admin", None, None),
-        (
-            r#"4/admin,{"message":"Not authorized"}"#,
-            ConnectError,
-            0,
-            "/admin",
-            None,
-            refused,
-        ),
-        (r#"2["foo"]"#, Event, 0, "/", None, Some(r#"["foo"]"#)),
-        (
-            r#"2/admin,["bar"]"#,
-            Event,
-            0,
-            "/admin",
-            None,
-            Some(r#"["bar"]"#),
-        ),
+        ("0/admin,", "/admin", None),
+    ] {
+        let (parts, written) = there_and_back(rt.alloc(), text)?;
+        assert_eq!(rt; parts, (Connect, 0, nsp, None, payload), "{text}");
+        assert_eq!(rt; written.as_str(), text);
+    }
+    Ok(())
+}
+
+#[test]
+fn a_connect_error_has_a_message(rt: HostRuntime) -> Result<(), Fail> {
+    let text = r#"4/admin,{"message":"Not authorized"}"#;
+    let message = Some(r#"{"message":"Not authorized"}"#);
+    let (parts, written) = there_and_back(rt.alloc(), text)?;
+    assert_eq!(rt; parts, (ConnectError, 0, "/admin", None, message));
+    assert_eq!(rt; written.as_str(), text);
+    Ok(())
+}
+
+#[test]
+fn a_disconnect_names_its_namespace(rt: HostRuntime) -> Result<(), Fail> {
+    let (parts, written) = there_and_back(rt.alloc(), "1/admin,")?;
+    assert_eq!(rt; parts, (Disconnect, 0, "/admin", None, None));
+    assert_eq!(rt; written.as_str(), "1/admin,");
+    Ok(())
+}
+
+#[test]
+fn an_event_names_any_namespace_but_the_main_one(rt: HostRuntime) -> Result<(), Fail> {
+    for (text, nsp, payload) in [
+        (r#"2["foo"]"#, "/", r#"["foo"]"#),
+        (r#"2["hey","Jude"]"#, "/", r#"["hey","Jude"]"#),
+        (r#"2/admin,["bar"]"#, "/admin", r#"["bar"]"#),
+    ] {
+        let (parts, written) = there_and_back(rt.alloc(), text)?;
+        assert_eq!(rt; parts, (Event, 0, nsp, None, Some(payload)), "{text}");
+        assert_eq!(rt; written.as_str(), text);
+    }
+    Ok(())
+}
+
+#[test]
+fn an_event_that_wants_an_acknowledgement_has_an_id(rt: HostRuntime) -> Result<(), Fail> {
+    for (text, nsp, id, payload) in [
+        (r#"212["foo"]"#, "/", 12, r#"["foo"]"#),
+        (r#"2/admin,1["tellme"]"#, "/admin", 1, r#"["tellme"]"#),
+    ] {
+        let (parts, written) = there_and_back(rt.alloc(), text)?;
+        assert_eq!(rt; parts, (Event, 0, nsp, Some(id), Some(payload)), "{text}");
+        assert_eq!(rt; written.as_str(), text);
+    }
+    Ok(())
+}
+
+#[test]
+fn an_acknowledgement_has_the_id_of_its_event(rt: HostRuntime) -> Result<(), Fail> {
+    let (parts, written) = there_and_back(rt.alloc(), r#"3/admin,13["bar"]"#)?;
+    assert_eq!(rt; parts, (Ack, 0, "/admin", Some(13), Some(r#"["bar"]"#)));
+    assert_eq!(rt; written.as_str(), r#"3/admin,13["bar"]"#);
+    Ok(())
+}
+
+#[test]
+fn a_binary_event_counts_its_attachments(rt: HostRuntime) -> Result<(), Fail> {
+    for (text, count, nsp, payload) in [
         (
             r#"51-["baz",{"_placeholder":true,"num":0}]"#,
-            BinaryEvent,
             1,
             "/",
-            None,
-            one,
+            r#"["baz",{"_placeholder":true,"num":0}]"#,
         ),
         (
             r#"52-/admin,["baz",{"_placeholder":true,"num":0},{"_placeholder":true,"num":1}]"#,
-            BinaryEvent,
             2,
             "/admin",
-            None,
-            two,
+            r#"["baz",{"_placeholder":true,"num":0},{"_placeholder":true,"num":1}]"#,
         ),
-        (r#"212["foo"]"#, Event, 0, "/", Some(12), Some(r#"["foo"]"#)),
-        (
-            r#"3/admin,13["bar"]"#,
-            Ack,
-            0,
-            "/admin",
-            Some(13),
-            Some(r#"["bar"]"#),
-        ),
+    ] {
+        let (parts, written) = there_and_back(rt.alloc(), text)?;
+        assert_eq!(rt;
+            parts,
+            (BinaryEvent, count, nsp, None, Some(payload)),
+            "{text}"
+        );
+        assert_eq!(rt; written.as_str(), text);
+    }
+    Ok(())
+}
+
+#[test]
+fn a_binary_acknowledgement_has_a_count_and_an_id(rt: HostRuntime) -> Result<(), Fail> {
+    for (text, nsp, id, payload) in [
         (
             r#"61-15["bar",{"_placeholder":true,"num":0}]"#,
-            BinaryAck,
-            1,
             "/",
-            Some(15),
-            answer,
-        ),
-        ("1/admin,", Disconnect, 0, "/admin", None, None),
-        (
-            r#"2["hey","Jude"]"#,
-            Event,
-            0,
-            "/",
-            None,
-            Some(r#"["hey","Jude"]"#),
-        ),
-        (
-            r#"2/admin,1["tellme"]"#,
-            Event,
-            0,
-            "/admin",
-            Some(1),
-            Some(r#"["tellme"]"#),
+            15,
+            r#"["bar",{"_placeholder":true,"num":0}]"#,
         ),
         (
             r#"61-/admin,1[{"_placeholder":true,"num":0}]"#,
-            BinaryAck,
-            1,
             "/admin",
-            Some(1),
-            alone,
+            1,
+            r#"[{"_placeholder":true,"num":0}]"#,
         ),
-    ];
-    for (text, kind, attachments, nsp, id, payload) in cases {
-        let packet = decode(rt.alloc(), text)?;
-        assert_eq!(rt; packet.kind, kind);
-        assert_eq!(rt; packet.attachments, attachments);
-        assert!(rt; packet.nsp == nsp);
-        assert_eq!(rt; packet.id, id);
-        assert!(rt; packet.payload == payload);
-        let written = encode(rt.alloc(), &packet)?;
-        assert!(rt; written.as_str() == text);
+    ] {
+        let (parts, written) = there_and_back(rt.alloc(), text)?;
+        assert_eq!(rt;
+            parts,
+            (BinaryAck, 1, nsp, Some(id), Some(payload)),
+            "{text}"
+        );
+        assert_eq!(rt; written.as_str(), text);
     }
     Ok(())
 }
@@ -157,21 +191,16 @@ fn reads_the_parts(rt: HostRuntime) -> Result<(), Fail> {
     let (empty, a) = (Some("[]"), Some(r#"["a"]"#));
     let named = r#"2/admin,456["project:delete",123]"#;
     let delete = Some(r#"["project:delete",123]"#);
-    for (text, kind, attachments, nsp, id, payload, last) in [
-        ("1/admin", Disconnect, 0, "/admin", None, None, None),
-        ("2/,[]", Event, 0, "/", None, empty, None),
-        (r#"2/n,7["a"]"#, Event, 0, "/n", Some(7), a, Some("a")),
-        (named, Event, 0, "/admin", Some(456), delete, None),
-        ("3/admin,456[]", Ack, 0, "/admin", Some(456), empty, None),
-        ("564-[]", BinaryEvent, 64, "/", None, empty, None),
+    for (text, parts) in [
+        ("1/admin", (Disconnect, 0, "/admin", None, None)),
+        ("2/,[]", (Event, 0, "/", None, empty)),
+        (r#"2/n,7["a"]"#, (Event, 0, "/n", Some(7), a)),
+        (named, (Event, 0, "/admin", Some(456), delete)),
+        ("3/admin,456[]", (Ack, 0, "/admin", Some(456), empty)),
+        ("564-[]", (BinaryEvent, 64, "/", None, empty)),
     ] {
-        let packet = decode(rt.alloc(), text)?;
-        assert_eq!(rt; packet.kind, kind, "{text}");
-        assert_eq!(rt; packet.attachments, attachments, "{text}");
-        assert_eq!(rt; packet.nsp, nsp, "{text}");
-        assert_eq!(rt; packet.id, id, "{text}");
-        assert_eq!(rt; packet.payload, payload, "{text}");
-        assert_eq!(rt; last_text(&packet), last, "{text}");
+        let (read, _) = there_and_back(rt.alloc(), text)?;
+        assert_eq!(rt; read, parts, "{text}");
     }
     Ok(())
 }

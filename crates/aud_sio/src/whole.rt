@@ -10,7 +10,7 @@ use crate::packet::Packet;
 pub enum Blob<'a> {
     /// It came as bytes, which it lends.
     Lent(&'a [u8]),
-    /// It came in base64.
+    /// It came in base64: the bytes that this spells.
     Own(Vec<u8>),
 }
 
@@ -31,6 +31,7 @@ impl<'a> Blob<'a> {
 pub struct Whole<'a> {
     /// The text that the packet was read from.
     pub text: &'a str,
+    /// The packet, lent from that text.
     pub packet: Packet<'a>,
     /// As many as the packet's `attachments`.
     pub bin: Vec<Blob<'a>>,

@@ -19,9 +19,9 @@ use open_taps::OpenTaps;
 use std::alloc::Global;
 use std::marker::Model;
 
-/// Reads the taps of the lines that it is given, one line at a time.
+/// Reads the taps of the lines that it is given, one line at a time, and copies what it keeps.
 ///
-/// After a refusal it gives that refusal from then on.
+/// After a refusal, want of memory too, it gives that refusal from then on.
 #[derive(Drop)]
 pub struct BundleReader {
     taps: OpenTaps,
@@ -54,7 +54,8 @@ impl BundleReader {
         }
     }
 
-    /// Reads the next line. A line without bytes is passed over.
+    /// Reads the next line. A line without bytes is passed over. A line is refused by its own number, and the first of
+    /// the reasons that docs/FORMAT.md lists, in the light of the lines before it.
     pub fn line(&mut self, line: &Line) -> Result<(), ReadFault>
         ensures value { result ≡ result_of self.new.fault }
         ensures taps { (more : List Line) → result ≢ Err ReadFault.Memory → taps_to_come self.new more ≡ taps_to_come self.old (line.now ∷ more) }
@@ -76,7 +77,7 @@ impl BundleReader {
         }
     }
 
-    /// The taps of the lines.
+    /// The taps of the lines, in the order of their headers. It refuses where a line was refused, and for want of memory.
     pub fn finish(self) -> Result<Taps, ReadFault>
         ensures ok { IfOk result (λ taps. taps_to_come self [] ≡ Ok taps) }
         ensures err { IfErr result (λ e. e ≢ ReadFault.Memory → self.fault ≡ Some e) }
@@ -95,7 +96,8 @@ impl BundleReader {
 /// The taps of the lines, in the order of their headers; or the first refused line, by its number
 /// and the first of the reasons that docs/FORMAT.md lists.
 ///
-/// Each line is judged by the taps of the lines before it. Lines without bytes are passed over.
+/// Each line is judged by the taps of the lines before it. Lines without bytes are passed over. The lines are lent for
+/// the call alone.
 pub fn read_bundle(alloc: Global, lines: &[Line]) -> Result<Taps, ReadFault>
     ensures read { IfOk result (λ taps. taps_of lines.now ≡ Ok taps) }
     ensures refused { IfErr result (λ e. e ≢ ReadFault.Memory → taps_of lines.now ≡ Err e) }

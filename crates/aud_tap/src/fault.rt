@@ -43,7 +43,9 @@ pub enum InputCode {
 /// The refusal of a line by its number, which counts from 1; or want of memory.
 #[derive(Clone, Copy, Debug, PartialEq, Eq, Drop)]
 pub enum ReadFault {
+    /// The line with this number is refused, for this reason.
     Input(u64, InputCode),
+    /// Memory could not be had.
     Memory,
 }
 

@@ -18,7 +18,7 @@ pub use bundle::{BundleReader, read_bundle};
 pub use fault::{InputCode, Memory, ReadFault};
 pub use limits::MAX_LINE;
 pub use line::Line;
-pub use read::{is_session_id, parse_line};
+pub use read::{is_session_id, is_tap_name, parse_line};
 pub use records::{ClientRec, Event, NodeRec, Rec, StreamRec, TapKind};
 pub use splitter::Splitter;
 pub use taps::{ClientRecs, NodeRecs, Records, StreamRecs, Tap, Taps};

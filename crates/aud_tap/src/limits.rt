@@ -8,18 +8,25 @@ use crate::text::Text;
 /// The most bytes of a line, without its newline and without the carriage return that is dropped.
 pub const MAX_LINE: usize = 4_194_304;
 
+/// The most bytes of a tap's name.
 pub const MAX_NAME: usize = 32;
 
+/// The most bytes of a pid or a sid.
 pub const MAX_ID: usize = 128;
 
+/// The most bytes of an offset.
 pub const MAX_OFFSET: usize = 64;
 
+/// The most bytes of a room.
 pub const MAX_ROOM: usize = 256;
 
+/// The most bytes of a namespace.
 pub const MAX_NAMESPACE: usize = 256;
 
+/// The most rooms that an event is for, and the most that it excepts.
 pub const MAX_ROOMS: usize = 256;
 
+/// The most attachments of an event.
 pub const MAX_ATTACHMENTS: usize = 64;
 
 /// The text is not empty, and no longer than `most`.

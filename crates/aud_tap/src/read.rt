@@ -10,3 +10,4 @@ mod tap_name;
 
 pub use fields::is_session_id;
 pub use line::parse_line;
+pub use tap_name::is_tap_name;

@@ -1,18 +1,24 @@
-//! The records of each kind of tap.
+//! The records of each kind of tap. docs/FORMAT.md has the forms and the limits of their fields, which a reader has
+//! looked at; a record that is built by hand may have others.
 use crate::text::{Blobs, Bytes, Text, Texts};
 
 /// What a tap was put on.
 #[derive(Clone, Copy, Debug, PartialEq, Eq, Drop)]
 pub enum TapKind {
+    /// The event stream; a bundle has one such tap at most.
     Stream,
+    /// A node of the cluster; a bundle has 64 at most.
     Node,
+    /// A client; a bundle has 4,096 at most.
     Client,
 }
 
 /// An event of the stream.
 #[derive(Drop)]
 pub struct Event {
+    /// Its offset, which no other entry of the stream has.
     pub off: Text,
+    /// Its namespace, which begins with `/`.
     pub nsp: Text,
     /// The rooms that it is for; none means the whole namespace.
     pub rooms: Texts,
@@ -20,12 +26,14 @@ pub struct Event {
     pub except: Texts,
     /// The Socket.IO text as it is sent, its offset included, without Engine.IO's digit.
     pub text: Text,
+    /// Its attachments, decoded from base64; at most 64.
     pub bin: Blobs,
 }
 
 /// A record of the stream's tap: an entry of the stream.
 #[derive(Drop)]
 pub enum StreamRec {
+    /// An event, which nodes send to whom it is for.
     Ev(Event),
     /// An entry that is no event.
     Other { off: Text },
@@ -38,12 +46,15 @@ pub enum NodeRec {
     Start { off: Option<Text> },
     /// The node takes an entry and sends it to whom it is addressed.
     Take { off: Text },
+    /// A session of the namespace begins, in the one room named by its sid.
     Opened { pid: Text, sid: Text, nsp: Text },
+    /// The session joins the room.
     Join { pid: Text, room: Text },
+    /// The session leaves the room.
     Leave { pid: Text, room: Text },
     /// The connection broke; the session may be recovered. Turns count from 0.
     Broke { pid: Text, turn: u16 },
-    /// The session was recovered here.
+    /// The session was recovered here, and begins this turn; the first recovery begins turn 1.
     Back { pid: Text, turn: u16 },
     /// The session is over.
     Gone { pid: Text },
@@ -52,7 +63,7 @@ pub enum NodeRec {
 /// A record of a client's tap.
 #[derive(Drop)]
 pub enum ClientRec {
-    /// A connection begins.
+    /// A connection begins, with a number greater than that of the tap's one before.
     Conn { c: u64 },
     /// A text message from the server.
     TextIn { t: Text },
@@ -71,7 +82,10 @@ pub enum ClientRec {
 pub enum Rec {
     /// The first line of a tap: what it was put on, and the version of the format.
     Header { of: TapKind, v: u64 },
+    /// A record of the stream's tap.
     Stream(StreamRec),
+    /// A record of a node's tap.
     Node(NodeRec),
+    /// A record of a client's tap.
     Client(ClientRec),
 }

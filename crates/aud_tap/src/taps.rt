@@ -21,6 +21,7 @@ impl Model for StreamRecs {
 }
 
 impl StreamRecs {
+    /// These records, in the order in which the tap wrote them.
     pub fn new(recs: Vec<StreamRec>) -> StreamRecs
         ensures { result ≡ recs.items }
     {
@@ -51,6 +52,7 @@ impl Model for NodeRecs {
 }
 
 impl NodeRecs {
+    /// These records, in the order in which the tap wrote them.
     pub fn new(recs: Vec<NodeRec>) -> NodeRecs
         ensures { result ≡ recs.items }
     {
@@ -81,6 +83,7 @@ impl Model for ClientRecs {
 }
 
 impl ClientRecs {
+    /// These records, in the order in which the tap wrote them.
     pub fn new(recs: Vec<ClientRec>) -> ClientRecs
         ensures { result ≡ recs.items }
     {
@@ -95,7 +98,7 @@ impl ClientRecs {
     }
 }
 
-/// What a tap wrote, without its header.
+/// What a tap wrote, without its header: records are numbered from 0 behind it.
 #[derive(Drop)]
 pub enum Records {
     Stream(StreamRecs),
@@ -106,6 +109,7 @@ pub enum Records {
 /// A tap.
 #[derive(Drop)]
 pub struct Tap {
+    /// Its name, which no other tap of a bundle has.
     pub name: Text,
     pub records: Records,
 }
@@ -126,6 +130,7 @@ impl Model for Taps {
 }
 
 impl Taps {
+    /// These taps. Nothing is asked of them: a bundle's rules are the reader's.
     pub fn new(taps: Vec<Tap>) -> Taps
         ensures { result ≡ taps.items }
     {

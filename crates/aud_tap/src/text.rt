@@ -18,6 +18,7 @@ impl Model for Text {
 }
 
 impl Text {
+    /// The text as it is: forms and limits are the reader's.
     pub fn new(text: String) -> Text
         ensures { result ≡ string_bytes text }
     {
@@ -47,6 +48,7 @@ impl Model for Texts {
 }
 
 impl Texts {
+    /// These texts, in this order.
     pub fn new(texts: Vec<Text>) -> Texts
         ensures { result ≡ texts.items }
     {
@@ -76,6 +78,7 @@ impl Model for Bytes {
 }
 
 impl Bytes {
+    /// The bytes as they are.
     pub fn new(bytes: Vec<u8>) -> Bytes
         ensures { result ≡ bytes.items }
     {
@@ -105,6 +108,7 @@ impl Model for Blobs {
 }
 
 impl Blobs {
+    /// These attachments, in this order.
     pub fn new(blobs: Vec<Bytes>) -> Blobs
         ensures { result ≡ blobs.items }
     {

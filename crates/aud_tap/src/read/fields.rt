@@ -182,3 +182,6 @@ pub fn blobs_at(alloc: Global, key: &str, d: &Value) -> Result<Blobs, LineFault>
     let items = list.as_array().ok_or(FIELD)?;
     blobs(alloc, items)
 }
+
+#[cfg(test)]
+mod tests;

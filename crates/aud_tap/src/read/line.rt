@@ -72,7 +72,8 @@ fn parse(alloc: Global, line: &[u8]) -> Result<(String, Rec), LineFault>
 /// The tap's name and the record of a line, with the form and the fields of this line alone looked
 /// at: in the order of docs/FORMAT.md, and with the kinds of any tap.
 ///
-/// Unknown keys are passed over, and of a key that stands twice the last value counts.
+/// Unknown keys are passed over, and of a key that stands twice the last value counts. The refusal has the line's own
+/// number. What is returned is copied.
 pub fn parse_line(alloc: Global, line: &Line) -> Result<(String, Rec), ReadFault>
     ensures read { IfOk result (λ p. line_record line.now.bytes ≡ Ok (string_bytes p.0, p.1)) }
     ensures refused { IfErr result

@@ -18,7 +18,7 @@ fn are_name_bytes(name: &[u8]) -> bool
     name.iter().all(|b| is_name_byte(*b))
 }
 
-fn is_tap_name(name: &[u8]) -> bool
+fn is_name(name: &[u8]) -> bool
     ensures { result ≡ is_tap_name name.now }
 {
     if name.is_empty() || name.len() > MAX_NAME {
@@ -27,12 +27,19 @@ fn is_tap_name(name: &[u8]) -> bool
     are_name_bytes(name)
 }
 
+/// Whether the text can be a tap's name: 1 to 32 bytes, each a digit or a letter of ASCII, `_`, `.` or `-`.
+pub fn is_tap_name(name: &str) -> bool
+    ensures { result ≡ is_tap_name name.now }
+{
+    is_name(name.as_bytes())
+}
+
 /// The bytes as a text, if they are a tap's name.
 pub fn tap_name(name: &[u8]) -> Option<&str>
     ensures value { option_map (λ s. s.now) result ≡ passing is_tap_name name.now }
     ensures form { IfSome result (λ s. IsTrue (is_tap_name s.now)) }
 {
-    if !is_tap_name(name) {
+    if !is_name(name) {
         return None;
     }
     str::from_utf8(name).ok()
@@ -53,3 +60,6 @@ pub fn cut_at_blank(line: &[u8]) -> Option<(&[u8], &[u8])>
         _ => None,
     }
 }
+
+#[cfg(test)]
+mod tests;

@@ -70,8 +70,8 @@ fn line_bytes(alloc: Global, name: &str, rec: &Rec) -> Result<Vec<u8>, AllocErro
 }
 
 /// The line of a record, without a newline: the tap's name, a blank, and JSON without blanks whose
-/// keys are in byte order, with empty lists left out. A line that would be longer than 4,194,304
-/// bytes is refused as `LineTooLong` with the number 1.
+/// keys are in byte order, with empty lists left out. The name and the fields are of a bundle's forms and limits. A line
+/// that would be longer than 4,194,304 bytes is refused as `LineTooLong` with the number 1; the other error is `Memory`.
 pub fn write_line(alloc: Global, name: &str, rec: &Rec) -> Result<Vec<u8>, ReadFault>
     requires name { IsTrue (is_tap_name name.now) }
     requires record { IsTrue (is_well_formed rec.now) }

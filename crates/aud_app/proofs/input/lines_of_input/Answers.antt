@@ -1,7 +1,10 @@
+use Rattle.std.proofs.Common.{◌∙◌, ap}
+use Rattle.aud_tap.specs.Lines.{lines_of}
 use Rattle.aud_app.proofs.InputLemmas.{lines_cut}
 use Rattle.aud_app.proofs.input.lines_of_input.Goals as goal
 
 pub returns-in-Err-Input-clause-lines : goal.returns-in-Err-Input-clause-lines
 returns-in-Err-Input-clause-lines c =
     let refused = rw c.in-Err-Input.field-0-is at c.in-Err-Input.ensures in
-    lines_cut c.new-splitter.result c.feed.new.self c.args.bytes.now _ c.take.result.items c.new-splitter.ensures.lines (λ more. refused.lines more (λ e. cc)) refused.value c.take.ensures.lines
+    let cut = lines_cut c.new-splitter.result c.feed.new.self c.deref.result.now _ c.take.result.items c.new-splitter.ensures.lines (λ more. refused.lines more (λ e. cc)) refused.value c.take.ensures.lines in
+    cut ∙ ap lines_of c.deref.ensures.value

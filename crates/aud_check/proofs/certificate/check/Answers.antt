@@ -1,4 +1,6 @@
-use Rattle.std.proofs.Common.{◌≡◌, ◌+◌, List, length, sym, ap, ◌∙◌}
+use Rattle.std.specs.Result.{OnOk, IfOk, IfErr}
+use Rattle.std.proofs.Common.{◌≡◌, ◌+◌, List, length, refl, sym, ap, subst, ◌∙◌}
+use Rattle.aud_cert.specs.Certificate.{CertificateSeen}
 use Rattle.aud_merge.specs.declared.step.Step.{Step}
 use Rattle.aud_merge.specs.Runs.{IsRun}
 use Rattle.aud_merge.specs.Due.{due}
@@ -11,40 +13,52 @@ use Rattle.aud_check.specs.Shown.{shown_due, turns_of, who_of}
 use Rattle.aud_check.specs.Refusals.{IsAccepted, IsFirstRefusal, IsMismatch, Place, Refuses, case_of}
 use Rattle.aud_check.proofs.AcceptedTurns.{all_accepted, are_turns}
 use Rattle.aud_check.proofs.Headline.{on_ok, if_ok, if_err, first_of_all, in_every_run, in_no_run}
+use Rattle.aud_check.proofs.Judged.{same_cert}
 use Rattle.aud_check.proofs.Ranks.{nothing_refuses}
 use Rattle.aud_check.proofs.certificate.check.Goals as goal
 
 pub returns-clause-not_refused : goal.returns-clause-not_refused
 returns-clause-not_refused c =
-    on_ok c.judge.result (IsAccepted c.args.logs.now c.args.cert.now) ((place : Place) (refusal : Refusal) → Refuses c.args.logs.now c.args.cert.now place refusal → ⊥)
-    (nothing_refuses c.args.logs.now c.args.cert.now) c.judge.ensures.accepted
+    let C = c.args.logs.now in
+    let cert = c.args.cert.now in
+    let parts = same_cert c.session_of-session.ensures c.cert.view_is refl c.as_slice-turns.ensures.value c.as_slice-spans.ensures.value in
+    let accepted = subst (λ (x : CertificateSeen). OnOk c.judge.result (IsAccepted C x)) parts c.judge.ensures.accepted in
+    on_ok c.judge.result (IsAccepted C cert) ((place : Place) (refusal : Refusal) → Refuses C cert place refusal → ⊥) (nothing_refuses C cert) accepted
 
 pub returns-clause-are_turns : goal.returns-clause-are_turns
 returns-clause-are_turns c =
     let C = c.args.logs.now in
     let cert = c.args.cert.now in
+    let parts = same_cert c.session_of-session.ensures c.cert.view_is refl c.as_slice-turns.ensures.value c.as_slice-spans.ensures.value in
+    let accepted = subst (λ (x : CertificateSeen). OnOk c.judge.result (IsAccepted C x)) parts c.judge.ensures.accepted in
     on_ok c.judge.result (IsAccepted C cert) (AreTurns C (who_of cert) 0 (turns_of C cert))
-    (λ (is : IsAccepted C cert). are_turns C cert c.requires.over (all_accepted C cert.pid cert.turns is.are_turns)) c.judge.ensures.accepted
+    (λ (is : IsAccepted C cert). are_turns C cert c.requires.over (all_accepted C cert.pid cert.turns is.are_turns)) accepted
 
 pub returns-clause-in_every_run : goal.returns-clause-in_every_run
 returns-clause-in_every_run c =
     let C = c.args.logs.now in
     let cert = c.args.cert.now in
+    let parts = same_cert c.session_of-session.ensures c.cert.view_is refl c.as_slice-turns.ensures.value c.as_slice-spans.ensures.value in
+    let accepted = subst (λ (x : CertificateSeen). OnOk c.judge.result (IsAccepted C x)) parts c.judge.ensures.accepted in
     on_ok c.judge.result (IsAccepted C cert) ((run : List Step) → IsRun C run → IsPrefixOf (positions_in (case_of C cert)) (due C run cert.pid))
-    (λ (is : IsAccepted C cert). in_every_run C cert c.due_by_turns.ensures.prefix c.requires.over is.are_turns is.is_received.is_prefix) c.judge.ensures.accepted
+    (λ (is : IsAccepted C cert). in_every_run C cert c.due_by_turns.ensures.prefix c.requires.over is.are_turns is.is_received.is_prefix) accepted
 
 pub returns-clause-counts_in_every_run : goal.returns-clause-counts_in_every_run
 returns-clause-counts_in_every_run c =
     let C = c.args.logs.now in
     let cert = c.args.cert.now in
+    let parts = same_cert c.session_of-session.ensures c.cert.view_is refl c.as_slice-turns.ensures.value c.as_slice-spans.ensures.value in
+    let tail = subst (λ (x : CertificateSeen). IfOk c.judge.result (λ (a : Accepted). a.got + a.tail ≡ length (shown_due C x))) parts c.judge.ensures.tail in
     if_ok c.judge.result (λ (a : Accepted). a.got + a.tail ≡ length (shown_due C cert))
     (λ (a : Accepted). IsChain C (who_of cert) (turns_of C cert) → (run : List Step) → IsRun C run → a.got + a.tail ≡ length (due C run cert.pid))
-    (λ a all chain run is. all ∙ sym (ap length (c.due_by_turns.ensures.all C run (who_of cert) (turns_of C cert) is chain))) c.judge.ensures.tail
+    (λ a all chain run is. all ∙ sym (ap length (c.due_by_turns.ensures.all C run (who_of cert) (turns_of C cert) is chain))) tail
 
 pub returns-clause-in_no_run : goal.returns-clause-in_no_run
 returns-clause-in_no_run c =
     let C = c.args.logs.now in
     let cert = c.args.cert.now in
+    let parts = same_cert c.session_of-session.ensures c.cert.view_is refl c.as_slice-turns.ensures.value c.as_slice-spans.ensures.value in
+    let refused = subst (λ (x : CertificateSeen). IfErr c.judge.result (IsFirstRefusal C x)) parts c.judge.ensures.refused in
     if_err c.judge.result (IsFirstRefusal C cert)
     (λ (refusal : Refusal). IsMismatch refusal → IsChain C (who_of cert) (turns_of C cert) → (run : List Step) → IsRun C run → IsPrefixOf (positions_in (case_of C cert)) (due C run cert.pid) → ⊥)
-    (λ refusal first about. in_no_run C cert refusal (first_of_all C cert refusal about first) about c.due_by_turns.ensures.all) c.judge.ensures.refused
+    (λ refusal first about. in_no_run C cert refusal (first_of_all C cert refusal about first) about c.due_by_turns.ensures.all) refused

@@ -12,7 +12,7 @@ returns c =
     let who = c.args.session.now in
     let spans = c.args.spans.now in
     let accepted = all_accepted C who.pid turns c.requires.accepted in
-    let low = c.first_low-birth.ensures ∙ lows C who.pid 0 turns c.requires.some accepted in
+    let low = c.first_low-birth.ensures ∙ lows C who.pid 0 turns accepted in
     let high = c.greatest_high-high.ensures ∙ highs C who.pid 0 turns accepted in
     let nsp : c.session.inside.nsp.now ≡ who.nsp = ap (λ (w : Who). w.nsp) c.session.view_is in
     c.in_ok-due.ensures

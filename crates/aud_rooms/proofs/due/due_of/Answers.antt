@@ -1,16 +1,32 @@
-use Rattle.std.proofs.Common.{List, map, ap, ◌∙◌}
+use Rattle.std.proofs.Common.{List, filter, length, map, sym, ap, subst, ◌∙◌}
+use Rattle.std.specs.List.Sorted.{IsNonDecreasing}
 use Rattle.std.proofs.lemmas.Result.{IfOk-weaker}
 use denote.Ref.{Bor}
-use Rattle.aud_rooms.specs.Spans.{RoomSpan, due_by_spans}
-use Rattle.aud_rooms.proofs.Sweep.{due_permuted}
+use Rattle.aud_rooms.specs.Spans.{RoomSpan}
+use Rattle.aud_rooms.specs.Candidates.{candidates, is_candidate, is_for_spans}
+use Rattle.aud_rooms.proofs.Among.{ascends-positions, non_decreasing}
+use Rattle.aud_rooms.proofs.Candidate.{candidates_due}
+use Rattle.aud_rooms.proofs.Sweep.{for_permuted}
 use Rattle.aud_rooms.proofs.due.due_of.Goals as goal
+
+pub due_by_first-requires-clause-ascending : goal.due_by_first-requires-clause-ascending
+due_by_first-requires-clause-ascending c =
+    let stream = c.args.stream.now in
+    let found = candidates c.args.spans.now stream c.args.nsp.now c.args.birth c.args.high in
+    subst IsNonDecreasing (sym (c.deref-2.ensures.value ∙ c.in_ok-found.ensures))
+    (non_decreasing found (ascends-positions (is_candidate c.args.spans.now stream c.args.nsp.now c.args.birth c.args.high) 0 (length stream)))
 
 pub returns : goal.returns
 returns c =
+    let stream = c.args.stream.now in
+    let nsp = c.args.nsp.now in
     let begins = c.in_ok-begins.begins.items in
+    let found = candidates c.args.spans.now stream nsp c.args.birth c.args.high in
     IfOk-weaker c.due_by_first.result _ _
     (λ due is.
     is
-    ∙ ap (λ (xs : List (Bor RoomSpan)). due_by_spans (map (λ (s : Bor RoomSpan). s.now) xs) c.args.stream.now c.args.nsp.now c.args.birth c.args.high) c.deref.ensures.value
-    ∙ due_permuted c.args.spans.now (map (λ (s : Bor RoomSpan). s.now) begins) c.args.stream.now c.args.nsp.now c.args.birth c.args.high c.in_ok-begins.ensures.permutation)
+    ∙ ap (λ (xs : List (Bor RoomSpan)). filter (is_for_spans (map (λ (s : Bor RoomSpan). s.now) xs) stream nsp) c.deref-2.result.now) c.deref.ensures.value
+    ∙ ap (filter (is_for_spans (map (λ (s : Bor RoomSpan). s.now) begins) stream nsp)) (c.deref-2.ensures.value ∙ c.in_ok-found.ensures)
+    ∙ for_permuted c.args.spans.now (map (λ (s : Bor RoomSpan). s.now) begins) stream nsp found c.in_ok-begins.ensures.permutation
+    ∙ candidates_due c.args.spans.now stream nsp c.args.birth c.args.high)
     c.due_by_first.ensures

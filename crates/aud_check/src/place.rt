@@ -1,0 +1,48 @@
+//! Where the turns of a certificate stand in the logs.
+ghost use Rattle.std.specs.Prelude.{◌≡◌, IfOk, MatchOption, [], map};
+ghost use Rattle.aud_node.specs.Cluster.{node_log};
+ghost use Rattle.aud_cert.specs.Certificate.{turn_at};
+
+use aud_cert::Turn;
+use aud_node::{Logs, Recs};
+use aud_rooms::TurnPlace;
+use aud_tap::Memory;
+use std::alloc::Global;
+
+/// Where the turns stand, turn after turn.
+pub(crate) fn places_of(
+    alloc: Global,
+    logs: &Logs<'_>,
+    turns: &[Turn<'_>],
+) -> Result<Vec<TurnPlace>, Memory>
+    ensures { IfOk result (λ places. places.items ≡ map (turn_at logs.now) turns.now) }
+{
+    let mut places = Vec::new(alloc);
+    for turn in turns {
+        let Ok(()) = places.push(place_of(logs, turn)) else {
+            return Err(Memory);
+        };
+    }
+    Ok(places)
+}
+
+/// Where the turn stands; behind all taps where none has the name of its node.
+pub(crate) fn place_of(logs: &Logs<'_>, turn: &Turn<'_>) -> TurnPlace
+    ensures { result ≡ turn_at logs.now turn.now }
+{
+    TurnPlace {
+        node: logs.place_of(turn.node).unwrap_or(logs.taps().len()),
+        from: turn.from as usize,
+        to: turn.to as usize,
+    }
+}
+
+/// The records of the node whose tap is at this place, lent by the logs; none where that tap is no node's.
+pub(crate) fn records_at<'a>(logs: &Logs<'a>, node: usize) -> Option<Recs<'a>>
+    ensures { MatchOption result (node_log logs.now node ≡ []) (λ recs. recs ≡ node_log logs.now node) }
+{
+    match logs.node(node) {
+        Some(log) => Some(log.recs()),
+        None => None,
+    }
+}

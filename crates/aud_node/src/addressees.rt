@@ -1,0 +1,94 @@
+//! The entries of the stream by whom they are addressed to.
+ghost use Rattle.std.specs.Prelude.{◌≡◌, IfOk, OnOk, ℕ, List, map, ◌&&◌};
+ghost use Rattle.std.specs.List.{list_any};
+ghost use Rattle.std.specs.Str.{bytes_eq};
+ghost use Rattle.aud_node.specs.Recoverable.{is_recoverable};
+ghost use Rattle.aud_node.specs.Naming.{noted};
+ghost use Rattle.aud_node.specs.Addressees.{HoldsAddressees, kept_for, kept_to_room, names_no_room, names_room};
+
+use crate::positions::Positions;
+use aud_tap::{StreamRec, Text};
+use std::alloc::{AllocError, Global};
+use std::collections::BTreeMap;
+
+/// Of each namespace, the positions of the recoverable entries for the whole of it, and of those that name a room, by
+/// the room.
+#[derive(Drop)]
+pub struct Addressees<'a> {
+    alloc: Global,
+    everyone: Positions<'a>,
+    rooms: BTreeMap<&'a str, Positions<'a>>,
+}
+
+impl<'a> Addressees<'a> {
+    /// The positions of these entries, of which the flags say whether they are recoverable. An entry costs its rooms.
+    pub fn build(
+        alloc: Global,
+        entries: &'a [StreamRec],
+        recoverable: &[bool],
+    ) -> Result<Addressees<'a>, AllocError>
+        requires { recoverable.now ≡ map is_recoverable entries.now }
+        ensures { IfOk result (HoldsAddressees entries.now) }
+    {
+        let mut addressees = Addressees {
+            alloc,
+            everyone: Positions::new(alloc),
+            rooms: BTreeMap::new(alloc),
+        };
+        for (i, entry) in entries.iter().enumerate() {
+            if recoverable[i] {
+                addressees.note(entry, i as u64 + 1)?;
+            }
+        }
+        Ok(addressees)
+    }
+
+    /// The positions, ascending, of the entries of the namespace that name the room.
+    pub fn to_room(&self, nsp: &str, room: &str) -> &[u64]
+        ensures { result.now ≡ kept_to_room self.now nsp.now room.now }
+    {
+        match self.rooms.get(nsp) {
+            Some(positions) => positions.of(room),
+            None => &[],
+        }
+    }
+
+    /// The positions, ascending, of the entries for the whole namespace.
+    pub fn to_all(&self, nsp: &str) -> &[u64]
+        ensures { result.now ≡ kept_for self.now.everyone nsp.now }
+    {
+        self.everyone.of(nsp)
+    }
+
+    /// The entry stands at this position, behind all those noted so far.
+    fn note(&mut self, entry: &'a StreamRec, position: u64) -> Result<(), AllocError>
+        ensures rooms { OnOk result ((nsp room : List ℕ) → kept_to_room self.new nsp room ≡ noted position (names_room entry.now nsp room) (kept_to_room self.old nsp room)) }
+        ensures everyone { OnOk result ((nsp : List ℕ) → kept_for self.new.everyone nsp ≡ noted position (names_no_room entry.now nsp) (kept_for self.old.everyone nsp)) }
+    {
+        let StreamRec::Ev(event) = entry else {
+            return Ok(());
+        };
+        let nsp = event.nsp.as_str();
+        let rooms = event.rooms.as_slice();
+        if rooms.is_empty() {
+            self.everyone.note(nsp, position)
+        } else {
+            self.note_rooms(nsp, rooms, position)
+        }
+    }
+
+    /// The position is one of each of these rooms of the namespace.
+    fn note_rooms(
+        &mut self,
+        nsp: &'a str,
+        rooms: &'a [Text],
+        position: u64,
+    ) -> Result<(), AllocError>
+        ensures rooms { OnOk result ((q room : List ℕ) → kept_to_room self.new q room ≡ noted position (bytes_eq nsp.now q && list_any (λ other. bytes_eq other room) rooms.now) (kept_to_room self.old q room)) }
+        ensures everyone { self.new.everyone ≡ self.old.everyone }
+    {
+        let positions = self.rooms.entry(nsp)?.or_insert(Positions::new(self.alloc));
+        positions.note_each(rooms, position)?;
+        Ok(())
+    }
+}
