@@ -1,24 +1,29 @@
 //! The check of a certificate.
 ghost use Rattle.std.specs.Prelude.{◌≡◌, ◌<◌, ◌+◌, List, length, IfErr, IfOk, OnOk};
 ghost use Rattle.std.specs.List.{All};
+ghost use Rattle.std.specs.Option.{option_copied};
 ghost use Rattle.aud_merge.specs.declared.step.Step.{Step};
 ghost use Rattle.aud_merge.specs.Runs.{IsRun};
 ghost use Rattle.aud_merge.specs.Due.{due};
 ghost use Rattle.aud_merge.specs.ByTurns.{IsPrefixOf};
 ghost use Rattle.aud_rooms.specs.Turns.{AreTurns, IsChain};
 ghost use Rattle.aud_cert.specs.Certificate.{IsOver, IsTurnOver};
+ghost use Rattle.aud_client.specs.Clients.{clients_of};
+ghost use Rattle.aud_check.specs.Answer.{IsAnswer};
+ghost use Rattle.aud_check.specs.Client.{told_named};
 ghost use Rattle.aud_check.specs.Faults.{positions_in};
 ghost use Rattle.aud_check.specs.Frames.{AreEntries};
 ghost use Rattle.aud_check.specs.Refusals.{IsAccepted, IsFirstRefusal, IsMismatch, Place, Refuses, case_of, seen_as};
 ghost use Rattle.aud_check.specs.Shown.{frames_received, shown_due, turns_of, who_in, who_of};
 
-use crate::client::check_client;
+use crate::client::{check_client, read_named, told_among};
 use crate::due::shown_due;
 use crate::refusal::Refusal;
 use crate::session::{Session, session_of};
 use crate::spans::are_spans;
 use crate::turn::check_turns;
 use aud_cert::{Certificate, Turn};
+use aud_client::{Clients, ReadTap};
 use aud_merge::due_by_turns;
 use aud_node::Logs;
 use aud_rooms::Span;
@@ -68,11 +73,45 @@ pub fn check(alloc: Global, logs: &Logs<'_>, cert: &Certificate<'_>) -> Result<A
         → (run : List Step) → IsRun logs.now run
         → IsPrefixOf (positions_in (case_of logs.now cert.now)) (due logs.now run cert.now.pid) → ⊥) }
 {
+    let Ok(told) = read_named(alloc, logs, cert.client) else {
+        return Err(Refusal::Memory);
+    };
+    answer(alloc, logs, told.as_ref(), cert)
+}
+
+/// The answer of [`check`] where the clients' taps of these logs were read before: a session then costs its own stays,
+/// and not all packets of its client's tap.
+pub fn check_read(
+    alloc: Global,
+    logs: &Logs<'_>,
+    clients: &Clients<'_>,
+    cert: &Certificate<'_>,
+) -> Result<Accepted, Refusal>
+    requires clients { clients.now ≡ clients_of logs.now }
+    requires over { IsOver logs.now cert.now }
+    requires some { 0 < length cert.now.turns }
+    ensures { IsAnswer logs.now cert.now result }
+{
+    answer(alloc, logs, told_among(logs, clients, cert.client), cert)
+}
+
+/// The answer, by what the tap of the certificate's client tells.
+fn answer(
+    alloc: Global,
+    logs: &Logs<'_>,
+    told: Option<&ReadTap<'_>>,
+    cert: &Certificate<'_>,
+) -> Result<Accepted, Refusal>
+    requires told { option_copied told ≡ told_named logs.now cert.now.client }
+    requires over { IsOver logs.now cert.now }
+    requires some { 0 < length cert.now.turns }
+    ensures { IsAnswer logs.now cert.now result }
+{
     due_by_turns();
     let session = session_of(logs, cert);
     let turns = cert.turns.as_slice();
     let spans = cert.spans.as_slice();
-    judge(alloc, logs, &session, cert.client, turns, spans)
+    judge(alloc, logs, &session, cert.client, told, turns, spans)
 }
 
 /// The answer on the certificate with these parts, by what it says of this certificate alone: the turns are looked at
@@ -82,9 +121,11 @@ fn judge<'a>(
     logs: &Logs<'a>,
     session: &Session<'_, 'a>,
     client: &str,
+    told: Option<&ReadTap<'_>>,
     turns: &[Turn<'_>],
     spans: &[Span<'_>],
 ) -> Result<Accepted, Refusal>
+    requires told { option_copied told ≡ told_named logs.now client.now }
     requires over { All (IsTurnOver logs.now) turns.now }
     requires session { session.now ≡ who_in session.now.pid turns.now }
     ensures accepted { OnOk result (IsAccepted logs.now (seen_as session.now.pid client.now turns.now spans.now)) }
@@ -105,7 +146,7 @@ fn judge<'a>(
     let Ok(due) = shown_due(alloc, logs, session, turns, spans) else {
         return Err(Refusal::Memory);
     };
-    match check_client(alloc, logs, session, client, due.as_slice()) {
+    match check_client(alloc, logs, session, client, told, due.as_slice()) {
         Ok(got) => Ok(Accepted {
             got,
             tail: due.len() - got,

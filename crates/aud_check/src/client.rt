@@ -1,19 +1,21 @@
 //! The client's tap that a certificate names.
-ghost use Rattle.std.specs.Prelude.{◌≡◌, IfErr, IfOk, OnOk, length, true};
+ghost use Rattle.std.specs.Prelude.{◌≡◌, IfErr, IfOk, OnOk, Some, length, true};
 ghost use Rattle.std.specs.Option.{option_copied};
 ghost use Rattle.aud_node.specs.NodeTaps.{client_at};
 ghost use Rattle.aud_cert.specs.Certificate.{place_named};
+ghost use Rattle.aud_client.specs.Clients.{clients_of};
 ghost use Rattle.aud_check.specs.Ascending.{IsAscending};
-ghost use Rattle.aud_check.specs.Client.{IsClientRefusal, case_for};
+ghost use Rattle.aud_check.specs.Client.{IsClientRefusal, case_for, told_named};
 ghost use Rattle.aud_check.specs.Faults.{IsReceived};
 ghost use Rattle.aud_check.specs.NamedStays.{are_of_session};
 
 use crate::received::{Wrong, check_received};
 use crate::refusal::Refusal;
 use crate::session::Session;
-use crate::stays::{are_of_session, stays_naming};
-use aud_client::{received, received_by_stays};
+use crate::stays::are_of_session;
+use aud_client::{Clients, ReadTap, received_by_stays};
 use aud_node::{ClientTap, Logs};
+use aud_tap::Memory;
 use std::alloc::Global;
 
 /// How many of the due positions the client with this name received, where its tap tells of the session and nothing is
@@ -23,31 +25,78 @@ pub(crate) fn check_client(
     logs: &Logs<'_>,
     session: &Session<'_, '_>,
     client: &str,
+    told: Option<&ReadTap<'_>>,
     due: &[u64],
 ) -> Result<usize, Refusal>
-    requires { IsAscending due.now }
+    requires told { option_copied told ≡ told_named logs.now client.now }
+    requires ascending { IsAscending due.now }
+    ensures named { OnOk result (are_of_session session.now (case_for logs.now client.now session.now.pid due.now).stays ≡ true) }
+    ensures received { OnOk result (IsReceived (case_for logs.now client.now session.now.pid due.now)) }
+    ensures got { IfOk result (λ got. got ≡ length (case_for logs.now client.now session.now.pid due.now).frames) }
+    ensures refused { IfErr result (IsClientRefusal session.now (case_for logs.now client.now session.now.pid due.now)) }
+{
+    match told {
+        Some(told) => check_told(alloc, logs, session, client, told, due),
+        None => Err(Refusal::Names),
+    }
+}
+
+/// The same of a tap that is there. The session's own stays are looked at, and no others.
+fn check_told(
+    alloc: Global,
+    logs: &Logs<'_>,
+    session: &Session<'_, '_>,
+    client: &str,
+    told: &ReadTap<'_>,
+    due: &[u64],
+) -> Result<usize, Refusal>
+    requires told { Some told.now ≡ told_named logs.now client.now }
+    requires ascending { IsAscending due.now }
     ensures named { OnOk result (are_of_session session.now (case_for logs.now client.now session.now.pid due.now).stays ≡ true) }
     ensures received { OnOk result (IsReceived (case_for logs.now client.now session.now.pid due.now)) }
     ensures got { IfOk result (λ got. got ≡ length (case_for logs.now client.now session.now.pid due.now).frames) }
     ensures refused { IfErr result (IsClientRefusal session.now (case_for logs.now client.now session.now.pid due.now)) }
 {
     received_by_stays();
-    let Some(tap) = client_named(logs, client) else {
-        return Err(Refusal::Names);
-    };
-    let Ok(told) = received(alloc, tap, logs.stream()) else {
-        return Err(Refusal::Memory);
-    };
-    let Ok(stays) = stays_naming(alloc, session.pid, told.stays.as_slice()) else {
+    let Ok(stays) = told.naming(alloc, session.pid) else {
         return Err(Refusal::Memory);
     };
     if !are_of_session(session, stays.as_slice()) {
         return Err(Refusal::Names);
     }
-    match check_received(alloc, logs.stream(), &told, stays.as_slice(), due) {
+    match check_received(alloc, logs.stream(), told.received(), stays.as_slice(), due) {
         Ok(got) => Ok(got),
         Err(Wrong::Fault(fault)) => Err(Refusal::Received(fault)),
         Err(Wrong::Memory) => Err(Refusal::Memory),
+    }
+}
+
+/// What the client's tap with this name tells, all of it read.
+pub(crate) fn read_named<'l>(
+    alloc: Global,
+    logs: &'l Logs<'_>,
+    name: &str,
+) -> Result<Option<ReadTap<'l>>, Memory>
+    ensures { IfOk result (λ told. told ≡ told_named logs.now name.now) }
+{
+    match client_named(logs, name) {
+        Some(tap) => Ok(Some(ReadTap::read(alloc, tap, logs.stream())?)),
+        None => Ok(None),
+    }
+}
+
+/// What the client's tap with this name tells, looked up among the clients' taps of these logs.
+pub(crate) fn told_among<'c, 'l>(
+    logs: &Logs<'_>,
+    clients: &'c Clients<'l>,
+    name: &str,
+) -> Option<&'c ReadTap<'l>>
+    requires { clients.now ≡ clients_of logs.now }
+    ensures { option_copied result ≡ told_named logs.now name.now }
+{
+    match logs.place_of(name) {
+        Some(place) => clients.at(place),
+        None => None,
     }
 }
 

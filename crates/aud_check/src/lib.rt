@@ -19,7 +19,7 @@ mod turn_end;
 mod window;
 mod words;
 
-pub use certificate::{Accepted, check};
+pub use certificate::{Accepted, check, check_read};
 pub use refusal::Refusal;
 
 #[cfg(test)]

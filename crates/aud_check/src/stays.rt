@@ -1,7 +1,6 @@
 //! The stays whose reply names a session.
 ghost use Rattle.std.specs.Prelude.{◌≡◌, ◌++◌, IfOk, OnOk, map};
 ghost use Rattle.std.specs.List.{list_all};
-ghost use Rattle.aud_client.specs.Received.{stays_naming};
 ghost use Rattle.aud_check.specs.NamedStays.{are_of_session, has_sid, is_of_session};
 ghost use Rattle.aud_check.specs.Frames.{frames_in};
 
@@ -9,25 +8,6 @@ use crate::session::Session;
 use aud_client::{Frame, Reply, Stay};
 use aud_tap::Memory;
 use std::alloc::Global;
-
-/// The stays whose reply names the session, lent.
-pub(crate) fn stays_naming<'s>(
-    alloc: Global,
-    pid: &str,
-    stays: &'s [Stay<'s>],
-) -> Result<Vec<&'s Stay<'s>>, Memory>
-    ensures { IfOk result (λ naming. map (λ stay. stay.now) naming.items ≡ stays_naming pid.now stays.now) }
-{
-    let mut naming = Vec::new(alloc);
-    for stay in stays {
-        if stay.names(pid) {
-            let Ok(()) = naming.push(stay) else {
-                return Err(Memory);
-            };
-        }
-    }
-    Ok(naming)
-}
 
 /// Whether there are stays, and each is of the session's namespace and has a reply with the session's sid.
 pub(crate) fn are_of_session(session: &Session<'_, '_>, stays: &[&Stay<'_>]) -> bool

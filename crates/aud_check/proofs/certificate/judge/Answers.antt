@@ -29,8 +29,8 @@ pub shown_due-requires-clause-accepted : goal.shown_due-requires-clause-accepted
 shown_due-requires-clause-accepted c =
     subst (λ (w : Who). AreTurnsAccepted c.args.logs.now w.pid c.args.turns.now) c.session.view_is c.in-Ok.ensures.accepted
 
-pub check_client-requires : goal.check_client-requires
-check_client-requires c =
+pub check_client-requires-clause-ascending : goal.check_client-requires-clause-ascending
+check_client-requires-clause-ascending c =
     subst IsAscending (sym (c.as_slice.ensures.value ∙ c.in-Ok-shown_due.ensures))
     (ascending (is_turn_due c.args.logs.now.stream c.args.session.now (slices_at c.args.logs.now c.args.turns.now)) 0 (length c.args.logs.now.stream))
 
