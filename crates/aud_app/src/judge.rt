@@ -1,11 +1,13 @@
 //! What is found of a session: its certificate is made, and then checked.
-ghost use Rattle.std.specs.Prelude.{IfOk};
+ghost use Rattle.std.specs.Prelude.{◌≡◌, IfOk};
 ghost use Rattle.aud_node.specs.Names.{AreNamedOnce};
+ghost use Rattle.aud_client.specs.Clients.{clients_of};
 ghost use Rattle.aud_app.specs.Decided.{IsJudged, IsVerdict};
 
 use crate::verdict::Verdict;
 use aud_cert::{Certificate, Fault};
-use aud_check::{Accepted, Refusal, check};
+use aud_check::{Accepted, Refusal, check_read};
+use aud_client::Clients;
 use aud_maker::{MakeFault, made_is_over, make};
 use aud_node::Logs;
 use std::alloc::{AllocError, Global};
@@ -20,8 +22,14 @@ pub enum Judged<'a> {
 }
 
 /// What is found of a session.
-pub fn judge<'a>(alloc: Global, logs: &Logs<'a>, pid: &str) -> Result<Judged<'a>, AllocError>
-    requires { AreNamedOnce logs.now.taps }
+pub fn judge<'a>(
+    alloc: Global,
+    logs: &Logs<'a>,
+    clients: &Clients<'_>,
+    pid: &str,
+) -> Result<Judged<'a>, AllocError>
+    requires names { AreNamedOnce logs.now.taps }
+    requires clients { clients.now ≡ clients_of logs.now }
     ensures { IfOk result (λ judged. IsJudged logs.now pid.now judged) }
 {
     let cert = match make(alloc, logs, pid) {
@@ -30,7 +38,7 @@ pub fn judge<'a>(alloc: Global, logs: &Logs<'a>, pid: &str) -> Result<Judged<'a>
         Err(MakeFault::Memory) => return Err(AllocError),
     };
     made_is_over();
-    match check(alloc, logs, &cert) {
+    match check_read(alloc, logs, clients, &cert) {
         Ok(counts) => Ok(Judged::Shown(cert, counts)),
         Err(refusal) => match refusal {
             Refusal::Names => Ok(Judged::Faulty(Fault::Names)),
@@ -43,11 +51,17 @@ pub fn judge<'a>(alloc: Global, logs: &Logs<'a>, pid: &str) -> Result<Judged<'a>
 }
 
 /// The verdict on a session.
-pub fn verdict(alloc: Global, logs: &Logs<'_>, pid: &str) -> Result<Verdict, AllocError>
-    requires { AreNamedOnce logs.now.taps }
+pub fn verdict(
+    alloc: Global,
+    logs: &Logs<'_>,
+    clients: &Clients<'_>,
+    pid: &str,
+) -> Result<Verdict, AllocError>
+    requires names { AreNamedOnce logs.now.taps }
+    requires clients { clients.now ≡ clients_of logs.now }
     ensures { IfOk result (λ verdict. IsVerdict logs.now pid.now verdict) }
 {
-    match judge(alloc, logs, pid)? {
+    match judge(alloc, logs, clients, pid)? {
         Judged::Shown(_, counts) => Ok(Verdict::Yes(counts)),
         Judged::Faulty(fault) => Ok(Verdict::No(fault)),
     }

@@ -1,6 +1,7 @@
 //! What is written for an input.
 ghost use Rattle.std.specs.Prelude.{◌≡◌, IfOk, Ok};
 ghost use Rattle.aud_node.specs.Names.{AreNamedOnce};
+ghost use Rattle.aud_client.specs.Clients.{clients_of};
 ghost use Rattle.aud_app.specs.Output.{status_of, report_of, refusal_of, proving_of, verification_of, IsReport, IsProving, IsVerification, IsOutputOver, IsOutput, layout_of};
 
 use crate::answer::Answered;
@@ -12,6 +13,7 @@ use crate::report::{are_all_yes, refusal_text, report_text};
 use crate::sessions::{decide, prove};
 use crate::verdict::Entry;
 use crate::verify::answers;
+use aud_client::Clients;
 use aud_node::Logs;
 use aud_tap::{InputCode, Line, ReadFault, Text};
 use std::alloc::{AllocError, Global};
@@ -54,11 +56,12 @@ fn report_on(alloc: Global, entries: &[Entry]) -> Result<Output, AllocError>
 }
 
 /// The report on the sessions of these logs.
-fn audited(alloc: Global, logs: &Logs<'_>) -> Result<Output, AllocError>
-    requires { AreNamedOnce logs.now.taps }
+fn audited(alloc: Global, logs: &Logs<'_>, clients: &Clients<'_>) -> Result<Output, AllocError>
+    requires names { AreNamedOnce logs.now.taps }
+    requires clients { clients.now ≡ clients_of logs.now }
     ensures { IfOk result (λ o. IsReport logs.now o) }
 {
-    let entries = decide(alloc, logs)?;
+    let entries = decide(alloc, logs, clients)?;
     report_on(alloc, &entries)
 }
 
@@ -72,11 +75,12 @@ fn proving_on(alloc: Global, proofs: &[Option<Text>]) -> Result<Output, AllocErr
 }
 
 /// The certificates of the sessions of these logs.
-fn proved(alloc: Global, logs: &Logs<'_>) -> Result<Output, AllocError>
-    requires { AreNamedOnce logs.now.taps }
+fn proved(alloc: Global, logs: &Logs<'_>, clients: &Clients<'_>) -> Result<Output, AllocError>
+    requires names { AreNamedOnce logs.now.taps }
+    requires clients { clients.now ≡ clients_of logs.now }
     ensures { IfOk result (λ o. IsProving logs.now o) }
 {
-    let proofs = prove(alloc, logs)?;
+    let proofs = prove(alloc, logs, clients)?;
     proving_on(alloc, &proofs)
 }
 
@@ -90,10 +94,16 @@ fn verification_on(alloc: Global, all: &[Answered]) -> Result<Output, AllocError
 }
 
 /// The answers on these certificates.
-fn verified(alloc: Global, logs: &Logs<'_>, certificates: &[Line]) -> Result<Output, AllocError>
+fn verified(
+    alloc: Global,
+    logs: &Logs<'_>,
+    clients: &Clients<'_>,
+    certificates: &[Line],
+) -> Result<Output, AllocError>
+    requires { clients.now ≡ clients_of logs.now }
     ensures { IfOk result (λ o. IsVerification logs.now certificates.now o) }
 {
-    let all = answers(alloc, logs, certificates)?;
+    let all = answers(alloc, logs, clients, certificates)?;
     verification_on(alloc, &all)
 }
 
@@ -126,10 +136,13 @@ fn output_over(alloc: Global, mode: Mode, input: &Input) -> Result<Output, Alloc
     let Ok(logs) = Logs::build(alloc, &input.taps) else {
         return Err(AllocError);
     };
+    let Ok(clients) = Clients::read(alloc, &logs) else {
+        return Err(AllocError);
+    };
     match mode {
-        Mode::Audit => audited(alloc, &logs),
-        Mode::Prove => proved(alloc, &logs),
-        Mode::Verify => verified(alloc, &logs, &input.certificates),
+        Mode::Audit => audited(alloc, &logs, &clients),
+        Mode::Prove => proved(alloc, &logs, &clients),
+        Mode::Verify => verified(alloc, &logs, &clients, &input.certificates),
     }
 }
 

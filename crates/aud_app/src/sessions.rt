@@ -1,25 +1,33 @@
 //! The verdicts on the sessions, and their certificates.
-ghost use Rattle.std.specs.Prelude.{IfOk, map, string_bytes};
+ghost use Rattle.std.specs.Prelude.{◌≡◌, IfOk, map, string_bytes};
 ghost use Rattle.aud_maker.specs.Sessions.{sessions_of};
 ghost use Rattle.aud_node.specs.Names.{AreNamedOnce};
+ghost use Rattle.aud_client.specs.Clients.{clients_of};
 ghost use Rattle.aud_app.specs.Decided.{AreVerdicts, IsProof, AreProofs};
 
 use crate::judge::{Judged, judge, verdict};
 use crate::verdict::Entry;
 use aud_cert::write_cert;
+use aud_client::Clients;
 use aud_maker::sessions;
 use aud_node::Logs;
 use aud_tap::Text;
 use std::alloc::{AllocError, Global};
 
 /// The verdicts on these sessions, one for each, in order.
-fn verdicts(alloc: Global, logs: &Logs<'_>, pids: &[String]) -> Result<Vec<Entry>, AllocError>
-    requires { AreNamedOnce logs.now.taps }
+fn verdicts(
+    alloc: Global,
+    logs: &Logs<'_>,
+    clients: &Clients<'_>,
+    pids: &[String],
+) -> Result<Vec<Entry>, AllocError>
+    requires names { AreNamedOnce logs.now.taps }
+    requires clients { clients.now ≡ clients_of logs.now }
     ensures { IfOk result (λ all. AreVerdicts logs.now (map string_bytes pids.now) all.items) }
 {
     let mut all = Vec::new(alloc);
     for pid in pids {
-        let verdict = verdict(alloc, logs, pid.as_str())?;
+        let verdict = verdict(alloc, logs, clients, pid.as_str())?;
         let pid = Text::new(String::from_str(alloc, pid.as_str())?);
         all.push(Entry { pid, verdict })?;
     }
@@ -27,22 +35,33 @@ fn verdicts(alloc: Global, logs: &Logs<'_>, pids: &[String]) -> Result<Vec<Entry
 }
 
 /// The verdict on each session that the logs mention, in the order of their first mentions.
-pub fn decide(alloc: Global, logs: &Logs<'_>) -> Result<Vec<Entry>, AllocError>
-    requires { AreNamedOnce logs.now.taps }
+pub fn decide(
+    alloc: Global,
+    logs: &Logs<'_>,
+    clients: &Clients<'_>,
+) -> Result<Vec<Entry>, AllocError>
+    requires names { AreNamedOnce logs.now.taps }
+    requires clients { clients.now ≡ clients_of logs.now }
     ensures { IfOk result (λ all. AreVerdicts logs.now (sessions_of logs.now) all.items) }
 {
     let Ok(pids) = sessions(alloc, logs) else {
         return Err(AllocError);
     };
-    verdicts(alloc, logs, &pids)
+    verdicts(alloc, logs, clients, &pids)
 }
 
 /// The text of the session's certificate, where the verdict is yes.
-fn proof(alloc: Global, logs: &Logs<'_>, pid: &str) -> Result<Option<Text>, AllocError>
-    requires { AreNamedOnce logs.now.taps }
+fn proof(
+    alloc: Global,
+    logs: &Logs<'_>,
+    clients: &Clients<'_>,
+    pid: &str,
+) -> Result<Option<Text>, AllocError>
+    requires names { AreNamedOnce logs.now.taps }
+    requires clients { clients.now ≡ clients_of logs.now }
     ensures { IfOk result (λ proof. IsProof logs.now pid.now proof) }
 {
-    match judge(alloc, logs, pid)? {
+    match judge(alloc, logs, clients, pid)? {
         Judged::Shown(cert, _) => match write_cert(alloc, &cert) {
             Ok(text) => Ok(Some(Text::new(text))),
             Err(_) => Err(AllocError),
@@ -52,25 +71,36 @@ fn proof(alloc: Global, logs: &Logs<'_>, pid: &str) -> Result<Option<Text>, Allo
 }
 
 /// The certificates of these sessions, one place for each, in order.
-fn proofs(alloc: Global, logs: &Logs<'_>, pids: &[String]) -> Result<Vec<Option<Text>>, AllocError>
-    requires { AreNamedOnce logs.now.taps }
+fn proofs(
+    alloc: Global,
+    logs: &Logs<'_>,
+    clients: &Clients<'_>,
+    pids: &[String],
+) -> Result<Vec<Option<Text>>, AllocError>
+    requires names { AreNamedOnce logs.now.taps }
+    requires clients { clients.now ≡ clients_of logs.now }
     ensures { IfOk result (λ all. AreProofs logs.now (map string_bytes pids.now) all.items) }
 {
     let mut all = Vec::new(alloc);
     for pid in pids {
-        all.push(proof(alloc, logs, pid.as_str())?)?;
+        all.push(proof(alloc, logs, clients, pid.as_str())?)?;
     }
     Ok(all)
 }
 
 /// The certificate of each session that the logs mention and that is answered yes, in the order of their first
 /// mentions, with an empty place for each of the others.
-pub fn prove(alloc: Global, logs: &Logs<'_>) -> Result<Vec<Option<Text>>, AllocError>
-    requires { AreNamedOnce logs.now.taps }
+pub fn prove(
+    alloc: Global,
+    logs: &Logs<'_>,
+    clients: &Clients<'_>,
+) -> Result<Vec<Option<Text>>, AllocError>
+    requires names { AreNamedOnce logs.now.taps }
+    requires clients { clients.now ≡ clients_of logs.now }
     ensures { IfOk result (λ all. AreProofs logs.now (sessions_of logs.now) all.items) }
 {
     let Ok(pids) = sessions(alloc, logs) else {
         return Err(AllocError);
     };
-    proofs(alloc, logs, &pids)
+    proofs(alloc, logs, clients, &pids)
 }

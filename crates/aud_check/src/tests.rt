@@ -1,6 +1,7 @@
 //! Certificates made by hand over small logs: the answers are those that the rules of the cluster give.
-use crate::{Accepted, Refusal, check};
+use crate::{Accepted, Refusal, check, check_read};
 use aud_cert::{Fault, read_cert};
+use aud_client::Clients;
 use aud_node::Logs;
 use aud_tap::{Bytes, Line, Taps, read_bundle};
 use std::alloc::{AllocError, Global};
@@ -204,5 +205,32 @@ fn unknown_offset(rt: HostRuntime) -> Result<(), Fail> {
         "c1 {\"k\":\"out\",\"t\":\"40{\\\"pid\\\":\\\"P\\\",\\\"offset\\\":\\\"9-9\\\"}\"}";
     let answer = checked(rt.alloc(), ASKED, unknown, TWO_TURNS)?;
     assert!(rt; matches!(answer, Err(Refusal::Received(Fault::Window(2)))));
+    Ok(())
+}
+
+/// The clients' taps are read once for several certificates.
+#[test]
+fn clients_that_were_read(rt: HostRuntime) -> Result<(), Fail> {
+    let taps = taps(rt.alloc(), "", "")?;
+    let logs = Logs::build(rt.alloc(), &taps)?;
+    let clients = Clients::read(rt.alloc(), &logs)?;
+    let both = read_cert(rt.alloc(), TWO_TURNS.as_bytes(), &logs)?;
+    assert!(rt;
+        matches!(
+            check_read(rt.alloc(), &logs, &clients, &both),
+            Ok(Accepted {
+                got: 2,
+                tail: 0,
+                turns: 2
+            })
+        )
+    );
+    let first = read_cert(rt.alloc(), ONE_TURN.as_bytes(), &logs)?;
+    assert!(rt;
+        matches!(
+            check_read(rt.alloc(), &logs, &clients, &first),
+            Err(Refusal::Received(Fault::Extra(_)))
+        )
+    );
     Ok(())
 }

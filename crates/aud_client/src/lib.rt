@@ -25,6 +25,8 @@ pub use tap::received;
 pub use told::Received;
 
 #[cfg(test)]
+mod clients_tests;
+#[cfg(test)]
 mod recorded_tests;
 #[cfg(test)]
 mod tests;

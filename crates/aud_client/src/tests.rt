@@ -55,7 +55,7 @@ pub fn push_lines(alloc: Global, lines: &mut Vec<Line>, texts: &[&str]) -> Resul
 }
 
 /// The stream, and the tap `c1` with these records.
-fn taps(alloc: Global, records: &[&str]) -> Result<Taps, Fail> {
+pub fn taps(alloc: Global, records: &[&str]) -> Result<Taps, Fail> {
     let mut lines = Vec::new(alloc);
     push_lines(alloc, &mut lines, &STREAM)?;
     push_lines(alloc, &mut lines, &[HEADER])?;

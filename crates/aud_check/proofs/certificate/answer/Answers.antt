@@ -37,20 +37,20 @@ returns c =
       tail = tail;
       turns = turns;
       are_turns =
-        on_ok result (IsAccepted C cert) (AreTurns C (who_of cert) 0 (turns_of C cert))
-        (λ (is : IsAccepted C cert). are_turns C cert c.requires.over (all_accepted C cert.pid cert.turns is.are_turns)) accepted;
+          on_ok result (IsAccepted C cert) (AreTurns C (who_of cert) 0 (turns_of C cert))
+          (λ (is : IsAccepted C cert). are_turns C cert c.requires.over (all_accepted C cert.pid cert.turns is.are_turns)) accepted;
       in_every_run =
-        on_ok result (IsAccepted C cert) ((run : List Step) → IsRun C run → IsPrefixOf (positions_in (case_of C cert)) (due C run cert.pid))
-        (λ (is : IsAccepted C cert). in_every_run C cert c.due_by_turns.ensures.prefix c.requires.over is.are_turns is.is_received.is_prefix) accepted;
+          on_ok result (IsAccepted C cert) ((run : List Step) → IsRun C run → IsPrefixOf (positions_in (case_of C cert)) (due C run cert.pid))
+          (λ (is : IsAccepted C cert). in_every_run C cert c.due_by_turns.ensures.prefix c.requires.over is.are_turns is.is_received.is_prefix) accepted;
       frames_are_entries =
-        on_ok result (IsAccepted C cert) (AreEntries C.stream (frames_received C cert))
-        (λ (is : IsAccepted C cert). is.is_received.are_entries) accepted;
+          on_ok result (IsAccepted C cert) (AreEntries C.stream (frames_received C cert))
+          (λ (is : IsAccepted C cert). is.is_received.are_entries) accepted;
       counts_in_every_run =
-        if_ok result (λ (a : Accepted). a.got + a.tail ≡ length (shown_due C cert))
-        (λ (a : Accepted). IsChain C (who_of cert) (turns_of C cert) → (run : List Step) → IsRun C run → a.got + a.tail ≡ length (due C run cert.pid))
-        (λ a all chain run is. all ∙ sym (ap length (c.due_by_turns.ensures.all C run (who_of cert) (turns_of C cert) is chain))) tail;
+          if_ok result (λ (a : Accepted). a.got + a.tail ≡ length (shown_due C cert))
+          (λ (a : Accepted). IsChain C (who_of cert) (turns_of C cert) → (run : List Step) → IsRun C run → a.got + a.tail ≡ length (due C run cert.pid))
+          (λ a all chain run is. all ∙ sym (ap length (c.due_by_turns.ensures.all C run (who_of cert) (turns_of C cert) is chain))) tail;
       in_no_run =
-        if_err result (IsFirstRefusal C cert)
-        (λ (refusal : Refusal). IsMismatch refusal → IsChain C (who_of cert) (turns_of C cert) → (run : List Step) → IsRun C run → IsPrefixOf (positions_in (case_of C cert)) (due C run cert.pid) → ⊥)
-        (λ refusal first about. in_no_run C cert refusal (first_of_all C cert refusal about first) about c.due_by_turns.ensures.all) refused;
+          if_err result (IsFirstRefusal C cert)
+          (λ (refusal : Refusal). IsMismatch refusal → IsChain C (who_of cert) (turns_of C cert) → (run : List Step) → IsRun C run → IsPrefixOf (positions_in (case_of C cert)) (due C run cert.pid) → ⊥)
+          (λ refusal first about. in_no_run C cert refusal (first_of_all C cert refusal about first) about c.due_by_turns.ensures.all) refused;
     }
