@@ -1,11 +1,10 @@
 -- What is kept of a tap's stays for each session.
-use Rattle.std.specs.Prelude.{◌≡◌, ℕ, List, [], Option, slice_get, map, option_map}
+use Rattle.std.specs.Prelude.{ℕ, List, [], slice_get}
 use Rattle.std.specs.List.{filter_map}
 use Rattle.std.specs.Option.{option_map_or}
 use Rattle.std.specs.BTreeMap as tree
 use Rattle.aud_node.specs.Stream.{Text}
 use Rattle.aud_client.specs.Told.{StaySeen}
-use Rattle.aud_client.specs.Received.{stays_naming}
 use Rattle.aud_client.specs.declared.by_session.BySession.{BySession}
 
 -- the numbers that are kept for the pid
