@@ -5,8 +5,6 @@
 
 mod body;
 mod packet;
-#[cfg(test)]
-mod tests;
 mod text;
 
 pub use body::{decode_payload, encode_payload};

@@ -7,8 +7,6 @@
 
 mod ack_id;
 mod assembler;
-#[cfg(test)]
-mod assembler_tests;
 mod attachments;
 mod digits;
 mod fault;
@@ -18,8 +16,6 @@ mod law;
 mod namespace;
 mod packet;
 mod payload;
-#[cfg(test)]
-mod tests;
 mod whole;
 mod written;
 

@@ -1,0 +1,179 @@
+//! Packets with attachments: the examples of the Socket.IO protocol 5 document, and refusals in their order.
+use aud_eio::{Eio, EioFault, decode_binary, decode_payload, decode_text};
+use aud_sio::{Assembler, SioFault, Whole, answers_are_wholes};
+use std::alloc::{AllocError, Global};
+use std::test::Fail;
+
+/// Writes a packet's text, namespace and acknowledgement id, and its attachments.
+fn push_parts(words: &mut String, whole: &Whole<'_>) -> Result<(), AllocError> {
+    write!(
+        words,
+        "{} of {} {:?}",
+        whole.text, whole.packet.nsp, whole.packet.id
+    )?;
+    for blob in &whole.bin {
+        write!(words, " {:?}", blob.as_slice())?;
+    }
+    Ok(())
+}
+
+/// Writes what an assembler answered.
+fn push_answer(
+    words: &mut String,
+    answer: &Result<Option<Whole<'_>>, SioFault>,
+) -> Result<(), AllocError> {
+    match answer {
+        Ok(Some(whole)) => push_parts(words, whole),
+        Ok(None) => words.push_str("waits"),
+        Err(fault) => write!(words, "{fault:?}"),
+    }
+}
+
+/// A message of WebSocket.
+#[derive(Clone, Copy)]
+enum Frame<'a> {
+    Text(&'a str),
+    Binary(&'a [u8]),
+}
+
+fn packet_of(alloc: Global, frame: Frame<'_>) -> Result<Eio<'_>, EioFault> {
+    match frame {
+        Frame::Text(text) => decode_text(alloc, text),
+        Frame::Binary(bytes) => Ok(decode_binary(bytes)),
+    }
+}
+
+/// Whether an assembler answers a message as expected.
+fn answers<'a>(
+    alloc: Global,
+    assembler: &mut Assembler<'a>,
+    frame: Frame<'a>,
+    expected: &str,
+) -> Result<bool, Fail> {
+    let packet = packet_of(alloc, frame)?;
+    let answer = assembler.feed(packet);
+    let mut words = String::new(alloc);
+    push_answer(&mut words, &answer)?;
+    Ok(words.as_str() == expected)
+}
+
+#[test]
+fn refusals(rt: HostRuntime) -> Result<(), Fail> {
+    let mut assembler = Assembler::new(rt.alloc());
+    for (frame, answer) in [
+        (Frame::Text(r#"451-["f","x"]"#), "waits"),
+        (Frame::Text("2"), "waits"),
+        (Frame::Text("42[]"), "TextWhileBinary"),
+        (Frame::Binary(&[1]), "StrayBinary"),
+        (Frame::Text("47"), "UnknownType"),
+        (Frame::Text("450-[]"), "50-[] of / None"),
+    ] {
+        assert!(rt;
+            answers(rt.alloc(), &mut assembler, frame, answer)?,
+            "{answer}"
+        );
+    }
+    answers_are_wholes();
+    Ok(())
+}
+
+/// The first attachment comes as base64, the other as bytes.
+#[test]
+fn attachments(rt: HostRuntime) -> Result<(), Fail> {
+    let mut assembler = Assembler::new(rt.alloc());
+    for (frame, answer) in [
+        (
+            Frame::Text(
+                r#"452-["baz",{"_placeholder":true,"num":0},{"_placeholder":true,"num":1}]"#,
+            ),
+            "waits",
+        ),
+        (Frame::Text("bAQID"), "waits"),
+        (
+            Frame::Binary(&[4]),
+            r#"52-["baz",{"_placeholder":true,"num":0},{"_placeholder":true,"num":1}] of / None [1, 2, 3] [4]"#,
+        ),
+    ] {
+        assert!(rt;
+            answers(rt.alloc(), &mut assembler, frame, answer)?,
+            "{answer}"
+        );
+    }
+    Ok(())
+}
+
+/// The frames of the document's sample session in namespace `/admin`: a packet whose attachment comes after a ping.
+#[test]
+fn sample_session(rt: HostRuntime) -> Result<(), Fail> {
+    let mut assembler = Assembler::new(rt.alloc());
+    for (frame, answer) in [
+        (
+            Frame::Text(r#"40/admin,{"sid":"-G5j-67EZFp-q59rADQM"}"#),
+            r#"0/admin,{"sid":"-G5j-67EZFp-q59rADQM"} of /admin None"#,
+        ),
+        (
+            Frame::Text(r#"461-/admin,1[{"_placeholder":true,"num":0}]"#),
+            "waits",
+        ),
+        (Frame::Text("2"), "waits"),
+        (
+            Frame::Binary(&[1, 2, 3]),
+            r#"61-/admin,1[{"_placeholder":true,"num":0}] of /admin Some(1) [1, 2, 3]"#,
+        ),
+    ] {
+        assert!(rt;
+            answers(rt.alloc(), &mut assembler, frame, answer)?,
+            "{answer}"
+        );
+    }
+    Ok(())
+}
+
+/// Writes what an assembler answers to packets, each answer on a line.
+fn push_answers<'a>(
+    words: &mut String,
+    assembler: &mut Assembler<'a>,
+    packets: Vec<Eio<'a>>,
+) -> Result<(), AllocError> {
+    for packet in packets {
+        let answer = assembler.feed(packet);
+        push_answer(words, &answer)?;
+        words.push('\n')?;
+    }
+    Ok(())
+}
+
+/// Whether an assembler answers the packets of a body as expected, each answer on a line.
+fn answers_body<'a>(
+    alloc: Global,
+    assembler: &mut Assembler<'a>,
+    body: &'a str,
+    expected: &str,
+) -> Result<bool, Fail> {
+    let packets = decode_payload(alloc, body)?;
+    let mut words = String::new(alloc);
+    push_answers(&mut words, assembler, packets)?;
+    Ok(words.as_str() == expected)
+}
+
+/// The document's two events in one polling body, and a binary event in another.
+#[test]
+fn polling_bodies(rt: HostRuntime) -> Result<(), Fail> {
+    let mut assembler = Assembler::new(rt.alloc());
+    for (body, answers) in [
+        (
+            "42[\"hello\"]\u{1e}42[\"world\"]",
+            "2[\"hello\"] of / None\n2[\"world\"] of / None\n",
+        ),
+        (
+            "451-[\"baz\",{\"_placeholder\":true,\"num\":0}]\u{1e}bAQIDBA==",
+            "waits\n51-[\"baz\",{\"_placeholder\":true,\"num\":0}] of / None [1, 2, 3, 4]\n",
+        ),
+    ] {
+        assert!(rt;
+            answers_body(rt.alloc(), &mut assembler, body, answers)?,
+            "{body}"
+        );
+    }
+    Ok(())
+}
