@@ -1,8 +1,8 @@
 -- The lines of a whole input, and what one more of them brings.
 use Rattle.std.proofs.Common.{◌≡◌, ℕ, List, [], ◌++◌, Option, Some, None, Err, refl, sym, ap, ◌∙◌, append-nil}
-use Rattle.aud_tap.specs.declared.line.Line.{Line}
-use Rattle.aud_tap.specs.declared.fault.ReadFault.{ReadFault}
-use Rattle.aud_tap.specs.Lines.{Split, lines_of, lines_to_come, result_of}
+use Rattle.aud_reader.specs.declared.line.Line.{Line}
+use Rattle.aud_reader.specs.declared.fault.ReadFault.{ReadFault}
+use Rattle.aud_reader.specs.Lines.{Split, lines_of, lines_to_come, result_of}
 
 -- a splitter that was fed the whole input still gives its lines
 pub lines_fed : (s t : Split) (bytes : List ℕ) → ((text : List ℕ) → lines_to_come s text ≡ lines_of text)

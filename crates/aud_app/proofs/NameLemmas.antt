@@ -3,17 +3,17 @@ use Rattle.std.proofs.Common.{◌≡◌, ℕ, zero, suc, List, [], ◌∷◌, �
 use Rattle.std.specs.Str.{bytes_eq}
 use Rattle.std.proofs.lemmas.Slice.Eq.{bytes_eq-Decides}
 use Rattle.serde_json.specs.Data.{Data}
-use Rattle.aud_tap.specs.declared.fault.InputCode.{InputCode}
-use Rattle.aud_tap.specs.declared.fault.InputCode.TheVariants.{NoHeader, HeaderTwice}
-use Rattle.aud_tap.specs.declared.fault.ReadFault.{ReadFault}
-use Rattle.aud_tap.specs.declared.line.Line.{Line}
+use Rattle.aud_reader.specs.declared.fault.InputCode.{InputCode}
+use Rattle.aud_reader.specs.declared.fault.InputCode.TheVariants.{NoHeader, HeaderTwice}
+use Rattle.aud_reader.specs.declared.fault.ReadFault.{ReadFault}
+use Rattle.aud_reader.specs.declared.line.Line.{Line}
 use Rattle.aud_tap.specs.declared.taps.Records.{Records}
 use Rattle.aud_tap.specs.declared.taps.Tap.{Tap}
-use Rattle.aud_tap.specs.Steps.{◌>>=◌, guard}
-use Rattle.aud_tap.specs.Fields.{is_text}
-use Rattle.aud_tap.specs.Header.{header_of}
-use Rattle.aud_tap.specs.Record.{opened_line, kind_of}
-use Rattle.aud_tap.specs.Bundle.{tap_named, with_records, with_record, pids_of, another_tap, no_records, with_header, with_later, with_kind, with_line, at_line, passing_empty, taps_after, then_on, taps_from, taps_of}
+use Rattle.aud_reader.specs.Steps.{◌>>=◌, guard}
+use Rattle.aud_tap.specs.Forms.{is_text}
+use Rattle.aud_reader.specs.Header.{header_of}
+use Rattle.aud_reader.specs.Record.{opened_line, kind_of}
+use Rattle.aud_reader.specs.Bundle.{tap_named, with_records, with_record, pids_of, another_tap, no_records, with_header, with_later, with_kind, with_line, at_line, passing_empty, taps_after, then_on, taps_from, taps_of}
 use Rattle.aud_node.specs.Names.{place_of, AreNamedOnce}
 use Rattle.aud_app.specs.declared.input.Layout.{Layout}
 use Rattle.aud_app.specs.Input.{InputSeen, certificates_in, bundle_in, with_certificates, parts_of}

@@ -1,10 +1,10 @@
 -- The input of a mode: the taps of its bundle, and the certificates where it has some.
 use Rattle.std.specs.Prelude.{ℕ, ◌==◌, List, [], ◌∷◌, filter, Bool, false, not, Option, Some, None, Result, Ok, Err}
-use Rattle.aud_tap.specs.declared.line.Line.{Line}
-use Rattle.aud_tap.specs.declared.fault.ReadFault.{ReadFault}
+use Rattle.aud_reader.specs.declared.line.Line.{Line}
+use Rattle.aud_reader.specs.declared.fault.ReadFault.{ReadFault}
 use Rattle.aud_tap.specs.declared.taps.Tap.{Tap}
-use Rattle.aud_tap.specs.Lines.{lines_of}
-use Rattle.aud_tap.specs.Bundle.{taps_of}
+use Rattle.aud_reader.specs.Lines.{lines_of}
+use Rattle.aud_reader.specs.Bundle.{taps_of}
 use Rattle.aud_app.specs.declared.input.Layout.{Layout}
 use Rattle.aud_app.specs.declared.input.Layout.TheVariants.{Bundle, BundleAndCertificates}
 

@@ -2,10 +2,10 @@
 use Rattle.std.specs.Prelude.{◌≡◌, ℕ, List, Bool, if◌then◌else◌, Option, is_some, IfSome, Result, Ok, Err}
 use Rattle.std.specs.List.{list_all}
 use Rattle.std.specs.Io.KnownBytes.{Appends}
-use Rattle.aud_tap.specs.declared.fault.InputCode.{InputCode}
-use Rattle.aud_tap.specs.declared.fault.ReadFault.{ReadFault}
-use Rattle.aud_tap.specs.declared.fault.ReadFault.TheVariants.{Input, Memory}
-use Rattle.aud_tap.specs.declared.line.Line.{Line}
+use Rattle.aud_reader.specs.declared.fault.InputCode.{InputCode}
+use Rattle.aud_reader.specs.declared.fault.ReadFault.{ReadFault}
+use Rattle.aud_reader.specs.declared.fault.ReadFault.TheVariants.{Input, Memory}
+use Rattle.aud_reader.specs.declared.line.Line.{Line}
 use Rattle.aud_node.specs.Stream.{Text}
 use Rattle.aud_node.specs.Cluster.{Cluster, cluster_of}
 use Rattle.aud_maker.specs.Sessions.{sessions_of}

@@ -1,7 +1,7 @@
 -- The report, and what is written in its place where a line is refused.
 use Rattle.std.specs.Prelude.{ℕ, ◌-◌, List, ◌++◌, codes, decimal, flat_map, length, count_by}
-use Rattle.aud_tap.specs.declared.fault.InputCode.{InputCode}
-use Rattle.aud_tap.specs.declared.fault.InputCode.TheVariants.{LineTooLong, NoTapName, NotJson, NoHeader, UnknownKind, Field, Limit, SecondStream, OffsetTwice, HeaderTwice, Version}
+use Rattle.aud_reader.specs.declared.fault.InputCode.{InputCode}
+use Rattle.aud_reader.specs.declared.fault.InputCode.TheVariants.{LineTooLong, NoTapName, NotJson, NoHeader, UnknownKind, Field, Limit, SecondStream, OffsetTwice, HeaderTwice, Version}
 use Rattle.aud_app.specs.declared.verdict.Verdict.{Verdict}
 use Rattle.aud_app.specs.declared.verdict.Verdict.TheVariants.{Yes, No}
 use Rattle.aud_app.specs.declared.verdict.Entry.{Entry}

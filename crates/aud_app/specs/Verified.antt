@@ -1,6 +1,6 @@
 -- The answers on the certificates of an input.
 use Rattle.std.specs.Prelude.{◌≡◌, ◌-◌, List, length, Result, Ok, Err}
-use Rattle.aud_tap.specs.declared.line.Line.{Line}
+use Rattle.aud_reader.specs.declared.line.Line.{Line}
 use Rattle.aud_node.specs.Cluster.{Cluster}
 use Rattle.aud_cert.specs.declared.fault.CertFault.{CertFault}
 use Rattle.aud_cert.specs.declared.fault.CertFault.TheVariants.{Memory}

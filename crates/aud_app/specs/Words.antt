@@ -1,7 +1,7 @@
 -- What the words of the command line ask for.
 use Rattle.std.specs.Prelude.{ℕ, List, [], ◌∷◌, codes, Option, Some, None, if◌then◌else◌}
 use Rattle.std.specs.Borrow.{Bor}
-use Rattle.aud_tap.specs.Fields.{is_text}
+use Rattle.aud_tap.specs.Forms.{is_text}
 use Rattle.aud_app.specs.declared.choice.Mode.{Mode}
 use Rattle.aud_app.specs.declared.choice.Mode.TheVariants.{Audit, Prove, Verify}
 

@@ -1,10 +1,11 @@
 //! The taps of an input, and its certificates.
 ghost use Rattle.std.specs.Prelude.{◌≡◌, ◌≢◌, Ok, Err, IfOk, IfErr};
-ghost use Rattle.aud_tap.specs.Lines.{lines_of};
+ghost use Rattle.aud_reader.specs.Lines.{lines_of};
 ghost use Rattle.aud_app.specs.Input.{opens_object, is_certificate, parts_of, input_of};
 ghost use Rattle.aud_node.specs.Names.{AreNamedOnce};
 
-use aud_tap::{BundleReader, Line, ReadFault, Splitter, Taps};
+use aud_reader::{BundleReader, Line, ReadFault, Splitter};
+use aud_tap::Taps;
 use std::alloc::Global;
 use std::marker::Model;
 
@@ -25,7 +26,7 @@ struct InputLines {
 }
 
 impl Model for InputLines {
-    ghost use Rattle.aud_tap.specs.Lines.{Lines};
+    ghost use Rattle.aud_reader.specs.Lines.{Lines};
 
     ghost Value = { Lines };
 

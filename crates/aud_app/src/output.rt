@@ -15,7 +15,8 @@ use crate::verdict::Entry;
 use crate::verify::answers;
 use aud_client::Clients;
 use aud_node::Logs;
-use aud_tap::{InputCode, Line, ReadFault, Text};
+use aud_reader::{InputCode, Line, ReadFault};
+use aud_tap::Text;
 use std::alloc::{AllocError, Global};
 use std::marker::Model;
 

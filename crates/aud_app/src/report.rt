@@ -5,7 +5,7 @@ ghost use Rattle.aud_app.specs.Verdict.{is_yes};
 ghost use Rattle.aud_app.specs.Report.{line_of, totals_line, report_text, code_text, refusal_line};
 
 use crate::verdict::{Entry, Verdict};
-use aud_tap::InputCode;
+use aud_reader::InputCode;
 use std::alloc::{AllocError, Global};
 
 /// Puts a session's line at the end.

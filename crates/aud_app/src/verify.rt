@@ -10,7 +10,8 @@ use aud_cert::{CertFault, Certificate, read_cert};
 use aud_check::{Refusal, check_read};
 use aud_client::Clients;
 use aud_node::Logs;
-use aud_tap::{Line, Text};
+use aud_reader::Line;
+use aud_tap::Text;
 use std::alloc::{AllocError, Global};
 
 /// The answer on a certificate that is read.

@@ -2,7 +2,7 @@
 use Rattle.std.specs.Prelude.{ℕ, List, [], ◌∷◌, codes, is_none, option_and_then, Result, Ok}
 use Rattle.serde_json.specs.Data.{Data, Items, no_items, item}
 use Rattle.serde_json.specs.Find.{get, at, as_str, as_array, as_number, as_u64}
-use Rattle.aud_tap.specs.Fields.{text_at}
+use Rattle.aud_tap.specs.Json.{text_at}
 use Rattle.aud_node.specs.Stream.{Text}
 use Rattle.aud_rooms.specs.Spans.{RoomSpan}
 use Rattle.aud_cert.specs.declared.fault.CertFault.{CertFault}

@@ -1,7 +1,8 @@
 //! Worked examples, with certificates over the logs of one session on one node, and on two nodes.
 use crate::{CertFault, Fault, read_cert, write_cert};
 use aud_node::Logs;
-use aud_tap::{Bytes, Line, NodeRec, Taps, Text, read_bundle};
+use aud_reader::{Line, read_bundle};
+use aud_tap::{Bytes, NodeRec, Taps, Text};
 use std::alloc::Global;
 use std::test::Fail;
 

@@ -1,7 +1,7 @@
 //! What the text of a certificate tells, before it is looked up in the logs.
 ghost use Rattle.std.specs.Prelude.{◌≡◌, Ok, MatchResult};
 ghost use Rattle.serde_json.specs.View.{view, items_view};
-ghost use Rattle.aud_tap.specs.Fields.{text_at};
+ghost use Rattle.aud_tap.specs.Json.{text_at};
 ghost use Rattle.aud_cert.specs.declared.fault.CertFault.TheVariants.{Syntax, Memory};
 ghost use Rattle.std.specs.Cow.{cow_str_bytes};
 ghost use Rattle.aud_cert.specs.Steps.{need, Gives, Fails};

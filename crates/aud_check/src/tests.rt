@@ -3,7 +3,8 @@ use crate::{Accepted, Refusal, check, check_read};
 use aud_cert::{Fault, read_cert};
 use aud_client::Clients;
 use aud_node::Logs;
-use aud_tap::{Bytes, Line, Taps, read_bundle};
+use aud_reader::{Line, read_bundle};
+use aud_tap::{Bytes, Taps};
 use std::alloc::{AllocError, Global};
 use std::test::Fail;
 

@@ -3,7 +3,8 @@ use Rattle.std.specs.Prelude.{ℕ, List, [], ◌∷◌, codes, map, ◌&&◌, Op
 use Rattle.std.specs.List.{filter_map}
 use Rattle.std.specs.Option.{option_map, option_and_then}
 use Rattle.serde_json.specs.Data.{Data}
-use Rattle.aud_tap.specs.Fields.{passing, text_at}
+use Rattle.aud_tap.specs.Forms.{passing}
+use Rattle.aud_tap.specs.Json.{text_at}
 use Rattle.aud_tap.specs.declared.records.StreamRec.{StreamRec}
 use Rattle.aud_sio.specs.Message.{bytes_of}
 use Rattle.aud_sio.specs.Packet.{PacketSeen}

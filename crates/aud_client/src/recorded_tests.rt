@@ -3,7 +3,8 @@
 use crate::tests::{client, frames, push_lines, written};
 use crate::{Stay, received};
 use aud_node::Logs;
-use aud_tap::{Taps, read_bundle};
+use aud_reader::read_bundle;
+use aud_tap::Taps;
 use std::alloc::{AllocError, Global};
 use std::test::Fail;
 

@@ -1,7 +1,8 @@
 //! Worked examples: the values are those that the rules of stays and frames give.
 use crate::{Frame, Stay, received};
 use aud_node::{ClientTap, Logs};
-use aud_tap::{Bytes, Line, Taps, read_bundle};
+use aud_reader::{Line, read_bundle};
+use aud_tap::{Bytes, Taps};
 use std::alloc::{AllocError, Global};
 use std::test::Fail;
 

@@ -4,7 +4,7 @@ use Rattle.std.specs.List.{list_any, filter_map, cons_option}
 use Rattle.std.specs.Option.{option_and_then}
 use Rattle.std.proofs.lemmas.List.Folds.{list_any-append}
 use Rattle.std.proofs.lemmas.Slice.Eq.{bytes_eq-Decides}
-use Rattle.aud_tap.specs.Fields.{passing}
+use Rattle.aud_tap.specs.Forms.{passing}
 use Rattle.aud_node.specs.Lists.{numbers_from}
 use Rattle.aud_node.specs.Stream.{Text}
 use Rattle.aud_maker.specs.Sessions.{first_mention, first_mentions}

@@ -2,7 +2,8 @@
 use crate::{MakeFault, make, sessions};
 use aud_cert::write_cert;
 use aud_node::Logs;
-use aud_tap::{Bytes, Line, Taps, read_bundle};
+use aud_reader::{Line, read_bundle};
+use aud_tap::{Bytes, Taps};
 use std::alloc::{AllocError, Global};
 use std::test::Fail;
 

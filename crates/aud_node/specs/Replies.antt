@@ -6,7 +6,8 @@ use Rattle.std.specs.List.{filter, list_any}
 use Rattle.std.specs.Str.{bytes_eq}
 use Rattle.serde_json.specs.Data.{Data}
 use Rattle.serde_json.specs.Read.{read}
-use Rattle.aud_tap.specs.Fields.{passing, text_at}
+use Rattle.aud_tap.specs.Forms.{passing}
+use Rattle.aud_tap.specs.Json.{text_at}
 use Rattle.aud_tap.specs.WellFormed.{is_session_id}
 use Rattle.aud_tap.specs.declared.records.ClientRec.{ClientRec}
 use Rattle.aud_tap.specs.declared.taps.Tap.{Tap}

@@ -2,7 +2,7 @@
 ghost use Rattle.std.specs.Prelude.{◌≡◌, IfOk, option_map};
 ghost use Rattle.std.specs.Option.{option_copied};
 ghost use Rattle.serde_json.specs.View.{view as data_of};
-ghost use Rattle.aud_tap.specs.Fields.{text_at};
+ghost use Rattle.aud_tap.specs.Json.{text_at};
 ghost use Rattle.aud_node.specs.Replies.{value_of};
 
 use aud_tap::Memory;

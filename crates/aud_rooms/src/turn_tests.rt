@@ -5,7 +5,8 @@ ghost use Rattle.aud_rooms.specs.TurnPlaces.{IsInOrder};
 
 use crate::{TurnPlace, spans_of_turns};
 use aud_node::Logs;
-use aud_tap::{Bytes, Line, Taps, read_bundle};
+use aud_reader::{Line, read_bundle};
+use aud_tap::{Bytes, Taps};
 use std::alloc::Global;
 use std::test::Fail;
 

@@ -1,5 +1,5 @@
 -- The name of a tap.
-use Rattle.std.specs.Prelude.{ℕ, ◌+◌, ◌==◌, ◌&&◌, ◌||◌, nat_le, List, drop, take, Bool, Option, option_map, position}
+use Rattle.std.specs.Prelude.{ℕ, ◌==◌, ◌&&◌, ◌||◌, nat_le, List, Bool}
 use Rattle.std.specs.List.{list_all}
 use Rattle.aud_tap.specs.Limits.{fits, max_name}
 
@@ -12,7 +12,3 @@ is_name_byte b =
 -- 1 to 32 such bytes
 abbrev pub is_tap_name : List ℕ → Bool
 is_tap_name t = fits max_name t && list_all is_name_byte t
-
--- what stands before the first blank, and what stands behind it
-abbrev pub cut_at_blank : List ℕ → Option (List ℕ × List ℕ)
-cut_at_blank line = option_map (λ i. (take i line, drop (i + 1) line)) (position (λ b. b == 32) line)

@@ -8,7 +8,7 @@ use Rattle.aud_tap.specs.declared.records.NodeRec.TheVariants.{Start, Take, Open
 use Rattle.aud_tap.specs.declared.records.Rec.{Rec}
 use Rattle.aud_tap.specs.declared.records.Rec.TheVariants.{Header, Stream, Node, Client}
 use Rattle.aud_tap.specs.Limits.{fits, fit_rooms, max_id, max_offset, max_room, max_namespace, max_attachments, max_turn}
-use Rattle.aud_tap.specs.Fields.{is_id, is_namespace}
+use Rattle.aud_tap.specs.Forms.{is_id, is_namespace}
 
 -- an offset
 abbrev pub is_offset : List ℕ → Bool

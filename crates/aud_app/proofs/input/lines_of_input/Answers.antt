@@ -1,5 +1,5 @@
 use Rattle.std.proofs.Common.{◌∙◌, ap}
-use Rattle.aud_tap.specs.Lines.{lines_of}
+use Rattle.aud_reader.specs.Lines.{lines_of}
 use Rattle.aud_app.proofs.InputLemmas.{lines_cut}
 use Rattle.aud_app.proofs.input.lines_of_input.Goals as goal
 

@@ -1,5 +1,5 @@
 use Rattle.std.proofs.Common.{◌≡◌, ◌++◌}
-use Rattle.aud_tap.specs.Bundle.{taps_of, taps_to_come}
+use Rattle.aud_reader.specs.Bundle.{taps_of, taps_to_come}
 use Rattle.aud_app.specs.Input.{certificates_in, bundle_in}
 use Rattle.aud_app.proofs.input.read_lines.Given as goal
 

@@ -1,0 +1,53 @@
+-- The connection behind one more record of a client tap.
+use Rattle.std.proofs.Common.{◌≡◌, ℕ, List, [], ◌∷◌, ◌++◌, Bool, true, false, Option, Some, None, unwrap_or, refl, append-nil}
+use Rattle.std.specs.List.{filter_map, last_or}
+use Rattle.std.proofs.lemmas.List.Elements.{filter_map-append}
+use Rattle.aud_tap.specs.declared.records.ClientRec.{ClientRec}
+use Rattle.aud_tap.specs.declared.records.ClientRec.TheVariants.{Conn, TextIn, BytesIn, Poll, TextOut, Lost}
+use Rattle.aud_reader.specs.Connections.{begins, opens, Connected}
+
+-- the last of two
+abbrev pub later : {A : Type 0} → Option A → Option A → Option A
+later old None = old
+later old (Some x) = Some x
+
+last_or-later : {A : Type 0} (o : Option A) (xs : List A) (x : A) → last_or o (xs ++ x ∷ []) ≡ Some x
+last_or-later o [] x = refl
+last_or-later o (y ∷ xs) x = last_or-later (Some y) xs x
+
+-- what one more record says last
+last-more : {A : Type 0} (says : ClientRec → Option A) (recs : List ClientRec) (rec : ClientRec) (o : Option A) → says rec ≡ o
+    → last_or None (filter_map says (recs ++ rec ∷ [])) ≡ later (last_or None (filter_map says recs)) o
+last-more says recs rec None e = rw (filter_map-append says recs (rec ∷ []), e, append-nil) refl
+last-more says recs rec (Some x) e = rw (filter_map-append says recs (rec ∷ []), e) (last_or-later None (filter_map says recs) x)
+
+-- one more record
+pub connected-more : (recs : List ClientRec) (rec : ClientRec) (last : Option ℕ) (is_open : Bool) → Connected recs last is_open
+    → Connected (recs ++ rec ∷ []) (later last (begins rec)) (unwrap_or (opens rec) is_open)
+connected-more recs rec last is_open old =
+    record {
+      number = rw (last-more begins recs rec (begins rec) refl, ← old.number) refl;
+      state = rw (last-more opens recs rec (opens rec) refl, old.state) (unwrap_or-later (last_or None (filter_map opens recs)) (opens rec));
+    }
+  where
+    unwrap_or-later : (old new : Option Bool) → unwrap_or new (unwrap_or old false) ≡ unwrap_or (later old new) false
+    unwrap_or-later old None = refl
+    unwrap_or-later old (Some x) = refl
+
+pub connected-conn : (recs : List ClientRec) (c : ℕ) (last : Option ℕ) (is_open : Bool) → Connected recs last is_open → Connected (recs ++ Conn c ∷ []) (Some c) true
+connected-conn recs c = connected-more recs (Conn c)
+
+pub connected-lost : (recs : List ClientRec) (last : Option ℕ) (is_open : Bool) → Connected recs last is_open → Connected (recs ++ Lost ∷ []) last false
+connected-lost recs = connected-more recs Lost
+
+pub connected-text_in : (recs : List ClientRec) (t : List ℕ) (last : Option ℕ) (is_open : Bool) → Connected recs last is_open → Connected (recs ++ TextIn t ∷ []) last is_open
+connected-text_in recs t = connected-more recs (TextIn t)
+
+pub connected-bytes_in : (recs : List ClientRec) (b : List ℕ) (last : Option ℕ) (is_open : Bool) → Connected recs last is_open → Connected (recs ++ BytesIn b ∷ []) last is_open
+connected-bytes_in recs b = connected-more recs (BytesIn b)
+
+pub connected-poll : (recs : List ClientRec) (t : List ℕ) (last : Option ℕ) (is_open : Bool) → Connected recs last is_open → Connected (recs ++ Poll t ∷ []) last is_open
+connected-poll recs t = connected-more recs (Poll t)
+
+pub connected-text_out : (recs : List ClientRec) (t : List ℕ) (last : Option ℕ) (is_open : Bool) → Connected recs last is_open → Connected (recs ++ TextOut t ∷ []) last is_open
+connected-text_out recs t = connected-more recs (TextOut t)

@@ -1,0 +1,276 @@
+-- What the reader of a bundle keeps, as taps and records are added.
+use Rattle.std.proofs.Common.{◌≡◌, ℕ, zero, suc, ◌<◌, List, [], ◌∷◌, ◌++◌, length, get_or, set, Bool, true, false, cond, Option, Some, None, option_map, Result, Ok, Err, refl, sym, ap, ◌∙◌, arith, append_assoc, append-nil, codes, not}
+use Rattle.std.specs.HashMap.{HashMap, get_by_text, UpdatesBy}
+use Rattle.std.specs.Str.{bytes_eq}
+use Rattle.std.specs.String.{string_bytes, string_eq}
+use Rattle.std.specs.declared.string.String.{String}
+use Rattle.std.proofs.lemmas.Cmp.{nat_list_eq_equiv}
+use Rattle.std.proofs.lemmas.Slice.Eq.{bytes_eq-Decides}
+use Rattle.std.proofs.lemmas.Grind.{flat_map-append}
+use Rattle.std.proofs.lemmas.List.Sums.{sum_by-set}
+use Rattle.std.proofs.lemmas.Map.Text.{hash_map_updates_text}
+use Rattle.serde_json.specs.Data.{Data}
+use Rattle.aud_reader.specs.declared.fault.InputCode.{InputCode}
+use Rattle.aud_reader.specs.declared.fault.InputCode.TheVariants.{HeaderTwice}
+use Rattle.aud_reader.specs.declared.fault.LineFault.{LineFault}
+use Rattle.aud_reader.specs.declared.fault.LineFault.TheVariants as fault
+use Rattle.aud_tap.specs.declared.records.TapKind.{TapKind}
+use Rattle.aud_tap.specs.declared.records.TapKind.TheVariants as kind
+use Rattle.aud_tap.specs.declared.taps.Records.{Records}
+use Rattle.aud_tap.specs.declared.taps.Records.TheVariants.{Stream, Node, Client}
+use Rattle.aud_tap.specs.declared.taps.Tap.{Tap}
+use Rattle.aud_reader.specs.Steps.{◌>>=◌, Fails}
+use Rattle.aud_tap.specs.Forms.{is_text}
+use Rattle.aud_reader.specs.Header.{header_of}
+use Rattle.aud_reader.specs.Record.{opened_line, kind_of}
+use Rattle.aud_reader.specs.Bundle.{with_entry, with_node_record, with_client_record, with_record, tap_named, with_records, kind_of_tap, taps_on, same_kind, pids_in, pids_of, no_records, another_tap, with_header, with_later, with_kind, with_named, with_line}
+use Rattle.aud_reader.specs.Kept.{place_of, taps_so_far, Counted, Keeps}
+use Rattle.aud_reader.specs.Changes.{Becomes}
+use Rattle.aud_reader.specs.Texts.{HasPids}
+use Rattle.aud_reader.specs.declared.bundle.open_taps.OpenTaps.{OpenTaps}
+use Rattle.std.specs.Result.{OnOk}
+
+-- ---- the place of a tap
+
+at_first : (b : Bool) (o : Option ℕ) → cond b (Some 0) (option_map suc o) ≡ Some 0 → b ≡ true
+at_first true o e = refl
+at_first false None e = cc
+at_first false (Some i) e = let is : suc i ≡ 0 = cc in absurd (omega arith)
+
+at_later : (b : Bool) (o : Option ℕ) (i : ℕ) → cond b (Some 0) (option_map suc o) ≡ Some (suc i) → (b ≡ false) × (o ≡ Some i)
+at_later true o i e = let is : 0 ≡ suc i = cc in absurd (omega arith)
+at_later false None i e = cc
+at_later false (Some j) i e = let is : suc j ≡ suc i = cc in let same : j ≡ i = omega arith in (refl, ap Some same)
+
+-- the tap at the place of a name is the tap of that name
+named-at : (name : List ℕ) (ts : List Tap) (i : ℕ) (t : Tap) → place_of name ts ≡ Some i → get_or ts i t ≡ t → tap_named name ts ≡ Some t
+named-at name [] i t place at = cc
+named-at name (u ∷ us) zero t place at =
+    let first = at_first (is_text name u.name) (place_of name us) place in
+    rw first (ap Some at)
+named-at name (u ∷ us) (suc i) t place at =
+    let later = at_later (is_text name u.name) (place_of name us) i place in
+    rw later.0 (named-at name us i t later.1 at)
+
+-- and its records are replaced there
+with_records-at : (name : List ℕ) (records : Records) (ts : List Tap) (i : ℕ) (t : Tap) → place_of name ts ≡ Some i → get_or ts i t ≡ t
+    → with_records name records ts ≡ set ts i (record t { records = records })
+with_records-at name records [] i t place at = cc
+with_records-at name records (u ∷ us) zero t place at =
+    let first = at_first (is_text name u.name) (place_of name us) place in
+    rw first (ap (λ (x : Tap). record x { records = records } ∷ us) at)
+with_records-at name records (u ∷ us) (suc i) t place at =
+    let later = at_later (is_text name u.name) (place_of name us) i place in
+    rw later.0 (ap (λ rest. u ∷ rest) (with_records-at name records us i t later.1 at))
+
+pub named-none : (name : List ℕ) (ts : List Tap) → place_of name ts ≡ None → tap_named name ts ≡ None
+named-none name [] place = refl
+named-none name (u ∷ us) place =
+    let absent = none_of (is_text name u.name) (place_of name us) place in
+    rw absent.0 (named-none name us absent.1)
+  where
+    none_of : (b : Bool) (o : Option ℕ) → cond b (Some 0) (option_map suc o) ≡ None → (b ≡ false) × (o ≡ None)
+    none_of true o e = cc
+    none_of false None e = (refl, refl)
+    none_of false (Some i) e = cc
+
+-- a place is within the list
+pub place-bound : (name : List ℕ) (ts : List Tap) (i : ℕ) → place_of name ts ≡ Some i → i < length ts
+place-bound name [] i place = cc
+place-bound name (u ∷ us) zero place = omega arith
+place-bound name (u ∷ us) (suc i) place =
+    let later = at_later (is_text name u.name) (place_of name us) i place in
+    let below = place-bound name us i later.1 in
+    omega arith
+
+-- ---- one tap in another's place
+
+place_of-set : (name : List ℕ) (ts : List Tap) (i : ℕ) (t t' : Tap) → i < length ts → get_or ts i t ≡ t → t'.name ≡ t.name → place_of name (set ts i t') ≡ place_of name ts
+place_of-set name [] i t t' short at same = absurd (omega arith)
+place_of-set name (u ∷ us) zero t t' short at same =
+    ap (λ n. cond (is_text name n) (Some 0) (option_map suc (place_of name us))) (same ∙ ap (λ (x : Tap). x.name) (sym at))
+place_of-set name (u ∷ us) (suc i) t t' short at same =
+    ap (λ o. cond (is_text name u.name) (Some 0) (option_map suc o)) (place_of-set name us i t t' (omega arith) at same)
+
+taps_on-set : (of : TapKind) (ts : List Tap) (i : ℕ) (t t' : Tap) → i < length ts → get_or ts i t ≡ t → kind_of_tap t'.records ≡ kind_of_tap t.records → taps_on of (set ts i t') ≡ taps_on of ts
+taps_on-set of ts i t t' short at same =
+    let counts : Tap → ℕ = λ x. cond (same_kind of (kind_of_tap x.records)) 1 0 in
+    let counted = sum_by-set counts ts i t' t short in
+    let equal : counts t' ≡ counts (get_or ts i t) = ap (λ k. cond (same_kind of k) 1 0) (same ∙ ap (λ (x : Tap). kind_of_tap x.records) (sym at)) in
+    omega arith
+
+-- the pids before and after those of one tap
+pub record Around (ts : List Tap) (i : ℕ) (t : Tap) : Type 0 where
+  pub before : List (List ℕ)
+  pub after : List (List ℕ)
+  pub is : pids_of ts ≡ before ++ pids_in t.records ++ after
+  pub put : (t' : Tap) → pids_of (set ts i t') ≡ before ++ pids_in t'.records ++ after
+
+regroup : (p b o a : List (List ℕ)) → p ++ (b ++ o ++ a) ≡ (p ++ b) ++ o ++ a
+regroup p b o a = simp append_assoc
+
+pub around : (ts : List Tap) (i : ℕ) (t : Tap) → i < length ts → get_or ts i t ≡ t → Around ts i t
+around [] i t short at = absurd (omega arith)
+around (u ∷ us) zero t short at =
+    record { before = []; after = pids_of us; is = ap (λ (x : Tap). pids_in x.records ++ pids_of us) at; put = λ t'. refl }
+around (u ∷ us) (suc i) t short at =
+    let rest = around us i t (omega arith) at in
+    record {
+      before = pids_in u.records ++ rest.before;
+      after = rest.after;
+      is = ap (λ x. pids_in u.records ++ x) rest.is ∙ regroup (pids_in u.records) rest.before (pids_in t.records) rest.after;
+      put = λ t'. ap (λ x. pids_in u.records ++ x) (rest.put t') ∙ regroup (pids_in u.records) rest.before (pids_in t'.records) rest.after;
+    }
+
+-- ---- a later line of a tap
+
+-- one more record leaves the kind of a tap
+kind-stays : (pids : List (List ℕ)) (old new : Records) (word : List ℕ) (d : Data) → with_record pids old word d ≡ Ok new → kind_of_tap new ≡ kind_of_tap old
+kind-stays pids (Stream entries) new word d e =
+    elim (with_entry entries word d) as (λ r. (r >>= (λ more. Ok (Stream more))) ≡ Ok new → kind_of_tap new ≡ kind.Stream) [
+      | Ok more ↦ λ h. let is : new ≡ Stream more = cc in rw is refl
+      | Err code ↦ λ h. cc
+    ] e
+kind-stays pids (Node records) new word d e =
+    elim (with_node_record pids records word d) as (λ r. (r >>= (λ more. Ok (Node more))) ≡ Ok new → kind_of_tap new ≡ kind.Node) [
+      | Ok more ↦ λ h. let is : new ≡ Node more = cc in rw is refl
+      | Err code ↦ λ h. cc
+    ] e
+kind-stays pids (Client records) new word d e =
+    elim (with_client_record records word d) as (λ r. (r >>= (λ more. Ok (Client more))) ≡ Ok new → kind_of_tap new ≡ kind.Client) [
+      | Ok more ↦ λ h. let is : new ≡ Client more = cc in rw is refl
+      | Err code ↦ λ h. cc
+    ] e
+
+with_later-goes : (ts : List Tap) (name : List ℕ) (records : Records) (word : List ℕ) (d : Data) → is_text word (codes "tap") ≡ false
+    → with_later ts name records word d ≡ (with_record (pids_of ts) records word d >>= (λ more. Ok (with_records name more ts)))
+unfolding with_later
+with_later-goes ts name records word d e = rw e refl
+
+header_twice : (ts : List Tap) (name : List ℕ) (records : Records) (word : List ℕ) (d : Data) → is_text word (codes "tap") ≡ true → with_later ts name records word d ≡ Err HeaderTwice
+unfolding with_later
+header_twice ts name records word d e = rw e refl
+
+named-later : (ts : List Tap) (i : ℕ) (t : Tap) (name word : List ℕ) (d : Data) → place_of name ts ≡ Some i → get_or ts i t ≡ t → with_named ts name word d ≡ with_later ts name t.records word d
+named-later ts i t name word d place at = ap (λ o. with_kind ts name o word d) (named-at name ts i t place at)
+
+-- some tap stands at the place
+tap-at : (name : List ℕ) (ts : List Tap) (i : ℕ) → place_of name ts ≡ Some i → (t : Tap) × (get_or ts i t ≡ t)
+tap-at name [] i place = cc
+tap-at name (u ∷ us) zero place = (u, refl)
+tap-at name (u ∷ us) (suc i) place = tap-at name us i (at_later (is_text name u.name) (place_of name us) i place).1
+
+pub header-twice : (ts : List Tap) (i : ℕ) (name word : List ℕ) (d : Data) → place_of name ts ≡ Some i → is_text word (codes "tap") ≡ true → with_named ts name word d ≡ Err HeaderTwice
+header-twice ts i name word d place e =
+    let found = tap-at name ts i place in
+    named-later ts i found.0 name word d place found.1 ∙ header_twice ts name (found.0).records word d e
+
+becomes-then : {X Y : Type 0} (r : Result (Unit {0}) LineFault) (x : X) (y : Y) (reading : Result X InputCode) (f : X → Result Y InputCode) → f x ≡ Ok y → Becomes r x reading → Becomes r y (reading >>= f)
+becomes-then (Ok u) x y reading f e is = rw is e
+becomes-then (Err fault.Memory) x y reading f e is = tt
+becomes-then (Err (fault.Code code)) x y reading f e is = rw is refl
+
+pub go_on-taps : (ts : List Tap) (i : ℕ) (t t' : Tap) (name word : List ℕ) (d : Data) (r : Result (Unit {0}) LineFault) → place_of name ts ≡ Some i → get_or ts i t ≡ t → is_text word (codes "tap") ≡ false
+    → t'.name ≡ t.name → Becomes r t'.records (with_record (pids_of ts) t.records word d) → Becomes r (set ts i t') (with_named ts name word d)
+go_on-taps ts i t t' name word d r place at e same is =
+    let named : List ℕ → Tap = λ n. record { name = n; records = t'.records } in
+    let renamed : record t { records = t'.records } ≡ t' = ap named (sym same) in
+    rw (named-later ts i t name word d place at, with_later-goes ts name t.records word d e)
+    (becomes-then r t'.records (set ts i t') (with_record (pids_of ts) t.records word d) (λ more. Ok (with_records name more ts))
+    (ap Ok (with_records-at name t'.records ts i t place at ∙ ap (set ts i) renamed)) is)
+
+pub go_on-keeps : (s s' : OpenTaps) (i : ℕ) (t t' : Tap) (word : List ℕ) (d : Data) (r : Result (Unit {0}) LineFault) → taps_so_far s' ≡ set (taps_so_far s) i t' → s'.places ≡ s.places → s'.counts ≡ s.counts
+    → Keeps s → (short : i < length (taps_so_far s)) → (at : get_or (taps_so_far s) i t ≡ t) → t'.name ≡ t.name → Becomes r t'.records (with_record (pids_of (taps_so_far s)) t.records word d)
+    → OnOk r (HasPids s'.pids ((around (taps_so_far s) i t short at).before ++ pids_in t'.records ++ (around (taps_so_far s) i t short at).after))
+    → OnOk r (Keeps s')
+go_on-keeps s s' i t t' word d (Err e) taps places counts keeps short at same is pids = tt
+go_on-keeps s s' i t t' word d (Ok u) taps places counts keeps short at same is pids =
+    let ts = taps_so_far s in
+    let stays = kind-stays (pids_of ts) t.records t'.records word d is in
+    record {
+      places = λ name. rw (places, taps) (keeps.places name ∙ sym (place_of-set name ts i t t' short at same));
+      pids = rw (taps, (around ts i t short at).put t') pids;
+      counts = rw (counts, taps) (record {
+        streams = keeps.counts.streams ∙ sym (taps_on-set kind.Stream ts i t t' short at stays);
+        nodes = keeps.counts.nodes ∙ sym (taps_on-set kind.Node ts i t t' short at stays);
+        clients = keeps.counts.clients ∙ sym (taps_on-set kind.Client ts i t t' short at stays);
+      });
+    }
+
+-- ---- a new tap
+
+abbrev or_behind : Option ℕ → Bool → ℕ → Option ℕ
+or_behind (Some i) b n = Some i
+or_behind None b n = cond b (Some n) None
+
+place_of-push : (text : List ℕ) (ts : List Tap) (t : Tap) → place_of text (ts ++ t ∷ []) ≡ or_behind (place_of text ts) (is_text text t.name) (length ts)
+place_of-push text [] t = refl
+place_of-push text (u ∷ us) t =
+    ap (λ o. cond (is_text text u.name) (Some 0) (option_map suc o)) (place_of-push text us t)
+    ∙ step (is_text text u.name) (place_of text us) (is_text text t.name) (length us)
+  where
+    step : (b : Bool) (o : Option ℕ) (last : Bool) (n : ℕ) → cond b (Some 0) (option_map suc (or_behind o last n)) ≡ or_behind (cond b (Some 0) (option_map suc o)) last (suc n)
+    step true o last n = refl
+    step false (Some i) last n = refl
+    step false None true n = refl
+    step false None false n = refl
+
+pub places-put : {Y S : Type 0} (m n : HashMap (String Y) ℕ S) (ts : List Tap) (t : Tap) (key : String Y) (size : ℕ) → string_bytes key ≡ t.name → size ≡ length ts
+    → UpdatesBy string_eq (string_eq key) m n (Some size) → ((text : List ℕ) → get_by_text m text ≡ place_of text ts) → place_of t.name ts ≡ None
+    → (text : List ℕ) → get_by_text n text ≡ place_of text (ts ++ t ∷ [])
+places-put m n ts t key size spells sized updates places first text =
+    hash_map_updates_text (string_bytes key) m n (Some size) updates text
+    ∙ ap (cond (bytes_eq (string_bytes key) text) (Some size)) (places text)
+    ∙ rw (spells, sized) (found (is_text text t.name) refl)
+    ∙ sym (place_of-push text ts t)
+  where
+    other : (o : Option ℕ) → o ≡ or_behind o false (length ts)
+    other (Some i) = refl
+    other None = refl
+
+    found : (b : Bool) → is_text text t.name ≡ b → cond (bytes_eq t.name text) (Some (length ts)) (place_of text ts) ≡ or_behind (place_of text ts) (is_text text t.name) (length ts)
+    found true e =
+        let same : text ≡ t.name = (bytes_eq-Decides text t.name).0 e in
+        let none : place_of text ts ≡ None = rw same first in
+        rw (nat_list_eq_equiv.symm t.name text, e, none) refl
+    found false e = rw (nat_list_eq_equiv.symm t.name text, e) (other (place_of text ts))
+
+pub with_header-goes : (ts : List Tap) (name word : List ℕ) (d : Data) (of : TapKind) → is_text word (codes "tap") ≡ true → header_of d ≡ Ok of
+    → with_header ts name word d ≡ (another_tap of ts >>= (λ room. Ok (ts ++ record { name = name; records = no_records of } ∷ [])))
+unfolding with_header
+with_header-goes ts name word d of e is = rw (e, is) refl
+
+pub fails-then : {X Y : Type 0} (e : LineFault) (reading : Result X InputCode) (f : X → Result Y InputCode) → Fails e reading → Fails e (reading >>= f)
+fails-then fault.Memory reading f is = tt
+fails-then (fault.Code code) reading f is = rw is refl
+
+pids-empty : (of : TapKind) → pids_in (no_records of) ≡ []
+pids-empty kind.Stream = refl
+pids-empty kind.Node = refl
+pids-empty kind.Client = refl
+
+pub begin-keeps : (s s' : OpenTaps) (name : List ℕ) (of : TapKind) (r : Result (Unit {0}) LineFault) → Keeps s → s'.pids ≡ s.pids
+    → Becomes r (taps_so_far s') (Ok (taps_so_far s ++ record { name = name; records = no_records of } ∷ []))
+    → OnOk r ((text : List ℕ) → get_by_text s'.places text ≡ place_of text (taps_so_far s'))
+    → Counted s'.counts (taps_so_far s ++ record { name = name; records = no_records of } ∷ [])
+    → OnOk r (Keeps s')
+begin-keeps s s' name of (Err e) keeps same is places counts = tt
+begin-keeps s s' name of (Ok u) keeps same is places counts =
+    let ts = taps_so_far s in
+    let taps : taps_so_far s' ≡ ts ++ record { name = name; records = no_records of } ∷ [] = cc in
+    record {
+      places = places;
+      pids = rw (taps, flat_map-append (λ (t : Tap). pids_in t.records) ts (record { name = name; records = no_records of } ∷ []), pids-empty of, append-nil, same) keeps.pids;
+      counts = rw taps counts;
+    }
+
+pub named-first : (ts : List Tap) (name word : List ℕ) (d : Data) → place_of name ts ≡ None → with_named ts name word d ≡ with_header ts name word d
+named-first ts name word d place = ap (λ o. with_kind ts name o word d) (named-none name ts place)
+
+pub not-is : (b r : Bool) → r ≡ not b → r ≡ false → b ≡ true
+not-is true r e f = refl
+not-is false r e f = cc
+
+pub with_line-goes : (ts : List Tap) (line name word : List ℕ) (d : Data) → opened_line line ≡ Ok (name, d) → kind_of d ≡ Ok word → with_line ts line ≡ with_named ts name word d
+unfolding with_line
+with_line-goes ts line name word d opened kind = rw (opened, kind) refl

@@ -1,0 +1,178 @@
+-- Sets of texts, against lists.
+use Rattle.std.proofs.Common.{◌≡◌, ℕ, ◌+◌, ◌<◌, ◌≤◌, List, [], ◌∷◌, ◌++◌, length, map, Bool, true, false, cond, ◌||◌, Option, Some, None, option_to_list, Ok, Err, refl, sym, ap, ◌∙◌, arith, append-nil, length-append}
+use Rattle.std.specs.List.{list_any, filter_map, cons_option, IsDistinct, AllByRecursion}
+use Rattle.std.proofs.lemmas.List.Elements.{filter_map-append}
+use Rattle.aud_tap.specs.declared.records.NodeRec.{NodeRec}
+use Rattle.std.specs.Set.{distinct_count, unique_keys}
+use Rattle.std.specs.HashSet.{HashSet, contains_text, UpdatesBy}
+use Rattle.std.specs.Str.{bytes_eq}
+use Rattle.std.specs.String.{string_bytes, string_eq}
+use Rattle.std.specs.declared.string.String.{String}
+use Rattle.std.proofs.Math.Bool.{or-true, or-false}
+use Rattle.std.proofs.lemmas.Bool.{le-leb, lt-leb}
+use Rattle.std.proofs.lemmas.Cmp.{nat_list_eq_equiv}
+use Rattle.std.proofs.lemmas.List.{length-map}
+use Rattle.std.proofs.lemmas.List.Folds.{list_any-append}
+use Rattle.std.proofs.lemmas.Map.Keys.{IsDistinct-push}
+use Rattle.std.proofs.lemmas.Map.Made.{length-from_keys}
+use Rattle.std.proofs.lemmas.Map.Steps.{list_any_congr}
+use Rattle.std.proofs.lemmas.Map.Text.{hash_set_updates_text}
+use Rattle.aud_reader.specs.declared.fault.InputCode.TheVariants.{Limit}
+use Rattle.aud_tap.specs.Forms.{is_text}
+use Rattle.aud_reader.specs.Bundle.{max_pids, pid_of, pids_fit}
+use Rattle.aud_reader.specs.Texts.{HasTexts, HasPids}
+
+any-push : (q text : List ℕ) (texts : List (List ℕ)) → list_any (is_text q) (texts ++ text ∷ []) ≡ (list_any (is_text q) texts || is_text q text)
+any-push q text texts = list_any-append (is_text q) texts (text ∷ []) ∙ ap (λ b. list_any (is_text q) texts || b) (or-false (is_text q text))
+
+any-map : {A B : Type 0} (test : B → Bool) (f : A → B) (xs : List A) → list_any test (map f xs) ≡ list_any (λ x. test (f x)) xs
+any-map test f [] = refl
+any-map test f (x ∷ xs) = ap (λ b. test (f x) || b) (any-map test f xs)
+
+-- a text that is put in
+pub texts-new : {Y S : Type 0} (s n : HashSet (String Y) S) (texts : List (List ℕ)) (text : List ℕ)
+    → UpdatesBy string_eq (λ k. bytes_eq text (string_bytes k)) s n true → HasTexts s texts → HasTexts n (texts ++ text ∷ [])
+texts-new s n texts text updates has q =
+    hash_set_updates_text text s n true updates q
+    ∙ ap (cond (bytes_eq text q) true) (has q)
+    ∙ ap (λ b. cond b true (list_any (is_text q) texts)) (nat_list_eq_equiv.symm text q)
+    ∙ either (is_text q text) (list_any (is_text q) texts)
+    ∙ sym (any-push q text texts)
+  where
+    either : (b a : Bool) → cond b true a ≡ (a || b)
+    either true a = sym (or-true a)
+    either false a = sym (or-false a)
+
+-- a text that is in already
+texts-known : {Y S : Type 0} (s : HashSet (String Y) S) (texts : List (List ℕ)) (text : List ℕ) → contains_text s text ≡ true → HasTexts s texts → HasTexts s (texts ++ text ∷ [])
+texts-known s texts text known has q = has q ∙ sym (any-push q text texts ∙ known-or (is_text q text) refl)
+  where
+    known-or : (b : Bool) → is_text q text ≡ b → (list_any (is_text q) texts || b) ≡ list_any (is_text q) texts
+    known-or false e = or-false (list_any (is_text q) texts)
+    known-or true e = or-true (list_any (is_text q) texts) ∙ sym (list_any_congr nat_list_eq_equiv q text texts e ∙ sym (has text) ∙ known)
+
+apart-bytes : {Y : Type 0} (k : String Y) (ks : List (String Y)) → AllByRecursion (λ y. string_eq k y ≡ false) ks → AllByRecursion (λ y. is_text (string_bytes k) y ≡ false) (map string_bytes ks)
+apart-bytes k [] h = h
+apart-bytes k (y ∷ ks) h = (h.0, apart-bytes k ks h.1)
+
+distinct-bytes : {Y : Type 0} (ks : List (String Y)) → IsDistinct string_eq ks → IsDistinct is_text (map string_bytes ks)
+unfolding IsDistinct
+distinct-bytes [] h = h
+distinct-bytes (k ∷ ks) h = (apart-bytes k ks h.0, distinct-bytes ks h.1)
+
+members : {Y S : Type 0} (s : HashSet (String Y) S) (texts : List (List ℕ)) → HasTexts s texts → (q : List ℕ) → list_any (is_text q) (map string_bytes s.keys) ≡ list_any (is_text q) texts
+members s texts has q = any-map (is_text q) string_bytes s.keys ∙ has q
+
+-- a set has each text once
+count-texts : {Y S : Type 0} (s : HashSet (String Y) S) (texts : List (List ℕ)) → IsDistinct string_eq s.keys → HasTexts s texts → distinct_count is_text texts ≡ length s.keys
+count-texts s texts unique has =
+    sym (length-from_keys nat_list_eq_equiv (map string_bytes s.keys) texts (distinct-bytes s.keys unique) (members s texts has))
+    ∙ length-map s.keys string_bytes
+
+-- and one more than that, where a text isn't in it
+count-absent : {Y S : Type 0} (s : HashSet (String Y) S) (texts : List (List ℕ)) (text : List ℕ) → IsDistinct string_eq s.keys → HasTexts s texts → contains_text s text ≡ false
+    → distinct_count is_text (texts ++ text ∷ []) ≡ length s.keys + 1
+count-absent s texts text unique has absent =
+    let keys = map string_bytes s.keys in
+    let apart : IsDistinct is_text (keys ++ text ∷ []) = IsDistinct-push nat_list_eq_equiv keys text (distinct-bytes s.keys unique) (any-map (is_text text) string_bytes s.keys ∙ absent) in
+    sym (length-from_keys nat_list_eq_equiv (keys ++ text ∷ []) (texts ++ text ∷ []) apart
+    (λ q. any-push q text keys ∙ ap (λ b. b || is_text q text) (members s texts has q) ∙ sym (any-push q text texts)))
+    ∙ length-append keys (text ∷ []) ∙ ap (λ n. n + 1) (length-map s.keys string_bytes)
+
+pub fit-ok : (pids : List (List ℕ)) → distinct_count is_text pids ≤ max_pids → pids_fit pids ≡ Ok tt
+fit-ok pids h = rw (le-leb _ _ h) refl
+
+pub pids-known : {Y S : Type 0} (s : HashSet (String Y) S) (all : List (List ℕ)) (pid : List ℕ) → IsDistinct string_eq s.keys → HasPids s all → contains_text s pid ≡ true → HasPids s (all ++ pid ∷ [])
+pids-known s all pid unique has known =
+    let texts : HasTexts s (all ++ pid ∷ []) = texts-known s all pid known has.texts in
+    let before = count-texts s all unique has.texts in
+    let after = count-texts s (all ++ pid ∷ []) unique texts in
+    record { texts = texts; few = rw (after, ← before) has.few }
+
+pub pids-new : {Y S : Type 0} (s n : HashSet (String Y) S) (all : List (List ℕ)) (pid : List ℕ) → IsDistinct string_eq s.keys → HasPids s all → contains_text s pid ≡ false → length s.keys < max_pids
+    → UpdatesBy string_eq (λ k. bytes_eq pid (string_bytes k)) s n true → HasPids n (all ++ pid ∷ [])
+pids-new s n all pid unique has absent room updates =
+    let count = count-absent s all pid unique has.texts absent in
+    record { texts = texts-new s n all pid updates has.texts; few = rw count (omega arith) }
+
+pub pids-full : {Y S : Type 0} (s : HashSet (String Y) S) (all : List (List ℕ)) (pid : List ℕ) → IsDistinct string_eq s.keys → HasPids s all → contains_text s pid ≡ false → max_pids ≤ length s.keys
+    → pids_fit (all ++ pid ∷ []) ≡ Err Limit
+pids-full s all pid unique has absent full =
+    let count = count-absent s all pid unique has.texts absent in
+    let above : max_pids < distinct_count is_text (all ++ pid ∷ []) = rw count (omega arith) in
+    rw (lt-leb _ _ above) refl
+
+pub pids-none : {Y S : Type 0} (s : HashSet (String Y) S) (all : List (List ℕ)) → HasPids s all → HasPids s (all ++ [])
+pids-none s all has = rw (append-nil) has
+
+-- each text once: the same texts, none of them twice
+unique-member : (texts : List (List ℕ)) (q : List ℕ) → list_any (is_text q) (unique_keys is_text texts) ≡ list_any (is_text q) texts
+unique-member [] q = refl
+unique-member (x ∷ texts) q = go (unique-member texts q) (list_any (is_text x) texts) refl
+  where
+    either : (b : Bool) → is_text q x ≡ b → list_any (is_text x) texts ≡ true → list_any (is_text q) texts ≡ (b || list_any (is_text q) texts)
+    either true e known = list_any_congr nat_list_eq_equiv q x texts e ∙ known
+    either false e known = refl
+
+    go : list_any (is_text q) (unique_keys is_text texts) ≡ list_any (is_text q) texts → (b : Bool) → list_any (is_text x) texts ≡ b → list_any (is_text q) (cond b (unique_keys is_text texts) (x ∷ unique_keys is_text texts)) ≡ (is_text q x || list_any (is_text q) texts)
+    go same true e = same ∙ either (is_text q x) refl e
+    go same false e = ap (λ b. is_text q x || b) same
+
+all-absent : (x : List ℕ) (texts : List (List ℕ)) → list_any (is_text x) texts ≡ false → AllByRecursion (λ y. is_text x y ≡ false) texts
+all-absent x [] e = tt
+all-absent x (y ∷ texts) e = go (all-absent x texts) (is_text x y) refl e
+  where
+    go : (list_any (is_text x) texts ≡ false → AllByRecursion (λ z. is_text x z ≡ false) texts) → (b : Bool) → is_text x y ≡ b → (b || list_any (is_text x) texts) ≡ false → (is_text x y ≡ false) × AllByRecursion (λ z. is_text x z ≡ false) texts
+    go rest true is h = cc
+    go rest false is h = (is, rest h)
+
+unique-distinct : (texts : List (List ℕ)) → IsDistinct is_text (unique_keys is_text texts)
+unfolding IsDistinct
+unique-distinct [] = tt
+unique-distinct (x ∷ texts) = go (unique-distinct texts) (list_any (is_text x) texts) refl
+  where
+    go : IsDistinct is_text (unique_keys is_text texts) → (b : Bool) → list_any (is_text x) texts ≡ b → IsDistinct is_text (cond b (unique_keys is_text texts) (x ∷ unique_keys is_text texts))
+    go rest true e = rest
+    go rest false e = (all-absent x (unique_keys is_text texts) (unique-member texts x ∙ e), rest)
+
+count-same : (texts others : List (List ℕ)) → ((q : List ℕ) → list_any (is_text q) texts ≡ list_any (is_text q) others) → distinct_count is_text others ≡ distinct_count is_text texts
+count-same texts others same = sym (length-from_keys nat_list_eq_equiv (unique_keys is_text texts) others (unique-distinct texts) (λ q. unique-member texts q ∙ same q))
+
+-- one more pid of one tap among all
+pub pids-moved : {Y S : Type 0} (s : HashSet (String Y) S) (before own after more : List (List ℕ)) → HasPids s ((before ++ own ++ after) ++ more) → HasPids s (before ++ (own ++ more) ++ after)
+pids-moved s before own after more has =
+    record {
+      texts = λ q. has.texts q ∙ moved q;
+      few = rw (count-same ((before ++ own ++ after) ++ more) (before ++ (own ++ more) ++ after) moved) has.few;
+    }
+  where
+    swap : (b o a m : Bool) → (((b || o) || a) || m) ≡ ((b || (o || m)) || a)
+    swap true o a m = refl
+    swap false true a m = refl
+    swap false false true true = refl
+    swap false false true false = refl
+    swap false false false true = refl
+    swap false false false false = refl
+
+    moved : (q : List ℕ) → list_any (is_text q) ((before ++ own ++ after) ++ more) ≡ list_any (is_text q) (before ++ (own ++ more) ++ after)
+    moved q = simp (list_any-append) (swap (list_any (is_text q) before) (list_any (is_text q) own) (list_any (is_text q) after) (list_any (is_text q) more))
+
+-- a key that spells the pid
+pub pids-put : {Y S : Type 0} (s n : HashSet (String Y) S) (all : List (List ℕ)) (pid : List ℕ) (key : String Y) → string_bytes key ≡ pid → IsDistinct string_eq s.keys → HasPids s all → contains_text s pid ≡ false
+    → length s.keys < max_pids → UpdatesBy string_eq (string_eq key) s n true → HasPids n (all ++ pid ∷ [])
+pids-put s n all pid key spells unique has absent room updates =
+    rw (← spells) (pids-new s n all (string_bytes key) unique has (rw spells absent) room updates)
+
+pub texts-put : {Y S : Type 0} (s n : HashSet (String Y) S) (texts : List (List ℕ)) (text : List ℕ) (key : String Y) → string_bytes key ≡ text
+    → UpdatesBy string_eq (string_eq key) s n true → HasTexts s texts → HasTexts n (texts ++ text ∷ [])
+texts-put s n texts text key spells updates has = rw (← spells) (texts-new s n texts (string_bytes key) updates has)
+
+-- one more record of one tap among all
+pub pids-more : {Y S : Type 0} (s : HashSet (String Y) S) (before : List (List ℕ)) (recs : List NodeRec) (rec : NodeRec) (after : List (List ℕ))
+    → HasPids s ((before ++ filter_map pid_of recs ++ after) ++ option_to_list (pid_of rec)) → HasPids s (before ++ filter_map pid_of (recs ++ rec ∷ []) ++ after)
+pids-more s before recs rec after has =
+    rw (filter_map-append pid_of recs (rec ∷ []), alone (pid_of rec)) (pids-moved s before (filter_map pid_of recs) after (option_to_list (pid_of rec)) has)
+  where
+    alone : (o : Option (List ℕ)) → cons_option o [] ≡ option_to_list o
+    alone None = refl
+    alone (Some pid) = refl

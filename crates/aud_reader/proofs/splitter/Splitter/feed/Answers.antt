@@ -1,0 +1,29 @@
+use Rattle.std.proofs.Common.{◌∙◌, arith, length, ◌∷◌, length-append, ap}
+use Rattle.aud_reader.proofs.LinesLemmas.{to_come-next, to_come-line_begun, rest-line_ended, to_come-refused, none_of, some_of}
+use Rattle.aud_reader.proofs.splitter.Splitter.feed.Goals as goal
+
+pub lines-preserved : goal.lines-preserved
+lines-preserved c =
+    let inv = c.lines.invariant in
+    let found = c.in-Some-next_line.ensures.found in
+    let after = c.in-Ok.ensures.after (λ e. cc) in
+    let size = length-append c.in-Some-next_line.front.now (10 ∷ c.in-Some-next_line.others.now) in
+    let cut = ap length found.0 in
+    record {
+      going = none_of c.end_line.new.self.fault c.in-Ok.ensures.value;
+      partial = rw after (rest-line_ended c.lines.self c.in-Some-next_line.front.now);
+      number = omega (arith, c.in-Ok.ensures.number, inv.number, size, cut);
+      lines = λ more. to_come-next c.lines.self c.end_line.new.self _ _ _ more inv.going inv.partial.unended found.1 found.0 after ∙ inv.lines more;
+    }
+
+pub returns-in-Err-clause-lines : goal.returns-in-Err-clause-lines
+returns-in-Err-clause-lines c = λ more other.
+    let inv = c.lines.invariant in
+    let found = c.in-Some-next_line.ensures.found in
+    to_come-refused c.end_line.new.self c.in-Err.fault _ _ (some_of c.end_line.new.self.fault c.in-Err.fault c.in-Err.ensures.value)
+    ∙ to_come-next c.lines.self c.end_line.new.self _ _ _ more inv.going inv.partial.unended found.1 found.0 (c.in-Err.ensures.after other) ∙ inv.lines more
+
+pub returns-clause-lines : goal.returns-clause-lines
+returns-clause-lines c = λ more other.
+    let inv = c.lines.invariant in
+    rw (c.begin_line.ensures.after other) (to_come-line_begun c.lines.self c.lines.left.now more inv.going inv.partial.unended c.in_default-next_line.ensures.none ∙ inv.lines more)

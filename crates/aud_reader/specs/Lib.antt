@@ -1,0 +1,15 @@
+pub use Rattle.aud_tap.specs.TapName
+pub use Rattle.aud_tap.specs.WellFormed
+pub mod Lines
+pub mod Steps
+pub mod Fields
+pub mod Header
+pub mod StreamRecord
+pub mod NodeRecord
+pub mod ClientRecord
+pub mod Record
+pub mod Connections
+pub mod Bundle
+pub mod Changes
+pub mod Texts
+pub mod Kept

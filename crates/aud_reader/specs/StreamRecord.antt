@@ -1,0 +1,42 @@
+-- The records of a stream tap.
+use Rattle.std.specs.Prelude.{ℕ, nat_le, List, length, codes, Result, Ok, Err, if◌then◌else◌}
+use Rattle.serde_json.specs.Data.{Data}
+use Rattle.aud_reader.specs.declared.fault.InputCode.{InputCode}
+use Rattle.aud_reader.specs.declared.fault.InputCode.TheVariants.{UnknownKind, Field, Limit}
+use Rattle.aud_tap.specs.declared.records.StreamRec.{StreamRec}
+use Rattle.aud_tap.specs.declared.records.StreamRec.TheVariants.{Ev, Other}
+use Rattle.aud_reader.specs.Steps.{◌>>=◌, need, guard}
+use Rattle.aud_tap.specs.Limits.{fits, fit_rooms, max_offset, max_namespace, max_attachments}
+use Rattle.aud_tap.specs.Forms.{is_text}
+use Rattle.aud_tap.specs.Json.{text_at}
+use Rattle.aud_reader.specs.Fields.{id_at, namespace_at, texts_at, blobs_at}
+
+-- an event
+unfoldable pub event_of : Data → Result StreamRec InputCode
+event_of d = do
+  off ← need Field (id_at (codes "off") d)
+  nsp ← need Field (namespace_at (codes "nsp") d)
+  text ← need Field (text_at (codes "text") d)
+  rooms ← need Field (texts_at (codes "rooms") d)
+  except ← need Field (texts_at (codes "except") d)
+  bin ← need Field (blobs_at (codes "bin") d)
+  offset_fits ← guard Limit (fits max_offset off)
+  namespace_fits ← guard Limit (fits max_namespace nsp)
+  rooms_fit ← guard Limit (fit_rooms rooms)
+  except_fit ← guard Limit (fit_rooms except)
+  attachments_fit ← guard Limit (nat_le (length bin) max_attachments)
+  Ok (Ev (record { off = off; nsp = nsp; rooms = rooms; except = except; text = text; bin = bin }))
+
+-- an entry that is no event
+unfoldable pub other_of : Data → Result StreamRec InputCode
+other_of d = do
+  off ← need Field (id_at (codes "off") d)
+  offset_fits ← guard Limit (fits max_offset off)
+  Ok (Other off)
+
+-- the stream's record of this kind
+unfoldable pub stream_record_of : List ℕ → Data → Result StreamRec InputCode
+stream_record_of kind d =
+    if is_text kind (codes "ev") then event_of d
+    else (if is_text kind (codes "other") then other_of d
+    else Err UnknownKind)

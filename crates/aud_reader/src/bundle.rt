@@ -1,0 +1,116 @@
+//! The taps of the lines.
+mod client_log;
+mod counts;
+mod node_log;
+mod open_tap;
+mod open_taps;
+mod pids;
+mod stream_log;
+
+ghost use Rattle.std.specs.Prelude.{◌≡◌, ◌≢◌, ◌∷◌, [], List, IfOk, IfErr, IfSome, Ok, Err, Some, None};
+ghost use Rattle.aud_reader.specs.declared.line.Line.{Line};
+ghost use Rattle.aud_reader.specs.Lines.{result_of};
+ghost use Rattle.aud_reader.specs.Bundle.{taps_of};
+
+use crate::fault::{LineFault, ReadFault, refuse};
+use crate::line::Line;
+use aud_tap::Taps;
+use open_taps::OpenTaps;
+use std::alloc::Global;
+use std::marker::Model;
+
+/// Reads the taps of the lines that it is given, one line at a time, and copies what it keeps.
+///
+/// After a refusal, want of memory too, it gives that refusal from then on.
+#[derive(Drop)]
+pub struct BundleReader {
+    taps: OpenTaps,
+    fault: Option<ReadFault>,
+}
+
+impl Model for BundleReader {
+    ghost use Rattle.std.specs.Prelude.{◌≡◌, None};
+    ghost use Rattle.aud_reader.specs.Bundle.{Reading};
+    ghost use Rattle.aud_reader.specs.Kept.{Keeps, taps_so_far};
+
+    ghost Value = { Reading };
+
+    ghost view = { λ s. record { taps = taps_so_far s.taps; fault = s.fault } };
+
+    ghost invariant = { λ s. s.fault ≡ None → Keeps s.taps };
+}
+
+impl BundleReader {
+    ghost use Rattle.aud_reader.specs.Bundle.{taps_to_come};
+
+    /// A reader before the first line.
+    pub fn new(alloc: Global) -> BundleReader
+        ensures state { result ≡ record { taps = []; fault = None } }
+        ensures taps { (lines : List Line) → taps_to_come result lines ≡ taps_of lines }
+    {
+        BundleReader {
+            taps: OpenTaps::new(alloc),
+            fault: None,
+        }
+    }
+
+    /// Reads the next line. A line without bytes is passed over. A line is refused by its own number, and the first of
+    /// the reasons that docs/FORMAT.md lists, in the light of the lines before it.
+    pub fn line(&mut self, line: &Line) -> Result<(), ReadFault>
+        ensures value { result ≡ result_of self.new.fault }
+        ensures taps { (more : List Line) → result ≢ Err ReadFault.Memory → taps_to_come self.new more ≡ taps_to_come self.old (line.now ∷ more) }
+        ensures refused { IfSome self.old.fault (λ fault. (result ≡ Err fault) × (self.new ≡ self.old)) }
+    {
+        if let Some(fault) = self.fault {
+            return Err(fault);
+        }
+        let bytes = line.bytes.as_slice();
+        if bytes.is_empty() {
+            return Ok(());
+        }
+        match self.taps.read_line(bytes) {
+            Ok(()) => Ok(()),
+            Err(LineFault::Code(code)) => {
+                refuse(&mut self.fault, ReadFault::Input(line.number, code))
+            }
+            Err(LineFault::Memory) => refuse(&mut self.fault, ReadFault::Memory),
+        }
+    }
+
+    /// The taps of the lines, in the order of their headers. It refuses where a line was refused, and for want of memory.
+    pub fn finish(self) -> Result<Taps, ReadFault>
+        ensures ok { IfOk result (λ taps. taps_to_come self [] ≡ Ok taps) }
+        ensures err { IfErr result (λ e. e ≢ ReadFault.Memory → self.fault ≡ Some e) }
+        ensures refused { IfSome self.fault (λ fault. result ≡ Err fault) }
+    {
+        if let Some(fault) = self.fault {
+            return Err(fault);
+        }
+        match self.taps.close() {
+            Ok(taps) => Ok(taps),
+            Err(_) => Err(ReadFault::Memory),
+        }
+    }
+}
+
+/// The taps of the lines, in the order of their headers; or the first refused line, by its number
+/// and the first of the reasons that docs/FORMAT.md lists.
+///
+/// Each line is judged by the taps of the lines before it. Lines without bytes are passed over. The lines are lent for
+/// the call alone.
+pub fn read_bundle(alloc: Global, lines: &[Line]) -> Result<Taps, ReadFault>
+    ensures read { IfOk result (λ taps. taps_of lines.now ≡ Ok taps) }
+    ensures refused { IfErr result (λ e. e ≢ ReadFault.Memory → taps_of lines.now ≡ Err e) }
+{
+    let mut reader = BundleReader::new(alloc);
+    for line in lines {
+        match reader.line(line) {
+            Ok(()) => {}
+            Err(fault) => return Err(fault),
+        }
+    }
+    reader.finish()
+}
+
+#[cfg(test)]
+mod tests;

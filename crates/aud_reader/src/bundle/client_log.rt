@@ -1,0 +1,110 @@
+//! The records of a client tap, while they are read.
+ghost use Rattle.std.specs.Prelude.{◌≡◌, ◌∷◌, ◌++◌, [], Ok};
+ghost use Rattle.serde_json.specs.View.{view};
+ghost use Rattle.aud_reader.specs.Connections.{Connected, may_follow};
+ghost use Rattle.aud_reader.specs.Bundle.{with_client_record};
+
+use super::node_log::MAX_RECORDS;
+use crate::fault::{FIELD, LIMIT, LineFault};
+use crate::read::client::client_record;
+use aud_tap::{ClientRec, ClientRecs};
+use serde_json::Value;
+use std::alloc::Global;
+use std::marker::Model;
+
+/// The records so far, the number of the connection that began last, and whether one is open.
+#[derive(Drop)]
+pub struct ClientLog {
+    alloc: Global,
+    records: Vec<ClientRec>,
+    last: Option<u64>,
+    is_open: bool,
+}
+
+impl Model for ClientLog {
+    ghost use Rattle.std.specs.Prelude.{List};
+    ghost use Rattle.aud_tap.specs.declared.records.ClientRec.{ClientRec};
+    ghost use Rattle.aud_reader.specs.Connections.{Connected};
+
+    ghost Value = { List ClientRec };
+
+    ghost view = { λ s. s.records.items };
+
+    ghost invariant = { λ s. Connected s.records.items s.last s.is_open };
+}
+
+impl ClientLog {
+    ghost use Rattle.aud_reader.specs.Changes.{Becomes};
+
+    pub fn new(alloc: Global) -> ClientLog
+        ensures { result ≡ [] }
+    {
+        ClientLog {
+            alloc,
+            records: Vec::new(alloc),
+            last: None,
+            is_open: false,
+        }
+    }
+
+    /// A connection may begin with a greater number than the one before; all else needs one that is open.
+    fn may_follow(&self, rec: &ClientRec) -> bool
+        ensures { result ≡ may_follow self.now rec.now }
+    {
+        match rec {
+            ClientRec::Conn { c } => match self.last {
+                Some(last) => last < *c,
+                None => true,
+            },
+            _ => self.is_open,
+        }
+    }
+
+    /// The connection behind one more record.
+    fn connection_after(&self, rec: &ClientRec) -> (Option<u64>, bool)
+        ensures { Connected (self.now ++ rec.now ∷ []) result.0 result.1 }
+    {
+        match rec {
+            ClientRec::Conn { c } => (Some(*c), true),
+            ClientRec::Lost => (self.last, false),
+            ClientRec::TextIn { .. }
+            | ClientRec::BytesIn { .. }
+            | ClientRec::Poll { .. }
+            | ClientRec::TextOut { .. } => (self.last, self.is_open),
+        }
+    }
+
+    fn push(&mut self, rec: ClientRec) -> Result<(), LineFault>
+        ensures { Becomes result self.new (Ok (self.old ++ rec ∷ [])) }
+    {
+        let (last, is_open) = self.connection_after(&rec);
+        let Ok(()) = self.records.push(rec) else {
+            return Err(LineFault::Memory);
+        };
+        self.last = last;
+        self.is_open = is_open;
+        Ok(())
+    }
+
+    /// Adds the record of a line.
+    #[tactic(auto, unfolding(crate::specs::Bundle::with_client_record))]
+    pub fn add(&mut self, kind: &str, d: &Value) -> Result<(), LineFault>
+        ensures { Becomes result self.new (with_client_record self.old kind.now (view d.now)) }
+    {
+        let rec = client_record(self.alloc, kind, d)?;
+        if !self.may_follow(&rec) {
+            return Err(FIELD);
+        }
+        if self.records.len() >= MAX_RECORDS {
+            return Err(LIMIT);
+        }
+        self.push(rec)
+    }
+
+    /// The records, at the end.
+    pub fn close(self) -> ClientRecs
+        ensures { result ≡ self }
+    {
+        ClientRecs::new(self.records)
+    }
+}

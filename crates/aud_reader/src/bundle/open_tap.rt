@@ -1,0 +1,117 @@
+//! A tap, while it is read.
+ghost use Rattle.std.specs.Prelude.{◌≡◌, ◌++◌, List, ℕ, OnOk};
+ghost use Rattle.std.specs.List.{filter_map};
+ghost use Rattle.serde_json.specs.View.{view};
+ghost use Rattle.aud_reader.specs.Changes.{Becomes};
+ghost use Rattle.aud_reader.specs.Bundle.{no_records, pid_of, pids_in, with_node_record, with_record};
+ghost use Rattle.aud_reader.specs.Texts.{HasPids};
+
+use super::client_log::ClientLog;
+use super::node_log::add_node_record;
+use super::stream_log::StreamLog;
+use crate::fault::LineFault;
+use aud_tap::{NodeRec, NodeRecs, Records, Tap, TapKind, Text};
+use serde_json::Value;
+use std::alloc::Global;
+use std::collections::HashSet;
+
+/// The records of a tap so far.
+#[derive(Drop)]
+pub enum Log {
+    Stream(StreamLog),
+    Node(Vec<NodeRec>),
+    Client(ClientLog),
+}
+
+impl Log {
+    ghost use Rattle.aud_reader.specs.Kept.{records_so_far};
+
+    fn new(alloc: Global, of: TapKind) -> Log
+        ensures { records_so_far result ≡ no_records of }
+    {
+        match of {
+            TapKind::Stream => Log::Stream(StreamLog::new(alloc)),
+            TapKind::Node => Log::Node(Vec::new(alloc)),
+            TapKind::Client => Log::Client(ClientLog::new(alloc)),
+        }
+    }
+
+    /// Adds the record of a line. The pids are those of all node records.
+    fn add(
+        &mut self,
+        alloc: Global,
+        pids: &mut HashSet<String>,
+        kind: &str,
+        d: &Value,
+    ) -> Result<(), LineFault>
+        ensures records { (before after : List (List ℕ)) → HasPids pids.old (before ++ pids_in (records_so_far self.old) ++ after)
+            → Becomes result (records_so_far self.new) (with_record (before ++ pids_in (records_so_far self.old) ++ after) (records_so_far self.old) kind.now (view d.now)) }
+        ensures pids { (before after : List (List ℕ)) → HasPids pids.old (before ++ pids_in (records_so_far self.old) ++ after)
+            → OnOk result (HasPids pids.new (before ++ pids_in (records_so_far self.new) ++ after)) }
+    {
+        match self {
+            Log::Stream(entries) => entries.add(kind, d),
+            Log::Node(records) => add_node_record(alloc, records, pids, kind, d),
+            Log::Client(records) => records.add(kind, d),
+        }
+    }
+
+    fn close(self) -> Records
+        ensures { result ≡ records_so_far self }
+    {
+        match self {
+            Log::Stream(entries) => Records::Stream(entries.close()),
+            Log::Node(records) => Records::Node(NodeRecs::new(records)),
+            Log::Client(records) => Records::Client(records.close()),
+        }
+    }
+}
+
+/// A tap so far.
+#[derive(Drop)]
+pub struct OpenTap {
+    name: Text,
+    log: Log,
+}
+
+impl OpenTap {
+    ghost use Rattle.aud_reader.specs.Kept.{records_so_far, tap_so_far};
+
+    /// A tap without records.
+    pub fn new(alloc: Global, name: Text, of: TapKind) -> OpenTap
+        ensures { tap_so_far result ≡ record { name = name; records = no_records of } }
+    {
+        OpenTap {
+            name,
+            log: Log::new(alloc, of),
+        }
+    }
+
+    /// Adds the record of a line. The pids are those of all node records.
+    pub fn add(
+        &mut self,
+        alloc: Global,
+        pids: &mut HashSet<String>,
+        kind: &str,
+        d: &Value,
+    ) -> Result<(), LineFault>
+        ensures name { self.new.name ≡ self.old.name }
+        ensures records { (before after : List (List ℕ)) → HasPids pids.old (before ++ pids_in (records_so_far self.old.log) ++ after)
+            → Becomes result (records_so_far self.new.log) (with_record (before ++ pids_in (records_so_far self.old.log) ++ after) (records_so_far self.old.log) kind.now (view d.now)) }
+        ensures pids { (before after : List (List ℕ)) → HasPids pids.old (before ++ pids_in (records_so_far self.old.log) ++ after)
+            → OnOk result (HasPids pids.new (before ++ pids_in (records_so_far self.new.log) ++ after)) }
+    {
+        self.log.add(alloc, pids, kind, d)
+    }
+
+    /// The tap, at the end.
+    pub fn close(self) -> Tap
+        ensures { result ≡ tap_so_far self }
+    {
+        let OpenTap { name, log } = self;
+        Tap {
+            name,
+            records: log.close(),
+        }
+    }
+}

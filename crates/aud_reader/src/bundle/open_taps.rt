@@ -1,0 +1,133 @@
+//! The taps of the lines so far.
+ghost use Rattle.std.specs.Prelude.{◌≡◌, ◌<◌, ◌∷◌, ◌++◌, [], List, ℕ, length, IfOk, OnOk, Ok, Some, None};
+ghost use Rattle.std.specs.HashMap.{get_by_text};
+ghost use Rattle.serde_json.specs.View.{view};
+ghost use Rattle.aud_reader.specs.Changes.{Becomes};
+ghost use Rattle.aud_reader.specs.Bundle.{no_records, with_header, with_line, with_named};
+
+use super::counts::Counts;
+use super::open_tap::OpenTap;
+use crate::fault::{InputCode, LineFault};
+use crate::read::header::tap_header;
+use crate::read::line::opened_line;
+use crate::read::record::kind_of;
+use aud_tap::{Memory, TapKind, Taps, Text};
+use serde_json::Value;
+use std::alloc::Global;
+use std::collections::{HashMap, HashSet};
+
+const NO_HEADER: LineFault = LineFault::Code(InputCode::NoHeader);
+
+const HEADER_TWICE: LineFault = LineFault::Code(InputCode::HeaderTwice);
+
+/// The taps in the order of their headers, the place of each by its name, the pids of all node
+/// records, and how many taps there are of each kind.
+#[derive(Drop)]
+pub struct OpenTaps {
+    alloc: Global,
+    taps: Vec<OpenTap>,
+    places: HashMap<String, usize>,
+    pids: HashSet<String>,
+    counts: Counts,
+}
+
+impl OpenTaps {
+    ghost use Rattle.aud_reader.specs.Kept.{Keeps, place_of, taps_so_far};
+
+    pub fn new(alloc: Global) -> OpenTaps
+        ensures taps { taps_so_far result ≡ [] }
+        ensures keeps { Keeps result }
+    {
+        OpenTaps {
+            alloc,
+            taps: Vec::new(alloc),
+            places: HashMap::new(alloc),
+            pids: HashSet::new(alloc),
+            counts: Counts::new(),
+        }
+    }
+
+    /// Puts a tap without records at the end.
+    fn push(&mut self, name: &str, of: TapKind) -> Result<(), LineFault>
+        ensures taps { Becomes result (taps_so_far self.new) (Ok (taps_so_far self.old ++ record { name = name.now; records = no_records of } ∷ [])) }
+        ensures places { ((text : List ℕ) → get_by_text self.old.places text ≡ place_of text (taps_so_far self.old)) → place_of name.now (taps_so_far self.old) ≡ None
+            → OnOk result ((text : List ℕ) → get_by_text self.new.places text ≡ place_of text (taps_so_far self.new)) }
+        ensures others { self.new ≡ record self.old { taps = self.new.taps; places = self.new.places } }
+    {
+        let Ok(key) = String::from_str(self.alloc, name) else {
+            return Err(LineFault::Memory);
+        };
+        let Ok(name) = String::from_str(self.alloc, name) else {
+            return Err(LineFault::Memory);
+        };
+        let Ok(_) = self.places.insert(key, self.taps.len()) else {
+            return Err(LineFault::Memory);
+        };
+        let tap = OpenTap::new(self.alloc, Text::new(name), of);
+        let Ok(()) = self.taps.push(tap) else {
+            return Err(LineFault::Memory);
+        };
+        Ok(())
+    }
+
+    /// Reads the first line of a tap, which is its header.
+    #[tactic(auto, unfolding(crate::specs::Bundle::with_header))]
+    fn begin(&mut self, name: &str, kind: &str, d: &Value) -> Result<(), LineFault>
+        requires keeps { Keeps self.old }
+        requires first { place_of name.now (taps_so_far self.old) ≡ None }
+        ensures taps { Becomes result (taps_so_far self.new) (with_header (taps_so_far self.old) name.now kind.now (view d.now)) }
+        ensures keeps { OnOk result (Keeps self.new) }
+    {
+        if kind != "tap" {
+            return Err(NO_HEADER);
+        }
+        let of = tap_header(d)?;
+        match self.counts.add(of) {
+            Ok(()) => self.push(name, of),
+            Err(e) => Err(e),
+        }
+    }
+
+    /// Reads a later line of the tap at a place.
+    #[tactic(auto, unfolding(crate::specs::Bundle::with_later))]
+    fn go_on(&mut self, place: usize, kind: &str, d: &Value) -> Result<(), LineFault>
+        requires keeps { Keeps self.old }
+        requires place { place < length (taps_so_far self.old) }
+        ensures taps { (name : List ℕ) → place_of name (taps_so_far self.old) ≡ Some place → Becomes result (taps_so_far self.new) (with_named (taps_so_far self.old) name kind.now (view d.now)) }
+        ensures keeps { OnOk result (Keeps self.new) }
+    {
+        if kind == "tap" {
+            return Err(HEADER_TWICE);
+        }
+        let tap = &mut self.taps[place];
+        tap.add(self.alloc, &mut self.pids, kind, d)
+    }
+
+    /// Reads a line.
+    #[tactic(auto, unfolding(crate::specs::Bundle::with_line))]
+    pub fn read_line(&mut self, line: &[u8]) -> Result<(), LineFault>
+        requires { Keeps self.old }
+        ensures taps { Becomes result (taps_so_far self.new) (with_line (taps_so_far self.old) line.now) }
+        ensures keeps { OnOk result (Keeps self.new) }
+    {
+        let (name, d) = opened_line(self.alloc, line)?;
+        let kind = kind_of(&d)?;
+        match self.places.get(name).copied() {
+            Some(place) => self.go_on(place, kind, &d),
+            None => self.begin(name, kind, &d),
+        }
+    }
+
+    /// The taps, at the end.
+    pub fn close(self) -> Result<Taps, Memory>
+        ensures { IfOk result (λ taps. taps ≡ taps_so_far self) }
+    {
+        let mut taps = Vec::new(self.alloc);
+        for tap in self.taps {
+            let Ok(()) = taps.push(tap.close()) else {
+                return Err(Memory);
+            };
+        }
+        Ok(Taps::new(taps))
+    }
+}

@@ -1,0 +1,60 @@
+//! The pids of the node records of a bundle.
+ghost use Rattle.std.specs.Prelude.{◌≡◌, ◌∷◌, ◌++◌, [], List, ℕ, OnOk, option_map, option_to_list};
+ghost use Rattle.aud_reader.specs.Steps.{Gives};
+ghost use Rattle.aud_reader.specs.Bundle.{pid_of, pids_fit};
+ghost use Rattle.aud_reader.specs.Texts.{HasPids};
+
+use crate::fault::{LIMIT, LineFault};
+use aud_tap::NodeRec;
+use std::alloc::Global;
+use std::collections::HashSet;
+
+/// The most different pids in the node records of a bundle.
+pub const MAX_PIDS: usize = 65_536;
+
+/// The pid that a record speaks of.
+fn pid_of(rec: &NodeRec) -> Option<&str>
+    ensures { option_map (λ pid. pid.now) result ≡ pid_of rec.now }
+{
+    match rec {
+        NodeRec::Start { .. } | NodeRec::Take { .. } => None,
+        NodeRec::Opened { pid, .. }
+        | NodeRec::Join { pid, .. }
+        | NodeRec::Leave { pid, .. }
+        | NodeRec::Broke { pid, .. }
+        | NodeRec::Back { pid, .. }
+        | NodeRec::Gone { pid } => Some(pid.as_str()),
+    }
+}
+
+/// Adds a pid, unless there are too many.
+fn add_pid(alloc: Global, pids: &mut HashSet<String>, pid: &str) -> Result<(), LineFault>
+    ensures fit { (all : List (List ℕ)) → HasPids pids.old all → Gives result (pids_fit (all ++ pid.now ∷ [])) }
+    ensures pids { (all : List (List ℕ)) → HasPids pids.old all → OnOk result (HasPids pids.new (all ++ pid.now ∷ [])) }
+{
+    let count = pids.len();
+    if pids.contains(pid) {
+        return Ok(());
+    }
+    if count >= MAX_PIDS {
+        return Err(LIMIT);
+    }
+    let Ok(pid) = String::from_str(alloc, pid) else {
+        return Err(LineFault::Memory);
+    };
+    let Ok(_) = pids.insert(pid) else {
+        return Err(LineFault::Memory);
+    };
+    Ok(())
+}
+
+/// Adds the pid that a record speaks of, unless there are too many.
+pub fn add_pid_of(alloc: Global, pids: &mut HashSet<String>, rec: &NodeRec) -> Result<(), LineFault>
+    ensures fit { (all : List (List ℕ)) → HasPids pids.old all → Gives result (pids_fit (all ++ option_to_list (pid_of rec.now))) }
+    ensures pids { (all : List (List ℕ)) → HasPids pids.old all → OnOk result (HasPids pids.new (all ++ option_to_list (pid_of rec.now))) }
+{
+    match pid_of(rec) {
+        Some(pid) => add_pid(alloc, pids, pid),
+        None => Ok(()),
+    }
+}

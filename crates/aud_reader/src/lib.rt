@@ -1,0 +1,16 @@
+//! The reader of a bundle: the lines of an input, the record of a line, and the taps of the lines.
+//!
+//! Begin at [`bundle`], which reads line by line, and at [`read`], the record of one line.
+#![tactic(auto)]
+
+mod bundle;
+mod fault;
+mod line;
+mod read;
+mod splitter;
+
+pub use bundle::{BundleReader, read_bundle};
+pub use fault::{InputCode, ReadFault};
+pub use line::Line;
+pub use read::parse_line;
+pub use splitter::Splitter;

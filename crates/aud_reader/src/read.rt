@@ -1,0 +1,11 @@
+//! The record of a line: the line is opened, its kind looked at, and then the fields of that kind.
+pub mod client;
+mod fields;
+pub mod header;
+pub mod line;
+pub mod node;
+pub mod record;
+pub mod stream;
+mod tap_name;
+
+pub use line::parse_line;

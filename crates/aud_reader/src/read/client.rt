@@ -1,0 +1,43 @@
+//! The records of a client tap.
+ghost use Rattle.serde_json.specs.View.{view};
+ghost use Rattle.aud_reader.specs.Steps.{Gives};
+ghost use Rattle.aud_reader.specs.ClientRecord.{message_of, client_record_of};
+
+use super::fields::{bytes_at, copied, number_at, text_at};
+use crate::fault::{FIELD, LineFault, UNKNOWN_KIND};
+use aud_tap::{ClientRec, Text};
+use serde_json::Value;
+use std::alloc::Global;
+
+fn message(alloc: Global, d: &Value) -> Result<Text, LineFault>
+    ensures { Gives result (message_of (view d.now)) }
+{
+    let t = text_at("t", d).ok_or(FIELD)?;
+    copied(alloc, t)
+}
+
+/// The client's record of this kind.
+#[tactic(auto, unfolding(crate::specs::ClientRecord::client_record_of))]
+pub fn client_record(alloc: Global, kind: &str, d: &Value) -> Result<ClientRec, LineFault>
+    ensures { Gives result (client_record_of kind.now (view d.now)) }
+{
+    match kind {
+        "conn" => Ok(ClientRec::Conn {
+            c: number_at("c", d).ok_or(FIELD)?,
+        }),
+        "in" => Ok(ClientRec::TextIn {
+            t: message(alloc, d)?,
+        }),
+        "inb" => Ok(ClientRec::BytesIn {
+            b: bytes_at(alloc, "b", d)?,
+        }),
+        "poll" => Ok(ClientRec::Poll {
+            t: message(alloc, d)?,
+        }),
+        "out" => Ok(ClientRec::TextOut {
+            t: message(alloc, d)?,
+        }),
+        "lost" => Ok(ClientRec::Lost),
+        _ => Err(UNKNOWN_KIND),
+    }
+}

@@ -1,0 +1,157 @@
+//! The fields of a JSON object, by their types and forms.
+ghost use Rattle.std.specs.Prelude.{◌≡◌, Ok, IfSome, IsTrue, option_map};
+ghost use Rattle.serde_json.specs.View.{view, items_view};
+ghost use Rattle.serde_json.specs.Find.{as_str};
+ghost use Rattle.aud_reader.specs.declared.fault.InputCode.TheVariants.{Field};
+ghost use Rattle.aud_reader.specs.Steps.{Gives, need};
+ghost use Rattle.aud_tap.specs.Forms.{is_id, is_namespace};
+ghost use Rattle.aud_tap.specs.Json.{text_at};
+ghost use Rattle.aud_reader.specs.Fields.{number_at, id_at, namespace_at};
+ghost use Rattle.aud_reader.specs.Fields.{id_or_null, id_or_null_at, decoded, as_blob, bytes_at};
+ghost use Rattle.aud_reader.specs.Fields.{each, texts_at, blobs_at};
+
+use crate::fault::{FIELD, LineFault};
+use aud_tap::{Blobs, Bytes, Text, Texts, is_id, is_namespace};
+use base64::DecodeAllocError;
+use base64::engine::general_purpose::STANDARD;
+use serde_json::Value;
+use std::alloc::Global;
+
+/// A copy of a text that is lent.
+pub fn copied(alloc: Global, text: &str) -> Result<Text, LineFault>
+    ensures { Gives result (Ok text.now) }
+{
+    match String::from_str(alloc, text) {
+        Ok(text) => Ok(Text::new(text)),
+        Err(_) => Err(LineFault::Memory),
+    }
+}
+
+pub fn number_at(key: &str, d: &Value) -> Option<u64>
+    ensures { result ≡ number_at key.now (view d.now) }
+{
+    d.get(key).and_then(Value::as_u64)
+}
+
+pub fn text_at<'v>(key: &str, d: &'v Value) -> Option<&'v str>
+    ensures { option_map (λ s. s.now) result ≡ text_at key.now (view d.now) }
+{
+    d.get(key).and_then(Value::as_str)
+}
+
+/// A pid, a sid or an offset.
+pub fn id_at<'v>(key: &str, d: &'v Value) -> Option<&'v str>
+    ensures value { option_map (λ s. s.now) result ≡ id_at key.now (view d.now) }
+    ensures form { IfSome result (λ s. IsTrue (is_id s.now)) }
+{
+    match text_at(key, d) {
+        Some(text) if is_id(text) => Some(text),
+        _ => None,
+    }
+}
+
+pub fn namespace_at<'v>(key: &str, d: &'v Value) -> Option<&'v str>
+    ensures value { option_map (λ s. s.now) result ≡ namespace_at key.now (view d.now) }
+    ensures form { IfSome result (λ s. IsTrue (is_namespace s.now)) }
+{
+    match text_at(key, d) {
+        Some(text) if is_namespace(text) => Some(text),
+        _ => None,
+    }
+}
+
+fn id_or_null(d: &Value) -> Option<Option<&str>>
+    ensures value { option_map (option_map (λ s. s.now)) result ≡ id_or_null (view d.now) }
+    ensures form { IfSome result (λ o. IfSome o (λ s. IsTrue (is_id s.now))) }
+{
+    if d.is_null() {
+        return Some(None);
+    }
+    match d.as_str() {
+        Some(text) if is_id(text) => Some(Some(text)),
+        _ => None,
+    }
+}
+
+/// An offset, or null for none.
+pub fn id_or_null_at<'v>(key: &str, d: &'v Value) -> Option<Option<&'v str>>
+    ensures value { option_map (option_map (λ s. s.now)) result
+        ≡ id_or_null_at key.now (view d.now) }
+    ensures form { IfSome result (λ o. IfSome o (λ s. IsTrue (is_id s.now))) }
+{
+    d.get(key).and_then(id_or_null)
+}
+
+/// The bytes that a text spells in base64 (RFC 4648, section 4), padded.
+fn decoded(alloc: Global, text: &str) -> Result<Bytes, LineFault>
+    ensures { Gives result (need Field (decoded text.now)) }
+{
+    match STANDARD.decode(alloc, text.as_bytes()) {
+        Ok(bytes) => Ok(Bytes::new(bytes)),
+        Err(DecodeAllocError::OutOfMemory) => Err(LineFault::Memory),
+        Err(DecodeAllocError::DecodeError(_)) => Err(FIELD),
+    }
+}
+
+fn as_blob(alloc: Global, d: &Value) -> Result<Bytes, LineFault>
+    ensures { Gives result (need Field (as_blob (view d.now))) }
+{
+    let text = d.as_str().ok_or(FIELD)?;
+    decoded(alloc, text)
+}
+
+pub fn bytes_at(alloc: Global, key: &str, d: &Value) -> Result<Bytes, LineFault>
+    ensures { Gives result (need Field (bytes_at key.now (view d.now))) }
+{
+    let d = d.get(key).ok_or(FIELD)?;
+    as_blob(alloc, d)
+}
+
+fn texts(alloc: Global, items: &[Value]) -> Result<Texts, LineFault>
+    ensures { Gives result (need Field (each as_str (items_view items.now))) }
+{
+    let mut texts = Vec::new(alloc);
+    for d in items {
+        let text = d.as_str().ok_or(FIELD)?;
+        let text = copied(alloc, text)?;
+        if texts.push(text).is_err() {
+            return Err(LineFault::Memory);
+        }
+    }
+    Ok(Texts::new(texts))
+}
+
+/// A list of texts, empty where it is absent.
+pub fn texts_at(alloc: Global, key: &str, d: &Value) -> Result<Texts, LineFault>
+    ensures { Gives result (need Field (texts_at key.now (view d.now))) }
+{
+    let Some(list) = d.get(key) else {
+        return Ok(Texts::new(Vec::new(alloc)));
+    };
+    let items = list.as_array().ok_or(FIELD)?;
+    texts(alloc, items)
+}
+
+fn blobs(alloc: Global, items: &[Value]) -> Result<Blobs, LineFault>
+    ensures { Gives result (need Field (each as_blob (items_view items.now))) }
+{
+    let mut blobs = Vec::new(alloc);
+    for d in items {
+        let bytes = as_blob(alloc, d)?;
+        if blobs.push(bytes).is_err() {
+            return Err(LineFault::Memory);
+        }
+    }
+    Ok(Blobs::new(blobs))
+}
+
+/// A list of texts in base64, empty where it is absent.
+pub fn blobs_at(alloc: Global, key: &str, d: &Value) -> Result<Blobs, LineFault>
+    ensures { Gives result (need Field (blobs_at key.now (view d.now))) }
+{
+    let Some(list) = d.get(key) else {
+        return Ok(Blobs::new(Vec::new(alloc)));
+    };
+    let items = list.as_array().ok_or(FIELD)?;
+    blobs(alloc, items)
+}

@@ -1,0 +1,34 @@
+//! The header of a tap.
+ghost use Rattle.std.specs.Prelude.{◌≡◌};
+ghost use Rattle.serde_json.specs.View.{view};
+ghost use Rattle.aud_reader.specs.Steps.{Gives};
+ghost use Rattle.aud_reader.specs.Header.{tap_kind, header_of};
+
+use super::fields::{number_at, text_at};
+use crate::fault::{FIELD, InputCode, LineFault, UNKNOWN_KIND};
+use aud_tap::TapKind;
+use serde_json::Value;
+
+fn tap_kind(word: &str) -> Option<TapKind>
+    ensures { result ≡ tap_kind word.now }
+{
+    match word {
+        "stream" => Some(TapKind::Stream),
+        "node" => Some(TapKind::Node),
+        "client" => Some(TapKind::Client),
+        _ => None,
+    }
+}
+
+/// What the tap of a header was put on.
+#[tactic(auto, unfolding(crate::specs::Header::header_of))]
+pub fn tap_header(d: &Value) -> Result<TapKind, LineFault>
+    ensures { Gives result (header_of (view d.now)) }
+{
+    let v = number_at("v", d).ok_or(FIELD)?;
+    let of = text_at("of", d).ok_or(FIELD)?;
+    if v != 1 {
+        return Err(LineFault::Code(InputCode::Version));
+    }
+    tap_kind(of).ok_or(UNKNOWN_KIND)
+}

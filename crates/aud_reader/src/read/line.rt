@@ -1,0 +1,94 @@
+//! A line: a tap's name, a blank, and a record in JSON.
+ghost use Rattle.std.specs.Prelude.{◌≡◌, Ok, IfOk, IfErr, IsTrue, MatchResult, string_bytes};
+ghost use Rattle.serde_json.specs.View.{view};
+ghost use Rattle.aud_reader.specs.Steps.{Fails, IsRefusal};
+ghost use Rattle.aud_tap.specs.WellFormed.{is_well_formed};
+ghost use Rattle.aud_tap.specs.TapName.{is_tap_name};
+ghost use Rattle.aud_reader.specs.Record.{json_of, opened_line, line_record};
+
+use super::record::value_record;
+use super::tap_name::{cut_at_blank, tap_name};
+use crate::fault::{InputCode, LineFault, ReadFault};
+use crate::line::Line;
+use aud_tap::Rec;
+use aud_tap::limits::MAX_LINE;
+use serde_json::{Category, Value};
+use std::alloc::Global;
+
+const LINE_TOO_LONG: LineFault = LineFault::Code(InputCode::LineTooLong);
+
+const NO_TAP_NAME: LineFault = LineFault::Code(InputCode::NoTapName);
+
+const NOT_JSON: LineFault = LineFault::Code(InputCode::NotJson);
+
+/// The value of JSON text.
+fn json(alloc: Global, bytes: &[u8]) -> Result<Value, LineFault>
+    ensures { MatchResult result
+        (λ v. json_of bytes.now ≡ Ok (view v))
+        (λ e. Fails e (json_of bytes.now)) }
+{
+    match Value::from_slice(alloc, bytes) {
+        Ok(value) => Ok(value),
+        Err(e) => match e.classify() {
+            Category::Memory => Err(LineFault::Memory),
+            _ => Err(NOT_JSON),
+        },
+    }
+}
+
+/// The tap's name, lent, and the JSON value behind it.
+#[tactic(auto, unfolding(crate::specs::Record::opened_line))]
+pub fn opened_line(alloc: Global, line: &[u8]) -> Result<(&str, Value), LineFault>
+    ensures reads { MatchResult result
+        (λ p. opened_line line.now ≡ Ok (p.0.now, view p.1))
+        (λ e. Fails e (opened_line line.now)) }
+    ensures name { IfOk result (λ p. IsTrue (is_tap_name p.0.now)) }
+{
+    if line.len() > MAX_LINE {
+        return Err(LINE_TOO_LONG);
+    }
+    let (name, text) = cut_at_blank(line).ok_or(NO_TAP_NAME)?;
+    let name = tap_name(name).ok_or(NO_TAP_NAME)?;
+    let d = json(alloc, text)?;
+    Ok((name, d))
+}
+
+#[tactic(auto, unfolding(crate::specs::Record::line_record))]
+fn parse(alloc: Global, line: &[u8]) -> Result<(String, Rec), LineFault>
+    ensures reads { MatchResult result
+        (λ p. line_record line.now ≡ Ok (string_bytes p.0, p.1))
+        (λ e. Fails e (line_record line.now)) }
+    ensures name { IfOk result (λ p. IsTrue (is_tap_name (string_bytes p.0))) }
+    ensures record { IfOk result (λ p. IsTrue (is_well_formed p.1)) }
+{
+    let (name, d) = opened_line(alloc, line)?;
+    let rec = value_record(alloc, &d)?;
+    match String::from_str(alloc, name) {
+        Ok(name) => Ok((name, rec)),
+        Err(_) => Err(LineFault::Memory),
+    }
+}
+
+/// The tap's name and the record of a line, with the form and the fields of this line alone looked
+/// at: in the order of docs/FORMAT.md, and with the kinds of any tap.
+///
+/// Unknown keys are passed over, and of a key that stands twice the last value counts. The refusal has the line's own
+/// number. What is returned is copied.
+pub fn parse_line(alloc: Global, line: &Line) -> Result<(String, Rec), ReadFault>
+    ensures read { IfOk result (λ p. line_record line.now.bytes ≡ Ok (string_bytes p.0, p.1)) }
+    ensures refused { IfErr result
+        (λ e. IsRefusal line.now.number e (line_record line.now.bytes)) }
+
+    // what `write_line` asks for
+    ensures name { IfOk result (λ p. IsTrue (is_tap_name (string_bytes p.0))) }
+    ensures record { IfOk result (λ p. IsTrue (is_well_formed p.1)) }
+{
+    match parse(alloc, line.bytes.as_slice()) {
+        Ok(read) => Ok(read),
+        Err(LineFault::Code(code)) => Err(ReadFault::Input(line.number, code)),
+        Err(LineFault::Memory) => Err(ReadFault::Memory),
+    }
+}
+
+#[cfg(test)]
+mod tests;

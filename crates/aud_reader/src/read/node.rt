@@ -1,0 +1,161 @@
+//! The records of a node tap.
+ghost use Rattle.std.specs.Prelude.{◌&&◌, nat_le, IfOk, IsTrue};
+ghost use Rattle.serde_json.specs.View.{view};
+ghost use Rattle.aud_tap.specs.Limits.{max_turn};
+ghost use Rattle.aud_tap.specs.WellFormed.{is_session_id, is_room, node_is_well_formed};
+ghost use Rattle.aud_reader.specs.Steps.{Gives};
+ghost use Rattle.aud_reader.specs.NodeRecord.{start_of, take_of, open_of, member_of, join_of};
+ghost use Rattle.aud_reader.specs.NodeRecord.{leave_of, turn_of, break_of, back_of, gone_of};
+ghost use Rattle.aud_reader.specs.NodeRecord.{node_record_of};
+
+use super::fields::{copied, id_at, id_or_null_at, namespace_at, number_at, text_at};
+use crate::fault::{FIELD, LIMIT, LineFault, UNKNOWN_KIND};
+use aud_tap::limits::{MAX_ID, MAX_NAMESPACE, MAX_OFFSET, MAX_ROOM, fits};
+use aud_tap::{NodeRec, Text};
+use serde_json::Value;
+use std::alloc::Global;
+
+#[tactic(auto, unfolding(crate::specs::NodeRecord::start_of))]
+fn start(alloc: Global, d: &Value) -> Result<NodeRec, LineFault>
+    ensures reads { Gives result (start_of (view d.now)) }
+    ensures formed { IfOk result (λ rec. IsTrue (node_is_well_formed rec)) }
+{
+    let off = id_or_null_at("off", d).ok_or(FIELD)?;
+    let Some(off) = off else {
+        return Ok(NodeRec::Start { off: None });
+    };
+    if !fits(MAX_OFFSET, off) {
+        return Err(LIMIT);
+    }
+    Ok(NodeRec::Start {
+        off: Some(copied(alloc, off)?),
+    })
+}
+
+#[tactic(auto, unfolding(crate::specs::NodeRecord::take_of))]
+fn take(alloc: Global, d: &Value) -> Result<NodeRec, LineFault>
+    ensures reads { Gives result (take_of (view d.now)) }
+    ensures formed { IfOk result (λ rec. IsTrue (node_is_well_formed rec)) }
+{
+    let off = id_at("off", d).ok_or(FIELD)?;
+    if !fits(MAX_OFFSET, off) {
+        return Err(LIMIT);
+    }
+    Ok(NodeRec::Take {
+        off: copied(alloc, off)?,
+    })
+}
+
+#[tactic(auto, unfolding(crate::specs::NodeRecord::open_of))]
+fn open(alloc: Global, d: &Value) -> Result<NodeRec, LineFault>
+    ensures reads { Gives result (open_of (view d.now)) }
+    ensures formed { IfOk result (λ rec. IsTrue (node_is_well_formed rec)) }
+{
+    let pid = id_at("pid", d).ok_or(FIELD)?;
+    let sid = id_at("sid", d).ok_or(FIELD)?;
+    let nsp = namespace_at("nsp", d).ok_or(FIELD)?;
+    if !fits(MAX_ID, pid) || !fits(MAX_ID, sid) || !fits(MAX_NAMESPACE, nsp) {
+        return Err(LIMIT);
+    }
+    Ok(NodeRec::Opened {
+        pid: copied(alloc, pid)?,
+        sid: copied(alloc, sid)?,
+        nsp: copied(alloc, nsp)?,
+    })
+}
+
+/// A pid and a room.
+#[tactic(auto, unfolding(crate::specs::NodeRecord::member_of))]
+fn member(alloc: Global, d: &Value) -> Result<(Text, Text), LineFault>
+    ensures reads { Gives result (member_of (view d.now)) }
+    ensures formed { IfOk result (λ m. IsTrue (is_session_id m.0 && is_room m.1)) }
+{
+    let pid = id_at("pid", d).ok_or(FIELD)?;
+    let room = text_at("room", d).ok_or(FIELD)?;
+    if !fits(MAX_ID, pid) || !fits(MAX_ROOM, room) {
+        return Err(LIMIT);
+    }
+    Ok((copied(alloc, pid)?, copied(alloc, room)?))
+}
+
+fn join(alloc: Global, d: &Value) -> Result<NodeRec, LineFault>
+    ensures reads { Gives result (join_of (view d.now)) }
+    ensures formed { IfOk result (λ rec. IsTrue (node_is_well_formed rec)) }
+{
+    let (pid, room) = member(alloc, d)?;
+    Ok(NodeRec::Join { pid, room })
+}
+
+fn leave(alloc: Global, d: &Value) -> Result<NodeRec, LineFault>
+    ensures reads { Gives result (leave_of (view d.now)) }
+    ensures formed { IfOk result (λ rec. IsTrue (node_is_well_formed rec)) }
+{
+    let (pid, room) = member(alloc, d)?;
+    Ok(NodeRec::Leave { pid, room })
+}
+
+/// A pid and the number of a turn.
+#[tactic(auto, unfolding(crate::specs::NodeRecord::turn_of))]
+fn turn(alloc: Global, d: &Value) -> Result<(Text, u16), LineFault>
+    ensures reads { Gives result (turn_of (view d.now)) }
+    ensures formed { IfOk result (λ t. IsTrue (is_session_id t.0 && nat_le t.1 max_turn)) }
+{
+    let pid = id_at("pid", d).ok_or(FIELD)?;
+    let turn = number_at("turn", d).ok_or(FIELD)?;
+    if !fits(MAX_ID, pid) {
+        return Err(LIMIT);
+    }
+    let Ok(turn) = u16::try_from(turn) else {
+        return Err(LIMIT);
+    };
+    Ok((copied(alloc, pid)?, turn))
+}
+
+fn broke(alloc: Global, d: &Value) -> Result<NodeRec, LineFault>
+    ensures reads { Gives result (break_of (view d.now)) }
+    ensures formed { IfOk result (λ rec. IsTrue (node_is_well_formed rec)) }
+{
+    let (pid, turn) = turn(alloc, d)?;
+    Ok(NodeRec::Broke { pid, turn })
+}
+
+fn back(alloc: Global, d: &Value) -> Result<NodeRec, LineFault>
+    ensures reads { Gives result (back_of (view d.now)) }
+    ensures formed { IfOk result (λ rec. IsTrue (node_is_well_formed rec)) }
+{
+    let (pid, turn) = turn(alloc, d)?;
+    Ok(NodeRec::Back { pid, turn })
+}
+
+#[tactic(auto, unfolding(crate::specs::NodeRecord::gone_of))]
+fn gone(alloc: Global, d: &Value) -> Result<NodeRec, LineFault>
+    ensures reads { Gives result (gone_of (view d.now)) }
+    ensures formed { IfOk result (λ rec. IsTrue (node_is_well_formed rec)) }
+{
+    let pid = id_at("pid", d).ok_or(FIELD)?;
+    if !fits(MAX_ID, pid) {
+        return Err(LIMIT);
+    }
+    Ok(NodeRec::Gone {
+        pid: copied(alloc, pid)?,
+    })
+}
+
+/// The node's record of this kind.
+#[tactic(auto, unfolding(crate::specs::NodeRecord::node_record_of))]
+pub fn node_record(alloc: Global, kind: &str, d: &Value) -> Result<NodeRec, LineFault>
+    ensures reads { Gives result (node_record_of kind.now (view d.now)) }
+    ensures formed { IfOk result (λ rec. IsTrue (node_is_well_formed rec)) }
+{
+    match kind {
+        "start" => start(alloc, d),
+        "take" => take(alloc, d),
+        "open" => open(alloc, d),
+        "join" => join(alloc, d),
+        "leave" => leave(alloc, d),
+        "break" => broke(alloc, d),
+        "back" => back(alloc, d),
+        "gone" => gone(alloc, d),
+        _ => Err(UNKNOWN_KIND),
+    }
+}

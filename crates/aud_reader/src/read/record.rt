@@ -1,0 +1,79 @@
+//! The record of a JSON value, by its kind.
+ghost use Rattle.std.specs.Prelude.{◌≡◌, Ok, IfOk, IsTrue, MatchResult};
+ghost use Rattle.serde_json.specs.View.{view};
+ghost use Rattle.aud_reader.specs.Steps.{Gives, Fails};
+ghost use Rattle.aud_tap.specs.WellFormed.{is_well_formed};
+ghost use Rattle.aud_reader.specs.Record.{kind_of, tap_of_kind, record_in, record_of, value_record};
+
+use super::client::client_record;
+use super::fields::text_at;
+use super::header::tap_header;
+use super::node::node_record;
+use super::stream::stream_record;
+use crate::fault::{FIELD, LineFault, UNKNOWN_KIND};
+use aud_tap::{Rec, TapKind};
+use serde_json::Value;
+use std::alloc::Global;
+
+/// The kind of tap that has records of this kind.
+fn tap_of_kind(kind: &str) -> Option<TapKind>
+    ensures { result ≡ tap_of_kind kind.now }
+{
+    match kind {
+        "ev" | "other" => Some(TapKind::Stream),
+        "start" | "take" | "open" | "join" | "leave" | "break" | "back" | "gone" => {
+            Some(TapKind::Node)
+        }
+        "conn" | "in" | "inb" | "poll" | "out" | "lost" => Some(TapKind::Client),
+        _ => None,
+    }
+}
+
+/// The record of this kind in a tap that was put on `of`.
+#[tactic(auto, unfolding(crate::specs::Record::record_in))]
+fn record_in(alloc: Global, of: TapKind, kind: &str, d: &Value) -> Result<Rec, LineFault>
+    ensures reads { Gives result (record_in of kind.now (view d.now)) }
+    ensures formed { IfOk result (λ rec. IsTrue (is_well_formed rec)) }
+{
+    match of {
+        TapKind::Stream => Ok(Rec::Stream(stream_record(alloc, kind, d)?)),
+        TapKind::Node => Ok(Rec::Node(node_record(alloc, kind, d)?)),
+        TapKind::Client => Ok(Rec::Client(client_record(alloc, kind, d)?)),
+    }
+}
+
+/// A header, or the record of this kind in whichever tap has it.
+#[tactic(auto, unfolding(crate::specs::Record::record_of))]
+fn record(alloc: Global, kind: &str, d: &Value) -> Result<Rec, LineFault>
+    ensures reads { Gives result (record_of kind.now (view d.now)) }
+    ensures formed { IfOk result (λ rec. IsTrue (is_well_formed rec)) }
+{
+    if kind == "tap" {
+        let of = tap_header(d)?;
+        return Ok(Rec::Header { of, v: 1 });
+    }
+    let of = tap_of_kind(kind).ok_or(UNKNOWN_KIND)?;
+    record_in(alloc, of, kind, d)
+}
+
+/// What an object says that it is.
+pub fn kind_of(d: &Value) -> Result<&str, LineFault>
+    ensures { MatchResult result
+        (λ k. kind_of (view d.now) ≡ Ok k.now)
+        (λ e. Fails e (kind_of (view d.now))) }
+{
+    text_at("k", d).ok_or(FIELD)
+}
+
+/// The record of a value, by what it says that it is.
+#[tactic(auto, unfolding(crate::specs::Record::value_record))]
+pub fn value_record(alloc: Global, d: &Value) -> Result<Rec, LineFault>
+    ensures reads { Gives result (value_record (view d.now)) }
+    ensures formed { IfOk result (λ rec. IsTrue (is_well_formed rec)) }
+{
+    let kind = kind_of(d)?;
+    record(alloc, kind, d)
+}
+
+#[cfg(test)]
+mod tests;

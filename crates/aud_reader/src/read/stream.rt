@@ -1,0 +1,70 @@
+//! The records of a stream tap.
+ghost use Rattle.std.specs.Prelude.{IfOk, IsTrue};
+ghost use Rattle.serde_json.specs.View.{view};
+ghost use Rattle.aud_tap.specs.WellFormed.{stream_is_well_formed};
+ghost use Rattle.aud_reader.specs.Steps.{Gives};
+ghost use Rattle.aud_reader.specs.StreamRecord.{event_of, other_of, stream_record_of};
+
+use super::fields::{blobs_at, copied, id_at, namespace_at, text_at, texts_at};
+use crate::fault::{FIELD, LIMIT, LineFault, UNKNOWN_KIND};
+use aud_tap::limits::{MAX_ATTACHMENTS, MAX_NAMESPACE, MAX_OFFSET, fit_rooms, fits};
+use aud_tap::{Event, StreamRec};
+use serde_json::Value;
+use std::alloc::Global;
+
+#[tactic(auto, unfolding(crate::specs::StreamRecord::event_of))]
+fn event(alloc: Global, d: &Value) -> Result<StreamRec, LineFault>
+    ensures reads { Gives result (event_of (view d.now)) }
+    ensures formed { IfOk result (λ rec. IsTrue (stream_is_well_formed rec)) }
+{
+    let off = id_at("off", d).ok_or(FIELD)?;
+    let nsp = namespace_at("nsp", d).ok_or(FIELD)?;
+    let text = text_at("text", d).ok_or(FIELD)?;
+    let rooms = texts_at(alloc, "rooms", d)?;
+    let except = texts_at(alloc, "except", d)?;
+    let bin = blobs_at(alloc, "bin", d)?;
+    if !fits(MAX_OFFSET, off) || !fits(MAX_NAMESPACE, nsp) {
+        return Err(LIMIT);
+    }
+    if !fit_rooms(rooms.as_slice()) || !fit_rooms(except.as_slice()) {
+        return Err(LIMIT);
+    }
+    if bin.as_slice().len() > MAX_ATTACHMENTS {
+        return Err(LIMIT);
+    }
+    Ok(StreamRec::Ev(Event {
+        off: copied(alloc, off)?,
+        nsp: copied(alloc, nsp)?,
+        rooms,
+        except,
+        text: copied(alloc, text)?,
+        bin,
+    }))
+}
+
+#[tactic(auto, unfolding(crate::specs::StreamRecord::other_of))]
+fn other(alloc: Global, d: &Value) -> Result<StreamRec, LineFault>
+    ensures reads { Gives result (other_of (view d.now)) }
+    ensures formed { IfOk result (λ rec. IsTrue (stream_is_well_formed rec)) }
+{
+    let off = id_at("off", d).ok_or(FIELD)?;
+    if !fits(MAX_OFFSET, off) {
+        return Err(LIMIT);
+    }
+    Ok(StreamRec::Other {
+        off: copied(alloc, off)?,
+    })
+}
+
+/// The stream's record of this kind.
+#[tactic(auto, unfolding(crate::specs::StreamRecord::stream_record_of))]
+pub fn stream_record(alloc: Global, kind: &str, d: &Value) -> Result<StreamRec, LineFault>
+    ensures reads { Gives result (stream_record_of kind.now (view d.now)) }
+    ensures formed { IfOk result (λ rec. IsTrue (stream_is_well_formed rec)) }
+{
+    match kind {
+        "ev" => event(alloc, d),
+        "other" => other(alloc, d),
+        _ => Err(UNKNOWN_KIND),
+    }
+}

@@ -1,0 +1,258 @@
+//! The lines of an input that comes in pieces.
+ghost use Rattle.std.specs.Prelude.{◌≡◌, ◌+◌, ◌-◌, ◌^◌, ◌<◌, ◌≤◌, ◌++◌, [], ◌∷◌, List, ℕ, length, take, Some, None, Ok, Err, IfOk, IfErr, OnOk, IfSome, IfNone, false, ◌≢◌};
+ghost use Rattle.aud_reader.specs.Lines.{lines_of, lines_to_come, without_return, has_newline, IsPartial, line_at, line_ended, line_begun, result_of};
+
+use crate::fault::{InputCode, ReadFault, refuse};
+use crate::line::Line;
+use aud_tap::Bytes;
+use aud_tap::limits::MAX_LINE;
+use memchr::memchr;
+use std::alloc::Global;
+use std::marker::Model;
+use std::mem;
+
+/// Cuts an input that comes in pieces into lines.
+///
+/// It keeps the lines that [`take`](Splitter::take) hasn't handed out, and the front of the line that has begun. After a
+/// refusal it gives that refusal from then on, and looks at no more bytes.
+#[derive(Drop)]
+pub struct Splitter {
+    alloc: Global,
+    waiting: Vec<Line>,
+    number: u64,
+    rest: Vec<u8>,
+    fault: Option<ReadFault>,
+}
+
+impl Model for Splitter {
+    ghost use Rattle.std.specs.Prelude.{◌≡◌, None};
+    ghost use Rattle.aud_reader.specs.Lines.{Split, IsPartial};
+
+    ghost Value = { Split };
+
+    ghost view = { λ s. record { waiting = s.waiting.items; number = s.number; rest = s.rest.items; fault = s.fault } };
+
+    ghost invariant = { λ s. s.fault ≡ None → IsPartial s.rest.items };
+}
+
+/// The line without the carriage return at its end.
+fn strip_return(line: &[u8]) -> &[u8]
+    ensures value { result.now ≡ without_return line.now }
+    ensures front { without_return line.now ≡ take (length result.now) line.now }
+{
+    if !line.is_empty() && line[line.len() - 1] == b'\r' {
+        &line[..line.len() - 1]
+    } else {
+        line
+    }
+}
+
+/// The bytes before the first newline, and those after it.
+fn next_line(text: &[u8]) -> Option<(&[u8], &[u8])>
+    ensures found { IfSome result (λ cut. (text.now ≡ cut.0.now ++ 10 ∷ cut.1.now) × (has_newline cut.0.now ≡ false)) }
+    ensures none { IfNone result (has_newline text.now ≡ false) }
+{
+    let i = memchr(b'\n', text)?;
+    Some((&text[..i], &text[i + 1..]))
+}
+
+/// The line of a number, or its refusal.
+fn whole_line(number: u64, text: Vec<u8>) -> Result<Line, ReadFault>
+    ensures { result ≡ line_at number text.items }
+{
+    let mut bytes = text;
+    let length = strip_return(&bytes).len();
+    if length > MAX_LINE {
+        return Err(ReadFault::Input(number, InputCode::LineTooLong));
+    }
+    bytes.truncate(length);
+    Ok(Line {
+        number,
+        bytes: Bytes::new(bytes),
+    })
+}
+
+impl Splitter {
+    ghost use Rattle.aud_reader.specs.Lines.{lines_to_come};
+
+    /// A splitter at the begin of an input.
+    pub fn new(alloc: Global) -> Splitter
+        ensures state { result ≡ record { waiting = []; number = 1; rest = []; fault = None } }
+        ensures lines { (text : List ℕ) → lines_to_come result text ≡ lines_of text }
+    {
+        Splitter {
+            alloc,
+            waiting: Vec::new(alloc),
+            number: 1,
+            rest: Vec::new(alloc),
+            fault: None,
+        }
+    }
+
+    /// Hands out the whole lines that stand and weren't handed out yet; after a refusal too.
+    pub fn take(&mut self) -> Vec<Line>
+        ensures lines { result.items ≡ self.old.waiting }
+        ensures left { self.new ≡ record self.old { waiting = [] } }
+    {
+        let empty = Vec::new(self.alloc);
+        mem::replace(&mut self.waiting, empty)
+    }
+
+    /// Ends the line that has begun: these bytes are the last of it.
+    fn end_line(&mut self, front: &[u8]) -> Result<(), ReadFault>
+        requires going { self.old.fault ≡ None }
+        requires number { self.old.number + 1 < 2 ^ 64 }
+        ensures after { result ≢ Err ReadFault.Memory → self.new ≡ line_ended self.old front.now }
+        ensures value { result ≡ result_of self.new.fault }
+        ensures number { self.new.number ≤ self.old.number + 1 }
+    {
+        let Ok(()) = self.rest.extend_from_slice(front) else {
+            return refuse(&mut self.fault, ReadFault::Memory);
+        };
+        let empty = Vec::new(self.alloc);
+        let text = mem::replace(&mut self.rest, empty);
+        match whole_line(self.number, text) {
+            Ok(line) => {
+                let Ok(()) = self.waiting.push(line) else {
+                    return refuse(&mut self.fault, ReadFault::Memory);
+                };
+                self.number += 1;
+                Ok(())
+            }
+            Err(fault) => refuse(&mut self.fault, fault),
+        }
+    }
+
+    /// Keeps the front of a line, in which no newline stands.
+    fn begin_line(&mut self, front: &[u8]) -> Result<(), ReadFault>
+        requires going { self.old.fault ≡ None }
+        requires no_newline { has_newline front.now ≡ false }
+        ensures after { result ≢ Err ReadFault.Memory → self.new ≡ line_begun self.old front.now }
+        ensures value { result ≡ result_of self.new.fault }
+        ensures number { self.new.number ≡ self.old.number }
+        ensures partial { self.new.fault ≡ None → IsPartial self.new.rest }
+    {
+        let Ok(()) = self.rest.extend_from_slice(front) else {
+            return refuse(&mut self.fault, ReadFault::Memory);
+        };
+        if strip_return(&self.rest).len() > MAX_LINE {
+            return refuse(
+                &mut self.fault,
+                ReadFault::Input(self.number, InputCode::LineTooLong),
+            );
+        }
+        Ok(())
+    }
+
+    /// Takes the next piece of the input.
+    ///
+    /// The first line that is too long is refused by its number, as soon as its bytes are too many; the lines before it
+    /// stay for [`take`](Splitter::take). The numbers of lines are below 2 to the 64th.
+    pub fn feed(&mut self, piece: &[u8]) -> Result<(), ReadFault>
+        requires { self.old.number + length piece.now < 2 ^ 64 }
+        ensures value { result ≡ result_of self.new.fault }
+        ensures lines { (more : List ℕ) → result ≢ Err ReadFault.Memory → lines_to_come self.new more ≡ lines_to_come self.old (piece.now ++ more) }
+        ensures partial { OnOk result (IsPartial self.new.rest) }
+        ensures refused { IfSome self.old.fault (λ fault. (result ≡ Err fault) × (self.new ≡ self.old)) }
+        ensures number { self.new.number ≤ self.old.number + length piece.now }
+    {
+        if let Some(fault) = self.fault {
+            return Err(fault);
+        }
+        let mut left = piece;
+        'lines: while let Some((front, others)) = next_line(left) {
+            match self.end_line(front) {
+                Ok(()) => left = others,
+                Err(fault) => return Err(fault),
+            }
+        }
+        self.begin_line(left)
+    }
+
+    /// Ends the input: the lines that weren't handed out yet, with what came after the last newline.
+    ///
+    /// It refuses where an earlier piece was refused, and for want of memory.
+    pub fn finish(self) -> Result<Vec<Line>, ReadFault>
+        requires { self.number < 2 ^ 64 - 1 }
+        ensures ok { IfOk result (λ ls. lines_to_come self [] ≡ record { lines = ls.items; fault = None }) }
+        ensures err { IfErr result (λ e. e ≢ ReadFault.Memory → self.fault ≡ Some e) }
+        ensures refused { IfSome self.fault (λ fault. result ≡ Err fault) }
+    {
+        let mut this = self;
+        if let Some(fault) = this.fault {
+            return Err(fault);
+        }
+        if this.rest.is_empty() {
+            return Ok(this.take());
+        }
+        match this.end_line(&[]) {
+            Ok(()) => Ok(this.take()),
+            Err(fault) => Err(fault),
+        }
+    }
+}
+
+#[cfg(test)]
+mod tests {
+    use super::*;
+    use std::alloc::AllocError;
+    use std::test::Fail;
+
+    // Each byte is a piece; every line is taken at once.
+    fn lines_of_bytes(alloc: Global, input: &[u8]) -> Result<Vec<Line>, Fail> {
+        let mut splitter = Splitter::new(alloc);
+        let mut lines = Vec::new(alloc);
+        for byte in input {
+            splitter.feed(&[*byte])?;
+            for line in splitter.take() {
+                lines.push(line)?;
+            }
+        }
+        for line in splitter.finish()? {
+            lines.push(line)?;
+        }
+        Ok(lines)
+    }
+
+    #[test]
+    fn lines_come_byte_by_byte(rt: HostRuntime) -> Result<(), Fail> {
+        let wanted = [b"a".as_slice(), b"", b"bc", b"\r", b"", b"d"];
+        let lines = lines_of_bytes(rt.alloc(), b"a\n\r\nbc\r\n\r\r\n\nd")?;
+        assert_eq!(rt; lines.len(), wanted.len());
+        for (line, bytes) in lines.iter().zip(wanted.iter()) {
+            assert_eq!(rt; line.bytes.as_slice(), *bytes, "line {}", line.number);
+        }
+        assert_eq!(rt; lines[5].number, 6);
+        Ok(())
+    }
+
+    #[test]
+    fn no_line_begins_behind_the_last_newline(rt: HostRuntime) -> Result<(), Fail> {
+        assert_eq!(rt; lines_of_bytes(rt.alloc(), b"")?.len(), 0);
+        assert_eq!(rt; lines_of_bytes(rt.alloc(), b"a\n")?.len(), 1);
+        assert_eq!(rt; lines_of_bytes(rt.alloc(), b"a\n\r")?.len(), 2);
+        Ok(())
+    }
+
+    fn blanks(alloc: Global, count: usize) -> Result<Vec<u8>, AllocError>
+        ensures { IfOk result (λ v. length v.items ≡ count) }
+    {
+        vec![in alloc; b' '; count]
+    }
+
+    #[test]
+    fn a_line_has_at_most_4194304_bytes(rt: HostRuntime) -> Result<(), Fail> {
+        let blanks = blanks(rt.alloc(), 4_194_304)?;
+        let mut splitter = Splitter::new(rt.alloc());
+        splitter.feed(b"a\n")?;
+        splitter.feed(&blanks)?;
+        splitter.feed(b"\r\n")?;
+        splitter.feed(&blanks)?;
+        let refusal = Err(ReadFault::Input(3, InputCode::LineTooLong));
+        assert_eq!(rt; splitter.feed(b" \nb\n"), refusal);
+        assert_eq!(rt; splitter.feed(b""), refusal);
+        assert_eq!(rt; splitter.take().len(), 2);
+        assert!(rt; splitter.finish().is_err());
+        Ok(())
+    }
+}

@@ -1,6 +1,0 @@
-use Rattle.std.proofs.Common.{◌≡◌, map}
-use Rattle.aud_tap.specs.Kept.{tap_so_far}
-use Rattle.aud_tap.proofs.bundle.open_taps.OpenTaps.close.Given as goal
-
-abbrev pub invariant-loop-tap : goal.invariant-loop-tap
-invariant-loop-tap l = l.taps.items ≡ map tap_so_far l.yielded

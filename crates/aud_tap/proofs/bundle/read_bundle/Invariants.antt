@@ -1,6 +1,0 @@
-use Rattle.std.proofs.Common.{◌≡◌, drop}
-use Rattle.aud_tap.specs.Bundle.{taps_of, taps_to_come}
-use Rattle.aud_tap.proofs.bundle.read_bundle.Given as goal
-
-abbrev pub invariant-loop-line : goal.invariant-loop-line
-invariant-loop-line l = taps_to_come l.reader (drop l.line-index l.lines) ≡ taps_of l.lines

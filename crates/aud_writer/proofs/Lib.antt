@@ -1,0 +1,4 @@
+pub mod Lists
+pub mod WrittenBack
+pub mod JsonText
+pub mod LineBack

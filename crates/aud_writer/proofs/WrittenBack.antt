@@ -1,0 +1,281 @@
+-- What is written for a record reads as that record.
+use Rattle.std.proofs.Common.{◌≡◌, ◌==◌, ℕ, List, [], ◌∷◌, length, map, Option, Some, None, Bool, true, false, ◌&&◌, codes, nat_le, Ok, refl, ap}
+use Rattle.std.specs.Result.{result_ok}
+use Rattle.std.proofs.lemmas.Bool.{eqb-true}
+use Rattle.base64.proofs.EngineFacts.{decode_of-encode_of}
+use Rattle.base64.specs.Engines.{standard}
+use Rattle.base64.specs.GeneralPurpose.{IsBytes}
+use Rattle.serde_json.specs.Data.{Data, string, array, Members, no_members, put}
+use Rattle.serde_json.specs.Find.{as_str, get_member}
+use Rattle.aud_tap.specs.declared.records.ClientRec.{ClientRec}
+use Rattle.aud_tap.specs.declared.records.ClientRec.TheVariants.{Conn, TextIn, BytesIn, Poll, TextOut, Lost}
+use Rattle.aud_tap.specs.declared.records.TapKind.{TapKind}
+use Rattle.aud_tap.specs.declared.records.TapKind.TheVariants as tap
+use Rattle.aud_tap.specs.declared.records.Event.{Event}
+use Rattle.aud_tap.specs.declared.records.StreamRec.{StreamRec}
+use Rattle.aud_tap.specs.declared.records.StreamRec.TheVariants.{Ev, Other}
+use Rattle.aud_tap.specs.declared.records.NodeRec.{NodeRec}
+use Rattle.aud_tap.specs.declared.records.NodeRec.TheVariants.{Start, Take, Opened, Join, Leave, Broke, Back, Gone}
+use Rattle.aud_tap.specs.declared.records.Rec.{Rec}
+use Rattle.aud_tap.specs.declared.records.Rec.TheVariants.{Header, Stream, Node, Client}
+use Rattle.aud_tap.specs.Limits.{fits, fit_rooms, max_attachments, max_id, max_offset, max_namespace, max_turn}
+use Rattle.aud_tap.specs.Forms.{is_id, is_namespace}
+use Rattle.aud_reader.specs.Fields.{decoded, each, list_or_empty, as_blob}
+use Rattle.aud_reader.specs.Header.{header_of}
+use Rattle.aud_reader.specs.StreamRecord.{stream_record_of, event_of, other_of}
+use Rattle.aud_reader.specs.NodeRecord.{node_record_of, start_of, take_of, open_of, member_of, turn_of, gone_of}
+use Rattle.aud_reader.specs.ClientRecord.{client_record_of}
+use Rattle.aud_reader.specs.Record.{record_in, record_of, value_record}
+use Rattle.aud_tap.specs.WellFormed.{is_well_formed, event_is_well_formed, stream_is_well_formed, is_offset, is_session_id, is_room, is_full_namespace, node_is_well_formed}
+use Rattle.aud_writer.specs.Written.{record_data, stream_data, header_data, event_data, begin_data, offset_data, open_data, member_data, turn_data, gone_data, node_data, conn_data, binary_data, client_data, encoded, DecodeBack, stream_bytes, client_bytes, bytes_of, put_unless_empty, text_member, list_member, text_items}
+
+both : (a b : Bool) → a && b ≡ true → (a ≡ true) × (b ≡ true)
+both true b h = (refl, h)
+both false b h = cc
+
+offset-parts : (t : List ℕ) → is_offset t ≡ true → (is_id t ≡ true) × (fits max_offset t ≡ true)
+offset-parts t h = both (is_id t) (fits max_offset t) h
+
+id-parts : (t : List ℕ) → is_session_id t ≡ true → (is_id t ≡ true) × (fits max_id t ≡ true)
+id-parts t h = both (is_id t) (fits max_id t) h
+
+namespace-parts : (t : List ℕ) → is_full_namespace t ≡ true → (is_namespace t ≡ true) × (fits max_namespace t ≡ true)
+namespace-parts t h = both (is_namespace t) (fits max_namespace t) h
+
+pub header-back : (of : TapKind) → value_record (header_data of 1) ≡ Ok (Header of 1)
+unfolding value_record record_of header_of
+header-back tap.Stream = refl
+header-back tap.Node = refl
+header-back tap.Client = refl
+
+begin-back : value_record begin_data ≡ Ok (Node (Start None))
+unfolding value_record record_of record_in node_record_of start_of
+begin-back = refl
+
+start-back : (off : List ℕ) → is_offset off ≡ true → value_record (offset_data (codes "start") off) ≡ Ok (Node (Start (Some off)))
+unfolding value_record record_of record_in node_record_of start_of
+start-back off h = let o = offset-parts off h in rw (o.0, o.1) refl
+
+take-back : (off : List ℕ) → is_offset off ≡ true → value_record (offset_data (codes "take") off) ≡ Ok (Node (Take off))
+unfolding value_record record_of record_in node_record_of take_of
+take-back off h = let o = offset-parts off h in rw (o.0, o.1) refl
+
+open-back : (pid sid nsp : List ℕ) → is_session_id pid ≡ true → is_session_id sid ≡ true → is_full_namespace nsp ≡ true → value_record (open_data pid sid nsp) ≡ Ok (Node (Opened pid sid nsp))
+unfolding value_record record_of record_in node_record_of open_of
+open-back pid sid nsp hp hs hn =
+    let p = id-parts pid hp in
+    let s = id-parts sid hs in
+    let n = namespace-parts nsp hn in
+    rw (p.0, s.0, n.0, p.1, s.1, n.1) refl
+
+member-back : (pid room : List ℕ) (kind : List ℕ) → is_session_id pid ≡ true → is_room room ≡ true → member_of (member_data kind pid room) ≡ Ok (pid, room)
+unfolding member_of
+member-back pid room kind hp hr = let p = id-parts pid hp in rw (p.0, p.1, hr) refl
+
+turn-back : (pid : List ℕ) (turn : ℕ) (kind : List ℕ) → is_session_id pid ≡ true → nat_le turn max_turn ≡ true → turn_of (turn_data kind pid turn) ≡ Ok (pid, turn)
+unfolding turn_of
+turn-back pid turn kind hp ht = let p = id-parts pid hp in rw (p.0, p.1, ht) refl
+
+gone-back : (pid : List ℕ) → is_session_id pid ≡ true → value_record (gone_data pid) ≡ Ok (Node (Gone pid))
+unfolding value_record record_of record_in node_record_of gone_of
+gone-back pid hp = let p = id-parts pid hp in rw (p.0, p.1) refl
+
+pub node-back : (r : NodeRec) → node_is_well_formed r ≡ true → value_record (node_data r) ≡ Ok (Node r)
+unfolding value_record record_of record_in node_record_of
+node-back (Start None) h = begin-back
+node-back (Start (Some off)) h = start-back off h
+node-back (Take off) h = take-back off h
+node-back (Opened pid sid nsp) h =
+    let ps = both (is_session_id pid && is_session_id sid) (is_full_namespace nsp) h in
+    let p = both (is_session_id pid) (is_session_id sid) ps.0 in
+    open-back pid sid nsp p.0 p.1 ps.1
+node-back (Join pid room) h =
+    let p = both (is_session_id pid) (is_room room) h in
+    rw (member-back pid room (codes "join") p.0 p.1) refl
+node-back (Leave pid room) h =
+    let p = both (is_session_id pid) (is_room room) h in
+    rw (member-back pid room (codes "leave") p.0 p.1) refl
+node-back (Broke pid turn) h =
+    let p = both (is_session_id pid) (nat_le turn max_turn) h in
+    rw (turn-back pid turn (codes "break") p.0 p.1) refl
+node-back (Back pid turn) h =
+    let p = both (is_session_id pid) (nat_le turn max_turn) h in
+    rw (turn-back pid turn (codes "back") p.0 p.1) refl
+node-back (Gone pid) h = gone-back pid h
+
+conn-back : (c : ℕ) → value_record (conn_data c) ≡ Ok (Client (Conn c))
+unfolding value_record record_of record_in client_record_of
+conn-back c = refl
+
+pub decoded-encoded : (b : List ℕ) → IsBytes b → decoded (encoded b) ≡ Some b
+decoded-encoded b bytes = ap result_ok (decode_of-encode_of standard b refl bytes)
+
+binary-back : (b : List ℕ) → decoded (encoded b) ≡ Some b → value_record (binary_data b) ≡ Ok (Client (BytesIn b))
+unfolding value_record record_of record_in client_record_of
+binary-back b back = rw back refl
+
+pub client-back : (r : ClientRec) → DecodeBack (client_bytes r) → value_record (client_data r) ≡ Ok (Client r)
+unfolding value_record record_of record_in client_record_of
+client-back (Conn c) h = refl
+client-back (TextIn t) h = refl
+client-back (BytesIn b) h = binary-back b h.0
+client-back (Poll t) h = refl
+client-back (TextOut t) h = refl
+client-back Lost h = refl
+
+-- ---- events
+
+abbrev event_members : List (List ℕ) → List (List ℕ) → List ℕ → List ℕ → List (List ℕ) → List ℕ → Members
+event_members bin except nsp off rooms text =
+    list_member (codes "bin") bin
+    (list_member (codes "except") except
+    (text_member (codes "k") (codes "ev")
+    (text_member (codes "nsp") nsp
+    (text_member (codes "off") off
+    (list_member (codes "rooms") rooms
+    (text_member (codes "text") text no_members))))))
+
+texts-back : (ts : List (List ℕ)) → each as_str (text_items ts) ≡ Some ts
+texts-back [] = refl
+texts-back (t ∷ ts) = rw (texts-back ts) refl
+
+blobs-back : (bs : List (List ℕ)) → DecodeBack bs → each as_blob (text_items (map encoded bs)) ≡ Some bs
+blobs-back [] h = refl
+blobs-back (b ∷ bs) h = rw (h.0, blobs-back bs h.1) refl
+
+kind-at : (bin except : List (List ℕ)) (nsp off : List ℕ) (rooms : List (List ℕ)) (text : List ℕ) → get_member (codes "k") (event_members bin except nsp off rooms text) ≡ Some (string (codes "ev"))
+kind-at [] [] nsp off rooms text = refl
+kind-at [] (x ∷ xs) nsp off rooms text = refl
+kind-at (b ∷ bs) [] nsp off rooms text = refl
+kind-at (b ∷ bs) (x ∷ xs) nsp off rooms text = refl
+
+off-at : (bin except : List (List ℕ)) (nsp off : List ℕ) (rooms : List (List ℕ)) (text : List ℕ) → get_member (codes "off") (event_members bin except nsp off rooms text) ≡ Some (string off)
+off-at [] [] nsp off rooms text = refl
+off-at [] (x ∷ xs) nsp off rooms text = refl
+off-at (b ∷ bs) [] nsp off rooms text = refl
+off-at (b ∷ bs) (x ∷ xs) nsp off rooms text = refl
+
+nsp-at : (bin except : List (List ℕ)) (nsp off : List ℕ) (rooms : List (List ℕ)) (text : List ℕ) → get_member (codes "nsp") (event_members bin except nsp off rooms text) ≡ Some (string nsp)
+nsp-at [] [] nsp off rooms text = refl
+nsp-at [] (x ∷ xs) nsp off rooms text = refl
+nsp-at (b ∷ bs) [] nsp off rooms text = refl
+nsp-at (b ∷ bs) (x ∷ xs) nsp off rooms text = refl
+
+text-at : (bin except : List (List ℕ)) (nsp off : List ℕ) (rooms : List (List ℕ)) (text : List ℕ) → get_member (codes "text") (event_members bin except nsp off rooms text) ≡ Some (string text)
+text-at [] [] nsp off [] text = refl
+text-at [] (x ∷ xs) nsp off [] text = refl
+text-at (b ∷ bs) [] nsp off [] text = refl
+text-at (b ∷ bs) (x ∷ xs) nsp off [] text = refl
+text-at [] [] nsp off (r ∷ rs) text = refl
+text-at [] (x ∷ xs) nsp off (r ∷ rs) text = refl
+text-at (b ∷ bs) [] nsp off (r ∷ rs) text = refl
+text-at (b ∷ bs) (x ∷ xs) nsp off (r ∷ rs) text = refl
+
+-- a list as it stands, or nothing where it is empty
+abbrev unless_empty : List (List ℕ) → Option Data
+unless_empty [] = None
+unless_empty (t ∷ ts) = Some (array (text_items (t ∷ ts)))
+
+rooms-at : (bin except : List (List ℕ)) (nsp off : List ℕ) (rooms : List (List ℕ)) (text : List ℕ) → get_member (codes "rooms") (event_members bin except nsp off rooms text) ≡ unless_empty rooms
+rooms-at [] [] nsp off [] text = refl
+rooms-at [] (x ∷ xs) nsp off [] text = refl
+rooms-at (b ∷ bs) [] nsp off [] text = refl
+rooms-at (b ∷ bs) (x ∷ xs) nsp off [] text = refl
+rooms-at [] [] nsp off (r ∷ rs) text = refl
+rooms-at [] (x ∷ xs) nsp off (r ∷ rs) text = refl
+rooms-at (b ∷ bs) [] nsp off (r ∷ rs) text = refl
+rooms-at (b ∷ bs) (x ∷ xs) nsp off (r ∷ rs) text = refl
+
+except-at : (bin except : List (List ℕ)) (nsp off : List ℕ) (rooms : List (List ℕ)) (text : List ℕ) → get_member (codes "except") (event_members bin except nsp off rooms text) ≡ unless_empty except
+except-at [] [] nsp off [] text = refl
+except-at [] (x ∷ xs) nsp off [] text = refl
+except-at (b ∷ bs) [] nsp off [] text = refl
+except-at (b ∷ bs) (x ∷ xs) nsp off [] text = refl
+except-at [] [] nsp off (r ∷ rs) text = refl
+except-at [] (x ∷ xs) nsp off (r ∷ rs) text = refl
+except-at (b ∷ bs) [] nsp off (r ∷ rs) text = refl
+except-at (b ∷ bs) (x ∷ xs) nsp off (r ∷ rs) text = refl
+
+bin-at : (bin except : List (List ℕ)) (nsp off : List ℕ) (rooms : List (List ℕ)) (text : List ℕ) → get_member (codes "bin") (event_members bin except nsp off rooms text) ≡ unless_empty bin
+bin-at [] [] nsp off [] text = refl
+bin-at [] (x ∷ xs) nsp off [] text = refl
+bin-at (b ∷ bs) [] nsp off [] text = refl
+bin-at (b ∷ bs) (x ∷ xs) nsp off [] text = refl
+bin-at [] [] nsp off (r ∷ rs) text = refl
+bin-at [] (x ∷ xs) nsp off (r ∷ rs) text = refl
+bin-at (b ∷ bs) [] nsp off (r ∷ rs) text = refl
+bin-at (b ∷ bs) (x ∷ xs) nsp off (r ∷ rs) text = refl
+
+texts-or-empty : (ts : List (List ℕ)) → list_or_empty as_str (unless_empty ts) ≡ Some ts
+texts-or-empty [] = refl
+texts-or-empty (t ∷ ts) = texts-back (t ∷ ts)
+
+blobs-or-empty : (bs : List (List ℕ)) → DecodeBack bs → list_or_empty as_blob (unless_empty (map encoded bs)) ≡ Some bs
+blobs-or-empty [] h = refl
+blobs-or-empty (b ∷ bs) h = blobs-back (b ∷ bs) h
+
+event-back : (e : Event) → event_is_well_formed e ≡ true → DecodeBack e.bin → event_of (event_data e) ≡ Ok (Ev e)
+unfolding event_of
+event-back e h bytes =
+    let e4 = both (is_offset e.off && is_full_namespace e.nsp && fit_rooms e.rooms && fit_rooms e.except) (nat_le (length e.bin) max_attachments) h in
+    let e3 = both (is_offset e.off && is_full_namespace e.nsp && fit_rooms e.rooms) (fit_rooms e.except) e4.0 in
+    let e2 = both (is_offset e.off && is_full_namespace e.nsp) (fit_rooms e.rooms) e3.0 in
+    let e1 = both (is_offset e.off) (is_full_namespace e.nsp) e2.0 in
+    let o = offset-parts e.off e1.0 in
+    let n = namespace-parts e.nsp e1.1 in
+    let bin = map encoded e.bin in
+    rw (
+      off-at bin e.except e.nsp e.off e.rooms e.text,
+      nsp-at bin e.except e.nsp e.off e.rooms e.text,
+      text-at bin e.except e.nsp e.off e.rooms e.text,
+      rooms-at bin e.except e.nsp e.off e.rooms e.text,
+      except-at bin e.except e.nsp e.off e.rooms e.text,
+      bin-at bin e.except e.nsp e.off e.rooms e.text,
+      texts-or-empty e.rooms,
+      texts-or-empty e.except,
+      blobs-or-empty e.bin bytes,
+      o.0,
+      n.0,
+      o.1,
+      n.1,
+      e2.1,
+      e3.1,
+      e4.1,
+    ) refl
+
+other-back : (off : List ℕ) → is_offset off ≡ true → other_of (offset_data (codes "other") off) ≡ Ok (Other off)
+unfolding other_of
+other-back off h = let o = offset-parts off h in rw (o.0, o.1) refl
+
+stream-back : (r : StreamRec) → stream_is_well_formed r ≡ true → DecodeBack (stream_bytes r) → value_record (stream_data r) ≡ Ok (Stream r)
+unfolding value_record record_of record_in stream_record_of
+stream-back (Ev e) h bytes = rw (kind-at (map encoded e.bin) e.except e.nsp e.off e.rooms e.text, event-back e h bytes) refl
+stream-back (Other off) h bytes = rw (other-back off h) refl
+
+header-of-version : (of : TapKind) (v : ℕ) → v == 1 ≡ true → value_record (header_data of v) ≡ Ok (Header of v)
+header-of-version of v h = rw (eqb-true v 1 h) (header-back of)
+
+pub record-back : (r : Rec) → is_well_formed r ≡ true → DecodeBack (bytes_of r) → value_record (record_data r) ≡ Ok r
+record-back (Header of v) h bytes = header-of-version of v h
+record-back (Stream r) h bytes = stream-back r h bytes
+record-back (Node r) h bytes = node-back r h
+record-back (Client r) h bytes = client-back r bytes
+
+-- ---- the members of an event, put one by one from the greatest key down
+
+pub event-put : (bin except : List (List ℕ)) (nsp off : List ℕ) (rooms : List (List ℕ)) (text : List ℕ)
+    → put_unless_empty (codes "bin") (text_items bin)
+    (put_unless_empty (codes "except") (text_items except)
+    (put (codes "k") (string (codes "ev"))
+    (put (codes "nsp") (string nsp)
+    (put (codes "off") (string off)
+    (put_unless_empty (codes "rooms") (text_items rooms)
+    (put (codes "text") (string text) no_members)))))) ≡ event_members bin except nsp off rooms text
+event-put [] [] nsp off [] text = refl
+event-put [] (x ∷ xs) nsp off [] text = refl
+event-put (b ∷ bs) [] nsp off [] text = refl
+event-put (b ∷ bs) (x ∷ xs) nsp off [] text = refl
+event-put [] [] nsp off (r ∷ rs) text = refl
+event-put [] (x ∷ xs) nsp off (r ∷ rs) text = refl
+event-put (b ∷ bs) [] nsp off (r ∷ rs) text = refl
+event-put (b ∷ bs) (x ∷ xs) nsp off (r ∷ rs) text = refl

@@ -1,0 +1,93 @@
+//! A line: a tap's name, a blank, and a record in JSON.
+ghost use Rattle.std.specs.Prelude.{◌≡◌, Ok, IfOk, IfErr, IsTrue, string_bytes};
+ghost use Rattle.serde_json.specs.View.{view};
+ghost use Rattle.serde_json.specs.Written.{compact_text};
+ghost use Rattle.aud_reader.specs.Steps.{IsRefusal};
+ghost use Rattle.aud_tap.specs.TapName.{is_tap_name};
+ghost use Rattle.aud_reader.specs.Record.{json_of, line_record};
+ghost use Rattle.aud_tap.specs.WellFormed.{is_well_formed};
+ghost use Rattle.aud_writer.specs.Written.{DecodeBack, bytes_of, tap_word, header_data, record_data, line_text, written_line};
+
+use super::client::client_value;
+use super::node::node_value;
+use super::stream::stream_value;
+use aud_reader::{InputCode, ReadFault};
+use aud_tap::limits::MAX_LINE;
+use aud_tap::{Rec, TapKind};
+use serde_json::{Value, json};
+use std::alloc::{AllocError, Global};
+
+fn tap_word(of: TapKind) -> &'static str
+    ensures { result.now ≡ tap_word of }
+{
+    match of {
+        TapKind::Stream => "stream",
+        TapKind::Node => "node",
+        TapKind::Client => "client",
+    }
+}
+
+fn header_value(alloc: Global, of: TapKind, v: u64) -> Result<Value, AllocError>
+    ensures { IfOk result (λ value. view value ≡ header_data of v) }
+{
+    json!(in alloc; {"k": "tap", "of": tap_word(of), "v": v})
+}
+
+fn record_value(alloc: Global, rec: &Rec) -> Result<Value, AllocError>
+    ensures data { IfOk result (λ v. view v ≡ record_data rec.now) }
+    ensures back { IfOk result (λ v. DecodeBack (bytes_of rec.now)) }
+{
+    match rec {
+        Rec::Header { of, v } => header_value(alloc, *of, *v),
+        Rec::Stream(rec) => stream_value(alloc, rec),
+        Rec::Node(rec) => node_value(alloc, rec),
+        Rec::Client(rec) => client_value(alloc, rec),
+    }
+}
+
+fn record_json(alloc: Global, rec: &Rec) -> Result<String, AllocError>
+    ensures text { IfOk result (λ json. string_bytes json ≡ compact_text (record_data rec.now)) }
+    ensures reads { IfOk result
+        (λ json. json_of (string_bytes json) ≡ Ok (record_data rec.now)) }
+    ensures back { IfOk result (λ json. DecodeBack (bytes_of rec.now)) }
+{
+    let value = record_value(alloc, rec)?;
+    value.to_string(alloc)
+}
+
+fn line_bytes(alloc: Global, name: &str, rec: &Rec) -> Result<Vec<u8>, AllocError>
+    ensures bytes { IfOk result (λ line. line.items ≡ line_text name.now rec.now) }
+    ensures reads { IfOk result
+        (λ line. json_of (compact_text (record_data rec.now)) ≡ Ok (record_data rec.now)) }
+    ensures back { IfOk result (λ line. DecodeBack (bytes_of rec.now)) }
+{
+    let json = record_json(alloc, rec)?;
+    let mut line = Vec::new(alloc);
+    line.extend_from_slice(name.as_bytes())?;
+    line.push(b' ')?;
+    line.extend_from_slice(json.as_bytes())?;
+    Ok(line)
+}
+
+/// The line of a record, without a newline: the tap's name, a blank, and JSON without blanks whose
+/// keys are in byte order, with empty lists left out. The name and the fields are of a bundle's forms and limits. A line
+/// that would be longer than 4,194,304 bytes is refused as `LineTooLong` with the number 1; the other error is `Memory`.
+pub fn write_line(alloc: Global, name: &str, rec: &Rec) -> Result<Vec<u8>, ReadFault>
+    requires name { IsTrue (is_tap_name name.now) }
+    requires record { IsTrue (is_well_formed rec.now) }
+
+    ensures written { IfOk result (λ line. written_line name.now rec.now ≡ Ok line.items) }
+    ensures refused { IfErr result (λ e. IsRefusal 1 e (written_line name.now rec.now)) }
+    ensures reads_back { IfOk result (λ line. line_record line.items ≡ Ok (name.now, rec.now)) }
+{
+    let Ok(line) = line_bytes(alloc, name, rec) else {
+        return Err(ReadFault::Memory);
+    };
+    if line.len() > MAX_LINE {
+        return Err(ReadFault::Input(1, InputCode::LineTooLong));
+    }
+    Ok(line)
+}
+
+#[cfg(test)]
+mod tests;

@@ -1,0 +1,113 @@
+//! Lines against what another program writes for them: Python's
+//! `json.dumps(record, sort_keys=True, separators=(",", ":"), ensure_ascii=False)`.
+use super::write_line;
+use aud_reader::{Line, parse_line};
+use aud_tap::Bytes;
+use std::alloc::Global;
+use std::test::Fail;
+
+/// The line of the record of a line.
+fn rewritten(alloc: Global, text: &str) -> Result<Vec<u8>, Fail> {
+    let bytes = Bytes::new(text.as_bytes().to_vec(alloc)?);
+    let (name, rec) = parse_line(alloc, &Line { number: 1, bytes })?;
+    Ok(write_line(alloc, name.as_str(), &rec)?)
+}
+
+const LINES: [(&str, &str); 24] = [
+    (
+        r#"st {"k":"tap","v":1,"of":"stream"}"#,
+        r#"st {"k":"tap","of":"stream","v":1}"#,
+    ),
+    (
+        r#"st {"k":"ev","off":"1-0","nsp":"/","rooms":["r"],"text":"2[\"hi\",\"1-0\"]"}"#,
+        r#"st {"k":"ev","nsp":"/","off":"1-0","rooms":["r"],"text":"2[\"hi\",\"1-0\"]"}"#,
+    ),
+    (
+        r#"a {"k":"tap","v":1,"of":"node"}"#,
+        r#"a {"k":"tap","of":"node","v":1}"#,
+    ),
+    (
+        r#"a {"k":"start","off":null}"#,
+        r#"a {"k":"start","off":null}"#,
+    ),
+    (
+        r#"a {"k":"start","off":"1-0"}"#,
+        r#"a {"k":"start","off":"1-0"}"#,
+    ),
+    (
+        r#"a {"k":"open","pid":"P","sid":"s1","nsp":"/"}"#,
+        r#"a {"k":"open","nsp":"/","pid":"P","sid":"s1"}"#,
+    ),
+    (
+        r#"a {"k":"join","pid":"P","room":"r"}"#,
+        r#"a {"k":"join","pid":"P","room":"r"}"#,
+    ),
+    (
+        r#"a {"k":"leave","pid":"P","room":"r"}"#,
+        r#"a {"k":"leave","pid":"P","room":"r"}"#,
+    ),
+    (
+        r#"a {"k":"take","off":"1-0"}"#,
+        r#"a {"k":"take","off":"1-0"}"#,
+    ),
+    (
+        r#"a {"k":"break","pid":"P","turn":0}"#,
+        r#"a {"k":"break","pid":"P","turn":0}"#,
+    ),
+    (
+        r#"b {"k":"back","pid":"P","turn":1}"#,
+        r#"b {"k":"back","pid":"P","turn":1}"#,
+    ),
+    (r#"a {"k":"gone","pid":"P"}"#, r#"a {"k":"gone","pid":"P"}"#),
+    (
+        r#"c1 {"k":"tap","v":1,"of":"client"}"#,
+        r#"c1 {"k":"tap","of":"client","v":1}"#,
+    ),
+    (r#"c1 {"k":"conn","c":1}"#, r#"c1 {"c":1,"k":"conn"}"#),
+    (
+        r#"c1 {"k":"in","t":"40{\"sid\":\"s1\",\"pid\":\"P\"}"}"#,
+        r#"c1 {"k":"in","t":"40{\"sid\":\"s1\",\"pid\":\"P\"}"}"#,
+    ),
+    (
+        r#"c1 {"k":"out","t":"40{\"pid\":\"P\",\"offset\":\"1-0\"}"}"#,
+        r#"c1 {"k":"out","t":"40{\"pid\":\"P\",\"offset\":\"1-0\"}"}"#,
+    ),
+    (
+        r#"c1 {"k":"inb","b":"AQI="}"#,
+        r#"c1 {"b":"AQI=","k":"inb"}"#,
+    ),
+    (
+        r#"c1 {"k":"poll","t":"42[\"hi\",\"1-0\"]"}"#,
+        r#"c1 {"k":"poll","t":"42[\"hi\",\"1-0\"]"}"#,
+    ),
+    (r#"c1 {"k":"lost"}"#, r#"c1 {"k":"lost"}"#),
+    (
+        r#"st {"k":"other","off":"2-0"}"#,
+        r#"st {"k":"other","off":"2-0"}"#,
+    ),
+    (
+        r#"st {"k":"ev","off":"4-0","nsp":"/n","rooms":[],"except":["s1"],"bin":["AQI=","Aw=="],"text":"52-/n,[\"f\"]"}"#,
+        r#"st {"bin":["AQI=","Aw=="],"except":["s1"],"k":"ev","nsp":"/n","off":"4-0","text":"52-/n,[\"f\"]"}"#,
+    ),
+    (
+        r#"A-Za.z0_9   {"c" : 18446744073709551615, "k":"conn", "seen":{"k":"lost"}}  "#,
+        r#"A-Za.z0_9 {"c":18446744073709551615,"k":"conn"}"#,
+    ),
+    (
+        r#"c1 {"t":"first","k":"in","t":"second"}"#,
+        r#"c1 {"k":"in","t":"second"}"#,
+    ),
+    (
+        r#"c1 {"k":"in","t":"\u0001\u001f\n\"\\\b\f\r\t\/\u00e9\ud83d\ude00"}"#,
+        r#"c1 {"k":"in","t":"\u0001\u001f\n\"\\\b\f\r\t/é😀"}"#,
+    ),
+];
+
+#[test]
+fn writes_what_it_read(rt: HostRuntime) -> Result<(), Fail> {
+    for (text, want) in LINES {
+        let line = rewritten(rt.alloc(), text)?;
+        assert!(rt; line.as_slice() == want.as_bytes(), "at {text}");
+    }
+    Ok(())
+}
