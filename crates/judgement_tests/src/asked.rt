@@ -31,7 +31,8 @@ pub enum Asked<'a> {
     CheckedTogether(&'a [&'a str]),
 }
 
-/// Asserts that this is the answer over the lines of the bundle, which comes in parts of a few lines each.
+/// Asserts that this is the answer over the lines of the bundle. A bundle comes in parts, and each part in texts of one
+/// or more lines.
 pub fn assert_answer(
     rt: &impl Abort,
     alloc: Global,
@@ -81,12 +82,19 @@ fn taps_of(alloc: Global, bundle: &[&[&str]]) -> Result<Taps, Fail> {
     Ok(read_bundle(alloc, lines.as_slice())?)
 }
 
-/// The lines come behind the others.
+/// The lines of the texts come after the others.
 fn push_lines(alloc: Global, lines: &mut Vec<Line>, texts: &[&str]) -> Result<(), AllocError> {
     for text in texts {
-        let number = lines.len() as u64 + 1;
-        let bytes = Bytes::new(text.as_bytes().to_vec(alloc)?);
-        lines.push(Line { number, bytes })?;
+        for line in text.lines() {
+            push_line(alloc, lines, line)?;
+        }
     }
+    Ok(())
+}
+
+fn push_line(alloc: Global, lines: &mut Vec<Line>, line: &str) -> Result<(), AllocError> {
+    let number = lines.len() as u64 + 1;
+    let bytes = Bytes::new(line.as_bytes().to_vec(alloc)?);
+    lines.push(Line { number, bytes })?;
     Ok(())
 }
