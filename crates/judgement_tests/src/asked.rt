@@ -31,12 +31,11 @@ pub enum Asked<'a> {
     CheckedTogether(&'a [&'a str]),
 }
 
-/// Asserts that this is the answer over the lines of the bundle. A bundle comes in parts, and each part in texts of one
-/// or more lines.
+/// Asserts that this is the answer over the bundle, which is given in texts of one or more lines.
 pub fn assert_answer(
     rt: &impl Abort,
     alloc: Global,
-    bundle: &[&[&str]],
+    bundle: &[&str],
     asked: Asked<'_>,
     answer: &str,
 ) -> Result<(), Fail> {
@@ -46,7 +45,7 @@ pub fn assert_answer(
 }
 
 /// The text of the answer over the lines of the bundle.
-fn answer_over(alloc: Global, bundle: &[&[&str]], asked: Asked<'_>) -> Result<String, Fail> {
+fn answer_over(alloc: Global, bundle: &[&str], asked: Asked<'_>) -> Result<String, Fail> {
     let taps = taps_of(alloc, bundle)?;
     answer_of_taps(alloc, &taps, asked)
 }
@@ -74,27 +73,20 @@ fn answer_of_logs(alloc: Global, logs: &Logs<'_>, asked: Asked<'_>) -> Result<St
 }
 
 /// The taps of the lines.
-fn taps_of(alloc: Global, bundle: &[&[&str]]) -> Result<Taps, Fail> {
+fn taps_of(alloc: Global, bundle: &[&str]) -> Result<Taps, Fail> {
     let mut lines = Vec::new(alloc);
-    for part in bundle {
-        push_lines(alloc, &mut lines, part)?;
+    for text in bundle {
+        push_lines(alloc, &mut lines, text)?;
     }
     Ok(read_bundle(alloc, lines.as_slice())?)
 }
 
-/// The lines of the texts come after the others.
-fn push_lines(alloc: Global, lines: &mut Vec<Line>, texts: &[&str]) -> Result<(), AllocError> {
-    for text in texts {
-        for line in text.lines() {
-            push_line(alloc, lines, line)?;
-        }
+/// The lines of the text come after the others.
+fn push_lines(alloc: Global, lines: &mut Vec<Line>, text: &str) -> Result<(), AllocError> {
+    for line in text.lines() {
+        let number = lines.len() as u64 + 1;
+        let bytes = Bytes::new(line.as_bytes().to_vec(alloc)?);
+        lines.push(Line { number, bytes })?;
     }
-    Ok(())
-}
-
-fn push_line(alloc: Global, lines: &mut Vec<Line>, line: &str) -> Result<(), AllocError> {
-    let number = lines.len() as u64 + 1;
-    let bytes = Bytes::new(line.as_bytes().to_vec(alloc)?);
-    lines.push(Line { number, bytes })?;
     Ok(())
 }

@@ -7,20 +7,20 @@ use crate::cluster::{
 use std::test::Fail;
 
 /// A session on node `a`, that joins `r` and is sent the one event.
-const ONE_NODE: [&[&str]; 4] = [&EVENT_1, &NODE_A, &CLIENT_OF_P, &[RECEIVED_1]];
+const ONE_NODE: [&str; 4] = [EVENT_1, NODE_A, CLIENT_OF_P, RECEIVED_1];
 
 const ONE_TURN: &str =
     r#"{"client":"c1","pid":"P","spans":[["r",1,1],["s1",1,1]],"turns":[["a",1,4,0,1]]}"#;
 
 /// The session breaks on node `a` and is recovered on node `b`; a third event comes too late for both.
-const TWO_NODES: [&[&str]; 7] = [
-    &EVENT_1,
-    &EVENT_2,
-    &EVENT_3,
-    &NODE_A,
-    &A_BREAKS,
-    &NODE_B,
-    &CLIENT_OF_P,
+const TWO_NODES: [&str; 7] = [
+    EVENT_1,
+    EVENT_2,
+    EVENT_3,
+    NODE_A,
+    A_BREAKS,
+    NODE_B,
+    CLIENT_OF_P,
 ];
 
 const TWO_TURNS: &str =
@@ -31,7 +31,7 @@ const BLANKS: &str = r#" { "turns" : [ ["a", 1, 4, 0, 1] ], "more": null, "pid":
         "spans": [["r",1,1],["s1",1,1]], "client":"c1"} "#;
 
 /// Texts over the logs, and what is written for the certificates that are read from them.
-const READ: [(&[&[&str]], &str, &str); 3] = [
+const READ: [(&[&str], &str, &str); 3] = [
     (&ONE_NODE, ONE_TURN, ONE_TURN),
     (&TWO_NODES, TWO_TURNS, TWO_TURNS),
     (&ONE_NODE, BLANKS, ONE_TURN),

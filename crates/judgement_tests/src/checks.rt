@@ -5,8 +5,9 @@ use crate::cluster::{
 };
 use std::test::Fail;
 
-/// The first connection of the client, from the first event on, and the begin of its second one.
-const COMES_BACK: [&str; 3] = [RECEIVED_1, r#"c1 {"k":"lost"}"#, r#"c1 {"k":"conn","c":2}"#];
+/// The client loses its first connection, and begins a second one.
+const COMES_BACK: &str = r#"c1 {"k":"lost"}
+c1 {"k":"conn","c":2}"#;
 
 /// What the client asks for when it comes back.
 const ASKED: &str = r#"c1 {"k":"out","t":"40{\"pid\":\"P\",\"offset\":\"1-0\"}"}"#;
@@ -14,7 +15,7 @@ const ASKED: &str = r#"c1 {"k":"out","t":"40{\"pid\":\"P\",\"offset\":\"1-0\"}"}
 /// The event that comes again after the recovery.
 const REPLAYED: &str = r#"c1 {"k":"in","t":"42[\"hi\",\"2-0\"]"}"#;
 
-/// The answer to what was asked, behind the event.
+/// The answer to what was asked, after the event.
 const RECOVERED: &str = r#"c1 {"k":"in","t":"40{\"sid\":\"s1\",\"pid\":\"P\"}"}"#;
 
 const ALL: [&str; 3] = [ASKED, REPLAYED, RECOVERED];
@@ -54,7 +55,7 @@ const OTHER_RECORDS: &str =
 const OTHER_CURSOR: &str =
     r#"{"client":"c1","pid":"P","spans":[["r",1,2],["s1",1,2]],"turns":[["a",1,5,1,1],["b",3,4,2,2]]}"#;
 
-/// The records of the client's second connection, a certificate, and the answer.
+/// What the client asks for, the event and the reply that it gets; a certificate; and the answer.
 const CASES: [([&str; 3], &str, &str); 12] = [
     (ALL, TWO_TURNS, "got=2 tail=0 turns=2"),
     (ALL, OTHER_SPAN, "K9 Span"),
@@ -85,20 +86,29 @@ const CASES: [([&str; 3], &str, &str); 12] = [
 ];
 
 /// One session, on node `a` up to the first event and on node `b` from the second on; a third event comes to neither.
+/// What the client's second connection tells comes last.
+fn bundle_with<'a>(records: &[&'a str; 3]) -> [&'a str; 12] {
+    let [asked, event, reply] = *records;
+    [
+        EVENT_1,
+        EVENT_2,
+        EVENT_3,
+        NODE_A,
+        A_BREAKS,
+        NODE_B,
+        CLIENT_OF_P,
+        RECEIVED_1,
+        COMES_BACK,
+        asked,
+        event,
+        reply,
+    ]
+}
+
 #[test]
 fn certificates_are_checked(rt: HostRuntime) -> Result<(), Fail> {
     for (records, cert, answer) in &CASES {
-        let bundle: [&[&str]; 9] = [
-            &EVENT_1,
-            &EVENT_2,
-            &EVENT_3,
-            &NODE_A,
-            &A_BREAKS,
-            &NODE_B,
-            &CLIENT_OF_P,
-            &COMES_BACK,
-            records,
-        ];
+        let bundle = bundle_with(records);
         assert_answer(&rt, rt.alloc(), &bundle, Asked::Checked(cert), answer)?;
     }
     Ok(())
@@ -107,24 +117,7 @@ fn certificates_are_checked(rt: HostRuntime) -> Result<(), Fail> {
 /// The clients' taps are read once for several certificates.
 #[test]
 fn certificates_are_checked_over_clients_that_were_read(rt: HostRuntime) -> Result<(), Fail> {
-    let bundle: [&[&str]; 9] = [
-        &EVENT_1,
-        &EVENT_2,
-        &EVENT_3,
-        &NODE_A,
-        &A_BREAKS,
-        &NODE_B,
-        &CLIENT_OF_P,
-        &COMES_BACK,
-        &ALL,
-    ];
-    let certs = [TWO_TURNS, ONE_TURN];
+    let asked = Asked::CheckedTogether(&[TWO_TURNS, ONE_TURN]);
     let answers = "got=2 tail=0 turns=2\nK11 Received EXTRA 2-0\n";
-    assert_answer(
-        &rt,
-        rt.alloc(),
-        &bundle,
-        Asked::CheckedTogether(&certs),
-        answers,
-    )
+    assert_answer(&rt, rt.alloc(), &bundle_with(&ALL), asked, answers)
 }

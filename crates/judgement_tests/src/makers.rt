@@ -4,87 +4,75 @@ use crate::asked::{Asked, assert_answer};
 use crate::cluster::{A_BREAKS, CLIENT_OF_P, EVENT_1, EVENT_2, EVENT_3, EVENT_4, NODE_A, NODE_B};
 use std::test::Fail;
 
-const A_COMES_BACK: [&str; 5] = [
-    r#"a {"k":"take","off":"2-0"}"#,
-    r#"a {"k":"take","off":"3-0"}"#,
-    r#"a {"k":"back","pid":"P","turn":2}"#,
-    r#"a {"k":"break","pid":"P","turn":2}"#,
-    r#"a {"k":"take","off":"4-0"}"#,
-];
+const A_COMES_BACK: &str = r#"a {"k":"take","off":"2-0"}
+a {"k":"take","off":"3-0"}
+a {"k":"back","pid":"P","turn":2}
+a {"k":"break","pid":"P","turn":2}
+a {"k":"take","off":"4-0"}"#;
 
-const B_BREAKS: [&str; 1] = [r#"b {"k":"break","pid":"P","turn":1}"#];
+const B_BREAKS: &str = r#"b {"k":"break","pid":"P","turn":1}"#;
 
-const B_COMES_BACK: [&str; 3] = [
-    r#"b {"k":"take","off":"3-0"}"#,
-    r#"b {"k":"take","off":"4-0"}"#,
-    r#"b {"k":"back","pid":"P","turn":3}"#,
-];
+const B_COMES_BACK: &str = r#"b {"k":"take","off":"3-0"}
+b {"k":"take","off":"4-0"}
+b {"k":"back","pid":"P","turn":3}"#;
 
-/// Recovers the session behind the third event.
-const LATER_B: [&str; 9] = [
-    r#"b {"k":"tap","v":1,"of":"node"}"#,
-    r#"b {"k":"start","off":null}"#,
-    r#"b {"k":"take","off":"1-0"}"#,
-    r#"b {"k":"take","off":"2-0"}"#,
-    r#"b {"k":"take","off":"3-0"}"#,
-    r#"b {"k":"back","pid":"P","turn":1}"#,
-    r#"b {"k":"leave","pid":"P","room":"r"}"#,
-    r#"b {"k":"join","pid":"P","room":"q"}"#,
-    r#"b {"k":"take","off":"4-0"}"#,
-];
+/// Recovers the session after the third event.
+const LATER_B: &str = r#"b {"k":"tap","v":1,"of":"node"}
+b {"k":"start","off":null}
+b {"k":"take","off":"1-0"}
+b {"k":"take","off":"2-0"}
+b {"k":"take","off":"3-0"}
+b {"k":"back","pid":"P","turn":1}
+b {"k":"leave","pid":"P","room":"r"}
+b {"k":"join","pid":"P","room":"q"}
+b {"k":"take","off":"4-0"}"#;
 
 /// Takes the second event first.
-const UNORDERED_B: [&str; 5] = [
-    r#"b {"k":"tap","v":1,"of":"node"}"#,
-    r#"b {"k":"start","off":null}"#,
-    r#"b {"k":"open","pid":"Q","sid":"s2","nsp":"/"}"#,
-    r#"b {"k":"take","off":"2-0"}"#,
-    r#"b {"k":"take","off":"1-0"}"#,
-];
+const UNORDERED_B: &str = r#"b {"k":"tap","v":1,"of":"node"}
+b {"k":"start","off":null}
+b {"k":"open","pid":"Q","sid":"s2","nsp":"/"}
+b {"k":"take","off":"2-0"}
+b {"k":"take","off":"1-0"}"#;
 
-const OTHER_CLIENT_OF_P: [&str; 3] = [
-    r#"c2 {"k":"tap","v":1,"of":"client"}"#,
-    r#"c2 {"k":"conn","c":1}"#,
-    r#"c2 {"k":"in","t":"40{\"sid\":\"s1\",\"pid\":\"P\"}"}"#,
-];
+const OTHER_CLIENT_OF_P: &str = r#"c2 {"k":"tap","v":1,"of":"client"}
+c2 {"k":"conn","c":1}
+c2 {"k":"in","t":"40{\"sid\":\"s1\",\"pid\":\"P\"}"}"#;
 
-const CLIENT_OF_R: [&str; 3] = [
-    r#"c0 {"k":"tap","v":1,"of":"client"}"#,
-    r#"c0 {"k":"conn","c":1}"#,
-    r#"c0 {"k":"in","t":"40{\"sid\":\"s3\",\"pid\":\"R\"}"}"#,
-];
+const CLIENT_OF_R: &str = r#"c0 {"k":"tap","v":1,"of":"client"}
+c0 {"k":"conn","c":1}
+c0 {"k":"in","t":"40{\"sid\":\"s3\",\"pid\":\"R\"}"}"#;
 
-const ONE_NODE: [&[&str]; 3] = [&EVENT_1, &NODE_A, &CLIENT_OF_P];
+const ONE_NODE: [&str; 3] = [EVENT_1, NODE_A, CLIENT_OF_P];
 
 /// The session goes from one node to the other and back, twice.
-const FOUR_TURNS: [&[&str]; 11] = [
-    &EVENT_1,
-    &EVENT_2,
-    &EVENT_3,
-    &EVENT_4,
-    &NODE_A,
-    &A_BREAKS,
-    &A_COMES_BACK,
-    &NODE_B,
-    &B_BREAKS,
-    &B_COMES_BACK,
-    &CLIENT_OF_P,
+const FOUR_TURNS: [&str; 11] = [
+    EVENT_1,
+    EVENT_2,
+    EVENT_3,
+    EVENT_4,
+    NODE_A,
+    A_BREAKS,
+    A_COMES_BACK,
+    NODE_B,
+    B_BREAKS,
+    B_COMES_BACK,
+    CLIENT_OF_P,
 ];
 
 /// Positions 2 and 3 are judged by the rooms at the recovery, before the session leaves `r` and joins `q`.
-const RECOVERED_LATER: [&[&str]; 8] = [
-    &EVENT_1,
-    &EVENT_2,
-    &EVENT_3,
-    &EVENT_4,
-    &NODE_A,
-    &A_BREAKS,
-    &LATER_B,
-    &CLIENT_OF_P,
+const RECOVERED_LATER: [&str; 8] = [
+    EVENT_1,
+    EVENT_2,
+    EVENT_3,
+    EVENT_4,
+    NODE_A,
+    A_BREAKS,
+    LATER_B,
+    CLIENT_OF_P,
 ];
 
 /// The certificates of `P`.
-const MADE: [(&[&[&str]], &str); 3] = [
+const MADE: [(&[&str], &str); 3] = [
     (
         &ONE_NODE,
         r#"{"client":"c1","pid":"P","spans":[["r",1,1],["s1",1,1]],"turns":[["a",1,4,0,1]]}"#,
@@ -108,27 +96,27 @@ fn certificates_are_made(rt: HostRuntime) -> Result<(), Fail> {
 }
 
 /// Without the `break` of the turn on node `b`.
-const BROKEN_CHAIN: [&[&str]; 10] = [
-    &EVENT_1,
-    &EVENT_2,
-    &EVENT_3,
-    &EVENT_4,
-    &NODE_A,
-    &A_BREAKS,
-    &A_COMES_BACK,
-    &NODE_B,
-    &B_COMES_BACK,
-    &CLIENT_OF_P,
+const BROKEN_CHAIN: [&str; 10] = [
+    EVENT_1,
+    EVENT_2,
+    EVENT_3,
+    EVENT_4,
+    NODE_A,
+    A_BREAKS,
+    A_COMES_BACK,
+    NODE_B,
+    B_COMES_BACK,
+    CLIENT_OF_P,
 ];
 
-const UNORDERED: [&[&str]; 3] = [&EVENT_1, &EVENT_2, &UNORDERED_B];
+const UNORDERED: [&str; 3] = [EVENT_1, EVENT_2, UNORDERED_B];
 
-const NO_CLIENT: [&[&str]; 2] = [&EVENT_1, &NODE_A];
+const NO_CLIENT: [&str; 2] = [EVENT_1, NODE_A];
 
-const TWO_CLIENTS: [&[&str]; 4] = [&EVENT_1, &NODE_A, &CLIENT_OF_P, &OTHER_CLIENT_OF_P];
+const TWO_CLIENTS: [&str; 4] = [EVENT_1, NODE_A, CLIENT_OF_P, OTHER_CLIENT_OF_P];
 
 /// The faults of a session.
-const FAULTS: [(&[&[&str]], &str, &str); 5] = [
+const FAULTS: [(&[&str], &str, &str); 5] = [
     (&BROKEN_CHAIN, "P", "CHAIN"),
     (&BROKEN_CHAIN, "Q", "NOLOG"),
     (&UNORDERED, "Q", "ORDER"),
@@ -144,13 +132,13 @@ fn sessions_have_faults(rt: HostRuntime) -> Result<(), Fail> {
     Ok(())
 }
 
-const THREE_SESSIONS: [&[&str]; 6] = [
-    &EVENT_1,
-    &EVENT_2,
-    &CLIENT_OF_R,
-    &NODE_A,
-    &CLIENT_OF_P,
-    &UNORDERED_B,
+const THREE_SESSIONS: [&str; 6] = [
+    EVENT_1,
+    EVENT_2,
+    CLIENT_OF_R,
+    NODE_A,
+    CLIENT_OF_P,
+    UNORDERED_B,
 ];
 
 /// Nodes' taps come first, wherever they stand.

@@ -273,7 +273,7 @@ const STAYS: [(&str, &str, &str); 7] = [
 #[test]
 fn stays_of_recorded_taps(rt: HostRuntime) -> Result<(), Fail> {
     for (lines, name, stays) in &STAYS {
-        assert_answer(&rt, rt.alloc(), &[&[lines]], Asked::Stays(name), stays)?;
+        assert_answer(&rt, rt.alloc(), &[lines], Asked::Stays(name), stays)?;
     }
     Ok(())
 }
@@ -288,7 +288,7 @@ const EVENTS: &str = r#"1 51-["bin",{"_placeholder":true,"num":0},"1795330236365
 #[test]
 fn attachments_by_both_ways(rt: HostRuntime) -> Result<(), Fail> {
     for name in ["c0", "c1"] {
-        assert_answer(&rt, rt.alloc(), &[&[BINARY]], Asked::Frames(name), EVENTS)?;
+        assert_answer(&rt, rt.alloc(), &[BINARY], Asked::Frames(name), EVENTS)?;
     }
     Ok(())
 }
@@ -310,7 +310,7 @@ fn which_stays_are_recovered(rt: HostRuntime) -> Result<(), Fail> {
         assert_answer(
             &rt,
             rt.alloc(),
-            &[&[lines]],
+            &[lines],
             Asked::Recovered(name, pid),
             recovered,
         )?;
