@@ -15,6 +15,3 @@ pub use certificate::{Certificate, Turn};
 pub use fault::{CertFault, Fault};
 pub use read::read_cert;
 pub use write::write_cert;
-
-#[cfg(test)]
-mod tests;

@@ -21,8 +21,3 @@ mod words;
 
 pub use certificate::{Accepted, check, check_read};
 pub use refusal::Refusal;
-
-#[cfg(test)]
-mod tests;
-#[cfg(test)]
-mod words_tests;

@@ -23,10 +23,3 @@ pub use read_tap::ReadTap;
 pub use stay::Stay;
 pub use tap::received;
 pub use told::Received;
-
-#[cfg(test)]
-mod clients_tests;
-#[cfg(test)]
-mod recorded_tests;
-#[cfg(test)]
-mod tests;

@@ -17,6 +17,3 @@ mod swept;
 pub use laws::made_is_over;
 pub use maker::{MakeFault, make};
 pub use mentions::sessions;
-
-#[cfg(test)]
-mod tests;

@@ -1,0 +1,118 @@
+//! What clients' taps tell, as texts.
+use aud_client::{Clients, Frame, ReadTap, Received, Stay, received};
+use aud_node::{ClientTap, Logs};
+use std::alloc::{AllocError, Global};
+use std::test::Fail;
+
+/// The client's tap with this name.
+fn client<'a, 'b>(logs: &'b Logs<'a>, name: &str) -> Option<&'b ClientTap<'a>> {
+    logs.client(logs.place_of(name)?)
+}
+
+/// A line for each stay of the tap with this name, and then whether it has an orphan, and its first bad record.
+pub fn stays(alloc: Global, logs: &Logs<'_>, name: &str) -> Result<String, Fail> {
+    let tap = client(logs, name).ok_or("no such tap")?;
+    let told = received(alloc, tap, logs.stream())?;
+    let mut out = String::new(alloc);
+    write_stays(&mut out, &told)?;
+    Ok(out)
+}
+
+fn write_stays(out: &mut String, told: &Received<'_>) -> Result<(), AllocError> {
+    for stay in told.stays.iter() {
+        write_stay(out, stay)?;
+    }
+    if told.orphan {
+        writeln!(out, "orphan")?;
+    }
+    if let Some(number) = told.bad {
+        writeln!(out, "bad {number}")?;
+    }
+    Ok(())
+}
+
+/// The connection, the namespace, the reply's pid and sid, the pid and the offset that were asked for, and the
+/// positions of the frames.
+fn write_stay(out: &mut String, stay: &Stay<'_>) -> Result<(), AllocError> {
+    let (c, nsp) = (stay.c, stay.nsp);
+    write!(out, "{c} {nsp}")?;
+    if let Some(reply) = stay.reply.as_ref() {
+        let pid = reply.pid.as_deref().unwrap_or("nobody");
+        let sid = reply.sid.as_str();
+        write!(out, " reply {pid} {sid}")?;
+    }
+    if let Some(asked) = stay.asked.as_ref() {
+        let pid = asked.pid.as_str();
+        let offset = asked.offset.as_deref().unwrap_or("nowhere");
+        write!(out, " asked {pid} {offset}")?;
+    }
+    for frame in stay.frames.iter() {
+        let position = frame.position;
+        write!(out, " {position}")?;
+    }
+    writeln!(out, "")
+}
+
+/// A line for each frame of the tap with this name.
+pub fn frames(alloc: Global, logs: &Logs<'_>, name: &str) -> Result<String, Fail> {
+    let tap = client(logs, name).ok_or("no such tap")?;
+    let told = received(alloc, tap, logs.stream())?;
+    let mut out = String::new(alloc);
+    for stay in told.stays.iter() {
+        write_frames(&mut out, stay.frames.as_slice())?;
+    }
+    Ok(out)
+}
+
+/// Of each frame its position, its text, and how many bytes each attachment has, and which is the first.
+fn write_frames(out: &mut String, frames: &[Frame<'_>]) -> Result<(), AllocError> {
+    for frame in frames {
+        let (position, text) = (frame.position, frame.text);
+        write!(out, "{position} {text}")?;
+        for blob in frame.bin {
+            let bytes = blob.as_slice();
+            let (length, first) = (bytes.len(), bytes.first().copied().unwrap_or(0));
+            write!(out, " {length}:{first}")?;
+        }
+        writeln!(out, "")?;
+    }
+    Ok(())
+}
+
+/// A line for each stay of the tap with this name: whether its reply names the session, and whether it is recovered.
+pub fn recovered(alloc: Global, logs: &Logs<'_>, name: &str, pid: &str) -> Result<String, Fail> {
+    let tap = client(logs, name).ok_or("no such tap")?;
+    let told = received(alloc, tap, logs.stream())?;
+    let mut out = String::new(alloc);
+    for stay in told.stays.iter() {
+        let (names, recovered) = (stay.names(pid), stay.is_recovered());
+        writeln!(&mut out, "{names} {recovered}")?;
+    }
+    Ok(out)
+}
+
+/// How many stays the tap at this place has, and the connections of those that name the session.
+pub fn naming(alloc: Global, logs: &Logs<'_>, place: usize, pid: &str) -> Result<String, Fail> {
+    let clients = Clients::read(alloc, logs)?;
+    let mut out = String::new(alloc);
+    match clients.at(place) {
+        Some(told) => write_naming(&mut out, alloc, told, pid)?,
+        None => write!(&mut out, "no client")?,
+    }
+    Ok(out)
+}
+
+fn write_naming(
+    out: &mut String,
+    alloc: Global,
+    told: &ReadTap<'_>,
+    pid: &str,
+) -> Result<(), Fail> {
+    let count = told.received().stays.len();
+    write!(out, "{count} stays:")?;
+    for stay in told.naming(alloc, pid)? {
+        let c = stay.c;
+        write!(out, " {c}")?;
+    }
+    Ok(())
+}

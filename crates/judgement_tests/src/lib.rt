@@ -1,0 +1,24 @@
+//! Tests of what the crates from `aud_client` to `aud_check` make of a bundle: stays and frames, certificates, and
+//! the answers on them. Each is a row of a table: a bundle, what is asked of it, and the text of the answer.
+#![tactic(auto)]
+
+#[cfg(test)]
+mod asked;
+#[cfg(test)]
+mod certificates;
+#[cfg(test)]
+mod checks;
+#[cfg(test)]
+mod clients;
+#[cfg(test)]
+mod cluster;
+#[cfg(test)]
+mod judgements;
+#[cfg(test)]
+mod makers;
+#[cfg(test)]
+mod recordings;
+#[cfg(test)]
+mod stays;
+#[cfg(test)]
+mod words;
