@@ -51,9 +51,27 @@ impl Question for Asked {
 #[test]
 fn entries_for_a_session(rt: HostRuntime) -> Result<(), Fail> {
     let answers = [
-        (Asked { nsp: "/", left: &[] }, "true: 1 2"),
-        (Asked { nsp: "/chat", left: &[] }, "true:"),
-        (Asked { nsp: "/", left: &["r"] }, "false: 2"),
+        (
+            Asked {
+                nsp: "/",
+                left: &[],
+            },
+            "true: 1 2",
+        ),
+        (
+            Asked {
+                nsp: "/chat",
+                left: &[],
+            },
+            "true:",
+        ),
+        (
+            Asked {
+                nsp: "/",
+                left: &["r"],
+            },
+            "false: 2",
+        ),
     ];
     assert_answers(&rt, rt.alloc(), ENTRIES, &answers)
 }

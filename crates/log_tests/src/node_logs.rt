@@ -1,8 +1,9 @@
 //! Cursors, turns and the records of sessions in the nodes' logs.
 use crate::question::{Question, assert_answers};
-use aud_node::{Logs, NodeLog};
+use aud_node::{Logs, NodeLog, Recs};
 use aud_tap::NodeRec;
 use std::alloc::Global;
+use std::ops::Range;
 use std::test::Fail;
 
 /// The session `P` goes from `a` to `b` and back, twice. Node `c` takes an entry before an earlier one.
@@ -44,15 +45,16 @@ d {"k":"gone","pid":"Q"}
 d {"k":"gone","pid":"P"}
 "#;
 
-/// The cursors after the records, and whether these are in order.
-fn cursors_told(alloc: Global, log: &NodeLog<'_>) -> Result<String, Fail> {
+/// The cursors after the records, whether these are in order, and the numbers of those of the session `P`.
+fn log_told(alloc: Global, log: &NodeLog<'_>) -> Result<String, Fail> {
     let mut told = String::new(alloc);
     for number in 0..log.recs().len() {
         if let Some(cursor) = log.cursor_after(number) {
             write!(told, "{cursor} ")?;
         }
     }
-    write!(told, "in order {}", log.ordered())?;
+    let own = log.own("P");
+    write!(told, "in order {}, own {own:?}", log.ordered())?;
     Ok(told)
 }
 
@@ -64,17 +66,33 @@ fn record_told(rec: Option<&NodeRec>) -> (&'static str, u16) {
     }
 }
 
-/// The numbers of the records of the session's turn, and the records.
-fn turn_told(alloc: Global, log: &NodeLog<'_>, pid: &str, turn: u16) -> Result<String, Fail> {
-    let (Some(range), Some(recs)) = (log.turn_range(pid, turn), log.turn_of(pid, turn)) else {
-        return Ok(String::from_str(alloc, "none")?);
-    };
+/// The numbers of the records, and the records.
+fn records_told(alloc: Global, range: &Range<usize>, recs: &Recs<'_>) -> Result<String, Fail> {
     let mut told = format!(in alloc; "{}..{}", range.start, range.end)?;
     for number in 0..recs.len() {
         let (word, turn) = record_told(recs.get(number));
         write!(told, " {word} {turn}")?;
     }
     Ok(told)
+}
+
+/// The turn of the session `P` with this number.
+fn turn_told(alloc: Global, log: &NodeLog<'_>, turn: u16) -> Result<String, Fail> {
+    match (log.turn_range("P", turn), log.turn_of("P", turn)) {
+        (Some(range), Some(recs)) => records_told(alloc, &range, &recs),
+        _ => Ok(String::from_str(alloc, "none")?),
+    }
+}
+
+/// The places of the nodes that name the pid.
+fn nodes_told(alloc: Global, logs: &Logs<'_>, pid: &str) -> Result<String, Fail> {
+    let places = logs.nodes_of(pid);
+    Ok(format!(in alloc; "{places:?}")?)
+}
+
+fn place_told(alloc: Global, logs: &Logs<'_>, name: &str) -> Result<String, Fail> {
+    let place = logs.place_of(name);
+    Ok(format!(in alloc; "{place:?}")?)
 }
 
 /// The node's log with this name.
@@ -87,12 +105,10 @@ fn log_of<'l, 'a>(logs: &'l Logs<'a>, name: &str) -> Result<&'l NodeLog<'a>, Fai
 /// What is asked of the nodes' logs.
 #[derive(Clone, Copy)]
 enum Asked {
-    /// The cursors of a node.
-    Cursors(&'static str),
+    /// The log of a node.
+    Log(&'static str),
     /// The turn of the session `P` on a node.
     Turn(&'static str, u16),
-    /// The numbers of the records of `P` on a node.
-    Own(&'static str),
     /// The place of a name.
     Place(&'static str),
     /// The places of the nodes that name a pid.
@@ -102,11 +118,10 @@ enum Asked {
 impl Question for Asked {
     fn answer(&self, alloc: Global, logs: &Logs<'_>) -> Result<String, Fail> {
         match self {
-            Asked::Cursors(name) => cursors_told(alloc, log_of(logs, name)?),
-            Asked::Turn(name, turn) => turn_told(alloc, log_of(logs, name)?, "P", *turn),
-            Asked::Own(name) => Ok(format!(in alloc; "{:?}", log_of(logs, name)?.own("P"))?),
-            Asked::Place(name) => Ok(format!(in alloc; "{:?}", logs.place_of(name))?),
-            Asked::Nodes(pid) => Ok(format!(in alloc; "{:?}", logs.nodes_of(pid))?),
+            Asked::Log(name) => log_told(alloc, log_of(logs, name)?),
+            Asked::Turn(name, turn) => turn_told(alloc, log_of(logs, name)?, *turn),
+            Asked::Place(name) => place_told(alloc, logs, name),
+            Asked::Nodes(pid) => nodes_told(alloc, logs, pid),
         }
     }
 }
@@ -118,9 +133,11 @@ fn cursors_turns_and_sessions(rt: HostRuntime) -> Result<(), Fail> {
         (Asked::Place("a"), "Some(1)"),
         (Asked::Place("d"), "Some(4)"),
         (Asked::Place("e"), "None"),
-        (Asked::Cursors("a"), "0 0 0 1 1 2 3 3 3 4 in order true"),
-        (Asked::Cursors("c"), "0 0 0 1 in order false"),
-        (Asked::Own("a"), "[1, 2, 4, 7, 8]"),
+        (
+            Asked::Log("a"),
+            "0 0 0 1 1 2 3 3 3 4 in order true, own [1, 2, 4, 7, 8]",
+        ),
+        (Asked::Log("c"), "0 0 0 1 in order false, own []"),
         (Asked::Turn("a", 2), "7..9 back 2 break 2"),
         (Asked::Turn("b", 2), "none"),
         (Asked::Nodes("P"), "[1, 2, 4]"),

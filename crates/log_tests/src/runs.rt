@@ -21,8 +21,11 @@ const ENTRY: Step = Step { log: 0, index: 0 };
 
 /// The records of the node.
 const START: Step = Step { log: 1, index: 0 };
+
 const OPEN: Step = Step { log: 1, index: 1 };
+
 const JOIN: Step = Step { log: 1, index: 2 };
+
 const TAKE: Step = Step { log: 1, index: 3 };
 
 fn take<'a>(state: &mut State<'a>, logs: &Logs<'a>, step: &Step) -> Result<(), Fail> {
@@ -38,7 +41,10 @@ fn session_told(alloc: Global, state: &State<'_>) -> Result<String, Fail> {
     let session = state.session("P").ok_or("no session")?;
     let own = session.rooms.has("s1");
     let other = session.rooms.has("r");
-    Ok(format!(in alloc; "{:?}, turn {}, s1 {own}, r {other}", session.at, session.turn)?)
+    Ok(format!(in alloc;
+        "{:?}, turn {}, s1 {own}, r {other}",
+        session.at, session.turn
+    )?)
 }
 
 fn session_after(alloc: Global, logs: &Logs<'_>, steps: &[Step]) -> Result<String, Fail> {
