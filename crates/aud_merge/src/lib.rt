@@ -12,8 +12,6 @@ mod session;
 mod sessions;
 mod state;
 mod step;
-#[cfg(test)]
-mod tests;
 
 pub use laws::{
     allowed_stays, due_by_turns, no_run_where_blocked, reach_by_turns, session_by_turns,

@@ -33,12 +33,3 @@ pub use recoverable::is_event;
 pub use recs::Recs;
 pub use replies::{Reply, reply_of};
 pub use stream::Stream;
-
-#[cfg(test)]
-mod client_tests;
-#[cfg(test)]
-mod naming_tests;
-#[cfg(test)]
-mod stream_tests;
-#[cfg(test)]
-mod tests;

@@ -82,19 +82,17 @@ impl Holding {
         for interval in &self.ended {
             push_span(spans, room, *interval)?;
         }
-        if let Some(after) = self.since {
-            if after < covered {
-                push_span(
-                    spans,
-                    room,
-                    Interval {
-                        after,
-                        last: covered,
-                    },
-                )?;
-            }
+        match self.since {
+            Some(after) if after < covered => push_span(
+                spans,
+                room,
+                Interval {
+                    after,
+                    last: covered,
+                },
+            ),
+            _ => Ok(()),
         }
-        Ok(())
     }
 }
 

@@ -24,10 +24,3 @@ pub use room_set::RoomSet;
 pub use span::Span;
 pub use turn_place::TurnPlace;
 pub use turn_spans::spans_of_turns;
-
-#[cfg(test)]
-mod due_tests;
-#[cfg(test)]
-mod tests;
-#[cfg(test)]
-mod turn_tests;
