@@ -9,8 +9,8 @@ use Rattle.aud_tap.specs.declared.line.Line.{Line}
 use Rattle.aud_node.specs.Stream.{Text}
 use Rattle.aud_node.specs.Cluster.{Cluster, cluster_of}
 use Rattle.aud_maker.specs.Sessions.{sessions_of}
-use Rattle.aud_app.specs.declared.choice.Mode.{Mode}
-use Rattle.aud_app.specs.declared.choice.Mode.TheVariants.{Audit, Prove, Verify}
+use Rattle.aud_options.specs.declared.choice.Mode.{Mode}
+use Rattle.aud_options.specs.declared.choice.Mode.TheVariants.{Audit, Prove, Verify}
 use Rattle.aud_app.specs.declared.input.Layout.{Layout}
 use Rattle.aud_app.specs.declared.input.Layout.TheVariants.{Bundle, BundleAndCertificates}
 use Rattle.aud_app.specs.declared.program.Status.{Status}

@@ -6,7 +6,6 @@ ghost use Rattle.aud_app.specs.Output.{status_of, report_of, refusal_of, proving
 
 use crate::answer::Answered;
 use crate::certificate_lines::{are_all_accepted, are_all_shown, prove_text, verify_text};
-use crate::choice::Mode;
 use crate::input::{Input, Layout, read_input};
 use crate::program::Status;
 use crate::report::{are_all_yes, refusal_text, report_text};
@@ -15,6 +14,7 @@ use crate::verdict::Entry;
 use crate::verify::answers;
 use aud_client::Clients;
 use aud_node::Logs;
+use aud_options::Mode;
 use aud_tap::{InputCode, Line, ReadFault, Text};
 use std::alloc::{AllocError, Global};
 use std::marker::Model;
