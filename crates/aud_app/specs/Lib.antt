@@ -8,4 +8,4 @@ pub mod CertificateLines
 pub mod Verified
 pub mod Decided
 pub mod Output
-pub mod Words
+pub use Rattle.aud_options.specs.Words

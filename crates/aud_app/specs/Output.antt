@@ -9,8 +9,8 @@ use Rattle.aud_reader.specs.declared.line.Line.{Line}
 use Rattle.aud_node.specs.Stream.{Text}
 use Rattle.aud_node.specs.Cluster.{Cluster, cluster_of}
 use Rattle.aud_maker.specs.Sessions.{sessions_of}
-use Rattle.aud_app.specs.declared.choice.Mode.{Mode}
-use Rattle.aud_app.specs.declared.choice.Mode.TheVariants.{Audit, Prove, Verify}
+use Rattle.aud_options.specs.declared.choice.Mode.{Mode}
+use Rattle.aud_options.specs.declared.choice.Mode.TheVariants.{Audit, Prove, Verify}
 use Rattle.aud_app.specs.declared.input.Layout.{Layout}
 use Rattle.aud_app.specs.declared.input.Layout.TheVariants.{Bundle, BundleAndCertificates}
 use Rattle.aud_app.specs.declared.program.Status.{Status}
@@ -62,11 +62,15 @@ IsProving c output = (proofs : List (Option Text)) × AreProofs c (sessions_of c
 abbrev pub IsVerification : Cluster → List Line → OutputSeen → Type 0
 IsVerification c certificates output = (answers : List Answered) × AreAnswered c certificates answers × (output ≡ verification_of answers)
 
+-- the output of a mode over these logs and certificates
+abbrev pub IsOutputOn : Mode → Cluster → List Line → OutputSeen → Type 0
+IsOutputOn Audit c certificates output = IsReport c output
+IsOutputOn Prove c certificates output = IsProving c output
+IsOutputOn Verify c certificates output = IsVerification c certificates output
+
 -- the output of a mode over what was read
 abbrev pub IsOutputOver : Mode → Result InputSeen ReadFault → OutputSeen → Type 0
-IsOutputOver Audit (Ok input) output = IsReport (cluster_of input.taps) output
-IsOutputOver Prove (Ok input) output = IsProving (cluster_of input.taps) output
-IsOutputOver Verify (Ok input) output = IsVerification (cluster_of input.taps) input.certificates output
+IsOutputOver mode (Ok input) output = IsOutputOn mode (cluster_of input.taps) input.certificates output
 IsOutputOver mode (Err (Input n code)) output = output ≡ refusal_of n code
 IsOutputOver mode (Err Memory) output = ⊥
 

@@ -6,7 +6,6 @@
 
 mod answer;
 mod certificate_lines;
-mod choice;
 mod input;
 mod judge;
 mod output;
@@ -14,14 +13,10 @@ mod program;
 mod report;
 mod sessions;
 mod streams;
-#[cfg(test)]
-mod tests;
 mod verdict;
 mod verify;
 mod watched;
-mod words;
 
-pub use choice::{Mode, Options};
+pub use aud_options::{Mode, Options, options};
 pub use program::{RunFault, Status, run};
 pub use watched::Watched;
-pub use words::options;

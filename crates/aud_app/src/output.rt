@@ -2,11 +2,10 @@
 ghost use Rattle.std.specs.Prelude.{◌≡◌, IfOk, Ok};
 ghost use Rattle.aud_node.specs.Names.{AreNamedOnce};
 ghost use Rattle.aud_client.specs.Clients.{clients_of};
-ghost use Rattle.aud_app.specs.Output.{status_of, report_of, refusal_of, proving_of, verification_of, IsReport, IsProving, IsVerification, IsOutputOver, IsOutput, layout_of};
+ghost use Rattle.aud_app.specs.Output.{status_of, report_of, refusal_of, proving_of, verification_of, IsReport, IsProving, IsVerification, IsOutputOn, IsOutputOver, IsOutput, layout_of};
 
 use crate::answer::Answered;
 use crate::certificate_lines::{are_all_accepted, are_all_shown, prove_text, verify_text};
-use crate::choice::Mode;
 use crate::input::{Input, Layout, read_input};
 use crate::program::Status;
 use crate::report::{are_all_yes, refusal_text, report_text};
@@ -15,6 +14,7 @@ use crate::verdict::Entry;
 use crate::verify::answers;
 use aud_client::Clients;
 use aud_node::Logs;
+use aud_options::Mode;
 use aud_reader::{InputCode, Line, ReadFault};
 use aud_tap::Text;
 use std::alloc::{AllocError, Global};
@@ -129,6 +129,25 @@ fn layout_of(mode: Mode) -> Layout
     }
 }
 
+/// What a mode writes over these logs and certificates.
+fn output_on(
+    alloc: Global,
+    mode: Mode,
+    logs: &Logs<'_>,
+    clients: &Clients<'_>,
+    certificates: &[Line],
+) -> Result<Output, AllocError>
+    requires names { AreNamedOnce logs.now.taps }
+    requires clients { clients.now ≡ clients_of logs.now }
+    ensures { IfOk result (λ o. IsOutputOn mode logs.now certificates.now o) }
+{
+    match mode {
+        Mode::Audit => audited(alloc, logs, clients),
+        Mode::Prove => proved(alloc, logs, clients),
+        Mode::Verify => verified(alloc, logs, clients, certificates),
+    }
+}
+
 /// What a mode writes for the taps and the certificates of its input.
 fn output_over(alloc: Global, mode: Mode, input: &Input) -> Result<Output, AllocError>
     requires { AreNamedOnce input.now.taps }
@@ -140,11 +159,7 @@ fn output_over(alloc: Global, mode: Mode, input: &Input) -> Result<Output, Alloc
     let Ok(clients) = Clients::read(alloc, &logs) else {
         return Err(AllocError);
     };
-    match mode {
-        Mode::Audit => audited(alloc, &logs, &clients),
-        Mode::Prove => proved(alloc, &logs, &clients),
-        Mode::Verify => verified(alloc, &logs, &clients, &input.certificates),
-    }
+    output_on(alloc, mode, &logs, &clients, &input.certificates)
 }
 
 /// What a mode writes for these bytes; nothing but these bytes is looked at. They are let go before the logs are made.

@@ -3,10 +3,10 @@ ghost use Rattle.std.specs.Prelude.{◌≡◌, ◌≤◌, ◌<◌, ◌⊎◌, tr
 ghost use Rattle.aud_app.specs.Watched.{inner_of, calls_of, has_failed};
 ghost use Rattle.aud_app.specs.Output.{IsOutputOf, Writes, WritesFront};
 
-use crate::choice::Options;
 use crate::output::{Output, output_of};
 use crate::streams::{READ_LIMIT, read_all, write_out};
 use crate::watched::Watched;
+use aud_options::Options;
 use std::alloc::{AllocError, Global};
 use std::io::{Read, Write};
 use std::sync::Wait;

@@ -3,7 +3,7 @@ ghost use Rattle.std.specs.Prelude.{◌≡◌, IfOk, map, string_bytes};
 ghost use Rattle.aud_maker.specs.Sessions.{sessions_of};
 ghost use Rattle.aud_node.specs.Names.{AreNamedOnce};
 ghost use Rattle.aud_client.specs.Clients.{clients_of};
-ghost use Rattle.aud_app.specs.Decided.{AreVerdicts, IsProof, AreProofs};
+ghost use Rattle.aud_app.specs.Decided.{IsEntry, AreVerdicts, IsProof, AreProofs};
 
 use crate::judge::{Judged, judge, verdict};
 use crate::verdict::Entry;
@@ -13,6 +13,22 @@ use aud_maker::sessions;
 use aud_node::Logs;
 use aud_tap::Text;
 use std::alloc::{AllocError, Global};
+
+/// The answer on a session.
+fn entry(
+    alloc: Global,
+    logs: &Logs<'_>,
+    clients: &Clients<'_>,
+    pid: &str,
+) -> Result<Entry, AllocError>
+    requires names { AreNamedOnce logs.now.taps }
+    requires clients { clients.now ≡ clients_of logs.now }
+    ensures { IfOk result (λ entry. IsEntry logs.now pid.now entry) }
+{
+    let name = Text::new(String::from_str(alloc, pid)?);
+    let verdict = verdict(alloc, logs, clients, pid)?;
+    Ok(Entry { pid: name, verdict })
+}
 
 /// The verdicts on these sessions, one for each, in order.
 fn verdicts(
@@ -27,9 +43,7 @@ fn verdicts(
 {
     let mut all = Vec::new(alloc);
     for pid in pids {
-        let verdict = verdict(alloc, logs, clients, pid.as_str())?;
-        let pid = Text::new(String::from_str(alloc, pid.as_str())?);
-        all.push(Entry { pid, verdict })?;
+        all.push(entry(alloc, logs, clients, pid.as_str())?)?;
     }
     Ok(all)
 }

@@ -1,6 +1,7 @@
 //! Questions on the logs of a bundle.
 use aud_node::Logs;
-use aud_tap::{Bytes, Line, Taps, read_bundle};
+use aud_reader::{Line, read_bundle};
+use aud_tap::{Bytes, Taps};
 use std::alloc::Global;
 use std::process::Abort;
 use std::test::Fail;

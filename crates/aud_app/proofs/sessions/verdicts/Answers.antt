@@ -1,4 +1,4 @@
-use Rattle.std.proofs.Common.{◌≡◌, ◌∙◌, string_bytes}
+use Rattle.std.proofs.Common.{string_bytes}
 use Rattle.std.proofs.lemmas.List.{take_more}
 use Rattle.aud_app.specs.Decided.{IsEntry}
 use Rattle.aud_app.proofs.EachLemmas.{one_more-map}
@@ -7,6 +7,5 @@ use Rattle.aud_app.proofs.sessions.verdicts.Goals as goal
 pub loop-pid-preserved : goal.loop-pid-preserved
 loop-pid-preserved c =
     let front = take_more c.args.pids.now c.loop-pid.pid-index c.pid-item.result c.loop-pid-test.true in
-    let named : c.new-pid.result ≡ string_bytes c.pid-item.result = c.new-pid.ensures ∙ c.in_ok-from_str.ensures.ok ∙ c.as_str-in-loop-pid.ensures.value in
-    let verdict = rw c.as_str.ensures.value at c.in_ok-verdict.ensures in
-    rw (front, ← c.pid-item.is, c.in_ok-push.ensures.items) (one_more-map (IsEntry c.args.logs.now) string_bytes _ _ c.pid-item.result _ c.loop-pid.invariant (named, verdict))
+    let entry = rw c.as_str.ensures.value at c.in_ok-entry.ensures in
+    rw (front, ← c.pid-item.is, c.in_ok-push.ensures.items) (one_more-map (IsEntry c.args.logs.now) string_bytes _ _ c.pid-item.result _ c.loop-pid.invariant entry)

@@ -1,11 +1,11 @@
 //! The words of the command line.
 ghost use Rattle.std.specs.Prelude.{◌≡◌, ◌≤◌, Some, IfOk, IfSome};
-ghost use Rattle.aud_app.specs.Words.{mode_named, mode_of};
+ghost use Rattle.aud_options.specs.Words.{mode_named, mode_of};
 
 use crate::choice::{Mode, Options};
 use clap::error::ErrorKind;
 use clap::{Arg, ArgMatches, Command, Error, value_parser};
-use std::alloc::Global;
+use std::alloc::{AllocError, Global};
 
 const ABOUT: &str = "Audits what the sessions of a Socket.IO cluster received";
 
@@ -26,7 +26,7 @@ const PROVE_ABOUT: &str =
 
 const PROVE_LINES: &str = "\
 A certificate is a line of JSON: the session and its client's tap, its turns on the nodes, and
-the rooms that it held at which positions. Put behind the bundle's lines, `verify` accepts it.
+the rooms that it held at which positions. Put after the bundle's lines, `verify` accepts it.
 The sessions that audit answers no have no line, and the exit status is then 1.";
 
 const VERIFY_ABOUT: &str =
@@ -46,34 +46,31 @@ Each session has a line, and the last line counts them:
   no <pid> <fault>
   sessions=<n> yes=<n> no=<n>";
 
-/// The words that are understood.
-fn command<'a>(alloc: Global) -> Result<Command<'a>, Error> {
+/// A command of this name: what it does, and what its help says at the end.
+fn described<'a>(alloc: Global, name: &'a str, about: &'a str, lines: &'a str) -> Command<'a> {
+    Command::new(alloc, name).about(about).after_help(lines)
+}
+
+/// The command `audit` and its option.
+fn audit<'a>(alloc: Global) -> Result<Command<'a>, AllocError> {
     let workers = Arg::new(alloc, "workers")
         .long("workers")
         .value_name("N")
         .help("Threads that audit, 1 to 64")
         .value_parser(value_parser!(u8).range(1..65))
         .default_value("4");
-    let audit = Command::new(alloc, "audit")
-        .about(AUDIT_ABOUT)
-        .after_help(AUDIT_LINES)
-        .arg(workers)?;
-    let prove = Command::new(alloc, "prove")
-        .about(PROVE_ABOUT)
-        .after_help(PROVE_LINES);
-    let verify = Command::new(alloc, "verify")
-        .about(VERIFY_ABOUT)
-        .after_help(VERIFY_LINES);
-    let command = Command::new(alloc, "sioaudit")
-        .about(ABOUT)
-        .after_help(STATUSES)
+    described(alloc, "audit", AUDIT_ABOUT, AUDIT_LINES).arg(workers)
+}
+
+/// The words that are understood.
+fn command<'a>(alloc: Global) -> Result<Command<'a>, AllocError> {
+    described(alloc, "sioaudit", ABOUT, STATUSES)
         .no_binary_name(true)
-        .bin_name("sioaudit")?
         .subcommand_required(true)
-        .subcommand(audit)?
-        .subcommand(prove)?
-        .subcommand(verify)?;
-    Ok(command)
+        .bin_name("sioaudit")?
+        .subcommand(audit(alloc)?)?
+        .subcommand(described(alloc, "prove", PROVE_ABOUT, PROVE_LINES))?
+        .subcommand(described(alloc, "verify", VERIFY_ABOUT, VERIFY_LINES))
 }
 
 /// The mode of this name.
@@ -115,23 +112,40 @@ fn workers_of(matches: &ArgMatches<'_>) -> Option<u8>
     }
 }
 
+/// What the parser finds in these words.
+fn matches_of<'a>(alloc: Global, words: &'a [&'a str]) -> Result<ArgMatches<'a>, Error> {
+    let command = command(alloc)?;
+    command.try_get_matches_from(words)
+}
+
+/// The error on words that the parser lets pass, and that name no command or no number of workers from 1 to 64.
+fn not_understood(alloc: Global) -> Result<Error, AllocError> {
+    let mut command = command(alloc)?;
+    command.error(ErrorKind::InvalidSubcommand, "there is no such command")
+}
+
+/// What these words, whose matches are lent, ask for.
+fn chosen(words: &[&str], matches: &ArgMatches<'_>) -> Option<Options>
+    ensures mode { IfSome result (λ o. mode_of words.now ≡ Some o.mode) }
+    ensures workers { IfSome result (λ o. (1 ≤ o.workers) × (o.workers ≤ 64)) }
+{
+    let mode = mode_of(words)?;
+    let workers = match mode {
+        Mode::Audit => workers_of(matches)?,
+        Mode::Prove | Mode::Verify => 1,
+    };
+    Some(Options { mode, workers })
+}
+
 /// What the words after the program's name ask for. The error has the text to print: help that
 /// was asked for, or why the words are refused; where memory ran out its kind is `OutOfMemory`.
 pub fn options<'a>(alloc: Global, words: &'a [&'a str]) -> Result<Options, Error>
     ensures mode { IfOk result (λ o. mode_of words.now ≡ Some o.mode) }
     ensures workers { IfOk result (λ o. (1 ≤ o.workers) × (o.workers ≤ 64)) }
 {
-    let mut command = command(alloc)?;
-    let matches = command.try_get_matches_from_mut(words)?;
-    let Some(mode) = mode_of(words) else {
-        return Err(command.error(ErrorKind::InvalidSubcommand, "there is no such command")?);
-    };
-    let workers = match mode {
-        Mode::Audit => workers_of(&matches),
-        Mode::Prove | Mode::Verify => Some(1),
-    };
-    match workers {
-        Some(workers) => Ok(Options { mode, workers }),
-        None => Err(command.error(ErrorKind::InvalidValue, "workers are 1 to 64")?),
+    let matches = matches_of(alloc, words)?;
+    match chosen(words, &matches) {
+        Some(options) => Ok(options),
+        None => Err(not_understood(alloc)?),
     }
 }

@@ -1,0 +1,14 @@
+//! Tests of the auditor as its program calls it: runs over memory, readers and writers that fail, and the words of
+//! the command line.
+#![tactic(auto)]
+
+#[cfg(test)]
+mod bundles;
+#[cfg(test)]
+mod failing;
+#[cfg(test)]
+mod runs;
+#[cfg(test)]
+mod streams;
+#[cfg(test)]
+mod words;

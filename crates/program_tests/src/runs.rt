@@ -1,0 +1,152 @@
+//! Runs over memory: what a word of the command line makes of a bundle, and of certificates after it.
+use crate::bundles::{
+    B_WITHOUT_SECOND_EVENT, BUNDLE_A, BUNDLE_B, CUT, LATER_HEADER, NOT_DUE, PROOF_A, REPORT_A,
+    STREAM_HEADER,
+};
+use aud_app::{Status, Watched, options, run};
+use std::alloc::{AllocError, Global};
+use std::sync::Wait;
+use std::test::Fail;
+use std::thread::Threads;
+
+/// Whether the run for this word over an input ends so, and writes this text.
+fn gives<H: Wait + Threads>(
+    rt: &H,
+    alloc: Global,
+    word: &str,
+    input: &[u8],
+    text: &str,
+    status: Status,
+) -> Result<bool, Fail> {
+    let options = options(alloc, &[word])?;
+    let mut input = Watched::new(input);
+    let mut output = Watched::new(Vec::new(alloc));
+    let outcome = run(rt, alloc, &mut input, &mut output, options);
+    Ok(outcome == Ok(status) && output.into_inner().as_slice() == text.as_bytes())
+}
+
+/// A bundle, and certificates after it.
+fn with_certificates(
+    alloc: Global,
+    bundle: &str,
+    certificates: &str,
+) -> Result<Vec<u8>, AllocError> {
+    let mut bytes = bundle.as_bytes().to_vec(alloc)?;
+    bytes.extend_from_slice(certificates.as_bytes())?;
+    Ok(bytes)
+}
+
+#[test]
+fn outputs(rt: HostRuntime) -> Result<(), Fail> {
+    for (word, bundle, certificates, text, status) in [
+        ("audit", "", "", "sessions=0 yes=0 no=0\n", Status::AllYes),
+        ("audit", BUNDLE_A, "", REPORT_A, Status::AllYes),
+        (
+            "audit",
+            NOT_DUE,
+            "",
+            "no P EXTRA 1-0\nsessions=1 yes=0 no=1\n",
+            Status::SomeNo,
+        ),
+        ("audit", CUT, "", "line 7: NotJson\n", Status::Refused),
+        ("audit", "{}\n", "", "line 1: NoTapName\n", Status::Refused),
+        ("prove", BUNDLE_A, "", PROOF_A, Status::AllYes),
+        ("prove", NOT_DUE, "", "", Status::SomeNo),
+        ("prove", "", "", "", Status::AllYes),
+        (
+            "verify",
+            BUNDLE_A,
+            PROOF_A,
+            "ok 12 P got=1 tail=0 turns=1\ncerts=1 ok=1 bad=0\n",
+            Status::AllYes,
+        ),
+        (
+            "verify",
+            BUNDLE_B,
+            r#"{"client":"c1","pid":"P","spans":[["r",1,2],["s1",1,2]],"turns":[["a",1,5,0,1],["b",3,4,2,2]]}"#,
+            "ok 25 P got=2 tail=0 turns=2\ncerts=1 ok=1 bad=0\n",
+            Status::AllYes,
+        ),
+        (
+            "verify",
+            BUNDLE_B,
+            r#"{"client":"c1","pid":"P","spans":[["r",1,3],["s1",1,2]],"turns":[["a",1,5,0,1],["b",3,4,2,2]]}"#,
+            "bad 25 K9 Span\ncerts=1 ok=0 bad=1\n",
+            Status::SomeNo,
+        ),
+        (
+            "verify",
+            BUNDLE_B,
+            r#"{"client":"c1","pid":"P","spans":[["r",1,2],["s1",1,2]],"turns":[["a",1,4,0,1],["b",3,4,2,2]]}"#,
+            "bad 25 K7 NoEnd\ncerts=1 ok=0 bad=1\n",
+            Status::SomeNo,
+        ),
+        (
+            "verify",
+            BUNDLE_B,
+            r#"{"client":"c1","pid":"P","spans":[["r",1,1],["s1",1,1]],"turns":[["a",1,5,0,1]]}"#,
+            "bad 25 K11 Received EXTRA 2-0\ncerts=1 ok=0 bad=1\n",
+            Status::SomeNo,
+        ),
+        (
+            "verify",
+            B_WITHOUT_SECOND_EVENT,
+            r#"{"client":"c1","pid":"P","spans":[["r",1,1],["s1",1,1]],"turns":[["a",1,5,0,1]]}"#,
+            "ok 24 P got=1 tail=0 turns=1\ncerts=1 ok=1 bad=0\n",
+            Status::AllYes,
+        ),
+    ] {
+        let input = with_certificates(rt.alloc(), bundle, certificates)?;
+        let is_so = gives(&rt, rt.alloc(), word, &input, text, status)?;
+        assert!(rt; is_so, "{word}: {text}");
+    }
+    Ok(())
+}
+
+/// A text, and after it a line with blanks up to so many bytes.
+fn with_padded(
+    alloc: Global,
+    text: &str,
+    line: &str,
+    length: usize,
+) -> Result<Vec<u8>, AllocError> {
+    let mut bytes = text.as_bytes().to_vec(alloc)?;
+    bytes.extend_from_slice(line.as_bytes())?;
+    for _ in line.len()..length {
+        bytes.push(b' ')?;
+    }
+    Ok(bytes)
+}
+
+#[test]
+fn a_line_of_4194304_bytes_is_read(rt: HostRuntime) -> Result<(), Fail> {
+    for (text, line, length, output, status) in [
+        (
+            "",
+            STREAM_HEADER,
+            4_194_304,
+            "sessions=0 yes=0 no=0\n",
+            Status::AllYes,
+        ),
+        (
+            "",
+            STREAM_HEADER,
+            4_194_305,
+            "line 1: LineTooLong\n",
+            Status::Refused,
+        ),
+        ("", "{", 4_194_305, "line 1: LineTooLong\n", Status::Refused),
+        (
+            LATER_HEADER,
+            "{",
+            4_194_305,
+            "line 1: Version\n",
+            Status::Refused,
+        ),
+    ] {
+        let input = with_padded(rt.alloc(), text, line, length)?;
+        let is_so = gives(&rt, rt.alloc(), "audit", &input, output, status)?;
+        assert!(rt; is_so, "{length}: {output}");
+    }
+    Ok(())
+}
