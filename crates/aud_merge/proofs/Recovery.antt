@@ -48,7 +48,7 @@ abbrev Sessions : Type 0
 Sessions = fin.FinMap (slice_cmp nat_cmp) Session
 
 -- the rooms of the session, once it has joined one
-abbrev held : Rooms
+abbrev pub held : Rooms
 held = set.insert (own_room who.sid) (codes "r")
 
 abbrev opened : Sessions
@@ -148,19 +148,19 @@ unfolding is_recoverable packet_of kind_at attachments_at namespace_at id_at pay
 second_is_recoverable = refl
 
 -- the session is in the room
-in_room : set.contains held (codes "r") ≡ true
+pub in_room : set.contains held (codes "r") ≡ true
 in_room = set.contains-insert nat_list_cmp_total (own_room who.sid) (codes "r") (codes "r")
 
 is_for_it : (off text : Text) → is_recoverable (event off text) ≡ true → is_for (Some (event off text)) who.nsp held ≡ true
 is_for_it off text recoverable = rw (recoverable, in_room) refl
 
-due_by_them : turns_due logs.stream who (map (slice_of logs) turns) ≡ 1 ∷ 2 ∷ []
-due_by_them =
+pub due_by_turns : turns_due logs.stream who (map (slice_of logs) turns) ≡ 1 ∷ 2 ∷ []
+due_by_turns =
     ap (λ b. cond b (1 ∷ cond (is_for (Some (event (codes "2-0") (codes "2[\"hi\",\"2-0\"]"))) who.nsp held) (2 ∷ []) []) (cond (is_for (Some (event (codes "2-0") (codes "2[\"hi\",\"2-0\"]"))) who.nsp held) (2 ∷ []) [])) (is_for_it _ _ first_is_recoverable)
     ∙ ap (λ b. 1 ∷ cond b (2 ∷ []) []) (is_for_it _ _ second_is_recoverable)
 
 pub both_are_due : due logs run who.pid ≡ 1 ∷ 2 ∷ []
-both_are_due = due-chain logs run who turns is_run chain ∙ due_by_them
+both_are_due = due-chain logs run who turns is_run chain ∙ due_by_turns
 
 -- the session is on the first node as that takes the first event
 pub first_is_live : FallsAfter run (reach logs run who.pid 1) (Some live_take)

@@ -1,5 +1,4 @@
--- A cluster of two nodes in which a session is recovered, and a run of it: what the laws ask for can be met. It is the
--- cluster of examples/bundle_b.jsonl.
+-- A cluster of two nodes in which a session is recovered, and a run of it: examples/bundle_b.jsonl.
 use Rattle.std.specs.Prelude.{ℕ, List, [], ◌∷◌, None, codes}
 use Rattle.aud_tap.specs.declared.records.StreamRec.{StreamRec}
 use Rattle.aud_tap.specs.declared.records.StreamRec.TheVariants.{Ev}
@@ -47,7 +46,7 @@ client =
     ∷ TextIn (codes "42[\"hi\",\"2-0\"]")
     ∷ TextIn (codes "40{\"sid\":\"s1\",\"pid\":\"P\"}") ∷ []
 
--- the positions of the events that the client got, in its order
+-- the positions of the events that the client received, in its order
 abbrev pub received : List ℕ
 received = 1 ∷ 2 ∷ []
 

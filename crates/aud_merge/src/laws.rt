@@ -73,8 +73,9 @@ pub fn allowed_stays()
         → (last : State) × (after c behind_s x ≡ Some last) }
 {}
 
-/// There are runs: in this cluster a session is recovered on another node. Two events are due to it in this run, one that
-/// its node takes while it is there, and one that it is sent as it comes back; what its client got is a front of them.
+/// What the laws tell of every run is said of something: this cluster, in which a session is recovered on another node,
+/// has this run. Two events are due to the session, one that its node takes while it is there, and one that was taken
+/// before it comes back; what its client received is a front of them.
 pub fn run_with_recovery()
     ensures is_run { IsRun recovery.logs recovery.run }
     ensures is_chain { IsChain recovery.logs recovery.who recovery.turns }
