@@ -15,3 +15,4 @@ pub mod Refusals
 pub mod Words
 pub use Rattle.aud_client.specs.Clients
 pub mod Answer
+pub mod Recovery

@@ -8,6 +8,7 @@ mod client;
 mod compare;
 mod content;
 mod due;
+mod law;
 mod place;
 mod received;
 mod refusal;
@@ -20,4 +21,5 @@ mod window;
 mod words;
 
 pub use certificate::{Accepted, check, check_read};
+pub use law::recovery_is_accepted;
 pub use refusal::Refusal;

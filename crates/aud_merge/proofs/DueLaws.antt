@@ -12,8 +12,8 @@ use Rattle.aud_node.specs.Stream.{Text, entry, positions_after}
 use Rattle.aud_rooms.specs.Rooms.{Rooms, own_room}
 use Rattle.aud_rooms.specs.Turns.{Who, Turn, Slice, slice_of, AreTurns, HasNoTurn}
 use Rattle.aud_rooms.specs.TurnsDue.{rooms_at_take, rooms_at_end, rooms_for, is_past_first, is_for_rooms, is_turn_due, turns_due, greatest_high}
-use Rattle.aud_merge.specs.ByTurns.{IsPrefixOf, reaching_step, FallsAfter}
-use Rattle.aud_merge.specs.Due.{cursor_of, node_cursor, is_at_least, is_reached, states_from, states, reach, session_at, birth, is_past, is_for_session, is_due, due}
+use Rattle.aud_merge.specs.ByTurns.{IsPrefixOf, reaching_step, FallsAfter, rooms_given, HasRooms}
+use Rattle.aud_merge.specs.Due.{cursor_of, node_cursor, is_at_least, is_reached, states_from, states, reach, session_at_reach, birth, is_past, is_for_session, is_due, due}
 use Rattle.aud_merge.specs.declared.step.Step.{Step}
 use Rattle.aud_merge.specs.Machine.{State, start, after, session_of, taken_of}
 use Rattle.aud_merge.specs.Runs.{IsRun, RunsOn}
@@ -23,7 +23,7 @@ use Rattle.aud_merge.proofs.Moves.{Named, Quiet, moved, Synced, Synced-step, Syn
 use Rattle.aud_merge.proofs.Phases.{Unstarted, length-count, Out, Waiting}
 use Rattle.aud_merge.proofs.Spots.{Settled}
 use Rattle.aud_merge.proofs.PhaseSteps.{begun_at, out_stays, reached-here}
-use Rattle.aud_merge.proofs.Judged.{first_index-find, first_index-find-map, Agrees, agrees, falls}
+use Rattle.aud_merge.proofs.Judged.{first_index-find, first_index-find-map, agrees, falls}
 
 find-first : (c : Cluster) (test : State → Bool) (st : State) (steps : List Step) → test st ≡ true → find test (states_from c st steps) ≡ Some st
 find-first c test st [] e = ap (λ b. cond b (Some st) None) e
@@ -79,33 +79,36 @@ at_start c who turns are =
       unstarted = Unstarted-start c turns;
     }
 
-for_agrees : (who : Who) (at : Option StreamRec) (session : Option Session) (rooms : Option Rooms) → Agrees who session rooms → is_for_session at session ≡ is_for_rooms at who.nsp rooms
-for_agrees who at None None a = refl
-for_agrees who at (Some session) (Some held) a = ap (λ s. is_for_session at (Some s)) a.2
-for_agrees who at None (Some held) a = absurd a
-for_agrees who at (Some session) None a = absurd a
+-- WHEN THE SESSION FIRST REACHES p, it has the rooms that the turns give it, if they settle it
+pub rooms-turns : (c : Cluster) (run : List Step) (who : Who) (turns : List Turn) → IsRun c run → AreTurns c who 0 turns
+    → (p : ℕ) → Settled c who (length turns) (rooms_given c who turns p)
+    → HasRooms who (session_at_reach c run who.pid p) (rooms_given c who turns p)
+rooms-turns c run who turns is are p settled =
+    subst (λ s. HasRooms who s (rooms_given c who turns p)) (sym (first_index-find-map (is_reached who.pid p) (λ s. session_of s who.pid) (states c run)))
+    (agrees c who (length turns) p run (start c) (Waiting 0 (own_room who.sid) turns) (omega arith, at_start c who turns are) (RunsOn-run c run is) (Synced-start c) settled)
 
-abbrev rooms_at_reach : Cluster → List Step → Who → ℕ → Bool
-rooms_at_reach c run who p = is_for_session (entry c.stream p) (option_and_then (session_at c run who.pid) (reach c run who.pid p))
+-- so an entry is for the session there where it is for those rooms
+for_rooms : (who : Who) (at : Option StreamRec) (session : Option Session) (rooms : Option Rooms) → HasRooms who session rooms → is_for_session at session ≡ is_for_rooms at who.nsp rooms
+for_rooms who at session None none = ap (is_for_session at) none
+for_rooms who at session (Some held) here = ap (is_for_session at) here.2
 
--- the rooms at the moment that reaches p are those of the turns
-same_rooms : (c : Cluster) (run : List Step) (who : Who) (turns : List Turn) → IsRun c run → AreTurns c who 0 turns
-    → (p : ℕ) → Settled c who (length turns) (rooms_for c.stream who.pid (own_room who.sid) (map (slice_of c) turns) p)
-    → rooms_at_reach c run who p ≡ is_for_rooms (entry c.stream p) who.nsp (rooms_for c.stream who.pid (own_room who.sid) (map (slice_of c) turns) p)
-same_rooms c run who turns is are p settled =
-    ap (is_for_session (entry c.stream p)) (first_index-find-map (is_reached who.pid p) (λ s. session_of s who.pid) (states c run))
-    ∙ for_agrees who (entry c.stream p) _ _ (agrees c who (length turns) p run (start c) (Waiting 0 (own_room who.sid) turns) (omega arith, at_start c who turns are) (RunsOn-run c run is) (Synced-start c) settled)
+for_given : (c : Cluster) (run : List Step) (who : Who) (turns : List Turn) → IsRun c run → AreTurns c who 0 turns
+    → (p : ℕ) → Settled c who (length turns) (rooms_given c who turns p)
+    → is_for_session (entry c.stream p) (session_at_reach c run who.pid p) ≡ is_for_rooms (entry c.stream p) who.nsp (rooms_given c who turns p)
+for_given c run who turns is are p settled =
+    for_rooms who (entry c.stream p) (session_at_reach c run who.pid p) (rooms_given c who turns p) (rooms-turns c run who turns is are p settled)
 
 -- a position is due in the run where it is due by the turns, if they settle it
 pub due_at : (c : Cluster) (run : List Step) (who : Who) (turns : List Turn) → IsRun c run → AreTurns c who 0 turns
-    → (p : ℕ) → Settled c who (length turns) (rooms_for c.stream who.pid (own_room who.sid) (map (slice_of c) turns) p)
+    → (p : ℕ) → Settled c who (length turns) (rooms_given c who turns p)
     → is_due c run who.pid p ≡ is_turn_due c.stream who (map (slice_of c) turns) p
-due_at c run who [] is are p settled = and_right (is_past (birth c run who.pid) p) (rooms_at_reach c run who p) (same_rooms c run who [] is are p settled)
+due_at c run who [] is are p settled =
+    and_right (is_past (birth c run who.pid) p) (is_for_session (entry c.stream p) (session_at_reach c run who.pid p)) (for_given c run who [] is are p settled)
 due_at c run who (t ∷ later) is are p settled =
-    ap (λ o. is_past o p && rooms_at_reach c run who p)
+    ap (λ o. is_past o p && is_for_session (entry c.stream p) (session_at_reach c run who.pid p))
     (first_index-find (is_reached who.pid 0) (λ s. node_cursor s (session_of s who.pid)) (states c run)
     ∙ born_from c who (own_room who.sid) t later run (start c) (at_start c who (t ∷ later) are) (RunsOn-run c run is) (Synced-start c))
-    ∙ ap (λ b. is_past_first (map (slice_of c) (t ∷ later)) p && b) (same_rooms c run who (t ∷ later) is are p settled)
+    ∙ ap (λ b. is_past_first (map (slice_of c) (t ∷ later)) p && b) (for_given c run who (t ∷ later) is are p settled)
 
 -- WHERE THE TURNS ARE ALL, what is due in the run is what is due by them
 pub due-turns : (c : Cluster) (run : List Step) (who : Who) (turns : List Turn) → IsRun c run → AreTurns c who 0 turns → HasNoTurn c who.pid (length turns)
@@ -163,7 +166,7 @@ due-shown c run who turns is are =
 
 -- The moment that reaches a position falls after the step that the turns tell; where they tell none, there is none
 pub reach-turns : (c : Cluster) (run : List Step) (who : Who) (turns : List Turn) → IsRun c run → AreTurns c who 0 turns
-    → (p : ℕ) → Settled c who (length turns) (rooms_for c.stream who.pid (own_room who.sid) (map (slice_of c) turns) p)
+    → (p : ℕ) → Settled c who (length turns) (rooms_given c who turns p)
     → FallsAfter run (reach c run who.pid p) (reaching_step c turns p)
 reach-turns c run who turns is are p settled =
     falls c who (length turns) p run (start c) (Waiting 0 (own_room who.sid) turns) (omega arith, at_start c who turns are) (RunsOn-run c run is) (Synced-start c) settled refl
@@ -213,3 +216,12 @@ reach-shown c run who turns is are p some h = reach-turns c run who turns is are
 pub reach-all : (c : Cluster) (run : List Step) (who : Who) (turns : List Turn) → IsRun c run → AreTurns c who 0 turns → HasNoTurn c who.pid (length turns)
     → (p : ℕ) → FallsAfter run (reach c run who.pid p) (reaching_step c turns p)
 reach-all c run who turns is are none p = reach-turns c run who turns is are p (inr none)
+
+-- the rooms of the positions of the shown turns
+pub rooms-shown : (c : Cluster) (run : List Step) (who : Who) (turns : List Turn) (p : ℕ) → IsRun c run → AreTurns c who 0 turns
+    → 0 < p → p ≤ greatest_high (map (slice_of c) turns) → HasRooms who (session_at_reach c run who.pid p) (rooms_given c who turns p)
+rooms-shown c run who turns p is are some h = rooms-turns c run who turns is are p (inl (rooms_for-up_to c.stream who.pid (own_room who.sid) (map (slice_of c) turns) p some h))
+
+pub rooms-all : (c : Cluster) (run : List Step) (who : Who) (turns : List Turn) (p : ℕ) → IsRun c run → AreTurns c who 0 turns → HasNoTurn c who.pid (length turns)
+    → HasRooms who (session_at_reach c run who.pid p) (rooms_given c who turns p)
+rooms-all c run who turns p is are none = rooms-turns c run who turns is are p (inr none)

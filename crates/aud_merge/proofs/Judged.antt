@@ -6,15 +6,14 @@ use Rattle.aud_node.specs.Cluster.{Cluster, node_log}
 use Rattle.aud_node.specs.Cursors.{cursor_at}
 use Rattle.aud_node.specs.Lists.{first_index}
 use Rattle.aud_node.specs.Stream.{Text}
-use Rattle.aud_rooms.specs.Rooms.{Rooms}
 use Rattle.aud_rooms.specs.Turns.{Who, slice_of, End, ByLog, turn_end, MayEnd}
 use Rattle.aud_rooms.specs.TurnsDue.{rooms_for}
-use Rattle.aud_merge.specs.ByTurns.{first_reaching, reaching_step, FallsAfter}
+use Rattle.aud_merge.specs.ByTurns.{first_reaching, reaching_step, FallsAfter, HasRooms}
 use Rattle.aud_merge.specs.Due.{is_reached, states_from}
 use Rattle.aud_merge.specs.declared.step.Step.{Step}
 use Rattle.aud_merge.specs.Machine.{State, after, session_of, taken_of}
 use Rattle.aud_merge.specs.Runs.{IsFinished, RunsOn}
-use Rattle.aud_merge.specs.Sessions.{Session, Here}
+use Rattle.aud_merge.specs.Sessions.{Session}
 use Rattle.aud_merge.proofs.Steps.{stepped}
 use Rattle.aud_merge.proofs.Moves.{Synced, Synced-step}
 use Rattle.aud_merge.proofs.Slices.{between-none, part_from, rooms_for-behind, rooms_for-at_low, cursor_at-rises}
@@ -51,20 +50,13 @@ first_index-find-map test f (x ∷ xs) = go (test x) (first_index-find-map test 
     go true ih = refl
     go false ih = and_then-map (λ t. option_map f (slice_get (x ∷ xs) t)) suc (first_index test xs) ∙ ih
 
--- the session has these rooms, on some node
-abbrev pub Agrees : Who → Option Session → Option Rooms → Type 0
-Agrees who None None = Unit {0}
-Agrees who (Some session) (Some held) = (node turn : ℕ) × (session ≡ Here node turn who.sid who.nsp held)
-Agrees who None (Some held) = ⊥
-Agrees who (Some session) None = ⊥
-
 module _ (c : Cluster) (who : Who) (last : ℕ) (p : ℕ) where
   -- where the session is reached, the turns say so
-  now : (st : State) (spot : Spot) → Holds c who last st spot → spot_reached c spot p ≡ true → Agrees who (Some (session_of st who.pid)) (rooms_left c who spot p)
+  now : (st : State) (spot : Spot) → Holds c who last st spot → spot_reached c spot p ≡ true → HasRooms who (Some (session_of st who.pid)) (rooms_left c who spot p)
   now st (Waiting k held rest) holds reached = absurd (false≢true reached)
   now st (Within k t at held later) holds reached =
       let gives = rooms_for-at_low c.stream who.pid held (part_from c t at) (map (slice_of c) later) p reached (cursor_at-rises c.stream (node_log c t.node) at t.to holds.1.within) in
-      subst (Agrees who (Some (session_of st who.pid))) (sym gives) (t.node, k, holds.1.session)
+      subst (HasRooms who (Some (session_of st who.pid))) (sym gives) (t.node, k, ap Some holds.1.session)
   now st Over holds reached = absurd (false≢true reached)
   now st Beyond holds reached = absurd (false≢true reached)
 
@@ -107,32 +99,32 @@ module _ (c : Cluster) (who : Who) (last : ℕ) (p : ℕ) where
 
   -- THE ROOMS at the moment that reaches p are those by which the turns judge it
   pub agrees : (steps : List Step) (st : State) (spot : Spot) → Holds c who last st spot → RunsOn c st steps → Synced c st → Settled c who last (rooms_left c who spot p)
-      → Agrees who (judged c who.pid p st steps) (rooms_left c who spot p)
+      → HasRooms who (judged c who.pid p st steps) (rooms_left c who spot p)
   agrees [] st spot holds finished synced settled = go (spot_reached c spot p) refl (reached-spot c who last p st spot holds synced settled)
     where
-      go : (b : Bool) → spot_reached c spot p ≡ b → is_reached who.pid p st ≡ spot_reached c spot p → Agrees who (judged c who.pid p st []) (rooms_left c who spot p)
+      go : (b : Bool) → spot_reached c spot p ≡ b → is_reached who.pid p st ≡ spot_reached c spot p → HasRooms who (judged c who.pid p st []) (rooms_left c who spot p)
       go true e same =
-          subst (λ b. Agrees who (option_map (λ s. session_of s who.pid) (cond b (Some st) None)) (rooms_left c who spot p)) (sym (same ∙ e)) (now st spot holds e)
+          subst (λ b. HasRooms who (option_map (λ s. session_of s who.pid) (cond b (Some st) None)) (rooms_left c who spot p)) (sym (same ∙ e)) (now st spot holds e)
       go false e same =
-          subst (λ b. Agrees who (option_map (λ s. session_of s who.pid) (cond b (Some st) None)) (rooms_left c who spot p)) (sym (same ∙ e))
-          (subst (Agrees who None) (sym (never st spot holds e finished).0) tt)
+          subst (λ b. HasRooms who (option_map (λ s. session_of s who.pid) (cond b (Some st) None)) (rooms_left c who spot p)) (sym (same ∙ e))
+          (subst (HasRooms who None) (sym (never st spot holds e finished).0) refl)
   agrees (s ∷ steps) st spot holds runs synced settled =
       go (spot_reached c spot p) refl (reached-spot c who last p st spot holds synced settled) (λ next spot' holds' later synced' settled'. agrees steps next spot' holds' later synced' settled')
     where
       go : (b : Bool) → spot_reached c spot p ≡ b → is_reached who.pid p st ≡ spot_reached c spot p
-          → ((next : State) (spot' : Spot) → Holds c who last next spot' → RunsOn c next steps → Synced c next → Settled c who last (rooms_left c who spot' p) → Agrees who (judged c who.pid p next steps) (rooms_left c who spot' p))
-          → Agrees who (judged c who.pid p st (s ∷ steps)) (rooms_left c who spot p)
+          → ((next : State) (spot' : Spot) → Holds c who last next spot' → RunsOn c next steps → Synced c next → Settled c who last (rooms_left c who spot' p) → HasRooms who (judged c who.pid p next steps) (rooms_left c who spot' p))
+          → HasRooms who (judged c who.pid p st (s ∷ steps)) (rooms_left c who spot p)
       go true e same ih =
-          subst (λ b. Agrees who (option_map (λ s. session_of s who.pid) (cond b (Some st) (find (is_reached who.pid p) (states_from c (unwrap_or (after c st s) st) steps)))) (rooms_left c who spot p)) (sym (same ∙ e)) (now st spot holds e)
+          subst (λ b. HasRooms who (option_map (λ s. session_of s who.pid) (cond b (Some st) (find (is_reached who.pid p) (states_from c (unwrap_or (after c st s) st) steps)))) (rooms_left c who spot p)) (sym (same ∙ e)) (now st spot holds e)
       go false e same ih =
           let (next, allowed, later) = runs in
           let step = stepped c st next s allowed in
           let went = moves_on c who last st next s steps spot holds step later synced in
           let kept = Moves-rooms c who s.log s.index spot went.spot went.moves p e in
           let here = ih next went.spot went.holds later (Synced-step c st next s.log s.index step synced) (subst (Settled c who last) kept settled) in
-          subst (λ b. Agrees who (option_map (λ s. session_of s who.pid) (cond b (Some st) (find (is_reached who.pid p) (states_from c (unwrap_or (after c st s) st) steps)))) (rooms_left c who spot p)) (sym (same ∙ e))
-          (subst (λ o. Agrees who (option_map (λ s. session_of s who.pid) (find (is_reached who.pid p) (states_from c (unwrap_or o st) steps))) (rooms_left c who spot p)) (sym allowed)
-          (subst (Agrees who (judged c who.pid p next steps)) (sym kept) here))
+          subst (λ b. HasRooms who (option_map (λ s. session_of s who.pid) (cond b (Some st) (find (is_reached who.pid p) (states_from c (unwrap_or (after c st s) st) steps)))) (rooms_left c who spot p)) (sym (same ∙ e))
+          (subst (λ o. HasRooms who (option_map (λ s. session_of s who.pid) (find (is_reached who.pid p) (states_from c (unwrap_or o st) steps))) (rooms_left c who spot p)) (sym allowed)
+          (subst (HasRooms who (judged c who.pid p next steps)) (sym kept) here))
 
   shifted : (s : Step) (steps : List Step) (moment : Option ℕ) (step : Option Step) → FallsAfter steps moment step → FallsAfter (s ∷ steps) (option_map suc moment) step
   shifted s steps moment None falls = ap (option_map suc) falls

@@ -15,7 +15,7 @@ pub mod Exchange
 pub mod Blocked
 pub mod Least
 pub mod FourTurns
-pub mod Witness
+pub mod Recovery
 pub mod Maps
 pub mod Merged
 pub mod Positions

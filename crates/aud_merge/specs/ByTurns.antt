@@ -1,5 +1,5 @@
 -- What the turns of a session tell of every run.
-use Rattle.std.specs.Prelude.{◌≡◌, ◌-◌, ℕ, zero, suc, Bool, false, List, [], ◌∷◌, ◌++◌, Option, Some, None, if◌then◌else◌, nat_le, min, slice_get}
+use Rattle.std.specs.Prelude.{◌≡◌, ◌-◌, ℕ, zero, suc, Bool, false, List, [], ◌∷◌, ◌++◌, map, Option, Some, None, if◌then◌else◌, nat_le, min, slice_get}
 use Rattle.std.specs.Str.{bytes_eq}
 use Rattle.std.specs.Option.{option_map, unwrap_or}
 use Rattle.aud_tap.specs.declared.records.StreamRec.{StreamRec}
@@ -9,8 +9,10 @@ use Rattle.aud_node.specs.Stream.{Text}
 use Rattle.aud_node.specs.Cursors.{cursor_at}
 use Rattle.aud_node.specs.Cluster.{Cluster, node_log}
 use Rattle.aud_node.specs.TurnRecords.{pid_of}
-use Rattle.aud_rooms.specs.Turns.{Turn, slice_of}
-use Rattle.aud_merge.specs.Sessions.{Session, session_after}
+use Rattle.aud_rooms.specs.Rooms.{Rooms, own_room}
+use Rattle.aud_rooms.specs.Turns.{Who, Turn, slice_of}
+use Rattle.aud_rooms.specs.TurnsDue.{rooms_for}
+use Rattle.aud_merge.specs.Sessions.{Session, Here, session_after}
 use Rattle.aud_merge.specs.declared.step.Step.{Step}
 use Rattle.aud_merge.specs.Machine.{State, taken_of}
 
@@ -33,6 +35,18 @@ reaching_step c (t ∷ later) p =
 abbrev pub FallsAfter : List Step → Option ℕ → Option Step → Type 0
 FallsAfter run moment None = moment ≡ None
 FallsAfter run moment (Some step) = (t : ℕ) × (slice_get run t ≡ Some step) × (moment ≡ Some (suc t))
+
+-- the rooms that the turns give a position: of the first turn whose high reaches it, those at the turn's start where
+-- its low does, else those at the position's `take`. The first turn starts in the one room named by the sid, a later
+-- one with the rooms at the end of the one before
+abbrev pub rooms_given : Cluster → Who → List Turn → ℕ → Option Rooms
+rooms_given c who turns p = rooms_for c.stream who.pid (own_room who.sid) (map (slice_of c) turns) p
+
+-- the session is on a node, with the sid and the namespace of its `open` and these rooms; where there are no rooms,
+-- there is no session
+abbrev pub HasRooms : Who → Option Session → Option Rooms → Type 0
+HasRooms who session None = session ≡ None
+HasRooms who session (Some held) = (node turn : ℕ) × (session ≡ Some (Here node turn who.sid who.nsp held))
 
 -- the second list begins with the first
 abbrev pub IsPrefixOf : List ℕ → List ℕ → Type 0

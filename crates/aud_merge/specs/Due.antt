@@ -52,6 +52,10 @@ reach c run pid p = first_index (is_reached pid p) (states c run)
 abbrev pub session_at : Cluster → List Step → Text → ℕ → Option Session
 session_at c run pid t = option_map (λ st. session_of st pid) (slice_get (states c run) t)
 
+-- the session when it is first on a node whose cursor is at least p
+abbrev pub session_at_reach : Cluster → List Step → Text → ℕ → Option Session
+session_at_reach c run pid p = option_and_then (session_at c run pid) (reach c run pid p)
+
 -- the cursor of the session's node after the step that opens it, with which it is on a node for the first time
 abbrev pub birth : Cluster → List Step → Text → Option ℕ
 birth c run pid =
@@ -76,7 +80,7 @@ is_for_session at (Some Ended) = false
 abbrev pub is_due : Cluster → List Step → Text → ℕ → Bool
 is_due c run pid p =
     is_past (birth c run pid) p
-    && is_for_session (entry c.stream p) (option_and_then (session_at c run pid) (reach c run pid p))
+    && is_for_session (entry c.stream p) (session_at_reach c run pid p)
 
 -- the positions that are due to the session, ascending
 abbrev pub due : Cluster → List Step → Text → List ℕ

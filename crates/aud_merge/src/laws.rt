@@ -1,6 +1,6 @@
-//! What the turns of a session tell of every run, and why one choice of the next step is as good as another. These
-//! functions do nothing: their contracts are the laws.
-ghost use Rattle.std.specs.Prelude.{◌≡◌, ◌<◌, ◌≤◌, ℕ, List, map, slice_get, nat_le};
+//! What the turns of a session tell of every run, and why one choice of the next step is as good as another; and a run
+//! of which they speak. These functions do nothing: their contracts are the laws.
+ghost use Rattle.std.specs.Prelude.{◌≡◌, ◌<◌, ◌≤◌, ℕ, List, [], ◌∷◌, map, slice_get, nat_le};
 ghost use Rattle.std.specs.List.{filter};
 ghost use Rattle.aud_node.specs.Cluster.{Cluster};
 ghost use Rattle.aud_rooms.specs.Turns.{Who, Turn, AreTurns, IsChain, slice_of};
@@ -10,8 +10,9 @@ ghost use Rattle.aud_merge.specs.declared.step.Step.{Step};
 ghost use Rattle.aud_merge.specs.Machine.{State, start, after, session_of};
 ghost use Rattle.aud_merge.specs.Runs.{IsRun, IsBlocked, AreAllowed, state_after};
 ghost use Rattle.aud_merge.specs.Order.{IsBlockedAt};
-ghost use Rattle.aud_merge.specs.Due.{due, reach, states};
-ghost use Rattle.aud_merge.specs.ByTurns.{IsPrefixOf, FallsAfter, reaching_step, by_turns};
+ghost use Rattle.aud_merge.specs.Due.{due, reach, session_at_reach, states};
+ghost use Rattle.aud_merge.specs.Recovery as recovery;
+ghost use Rattle.aud_merge.specs.ByTurns.{IsPrefixOf, FallsAfter, HasRooms, reaching_step, rooms_given, by_turns};
 
 /// After each prefix of a run, a session is what the taken records of its turns make of it.
 pub fn session_by_turns()
@@ -30,6 +31,16 @@ pub fn reach_by_turns()
         → IsRun c run → AreTurns c who 0 turns
         → (p : ℕ) → 0 < p → p ≤ greatest_high (map (slice_of c) turns)
         → FallsAfter run (reach c run who.pid p) (reaching_step c turns p) }
+{}
+
+/// In each run, a session first reaches a position with the rooms that its turns give the position.
+pub fn rooms_by_turns()
+    ensures all { (c : Cluster) (run : List Step) (who : Who) (turns : List Turn) (p : ℕ)
+        → IsRun c run → IsChain c who turns
+        → HasRooms who (session_at_reach c run who.pid p) (rooms_given c who turns p) }
+    ensures shown { (c : Cluster) (run : List Step) (who : Who) (turns : List Turn) (p : ℕ)
+        → IsRun c run → AreTurns c who 0 turns → 0 < p → p ≤ greatest_high (map (slice_of c) turns)
+        → HasRooms who (session_at_reach c run who.pid p) (rooms_given c who turns p) }
 {}
 
 /// In each run, what is due to a session is what is due by its turns.
@@ -60,4 +71,16 @@ pub fn allowed_stays()
         → after c (state_after c (start c) steps) s ≡ Some behind_s
         → (x.log ≡ s.log → ⊥)
         → (last : State) × (after c behind_s x ≡ Some last) }
+{}
+
+/// What the laws tell of every run is said of something: this cluster, in which a session is recovered on another node,
+/// has this run. Two events are due to the session, one that its node takes while it is there, and one that was taken
+/// before it comes back; what its client received is a front of them.
+pub fn run_with_recovery()
+    ensures is_run { IsRun recovery.logs recovery.run }
+    ensures is_chain { IsChain recovery.logs recovery.who recovery.turns }
+    ensures both_are_due { due recovery.logs recovery.run recovery.who.pid ≡ 1 ∷ 2 ∷ [] }
+    ensures first_is_live { FallsAfter recovery.run (reach recovery.logs recovery.run recovery.who.pid 1) (Some recovery.live_take) }
+    ensures second_is_replayed { FallsAfter recovery.run (reach recovery.logs recovery.run recovery.who.pid 2) (Some recovery.back) }
+    ensures received_is_front { IsPrefixOf recovery.received (due recovery.logs recovery.run recovery.who.pid) }
 {}
