@@ -57,19 +57,21 @@ fn answers<'a>(
     Ok(words.as_str() == expected)
 }
 
+const REFUSALS: [(Frame<'static>, &str); 6] = [
+    (Frame::Text(r#"451-["f","x"]"#), "waits"),
+    (Frame::Text("2"), "waits"),
+    (Frame::Text("42[]"), "TextWhileBinary"),
+    (Frame::Binary(&[1]), "StrayBinary"),
+    (Frame::Text("47"), "UnknownType"),
+    (Frame::Text("450-[]"), "50-[] of / None"),
+];
+
 #[test]
 fn refusals(rt: HostRuntime) -> Result<(), Fail> {
     let mut assembler = Assembler::new(rt.alloc());
-    for (frame, answer) in [
-        (Frame::Text(r#"451-["f","x"]"#), "waits"),
-        (Frame::Text("2"), "waits"),
-        (Frame::Text("42[]"), "TextWhileBinary"),
-        (Frame::Binary(&[1]), "StrayBinary"),
-        (Frame::Text("47"), "UnknownType"),
-        (Frame::Text("450-[]"), "50-[] of / None"),
-    ] {
+    for (frame, answer) in &REFUSALS {
         assert!(rt;
-            answers(rt.alloc(), &mut assembler, frame, answer)?,
+            answers(rt.alloc(), &mut assembler, *frame, answer)?,
             "{answer}"
         );
     }
@@ -78,24 +80,24 @@ fn refusals(rt: HostRuntime) -> Result<(), Fail> {
 }
 
 /// The first attachment comes as base64, the other as bytes.
+const ATTACHMENTS: [(Frame<'static>, &str); 3] = [
+    (
+        Frame::Text(r#"452-["baz",{"_placeholder":true,"num":0},{"_placeholder":true,"num":1}]"#),
+        "waits",
+    ),
+    (Frame::Text("bAQID"), "waits"),
+    (
+        Frame::Binary(&[4]),
+        r#"52-["baz",{"_placeholder":true,"num":0},{"_placeholder":true,"num":1}] of / None [1, 2, 3] [4]"#,
+    ),
+];
+
 #[test]
 fn attachments(rt: HostRuntime) -> Result<(), Fail> {
     let mut assembler = Assembler::new(rt.alloc());
-    for (frame, answer) in [
-        (
-            Frame::Text(
-                r#"452-["baz",{"_placeholder":true,"num":0},{"_placeholder":true,"num":1}]"#,
-            ),
-            "waits",
-        ),
-        (Frame::Text("bAQID"), "waits"),
-        (
-            Frame::Binary(&[4]),
-            r#"52-["baz",{"_placeholder":true,"num":0},{"_placeholder":true,"num":1}] of / None [1, 2, 3] [4]"#,
-        ),
-    ] {
+    for (frame, answer) in &ATTACHMENTS {
         assert!(rt;
-            answers(rt.alloc(), &mut assembler, frame, answer)?,
+            answers(rt.alloc(), &mut assembler, *frame, answer)?,
             "{answer}"
         );
     }
@@ -103,26 +105,28 @@ fn attachments(rt: HostRuntime) -> Result<(), Fail> {
 }
 
 /// The frames of the document's sample session in namespace `/admin`: a packet whose attachment comes after a ping.
+const SAMPLE_SESSION: [(Frame<'static>, &str); 4] = [
+    (
+        Frame::Text(r#"40/admin,{"sid":"-G5j-67EZFp-q59rADQM"}"#),
+        r#"0/admin,{"sid":"-G5j-67EZFp-q59rADQM"} of /admin None"#,
+    ),
+    (
+        Frame::Text(r#"461-/admin,1[{"_placeholder":true,"num":0}]"#),
+        "waits",
+    ),
+    (Frame::Text("2"), "waits"),
+    (
+        Frame::Binary(&[1, 2, 3]),
+        r#"61-/admin,1[{"_placeholder":true,"num":0}] of /admin Some(1) [1, 2, 3]"#,
+    ),
+];
+
 #[test]
 fn sample_session(rt: HostRuntime) -> Result<(), Fail> {
     let mut assembler = Assembler::new(rt.alloc());
-    for (frame, answer) in [
-        (
-            Frame::Text(r#"40/admin,{"sid":"-G5j-67EZFp-q59rADQM"}"#),
-            r#"0/admin,{"sid":"-G5j-67EZFp-q59rADQM"} of /admin None"#,
-        ),
-        (
-            Frame::Text(r#"461-/admin,1[{"_placeholder":true,"num":0}]"#),
-            "waits",
-        ),
-        (Frame::Text("2"), "waits"),
-        (
-            Frame::Binary(&[1, 2, 3]),
-            r#"61-/admin,1[{"_placeholder":true,"num":0}] of /admin Some(1) [1, 2, 3]"#,
-        ),
-    ] {
+    for (frame, answer) in &SAMPLE_SESSION {
         assert!(rt;
-            answers(rt.alloc(), &mut assembler, frame, answer)?,
+            answers(rt.alloc(), &mut assembler, *frame, answer)?,
             "{answer}"
         );
     }
@@ -157,19 +161,21 @@ fn answers_body<'a>(
 }
 
 /// The document's two events in one polling body, and a binary event in another.
+const POLLING_BODIES: [(&str, &str); 2] = [
+    (
+        "42[\"hello\"]\u{1e}42[\"world\"]",
+        "2[\"hello\"] of / None\n2[\"world\"] of / None\n",
+    ),
+    (
+        "451-[\"baz\",{\"_placeholder\":true,\"num\":0}]\u{1e}bAQIDBA==",
+        "waits\n51-[\"baz\",{\"_placeholder\":true,\"num\":0}] of / None [1, 2, 3, 4]\n",
+    ),
+];
+
 #[test]
 fn polling_bodies(rt: HostRuntime) -> Result<(), Fail> {
     let mut assembler = Assembler::new(rt.alloc());
-    for (body, answers) in [
-        (
-            "42[\"hello\"]\u{1e}42[\"world\"]",
-            "2[\"hello\"] of / None\n2[\"world\"] of / None\n",
-        ),
-        (
-            "451-[\"baz\",{\"_placeholder\":true,\"num\":0}]\u{1e}bAQIDBA==",
-            "waits\n51-[\"baz\",{\"_placeholder\":true,\"num\":0}] of / None [1, 2, 3, 4]\n",
-        ),
-    ] {
+    for (body, answers) in &POLLING_BODIES {
         assert!(rt;
             answers_body(rt.alloc(), &mut assembler, body, answers)?,
             "{body}"

@@ -31,7 +31,7 @@ const BODIES: [(&str, &str); 6] = [
 
 #[test]
 fn packets(rt: HostRuntime) -> Result<(), Fail> {
-    for (body, packets) in BODIES {
+    for (body, packets) in &BODIES {
         assert!(rt; is_read(rt.alloc(), body, packets)?, "{body}");
     }
     Ok(())

@@ -39,7 +39,7 @@ const PACKETS: [(&str, &str); 13] = [
 
 #[test]
 fn packets(rt: HostRuntime) -> Result<(), Fail> {
-    for (text, packet) in PACKETS {
+    for (text, packet) in &PACKETS {
         assert!(rt; is_read(rt.alloc(), text, packet)?, "{text}");
         assert!(rt; comes_back(rt.alloc(), text)?, "{text}");
     }
@@ -62,7 +62,7 @@ const REFUSALS: [(&str, &str); 11] = [
 
 #[test]
 fn refusals(rt: HostRuntime) -> Result<(), Fail> {
-    for (text, fault) in REFUSALS {
+    for (text, fault) in &REFUSALS {
         assert!(rt; is_read(rt.alloc(), text, fault)?, "{text}");
     }
     Ok(())
@@ -97,7 +97,7 @@ const BASE64_VECTORS: [(&str, &str); 8] = [
 
 #[test]
 fn base64_vectors(rt: HostRuntime) -> Result<(), Fail> {
-    for (text, plain) in BASE64_VECTORS {
+    for (text, plain) in &BASE64_VECTORS {
         assert!(rt; spells(rt.alloc(), text, plain.as_bytes())?, "{text}");
     }
     Ok(())

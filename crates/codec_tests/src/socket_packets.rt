@@ -76,7 +76,7 @@ const PACKETS: [(&str, &str); 15] = [
 
 #[test]
 fn packets(rt: HostRuntime) -> Result<(), Fail> {
-    for (text, parts) in PACKETS {
+    for (text, parts) in &PACKETS {
         assert!(rt; is_read(rt.alloc(), text, parts)?, "{text}");
         assert!(rt; is_written(rt.alloc(), text, text)?, "{text}");
     }
@@ -107,7 +107,7 @@ const BOUNDS: [(&str, &str); 15] = [
 
 #[test]
 fn bounds(rt: HostRuntime) -> Result<(), Fail> {
-    for (text, parts) in BOUNDS {
+    for (text, parts) in &BOUNDS {
         assert!(rt; is_read(rt.alloc(), text, parts)?, "{text}");
     }
     Ok(())
@@ -143,7 +143,7 @@ const WRITTEN: [(&str, &str); 12] = [
 
 #[test]
 fn written(rt: HostRuntime) -> Result<(), Fail> {
-    for (text, written) in WRITTEN {
+    for (text, written) in &WRITTEN {
         assert!(rt; is_written(rt.alloc(), text, written)?, "{text}");
     }
     Ok(())
@@ -169,8 +169,8 @@ const LAST_TEXTS: [(&str, Option<&str>); 8] = [
 
 #[test]
 fn last_texts(rt: HostRuntime) -> Result<(), Fail> {
-    for (text, last) in LAST_TEXTS {
-        assert!(rt; ends_with(rt.alloc(), text, last)?, "{text}");
+    for (text, last) in &LAST_TEXTS {
+        assert!(rt; ends_with(rt.alloc(), text, *last)?, "{text}");
     }
     Ok(())
 }
