@@ -13,3 +13,4 @@ pub mod Windows
 pub mod FirstFault
 pub mod ClientCase
 pub mod Judged
+pub mod Mismatched
