@@ -2,7 +2,7 @@
 use Rattle.std.proofs.Common.{◌≡◌, ◌<◌, ◌+◌, ◌-◌, ◌&&◌, ℕ, zero, suc, Bool, true, false, List, [], ◌∷◌, length, map, drop, slice_get, Some, None, refl, sym, ap, subst, ◌∙◌, arith, drop-cons}
 use Rattle.std.specs.List.{list_all}
 use Rattle.std.specs.Option.{IsSome}
-use Rattle.std.proofs.lemmas.Bool.{true≢false, and_parts}
+use Rattle.std.proofs.lemmas.Bool.{false≢true, and_parts}
 use Rattle.std.proofs.lemmas.Option.{none-some, slice_get_within, get_or_from_slice_get}
 use Rattle.aud_tap.specs.declared.records.NodeRec.{NodeRec}
 use Rattle.aud_node.specs.Stream.{Text}
@@ -12,6 +12,7 @@ use Rattle.aud_node.specs.Cluster.{Cluster, node_log}
 use Rattle.aud_node.specs.Names.{AreNamedOnce}
 use Rattle.aud_rooms.specs.Turns.{Who, Turn, beginning, IsTurn, AreTurns, IsChain}
 use Rattle.aud_rooms.specs.Spans.{AreSpansOfTurns}
+use Rattle.aud_cert.specs.declared.fault.Fault.{Fault}
 use Rattle.aud_cert.specs.Certificate.{TurnSeen, CertificateSeen, turn_at, place_named}
 use Rattle.aud_maker.specs.Made.{name_at, turn_seen, is_turn_ordered, IsMade}
 use Rattle.aud_maker.proofs.Turns.{beginning-begins}
@@ -20,7 +21,7 @@ use Rattle.aud_check.specs.declared.refusal.Refusal.{Refusal}
 use Rattle.aud_check.specs.declared.refusal.Refusal.TheVariants.{NotItsTurn, EndInside, NoEnd, Cursor, Span, Names, Received, Memory}
 use Rattle.aud_check.specs.Shown.{opened_sid, opened_nsp, who_of, slices_of, turns_of, first_record}
 use Rattle.aud_check.specs.TurnRefusals.{IsTurnAccepted, AreTurnsAccepted}
-use Rattle.aud_check.specs.Refusals.{RefusesWhole, Refuses, Place, AtTurn, AtWhole}
+use Rattle.aud_check.specs.Refusals.{RefusesWhole, Refuses, Place, AtTurn, AtWhole, IsFirstRefusal}
 use Rattle.aud_check.proofs.TurnRefusals.{not_refused}
 use Rattle.aud_verdict.specs.Refused.{fault_found}
 
@@ -111,3 +112,16 @@ module _ (c : Cluster) (pid : Text) (cert : CertificateSeen) (once : AreNamedOnc
   pub refused_for : (place : Place) (refusal : Refusal) → Refuses c cert place refusal → IsSome (fault_found refusal)
   refused_for (AtTurn k) refusal (t, at, refuses) = absurd (not_refused c cert.pid k t (drop (suc k) cert.turns) (turns_accepted k t at) refusal refuses)
   refused_for AtWhole refusal refuses = refused_whole refusal refuses
+
+-- what refuses it is one of those, or want of memory
+pub no_other : (c : Cluster) (cert : CertificateSeen) (refusal : Refusal) → IsFirstRefusal c cert refusal
+    → ((place : Place) → Refuses c cert place refusal → IsSome (fault_found refusal))
+    → (refusal ≡ Names → ⊥) → ((fault : Fault) → refusal ≡ Received fault → ⊥) → (refusal ≡ Memory → ⊥) → ⊥
+no_other c cert NotItsTurn first so no_names no_received no_memory = false≢true (so first.place first.refuses)
+no_other c cert EndInside first so no_names no_received no_memory = false≢true (so first.place first.refuses)
+no_other c cert NoEnd first so no_names no_received no_memory = false≢true (so first.place first.refuses)
+no_other c cert Cursor first so no_names no_received no_memory = false≢true (so first.place first.refuses)
+no_other c cert Span first so no_names no_received no_memory = false≢true (so first.place first.refuses)
+no_other c cert Names first so no_names no_received no_memory = no_names refl
+no_other c cert (Received fault) first so no_names no_received no_memory = no_received fault refl
+no_other c cert Memory first so no_names no_received no_memory = no_memory refl

@@ -6,7 +6,7 @@ ghost use Rattle.aud_verdict.specs.Verdict.{IsVerdict};
 
 use crate::laws::verdict_by_certificate;
 use aud_cert::Fault;
-use aud_check::{Accepted, Refusal, check_read};
+use aud_check::{Refusal, check_read};
 use aud_client::Clients;
 use aud_maker::{MakeFault, made_is_over, make};
 use aud_node::Logs;
@@ -41,22 +41,25 @@ pub fn decide(
     requires clients { clients.now ≡ clients_of logs.now }
     ensures { IfOk result (IsVerdict logs.now pid.now) }
 {
+    verdict_by_certificate();
     let cert = match make(alloc, logs, pid) {
         Ok(cert) => cert,
-        Err(MakeFault::Fault(fault)) => {
-            verdict_by_certificate();
-            return Ok(Verdict::No(fault));
-        }
+        Err(MakeFault::Fault(fault)) => return Ok(Verdict::No(fault)),
         Err(MakeFault::Memory) => return Err(Memory),
     };
     made_is_over();
-    verdict_by_certificate();
     match check_read(alloc, logs, clients, &cert) {
-        Ok(Accepted { got, tail, turns }) => Ok(Verdict::Yes { got, tail, turns }),
-        Err(Refusal::Names) => Ok(Verdict::No(Fault::Names)),
-        Err(Refusal::Received(fault)) => Ok(Verdict::No(fault)),
-        Err(Refusal::Memory) => Err(Memory),
-        // The turns and the spans of a certificate that was made are the session's.
-        Err(_) => unreachable!(),
+        Ok(counts) => Ok(Verdict::Yes {
+            got: counts.got,
+            tail: counts.tail,
+            turns: counts.turns,
+        }),
+        Err(refusal) => match refusal {
+            Refusal::Names => Ok(Verdict::No(Fault::Names)),
+            Refusal::Received(fault) => Ok(Verdict::No(fault)),
+            Refusal::Memory => Err(Memory),
+            // The turns and the spans of a certificate that was made are the session's.
+            _ => unreachable!(),
+        },
     }
 }
