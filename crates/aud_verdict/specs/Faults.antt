@@ -14,7 +14,7 @@ use Rattle.aud_check.specs.NamedStays.{is_of_session}
 use Rattle.aud_check.specs.Faults.{HasFault}
 use Rattle.aud_verdict.specs.Session.{Session, IsSession, case_of, own_stays}
 
--- a stay whose reply names the session has another namespace than its `open`, or the reply another sid
+-- a reply that names the session has another sid or namespace than its `open`
 abbrev pub HasOtherNames : Cluster → Session → Type 0
 HasOtherNames c s = (stay : StaySeen) × Contains (own_stays c s) stay × (is_of_session s.who stay ≡ false)
 

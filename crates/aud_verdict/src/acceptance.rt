@@ -14,7 +14,7 @@ ghost use Rattle.aud_cert.specs.Reading.{certificate_of};
 ghost use Rattle.aud_maker.specs.Made.{IsMade};
 ghost use Rattle.aud_check.specs.declared.refusal.Refusal.{Refusal};
 ghost use Rattle.aud_check.specs.Faults.{positions_in};
-ghost use Rattle.aud_check.specs.Refusals.{IsAccepted, Place, Refuses, case_of};
+ghost use Rattle.aud_check.specs.Refusals.{IsAccepted, IsFirst, IsMismatch, Place, Refuses, case_of};
 ghost use Rattle.aud_check.specs.Shown.{shown_due, turns_of, who_of};
 
 use aud_merge::due_by_turns;
@@ -35,6 +35,16 @@ pub fn accepted_in_every_run()
         → IsPrefixOf (positions_in (case_of c cert)) (due c run cert.pid) }
     ensures all { (c : Cluster) (cert : CertificateSeen) (run : List Step)
         → IsChain c (who_of cert) (turns_of c cert) → IsRun c run → shown_due c cert ≡ due c run cert.pid }
+{
+    due_by_turns();
+}
+
+/// What a refusal says of every run, where the certificate shows all turns: after `EXTRA`, `DOUBLED`, `SWAPPED` and
+/// `LOST`, what the client received is a front of what is due in none.
+pub fn refused_in_no_run()
+    ensures { (c : Cluster) (cert : CertificateSeen) (refusal : Refusal) (run : List Step)
+        → IsFirst c cert refusal → IsMismatch refusal → IsChain c (who_of cert) (turns_of c cert) → IsRun c run
+        → IsPrefixOf (positions_in (case_of c cert)) (due c run cert.pid) → ⊥ }
 {
     due_by_turns();
 }

@@ -7,6 +7,8 @@ mod acceptance;
 mod laws;
 mod verdict;
 
-pub use acceptance::{accepted_exactly, accepted_in_every_run, made_is_whole, read_is_over};
+pub use acceptance::{
+    accepted_exactly, accepted_in_every_run, made_is_whole, read_is_over, refused_in_no_run,
+};
 pub use laws::{verdict_by_certificate, verdict_in_every_run, verdict_is_one};
 pub use verdict::{Verdict, decide};

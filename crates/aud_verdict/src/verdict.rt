@@ -6,7 +6,7 @@ ghost use Rattle.aud_verdict.specs.Verdict.{IsVerdict};
 
 use crate::laws::verdict_by_certificate;
 use aud_cert::Fault;
-use aud_check::{Refusal, check_read};
+use aud_check::{Accepted, Refusal, check_read};
 use aud_client::Clients;
 use aud_maker::{MakeFault, made_is_over, make};
 use aud_node::Logs;
@@ -49,11 +49,10 @@ pub fn decide(
     };
     made_is_over();
     match check_read(alloc, logs, clients, &cert) {
-        Ok(counts) => Ok(Verdict::Yes {
-            got: counts.got,
-            tail: counts.tail,
-            turns: counts.turns,
-        }),
+        Ok(counts) => {
+            let Accepted { got, tail, turns } = counts;
+            Ok(Verdict::Yes { got, tail, turns })
+        }
         Err(refusal) => match refusal {
             Refusal::Names => Ok(Verdict::No(Fault::Names)),
             Refusal::Received(fault) => Ok(Verdict::No(fault)),
