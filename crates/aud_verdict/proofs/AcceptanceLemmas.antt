@@ -1,5 +1,5 @@
 -- What nothing refuses is accepted.
-use Rattle.std.proofs.Common.{◌≡◌, ◌≤◌, ℕ, suc, Bool, true, false, List, [], ◌∷◌, length, map, drop, slice_get, Option, Some, None, refl, sym, subst, ◌∙◌, ◌⊎◌, inl, inr, nat_eq}
+use Rattle.std.proofs.Common.{◌≡◌, ◌≤◌, ℕ, suc, List, [], ◌∷◌, length, map, drop, slice_get, Option, Some, None, refl, sym, subst, ◌∙◌, inl, inr, nat_eq}
 use Rattle.std.proofs.lemmas.Bool.{true≢false}
 use Rattle.std.proofs.lemmas.Bool.Decides.{Decides-eqb}
 use Rattle.std.proofs.lemmas.Option.{same_Some, none-some}
@@ -15,7 +15,7 @@ use Rattle.aud_check.specs.declared.refusal.Refusal.{Refusal}
 use Rattle.aud_check.specs.declared.refusal.Refusal.TheVariants.{NotItsTurn, NoEnd, Cursor, Span, Names, Received}
 use Rattle.aud_check.specs.NamedStays.{are_of_session}
 use Rattle.aud_check.specs.Shown.{who_of, slices_of}
-use Rattle.aud_check.specs.TurnRefusals.{RefusesTurn, Ends, HasCursors, IsTurnAccepted, end_of, is_begun_by}
+use Rattle.aud_check.specs.TurnRefusals.{Ends, HasCursors, IsTurnAccepted, end_of, is_begun_by}
 use Rattle.aud_check.specs.Refusals.{Place, AtTurn, AtWhole, Refuses, IsAccepted, case_of}
 use Rattle.aud_verdict.proofs.Decided.{Decided, decided, both, stable, not_false, at_most}
 use Rattle.aud_verdict.proofs.Cases.{all_received}

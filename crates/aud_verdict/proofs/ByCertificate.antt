@@ -1,14 +1,12 @@
 -- What is found by making a session's certificate and checking it is its verdict.
-use Rattle.std.proofs.Common.{◌≡◌, ◌<◌, ◌≤◌, ◌+◌, ◌*◌, ℕ, zero, suc, Bool, true, false, List, [], ◌∷◌, map, length, Option, Some, None, option_map, slice_get, unwrap_or, refl, sym, ap, subst, ◌∙◌, ◌⊎◌, inl, inr, arith}
-use Rattle.std.specs.List.{list_all}
+use Rattle.std.proofs.Common.{◌≡◌, ◌<◌, ◌≤◌, ◌+◌, ◌*◌, ℕ, true, false, List, [], ◌∷◌, map, length, Option, Some, None, slice_get, unwrap_or, refl, sym, ap, subst, ◌∙◌, ◌⊎◌, inl, inr, arith}
 use Rattle.std.specs.Option.{option_and_then}
 use Rattle.std.proofs.lemmas.Bool.{true≢false, false≢true, cases_lt}
 use Rattle.std.proofs.lemmas.List.{length-map}
 use Rattle.std.proofs.lemmas.Option.{same_Some, none-some}
-use Rattle.aud_tap.specs.declared.records.ClientRec.{ClientRec}
 use Rattle.aud_tap.specs.declared.taps.Tap.{Tap}
 use Rattle.aud_node.specs.Stream.{Text}
-use Rattle.aud_node.specs.Cluster.{Cluster, node_log}
+use Rattle.aud_node.specs.Cluster.{Cluster}
 use Rattle.aud_node.specs.Names.{AreNamedOnce}
 use Rattle.aud_node.specs.NodeTaps.{client_at, client_recs}
 use Rattle.aud_node.specs.Replies.{is_naming}
@@ -17,7 +15,7 @@ use Rattle.aud_rooms.specs.Turns.{Who, Turn, beginning, slice_of, HasNoTurn, Are
 use Rattle.aud_rooms.specs.TurnsDue.{turns_due}
 use Rattle.aud_client.specs.Received.{received_of, received_list, stays_naming}
 use Rattle.aud_cert.specs.declared.fault.Fault.{Fault}
-use Rattle.aud_cert.specs.declared.fault.Fault.TheVariants.{NoLog, Chain, Order, Client, Names, Frame, Orphan, Content, Extra, Doubled, Swapped, Lost, Window, Tail}
+use Rattle.aud_cert.specs.declared.fault.Fault.TheVariants.{NoLog, Chain, Order, Client, Names, Frame, Orphan, Content, Extra, Doubled, Swapped, Lost, Window}
 use Rattle.aud_cert.specs.Certificate.{TurnSeen, CertificateSeen, place_named}
 use Rattle.aud_maker.specs.Faults as maker
 use Rattle.aud_maker.specs.Made.{tap_name, turn_seen, IsMade}
@@ -30,12 +28,12 @@ use Rattle.aud_check.specs.NamedStays.{are_of_session}
 use Rattle.aud_check.specs.Faults.{Case, HasFault, IsReceived, fault_rank, mismatch_fault}
 use Rattle.aud_check.specs.Refusals as check
 use Rattle.aud_check.proofs.Ranks.{no_fault}
-use Rattle.aud_verdict.specs.Session.{Session, IsSession, client_log, own_stays, received, due_to, case_of}
-use Rattle.aud_verdict.specs.Faults.{HasOtherNames, HoldsOf, Holds, rank, IsFirst, NoneHolds}
+use Rattle.aud_verdict.specs.Session.{Session, IsSession, own_stays, due_to, case_of}
+use Rattle.aud_verdict.specs.Faults.{HoldsOf, Holds, rank, IsFirst, NoneHolds}
 use Rattle.aud_verdict.specs.Verdict.{IsYes}
 use Rattle.aud_verdict.specs.Refused.{fault_found}
 use Rattle.aud_verdict.proofs.Sessions.{at_session, held, naming, other_names, not_of_session}
-use Rattle.aud_verdict.proofs.MadeLemmas.{there, who_is, refused_for}
+use Rattle.aud_verdict.proofs.MadeLemmas.{there, who_is}
 
 -- ---- the four faults without a certificate
 

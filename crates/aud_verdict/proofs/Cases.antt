@@ -1,5 +1,5 @@
 -- What was received, where no fault of it holds.
-use Rattle.std.proofs.Common.{◌≡◌, ℕ, Bool, true, List, [], ◌∷◌, Option, Some, None, option_map, refl, ap, ◌⊎◌, inl, inr}
+use Rattle.std.proofs.Common.{◌≡◌, ℕ, List, [], ◌∷◌, Option, Some, None, refl, ap, ◌⊎◌, inl, inr}
 use Rattle.std.specs.Option.{IsSome}
 use Rattle.std.specs.Str.{bytes_eq}
 use Rattle.std.specs.Cmp.Lexicographic.{pointwise}
@@ -10,9 +10,8 @@ use Rattle.aud_node.specs.Stream.{entry}
 use Rattle.aud_client.specs.Told.{FrameSeen}
 use Rattle.aud_cert.specs.declared.fault.Fault.{Fault}
 use Rattle.aud_cert.specs.declared.fault.Fault.TheVariants.{Frame, Orphan, Content, Window}
-use Rattle.aud_check.specs.Compare.{mismatch}
 use Rattle.aud_check.specs.Frames.{IsOf, IsEntry, AreEntries, IsFirstAltered, offset_at, wrong_window}
-use Rattle.aud_check.specs.Faults.{Case, HasFault, IsReceived, fault_of, positions_in}
+use Rattle.aud_check.specs.Faults.{Case, HasFault, IsReceived, positions_in}
 use Rattle.aud_check.proofs.Agreed.{mismatch-none}
 use Rattle.aud_check.proofs.Mismatched.{none_mismatched}
 use Rattle.aud_verdict.proofs.Decided.{Decided, decided, both, not_true}

@@ -1,6 +1,6 @@
 -- A pid has one session at most, and its client's tap names it.
-use Rattle.std.proofs.Common.{◌≡◌, ◌<◌, ◌≤◌, ℕ, zero, suc, Bool, true, false, ◌&&◌, ◌||◌, not, cond, List, [], ◌∷◌, length, Option, Some, None, refl, sym, ap, subst, ◌∙◌, arith}
-use Rattle.std.specs.List.{All, Contains, filter, list_any, list_all}
+use Rattle.std.proofs.Common.{◌≡◌, ◌≤◌, ℕ, suc, Bool, true, false, ◌&&◌, ◌||◌, not, cond, List, [], ◌∷◌, length, Option, Some, None, refl, sym, ap, subst, ◌∙◌, arith}
+use Rattle.std.specs.List.{Contains, filter, list_any, list_all}
 use Rattle.std.proofs.lemmas.Bool.{false≢true, true≢false}
 use Rattle.std.proofs.lemmas.Option.{some_pair_parts}
 use Rattle.std.proofs.lemmas.List.Elements.{All-head, All-same, filter_passes}
@@ -16,13 +16,12 @@ use Rattle.aud_client.specs.Told.{StaySeen}
 use Rattle.aud_client.specs.Received.{names}
 use Rattle.aud_client.proofs.Named.{named_by_replies}
 use Rattle.aud_cert.specs.declared.fault.Fault.{Fault}
-use Rattle.aud_cert.specs.declared.fault.Fault.TheVariants.{NoLog, Chain, Order, Client, Names, Frame, Orphan, Content, Extra, Doubled, Swapped, Lost, Window, Tail}
+use Rattle.aud_cert.specs.declared.fault.Fault.TheVariants.{NoLog, Chain, Order, Client}
 use Rattle.aud_maker.proofs.EndedLemmas.{opening-names}
 use Rattle.aud_maker.proofs.Found.{one_chain}
 use Rattle.aud_check.specs.NamedStays.{is_of_session, is_empty, are_of_session}
 use Rattle.aud_check.specs.Shown.{recs_or_none}
-use Rattle.aud_check.specs.Faults.{HasFault}
-use Rattle.aud_verdict.specs.Session.{Session, IsSession, client_log, told, own_stays, case_of}
+use Rattle.aud_verdict.specs.Session.{Session, IsSession, client_log, told, own_stays}
 use Rattle.aud_verdict.specs.Faults.{HasOtherNames, HoldsOf, Holds, rank}
 
 abbrev who_with : Text → Text → Text → Who
