@@ -11,6 +11,7 @@ ghost use Rattle.aud_tap.specs.Fields.{id_or_null, id_or_null_at, decoded, as_bl
 ghost use Rattle.aud_tap.specs.Fields.{each, texts_at, blobs_at};
 ghost use Rattle.aud_tap.specs.WellFormed.{is_session_id};
 
+use super::items::push;
 use crate::fault::{FIELD, LineFault};
 use crate::limits::{MAX_ID, fits};
 use crate::text::{Blobs, Bytes, Text, Texts};
@@ -27,6 +28,22 @@ pub fn copied(alloc: Global, text: &str) -> Result<Text, LineFault>
         Ok(text) => Ok(Text::new(text)),
         Err(_) => Err(LineFault::Memory),
     }
+}
+
+/// Copies of three texts that are lent.
+pub fn copies(
+    alloc: Global,
+    first: &str,
+    second: &str,
+    third: &str,
+) -> Result<(Text, Text, Text), LineFault>
+    ensures { Gives result (Ok (first.now, second.now, third.now)) }
+{
+    Ok((
+        copied(alloc, first)?,
+        copied(alloc, second)?,
+        copied(alloc, third)?,
+    ))
 }
 
 fn is_id(text: &str) -> bool
@@ -134,16 +151,20 @@ pub fn bytes_at(alloc: Global, key: &str, d: &Value) -> Result<Bytes, LineFault>
     as_blob(alloc, d)
 }
 
+fn as_text(alloc: Global, d: &Value) -> Result<Text, LineFault>
+    ensures { Gives result (need Field (as_str (view d.now))) }
+{
+    let text = d.as_str().ok_or(FIELD)?;
+    copied(alloc, text)
+}
+
 fn texts(alloc: Global, items: &[Value]) -> Result<Texts, LineFault>
     ensures { Gives result (need Field (each as_str (items_view items.now))) }
 {
     let mut texts = Vec::new(alloc);
     for d in items {
-        let text = d.as_str().ok_or(FIELD)?;
-        let text = copied(alloc, text)?;
-        if texts.push(text).is_err() {
-            return Err(LineFault::Memory);
-        }
+        let text = as_text(alloc, d)?;
+        push(&mut texts, text)?;
     }
     Ok(Texts::new(texts))
 }
@@ -165,9 +186,7 @@ fn blobs(alloc: Global, items: &[Value]) -> Result<Blobs, LineFault>
     let mut blobs = Vec::new(alloc);
     for d in items {
         let bytes = as_blob(alloc, d)?;
-        if blobs.push(bytes).is_err() {
-            return Err(LineFault::Memory);
-        }
+        push(&mut blobs, bytes)?;
     }
     Ok(Blobs::new(blobs))
 }
