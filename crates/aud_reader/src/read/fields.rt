@@ -10,6 +10,7 @@ ghost use Rattle.aud_reader.specs.Fields.{number_at, id_at, namespace_at};
 ghost use Rattle.aud_reader.specs.Fields.{id_or_null, id_or_null_at, decoded, as_blob, bytes_at};
 ghost use Rattle.aud_reader.specs.Fields.{each, texts_at, blobs_at};
 
+use super::items::push;
 use crate::fault::{FIELD, LineFault};
 use aud_tap::{Blobs, Bytes, Text, Texts, is_id, is_namespace};
 use base64::DecodeAllocError;
@@ -25,6 +26,22 @@ pub fn copied(alloc: Global, text: &str) -> Result<Text, LineFault>
         Ok(text) => Ok(Text::new(text)),
         Err(_) => Err(LineFault::Memory),
     }
+}
+
+/// Copies of three texts that are lent.
+pub fn copies(
+    alloc: Global,
+    first: &str,
+    second: &str,
+    third: &str,
+) -> Result<(Text, Text, Text), LineFault>
+    ensures { Gives result (Ok (first.now, second.now, third.now)) }
+{
+    Ok((
+        copied(alloc, first)?,
+        copied(alloc, second)?,
+        copied(alloc, third)?,
+    ))
 }
 
 pub fn number_at(key: &str, d: &Value) -> Option<u64>
@@ -107,16 +124,20 @@ pub fn bytes_at(alloc: Global, key: &str, d: &Value) -> Result<Bytes, LineFault>
     as_blob(alloc, d)
 }
 
+fn as_text(alloc: Global, d: &Value) -> Result<Text, LineFault>
+    ensures { Gives result (need Field (as_str (view d.now))) }
+{
+    let text = d.as_str().ok_or(FIELD)?;
+    copied(alloc, text)
+}
+
 fn texts(alloc: Global, items: &[Value]) -> Result<Texts, LineFault>
     ensures { Gives result (need Field (each as_str (items_view items.now))) }
 {
     let mut texts = Vec::new(alloc);
     for d in items {
-        let text = d.as_str().ok_or(FIELD)?;
-        let text = copied(alloc, text)?;
-        if texts.push(text).is_err() {
-            return Err(LineFault::Memory);
-        }
+        let text = as_text(alloc, d)?;
+        push(&mut texts, text)?;
     }
     Ok(Texts::new(texts))
 }
@@ -138,9 +159,7 @@ fn blobs(alloc: Global, items: &[Value]) -> Result<Blobs, LineFault>
     let mut blobs = Vec::new(alloc);
     for d in items {
         let bytes = as_blob(alloc, d)?;
-        if blobs.push(bytes).is_err() {
-            return Err(LineFault::Memory);
-        }
+        push(&mut blobs, bytes)?;
     }
     Ok(Blobs::new(blobs))
 }

@@ -5,7 +5,7 @@ ghost use Rattle.aud_tap.specs.WellFormed.{stream_is_well_formed};
 ghost use Rattle.aud_reader.specs.Steps.{Gives};
 ghost use Rattle.aud_reader.specs.StreamRecord.{event_of, other_of, stream_record_of};
 
-use super::fields::{blobs_at, copied, id_at, namespace_at, text_at, texts_at};
+use super::fields::{blobs_at, copied, copies, id_at, namespace_at, text_at, texts_at};
 use crate::fault::{FIELD, LIMIT, LineFault, UNKNOWN_KIND};
 use aud_tap::limits::{MAX_ATTACHMENTS, MAX_NAMESPACE, MAX_OFFSET, fit_rooms, fits};
 use aud_tap::{Event, StreamRec};
@@ -32,14 +32,17 @@ fn event(alloc: Global, d: &Value) -> Result<StreamRec, LineFault>
     if bin.as_slice().len() > MAX_ATTACHMENTS {
         return Err(LIMIT);
     }
-    Ok(StreamRec::Ev(Event {
-        off: copied(alloc, off)?,
-        nsp: copied(alloc, nsp)?,
-        rooms,
-        except,
-        text: copied(alloc, text)?,
-        bin,
-    }))
+    match copies(alloc, off, nsp, text) {
+        Ok((off, nsp, text)) => Ok(StreamRec::Ev(Event {
+            off,
+            nsp,
+            rooms,
+            except,
+            text,
+            bin,
+        })),
+        Err(e) => Err(e),
+    }
 }
 
 #[tactic(auto, unfolding(crate::specs::StreamRecord::other_of))]
