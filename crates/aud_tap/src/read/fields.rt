@@ -11,7 +11,6 @@ ghost use Rattle.aud_tap.specs.Fields.{id_or_null, id_or_null_at, decoded, as_bl
 ghost use Rattle.aud_tap.specs.Fields.{each, texts_at, blobs_at};
 ghost use Rattle.aud_tap.specs.WellFormed.{is_session_id};
 
-use super::items::push;
 use crate::fault::{FIELD, LineFault};
 use crate::limits::{MAX_ID, fits};
 use crate::text::{Blobs, Bytes, Text, Texts};
@@ -164,7 +163,9 @@ fn texts(alloc: Global, items: &[Value]) -> Result<Texts, LineFault>
     let mut texts = Vec::new(alloc);
     for d in items {
         let text = as_text(alloc, d)?;
-        push(&mut texts, text)?;
+        if texts.push(text).is_err() {
+            return Err(LineFault::Memory);
+        }
     }
     Ok(Texts::new(texts))
 }
@@ -186,7 +187,9 @@ fn blobs(alloc: Global, items: &[Value]) -> Result<Blobs, LineFault>
     let mut blobs = Vec::new(alloc);
     for d in items {
         let bytes = as_blob(alloc, d)?;
-        push(&mut blobs, bytes)?;
+        if blobs.push(bytes).is_err() {
+            return Err(LineFault::Memory);
+        }
     }
     Ok(Blobs::new(blobs))
 }
@@ -201,6 +204,3 @@ pub fn blobs_at(alloc: Global, key: &str, d: &Value) -> Result<Blobs, LineFault>
     let items = list.as_array().ok_or(FIELD)?;
     blobs(alloc, items)
 }
-
-#[cfg(test)]
-mod tests;

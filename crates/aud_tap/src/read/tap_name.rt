@@ -60,6 +60,3 @@ pub fn cut_at_blank(line: &[u8]) -> Option<(&[u8], &[u8])>
         _ => None,
     }
 }
-
-#[cfg(test)]
-mod tests;
