@@ -1,6 +1,6 @@
 //! The fields of each kind of record, and keys that are unknown or stand twice.
 use crate::input::read;
-use aud_tap::{Blobs, ClientRec, NodeRec, Rec, StreamRec, TapKind, Texts};
+use aud_tap::{Blobs, ClientRec, NodeRec, ReadFault, Rec, StreamRec, TapKind, Texts};
 use std::alloc::Global;
 
 /// A record: its variant, its texts in their order, and its number; of an event no lists.
@@ -74,12 +74,17 @@ fn fields(rec: &Rec) -> Fields<'_> {
     }
 }
 
-/// Whether the line is of the tap `t`, with a record that has these fields.
-fn reads_as(alloc: Global, text: &str, wanted: &Fields<'_>) -> bool {
-    match read(alloc, 1, text.as_bytes()) {
-        Ok(read) => read.0.as_str() == "t" && fields(&read.1) == *wanted,
+/// Whether it is a record of the tap `t` that has these fields.
+fn has_fields(read: &Result<(String, Rec), ReadFault>, wanted: &Fields<'_>) -> bool {
+    match read {
+        Ok((name, rec)) => name.as_str() == "t" && fields(rec) == *wanted,
         Err(_) => false,
     }
+}
+
+fn reads_as(alloc: Global, text: &str, wanted: &Fields<'_>) -> bool {
+    let read = read(alloc, 1, text.as_bytes());
+    has_fields(&read, wanted)
 }
 
 static RECORDS: [(&str, Fields<'static>); 25] = [
@@ -196,9 +201,14 @@ fn blobs_are(blobs: &Blobs, wanted: &[&[u8]]) -> bool {
 }
 
 /// Whether it is an event with these lists: its rooms, the rooms that it excepts, and its attachments.
-fn has_lists(rec: &Rec, rooms: &[&str], except: &[&str], bin: &[&[u8]]) -> bool {
-    match rec {
-        Rec::Stream(StreamRec::Ev(event)) => {
+fn has_lists(
+    read: &Result<(String, Rec), ReadFault>,
+    rooms: &[&str],
+    except: &[&str],
+    bin: &[&[u8]],
+) -> bool {
+    match read {
+        Ok((_, Rec::Stream(StreamRec::Ev(event)))) => {
             texts_are(&event.rooms, rooms)
                 && texts_are(&event.except, except)
                 && blobs_are(&event.bin, bin)
@@ -207,18 +217,10 @@ fn has_lists(rec: &Rec, rooms: &[&str], except: &[&str], bin: &[&[u8]]) -> bool 
     }
 }
 
-/// An event with a room, two excepted rooms and two attachments.
-const LISTS: &str =
-    r#"t {"k":"ev","off":"4-0","nsp":"/n","rooms":["r"],"except":["s1","s2"],"bin":["AQI=","Aw=="],"text":""}"#;
-
-fn reads_lists(alloc: Global) -> bool {
-    match read(alloc, 1, LISTS.as_bytes()) {
-        Ok(read) => has_lists(&read.1, &["r"], &["s1", "s2"], &[&[1, 2], &[3]]),
-        Err(_) => false,
-    }
-}
-
 #[test]
 fn lists_are_read_in_their_order(rt: HostRuntime) {
-    assert!(rt; reads_lists(rt.alloc()));
+    let text =
+        r#"t {"k":"ev","off":"4-0","nsp":"/n","rooms":["r"],"except":["s1","s2"],"bin":["AQI=","Aw=="],"text":""}"#;
+    let read = read(rt.alloc(), 1, text.as_bytes());
+    assert!(rt; has_lists(&read, &["r"], &["s1", "s2"], &[&[1, 2], &[3]]));
 }
