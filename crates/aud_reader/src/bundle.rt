@@ -111,6 +111,3 @@ pub fn read_bundle(alloc: Global, lines: &[Line]) -> Result<Taps, ReadFault>
     }
     reader.finish()
 }
-
-#[cfg(test)]
-mod tests;

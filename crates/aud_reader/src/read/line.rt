@@ -91,6 +91,3 @@ pub fn parse_line(alloc: Global, line: &Line) -> Result<(String, Rec), ReadFault
         Err(LineFault::Memory) => Err(ReadFault::Memory),
     }
 }
-
-#[cfg(test)]
-mod tests;
