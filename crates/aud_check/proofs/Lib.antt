@@ -1,4 +1,5 @@
 pub mod Agreed
+pub mod Mismatched
 pub mod Prefixes
 pub mod Slices
 pub mod OwnEnd
@@ -13,4 +14,3 @@ pub mod Windows
 pub mod FirstFault
 pub mod ClientCase
 pub mod Judged
-pub mod Mismatched
