@@ -1,4 +1,5 @@
 pub mod Agreed
+pub mod Mismatched
 pub mod Prefixes
 pub mod Slices
 pub mod OwnEnd
@@ -14,4 +15,3 @@ pub mod FirstFault
 pub mod ClientCase
 pub mod Judged
 pub mod Recovery
-pub mod Mismatched

@@ -25,7 +25,7 @@ use Rattle.aud_check.specs.Refusals.{RefusesWhole, Refuses, Place, AtTurn, AtWho
 use Rattle.aud_check.proofs.TurnRefusals.{not_refused}
 use Rattle.aud_verdict.specs.Refused.{fault_found}
 
--- the records of a turn are the one that begins it, and those behind
+-- the records of a turn are the one that begins it, and the later ones
 begun : (log : List NodeRec) (from to : ℕ) (rec : NodeRec) → from < to → slice_get log from ≡ Some rec → between log from to ≡ rec ∷ between log (suc from) to
 begun log from to rec some at =
     let within = slice_get_within log from rec at in

@@ -60,17 +60,17 @@ other_is fault other e = ap (slice_get (by_rank (about other) (counted other))) 
 -- ---- one fault of each rank
 
 -- of the frames one alone is the first that isn't its entry
-one_altered : (stream : List StreamRec) (before first : List FrameSeen) (altered other : FrameSeen) (behind rest : List FrameSeen)
-    → before ++ altered ∷ behind ≡ first ++ other ∷ rest → AreEntries stream before → (IsEntry stream altered → ⊥)
+one_altered : (stream : List StreamRec) (before first : List FrameSeen) (altered other : FrameSeen) (after rest : List FrameSeen)
+    → before ++ altered ∷ after ≡ first ++ other ∷ rest → AreEntries stream before → (IsEntry stream altered → ⊥)
     → AreEntries stream first → (IsEntry stream other → ⊥) → altered ≡ other
-one_altered stream [] [] altered other behind rest e are not too nor = cc
-one_altered stream [] (frame ∷ first) altered other behind rest e are not too nor =
+one_altered stream [] [] altered other after rest e are not too nor = cc
+one_altered stream [] (frame ∷ first) altered other after rest e are not too nor =
     let here : frame ≡ altered = cc in absurd (not (subst (IsEntry stream) here too.0))
-one_altered stream (frame ∷ before) [] altered other behind rest e are not too nor =
+one_altered stream (frame ∷ before) [] altered other after rest e are not too nor =
     let here : frame ≡ other = cc in absurd (nor (subst (IsEntry stream) here are.0))
-one_altered stream (frame ∷ before) (head ∷ first) altered other behind rest e are not too nor =
-    let later : before ++ altered ∷ behind ≡ first ++ other ∷ rest = cc in
-    one_altered stream before first altered other behind rest later are.1 not too.1 nor
+one_altered stream (frame ∷ before) (head ∷ first) altered other after rest e are not too nor =
+    let later : before ++ altered ∷ after ≡ first ++ other ∷ rest = cc in
+    one_altered stream before first altered other after rest later are.1 not too.1 nor
 
 same_altered : (stream : List StreamRec) (frames : List FrameSeen) (altered other : FrameSeen) → IsFirstAltered stream frames altered → IsFirstAltered stream frames other → altered ≡ other
 same_altered stream frames altered other is too =

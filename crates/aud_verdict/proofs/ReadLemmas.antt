@@ -1,10 +1,6 @@
 -- A certificate that a text names is over the logs.
-use Rattle.std.proofs.Common.{◌≡◌, ◌<◌, ◌&&◌, Bool, true, false, List, [], ◌∷◌, length, Result, Ok, Err, refl, ◌∙◌, arith}
-use Rattle.std.specs.List.{list_all}
-use Rattle.std.proofs.lemmas.Bool.{false≢true}
-use Rattle.serde_json.specs.Data.{Data}
-use Rattle.aud_tap.specs.TapName.{is_tap_name}
-use Rattle.aud_tap.specs.WellFormed.{is_session_id}
+use Rattle.std.proofs.Common.{◌≡◌, ◌<◌, Bool, true, false, List, [], ◌∷◌, length, Result, Ok, Err, refl, ◌∙◌, arith}
+use Rattle.std.proofs.lemmas.Bool.{false≢true, and_parts}
 use Rattle.aud_node.specs.Stream.{Text}
 use Rattle.aud_node.specs.Cluster.{Cluster}
 use Rattle.aud_cert.specs.declared.fault.CertFault.{CertFault}
@@ -35,9 +31,6 @@ within c cert = guard Range (is_within c cert) >>= (λ u. Ok cert)
 abbrev formed : Cluster → CertificateTold → Result CertificateSeen CertFault
 formed c told = guard Syntax (is_formed told) >>= (λ u. certificate_over c told >>= within c)
 
-abbrev read : Cluster → Data → Result CertificateSeen CertFault
-read c d = told_in d >>= formed c
-
 same_ok : {A : Type 0} (x y : A) → ◌≡◌ {A = Result A CertFault} (Ok x) (Ok y) → x ≡ y
 same_ok x y e = cc
 
@@ -60,20 +53,13 @@ of_told c told cert e =
     let (no_matter, same) = guard_ok Range (is_within c made) (Ok made) cert last in
     let (turns, are, whole) = told_over c told made is in
     let all : of_turns told turns ≡ cert = whole ∙ same_ok made cert same in
-    let some = some_told told.turns (first_part told is_formed) in
+    let some = some_told told.turns (and_parts _ _ (and_parts _ _ (and_parts _ _ is_formed).0).0).0 in
     let long = each-length (turn_over c) told.turns turns are in
     rw (← all) (turns-over c told.turns turns are, omega (arith, some, long))
-  where
-    first_part : (told : CertificateTold) → is_formed told ≡ true → has_turns told.turns ≡ true
-    first_part told e = go (has_turns told.turns) (is_session_id told.pid) (is_tap_name told.client) (list_all (λ (t : TurnTold). is_tap_name t.node) told.turns) e
-      where
-        go : (a b d f : Bool) → (a && b && d && f) ≡ true → a ≡ true
-        go true b d f e = refl
-        go false b d f e = absurd (false≢true e)
 
 pub read_over : (c : Cluster) (text : Text) (cert : CertificateSeen) → certificate_of c text ≡ Ok cert → IsOver c cert × (0 < length cert.turns)
 unfolding certificate_of
 read_over c text cert e =
-    let (d, is, rest) = step_ok (json_of text) (read c) cert e in
+    let (d, is, rest) = step_ok (json_of text) (λ d. told_in d >>= formed c) cert e in
     let (told, are, last) = step_ok (told_in d) (formed c) cert rest in
     of_told c told cert last

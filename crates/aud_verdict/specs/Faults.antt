@@ -1,31 +1,43 @@
 -- The faults of a session, over the logs alone, and the first that holds.
-use Rattle.std.specs.Prelude.{◌≡◌, ◌<◌, ℕ, false, length}
+use Rattle.std.specs.Prelude.{◌≡◌, ◌<◌, ℕ, true, false, [], length, Some, IsSome}
 use Rattle.std.specs.List.{Contains}
 use Rattle.aud_node.specs.Stream.{Text}
 use Rattle.aud_node.specs.Cluster.{Cluster}
 use Rattle.aud_node.specs.Replies.{naming_places}
 use Rattle.aud_rooms.specs.Turns.{HasNoTurn}
-use Rattle.aud_client.specs.Told.{StaySeen}
+use Rattle.aud_client.specs.Told.{StaySeen, FrameSeen}
 use Rattle.aud_cert.specs.declared.fault.Fault.{Fault}
 use Rattle.aud_cert.specs.declared.fault.Fault.TheVariants.{NoLog, Chain, Order, Client, Names, Frame, Orphan, Content, Extra, Doubled, Swapped, Lost, Window, Tail}
 use Rattle.aud_maker.specs.Chain.{HasNoChain}
 use Rattle.aud_maker.specs.Faults.{HasUnordered}
 use Rattle.aud_check.specs.NamedStays.{is_of_session}
-use Rattle.aud_check.specs.Faults.{HasFault}
-use Rattle.aud_verdict.specs.Session.{Session, IsSession, case_of, own_stays}
+use Rattle.aud_check.specs.Frames.{IsFirstAltered, offset_at, wrong_window}
+use Rattle.aud_check.specs.Faults.{mismatch_fault}
+use Rattle.aud_verdict.specs.Session.{Session, IsSession, told, own_stays, received, case_of}
 
 -- a reply that names the session has another sid or namespace than its `open`
 abbrev pub HasOtherNames : Cluster → Session → Type 0
 HasOtherNames c s = (stay : StaySeen) × Contains (own_stays c s) stay × (is_of_session s.who stay ≡ false)
 
--- where a fault holds that is about what the client's tap tells of the session
+-- where each fault holds that is about what the client's tap tells of the session: a reply names it otherwise; a record
+-- of the tap doesn't decode; an event there has no session; of the events received the first that isn't its entry; at
+-- the first place where the positions received aren't those due, what is wrong; the connection of the first recovery
+-- that was asked for wrongly
 abbrev pub HoldsOf : Cluster → Session → Fault → Type 0
 HoldsOf c s Names = HasOtherNames c s
-HoldsOf c s fault = HasFault (case_of c s) fault
+HoldsOf c s Frame = IsSome (told c s).bad
+HoldsOf c s Orphan = (told c s).orphan ≡ true
+HoldsOf c s (Content off) = (altered : FrameSeen) × IsFirstAltered c.stream (received c s) altered × (off ≡ offset_at c.stream altered.position)
+HoldsOf c s (Extra off) = mismatch_fault (case_of c s) ≡ Some (Extra off)
+HoldsOf c s (Doubled off) = mismatch_fault (case_of c s) ≡ Some (Doubled off)
+HoldsOf c s (Swapped off) = mismatch_fault (case_of c s) ≡ Some (Swapped off)
+HoldsOf c s (Lost off) = mismatch_fault (case_of c s) ≡ Some (Lost off)
+HoldsOf c s (Window connection) = wrong_window c.stream [] (own_stays c s) ≡ Some connection
+HoldsOf c s _ = ⊥
 
 -- where each fault holds: no node has an `open` of the pid; its records are no chain of turns; the node of a turn isn't
--- ordered; not exactly one client tap has a reply that names the pid; and where there are turns and such a tap, what
--- that tap tells is at fault
+-- ordered; not exactly one client tap has a reply that names the pid; and where the session has turns and one such tap,
+-- what that tap tells is at fault
 abbrev pub Holds : Cluster → Text → Fault → Type 0
 Holds c pid NoLog = HasNoTurn c pid 0
 Holds c pid Chain = HasNoChain c pid
