@@ -15,6 +15,6 @@ pub enum Mode {
 #[derive(Clone, Copy, Debug, PartialEq, Eq, Drop)]
 pub struct Options {
     pub mode: Mode,
-    /// Threads that audit, 1 to 64.
+    /// Threads to audit with, 1 to 64. One audits, whatever this is.
     pub workers: u8,
 }
