@@ -4,7 +4,7 @@ use Rattle.std.specs.Option.{unwrap_or}
 use Rattle.aud_node.specs.Cluster.{Cluster}
 use Rattle.aud_merge.specs.declared.step.Step.{Step}
 use Rattle.aud_merge.specs.Machine.{State, start, after, taken_of}
-use Rattle.aud_merge.specs.Runs.{record_count, IsRun, state_after, front}
+use Rattle.aud_merge.specs.Runs.{record_count, state_after, front}
 
 -- the next record of the first log, of so many from this place on, whose next record is allowed
 abbrev pub first_allowed : Cluster → State → ℕ → ℕ → Option Step
@@ -25,11 +25,6 @@ unfinished_fronts c st place (suc count) =
     if nat_lt (taken_of st place) (record_count c place)
     then front st place ∷ unfinished_fronts c st (suc place) count
     else unfinished_fronts c st (suc place) count
-
--- a run, taken greedily
-pub record IsGreedyRun (c : Cluster) (steps : List Step) : Type 0 where
-  pub run : IsRun c steps
-  pub greedy : IsGreedy c (start c) steps
 
 -- the choice was made as often as it could be, and these are the next records of the logs that are left, at least one
 pub record IsBlockedAt (c : Cluster) (fronts : List Step) : Type 0 where

@@ -1,5 +1,5 @@
 //! Laws of spans, over the definitions alone.
-ghost use Rattle.std.specs.Prelude.{◌≡◌, ◌<◌, ◌≤◌, ℕ, List};
+ghost use Rattle.std.specs.Prelude.{◌≡◌, ℕ, List};
 ghost use Rattle.aud_tap.specs.declared.records.StreamRec.{StreamRec};
 ghost use Rattle.aud_rooms.specs.Rooms.{Rooms};
 ghost use Rattle.aud_rooms.specs.Turns.{Who, Slice};
@@ -17,11 +17,4 @@ pub fn due_by_spans_of_turns()
 pub fn spans_are_unique()
     ensures { (rooms_at : ℕ → Rooms) (low high : ℕ) (one other : List RoomSpan)
         → AreSpans rooms_at low high one → AreSpans rooms_at low high other → one ≡ other }
-{}
-
-/// The spans go by the rooms of the positions past low up to high alone.
-pub fn spans_go_by_positions()
-    ensures { (rooms_at other : ℕ → Rooms) (low high : ℕ) (spans : List RoomSpan)
-        → ((p : ℕ) → low < p → p ≤ high → rooms_at p ≡ other p)
-        → AreSpans rooms_at low high spans → AreSpans other low high spans }
 {}

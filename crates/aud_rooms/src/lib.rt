@@ -19,7 +19,7 @@ mod turn_spans;
 pub use addressee::addressed;
 pub use builder::SpanBuilder;
 pub use due::due_of;
-pub use laws::{due_by_spans_of_turns, spans_are_unique, spans_go_by_positions};
+pub use laws::{due_by_spans_of_turns, spans_are_unique};
 pub use room_set::RoomSet;
 pub use span::Span;
 pub use turn_place::TurnPlace;

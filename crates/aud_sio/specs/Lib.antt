@@ -10,5 +10,4 @@ pub mod Message
 pub mod Wholes
 pub mod Assembly
 pub mod Calls
-pub use Rattle.aud_eio.specs.Packet as EioPacket
 pub mod Written
