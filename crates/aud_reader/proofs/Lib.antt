@@ -5,3 +5,4 @@ pub mod TapNames
 pub mod ConnectionsLemmas
 pub mod TextsLemmas
 pub mod KeptLemmas
+pub mod NameLemmas
