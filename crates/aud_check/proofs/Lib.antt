@@ -14,3 +14,4 @@ pub mod FirstFault
 pub mod ClientCase
 pub mod Judged
 pub mod Recovery
+pub mod Mismatched

@@ -6,3 +6,4 @@ pub mod ConnectionsLemmas
 pub mod TextsLemmas
 pub mod KeptLemmas
 pub mod NameLemmas
+pub mod Grown

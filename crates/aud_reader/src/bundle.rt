@@ -113,6 +113,3 @@ pub fn read_bundle(alloc: Global, lines: &[Line]) -> Result<Taps, ReadFault>
     }
     reader.finish()
 }
-
-#[cfg(test)]
-mod tests;

@@ -2,6 +2,7 @@
 pub mod client;
 mod fields;
 pub mod header;
+pub mod items;
 pub mod line;
 pub mod node;
 pub mod record;

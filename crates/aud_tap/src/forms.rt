@@ -52,6 +52,3 @@ pub fn is_namespace(text: &str) -> bool
 {
     text.as_bytes().first() == Some(&b'/') && has_no_comma(text)
 }
-
-#[cfg(test)]
-mod tests;

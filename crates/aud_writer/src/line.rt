@@ -88,6 +88,3 @@ pub fn write_line(alloc: Global, name: &str, rec: &Rec) -> Result<Vec<u8>, ReadF
     }
     Ok(line)
 }
-
-#[cfg(test)]
-mod tests;

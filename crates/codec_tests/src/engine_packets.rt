@@ -46,6 +46,7 @@ fn packets(rt: HostRuntime) -> Result<(), Fail> {
     Ok(())
 }
 
+/// Texts that are no packet.
 const REFUSALS: [(&str, &str); 11] = [
     ("", "Err(Empty)"),
     ("7x", "Err(UnknownType)"),

@@ -1,4 +1,7 @@
 //! Certificates, and the answers on them, as texts.
+ghost use Rattle.std.specs.Prelude.{◌≡◌};
+ghost use Rattle.aud_client.specs.Clients.{clients_of};
+
 use aud_cert::{CertFault, Certificate, Turn, read_cert, write_cert};
 use aud_check::{Accepted, Refusal, check, check_read};
 use aud_client::Clients;
@@ -102,7 +105,9 @@ fn write_check_read(
     logs: &Logs<'_>,
     clients: &Clients<'_>,
     text: &str,
-) -> Result<(), Fail> {
+) -> Result<(), Fail>
+    requires { clients.now ≡ clients_of logs.now }
+{
     let cert = read_cert(alloc, text.as_bytes(), logs)?;
     write_answer(out, &check_read(alloc, logs, clients, &cert))?;
     writeln!(out, "")?;

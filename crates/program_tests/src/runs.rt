@@ -36,66 +36,69 @@ fn with_certificates(
     Ok(bytes)
 }
 
+/// A word, a bundle and certificates after it, and the text and the status of its output.
+static OUTPUTS: [(&str, &str, &str, &str, Status); 14] = [
+    ("audit", "", "", "sessions=0 yes=0 no=0\n", Status::AllYes),
+    ("audit", BUNDLE_A, "", REPORT_A, Status::AllYes),
+    (
+        "audit",
+        NOT_DUE,
+        "",
+        "no P EXTRA 1-0\nsessions=1 yes=0 no=1\n",
+        Status::SomeNo,
+    ),
+    ("audit", CUT, "", "line 7: NotJson\n", Status::Refused),
+    ("audit", "{}\n", "", "line 1: NoTapName\n", Status::Refused),
+    ("prove", BUNDLE_A, "", PROOF_A, Status::AllYes),
+    ("prove", NOT_DUE, "", "", Status::SomeNo),
+    ("prove", "", "", "", Status::AllYes),
+    (
+        "verify",
+        BUNDLE_A,
+        PROOF_A,
+        "ok 12 P got=1 tail=0 turns=1\ncerts=1 ok=1 bad=0\n",
+        Status::AllYes,
+    ),
+    (
+        "verify",
+        BUNDLE_B,
+        r#"{"client":"c1","pid":"P","spans":[["r",1,2],["s1",1,2]],"turns":[["a",1,5,0,1],["b",3,4,2,2]]}"#,
+        "ok 25 P got=2 tail=0 turns=2\ncerts=1 ok=1 bad=0\n",
+        Status::AllYes,
+    ),
+    (
+        "verify",
+        BUNDLE_B,
+        r#"{"client":"c1","pid":"P","spans":[["r",1,3],["s1",1,2]],"turns":[["a",1,5,0,1],["b",3,4,2,2]]}"#,
+        "bad 25 K9 Span\ncerts=1 ok=0 bad=1\n",
+        Status::SomeNo,
+    ),
+    (
+        "verify",
+        BUNDLE_B,
+        r#"{"client":"c1","pid":"P","spans":[["r",1,2],["s1",1,2]],"turns":[["a",1,4,0,1],["b",3,4,2,2]]}"#,
+        "bad 25 K7 NoEnd\ncerts=1 ok=0 bad=1\n",
+        Status::SomeNo,
+    ),
+    (
+        "verify",
+        BUNDLE_B,
+        r#"{"client":"c1","pid":"P","spans":[["r",1,1],["s1",1,1]],"turns":[["a",1,5,0,1]]}"#,
+        "bad 25 K11 Received EXTRA 2-0\ncerts=1 ok=0 bad=1\n",
+        Status::SomeNo,
+    ),
+    (
+        "verify",
+        B_WITHOUT_SECOND_EVENT,
+        r#"{"client":"c1","pid":"P","spans":[["r",1,1],["s1",1,1]],"turns":[["a",1,5,0,1]]}"#,
+        "ok 24 P got=1 tail=0 turns=1\ncerts=1 ok=1 bad=0\n",
+        Status::AllYes,
+    ),
+];
+
 #[test]
 fn outputs(rt: HostRuntime) -> Result<(), Fail> {
-    for (word, bundle, certificates, text, status) in [
-        ("audit", "", "", "sessions=0 yes=0 no=0\n", Status::AllYes),
-        ("audit", BUNDLE_A, "", REPORT_A, Status::AllYes),
-        (
-            "audit",
-            NOT_DUE,
-            "",
-            "no P EXTRA 1-0\nsessions=1 yes=0 no=1\n",
-            Status::SomeNo,
-        ),
-        ("audit", CUT, "", "line 7: NotJson\n", Status::Refused),
-        ("audit", "{}\n", "", "line 1: NoTapName\n", Status::Refused),
-        ("prove", BUNDLE_A, "", PROOF_A, Status::AllYes),
-        ("prove", NOT_DUE, "", "", Status::SomeNo),
-        ("prove", "", "", "", Status::AllYes),
-        (
-            "verify",
-            BUNDLE_A,
-            PROOF_A,
-            "ok 12 P got=1 tail=0 turns=1\ncerts=1 ok=1 bad=0\n",
-            Status::AllYes,
-        ),
-        (
-            "verify",
-            BUNDLE_B,
-            r#"{"client":"c1","pid":"P","spans":[["r",1,2],["s1",1,2]],"turns":[["a",1,5,0,1],["b",3,4,2,2]]}"#,
-            "ok 25 P got=2 tail=0 turns=2\ncerts=1 ok=1 bad=0\n",
-            Status::AllYes,
-        ),
-        (
-            "verify",
-            BUNDLE_B,
-            r#"{"client":"c1","pid":"P","spans":[["r",1,3],["s1",1,2]],"turns":[["a",1,5,0,1],["b",3,4,2,2]]}"#,
-            "bad 25 K9 Span\ncerts=1 ok=0 bad=1\n",
-            Status::SomeNo,
-        ),
-        (
-            "verify",
-            BUNDLE_B,
-            r#"{"client":"c1","pid":"P","spans":[["r",1,2],["s1",1,2]],"turns":[["a",1,4,0,1],["b",3,4,2,2]]}"#,
-            "bad 25 K7 NoEnd\ncerts=1 ok=0 bad=1\n",
-            Status::SomeNo,
-        ),
-        (
-            "verify",
-            BUNDLE_B,
-            r#"{"client":"c1","pid":"P","spans":[["r",1,1],["s1",1,1]],"turns":[["a",1,5,0,1]]}"#,
-            "bad 25 K11 Received EXTRA 2-0\ncerts=1 ok=0 bad=1\n",
-            Status::SomeNo,
-        ),
-        (
-            "verify",
-            B_WITHOUT_SECOND_EVENT,
-            r#"{"client":"c1","pid":"P","spans":[["r",1,1],["s1",1,1]],"turns":[["a",1,5,0,1]]}"#,
-            "ok 24 P got=1 tail=0 turns=1\ncerts=1 ok=1 bad=0\n",
-            Status::AllYes,
-        ),
-    ] {
+    for &(word, bundle, certificates, text, status) in &OUTPUTS {
         let input = with_certificates(rt.alloc(), bundle, certificates)?;
         let is_so = gives(&rt, rt.alloc(), word, &input, text, status)?;
         assert!(rt; is_so, "{word}: {text}");
@@ -118,32 +121,35 @@ fn with_padded(
     Ok(bytes)
 }
 
+/// A text, a line after it with blanks up to so many bytes, and the text and the status of its output.
+static LONG_LINES: [(&str, &str, usize, &str, Status); 4] = [
+    (
+        "",
+        STREAM_HEADER,
+        4_194_304,
+        "sessions=0 yes=0 no=0\n",
+        Status::AllYes,
+    ),
+    (
+        "",
+        STREAM_HEADER,
+        4_194_305,
+        "line 1: LineTooLong\n",
+        Status::Refused,
+    ),
+    ("", "{", 4_194_305, "line 1: LineTooLong\n", Status::Refused),
+    (
+        LATER_HEADER,
+        "{",
+        4_194_305,
+        "line 1: Version\n",
+        Status::Refused,
+    ),
+];
+
 #[test]
 fn a_line_of_4194304_bytes_is_read(rt: HostRuntime) -> Result<(), Fail> {
-    for (text, line, length, output, status) in [
-        (
-            "",
-            STREAM_HEADER,
-            4_194_304,
-            "sessions=0 yes=0 no=0\n",
-            Status::AllYes,
-        ),
-        (
-            "",
-            STREAM_HEADER,
-            4_194_305,
-            "line 1: LineTooLong\n",
-            Status::Refused,
-        ),
-        ("", "{", 4_194_305, "line 1: LineTooLong\n", Status::Refused),
-        (
-            LATER_HEADER,
-            "{",
-            4_194_305,
-            "line 1: Version\n",
-            Status::Refused,
-        ),
-    ] {
+    for &(text, line, length, output, status) in &LONG_LINES {
         let input = with_padded(rt.alloc(), text, line, length)?;
         let is_so = gives(&rt, rt.alloc(), "audit", &input, output, status)?;
         assert!(rt; is_so, "{length}: {output}");

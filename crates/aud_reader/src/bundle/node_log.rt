@@ -8,6 +8,7 @@ ghost use Rattle.aud_reader.specs.Texts.{HasPids};
 
 use super::pids::add_pid_of;
 use crate::fault::{LIMIT, LineFault};
+use crate::read::items::push;
 use crate::read::node::node_record;
 use aud_tap::NodeRec;
 use serde_json::Value;
@@ -36,8 +37,5 @@ pub fn add_node_record(
         return Err(LIMIT);
     }
     add_pid_of(alloc, pids, &rec)?;
-    let Ok(()) = records.push(rec) else {
-        return Err(LineFault::Memory);
-    };
-    Ok(())
+    push(records, rec)
 }

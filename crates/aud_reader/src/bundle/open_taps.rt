@@ -9,6 +9,7 @@ use super::counts::Counts;
 use super::open_tap::OpenTap;
 use crate::fault::{InputCode, LineFault};
 use crate::read::header::tap_header;
+use crate::read::items::push;
 use crate::read::line::opened_line;
 use crate::read::record::kind_of;
 use aud_tap::{Memory, TapKind, Taps, Text};
@@ -57,17 +58,14 @@ impl OpenTaps {
         let Ok(key) = String::from_str(self.alloc, name) else {
             return Err(LineFault::Memory);
         };
-        let Ok(name) = String::from_str(self.alloc, name) else {
-            return Err(LineFault::Memory);
-        };
         let Ok(_) = self.places.insert(key, self.taps.len()) else {
             return Err(LineFault::Memory);
         };
-        let tap = OpenTap::new(self.alloc, Text::new(name), of);
-        let Ok(()) = self.taps.push(tap) else {
+        let Ok(name) = String::from_str(self.alloc, name) else {
             return Err(LineFault::Memory);
         };
-        Ok(())
+        let tap = OpenTap::new(self.alloc, Text::new(name), of);
+        push(&mut self.taps, tap)
     }
 
     /// Reads the first line of a tap, which is its header.
@@ -124,7 +122,7 @@ impl OpenTaps {
     {
         let mut taps = Vec::new(self.alloc);
         for tap in self.taps {
-            let Ok(()) = taps.push(tap.close()) else {
+            let Ok(()) = push(&mut taps, tap.close()) else {
                 return Err(Memory);
             };
         }

@@ -1,9 +1,15 @@
 //! The entries of the stream, while they are read.
-ghost use Rattle.std.specs.Prelude.{◌≡◌, []};
+ghost use Rattle.std.specs.Prelude.{◌≡◌, ◌∷◌, ◌++◌, [], List, ℕ, not, MatchResult};
+ghost use Rattle.std.specs.List.{list_any};
 ghost use Rattle.serde_json.specs.View.{view};
+ghost use Rattle.aud_reader.specs.declared.fault.InputCode.TheVariants.{OffsetTwice};
+ghost use Rattle.aud_reader.specs.Steps.{Gives, guard};
+ghost use Rattle.aud_tap.specs.Forms.{is_text};
+ghost use Rattle.aud_reader.specs.Texts.{HasTexts};
 ghost use Rattle.aud_reader.specs.Bundle.{offset_of, with_entry, with_new_offset};
 
 use crate::fault::{InputCode, LIMIT, LineFault};
+use crate::read::items::push;
 use crate::read::stream::stream_record;
 use aud_tap::{StreamRec, StreamRecs};
 use serde_json::Value;
@@ -23,6 +29,23 @@ fn offset_of(entry: &StreamRec) -> &str
         StreamRec::Ev(event) => event.off.as_str(),
         StreamRec::Other { off } => off.as_str(),
     }
+}
+
+/// Adds an offset, unless it is there already.
+fn add_offset(alloc: Global, offsets: &mut HashSet<String>, off: &str) -> Result<(), LineFault>
+    ensures new { (all : List (List ℕ)) → HasTexts offsets.old all → Gives result (guard OffsetTwice (not (list_any (is_text off.now) all))) }
+    ensures kept { (all : List (List ℕ)) → HasTexts offsets.old all → MatchResult result (λ _. HasTexts offsets.new (all ++ off.now ∷ [])) (λ _. HasTexts offsets.new all) }
+{
+    let Ok(off) = String::from_str(alloc, off) else {
+        return Err(LineFault::Memory);
+    };
+    let Ok(is_new) = offsets.insert(off) else {
+        return Err(LineFault::Memory);
+    };
+    if !is_new {
+        return Err(OFFSET_TWICE);
+    }
+    Ok(())
 }
 
 /// The entries so far, and their offsets.
@@ -63,21 +86,11 @@ impl StreamLog {
     fn push(&mut self, entry: StreamRec) -> Result<(), LineFault>
         ensures { Becomes result self.new (with_new_offset self.old entry) }
     {
-        let Ok(off) = String::from_str(self.alloc, offset_of(&entry)) else {
-            return Err(LineFault::Memory);
-        };
         let Ok(()) = self.entries.reserve(1) else {
             return Err(LineFault::Memory);
         };
-        match self.offsets.insert(off) {
-            Ok(true) => {}
-            Ok(false) => return Err(OFFSET_TWICE),
-            Err(_) => return Err(LineFault::Memory),
-        }
-        let Ok(()) = self.entries.push(entry) else {
-            return Err(LineFault::Memory);
-        };
-        Ok(())
+        add_offset(self.alloc, &mut self.offsets, offset_of(&entry))?;
+        push(&mut self.entries, entry)
     }
 
     /// Adds the entry of a line.

@@ -27,6 +27,22 @@ pub fn copied(alloc: Global, text: &str) -> Result<Text, LineFault>
     }
 }
 
+/// Copies of three texts that are lent.
+pub fn copies(
+    alloc: Global,
+    first: &str,
+    second: &str,
+    third: &str,
+) -> Result<(Text, Text, Text), LineFault>
+    ensures { Gives result (Ok (first.now, second.now, third.now)) }
+{
+    Ok((
+        copied(alloc, first)?,
+        copied(alloc, second)?,
+        copied(alloc, third)?,
+    ))
+}
+
 pub fn number_at(key: &str, d: &Value) -> Option<u64>
     ensures { result ≡ number_at key.now (view d.now) }
 {
@@ -107,13 +123,19 @@ pub fn bytes_at(alloc: Global, key: &str, d: &Value) -> Result<Bytes, LineFault>
     as_blob(alloc, d)
 }
 
+fn as_text(alloc: Global, d: &Value) -> Result<Text, LineFault>
+    ensures { Gives result (need Field (as_str (view d.now))) }
+{
+    let text = d.as_str().ok_or(FIELD)?;
+    copied(alloc, text)
+}
+
 fn texts(alloc: Global, items: &[Value]) -> Result<Texts, LineFault>
     ensures { Gives result (need Field (each as_str (items_view items.now))) }
 {
     let mut texts = Vec::new(alloc);
     for d in items {
-        let text = d.as_str().ok_or(FIELD)?;
-        let text = copied(alloc, text)?;
+        let text = as_text(alloc, d)?;
         if texts.push(text).is_err() {
             return Err(LineFault::Memory);
         }

@@ -62,10 +62,12 @@ fn parse(alloc: Global, line: &[u8]) -> Result<(String, Rec), LineFault>
     ensures record { IfOk result (λ p. IsTrue (is_well_formed p.1)) }
 {
     let (name, d) = opened_line(alloc, line)?;
-    let rec = value_record(alloc, &d)?;
-    match String::from_str(alloc, name) {
-        Ok(name) => Ok((name, rec)),
-        Err(_) => Err(LineFault::Memory),
+    let Ok(name) = String::from_str(alloc, name) else {
+        return Err(LineFault::Memory);
+    };
+    match value_record(alloc, &d) {
+        Ok(rec) => Ok((name, rec)),
+        Err(fault) => Err(fault),
     }
 }
 
@@ -89,6 +91,3 @@ pub fn parse_line(alloc: Global, line: &Line) -> Result<(String, Rec), ReadFault
         Err(LineFault::Memory) => Err(ReadFault::Memory),
     }
 }
-
-#[cfg(test)]
-mod tests;

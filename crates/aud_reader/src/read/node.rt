@@ -8,7 +8,7 @@ ghost use Rattle.aud_reader.specs.NodeRecord.{start_of, take_of, open_of, member
 ghost use Rattle.aud_reader.specs.NodeRecord.{leave_of, turn_of, break_of, back_of, gone_of};
 ghost use Rattle.aud_reader.specs.NodeRecord.{node_record_of};
 
-use super::fields::{copied, id_at, id_or_null_at, namespace_at, number_at, text_at};
+use super::fields::{copied, copies, id_at, id_or_null_at, namespace_at, number_at, text_at};
 use crate::fault::{FIELD, LIMIT, LineFault, UNKNOWN_KIND};
 use aud_tap::limits::{MAX_ID, MAX_NAMESPACE, MAX_OFFSET, MAX_ROOM, fits};
 use aud_tap::{NodeRec, Text};
@@ -57,11 +57,8 @@ fn open(alloc: Global, d: &Value) -> Result<NodeRec, LineFault>
     if !fits(MAX_ID, pid) || !fits(MAX_ID, sid) || !fits(MAX_NAMESPACE, nsp) {
         return Err(LIMIT);
     }
-    Ok(NodeRec::Opened {
-        pid: copied(alloc, pid)?,
-        sid: copied(alloc, sid)?,
-        nsp: copied(alloc, nsp)?,
-    })
+    let (pid, sid, nsp) = copies(alloc, pid, sid, nsp)?;
+    Ok(NodeRec::Opened { pid, sid, nsp })
 }
 
 /// A pid and a room.

@@ -74,6 +74,3 @@ pub fn value_record(alloc: Global, d: &Value) -> Result<Rec, LineFault>
     let kind = kind_of(d)?;
     record(alloc, kind, d)
 }
-
-#[cfg(test)]
-mod tests;

@@ -1,16 +1,26 @@
 //! The records of a stream tap.
-ghost use Rattle.std.specs.Prelude.{IfOk, IsTrue};
+ghost use Rattle.std.specs.Prelude.{◌≡◌, ◌&&◌, nat_le, length, IfOk, IsTrue};
 ghost use Rattle.serde_json.specs.View.{view};
+ghost use Rattle.aud_tap.specs.Limits.{fit_rooms, max_attachments};
 ghost use Rattle.aud_tap.specs.WellFormed.{stream_is_well_formed};
 ghost use Rattle.aud_reader.specs.Steps.{Gives};
 ghost use Rattle.aud_reader.specs.StreamRecord.{event_of, other_of, stream_record_of};
 
-use super::fields::{blobs_at, copied, id_at, namespace_at, text_at, texts_at};
+use super::fields::{blobs_at, copied, copies, id_at, namespace_at, text_at, texts_at};
 use crate::fault::{FIELD, LIMIT, LineFault, UNKNOWN_KIND};
 use aud_tap::limits::{MAX_ATTACHMENTS, MAX_NAMESPACE, MAX_OFFSET, fit_rooms, fits};
-use aud_tap::{Event, StreamRec};
+use aud_tap::{Blobs, Event, StreamRec, Texts};
 use serde_json::Value;
 use std::alloc::Global;
+
+/// The rooms and the attachments of an event are no more than may be, and no room is empty or too long.
+fn lists_fit(rooms: &Texts, except: &Texts, bin: &Blobs) -> bool
+    ensures { result ≡ (fit_rooms rooms.now && fit_rooms except.now && nat_le (length bin.now) max_attachments) }
+{
+    fit_rooms(rooms.as_slice())
+        && fit_rooms(except.as_slice())
+        && bin.as_slice().len() <= MAX_ATTACHMENTS
+}
 
 #[tactic(auto, unfolding(crate::specs::StreamRecord::event_of))]
 fn event(alloc: Global, d: &Value) -> Result<StreamRec, LineFault>
@@ -23,23 +33,20 @@ fn event(alloc: Global, d: &Value) -> Result<StreamRec, LineFault>
     let rooms = texts_at(alloc, "rooms", d)?;
     let except = texts_at(alloc, "except", d)?;
     let bin = blobs_at(alloc, "bin", d)?;
-    if !fits(MAX_OFFSET, off) || !fits(MAX_NAMESPACE, nsp) {
+    if !fits(MAX_OFFSET, off) || !fits(MAX_NAMESPACE, nsp) || !lists_fit(&rooms, &except, &bin) {
         return Err(LIMIT);
     }
-    if !fit_rooms(rooms.as_slice()) || !fit_rooms(except.as_slice()) {
-        return Err(LIMIT);
+    match copies(alloc, off, nsp, text) {
+        Ok((off, nsp, text)) => Ok(StreamRec::Ev(Event {
+            off,
+            nsp,
+            rooms,
+            except,
+            text,
+            bin,
+        })),
+        Err(e) => Err(e),
     }
-    if bin.as_slice().len() > MAX_ATTACHMENTS {
-        return Err(LIMIT);
-    }
-    Ok(StreamRec::Ev(Event {
-        off: copied(alloc, off)?,
-        nsp: copied(alloc, nsp)?,
-        rooms,
-        except,
-        text: copied(alloc, text)?,
-        bin,
-    }))
 }
 
 #[tactic(auto, unfolding(crate::specs::StreamRecord::other_of))]

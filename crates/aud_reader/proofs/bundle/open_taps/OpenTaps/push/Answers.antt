@@ -2,11 +2,12 @@ use Rattle.std.proofs.Common.{◌≡◌, ◌∷◌, [], length, None, arith}
 use Rattle.std.specs.String.{string_bytes}
 use Rattle.std.proofs.lemmas.List.{length-map, map-append}
 use Rattle.aud_reader.specs.Kept.{place_of, tap_so_far, taps_so_far}
+use Rattle.aud_reader.proofs.Grown.{on-grown}
 use Rattle.aud_reader.proofs.KeptLemmas.{places-put}
 use Rattle.aud_reader.proofs.bundle.open_taps.OpenTaps.push.Goals as goal
 
 pub returns-clause-places : goal.returns-clause-places
-returns-clause-places c = λ places first text.
+returns-clause-places c = λ places first.
     let ts = taps_so_far c.args.self.now in
     let t = tap_so_far c.new-tap.result in
     let made = c.new-tap.ensures in
@@ -17,5 +18,6 @@ returns-clause-places c = λ places first text.
     let spells : string_bytes c.in-Ok.key ≡ t.name = cc in
     let sized : c.len.result ≡ length ts = omega (arith, c.len.ensures, c.args.self.now.taps.ok.0, length-map c.args.self.now.taps.items tap_so_far) in
     let absent : place_of t.name ts ≡ None = rw named first in
-    rw (c.in-Ok-push.ensures.items, map-append tap_so_far c.args.self.now.taps.items (c.new-tap.result ∷ []))
-    (places-put c.args.self.now.places c.insert.new.self ts t c.in-Ok.key c.len.result spells sized c.in-Ok-insert.ensures.updates places absent text)
+    on-grown c.push.result c.push.ensures.items
+    (λ is. λ text. rw (is, map-append tap_so_far c.args.self.now.taps.items (c.new-tap.result ∷ []))
+    (places-put c.args.self.now.places c.insert.new.self ts t c.in-Ok.key c.len.result spells sized c.in-Ok-insert.ensures.updates places absent text))

@@ -1,0 +1,6 @@
+use Rattle.aud_reader.proofs.TextsLemmas.{texts-put}
+use Rattle.aud_reader.proofs.bundle.stream_log.add_offset.Goals as goal
+
+pub returns-clause-kept : goal.returns-clause-kept
+returns-clause-kept c = λ all has.
+    texts-put c.args.offsets.now c.insert.new.self all c.args.off.now c.in-Ok.off c.in-Ok.ensures.ok c.in-Ok-insert.ensures.updates has

@@ -1,0 +1,255 @@
+-- What is found by making a session's certificate and checking it is its verdict.
+use Rattle.std.proofs.Common.{◌≡◌, ◌<◌, ◌≤◌, ◌+◌, ◌*◌, ℕ, true, false, List, [], ◌∷◌, map, length, Option, Some, None, slice_get, unwrap_or, refl, sym, ap, subst, ◌∙◌, ◌⊎◌, inl, inr, arith}
+use Rattle.std.specs.Option.{option_and_then}
+use Rattle.std.proofs.lemmas.Bool.{true≢false, false≢true, cases_lt}
+use Rattle.std.proofs.lemmas.List.{length-map}
+use Rattle.std.proofs.lemmas.Option.{same_Some, none-some}
+use Rattle.aud_tap.specs.declared.taps.Tap.{Tap}
+use Rattle.aud_node.specs.Stream.{Text}
+use Rattle.aud_node.specs.Cluster.{Cluster}
+use Rattle.aud_node.specs.Names.{AreNamedOnce}
+use Rattle.aud_node.specs.NodeTaps.{client_at, client_recs}
+use Rattle.aud_node.specs.Replies.{is_naming}
+use Rattle.aud_node.specs.TurnRecords.{begins_turn}
+use Rattle.aud_rooms.specs.Turns.{Who, Turn, beginning, slice_of, HasNoTurn, AreTurns}
+use Rattle.aud_rooms.specs.TurnsDue.{turns_due}
+use Rattle.aud_client.specs.Received.{received_of, received_list, stays_naming}
+use Rattle.aud_cert.specs.declared.fault.Fault.{Fault}
+use Rattle.aud_cert.specs.declared.fault.Fault.TheVariants.{NoLog, Chain, Order, Client, Names, Frame, Orphan, Content, Extra, Doubled, Swapped, Lost, Window}
+use Rattle.aud_cert.specs.Certificate.{TurnSeen, CertificateSeen, place_named}
+use Rattle.aud_maker.specs.Faults as maker
+use Rattle.aud_maker.specs.Made.{tap_name, turn_seen, IsMade}
+use Rattle.aud_maker.proofs.Turns.{beginning-begins}
+use Rattle.aud_maker.proofs.FirstFault.{not_unordered, none_holds}
+use Rattle.aud_check.specs.declared.refusal.Refusal.{Refusal}
+use Rattle.aud_check.specs.declared.refusal.Refusal.TheVariants as refused
+use Rattle.aud_check.specs.Shown.{recs_or_none, who_of, slices_of, shown_due, frames_received}
+use Rattle.aud_check.specs.NamedStays.{are_of_session}
+use Rattle.aud_check.specs.Faults.{Case, HasFault, IsReceived, fault_rank, mismatch_fault}
+use Rattle.aud_check.specs.Refusals as check
+use Rattle.aud_check.proofs.Ranks.{no_fault}
+use Rattle.aud_verdict.specs.Session.{Session, IsSession, own_stays, due_to, case_of}
+use Rattle.aud_verdict.specs.Faults.{HoldsOf, Holds, rank, IsFirst, NoneHolds}
+use Rattle.aud_verdict.specs.Verdict.{IsYes}
+use Rattle.aud_verdict.specs.Refused.{fault_found}
+use Rattle.aud_verdict.proofs.Sessions.{at_session, held, naming, other_names, not_of_session}
+use Rattle.aud_verdict.proofs.MadeLemmas.{there, who_is}
+
+-- ---- the four faults without a certificate
+
+early : (c : Cluster) (pid : Text) (fault : Fault) → maker.Holds c pid fault → rank fault < 4
+early c pid NoLog h = omega arith
+early c pid Chain h = omega arith
+early c pid Order h = omega arith
+early c pid Client h = omega arith
+early c pid _ h = absurd h
+
+same_rank : (fault : Fault) → rank fault < 4 → maker.rank fault ≡ rank fault
+same_rank NoLog h = refl
+same_rank Chain h = refl
+same_rank Order h = refl
+same_rank Client h = refl
+same_rank _ h = absurd (omega arith)
+
+known : (c : Cluster) (pid : Text) (fault : Fault) → rank fault < 4 → Holds c pid fault → maker.Holds c pid fault
+known c pid NoLog h holds = holds
+known c pid Chain h holds = holds
+known c pid Order h holds = holds
+known c pid Client h holds = holds
+known c pid _ h holds = absurd (omega arith)
+
+found : (c : Cluster) (pid : Text) (fault : Fault) → maker.Holds c pid fault → Holds c pid fault
+found c pid NoLog h = h
+found c pid Chain h = h
+found c pid Order h = h
+found c pid Client h = h
+found c pid _ h = absurd h
+
+pub not_made : (c : Cluster) (pid : Text) (fault : Fault) → maker.IsFirst c pid fault → IsFirst c pid fault
+not_made c pid fault is =
+    let front = early c pid fault is.holds in
+    let own = same_rank fault front in
+    record {
+      holds = found c pid fault is.holds;
+      none_before = λ other less h.
+          (let low : rank other < 4 = omega arith in
+          let its = same_rank other low in
+          is.none_before other (omega arith) (known c pid other low h));
+    }
+
+-- ---- a made certificate
+
+abbrev case_with : Cluster → ℕ → Text → List ℕ → Case
+case_with c place pid due =
+    record {
+      stream = c.stream;
+      told = received_of c.stream (recs_or_none (client_at c place));
+      stays = stays_naming pid (received_of c.stream (recs_or_none (client_at c place))).stays;
+      frames = received_list c.stream (recs_or_none (client_at c place)) pid;
+      due = due;
+    }
+
+-- where a fault of what was received stands in the two orders
+abbrev Placed : Case → Fault → Type 0
+Placed case f =
+    ((fault_rank f < 3) × (rank f ≡ 5 + fault_rank f))
+    ⊎ (((fault_rank f ≡ 3) × (8 ≤ rank f) × (rank f ≤ 11) × (mismatch_fault case ≡ Some f)) ⊎ ((fault_rank f ≡ 4) × (rank f ≡ 12)))
+
+placed : (case : Case) (f : Fault) → HasFault case f → Placed case f
+placed case Frame h = inl (omega arith, refl)
+placed case Orphan h = inl (omega arith, refl)
+placed case (Content off) h = inl (omega arith, refl)
+placed case (Extra off) h = inr (inl (refl, omega arith, omega arith, h))
+placed case (Doubled off) h = inr (inl (refl, omega arith, omega arith, h))
+placed case (Swapped off) h = inr (inl (refl, omega arith, omega arith, h))
+placed case (Lost off) h = inr (inl (refl, omega arith, omega arith, h))
+placed case (Window n) h = inr (inr (refl, refl))
+placed case _ h = absurd h
+
+lower : (case : Case) (g f : Fault) → rank g < rank f → Placed case g → Placed case f → fault_rank g < fault_rank f
+lower case g f less (inl a) (inl b) = omega arith
+lower case g f less (inl a) (inr (inl b)) = omega arith
+lower case g f less (inl a) (inr (inr b)) = omega arith
+lower case g f less (inr (inl a)) (inl b) = omega arith
+lower case g f less (inr (inl a)) (inr (inl b)) =
+    let one : rank g ≡ rank f = ap rank (same_Some g f (sym a.3 ∙ b.3)) in
+    omega arith
+lower case g f less (inr (inl a)) (inr (inr b)) = omega arith
+lower case g f less (inr (inr a)) (inl b) = omega arith
+lower case g f less (inr (inr a)) (inr (inl b)) = omega arith
+lower case g f less (inr (inr a)) (inr (inr b)) = omega arith
+
+pub late : (case : Case) (f : Fault) → HasFault case f → 4 ≤ rank f
+late case f h = go (placed case f h)
+  where
+    go : Placed case f → 4 ≤ rank f
+    go (inl a) = omega arith
+    go (inr (inl a)) = omega arith
+    go (inr (inr a)) = omega arith
+
+pub as_held : (c : Cluster) (s : Session) (f : Fault) → HasFault (case_of c s) f → HoldsOf c s f
+as_held c s Names h = absurd h
+as_held c s f h = h
+
+module _ (c : Cluster) (pid : Text) (cert : CertificateSeen) (once : AreNamedOnce c.taps) (made : IsMade c pid cert) where
+  abbrev session : Session
+  session = record { who = made.who; turns = made.turns; client = made.client.place }
+
+  is_session : IsSession c pid session
+  is_session = record { names = made.names; chain = made.chain; only = made.client.only }
+
+  place_is : place_named c cert.client ≡ made.client.place
+  place_is = go (slice_get c.taps made.client.place) refl (naming c pid session is_session)
+    where
+      go : (tap : Option Tap) → slice_get c.taps made.client.place ≡ tap → is_naming pid (option_and_then client_recs tap) ≡ true → place_named c cert.client ≡ made.client.place
+      go None at e = absurd (false≢true e)
+      go (Some tap) at e = ap (place_named c) (made.client.name_is ∙ ap tap_name at) ∙ ap (λ o. unwrap_or o (length c.taps)) (once made.client.place tap at)
+
+  due_is : shown_due c cert ≡ due_to c session
+  due_is =
+      ap (λ (w : Who). turns_due c.stream w (slices_of c cert)) (who_is c pid cert once made)
+      ∙ ap (λ (ts : List Turn). turns_due c.stream made.who (map (slice_of c) ts)) (there c pid cert once made)
+
+  case_is : check.case_of c cert ≡ case_of c session
+  case_is =
+      ap (λ place. case_with c place cert.pid (shown_due c cert)) place_is
+      ∙ ap (λ p. case_with c made.client.place p (shown_due c cert)) (made.is.pid_is ∙ sym made.names)
+      ∙ ap (case_with c made.client.place made.who.pid) due_is
+
+  stays_same : are_of_session (who_of cert) (check.case_of c cert).stays ≡ are_of_session made.who (own_stays c session)
+  stays_same =
+      ap (λ (w : Who). are_of_session w (check.case_of c cert).stays) (who_is c pid cert once made)
+      ∙ ap (λ (case : Case). are_of_session made.who case.stays) case_is
+
+  -- ---- none of the four faults holds
+
+  logged : HasNoTurn c pid 0 → ⊥
+  logged = go made.turns made.chain.some made.chain.are_turns
+    where
+      go : (turns : List Turn) → 0 < length turns → AreTurns c made.who 0 turns → HasNoTurn c pid 0 → ⊥
+      go [] some are no_turn = absurd (omega arith)
+      go (t ∷ later) some are no_turn =
+          no_turn t.node t.from (beginning made.who 0) are.0.begins
+          (ap (λ p. begins_turn p 0 (beginning made.who 0)) (sym made.names) ∙ beginning-begins made.who 0)
+
+  none_early : (fault : Fault) → rank fault < 4 → Holds c pid fault → ⊥
+  none_early fault front h =
+      none_holds c pid logged (λ no_chain. no_chain made.who made.turns made.names made.chain)
+      (not_unordered c made.who pid made.turns made.names made.chain made.ordered) (ap (λ (ns : List ℕ). length ns) made.client.only) fault
+      (known c pid fault front h)
+
+  -- ---- accepted
+
+  module _ (is : check.IsAccepted c cert) where
+    none_late : (fault : Fault) → HoldsOf c session fault → ⊥
+    none_late Names h = true≢false (sym is.are_named ∙ stays_same ∙ not_of_session c pid session is_session h)
+    none_late fault h = no_fault (case_of c session) (subst IsReceived case_is is.is_received) fault h
+
+    pub none_of_accepted : NoneHolds c pid
+    none_of_accepted fault h = go (cases_lt (rank fault) 4)
+      where
+        go : (rank fault < 4) ⊎ (4 ≤ rank fault) → ⊥
+        go (inl front) = none_early fault front h
+        go (inr back) = none_late fault (at_session c pid session is_session fault back h)
+
+    pub accepted : (got tail turns : ℕ) → got ≡ length (frames_received c cert) → got + tail ≡ length (shown_due c cert) → turns ≡ length cert.turns → IsYes c pid got tail turns
+    accepted got tail turns got_is tail_is turns_are =
+        record {
+          none_holds = none_of_accepted;
+          session = session;
+          is_session = is_session;
+          got_is = got_is ∙ ap (λ (case : Case). length case.frames) case_is;
+          tail_is = tail_is ∙ ap (λ (ps : List ℕ). length ps) due_is;
+          turns_are = turns_are ∙ ap (λ (ts : List TurnSeen). length ts) made.is.turns_are ∙ length-map made.turns (turn_seen c);
+        }
+
+  -- ---- refused
+
+  of_names : (place : check.Place) → check.Refuses c cert place refused.Names → are_of_session (who_of cert) (check.case_of c cert).stays ≡ false
+  of_names (check.AtTurn k) (t, at, h) = absurd h
+  of_names check.AtWhole h = h
+
+  of_received : (f : Fault) (place : check.Place) → check.Refuses c cert place (refused.Received f) → HasFault (case_of c session) f
+  of_received f (check.AtTurn k) (t, at, h) = absurd h
+  of_received f check.AtWhole h = subst (λ (case : Case). HasFault case f) case_is h
+
+  first_names : check.IsFirst c cert refused.Names → IsFirst c pid Names
+  first_names is =
+      record {
+        holds = held c pid session is_session Names (omega arith) (other_names c pid session is_session (sym stays_same ∙ of_names is.place is.refuses));
+        none_before = none_early;
+      }
+
+  module _ (f : Fault) (is : check.IsFirst c cert (refused.Received f)) where
+    has : HasFault (case_of c session) f
+    has = of_received f is.place is.refuses
+
+    -- of the check's refusals the place of this one is the whole
+    whole : (place : check.Place) → check.Refuses c cert place (refused.Received f) → check.rank cert place (refused.Received f) ≡ 4 * length cert.turns + (2 + fault_rank f)
+    whole (check.AtTurn k) (t, at, h) = absurd h
+    whole check.AtWhole h = refl
+
+    not_before : (other : Fault) → rank other < rank f → HoldsOf c session other → ⊥
+    not_before Names less h =
+        let at = whole is.place is.refuses in
+        is.none_before check.AtWhole refused.Names (omega arith) (stays_same ∙ not_of_session c pid session is_session h)
+    not_before other less h =
+        let at = whole is.place is.refuses in
+        let low = lower (case_of c session) other f less (placed (case_of c session) other h) (placed (case_of c session) f has) in
+        is.none_before check.AtWhole (refused.Received other) (omega arith) (subst (λ (case : Case). HasFault case other) (sym case_is) h)
+
+    first_received : IsFirst c pid f
+    first_received =
+        record {
+          holds = held c pid session is_session f (late (case_of c session) f has) (as_held c session f has);
+          none_before = λ other less h. go other less h (cases_lt (rank other) 4);
+        }
+      where
+        go : (other : Fault) → rank other < rank f → Holds c pid other → (rank other < 4) ⊎ (4 ≤ rank other) → ⊥
+        go other less h (inl front) = none_early other front h
+        go other less h (inr back) = not_before other less (at_session c pid session is_session other back h)
+
+  pub first_found : (refusal : Refusal) (fault : Fault) → check.IsFirst c cert refusal → fault_found refusal ≡ Some fault → IsFirst c pid fault
+  first_found refused.Names fault is e = subst (IsFirst c pid) (same_Some Names fault e) (first_names is)
+  first_found (refused.Received f) fault is e = subst (IsFirst c pid) (same_Some f fault e) (first_received f is)
+  first_found _ fault is e = absurd (none-some fault e)

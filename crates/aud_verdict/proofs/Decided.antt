@@ -1,0 +1,53 @@
+-- What is decided, one way or the other.
+use Rattle.std.proofs.Common.{◌≡◌, ◌<◌, ◌≤◌, ℕ, Bool, true, false, refl, ◌⊎◌, inl, inr, arith}
+use Rattle.std.specs.Bool.{Decides}
+use Rattle.std.proofs.lemmas.Bool.{false≢true, cases_lt}
+
+-- it holds, or it doesn't
+abbrev pub Decided : Type 0 → Type 0
+Decided P = P ⊎ (P → ⊥)
+
+pub decided : {P : Type 0} (r : Bool) → Decides r P → Decided P
+decided true d = inl (d.0 refl)
+decided false d = inr (λ p. false≢true (d.1 p))
+
+pub both : {P Q : Type 0} → Decided P → Decided Q → Decided (P × Q)
+both {P} {Q} (inl p) (inl q) = inl (p, q)
+both {P} {Q} (inl p) (inr not) = inr (λ (h : P × Q). not h.1)
+both {P} {Q} (inr not) q = inr (λ (h : P × Q). not h.0)
+
+pub either : {P Q : Type 0} → Decided P → Decided Q → Decided (P ⊎ Q)
+either (inl p) q = inl (inl p)
+either (inr not) (inl q) = inl (inr q)
+either {P} {Q} (inr not) (inr nor) = inr go
+  where
+    go : P ⊎ Q → ⊥
+    go (inl p) = not p
+    go (inr q) = nor q
+
+-- what is decided and can't fail holds
+pub stable : {P : Type 0} → Decided P → ((P → ⊥) → ⊥) → P
+stable (inl p) h = p
+stable (inr not) h = absurd (h not)
+
+pub not_false : (b : Bool) → (b ≡ false → ⊥) → b ≡ true
+not_false true h = refl
+not_false false h = absurd (h refl)
+
+pub not_true : (b : Bool) → (b ≡ true → ⊥) → b ≡ false
+not_true false h = refl
+not_true true h = absurd (h refl)
+
+pub less : (m n : ℕ) → Decided (m < n)
+less m n = go (cases_lt m n)
+  where
+    go : (m < n) ⊎ (n ≤ m) → Decided (m < n)
+    go (inl h) = inl h
+    go (inr h) = inr (λ (g : m < n). omega arith)
+
+pub at_most : (m n : ℕ) → Decided (m ≤ n)
+at_most m n = go (cases_lt n m)
+  where
+    go : (n < m) ⊎ (m ≤ n) → Decided (m ≤ n)
+    go (inl h) = inr (λ (g : m ≤ n). omega arith)
+    go (inr h) = inl h

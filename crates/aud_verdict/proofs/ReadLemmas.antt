@@ -1,0 +1,79 @@
+-- A certificate that a text names is over the logs.
+use Rattle.std.proofs.Common.{◌≡◌, ◌<◌, ◌&&◌, Bool, true, false, List, [], ◌∷◌, length, Result, Ok, Err, refl, ◌∙◌, arith}
+use Rattle.std.specs.List.{list_all}
+use Rattle.std.proofs.lemmas.Bool.{false≢true}
+use Rattle.serde_json.specs.Data.{Data}
+use Rattle.aud_tap.specs.TapName.{is_tap_name}
+use Rattle.aud_tap.specs.WellFormed.{is_session_id}
+use Rattle.aud_node.specs.Stream.{Text}
+use Rattle.aud_node.specs.Cluster.{Cluster}
+use Rattle.aud_cert.specs.declared.fault.CertFault.{CertFault}
+use Rattle.aud_cert.specs.declared.fault.CertFault.TheVariants.{Syntax, UnknownTap, Range}
+use Rattle.aud_cert.specs.Certificate.{TurnSeen, CertificateSeen, IsOver}
+use Rattle.aud_cert.specs.Steps.{◌>>=◌, guard, each}
+use Rattle.aud_cert.specs.Told.{TurnTold, CertificateTold, told_in}
+use Rattle.aud_cert.specs.Reading.{json_of, has_turns, is_formed, is_client, turn_over, certificate_over, is_within, certificate_of}
+use Rattle.aud_cert.proofs.Over.{each-length, turns-over}
+
+-- what each step gave
+step_ok : {A B : Type 0} (r : Result A CertFault) (f : A → Result B CertFault) (y : B) → (r >>= f) ≡ Ok y → (x : A) × (r ≡ Ok x) × (f x ≡ Ok y)
+step_ok (Ok x) f y e = (x, refl, e)
+step_ok (Err fault) f y e = cc
+
+guard_ok : {B : Type 0} (fault : CertFault) (b : Bool) (r : Result B CertFault) (y : B) → (guard fault b >>= (λ u. r)) ≡ Ok y → (b ≡ true) × (r ≡ Ok y)
+guard_ok fault true r y e = (refl, e)
+guard_ok fault false r y e = cc
+
+-- the certificate of what was told
+abbrev of_turns : CertificateTold → List TurnSeen → CertificateSeen
+of_turns told turns = record { pid = told.pid; client = told.client; turns = turns; spans = told.spans }
+
+-- the last steps of the reading
+abbrev within : Cluster → CertificateSeen → Result CertificateSeen CertFault
+within c cert = guard Range (is_within c cert) >>= (λ u. Ok cert)
+
+abbrev formed : Cluster → CertificateTold → Result CertificateSeen CertFault
+formed c told = guard Syntax (is_formed told) >>= (λ u. certificate_over c told >>= within c)
+
+abbrev read : Cluster → Data → Result CertificateSeen CertFault
+read c d = told_in d >>= formed c
+
+same_ok : {A : Type 0} (x y : A) → ◌≡◌ {A = Result A CertFault} (Ok x) (Ok y) → x ≡ y
+same_ok x y e = cc
+
+told_over : (c : Cluster) (told : CertificateTold) (cert : CertificateSeen) → certificate_over c told ≡ Ok cert
+    → (turns : List TurnSeen) × (each (turn_over c) told.turns ≡ Ok turns) × (of_turns told turns ≡ cert)
+unfolding certificate_over
+told_over c told cert e =
+    let (known, rest) = guard_ok UnknownTap (is_client c told.client) (each (turn_over c) told.turns >>= (λ turns. Ok (of_turns told turns))) cert e in
+    let (turns, are, is) = step_ok (each (turn_over c) told.turns) (λ turns. Ok (of_turns told turns)) cert rest in
+    (turns, are, same_ok (of_turns told turns) cert is)
+
+some_told : (turns : List TurnTold) → has_turns turns ≡ true → 0 < length turns
+some_told [] e = absurd (false≢true e)
+some_told (t ∷ turns) e = omega arith
+
+of_told : (c : Cluster) (told : CertificateTold) (cert : CertificateSeen) → formed c told ≡ Ok cert → IsOver c cert × (0 < length cert.turns)
+of_told c told cert e =
+    let (is_formed, rest) = guard_ok Syntax (is_formed told) (certificate_over c told >>= within c) cert e in
+    let (made, is, last) = step_ok (certificate_over c told) (within c) cert rest in
+    let (no_matter, same) = guard_ok Range (is_within c made) (Ok made) cert last in
+    let (turns, are, whole) = told_over c told made is in
+    let all : of_turns told turns ≡ cert = whole ∙ same_ok made cert same in
+    let some = some_told told.turns (first_part told is_formed) in
+    let long = each-length (turn_over c) told.turns turns are in
+    rw (← all) (turns-over c told.turns turns are, omega (arith, some, long))
+  where
+    first_part : (told : CertificateTold) → is_formed told ≡ true → has_turns told.turns ≡ true
+    first_part told e = go (has_turns told.turns) (is_session_id told.pid) (is_tap_name told.client) (list_all (λ (t : TurnTold). is_tap_name t.node) told.turns) e
+      where
+        go : (a b d f : Bool) → (a && b && d && f) ≡ true → a ≡ true
+        go true b d f e = refl
+        go false b d f e = absurd (false≢true e)
+
+pub read_over : (c : Cluster) (text : Text) (cert : CertificateSeen) → certificate_of c text ≡ Ok cert → IsOver c cert × (0 < length cert.turns)
+unfolding certificate_of
+read_over c text cert e =
+    let (d, is, rest) = step_ok (json_of text) (read c) cert e in
+    let (told, are, last) = step_ok (told_in d) (formed c) cert rest in
+    of_told c told cert last

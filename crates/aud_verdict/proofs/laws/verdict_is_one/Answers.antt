@@ -1,0 +1,5 @@
+use Rattle.aud_verdict.proofs.Ranks.{one_verdict}
+use Rattle.aud_verdict.proofs.laws.verdict_is_one.Goals as goal
+
+pub returns : goal.returns
+returns c = one_verdict

@@ -1,0 +1,72 @@
+//! What a verdict is and says, over the definitions alone. These functions do nothing: their contracts are the laws.
+ghost use Rattle.std.specs.Prelude.{◌≡◌, ◌+◌, ℕ, List, Some, length};
+ghost use Rattle.std.specs.Option.{IsSome};
+ghost use Rattle.aud_node.specs.Stream.{Text};
+ghost use Rattle.aud_node.specs.Cluster.{Cluster};
+ghost use Rattle.aud_node.specs.Names.{AreNamedOnce};
+ghost use Rattle.aud_merge.specs.declared.step.Step.{Step};
+ghost use Rattle.aud_merge.specs.Runs.{IsRun};
+ghost use Rattle.aud_merge.specs.Due.{due};
+ghost use Rattle.aud_merge.specs.ByTurns.{IsPrefixOf};
+ghost use Rattle.aud_cert.specs.declared.fault.Fault.{Fault};
+ghost use Rattle.aud_cert.specs.Certificate.{CertificateSeen};
+ghost use Rattle.aud_maker.specs.Faults as maker;
+ghost use Rattle.aud_maker.specs.Made.{IsMade};
+ghost use Rattle.aud_check.specs.declared.refusal.Refusal.{Refusal};
+ghost use Rattle.aud_check.specs.Frames.{AreEntries};
+ghost use Rattle.aud_check.specs.Refusals as check;
+ghost use Rattle.aud_check.specs.Shown.{frames_received, shown_due};
+ghost use Rattle.aud_verdict.specs.declared.verdict.Verdict.{Verdict};
+ghost use Rattle.aud_verdict.specs.declared.verdict.Verdict.TheVariants.{Yes, No};
+ghost use Rattle.aud_verdict.specs.Session.{Session, IsSession, positions, received};
+ghost use Rattle.aud_verdict.specs.Faults.{IsMisdelivery};
+ghost use Rattle.aud_verdict.specs.Verdict.{IsVerdict};
+ghost use Rattle.aud_verdict.specs.Refused.{fault_found};
+
+use aud_merge::due_by_turns;
+
+/// A session has one verdict.
+pub fn verdict_is_one()
+    ensures { (c : Cluster) (pid : Text) (one other : Verdict)
+        → IsVerdict c pid one → IsVerdict c pid other → one ≡ other }
+{}
+
+/// What is found by making a session's certificate and checking it is the session's verdict.
+pub fn verdict_by_certificate()
+    // No certificate could be made.
+    ensures not_made { (c : Cluster) (pid : Text) (fault : Fault)
+        → maker.IsFirst c pid fault → IsVerdict c pid (No fault) }
+
+    // It was made and is accepted, with these numbers.
+    ensures accepted { (c : Cluster) (pid : Text) (cert : CertificateSeen) (got tail turns : ℕ)
+        → AreNamedOnce c.taps → IsMade c pid cert → check.IsAccepted c cert
+        → got ≡ length (frames_received c cert)
+        → got + tail ≡ length (shown_due c cert)
+        → turns ≡ length cert.turns
+        → IsVerdict c pid (Yes got tail turns) }
+
+    // It was made and is refused: for its names or for what the client received, and never for a turn, a cursor or a
+    // span.
+    ensures refused { (c : Cluster) (pid : Text) (cert : CertificateSeen) (refusal : Refusal) (fault : Fault)
+        → AreNamedOnce c.taps → IsMade c pid cert → check.IsFirst c cert refusal → fault_found refusal ≡ Some fault
+        → IsVerdict c pid (No fault) }
+    ensures refused_so { (c : Cluster) (pid : Text) (cert : CertificateSeen) (place : check.Place) (refusal : Refusal)
+        → AreNamedOnce c.taps → IsMade c pid cert → check.Refuses c cert place refusal → IsSome (fault_found refusal) }
+{}
+
+/// What a verdict says of every run: after a yes, what was received is a front of what is due, and each event is its
+/// entry; after `EXTRA`, `DOUBLED`, `SWAPPED` and `LOST` it is a front in none.
+pub fn verdict_in_every_run()
+    ensures yes { (c : Cluster) (pid : Text) (got tail turns : ℕ) (s : Session) (run : List Step)
+        → IsVerdict c pid (Yes got tail turns) → IsSession c pid s → IsRun c run
+        → IsPrefixOf (positions c s) (due c run pid) }
+    ensures counts { (c : Cluster) (pid : Text) (got tail turns : ℕ) (run : List Step)
+        → IsVerdict c pid (Yes got tail turns) → IsRun c run → got + tail ≡ length (due c run pid) }
+    ensures entries { (c : Cluster) (pid : Text) (got tail turns : ℕ) (s : Session)
+        → IsVerdict c pid (Yes got tail turns) → IsSession c pid s → AreEntries c.stream (received c s) }
+    ensures no { (c : Cluster) (pid : Text) (fault : Fault) (s : Session) (run : List Step)
+        → IsVerdict c pid (No fault) → IsMisdelivery fault → IsSession c pid s → IsRun c run
+        → IsPrefixOf (positions c s) (due c run pid) → ⊥ }
+{
+    due_by_turns();
+}

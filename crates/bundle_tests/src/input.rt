@@ -1,0 +1,31 @@
+//! Lines for the examples.
+use aud_reader::{Line, ReadFault, parse_line};
+use aud_tap::{Bytes, Rec};
+use std::alloc::{AllocError, Global};
+
+/// The line of this number with these bytes.
+pub fn line_of(alloc: Global, number: u64, bytes: &[u8]) -> Result<Line, AllocError> {
+    let bytes = bytes.to_vec(alloc)?;
+    Ok(Line {
+        number,
+        bytes: Bytes::new(bytes),
+    })
+}
+
+/// The tap's name and the record of the line of this number with these bytes.
+pub fn read(alloc: Global, number: u64, bytes: &[u8]) -> Result<(String, Rec), ReadFault> {
+    let Ok(line) = line_of(alloc, number, bytes) else {
+        return Err(ReadFault::Memory);
+    };
+    parse_line(alloc, &line)
+}
+
+/// Whether the lines have these texts, and are numbered from 1.
+pub fn are(lines: &[Line], texts: &[&str]) -> bool {
+    for (i, (line, text)) in lines.iter().zip(texts.iter()).enumerate() {
+        if line.number != i as u64 + 1 || line.bytes.as_slice() != text.as_bytes() {
+            return false;
+        }
+    }
+    lines.len() == texts.len()
+}

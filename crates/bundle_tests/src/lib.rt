@@ -1,0 +1,20 @@
+//! Worked examples of bundles: their lines, the record of a line, the taps of the lines, and lines that are written,
+//! as a user of the crates below reads and writes them.
+#![tactic(auto)]
+
+#[cfg(test)]
+mod input;
+#[cfg(test)]
+mod limits;
+#[cfg(test)]
+mod lines;
+#[cfg(test)]
+mod names;
+#[cfg(test)]
+mod records;
+#[cfg(test)]
+mod refusals;
+#[cfg(test)]
+mod taps;
+#[cfg(test)]
+mod written;

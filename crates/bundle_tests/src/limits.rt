@@ -1,0 +1,116 @@
+//! The limits of a line and its fields.
+use crate::refusals::is_refused;
+use aud_reader::InputCode::{self, Limit, LineTooLong, NoTapName, NotJson};
+use std::alloc::{AllocError, Global};
+
+/// A line: its begin, a part that stands a number of times, what closes the part as often, and its end.
+type Repeating = (&'static str, &'static str, &'static str, &'static str);
+
+/// Whether the line is refused so, or is read, where its part stands so many times.
+fn is_refused_at(
+    alloc: Global,
+    line: Repeating,
+    times: u32,
+    wanted: Option<InputCode>,
+) -> Result<bool, AllocError> {
+    let (begin, part, closing, end) = line;
+    let mut text = String::from_str(alloc, begin)?;
+    for _ in 0..times {
+        text.push_str(part)?;
+    }
+    for _ in 0..times {
+        text.push_str(closing)?;
+    }
+    text.push_str(end)?;
+    Ok(is_refused(alloc, text.as_bytes(), wanted))
+}
+
+/// Lines, how often the part of each may stand, and the refusal of one more.
+static LIMITS: [(Repeating, u32, InputCode); 13] = [
+    (("", "n", "", r#" {"k":"lost"}"#), 32, NoTapName),
+    ((r#"a {"k":"take","off":""#, "1", "", r#""}"#), 64, Limit),
+    ((r#"a {"k":"start","off":""#, "1", "", r#""}"#), 64, Limit),
+    ((r#"a {"k":"gone","pid":""#, "P", "", r#""}"#), 128, Limit),
+    (
+        (
+            r#"a {"k":"open","pid":"P","nsp":"/","sid":""#,
+            "s",
+            "",
+            r#""}"#,
+        ),
+        128,
+        Limit,
+    ),
+    (
+        (
+            r#"a {"k":"open","pid":"P","sid":"s","nsp":"/"#,
+            "n",
+            "",
+            r#""}"#,
+        ),
+        255,
+        Limit,
+    ),
+    (
+        (r#"a {"k":"join","pid":"P","room":""#, "r", "", r#""}"#),
+        256,
+        Limit,
+    ),
+    (
+        (r#"a {"k":"back","pid":"P","turn":6553"#, "5", "", "}"),
+        1,
+        Limit,
+    ),
+    (
+        (
+            r#"st {"k":"ev","off":"1-0","nsp":"/","text":"","rooms":["r""#,
+            r#","r""#,
+            "",
+            "]}",
+        ),
+        255,
+        Limit,
+    ),
+    (
+        (
+            r#"st {"k":"ev","off":"1-0","nsp":"/","text":"","except":["r""#,
+            r#","r""#,
+            "",
+            "]}",
+        ),
+        255,
+        Limit,
+    ),
+    (
+        (
+            r#"st {"k":"ev","off":"1-0","nsp":"/","text":"","bin":["""#,
+            r#","AQI=""#,
+            "",
+            "]}",
+        ),
+        63,
+        Limit,
+    ),
+    // 4,194,304 bytes, 15 of them before the blanks
+    (
+        (r#"c1 {"k":"lost"}"#, " ", "", ""),
+        4_194_304 - 15,
+        LineTooLong,
+    ),
+    // 127 levels: arrays inside one another, in an object
+    ((r#"c1 {"k":"lost","x":"#, "[", "]", "}"), 126, NotJson),
+];
+
+#[test]
+fn limits_are_kept(rt: HostRuntime) -> Result<(), AllocError> {
+    for (line, most, code) in &LIMITS {
+        let begin = line.0;
+        let more = most.saturating_add(1);
+        assert!(rt; is_refused_at(rt.alloc(), *line, *most, None)?, "{begin}");
+        assert!(rt;
+            is_refused_at(rt.alloc(), *line, more, Some(*code))?,
+            "{begin}"
+        );
+    }
+    Ok(())
+}

@@ -1,0 +1,83 @@
+//! The lines of an input that comes in pieces.
+ghost use Rattle.std.specs.Prelude.{◌≡◌, ◌+◌, ◌≤◌, ◌^◌, ◌<◌, length, None, IfOk};
+
+use crate::input::are;
+use aud_reader::{InputCode, Line, ReadFault, Splitter};
+use std::alloc::{AllocError, Global};
+
+/// The lines of an input of which each byte is a piece, where every line is taken at once.
+fn lines_of_bytes(alloc: Global, input: &[u8]) -> Result<Vec<Line>, ReadFault> {
+    let mut splitter = Splitter::new(alloc);
+    let mut lines = Vec::new(alloc);
+    for byte in input {
+        splitter.feed(&[*byte])?;
+        let Ok(()) = lines.append(&mut splitter.take()) else {
+            return Err(ReadFault::Memory);
+        };
+    }
+    let mut last = splitter.finish()?;
+    match lines.append(&mut last) {
+        Ok(()) => Ok(lines),
+        Err(_) => Err(ReadFault::Memory),
+    }
+}
+
+/// Whether an input has these lines.
+fn splits(alloc: Global, input: &str, wanted: &[&str]) -> bool {
+    match lines_of_bytes(alloc, input.as_bytes()) {
+        Ok(lines) => are(&lines, wanted),
+        Err(_) => false,
+    }
+}
+
+#[test]
+fn lines_come_byte_by_byte(rt: HostRuntime) {
+    let inputs = [
+        (
+            "a\n\r\nbc\r\n\r\r\n\nd",
+            ["a", "", "bc", "\r", "", "d"].as_slice(),
+        ),
+        // no line begins after the last newline
+        ("", &[]),
+        ("a\n", &["a"]),
+        ("a\n\r", &["a", ""]),
+    ];
+    for (input, wanted) in inputs {
+        assert!(rt; splits(rt.alloc(), input, wanted), "{input:?}");
+    }
+}
+
+fn blanks(alloc: Global, count: usize) -> Result<Vec<u8>, AllocError>
+    ensures { IfOk result (λ v. length v.items ≡ count) }
+{
+    vec![in alloc; b' '; count]
+}
+
+/// What is answered to each piece of a line of one byte, one of the blanks, and one that begins with them and a blank
+/// more.
+fn answers(splitter: &mut Splitter, blanks: &[u8]) -> [Result<(), ReadFault>; 6]
+    requires number { splitter.old.number ≡ 1 }
+    requires blanks { length blanks.now ≤ 2 ^ 32 }
+    ensures { splitter.new.number ≤ 2 ^ 34 }
+{
+    [
+        splitter.feed(b"a\n"),
+        splitter.feed(blanks),
+        splitter.feed(b"\r\n"),
+        splitter.feed(blanks),
+        splitter.feed(b" \nb\n"),
+        splitter.feed(b""),
+    ]
+}
+
+#[test]
+fn a_line_has_at_most_4194304_bytes(rt: HostRuntime) -> Result<(), AllocError> {
+    let blanks = blanks(rt.alloc(), 4_194_304)?;
+    let mut splitter = Splitter::new(rt.alloc());
+    let refused = Err(ReadFault::Input(3, InputCode::LineTooLong));
+    let wanted = [Ok(()), Ok(()), Ok(()), Ok(()), refused, refused];
+    assert!(rt; answers(&mut splitter, &blanks) == wanted);
+    assert_eq!(rt; splitter.take().len(), 2);
+    assert!(rt; splitter.finish().is_err());
+    Ok(())
+}

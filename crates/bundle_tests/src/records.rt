@@ -1,0 +1,227 @@
+//! The fields of each kind of record, and keys that are unknown or stand twice.
+use crate::input::read;
+use aud_reader::ReadFault;
+use aud_tap::{Blobs, ClientRec, NodeRec, Rec, StreamRec, TapKind, Texts};
+use std::alloc::Global;
+
+/// A record: its variant, its texts in their order, and its number; of an event no lists.
+type Fields<'a> = (&'a str, &'a str, &'a str, &'a str, u64);
+
+/// What a tap was put on.
+fn word(of: TapKind) -> &'static str {
+    match of {
+        TapKind::Stream => "stream",
+        TapKind::Node => "node",
+        TapKind::Client => "client",
+    }
+}
+
+fn stream_fields(rec: &StreamRec) -> Fields<'_> {
+    match rec {
+        StreamRec::Ev(event) => (
+            "Ev",
+            event.off.as_str(),
+            event.nsp.as_str(),
+            event.text.as_str(),
+            0,
+        ),
+        StreamRec::Other { off } => ("Other", off.as_str(), "", "", 0),
+    }
+}
+
+fn node_fields(rec: &NodeRec) -> Fields<'_> {
+    match rec {
+        NodeRec::Start { off: None } => ("Start", "none", "", "", 0),
+        NodeRec::Start { off: Some(off) } => ("Start", off.as_str(), "", "", 0),
+        NodeRec::Take { off } => ("Take", off.as_str(), "", "", 0),
+        NodeRec::Opened { pid, sid, nsp } => (
+            "Opened",
+            pid.as_str(),
+            sid.as_str(),
+            nsp.as_str(),
+            0,
+        ),
+        NodeRec::Join { pid, room } => ("Join", pid.as_str(), room.as_str(), "", 0),
+        NodeRec::Leave { pid, room } => ("Leave", pid.as_str(), room.as_str(), "", 0),
+        NodeRec::Broke { pid, turn } => ("Broke", pid.as_str(), "", "", u64::from(*turn)),
+        NodeRec::Back { pid, turn } => ("Back", pid.as_str(), "", "", u64::from(*turn)),
+        NodeRec::Gone { pid } => ("Gone", pid.as_str(), "", "", 0),
+    }
+}
+
+fn client_fields(rec: &ClientRec) -> Fields<'_> {
+    match rec {
+        ClientRec::Conn { c } => ("Conn", "", "", "", *c),
+        ClientRec::TextIn { t } => ("TextIn", t.as_str(), "", "", 0),
+        ClientRec::BytesIn { b } => (
+            "BytesIn",
+            str::from_utf8(b.as_slice()).unwrap_or("?"),
+            "",
+            "",
+            0,
+        ),
+        ClientRec::Poll { t } => ("Poll", t.as_str(), "", "", 0),
+        ClientRec::TextOut { t } => ("TextOut", t.as_str(), "", "", 0),
+        ClientRec::Lost => ("Lost", "", "", "", 0),
+    }
+}
+
+fn fields(rec: &Rec) -> Fields<'_> {
+    match rec {
+        Rec::Header { of, v } => ("Header", word(*of), "", "", *v),
+        Rec::Stream(rec) => stream_fields(rec),
+        Rec::Node(rec) => node_fields(rec),
+        Rec::Client(rec) => client_fields(rec),
+    }
+}
+
+/// Whether it is a record of the tap `t` that has these fields.
+fn has_fields(read: &Result<(String, Rec), ReadFault>, wanted: &Fields<'_>) -> bool {
+    match read {
+        Ok((name, rec)) => name.as_str() == "t" && fields(rec) == *wanted,
+        Err(_) => false,
+    }
+}
+
+fn reads_as(alloc: Global, text: &str, wanted: &Fields<'_>) -> bool {
+    let read = read(alloc, 1, text.as_bytes());
+    has_fields(&read, wanted)
+}
+
+static RECORDS: [(&str, Fields<'static>); 25] = [
+    (
+        r#"t {"k":"tap","v":1,"of":"stream"}"#,
+        ("Header", "stream", "", "", 1),
+    ),
+    (
+        r#"t {"k":"tap","v":1,"of":"node"}"#,
+        ("Header", "node", "", "", 1),
+    ),
+    (
+        r#"t {"k":"tap","v":1,"of":"client"}"#,
+        ("Header", "client", "", "", 1),
+    ),
+    (
+        r#"t {"k":"ev","off":"1-0","nsp":"/","rooms":["r"],"text":"2[\"hi\",\"1-0\"]"}"#,
+        ("Ev", "1-0", "/", "2[\"hi\",\"1-0\"]", 0),
+    ),
+    (
+        r#"t {"k":"other","off":"2-0"}"#,
+        ("Other", "2-0", "", "", 0),
+    ),
+    (
+        r#"t {"k":"start","off":null}"#,
+        ("Start", "none", "", "", 0),
+    ),
+    (
+        r#"t {"k":"start","off":"1-0"}"#,
+        ("Start", "1-0", "", "", 0),
+    ),
+    (r#"t {"k":"take","off":"1-0"}"#, ("Take", "1-0", "", "", 0)),
+    (
+        r#"t {"k":"open","pid":"P","sid":"s1","nsp":"/"}"#,
+        ("Opened", "P", "s1", "/", 0),
+    ),
+    (
+        r#"t {"k":"join","pid":"P","room":"r"}"#,
+        ("Join", "P", "r", "", 0),
+    ),
+    (
+        r#"t {"k":"leave","pid":"P","room":"r"}"#,
+        ("Leave", "P", "r", "", 0),
+    ),
+    (
+        r#"t {"k":"break","pid":"P","turn":0}"#,
+        ("Broke", "P", "", "", 0),
+    ),
+    (
+        r#"t {"k":"back","pid":"P","turn":1}"#,
+        ("Back", "P", "", "", 1),
+    ),
+    (r#"t {"k":"gone","pid":"P"}"#, ("Gone", "P", "", "", 0)),
+    (r#"t {"k":"conn","c":2}"#, ("Conn", "", "", "", 2)),
+    (
+        r#"t {"k":"in","t":"42[\"hi\",\"1-0\"]"}"#,
+        ("TextIn", "42[\"hi\",\"1-0\"]", "", "", 0),
+    ),
+    (
+        r#"t {"k":"inb","b":"AQI="}"#,
+        ("BytesIn", "\u{1}\u{2}", "", "", 0),
+    ),
+    (
+        r#"t {"k":"poll","t":"2\u001e42[]"}"#,
+        ("Poll", "2\u{1e}42[]", "", "", 0),
+    ),
+    (r#"t {"k":"out","t":"3"}"#, ("TextOut", "3", "", "", 0)),
+    // unknown keys are passed over
+    (
+        r#"t {"k":"take","off":"1-0","turn":0}"#,
+        ("Take", "1-0", "", "", 0),
+    ),
+    (
+        r#"t {"K":"lost","OFF":"2-0","k":"take","off":"1-0"}"#,
+        ("Take", "1-0", "", "", 0),
+    ),
+    (
+        r#"t {"":{"k":"lost","off":[{}]},"k":"take","pid":null,"off":"1-0","v":1.5e300}"#,
+        ("Take", "1-0", "", "", 0),
+    ),
+    // of a key that stands twice the last value counts, also where it is of another kind
+    (
+        r#"t {"t":"first","k":"in","t":"second"}"#,
+        ("TextIn", "second", "", "", 0),
+    ),
+    (
+        r#"t {"k":"conn","c":"1","c":1,"k":"lost"}"#,
+        ("Lost", "", "", "", 0),
+    ),
+    (r#"t {"k":"lost"}"#, ("Lost", "", "", "", 0)),
+];
+
+#[test]
+fn fields_are_read(rt: HostRuntime) {
+    for (text, wanted) in &RECORDS {
+        assert!(rt; reads_as(rt.alloc(), text, wanted), "{text}");
+    }
+}
+
+fn texts_are(texts: &Texts, wanted: &[&str]) -> bool {
+    texts
+        .as_slice()
+        .iter()
+        .map(|text| text.as_str())
+        .eq(wanted.iter().copied())
+}
+
+fn blobs_are(blobs: &Blobs, wanted: &[&[u8]]) -> bool {
+    blobs
+        .as_slice()
+        .iter()
+        .map(|bytes| bytes.as_slice())
+        .eq(wanted.iter().copied())
+}
+
+/// Whether it is an event with these lists: its rooms, the rooms that it excepts, and its attachments.
+fn has_lists(
+    read: &Result<(String, Rec), ReadFault>,
+    rooms: &[&str],
+    except: &[&str],
+    bin: &[&[u8]],
+) -> bool {
+    match read {
+        Ok((_, Rec::Stream(StreamRec::Ev(event)))) => {
+            texts_are(&event.rooms, rooms)
+                && texts_are(&event.except, except)
+                && blobs_are(&event.bin, bin)
+        }
+        _ => false,
+    }
+}
+
+#[test]
+fn lists_are_read_in_their_order(rt: HostRuntime) {
+    let text =
+        r#"t {"k":"ev","off":"4-0","nsp":"/n","rooms":["r"],"except":["s1","s2"],"bin":["AQI=","Aw=="],"text":""}"#;
+    let read = read(rt.alloc(), 1, text.as_bytes());
+    assert!(rt; has_lists(&read, &["r"], &["s1", "s2"], &[&[1, 2], &[3]]));
+}
