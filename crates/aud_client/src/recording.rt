@@ -59,10 +59,16 @@ impl<'a> Recording<'a> {
 
     /// The logs of the stream and of the nodes, lent.
     pub fn logs(&self) -> &Logs<'a>
-        ensures value { result.now ≡ self.now }
-        ensures names { AreNamedOnce self.now.taps }
+        ensures { result.now ≡ self.now }
     {
         &self.logs
+    }
+
+    /// No two taps have one name.
+    pub fn named_once(&self)
+        ensures { AreNamedOnce self.now.taps }
+    {
+        let _logs = &self.logs;
     }
 
     /// What the tap at this place tells, lent; none where it is no client's.
@@ -131,11 +137,7 @@ fn naming_of(alloc: Global, clients: &[Option<ReadTap<'_>>]) -> Result<Naming, M
 }
 
 /// Notes what the tap at this place tells, behind all those noted so far.
-fn note_client(
-    naming: &mut Naming,
-    place: usize,
-    told: Option<&ReadTap<'_>>,
-) -> Result<(), Memory>
+fn note_client(naming: &mut Naming, place: usize, told: Option<&ReadTap<'_>>) -> Result<(), Memory>
     ensures { OnOk result ((q : Text) → kept_places naming.new q ≡ noted place (is_told q (option_copied told.entry)) (kept_places naming.old q)) }
 {
     match told {

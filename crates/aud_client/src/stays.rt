@@ -101,12 +101,7 @@ impl<'a> Stays<'a> {
     }
 
     /// The packet begins a stay.
-    fn begin(
-        &mut self,
-        stream: &Stream<'_>,
-        c: u64,
-        packet: TapPacket<'a>,
-    ) -> Result<(), Memory>
+    fn begin(&mut self, stream: &Stream<'_>, c: u64, packet: TapPacket<'a>) -> Result<(), Memory>
         ensures stays { OnOk result (self.new.stays.items ≡ self.old.stays.items ++ grown stream.now (fresh c (namespace (packet_seen packet.entry))) (packet_seen packet.entry) ∷ []) }
         ensures open { OnOk result (BeginsAt (packet_seen packet.entry) (length self.old.stays.items) self.old self.new) }
     {

@@ -1,6 +1,5 @@
 use Rattle.std.specs.Result.{OnOk, IfOk, IfErr}
-use Rattle.std.proofs.Common.{◌≡◌, ◌+◌, List, length, refl, sym, ap, subst, ◌∙◌}
-use Rattle.aud_cert.specs.Certificate.{CertificateSeen}
+use Rattle.std.proofs.Common.{◌≡◌, ◌+◌, List, length, refl, sym, ap, ◌∙◌}
 use Rattle.aud_merge.specs.declared.step.Step.{Step}
 use Rattle.aud_merge.specs.Runs.{IsRun}
 use Rattle.aud_merge.specs.Due.{due}
@@ -13,22 +12,23 @@ use Rattle.aud_check.specs.Frames.{AreEntries}
 use Rattle.aud_check.specs.Shown.{frames_received, shown_due, turns_of, who_of}
 use Rattle.aud_check.specs.Refusals.{IsAccepted, IsFirstRefusal, IsMismatch, Place, Refuses, case_of}
 use Rattle.aud_check.proofs.AcceptedTurns.{all_accepted, are_turns}
-use Rattle.aud_check.proofs.Headline.{on_ok, if_ok, if_err, first_of_all, in_every_run, in_no_run}
+use Rattle.aud_check.proofs.Headline.{carried, on_ok, if_ok, if_err, first_of_all, in_every_run, in_no_run}
 use Rattle.aud_check.proofs.Judged.{same_cert}
 use Rattle.aud_check.proofs.Ranks.{nothing_refuses}
-use Rattle.aud_check.proofs.certificate.answer.Goals as goal
+use Rattle.aud_check.proofs.certificate.check.Goals as goal
 
 pub returns : goal.returns
 returns c =
-    let C = c.args.logs.now in
+    let C = c.args.recording.now in
     let cert = c.args.cert.now in
     let result = c.judge.result in
+    let same = c.logs-logs.ensures in
     let parts = same_cert c.session_of-session.ensures c.cert.view_is refl c.as_slice-turns.ensures.value c.as_slice-spans.ensures.value in
-    let accepted = subst (λ (x : CertificateSeen). OnOk result (IsAccepted C x)) parts c.judge.ensures.accepted in
-    let refused = subst (λ (x : CertificateSeen). IfErr result (IsFirstRefusal C x)) parts c.judge.ensures.refused in
-    let got = subst (λ (x : CertificateSeen). IfOk result (λ (a : Accepted). a.got ≡ length (frames_received C x))) parts c.judge.ensures.got in
-    let tail = subst (λ (x : CertificateSeen). IfOk result (λ (a : Accepted). a.got + a.tail ≡ length (shown_due C x))) parts c.judge.ensures.tail in
-    let turns = subst (λ (x : CertificateSeen). IfOk result (λ (a : Accepted). a.turns ≡ length x.turns)) parts c.judge.ensures.turns in
+    let accepted = carried (λ l x. OnOk result (IsAccepted l x)) same parts c.judge.ensures.accepted in
+    let refused = carried (λ l x. IfErr result (IsFirstRefusal l x)) same parts c.judge.ensures.refused in
+    let got = carried (λ l x. IfOk result (λ (a : Accepted). a.got ≡ length (frames_received l x))) same parts c.judge.ensures.got in
+    let tail = carried (λ l x. IfOk result (λ (a : Accepted). a.got + a.tail ≡ length (shown_due l x))) same parts c.judge.ensures.tail in
+    let turns = carried (λ l x. IfOk result (λ (a : Accepted). a.turns ≡ length x.turns)) same parts c.judge.ensures.turns in
     record {
       accepted = accepted;
       not_refused = on_ok result (IsAccepted C cert) ((place : Place) (refusal : Refusal) → Refuses C cert place refusal → ⊥) (nothing_refuses C cert) accepted;
