@@ -1,15 +1,12 @@
 //! What is found of a session: its certificate is made, and then checked.
 ghost use Rattle.std.specs.Prelude.{◌≡◌, IfOk};
-ghost use Rattle.aud_node.specs.Names.{AreNamedOnce};
-ghost use Rattle.aud_client.specs.Clients.{clients_of};
 ghost use Rattle.aud_app.specs.Decided.{IsJudged, IsVerdict};
 
 use crate::verdict::Verdict;
 use aud_cert::{Certificate, Fault};
-use aud_check::{Accepted, Refusal, check_read};
-use aud_client::Clients;
+use aud_check::{Accepted, Refusal, check};
+use aud_client::Recording;
 use aud_maker::{MakeFault, made_is_over, make};
-use aud_node::Logs;
 use std::alloc::{AllocError, Global};
 
 /// What is found of a session.
@@ -24,21 +21,19 @@ pub enum Judged<'a> {
 /// What is found of a session.
 pub fn judge<'a>(
     alloc: Global,
-    logs: &Logs<'a>,
-    clients: &Clients<'_>,
+    recording: &Recording<'a>,
     pid: &str,
 ) -> Result<Judged<'a>, AllocError>
-    requires names { AreNamedOnce logs.now.taps }
-    requires clients { clients.now ≡ clients_of logs.now }
-    ensures { IfOk result (λ judged. IsJudged logs.now pid.now judged) }
+    ensures { IfOk result (λ judged. IsJudged recording.now pid.now judged) }
 {
-    let cert = match make(alloc, logs, pid) {
+    let cert = match make(alloc, recording, pid) {
         Ok(cert) => cert,
         Err(MakeFault::Fault(fault)) => return Ok(Judged::Faulty(fault)),
         Err(MakeFault::Memory) => return Err(AllocError),
     };
+    recording.named_once();
     made_is_over();
-    match check_read(alloc, logs, clients, &cert) {
+    match check(alloc, recording, &cert) {
         Ok(counts) => Ok(Judged::Shown(cert, counts)),
         Err(refusal) => match refusal {
             Refusal::Names => Ok(Judged::Faulty(Fault::Names)),
@@ -51,17 +46,10 @@ pub fn judge<'a>(
 }
 
 /// The verdict on a session.
-pub fn verdict(
-    alloc: Global,
-    logs: &Logs<'_>,
-    clients: &Clients<'_>,
-    pid: &str,
-) -> Result<Verdict, AllocError>
-    requires names { AreNamedOnce logs.now.taps }
-    requires clients { clients.now ≡ clients_of logs.now }
-    ensures { IfOk result (λ verdict. IsVerdict logs.now pid.now verdict) }
+pub fn verdict(alloc: Global, recording: &Recording<'_>, pid: &str) -> Result<Verdict, AllocError>
+    ensures { IfOk result (λ verdict. IsVerdict recording.now pid.now verdict) }
 {
-    match judge(alloc, logs, clients, pid)? {
+    match judge(alloc, recording, pid)? {
         Judged::Shown(_, counts) => Ok(Verdict::Yes(counts)),
         Judged::Faulty(fault) => Ok(Verdict::No(fault)),
     }

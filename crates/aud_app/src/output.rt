@@ -1,7 +1,6 @@
 //! What is written for an input.
 ghost use Rattle.std.specs.Prelude.{◌≡◌, IfOk, Ok};
 ghost use Rattle.aud_node.specs.Names.{AreNamedOnce};
-ghost use Rattle.aud_client.specs.Clients.{clients_of};
 ghost use Rattle.aud_app.specs.Output.{status_of, report_of, refusal_of, proving_of, verification_of, IsReport, IsProving, IsVerification, IsOutputOn, IsOutputOver, IsOutput, layout_of};
 
 use crate::answer::Answered;
@@ -12,8 +11,7 @@ use crate::report::{are_all_yes, refusal_text, report_text};
 use crate::sessions::{decide, prove};
 use crate::verdict::Entry;
 use crate::verify::answers;
-use aud_client::Clients;
-use aud_node::Logs;
+use aud_client::Recording;
 use aud_options::Mode;
 use aud_reader::{InputCode, Line, ReadFault};
 use aud_tap::Text;
@@ -56,13 +54,11 @@ fn report_on(alloc: Global, entries: &[Entry]) -> Result<Output, AllocError>
     Ok(Output { status, text })
 }
 
-/// The report on the sessions of these logs.
-fn audited(alloc: Global, logs: &Logs<'_>, clients: &Clients<'_>) -> Result<Output, AllocError>
-    requires names { AreNamedOnce logs.now.taps }
-    requires clients { clients.now ≡ clients_of logs.now }
-    ensures { IfOk result (λ o. IsReport logs.now o) }
+/// The report on the sessions of this recording.
+fn audited(alloc: Global, recording: &Recording<'_>) -> Result<Output, AllocError>
+    ensures { IfOk result (λ o. IsReport recording.now o) }
 {
-    let entries = decide(alloc, logs, clients)?;
+    let entries = decide(alloc, recording)?;
     report_on(alloc, &entries)
 }
 
@@ -75,13 +71,11 @@ fn proving_on(alloc: Global, proofs: &[Option<Text>]) -> Result<Output, AllocErr
     Ok(Output { status, text })
 }
 
-/// The certificates of the sessions of these logs.
-fn proved(alloc: Global, logs: &Logs<'_>, clients: &Clients<'_>) -> Result<Output, AllocError>
-    requires names { AreNamedOnce logs.now.taps }
-    requires clients { clients.now ≡ clients_of logs.now }
-    ensures { IfOk result (λ o. IsProving logs.now o) }
+/// The certificates of the sessions of this recording.
+fn proved(alloc: Global, recording: &Recording<'_>) -> Result<Output, AllocError>
+    ensures { IfOk result (λ o. IsProving recording.now o) }
 {
-    let proofs = prove(alloc, logs, clients)?;
+    let proofs = prove(alloc, recording)?;
     proving_on(alloc, &proofs)
 }
 
@@ -97,14 +91,12 @@ fn verification_on(alloc: Global, all: &[Answered]) -> Result<Output, AllocError
 /// The answers on these certificates.
 fn verified(
     alloc: Global,
-    logs: &Logs<'_>,
-    clients: &Clients<'_>,
+    recording: &Recording<'_>,
     certificates: &[Line],
 ) -> Result<Output, AllocError>
-    requires { clients.now ≡ clients_of logs.now }
-    ensures { IfOk result (λ o. IsVerification logs.now certificates.now o) }
+    ensures { IfOk result (λ o. IsVerification recording.now certificates.now o) }
 {
-    let all = answers(alloc, logs, clients, certificates)?;
+    let all = answers(alloc, recording, certificates)?;
     verification_on(alloc, &all)
 }
 
@@ -129,22 +121,19 @@ fn layout_of(mode: Mode) -> Layout
     }
 }
 
-/// What a mode writes over these logs and certificates.
+/// What a mode writes over this recording and certificates.
 fn output_on(
     alloc: Global,
     mode: Mode,
-    logs: &Logs<'_>,
-    clients: &Clients<'_>,
+    recording: &Recording<'_>,
     certificates: &[Line],
 ) -> Result<Output, AllocError>
-    requires names { AreNamedOnce logs.now.taps }
-    requires clients { clients.now ≡ clients_of logs.now }
-    ensures { IfOk result (λ o. IsOutputOn mode logs.now certificates.now o) }
+    ensures { IfOk result (λ o. IsOutputOn mode recording.now certificates.now o) }
 {
     match mode {
-        Mode::Audit => audited(alloc, logs, clients),
-        Mode::Prove => proved(alloc, logs, clients),
-        Mode::Verify => verified(alloc, logs, clients, certificates),
+        Mode::Audit => audited(alloc, recording),
+        Mode::Prove => proved(alloc, recording),
+        Mode::Verify => verified(alloc, recording, certificates),
     }
 }
 
@@ -153,13 +142,10 @@ fn output_over(alloc: Global, mode: Mode, input: &Input) -> Result<Output, Alloc
     requires { AreNamedOnce input.now.taps }
     ensures { IfOk result (λ o. IsOutputOver mode (Ok input.now) o) }
 {
-    let Ok(logs) = Logs::build(alloc, &input.taps) else {
+    let Ok(recording) = Recording::read(alloc, &input.taps) else {
         return Err(AllocError);
     };
-    let Ok(clients) = Clients::read(alloc, &logs) else {
-        return Err(AllocError);
-    };
-    output_on(alloc, mode, &logs, &clients, &input.certificates)
+    output_on(alloc, mode, &recording, &input.certificates)
 }
 
 /// What a mode writes for these bytes; nothing but these bytes is looked at. They are let go before the logs are made.

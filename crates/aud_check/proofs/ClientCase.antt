@@ -1,7 +1,6 @@
 -- What a client received, by its stays.
-use Rattle.std.proofs.Common.{◌≡◌, ℕ, Bool, true, false, ◌&&◌, not, List, [], ◌∷◌, Option, Some, None, option_map, slice_get, refl, sym, ap, ◌∙◌, true≢false}
-use Rattle.std.specs.Option.{option_and_then}
-use Rattle.std.proofs.lemmas.Option.{none-some, slice_get-map}
+use Rattle.std.proofs.Common.{◌≡◌, ℕ, Bool, true, false, ◌&&◌, not, List, [], ◌∷◌, Option, Some, None, option_map, refl, sym, ap, ◌∙◌, true≢false}
+use Rattle.std.proofs.lemmas.Option.{none-some}
 use Rattle.std.specs.Option.{unwrap_or}
 use Rattle.std.specs.List.{list_all}
 use Rattle.std.specs.Str.{bytes_eq}
@@ -9,12 +8,10 @@ use Rattle.aud_tap.specs.declared.records.StreamRec.{StreamRec}
 use Rattle.aud_tap.specs.declared.records.ClientRec.{ClientRec}
 use Rattle.aud_node.specs.Stream.{Text}
 use Rattle.aud_node.specs.Cluster.{Cluster}
-use Rattle.aud_node.specs.NodeTaps.{client_at, client_recs}
-use Rattle.aud_tap.specs.declared.taps.Tap.{Tap}
+use Rattle.aud_node.specs.NodeTaps.{client_at}
 use Rattle.aud_rooms.specs.Turns.{Who}
 use Rattle.aud_cert.specs.Certificate.{place_named}
 use Rattle.aud_client.specs.Told.{StaySeen}
-use Rattle.aud_client.specs.Clients.{told_by, clients_of, told_at}
 use Rattle.aud_client.specs.Received.{ReceivedSeen, received_of, received_list, stays_naming, frames_by_stay, are_in}
 use Rattle.aud_check.specs.Client.{case_for, told_named}
 use Rattle.aud_check.specs.Faults.{Case}
@@ -46,14 +43,6 @@ told_recs c client t is = go (client_at c (place_named c client)) refl is
         → (recs : List ClientRec) × (client_at c (place_named c client) ≡ Some recs) × (t ≡ received_of c.stream recs)
     go None at told = absurd (none-some t (sym told))
     go (Some recs) at told = (recs, at, ap (λ o. unwrap_or o t) told)
-
--- the tap of that place among those that were read
-pub told_among : (c : Cluster) (place : ℕ) → told_at (clients_of c) place ≡ option_map (received_of c.stream) (client_at c place)
-told_among c place = ap (option_and_then (λ told. told)) (slice_get-map (told_by c.stream) c.taps place) ∙ go (slice_get c.taps place)
-  where
-    go : (o : Option Tap) → option_and_then (λ told. told) (option_map (told_by c.stream) o) ≡ option_map (received_of c.stream) (option_and_then client_recs o)
-    go None = refl
-    go (Some tap) = refl
 
 -- the stays of one session are in one namespace
 pub one_namespace : (who : Who) (stays : List StaySeen) → are_of_session who stays ≡ true → are_in who.nsp stays ≡ true

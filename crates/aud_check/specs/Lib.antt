@@ -13,6 +13,4 @@ pub mod TurnRefusals
 pub mod Client
 pub mod Refusals
 pub mod Words
-pub use Rattle.aud_client.specs.Clients
-pub mod Answer
 pub mod Recovery

@@ -3,7 +3,7 @@ use Rattle.std.specs.Prelude.{Bool, true, false, ◌&&◌, not, List, [], ◌∷
 use Rattle.std.specs.List.{list_all}
 use Rattle.std.specs.Str.{bytes_eq}
 use Rattle.aud_node.specs.Stream.{Text}
-use Rattle.aud_node.specs.Replies.{ReplySeen}
+use Rattle.aud_client.specs.Replies.{ReplySeen}
 use Rattle.aud_rooms.specs.Turns.{Who}
 use Rattle.aud_client.specs.Told.{StaySeen}
 

@@ -8,22 +8,20 @@ ghost use Rattle.aud_merge.specs.Due.{due};
 ghost use Rattle.aud_merge.specs.ByTurns.{IsPrefixOf};
 ghost use Rattle.aud_rooms.specs.Turns.{AreTurns, IsChain};
 ghost use Rattle.aud_cert.specs.Certificate.{IsOver, IsTurnOver};
-ghost use Rattle.aud_client.specs.Clients.{clients_of};
-ghost use Rattle.aud_check.specs.Answer.{IsAnswer};
 ghost use Rattle.aud_check.specs.Client.{told_named};
 ghost use Rattle.aud_check.specs.Faults.{positions_in};
 ghost use Rattle.aud_check.specs.Frames.{AreEntries};
 ghost use Rattle.aud_check.specs.Refusals.{IsAccepted, IsFirstRefusal, IsMismatch, Place, Refuses, case_of, seen_as};
 ghost use Rattle.aud_check.specs.Shown.{frames_received, shown_due, turns_of, who_in, who_of};
 
-use crate::client::{check_client, read_named, told_among};
+use crate::client::{check_client, told_named};
 use crate::due::shown_due;
 use crate::refusal::Refusal;
 use crate::session::{Session, session_of};
 use crate::spans::are_spans;
 use crate::turn::check_turns;
 use aud_cert::{Certificate, Turn};
-use aud_client::{Clients, ReadTap};
+use aud_client::{ReadTap, Recording};
 use aud_merge::due_by_turns;
 use aud_node::Logs;
 use aud_rooms::Span;
@@ -40,74 +38,47 @@ pub struct Accepted {
     pub turns: usize,
 }
 
-/// Accepts a certificate over these logs exactly where nothing refuses it: the turns are the session's, from its `open`
+/// Accepts a certificate over this recording exactly where nothing refuses it: the turns are the session's, from its `open`
 /// on; the spans are those of the turns; the named client's tap tells of this session; and what the client received is
 /// what was due to it by these turns, up to the last event received. Else the first refusal is answered, in the order of
 /// [`Refusal`], or want of memory.
 ///
-/// Where the logs have no run, what is said of every run says nothing.
-pub fn check(alloc: Global, logs: &Logs<'_>, cert: &Certificate<'_>) -> Result<Accepted, Refusal>
-    requires over { IsOver logs.now cert.now }
+/// Where the logs have no run, what is said of every run says nothing. It costs the session's own records and stays, and
+/// what is due to it.
+pub fn check(
+    alloc: Global,
+    recording: &Recording<'_>,
+    cert: &Certificate<'_>,
+) -> Result<Accepted, Refusal>
+    requires over { IsOver recording.now cert.now }
     requires some { 0 < length cert.now.turns }
 
     // Exactly: nothing refuses what is accepted, and what is refused is refused by this first.
-    ensures accepted { OnOk result (IsAccepted logs.now cert.now) }
-    ensures not_refused { OnOk result ((place : Place) (refusal : Refusal) → Refuses logs.now cert.now place refusal → ⊥) }
-    ensures refused { IfErr result (IsFirstRefusal logs.now cert.now) }
+    ensures accepted { OnOk result (IsAccepted recording.now cert.now) }
+    ensures not_refused { OnOk result ((place : Place) (refusal : Refusal) → Refuses recording.now cert.now place refusal → ⊥) }
+    ensures refused { IfErr result (IsFirstRefusal recording.now cert.now) }
 
-    ensures got { IfOk result (λ a. a.got ≡ length (frames_received logs.now cert.now)) }
-    ensures tail { IfOk result (λ a. a.got + a.tail ≡ length (shown_due logs.now cert.now)) }
+    ensures got { IfOk result (λ a. a.got ≡ length (frames_received recording.now cert.now)) }
+    ensures tail { IfOk result (λ a. a.got + a.tail ≡ length (shown_due recording.now cert.now)) }
     ensures turns { IfOk result (λ a. a.turns ≡ length cert.now.turns) }
 
     // The turns are the session's, from turn 0 on.
-    ensures are_turns { OnOk result (AreTurns logs.now (who_of cert.now) 0 (turns_of logs.now cert.now)) }
+    ensures are_turns { OnOk result (AreTurns recording.now (who_of cert.now) 0 (turns_of recording.now cert.now)) }
 
     // Delivery in every run.
-    ensures in_every_run { OnOk result ((run : List Step) → IsRun logs.now run
-        → IsPrefixOf (positions_in (case_of logs.now cert.now)) (due logs.now run cert.now.pid)) }
-    ensures frames_are_entries { OnOk result (AreEntries logs.now.stream (frames_received logs.now cert.now)) }
-    ensures counts_in_every_run { IfOk result (λ a. IsChain logs.now (who_of cert.now) (turns_of logs.now cert.now)
-        → (run : List Step) → IsRun logs.now run → a.got + a.tail ≡ length (due logs.now run cert.now.pid)) }
+    ensures in_every_run { OnOk result ((run : List Step) → IsRun recording.now run
+        → IsPrefixOf (positions_in (case_of recording.now cert.now)) (due recording.now run cert.now.pid)) }
+    ensures frames_are_entries { OnOk result (AreEntries recording.now.stream (frames_received recording.now cert.now)) }
+    ensures counts_in_every_run { IfOk result (λ a. IsChain recording.now (who_of cert.now) (turns_of recording.now cert.now)
+        → (run : List Step) → IsRun recording.now run → a.got + a.tail ≡ length (due recording.now run cert.now.pid)) }
     ensures in_no_run { IfErr result (λ refusal. IsMismatch refusal
-        → IsChain logs.now (who_of cert.now) (turns_of logs.now cert.now)
-        → (run : List Step) → IsRun logs.now run
-        → IsPrefixOf (positions_in (case_of logs.now cert.now)) (due logs.now run cert.now.pid) → ⊥) }
-{
-    let Ok(told) = read_named(alloc, logs, cert.client) else {
-        return Err(Refusal::Memory);
-    };
-    answer(alloc, logs, told.as_ref(), cert)
-}
-
-/// The answer of [`check`] where the clients' taps of these logs were read before: a session then costs its own stays,
-/// and not all packets of its client's tap.
-pub fn check_read(
-    alloc: Global,
-    logs: &Logs<'_>,
-    clients: &Clients<'_>,
-    cert: &Certificate<'_>,
-) -> Result<Accepted, Refusal>
-    requires clients { clients.now ≡ clients_of logs.now }
-    requires over { IsOver logs.now cert.now }
-    requires some { 0 < length cert.now.turns }
-    ensures { IsAnswer logs.now cert.now result }
-{
-    answer(alloc, logs, told_among(logs, clients, cert.client), cert)
-}
-
-/// The answer, by what the tap of the certificate's client tells.
-fn answer(
-    alloc: Global,
-    logs: &Logs<'_>,
-    told: Option<&ReadTap<'_>>,
-    cert: &Certificate<'_>,
-) -> Result<Accepted, Refusal>
-    requires told { option_copied told ≡ told_named logs.now cert.now.client }
-    requires over { IsOver logs.now cert.now }
-    requires some { 0 < length cert.now.turns }
-    ensures { IsAnswer logs.now cert.now result }
+        → IsChain recording.now (who_of cert.now) (turns_of recording.now cert.now)
+        → (run : List Step) → IsRun recording.now run
+        → IsPrefixOf (positions_in (case_of recording.now cert.now)) (due recording.now run cert.now.pid) → ⊥) }
 {
     due_by_turns();
+    let logs = recording.logs();
+    let told = told_named(recording, cert.client);
     let session = session_of(logs, cert);
     let turns = cert.turns.as_slice();
     let spans = cert.spans.as_slice();

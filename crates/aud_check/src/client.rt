@@ -1,9 +1,6 @@
 //! The client's tap that a certificate names.
 ghost use Rattle.std.specs.Prelude.{◌≡◌, IfErr, IfOk, OnOk, Some, length, true};
 ghost use Rattle.std.specs.Option.{option_copied};
-ghost use Rattle.aud_node.specs.NodeTaps.{client_at};
-ghost use Rattle.aud_cert.specs.Certificate.{place_named};
-ghost use Rattle.aud_client.specs.Clients.{clients_of};
 ghost use Rattle.aud_check.specs.Ascending.{IsAscending};
 ghost use Rattle.aud_check.specs.Client.{IsClientRefusal, case_for, told_named};
 ghost use Rattle.aud_check.specs.Faults.{IsReceived};
@@ -13,9 +10,8 @@ use crate::received::{Wrong, check_received};
 use crate::refusal::Refusal;
 use crate::session::Session;
 use crate::stays::are_of_session;
-use aud_client::{Clients, ReadTap, received_by_stays};
-use aud_node::{ClientTap, Logs};
-use aud_tap::Memory;
+use aud_client::{ReadTap, Recording, received_by_stays};
+use aud_node::Logs;
 use std::alloc::Global;
 
 /// How many of the due positions the client with this name received, where its tap tells of the session and nothing is
@@ -71,41 +67,15 @@ fn check_told(
     }
 }
 
-/// What the client's tap with this name tells, all of it read.
-pub(crate) fn read_named<'l>(
-    alloc: Global,
-    logs: &'l Logs<'_>,
+/// What the client's tap with this name tells.
+pub(crate) fn told_named<'r, 'a>(
+    recording: &'r Recording<'a>,
     name: &str,
-) -> Result<Option<ReadTap<'l>>, Memory>
-    ensures { IfOk result (λ told. told ≡ told_named logs.now name.now) }
+) -> Option<&'r ReadTap<'a>>
+    ensures { option_copied result ≡ told_named recording.now name.now }
 {
-    match client_named(logs, name) {
-        Some(tap) => Ok(Some(ReadTap::read(alloc, tap, logs.stream())?)),
-        None => Ok(None),
-    }
-}
-
-/// What the client's tap with this name tells, looked up among the clients' taps of these logs.
-pub(crate) fn told_among<'c, 'l>(
-    logs: &Logs<'_>,
-    clients: &'c Clients<'l>,
-    name: &str,
-) -> Option<&'c ReadTap<'l>>
-    requires { clients.now ≡ clients_of logs.now }
-    ensures { option_copied result ≡ told_named logs.now name.now }
-{
-    match logs.place_of(name) {
-        Some(place) => clients.at(place),
-        None => None,
-    }
-}
-
-/// The client's tap with this name.
-fn client_named<'l, 'a>(logs: &'l Logs<'a>, name: &str) -> Option<&'l ClientTap<'a>>
-    ensures { option_copied result ≡ client_at logs.now (place_named logs.now name.now) }
-{
-    match logs.place_of(name) {
-        Some(place) => logs.client(place),
+    match recording.logs().place_of(name) {
+        Some(place) => recording.client(place),
         None => None,
     }
 }

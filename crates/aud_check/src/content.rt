@@ -32,7 +32,7 @@ fn is_entry(stream: &Stream<'_>, frame: &Frame<'_>) -> bool
 {
     match stream.entry(frame.position) {
         Some(StreamRec::Ev(event)) => {
-            frame.text == event.text.as_str() && are_blobs(frame.bin, event.bin.as_slice())
+            frame.text == event.text.as_str() && are_blobs(&frame.bin, event.bin.as_slice())
         }
         _ => false,
     }

@@ -20,6 +20,6 @@ mod turn_end;
 mod window;
 mod words;
 
-pub use certificate::{Accepted, check, check_read};
+pub use certificate::{Accepted, check};
 pub use law::recovery_is_accepted;
 pub use refusal::Refusal;

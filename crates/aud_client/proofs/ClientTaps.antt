@@ -1,28 +1,44 @@
--- What all clients' taps tell, tap after tap.
-use Rattle.std.proofs.Common.{◌≡◌, ℕ, zero, suc, ◌+◌, ◌<◌, List, [], ◌∷◌, ◌++◌, length, map, take, refl, sym, ap, ◌∙◌, arith, Option, option_map, slice_get}
+-- What is kept of the clients' taps, and what their places are.
+use Rattle.std.proofs.Common.{◌≡◌, ℕ, Bool, cond, List, [], ◌∷◌, length, map, refl, ap, ◌∙◌, Option, Some, None, option_map, slice_get}
+use Rattle.std.specs.List.{filter}
 use Rattle.std.specs.Option.{option_and_then}
+use Rattle.std.proofs.lemmas.List.{length-map}
+use Rattle.std.proofs.lemmas.Option.{slice_get-map}
 use Rattle.aud_tap.specs.declared.records.StreamRec.{StreamRec}
+use Rattle.aud_tap.specs.declared.records.ClientRec.{ClientRec}
 use Rattle.aud_tap.specs.declared.taps.Tap.{Tap}
-use Rattle.aud_node.specs.NodeTaps.{client_recs}
+use Rattle.aud_node.specs.Lists.{numbers_from}
+use Rattle.aud_node.specs.NodeTaps.{client_recs, client_at}
+use Rattle.aud_node.specs.Cluster.{Cluster}
+use Rattle.aud_node.specs.Stream.{Text}
+use Rattle.aud_client.specs.Replies.{is_naming, naming_places}
 use Rattle.aud_client.specs.Received.{ReceivedSeen, received_of}
-use Rattle.aud_client.specs.Clients.{told_by}
+use Rattle.aud_client.specs.Recording.{told_at, told_by, is_told, places_telling}
+use Rattle.aud_client.proofs.Named.{named_by_replies}
 
--- what the tap at the place tells
-abbrev told_in : List StreamRec → List Tap → ℕ → Option ReceivedSeen
-told_in stream taps place = option_map (received_of stream) (option_and_then client_recs (slice_get taps place))
+abbrev pub flat : Option (Option ReceivedSeen) → Option ReceivedSeen
+flat o = option_and_then (λ told. told) o
 
-told-more : (stream : List StreamRec) (taps : List Tap) (place : ℕ) → place < length taps
-    → map (told_by stream) (take (suc place) taps) ≡ map (told_by stream) (take place taps) ++ told_in stream taps place ∷ []
-told-more stream [] place within = absurd (omega (arith, within))
-told-more stream (tap ∷ taps) zero within = refl
-told-more stream (tap ∷ taps) (suc place) within = ap (λ told. told_by stream tap ∷ told) (told-more stream taps place (omega (arith, within)))
+flat-told : (stream : List StreamRec) (o : Option Tap) → flat (option_map (told_by stream) o) ≡ option_map (received_of stream) (option_and_then client_recs o)
+flat-told stream None = refl
+flat-told stream (Some tap) = refl
 
--- what the first taps tell, with one tap more
-pub told-next : (stream : List StreamRec) (taps : List Tap) (place : ℕ) (one : Option ReceivedSeen) (old new : List (Option ReceivedSeen)) → place < length taps
-    → old ≡ map (told_by stream) (take place taps) → one ≡ told_in stream taps place → new ≡ old ++ one ∷ []
-    → new ≡ map (told_by stream) (take (place + 1) taps)
-told-next stream taps place one old new within before is after =
-    let next : suc place ≡ place + 1 = omega arith in
-    after ∙ ap (λ told. told ++ one ∷ []) before ∙ ap (λ o. map (told_by stream) (take place taps) ++ o ∷ []) is
-    ∙ sym (told-more stream taps place within)
-    ∙ ap (λ n. map (told_by stream) (take n taps)) next
+-- what is kept at the place is what the client's tap there tells
+pub told_at-kept : (c : Cluster) (clients : List (Option ReceivedSeen)) (place : ℕ) → clients ≡ map (told_by c.stream) c.taps → flat (slice_get clients place) ≡ told_at c place
+told_at-kept c clients place kept =
+    ap flat (ap (λ told. slice_get told place) kept ∙ slice_get-map (told_by c.stream) c.taps place) ∙ flat-told c.stream (slice_get c.taps place)
+
+told-naming : (stream : List StreamRec) (pid : Text) (recs : Option (List ClientRec)) → is_told pid (option_map (received_of stream) recs) ≡ is_naming pid recs
+told-naming stream pid None = refl
+told-naming stream pid (Some recs) = named_by_replies stream recs pid
+
+filter-alike : (p q : ℕ → Bool) (xs : List ℕ) → ((x : ℕ) → p x ≡ q x) → filter p xs ≡ filter q xs
+filter-alike p q [] alike = refl
+filter-alike p q (x ∷ xs) alike = ap (λ b. cond b (x ∷ filter p xs) (filter p xs)) (alike x) ∙ ap (λ ys. cond (q x) (x ∷ ys) ys) (filter-alike p q xs alike)
+
+-- the places of those that tell of a stay of the session are those of the taps that name it
+pub places_naming : (c : Cluster) (clients : List (Option ReceivedSeen)) (pid : Text) → clients ≡ map (told_by c.stream) c.taps → places_telling clients pid ≡ naming_places c.taps pid
+places_naming c clients pid kept =
+    filter-alike (λ place. is_told pid (flat (slice_get clients place))) (λ place. is_naming pid (client_at c place)) (numbers_from 0 (length clients))
+    (λ place. ap (is_told pid) (told_at-kept c clients place kept) ∙ told-naming c.stream pid (client_at c place))
+    ∙ ap (λ n. filter (λ place. is_naming pid (client_at c place)) (numbers_from 0 n)) (ap length kept ∙ length-map c.taps (told_by c.stream))

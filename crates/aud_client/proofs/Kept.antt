@@ -6,7 +6,7 @@ use Rattle.std.proofs.lemmas.Bool.{true≢false}
 use Rattle.std.proofs.lemmas.List.{append_assoc, length-map}
 use Rattle.std.proofs.lemmas.Option.{same_Some, none-some}
 use Rattle.aud_tap.specs.declared.records.StreamRec.{StreamRec}
-use Rattle.aud_node.specs.TapPackets.{TapPacket}
+use Rattle.aud_client.specs.TapPackets.{TapPacket}
 use Rattle.aud_client.specs.declared.stays.Stays.{Stays}
 use Rattle.aud_client.specs.Stays.{namespace, is_connect, is_disconnect, is_reply, goes_on, stay_after, begins, stays}
 use Rattle.aud_client.specs.Open.{open_place}

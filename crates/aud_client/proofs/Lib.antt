@@ -8,4 +8,7 @@ pub mod Connections
 pub mod Named
 pub mod ByPlace
 pub mod BySession
+pub mod ReadLemmas
+pub mod ConnectionLemmas
+pub mod ClientLemmas
 pub mod ClientTaps

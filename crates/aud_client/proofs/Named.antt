@@ -7,8 +7,8 @@ use Rattle.std.proofs.lemmas.List.Folds.{list_any-append}
 use Rattle.aud_tap.specs.declared.records.StreamRec.{StreamRec}
 use Rattle.aud_tap.specs.declared.records.ClientRec.{ClientRec}
 use Rattle.aud_node.specs.Stream.{Text}
-use Rattle.aud_node.specs.TapPackets.{TapPacket, Received, Sent, Connection, tap_packets}
-use Rattle.aud_node.specs.Replies.{reply_names, packet_names, connection_names, tap_names}
+use Rattle.aud_client.specs.TapPackets.{TapPacket, Received, Sent, Connection, tap_packets}
+use Rattle.aud_client.specs.Replies.{reply_names, packet_names, connection_names, tap_names}
 use Rattle.aud_client.specs.Stays.{namespace, is_reply, is_from_server, goes_on, stay_after, begins, stays}
 use Rattle.aud_client.specs.Open.{of_namespace, has}
 use Rattle.aud_client.specs.Told.{reply_at, reply_of, told}

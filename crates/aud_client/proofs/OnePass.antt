@@ -5,7 +5,7 @@ use Rattle.std.proofs.lemmas.Bool.{true≢false, false≢true, cases_Bool, not-t
 use Rattle.std.proofs.lemmas.List.{append_assoc, append-nil}
 use Rattle.std.proofs.lemmas.List.Folds.{list_any-append}
 use Rattle.std.proofs.lemmas.Option.{same_Some, none-some}
-use Rattle.aud_node.specs.TapPackets.{TapPacket}
+use Rattle.aud_client.specs.TapPackets.{TapPacket}
 use Rattle.aud_client.specs.Stays.{namespace, in_namespace, goes_on, whole_stay, stay_after, stay_at, begins, stays_from, stays}
 use Rattle.aud_client.specs.Open.{of_namespace, has, place}
 use Rattle.aud_client.proofs.Places.{same_text, itself_text, swap_text, in_namespace-same, in_namespace-other, begun, of_stay_at, passed}

@@ -5,7 +5,7 @@ use Rattle.std.specs.Cmp.Lexicographic.{bytes_decides}
 use Rattle.std.proofs.lemmas.Bool.{true≢false, false≢true, cases_Bool, not-true}
 use Rattle.std.proofs.lemmas.List.{append_assoc, append-nil}
 use Rattle.std.proofs.lemmas.List.Elements.{filter-append}
-use Rattle.aud_node.specs.TapPackets.{TapPacket}
+use Rattle.aud_client.specs.TapPackets.{TapPacket}
 use Rattle.aud_client.specs.Open.{of_namespace, has}
 use Rattle.aud_client.specs.Stays.{namespace, in_namespace, goes_on, whole_stay, last_stay, stay_after, stay_at, begins, stays_from}
 

@@ -5,7 +5,7 @@ use Rattle.std.specs.Str.{bytes_eq}
 use Rattle.std.proofs.lemmas.Bool.{true≢false, false≢true, not-true, not-false}
 use Rattle.std.proofs.lemmas.List.Folds.{list_any-append}
 use Rattle.std.proofs.lemmas.Option.{none-some}
-use Rattle.aud_node.specs.TapPackets.{TapPacket}
+use Rattle.aud_client.specs.TapPackets.{TapPacket}
 use Rattle.aud_client.specs.Stays.{namespace, is_connect, is_disconnect, is_reply, goes_on, stay_after, begins, stays}
 use Rattle.aud_client.specs.Open.{of_namespace, has, place, open_place}
 use Rattle.aud_client.proofs.Places.{same_text, stay_after-same, stay_after-other}

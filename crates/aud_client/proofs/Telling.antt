@@ -7,8 +7,8 @@ use Rattle.std.proofs.lemmas.List.{append-nil}
 use Rattle.std.proofs.lemmas.List.Elements.{filter_map-append}
 use Rattle.aud_tap.specs.declared.records.StreamRec.{StreamRec}
 use Rattle.aud_node.specs.Stream.{Text}
-use Rattle.aud_node.specs.TapPackets.{TapPacket, Received, Sent}
-use Rattle.aud_node.specs.Replies.{ReplySeen, told_by, value_of, is_connect as is_connect_kind}
+use Rattle.aud_client.specs.TapPackets.{TapPacket, Received, Sent}
+use Rattle.aud_client.specs.Replies.{ReplySeen, told_by, value_of, is_connect as is_connect_kind}
 use Rattle.aud_client.specs.Stays.{namespace, is_connect, is_disconnect, is_reply, is_from_server, goes_on}
 use Rattle.aud_client.specs.Told.{AskedSeen, FrameSeen, StaySeen, told, reply_at, reply_of, before_reply, asked_by, ask_of, last_of, asked_of, frame_of}
 use Rattle.aud_client.specs.Kept.{fresh, grown}

@@ -1,5 +1,8 @@
 pub use Rattle.aud_node.specs.Stream
-pub use Rattle.aud_node.specs.Replies
+pub mod TapPackets
+pub mod ConnectionRead
+pub mod ClientRead
+pub mod Replies
 pub mod Stays
 pub mod Told
 pub mod Received
@@ -7,4 +10,4 @@ pub mod Open
 pub mod Kept
 pub mod BySession
 pub mod ReadTap
-pub mod Clients
+pub mod Recording

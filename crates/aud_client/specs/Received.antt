@@ -5,8 +5,8 @@ use Rattle.std.specs.Str.{bytes_eq}
 use Rattle.aud_tap.specs.declared.records.StreamRec.{StreamRec}
 use Rattle.aud_tap.specs.declared.records.ClientRec.{ClientRec}
 use Rattle.aud_node.specs.Stream.{Text}
-use Rattle.aud_node.specs.TapPackets.{TapPacket, Connection, tap_packets}
-use Rattle.aud_node.specs.Replies.{ReplySeen, reply_names}
+use Rattle.aud_client.specs.TapPackets.{TapPacket, Connection, tap_packets}
+use Rattle.aud_client.specs.Replies.{ReplySeen, reply_names}
 use Rattle.aud_client.specs.Stays.{stays, stay_at}
 use Rattle.aud_client.specs.Told.{AskedSeen, FrameSeen, StaySeen, told, reply_of, frames_of}
 

@@ -6,8 +6,8 @@ use Rattle.aud_sio.specs.declared.kind.PacketKind.{PacketKind}
 use Rattle.aud_sio.specs.declared.kind.PacketKind.TheVariants.{Disconnect}
 use Rattle.aud_sio.specs.Packet.{PacketSeen}
 use Rattle.aud_node.specs.Stream.{Text}
-use Rattle.aud_node.specs.TapPackets.{TapPacket, Received, Sent}
-use Rattle.aud_node.specs.Replies.{is_connect as is_connect_kind}
+use Rattle.aud_client.specs.TapPackets.{TapPacket, Received, Sent}
+use Rattle.aud_client.specs.Replies.{is_connect as is_connect_kind}
 
 abbrev pub is_disconnect_kind : PacketKind → Bool
 is_disconnect_kind Disconnect = true

@@ -12,8 +12,8 @@ use Rattle.aud_sio.specs.Wholes.{WholeSeen}
 use Rattle.aud_node.specs.Stream.{Text, position}
 use Rattle.aud_node.specs.Recoverable.{is_event}
 use Rattle.aud_node.specs.AtPosition.{is_recoverable_at}
-use Rattle.aud_node.specs.TapPackets.{TapPacket, Received, Sent}
-use Rattle.aud_node.specs.Replies.{ReplySeen, reply_in, value_of, is_connect as is_connect_kind}
+use Rattle.aud_client.specs.TapPackets.{TapPacket, Received, Sent}
+use Rattle.aud_client.specs.Replies.{ReplySeen, reply_in, value_of, is_connect as is_connect_kind}
 use Rattle.aud_client.specs.Stays.{namespace, is_reply}
 
 -- what a client asks to recover: a session, and behind which offset

@@ -2,11 +2,11 @@
 ghost use Rattle.std.specs.Prelude.{◌≡◌, IfOk, string_bytes};
 ghost use Rattle.std.specs.Option.{option_copied, option_map, option_and_then};
 ghost use Rattle.serde_json.specs.View.{view as data_of};
-ghost use Rattle.aud_node.specs.Replies.{value_of};
+ghost use Rattle.aud_client.specs.Replies.{value_of};
 ghost use Rattle.aud_sio.specs.Packet.{view};
 ghost use Rattle.aud_client.specs.Told.{asked_in, asked_by};
 
-use aud_node::{text_at, value_of};
+use crate::payload::{text_at, value_of};
 use aud_sio::{Packet, PacketKind};
 use aud_tap::Memory;
 use serde_json::Value;

@@ -1,16 +1,17 @@
 //! The events of the stream that came.
 ghost use Rattle.std.specs.Prelude.{◌≡◌};
-ghost use Rattle.std.specs.Option.{option_copied};
+ghost use Rattle.std.specs.Option.{option_and_then, option_copied};
 ghost use Rattle.aud_sio.specs.Packet.{view};
 ghost use Rattle.aud_sio.specs.Assembly.{whole_view};
-ghost use Rattle.aud_node.specs.TapPackets.{Received};
+ghost use Rattle.aud_client.specs.TapPackets.{Received};
 ghost use Rattle.aud_client.specs.Told.{frame_of, offset_in, recoverable_position};
 
 use aud_node::{Stream, is_event};
 use aud_sio::{Blob, Packet, Whole, last_text};
 use std::marker::Model;
 
-/// An event that came, lent from the packets of the tap.
+/// An event that came. Its text and the bytes of its attachments are lent from the tap's records, where they stand
+/// there as they are.
 #[derive(Drop)]
 pub struct Frame<'a> {
     /// The position in the stream of the entry whose offset ends the event; positions count from 1.
@@ -18,7 +19,7 @@ pub struct Frame<'a> {
     /// The text of the packet, as it came.
     pub text: &'a str,
     /// The attachments, in their order.
-    pub bin: &'a [Blob<'a>],
+    pub bin: Vec<Blob<'a>>,
 }
 
 impl<'a> Model for Frame<'a> {
@@ -29,20 +30,26 @@ impl<'a> Model for Frame<'a> {
 
     ghost Value = { FrameSeen };
 
-    ghost view = { λ f. record { position = f.position; text = f.text.now; bin = map bytes_of (map blob_view f.bin.now) } };
+    ghost view = { λ f. record { position = f.position; text = f.text.now; bin = map bytes_of (map blob_view f.bin.items) } };
 }
 
-/// The frame that a packet of the server is, if it is one.
-pub(crate) fn frame_of<'a>(stream: &Stream<'_>, whole: &'a Whole<'a>) -> Option<Frame<'a>>
-    ensures { result ≡ frame_of stream.now (Received (whole_view whole.now)) }
+/// The frame that a packet of the server is, if it is one: its attachments are moved out of the packet.
+pub(crate) fn frame_of<'a>(stream: &Stream<'_>, whole: Whole<'a>) -> Option<Frame<'a>>
+    ensures { result ≡ frame_of stream.now (Received (whole_view whole.entry)) }
 {
-    let off = offset_in(&whole.packet)?;
-    let position = recoverable_position(stream, off)?;
+    let position = position_of(stream, &whole.packet)?;
     Some(Frame {
         position,
         text: whole.text,
-        bin: whole.bin.as_slice(),
+        bin: whole.bin,
     })
+}
+
+/// The position of the recoverable entry whose offset ends the event, if the packet is one.
+fn position_of(stream: &Stream<'_>, packet: &Packet<'_>) -> Option<u64>
+    ensures { result ≡ option_and_then (recoverable_position stream.now) (offset_in (view packet.now)) }
+{
+    recoverable_position(stream, offset_in(packet)?)
 }
 
 /// The text at the end of an event that asks for no acknowledgement.

@@ -4,14 +4,8 @@ ghost use Rattle.std.specs.List.{list_any};
 ghost use Rattle.aud_tap.specs.declared.records.StreamRec.{StreamRec};
 ghost use Rattle.aud_tap.specs.declared.records.ClientRec.{ClientRec};
 ghost use Rattle.aud_node.specs.Stream.{Text};
-ghost use Rattle.aud_node.specs.Replies.{tap_names};
+ghost use Rattle.aud_client.specs.Replies.{tap_names};
 ghost use Rattle.aud_client.specs.Received.{received_of, received_list, names, stays_naming, are_in, frames_by_stay};
-
-/// A tap has a stay whose reply names the session exactly where a packet of the tap is a reply that names it.
-pub fn named_by_replies()
-    ensures { (stream : List StreamRec) (recs : List ClientRec) (pid : Text)
-        → list_any (names pid) (received_of stream recs).stays ≡ tap_names pid recs }
-{}
 
 /// Where all stays that name the session are in one namespace, what the session received, in the order of the tap, is
 /// the frames of those stays, stay after stay.

@@ -1,25 +1,31 @@
-//! What a client received: the stays of its connections, and the frames in them.
+//! What clients sent and received: the packets of their taps, the stays of their connections, and the frames in them.
 //!
-//! Begin at [`received`], which goes through a tap's packets once; [`Clients`] keeps what all taps tell.
+//! Begin at [`Recording`], which reads all taps of a bundle once; [`received`] goes through a tap's packets.
 #![tactic(auto)]
 
 mod asked;
 mod by_session;
-mod clients;
+mod client_tap;
+mod connection;
 mod frame;
 mod laws;
+mod payload;
 mod read_tap;
+mod recording;
+mod replies;
 mod stay;
 mod stays;
 mod tap;
 mod told;
 
 pub use asked::Asked;
-pub use aud_node::Reply;
-pub use clients::Clients;
+pub use client_tap::{ClientTap, Connection};
+pub use connection::{Placed, TapPacket};
 pub use frame::Frame;
-pub use laws::{named_by_replies, received_by_stays};
+pub use laws::received_by_stays;
 pub use read_tap::ReadTap;
+pub use recording::Recording;
+pub use replies::{Reply, reply_of};
 pub use stay::Stay;
 pub use tap::received;
 pub use told::Received;

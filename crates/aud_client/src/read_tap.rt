@@ -6,10 +6,11 @@ ghost use Rattle.aud_client.specs.Received.{received_of, stays_naming};
 ghost use Rattle.aud_client.specs.BySession.{stays_numbered};
 
 use crate::by_session::BySession;
+use crate::client_tap::ClientTap;
 use crate::stay::Stay;
 use crate::tap::received;
 use crate::told::Received;
-use aud_node::{ClientTap, Stream};
+use aud_node::Stream;
 use aud_tap::Memory;
 use std::alloc::Global;
 use std::marker::Model;
@@ -34,13 +35,13 @@ impl<'a> Model for ReadTap<'a> {
 }
 
 impl<'a> ReadTap<'a> {
-    /// Reads the tap, all of it once. The frames are lent from the tap's packets.
+    /// Reads the tap, all of it once.
     pub fn read(
         alloc: Global,
-        tap: &'a ClientTap<'a>,
+        tap: ClientTap<'a>,
         stream: &Stream<'_>,
     ) -> Result<ReadTap<'a>, Memory>
-        ensures { IfOk result (λ told. told ≡ received_of stream.now tap.now) }
+        ensures { IfOk result (λ told. told ≡ received_of stream.now tap.entry) }
     {
         let received = received(alloc, tap, stream)?;
         let by_session = BySession::build(alloc, &received.stays)?;

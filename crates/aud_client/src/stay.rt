@@ -5,15 +5,17 @@ ghost use Rattle.std.specs.Option.{option_copied};
 ghost use Rattle.aud_tap.specs.declared.records.StreamRec.{StreamRec};
 ghost use Rattle.aud_sio.specs.Packet.{view};
 ghost use Rattle.aud_sio.specs.Assembly.{whole_view};
-ghost use Rattle.aud_node.specs.TapPackets.{Received, Sent};
-ghost use Rattle.aud_node.specs.ConnectionRead.{packet_seen};
-ghost use Rattle.aud_node.specs.Replies.{is_this};
+ghost use Rattle.aud_client.specs.TapPackets.{Received, Sent};
+ghost use Rattle.aud_client.specs.ConnectionRead.{packet_seen};
+ghost use Rattle.aud_client.specs.Replies.{is_this};
 ghost use Rattle.aud_client.specs.Received.{names, is_recovered};
 ghost use Rattle.aud_client.specs.Kept.{fresh, grown};
 
 use crate::asked::{Asked, asked_in};
+use crate::connection::TapPacket;
 use crate::frame::{Frame, frame_of};
-use aud_node::{Reply, Stream, TapPacket, reply_of};
+use crate::replies::{Reply, reply_of};
+use aud_node::Stream;
 use aud_sio::{Packet, Whole};
 use aud_tap::Memory;
 use std::alloc::{AllocError, Global};
@@ -81,13 +83,13 @@ impl<'a> Stay<'a> {
         &mut self,
         alloc: Global,
         stream: &Stream<'_>,
-        packet: &'a TapPacket<'a>,
+        packet: TapPacket<'a>,
     ) -> Result<(), Memory>
-        ensures { OnOk result (self.new ≡ grown stream.now self.old (packet_seen packet.now)) }
+        ensures { OnOk result (self.new ≡ grown stream.now self.old (packet_seen packet.entry)) }
     {
         match packet {
             TapPacket::Received(whole) => self.receive(alloc, stream, whole),
-            TapPacket::Sent(packet) => self.ask(alloc, packet),
+            TapPacket::Sent(packet) => self.ask(alloc, &packet),
         }
     }
 
@@ -96,11 +98,11 @@ impl<'a> Stay<'a> {
         &mut self,
         alloc: Global,
         stream: &Stream<'_>,
-        whole: &'a Whole<'a>,
+        whole: Whole<'a>,
     ) -> Result<(), Memory>
-        ensures { OnOk result (self.new ≡ grown stream.now self.old (Received (whole_view whole.now))) }
+        ensures { OnOk result (self.new ≡ grown stream.now self.old (Received (whole_view whole.entry))) }
     {
-        if let Some(reply) = reply_of(alloc, whole)? {
+        if let Some(reply) = reply_of(alloc, &whole)? {
             self.reply = Some(reply);
         }
         self.keep(frame_of(stream, whole))?;

@@ -2,17 +2,19 @@
 ghost use Rattle.std.specs.Prelude.{◌≡◌, ℕ, ◌++◌, ◌∷◌, List, [], OnOk, length, Some, slice_get, set};
 ghost use Rattle.std.specs.Option.{option_and_then};
 ghost use Rattle.aud_tap.specs.declared.records.StreamRec.{StreamRec};
-ghost use Rattle.aud_node.specs.TapPackets.{TapPacket as TapPacketSeen};
-ghost use Rattle.aud_node.specs.ClientRead.{connection_seen};
-ghost use Rattle.aud_node.specs.ConnectionRead.{packet_seen};
+ghost use Rattle.aud_client.specs.TapPackets.{TapPacket as TapPacketSeen};
+ghost use Rattle.aud_client.specs.ClientRead.{connection_seen};
+ghost use Rattle.aud_client.specs.ConnectionRead.{packet_seen};
 ghost use Rattle.aud_client.specs.Stays.{is_connect, is_disconnect, namespace, packet_in};
 ghost use Rattle.aud_sio.specs.Packet.{view};
 ghost use Rattle.aud_client.specs.Told.{StaySeen};
 ghost use Rattle.aud_client.specs.Received.{stays_of};
 ghost use Rattle.aud_client.specs.Kept.{Keeps, BeginsAt, GoesOn, open_at, place_for, unless_replied, fresh, grown};
 
+use crate::client_tap::Connection;
+use crate::connection::TapPacket;
 use crate::stay::Stay;
-use aud_node::{Connection, Stream, TapPacket};
+use aud_node::Stream;
 use aud_sio::{Packet, PacketKind};
 use aud_tap::Memory;
 use std::alloc::{AllocError, Global};
@@ -43,13 +45,14 @@ impl<'a> Stays<'a> {
     pub fn connection(
         &mut self,
         stream: &Stream<'_>,
-        connection: &'a Connection<'a>,
+        connection: Connection<'a>,
     ) -> Result<(), Memory>
-        ensures { OnOk result (self.new.stays.items ≡ self.old.stays.items ++ stays_of stream.now (connection_seen connection.now)) }
+        ensures { OnOk result (self.new.stays.items ≡ self.old.stays.items ++ stays_of stream.now (connection_seen connection.entry)) }
     {
+        let Connection { c, packets } = connection;
         self.begin_connection();
-        for placed in connection.packets.as_slice() {
-            self.take(stream, connection.c, &placed.packet)?;
+        for placed in packets {
+            self.take(stream, c, placed.packet)?;
         }
         Ok(())
     }
@@ -62,10 +65,10 @@ impl<'a> Stays<'a> {
     }
 
     /// The next packet of the connection with this number.
-    fn take(&mut self, stream: &Stream<'_>, c: u64, packet: &'a TapPacket<'a>) -> Result<(), Memory>
-        ensures { (done : List StaySeen) (packets : List TapPacketSeen) → Keeps stream.now c self.old done packets → OnOk result (Keeps stream.now c self.new done (packets ++ packet_seen packet.now ∷ [])) }
+    fn take(&mut self, stream: &Stream<'_>, c: u64, packet: TapPacket<'a>) -> Result<(), Memory>
+        ensures { (done : List StaySeen) (packets : List TapPacketSeen) → Keeps stream.now c self.old done packets → OnOk result (Keeps stream.now c self.new done (packets ++ packet_seen packet.entry ∷ [])) }
     {
-        match self.place_for(packet) {
+        match self.place_for(&packet) {
             Some(place) => self.go_on(stream, place, packet),
             None => self.begin(stream, c, packet),
         }
@@ -98,26 +101,22 @@ impl<'a> Stays<'a> {
     }
 
     /// The packet begins a stay.
-    fn begin(
-        &mut self,
-        stream: &Stream<'_>,
-        c: u64,
-        packet: &'a TapPacket<'a>,
-    ) -> Result<(), Memory>
-        ensures stays { OnOk result (self.new.stays.items ≡ self.old.stays.items ++ grown stream.now (fresh c (namespace (packet_seen packet.now))) (packet_seen packet.now) ∷ []) }
-        ensures open { OnOk result (BeginsAt (packet_seen packet.now) (length self.old.stays.items) self.old self.new) }
+    fn begin(&mut self, stream: &Stream<'_>, c: u64, packet: TapPacket<'a>) -> Result<(), Memory>
+        ensures stays { OnOk result (self.new.stays.items ≡ self.old.stays.items ++ grown stream.now (fresh c (namespace (packet_seen packet.entry))) (packet_seen packet.entry) ∷ []) }
+        ensures open { OnOk result (BeginsAt (packet_seen packet.entry) (length self.old.stays.items) self.old self.new) }
     {
-        let mut stay = Stay::new(self.alloc, c, namespace(packet));
-        stay.add(self.alloc, stream, packet)?;
         let place = self.stays.len();
+        self.mark(&packet, place)?;
+        let mut stay = Stay::new(self.alloc, c, namespace(&packet));
+        stay.add(self.alloc, stream, packet)?;
         match self.stays.push(stay) {
-            Ok(()) => Ok(self.mark(packet, place)?),
+            Ok(()) => Ok(()),
             Err(_) => Err(Memory),
         }
     }
 
     /// The stay at the place goes on in the packet's namespace, unless the packet ends it.
-    fn mark(&mut self, packet: &'a TapPacket<'a>, place: usize) -> Result<(), AllocError>
+    fn mark(&mut self, packet: &TapPacket<'a>, place: usize) -> Result<(), AllocError>
         ensures stays { self.new.stays.items ≡ self.old.stays.items }
         ensures open { OnOk result (BeginsAt (packet_seen packet.now) place self.old self.new) }
     {
@@ -135,16 +134,23 @@ impl<'a> Stays<'a> {
         &mut self,
         stream: &Stream<'_>,
         place: usize,
-        packet: &'a TapPacket<'a>,
+        packet: TapPacket<'a>,
     ) -> Result<(), Memory>
-        ensures stays { (t : StaySeen) → slice_get self.old.stays.items place ≡ Some t → OnOk result (self.new.stays.items ≡ set self.old.stays.items place (grown stream.now t (packet_seen packet.now))) }
-        ensures open { OnOk result (GoesOn (packet_seen packet.now) self.old self.new) }
+        ensures stays { (t : StaySeen) → slice_get self.old.stays.items place ≡ Some t → OnOk result (self.new.stays.items ≡ set self.old.stays.items place (grown stream.now t (packet_seen packet.entry))) }
+        ensures open { OnOk result (GoesOn (packet_seen packet.entry) self.old self.new) }
     {
-        self.grow(stream, place, packet)?;
+        self.end(&packet);
+        self.grow(stream, place, packet)
+    }
+
+    /// The stay that goes on in the packet's namespace does so no more, if the packet ends it.
+    fn end(&mut self, packet: &TapPacket<'_>)
+        ensures stays { self.new.stays.items ≡ self.old.stays.items }
+        ensures open { GoesOn (packet_seen packet.now) self.old self.new }
+    {
         if is_disconnect(packet) {
             self.open.remove(namespace(packet));
         }
-        Ok(())
     }
 
     /// The stay at the place has the packet too.
@@ -152,9 +158,9 @@ impl<'a> Stays<'a> {
         &mut self,
         stream: &Stream<'_>,
         place: usize,
-        packet: &'a TapPacket<'a>,
+        packet: TapPacket<'a>,
     ) -> Result<(), Memory>
-        ensures stays { (t : StaySeen) → slice_get self.old.stays.items place ≡ Some t → OnOk result (self.new.stays.items ≡ set self.old.stays.items place (grown stream.now t (packet_seen packet.now))) }
+        ensures stays { (t : StaySeen) → slice_get self.old.stays.items place ≡ Some t → OnOk result (self.new.stays.items ≡ set self.old.stays.items place (grown stream.now t (packet_seen packet.entry))) }
         ensures open { (n : List ℕ) → open_at self.new n ≡ open_at self.old n }
     {
         match self.stays.get_mut(place) {

@@ -4,41 +4,40 @@ ghost use Rattle.std.specs.List.{list_any};
 ghost use Rattle.std.specs.Option.{option_copied};
 ghost use Rattle.aud_client.specs.Received.{received_of, tap_stays, is_orphan, names_somebody};
 
+use crate::client_tap::ClientTap;
+use crate::replies::Reply;
 use crate::stay::Stay;
 use crate::stays::Stays;
 use crate::told::Received;
-use aud_node::{ClientTap, Reply, Stream};
+use aud_node::Stream;
 use aud_tap::Memory;
 use std::alloc::Global;
 
-/// The stays of the tap, with the frames that are recoverable in this stream. The frames are lent from the tap's
-/// packets.
+/// The stays of the tap, with the frames that are recoverable in this stream. The packets are let go: what the frames
+/// keep of them is moved out.
 pub fn received<'a>(
     alloc: Global,
-    tap: &'a ClientTap<'a>,
+    tap: ClientTap<'a>,
     stream: &Stream<'_>,
 ) -> Result<Received<'a>, Memory>
-    ensures { IfOk result (λ r. r ≡ received_of stream.now tap.now) }
+    ensures { IfOk result (λ r. r ≡ received_of stream.now tap.entry) }
 {
+    let bad = tap.bad();
     let stays = stays_of(alloc, tap, stream)?;
     let orphan = has_orphan(stays.as_slice());
-    Ok(Received {
-        bad: tap.bad(),
-        orphan,
-        stays,
-    })
+    Ok(Received { bad, orphan, stays })
 }
 
 /// The stays of all connections, in one pass.
 fn stays_of<'a>(
     alloc: Global,
-    tap: &'a ClientTap<'a>,
+    tap: ClientTap<'a>,
     stream: &Stream<'_>,
 ) -> Result<Vec<Stay<'a>>, Memory>
-    ensures { IfOk result (λ stays. stays.items ≡ tap_stays stream.now tap.now) }
+    ensures { IfOk result (λ stays. stays.items ≡ tap_stays stream.now tap.entry) }
 {
     let mut stays = Stays::new(alloc);
-    for connection in tap.connections() {
+    for connection in tap.into_connections() {
         stays.connection(stream, connection)?;
     }
     let Stays { stays, .. } = stays;

@@ -10,7 +10,7 @@ use Rattle.aud_node.specs.Cluster.{Cluster, node_log}
 use Rattle.aud_node.specs.Lists.{first_index}
 use Rattle.aud_node.specs.Stream.{Text}
 use Rattle.aud_node.specs.TurnRecords.{begins_turn, turn_in, turn_range}
-use Rattle.aud_node.specs.Replies.{naming_places}
+use Rattle.aud_client.specs.Replies.{naming_places}
 use Rattle.aud_rooms.specs.Turns.{Who, Turn, AreTurns, HasNoTurn, IsChain}
 use Rattle.aud_rooms.specs.TurnPlaces.{IsInOrder}
 use Rattle.aud_cert.specs.declared.fault.Fault.{Fault}

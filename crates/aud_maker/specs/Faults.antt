@@ -4,7 +4,7 @@ use Rattle.std.specs.List.{Contains}
 use Rattle.aud_node.specs.Stream.{Text}
 use Rattle.aud_node.specs.Cluster.{Cluster, node_log}
 use Rattle.aud_node.specs.Ordered.{is_ordered}
-use Rattle.aud_node.specs.Replies.{naming_places}
+use Rattle.aud_client.specs.Replies.{naming_places}
 use Rattle.aud_rooms.specs.Turns.{Who, Turn, HasNoTurn, IsChain}
 use Rattle.aud_cert.specs.declared.fault.Fault.{Fault}
 use Rattle.aud_cert.specs.declared.fault.Fault.TheVariants.{NoLog, Chain, Order, Client}

@@ -1,7 +1,7 @@
 pub use Rattle.aud_node.specs.Stream
 pub use Rattle.aud_node.specs.Cluster
 pub use Rattle.aud_node.specs.Ordered
-pub use Rattle.aud_node.specs.Replies
+pub use Rattle.aud_client.specs.Replies
 pub use Rattle.aud_rooms.specs.Turns
 pub use Rattle.aud_rooms.specs.Spans
 pub use Rattle.aud_client.specs.Received

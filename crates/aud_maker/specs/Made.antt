@@ -5,7 +5,7 @@ use Rattle.aud_tap.specs.declared.taps.Tap.{Tap}
 use Rattle.aud_node.specs.Stream.{Text}
 use Rattle.aud_node.specs.Cluster.{Cluster, node_log}
 use Rattle.aud_node.specs.Ordered.{is_ordered}
-use Rattle.aud_node.specs.Replies.{naming_places}
+use Rattle.aud_client.specs.Replies.{naming_places}
 use Rattle.aud_rooms.specs.Turns.{Who, Turn, slice_of, IsChain}
 use Rattle.aud_rooms.specs.Spans.{AreSpansOfTurns}
 use Rattle.aud_cert.specs.Certificate.{TurnSeen, CertificateSeen}

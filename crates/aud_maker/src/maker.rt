@@ -12,7 +12,7 @@ use crate::client::only_client;
 use crate::made::certificate_of;
 use crate::order::are_ordered;
 use aud_cert::{Certificate, Fault};
-use aud_node::Logs;
+use aud_client::Recording;
 use std::alloc::Global;
 
 /// Why no certificate was made.
@@ -27,11 +27,16 @@ pub enum MakeFault {
 /// The certificate of all turns of the session, with the spans of its rooms and the name of the one client tap with a
 /// reply that names it; or the first of the faults `NoLog`, `Chain`, `Order` and `Client` that holds. Names, records
 /// and rooms are lent by the taps. It looks at the session's own records, on the nodes where it was, and at no others.
-pub fn make<'a>(alloc: Global, logs: &Logs<'a>, pid: &str) -> Result<Certificate<'a>, MakeFault>
-    ensures made { IfOk result (λ cert. IsMade logs.now pid.now cert) }
-    ensures no_fault { OnOk result (NoneHolds logs.now pid.now) }
-    ensures why { IfErr result (IsWhy logs.now pid.now) }
+pub fn make<'a>(
+    alloc: Global,
+    recording: &Recording<'a>,
+    pid: &str,
+) -> Result<Certificate<'a>, MakeFault>
+    ensures made { IfOk result (λ cert. IsMade recording.now pid.now cert) }
+    ensures no_fault { OnOk result (NoneHolds recording.now pid.now) }
+    ensures why { IfErr result (IsWhy recording.now pid.now) }
 {
+    let logs = recording.logs();
     let nodes = logs.nodes_of(pid);
     if !is_opened(logs, nodes, pid) {
         return Err(MakeFault::Fault(Fault::NoLog));
@@ -45,7 +50,7 @@ pub fn make<'a>(alloc: Global, logs: &Logs<'a>, pid: &str) -> Result<Certificate
     if !are_ordered(logs, &chain.turns) {
         return Err(MakeFault::Fault(Fault::Order));
     }
-    let Some(client) = only_client(logs, pid) else {
+    let Some(client) = only_client(recording, pid) else {
         return Err(MakeFault::Fault(Fault::Client));
     };
     match certificate_of(alloc, logs, pid, &chain, client) {

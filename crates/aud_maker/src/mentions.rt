@@ -7,23 +7,24 @@ ghost use Rattle.aud_maker.specs.Sessions.{node_pids, stay_pid, reply_pids, sess
 ghost use Rattle.aud_maker.specs.Mentioned.{with_mentions};
 
 use crate::mentioned::Mentioned;
-use aud_client::{Stay, received};
-use aud_node::{Logs, pid};
+use aud_client::{Recording, Stay};
+use aud_node::pid;
 use aud_tap::{Memory, NodeRec, Records, Tap};
 use std::alloc::Global;
 
 /// The pids of the sessions, each once, by first mention: in the nodes' taps, in the order of their headers and then of
 /// their records, and then in the clients' taps, in the order of their headers and then of the stays whose replies
-/// name them. Each tap is gone through once.
-pub fn sessions(alloc: Global, logs: &Logs<'_>) -> Result<Vec<String>, Memory>
-    ensures { IfOk result (λ pids. map string_bytes pids.items ≡ sessions_of logs.now) }
+/// name them. Each node's record is looked at once, and each stay: no client's tap is read again.
+pub fn sessions(alloc: Global, recording: &Recording<'_>) -> Result<Vec<String>, Memory>
+    ensures { IfOk result (λ pids. map string_bytes pids.items ≡ sessions_of recording.now) }
 {
     let mut mentioned = Mentioned::new(alloc);
-    for tap in logs.taps() {
+    let taps = recording.logs().taps();
+    for tap in taps {
         mention_node(&mut mentioned, tap)?;
     }
-    for place in 0..logs.taps().len() {
-        mention_client(alloc, &mut mentioned, logs, place)?;
+    for place in 0..taps.len() {
+        mention_client(&mut mentioned, recording, place)?;
     }
     mentioned.into_pids()
 }
@@ -51,18 +52,16 @@ fn mention_records(mentioned: &mut Mentioned, recs: &[NodeRec]) -> Result<(), Me
 
 /// The pids that the replies of the tap at this place name, if it is a client's.
 fn mention_client(
-    alloc: Global,
     mentioned: &mut Mentioned,
-    logs: &Logs<'_>,
+    recording: &Recording<'_>,
     place: usize,
 ) -> Result<(), Memory>
-    ensures { OnOk result (mentioned.new ≡ with_mentions mentioned.old (reply_pids logs.now.stream (client_at logs.now place))) }
+    ensures { OnOk result (mentioned.new ≡ with_mentions mentioned.old (reply_pids recording.now.stream (client_at recording.now place))) }
 {
-    let Some(tap) = logs.client(place) else {
-        return Ok(());
-    };
-    let told = received(alloc, tap, logs.stream())?;
-    mention_replies(mentioned, &told.stays)
+    match recording.client(place) {
+        Some(told) => mention_replies(mentioned, &told.received().stays),
+        None => Ok(()),
+    }
 }
 
 fn mention_replies(mentioned: &mut Mentioned, stays: &[Stay<'_>]) -> Result<(), Memory>

@@ -5,8 +5,5 @@ pub mod PositionLemmas
 pub mod CursorLemmas
 pub mod TurnLemmas
 pub mod NodeLemmas
-pub mod ReadLemmas
-pub mod ConnectionLemmas
-pub mod ClientLemmas
 pub mod NamingLemmas
 pub mod AddresseeLemmas

@@ -8,17 +8,12 @@ use Rattle.std.proofs.lemmas.Bool.{eq-eqb}
 use Rattle.std.proofs.lemmas.Option.{slice_get_read}
 use Rattle.aud_tap.specs.declared.records.NodeRec.{NodeRec}
 use Rattle.aud_tap.specs.declared.taps.Tap.{Tap}
-use Rattle.aud_node.specs.declared.logs.Log.{Log}
 use Rattle.aud_node.specs.Lists.{numbers_from}
 use Rattle.aud_node.specs.Stream.{Text}
-use Rattle.aud_node.specs.NodeTaps.{client_recs}
-use Rattle.aud_node.specs.Replies.{is_naming, naming_places}
-use Rattle.aud_node.specs.Kept.{client_of}
 use Rattle.aud_node.specs.OwnRecords.{names}
 use Rattle.aud_node.specs.OwnPlaces.{is_none}
-use Rattle.aud_node.specs.Naming.{places_naming, is_place, with_place, noted}
+use Rattle.aud_node.specs.Naming.{is_place, with_place, noted}
 use Rattle.aud_node.proofs.CursorLemmas.{filter-more}
-use Rattle.aud_node.proofs.NodeLemmas.{client_at-kept}
 
 -- ---- a place that is noted twice
 
@@ -123,23 +118,6 @@ noted-record place recs pid i rec base mid new within read before after =
     (ap (λ o. some_names recs pid i || names o pid) (sym (slice_get_read recs (length recs) i rec refl within read))
     ∙ sym (some-more (λ number. names (slice_get recs number) pid) i))
 
--- ---- by what is kept of the taps, and by the taps
-
-pub list_any-seen : {X Y : Type 0} (p : Y → Bool) (f : X → Y) (xs : List X) → list_any (λ x. p (f x)) xs ≡ list_any p (map f xs)
-list_any-seen p f [] = refl
-list_any-seen p f (x ∷ xs) = ap (λ b. p (f x) || b) (list_any-seen p f xs)
-
-filter-alike : (p q : ℕ → Bool) (xs : List ℕ) → ((x : ℕ) → p x ≡ q x) → filter p xs ≡ filter q xs
-filter-alike p q [] alike = refl
-filter-alike p q (x ∷ xs) alike = ap (λ b. cond b (x ∷ filter p xs) (filter p xs)) (alike x) ∙ ap (λ ys. cond (q x) (x ∷ ys) ys) (filter-alike p q xs alike)
-
-pub places_naming-taps : (taps : List Tap) (logs : List Log) (pid : Text) → map client_of logs ≡ map client_recs taps → places_naming logs pid ≡ naming_places taps pid
-places_naming-taps taps logs pid kept =
-    filter-alike (λ place. is_naming pid (option_and_then client_of (slice_get logs place))) (λ place. is_naming pid (option_and_then client_recs (slice_get taps place))) (numbers_from 0 (length logs))
-    (λ place. ap (is_naming pid) (client_at-kept taps logs place kept))
-    ∙ ap (λ n. filter (λ place. is_naming pid (option_and_then client_recs (slice_get taps place))) (numbers_from 0 n))
-    (sym (length-map logs client_of) ∙ ap length kept ∙ length-map taps client_recs)
-
 -- ---- a loop over what may name the pid
 
 pub noted-item : {X : Type 0} (place : ℕ) (p : X → Bool) (xs : List X) (i : ℕ) (x : X) (base mid new : List ℕ) → i < length xs → x ≡ get_or xs i x
@@ -147,7 +125,3 @@ pub noted-item : {X : Type 0} (place : ℕ) (p : X → Bool) (xs : List X) (i : 
 noted-item place p xs i x base mid new within read before after =
     after ∙ ap (noted place (p x)) before ∙ noted-more place (list_any p (take i xs)) (p x) base
     ∙ ap (λ b. noted place b base) (ap (λ y. list_any p (take i xs) || p y) read ∙ sym (list_any_more p xs i x within))
-
-pub noted-all : {X Y : Type 0} (place : ℕ) (p : Y → Bool) (f : X → Y) (xs : List X) (i : ℕ) (base new : List ℕ) → length xs ≤ i
-    → new ≡ noted place (list_any (λ x. p (f x)) (take i xs)) base → new ≡ noted place (list_any p (map f xs)) base
-noted-all place p f xs i base new past is = is ∙ ap (λ b. noted place b base) (ap (list_any (λ x. p (f x))) (take_all i xs past) ∙ list_any-seen p f xs)

@@ -15,11 +15,6 @@ pub mod OwnPlaces
 pub mod NodeIndices
 pub mod Turns
 pub mod NodeIndexed
-pub mod TapPackets
-pub mod ConnectionRead
-pub mod ClientRead
-pub mod Replies
-pub mod Kept
 pub mod Naming
 pub mod Addressees
 pub mod StreamIndices

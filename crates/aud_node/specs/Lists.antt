@@ -1,11 +1,6 @@
 -- Words about lists.
-use Rattle.std.specs.Prelude.{ℕ, zero, suc, Bool, List, [], ◌∷◌, take, drop, ◌-◌, Option, Some, None, if◌then◌else◌}
-use Rattle.std.specs.Option.{option_map}
-
--- the least index of an element that passes
-abbrev pub first_index : {X : Type 0} → (X → Bool) → List X → Option ℕ
-first_index test [] = None
-first_index test (x ∷ xs) = if test x then Some 0 else option_map suc (first_index test xs)
+use Rattle.std.specs.Prelude.{ℕ, zero, suc, List, [], ◌∷◌, take, drop, ◌-◌}
+pub use Rattle.aud_tap.specs.Names.{first_index}
 
 -- the numbers from the first on, so many
 abbrev pub numbers_from : ℕ → ℕ → List ℕ

@@ -1,41 +1,30 @@
 //! The cluster's logs.
-ghost use Rattle.std.specs.Prelude.{◌≡◌, IfOk, map};
+ghost use Rattle.std.specs.Prelude.{◌≡◌, IfOk, map, option_map};
 ghost use Rattle.std.specs.Option.{option_copied};
 ghost use Rattle.aud_node.specs.Cluster.{cluster_of, stream_of, stream_place};
 ghost use Rattle.aud_node.specs.NodeTaps.{node_at, node_tap, client_at, client_recs};
-ghost use Rattle.aud_node.specs.Kept.{node_of, client_of};
 ghost use Rattle.aud_node.specs.Names.{place_of};
 ghost use Rattle.aud_node.specs.OwnPlaces.{own_places};
-ghost use Rattle.aud_node.specs.Replies.{naming_places};
 
-use crate::client_tap::ClientTap;
 use crate::names::Names;
 use crate::naming::Naming;
 use crate::node_log::NodeLog;
 use crate::stream::Stream;
-use aud_tap::{Memory, Records, StreamRec, Tap, Taps};
+use aud_tap::{ClientRec, Memory, Records, StreamRec, Tap, Taps};
 use std::alloc::{AllocError, Global};
 use std::marker::Model;
 
-/// What is kept of a tap.
-#[derive(Drop)]
-pub enum Log<'a> {
-    Stream,
-    Node(NodeLog<'a>),
-    Client(ClientTap<'a>),
-}
-
-/// The taps, lent, with what was made of them once: seen as the cluster. A tap is named by its place, which counts
-/// from 0 in the order of the headers.
+/// The taps, lent, with what was made once of the stream and of the nodes: seen as the cluster. A tap is named by its
+/// place, which counts from 0 in the order of the headers.
 #[derive(Drop)]
 pub struct Logs<'a> {
     taps: &'a [Tap],
     names: Names<'a>,
     stream_place: Option<usize>,
     stream: Stream<'a>,
-    logs: Vec<Log<'a>>,
-    naming: Naming,
-    nodes: Naming,
+    /// The node's log of each tap that is a node's.
+    nodes: Vec<Option<NodeLog<'a>>>,
+    own: Naming,
 }
 
 impl<'a> Model for Logs<'a> {
@@ -58,17 +47,15 @@ impl<'a> Logs<'a> {
         let taps = taps.as_slice();
         let names = Names::build(alloc, taps)?;
         let stream = Stream::build(alloc, entries_of(taps))?;
-        let logs = logs_of(alloc, &stream, taps)?;
-        let naming = Naming::build_clients(alloc, logs.as_slice())?;
-        let nodes = Naming::build_nodes(alloc, taps)?;
+        let nodes = nodes_of(alloc, &stream, taps)?;
+        let own = Naming::build_nodes(alloc, taps)?;
         Ok(Logs {
             taps,
             names,
             stream_place: place_of_stream(taps),
             stream,
-            logs,
-            naming,
             nodes,
+            own,
         })
     }
 
@@ -104,8 +91,8 @@ impl<'a> Logs<'a> {
     pub fn node(&self, place: usize) -> Option<&NodeLog<'a>>
         ensures { option_copied result ≡ node_at self.now place }
     {
-        match self.logs.get(place) {
-            Some(log) => log.node(),
+        match self.nodes.get(place) {
+            Some(node) => node.as_ref(),
             None => None,
         }
     }
@@ -114,49 +101,16 @@ impl<'a> Logs<'a> {
     pub fn nodes_of(&self, pid: &str) -> &[usize]
         ensures { result.now ≡ own_places self.now pid.now }
     {
-        self.nodes.of(pid)
+        self.own.of(pid)
     }
 
-    /// The client's tap at this place; none where that tap is no client's.
-    pub fn client(&self, place: usize) -> Option<&ClientTap<'a>>
-        ensures { option_copied result ≡ client_at self.now place }
+    /// The records of the client's tap at this place, lent; none where that tap is no client's.
+    pub fn client(&self, place: usize) -> Option<&'a [ClientRec]>
+        ensures { option_map (λ recs. recs.now) result ≡ client_at self.now place }
     {
-        match self.logs.get(place) {
-            Some(log) => log.client(),
+        match self.taps.get(place) {
+            Some(tap) => client_recs(tap),
             None => None,
-        }
-    }
-
-    /// The places, ascending, of the client taps in which a CONNECT from the server names the pid.
-    pub fn naming(&self, pid: &str) -> &[usize]
-        ensures { result.now ≡ naming_places self.now.taps pid.now }
-    {
-        self.naming.of(pid)
-    }
-}
-
-impl<'a> Log<'a> {
-    ghost use Rattle.aud_node.specs.Kept.{node_of, client_of};
-
-    /// The node's log, if it is one.
-    fn node(&self) -> Option<&NodeLog<'a>>
-        ensures { option_copied result ≡ node_of self.now }
-    {
-        match self {
-            Log::Node(log) => Some(log),
-            Log::Stream => None,
-            Log::Client(_) => None,
-        }
-    }
-
-    /// The client's tap, if it is one.
-    fn client(&self) -> Option<&ClientTap<'a>>
-        ensures { option_copied result ≡ client_of self.now }
-    {
-        match self {
-            Log::Client(tap) => Some(tap),
-            Log::Stream => None,
-            Log::Node(_) => None,
         }
     }
 }
@@ -185,30 +139,43 @@ fn entries_of(taps: &[Tap]) -> &[StreamRec]
     &[]
 }
 
-/// What is kept of each tap.
-fn logs_of<'a>(
+/// The records, if the tap is a client's.
+fn client_recs(tap: &Tap) -> Option<&[ClientRec]>
+    ensures { option_map (λ recs. recs.now) result ≡ client_recs tap.now }
+{
+    match &tap.records {
+        Records::Stream(_) => None,
+        Records::Node(_) => None,
+        Records::Client(recs) => Some(recs.as_slice()),
+    }
+}
+
+/// The node's log of each tap that is a node's.
+fn nodes_of<'a>(
     alloc: Global,
     stream: &Stream<'a>,
     taps: &'a [Tap],
-) -> Result<Vec<Log<'a>>, AllocError>
-    ensures nodes { IfOk result (λ logs. map node_of logs.items ≡ map (node_tap stream.now) taps.now) }
-    ensures clients { IfOk result (λ logs. map client_of logs.items ≡ map client_recs taps.now) }
+) -> Result<Vec<Option<NodeLog<'a>>>, AllocError>
+    ensures { IfOk result (λ nodes. nodes.items ≡ map (node_tap stream.now) taps.now) }
 {
-    let mut logs = Vec::new(alloc);
+    let mut nodes = Vec::new(alloc);
     for tap in taps {
-        logs.push(log_of(alloc, stream, tap)?)?;
+        nodes.push(node_of(alloc, stream, tap)?)?;
     }
-    Ok(logs)
+    Ok(nodes)
 }
 
-/// What is kept of the tap.
-fn log_of<'a>(alloc: Global, stream: &Stream<'a>, tap: &'a Tap) -> Result<Log<'a>, AllocError>
-    ensures node { IfOk result (λ log. node_of log ≡ node_tap stream.now tap.now) }
-    ensures client { IfOk result (λ log. client_of log ≡ client_recs tap.now) }
+/// The node's log, if the tap is a node's.
+fn node_of<'a>(
+    alloc: Global,
+    stream: &Stream<'a>,
+    tap: &'a Tap,
+) -> Result<Option<NodeLog<'a>>, AllocError>
+    ensures { IfOk result (λ node. node ≡ node_tap stream.now tap.now) }
 {
     match &tap.records {
-        Records::Stream(_) => Ok(Log::Stream),
-        Records::Node(recs) => Ok(Log::Node(NodeLog::build(alloc, stream, recs.as_slice())?)),
-        Records::Client(recs) => { Ok(Log::Client(ClientTap::build(alloc, recs.as_slice())?)) }
+        Records::Stream(_) => Ok(None),
+        Records::Node(recs) => Ok(Some(NodeLog::build(alloc, stream, recs.as_slice())?)),
+        Records::Client(_) => Ok(None),
     }
 }

@@ -1,21 +1,13 @@
-//! Which taps name a session: of the clients' taps those with a reply that does, of the nodes' those with a record.
+//! Which taps name a session.
 ghost use Rattle.std.specs.Prelude.{◌≡◌, ◌-◌, IfOk, OnOk, [], Some, length, not, slice_get, string_bytes};
 ghost use Rattle.std.specs.Str.{bytes_eq};
 ghost use Rattle.aud_node.specs.Stream.{Text};
-ghost use Rattle.aud_node.specs.ConnectionRead.{packet_seen};
-ghost use Rattle.aud_node.specs.ClientRead.{connection_seen};
-ghost use Rattle.aud_node.specs.Replies.{connection_names, is_naming, packet_names, reply_names, tap_names};
-ghost use Rattle.aud_node.specs.Kept.{client_of};
 ghost use Rattle.aud_node.specs.Cluster.{cluster_of, node_recs};
 ghost use Rattle.aud_node.specs.OwnRecords.{names, own_numbers};
 ghost use Rattle.aud_node.specs.OwnPlaces.{is_none, own_places};
-ghost use Rattle.aud_node.specs.Naming.{is_place, kept_places, noted, places_naming, with_place};
+ghost use Rattle.aud_node.specs.Naming.{is_place, kept_places, noted, with_place};
 
-use crate::client_tap::{ClientTap, Connection};
-use crate::connection::TapPacket;
 use crate::fields::pid;
-use crate::logs::Log;
-use crate::replies::{Reply, reply_of};
 use aud_tap::{Memory, NodeRec, Records, Tap};
 use std::alloc::{AllocError, Global};
 use std::collections::BTreeMap;
@@ -29,25 +21,13 @@ pub struct Naming {
 
 impl Naming {
     /// No places.
-    fn new(alloc: Global) -> Naming
+    pub fn new(alloc: Global) -> Naming
         ensures { (pid : Text) → kept_places result pid ≡ [] }
     {
         Naming {
             alloc,
             places: BTreeMap::new(alloc),
         }
-    }
-
-    /// The places of the client taps among these. Of a tap, the CONNECT packets from the server are looked at, each
-    /// once.
-    pub fn build_clients(alloc: Global, logs: &[Log<'_>]) -> Result<Naming, Memory>
-        ensures { IfOk result (λ naming. (pid : Text) → kept_places naming pid ≡ places_naming logs.now pid) }
-    {
-        let mut naming = Naming::new(alloc);
-        for (place, log) in logs.iter().enumerate() {
-            naming.note_log(place, log)?;
-        }
-        Ok(naming)
     }
 
     /// The places of the nodes' taps among these. Each record is looked at once.
@@ -68,61 +48,6 @@ impl Naming {
         match self.places.get(pid) {
             Some(places) => places.as_slice(),
             None => &[],
-        }
-    }
-
-    /// What stands at this place, behind all those seen so far.
-    fn note_log(&mut self, place: usize, log: &Log<'_>) -> Result<(), Memory>
-        ensures { OnOk result ((q : Text) → kept_places self.new q ≡ noted place (is_naming q (client_of log.now)) (kept_places self.old q)) }
-    {
-        match log {
-            Log::Client(tap) => self.note_tap(place, tap),
-            Log::Node(_) => Ok(()),
-            Log::Stream => Ok(()),
-        }
-    }
-
-    fn note_tap(&mut self, place: usize, tap: &ClientTap<'_>) -> Result<(), Memory>
-        ensures { OnOk result ((q : Text) → kept_places self.new q ≡ noted place (tap_names q tap.now) (kept_places self.old q)) }
-    {
-        let connections = tap.connections();
-        for connection in connections {
-            self.note_connection(place, connection)?;
-        }
-        Ok(())
-    }
-
-    fn note_connection(&mut self, place: usize, connection: &Connection<'_>) -> Result<(), Memory>
-        ensures { OnOk result ((q : Text) → kept_places self.new q ≡ noted place (connection_names q (connection_seen connection.now)) (kept_places self.old q)) }
-    {
-        let packets = connection.packets.as_slice();
-        for placed in packets {
-            self.note_packet(place, &placed.packet)?;
-        }
-        Ok(())
-    }
-
-    fn note_packet(&mut self, place: usize, packet: &TapPacket<'_>) -> Result<(), Memory>
-        ensures { OnOk result ((q : Text) → kept_places self.new q ≡ noted place (packet_names q (packet_seen packet.now)) (kept_places self.old q)) }
-    {
-        match packet {
-            TapPacket::Received(whole) => {
-                let reply = reply_of(self.alloc, whole)?;
-                self.note_reply(place, reply)
-            }
-            TapPacket::Sent(_) => Ok(()),
-        }
-    }
-
-    fn note_reply(&mut self, place: usize, reply: Option<Reply>) -> Result<(), Memory>
-        ensures { OnOk result ((q : Text) → kept_places self.new q ≡ noted place (reply_names q reply) (kept_places self.old q)) }
-    {
-        let Some(Reply { pid, .. }) = reply else {
-            return Ok(());
-        };
-        match pid {
-            Some(pid) => self.note(place, pid),
-            None => Ok(()),
         }
     }
 
@@ -150,26 +75,27 @@ impl Naming {
         ensures { OnOk result ((q : Text) → kept_places self.new q ≡ noted place (names (Some rec.now) q) (kept_places self.old q)) }
     {
         match pid(rec) {
-            Some(pid) => self.note_text(place, pid),
+            Some(pid) => self.note(place, pid),
             None => Ok(()),
         }
     }
 
-    /// The tap at this place names the pid, which is copied where no record of the tap in front did.
-    fn note_text(&mut self, place: usize, pid: &str) -> Result<(), Memory>
+    /// The tap at this place, behind all those seen so far, names the pid, which is copied where nothing else of the tap
+    /// did before.
+    pub fn note(&mut self, place: usize, pid: &str) -> Result<(), Memory>
         ensures { OnOk result ((q : Text) → kept_places self.new q ≡ noted place (bytes_eq pid.now q) (kept_places self.old q)) }
     {
         if is_last(self.of(pid), place) {
             return Ok(());
         }
         match String::from_str(self.alloc, pid) {
-            Ok(own) => self.note(place, own),
+            Ok(own) => self.keep(place, own),
             Err(_) => Err(Memory),
         }
     }
 
     /// The tap at this place names the pid.
-    fn note(&mut self, place: usize, pid: String) -> Result<(), Memory>
+    fn keep(&mut self, place: usize, pid: String) -> Result<(), Memory>
         ensures { OnOk result ((q : Text) → kept_places self.new q ≡ noted place (bytes_eq (string_bytes pid) q) (kept_places self.old q)) }
     {
         match self.places.entry(pid) {

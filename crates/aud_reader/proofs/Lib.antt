@@ -5,4 +5,5 @@ pub mod TapNames
 pub mod ConnectionsLemmas
 pub mod TextsLemmas
 pub mod KeptLemmas
+pub mod NameLemmas
 pub mod Grown

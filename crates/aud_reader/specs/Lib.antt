@@ -1,5 +1,6 @@
 pub use Rattle.aud_tap.specs.TapName
 pub use Rattle.aud_tap.specs.WellFormed
+pub use Rattle.aud_tap.specs.Names
 pub mod Lines
 pub mod Steps
 pub mod Fields

@@ -8,6 +8,7 @@ mod pids;
 mod stream_log;
 
 ghost use Rattle.std.specs.Prelude.{◌≡◌, ◌≢◌, ◌∷◌, [], List, IfOk, IfErr, IfSome, Ok, Err, Some, None};
+ghost use Rattle.aud_tap.specs.Names.{AreNamedOnce};
 ghost use Rattle.aud_reader.specs.declared.line.Line.{Line};
 ghost use Rattle.aud_reader.specs.Lines.{result_of};
 ghost use Rattle.aud_reader.specs.Bundle.{taps_of};
@@ -100,6 +101,7 @@ impl BundleReader {
 /// the call alone.
 pub fn read_bundle(alloc: Global, lines: &[Line]) -> Result<Taps, ReadFault>
     ensures read { IfOk result (λ taps. taps_of lines.now ≡ Ok taps) }
+    ensures names { IfOk result (λ taps. AreNamedOnce taps) }
     ensures refused { IfErr result (λ e. e ≢ ReadFault.Memory → taps_of lines.now ≡ Err e) }
 {
     let mut reader = BundleReader::new(alloc);

@@ -9,7 +9,7 @@ use Rattle.aud_node.specs.Stream.{Text}
 use Rattle.aud_node.specs.Cluster.{Cluster}
 use Rattle.aud_node.specs.Names.{AreNamedOnce}
 use Rattle.aud_node.specs.NodeTaps.{client_at, client_recs}
-use Rattle.aud_node.specs.Replies.{is_naming}
+use Rattle.aud_client.specs.Replies.{is_naming}
 use Rattle.aud_node.specs.TurnRecords.{begins_turn}
 use Rattle.aud_rooms.specs.Turns.{Who, Turn, beginning, slice_of, HasNoTurn, AreTurns}
 use Rattle.aud_rooms.specs.TurnsDue.{turns_due}

@@ -10,7 +10,7 @@ use Rattle.aud_node.specs.Lists.{numbers_from}
 use Rattle.aud_node.specs.Stream.{Text}
 use Rattle.aud_node.specs.Cluster.{Cluster}
 use Rattle.aud_node.specs.NodeTaps.{client_at}
-use Rattle.aud_node.specs.Replies.{is_naming, tap_names, naming_places}
+use Rattle.aud_client.specs.Replies.{is_naming, tap_names, naming_places}
 use Rattle.aud_rooms.specs.Turns.{Who, Turn, IsChain}
 use Rattle.aud_client.specs.Told.{StaySeen}
 use Rattle.aud_client.specs.Received.{names}

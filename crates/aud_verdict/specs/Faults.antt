@@ -3,7 +3,7 @@ use Rattle.std.specs.Prelude.{◌≡◌, ◌<◌, ℕ, true, false, [], length, 
 use Rattle.std.specs.List.{Contains}
 use Rattle.aud_node.specs.Stream.{Text}
 use Rattle.aud_node.specs.Cluster.{Cluster}
-use Rattle.aud_node.specs.Replies.{naming_places}
+use Rattle.aud_client.specs.Replies.{naming_places}
 use Rattle.aud_rooms.specs.Turns.{HasNoTurn}
 use Rattle.aud_client.specs.Told.{StaySeen, FrameSeen}
 use Rattle.aud_cert.specs.declared.fault.Fault.{Fault}

@@ -1,7 +1,6 @@
 pub use Rattle.aud_node.specs.Stream
 pub use Rattle.aud_node.specs.Cluster
 pub use Rattle.aud_node.specs.Names
-pub use Rattle.aud_client.specs.Clients
 pub use Rattle.aud_cert.specs.Certificate
 pub use Rattle.aud_merge.specs.Runs
 pub mod Session

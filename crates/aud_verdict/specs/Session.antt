@@ -4,7 +4,7 @@ use Rattle.aud_tap.specs.declared.records.ClientRec.{ClientRec}
 use Rattle.aud_node.specs.Stream.{Text}
 use Rattle.aud_node.specs.Cluster.{Cluster}
 use Rattle.aud_node.specs.NodeTaps.{client_at}
-use Rattle.aud_node.specs.Replies.{naming_places}
+use Rattle.aud_client.specs.Replies.{naming_places}
 use Rattle.aud_rooms.specs.Turns.{Who, Turn, slice_of, IsChain}
 use Rattle.aud_rooms.specs.TurnsDue.{turns_due}
 use Rattle.aud_client.specs.Told.{StaySeen, FrameSeen}

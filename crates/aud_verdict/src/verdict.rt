@@ -1,15 +1,12 @@
 //! The verdict on a session: its certificate is made, and then checked.
-ghost use Rattle.std.specs.Prelude.{◌≡◌, IfOk};
-ghost use Rattle.aud_node.specs.Names.{AreNamedOnce};
-ghost use Rattle.aud_client.specs.Clients.{clients_of};
+ghost use Rattle.std.specs.Prelude.{IfOk};
 ghost use Rattle.aud_verdict.specs.Verdict.{IsVerdict};
 
 use crate::laws::verdict_by_certificate;
 use aud_cert::Fault;
-use aud_check::{Accepted, Refusal, check_read};
-use aud_client::Clients;
+use aud_check::{Accepted, Refusal, check};
+use aud_client::Recording;
 use aud_maker::{MakeFault, made_is_over, make};
-use aud_node::Logs;
 use aud_tap::Memory;
 use std::alloc::Global;
 
@@ -29,26 +26,19 @@ pub enum Verdict {
     No(Fault),
 }
 
-/// The verdict on the session with this pid, over logs in which each tap has a name of its own, and the clients' taps
-/// of these logs, read before. It costs the session's own records and stays, and what is due to it.
-pub fn decide(
-    alloc: Global,
-    logs: &Logs<'_>,
-    clients: &Clients<'_>,
-    pid: &str,
-) -> Result<Verdict, Memory>
-    requires names { AreNamedOnce logs.now.taps }
-    requires clients { clients.now ≡ clients_of logs.now }
-    ensures { IfOk result (IsVerdict logs.now pid.now) }
+/// The verdict on the session with this pid. It costs the session's own records and stays, and what is due to it.
+pub fn decide(alloc: Global, recording: &Recording<'_>, pid: &str) -> Result<Verdict, Memory>
+    ensures { IfOk result (IsVerdict recording.now pid.now) }
 {
     verdict_by_certificate();
-    let cert = match make(alloc, logs, pid) {
+    let cert = match make(alloc, recording, pid) {
         Ok(cert) => cert,
         Err(MakeFault::Fault(fault)) => return Ok(Verdict::No(fault)),
         Err(MakeFault::Memory) => return Err(Memory),
     };
+    recording.named_once();
     made_is_over();
-    match check_read(alloc, logs, clients, &cert) {
+    match check(alloc, recording, &cert) {
         Ok(counts) => {
             let Accepted { got, tail, turns } = counts;
             Ok(Verdict::Yes { got, tail, turns })

@@ -1,15 +1,25 @@
 //! What a test asks of a bundle, and the text of the answer.
-use crate::{clients, judgements};
-use aud_node::Logs;
+use crate::{clients, judgements, packets};
+use aud_client::Recording;
 use aud_reader::{Line, read_bundle};
-use aud_tap::{Bytes, Taps};
+use aud_tap::Bytes;
 use std::alloc::{AllocError, Global};
 use std::process::Abort;
 use std::test::Fail;
 
-/// What is asked of the logs of a bundle. A tap is named by its name, or by its place, which counts from 0.
+/// What is asked of the recording of a bundle. A tap is named by its name, or by its place, which counts from 0.
 #[derive(Clone, Copy)]
 pub enum Asked<'a> {
+    /// The packets of the client's tap, connection by connection.
+    Packets(&'a str),
+    /// The packet of the server with this index in the first connection of the client's tap.
+    Packet(&'a str, usize),
+    /// What that packet tells, where it is a reply.
+    Reply(&'a str, usize),
+    /// The places of the clients' taps that name the session.
+    Places(&'a str),
+    /// Whether a node stands at the place.
+    Node(usize),
     /// A line for each stay of the client's tap, and then whether it has an orphan, and its first bad record.
     Stays(&'a str),
     /// A line for each frame of the client's tap.
@@ -28,7 +38,7 @@ pub enum Asked<'a> {
     Rewritten(&'a str),
     /// What the check answers to the certificate of the text.
     Checked(&'a str),
-    /// What the check answers to each of the certificates, where the clients' taps are read once: a line for each.
+    /// What the check answers to each of the certificates, over one recording: a line for each.
     CheckedTogether(&'a [&'a str]),
 }
 
@@ -47,39 +57,46 @@ pub fn assert_answer(
 
 /// The text of the answer over the lines of the bundle.
 fn answer_over(alloc: Global, bundle: &[&str], asked: Asked<'_>) -> Result<String, Fail> {
-    let taps = taps_of(alloc, bundle)?;
-    answer_of_taps(alloc, &taps, asked)
+    let lines = lines_of(alloc, bundle)?;
+    let taps = read_bundle(alloc, lines.as_slice())?;
+    let recording = Recording::read(alloc, &taps)?;
+    answer_of_recording(alloc, &recording, asked)
 }
 
-/// The text of the answer over the taps.
-fn answer_of_taps(alloc: Global, taps: &Taps, asked: Asked<'_>) -> Result<String, Fail> {
-    let logs = Logs::build(alloc, taps)?;
-    answer_of_logs(alloc, &logs, asked)
-}
-
-/// The text of the answer over the logs.
-fn answer_of_logs(alloc: Global, logs: &Logs<'_>, asked: Asked<'_>) -> Result<String, Fail> {
+/// The text of the answer over the recording.
+fn answer_of_recording(
+    alloc: Global,
+    recording: &Recording<'_>,
+    asked: Asked<'_>,
+) -> Result<String, Fail> {
     match asked {
-        Asked::Stays(name) => clients::stays(alloc, logs, name),
-        Asked::Frames(name) => clients::frames(alloc, logs, name),
-        Asked::Recovered(name, pid) => clients::recovered(alloc, logs, name, pid),
-        Asked::Naming(place, pid) => clients::naming(alloc, logs, place, pid),
-        Asked::Sessions => judgements::sessions_of(alloc, logs),
-        Asked::Made(pid) => judgements::made(alloc, logs, pid),
-        Asked::Parts(text) => judgements::parts(alloc, logs, text),
-        Asked::Rewritten(text) => judgements::rewritten(alloc, logs, text),
-        Asked::Checked(text) => judgements::checked(alloc, logs, text),
-        Asked::CheckedTogether(texts) => judgements::checked_together(alloc, logs, texts),
+        Asked::Packets(name) => packets::packets(alloc, recording, name),
+        Asked::Packet(name, index) => packets::packet(alloc, recording, name, index),
+        Asked::Reply(name, index) => packets::reply(alloc, recording, name, index),
+        Asked::Places(pid) => packets::places(alloc, recording, pid),
+        Asked::Node(place) => {
+            Ok(format!(in alloc; "{}", recording.logs().node(place).is_some())?)
+        }
+        Asked::Stays(name) => clients::stays(alloc, recording, name),
+        Asked::Frames(name) => clients::frames(alloc, recording, name),
+        Asked::Recovered(name, pid) => clients::recovered(alloc, recording, name, pid),
+        Asked::Naming(place, pid) => clients::naming(alloc, recording, place, pid),
+        Asked::Sessions => judgements::sessions_of(alloc, recording),
+        Asked::Made(pid) => judgements::made(alloc, recording, pid),
+        Asked::Parts(text) => judgements::parts(alloc, recording, text),
+        Asked::Rewritten(text) => judgements::rewritten(alloc, recording, text),
+        Asked::Checked(text) => judgements::checked(alloc, recording, text),
+        Asked::CheckedTogether(texts) => judgements::checked_together(alloc, recording, texts),
     }
 }
 
-/// The taps of the lines.
-fn taps_of(alloc: Global, bundle: &[&str]) -> Result<Taps, Fail> {
+/// The lines of the bundle.
+fn lines_of(alloc: Global, bundle: &[&str]) -> Result<Vec<Line>, AllocError> {
     let mut lines = Vec::new(alloc);
     for text in bundle {
         push_lines(alloc, &mut lines, text)?;
     }
-    Ok(read_bundle(alloc, lines.as_slice())?)
+    Ok(lines)
 }
 
 /// The lines of the text come after the others.

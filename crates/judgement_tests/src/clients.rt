@@ -1,20 +1,20 @@
 //! What clients' taps tell, as texts.
-use aud_client::{Clients, Frame, ReadTap, Received, Stay, received};
-use aud_node::{ClientTap, Logs};
+use aud_client::{Frame, ReadTap, Received, Recording, Stay};
 use std::alloc::{AllocError, Global};
 use std::test::Fail;
 
-/// The client's tap with this name.
-fn client<'a, 'b>(logs: &'b Logs<'a>, name: &str) -> Option<&'b ClientTap<'a>> {
-    logs.client(logs.place_of(name)?)
+/// What the client's tap with this name tells.
+fn received<'r, 'a>(recording: &'r Recording<'a>, name: &str) -> Result<&'r Received<'a>, Fail> {
+    let place = recording.logs().place_of(name).ok_or("no such tap")?;
+    let told = recording.client(place).ok_or("no client")?;
+    Ok(told.received())
 }
 
 /// A line for each stay of the tap with this name, and then whether it has an orphan, and its first bad record.
-pub fn stays(alloc: Global, logs: &Logs<'_>, name: &str) -> Result<String, Fail> {
-    let tap = client(logs, name).ok_or("no such tap")?;
-    let told = received(alloc, tap, logs.stream())?;
+pub fn stays(alloc: Global, recording: &Recording<'_>, name: &str) -> Result<String, Fail> {
+    let told = received(recording, name)?;
     let mut out = String::new(alloc);
-    write_stays(&mut out, &told)?;
+    write_stays(&mut out, told)?;
     Ok(out)
 }
 
@@ -54,9 +54,8 @@ fn write_stay(out: &mut String, stay: &Stay<'_>) -> Result<(), AllocError> {
 }
 
 /// A line for each frame of the tap with this name.
-pub fn frames(alloc: Global, logs: &Logs<'_>, name: &str) -> Result<String, Fail> {
-    let tap = client(logs, name).ok_or("no such tap")?;
-    let told = received(alloc, tap, logs.stream())?;
+pub fn frames(alloc: Global, recording: &Recording<'_>, name: &str) -> Result<String, Fail> {
+    let told = received(recording, name)?;
     let mut out = String::new(alloc);
     for stay in told.stays.iter() {
         write_frames(&mut out, stay.frames.as_slice())?;
@@ -69,7 +68,7 @@ fn write_frames(out: &mut String, frames: &[Frame<'_>]) -> Result<(), AllocError
     for frame in frames {
         let (position, text) = (frame.position, frame.text);
         write!(out, "{position} {text}")?;
-        for blob in frame.bin {
+        for blob in frame.bin.as_slice() {
             let bytes = blob.as_slice();
             let (length, first) = (bytes.len(), bytes.first().copied().unwrap_or(0));
             write!(out, " {length}:{first}")?;
@@ -80,9 +79,8 @@ fn write_frames(out: &mut String, frames: &[Frame<'_>]) -> Result<(), AllocError
 }
 
 /// A line for each stay of the tap with this name: whether its reply names the session, and whether it is recovered.
-pub fn recovered(alloc: Global, logs: &Logs<'_>, name: &str, pid: &str) -> Result<String, Fail> {
-    let tap = client(logs, name).ok_or("no such tap")?;
-    let told = received(alloc, tap, logs.stream())?;
+pub fn recovered(alloc: Global, recording: &Recording<'_>, name: &str, pid: &str) -> Result<String, Fail> {
+    let told = received(recording, name)?;
     let mut out = String::new(alloc);
     for stay in told.stays.iter() {
         let (names, recovered) = (stay.names(pid), stay.is_recovered());
@@ -92,10 +90,9 @@ pub fn recovered(alloc: Global, logs: &Logs<'_>, name: &str, pid: &str) -> Resul
 }
 
 /// How many stays the tap at this place has, and the connections of those that name the session.
-pub fn naming(alloc: Global, logs: &Logs<'_>, place: usize, pid: &str) -> Result<String, Fail> {
-    let clients = Clients::read(alloc, logs)?;
+pub fn naming(alloc: Global, recording: &Recording<'_>, place: usize, pid: &str) -> Result<String, Fail> {
     let mut out = String::new(alloc);
-    match clients.at(place) {
+    match recording.client(place) {
         Some(told) => write_naming(&mut out, alloc, told, pid)?,
         None => write!(&mut out, "no client")?,
     }

@@ -1,19 +1,17 @@
 //! Certificates, and the answers on them, as texts.
 ghost use Rattle.std.specs.Prelude.{◌≡◌};
-ghost use Rattle.aud_client.specs.Clients.{clients_of};
 
 use aud_cert::{CertFault, Certificate, Turn, read_cert, write_cert};
-use aud_check::{Accepted, Refusal, check, check_read};
-use aud_client::Clients;
+use aud_check::{Accepted, Refusal, check};
+use aud_client::Recording;
 use aud_maker::{MakeFault, make, sessions};
-use aud_node::Logs;
 use aud_tap::NodeRec;
 use std::alloc::{AllocError, Global};
 use std::test::Fail;
 
 /// The sessions, with a blank after each.
-pub fn sessions_of(alloc: Global, logs: &Logs<'_>) -> Result<String, Fail> {
-    let pids = sessions(alloc, logs)?;
+pub fn sessions_of(alloc: Global, recording: &Recording<'_>) -> Result<String, Fail> {
+    let pids = sessions(alloc, recording)?;
     let mut out = String::new(alloc);
     for pid in pids.iter() {
         let pid = pid.as_str();
@@ -23,8 +21,8 @@ pub fn sessions_of(alloc: Global, logs: &Logs<'_>) -> Result<String, Fail> {
 }
 
 /// The text of the session's certificate, or the word of its fault.
-pub fn made(alloc: Global, logs: &Logs<'_>, pid: &str) -> Result<String, Fail> {
-    match make(alloc, logs, pid) {
+pub fn made(alloc: Global, recording: &Recording<'_>, pid: &str) -> Result<String, Fail> {
+    match make(alloc, recording, pid) {
         Ok(cert) => Ok(write_cert(alloc, &cert)?),
         Err(MakeFault::Fault(fault)) => Ok(format!(in alloc; "{fault}")?),
         Err(MakeFault::Memory) => Err("no memory")?,
@@ -32,16 +30,16 @@ pub fn made(alloc: Global, logs: &Logs<'_>, pid: &str) -> Result<String, Fail> {
 }
 
 /// What is written for the certificate that is read from the text, or why it is not read.
-pub fn rewritten(alloc: Global, logs: &Logs<'_>, text: &str) -> Result<String, Fail> {
-    match read_cert(alloc, text.as_bytes(), logs) {
+pub fn rewritten(alloc: Global, recording: &Recording<'_>, text: &str) -> Result<String, Fail> {
+    match read_cert(alloc, text.as_bytes(), recording.logs()) {
         Ok(cert) => Ok(write_cert(alloc, &cert)?),
         Err(fault) => Ok(format!(in alloc; "{fault}")?),
     }
 }
 
 /// The parts of the certificate that is read from the text.
-pub fn parts(alloc: Global, logs: &Logs<'_>, text: &str) -> Result<String, Fail> {
-    let cert = read_cert(alloc, text.as_bytes(), logs)?;
+pub fn parts(alloc: Global, recording: &Recording<'_>, text: &str) -> Result<String, Fail> {
+    let cert = read_cert(alloc, text.as_bytes(), recording.logs())?;
     let mut out = String::new(alloc);
     write_parts(&mut out, &cert)?;
     Ok(out)
@@ -82,36 +80,26 @@ fn kind_of(rec: Option<&NodeRec>) -> &'static str {
 }
 
 /// What the check answers to the certificate of the text.
-pub fn checked(alloc: Global, logs: &Logs<'_>, text: &str) -> Result<String, Fail> {
-    let cert = read_cert(alloc, text.as_bytes(), logs)?;
+pub fn checked(alloc: Global, recording: &Recording<'_>, text: &str) -> Result<String, Fail> {
+    let cert = read_cert(alloc, text.as_bytes(), recording.logs())?;
     let mut out = String::new(alloc);
-    write_answer(&mut out, &check(alloc, logs, &cert))?;
+    write_answer(&mut out, &check(alloc, recording, &cert))?;
     Ok(out)
 }
 
-/// What the check answers to each of the certificates, where the clients' taps are read once.
-pub fn checked_together(alloc: Global, logs: &Logs<'_>, texts: &[&str]) -> Result<String, Fail> {
-    let clients = Clients::read(alloc, logs)?;
+/// What the check answers to each of the certificates, over one recording.
+pub fn checked_together(
+    alloc: Global,
+    recording: &Recording<'_>,
+    texts: &[&str],
+) -> Result<String, Fail> {
     let mut out = String::new(alloc);
     for text in texts {
-        write_check_read(&mut out, alloc, logs, &clients, text)?;
+        let answer = checked(alloc, recording, text)?;
+        let answer = answer.as_str();
+        writeln!(&mut out, "{answer}")?;
     }
     Ok(out)
-}
-
-fn write_check_read(
-    out: &mut String,
-    alloc: Global,
-    logs: &Logs<'_>,
-    clients: &Clients<'_>,
-    text: &str,
-) -> Result<(), Fail>
-    requires { clients.now ≡ clients_of logs.now }
-{
-    let cert = read_cert(alloc, text.as_bytes(), logs)?;
-    write_answer(out, &check_read(alloc, logs, clients, &cert))?;
-    writeln!(out, "")?;
-    Ok(())
 }
 
 fn write_answer(out: &mut String, answer: &Result<Accepted, Refusal>) -> Result<(), AllocError> {

@@ -1,5 +1,5 @@
-//! Tests of what the crates from `aud_client` to `aud_check` make of a bundle: stays and frames, certificates, and
-//! the answers on them. Each is a row of a table: a bundle, what is asked of it, and the text of the answer.
+//! Tests of what the crates from `aud_client` to `aud_check` make of a bundle: packets, stays and frames, certificates,
+//! and the answers on them. Each is a row of a table: a bundle, what is asked of it, and the text of the answer.
 #![tactic(auto)]
 
 #[cfg(test)]
@@ -9,6 +9,8 @@ mod certificates;
 #[cfg(test)]
 mod checks;
 #[cfg(test)]
+mod client_taps;
+#[cfg(test)]
 mod clients;
 #[cfg(test)]
 mod cluster;
@@ -17,7 +19,11 @@ mod judgements;
 #[cfg(test)]
 mod makers;
 #[cfg(test)]
+mod packets;
+#[cfg(test)]
 mod recordings;
+#[cfg(test)]
+mod replies;
 #[cfg(test)]
 mod stays;
 #[cfg(test)]

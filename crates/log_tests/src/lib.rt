@@ -1,4 +1,4 @@
-//! What the logs tell, shown by examples: bundles in; positions, cursors, packets, rooms, spans and runs out, as short
+//! What the logs tell, shown by examples: bundles in; positions, cursors, rooms, spans and runs out, as short
 //! texts. The values are those that the rules of docs/FORMAT.md and docs/MODEL.md give.
 //!
 //! Begin at [`question`]: each other module has a bundle, and a table of questions and their answers.
@@ -7,15 +7,11 @@
 #[cfg(test)]
 mod addressed;
 #[cfg(test)]
-mod client_taps;
-#[cfg(test)]
 mod due;
 #[cfg(test)]
 mod node_logs;
 #[cfg(test)]
 mod question;
-#[cfg(test)]
-mod replies;
 #[cfg(test)]
 mod runs;
 #[cfg(test)]

@@ -4,4 +4,4 @@ use Rattle.aud_app.proofs.sessions.proofs.Given as goal
 
 -- the certificates of the sessions that were gone over
 abbrev pub invariant-loop-pid : goal.invariant-loop-pid
-invariant-loop-pid l = AreProofs l.logs (map string_bytes (take l.pid-index l.pids)) l.all.items
+invariant-loop-pid l = AreProofs l.recording (map string_bytes (take l.pid-index l.pids)) l.all.items

@@ -8,4 +8,4 @@ pub loop-pid-preserved : goal.loop-pid-preserved
 loop-pid-preserved c =
     let front = take_more c.args.pids.now c.loop-pid.pid-index c.pid-item.result c.loop-pid-test.true in
     let entry = rw c.as_str.ensures.value at c.in_ok-entry.ensures in
-    rw (front, ← c.pid-item.is, c.in_ok-push.ensures.items) (one_more-map (IsEntry c.args.logs.now) string_bytes _ _ c.pid-item.result _ c.loop-pid.invariant entry)
+    rw (front, ← c.pid-item.is, c.in_ok-push.ensures.items) (one_more-map (IsEntry c.args.recording.now) string_bytes _ _ c.pid-item.result _ c.loop-pid.invariant entry)

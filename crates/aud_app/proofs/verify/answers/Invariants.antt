@@ -4,4 +4,4 @@ use Rattle.aud_app.proofs.verify.answers.Given as goal
 
 -- the answers on the lines that were gone over
 abbrev pub invariant-loop-line : goal.invariant-loop-line
-invariant-loop-line l = AreAnswered l.logs (take l.line-index l.lines) l.all.items
+invariant-loop-line l = AreAnswered l.recording (take l.line-index l.lines) l.all.items

@@ -6,6 +6,7 @@ use Rattle.std.proofs.lemmas.List.{take_all}
 use Rattle.std.proofs.lemmas.Option.{get_or_from_slice_get}
 use Rattle.std.proofs.lemmas.Result.{IfOk-weaker}
 use Rattle.aud_tap.specs.declared.taps.Tap.{Tap}
+use Rattle.aud_node.specs.Cluster.{Cluster}
 use Rattle.aud_node.specs.NodeTaps.{client_recs}
 use Rattle.aud_node.specs.Stream.{Text}
 use Rattle.aud_maker.specs.Sessions.{node_pids, reply_pids, mentions, sessions_of}
@@ -17,10 +18,10 @@ use Rattle.aud_maker.proofs.mentions.sessions.Goals as goal
 
 pub loop-tap-preserved : goal.loop-tap-preserved
 loop-tap-preserved c =
-    let taps = c.args.logs.now.taps in
+    let taps = c.args.recording.now.taps in
     let i = c.loop-tap.tap-index in
     let tap = c.tap-item.result in
-    let same : c.taps-tap-items.result.now ≡ taps = c.taps-tap-items.ensures in
+    let same : c.taps-taps.result.now ≡ taps = c.taps-taps.ensures ∙ ap (λ (l : Cluster). l.taps) c.logs.ensures in
     let h : i < length taps = subst (λ (ts : List Tap). i < length ts) same c.loop-tap-test.true in
     c.in_ok-mention_node.ensures
     ∙ ap (λ pids. with_mentions pids (node_pids tap)) c.loop-tap.invariant
@@ -28,11 +29,11 @@ loop-tap-preserved c =
 
 pub loop-place-preserved : goal.loop-place-preserved
 loop-place-preserved c =
-    let stream = c.args.logs.now.stream in
-    let taps = c.args.logs.now.taps in
+    let stream = c.args.recording.now.stream in
+    let taps = c.args.recording.now.taps in
     let place = c.loop-place.place in
     let replies : Tap → List Text = λ tap. reply_pids stream (client_recs tap) in
-    let h : place < length taps = subst (λ (ts : List Tap). place < length ts) c.taps-place-end.ensures c.loop-place-test.true in
+    let h : place < length taps = subst (λ (ts : List Tap). place < length ts) (c.taps-taps.ensures ∙ ap (λ (l : Cluster). l.taps) c.logs.ensures) c.loop-place-test.true in
     let (tap, at) = tap_there taps place h in
     c.in_ok-mention_client.ensures
     ∙ ap (λ o. with_mentions c.loop-place.mentioned (reply_pids stream (option_and_then client_recs o))) at
@@ -41,10 +42,10 @@ loop-place-preserved c =
 
 pub returns : goal.returns
 returns c =
-    let logs = c.args.logs.now in
+    let logs = c.args.recording.now in
     let taps = logs.taps in
     let replies : Tap → List Text = λ tap. reply_pids logs.stream (client_recs tap) in
-    let end : length taps ≤ c.loop-place.place = subst (λ (ts : List Tap). length ts ≤ c.loop-place.place) c.taps-place-end.ensures c.loop-place-test.false in
+    let end : length taps ≤ c.loop-place.place = subst (λ (ts : List Tap). length ts ≤ c.loop-place.place) (c.taps-taps.ensures ∙ ap (λ (l : Cluster). l.taps) c.logs.ensures) c.loop-place-test.false in
     let all : c.loop-place.mentioned ≡ sessions_of logs =
     c.loop-place.invariant
     ∙ ap (λ (ts : List Tap). with_mentions (with_mentions [] (flat_map node_pids taps)) (flat_map replies ts)) (take_all c.loop-place.place taps end)

@@ -5,8 +5,8 @@ use Rattle.aud_maker.specs.Mentioned.{with_mentions}
 use Rattle.aud_maker.proofs.mentions.sessions.Given as goal
 
 abbrev pub invariant-loop-tap : goal.invariant-loop-tap
-invariant-loop-tap l = l.mentioned ≡ with_mentions [] (flat_map node_pids (take l.tap-index l.logs.taps))
+invariant-loop-tap l = l.mentioned ≡ with_mentions [] (flat_map node_pids (take l.tap-index l.recording.taps))
 
 abbrev pub invariant-loop-place : goal.invariant-loop-place
 invariant-loop-place l =
-    l.mentioned ≡ with_mentions (with_mentions [] (flat_map node_pids l.logs.taps)) (flat_map (λ tap. reply_pids l.logs.stream (client_recs tap)) (take l.place l.logs.taps))
+    l.mentioned ≡ with_mentions (with_mentions [] (flat_map node_pids l.recording.taps)) (flat_map (λ tap. reply_pids l.recording.stream (client_recs tap)) (take l.place l.recording.taps))

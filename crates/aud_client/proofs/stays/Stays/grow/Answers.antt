@@ -1,7 +1,7 @@
-use Rattle.aud_node.specs.ConnectionRead.{packet_seen}
+use Rattle.aud_client.specs.ConnectionRead.{packet_seen}
 use Rattle.aud_client.proofs.Kept.{grown_at}
 use Rattle.aud_client.proofs.stays.Stays.grow.Goals as goal
 
 pub returns-in-Some-clause-stays : goal.returns-in-Some-clause-stays
 returns-in-Some-clause-stays c = λ t at.
-    grown_at c.args.stream.now c.add.result c.args.self.now.stays.items c.args.place c.in-Some.stay.now c.add.new.self (packet_seen c.args.packet.now) t c.in-Some.ensures.item.3.0 c.in-Some.ensures.item.1 at c.add.ensures
+    grown_at c.args.stream.now c.add.result c.args.self.now.stays.items c.args.place c.in-Some.stay.now c.add.new.self (packet_seen c.args.packet) t c.in-Some.ensures.item.3.0 c.in-Some.ensures.item.1 at c.add.ensures

@@ -1,0 +1,155 @@
+-- A connection's records, with one more at the end.
+use Rattle.std.proofs.Common.{◌≡◌, ◌+◌, ◌<◌, ◌≤◌, ℕ, suc, Bool, true, false, cond, List, [], ◌∷◌, ◌++◌, length, map, flat_map, refl, sym, ap, ◌∙◌, subst, Option, None, Ok, Err, ◌||◌, ◌&&◌, nat_eq, append-nil, append_assoc, length-append, arith, ◌⊎◌, inl, inr}
+use Rattle.std.specs.List.{list_any, filter}
+use Rattle.std.proofs.lemmas.Grind.{flat_map-append}
+use Rattle.std.proofs.lemmas.Bool.Decides.{eqb_tells}
+use Rattle.aud_tap.specs.declared.records.ClientRec.{ClientRec}
+use Rattle.aud_tap.specs.declared.records.ClientRec.TheVariants.{Conn, TextIn, BytesIn, Poll, TextOut, Lost}
+use Rattle.aud_sio.specs.Message.{at}
+use Rattle.aud_sio.specs.Wholes.{Answer, wholes_of}
+use Rattle.aud_sio.specs.Assembly.{Waits, wholes_after}
+use Rattle.aud_client.specs.TapPackets.{Received, received, numbered, messages_at, packets_at, is_bad, is_refused, engine_packets, first_of}
+use Rattle.aud_client.specs.ConnectionRead.{AreBefore, HasRead, ReadsRecord, packets_read, bad_or}
+use Rattle.aud_client.specs.declared.connection.Reader.{Reader}
+
+differ : (a b : ℕ) → a < b → nat_eq a b ≡ false
+differ a b h = go (eqb_tells a b)
+  where
+    go : ((nat_eq a b ≡ true) × (a ≡ b)) ⊎ ((nat_eq a b ≡ false) × (a ≡ b → ⊥)) → nat_eq a b ≡ false
+    go (inl t) = let e = t.1 in absurd (omega arith)
+    go (inr f) = f.0
+
+differ_up : (a b : ℕ) → a < b → nat_eq b a ≡ false
+differ_up a b h = go (eqb_tells b a)
+  where
+    go : ((nat_eq b a ≡ true) × (b ≡ a)) ⊎ ((nat_eq b a ≡ false) × (b ≡ a → ⊥)) → nat_eq b a ≡ false
+    go (inl t) = let e = t.1 in absurd (omega arith)
+    go (inr f) = f.0
+
+-- a refusal stands at the record
+abbrev refused_at : ℕ → List (ℕ × Answer) → Bool
+refused_at number answers = list_any (λ (answer : ℕ × Answer). nat_eq answer.0 number && is_refused answer.1) answers
+
+received-before : (n : ℕ) (xs ys : List (ℕ × Answer)) → AreBefore n xs → received n (xs ++ ys) ≡ received n ys
+received-before n [] ys h = refl
+received-before n ((place, Ok whole) ∷ xs) ys h =
+    ap (λ b. cond b (Received whole ∷ received n (xs ++ ys)) (received n (xs ++ ys))) (differ place n h.0) ∙ received-before n xs ys h.1
+received-before n ((place, Err fault) ∷ xs) ys h = received-before n xs ys h.1
+
+refused_at-before : (n : ℕ) (xs ys : List (ℕ × Answer)) → AreBefore n xs → refused_at n (xs ++ ys) ≡ refused_at n ys
+refused_at-before n [] ys h = refl
+refused_at-before n (x ∷ xs) ys h =
+    ap (λ b. (b && is_refused x.1) || refused_at n (xs ++ ys)) (differ x.0 n h.0) ∙ refused_at-before n xs ys h.1
+
+received-elsewhere : (k n : ℕ) (xs : List Answer) → k < n → received k (at n xs) ≡ []
+received-elsewhere k n [] h = refl
+received-elsewhere k n (Ok whole ∷ xs) h =
+    ap (λ b. cond b (Received whole ∷ received k (at n xs)) (received k (at n xs))) (differ_up k n h) ∙ received-elsewhere k n xs h
+received-elsewhere k n (Err fault ∷ xs) h = received-elsewhere k n xs h
+
+refused_at-elsewhere : (k n : ℕ) (xs : List Answer) → k < n → refused_at k (at n xs) ≡ false
+refused_at-elsewhere k n [] h = refl
+refused_at-elsewhere k n (x ∷ xs) h = ap (λ b. (b && is_refused x) || refused_at k (at n xs)) (differ_up k n h) ∙ refused_at-elsewhere k n xs h
+
+received-other : (k n : ℕ) (xs : List (ℕ × Answer)) (ys : List Answer) → k < n → received k (xs ++ at n ys) ≡ received k xs
+received-other k n [] ys h = received-elsewhere k n ys h
+received-other k n ((place, Ok whole) ∷ xs) ys h = ap (λ r. cond (nat_eq place k) (Received whole ∷ r) r) (received-other k n xs ys h)
+received-other k n ((place, Err fault) ∷ xs) ys h = received-other k n xs ys h
+
+refused_at-other : (k n : ℕ) (xs : List (ℕ × Answer)) (ys : List Answer) → k < n → refused_at k (xs ++ at n ys) ≡ refused_at k xs
+refused_at-other k n [] ys h = refused_at-elsewhere k n ys h
+refused_at-other k n (x ∷ xs) ys h = ap (λ r. (nat_eq x.0 k && is_refused x.1) || r) (refused_at-other k n xs ys h)
+
+-- the packets at a record, by what was received there
+packets_at-same : (xs ys : List (ℕ × Answer)) (k : ℕ) (rec : ClientRec) → received k xs ≡ received k ys → packets_at xs (k, rec) ≡ packets_at ys (k, rec)
+packets_at-same xs ys k (Conn c) e = ap (at k) e
+packets_at-same xs ys k (TextIn t) e = ap (at k) e
+packets_at-same xs ys k (BytesIn b) e = ap (at k) e
+packets_at-same xs ys k (Poll t) e = ap (at k) e
+packets_at-same xs ys k (TextOut t) e = refl
+packets_at-same xs ys k Lost e = ap (at k) e
+
+numbered-append : (first : ℕ) (xs ys : List ClientRec) → numbered first (xs ++ ys) ≡ numbered first xs ++ numbered (first + length xs) ys
+numbered-append first [] ys = let e : first ≡ first + 0 = omega arith in ap (λ n. numbered n ys) e
+numbered-append first (x ∷ xs) ys =
+    let e : suc first + length xs ≡ first + suc (length xs) = omega arith in
+    ap (λ r. (first, x) ∷ r) (numbered-append (suc first) xs ys ∙ ap (λ n. numbered (suc first) xs ++ numbered n ys) e)
+
+packets-other : (n first : ℕ) (xs : List (ℕ × Answer)) (ys : List Answer) (recs : List ClientRec) → first + length recs ≤ n
+    → flat_map (packets_at (xs ++ at n ys)) (numbered first recs) ≡ flat_map (packets_at xs) (numbered first recs)
+packets-other n first xs ys [] h = refl
+packets-other n first xs ys (rec ∷ recs) h =
+    ap (λ r. r ++ flat_map (packets_at (xs ++ at n ys)) (numbered (suc first) recs)) (packets_at-same (xs ++ at n ys) xs first rec (received-other first n xs ys (omega arith)))
+    ∙ ap (λ r. packets_at xs (first, rec) ++ r) (packets-other n (suc first) xs ys recs (omega arith))
+
+bad-other : (n first : ℕ) (xs : List (ℕ × Answer)) (ys : List Answer) (recs : List ClientRec) → first + length recs ≤ n
+    → filter (is_bad (xs ++ at n ys)) (numbered first recs) ≡ filter (is_bad xs) (numbered first recs)
+bad-other n first xs ys [] h = refl
+bad-other n first xs ys (rec ∷ recs) h =
+    ap (λ b. cond b ((first, rec) ∷ filter (is_bad (xs ++ at n ys)) (numbered (suc first) recs)) (filter (is_bad (xs ++ at n ys)) (numbered (suc first) recs)))
+    (ap (λ b. is_refused (engine_packets rec) || b) (refused_at-other first n xs ys (omega arith)))
+    ∙ ap (λ r. cond (is_bad xs (first, rec)) ((first, rec) ∷ r) r) (bad-other n (suc first) xs ys recs (omega arith))
+
+abbrev first_bad : (ℕ × ClientRec → Bool) → List (ℕ × ClientRec) → Option ℕ
+first_bad p recs = first_of (map (λ (rec : ℕ × ClientRec). rec.0) (filter p recs))
+
+first_bad-last : (p : ℕ × ClientRec → Bool) (recs : List (ℕ × ClientRec)) (last : ℕ × ClientRec) → first_bad p (recs ++ last ∷ []) ≡ bad_or (first_bad p recs) last.0 (p last)
+first_bad-last p [] last = go (p last)
+  where
+    go : (b : Bool) → first_of (map (λ (rec : ℕ × ClientRec). rec.0) (cond b (last ∷ []) [])) ≡ bad_or None last.0 b
+    go true = refl
+    go false = refl
+first_bad-last p (rec ∷ recs) last = go (p rec) (first_bad-last p recs last)
+  where
+    go : (b : Bool) → first_bad p (recs ++ last ∷ []) ≡ bad_or (first_bad p recs) last.0 (p last)
+        → first_of (map (λ (rec : ℕ × ClientRec). rec.0) (cond b (rec ∷ filter p (recs ++ last ∷ [])) (filter p (recs ++ last ∷ []))))
+        ≡ bad_or (first_of (map (λ (rec : ℕ × ClientRec). rec.0) (cond b (rec ∷ filter p recs) (filter p recs)))) last.0 (p last)
+    go true ih = refl
+    go false ih = ih
+
+AreBefore-more : (n m : ℕ) (xs : List (ℕ × Answer)) (ys : List Answer) → n < m → AreBefore n xs → AreBefore m (xs ++ at n ys)
+AreBefore-more n m [] [] l h = tt
+AreBefore-more n m [] (y ∷ ys) l h = (l, AreBefore-more n m [] ys l tt)
+AreBefore-more n m (x ∷ xs) ys l h = (omega (arith, h.0), AreBefore-more n m xs ys l h.1)
+
+-- no record
+pub HasRead-none : (first : ℕ) (reader : Reader) → reader.assembler ≡ [] → packets_read reader ≡ [] → reader.bad ≡ None → HasRead first [] reader
+HasRead-none first reader held packets bad =
+    record {
+      answers = [];
+      before = tt;
+      continues = λ l. ap (λ h. wholes_after h l) (sym held);
+      packets_are = packets;
+      bad_is = bad;
+      waits = subst Waits (sym held) refl;
+    }
+
+-- one record more
+pub HasRead-more : (first : ℕ) (recs : List ClientRec) (rec : ClientRec) (old new : Reader) → HasRead first recs old → ReadsRecord (first + length recs) rec old new → HasRead first (recs ++ rec ∷ []) new
+HasRead-more first recs rec old new before more =
+    let n = first + length recs in
+    let all = numbered-append first recs (rec ∷ []) in
+    record {
+      answers = before.answers ++ at n more.answers;
+      before = AreBefore-more n (first + length (recs ++ rec ∷ [])) before.answers more.answers (omega (arith, length-append recs (rec ∷ []))) before.before;
+      continues = λ l.
+          ap (λ r. wholes_of (flat_map messages_at r ++ l)) all
+          ∙ ap (λ m. wholes_of (m ++ l)) (flat_map-append messages_at (numbered first recs) ((n, rec) ∷ []) ∙ ap (λ m. flat_map messages_at (numbered first recs) ++ m) (append-nil (messages_at (n, rec))))
+          ∙ ap wholes_of (append_assoc (flat_map messages_at (numbered first recs)) (messages_at (n, rec)) l)
+          ∙ before.continues (messages_at (n, rec) ++ l)
+          ∙ ap (λ r. before.answers ++ r) (more.continues l)
+          ∙ sym (append_assoc before.answers (at n more.answers) (wholes_after new.assembler l));
+      packets_are =
+          more.packets_are
+          ∙ ap (λ r. r ++ packets_at (at n more.answers) (n, rec)) before.packets_are
+          ∙ ap (λ r. r ++ packets_at (at n more.answers) (n, rec)) (sym (packets-other n first before.answers more.answers recs (omega arith)))
+          ∙ ap (λ r. flat_map (packets_at (before.answers ++ at n more.answers)) (numbered first recs) ++ r) (packets_at-same (at n more.answers) (before.answers ++ at n more.answers) n rec (sym (received-before n before.answers (at n more.answers) before.before)))
+          ∙ ap (λ r. flat_map (packets_at (before.answers ++ at n more.answers)) (numbered first recs) ++ r) (sym (append-nil (packets_at (before.answers ++ at n more.answers) (n, rec))))
+          ∙ sym (ap (flat_map (packets_at (before.answers ++ at n more.answers))) all ∙ flat_map-append (packets_at (before.answers ++ at n more.answers)) (numbered first recs) ((n, rec) ∷ []));
+      bad_is =
+          more.bad_is
+          ∙ ap (λ b. bad_or b n (is_bad (at n more.answers) (n, rec))) (before.bad_is ∙ ap (λ r. first_of (map (λ (rec : ℕ × ClientRec). rec.0) r)) (sym (bad-other n first before.answers more.answers recs (omega arith))))
+          ∙ ap (λ b. bad_or (first_bad (is_bad (before.answers ++ at n more.answers)) (numbered first recs)) n (is_refused (engine_packets rec) || b)) (sym (refused_at-before n before.answers (at n more.answers) before.before))
+          ∙ sym (ap (first_bad (is_bad (before.answers ++ at n more.answers))) all ∙ first_bad-last (is_bad (before.answers ++ at n more.answers)) (numbered first recs) (n, rec));
+      waits = more.waits before.waits;
+    }

@@ -1,0 +1,33 @@
+-- What was read of a client's tap.
+use Rattle.std.specs.Prelude.{◌≡◌, ℕ, suc, List, [], ◌∷◌, map, flat_map, Option}
+use Rattle.aud_tap.specs.declared.records.ClientRec.{ClientRec}
+use Rattle.aud_tap.specs.declared.records.ClientRec.TheVariants.{Conn}
+use Rattle.aud_client.specs.TapPackets.{Connection, numbered, packets_in, bad_in, first_of, tap_packets}
+use Rattle.aud_client.specs.ConnectionRead.{placed_seen, inside}
+use Rattle.aud_client.specs.declared.client_tap.Connection.{Connection as ConnectionCode}
+use Rattle.aud_client.specs.declared.client_tap.ClientTap.TheInside.{Inside}
+
+abbrev pub connection_seen : ConnectionCode → Connection
+connection_seen connection = record { c = connection.c; packets = map placed_seen connection.packets.items }
+
+-- what contracts see of connections
+abbrev pub connections_seen : List ConnectionCode → List Connection
+connections_seen connections = map connection_seen connections
+
+-- a connection of these records
+abbrev pub cut_seen : (ℕ × List (ℕ × ClientRec)) → Connection
+cut_seen cut = record { c = cut.0; packets = packets_in cut.1 }
+
+-- the first bad record of these connections
+abbrev pub bad_of : List (ℕ × List (ℕ × ClientRec)) → Option ℕ
+bad_of cuts = first_of (flat_map (λ (cut : ℕ × List (ℕ × ClientRec)). bad_in cut.1) cuts)
+
+-- the connection that the record begins, if it begins one
+abbrev pub begun : ℕ → ClientRec → List ClientRec → List (ℕ × List (ℕ × ClientRec))
+begun number (Conn c) behind = (c, numbered (suc number) (inside behind)) ∷ []
+begun number _ behind = []
+
+-- the connections and the first bad record are those of the records
+pub record IsRead (t : Inside) : Type 0 where
+  pub connections_are : connections_seen t.read.list.items ≡ (tap_packets t.recs.now).connections
+  pub bad_is : t.read.bad ≡ (tap_packets t.recs.now).bad

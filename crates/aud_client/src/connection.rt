@@ -1,0 +1,199 @@
+//! The packets of one connection of a client.
+ghost use Rattle.std.specs.Prelude.{◌≡◌, ◌++◌, ◌∷◌, [], IfOk, OnOk, Some, None, true, flat_map, map};
+ghost use Rattle.aud_eio.specs.Packet.{view as eio_view, packet_of as eio_packet_of};
+ghost use Rattle.aud_eio.specs.Body.{packets_of};
+ghost use Rattle.aud_sio.specs.Message.{messages_of, at};
+ghost use Rattle.aud_sio.specs.Packet.{packet_of, view};
+ghost use Rattle.aud_client.specs.TapPackets.{is_told, one_of, told, told_in};
+ghost use Rattle.aud_client.specs.ConnectionRead.{ReadsRecord, ReadsEngine, Reads, sent_seen, packets_read, packet_seen, bad_or};
+
+use aud_eio::{Eio, EioFault, decode_binary, decode_payload, decode_text};
+use aud_sio::{Assembler, Packet, PacketKind, SioFault, Whole, decode};
+use aud_tap::ClientRec;
+use std::alloc::{AllocError, Global};
+
+/// A packet of a connection.
+#[derive(Drop)]
+pub enum TapPacket<'a> {
+    /// From the server, with its attachments.
+    Received(Whole<'a>),
+    /// A CONNECT or a DISCONNECT of the client.
+    Sent(Packet<'a>),
+}
+
+/// A packet at its record: the one that its last attachment came with.
+#[derive(Drop)]
+pub struct Placed<'a> {
+    /// The record's number in its tap, from 0.
+    pub number: usize,
+    pub packet: TapPacket<'a>,
+}
+
+/// What the records of a connection gave so far.
+#[derive(Drop)]
+pub struct Reader<'a> {
+    alloc: Global,
+    assembler: Assembler<'a>,
+    pub packets: Vec<Placed<'a>>,
+    /// The first record that doesn't decode.
+    pub bad: Option<usize>,
+}
+
+impl<'a> Reader<'a> {
+    /// No record was read yet.
+    pub fn new(alloc: Global) -> Reader<'a>
+        ensures assembler { result.assembler ≡ [] }
+        ensures packets { packets_read result ≡ [] }
+        ensures bad { result.bad ≡ None }
+    {
+        Reader {
+            alloc,
+            assembler: Assembler::new(alloc),
+            packets: Vec::new(alloc),
+            bad: None,
+        }
+    }
+
+    /// The connection's next record, which has this number.
+    pub fn read(&mut self, number: usize, rec: &'a ClientRec) -> Result<(), AllocError>
+        ensures { OnOk result (ReadsRecord number rec.now self.old self.new) }
+    {
+        match rec {
+            ClientRec::TextIn { t } => self.read_text(number, t.as_str()),
+            ClientRec::BytesIn { b } => self.receive(number, decode_binary(b.as_slice())),
+            ClientRec::Poll { t } => self.read_body(number, t.as_str()),
+            ClientRec::TextOut { t } => self.read_sent(number, t.as_str()),
+            ClientRec::Conn { .. } => Ok(()),
+            ClientRec::Lost => Ok(()),
+        }
+    }
+
+    /// A text message from the server.
+    fn read_text(&mut self, number: usize, text: &'a str) -> Result<(), AllocError>
+        ensures { OnOk result (ReadsEngine number (one_of (eio_packet_of text.now)) self.old self.new) }
+    {
+        match decode_text(self.alloc, text) {
+            Ok(packet) => self.receive(number, packet),
+            Err(EioFault::Memory) => Err(AllocError),
+            Err(_) => {
+                self.refuse(number);
+                Ok(())
+            }
+        }
+    }
+
+    /// A polling body from the server.
+    fn read_body(&mut self, number: usize, body: &'a str) -> Result<(), AllocError>
+        ensures { OnOk result (ReadsEngine number (packets_of body.now) self.old self.new) }
+    {
+        match decode_payload(self.alloc, body) {
+            Ok(packets) => self.receive_all(number, packets),
+            Err(EioFault::Memory) => Err(AllocError),
+            Err(_) => {
+                self.refuse(number);
+                Ok(())
+            }
+        }
+    }
+
+    /// Engine.IO packets of one record.
+    fn receive_all(&mut self, number: usize, packets: Vec<Eio<'a>>) -> Result<(), AllocError>
+        ensures { OnOk result (Reads number (flat_map messages_of (map eio_view packets.entry.items)) self.old self.new) }
+    {
+        for packet in packets {
+            self.receive(number, packet)?;
+        }
+        Ok(())
+    }
+
+    /// An Engine.IO packet from the server.
+    fn receive(&mut self, number: usize, packet: Eio<'a>) -> Result<(), AllocError>
+        ensures { OnOk result (Reads number (messages_of (eio_view packet.entry)) self.old self.new) }
+    {
+        match self.assembler.feed(packet) {
+            Ok(Some(whole)) => self.place(number, TapPacket::Received(whole)),
+            Ok(None) => Ok(()),
+            Err(fault) => self.refuse_packet(number, fault),
+        }
+    }
+
+    /// The record gave this refusal, unless memory ran out.
+    fn refuse_packet(&mut self, number: usize, fault: SioFault) -> Result<(), AllocError>
+        ensures memory { OnOk result (¬ (fault ≡ SioFault.Memory)) }
+        ensures packets { packets_read self.new ≡ packets_read self.old }
+        ensures assembler { self.new.assembler ≡ self.old.assembler }
+        ensures bad { OnOk result (self.new.bad ≡ bad_or self.old.bad number true) }
+    {
+        match fault {
+            SioFault::Memory => Err(AllocError),
+            _ => {
+                self.refuse(number);
+                Ok(())
+            }
+        }
+    }
+
+    /// The text of an Engine.IO packet of the client: all but a CONNECT or a DISCONNECT is read past.
+    fn read_sent(&mut self, number: usize, text: &'a str) -> Result<(), AllocError>
+        ensures packets { OnOk result (packets_read self.new ≡ packets_read self.old ++ at number (told_in (eio_packet_of text.now))) }
+        ensures assembler { self.new.assembler ≡ self.old.assembler }
+        ensures bad { self.new.bad ≡ self.old.bad }
+    {
+        match sent(self.alloc, text)? {
+            Some(packet) => self.place(number, TapPacket::Sent(packet)),
+            None => Ok(()),
+        }
+    }
+
+    fn place(&mut self, number: usize, packet: TapPacket<'a>) -> Result<(), AllocError>
+        ensures packets { OnOk result (packets_read self.new ≡ packets_read self.old ++ (number, packet_seen packet.entry) ∷ []) }
+        ensures assembler { self.new.assembler ≡ self.old.assembler }
+        ensures bad { self.new.bad ≡ self.old.bad }
+    {
+        self.packets.push(Placed { number, packet })?;
+        Ok(())
+    }
+
+    /// The record doesn't decode.
+    fn refuse(&mut self, number: usize)
+        ensures packets { packets_read self.new ≡ packets_read self.old }
+        ensures assembler { self.new.assembler ≡ self.old.assembler }
+        ensures bad { self.new.bad ≡ bad_or self.old.bad number true }
+    {
+        if self.bad.is_none() {
+            self.bad = Some(number);
+        }
+    }
+}
+
+/// The CONNECT or DISCONNECT that an Engine.IO packet of the client carries.
+fn sent(alloc: Global, text: &str) -> Result<Option<Packet<'_>>, AllocError>
+    ensures { IfOk result (λ sent. sent_seen sent ≡ told_in (eio_packet_of text.now)) }
+{
+    match decode_text(alloc, text) {
+        Ok(Eio::Message(message)) => sent_packet(alloc, message),
+        Err(EioFault::Memory) => Err(AllocError),
+        _ => Ok(None),
+    }
+}
+
+/// The packet of a message, if it is a CONNECT or a DISCONNECT.
+fn sent_packet(alloc: Global, message: &str) -> Result<Option<Packet<'_>>, AllocError>
+    ensures { IfOk result (λ sent. sent_seen sent ≡ told (packet_of message.now)) }
+{
+    match decode(alloc, message) {
+        Ok(packet) if is_told(packet.kind) => Ok(Some(packet)),
+        Err(SioFault::Memory) => Err(AllocError),
+        _ => Ok(None),
+    }
+}
+
+/// Whether the kind is one that a client's tap is asked for.
+fn is_told(kind: PacketKind) -> bool
+    ensures { result ≡ is_told kind }
+{
+    match kind {
+        PacketKind::Connect | PacketKind::Disconnect => true,
+        _ => false,
+    }
+}

@@ -1,0 +1,84 @@
+//! What the server's answer to a CONNECT tells.
+ghost use Rattle.std.specs.Prelude.{◌≡◌, IfOk, option_map, string_bytes};
+ghost use Rattle.serde_json.specs.View.{view as data_of};
+ghost use Rattle.aud_sio.specs.Assembly.{whole_view};
+ghost use Rattle.aud_client.specs.Replies.{is_connect, pid_in, reply_in, sid_in, told_by, value_of};
+
+use crate::payload::{text_at, value_of};
+use aud_sio::{PacketKind, Whole};
+use aud_tap::{Memory, is_session_id};
+use serde_json::Value;
+use std::alloc::Global;
+use std::marker::Model;
+
+/// What a CONNECT from the server tells.
+#[derive(Drop)]
+pub struct Reply {
+    /// The session that it names: 1 to 128 bytes, each of 0x21 to 0x7e. None where the payload has no such `pid`, as
+    /// where recovery is off.
+    pub pid: Option<String>,
+    /// Empty where the payload has none.
+    pub sid: String,
+}
+
+impl Model for Reply {
+    ghost use Rattle.std.specs.Prelude.{option_map, string_bytes};
+    ghost use Rattle.aud_client.specs.Replies.{ReplySeen};
+
+    ghost Value = { ReplySeen };
+
+    ghost view = { λ r. record { pid = option_map string_bytes r.pid; sid = string_bytes r.sid } };
+}
+
+/// The reply that a packet of the server is (Socket.IO protocol 5, "Connection to a namespace"); none where it is no
+/// CONNECT.
+pub fn reply_of(alloc: Global, whole: &Whole<'_>) -> Result<Option<Reply>, Memory>
+    ensures { IfOk result (λ reply. reply ≡ reply_in (whole_view whole.now)) }
+{
+    if !is_connect(whole.packet.kind) {
+        return Ok(None);
+    }
+    let reply = told_by(alloc, whole.packet.payload)?;
+    Ok(Some(reply))
+}
+
+fn is_connect(kind: PacketKind) -> bool
+    ensures { result ≡ is_connect kind }
+{
+    matches!(kind, PacketKind::Connect)
+}
+
+/// What the payload tells.
+fn told_by(alloc: Global, payload: Option<&str>) -> Result<Reply, Memory>
+    ensures { IfOk result (λ reply. reply ≡ told_by (value_of (option_map (λ text. text.now) payload.entry))) }
+{
+    let Some(json) = value_of(alloc, payload)? else {
+        return Ok(Reply {
+            pid: None,
+            sid: String::new(alloc),
+        });
+    };
+    let pid = pid_in(alloc, &json)?;
+    let sid = sid_in(alloc, &json)?;
+    Ok(Reply { pid, sid })
+}
+
+/// The session that the value names.
+fn pid_in(alloc: Global, json: &Value) -> Result<Option<String>, Memory>
+    ensures { IfOk result (λ pid. option_map string_bytes pid ≡ pid_in (data_of json.now)) }
+{
+    match text_at(json, "pid") {
+        Some(pid) if is_session_id(pid) => Ok(Some(String::from_str(alloc, pid)?)),
+        _ => Ok(None),
+    }
+}
+
+/// The `sid` of the value, empty where there is none.
+fn sid_in(alloc: Global, json: &Value) -> Result<String, Memory>
+    ensures { IfOk result (λ sid. string_bytes sid ≡ sid_in (data_of json.now)) }
+{
+    match text_at(json, "sid") {
+        Some(sid) => Ok(String::from_str(alloc, sid)?),
+        None => Ok(String::new(alloc)),
+    }
+}

@@ -1,9 +1,0 @@
-use Rattle.std.proofs.Common.{◌≡◌, ◌++◌, take, drop}
-use Rattle.aud_node.specs.ConnectionRead.{HasRead, inside}
-use Rattle.aud_node.proofs.client_tap.read_connection.Given as goal
-
-abbrev pub invariant-loop-i : goal.invariant-loop-i
-invariant-loop-i l = record {
-  inside_is : inside l.recs ≡ take l.i l.recs ++ inside (drop l.i l.recs);
-  read : HasRead l.first (take l.i l.recs) l.reader;
-}
