@@ -1,4 +1,5 @@
 pub mod LinesLemmas
+pub mod SessionLemmas
 pub mod Json
 pub mod Lists
 pub mod TapNames

@@ -1,6 +1,6 @@
 //! The lines of an input that comes in pieces.
 ghost use Rattle.std.specs.Prelude.{◌≡◌, ◌+◌, ◌-◌, ◌^◌, ◌<◌, ◌≤◌, ◌++◌, [], ◌∷◌, List, ℕ, length, take, Some, None, Ok, Err, IfOk, IfErr, OnOk, IfSome, IfNone, false, ◌≢◌};
-ghost use Rattle.aud_reader.specs.Lines.{lines_of, lines_to_come, without_return, has_newline, IsPartial, line_at, line_ended, line_begun, result_of};
+ghost use Rattle.aud_reader.specs.Lines.{IsFront, lines_of, lines_to_come, without_return, has_newline, IsPartial, line_at, line_ended, line_begun, result_of};
 
 use crate::fault::{InputCode, ReadFault, refuse};
 use crate::line::Line;
@@ -105,6 +105,7 @@ impl Splitter {
         ensures after { result ≢ Err ReadFault.Memory → self.new ≡ line_ended self.old front.now }
         ensures value { result ≡ result_of self.new.fault }
         ensures number { self.new.number ≤ self.old.number + 1 }
+        ensures kept { IfErr result (λ _. self.new.waiting ≡ self.old.waiting) }
     {
         let Ok(()) = self.rest.extend_from_slice(front) else {
             return refuse(&mut self.fault, ReadFault::Memory);
@@ -131,6 +132,7 @@ impl Splitter {
         ensures value { result ≡ result_of self.new.fault }
         ensures number { self.new.number ≡ self.old.number }
         ensures partial { self.new.fault ≡ None → IsPartial self.new.rest }
+        ensures kept { self.new.waiting ≡ self.old.waiting }
     {
         let Ok(()) = self.rest.extend_from_slice(front) else {
             return refuse(&mut self.fault, ReadFault::Memory);
@@ -147,7 +149,8 @@ impl Splitter {
     /// Takes the next piece of the input.
     ///
     /// The first line that is too long is refused by its number, as soon as its bytes are too many; the lines before it
-    /// stay for [`take`](Splitter::take). The numbers of lines are below 2 to the 64th.
+    /// stay for [`take`](Splitter::take). Where memory runs out, the lines that waited stay too, and with them some or none
+    /// of the lines that this piece ended, up to the first that is not kept. The numbers of lines are below 2 to the 64th.
     pub fn feed(&mut self, piece: &[u8]) -> Result<(), ReadFault>
         requires { self.old.number + length piece.now < 2 ^ 64 }
         ensures value { result ≡ result_of self.new.fault }
@@ -155,6 +158,8 @@ impl Splitter {
         ensures partial { OnOk result (IsPartial self.new.rest) }
         ensures refused { IfSome self.old.fault (λ fault. (result ≡ Err fault) × (self.new ≡ self.old)) }
         ensures number { self.new.number ≤ self.old.number + length piece.now }
+        ensures kept { IsFront self.old.waiting self.new.waiting }
+        ensures front { (more : List ℕ) → IsFront self.new.waiting (lines_to_come self.old (piece.now ++ more)).lines }
     {
         if let Some(fault) = self.fault {
             return Err(fault);
