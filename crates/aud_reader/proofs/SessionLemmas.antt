@@ -6,12 +6,7 @@ use Rattle.aud_reader.specs.declared.fault.ReadFault.TheVariants.{Input, Memory}
 use Rattle.aud_reader.specs.Lines.{Lines, Split, IsFront, lines_of, lines_to_come, result_of, after_lines}
 use Rattle.aud_reader.specs.Session.{Feeds, Takes, Finishes, Call, Feed, Take, Follow, fed, taken, fresh, TakenAndLastAreLines, TakenAreLinesBefore, TakenAreFront}
 use Rattle.aud_reader.proofs.LinesLemmas.{some_of}
-
--- calls after calls
-pub follow-append : (s t u : Split) (xs ys : List Call) → Follow s xs t → Follow t ys u → Follow s (xs ++ ys) u
-follow-append s t u [] ys first second = rw (← first) second
-follow-append s t u (Feed piece result new ∷ xs) ys first second = (first.0, follow-append new t u xs ys first.1 second)
-follow-append s t u (Take given new ∷ xs) ys first second = (first.0, follow-append new t u xs ys first.1 second)
+use Rattle.aud_reader.proofs.Fronts.{front-of-front, front-after}
 
 -- a splitter that has refused stays as it is
 same-if_some : (s t : Split) (result : Result (Unit {0}) ReadFault) (had : Option ReadFault) (fault : ReadFault)
@@ -46,12 +41,6 @@ to_come-follow s t (Take given new ∷ calls) more follow memory =
     ∙ ap (after_lines given) (to_come-follow new t calls more follow.1 memory)
     ∙ ap (λ n. after_lines given (lines_to_come n (fed calls ++ more))) follow.0.left
     ∙ taken-then given s (fed calls ++ more) follow.0.lines
-
-front-of-front : (a b c : List Line) → IsFront a b → IsFront b c → IsFront a c
-front-of-front a b c first second = record { rest = first.rest ++ second.rest; is = rw (second.is, first.is) (append_assoc a first.rest second.rest) }
-
-front-after : (given front lines : List Line) → IsFront front lines → IsFront (given ++ front) (given ++ lines)
-front-after given front lines first = record { rest = first.rest; is = rw first.is (sym (append_assoc given front first.rest)) }
 
 -- what a splitter gives after want of memory is what waits
 to_come-memory : (t : Split) (text : List ℕ) (fault : ReadFault) → t.fault ≡ Some fault → (lines_to_come t text).lines ≡ t.waiting
@@ -104,3 +93,57 @@ taken_before = λ calls last fault follow e other more.
 
 pub taken_front : TakenAreFront
 taken_front = λ calls last follow more. front-follow fresh last calls more follow
+
+-- a splitter that came, from the begin of an input, by calls that fed this text and took these lines
+pub record Came (text : List ℕ) (given : List Line) (s : Split) : Type 0 where
+  pub calls : List Call
+  pub follow : Follow fresh calls s
+  pub feeds : fed calls ≡ text
+  pub takes : taken calls ≡ given
+
+pub came-fresh : Came [] [] fresh
+came-fresh = record { calls = []; follow = refl; feeds = refl; takes = refl }
+
+follow-append : (s t u : Split) (xs ys : List Call) → Follow s xs t → Follow t ys u → Follow s (xs ++ ys) u
+follow-append s t u [] ys first second = subst (λ start. Follow start ys u) first second
+follow-append s t u (Feed piece result new ∷ xs) ys first second = (first.0, follow-append new t u xs ys first.1 second)
+follow-append s t u (Take given new ∷ xs) ys first second = (first.0, follow-append new t u xs ys first.1 second)
+
+fed-append : (xs ys : List Call) → fed (xs ++ ys) ≡ fed xs ++ fed ys
+fed-append [] ys = refl
+fed-append (Feed piece result new ∷ xs) ys = rw (fed-append xs ys) (sym (append_assoc piece (fed xs) (fed ys)))
+fed-append (Take given new ∷ xs) ys = fed-append xs ys
+
+taken-append : (xs ys : List Call) → taken (xs ++ ys) ≡ taken xs ++ taken ys
+taken-append [] ys = refl
+taken-append (Feed piece result new ∷ xs) ys = taken-append xs ys
+taken-append (Take given new ∷ xs) ys = rw (taken-append xs ys) (sym (append_assoc given (taken xs) (taken ys)))
+
+-- one more piece
+pub came-feed : (text : List ℕ) (given : List Line) (s t : Split) (piece : List ℕ) (result : Result (Unit {0}) ReadFault)
+    → Came text given s → Feeds s piece result t → Came (text ++ piece) given t
+came-feed text given s t piece result came feeds =
+    let call = Feed piece result t ∷ [] in
+    record {
+      calls = came.calls ++ call;
+      follow = follow-append fresh s t came.calls call came.follow (feeds, refl);
+      feeds = fed-append came.calls call ∙ rw (came.feeds, append-nil piece) refl;
+      takes = taken-append came.calls call ∙ rw (came.takes, append-nil given) refl;
+    }
+
+-- one more take
+pub came-take : (text : List ℕ) (given ls : List Line) (s t : Split) → Came text given s → Takes s ls t → Came text (given ++ ls) t
+came-take text given ls s t came takes =
+    let call = Take ls t ∷ [] in
+    record {
+      calls = came.calls ++ call;
+      follow = follow-append fresh s t came.calls call came.follow (takes, refl);
+      feeds = fed-append came.calls call ∙ rw (came.feeds, append-nil text) refl;
+      takes = taken-append came.calls call ∙ rw (came.takes, append-nil ls) refl;
+    }
+
+-- the end of the input
+pub came-finish : (text : List ℕ) (given ls : List Line) (s : Split) → Came text given s → Finishes s (Ok ls)
+    → lines_of text ≡ record { lines = given ++ ls; fault = None }
+came-finish text given ls s came finish =
+    ap lines_of (sym came.feeds) ∙ taken_and_last came.calls s ls came.follow finish ∙ ap (λ g. record { lines = g ++ ls; fault = None }) came.takes

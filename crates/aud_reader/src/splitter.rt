@@ -15,6 +15,7 @@ use std::mem;
 ///
 /// It keeps the lines that [`take`](Splitter::take) hasn't handed out, and the front of the line that has begun. After a
 /// refusal it gives that refusal from then on, and looks at no more bytes.
+/// [`lines_in_any_pieces`](crate::lines_in_any_pieces) says what it gives over any list of calls.
 #[derive(Drop)]
 pub struct Splitter {
     alloc: Global,
@@ -149,8 +150,8 @@ impl Splitter {
     /// Takes the next piece of the input.
     ///
     /// The first line that is too long is refused by its number, as soon as its bytes are too many; the lines before it
-    /// stay for [`take`](Splitter::take). Where memory runs out, the lines that waited stay too, and with them some or none
-    /// of the lines that this piece ended, up to the first that is not kept. The numbers of lines are below 2 to the 64th.
+    /// stay for [`take`](Splitter::take). Where memory runs out, the lines that wait are those that waited before, and a
+    /// front of those that this piece ended. The numbers of lines are below 2 to the 64th.
     pub fn feed(&mut self, piece: &[u8]) -> Result<(), ReadFault>
         requires { self.old.number + length piece.now < 2 ^ 64 }
         ensures value { result ≡ result_of self.new.fault }
