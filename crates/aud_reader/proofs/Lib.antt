@@ -1,4 +1,6 @@
 pub mod LinesLemmas
+pub mod Fronts
+pub mod SessionLemmas
 pub mod Json
 pub mod Lists
 pub mod TapNames

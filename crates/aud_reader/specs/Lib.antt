@@ -2,6 +2,7 @@ pub use Rattle.aud_tap.specs.TapName
 pub use Rattle.aud_tap.specs.WellFormed
 pub use Rattle.aud_tap.specs.Names
 pub mod Lines
+pub mod Session
 pub mod Steps
 pub mod Fields
 pub mod Header

@@ -59,6 +59,11 @@ pub record Split : Type 0 where
   pub rest : List ℕ
   pub fault : Option ReadFault
 
+-- the first lines are the front of the second
+pub record IsFront (front lines : List Line) : Type 0 where
+  pub rest : List Line
+  pub is : lines ≡ front ++ rest
+
 -- nothing behind a refusal
 abbrev pub unless_fault : Option ReadFault → Lines → Lines
 unless_fault None ls = ls

@@ -1,6 +1,6 @@
 //! The lines of an input that comes in pieces.
 ghost use Rattle.std.specs.Prelude.{◌≡◌, ◌+◌, ◌-◌, ◌^◌, ◌<◌, ◌≤◌, ◌++◌, [], ◌∷◌, List, ℕ, length, take, Some, None, Ok, Err, IfOk, IfErr, OnOk, IfSome, IfNone, false, ◌≢◌};
-ghost use Rattle.aud_reader.specs.Lines.{lines_of, lines_to_come, without_return, has_newline, IsPartial, line_at, line_ended, line_begun, result_of};
+ghost use Rattle.aud_reader.specs.Lines.{IsFront, lines_of, lines_to_come, without_return, has_newline, IsPartial, line_at, line_ended, line_begun, result_of};
 
 use crate::fault::{InputCode, ReadFault, refuse};
 use crate::line::Line;
@@ -15,6 +15,7 @@ use std::mem;
 ///
 /// It keeps the lines that [`take`](Splitter::take) hasn't handed out, and the front of the line that has begun. After a
 /// refusal it gives that refusal from then on, and looks at no more bytes.
+/// [`lines_in_any_pieces`](crate::lines_in_any_pieces) says what it gives over any list of calls.
 #[derive(Drop)]
 pub struct Splitter {
     alloc: Global,
@@ -105,6 +106,7 @@ impl Splitter {
         ensures after { result ≢ Err ReadFault.Memory → self.new ≡ line_ended self.old front.now }
         ensures value { result ≡ result_of self.new.fault }
         ensures number { self.new.number ≤ self.old.number + 1 }
+        ensures kept { IfErr result (λ _. self.new.waiting ≡ self.old.waiting) }
     {
         let Ok(()) = self.rest.extend_from_slice(front) else {
             return refuse(&mut self.fault, ReadFault::Memory);
@@ -131,6 +133,7 @@ impl Splitter {
         ensures value { result ≡ result_of self.new.fault }
         ensures number { self.new.number ≡ self.old.number }
         ensures partial { self.new.fault ≡ None → IsPartial self.new.rest }
+        ensures kept { self.new.waiting ≡ self.old.waiting }
     {
         let Ok(()) = self.rest.extend_from_slice(front) else {
             return refuse(&mut self.fault, ReadFault::Memory);
@@ -147,7 +150,8 @@ impl Splitter {
     /// Takes the next piece of the input.
     ///
     /// The first line that is too long is refused by its number, as soon as its bytes are too many; the lines before it
-    /// stay for [`take`](Splitter::take). The numbers of lines are below 2 to the 64th.
+    /// stay for [`take`](Splitter::take). Where memory runs out, the lines that wait are those that waited before, and a
+    /// front of those that this piece ended. The numbers of lines are below 2 to the 64th.
     pub fn feed(&mut self, piece: &[u8]) -> Result<(), ReadFault>
         requires { self.old.number + length piece.now < 2 ^ 64 }
         ensures value { result ≡ result_of self.new.fault }
@@ -155,6 +159,8 @@ impl Splitter {
         ensures partial { OnOk result (IsPartial self.new.rest) }
         ensures refused { IfSome self.old.fault (λ fault. (result ≡ Err fault) × (self.new ≡ self.old)) }
         ensures number { self.new.number ≤ self.old.number + length piece.now }
+        ensures kept { IsFront self.old.waiting self.new.waiting }
+        ensures front { (more : List ℕ) → IsFront self.new.waiting (lines_to_come self.old (piece.now ++ more)).lines }
     {
         if let Some(fault) = self.fault {
             return Err(fault);

@@ -1,12 +1,12 @@
 -- What an assembler holds and answers.
-use Rattle.std.specs.Prelude.{◌≡◌, ◌-◌, ℕ, length, List, [], ◌∷◌, ◌++◌, map, Option, Some, None, Result, Ok, Err}
+use Rattle.std.specs.Prelude.{◌≡◌, ◌-◌, ℕ, length, Bool, true, false, List, [], ◌∷◌, ◌++◌, map, Option, Some, None, Result, Ok, Err}
 use Rattle.aud_sio.specs.declared.fault.SioFault.{SioFault}
 use Rattle.aud_sio.specs.declared.fault.SioFault.TheVariants.{Memory}
 use Rattle.aud_sio.specs.declared.whole.Blob.{Blob as BlobCode}
 use Rattle.aud_sio.specs.declared.whole.Blob.TheVariants as code
 use Rattle.aud_sio.specs.declared.whole.Whole.{Whole}
 use Rattle.aud_sio.specs.declared.half.Half.{Half}
-use Rattle.aud_sio.specs.Packet.{view}
+use Rattle.aud_sio.specs.Packet.{view, has_payload}
 use Rattle.aud_sio.specs.Message.{Blob, Lent, Own, Message, Text, Bytes, at}
 use Rattle.aud_sio.specs.Wholes.{WholeSeen, Answer, answer_to, last_place, consumed, wholes_past, wholes_of}
 
@@ -47,6 +47,12 @@ Continues old messages answers new = (place : ℕ) (l : List (ℕ × Message))
 abbrev pub Feeds : List Message → List Message → Result (Option Whole) SioFault → List Message → Type 0
 Feeds old messages (Ok given) new = Continues old messages (answer_of given) new
 Feeds old messages (Err fault) new = ¬ (fault ≡ Memory) → Continues old messages (Err fault ∷ []) new
+
+-- what takes memory, where these messages are held and those come: at rest the payload of a text, and else an attachment
+abbrev pub takes_memory : List Message → List Message → Bool
+takes_memory [] (Text text ∷ messages) = has_payload text
+takes_memory (message ∷ held) (Bytes blob ∷ messages) = true
+takes_memory held messages = false
 
 -- nothing comes of what is held, unless more messages come
 abbrev pub Waits : List Message → Type 0

@@ -1,5 +1,5 @@
 -- The packet that a text spells (Socket.IO protocol 5, "Packet encoding").
-use Rattle.std.specs.Prelude.{◌≡◌, ℕ, List, Option, option_map, Result, Ok, string_bytes}
+use Rattle.std.specs.Prelude.{◌≡◌, ℕ, nat_lt, List, length, Bool, false, Option, option_map, Result, Ok, Err, string_bytes}
 use Rattle.std.specs.Borrow.{Bor}
 use Rattle.aud_sio.specs.declared.fault.SioFault.{SioFault}
 use Rattle.aud_sio.specs.declared.kind.PacketKind.{PacketKind}
@@ -40,6 +40,19 @@ packet_of text = do
   (id, rest) ← id_at rest
   (payload, last) ← payload_at kind rest
   Ok (record { kind = kind; attachments = attachments; nsp = nsp; id = id; payload = payload; last = last })
+
+-- what is left for the payload after type, count of attachments, namespace and acknowledgement id
+unfoldable pub payload_text : List ℕ → Result (List ℕ) SioFault
+payload_text text = do
+  (kind, rest) ← kind_at text
+  (attachments, rest) ← attachments_at kind rest
+  let (nsp, rest) = namespace_at rest
+  (id, rest) ← id_at rest
+  Ok rest
+
+-- whether any byte is left for the payload
+abbrev pub has_payload : List ℕ → Bool
+has_payload text = elim (payload_text text) [ Ok rest ↦ nat_lt 0 (length rest) | Err fault ↦ false ]
 
 -- some text spells this packet
 pub record IsSpelled (packet : PacketSeen) : Type 0 where

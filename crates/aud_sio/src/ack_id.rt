@@ -1,4 +1,5 @@
 //! The acknowledgement id of a packet.
+ghost use Rattle.std.specs.Prelude.{◌≢◌, Err};
 ghost use Rattle.aud_sio.specs.Reading.{Gives};
 ghost use Rattle.aud_sio.specs.AckId.{id_at};
 
@@ -11,7 +12,8 @@ const MOST_DIGITS: usize = 18;
 /// The id that the digits at the front write, if any stand there, and the rest.
 #[tactic(auto, unfolding(crate::specs::AckId::id_at))]
 pub(crate) fn id_at(text: &str) -> Result<(Option<u64>, &str), SioFault>
-    ensures { Gives (λ read. (read.0, read.1.now)) result (id_at text.now) }
+    ensures value { Gives (λ read. (read.0, read.1.now)) result (id_at text.now) }
+    ensures memory { result ≢ Err SioFault.Memory }
 {
     let (digits, rest) = split_digits(text);
     if digits.len() > MOST_DIGITS {

@@ -1,9 +1,9 @@
 //! Packets with their attachments, out of Engine.IO packets.
-ghost use Rattle.std.specs.Prelude.{◌≡◌, ◌≤◌, ◌∷◌, [], length, IfErr, IfOk, IsSome};
+ghost use Rattle.std.specs.Prelude.{◌≡◌, ◌≤◌, ◌∷◌, [], length, Err, IfErr, IfOk, IsSome, true};
 ghost use Rattle.aud_eio.specs.Packet.{view as packet_view};
-ghost use Rattle.aud_sio.specs.Packet.{packet_of, view};
+ghost use Rattle.aud_sio.specs.Packet.{has_payload, packet_of, view};
 ghost use Rattle.aud_sio.specs.Message.{Text, Bytes, messages_of};
-ghost use Rattle.aud_sio.specs.Assembly.{Feeds, Keeps, Waits, blob_view, whole_view, messages_held, messages_of_whole, answer_of};
+ghost use Rattle.aud_sio.specs.Assembly.{Feeds, Keeps, Waits, takes_memory, blob_view, whole_view, messages_held, messages_of_whole, answer_of};
 
 use crate::fault::SioFault;
 use crate::half::Half;
@@ -45,13 +45,16 @@ impl<'a> Assembler<'a> {
     /// what the Engine.IO packets lend.
     ///
     /// A text is refused as `TextWhileBinary` where attachments are awaited, and else as [`decode`] refuses it; bytes
-    /// as `StrayBinary` where none are. Control packets are read past. After a refusal, want of memory too, the assembler is at rest: it holds nothing of the refused packet.
+    /// as `StrayBinary` where none are. Control packets are read past. Memory is wanted for the payload of a text that
+    /// comes at rest and for an attachment that is awaited, and for nothing else. After a refusal, want of memory too,
+    /// the assembler is at rest: it holds nothing of the refused packet.
     pub fn feed(&mut self, packet: Eio<'a>) -> Result<Option<Whole<'a>>, SioFault>
         ensures answers { Feeds self.old (messages_of (packet_view packet.entry)) result self.new }
         ensures control { messages_of (packet_view packet.entry) ≡ [] → (result ≡ Ok None) × (self.new ≡ self.old) }
         ensures waits { Waits self.new }
         ensures rest_refused { IfErr result (λ _. self.new ≡ []) }
         ensures rest_given { IfOk result (λ whole. IsSome whole → self.new ≡ []) }
+        ensures memory { result ≡ Err SioFault.Memory → takes_memory self.old (messages_of (packet_view packet.entry)) ≡ true }
     {
         let half = self.half.take();
         match packet {
@@ -75,6 +78,7 @@ impl<'a> Assembler<'a> {
         ensures waits { Waits self.new }
         ensures rest_refused { IfErr result (λ _. self.new ≡ []) }
         ensures rest_given { IfOk result (λ whole. IsSome whole → self.new ≡ []) }
+        ensures memory { result ≡ Err SioFault.Memory → takes_memory (messages_held half.entry) (Text text.entry.now ∷ []) ≡ true }
     {
         if half.is_some() {
             return Err(SioFault::TextWhileBinary);
@@ -88,6 +92,7 @@ impl<'a> Assembler<'a> {
         ensures waits { Waits self.new }
         ensures rest_refused { IfErr result (λ _. self.new ≡ []) }
         ensures rest_given { IfOk result (λ whole. IsSome whole → self.new ≡ []) }
+        ensures memory { result ≡ Err SioFault.Memory → has_payload text.entry.now ≡ true }
     {
         let packet = match decode(self.alloc, text) {
             Ok(packet) => packet,
@@ -107,6 +112,7 @@ impl<'a> Assembler<'a> {
         ensures waits { Waits self.new }
         ensures rest_refused { IfErr result (λ _. self.new ≡ []) }
         ensures rest_given { IfOk result (λ whole. IsSome whole → self.new ≡ []) }
+        ensures memory { result ≡ Err SioFault.Memory → takes_memory (messages_held half.entry) (Bytes (blob_view blob.entry) ∷ []) ≡ true }
     {
         match half {
             Some(half) => self.attach(half, blob),

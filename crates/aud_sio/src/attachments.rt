@@ -1,5 +1,5 @@
 //! The count of attachments of a packet.
-ghost use Rattle.std.specs.Prelude.{◌≡◌, ◌==◌, Some, None, drop, if◌then◌else◌, option_map, slice_index};
+ghost use Rattle.std.specs.Prelude.{◌≡◌, ◌≢◌, ◌==◌, Err, Some, None, drop, if◌then◌else◌, option_map, slice_index};
 ghost use Rattle.aud_sio.specs.Reading.{Gives};
 ghost use Rattle.aud_sio.specs.Attachments.{attachments_at, count_at};
 
@@ -13,7 +13,8 @@ const MOST: u64 = 64;
 /// How many attachments a text announces, and the rest: none where the kind is not binary.
 #[tactic(auto, unfolding(crate::specs::Attachments::attachments_at))]
 pub(crate) fn attachments_at(kind: PacketKind, text: &str) -> Result<(u8, &str), SioFault>
-    ensures { Gives (λ read. (read.0, read.1.now)) result (attachments_at kind text.now) }
+    ensures value { Gives (λ read. (read.0, read.1.now)) result (attachments_at kind text.now) }
+    ensures memory { result ≢ Err SioFault.Memory }
 {
     if kind.is_binary() {
         count_at(text)
@@ -24,7 +25,8 @@ pub(crate) fn attachments_at(kind: PacketKind, text: &str) -> Result<(u8, &str),
 
 #[tactic(auto, unfolding(crate::specs::Attachments::count_at))]
 fn count_at(text: &str) -> Result<(u8, &str), SioFault>
-    ensures { Gives (λ read. (read.0, read.1.now)) result (count_at text.now) }
+    ensures value { Gives (λ read. (read.0, read.1.now)) result (count_at text.now) }
+    ensures memory { result ≢ Err SioFault.Memory }
 {
     let (digits, rest) = split_digits(text);
     if digits.is_empty() || digits.len() > 2 {

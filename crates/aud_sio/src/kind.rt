@@ -1,5 +1,5 @@
 //! The kind of a packet: the digit at the front of its text.
-ghost use Rattle.std.specs.Prelude.{◌≡◌, ◌<◌, OnOk};
+ghost use Rattle.std.specs.Prelude.{◌≡◌, ◌≢◌, ◌<◌, Err, OnOk};
 ghost use Rattle.aud_sio.specs.Reading.{Gives};
 ghost use Rattle.aud_sio.specs.Kind.{is_binary, kind_at, kind_of, type_digit, wants_array};
 
@@ -27,7 +27,8 @@ pub enum PacketKind {
 /// The kind at the front of a text, and the rest.
 #[tactic(auto, unfolding(crate::specs::Kind::kind_at))]
 pub(crate) fn kind_at(text: &str) -> Result<(PacketKind, &str), SioFault>
-    ensures { Gives (λ read. (read.0, read.1.now)) result (kind_at text.now) }
+    ensures value { Gives (λ read. (read.0, read.1.now)) result (kind_at text.now) }
+    ensures memory { result ≢ Err SioFault.Memory }
 {
     let Some(first) = text.as_bytes().first() else {
         return Err(SioFault::Empty);
@@ -39,6 +40,7 @@ pub(crate) fn kind_at(text: &str) -> Result<(PacketKind, &str), SioFault>
 fn kind_of(byte: u8) -> Result<PacketKind, SioFault>
     ensures value { result ≡ kind_of byte }
     ensures ascii { OnOk result (byte < 128) }
+    ensures memory { result ≢ Err SioFault.Memory }
 {
     match byte {
         b'0' => Ok(PacketKind::Connect),

@@ -1,7 +1,7 @@
 //! The packet of a text.
-ghost use Rattle.std.specs.Prelude.{◌≡◌, IfOk, option_map};
+ghost use Rattle.std.specs.Prelude.{◌≡◌, Err, IfOk, option_map, true};
 ghost use Rattle.aud_sio.specs.Reading.{Gives};
-ghost use Rattle.aud_sio.specs.Packet.{IsSpelled, packet_of, view};
+ghost use Rattle.aud_sio.specs.Packet.{IsSpelled, has_payload, packet_of, view};
 
 use crate::ack_id::id_at;
 use crate::attachments::attachments_at;
@@ -30,15 +30,17 @@ pub struct Packet<'a> {
 }
 
 /// The packet that a text spells, by the section "Packet encoding" of the Socket.IO protocol 5. Its
-/// namespace and its payload are lent from the text; memory is kept for `last` alone.
+/// namespace and its payload are lent from the text; memory is kept for `last` alone, and none is
+/// taken where no byte is left for the payload.
 ///
 /// An error is of the first part that is refused, in the order type, count of attachments,
 /// acknowledgement id, payload; or `Memory`, at the payload. That there are at most 64 attachments and at most 18 digits of an id,
 /// and that CONNECT, DISCONNECT and CONNECT_ERROR take any JSON or none, is this crate's choice.
-#[tactic(auto, unfolding(crate::specs::Packet::packet_of))]
+#[tactic(auto, unfolding(crate::specs::Packet::packet_of, crate::specs::Packet::payload_text))]
 pub fn decode(alloc: Global, text: &str) -> Result<Packet<'_>, SioFault>
     ensures value { Gives view result (packet_of text.now) }
     ensures spelled { IfOk result (λ packet. IsSpelled (view packet)) }
+    ensures memory { result ≡ Err SioFault.Memory → has_payload text.now ≡ true }
 {
     let (kind, rest) = kind_at(text)?;
     let (attachments, rest) = attachments_at(kind, rest)?;

@@ -1,5 +1,5 @@
 //! The payload of a packet: JSON text, which stays where it lies.
-ghost use Rattle.std.specs.Prelude.{◌≡◌, option_map, string_bytes};
+ghost use Rattle.std.specs.Prelude.{◌≡◌, ◌<◌, Err, length, option_map, string_bytes};
 ghost use Rattle.serde_json.specs.View.{items_view, view as data_of};
 ghost use Rattle.aud_sio.specs.Reading.{Gives};
 ghost use Rattle.aud_sio.specs.Payload.{last_item, last_of_payload, payload_at, text_at_end};
@@ -16,8 +16,9 @@ pub(crate) fn payload_at(
     kind: PacketKind,
     text: &str,
 ) -> Result<(Option<&str>, Option<String>), SioFault>
-    ensures { Gives (λ read. (option_map (λ s. s.now) read.0, option_map string_bytes read.1))
+    ensures value { Gives (λ read. (option_map (λ s. s.now) read.0, option_map string_bytes read.1))
         result (payload_at kind text.now) }
+    ensures memory { result ≡ Err SioFault.Memory → 0 < length text.now }
 {
     if text.is_empty() {
         if kind.wants_array() {

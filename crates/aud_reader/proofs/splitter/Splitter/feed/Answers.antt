@@ -1,5 +1,6 @@
 use Rattle.std.proofs.Common.{◌∙◌, arith, length, ◌∷◌, length-append, ap}
 use Rattle.aud_reader.proofs.LinesLemmas.{to_come-next, to_come-line_begun, rest-line_ended, to_come-refused, none_of, some_of}
+use Rattle.aud_reader.proofs.Fronts.{front-of-front, front-line_ended}
 use Rattle.aud_reader.proofs.splitter.Splitter.feed.Goals as goal
 
 pub lines-preserved : goal.lines-preserved
@@ -13,6 +14,7 @@ lines-preserved c =
       going = none_of c.end_line.new.self.fault c.in-Ok.ensures.value;
       partial = rw after (rest-line_ended c.lines.self c.in-Some-next_line.front.now);
       number = omega (arith, c.in-Ok.ensures.number, inv.number, size, cut);
+      kept = front-of-front _ c.lines.self.waiting _ inv.kept (rw after (front-line_ended c.lines.self c.in-Some-next_line.front.now));
       lines = λ more. to_come-next c.lines.self c.end_line.new.self _ _ _ more inv.going inv.partial.unended found.1 found.0 after ∙ inv.lines more;
     }
 

@@ -1,0 +1,21 @@
+-- The front of a list of lines.
+use Rattle.std.proofs.Common.{◌≡◌, ℕ, List, [], ◌∷◌, ◌++◌, Result, Ok, Err, refl, sym, append_assoc, append-nil}
+use Rattle.aud_reader.specs.declared.line.Line.{Line}
+use Rattle.aud_reader.specs.declared.fault.ReadFault.{ReadFault}
+use Rattle.aud_reader.specs.Lines.{Split, IsFront, lines_to_come, line_at, line_ended, with_line}
+
+pub front-same : (ls : List Line) → IsFront ls ls
+front-same ls = record { rest = []; is = sym (append-nil ls) }
+
+pub front-of-front : (a b c : List Line) → IsFront a b → IsFront b c → IsFront a c
+front-of-front a b c first second = record { rest = first.rest ++ second.rest; is = rw (second.is, first.is) (append_assoc a first.rest second.rest) }
+
+pub front-after : (given front lines : List Line) → IsFront front lines → IsFront (given ++ front) (given ++ lines)
+front-after given front lines first = record { rest = first.rest; is = rw first.is (sym (append_assoc given front first.rest)) }
+
+-- a line that ends leaves those that wait
+pub front-line_ended : (s : Split) (front : List ℕ) → IsFront s.waiting (line_ended s front).waiting
+front-line_ended s front = elim (line_at s.number (s.rest ++ front)) as (λ r. IsFront s.waiting (with_line s r).waiting) [
+  | Ok line ↦ record { rest = line ∷ []; is = refl }
+  | Err fault ↦ front-same s.waiting
+]
