@@ -40,6 +40,8 @@ pub enum Asked<'a> {
     Checked(&'a str),
     /// What the check answers to each of the certificates, over one recording: a line for each.
     CheckedTogether(&'a [&'a str]),
+    /// The verdict on the session.
+    Verdict(&'a str),
 }
 
 /// Asserts that this is the answer over the bundle, which is given in texts of one or more lines.
@@ -87,6 +89,7 @@ fn answer_of_recording(
         Asked::Rewritten(text) => judgements::rewritten(alloc, recording, text),
         Asked::Checked(text) => judgements::checked(alloc, recording, text),
         Asked::CheckedTogether(texts) => judgements::checked_together(alloc, recording, texts),
+        Asked::Verdict(pid) => judgements::verdict(alloc, recording, pid),
     }
 }
 

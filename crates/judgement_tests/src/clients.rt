@@ -79,7 +79,12 @@ fn write_frames(out: &mut String, frames: &[Frame<'_>]) -> Result<(), AllocError
 }
 
 /// A line for each stay of the tap with this name: whether its reply names the session, and whether it is recovered.
-pub fn recovered(alloc: Global, recording: &Recording<'_>, name: &str, pid: &str) -> Result<String, Fail> {
+pub fn recovered(
+    alloc: Global,
+    recording: &Recording<'_>,
+    name: &str,
+    pid: &str,
+) -> Result<String, Fail> {
     let told = received(recording, name)?;
     let mut out = String::new(alloc);
     for stay in told.stays.iter() {
@@ -90,7 +95,12 @@ pub fn recovered(alloc: Global, recording: &Recording<'_>, name: &str, pid: &str
 }
 
 /// How many stays the tap at this place has, and the connections of those that name the session.
-pub fn naming(alloc: Global, recording: &Recording<'_>, place: usize, pid: &str) -> Result<String, Fail> {
+pub fn naming(
+    alloc: Global,
+    recording: &Recording<'_>,
+    place: usize,
+    pid: &str,
+) -> Result<String, Fail> {
     let mut out = String::new(alloc);
     match recording.client(place) {
         Some(told) => write_naming(&mut out, alloc, told, pid)?,

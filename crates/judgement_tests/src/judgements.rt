@@ -6,6 +6,7 @@ use aud_check::{Accepted, Refusal, check};
 use aud_client::Recording;
 use aud_maker::{MakeFault, make, sessions};
 use aud_tap::NodeRec;
+use aud_verdict::{Verdict, decide};
 use std::alloc::{AllocError, Global};
 use std::test::Fail;
 
@@ -106,5 +107,20 @@ fn write_answer(out: &mut String, answer: &Result<Accepted, Refusal>) -> Result<
     match answer {
         Ok(accepted) => write!(out, "{accepted}"),
         Err(refusal) => write!(out, "{refusal}"),
+    }
+}
+
+/// The verdict on the session.
+pub fn verdict(alloc: Global, recording: &Recording<'_>, pid: &str) -> Result<String, Fail> {
+    let verdict = decide(alloc, recording, pid)?;
+    Ok(text_of_verdict(alloc, &verdict)?)
+}
+
+fn text_of_verdict(alloc: Global, verdict: &Verdict) -> Result<String, AllocError> {
+    match verdict {
+        Verdict::Yes { got, tail, turns } => {
+            format!(in alloc; "yes got={got} tail={tail} turns={turns}")
+        }
+        Verdict::No(fault) => format!(in alloc; "no {fault}"),
     }
 }

@@ -1,5 +1,5 @@
-//! Tests of what the crates from `aud_client` to `aud_check` make of a bundle: packets, stays and frames, certificates,
-//! and the answers on them. Each is a row of a table: a bundle, what is asked of it, and the text of the answer.
+//! Tests of what the crates from `aud_client` to `aud_verdict` make of a bundle: packets, stays and frames, certificates,
+//! the answers on them, and verdicts. Each is a row of a table: a bundle, what is asked of it, and the text of the answer.
 #![tactic(auto)]
 
 #[cfg(test)]
@@ -26,5 +26,7 @@ mod recordings;
 mod replies;
 #[cfg(test)]
 mod stays;
+#[cfg(test)]
+mod verdicts;
 #[cfg(test)]
 mod words;
