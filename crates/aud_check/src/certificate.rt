@@ -38,10 +38,10 @@ pub struct Accepted {
     pub turns: usize,
 }
 
-/// Accepts a certificate over this recording exactly where nothing refuses it: the turns are the session's, from its `open`
-/// on; the spans are those of the turns; the named client's tap tells of this session; and what the client received is
-/// what was due to it by these turns, up to the last event received. Else the first refusal is answered, in the order of
-/// [`Refusal`], or want of memory.
+/// Accepts a certificate over this recording exactly where nothing refuses it: the turns are the session's, from its
+/// `open` on; the spans are those of the turns; the named client's tap tells of this session; and what the client
+/// received is what was due to it by these turns, up to the last event received. Else the first refusal is answered, in
+/// the order of [`Refusal`], or want of memory.
 ///
 /// Where the logs have no run, what is said of every run says nothing. It costs the session's own records and stays, and
 /// what is due to it.

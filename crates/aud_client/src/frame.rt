@@ -10,8 +10,8 @@ use aud_node::{Stream, is_event};
 use aud_sio::{Blob, Packet, Whole, last_text};
 use std::marker::Model;
 
-/// An event that came. Its text and the bytes of its attachments are lent from the tap's records, where they stand
-/// there as they are.
+/// An event that came. Its text is lent from the tap's records, and so are its attachments where a record has their
+/// bytes as they are.
 #[derive(Drop)]
 pub struct Frame<'a> {
     /// The position in the stream of the entry whose offset ends the event; positions count from 1.

@@ -136,7 +136,7 @@ fn naming_of(alloc: Global, clients: &[Option<ReadTap<'_>>]) -> Result<Naming, M
     Ok(naming)
 }
 
-/// Notes what the tap at this place tells, behind all those noted so far.
+/// Notes what the tap at this place tells, after all those noted so far.
 fn note_client(naming: &mut Naming, place: usize, told: Option<&ReadTap<'_>>) -> Result<(), Memory>
     ensures { OnOk result ((q : Text) → kept_places naming.new q ≡ noted place (is_told q (option_copied told.entry)) (kept_places naming.old q)) }
 {

@@ -80,8 +80,8 @@ impl Naming {
         }
     }
 
-    /// The tap at this place, behind all those seen so far, names the pid, which is copied where nothing else of the tap
-    /// did before.
+    /// The tap at this place, after all those seen so far, names the pid, which is copied where nothing of the tap did
+    /// before.
     pub fn note(&mut self, place: usize, pid: &str) -> Result<(), Memory>
         ensures { OnOk result ((q : Text) → kept_places self.new q ≡ noted place (bytes_eq pid.now q) (kept_places self.old q)) }
     {
