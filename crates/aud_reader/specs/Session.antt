@@ -1,9 +1,9 @@
 -- Calls of a splitter one after another: pieces are fed, and lines taken, in any order.
-use Rattle.std.specs.Prelude.{◌≡◌, ℕ, List, [], ◌∷◌, ◌++◌, Option, Some, None, Result, Ok, Err, IfOk, IfErr, IfSome}
+use Rattle.std.specs.Prelude.{◌≡◌, ℕ, List, [], ◌∷◌, ◌++◌, Some, None, Result, Ok, Err, IfOk, IfErr, IfSome}
 use Rattle.aud_reader.specs.declared.line.Line.{Line}
 use Rattle.aud_reader.specs.declared.fault.ReadFault.{ReadFault}
 use Rattle.aud_reader.specs.declared.fault.ReadFault.TheVariants.{Memory}
-use Rattle.aud_reader.specs.Lines.{Lines, Split, IsFront, lines_of, lines_to_come, result_of}
+use Rattle.aud_reader.specs.Lines.{Split, IsFront, lines_of, lines_to_come, result_of}
 
 -- what `feed` says of a splitter, the piece, the answer, and the splitter after it
 pub record Feeds (old : Split) (piece : List ℕ) (result : Result (Unit {0}) ReadFault) (new : Split) : Type 0 where
