@@ -1,8 +1,7 @@
 -- The front of a list of lines.
-use Rattle.std.proofs.Common.{◌≡◌, ℕ, List, [], ◌∷◌, ◌++◌, Result, Ok, Err, refl, sym, append_assoc, append-nil}
+use Rattle.std.proofs.Common.{ℕ, List, [], ◌∷◌, ◌++◌, Ok, Err, refl, sym, append_assoc, append-nil}
 use Rattle.aud_reader.specs.declared.line.Line.{Line}
-use Rattle.aud_reader.specs.declared.fault.ReadFault.{ReadFault}
-use Rattle.aud_reader.specs.Lines.{Split, IsFront, lines_to_come, line_at, line_ended, with_line}
+use Rattle.aud_reader.specs.Lines.{Split, IsFront, line_at, line_ended, with_line}
 
 pub front-same : (ls : List Line) → IsFront ls ls
 front-same ls = record { rest = []; is = sym (append-nil ls) }

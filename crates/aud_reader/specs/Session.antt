@@ -1,9 +1,9 @@
 -- Calls of a splitter one after another: pieces are fed, and lines taken, in any order.
-use Rattle.std.specs.Prelude.{◌≡◌, ℕ, List, [], ◌∷◌, ◌++◌, Option, Some, None, Result, Ok, Err, IfOk, IfErr, IfSome}
+use Rattle.std.specs.Prelude.{◌≡◌, ℕ, List, [], ◌∷◌, ◌++◌, Some, None, Result, Ok, Err, IfOk, IfErr, IfSome}
 use Rattle.aud_reader.specs.declared.line.Line.{Line}
 use Rattle.aud_reader.specs.declared.fault.ReadFault.{ReadFault}
 use Rattle.aud_reader.specs.declared.fault.ReadFault.TheVariants.{Memory}
-use Rattle.aud_reader.specs.Lines.{Lines, Split, IsFront, lines_of, lines_to_come, result_of}
+use Rattle.aud_reader.specs.Lines.{Split, IsFront, lines_of, lines_to_come, result_of}
 
 -- what `feed` says of a splitter, the piece, the answer, and the splitter after it
 pub record Feeds (old : Split) (piece : List ℕ) (result : Result (Unit {0}) ReadFault) (new : Split) : Type 0 where
@@ -54,8 +54,8 @@ abbrev pub TakenAndLastAreLines : Type 0
 TakenAndLastAreLines = (calls : List Call) (last : Split) (ls : List Line) → Follow fresh calls last → Finishes last (Ok ls)
     → lines_of (fed calls) ≡ record { lines = taken calls ++ ls; fault = None }
 
--- where a line is refused, the lines taken, and then those that wait, are the lines before it; the refusal is that of the
--- joined pieces, and of all that may follow them
+-- where a line is refused, the lines taken, and then those that wait, are the lines before it; the refusal, which `feed`
+-- and `finish` give, is that of the joined pieces, and of all that may follow them
 abbrev pub TakenAreLinesBefore : Type 0
 TakenAreLinesBefore = (calls : List Call) (last : Split) (fault : ReadFault) → Follow fresh calls last → last.fault ≡ Some fault → ¬ (fault ≡ Memory)
     → (more : List ℕ) → lines_of (fed calls ++ more) ≡ record { lines = taken calls ++ last.waiting; fault = Some fault }

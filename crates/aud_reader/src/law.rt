@@ -9,6 +9,8 @@ ghost use Rattle.aud_reader.specs.Session.{TakenAndLastAreLines, TakenAreLinesBe
 /// of the joined pieces (`finished`). Where a line is refused, what the takes gave, with what still waits, are the lines
 /// before it, and the refusal is that of the joined pieces (`refused`). Where memory ran out, they are a front of the
 /// lines (`front`).
+///
+/// A caller that feeds and takes in a loop keeps `Came` (proofs/SessionLemmas.antt) as its invariant.
 pub fn lines_in_any_pieces()
     ensures finished { TakenAndLastAreLines }
     ensures refused { TakenAreLinesBefore }

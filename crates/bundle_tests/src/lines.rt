@@ -1,12 +1,15 @@
 //! The lines of an input that comes in pieces.
 ghost use Rattle.std.specs.Prelude.{◌≡◌, ◌+◌, ◌≤◌, ◌^◌, ◌<◌, length, None, IfOk};
+ghost use Rattle.aud_reader.specs.Lines.{lines_of};
 
 use crate::input::are;
 use aud_reader::{InputCode, Line, ReadFault, Splitter};
 use std::alloc::{AllocError, Global};
 
 /// The lines of an input of which each byte is a piece, where every line is taken at once.
-fn lines_of_bytes(alloc: Global, input: &[u8]) -> Result<Vec<Line>, ReadFault> {
+fn lines_of_bytes(alloc: Global, input: &[u8]) -> Result<Vec<Line>, ReadFault>
+    ensures { IfOk result (λ lines. lines_of input.now ≡ record { lines = lines.items; fault = None }) }
+{
     let mut splitter = Splitter::new(alloc);
     let mut lines = Vec::new(alloc);
     for byte in input {
