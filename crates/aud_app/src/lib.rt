@@ -2,6 +2,21 @@
 //!
 //! [`options`] reads the words of the command line, and [`Watched`] says afterwards whether it was
 //! the reader or the writer that failed.
+//!
+//! With the bytes of `examples/bundle_a.jsonl` as `bundle`; any reader and writer will do:
+//!
+//! ```
+//! use aud_app::{Status, Watched, options, run};
+//!
+//! let options = options(alloc, &["audit"])?;
+//! let mut input = Watched::new(bundle);
+//! let mut output = Watched::new(Vec::new(alloc));
+//! let status = run(&rt, alloc, &mut input, &mut output, options)?;
+//! assert_eq!(rt; status, Status::AllYes);
+//! let report = output.into_inner();
+//! let written = str::from_utf8(&report)?;
+//! assert_eq!(rt; written, "yes P got=1 tail=0 turns=1\nsessions=1 yes=1 no=0\n");
+//! ```
 #![tactic(auto)]
 
 mod answer;

@@ -11,7 +11,7 @@ pub struct Turn<'a> {
     pub node: &'a str,
     /// The number of the first record. Numbers count from 0.
     pub from: u64,
-    /// The number behind the last record's.
+    /// The number after the last record's.
     pub to: u64,
     /// The last position that the node had taken after the first record, 0 before any.
     pub low: u64,

@@ -32,7 +32,7 @@ use std::alloc::Global;
 pub struct Accepted {
     /// How many of the due events were received.
     pub got: usize,
-    /// How many due events behind the last one received were not.
+    /// How many due events after the last one received were not.
     pub tail: usize,
     /// How many turns the certificate shows.
     pub turns: usize,

@@ -26,7 +26,7 @@ pub(crate) fn places_of(
     Ok(places)
 }
 
-/// Where the turn stands; behind all taps where none has the name of its node.
+/// Where the turn stands; past all taps where none has the name of its node.
 pub(crate) fn place_of(logs: &Logs<'_>, turn: &Turn<'_>) -> TurnPlace
     ensures { result ≡ turn_at logs.now turn.now }
 {

@@ -5,9 +5,9 @@ use aud_cert::Fault;
 /// turn, and then the others.
 #[derive(Drop)]
 pub enum Refusal {
-    /// K5: the turn's first record is not the session's `open`, or, behind turn 0, its `back` with the turn's number.
+    /// K5: the turn's first record is not the session's `open`, or, after turn 0, its `back` with the turn's number.
     NotItsTurn,
-    /// K6: behind the first record stands an `open`, a `back` or a `break` of the session that is not this turn's, or
+    /// K6: after the first record stands an `open`, a `back` or a `break` of the session that is not this turn's, or
     /// an end of it before the last record.
     EndInside,
     /// K7: the records end neither with the turn's `break` nor, in the last turn, with the session's `gone` or with

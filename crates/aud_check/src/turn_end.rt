@@ -23,7 +23,7 @@ pub(crate) enum End {
     Log,
 }
 
-/// What a record behind the first one is to a turn.
+/// What a record after the first one is to a turn.
 #[derive(Clone, Copy)]
 enum Part {
     Inner,
@@ -31,7 +31,7 @@ enum Part {
     Foreign,
 }
 
-/// How the session's turn with this number ends, whose records stand at this place; none where those behind the first
+/// How the session's turn with this number ends, whose records stand at this place; none where those after the first
 /// one aren't records of it. Only the session's own records are looked at.
 pub(crate) fn turn_end(logs: &Logs<'_>, place: &TurnPlace, pid: &str, turn: usize) -> Option<End>
     requires { place.now.from < place.now.to }
@@ -55,7 +55,7 @@ pub(crate) fn turn_end(logs: &Logs<'_>, place: &TurnPlace, pid: &str, turn: usiz
     Some(End::Log)
 }
 
-/// The numbers, ascending, of the records at this place behind the first one that name the pid.
+/// The numbers, ascending, of the records at this place after the first one that name the pid.
 fn own_behind_first<'l>(logs: &'l Logs<'_>, place: &TurnPlace, pid: &str) -> &'l [usize]
     requires { place.now.from < place.now.to }
     ensures { result.now ≡ own_between (node_log logs.now place.now.node) pid.now (suc place.now.from) place.now.to }

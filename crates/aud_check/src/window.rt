@@ -8,9 +8,9 @@ ghost use Rattle.aud_check.specs.Frames.{asked_position, frames_in, wrong_window
 use aud_client::{Asked, Stay};
 use aud_node::Stream;
 
-/// The connection of the first recovered stay whose client asked to go on behind no position that lies between the
+/// The connection of the first recovered stay whose client asked to go on after no position that lies between the
 /// frames of the stays in front of it and those from it on. The stays all name one session, and these are the
-/// positions of their frames; since they ascend, the last one in front and the first one behind tell.
+/// positions of their frames; since they ascend, only the last one before and the first one after are compared.
 pub(crate) fn wrong_window(
     stream: &Stream<'_>,
     stays: &[&Stay<'_>],
@@ -31,7 +31,7 @@ pub(crate) fn wrong_window(
     None
 }
 
-/// Whether the stay is recovered, and its client asked for no position that lies behind so many and before the others.
+/// Whether the stay is recovered, and its client asked for no position that lies after so many and before the others.
 fn is_asked_wrongly(stream: &Stream<'_>, stay: &Stay<'_>, positions: &[u64], count: usize) -> bool
     requires within { count ≤ length positions.now }
     requires ascending { IsAscending positions.now }
@@ -43,7 +43,7 @@ fn is_asked_wrongly(stream: &Stream<'_>, stay: &Stay<'_>, positions: &[u64], cou
     !is_asked_between(stream, &stay.asked, positions, count)
 }
 
-/// Whether the position that was asked for is known, and lies behind so many positions and before the others.
+/// Whether the position that was asked for is known, and lies after so many positions and before the others.
 fn is_asked_between(
     stream: &Stream<'_>,
     asked: &Option<Asked>,
@@ -60,7 +60,7 @@ fn is_asked_between(
     }
 }
 
-/// The position behind which the client asked to go on; none where it gave no offset, or one that isn't in the stream.
+/// The position after which the client asked to go on; none where it gave no offset, or one that isn't in the stream.
 fn asked_position(stream: &Stream<'_>, asked: &Option<Asked>) -> Option<u64>
     ensures { result ≡ asked_position stream.now asked.now }
 {

@@ -3,7 +3,7 @@ use crate::certificate::Accepted;
 use crate::refusal::Refusal;
 use std::fmt;
 
-/// The code and the name of the refusal, as section "Certificates" of docs/FORMAT.md has them; behind `Received` stands
+/// The code and the name of the refusal, as section "Certificates" of docs/FORMAT.md has them; after `Received` stands
 /// the fault.
 impl fmt::Display for Refusal {
     ghost use Rattle.std.specs.Prelude.{Some};

@@ -1,6 +1,21 @@
 //! What clients sent and received: the packets of their taps, the stays of their connections, and the frames in them.
 //!
 //! Begin at [`Recording`], which reads all taps of a bundle once; [`received`] goes through a tap's packets.
+//!
+//! With the `taps` of `examples/bundle_a.jsonl`:
+//!
+//! ```
+//! use aud_client::Recording;
+//!
+//! let recording = Recording::read(alloc, taps)?;
+//! assert_eq!(rt; recording.naming("P"), [2].as_slice()); // the place of `c1`
+//! let client = recording.client(2).ok_or("no client")?;
+//! let stay = client.received().stays.first().ok_or("no stay")?;
+//! assert!(rt; stay.names("P"));
+//! let frame = stay.frames.first().ok_or("no frame")?;
+//! assert_eq!(rt; frame.position, 1);
+//! assert_eq!(rt; frame.text, r#"2["hi","1-0"]"#);
+//! ```
 #![tactic(auto)]
 
 mod asked;

@@ -88,7 +88,7 @@ fn stay_at<'s, 'a>(stays: &'s [Stay<'a>], number: usize) -> Option<&'s Stay<'a>>
     stays.get(number)
 }
 
-/// The stay, if there is one, comes behind the others.
+/// The stay, if there is one, comes after the others.
 fn push_stay<'s, 'a>(at: &mut Vec<&'s Stay<'a>>, stay: Option<&'s Stay<'a>>) -> Result<(), Memory>
     ensures { OnOk result (map (λ stay. stay.now) at.new.items ≡ map (λ stay. stay.now) at.old.items ++ cons_option (option_copied stay.entry) []) }
 {

@@ -32,7 +32,7 @@ pub struct Stay<'a> {
     pub reply: Option<Reply>,
     /// What the last CONNECT before the reply asked for, of those that asked.
     pub asked: Option<Asked>,
-    /// The events of the stream that came, before the reply or behind it, in the order in which they were whole.
+    /// The events of the stream that came, before the reply or after it, in the order in which they were whole.
     pub frames: Vec<Frame<'a>>,
 }
 
@@ -109,7 +109,7 @@ impl<'a> Stay<'a> {
         Ok(())
     }
 
-    /// The frame, if there is one, comes behind the others.
+    /// The frame, if there is one, comes after the others.
     fn keep(&mut self, frame: Option<Frame<'a>>) -> Result<(), AllocError>
         ensures { OnOk result (self.new ≡ record self.old { frames = self.old.frames ++ cons_option frame.entry [] }) }
     {

@@ -44,7 +44,7 @@ pub fn encode_payload(alloc: Global, packets: &[Eio<'_>]) -> Result<String, EioF
     }
 }
 
-/// Writes packets behind a text, of which memory may leave a part.
+/// Writes packets after a text, of which memory may leave a part.
 fn push_packets(packets: &[Eio<'_>], body: &mut String) -> Result<(), AllocError>
     ensures body { OnOk result (string_bytes body.new ≡ string_bytes body.old ++ body_of (map view packets.now)) }
     ensures read_back { OnOk result (All (λ packet. ReadsBack (view packet)) packets.now) }

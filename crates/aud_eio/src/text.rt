@@ -50,7 +50,7 @@ pub fn encode_text(alloc: Global, packet: &Eio<'_>) -> Result<String, EioFault>
     }
 }
 
-/// Writes a packet behind a text, of which memory may leave a part.
+/// Writes a packet after a text, of which memory may leave a part.
 pub(crate) fn push_packet(packet: &Eio<'_>, text: &mut String) -> Result<(), AllocError>
     ensures text { OnOk result (string_bytes text.new ≡ string_bytes text.old ++ text_of (view packet.now)) }
     ensures reads_back { ReadsBack (view packet.now) }

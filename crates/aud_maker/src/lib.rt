@@ -1,5 +1,21 @@
 //! Which sessions the logs mention, and the certificate of a session: its turns, its client's tap and its spans of
 //! rooms; or the first of the faults for which it has none.
+//!
+//! With the `recording` of `examples/bundle_a.jsonl`:
+//!
+//! ```
+//! use aud_cert::{Fault, write_cert};
+//! use aud_maker::{MakeFault, make};
+//!
+//! let Ok(cert) = make(alloc, recording, "P") else {
+//!     return Err("P has no certificate".into());
+//! };
+//! let text = r#"{"client":"c1","pid":"P","spans":[["r",1,1],["s1",1,1]],"turns":[["a",1,4,0,1]]}"#;
+//! assert_eq!(rt; write_cert(alloc, &cert)?.as_str(), text);
+//! // No node opened a session Q.
+//! let missing = make(alloc, recording, "Q");
+//! assert!(rt; matches!(missing, Err(MakeFault::Fault(Fault::NoLog))));
+//! ```
 #![tactic(auto)]
 
 mod begun;

@@ -37,7 +37,7 @@ fn is_node_swept(logs: &Logs<'_>, node: usize, pid: &str, turns: &[TurnPlace]) -
     true
 }
 
-/// The turn that goes on behind the record with this number.
+/// The turn that goes on after the record with this number.
 fn turn_behind(
     log: &NodeLog<'_>,
     number: usize,

@@ -2,6 +2,22 @@
 //!
 //! Begin at [`machine`], which says what a step does. The laws of [`laws`] say what the turns of a session tell of
 //! every run.
+//!
+//! With the `logs` of `examples/bundle_a.jsonl`, where log 0 is the stream's and log 1 is node `a`'s:
+//!
+//! ```
+//! use aud_merge::{Step, is_run};
+//!
+//! let entry = Step { log: 0, index: 0 };
+//! let start = Step { log: 1, index: 0 };
+//! let open = Step { log: 1, index: 1 };
+//! let join = Step { log: 1, index: 2 };
+//! let take = Step { log: 1, index: 3 };
+//! assert!(rt; is_run(alloc, logs, &[entry, start, open, join, take])?);
+//! assert!(rt; is_run(alloc, logs, &[start, open, join, entry, take])?);
+//! // No node takes an entry before it is in the stream.
+//! assert!(rt; !is_run(alloc, logs, &[start, open, join, take, entry])?);
+//! ```
 #![tactic(auto)]
 
 mod laws;

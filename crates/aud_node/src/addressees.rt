@@ -60,7 +60,7 @@ impl<'a> Addressees<'a> {
         self.everyone.of(nsp)
     }
 
-    /// The entry stands at this position, behind all those noted so far.
+    /// The entry stands at this position, after all those noted so far.
     fn note(&mut self, entry: &'a StreamRec, position: u64) -> Result<(), AllocError>
         ensures rooms { OnOk result ((nsp room : List ℕ) → kept_to_room self.new nsp room ≡ noted position (names_room entry.now nsp room) (kept_to_room self.old nsp room)) }
         ensures everyone { OnOk result ((nsp : List ℕ) → kept_for self.new.everyone nsp ≡ noted position (names_no_room entry.now nsp) (kept_for self.old.everyone nsp)) }

@@ -51,7 +51,7 @@ impl Naming {
         }
     }
 
-    /// The tap at this place, behind all those seen so far.
+    /// The tap at this place, after all those seen so far.
     fn note_node(&mut self, place: usize, tap: &Tap) -> Result<(), Memory>
         ensures { OnOk result ((q : Text) → kept_places self.new q ≡ noted place (not (is_none (own_numbers (node_recs (Some tap.now.records)) q))) (kept_places self.old q)) }
     {
@@ -105,7 +105,7 @@ impl Naming {
     }
 }
 
-/// Puts the place behind the others, unless it is the last of them already.
+/// Puts the place after the others, unless it is the last of them already.
 fn push_last(places: &mut Vec<usize>, place: usize) -> Result<(), AllocError>
     ensures { OnOk result (places.new.items ≡ with_place place places.old.items) }
 {

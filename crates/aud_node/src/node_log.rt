@@ -75,7 +75,7 @@ impl<'a> NodeLog<'a> {
         self.cursors.after.get(number).copied()
     }
 
-    /// Whether the log begins with its only `start`, at the stream's begin or behind one of its entries, and each
+    /// Whether the log begins with its only `start`, at the stream's start or after one of its entries, and each
     /// `take` is of the position after the cursor.
     pub fn ordered(&self) -> bool
         ensures { result ≡ is_ordered self.now.stream self.now.recs }

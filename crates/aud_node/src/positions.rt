@@ -54,7 +54,7 @@ impl<'a> Positions<'a> {
     }
 }
 
-/// Puts the position behind the others, unless it is the last of them already.
+/// Puts the position after the others, unless it is the last of them already.
 fn push_last(positions: &mut Vec<u64>, position: u64) -> Result<(), AllocError>
     ensures { OnOk result (positions.new.items ≡ with_place position positions.old.items) }
 {

@@ -101,7 +101,7 @@ impl<'a> Stream<'a> {
         self.addressees.to_all(nsp)
     }
 
-    /// The position behind the cursor, if the offset stands there. It is compared with that of the entry there, and
+    /// The position after the cursor, if the offset stands there. It is compared with that of the entry there, and
     /// looked up only where two entries have the same offset.
     pub(crate) fn next(&self, cursor: u64, off: &str) -> Option<u64>
         ensures { result ≡ next_position self.now off.now cursor }

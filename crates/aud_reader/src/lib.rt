@@ -1,6 +1,21 @@
 //! The reader of a bundle: the lines of an input, the record of a line, and the taps of the lines.
 //!
 //! Begin at [`bundle`], which reads line by line, and at [`read`], the record of one line.
+//!
+//! Bytes that come in two pieces, and the one tap of their lines:
+//!
+//! ```
+//! use aud_reader::{Splitter, read_bundle};
+//!
+//! let mut splitter = Splitter::new(alloc);
+//! splitter.feed(br#"a {"k":"tap","v":1,"of":"no"#)?;
+//! splitter.feed(b"de\"}\na {\"k\":\"start\",\"off\":null}\n")?;
+//! let lines = splitter.finish()?;
+//! assert_eq!(rt; lines.len(), 2);
+//! let taps = read_bundle(alloc, &lines)?;
+//! let tap = taps.as_slice().first().ok_or("no tap")?;
+//! assert_eq!(rt; tap.name.as_str(), "a");
+//! ```
 #![tactic(auto)]
 
 mod bundle;

@@ -76,7 +76,7 @@ fn whole_line(number: u64, text: Vec<u8>) -> Result<Line, ReadFault>
 impl Splitter {
     ghost use Rattle.aud_reader.specs.Lines.{lines_to_come};
 
-    /// A splitter at the begin of an input.
+    /// A splitter at the start of an input.
     pub fn new(alloc: Global) -> Splitter
         ensures state { result ≡ record { waiting = []; number = 1; rest = []; fault = None } }
         ensures lines { (text : List ℕ) → lines_to_come result text ≡ lines_of text }

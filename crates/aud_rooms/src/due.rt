@@ -56,7 +56,7 @@ fn lent<'s, 'a>(alloc: Global, spans: &'s [Span<'a>]) -> Result<Vec<&'s Span<'a>
 }
 
 /// Of ascending positions, those that are addressed to the namespace and to the rooms whose spans hold them. The spans
-/// stand in the order of their first positions: between two begins the same spans have begun.
+/// stand in the order of their first positions: between two of these the same spans have begun.
 fn due_by_first(
     alloc: Global,
     begins: &[&Span],

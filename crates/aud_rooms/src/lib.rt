@@ -1,4 +1,22 @@
 //! Whom an entry is addressed to, which rooms a session holds between which positions, and what is due to it by that.
+//!
+//! A session that is in `r` at positions 2 and 3 and in `q` at 4, over a `stream` of four events for `r`:
+//!
+//! ```
+//! use aud_rooms::{SpanBuilder, due_of};
+//!
+//! let mut builder = SpanBuilder::new(alloc, "s1", 0)?;
+//! builder.upto(1)?;
+//! builder.join("r")?;
+//! builder.upto(3)?;
+//! builder.leave("r")?;
+//! builder.join("q")?;
+//! builder.upto(4)?;
+//! let spans = builder.finish()?; // q 4..4, r 2..3, s1 1..4
+//! assert_eq!(rt; spans.len(), 3);
+//! let due = due_of(alloc, &spans, stream, "/", 0, 4)?;
+//! assert_eq!(rt; due.as_slice(), [2, 3].as_slice());
+//! ```
 #![tactic(auto)]
 
 mod addressee;

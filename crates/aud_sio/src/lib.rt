@@ -3,6 +3,19 @@
 //!
 //! Begin at [`decode`], whose parts `kind` to `payload` are modules of their own, and at
 //! [`Assembler`].
+//!
+//! Reading a packet, and writing it back:
+//!
+//! ```
+//! use aud_sio::{PacketKind, decode, encode};
+//!
+//! let packet = decode(alloc, r#"2/admin,1["tellme"]"#)?;
+//! assert_eq!(rt; packet.kind, PacketKind::Event);
+//! assert_eq!(rt; packet.nsp, "/admin");
+//! assert_eq!(rt; packet.id, Some(1));
+//! assert_eq!(rt; packet.payload, Some(r#"["tellme"]"#));
+//! assert_eq!(rt; encode(alloc, &packet)?.as_str(), r#"2/admin,1["tellme"]"#);
+//! ```
 #![tactic(auto)]
 
 mod ack_id;

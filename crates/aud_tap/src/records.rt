@@ -42,7 +42,7 @@ pub enum StreamRec {
 /// A record of a node's tap.
 #[derive(Drop)]
 pub enum NodeRec {
-    /// The node begins behind the entry of this offset, or at the stream's begin.
+    /// The node begins after the entry of this offset, or at the stream's start.
     Start { off: Option<Text> },
     /// The node takes an entry and sends it to whom it is addressed.
     Take { off: Text },

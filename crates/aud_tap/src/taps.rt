@@ -98,7 +98,7 @@ impl ClientRecs {
     }
 }
 
-/// What a tap wrote, without its header: records are numbered from 0 behind it.
+/// What a tap wrote, without its header: records are numbered from 0 after it.
 #[derive(Drop)]
 pub enum Records {
     Stream(StreamRecs),

@@ -1,6 +1,21 @@
 //! The verdict on a session, in words that know no certificate, and what the acceptance of a certificate means.
 //!
 //! Begin at [`decide`], which finds the verdict; [`verdict_by_certificate`] says that what it finds is the verdict.
+//!
+//! With the `recording` of `examples/lost_event.jsonl`, in which a replay leaves out an event:
+//!
+//! ```
+//! use aud_verdict::{Verdict, decide};
+//!
+//! let verdict = decide(alloc, recording, "P")?;
+//! let words = match &verdict {
+//!     Verdict::Yes { got, tail, turns } => {
+//!         format!(in alloc; "yes got={got} tail={tail} turns={turns}")?
+//!     }
+//!     Verdict::No(fault) => format!(in alloc; "no {fault}")?,
+//! };
+//! assert_eq!(rt; words.as_str(), "no LOST 2-0");
+//! ```
 #![tactic(auto)]
 
 mod acceptance;

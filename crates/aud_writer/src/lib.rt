@@ -1,6 +1,18 @@
 //! The writer of a bundle: the line of a record.
 //!
 //! Begin at [`line`]; the JSON of each kind of record has a module of its own.
+//!
+//! Writing that node `a` takes an entry of the stream:
+//!
+//! ```
+//! use aud_tap::{NodeRec, Rec, Text};
+//! use aud_writer::write_line;
+//!
+//! let off = Text::new(String::from_str(alloc, "1-0")?);
+//! let record = Rec::Node(NodeRec::Take { off });
+//! let line = write_line(alloc, "a", &record)?;
+//! assert_eq!(rt; str::from_utf8(&line)?, r#"a {"k":"take","off":"1-0"}"#);
+//! ```
 #![tactic(auto)]
 
 mod client;

@@ -3,7 +3,7 @@ use crate::refusals::is_refused;
 use aud_reader::InputCode::{self, Limit, LineTooLong, NoTapName, NotJson};
 use std::alloc::{AllocError, Global};
 
-/// A line: its begin, a part that stands a number of times, what closes the part as often, and its end.
+/// A line: its start, a part that stands a number of times, what closes the part as often, and its end.
 type Repeating = (&'static str, &'static str, &'static str, &'static str);
 
 /// Whether the line is refused so, or is read, where its part stands so many times.

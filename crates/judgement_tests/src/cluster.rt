@@ -21,7 +21,7 @@ a {"k":"take","off":"1-0"}"#;
 
 pub const A_BREAKS: &str = r#"a {"k":"break","pid":"P","turn":0}"#;
 
-/// Recovers the session behind the second event.
+/// Recovers the session after the second event.
 pub const NODE_B: &str = r#"b {"k":"tap","v":1,"of":"node"}
 b {"k":"start","off":null}
 b {"k":"take","off":"1-0"}

@@ -162,7 +162,7 @@ c0 {"k":"in","t":"42[\"ev\",4,\"1795330235998-0\"]"}
 c0 {"k":"in","t":"451-/n,[\"ev\",5,{\"_placeholder\":true,\"num\":0},\"1795330236024-0\"]"}
 c0 {"k":"inb","b":"PP3m"}"#;
 
-// The connection is reset; the client asks for its session behind the last event that it has, and gets four events
+// The connection is reset; the client asks for its session after the last event that it has, and gets four events
 // that it missed, and then the reply.
 const RECOVERED: &str = r#"st {"k":"tap","v":1,"of":"stream"}
 st {"k":"ev","off":"1795330238896-0","nsp":"/","text":"2[\"first\",\"1795330238896-0\"]"}

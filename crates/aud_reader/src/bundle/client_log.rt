@@ -61,7 +61,7 @@ impl ClientLog {
         }
     }
 
-    /// The connection behind one more record.
+    /// The connection after one more record.
     fn connection_after(&self, rec: &ClientRec) -> (Option<u64>, bool)
         ensures { Connected (self.now ++ rec.now ∷ []) result.0 result.1 }
     {

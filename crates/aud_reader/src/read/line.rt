@@ -36,7 +36,7 @@ fn json(alloc: Global, bytes: &[u8]) -> Result<Value, LineFault>
     }
 }
 
-/// The tap's name, lent, and the JSON value behind it.
+/// The tap's name, lent, and the JSON value after it.
 #[tactic(auto, unfolding(crate::specs::Record::opened_line))]
 pub fn opened_line(alloc: Global, line: &[u8]) -> Result<(&str, Value), LineFault>
     ensures reads { MatchResult result

@@ -26,7 +26,7 @@ fn first_blank(line: &[u8]) -> Option<usize>
     line.iter().position(|b| *b == b' ')
 }
 
-/// What stands before the first blank, and what stands behind it.
+/// What stands before the first blank, and what stands after it.
 pub fn cut_at_blank(line: &[u8]) -> Option<(&[u8], &[u8])>
     ensures { option_map (λ cut. (cut.0.now, cut.1.now)) result ≡ cut_at_blank line.now }
 {
