@@ -1,10 +1,11 @@
-//! The words of the command line.
-ghost use Rattle.std.specs.Prelude.{◌≡◌, ◌≤◌, Some, IfOk, IfSome};
-ghost use Rattle.aud_options.specs.Words.{mode_named, mode_of};
+//! The words of the command line: [`options`] reads them, and the parser has the help and the
+//! errors.
+ghost use Rattle.std.specs.Prelude.{◌≡◌, ◌≤◌, None, Some, IfErr, IfOk, IfSome};
+ghost use Rattle.aud_options.specs.Words.{asked, is_end, mode_named, mode_of, workers_asked, workers_given, workers_joined, workers_named};
 
 use crate::choice::{Mode, Options};
 use clap::error::ErrorKind;
-use clap::{Arg, ArgMatches, Command, Error, value_parser};
+use clap::{Arg, Command, Error, value_parser};
 use std::alloc::{AllocError, Global};
 
 const ABOUT: &str = "Audits what the sessions of a Socket.IO cluster received";
@@ -62,7 +63,7 @@ fn audit<'a>(alloc: Global) -> Result<Command<'a>, AllocError> {
     described(alloc, "audit", AUDIT_ABOUT, AUDIT_LINES).arg(workers)
 }
 
-/// The words that are understood.
+/// The parser of the words.
 fn command<'a>(alloc: Global) -> Result<Command<'a>, AllocError> {
     described(alloc, "sioaudit", ABOUT, STATUSES)
         .no_binary_name(true)
@@ -88,64 +89,107 @@ fn mode_named(name: &str) -> Option<Mode>
     }
 }
 
-/// The mode that the words ask for.
-fn mode_of(words: &[&str]) -> Option<Mode>
-    ensures { result ≡ mode_of words.now }
+/// The number of workers that this text gives: decimal digits for 1 to 64, and a plus may stand
+/// before them.
+fn workers_named(text: &str) -> Option<u8>
+    ensures number { result ≡ workers_named text.now }
+    ensures within { IfSome result (λ n. (1 ≤ n) × (n ≤ 64)) }
 {
-    match words {
-        [] => None,
-        [name, ..] => mode_named(name),
-    }
-}
-
-/// The number of workers that is asked for, where it is 1 to 64.
-fn workers_of(matches: &ArgMatches<'_>) -> Option<u8>
-    ensures { IfSome result (λ workers. (1 ≤ workers) × (workers ≤ 64)) }
-{
-    let (_, audit) = matches.subcommand()?;
-    let workers = audit.get_one::<u8>("workers")?;
-    // The parser refuses other numbers, but its contract doesn't say so here.
-    if 1 <= workers && workers <= 64 {
+    let workers = text.parse::<u8>().ok()?;
+    if (1..=64).contains(&workers) {
         Some(workers)
     } else {
         None
     }
 }
 
-/// What the parser finds in these words.
-fn matches_of<'a>(alloc: Global, words: &'a [&'a str]) -> Result<ArgMatches<'a>, Error> {
-    let command = command(alloc)?;
-    command.try_get_matches_from(words)
+/// The number of workers of a word such as `--workers=4`.
+fn workers_joined(word: &str) -> Option<u8>
+    ensures number { result ≡ workers_joined word.now }
+    ensures within { IfSome result (λ n. (1 ≤ n) × (n ≤ 64)) }
+{
+    workers_named(word.strip_prefix("--workers=")?)
 }
 
-/// The error on words that the parser lets pass, and that name no command or no number of workers from 1 to 64.
+/// Whether nothing more is asked for: no word is left, or only `--`, after which no word is an
+/// option.
+fn is_end(words: &[&str]) -> bool
+    ensures { result ≡ is_end words.now }
+{
+    match words {
+        [] => true,
+        [word] => *word == "--",
+        _ => false,
+    }
+}
+
+/// The number of workers that the words after `audit` give.
+fn workers_given(words: &[&str]) -> Option<u8>
+    ensures number { result ≡ workers_given words.now }
+    ensures within { IfSome result (λ n. (1 ≤ n) × (n ≤ 64)) }
+{
+    match words {
+        [word, rest @ ..] if is_end(rest) => workers_joined(word),
+        [option, number, rest @ ..] if *option == "--workers" && is_end(rest) => {
+            workers_named(number)
+        }
+        _ => None,
+    }
+}
+
+/// The number of workers that the words after a mode's name ask for.
+fn workers_asked(mode: Mode, words: &[&str]) -> Option<u8>
+    ensures number { result ≡ workers_asked mode words.now }
+    ensures within { IfSome result (λ n. (1 ≤ n) × (n ≤ 64)) }
+{
+    if is_end(words) {
+        return Some(4);
+    }
+    match mode {
+        Mode::Audit => workers_given(words),
+        Mode::Prove | Mode::Verify => None,
+    }
+}
+
+/// What the words ask for, where they are understood.
+fn asked(words: &[&str]) -> Option<Options>
+    ensures options { result ≡ asked words.now }
+    ensures within { IfSome result (λ o. (1 ≤ o.workers) × (o.workers ≤ 64)) }
+{
+    match words {
+        [] => None,
+        [name, rest @ ..] => {
+            let mode = mode_named(name)?;
+            let workers = workers_asked(mode, rest)?;
+            Some(Options { mode, workers })
+        }
+    }
+}
+
+/// The error on words that the parser lets pass, and that [`asked`] does not understand.
 fn not_understood(alloc: Global) -> Result<Error, AllocError> {
     let mut command = command(alloc)?;
     command.error(ErrorKind::InvalidSubcommand, "there is no such command")
 }
 
-/// What these words, whose matches are lent, ask for.
-fn chosen(words: &[&str], matches: &ArgMatches<'_>) -> Option<Options>
-    ensures mode { IfSome result (λ o. mode_of words.now ≡ Some o.mode) }
-    ensures workers { IfSome result (λ o. (1 ≤ o.workers) × (o.workers ≤ 64)) }
-{
-    let mode = mode_of(words)?;
-    let workers = match mode {
-        Mode::Audit => workers_of(matches)?,
-        Mode::Prove | Mode::Verify => 1,
-    };
-    Some(Options { mode, workers })
+/// The text for words that ask for nothing: help that they ask for, or why they are refused.
+fn refusal<'a>(alloc: Global, words: &'a [&'a str]) -> Result<Error, AllocError> {
+    match command(alloc)?.try_get_matches_from(words) {
+        Ok(_) => not_understood(alloc),
+        Err(error) => Ok(error),
+    }
 }
 
 /// What the words after the program's name ask for. The error has the text to print: help that
 /// was asked for, or why the words are refused; where memory ran out its kind is `OutOfMemory`.
 pub fn options<'a>(alloc: Global, words: &'a [&'a str]) -> Result<Options, Error>
+    ensures understood { IfOk result (λ o. asked words.now ≡ Some o) }
+    ensures refused { IfErr result (λ _. asked words.now ≡ None) }
     ensures mode { IfOk result (λ o. mode_of words.now ≡ Some o.mode) }
     ensures workers { IfOk result (λ o. (1 ≤ o.workers) × (o.workers ≤ 64)) }
 {
-    let matches = matches_of(alloc, words)?;
-    match chosen(words, &matches) {
+    match asked(words) {
         Some(options) => Ok(options),
-        None => Err(not_understood(alloc)?),
+        None => Err(refusal(alloc, words)?),
     }
 }
