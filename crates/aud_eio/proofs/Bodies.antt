@@ -3,7 +3,7 @@ use Rattle.std.proofs.Common.{◌≡◌, ℕ, List, [], ◌∷◌, ◌++◌, map
 use Rattle.std.proofs.lemmas.List.{append_assoc}
 use Rattle.std.proofs.lemmas.Iterator.{YieldsList}
 use Rattle.aud_eio.specs.declared.packet.EioFault.{EioFault}
-use Rattle.aud_eio.specs.Answer.{◌>>=◌}
+use Rattle.aud_base.specs.Steps.{◌>>=◌}
 use Rattle.aud_eio.specs.Packet.{Packet, packet_of, text_of}
 use Rattle.aud_eio.specs.Body.{packets_of_texts, body_of}
 

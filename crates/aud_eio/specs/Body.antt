@@ -2,7 +2,7 @@
 use Rattle.std.specs.Prelude.{◌≢◌, ℕ, ◌==◌, List, [], ◌∷◌, map, All, Result, Ok}
 use Rattle.std.specs.List.{slice_split, join_with_byte}
 use Rattle.aud_eio.specs.declared.packet.EioFault.{EioFault}
-use Rattle.aud_eio.specs.Answer.{◌>>=◌}
+use Rattle.aud_base.specs.Steps.{◌>>=◌}
 use Rattle.aud_eio.specs.Packet.{Packet, Control, Message, Lent, Own, packet_of, text_of}
 
 -- the byte between two packets, 0x1e

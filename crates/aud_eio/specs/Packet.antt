@@ -9,7 +9,7 @@ use Rattle.aud_eio.specs.declared.packet.Eio.{Eio}
 use Rattle.aud_eio.specs.declared.packet.Eio.TheVariants as code
 use Rattle.aud_eio.specs.declared.packet.EioFault.{EioFault}
 use Rattle.aud_eio.specs.declared.packet.EioFault.TheVariants.{Empty, UnknownType, BadBase64}
-use Rattle.aud_eio.specs.Answer.{need}
+use Rattle.aud_base.specs.Steps.{need}
 
 -- a packet without where it lies in memory; bytes that came as bytes and bytes that came in base64 differ
 pub data Packet : Type 0 where

@@ -16,14 +16,7 @@ pub fn decode_payload(alloc: Global, body: &str) -> Result<Vec<Eio<'_>>, EioFaul
 {
     let mut packets = Vec::new(alloc);
     for piece in body.split('\u{1e}') {
-        let packet = match decode_text(alloc, piece) {
-            Ok(packet) => packet,
-            Err(fault) => return Err(fault),
-        };
-        match packets.push(packet) {
-            Ok(()) => {}
-            Err(_) => return Err(EioFault::Memory),
-        }
+        packets.push(decode_text(alloc, piece)?)?;
     }
     Ok(packets)
 }
@@ -38,10 +31,8 @@ pub fn encode_payload(alloc: Global, packets: &[Eio<'_>]) -> Result<String, EioF
     ensures memory { IfErr result (λ e. e ≡ EioFault.Memory) }
 {
     let mut body = String::new(alloc);
-    match push_packets(packets, &mut body) {
-        Ok(()) => Ok(body),
-        Err(_) => Err(EioFault::Memory),
-    }
+    push_packets(packets, &mut body)?;
+    Ok(body)
 }
 
 /// Writes packets after a text, of which memory may leave a part.

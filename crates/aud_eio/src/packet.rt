@@ -1,4 +1,6 @@
 //! An Engine.IO packet, and why a text is none.
+use std::alloc::{AllocError, AllocFailed};
+use thiserror::Error;
 
 /// A packet type other than a message (Engine.IO protocol 4, section "Packet encoding").
 #[derive(Clone, Copy, Debug, PartialEq, Eq, Drop)]
@@ -31,14 +33,40 @@ pub enum Eio<'a> {
 }
 
 /// Why a text is no packet; or want of memory.
-#[derive(Clone, Copy, Debug, PartialEq, Eq, Drop)]
+#[derive(Clone, Copy, Debug, PartialEq, Eq, Drop, Error)]
 pub enum EioFault {
     /// The text has no byte.
+    #[error("the text has no byte")]
     Empty,
     /// The first byte is neither a digit from 0 to 6 nor `b`.
+    #[error("the first byte is no packet type")]
     UnknownType,
     /// What follows `b` is not base64 of the standard alphabet, padded, with unused bits zero (RFC 4648, section 4).
+    #[error("what follows `b` is not base64")]
     BadBase64,
     /// Memory could not be had.
+    #[error("out of memory")]
     Memory,
+}
+
+impl From<AllocError> for EioFault {
+    ghost use Rattle.std.specs.Prelude.{◌≡◌};
+    ghost use Rattle.aud_eio.specs.declared.packet.EioFault.TheVariants.{Memory};
+
+    ghost from_gives = { λ _ e. e ≡ Memory };
+
+    fn from(_: AllocError) -> EioFault {
+        EioFault::Memory
+    }
+}
+
+impl<T: Drop> From<AllocFailed<T>> for EioFault {
+    ghost use Rattle.std.specs.Prelude.{◌≡◌};
+    ghost use Rattle.aud_eio.specs.declared.packet.EioFault.TheVariants.{Memory};
+
+    ghost from_gives = { λ _ e. e ≡ Memory };
+
+    fn from(_: AllocFailed<T>) -> EioFault {
+        EioFault::Memory
+    }
 }

@@ -2,7 +2,8 @@
 ghost use Rattle.std.specs.Prelude.{◌≡◌, ◌<◌, ◌++◌, ◌∷◌, OnSome, option_map, slice_index, string_bytes, length, drop, IfOk, IfErr, OnOk};
 ghost use Rattle.base64.specs.GeneralPurpose.{decode_of, encode_of};
 ghost use Rattle.base64.specs.Engines.{standard};
-ghost use Rattle.aud_eio.specs.Answer.{Gives, need};
+ghost use Rattle.aud_base.specs.Steps.{need};
+ghost use Rattle.aud_eio.specs.Answer.{Gives};
 ghost use Rattle.aud_eio.specs.Packet.{Packet, view, control_of, digit_of, bytes_of, packet_of, text_of, delivered, ReadsBack};
 
 use crate::{Control, Eio, EioFault};
@@ -44,10 +45,8 @@ pub fn encode_text(alloc: Global, packet: &Eio<'_>) -> Result<String, EioFault>
     ensures memory { IfErr result (λ e. e ≡ EioFault.Memory) }
 {
     let mut text = String::new(alloc);
-    match push_packet(packet, &mut text) {
-        Ok(()) => Ok(text),
-        Err(_) => Err(EioFault::Memory),
-    }
+    push_packet(packet, &mut text)?;
+    Ok(text)
 }
 
 /// Writes a packet after a text, of which memory may leave a part.

@@ -18,13 +18,11 @@
 
 mod forms;
 pub mod limits;
-mod memory;
 mod records;
 mod taps;
-mod text;
 
+pub use aud_base::{Blobs, Bytes, Text, Texts};
 pub use forms::{is_id, is_namespace, is_session_id, is_tap_name};
-pub use memory::Memory;
 pub use records::{ClientRec, Event, NodeRec, Rec, StreamRec, TapKind};
 pub use taps::{ClientRecs, NodeRecs, Records, StreamRecs, Tap, Taps};
-pub use text::{Blobs, Bytes, Text, Texts};
+pub use std::alloc::AllocError as Memory;

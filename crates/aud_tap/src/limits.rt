@@ -3,7 +3,7 @@ ghost use Rattle.std.specs.Prelude.{◌≡◌};
 ghost use Rattle.std.specs.List.{list_all};
 ghost use Rattle.aud_tap.specs.Limits.{fits, fit_rooms};
 
-use crate::text::Text;
+use aud_base::Text;
 
 /// The most bytes of a line, without its newline and without the carriage return that is dropped.
 pub const MAX_LINE: usize = 4_194_304;

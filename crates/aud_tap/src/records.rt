@@ -1,6 +1,6 @@
 //! The records of each kind of tap. docs/FORMAT.md has the forms and the limits of their fields, which a reader has
 //! looked at; a record that is built by hand may have others.
-use crate::text::{Blobs, Bytes, Text, Texts};
+use aud_base::{Blobs, Bytes, Text, Texts};
 
 /// What a tap was put on.
 #[derive(Clone, Copy, Debug, PartialEq, Eq, Drop)]

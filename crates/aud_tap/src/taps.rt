@@ -2,7 +2,7 @@
 ghost use Rattle.std.specs.Prelude.{◌≡◌, List};
 
 use crate::records::{ClientRec, NodeRec, StreamRec};
-use crate::text::Text;
+use aud_base::Text;
 use std::marker::Model;
 
 /// The records of a stream tap, seen as their list.
