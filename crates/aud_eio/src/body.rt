@@ -16,7 +16,8 @@ pub fn decode_payload(alloc: Global, body: &str) -> Result<Vec<Eio<'_>>, EioFaul
 {
     let mut packets = Vec::new(alloc);
     for piece in body.split('\u{1e}') {
-        packets.push(decode_text(alloc, piece)?)?;
+        let packet = decode_text(alloc, piece)?;
+        packets.push(packet)?;
     }
     Ok(packets)
 }

@@ -1,5 +1,6 @@
 use Rattle.std.proofs.Common.{map, ap, ◌∙◌, lit<, Ok}
 use Rattle.std.proofs.lemmas.List.{map-append, append-nil}
+use Rattle.std.proofs.lemmas.Result.{err_from_is_err_and}
 use Rattle.std.proofs.lemmas.Iterator.Splits.{YieldsList-from_str_split}
 use Rattle.aud_eio.specs.Packet.{view}
 use Rattle.aud_eio.specs.Body.{packets_of, packets_of_texts, pieces_of}
@@ -18,16 +19,18 @@ loop-piece-preserved c =
     let kept = c.loop-piece.invariant.2 in
     let done = map view c.loop-piece.packets.items in
     let next = after_some {t = c.next.new.self} c.in-Some.piece kept.0 kept.1 c.in-Some.ensures.steps in
-    let more = behind-ok done c.in-Some.piece.now next.0 (view c.in-Ok.packet) c.in-Ok.ensures.packet in
-    (tt, tt, (next.0, next.2, rw (c.in-Ok-push.ensures.items, map-append) (kept.2 ∙ ap (λ texts. behind done (packets_of_texts texts)) next.1 ∙ more)))
+    let more = behind-ok done c.in-Some.piece.now next.0 (view c.in_ok-packet.packet) c.in_ok-packet.ensures.packet in
+    (tt, tt, (next.0, next.2, rw (c.in_ok-push.ensures.items, map-append) (kept.2 ∙ ap (λ texts. behind done (packets_of_texts texts)) next.1 ∙ more)))
 
-pub returns-in-Err : goal.returns-in-Err
-returns-in-Err c = λ other.
+pub returns-in_err-packet : goal.returns-in_err-packet
+returns-in_err-packet c =
+    let p = err_from_is_err_and c.from_residual.result c.from_residual.ensures.1 in
     let kept = c.loop-piece.invariant.2 in
     let done = map view c.loop-piece.packets.items in
     let next = after_some {t = c.next.new.self} c.in-Some.piece kept.0 kept.1 c.in-Some.ensures.steps in
-    kept.2 ∙ ap (λ texts. behind done (packets_of_texts texts)) next.1
-    ∙ behind-err done c.in-Some.piece.now next.0 c.in-Err.fault (c.in-Err.ensures.packet other)
+    rw (p.1, p.2) (λ other.
+        kept.2 ∙ ap (λ texts. behind done (packets_of_texts texts)) next.1
+        ∙ behind-err done c.in-Some.piece.now next.0 c.in_err-packet.field-0.0 (c.in_err-packet.ensures.packet other))
 
 pub returns : goal.returns
 returns c =
