@@ -15,7 +15,7 @@ use Rattle.serde_json.specs.Read.{read}
 use Rattle.aud_sio.specs.declared.fault.SioFault.{SioFault}
 use Rattle.aud_sio.specs.declared.fault.SioFault.TheVariants.{Attachments, AckId, Payload}
 use Rattle.aud_sio.specs.declared.kind.PacketKind.{PacketKind}
-use Rattle.aud_sio.specs.Reading.{◌>>=◌, guard}
+use Rattle.aud_base.specs.Steps.{◌>>=◌, guard}
 use Rattle.aud_sio.specs.Kind.{kind_at, is_binary, wants_array}
 use Rattle.aud_sio.specs.Digits.{digit_count, number_at, after_digits}
 use Rattle.aud_sio.specs.Attachments.{count_at, attachments_at}

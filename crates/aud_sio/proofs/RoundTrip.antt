@@ -16,7 +16,7 @@ use Rattle.aud_sio.proofs.Parts.{HasParts, parts-of}
 use Rattle.aud_sio.specs.declared.fault.SioFault.{SioFault}
 use Rattle.aud_sio.specs.declared.kind.PacketKind.{PacketKind}
 use Rattle.aud_sio.specs.declared.kind.PacketKind.TheVariants.{Connect, Disconnect, Event, Ack, ConnectError, BinaryEvent, BinaryAck}
-use Rattle.aud_sio.specs.Reading.{◌>>=◌}
+use Rattle.aud_base.specs.Steps.{◌>>=◌}
 use Rattle.aud_sio.specs.Kind.{kind_at, is_binary, type_digit}
 use Rattle.aud_sio.specs.Digits.{digit_count}
 use Rattle.aud_sio.specs.Attachments.{count_at, attachments_at}

@@ -2,7 +2,7 @@
 use Rattle.std.specs.Prelude.{ℕ, ◌==◌, nat_le, List, if◌then◌else◌, Option, Some, None, Result, Ok}
 use Rattle.aud_sio.specs.declared.fault.SioFault.{SioFault}
 use Rattle.aud_sio.specs.declared.fault.SioFault.TheVariants.{AckId}
-use Rattle.aud_sio.specs.Reading.{◌>>=◌, guard}
+use Rattle.aud_base.specs.Steps.{◌>>=◌, guard}
 use Rattle.aud_sio.specs.Digits.{digit_count, number_at, after_digits}
 
 -- all the digits at the front are the id, at most 18 of them; and the rest

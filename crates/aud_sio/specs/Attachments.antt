@@ -3,7 +3,7 @@ use Rattle.std.specs.Prelude.{ℕ, ◌==◌, ◌&&◌, nat_le, List, drop, slice
 use Rattle.aud_sio.specs.declared.fault.SioFault.{SioFault}
 use Rattle.aud_sio.specs.declared.fault.SioFault.TheVariants.{Attachments}
 use Rattle.aud_sio.specs.declared.kind.PacketKind.{PacketKind}
-use Rattle.aud_sio.specs.Reading.{◌>>=◌, guard}
+use Rattle.aud_base.specs.Steps.{◌>>=◌, guard}
 use Rattle.aud_sio.specs.Kind.{is_binary}
 use Rattle.aud_sio.specs.Digits.{digit_count, number_at, after_digits}
 

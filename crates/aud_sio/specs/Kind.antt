@@ -4,7 +4,7 @@ use Rattle.aud_sio.specs.declared.fault.SioFault.{SioFault}
 use Rattle.aud_sio.specs.declared.fault.SioFault.TheVariants.{Empty, UnknownType}
 use Rattle.aud_sio.specs.declared.kind.PacketKind.{PacketKind}
 use Rattle.aud_sio.specs.declared.kind.PacketKind.TheVariants.{Connect, Disconnect, Event, Ack, ConnectError, BinaryEvent, BinaryAck}
-use Rattle.aud_sio.specs.Reading.{◌>>=◌, need}
+use Rattle.aud_base.specs.Steps.{◌>>=◌, need}
 
 -- the number of a kind
 abbrev pub type_number : PacketKind → ℕ

@@ -4,7 +4,7 @@ use Rattle.std.specs.Borrow.{Bor}
 use Rattle.aud_sio.specs.declared.fault.SioFault.{SioFault}
 use Rattle.aud_sio.specs.declared.kind.PacketKind.{PacketKind}
 use Rattle.aud_sio.specs.declared.packet.Packet.{Packet}
-use Rattle.aud_sio.specs.Reading.{◌>>=◌}
+use Rattle.aud_base.specs.Steps.{◌>>=◌}
 use Rattle.aud_sio.specs.Kind.{kind_at}
 use Rattle.aud_sio.specs.Attachments.{attachments_at}
 use Rattle.aud_sio.specs.Namespace.{namespace_at}

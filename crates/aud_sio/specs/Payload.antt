@@ -6,7 +6,7 @@ use Rattle.serde_json.specs.Find.{as_str, as_array}
 use Rattle.aud_sio.specs.declared.fault.SioFault.{SioFault}
 use Rattle.aud_sio.specs.declared.fault.SioFault.TheVariants.{Payload}
 use Rattle.aud_sio.specs.declared.kind.PacketKind.{PacketKind}
-use Rattle.aud_sio.specs.Reading.{◌>>=◌, need, guard}
+use Rattle.aud_base.specs.Steps.{◌>>=◌, need, guard}
 use Rattle.aud_sio.specs.Kind.{wants_array}
 
 -- the last of the items, if there is one

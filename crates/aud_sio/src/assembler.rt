@@ -94,10 +94,7 @@ impl<'a> Assembler<'a> {
         ensures rest_given { IfOk result (λ whole. IsSome whole → self.new ≡ []) }
         ensures memory { result ≡ Err SioFault.Memory → has_payload text.entry.now ≡ true }
     {
-        let packet = match decode(self.alloc, text) {
-            Ok(packet) => packet,
-            Err(fault) => return Err(fault),
-        };
+        let packet = decode(self.alloc, text)?;
         let bin = Vec::new(self.alloc);
         Ok(self.keep(Whole { text, packet, bin }))
     }
@@ -128,10 +125,8 @@ impl<'a> Assembler<'a> {
         ensures rest_given { IfOk result (λ whole. IsSome whole → self.new ≡ []) }
     {
         let Half { mut whole } = half;
-        match whole.bin.push(blob) {
-            Ok(()) => Ok(self.keep(whole)),
-            Err(_) => Err(SioFault::Memory),
-        }
+        whole.bin.push(blob)?;
+        Ok(self.keep(whole))
     }
 
     /// Gives the packet, where it awaits no attachment, and else holds it.

@@ -47,10 +47,7 @@ fn last_of_payload(alloc: Global, kind: PacketKind, text: &str) -> Result<Option
     let Some(last) = text_at_end(&json) else {
         return Ok(None);
     };
-    match String::from_str(alloc, last) {
-        Ok(last) => Ok(Some(last)),
-        Err(_) => Err(SioFault::Memory),
-    }
+    Ok(Some(String::from_str(alloc, last)?))
 }
 
 /// The last element of an array, where it is a text.

@@ -22,10 +22,7 @@ pub fn encode(alloc: Global, packet: &Packet<'_>) -> Result<String, SioFault>
     ensures reads_back { IfOk result (λ text. packet_of (string_bytes text) ≡ Ok (view packet.now)) }
     ensures memory { IfErr result (λ e. e ≡ Memory) }
 {
-    match text_of(alloc, packet) {
-        Ok(text) => Ok(text),
-        Err(_) => Err(SioFault::Memory),
-    }
+    Ok(text_of(alloc, packet)?)
 }
 
 #[tactic(auto, unfolding(crate::specs::Written::text_of))]

@@ -6,13 +6,13 @@ use Rattle.aud_sio.proofs.Assembling.{one_attached, with_bin}
 use Rattle.aud_sio.proofs.Halves.{after_next, whole_held}
 use Rattle.aud_sio.proofs.assembler.Assembler.attach.Goals as goal
 
-pub returns-in-Ok-clause-answers : goal.returns-in-Ok-clause-answers
-returns-in-Ok-clause-answers c = λ place l.
+pub returns-clause-answers : goal.returns-clause-answers
+returns-clause-answers c = λ place l.
     let half = c.args.half in
     let w = half.whole in
     let blob = blob_view c.args.blob in
     let bin : map blob_view c.push.new.self.items ≡ map blob_view w.bin.items ++ blob ∷ [] =
-    ap (map blob_view) c.in-Ok.ensures.items ∙ map-append blob_view w.bin.items (c.args.blob ∷ []) in
+    ap (map blob_view) c.in_ok-push.ensures.items ∙ map-append blob_view w.bin.items (c.args.blob ∷ []) in
     let count : w.packet.attachments - length (map blob_view w.bin.items ++ blob ∷ []) ≡ after_next w =
     rw (length-append, length-map) (omega arith) in
     whole_held w ((place, Bytes blob) ∷ l) half.read half.awaits
