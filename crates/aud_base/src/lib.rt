@@ -12,6 +12,8 @@
 //! ```
 #![tactic(auto)]
 
+mod places;
 mod text;
 
+pub use places::Places;
 pub use text::{Blobs, Bytes, Text, Texts};

@@ -1,0 +1,80 @@
+//! An index from a text to the places where it stands.
+ghost use Rattle.std.specs.Prelude.{◌≡◌, ◌-◌, List, ℕ, OnOk, [], length, slice_get, string_bytes};
+ghost use Rattle.std.specs.Str.{bytes_eq};
+ghost use Rattle.aud_base.specs.Places.{is_place, noted, places_of, with_place};
+
+use std::alloc::{AllocError, Global};
+use std::collections::BTreeMap;
+
+/// Of each text, the places where it stands.
+///
+/// Places are noted one after another. A text of which the places before `n` are those that pass a test, and for
+/// which `n` is noted where it passes, has the places before `n + 1` that pass, ascending and each once: the lemma
+/// `noted-next` of proofs/Places.antt.
+#[derive(Drop)]
+pub struct Places {
+    alloc: Global,
+    by_text: BTreeMap<String, Vec<usize>>,
+}
+
+impl Places {
+    /// No text stands anywhere.
+    pub fn new(alloc: Global) -> Places
+        ensures { (text : List ℕ) → places_of result text ≡ [] }
+    {
+        Places {
+            alloc,
+            by_text: BTreeMap::new(alloc),
+        }
+    }
+
+    /// The places of the text, lent, in the order in which they were noted.
+    pub fn of(&self, text: &str) -> &[usize]
+        ensures { result.now ≡ places_of self.now text.now }
+    {
+        match self.by_text.get(text) {
+            Some(places) => places.as_slice(),
+            None => &[],
+        }
+    }
+
+    /// The text stands at this place, the last so far; it is noted once, however often it stands there. The text is
+    /// copied, unless the place is its last one already.
+    pub fn note(&mut self, place: usize, text: &str) -> Result<(), AllocError>
+        ensures { OnOk result ((other : List ℕ) → places_of self.new other ≡ noted place (bytes_eq text.now other) (places_of self.old other)) }
+    {
+        if is_last(self.of(text), place) {
+            return Ok(());
+        }
+        let own = String::from_str(self.alloc, text)?;
+        self.keep(place, own)
+    }
+
+    fn keep(&mut self, place: usize, text: String) -> Result<(), AllocError>
+        ensures { OnOk result ((other : List ℕ) → places_of self.new other ≡ noted place (bytes_eq (string_bytes text) other) (places_of self.old other)) }
+    {
+        push_last(self.by_text.entry(text)?.or_default(), place)?;
+        Ok(())
+    }
+}
+
+/// Puts the place after the others, unless it is the last of them already.
+fn push_last(places: &mut Vec<usize>, place: usize) -> Result<(), AllocError>
+    ensures { OnOk result (places.new.items ≡ with_place place places.old.items) }
+{
+    if is_last(places, place) {
+        return Ok(());
+    }
+    places.push(place)?;
+    Ok(())
+}
+
+/// Whether the place is the last of these.
+fn is_last(places: &[usize], place: usize) -> bool
+    ensures { result ≡ is_place place (slice_get places.now (length places.now - 1)) }
+{
+    match places.last() {
+        Some(last) => *last == place,
+        None => false,
+    }
+}
