@@ -10,7 +10,7 @@ use std::collections::BTreeMap;
 ///
 /// Places are noted one after another. A text of which the places before `n` are those that pass a test, and for
 /// which `n` is noted where it passes, has the places before `n + 1` that pass, ascending and each once: the lemma
-/// `noted-next` of proofs/Places.antt.
+/// `noted-next` of proofs/NotedPlaces.antt.
 #[derive(Drop)]
 pub struct Places {
     alloc: Global,

@@ -1,0 +1,4 @@
+pub mod SameText
+pub mod Numbers
+pub mod Lists
+pub mod NotedPlaces
