@@ -2,7 +2,7 @@
 use Rattle.std.proofs.Common.{◌≡◌, ◌≢◌, ◌<◌, ◌==◌, ℕ, zero, suc, ◌+◌, ◌*◌, ◌/◌, ◌%◌, List, [], ◌∷◌, ◌++◌, length, map, All, replicate, slice_index, Bool, true, false, not, ◌&&◌, Ok, refl, sym, ap, ◌∙◌, arith}
 use Rattle.std.specs.List.{join_with_byte, list_all}
 use Rattle.std.proofs.lemmas.List.Splits.{slice_split_none, slice_split_at}
-use Rattle.std.proofs.lemmas.Bool.{ne_eqb}
+use Rattle.std.proofs.lemmas.Bool.{and_parts, ne_eqb, not-true}
 use Rattle.std.proofs.lemmas.List.Elements.{All-nil, All-cons}
 use Rattle.std.proofs.lemmas.List.Folds.{list_all-append}
 use Rattle.base64.specs.Rfc4648.{encode_symbols, padding_len}
@@ -23,19 +23,11 @@ IsFree xs = list_all (λ b. not (is_separator b)) xs ≡ true
 
 -- ---- texts without a separator
 
-not_true : (b : Bool) → not b ≡ true → b ≡ false
-not_true true is = sym is
-not_true false is = refl
-
-both : (a b : Bool) → (a && b) ≡ true → (a ≡ true) × (b ≡ true)
-both true b holds = (refl, holds)
-both false b holds = absurd (cc holds)
-
 free_head : (b : ℕ) (xs : List ℕ) → IsFree (b ∷ xs) → not (is_separator b) ≡ true
-free_head b xs free = (both _ _ free).0
+free_head b xs free = (and_parts _ _ free).0
 
 free_tail : (b : ℕ) (xs : List ℕ) → IsFree (b ∷ xs) → IsFree xs
-free_tail b xs free = (both _ _ free).1
+free_tail b xs free = (and_parts _ _ free).1
 
 free_append : (xs ys : List ℕ) → IsFree xs → IsFree ys → IsFree (xs ++ ys)
 free_append xs ys front back = rw (list_all-append, front, back) refl
@@ -91,7 +83,7 @@ free_text (Own bytes) fits = free_base64 bytes
 other_than_separator : (xs : List ℕ) → IsFree xs → All (λ b. is_separator b ≡ false) xs
 other_than_separator [] free = All-nil (λ b. is_separator b ≡ false)
 other_than_separator (x ∷ xs) free =
-    All-cons (λ b. is_separator b ≡ false) x xs (not_true _ (free_head x xs free)) (other_than_separator xs (free_tail x xs free))
+    All-cons (λ b. is_separator b ≡ false) x xs (not-true _ (free_head x xs free)) (other_than_separator xs (free_tail x xs free))
 
 -- ---- the pieces are the texts
 
