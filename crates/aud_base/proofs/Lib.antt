@@ -1,4 +1,6 @@
 pub mod SameText
+pub mod Truth
 pub mod Numbers
 pub mod Lists
+pub mod StepLemmas
 pub mod NotedPlaces

@@ -3,7 +3,8 @@ use Rattle.std.proofs.Common.{◌≡◌, ℕ, ◌+◌, ◌-◌, ◌<◌, zero, s
 use Rattle.std.specs.List.{filter, list_any}
 use Rattle.std.proofs.lemmas.List.Folds.{list_any_more}
 use Rattle.std.proofs.lemmas.Bool.{eq-eqb}
-use Rattle.aud_base.specs.Places.{numbers_from, is_place, with_place, noted}
+use Rattle.aud_base.specs.Places.{places_where, is_place, with_place, noted}
+use Rattle.aud_base.specs.Lists.{numbers_from}
 use Rattle.aud_base.proofs.Numbers.{filter-more}
 
 -- ---- a place that is noted twice
@@ -66,7 +67,7 @@ AreBelow-filter p n first (suc count) h = go (p first) (AreBelow-filter p n (suc
     go false rest = rest
 
 -- the places that pass, with the next one noted where it passes: for a loop that builds an index
-pub noted-next : (p : ℕ → Bool) (i : ℕ) (kept : List ℕ) → kept ≡ filter p (numbers_from 0 i) → noted i (p i) kept ≡ filter p (numbers_from 0 (i + 1))
+pub noted-next : (p : ℕ → Bool) (i : ℕ) (kept : List ℕ) → kept ≡ places_where p i → noted i (p i) kept ≡ places_where p (i + 1)
 noted-next p i kept is = ap (λ xs. cond (p i) xs kept) put ∙ filter-more p i kept is
   where
     below : is_place i (slice_get kept (length kept - 1)) ≡ false

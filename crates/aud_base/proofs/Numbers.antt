@@ -3,7 +3,7 @@ use Rattle.std.proofs.Common.{◌≡◌, ◌<◌, ◌≤◌, ◌+◌, ℕ, zero,
 use Rattle.std.specs.List.{filter}
 use Rattle.std.proofs.lemmas.Bool.{le-leb, lt-leb}
 use Rattle.std.proofs.lemmas.List.Elements.{filter-append}
-use Rattle.aud_base.specs.Places.{numbers_from}
+use Rattle.aud_base.specs.Lists.{numbers_from}
 
 -- a lesser number passes the test (`le-leb` and `lt-leb` of std are the same for `nat_le`)
 pub lt_true : (a b : ℕ) → a < b → nat_lt a b ≡ true

@@ -16,6 +16,7 @@ use Rattle.aud_sio.specs.declared.fault.SioFault.{SioFault}
 use Rattle.aud_sio.specs.declared.fault.SioFault.TheVariants.{Attachments, AckId, Payload}
 use Rattle.aud_sio.specs.declared.kind.PacketKind.{PacketKind}
 use Rattle.aud_base.specs.Steps.{◌>>=◌, guard}
+use Rattle.aud_base.proofs.StepLemmas.{same-ok, part-of, guard-ok}
 use Rattle.aud_sio.specs.Kind.{kind_at, is_binary, wants_array}
 use Rattle.aud_sio.specs.Digits.{digit_count, number_at, after_digits}
 use Rattle.aud_sio.specs.Attachments.{count_at, attachments_at}
@@ -47,22 +48,15 @@ prefix_len-drop p (b ∷ bs) = elim (cases_Bool (p b)) [
   | inr fail ↦ rw (fail, fail) refl
 ]
 
--- a part that was read, and what was read after it
-part-of : {A B : Type 0} (r : Result A SioFault) (f : A → Result B SioFault) (y : B) → (r >>= f) ≡ Ok y → (x : A) × (r ≡ Ok x) × (f x ≡ Ok y)
-part-of (Ok x) f y read = (x, refl, read)
-part-of (Err e) f y read = (cc)
-
-same-ok : {A : Type 0} (x y : A) → ◌≡◌ {A = Result A SioFault} (Ok x) (Ok y) → x ≡ y
-same-ok x y e = (cc)
-
 -- ---- each part
 
 -- three tests before a value: the last of them held, and the value stands
 three_guards : {A : Type 0} (fault : SioFault) (a b c : Bool) (x y : A) → (guard fault a >>= λ _. guard fault b >>= λ _. guard fault c >>= λ _. Ok x) ≡ Ok y → (c ≡ true) × (x ≡ y)
-three_guards fault true true true x y is = (refl, same-ok x y is)
-three_guards fault true true false x y is = (cc)
-three_guards fault true false c x y is = (cc)
-three_guards fault false b c x y is = (cc)
+three_guards fault a b c x y is =
+    let first = guard-ok fault a (guard fault b >>= λ _. guard fault c >>= λ _. Ok x) y is in
+    let second = guard-ok fault b (guard fault c >>= λ _. Ok x) y first.1 in
+    let third = guard-ok fault c (Ok x) y second.1 in
+    (third.0, same-ok x y third.1)
 
 -- a count that was read is at most 64
 count-of : (text : List ℕ) (read : ℕ × List ℕ) → count_at text ≡ Ok read → read.0 ≤ 64
@@ -100,8 +94,7 @@ namespace-of text read is = elim (cases_Bool (slice_index text 0 == 47)) [
 
 -- one test before a value
 one_guard : {A : Type 0} (fault : SioFault) (a : Bool) (x y : A) → (guard fault a >>= λ _. Ok x) ≡ Ok y → (a ≡ true) × (x ≡ y)
-one_guard fault true x y is = (refl, same-ok x y is)
-one_guard fault false x y is = (cc)
+one_guard fault a x y is = let held = guard-ok fault a (Ok x) y is in (held.0, same-ok x y held.1)
 
 -- up to 18 digits write less than a one and 18 zeros
 number-small : (text : List ℕ) → digit_count text ≤ 18 → number_at text < 10 ^ 18
