@@ -1,17 +1,14 @@
 -- What the stays asked for, one after another.
 use Rattle.std.proofs.Common.{◌≡◌, ◌≤◌, ◌+◌, ℕ, suc, Bool, true, false, cond, not, ◌&&◌, List, [], ◌∷◌, ◌++◌, length, map, take, drop, Some, slice_get, refl, sym, ap, ◌∙◌, arith, append-nil, length-append}
-use Rattle.std.proofs.lemmas.List.{take-append-drop}
+use Rattle.std.proofs.lemmas.Grind.{flat_map-append}
+use Rattle.std.proofs.lemmas.List.{length-map, take-append-drop}
 use Rattle.aud_tap.specs.declared.records.StreamRec.{StreamRec}
 use Rattle.aud_client.specs.Told.{StaySeen}
 use Rattle.aud_client.specs.Received.{is_recovered}
 use Rattle.aud_check.specs.Ascending.{is_cut_or_not}
 use Rattle.aud_check.specs.Frames.{asked_position, frames_in, is_asked_wrongly, wrong_window}
 use Rattle.aud_check.proofs.Cuts.{position_of, is_between-cut}
-use Rattle.aud_check.proofs.Steps.{take_at, drop_from, flat_more}
-
-pub length-map : {X Y : Type 0} (f : X → Y) (xs : List X) → length (map f xs) ≡ length xs
-length-map f [] = refl
-length-map f (x ∷ xs) = ap suc (length-map f xs)
+use Rattle.aud_check.proofs.Steps.{take_at, drop_from}
 
 module _ (stream : List StreamRec) (stays : List StaySeen) (positions : List ℕ) (are : positions ≡ map position_of (frames_in stays)) (i count : ℕ) (stay : StaySeen) (at : slice_get stays i ≡ Some stay)
     (counted : count ≡ length (frames_in (take i stays))) where
@@ -19,11 +16,11 @@ module _ (stream : List StreamRec) (stays : List StaySeen) (positions : List ℕ
   parts : frames_in stays ≡ frames_in (take i stays) ++ frames_in (stay ∷ drop (i + 1) stays)
   parts =
       ap frames_in (sym (take-append-drop i stays) ∙ ap (λ ss. take i stays ++ ss) (drop_from stays i stay at))
-      ∙ flat_more (λ (s : StaySeen). s.frames) (take i stays) (stay ∷ drop (i + 1) stays)
+      ∙ flat_map-append (λ (s : StaySeen). s.frames) (take i stays) (stay ∷ drop (i + 1) stays)
 
   long : length positions ≡ count + (length stay.frames + length (frames_in (drop (i + 1) stays)))
   long =
-      ap length are ∙ length-map position_of (frames_in stays) ∙ ap length parts
+      ap length are ∙ length-map (frames_in stays) position_of ∙ ap length parts
       ∙ length-append (frames_in (take i stays)) (frames_in (stay ∷ drop (i + 1) stays))
       ∙ ap (λ n. n + length (stay.frames ++ frames_in (drop (i + 1) stays))) (sym counted)
       ∙ ap (λ n. count + n) (length-append stay.frames (frames_in (drop (i + 1) stays)))
@@ -56,4 +53,4 @@ module _ (stream : List StreamRec) (stays : List StaySeen) (positions : List ℕ
       ap (λ n. n + length stay.frames) counted
       ∙ sym (length-append (frames_in (take i stays)) stay.frames)
       ∙ ap (λ fs. length (frames_in (take i stays) ++ fs)) (sym (append-nil stay.frames))
-      ∙ sym (ap length (ap frames_in (take_at stays i stay at) ∙ flat_more (λ (s : StaySeen). s.frames) (take i stays) (stay ∷ [])))
+      ∙ sym (ap length (ap frames_in (take_at stays i stay at) ∙ flat_map-append (λ (s : StaySeen). s.frames) (take i stays) (stay ∷ [])))
