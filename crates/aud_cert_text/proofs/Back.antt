@@ -1,6 +1,8 @@
 -- What is written for a certificate reads as that certificate.
 use Rattle.std.proofs.Common.{◌≡◌, ◌≤◌, true, false, List, [], ◌∷◌, map, Ok, refl, arith}
 use Rattle.std.specs.List.{All, list_all}
+use Rattle.std.proofs.lemmas.Bool.{and_parts}
+use Rattle.std.proofs.lemmas.List.Elements.{All-head, All-tail}
 use Rattle.serde_json.specs.Data.{depth, items_depth}
 use Rattle.serde_json.specs.Written.{has_float, items_have_float}
 use Rattle.aud_node.specs.Stream.{Text}
@@ -12,7 +14,6 @@ use Rattle.aud_cert_text.specs.Told.{span_of, turn_of, each_item, told_in}
 use Rattle.aud_cert_text.specs.Text.{items, span_data, turn_data, certificate_data}
 use Rattle.aud_cert_text.specs.Reading.{json_of, is_node, is_client, turn_over, certificate_over, certificate_of}
 use Rattle.aud_cert_text.specs.Sound.{turn_told, told_by, names_taps, IsSound}
-use Rattle.aud_cert_text.proofs.Over.{both, all-first, all-others}
 
 -- ---- the JSON is shallow and has no float
 
@@ -69,13 +70,13 @@ lent-back c t known is = rw (known, ← is) refl
 all-lent-back : (c : Cluster) (turns : List TurnSeen) → list_all (λ (t : TurnSeen). is_node c t.node) turns ≡ true → All (IsTurnOver c) turns → each (turn_over c) (map turn_told turns) ≡ Ok turns
 all-lent-back c [] known are = refl
 all-lent-back c (t ∷ turns) known are =
-    let parts = both (is_node c t.node) (list_all (λ (u : TurnSeen). is_node c u.node) turns) known in
-    rw (lent-back c t parts.0 (all-first (IsTurnOver c) t turns are), all-lent-back c turns parts.1 (all-others (IsTurnOver c) t turns are)) refl
+    let parts = and_parts (is_node c t.node) (list_all (λ (u : TurnSeen). is_node c u.node) turns) known in
+    rw (lent-back c t parts.0 (All-head (IsTurnOver c) t turns are), all-lent-back c turns parts.1 (All-tail (IsTurnOver c) t turns are)) refl
 
 over-back : (c : Cluster) (cert : CertificateSeen) → names_taps c cert ≡ true → IsOver c cert → certificate_over c (told_by cert) ≡ Ok cert
 unfolding certificate_over
 over-back c cert known are =
-    let parts = both (is_client c cert.client) (list_all (λ (t : TurnSeen). is_node c t.node) cert.turns) known in
+    let parts = and_parts (is_client c cert.client) (list_all (λ (t : TurnSeen). is_node c t.node) cert.turns) known in
     rw (parts.0, all-lent-back c cert.turns parts.1 are) refl
 
 pub certificate-back : (text : Text) (cert : CertificateSeen) → json_of text ≡ Ok (certificate_data cert) → (c : Cluster) → IsSound c cert → certificate_of c text ≡ Ok cert

@@ -1,5 +1,6 @@
 -- Lists, as far as they are read or written.
-use Rattle.std.proofs.Common.{◌≡◌, ℕ, suc, ◌+◌, ◌<◌, ◌≤◌, zero, arith, take, drop, sym, ◌∙◌, List, [], ◌∷◌, ◌++◌, length, get_or, Result, Ok, Err, refl, ap, append_assoc, drop-cons, add-one}
+use Rattle.std.proofs.Common.{◌≡◌, ℕ, suc, ◌+◌, ◌<◌, ◌≤◌, take, drop, sym, ◌∙◌, List, [], ◌∷◌, ◌++◌, length, get_or, Result, Ok, Err, refl, ap, append_assoc, append-nil, drop-cons, add-one}
+use Rattle.std.proofs.lemmas.List.{drop_all}
 use Rattle.std.proofs.Math.Seq.{take-suc}
 use Rattle.serde_json.specs.Data.{Data, Items, no_items, item}
 use Rattle.serde_json.specs.View.{view, items_view}
@@ -44,19 +45,9 @@ pub each-fails : {A B : Type 0} (step : A → Result B CertFault) (xs : List A) 
     → Fails e (with_front front (each step (drop i xs)))
 each-fails step xs i x e front h is fails = rw (drop-cons xs i x h, ← is) (fails-front front e (step x) (λ y. each step (drop (suc i) xs) >>= (λ ys. Ok (y ∷ ys))) fails)
 
-drop-done : {A : Type 0} (xs : List A) (i : ℕ) → length xs ≤ i → drop i xs ≡ []
-drop-done [] zero h = refl
-drop-done [] (suc i) h = refl
-drop-done (x ∷ xs) zero h = absurd (omega arith)
-drop-done (x ∷ xs) (suc i) h = drop-done xs i (omega arith)
-
-append-none : {A : Type 0} (xs : List A) → xs ++ [] ≡ xs
-append-none [] = refl
-append-none (x ∷ xs) = ap (λ ys. x ∷ ys) (append-none xs)
-
 -- no element left
 pub each-done : {A B : Type 0} (step : A → Result B CertFault) (xs : List A) (i : ℕ) (front : List B) → length xs ≤ i → with_front front (each step (drop i xs)) ≡ each step xs → each step xs ≡ Ok front
-each-done step xs i front past h = sym h ∙ rw (drop-done xs i past) (ap Ok (append-none front))
+each-done step xs i front past h = sym h ∙ rw (drop_all i xs past) (ap Ok (append-nil front))
 
 -- ---- items of an array, as they are written
 

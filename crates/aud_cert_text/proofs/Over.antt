@@ -1,6 +1,7 @@
 -- Certificates over the logs that they were read from.
-use Rattle.std.proofs.Common.{◌≡◌, zero, suc, Bool, true, false, ◌&&◌, List, [], ◌∷◌, length, map, Result, Ok, Err, refl, ap, ◌∙◌, arith}
+use Rattle.std.proofs.Common.{◌≡◌, suc, Bool, true, false, List, [], ◌∷◌, length, map, Result, Ok, Err, refl, ap, ◌∙◌, arith}
 use Rattle.std.specs.List.{All, list_all}
+use Rattle.std.proofs.lemmas.List.Elements.{All-cons}
 use Rattle.aud_node.specs.Cluster.{Cluster}
 use Rattle.aud_cert_text.specs.declared.fault.CertFault.{CertFault}
 use Rattle.aud_cert_text.specs.declared.fault.CertFault.TheVariants.{UnknownTap}
@@ -9,21 +10,6 @@ use Rattle.aud_cert_text.specs.Told.{TurnTold, CertificateTold}
 use Rattle.aud_cert.specs.Certificate.{TurnSeen, CertificateSeen, IsTurnOver, recs_named}
 use Rattle.aud_cert_text.specs.Reading.{is_node, is_client, turn_over, certificate_over}
 use Rattle.aud_cert_text.specs.Sound.{turn_told, told_by, names_taps}
-
-pub both : (a b : Bool) → a && b ≡ true → (a ≡ true) × (b ≡ true)
-both true b h = (refl, h)
-both false b h = cc
-
--- of the first, and of the others
-pub all-first : {X : Type 0} (P : X → Type 0) (x : X) (xs : List X) → All P (x ∷ xs) → P x
-all-first P x xs h = h zero x (omega arith)
-
-pub all-others : {X : Type 0} (P : X → Type 0) (x : X) (xs : List X) → All P (x ∷ xs) → All P xs
-all-others P x xs h k d within = h (suc k) d (omega arith)
-
-pub all-more : {X : Type 0} (P : X → Type 0) (x : X) (xs : List X) → P x → All P xs → All P (x ∷ xs)
-all-more P x xs first others zero d within = first
-all-more P x xs first others (suc k) d within = others k d (omega arith)
 
 -- the turn with the records that it names
 abbrev over : Cluster → TurnTold → TurnSeen
@@ -54,7 +40,7 @@ pub turns-over : (c : Cluster) (told : List TurnTold) (turns : List TurnSeen) �
 turns-over c [] turns h = let e : turns ≡ [] = cc in rw e (λ k d within. absurd (omega arith))
 turns-over c (t ∷ ts) turns h =
     let parts = split (turn_over c t) (each (turn_over c) ts) turns h in
-    rw parts.4 (all-more (IsTurnOver c) parts.0 parts.1 (turn-over c t parts.0 parts.2) (turns-over c ts parts.1 parts.3))
+    rw parts.4 (All-cons (IsTurnOver c) parts.0 parts.1 (turn-over c t parts.0 parts.2) (turns-over c ts parts.1 parts.3))
 
 -- the turn that was told, and whose node is a node's
 was-told : (c : Cluster) (told : TurnTold) (t : TurnSeen) → turn_over c told ≡ Ok t → (turn_told t ≡ told) × (is_node c t.node ≡ true)

@@ -75,12 +75,17 @@ is_within c cert = list_all (is_turn_within c) cert.turns && list_all (is_span_w
 
 -- ---- all of it
 
--- the certificate, or the first of `Syntax`, `UnknownTap` and `Range` that holds of the whole text
-unfoldable pub certificate_of : Cluster → Text → Result CertificateSeen CertFault
-certificate_of c text = do
-  d ← json_of text
+-- the certificate that JSON tells, or the first of `Syntax`, `UnknownTap` and `Range` that holds of all of it
+abbrev pub certificate_in : Cluster → Data → Result CertificateSeen CertFault
+certificate_in c d = do
   told ← told_in d
   formed ← guard Syntax (is_formed told)
   cert ← certificate_over c told
   within ← guard Range (is_within c cert)
   Ok cert
+
+-- the certificate, or the first of `Syntax`, `UnknownTap` and `Range` that holds of the whole text
+unfoldable pub certificate_of : Cluster → Text → Result CertificateSeen CertFault
+certificate_of c text = do
+  d ← json_of text
+  certificate_in c d

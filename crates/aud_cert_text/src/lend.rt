@@ -5,9 +5,9 @@ ghost use Rattle.aud_cert_text.specs.Steps.{Gives, Fails, each};
 ghost use Rattle.aud_cert.specs.Certificate.{log_named, IsTurnOver, IsOver};
 ghost use Rattle.aud_cert_text.specs.Reading.{is_node, is_client, turn_over, certificate_over};
 
-use aud_cert::{Certificate, Turn};
 use crate::fault::CertFault;
 use crate::told::{CertificateTold, TurnTold};
+use aud_cert::{Certificate, Turn};
 use aud_node::{Logs, Recs};
 use std::alloc::Global;
 

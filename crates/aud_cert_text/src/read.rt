@@ -7,13 +7,13 @@ ghost use Rattle.aud_cert_text.specs.Steps.{Gives, Fails};
 ghost use Rattle.aud_cert_text.specs.Told.{TurnTold};
 ghost use Rattle.aud_cert.specs.Certificate.{IsOver};
 ghost use Rattle.aud_cert_text.specs.Sound.{IsSound};
-ghost use Rattle.aud_cert_text.specs.Reading.{json_of, is_formed, certificate_of};
+ghost use Rattle.aud_cert_text.specs.Reading.{json_of, is_formed, certificate_in, certificate_of};
 
-use aud_cert::Certificate;
 use crate::fault::CertFault;
 use crate::lend::certificate;
 use crate::told::{CertificateTold, TurnTold, told};
 use crate::within::is_within;
+use aud_cert::Certificate;
 use aud_node::Logs;
 use aud_tap::{is_session_id, is_tap_name};
 use serde_json::{Category, Value};
@@ -69,7 +69,21 @@ pub fn read_cert<'a>(
     ensures sound { IfOk result (λ cert. IsSound logs.now cert) }
 {
     let d = json(alloc, text)?;
-    let told = told(alloc, &d)?;
+    certificate_in(alloc, &d, logs)
+}
+
+/// The certificate that JSON tells, over the logs.
+fn certificate_in<'a>(
+    alloc: Global,
+    d: &Value,
+    logs: &'a Logs<'_>,
+) -> Result<Certificate<'a>, CertFault>
+    ensures reads { Gives result (certificate_in logs.now (view d.now)) }
+    ensures over { IfOk result (λ cert. IsOver logs.now cert) }
+    ensures some { IfOk result (λ cert. 0 < length cert.turns) }
+    ensures sound { IfOk result (λ cert. IsSound logs.now cert) }
+{
+    let told = told(alloc, d)?;
     if !is_formed(&told) {
         return Err(CertFault::Syntax);
     }

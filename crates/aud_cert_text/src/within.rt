@@ -4,8 +4,8 @@ ghost use Rattle.std.specs.List.{list_all};
 ghost use Rattle.aud_cert.specs.Certificate.{log_named};
 ghost use Rattle.aud_cert_text.specs.Reading.{is_turn_within, is_span_within, is_within};
 
-use aud_cert::{Certificate, Turn};
 use crate::lend::node_named;
+use aud_cert::{Certificate, Turn};
 use aud_node::Logs;
 use aud_rooms::Span;
 

@@ -7,8 +7,8 @@ ghost use Rattle.aud_cert_text.specs.Reading.{json_of, certificate_of};
 ghost use Rattle.aud_cert_text.specs.Sound.{IsSound};
 ghost use Rattle.aud_cert_text.specs.Text.{items, span_data, turn_data, certificate_data, text_of};
 
-use aud_cert::{Certificate, Turn};
 use crate::fault::CertFault;
+use aud_cert::{Certificate, Turn};
 use aud_rooms::Span;
 use serde_json::{Value, json};
 use std::alloc::{AllocError, Global};
@@ -50,10 +50,10 @@ fn turn_values(alloc: Global, turns: &[Turn<'_>]) -> Result<Vec<Value>, AllocErr
 fn certificate_value(alloc: Global, cert: &Certificate<'_>) -> Result<Value, AllocError>
     ensures { IfOk result (λ v. view v ≡ certificate_data cert.now) }
 {
-    let spans = span_values(alloc, cert.spans.as_slice())?;
-    let turns = turn_values(alloc, cert.turns.as_slice())?;
     let pid = cert.pid.as_str();
-    json!(in alloc; {"client": cert.client, "pid": pid, "spans": spans, "turns": turns})
+    let spans = cert.spans.as_slice();
+    let turns = cert.turns.as_slice();
+    json!(in alloc; {"client": cert.client, "pid": pid, "spans": span_values(alloc, spans)?, "turns": turn_values(alloc, turns)?})
 }
 
 fn certificate_json(alloc: Global, cert: &Certificate<'_>) -> Result<String, AllocError>

@@ -1,5 +1,5 @@
 -- The first fault, by what was found before it.
-use Rattle.std.proofs.Common.{◌≡◌, ◌<◌, ℕ, false, [], Some, None, sym, ap, subst, ◌⊎◌, inl, inr, arith}
+use Rattle.std.proofs.Common.{◌≡◌, ◌<◌, ℕ, false, [], Some, None, sym, ap, subst, inl, inr, arith}
 use Rattle.std.specs.Option.{option_map}
 use Rattle.aud_cert.specs.declared.fault.Fault.{Fault}
 use Rattle.aud_cert.specs.declared.fault.Fault.TheVariants.{Window}

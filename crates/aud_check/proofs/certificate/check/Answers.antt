@@ -5,11 +5,10 @@ use Rattle.aud_merge.specs.declared.step.Step.{Step}
 use Rattle.aud_merge.specs.Runs.{IsRun}
 use Rattle.aud_merge.specs.Due.{due}
 use Rattle.aud_merge.specs.ByTurns.{IsPrefixOf}
-use Rattle.aud_rooms.specs.Turns.{AreTurns, IsChain}
+use Rattle.aud_rooms.specs.Turns.{IsChain}
 use Rattle.aud_check.specs.declared.certificate.Accepted.{Accepted}
 use Rattle.aud_check.specs.declared.refusal.Refusal.{Refusal}
 use Rattle.aud_check.specs.Faults.{positions_in}
-use Rattle.aud_check.specs.Frames.{AreEntries}
 use Rattle.aud_check.specs.Shown.{frames_received, shown_due, turns_of, who_of}
 use Rattle.aud_check.specs.Refusals.{IsAccepted, IsFirstRefusal, IsMismatch, case_of}
 use Rattle.aud_check.proofs.AcceptedTurns.{all_accepted, are_turns}

@@ -1,7 +1,7 @@
 use Rattle.std.proofs.Common.{sym, ap, ◌∙◌}
 use Rattle.aud_cert_text.specs.Reading.{is_formed}
 use Rattle.aud_cert_text.proofs.Over.{over-told}
-use Rattle.aud_cert_text.proofs.read.read_cert.Goals as goal
+use Rattle.aud_cert_text.proofs.read.certificate_in.Goals as goal
 
 pub returns-clause-sound : goal.returns-clause-sound
 returns-clause-sound c =
