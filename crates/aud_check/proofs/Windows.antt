@@ -1,5 +1,5 @@
 -- What the stays asked for, one after another.
-use Rattle.std.proofs.Common.{◌≡◌, ◌≤◌, ◌+◌, ℕ, Bool, true, false, cond, not, ◌&&◌, List, [], ◌∷◌, ◌++◌, length, map, take, drop, Some, slice_get, sym, ap, ◌∙◌, arith, append-nil, length-append}
+use Rattle.std.proofs.Common.{◌≡◌, ◌≤◌, ◌+◌, ◌-◌, ◌<◌, ℕ, Bool, true, false, cond, not, ◌&&◌, List, [], ◌∷◌, ◌++◌, length, map, take, drop, get_or, Some, slice_get, sym, ap, ◌∙◌, arith, append-nil, length-append}
 use Rattle.std.proofs.lemmas.Grind.{flat_map-append}
 use Rattle.std.proofs.lemmas.List.{length-map, take-append-drop}
 use Rattle.aud_tap.specs.declared.records.StreamRec.{StreamRec}
@@ -8,10 +8,26 @@ use Rattle.aud_client.specs.Received.{is_recovered}
 use Rattle.aud_check.specs.Ascending.{is_cut_or_not}
 use Rattle.aud_check.specs.Frames.{asked_position, frames_in, is_asked_wrongly, wrong_window}
 use Rattle.aud_check.proofs.Cuts.{position_of, is_between-cut}
-use Rattle.aud_check.proofs.Steps.{take_at, drop_from}
+use Rattle.aud_check.proofs.Steps.{at_map, take_at, drop_from}
 
-module _ (stream : List StreamRec) (stays : List StaySeen) (positions : List ℕ) (are : positions ≡ map position_of (frames_in stays)) (i count : ℕ) (stay : StaySeen) (at : slice_get stays i ≡ Some stay)
-    (counted : count ≡ length (frames_in (take i stays))) where
+module _ {X : Type 0} (f : X → StaySeen) (stream : List StreamRec) (xs : List X) (positions : List ℕ) (are : positions ≡ map position_of (frames_in (map f xs)))
+    (i left : ℕ) (x : X) (h : i < length xs) (is : x ≡ get_or xs i x) (rest : length (frames_in (take i (map f xs))) + left ≡ length positions) where
+  abbrev stays : List StaySeen
+  stays = map f xs
+
+  abbrev stay : StaySeen
+  stay = f x
+
+  -- how many positions are those of the stays in front
+  abbrev count : ℕ
+  count = length positions - left
+
+  at : slice_get stays i ≡ Some stay
+  at = at_map f xs i x h is
+
+  counted : count ≡ length (frames_in (take i stays))
+  counted = omega (arith, rest)
+
   -- the frames in front, and those from the stay on
   parts : frames_in stays ≡ frames_in (take i stays) ++ frames_in (stay ∷ drop (i + 1) stays)
   parts =
@@ -24,9 +40,6 @@ module _ (stream : List StreamRec) (stays : List StaySeen) (positions : List ℕ
       ∙ length-append (frames_in (take i stays)) (frames_in (stay ∷ drop (i + 1) stays))
       ∙ ap (λ n. n + length (stay.frames ++ frames_in (drop (i + 1) stays))) (sym counted)
       ∙ ap (λ n. count + n) (length-append stay.frames (frames_in (drop (i + 1) stays)))
-
-  pub count_within : count + length stay.frames ≤ length positions
-  count_within = omega (arith, long)
 
   wrongly : (is_recovered stay && not (is_cut_or_not positions count (asked_position stream stay.asked))) ≡ is_asked_wrongly stream (take i stays) stay (drop (i + 1) stays)
   wrongly =
@@ -48,9 +61,13 @@ module _ (stream : List StreamRec) (stays : List StaySeen) (positions : List ℕ
       → wrong_window stream (take (i + 1) stays) (drop (i + 1) stays) ≡ wrong_window stream (take i stays) (drop i stays)
   asked_rightly b is e = sym (judged b is ∙ ap (λ z. cond z (Some stay.c) (wrong_window stream (take (i + 1) stays) (drop (i + 1) stays))) e)
 
-  pub counted_more : count + length stay.frames ≡ length (frames_in (take (i + 1) stays))
-  counted_more =
-      ap (λ n. n + length stay.frames) counted
-      ∙ sym (length-append (frames_in (take i stays)) stay.frames)
-      ∙ ap (λ fs. length (frames_in (take i stays) ++ fs)) (sym (append-nil stay.frames))
-      ∙ sym (ap length (ap frames_in (take_at stays i stay at) ∙ flat_map-append (λ (s : StaySeen). s.frames) (take i stays) (stay ∷ [])))
+  -- the positions from the next stay on
+  pub left_more : (length stay.frames ≤ left) × (length (frames_in (take (i + 1) stays)) + (left - length stay.frames) ≡ length positions)
+  left_more =
+      let more : length (frames_in (take (i + 1) stays)) ≡ length (frames_in (take i stays)) + length stay.frames =
+          ap length (ap frames_in (take_at stays i stay at) ∙ flat_map-append (λ (s : StaySeen). s.frames) (take i stays) (stay ∷ []))
+          ∙ length-append (frames_in (take i stays)) (stay.frames ++ [])
+          ∙ ap (λ fs. length (frames_in (take i stays)) + length fs) (append-nil stay.frames)
+      in
+      let within = long in
+      (omega (arith, within, rest, counted), omega (arith, within, rest, counted, more))
