@@ -1,6 +1,6 @@
 -- The lines on certificates, and certificates as lines.
 use Rattle.std.specs.Prelude.{ℕ, ◌-◌, List, [], ◌++◌, codes, decimal, flat_map, length, count_by, Bool, true, false, Option, Some, None}
-use Rattle.aud_cert.specs.Fault.{cert_fault_text}
+use Rattle.aud_cert_text.specs.Fault.{cert_fault_text}
 use Rattle.aud_check.specs.Words.{refusal_text, accepted_text}
 use Rattle.aud_app.specs.declared.answer.Answer.{Answer}
 use Rattle.aud_app.specs.declared.answer.Answer.TheVariants.{Accepted, Unread, Refused}

@@ -5,7 +5,7 @@ use Rattle.aud_node.specs.Cluster.{Cluster}
 use Rattle.aud_cert.specs.declared.fault.Fault.{Fault}
 use Rattle.aud_cert.specs.declared.fault.Fault.TheVariants as fault
 use Rattle.aud_cert.specs.Certificate.{CertificateSeen}
-use Rattle.aud_cert.specs.Text.{text_of}
+use Rattle.aud_cert_text.specs.Text.{text_of}
 use Rattle.aud_maker.specs.Made.{IsMade}
 use Rattle.aud_maker.specs.Faults as maker
 use Rattle.aud_check.specs.declared.certificate.Accepted.{Accepted}

@@ -2,10 +2,10 @@
 use Rattle.std.specs.Prelude.{◌≡◌, ◌-◌, List, length, Result, Ok, Err}
 use Rattle.aud_reader.specs.declared.line.Line.{Line}
 use Rattle.aud_node.specs.Cluster.{Cluster}
-use Rattle.aud_cert.specs.declared.fault.CertFault.{CertFault}
-use Rattle.aud_cert.specs.declared.fault.CertFault.TheVariants.{Memory}
+use Rattle.aud_cert_text.specs.declared.fault.CertFault.{CertFault}
+use Rattle.aud_cert_text.specs.declared.fault.CertFault.TheVariants.{Memory}
 use Rattle.aud_cert.specs.Certificate.{CertificateSeen}
-use Rattle.aud_cert.specs.Reading.{certificate_of}
+use Rattle.aud_cert_text.specs.Reading.{certificate_of}
 use Rattle.aud_check.specs.declared.certificate.Accepted as check
 use Rattle.aud_check.specs.Shown.{shown_due, frames_received}
 use Rattle.aud_check.specs.Refusals.{IsFirst, IsAccepted}

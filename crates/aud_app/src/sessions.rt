@@ -5,7 +5,7 @@ ghost use Rattle.aud_app.specs.Decided.{IsEntry, AreVerdicts, IsProof, AreProofs
 
 use crate::judge::{Judged, judge, verdict};
 use crate::verdict::Entry;
-use aud_cert::write_cert;
+use aud_cert_text::write_cert;
 use aud_client::Recording;
 use aud_maker::sessions;
 use aud_tap::Text;

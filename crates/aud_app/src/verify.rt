@@ -1,11 +1,12 @@
 //! The answers on the certificates of an input.
 ghost use Rattle.std.specs.Prelude.{◌≡◌, ◌<◌, length, IfOk};
 ghost use Rattle.aud_cert.specs.Certificate.{IsOver};
-ghost use Rattle.aud_cert.specs.Reading.{certificate_of};
+ghost use Rattle.aud_cert_text.specs.Reading.{certificate_of};
 ghost use Rattle.aud_app.specs.Verified.{IsAnswerOn, IsAnswerTo, AreAnswered};
 
 use crate::answer::{Answer, Answered};
-use aud_cert::{CertFault, Certificate, read_cert};
+use aud_cert::Certificate;
+use aud_cert_text::{CertFault, read_cert};
 use aud_check::{Refusal, check};
 use aud_client::Recording;
 use aud_reader::Line;

@@ -2,8 +2,6 @@
 use Rattle.std.specs.Prelude.{ℕ, List, ◌++◌, codes, decimal}
 use Rattle.aud_cert.specs.declared.fault.Fault.{Fault}
 use Rattle.aud_cert.specs.declared.fault.Fault.TheVariants.{NoLog, Chain, Order, Client, Names, Frame, Orphan, Content, Extra, Doubled, Swapped, Lost, Window, Tail}
-use Rattle.aud_cert.specs.declared.fault.CertFault.{CertFault}
-use Rattle.aud_cert.specs.declared.fault.CertFault.TheVariants.{Syntax, UnknownTap, Range, Memory}
 
 -- a fault's word, with the offset, the connection or the count that it is about
 abbrev pub fault_text : Fault → List ℕ
@@ -21,10 +19,3 @@ fault_text (Swapped off) = codes "SWAPPED " ++ off
 fault_text (Lost off) = codes "LOST " ++ off
 fault_text (Window c) = codes "WINDOW " ++ decimal c
 fault_text (Tail count) = codes "TAIL " ++ decimal count
-
--- the code and the name of a refusal
-abbrev pub cert_fault_text : CertFault → List ℕ
-cert_fault_text Syntax = codes "K1 Syntax"
-cert_fault_text UnknownTap = codes "K2 UnknownTap"
-cert_fault_text Range = codes "K3 Range"
-cert_fault_text Memory = codes "K4 Memory"

@@ -3,8 +3,3 @@ pub use Rattle.aud_rooms.specs.Turns
 pub use Rattle.aud_node.specs.Cluster
 pub mod Certificate
 pub mod Fault
-pub mod Text
-pub mod Steps
-pub mod Told
-pub mod Reading
-pub mod Sound

@@ -1,31 +1,23 @@
-//! Certificates over lent slices of the logs: their text, and its reading.
+//! Certificates over lent slices of the logs, and the faults of sessions that are not answered yes.
 //!
 //! Begin at [`Certificate`]; [`Fault`] says why a session has none, or is not answered yes.
 //!
 //! With the `logs` of `examples/bundle_a.jsonl`:
 //!
 //! ```
-//! use aud_cert::{CertFault, read_cert, write_cert};
+//! use aud_cert::Fault;
+//! use aud_cert_text::read_cert;
 //!
 //! let text = r#"{"client":"c1","pid":"P","spans":[["r",1,1],["s1",1,1]],"turns":[["a",1,4,0,1]]}"#;
 //! let cert = read_cert(alloc, text.as_bytes(), logs)?;
 //! assert_eq!(rt; cert.client, "c1");
 //! assert_eq!(rt; cert.turns.len(), 1);
-//! assert_eq!(rt; write_cert(alloc, &cert)?.as_str(), text);
-//! let refused = read_cert(alloc, b"{", logs);
-//! assert!(rt; matches!(refused, Err(CertFault::Syntax)));
+//! assert_eq!(rt; format!(in alloc; "{}", Fault::Window(2))?.as_str(), "WINDOW 2");
 //! ```
 #![tactic(auto)]
 
 mod certificate;
 mod fault;
-mod lend;
-mod read;
-mod told;
-mod within;
-mod write;
 
 pub use certificate::{Certificate, Turn};
-pub use fault::{CertFault, Fault};
-pub use read::read_cert;
-pub use write::write_cert;
+pub use fault::Fault;

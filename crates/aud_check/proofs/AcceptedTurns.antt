@@ -1,12 +1,12 @@
 -- Accepted turns are turns of the session.
-use Rattle.std.proofs.Common.{◌≡◌, ◌<◌, ◌+◌, ℕ, suc, Bool, true, false, ◌&&◌, List, [], ◌∷◌, map, max, length, drop, Some, slice_get, nat_eq, refl, sym, ap, subst, ◌∙◌, arith, true≢false}
+use Rattle.std.proofs.Common.{◌≡◌, ◌<◌, ◌+◌, ℕ, suc, true, List, [], ◌∷◌, map, max, length, drop, Some, slice_get, nat_eq, refl, sym, ap, subst, ◌∙◌, arith, true≢false}
 use Rattle.std.specs.List.{All}
 use Rattle.std.specs.Str.{bytes_eq}
 use Rattle.std.specs.Cmp.Lexicographic.{bytes_decides}
-use Rattle.std.proofs.lemmas.Bool.{eqb-true}
+use Rattle.std.proofs.lemmas.Bool.{and_parts, eqb-true}
 use Rattle.std.proofs.lemmas.List.Elements.{All-head, All-tail, All-nil, All-cons}
 use Rattle.aud_tap.specs.declared.records.NodeRec.{NodeRec}
-use Rattle.aud_tap.specs.declared.records.NodeRec.TheVariants.{Start, Take, Opened, Join, Leave, Broke, Back, Gone}
+use Rattle.aud_tap.specs.declared.records.NodeRec.TheVariants.{Opened, Back}
 use Rattle.aud_node.specs.Lists.{between}
 use Rattle.aud_node.specs.Stream.{Text}
 use Rattle.aud_node.specs.Cluster.{Cluster}
@@ -21,36 +21,17 @@ use Rattle.aud_check.specs.TurnRefusals.{is_begun_by, IsTurnAccepted, AreTurnsAc
 use Rattle.aud_check.proofs.Slices.{within_at, between-more}
 use Rattle.aud_check.proofs.TurnRefusals.{begun-some, from_within, from_to}
 
-same_text : (a b : Text) → bytes_eq a b ≡ true → a ≡ b
-same_text a b e = (bytes_decides a b).0 e
-
-and_both : (a b : Bool) → (a && b) ≡ true → (a ≡ true) × (b ≡ true)
-and_both true b e = (refl, e)
-and_both false b e = absurd (true≢false (sym e))
-
 -- the session's `open` as the turn's first record
 opens : (pid : Text) (rec : NodeRec) → begins_turn pid 0 rec ≡ true → rec ≡ Opened pid (opened_sid (Some rec)) (opened_nsp (Some rec))
-opens pid (Opened other sid nsp) e = ap (λ x. Opened x sid nsp) (same_text other pid e)
-opens pid (Start off) e = absurd (true≢false (sym e))
-opens pid (Take off) e = absurd (true≢false (sym e))
-opens pid (Join other room) e = absurd (true≢false (sym e))
-opens pid (Leave other room) e = absurd (true≢false (sym e))
-opens pid (Broke other number) e = absurd (true≢false (sym e))
-opens pid (Back other number) e = absurd (true≢false (sym e))
-opens pid (Gone other) e = absurd (true≢false (sym e))
+opens pid (Opened other sid nsp) e = ap (λ x. Opened x sid nsp) ((bytes_decides other pid).0 e)
+opens pid _ e = absurd (true≢false (sym e))
 
 -- its `back` as a later turn's
 comes_back : (pid : Text) (k : ℕ) (rec : NodeRec) → begins_turn pid (suc k) rec ≡ true → rec ≡ Back pid (suc k)
 comes_back pid k (Back other number) e =
-    let (same, counted) = and_both (bytes_eq other pid) (nat_eq number (suc k)) e in
-    ap (λ x. Back x number) (same_text other pid same) ∙ ap (Back pid) (eqb-true number (suc k) counted)
-comes_back pid k (Start off) e = absurd (true≢false (sym e))
-comes_back pid k (Take off) e = absurd (true≢false (sym e))
-comes_back pid k (Opened other sid nsp) e = absurd (true≢false (sym e))
-comes_back pid k (Join other room) e = absurd (true≢false (sym e))
-comes_back pid k (Leave other room) e = absurd (true≢false (sym e))
-comes_back pid k (Broke other number) e = absurd (true≢false (sym e))
-comes_back pid k (Gone other) e = absurd (true≢false (sym e))
+    let (same, counted) = and_parts (bytes_eq other pid) (nat_eq number (suc k)) e in
+    ap (λ x. Back x number) ((bytes_decides other pid).0 same) ∙ ap (Back pid) (eqb-true number (suc k) counted)
+comes_back pid k _ e = absurd (true≢false (sym e))
 
 module _ (c : Cluster) (pid : Text) (k : ℕ) (t : TurnSeen) (later : List TurnSeen) (over : IsTurnOver c t) (is : IsTurnAccepted c pid k t later) where
   some_recs : 0 < length t.recs

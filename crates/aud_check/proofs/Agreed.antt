@@ -22,13 +22,6 @@ agreed_of_prefix (x ∷ xs) rest =
     let itself : nat_eq x x ≡ true = grind arith in
     ap (λ b. cond b (1 + agreed xs (xs ++ rest)) 0) itself ∙ ap (λ n. 1 + n) (agreed_of_prefix xs rest) ∙ omega arith
 
-pub agreed_within : (xs ys : List ℕ) → agreed xs ys ≤ length xs
-agreed_within [] ys = omega arith
-agreed_within (x ∷ xs) [] = omega arith
-agreed_within (x ∷ xs) (y ∷ ys) =
-    let ih = agreed_within xs ys in
-    elim (nat_eq x y) as (λ b. cond b (1 + agreed xs ys) 0 ≤ suc (length xs)) [ true ↦ omega arith | false ↦ omega arith ]
-
 wrong_from-none : (received due : List ℕ) (i : ℕ) (o : Option ℕ) → wrong_from received due i o ≡ None → o ≡ None
 wrong_from-none received due i None e = refl
 wrong_from-none received due i (Some g) e = absurd (none-some (wrong_there received due i g) (sym e))

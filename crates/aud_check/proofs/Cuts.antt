@@ -1,20 +1,11 @@
 -- Ascending positions, cut at a place.
 use Rattle.std.proofs.Common.{◌≡◌, ◌<◌, ◌≤◌, ◌-◌, ℕ, zero, suc, Bool, true, false, ◌&&◌, List, [], ◌∷◌, ◌++◌, length, map, take, drop, get_or, Option, Some, None, nat_le, nat_lt, refl, sym, ap, ◌∙◌, ◌⊎◌, inl, inr, arith}
 use Rattle.std.specs.List.{list_all}
-use Rattle.std.proofs.lemmas.Bool.{cases_lt, le-leb, lt-leb}
+use Rattle.std.proofs.lemmas.Bool.{cases_lt, le-leb, lt-leb, lt-ltb, le-ltb}
+use Rattle.std.proofs.Math.Bool.{and-false}
 use Rattle.aud_client.specs.Told.{FrameSeen}
 use Rattle.aud_check.specs.Ascending.{IsAscending, is_cut, is_cut_or_not}
 use Rattle.aud_check.specs.Frames.{is_between}
-
-lt_true : (a b : ℕ) → a < b → nat_lt a b ≡ true
-lt_true a b h = le-leb (suc a) b (omega arith)
-
-lt_false : (a b : ℕ) → b ≤ a → nat_lt a b ≡ false
-lt_false a b h = lt-leb (suc a) b (omega arith)
-
-none_end : (b : Bool) → (b && false) ≡ false
-none_end true = refl
-none_end false = refl
 
 front_all : (q : ℕ) (xs : List ℕ) (count : ℕ) → ((i : ℕ) → i < count → i < length xs → get_or xs i 0 ≤ q) → list_all (λ p. nat_le p q) (take count xs) ≡ true
 front_all q [] zero all = refl
@@ -28,19 +19,19 @@ front_some : (q : ℕ) (xs : List ℕ) (count i : ℕ) → i < count → i < len
 front_some q [] count i a b h = absurd (omega arith)
 front_some q (x ∷ xs) zero i a b h = absurd (omega arith)
 front_some q (x ∷ xs) (suc count) zero a b h = ap (λ b. b && list_all (λ p. nat_le p q) (take count xs)) (lt-leb x q h)
-front_some q (x ∷ xs) (suc count) (suc i) a b h = ap (λ b. nat_le x q && b) (front_some q xs count i (omega arith) (omega arith) h) ∙ none_end (nat_le x q)
+front_some q (x ∷ xs) (suc count) (suc i) a b h = ap (λ b. nat_le x q && b) (front_some q xs count i (omega arith) (omega arith) h) ∙ and-false (nat_le x q)
 
 back_all : (q : ℕ) (xs : List ℕ) (count : ℕ) → ((i : ℕ) → count ≤ i → i < length xs → q < get_or xs i 0) → list_all (λ p. nat_lt q p) (drop count xs) ≡ true
 back_all q [] zero all = refl
 back_all q [] (suc count) all = refl
 back_all q (x ∷ xs) zero all =
-    ap (λ b. b && list_all (λ p. nat_lt q p) xs) (lt_true q x (all 0 (omega arith) (omega arith)))
+    ap (λ b. b && list_all (λ p. nat_lt q p) xs) (lt-ltb q x (all 0 (omega arith) (omega arith)))
     ∙ back_all q xs zero (λ i a b. all (suc i) (omega arith) (omega arith))
 back_all q (x ∷ xs) (suc count) all = back_all q xs count (λ i a b. all (suc i) (omega arith) (omega arith))
 
 back_some : (q : ℕ) (xs : List ℕ) (count : ℕ) → count < length xs → get_or xs count 0 ≤ q → list_all (λ p. nat_lt q p) (drop count xs) ≡ false
 back_some q [] count b h = absurd (omega arith)
-back_some q (x ∷ xs) zero b h = ap (λ b. b && list_all (λ p. nat_lt q p) xs) (lt_false q x h)
+back_some q (x ∷ xs) zero b h = ap (λ b. b && list_all (λ p. nat_lt q p) xs) (le-ltb q x h)
 back_some q (x ∷ xs) (suc count) b h = back_some q xs count (omega arith) h
 
 module _ (xs : List ℕ) (count q : ℕ) (ascending : IsAscending xs) (within : count ≤ length xs) where
@@ -57,12 +48,12 @@ module _ (xs : List ℕ) (count q : ℕ) (ascending : IsAscending xs) (within : 
   cut_next front more = go (cases_lt q (get_or xs count 0)) ∙ sym (ap (λ b. b && list_all (λ p. nat_lt q p) (drop count xs)) (front_holds front))
     where
       go : (q < get_or xs count 0) ⊎ (get_or xs count 0 ≤ q) → nat_lt q (get_or xs count 0) ≡ list_all (λ p. nat_lt q p) (drop count xs)
-      go (inl past) = lt_true q (get_or xs count 0) past ∙ sym (back_all q xs count (λ i a b. above i a b (cases_lt count i)))
+      go (inl past) = lt-ltb q (get_or xs count 0) past ∙ sym (back_all q xs count (λ i a b. above i a b (cases_lt count i)))
         where
           above : (i : ℕ) → count ≤ i → i < length xs → (count < i) ⊎ (i ≤ count) → q < get_or xs i 0
           above i a b (inl behind) = let x = ascending count i 0 behind b in omega (arith, x, past)
           above i a b (inr at) = let same : count ≡ i = omega arith in let x = ap (λ k. get_or xs k 0) same in omega (arith, x, past)
-      go (inr upto) = lt_false q (get_or xs count 0) upto ∙ sym (back_some q xs count more upto)
+      go (inr upto) = le-ltb q (get_or xs count 0) upto ∙ sym (back_some q xs count more upto)
 
   -- it isn't, and none comes next
   pub cut_end : (count ≡ 0) ⊎ (get_or xs (count - 1) 0 ≤ q) → length xs ≤ count → true ≡ is_cut xs count q

@@ -7,7 +7,7 @@ use Rattle.aud_rooms.specs.TurnsDue.{turns_due}
 use Rattle.aud_rooms.specs.Spans.{RoomSpan, AreSpansOfTurns}
 use Rattle.aud_cert.specs.Certificate.{CertificateSeen, TurnSeen}
 use Rattle.aud_check.specs.declared.refusal.Refusal.{Refusal}
-use Rattle.aud_check.specs.declared.refusal.Refusal.TheVariants.{NotItsTurn, EndInside, NoEnd, Cursor, Span, Names, Received, Memory}
+use Rattle.aud_check.specs.declared.refusal.Refusal.TheVariants.{Span, Names, Received, Memory}
 use Rattle.aud_check.specs.Client.{case_for, IsClientRefusal}
 use Rattle.aud_check.specs.Faults.{Case, IsReceived}
 use Rattle.aud_check.specs.NamedStays.{are_of_session}
@@ -17,14 +17,8 @@ use Rattle.aud_check.specs.Refusals.{IsFirst, IsFirstRefusal, IsAccepted, case_o
 use Rattle.aud_check.proofs.Ranks.{first_of_turns, first_span, first_names, first_fault}
 
 pub first_refusal : (c : Cluster) (cert : CertificateSeen) (refusal : Refusal) → IsFirst c cert refusal → IsFirstRefusal c cert refusal
-first_refusal c cert NotItsTurn is = is
-first_refusal c cert EndInside is = is
-first_refusal c cert NoEnd is = is
-first_refusal c cert Cursor is = is
-first_refusal c cert Span is = is
-first_refusal c cert Names is = is
-first_refusal c cert (Received f) is = is
 first_refusal c cert Memory is = tt
+first_refusal c cert _ is = is
 
 pub turns_first : (c : Cluster) (cert : CertificateSeen) (refusal : Refusal) → IsFirstOfTurns c cert.pid cert.turns refusal → IsFirstRefusal c cert refusal
 turns_first c cert refusal is = first_refusal c cert refusal (first_of_turns c cert refusal is)
@@ -35,11 +29,7 @@ pub client_first : (c : Cluster) (cert : CertificateSeen) → AreTurnsAccepted c
 client_first c cert turns spans Names h = first_names c cert turns (λ not. not spans) h
 client_first c cert turns spans (Received f) (named, first) = first_fault c cert turns (λ not. not spans) (λ h. true≢false (sym named ∙ h)) f first
 client_first c cert turns spans Memory h = tt
-client_first c cert turns spans NotItsTurn h = absurd h
-client_first c cert turns spans EndInside h = absurd h
-client_first c cert turns spans NoEnd h = absurd h
-client_first c cert turns spans Cursor h = absurd h
-client_first c cert turns spans Span h = absurd h
+client_first c cert turns spans _ h = absurd h
 
 module _ (c : Cluster) (who : Who) (client : Text) (turns : List TurnSeen) (spans : List RoomSpan) (named : who ≡ who_in who.pid turns) where
   abbrev cert : CertificateSeen

@@ -2,15 +2,13 @@
 use Rattle.std.proofs.Common.{◌≡◌, Option, Some, None, option_map, refl, ap}
 use Rattle.aud_cert.specs.declared.fault.Fault.{Fault}
 use Rattle.aud_check.specs.declared.compare.Mismatch.{Mismatch}
-use Rattle.aud_check.specs.declared.compare.Mismatch.TheVariants.{Extra, Doubled, Swapped, Lost}
+use Rattle.aud_check.specs.declared.compare.Mismatch.TheVariants.{Extra}
 use Rattle.aud_check.specs.Compare.{mismatch}
 use Rattle.aud_check.specs.Faults.{Case, HasFault, fault_of, positions_in}
 
 is_fault : (case : Case) (m : Mismatch) → mismatch (positions_in case) case.due ≡ Some m → HasFault case (fault_of case.stream m)
 is_fault case (Extra p) e = ap (option_map (fault_of case.stream)) e
-is_fault case (Doubled p) e = ap (option_map (fault_of case.stream)) e
-is_fault case (Swapped p) e = ap (option_map (fault_of case.stream)) e
-is_fault case (Lost p) e = ap (option_map (fault_of case.stream)) e
+is_fault case _ e = ap (option_map (fault_of case.stream)) e
 
 pub none_mismatched : (case : Case) → ((fault : Fault) → HasFault case fault → ⊥) → mismatch (positions_in case) case.due ≡ None
 none_mismatched case no_fault = go (mismatch (positions_in case) case.due) refl

@@ -5,7 +5,7 @@ use Rattle.std.proofs.lemmas.Bool.{cases_eq, cases_lt, eq-eqb, ne_eqb, le-leb, l
 use Rattle.std.proofs.lemmas.Option.{slice_get_within}
 use Rattle.std.proofs.lemmas.List.Elements.{All-get_or, filter_passes}
 use Rattle.aud_tap.specs.declared.records.NodeRec.{NodeRec}
-use Rattle.aud_tap.specs.declared.records.NodeRec.TheVariants.{Start, Take, Opened, Join, Leave, Broke, Back, Gone}
+use Rattle.aud_tap.specs.declared.records.NodeRec.TheVariants.{Opened, Broke, Back, Gone}
 use Rattle.aud_node.specs.Lists.{between, numbers_from}
 use Rattle.aud_node.specs.Stream.{Text}
 use Rattle.aud_node.specs.OwnRecords.{names, own_numbers}
@@ -30,14 +30,11 @@ own_end pid k log to (n ∷ ns) = numbered_end (part_at pid k (slice_get log n))
 
 -- a record that doesn't name the session stands inside
 pub inner_of_others : (pid : Text) (k : ℕ) (rec : NodeRec) → names (Some rec) pid ≡ false → part_of pid k rec ≡ Inner
-inner_of_others pid k (Start off) e = refl
-inner_of_others pid k (Take off) e = refl
 inner_of_others pid k (Opened other sid nsp) e = ap (λ b. cond b Foreign Inner) e
-inner_of_others pid k (Join other room) e = refl
-inner_of_others pid k (Leave other room) e = refl
 inner_of_others pid k (Broke other number) e = ap (λ b. cond b (cond (nat_eq number k) (Last ByBreak) Foreign) Inner) e
 inner_of_others pid k (Back other number) e = ap (λ b. cond b Foreign Inner) e
 inner_of_others pid k (Gone other) e = ap (λ b. cond b (Last ByGone) Inner) e
+inner_of_others pid k _ e = refl
 
 -- a number that isn't kept, behind another test
 left_out : (test : ℕ → Bool) (a : ℕ) (rest : List ℕ) (b : Bool) → test a ≡ false → filter test (cond b (a ∷ rest) rest) ≡ filter test rest

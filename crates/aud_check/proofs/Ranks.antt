@@ -1,5 +1,5 @@
 -- What comes first.
-use Rattle.std.proofs.Common.{◌≡◌, ◌<◌, ◌≤◌, ◌+◌, ◌*◌, ℕ, suc, List, ◌∷◌, ◌++◌, [], length, drop, Option, Some, None, slice_get, sym, ap, subst, ◌∙◌, ◌⊎◌, inl, inr, arith, true≢false}
+use Rattle.std.proofs.Common.{◌≡◌, ◌<◌, ◌≤◌, ◌+◌, ◌*◌, ℕ, suc, false, List, ◌∷◌, ◌++◌, [], length, drop, Option, Some, None, slice_get, refl, sym, ap, subst, ◌∙◌, ◌⊎◌, inl, inr, arith, true≢false}
 use Rattle.std.specs.Option.{IsSome, option_map}
 use Rattle.std.proofs.lemmas.Bool.{cases_lt}
 use Rattle.std.proofs.lemmas.Option.{none-some, same_Some, slice_get_within}
@@ -11,9 +11,9 @@ use Rattle.aud_cert.specs.Certificate.{CertificateSeen, TurnSeen}
 use Rattle.aud_cert.specs.declared.fault.Fault.{Fault}
 use Rattle.aud_cert.specs.declared.fault.Fault.TheVariants as fault
 use Rattle.aud_check.specs.declared.refusal.Refusal.{Refusal}
-use Rattle.aud_check.specs.declared.refusal.Refusal.TheVariants.{NotItsTurn, EndInside, NoEnd, Cursor, Span, Names, Received, Memory}
+use Rattle.aud_check.specs.declared.refusal.Refusal.TheVariants.{NotItsTurn, EndInside, NoEnd, Cursor, Span, Names, Received}
 use Rattle.aud_check.specs.Compare.{mismatch}
-use Rattle.aud_check.specs.Frames.{AreEntries, IsEntry, IsFirstAltered}
+use Rattle.aud_check.specs.Frames.{AreEntries, IsEntry, IsFirstAltered, wrong_window}
 use Rattle.aud_check.specs.Faults.{Case, HasFault, IsReceived, IsFirstFault, fault_of, mismatch_fault, positions_in, fault_rank}
 use Rattle.aud_check.specs.TurnRefusals.{RefusesTurn, IsFirstOfTurns, AreTurnsAccepted, refusal_rank}
 use Rattle.aud_check.specs.Refusals.{Place, AtTurn, AtWhole, Refuses, RefusesWhole, IsFirst, IsAccepted, rank, case_of}
@@ -26,10 +26,7 @@ turn_rank c pid k t later NotItsTurn h = omega arith
 turn_rank c pid k t later EndInside h = omega arith
 turn_rank c pid k t later NoEnd h = omega arith
 turn_rank c pid k t later Cursor h = omega arith
-turn_rank c pid k t later Span h = absurd h
-turn_rank c pid k t later Names h = absurd h
-turn_rank c pid k t later (Received f) h = absurd h
-turn_rank c pid k t later Memory h = absurd h
+turn_rank c pid k t later _ h = absurd h
 
 module _ (c : Cluster) (cert : CertificateSeen) where
   -- the first that refuses the turns is the first of all
@@ -82,22 +79,26 @@ pub some_or_none : {A : Type 0} (o : Option A) → o ≡ None → IsSome o → �
 some_or_none None e h = true≢false (sym h)
 some_or_none (Some x) e h = none-some x (sym e)
 
+module _ (case : Case) (decodes : case.told.bad ≡ None) (has_no_orphan : case.told.orphan ≡ false) (are_entries : AreEntries case.stream case.frames) where
+  -- where the tap decodes, has no orphan and each frame is its entry, a fault is a mismatch or a window
+  pub what_is_left : (f : Fault) → HasFault case f → ((mismatch_fault case ≡ Some f) × (fault_rank f ≡ 3)) ⊎ ((wrong_window case.stream [] case.stays ≡ None → ⊥) × (fault_rank f ≡ 4))
+  what_is_left fault.Frame h = absurd (some_or_none case.told.bad decodes h)
+  what_is_left fault.Orphan h = absurd (true≢false (sym h ∙ has_no_orphan))
+  what_is_left (fault.Content off) (altered, first, named) = absurd (no_altered case.stream case.frames altered are_entries first)
+  what_is_left (fault.Extra off) h = inl (h, refl)
+  what_is_left (fault.Doubled off) h = inl (h, refl)
+  what_is_left (fault.Swapped off) h = inl (h, refl)
+  what_is_left (fault.Lost off) h = inl (h, refl)
+  what_is_left (fault.Window n) h = inr ((λ none. none-some n (sym none ∙ h)), refl)
+  what_is_left _ h = absurd h
+
 -- nothing is wrong with what was received
 pub no_fault : (case : Case) → IsReceived case → (f : Fault) → HasFault case f → ⊥
-no_fault case is fault.Frame h = some_or_none case.told.bad is.decodes h
-no_fault case is fault.Orphan h = true≢false (sym h ∙ is.has_no_orphan)
-no_fault case is (fault.Content off) (altered, first, named) = no_altered case.stream case.frames altered is.are_entries first
-no_fault case is (fault.Extra off) h = no_mismatch case ((mismatch-none (positions_in case) case.due).1 is.is_prefix) (fault.Extra off) h
-no_fault case is (fault.Doubled off) h = no_mismatch case ((mismatch-none (positions_in case) case.due).1 is.is_prefix) (fault.Doubled off) h
-no_fault case is (fault.Swapped off) h = no_mismatch case ((mismatch-none (positions_in case) case.due).1 is.is_prefix) (fault.Swapped off) h
-no_fault case is (fault.Lost off) h = no_mismatch case ((mismatch-none (positions_in case) case.due).1 is.is_prefix) (fault.Lost off) h
-no_fault case is (fault.Window connection) h = none-some connection (sym is.has_no_window ∙ h)
-no_fault case is fault.NoLog h = h
-no_fault case is fault.Chain h = h
-no_fault case is fault.Order h = h
-no_fault case is fault.Client h = h
-no_fault case is fault.Names h = h
-no_fault case is (fault.Tail n) h = h
+no_fault case is f h =
+    elim (what_is_left case is.decodes is.has_no_orphan is.are_entries f h) [
+      | inl found ↦ no_mismatch case ((mismatch-none (positions_in case) case.due).1 is.is_prefix) f found.0
+      | inr found ↦ found.0 is.has_no_window
+    ]
 
 module _ (c : Cluster) (cert : CertificateSeen) where
   pub first_span : AreTurnsAccepted c cert.pid cert.turns → RefusesWhole c cert Span → IsFirst c cert Span
@@ -110,11 +111,7 @@ module _ (c : Cluster) (cert : CertificateSeen) where
       go Span before refuses = spans refuses
       go Names before refuses = absurd (omega arith)
       go (Received f) before refuses = absurd (omega arith)
-      go NotItsTurn before refuses = refuses
-      go EndInside before refuses = refuses
-      go NoEnd before refuses = refuses
-      go Cursor before refuses = refuses
-      go Memory before refuses = refuses
+      go _ before refuses = refuses
 
   pub first_fault : AreTurnsAccepted c cert.pid cert.turns → (RefusesWhole c cert Span → ⊥) → (RefusesWhole c cert Names → ⊥) → (f : Fault) → IsFirstFault (case_of c cert) f → IsFirst c cert (Received f)
   first_fault turns spans names f is = first_of_whole c cert turns (Received f) is.holds go
@@ -123,11 +120,7 @@ module _ (c : Cluster) (cert : CertificateSeen) where
       go Span before refuses = spans refuses
       go Names before refuses = names refuses
       go (Received g) before refuses = is.none_before g (omega arith) refuses
-      go NotItsTurn before refuses = refuses
-      go EndInside before refuses = refuses
-      go NoEnd before refuses = refuses
-      go Cursor before refuses = refuses
-      go Memory before refuses = refuses
+      go _ before refuses = refuses
 
   -- nothing refuses an accepted certificate
   pub nothing_refuses : IsAccepted c cert → (place : Place) (refusal : Refusal) → Refuses c cert place refusal → ⊥
@@ -135,8 +128,4 @@ module _ (c : Cluster) (cert : CertificateSeen) where
   nothing_refuses is AtWhole Span h = h is.are_spans
   nothing_refuses is AtWhole Names h = true≢false (sym is.are_named ∙ h)
   nothing_refuses is AtWhole (Received f) h = no_fault (case_of c cert) is.is_received f h
-  nothing_refuses is AtWhole NotItsTurn h = h
-  nothing_refuses is AtWhole EndInside h = h
-  nothing_refuses is AtWhole NoEnd h = h
-  nothing_refuses is AtWhole Cursor h = h
-  nothing_refuses is AtWhole Memory h = h
+  nothing_refuses is AtWhole _ h = h

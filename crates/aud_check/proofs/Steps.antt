@@ -1,8 +1,10 @@
 -- One element more of a list, as a loop reads it.
-use Rattle.std.proofs.Common.{◌≡◌, ◌<◌, ◌+◌, ◌==◌, ℕ, zero, suc, Bool, false, ◌&&◌, List, [], ◌∷◌, ◌++◌, length, map, flat_map, take, drop, get_or, Option, Some, slice_get, refl, sym, ap, subst, ◌∙◌, arith, append-nil, true≢false}
+use Rattle.std.proofs.Common.{◌≡◌, ◌<◌, ◌+◌, ◌==◌, ℕ, zero, suc, Bool, false, List, [], ◌∷◌, ◌++◌, length, map, take, drop, get_or, Option, Some, slice_get, refl, sym, ap, subst, ◌∙◌, arith, append-nil, true≢false}
 use Rattle.std.specs.List.{list_all}
 use Rattle.std.specs.Option.{option_map}
-use Rattle.std.proofs.lemmas.List.{take-append-drop, append_assoc}
+use Rattle.std.proofs.lemmas.Grind.{flat_map-append}
+use Rattle.std.proofs.lemmas.List.{take-append-drop, map-append}
+use Rattle.std.proofs.lemmas.List.Folds.{list_all-map}
 use Rattle.std.proofs.lemmas.Option.{same_Some, none-some, slice_get-map, slice_get_read}
 use Rattle.aud_tap.specs.declared.records.StreamRec.{StreamRec}
 use Rattle.aud_rooms.specs.Turns.{Who}
@@ -55,27 +57,19 @@ module _ {X : Type 0} (f : X → FrameSeen) (stream : List StreamRec) (xs : List
 
 -- ---- frames of stays
 
-pub flat_more : {X Y : Type 0} (f : X → List Y) (xs ys : List X) → flat_map f (xs ++ ys) ≡ flat_map f xs ++ flat_map f ys
-flat_more f [] ys = refl
-flat_more f (x ∷ xs) ys = ap (λ zs. f x ++ zs) (flat_more f xs ys) ∙ sym (append_assoc (f x) (flat_map f xs) (flat_map f ys))
-
 pub frames_more : {X : Type 0} (f : X → StaySeen) (xs : List X) (i : ℕ) (x : X) (old new : List FrameSeen) → i < length xs → x ≡ get_or xs i x
     → old ≡ frames_in (take i (map f xs)) → new ≡ old ++ (f x).frames → new ≡ frames_in (take (i + 1) (map f xs))
 frames_more f xs i x old new h is was more =
     more ∙ ap (λ fs. fs ++ (f x).frames) was
     ∙ ap (λ fs. frames_in (take i (map f xs)) ++ fs) (sym (append-nil (f x).frames))
-    ∙ sym (flat_more (λ (stay : StaySeen). stay.frames) (take i (map f xs)) (f x ∷ []))
+    ∙ sym (flat_map-append (λ (stay : StaySeen). stay.frames) (take i (map f xs)) (f x ∷ []))
     ∙ sym (ap frames_in (take_at (map f xs) i (f x) (at_map f xs i x h is)))
-
-map_more : {X Y : Type 0} (g : X → Y) (xs ys : List X) → map g (xs ++ ys) ≡ map g xs ++ map g ys
-map_more g [] ys = refl
-map_more g (x ∷ xs) ys = ap (λ zs. g x ∷ zs) (map_more g xs ys)
 
 pub mapped_more : {X Y Z : Type 0} (f : X → Y) (g : Y → Z) (xs : List X) (i : ℕ) (x : X) (old new : List Z) → i < length xs → x ≡ get_or xs i x
     → old ≡ map g (take i (map f xs)) → new ≡ old ++ g (f x) ∷ [] → new ≡ map g (take (i + 1) (map f xs))
 mapped_more f g xs i x old new h is was more =
     more ∙ ap (λ zs. zs ++ g (f x) ∷ []) was
-    ∙ sym (map_more g (take i (map f xs)) (f x ∷ []))
+    ∙ sym (map-append g (take i (map f xs)) (f x ∷ []))
     ∙ sym (ap (map g) (take_at (map f xs) i (f x) (at_map f xs i x h is)))
 
 -- ---- attachments
@@ -103,13 +97,9 @@ module _ {X Y Z : Type 0} (f : X → Y) (g : Y → Z) (xs : List X) (zs : List Z
 
 -- ---- stays of a session
 
-list_all_map : {X : Type 0} (f : X → StaySeen) (test : StaySeen → Bool) (xs : List X) → list_all test (map f xs) ≡ list_all (λ x. test (f x)) xs
-list_all_map f test [] = refl
-list_all_map f test (x ∷ xs) = ap (λ b. test (f x) && b) (list_all_map f test xs)
-
 pub all_of_session : {X : Type 0} (f : X → StaySeen) (who : Who) (xs : List X) (r : Bool) → 0 < length xs → r ≡ list_all (λ x. is_of_session who (f x)) xs → r ≡ are_of_session who (map f xs)
 all_of_session f who [] r some is = absurd (omega arith)
-all_of_session f who (x ∷ xs) r some is = is ∙ sym (list_all_map f (is_of_session who) (x ∷ xs))
+all_of_session f who (x ∷ xs) r some is = is ∙ sym (list_all-map (is_of_session who) f (x ∷ xs))
 
 pub some_where_not : {X : Type 0} (xs : List X) → (length xs == 0) ≡ false → 0 < length xs
 some_where_not [] e = absurd (true≢false e)

@@ -7,7 +7,7 @@ use Rattle.aud_node.specs.Lists.{between}
 use Rattle.aud_node.specs.Cluster.{Cluster}
 use Rattle.aud_cert.specs.Certificate.{TurnSeen}
 use Rattle.aud_check.specs.declared.refusal.Refusal.{Refusal}
-use Rattle.aud_check.specs.declared.refusal.Refusal.TheVariants.{NotItsTurn, EndInside, NoEnd, Cursor, Span, Names, Received, Memory}
+use Rattle.aud_check.specs.declared.refusal.Refusal.TheVariants.{NotItsTurn, EndInside, NoEnd, Cursor}
 use Rattle.aud_check.specs.TurnRefusals.{is_begun_by, RefusesTurn, IsTurnAccepted}
 use Rattle.aud_check.proofs.Slices.{length-between}
 
@@ -18,10 +18,7 @@ module _ (c : Cluster) (pid : Text) (k : ℕ) (t : TurnSeen) (later : List TurnS
   not_refused is EndInside h = none-some is.ends.end (sym h ∙ is.ends.is_end)
   not_refused is NoEnd h = h is.ends
   not_refused is Cursor h = h is.cursors
-  not_refused is Span h = h
-  not_refused is Names h = h
-  not_refused is (Received fault) h = h
-  not_refused is Memory h = h
+  not_refused is _ h = h
 
 -- a turn that begins has a record
 pub begun-some : (pid : Text) (k : ℕ) (recs : List NodeRec) → is_begun_by pid k (slice_get recs 0) ≡ true → 0 < length recs

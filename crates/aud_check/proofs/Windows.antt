@@ -1,35 +1,45 @@
 -- What the stays asked for, one after another.
-use Rattle.std.proofs.Common.{◌≡◌, ◌≤◌, ◌+◌, ℕ, suc, Bool, true, false, cond, not, ◌&&◌, List, [], ◌∷◌, ◌++◌, length, map, take, drop, Some, slice_get, refl, sym, ap, ◌∙◌, arith, append-nil, length-append}
-use Rattle.std.proofs.lemmas.List.{take-append-drop}
+use Rattle.std.proofs.Common.{◌≡◌, ◌≤◌, ◌+◌, ◌-◌, ◌<◌, ℕ, Bool, true, false, cond, not, ◌&&◌, List, [], ◌∷◌, ◌++◌, length, map, take, drop, get_or, Some, slice_get, sym, ap, ◌∙◌, arith, append-nil, length-append}
+use Rattle.std.proofs.lemmas.Grind.{flat_map-append}
+use Rattle.std.proofs.lemmas.List.{length-map, take-append-drop}
 use Rattle.aud_tap.specs.declared.records.StreamRec.{StreamRec}
 use Rattle.aud_client.specs.Told.{StaySeen}
 use Rattle.aud_client.specs.Received.{is_recovered}
 use Rattle.aud_check.specs.Ascending.{is_cut_or_not}
 use Rattle.aud_check.specs.Frames.{asked_position, frames_in, is_asked_wrongly, wrong_window}
 use Rattle.aud_check.proofs.Cuts.{position_of, is_between-cut}
-use Rattle.aud_check.proofs.Steps.{take_at, drop_from, flat_more}
+use Rattle.aud_check.proofs.Steps.{at_map, take_at, drop_from}
 
-pub length-map : {X Y : Type 0} (f : X → Y) (xs : List X) → length (map f xs) ≡ length xs
-length-map f [] = refl
-length-map f (x ∷ xs) = ap suc (length-map f xs)
+module _ {X : Type 0} (f : X → StaySeen) (stream : List StreamRec) (xs : List X) (positions : List ℕ) (are : positions ≡ map position_of (frames_in (map f xs)))
+    (i left : ℕ) (x : X) (h : i < length xs) (is : x ≡ get_or xs i x) (rest : length (frames_in (take i (map f xs))) + left ≡ length positions) where
+  abbrev stays : List StaySeen
+  stays = map f xs
 
-module _ (stream : List StreamRec) (stays : List StaySeen) (positions : List ℕ) (are : positions ≡ map position_of (frames_in stays)) (i count : ℕ) (stay : StaySeen) (at : slice_get stays i ≡ Some stay)
-    (counted : count ≡ length (frames_in (take i stays))) where
+  abbrev stay : StaySeen
+  stay = f x
+
+  -- how many positions are those of the stays in front
+  abbrev count : ℕ
+  count = length positions - left
+
+  at : slice_get stays i ≡ Some stay
+  at = at_map f xs i x h is
+
+  counted : count ≡ length (frames_in (take i stays))
+  counted = omega (arith, rest)
+
   -- the frames in front, and those from the stay on
   parts : frames_in stays ≡ frames_in (take i stays) ++ frames_in (stay ∷ drop (i + 1) stays)
   parts =
       ap frames_in (sym (take-append-drop i stays) ∙ ap (λ ss. take i stays ++ ss) (drop_from stays i stay at))
-      ∙ flat_more (λ (s : StaySeen). s.frames) (take i stays) (stay ∷ drop (i + 1) stays)
+      ∙ flat_map-append (λ (s : StaySeen). s.frames) (take i stays) (stay ∷ drop (i + 1) stays)
 
   long : length positions ≡ count + (length stay.frames + length (frames_in (drop (i + 1) stays)))
   long =
-      ap length are ∙ length-map position_of (frames_in stays) ∙ ap length parts
+      ap length are ∙ length-map (frames_in stays) position_of ∙ ap length parts
       ∙ length-append (frames_in (take i stays)) (frames_in (stay ∷ drop (i + 1) stays))
       ∙ ap (λ n. n + length (stay.frames ++ frames_in (drop (i + 1) stays))) (sym counted)
       ∙ ap (λ n. count + n) (length-append stay.frames (frames_in (drop (i + 1) stays)))
-
-  pub count_within : count + length stay.frames ≤ length positions
-  count_within = omega (arith, long)
 
   wrongly : (is_recovered stay && not (is_cut_or_not positions count (asked_position stream stay.asked))) ≡ is_asked_wrongly stream (take i stays) stay (drop (i + 1) stays)
   wrongly =
@@ -51,9 +61,13 @@ module _ (stream : List StreamRec) (stays : List StaySeen) (positions : List ℕ
       → wrong_window stream (take (i + 1) stays) (drop (i + 1) stays) ≡ wrong_window stream (take i stays) (drop i stays)
   asked_rightly b is e = sym (judged b is ∙ ap (λ z. cond z (Some stay.c) (wrong_window stream (take (i + 1) stays) (drop (i + 1) stays))) e)
 
-  pub counted_more : count + length stay.frames ≡ length (frames_in (take (i + 1) stays))
-  counted_more =
-      ap (λ n. n + length stay.frames) counted
-      ∙ sym (length-append (frames_in (take i stays)) stay.frames)
-      ∙ ap (λ fs. length (frames_in (take i stays) ++ fs)) (sym (append-nil stay.frames))
-      ∙ sym (ap length (ap frames_in (take_at stays i stay at) ∙ flat_more (λ (s : StaySeen). s.frames) (take i stays) (stay ∷ [])))
+  -- the positions from the next stay on
+  pub left_more : (length stay.frames ≤ left) × (length (frames_in (take (i + 1) stays)) + (left - length stay.frames) ≡ length positions)
+  left_more =
+      let more : length (frames_in (take (i + 1) stays)) ≡ length (frames_in (take i stays)) + length stay.frames =
+          ap length (ap frames_in (take_at stays i stay at) ∙ flat_map-append (λ (s : StaySeen). s.frames) (take i stays) (stay ∷ []))
+          ∙ length-append (frames_in (take i stays)) (stay.frames ++ [])
+          ∙ ap (λ fs. length (frames_in (take i stays)) + length fs) (append-nil stay.frames)
+      in
+      let within = long in
+      (omega (arith, within, rest, counted), omega (arith, within, rest, counted, more))

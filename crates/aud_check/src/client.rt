@@ -54,13 +54,14 @@ fn check_told(
     ensures refused { IfErr result (IsClientRefusal session.now (case_for logs.now client.now session.now.pid due.now)) }
 {
     received_by_stays();
-    let Ok(stays) = told.naming(alloc, session.pid) else {
+    let Ok(named) = told.naming(alloc, session.pid) else {
         return Err(Refusal::Memory);
     };
-    if !are_of_session(session, stays.as_slice()) {
+    let stays = named.as_slice();
+    if !are_of_session(session, stays) {
         return Err(Refusal::Names);
     }
-    match check_received(alloc, logs.stream(), told.received(), stays.as_slice(), due) {
+    match check_received(alloc, logs.stream(), told.received(), stays, due) {
         Ok(got) => Ok(got),
         Err(Wrong::Fault(fault)) => Err(Refusal::Received(fault)),
         Err(Wrong::Memory) => Err(Refusal::Memory),

@@ -4,7 +4,8 @@
 //! With the `recording` of `examples/bundle_a.jsonl`:
 //!
 //! ```
-//! use aud_cert::{Fault, write_cert};
+//! use aud_cert::Fault;
+//! use aud_cert_text::write_cert;
 //! use aud_maker::{MakeFault, make};
 //!
 //! let Ok(cert) = make(alloc, recording, "P") else {

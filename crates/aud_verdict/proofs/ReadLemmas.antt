@@ -3,13 +3,13 @@ use Rattle.std.proofs.Common.{◌≡◌, ◌<◌, Bool, true, false, List, [], �
 use Rattle.std.proofs.lemmas.Bool.{false≢true, and_parts}
 use Rattle.aud_node.specs.Stream.{Text}
 use Rattle.aud_node.specs.Cluster.{Cluster}
-use Rattle.aud_cert.specs.declared.fault.CertFault.{CertFault}
-use Rattle.aud_cert.specs.declared.fault.CertFault.TheVariants.{Syntax, UnknownTap, Range}
+use Rattle.aud_cert_text.specs.declared.fault.CertFault.{CertFault}
+use Rattle.aud_cert_text.specs.declared.fault.CertFault.TheVariants.{Syntax, UnknownTap, Range}
 use Rattle.aud_cert.specs.Certificate.{TurnSeen, CertificateSeen, IsOver}
-use Rattle.aud_cert.specs.Steps.{◌>>=◌, guard, each}
-use Rattle.aud_cert.specs.Told.{TurnTold, CertificateTold, told_in}
-use Rattle.aud_cert.specs.Reading.{json_of, has_turns, is_formed, is_client, turn_over, certificate_over, is_within, certificate_of}
-use Rattle.aud_cert.proofs.Over.{each-length, turns-over}
+use Rattle.aud_cert_text.specs.Steps.{◌>>=◌, guard, each}
+use Rattle.aud_cert_text.specs.Told.{TurnTold, CertificateTold, told_in}
+use Rattle.aud_cert_text.specs.Reading.{json_of, has_turns, is_formed, is_client, turn_over, certificate_over, is_within, certificate_of}
+use Rattle.aud_cert_text.proofs.Over.{each-length, turns-over}
 
 -- what each step gave
 step_ok : {A B : Type 0} (r : Result A CertFault) (f : A → Result B CertFault) (y : B) → (r >>= f) ≡ Ok y → (x : A) × (r ≡ Ok x) × (f x ≡ Ok y)

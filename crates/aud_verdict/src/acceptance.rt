@@ -10,7 +10,7 @@ ghost use Rattle.aud_merge.specs.Runs.{IsRun};
 ghost use Rattle.aud_merge.specs.Due.{due};
 ghost use Rattle.aud_merge.specs.ByTurns.{IsPrefixOf};
 ghost use Rattle.aud_cert.specs.Certificate.{CertificateSeen, IsOver};
-ghost use Rattle.aud_cert.specs.Reading.{certificate_of};
+ghost use Rattle.aud_cert_text.specs.Reading.{certificate_of};
 ghost use Rattle.aud_maker.specs.Made.{IsMade};
 ghost use Rattle.aud_check.specs.declared.refusal.Refusal.{Refusal};
 ghost use Rattle.aud_check.specs.Faults.{positions_in};

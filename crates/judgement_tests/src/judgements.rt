@@ -1,7 +1,8 @@
 //! Certificates, and the answers on them, as texts.
 ghost use Rattle.std.specs.Prelude.{◌≡◌};
 
-use aud_cert::{CertFault, Certificate, Turn, read_cert, write_cert};
+use aud_cert::{Certificate, Turn};
+use aud_cert_text::{CertFault, read_cert, write_cert};
 use aud_check::{Accepted, Refusal, check};
 use aud_client::Recording;
 use aud_maker::{MakeFault, make, sessions};

@@ -1,5 +1,6 @@
 //! The words of faults, of refusals and of counts, as docs/FORMAT.md has them.
-use aud_cert::{CertFault, Fault};
+use aud_cert::Fault;
+use aud_cert_text::CertFault;
 use aud_check::{Accepted, Refusal};
 use aud_tap::Text;
 use std::test::Fail;

@@ -1,18 +1,18 @@
 use Rattle.std.specs.Result.{OnOk, IfOk, IfErr}
 use Rattle.std.proofs.Common.{◌≡◌, ◌+◌, List, length, refl, sym, ap, ◌∙◌}
+use Rattle.std.proofs.lemmas.Result.{on_ok_weaker, IfOk-weaker, IfErr-weaker}
 use Rattle.aud_merge.specs.declared.step.Step.{Step}
 use Rattle.aud_merge.specs.Runs.{IsRun}
 use Rattle.aud_merge.specs.Due.{due}
 use Rattle.aud_merge.specs.ByTurns.{IsPrefixOf}
-use Rattle.aud_rooms.specs.Turns.{AreTurns, IsChain}
+use Rattle.aud_rooms.specs.Turns.{IsChain}
 use Rattle.aud_check.specs.declared.certificate.Accepted.{Accepted}
 use Rattle.aud_check.specs.declared.refusal.Refusal.{Refusal}
 use Rattle.aud_check.specs.Faults.{positions_in}
-use Rattle.aud_check.specs.Frames.{AreEntries}
 use Rattle.aud_check.specs.Shown.{frames_received, shown_due, turns_of, who_of}
-use Rattle.aud_check.specs.Refusals.{IsAccepted, IsFirstRefusal, IsMismatch, Place, Refuses, case_of}
+use Rattle.aud_check.specs.Refusals.{IsAccepted, IsFirstRefusal, IsMismatch, case_of}
 use Rattle.aud_check.proofs.AcceptedTurns.{all_accepted, are_turns}
-use Rattle.aud_check.proofs.Headline.{carried, on_ok, if_ok, if_err, first_of_all, in_every_run, in_no_run}
+use Rattle.aud_check.proofs.Headline.{carried, first_of_all, in_every_run, in_no_run}
 use Rattle.aud_check.proofs.Judged.{same_cert}
 use Rattle.aud_check.proofs.Ranks.{nothing_refuses}
 use Rattle.aud_check.proofs.certificate.check.Goals as goal
@@ -31,26 +31,26 @@ returns c =
     let turns = carried (λ l x. IfOk result (λ (a : Accepted). a.turns ≡ length x.turns)) same parts c.judge.ensures.turns in
     record {
       accepted = accepted;
-      not_refused = on_ok result (IsAccepted C cert) ((place : Place) (refusal : Refusal) → Refuses C cert place refusal → ⊥) (nothing_refuses C cert) accepted;
+      not_refused = on_ok_weaker result (nothing_refuses C cert) accepted;
       refused = refused;
       got = got;
       tail = tail;
       turns = turns;
       are_turns =
-          on_ok result (IsAccepted C cert) (AreTurns C (who_of cert) 0 (turns_of C cert))
+          on_ok_weaker result
           (λ (is : IsAccepted C cert). are_turns C cert c.requires.over (all_accepted C cert.pid cert.turns is.are_turns)) accepted;
       in_every_run =
-          on_ok result (IsAccepted C cert) ((run : List Step) → IsRun C run → IsPrefixOf (positions_in (case_of C cert)) (due C run cert.pid))
+          on_ok_weaker result
           (λ (is : IsAccepted C cert). in_every_run C cert c.due_by_turns.ensures.prefix c.requires.over is.are_turns is.is_received.is_prefix) accepted;
       frames_are_entries =
-          on_ok result (IsAccepted C cert) (AreEntries C.stream (frames_received C cert))
+          on_ok_weaker result
           (λ (is : IsAccepted C cert). is.is_received.are_entries) accepted;
       counts_in_every_run =
-          if_ok result (λ (a : Accepted). a.got + a.tail ≡ length (shown_due C cert))
+          IfOk-weaker result (λ (a : Accepted). a.got + a.tail ≡ length (shown_due C cert))
           (λ (a : Accepted). IsChain C (who_of cert) (turns_of C cert) → (run : List Step) → IsRun C run → a.got + a.tail ≡ length (due C run cert.pid))
           (λ a all chain run is. all ∙ sym (ap length (c.due_by_turns.ensures.all C run (who_of cert) (turns_of C cert) is chain))) tail;
       in_no_run =
-          if_err result (IsFirstRefusal C cert)
+          IfErr-weaker result (IsFirstRefusal C cert)
           (λ (refusal : Refusal). IsMismatch refusal → IsChain C (who_of cert) (turns_of C cert) → (run : List Step) → IsRun C run → IsPrefixOf (positions_in (case_of C cert)) (due C run cert.pid) → ⊥)
           (λ refusal first about. in_no_run C cert refusal (first_of_all C cert refusal about first) about c.due_by_turns.ensures.all) refused;
     }

@@ -1,8 +1,0 @@
-use Rattle.std.proofs.Common.{◌≡◌, drop}
-use Rattle.aud_cert.specs.Steps.{each}
-use Rattle.aud_cert.specs.Reading.{turn_over}
-use Rattle.aud_cert.proofs.Lists.{with_front}
-use Rattle.aud_cert.proofs.lend.turns.Given as goal
-
-abbrev pub invariant-loop-told : goal.invariant-loop-told
-invariant-loop-told l = with_front l.turns.items (each (turn_over l.logs) (drop l.told-index l.told)) ≡ each (turn_over l.logs) l.told

@@ -1,0 +1,8 @@
+pub use Rattle.aud_node.specs.Cluster
+pub use Rattle.aud_cert.specs.Certificate
+pub mod Fault
+pub mod Text
+pub mod Steps
+pub mod Told
+pub mod Reading
+pub mod Sound

@@ -1,0 +1,26 @@
+-- Certificates that come back from their text.
+use Rattle.std.specs.Prelude.{◌≡◌, ◌&&◌, Bool, true, map}
+use Rattle.std.specs.List.{list_all}
+use Rattle.aud_node.specs.Cluster.{Cluster}
+use Rattle.aud_cert.specs.Certificate.{TurnSeen, CertificateSeen, IsOver}
+use Rattle.aud_cert_text.specs.Told.{TurnTold, CertificateTold}
+use Rattle.aud_cert_text.specs.Reading.{is_formed, is_node, is_client, is_within}
+
+-- the turn without its records
+abbrev pub turn_told : TurnSeen → TurnTold
+turn_told t = record { node = t.node; from = t.from; to = t.to; low = t.low; high = t.high }
+
+-- the certificate without the records of its turns
+abbrev pub told_by : CertificateSeen → CertificateTold
+told_by cert = record { pid = cert.pid; client = cert.client; turns = map turn_told cert.turns; spans = cert.spans }
+
+-- the client is a client tap's name, and each turn's node a node tap's
+abbrev pub names_taps : Cluster → CertificateSeen → Bool
+names_taps c cert = is_client c cert.client && list_all (λ (t : TurnSeen). is_node c t.node) cert.turns
+
+-- nothing of it is refused over these logs, and its records are theirs
+pub record IsSound (c : Cluster) (cert : CertificateSeen) : Type 0 where
+  pub formed : is_formed (told_by cert) ≡ true
+  pub taps : names_taps c cert ≡ true
+  pub within : is_within c cert ≡ true
+  pub over : IsOver c cert

@@ -1,0 +1,104 @@
+//! Names of taps, looked up in the logs, and what is lent from there.
+ghost use Rattle.std.specs.Prelude.{◌≡◌, length, Ok, IfOk, IfSome, is_some, MatchResult};
+ghost use Rattle.std.specs.List.{All};
+ghost use Rattle.aud_cert_text.specs.Steps.{Gives, Fails, each};
+ghost use Rattle.aud_cert.specs.Certificate.{log_named, IsTurnOver, IsOver};
+ghost use Rattle.aud_cert_text.specs.Reading.{is_node, is_client, turn_over, certificate_over};
+
+use crate::fault::CertFault;
+use crate::told::{CertificateTold, TurnTold};
+use aud_cert::{Certificate, Turn};
+use aud_node::{Logs, Recs};
+use std::alloc::Global;
+
+/// A node's tap: its name and its records.
+#[derive(Drop)]
+pub struct NodeNamed<'a> {
+    pub name: &'a str,
+    pub recs: Recs<'a>,
+}
+
+/// The node's tap with this name.
+pub fn node_named<'a>(logs: &'a Logs<'_>, name: &str) -> Option<NodeNamed<'a>>
+    ensures known { is_some result ≡ is_node logs.now name.now }
+    ensures name { IfSome result (λ n. n.name.now ≡ name.now) }
+    ensures recs { IfSome result (λ n. n.recs ≡ log_named logs.now name.now) }
+{
+    let place = logs.place_of(name)?;
+    let log = logs.node(place)?;
+    let tap = logs.taps().get(place)?;
+    Some(NodeNamed {
+        name: tap.name.as_str(),
+        recs: log.recs(),
+    })
+}
+
+/// The name, lent from the logs, if the tap with it is a client's.
+fn client_named<'a>(logs: &'a Logs<'_>, name: &str) -> Option<&'a str>
+    ensures known { is_some result ≡ is_client logs.now name.now }
+    ensures name { IfSome result (λ s. s.now ≡ name.now) }
+{
+    let place = logs.place_of(name)?;
+    logs.client(place)?;
+    let tap = logs.taps().get(place)?;
+    Some(tap.name.as_str())
+}
+
+/// The turn with its records.
+#[tactic(auto, unfolding(crate::specs::Reading::turn_over))]
+fn turn<'a>(logs: &'a Logs<'_>, told: &TurnTold<'_>) -> Result<Turn<'a>, CertFault>
+    ensures { Gives result (turn_over logs.now told.now) }
+{
+    let node = node_named(logs, told.node).ok_or(CertFault::UnknownTap)?;
+    Ok(Turn {
+        node: node.name,
+        from: told.from,
+        to: told.to,
+        low: told.low,
+        high: told.high,
+        recs: node.recs.between(told.from as usize, told.to as usize),
+    })
+}
+
+fn turns<'a>(
+    alloc: Global,
+    logs: &'a Logs<'_>,
+    told: &[TurnTold<'_>],
+) -> Result<Vec<Turn<'a>>, CertFault>
+    ensures reads { MatchResult result
+        (λ turns. each (turn_over logs.now) told.now ≡ Ok turns.items)
+        (λ e. Fails e (each (turn_over logs.now) told.now)) }
+    ensures over { IfOk result (λ turns. All (IsTurnOver logs.now) turns.items) }
+    ensures count { IfOk result (λ turns. length turns.items ≡ length told.now) }
+{
+    let mut turns = Vec::new(alloc);
+    for told in told {
+        let turn = turn(logs, told)?;
+        if turns.push(turn).is_err() {
+            return Err(CertFault::Memory);
+        }
+    }
+    Ok(turns)
+}
+
+/// The certificate with its records, lent from the logs.
+#[tactic(auto, unfolding(crate::specs::Reading::certificate_over))]
+pub fn certificate<'a>(
+    alloc: Global,
+    logs: &'a Logs<'_>,
+    told: CertificateTold<'_, 'a>,
+) -> Result<Certificate<'a>, CertFault>
+    ensures reads { Gives result (certificate_over logs.now told.entry) }
+    ensures over { IfOk result (λ cert. IsOver logs.now cert) }
+    ensures count { IfOk result (λ cert. length cert.turns ≡ length told.entry.turns) }
+{
+    let client = client_named(logs, told.client).ok_or(CertFault::UnknownTap)?;
+    let turns = turns(alloc, logs, told.turns.as_slice())?;
+    let pid = String::from_str(alloc, told.pid)?;
+    Ok(Certificate {
+        pid,
+        client,
+        turns,
+        spans: told.spans,
+    })
+}

@@ -1,0 +1,78 @@
+//! The text of a certificate.
+ghost use Rattle.std.specs.Prelude.{◌≡◌, Ok, IfOk, IfErr, string_bytes};
+ghost use Rattle.serde_json.specs.View.{view, items_view};
+ghost use Rattle.aud_node.specs.Cluster.{Cluster};
+ghost use Rattle.aud_cert_text.specs.declared.fault.CertFault.TheVariants.{Memory};
+ghost use Rattle.aud_cert_text.specs.Reading.{json_of, certificate_of};
+ghost use Rattle.aud_cert_text.specs.Sound.{IsSound};
+ghost use Rattle.aud_cert_text.specs.Text.{items, span_data, turn_data, certificate_data, text_of};
+
+use crate::fault::CertFault;
+use aud_cert::{Certificate, Turn};
+use aud_rooms::Span;
+use serde_json::{Value, json};
+use std::alloc::{AllocError, Global};
+
+/// `[room,first,last]`.
+fn span_value(alloc: Global, span: &Span<'_>) -> Result<Value, AllocError>
+    ensures { IfOk result (λ v. view v ≡ span_data span.now) }
+{
+    json!(in alloc; [span.room.as_str(), span.first, span.last])
+}
+
+/// `[node,from,to,low,high]`.
+fn turn_value(alloc: Global, turn: &Turn<'_>) -> Result<Value, AllocError>
+    ensures { IfOk result (λ v. view v ≡ turn_data turn.now) }
+{
+    json!(in alloc; [turn.node, turn.from, turn.to, turn.low, turn.high])
+}
+
+fn span_values(alloc: Global, spans: &[Span<'_>]) -> Result<Vec<Value>, AllocError>
+    ensures { IfOk result (λ vs. items_view vs.items ≡ items span_data spans.now) }
+{
+    let mut values = Vec::new(alloc);
+    for span in spans {
+        values.push(span_value(alloc, span)?)?;
+    }
+    Ok(values)
+}
+
+fn turn_values(alloc: Global, turns: &[Turn<'_>]) -> Result<Vec<Value>, AllocError>
+    ensures { IfOk result (λ vs. items_view vs.items ≡ items turn_data turns.now) }
+{
+    let mut values = Vec::new(alloc);
+    for turn in turns {
+        values.push(turn_value(alloc, turn)?)?;
+    }
+    Ok(values)
+}
+
+fn certificate_value(alloc: Global, cert: &Certificate<'_>) -> Result<Value, AllocError>
+    ensures { IfOk result (λ v. view v ≡ certificate_data cert.now) }
+{
+    let pid = cert.pid.as_str();
+    let spans = cert.spans.as_slice();
+    let turns = cert.turns.as_slice();
+    json!(in alloc; {"client": cert.client, "pid": pid, "spans": span_values(alloc, spans)?, "turns": turn_values(alloc, turns)?})
+}
+
+fn certificate_json(alloc: Global, cert: &Certificate<'_>) -> Result<String, AllocError>
+    ensures text { IfOk result (λ text. string_bytes text ≡ text_of cert.now) }
+    ensures reads { IfOk result (λ text. json_of (string_bytes text) ≡ Ok (certificate_data cert.now)) }
+{
+    let value = certificate_value(alloc, cert)?;
+    value.to_string(alloc)
+}
+
+/// The text of a certificate: one line of JSON without blanks and without a newline, its keys in byte order. Its records
+/// are not written. The one error is `Memory`.
+pub fn write_cert(alloc: Global, cert: &Certificate<'_>) -> Result<String, CertFault>
+    ensures written { IfOk result (λ text. string_bytes text ≡ text_of cert.now) }
+    ensures refused { IfErr result (λ e. e ≡ Memory) }
+    ensures reads_back { IfOk result (λ text. (c : Cluster) → IsSound c cert.now → certificate_of c (string_bytes text) ≡ Ok cert.now) }
+{
+    match certificate_json(alloc, cert) {
+        Ok(text) => Ok(text),
+        Err(_) => Err(CertFault::Memory),
+    }
+}
