@@ -13,7 +13,8 @@ use Rattle.aud_node.specs.Cluster.{Cluster}
 use Rattle.aud_node.specs.Stream.{Text}
 use Rattle.aud_client.specs.Replies.{is_naming, naming_places}
 use Rattle.aud_client.specs.Received.{ReceivedSeen, received_of}
-use Rattle.aud_client.specs.Recording.{told_at, told_by, is_told, places_telling}
+use Rattle.aud_client.specs.Clients.{told_by, is_told, places_telling}
+use Rattle.aud_client.specs.Recording.{told_at}
 use Rattle.aud_client.proofs.Named.{named_by_replies}
 
 abbrev pub flat : Option (Option ReceivedSeen) → Option ReceivedSeen
