@@ -2,7 +2,7 @@
 use Rattle.std.proofs.Common.{◌≡◌, ℕ, Bool, true, false, not, ◌&&◌, cond, List, [], ◌∷◌, ◌++◌, map, flat_map, refl, sym, ap, ◌∙◌, inl, inr}
 use Rattle.std.specs.List.{list_all}
 use Rattle.std.specs.Str.{bytes_eq}
-use Rattle.std.proofs.lemmas.Bool.{false≢true, cases_Bool, not-false, and_parts}
+use Rattle.std.proofs.lemmas.Bool.{false≢true, cases_Bool, not-false, and_from, and_parts}
 use Rattle.std.proofs.lemmas.List.{append_assoc, append-nil}
 use Rattle.std.proofs.lemmas.List.Elements.{filter-append, filter_map-append}
 use Rattle.std.proofs.lemmas.List.Folds.{list_all-append}
@@ -16,6 +16,7 @@ use Rattle.aud_client.specs.Open.{of_namespace}
 use Rattle.aud_client.specs.Told.{FrameSeen, StaySeen, told, frame_of, frames_of, namespace_of}
 use Rattle.aud_client.specs.Received.{packets_of, stays_of, names, stays_naming, frames_by_stay, received_from, received_list, received_of, are_in}
 use Rattle.aud_client.proofs.Places.{same_text, itself_text, stay_after-same, stay_after-other, begins-in, of_stay_at}
+use Rattle.aud_client.proofs.OnePass.{whole_stay-nil}
 use Rattle.aud_client.proofs.Named.{stay_names}
 
 -- what follows of the stay among the packets behind, all of one namespace
@@ -216,17 +217,13 @@ module _ (stream : List StreamRec) (pid n : Text) where
 
   -- ---- a connection
 
-  whole-nil : (m : List TapPacket) → whole_stay [] m ≡ []
-  whole-nil [] = refl
-  whole-nil (q ∷ m) = refl
-
   rest-nil : (m : List TapPacket) → rest_of [] m ≡ []
   rest-nil [] = refl
   rest-nil (q ∷ m) = refl
 
   by_place : (l : List TapPacket) → list_all fits (stays l) ≡ true → received_from stream pid [] l ≡ flat_map of_stay (stays l)
   by_place l fit =
-      goes [] l fit (λ m other. ap (stay_names pid) (whole-nil (in_namespace m l)))
+      goes [] l fit (λ m other. ap (stay_names pid) (whole_stay-nil (in_namespace m l)))
       ∙ ap (λ x. if_named (stay_names pid (whole_stay [] (in_namespace n l))) x ++ flat_map of_stay (stays l)) (rest-nil (in_namespace n l))
       ∙ ap (λ x. x ++ flat_map of_stay (stays l)) (nothing (stay_names pid (whole_stay [] (in_namespace n l))))
 
@@ -239,10 +236,6 @@ module _ (stream : List StreamRec) (pid n : Text) where
           ≡ flat_map (λ stay. stay.frames) (cond b (told stream c s ∷ stays_naming pid (map (told stream c) ss)) (stays_naming pid (map (told stream c) ss)))
       go true ih = ap (λ l. frames_of stream s ++ l) ih
       go false ih = ih
-
-  both_true : (a b : Bool) → a ≡ true → b ≡ true → (a && b) ≡ true
-  both_true true b p q = q
-  both_true false b p q = absurd (false≢true p)
 
   fit : (c : ℕ) (ss : List (List TapPacket)) → are_in n (stays_naming pid (map (told stream c) ss)) ≡ true → list_all fits ss ≡ true
   fit c [] e = refl
@@ -258,7 +251,7 @@ module _ (stream : List StreamRec) (pid n : Text) where
           → (cond b (of_namespace n s) true && list_all fits ss) ≡ true
       go true is e ih =
           let parts = and_parts (bytes_eq (namespace_of s) n) (are_in n (stays_naming pid (map (told stream c) ss))) e in
-          both_true _ _ (in_it s is parts.0) (ih parts.1)
+          and_from _ _ (in_it s is parts.0) (ih parts.1)
       go false is e ih = ih e
 
   -- ---- a tap

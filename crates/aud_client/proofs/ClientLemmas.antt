@@ -11,6 +11,7 @@ use Rattle.std.specs.Option.{option_or}
 use Rattle.std.proofs.lemmas.List.{map-append, drop_all}
 use Rattle.std.proofs.lemmas.Grind.{flat_map-append}
 use Rattle.aud_client.specs.declared.connection.Reader.{Reader}
+use Rattle.aud_client.proofs.Telling.{or_none}
 
 -- what stands before the next end
 pub until_end-numbered : (n : ℕ) (recs : List ClientRec) → until_end (numbered n recs) ≡ numbered n (inside recs)
@@ -87,7 +88,3 @@ HasTaken-all recs i seen bad end held =
       sym (append-nil seen) ∙ sym (ap (λ r. seen ++ map cut_seen (connections_in (numbered i r))) none) ∙ held.connections_are,
       sym (or_none bad) ∙ sym (ap (λ r. option_or bad (bad_of (connections_in (numbered i r)))) none) ∙ held.bad_is,
     )
-  where
-    or_none : (o : Option ℕ) → option_or o None ≡ o
-    or_none None = refl
-    or_none (Some n) = refl

@@ -1,7 +1,7 @@
 -- One packet more: it begins a stay at the end of the list, or it goes on with the last one of its namespace.
 use Rattle.std.proofs.Common.{◌≡◌, ℕ, suc, Bool, true, false, not, ◌&&◌, ◌||◌, cond, List, [], ◌∷◌, ◌++◌, length, set, refl, sym, ap, ◌∙◌, inl, inr, Option, Some, None, option_map, slice_get}
 use Rattle.std.specs.Str.{bytes_eq}
-use Rattle.std.proofs.lemmas.Bool.{true≢false, false≢true, cases_Bool, not-true, not-false}
+use Rattle.std.proofs.lemmas.Bool.{true≢false, false≢true, cases_Bool, not-true, not-false, or_parts}
 use Rattle.std.proofs.lemmas.List.{append_assoc, append-nil}
 use Rattle.std.proofs.lemmas.List.Folds.{list_any-append}
 use Rattle.std.proofs.lemmas.Option.{same_Some, none-some}
@@ -19,23 +19,21 @@ abbrev pub last_in : List ℕ → List (List TapPacket) → List TapPacket
 last_in n [] = []
 last_in n (s ∷ ss) = cond (has n ss) (last_in n ss) (cond (of_namespace n s) s [])
 
+-- where no stay is in the namespace, none grows, and none is the last
 grow-none : (n : List ℕ) (p : TapPacket) (ss : List (List TapPacket)) → has n ss ≡ false → grow n p ss ≡ ss
 grow-none n p [] e = refl
-grow-none n p (s ∷ ss) e = go (grow-none n p ss) (of_namespace n s) e
-  where
-    go : (has n ss ≡ false → grow n p ss ≡ ss) → (b : Bool) → (b || has n ss) ≡ false → cond (b && not (has n ss)) ((s ++ p ∷ []) ∷ ss) (s ∷ grow n p ss) ≡ s ∷ ss
-    go ih true h = absurd (true≢false h)
-    go ih false h = ap (λ l. s ∷ l) (ih h)
+grow-none n p (s ∷ ss) e =
+    let parts = or_parts (of_namespace n s) (has n ss) e in
+    ap (λ b. cond (b && not (has n ss)) ((s ++ p ∷ []) ∷ ss) (s ∷ grow n p ss)) parts.0 ∙ ap (λ l. s ∷ l) (grow-none n p ss parts.1)
 
 pub last_in-none : (n : List ℕ) (ss : List (List TapPacket)) → has n ss ≡ false → last_in n ss ≡ []
 last_in-none n [] e = refl
-last_in-none n (s ∷ ss) e = go (of_namespace n s) e
-  where
-    go : (b : Bool) → (b || has n ss) ≡ false → cond (has n ss) (last_in n ss) (cond b s []) ≡ []
-    go true h = absurd (true≢false h)
-    go false h = ap (λ b. cond b (last_in n ss) []) h
+last_in-none n (s ∷ ss) e =
+    let parts = or_parts (of_namespace n s) (has n ss) e in
+    ap (λ b. cond b (last_in n ss) (cond (of_namespace n s) s [])) parts.1 ∙ ap (λ b. cond b s []) parts.0
 
-whole_stay-nil : (m : List TapPacket) → whole_stay [] m ≡ []
+-- no packet goes on with no stay
+pub whole_stay-nil : (m : List TapPacket) → whole_stay [] m ≡ []
 whole_stay-nil [] = refl
 whole_stay-nil (q ∷ m) = refl
 
@@ -177,11 +175,9 @@ place-grow n m p (s ∷ ss) = go (place-grow n m p ss) (of_namespace n s) (not (
 
 place-none : (n : List ℕ) (ss : List (List TapPacket)) → has n ss ≡ false → place n ss ≡ None
 place-none n [] e = refl
-place-none n (s ∷ ss) e = go (of_namespace n s) e
-  where
-    go : (b : Bool) → (b || has n ss) ≡ false → cond (has n ss) (option_map suc (place n ss)) (cond b (Some 0) None) ≡ None
-    go true h = absurd (true≢false h)
-    go false h = ap (λ b. cond b (option_map suc (place n ss)) None) h
+place-none n (s ∷ ss) e =
+    let parts = or_parts (of_namespace n s) (has n ss) e in
+    ap (λ b. cond b (option_map suc (place n ss)) (cond (of_namespace n s) (Some 0) None)) parts.1 ∙ ap (λ b. cond b (Some 0) None) parts.0
 
 pub place-push : (m : List ℕ) (p : TapPacket) (ss : List (List TapPacket)) → place m (ss ++ (p ∷ []) ∷ []) ≡ cond (bytes_eq (namespace p) m) (Some (length ss)) (place m ss)
 place-push m p [] = refl

@@ -108,7 +108,7 @@ refused-at number (x ∷ xs) =
     ∙ ap (λ b. is_refused x || b) (refused-at number xs)
 
 -- a record from the server, whose Engine.IO packets are these
-pub ReadsRecord-server : (number : ℕ) (rec : ClientRec) (r : Result (List eio.Packet) EioFault) (old new : Reader) → engine_packets rec ≡ r
+ReadsRecord-server : (number : ℕ) (rec : ClientRec) (r : Result (List eio.Packet) EioFault) (old new : Reader) → engine_packets rec ≡ r
     → ((answers : List (ℕ × Answer)) → packets_at answers (number, rec) ≡ at number (received number answers))
     → ReadsEngine number r old new → ReadsRecord number rec old new
 ReadsRecord-server number rec (Ok packets) old new is from_server reads =
@@ -131,3 +131,11 @@ ReadsRecord-server number rec (Err fault) old new is from_server reads =
       bad_is = reads.bad_is ∙ ap (bad_or old.bad number) (sym (ap (λ e. is_refused e || false) is));
       waits = λ w. subst Waits (sym reads.assembler_is) w;
     }
+
+-- the same, of a call that reads the record given
+pub OnOk-server : {A E : Type 0} (c : Result A E) (number : ℕ) (rec given : ClientRec) (r : Result (List eio.Packet) EioFault) (old new : Reader) → rec ≡ given → engine_packets given ≡ r
+    → ((answers : List (ℕ × Answer)) → packets_at answers (number, given) ≡ at number (received number answers))
+    → OnOk c (ReadsEngine number r old new) → OnOk c (ReadsRecord number rec old new)
+OnOk-server (Ok x) number rec given r old new same is from_server reads =
+    subst (λ (it : ClientRec). ReadsRecord number it old new) (sym same) (ReadsRecord-server number given r old new is from_server reads)
+OnOk-server (Err e) number rec given r old new same is from_server reads = reads

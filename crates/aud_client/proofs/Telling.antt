@@ -54,7 +54,7 @@ same_told : (c : ℕ) (n : Text) (r u : Option ReplySeen) (a b : Option AskedSee
     → ◌≡◌ {A = StaySeen} (record { c = c; nsp = n; reply = r; asked = a; frames = f }) (record { c = c; nsp = n; reply = u; asked = b; frames = g })
 same_told c n r u a b f g q v w = λ i. record { c = c; nsp = n; reply = q i; asked = v i; frames = w i }
 
-or_none : {X : Type 0} (o : Option X) → option_or o None ≡ o
+pub or_none : {X : Type 0} (o : Option X) → option_or o None ≡ o
 or_none None = refl
 or_none (Some x) = refl
 
