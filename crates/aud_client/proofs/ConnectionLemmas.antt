@@ -46,6 +46,7 @@ refused_at-elsewhere : (k n : ℕ) (xs : List Answer) → k < n → refused_at k
 refused_at-elsewhere k n [] h = refl
 refused_at-elsewhere k n (x ∷ xs) h = ap (λ b. (b && is_refused x) || refused_at k (at n xs)) (differ_up k n h) ∙ refused_at-elsewhere k n xs h
 
+-- answers at a later record add nothing to an earlier one
 received-other : (k n : ℕ) (xs : List (ℕ × Answer)) (ys : List Answer) → k < n → received k (xs ++ at n ys) ≡ received k xs
 received-other k n [] ys h = received-elsewhere k n ys h
 received-other k n ((place, Ok whole) ∷ xs) ys h = ap (λ r. cond (nat_eq place k) (Received whole ∷ r) r) (received-other k n xs ys h)

@@ -30,12 +30,3 @@ pub connection_done : (stream : List StreamRec) (st : Stays) (done : List StaySe
     → Keeps stream connection.c st done (packets_seen connection.packets.items) → st.stays.items ≡ done ++ stays_of stream (connection_seen connection)
 connection_done stream st done connection keeps =
     keeps.stays_are ∙ ap (λ l. done ++ map (told stream connection.c) (stays l)) (same_packets connection.packets.items)
-
--- one connection more
-pub connection_more : (stream : List StreamRec) (connections : List Connection) (connection : Connection)
-    → flat_map (stays_of stream) (connections_seen (connections ++ connection ∷ []))
-    ≡ flat_map (stays_of stream) (connections_seen connections) ++ stays_of stream (connection_seen connection)
-connection_more stream connections connection =
-    ap (flat_map (stays_of stream)) (map-append connection_seen connections (connection ∷ []))
-    ∙ flat_map-append (stays_of stream) (connections_seen connections) (connection_seen connection ∷ [])
-    ∙ ap (λ l. flat_map (stays_of stream) (connections_seen connections) ++ l) (append-nil _)

@@ -33,6 +33,7 @@ module _ (stream : List StreamRec) (c : ℕ) where
   told_at st done l p k keeps at =
       ap (λ ts. slice_get ts (length done + k)) keeps.stays_are ∙ get_behind done (map (told stream c) (stays l)) k ∙ slice_get-map (told stream c) (stays l) k ∙ ap (option_map (told stream c)) (open-some l p k at).0
 
+  -- the place that the code finds, in the words of the definition
   pub place_for-is : (st : Stays) (done : List StaySeen) (l : List TapPacket) (p : TapPacket) → Keeps stream c st done l
       → place_for st p ≡ cond (begins l p) None (option_map (λ k. length done + k) (open_place (namespace p) l))
   place_for-is st done l p keeps = go (open_place (namespace p) l) refl
@@ -57,6 +58,7 @@ module _ (stream : List StreamRec) (c : ℕ) where
           ap (option_and_then (λ k. option_and_then (unless_replied p k) (slice_get st.stays.items k))) (keeps.open_are (namespace p) ∙ ap (option_map (λ k. length done + k)) at)
           ∙ behind k at (slice_get st.stays.items (length done + k)) (told_at st done l p k keeps at)
 
+  -- where it finds none, the packet begins a stay
   none-begins : (st : Stays) (done : List StaySeen) (l : List TapPacket) (p : TapPacket) → Keeps stream c st done l → place_for st p ≡ None → begins l p ≡ true
   none-begins st done l p keeps e = go (open_place (namespace p) l) refl (begins l p) refl (sym (place_for-is st done l p keeps) ∙ e)
     where
@@ -65,6 +67,7 @@ module _ (stream : List StreamRec) (c : ℕ) where
       go (Some k) at true is w = is
       go (Some k) at false is w = absurd (none-some _ (sym w))
 
+  -- where it finds one, the packet goes on with the stay there
   some-goes_on : (st : Stays) (done : List StaySeen) (l : List TapPacket) (p : TapPacket) (place : ℕ) → Keeps stream c st done l → place_for st p ≡ Some place
       → (begins l p ≡ false) × ((k : ℕ) × (open_place (namespace p) l ≡ Some k) × (length done + k ≡ place))
   some-goes_on st done l p place keeps e = go (open_place (namespace p) l) refl (begins l p) refl (sym (place_for-is st done l p keeps) ∙ e)
@@ -75,6 +78,7 @@ module _ (stream : List StreamRec) (c : ℕ) where
       go None at false is w = absurd (none-some _ w)
       go (Some k) at false is w = (is, (k, at, same_Some (length done + k) place w))
 
+  -- a packet that begins a stay
   pub kept-begin : {T E : Type 0} (r : Result T E) (st nw : Stays) (done : List StaySeen) (l : List TapPacket) (p : TapPacket) → place_for st p ≡ None
       → OnOk r (nw.stays.items ≡ st.stays.items ++ grown stream (fresh c (namespace p)) p ∷ [])
       → OnOk r ((n : List ℕ) → open_at nw n ≡ cond (bytes_eq (namespace p) n) (cond (is_disconnect p) None (Some (length st.stays.items))) (open_at st n))
@@ -107,6 +111,7 @@ module _ (stream : List StreamRec) (c : ℕ) where
       out true false o = refl
       out false d o = refl
 
+  -- a packet that goes on with one
   pub kept-go_on : {T E : Type 0} (r : Result T E) (st nw : Stays) (done : List StaySeen) (l : List TapPacket) (p : TapPacket) (place : ℕ) → place_for st p ≡ Some place
       → ((t : StaySeen) → slice_get st.stays.items place ≡ Some t → OnOk r (nw.stays.items ≡ set st.stays.items place (grown stream t p)))
       → OnOk r ((n : List ℕ) → open_at nw n ≡ cond (bytes_eq (namespace p) n) (cond (is_disconnect p) None (open_at st n)) (open_at st n))

@@ -20,6 +20,7 @@ module _ {X : Type 0} where
   noted-at p xs i x old new within is before after =
       after ∙ ap (λ o. noted i (p o) old) (sym (slice_get_read xs (length xs) i x refl within is)) ∙ noted-next (λ k. p (slice_get xs k)) i old before
 
+  -- the element after the first ones
   after_these : (xs ys : List X) (y : X) → slice_get (xs ++ y ∷ ys) (length xs) ≡ Some y
   after_these [] ys y = refl
   after_these (x ∷ xs) ys y = after_these xs ys y
@@ -42,6 +43,7 @@ module _ {X : Type 0} where
       go ih true = ap (λ o. cons_option o (filter_map (slice_get all) rest)) here ∙ ap (λ zs. y ∷ zs) ih
       go ih false = ih
 
+  -- all elements
   pub numbered_all : (p : X → Bool) (xs : List X) → filter_map (slice_get xs) (passing_numbers (λ o. option_map_or p o false) xs (length xs)) ≡ filter p xs
   numbered_all p xs = numbered p xs [] xs 0 refl refl
 
