@@ -2,7 +2,7 @@
 use Rattle.std.proofs.Common.{◌≡◌, ℕ, Bool, true, false, not, ◌&&◌, cond, List, [], ◌∷◌, ◌++◌, map, flat_map, refl, sym, ap, ◌∙◌, inl, inr}
 use Rattle.std.specs.List.{list_all}
 use Rattle.std.specs.Str.{bytes_eq}
-use Rattle.std.proofs.lemmas.Bool.{false≢true, cases_Bool, not-false, and_parts}
+use Rattle.std.proofs.lemmas.Bool.{false≢true, cases_Bool, not-false, and_from, and_parts}
 use Rattle.std.proofs.lemmas.List.{append_assoc, append-nil}
 use Rattle.std.proofs.lemmas.List.Elements.{filter-append, filter_map-append}
 use Rattle.std.proofs.lemmas.List.Folds.{list_all-append}
@@ -16,6 +16,7 @@ use Rattle.aud_client.specs.Open.{of_namespace}
 use Rattle.aud_client.specs.Told.{FrameSeen, StaySeen, told, frame_of, frames_of, namespace_of}
 use Rattle.aud_client.specs.Received.{packets_of, stays_of, names, stays_naming, frames_by_stay, received_from, received_list, received_of, are_in}
 use Rattle.aud_client.proofs.Places.{same_text, itself_text, stay_after-same, stay_after-other, begins-in, of_stay_at}
+use Rattle.aud_client.proofs.OnePass.{whole_stay-nil}
 use Rattle.aud_client.proofs.Named.{stay_names}
 
 -- what follows of the stay among the packets behind, all of one namespace
@@ -23,6 +24,7 @@ abbrev pub rest_of : List TapPacket → List TapPacket → List TapPacket
 rest_of stay [] = []
 rest_of stay (q ∷ behind) = cond (goes_on stay q) (q ∷ rest_of (stay ++ q ∷ []) behind) []
 
+-- a stay is its front and what follows of it
 front_and_rest : (stay behind : List TapPacket) → whole_stay stay behind ≡ stay ++ rest_of stay behind
 front_and_rest stay [] = sym (append-nil stay)
 front_and_rest stay (q ∷ behind) = go (front_and_rest (stay ++ q ∷ []) behind) (goes_on stay q)
@@ -37,6 +39,7 @@ module _ (stream : List StreamRec) (pid n : Text) where
   abbrev pub if_named : Bool → List TapPacket → List FrameSeen
   if_named b packets = cond b (frames_of stream packets) []
 
+  -- the frames of a stay that names the session
   abbrev pub of_stay : List TapPacket → List FrameSeen
   of_stay stay = if_named (stay_names pid stay) stay
 
@@ -55,10 +58,12 @@ module _ (stream : List StreamRec) (pid n : Text) where
   abbrev pub OthersDont : List TapPacket → List TapPacket → Type 0
   OthersDont before behind = (m : Text) → bytes_eq m n ≡ false → stay_names pid (whole_stay (stay_after m before) (in_namespace m behind)) ≡ false
 
+  -- no packets, no frames
   nothing : (b : Bool) → if_named b [] ≡ []
   nothing true = refl
   nothing false = refl
 
+  -- the frames of a packet and of those that follow are the frames of all
   one_and_rest : (b : Bool) (q : TapPacket) (r : List TapPacket) (more : List FrameSeen)
       → if_named b (q ∷ []) ++ (if_named b r ++ more) ≡ if_named b (q ∷ r) ++ more
   one_and_rest true q r more =
@@ -68,6 +73,7 @@ module _ (stream : List StreamRec) (pid n : Text) where
 
   -- ---- one packet
 
+  -- a packet of the namespace, and one of another
   here : (m : Text) (q : TapPacket) (r : List TapPacket) → bytes_eq (namespace q) m ≡ true → in_namespace m (q ∷ r) ≡ q ∷ in_namespace m r
   here m q r is = ap (λ b. cond b (q ∷ in_namespace m r) (in_namespace m r)) is
 
@@ -89,6 +95,7 @@ module _ (stream : List StreamRec) (pid n : Text) where
       ∙ ap (λ s. whole_stay s (in_namespace m r))
       (sym (stay_after-same m before q (itself_text m) ∙ ap (λ b. cond b (stay_after m before ++ q ∷ []) (q ∷ [])) on))
 
+  -- a stay that fits and is in another namespace names nobody
   unfit : (b : Bool) → cond b false true ≡ true → b ≡ false
   unfit true e = absurd (false≢true e)
   unfit false e = refl
@@ -104,6 +111,7 @@ module _ (stream : List StreamRec) (pid n : Text) where
     | inr goes ↦ ap (stay_names pid) (sym (stands_open before q r goes)) ∙ others (namespace q) other
   ]
 
+  -- the stays that begin later fit too
   fit_behind : (before : List TapPacket) (q : TapPacket) (r : List TapPacket) → list_all fits (stays_from before (q ∷ r)) ≡ true
       → list_all fits (stays_from (before ++ q ∷ []) r) ≡ true
   fit_behind before q r fit = go (begins before q) fit
@@ -112,6 +120,7 @@ module _ (stream : List StreamRec) (pid n : Text) where
       go true e = (and_parts _ _ e).1
       go false e = e
 
+  -- after the packet, too, no stay open in another namespace names the session
   others_behind : (before : List TapPacket) (q : TapPacket) (r : List TapPacket) → list_all fits (stays_from before (q ∷ r)) ≡ true → OthersDont before (q ∷ r)
       → OthersDont (before ++ q ∷ []) r
   others_behind before q r fit others m other = elim (cases_Bool (bytes_eq (namespace q) m)) [
@@ -131,6 +140,7 @@ module _ (stream : List StreamRec) (pid n : Text) where
   abbrev from_open : List TapPacket → List TapPacket → List FrameSeen
   from_open stay l = if_named (stay_names pid (whole_stay stay l)) (rest_of stay l)
 
+  -- a packet of another namespace gives nothing
   goes-other : (before : List TapPacket) (q : TapPacket) (r : List TapPacket) → bytes_eq (namespace q) n ≡ false
       → stay_names pid (stay_at before q r) ≡ false → Goes (before ++ q ∷ []) r → Goes before (q ∷ r)
   goes-other before q r other names_not ih =
@@ -144,6 +154,7 @@ module _ (stream : List StreamRec) (pid n : Text) where
       dropped true = ap (λ b. if_named b (stay_at before q r) ++ flat_map of_stay (stays_from (before ++ q ∷ []) r)) names_not
       dropped false = refl
 
+  -- a packet that goes on with the open stay gives its frame there
   goes-on : (before : List TapPacket) (q : TapPacket) (r : List TapPacket) → bytes_eq (namespace q) n ≡ true → goes_on (stay_after n before) q ≡ true
       → Goes (before ++ q ∷ []) r → Goes before (q ∷ r)
   goes-on before q r same on ih =
@@ -173,6 +184,7 @@ module _ (stream : List StreamRec) (pid n : Text) where
           ∙ ap (λ b. if_named (stay_names pid (whole_stay longer (in_namespace n r))) (q ∷ rest_of longer (in_namespace n r)) ++ flat_map of_stay (begin_at b before q r))
           (begins-in n before q same ∙ ap not on)
 
+  -- a packet that begins a stay gives its frame in that stay
   goes-begins : (before : List TapPacket) (q : TapPacket) (r : List TapPacket) → bytes_eq (namespace q) n ≡ true → goes_on (stay_after n before) q ≡ false
       → Goes (before ++ q ∷ []) r → Goes before (q ∷ r)
   goes-begins before q r same starts ih =
@@ -202,6 +214,7 @@ module _ (stream : List StreamRec) (pid n : Text) where
           ∙ ap (λ b. flat_map of_stay (begin_at b before q r)) (begins-in n before q same ∙ ap not starts)
           ∙ ap (λ s. of_stay s ++ later) at
 
+  -- packet after packet
   goes : (before behind : List TapPacket) → list_all fits (stays_from before behind) ≡ true → OthersDont before behind → Goes before behind
   goes before [] fit others = sym (ap (λ l. l ++ []) (nothing (stay_names pid (stay_after n before))))
   goes before (q ∷ r) fit others = elim (cases_Bool (bytes_eq (namespace q) n)) [
@@ -216,20 +229,18 @@ module _ (stream : List StreamRec) (pid n : Text) where
 
   -- ---- a connection
 
-  whole-nil : (m : List TapPacket) → whole_stay [] m ≡ []
-  whole-nil [] = refl
-  whole-nil (q ∷ m) = refl
-
   rest-nil : (m : List TapPacket) → rest_of [] m ≡ []
   rest-nil [] = refl
   rest-nil (q ∷ m) = refl
 
+  -- all packets of a connection
   by_place : (l : List TapPacket) → list_all fits (stays l) ≡ true → received_from stream pid [] l ≡ flat_map of_stay (stays l)
   by_place l fit =
-      goes [] l fit (λ m other. ap (stay_names pid) (whole-nil (in_namespace m l)))
+      goes [] l fit (λ m other. ap (stay_names pid) (whole_stay-nil (in_namespace m l)))
       ∙ ap (λ x. if_named (stay_names pid (whole_stay [] (in_namespace n l))) x ++ flat_map of_stay (stays l)) (rest-nil (in_namespace n l))
       ∙ ap (λ x. x ++ flat_map of_stay (stays l)) (nothing (stay_names pid (whole_stay [] (in_namespace n l))))
 
+  -- the frames by stay, over what the stays tell
   by_stay : (c : ℕ) (ss : List (List TapPacket)) → flat_map of_stay ss ≡ frames_by_stay pid (map (told stream c) ss)
   by_stay c [] = refl
   by_stay c (s ∷ ss) = go (stay_names pid s) (by_stay c ss)
@@ -240,10 +251,7 @@ module _ (stream : List StreamRec) (pid n : Text) where
       go true ih = ap (λ l. frames_of stream s ++ l) ih
       go false ih = ih
 
-  both_true : (a b : Bool) → a ≡ true → b ≡ true → (a && b) ≡ true
-  both_true true b p q = q
-  both_true false b p q = absurd (false≢true p)
-
+  -- where the naming stays are in the namespace, all stays fit
   fit : (c : ℕ) (ss : List (List TapPacket)) → are_in n (stays_naming pid (map (told stream c) ss)) ≡ true → list_all fits ss ≡ true
   fit c [] e = refl
   fit c (s ∷ ss) e = go (stay_names pid s) refl e (fit c ss)
@@ -258,14 +266,16 @@ module _ (stream : List StreamRec) (pid n : Text) where
           → (cond b (of_namespace n s) true && list_all fits ss) ≡ true
       go true is e ih =
           let parts = and_parts (bytes_eq (namespace_of s) n) (are_in n (stays_naming pid (map (told stream c) ss))) e in
-          both_true _ _ (in_it s is parts.0) (ih parts.1)
+          and_from _ _ (in_it s is parts.0) (ih parts.1)
       go false is e ih = ih e
 
   -- ---- a tap
 
+  -- the frames by stay, of two lists of stays
   joined_frames : (ss us : List StaySeen) → frames_by_stay pid (ss ++ us) ≡ frames_by_stay pid ss ++ frames_by_stay pid us
   joined_frames ss us = ap (flat_map (λ (stay : StaySeen). stay.frames)) (filter-append (names pid) ss us) ∙ flat_map-append (λ (stay : StaySeen). stay.frames) (stays_naming pid ss) (stays_naming pid us)
 
+  -- connection after connection
   of_connections : (connections : List Connection) → are_in n (stays_naming pid (flat_map (stays_of stream) connections)) ≡ true
       → flat_map (λ (connection : Connection). received_from stream pid [] (packets_of connection)) connections ≡ frames_by_stay pid (flat_map (stays_of stream) connections)
   of_connections [] e = refl
@@ -281,6 +291,7 @@ module _ (stream : List StreamRec) (pid n : Text) where
       ∙ ap (λ l. frames_by_stay pid (stays_of stream connection) ++ l) (of_connections connections parts.1)
       ∙ sym (joined_frames (stays_of stream connection) behind)
 
+-- the law
 pub received_by_stays : (stream : List StreamRec) (recs : List ClientRec) (pid nsp : Text) → are_in nsp (stays_naming pid (received_of stream recs).stays) ≡ true
     → received_list stream recs pid ≡ frames_by_stay pid (received_of stream recs).stays
 received_by_stays stream recs pid nsp e = of_connections stream pid nsp (tap_packets recs).connections e

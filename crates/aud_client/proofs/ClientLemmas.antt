@@ -11,6 +11,7 @@ use Rattle.std.specs.Option.{option_or}
 use Rattle.std.proofs.lemmas.List.{map-append, drop_all}
 use Rattle.std.proofs.lemmas.Grind.{flat_map-append}
 use Rattle.aud_client.specs.declared.connection.Reader.{Reader}
+use Rattle.aud_client.proofs.Telling.{or_none}
 
 -- what stands before the next end
 pub until_end-numbered : (n : ℕ) (recs : List ClientRec) → until_end (numbered n recs) ≡ numbered n (inside recs)
@@ -36,6 +37,7 @@ pub answers-all : (first : ℕ) (recs : List ClientRec) (reader : Reader) (h : H
 answers-all first recs reader h =
     ap wholes_of (sym (append-nil (flat_map messages_at (numbered first recs)))) ∙ h.continues [] ∙ ap (λ r. h.answers ++ r) h.waits ∙ append-nil h.answers
 
+-- the packets of a connection that was read
 pub packets-all : (first : ℕ) (recs : List ClientRec) (reader : Reader) → HasRead first recs reader → packets_read reader ≡ packets_in (numbered first recs)
 packets-all first recs reader h = h.packets_are ∙ ap (λ xs. flat_map (packets_at xs) (numbered first recs)) (sym (answers-all first recs reader h))
 
@@ -56,6 +58,7 @@ pub record HasTaken (recs : List ClientRec) (i : ℕ) (seen : List Connection) (
   pub connections_are : seen ++ map cut_seen (connections_in (numbered i (drop i recs))) ≡ map cut_seen (connections_in (numbered 0 recs))
   pub bad_is : option_or bad (bad_of (connections_in (numbered i (drop i recs)))) ≡ bad_of (connections_in (numbered 0 recs))
 
+-- one record more was taken
 pub HasTaken-more : (recs : List ClientRec) (i : ℕ) (rec : ClientRec) (seen after : List Connection) (bad first : Option ℕ) → drop i recs ≡ rec ∷ drop (i + 1) recs
     → after ≡ seen ++ map cut_seen (begun i rec (drop (i + 1) recs)) → first ≡ option_or bad (bad_of (begun i rec (drop (i + 1) recs)))
     → HasTaken recs i seen bad → HasTaken recs (i + 1) after first
@@ -80,6 +83,7 @@ HasTaken-more recs i rec seen after bad first front seen_is bad_is held =
           ∙ held.bad_is;
     }
 
+-- all records were taken
 pub HasTaken-all : (recs : List ClientRec) (i : ℕ) (seen : List Connection) (bad : Option ℕ) → length recs ≤ i → HasTaken recs i seen bad
     → (seen ≡ map cut_seen (connections_in (numbered 0 recs))) × (bad ≡ bad_of (connections_in (numbered 0 recs)))
 HasTaken-all recs i seen bad end held =
@@ -87,7 +91,3 @@ HasTaken-all recs i seen bad end held =
       sym (append-nil seen) ∙ sym (ap (λ r. seen ++ map cut_seen (connections_in (numbered i r))) none) ∙ held.connections_are,
       sym (or_none bad) ∙ sym (ap (λ r. option_or bad (bad_of (connections_in (numbered i r)))) none) ∙ held.bad_is,
     )
-  where
-    or_none : (o : Option ℕ) → option_or o None ≡ o
-    or_none None = refl
-    or_none (Some n) = refl

@@ -13,12 +13,15 @@ use Rattle.aud_node.specs.Cluster.{Cluster}
 use Rattle.aud_node.specs.Stream.{Text}
 use Rattle.aud_client.specs.Replies.{is_naming, naming_places}
 use Rattle.aud_client.specs.Received.{ReceivedSeen, received_of}
-use Rattle.aud_client.specs.Recording.{told_at, told_by, is_told, places_telling}
+use Rattle.aud_client.specs.Clients.{told_by, is_told, places_telling}
+use Rattle.aud_client.specs.Recording.{told_at}
 use Rattle.aud_client.proofs.Named.{named_by_replies}
 
+-- what stands at a place, if there is one
 abbrev pub flat : Option (Option ReceivedSeen) → Option ReceivedSeen
 flat o = option_and_then (λ told. told) o
 
+-- what the tap at a place tells
 flat-told : (stream : List StreamRec) (o : Option Tap) → flat (option_map (told_by stream) o) ≡ option_map (received_of stream) (option_and_then client_recs o)
 flat-told stream None = refl
 flat-told stream (Some tap) = refl
@@ -28,6 +31,7 @@ pub told_at-kept : (c : Cluster) (clients : List (Option ReceivedSeen)) (place :
 told_at-kept c clients place kept =
     ap flat (ap (λ told. slice_get told place) kept ∙ slice_get-map (told_by c.stream) c.taps place) ∙ flat-told c.stream (slice_get c.taps place)
 
+-- a tap tells of a stay of the session where it names the session
 told-naming : (stream : List StreamRec) (pid : Text) (recs : Option (List ClientRec)) → is_told pid (option_map (received_of stream) recs) ≡ is_naming pid recs
 told-naming stream pid None = refl
 told-naming stream pid (Some recs) = named_by_replies stream recs pid

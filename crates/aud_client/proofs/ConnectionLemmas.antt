@@ -1,8 +1,8 @@
 -- A connection's records, with one more at the end.
-use Rattle.std.proofs.Common.{◌≡◌, ◌+◌, ◌<◌, ◌≤◌, ℕ, suc, Bool, true, false, cond, List, [], ◌∷◌, ◌++◌, length, map, flat_map, refl, sym, ap, ◌∙◌, subst, Option, None, Ok, Err, ◌||◌, ◌&&◌, nat_eq, append-nil, append_assoc, length-append, arith, ◌⊎◌, inl, inr}
+use Rattle.std.proofs.Common.{◌≡◌, ◌+◌, ◌<◌, ◌≤◌, ℕ, suc, Bool, true, false, cond, List, [], ◌∷◌, ◌++◌, length, map, flat_map, refl, sym, ap, ◌∙◌, subst, Option, None, Ok, Err, ◌||◌, ◌&&◌, nat_eq, append-nil, append_assoc, length-append, arith}
 use Rattle.std.specs.List.{list_any, filter}
 use Rattle.std.proofs.lemmas.Grind.{flat_map-append}
-use Rattle.std.proofs.lemmas.Bool.Decides.{eqb_tells}
+use Rattle.std.proofs.lemmas.Bool.{ne_eqb}
 use Rattle.aud_tap.specs.declared.records.ClientRec.{ClientRec}
 use Rattle.aud_tap.specs.declared.records.ClientRec.TheVariants.{Conn, TextIn, BytesIn, Poll, TextOut, Lost}
 use Rattle.aud_sio.specs.Message.{at}
@@ -12,24 +12,18 @@ use Rattle.aud_client.specs.TapPackets.{Received, received, numbered, messages_a
 use Rattle.aud_client.specs.ConnectionRead.{AreBefore, HasRead, ReadsRecord, packets_read, bad_or}
 use Rattle.aud_client.specs.declared.connection.Reader.{Reader}
 
+-- numbers of other records
 differ : (a b : ℕ) → a < b → nat_eq a b ≡ false
-differ a b h = go (eqb_tells a b)
-  where
-    go : ((nat_eq a b ≡ true) × (a ≡ b)) ⊎ ((nat_eq a b ≡ false) × (a ≡ b → ⊥)) → nat_eq a b ≡ false
-    go (inl t) = let e = t.1 in absurd (omega arith)
-    go (inr f) = f.0
+differ a b h = ne_eqb a b (λ (e : a ≡ b). omega arith)
 
 differ_up : (a b : ℕ) → a < b → nat_eq b a ≡ false
-differ_up a b h = go (eqb_tells b a)
-  where
-    go : ((nat_eq b a ≡ true) × (b ≡ a)) ⊎ ((nat_eq b a ≡ false) × (b ≡ a → ⊥)) → nat_eq b a ≡ false
-    go (inl t) = let e = t.1 in absurd (omega arith)
-    go (inr f) = f.0
+differ_up a b h = ne_eqb b a (λ (e : b ≡ a). omega arith)
 
 -- a refusal stands at the record
 abbrev refused_at : ℕ → List (ℕ × Answer) → Bool
 refused_at number answers = list_any (λ (answer : ℕ × Answer). nat_eq answer.0 number && is_refused answer.1) answers
 
+-- of the record with this number, answers at lesser numbers tell nothing
 received-before : (n : ℕ) (xs ys : List (ℕ × Answer)) → AreBefore n xs → received n (xs ++ ys) ≡ received n ys
 received-before n [] ys h = refl
 received-before n ((place, Ok whole) ∷ xs) ys h =
@@ -41,6 +35,7 @@ refused_at-before n [] ys h = refl
 refused_at-before n (x ∷ xs) ys h =
     ap (λ b. (b && is_refused x.1) || refused_at n (xs ++ ys)) (differ x.0 n h.0) ∙ refused_at-before n xs ys h.1
 
+-- nor do those at greater ones
 received-elsewhere : (k n : ℕ) (xs : List Answer) → k < n → received k (at n xs) ≡ []
 received-elsewhere k n [] h = refl
 received-elsewhere k n (Ok whole ∷ xs) h =
@@ -51,6 +46,7 @@ refused_at-elsewhere : (k n : ℕ) (xs : List Answer) → k < n → refused_at k
 refused_at-elsewhere k n [] h = refl
 refused_at-elsewhere k n (x ∷ xs) h = ap (λ b. (b && is_refused x) || refused_at k (at n xs)) (differ_up k n h) ∙ refused_at-elsewhere k n xs h
 
+-- answers at a later record add nothing to an earlier one
 received-other : (k n : ℕ) (xs : List (ℕ × Answer)) (ys : List Answer) → k < n → received k (xs ++ at n ys) ≡ received k xs
 received-other k n [] ys h = received-elsewhere k n ys h
 received-other k n ((place, Ok whole) ∷ xs) ys h = ap (λ r. cond (nat_eq place k) (Received whole ∷ r) r) (received-other k n xs ys h)
@@ -69,12 +65,14 @@ packets_at-same xs ys k (Poll t) e = ap (at k) e
 packets_at-same xs ys k (TextOut t) e = refl
 packets_at-same xs ys k Lost e = ap (at k) e
 
+-- the numbers go on
 numbered-append : (first : ℕ) (xs ys : List ClientRec) → numbered first (xs ++ ys) ≡ numbered first xs ++ numbered (first + length xs) ys
 numbered-append first [] ys = let e : first ≡ first + 0 = omega arith in ap (λ n. numbered n ys) e
 numbered-append first (x ∷ xs) ys =
     let e : suc first + length xs ≡ first + suc (length xs) = omega arith in
     ap (λ r. (first, x) ∷ r) (numbered-append (suc first) xs ys ∙ ap (λ n. numbered (suc first) xs ++ numbered n ys) e)
 
+-- what the first records give doesn't change with answers at a later one
 packets-other : (n first : ℕ) (xs : List (ℕ × Answer)) (ys : List Answer) (recs : List ClientRec) → first + length recs ≤ n
     → flat_map (packets_at (xs ++ at n ys)) (numbered first recs) ≡ flat_map (packets_at xs) (numbered first recs)
 packets-other n first xs ys [] h = refl
@@ -93,6 +91,7 @@ bad-other n first xs ys (rec ∷ recs) h =
 abbrev first_bad : (ℕ × ClientRec → Bool) → List (ℕ × ClientRec) → Option ℕ
 first_bad p recs = first_of (map (λ (rec : ℕ × ClientRec). rec.0) (filter p recs))
 
+-- the first bad record, with one record more
 first_bad-last : (p : ℕ × ClientRec → Bool) (recs : List (ℕ × ClientRec)) (last : ℕ × ClientRec) → first_bad p (recs ++ last ∷ []) ≡ bad_or (first_bad p recs) last.0 (p last)
 first_bad-last p [] last = go (p last)
   where
@@ -107,6 +106,7 @@ first_bad-last p (rec ∷ recs) last = go (p rec) (first_bad-last p recs last)
     go true ih = refl
     go false ih = ih
 
+-- answers at the next number stand before the one after it
 AreBefore-more : (n m : ℕ) (xs : List (ℕ × Answer)) (ys : List Answer) → n < m → AreBefore n xs → AreBefore m (xs ++ at n ys)
 AreBefore-more n m [] [] l h = tt
 AreBefore-more n m [] (y ∷ ys) l h = (l, AreBefore-more n m [] ys l tt)

@@ -1,6 +1,6 @@
 -- One packet more of a connection, and one connection more of a tap.
 use Rattle.std.proofs.Common.{◌≡◌, ℕ, List, [], ◌∷◌, ◌++◌, map, flat_map, refl, sym, ap, ◌∙◌, subst}
-use Rattle.std.proofs.lemmas.List.{append-nil}
+use Rattle.std.proofs.lemmas.List.{append-nil, map-append}
 use Rattle.std.proofs.lemmas.List.Concat.{flat_map-append}
 use Rattle.aud_tap.specs.declared.records.StreamRec.{StreamRec}
 use Rattle.aud_client.specs.TapPackets.{TapPacket}
@@ -13,26 +13,20 @@ use Rattle.aud_client.specs.Stays.{stays}
 use Rattle.aud_client.specs.Told.{StaySeen, told}
 use Rattle.aud_client.specs.Received.{stays_of}
 use Rattle.aud_client.specs.Kept.{Keeps, packets_seen}
-use Rattle.aud_client.proofs.Maps.{map_more}
 
+-- one packet more
 pub packet_more : (stream : List StreamRec) (c : ℕ) (st : Stays) (done : List StaySeen) (packets : List Placed) (p : Placed)
     → Keeps stream c st done (packets_seen packets ++ packet_seen p.packet ∷ []) → Keeps stream c st done (packets_seen (packets ++ p ∷ []))
 packet_more stream c st done packets p keeps =
-    subst (Keeps stream c st done) (sym (map_more (λ (x : Placed). packet_seen x.packet) packets p)) keeps
+    subst (Keeps stream c st done) (sym (map-append (λ (x : Placed). packet_seen x.packet) packets (p ∷ []))) keeps
 
+-- the packets, seen at their records or not
 same_packets : (packets : List Placed) → packets_seen packets ≡ map (λ (placed : ℕ × TapPacket). placed.1) (map placed_seen packets)
 same_packets [] = refl
 same_packets (p ∷ ps) = ap (λ l. packet_seen p.packet ∷ l) (same_packets ps)
 
+-- all packets of the connection
 pub connection_done : (stream : List StreamRec) (st : Stays) (done : List StaySeen) (connection : Connection)
     → Keeps stream connection.c st done (packets_seen connection.packets.items) → st.stays.items ≡ done ++ stays_of stream (connection_seen connection)
 connection_done stream st done connection keeps =
     keeps.stays_are ∙ ap (λ l. done ++ map (told stream connection.c) (stays l)) (same_packets connection.packets.items)
-
-pub connection_more : (stream : List StreamRec) (connections : List Connection) (connection : Connection)
-    → flat_map (stays_of stream) (connections_seen (connections ++ connection ∷ []))
-    ≡ flat_map (stays_of stream) (connections_seen connections) ++ stays_of stream (connection_seen connection)
-connection_more stream connections connection =
-    ap (flat_map (stays_of stream)) (map_more connection_seen connections connection)
-    ∙ flat_map-append (stays_of stream) (connections_seen connections) (connection_seen connection ∷ [])
-    ∙ ap (λ l. flat_map (stays_of stream) (connections_seen connections) ++ l) (append-nil _)

@@ -3,8 +3,8 @@ use Rattle.std.proofs.Common.{◌≡◌, ℕ, ◌+◌, ◌<◌, zero, suc, Bool,
 use Rattle.std.specs.List.{list_any}
 use Rattle.std.specs.Str.{bytes_eq}
 use Rattle.std.proofs.lemmas.Bool.{true≢false}
-use Rattle.std.proofs.lemmas.List.{append_assoc, length-map}
-use Rattle.std.proofs.lemmas.Option.{same_Some, none-some}
+use Rattle.std.proofs.lemmas.List.{append_assoc, length-map, map-append, map-set}
+use Rattle.std.proofs.lemmas.Option.{same_Some, none-some, slice_get-map, slice_get_read}
 use Rattle.aud_tap.specs.declared.records.StreamRec.{StreamRec}
 use Rattle.aud_client.specs.TapPackets.{TapPacket}
 use Rattle.aud_client.specs.declared.stays.Stays.{Stays}
@@ -15,12 +15,7 @@ use Rattle.aud_client.specs.Kept.{Keeps, open_at, place_for, unless_replied, fre
 use Rattle.aud_client.proofs.OnePass.{stays-begins, stays-goes_on}
 use Rattle.aud_client.proofs.Steps.{open-none, open-some, open-begins, open-goes_on}
 use Rattle.aud_client.proofs.Telling.{has_reply, told-first, told-more}
-use Rattle.aud_client.proofs.Maps.{get_map, set_map, map_more, get_behind, set_behind}
-
-get_at : (xs : List StaySeen) (k : ℕ) (s : StaySeen) → k < length xs → s ≡ get_or xs k s → slice_get xs k ≡ Some s
-get_at [] k s h e = absurd (omega arith)
-get_at (x ∷ xs) zero s h e = ap Some (sym e)
-get_at (x ∷ xs) (suc k) s h e = get_at xs k s (omega arith) e
+use Rattle.aud_client.proofs.Maps.{get_behind, set_behind}
 
 -- a stay that grows at its place
 pub grown_at : {T E : Type 0} (stream : List StreamRec) (r : Result T E) (items : List StaySeen) (place : ℕ) (s new : StaySeen) (p : TapPacket) (t : StaySeen)
@@ -28,7 +23,7 @@ pub grown_at : {T E : Type 0} (stream : List StreamRec) (r : Result T E) (items 
     → OnOk r (new ≡ grown stream s p) → OnOk r (set items place new ≡ set items place (grown stream t p))
 grown_at stream (Err e) items place s new p t h at is w = tt
 grown_at stream (Ok x) items place s new p t h at is w =
-    let here : s ≡ t = same_Some s t (sym (get_at items place s h at) ∙ is) in
+    let here : s ≡ t = same_Some s t (sym (slice_get_read items (length items) place s refl h at) ∙ is) in
     ap (set items place) (w ∙ ap (λ u. grown stream u p) here)
 
 module _ (stream : List StreamRec) (c : ℕ) where
@@ -36,8 +31,9 @@ module _ (stream : List StreamRec) (c : ℕ) where
   told_at : (st : Stays) (done : List StaySeen) (l : List TapPacket) (p : TapPacket) (k : ℕ) → Keeps stream c st done l → open_place (namespace p) l ≡ Some k
       → slice_get st.stays.items (length done + k) ≡ Some (told stream c (stay_after (namespace p) l))
   told_at st done l p k keeps at =
-      ap (λ ts. slice_get ts (length done + k)) keeps.stays_are ∙ get_behind done (map (told stream c) (stays l)) k ∙ get_map (told stream c) (stays l) k ∙ ap (option_map (told stream c)) (open-some l p k at).0
+      ap (λ ts. slice_get ts (length done + k)) keeps.stays_are ∙ get_behind done (map (told stream c) (stays l)) k ∙ slice_get-map (told stream c) (stays l) k ∙ ap (option_map (told stream c)) (open-some l p k at).0
 
+  -- the place that the code finds, in the words of the definition
   pub place_for-is : (st : Stays) (done : List StaySeen) (l : List TapPacket) (p : TapPacket) → Keeps stream c st done l
       → place_for st p ≡ cond (begins l p) None (option_map (λ k. length done + k) (open_place (namespace p) l))
   place_for-is st done l p keeps = go (open_place (namespace p) l) refl
@@ -62,6 +58,7 @@ module _ (stream : List StreamRec) (c : ℕ) where
           ap (option_and_then (λ k. option_and_then (unless_replied p k) (slice_get st.stays.items k))) (keeps.open_are (namespace p) ∙ ap (option_map (λ k. length done + k)) at)
           ∙ behind k at (slice_get st.stays.items (length done + k)) (told_at st done l p k keeps at)
 
+  -- where it finds none, the packet begins a stay
   none-begins : (st : Stays) (done : List StaySeen) (l : List TapPacket) (p : TapPacket) → Keeps stream c st done l → place_for st p ≡ None → begins l p ≡ true
   none-begins st done l p keeps e = go (open_place (namespace p) l) refl (begins l p) refl (sym (place_for-is st done l p keeps) ∙ e)
     where
@@ -70,6 +67,7 @@ module _ (stream : List StreamRec) (c : ℕ) where
       go (Some k) at true is w = is
       go (Some k) at false is w = absurd (none-some _ (sym w))
 
+  -- where it finds one, the packet goes on with the stay there
   some-goes_on : (st : Stays) (done : List StaySeen) (l : List TapPacket) (p : TapPacket) (place : ℕ) → Keeps stream c st done l → place_for st p ≡ Some place
       → (begins l p ≡ false) × ((k : ℕ) × (open_place (namespace p) l ≡ Some k) × (length done + k ≡ place))
   some-goes_on st done l p place keeps e = go (open_place (namespace p) l) refl (begins l p) refl (sym (place_for-is st done l p keeps) ∙ e)
@@ -80,6 +78,7 @@ module _ (stream : List StreamRec) (c : ℕ) where
       go None at false is w = absurd (none-some _ w)
       go (Some k) at false is w = (is, (k, at, same_Some (length done + k) place w))
 
+  -- a packet that begins a stay
   pub kept-begin : {T E : Type 0} (r : Result T E) (st nw : Stays) (done : List StaySeen) (l : List TapPacket) (p : TapPacket) → place_for st p ≡ None
       → OnOk r (nw.stays.items ≡ st.stays.items ++ grown stream (fresh c (namespace p)) p ∷ [])
       → OnOk r ((n : List ℕ) → open_at nw n ≡ cond (bytes_eq (namespace p) n) (cond (is_disconnect p) None (Some (length st.stays.items))) (open_at st n))
@@ -91,7 +90,7 @@ module _ (stream : List StreamRec) (c : ℕ) where
             list ∙ ap (λ ts. ts ++ grown stream (fresh c (namespace p)) p ∷ []) keeps.stays_are
             ∙ append_assoc done (map (told stream c) (stays l)) (grown stream (fresh c (namespace p)) p ∷ [])
             ∙ ap (λ t. done ++ (map (told stream c) (stays l) ++ t ∷ [])) (sym (told-first stream c p))
-            ∙ ap (λ ts. done ++ ts) (sym (map_more (told stream c) (stays l) (p ∷ [])))
+            ∙ ap (λ ts. done ++ ts) (sym (map-append (told stream c) (stays l) ((p ∷ []) ∷ [])))
             ∙ ap (λ ss. done ++ map (told stream c) ss) (sym (stays-begins [] l p starts));
         open_are = λ n.
             opens n ∙ ap (λ o. cond (bytes_eq (namespace p) n) (cond (is_disconnect p) None (Some (length st.stays.items))) o) (keeps.open_are n)
@@ -112,6 +111,7 @@ module _ (stream : List StreamRec) (c : ℕ) where
       out true false o = refl
       out false d o = refl
 
+  -- a packet that goes on with one
   pub kept-go_on : {T E : Type 0} (r : Result T E) (st nw : Stays) (done : List StaySeen) (l : List TapPacket) (p : TapPacket) (place : ℕ) → place_for st p ≡ Some place
       → ((t : StaySeen) → slice_get st.stays.items place ≡ Some t → OnOk r (nw.stays.items ≡ set st.stays.items place (grown stream t p)))
       → OnOk r ((n : List ℕ) → open_at nw n ≡ cond (bytes_eq (namespace p) n) (cond (is_disconnect p) None (open_at st n)) (open_at st n))
@@ -139,7 +139,7 @@ module _ (stream : List StreamRec) (c : ℕ) where
                 ∙ ap (λ ts. set ts (length done + k) (grown stream (told stream c stay) p)) keeps.stays_are
                 ∙ set_behind done (map (told stream c) (stays l)) k (grown stream (told stream c stay) p)
                 ∙ ap (λ t. done ++ set (map (told stream c) (stays l)) k t) (sym (told-more stream c stay p (twice (goes_on stay p) goes)))
-                ∙ ap (λ ts. done ++ ts) (sym (set_map (told stream c) (stays l) k (stay ++ p ∷ [])))
+                ∙ ap (λ ts. done ++ ts) (sym (map-set (told stream c) (stays l) k (stay ++ p ∷ [])))
                 ∙ ap (λ ss. done ++ map (told stream c) ss) (sym (stays-goes_on [] l p goes ∙ (open-some l p k at).2));
             open_are = λ n.
                 opens n ∙ ap (λ o. cond (bytes_eq (namespace p) n) (cond (is_disconnect p) None o) o) (keeps.open_are n)

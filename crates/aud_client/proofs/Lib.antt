@@ -7,7 +7,7 @@ pub mod Kept
 pub mod Connections
 pub mod Named
 pub mod ByPlace
-pub mod BySession
+pub mod Numbers
 pub mod ReadLemmas
 pub mod ConnectionLemmas
 pub mod ClientLemmas

@@ -20,6 +20,7 @@ use Rattle.aud_client.proofs.Telling.{no_reply_at, reply_of-one, replied, unrepl
 abbrev pub stay_names : Text → List TapPacket → Bool
 stay_names pid stay = reply_names pid (reply_of stay)
 
+-- how tests join
 or_assoc : (a b d : Bool) → (a || (b || d)) ≡ ((a || b) || d)
 or_assoc true b d = refl
 or_assoc false b d = refl
@@ -35,19 +36,23 @@ or_false : (a : Bool) → (a || false) ≡ a
 or_false true = refl
 or_false false = refl
 
+-- any of what is made of the elements
 any_map : {X Y : Type 0} (test : Y → Bool) (f : X → Y) (xs : List X) → list_any test (map f xs) ≡ list_any (λ x. test (f x)) xs
 any_map test f [] = refl
 any_map test f (x ∷ xs) = ap (λ b. test (f x) || b) (any_map test f xs)
 
 -- ---- one packet more
 
+-- a packet names the session where its reply does
 at_packet : (pid : Text) (p : TapPacket) → reply_names pid (reply_at p) ≡ packet_names pid p
 at_packet pid (Received whole) = refl
 at_packet pid (Sent packet) = refl
 
+-- a stay of one packet
 alone : (pid : Text) (p : TapPacket) → stay_names pid (p ∷ []) ≡ packet_names pid p
 alone pid p = ap (reply_names pid) (reply_of-one p) ∙ at_packet pid p
 
+-- a stay with one packet more
 names-more : (pid : Text) (s : List TapPacket) (p : TapPacket) → goes_on s p ≡ true → stay_names pid (s ++ p ∷ []) ≡ (stay_names pid s || packet_names pid p)
 names-more pid s p e = elim (cases_Bool (list_any is_reply s)) [
   | inl some ↦
@@ -61,6 +66,7 @@ names-more pid s p e = elim (cases_Bool (list_any is_reply s)) [
       ∙ ap (λ o. reply_names pid o || packet_names pid p) (sym (none_yet s none))
 ]
 
+-- any of the stays, where the last one of the namespace grows
 any-grow : (test : List TapPacket → Bool) (b : Bool) (n : Text) (p : TapPacket) (ss : List (List TapPacket)) → has n ss ≡ true
     → test (last_in n ss ++ p ∷ []) ≡ (test (last_in n ss) || b) → list_any test (grow n p ss) ≡ (list_any test ss || b)
 any-grow test b n p [] some e = absurd (false≢true some)
@@ -88,9 +94,11 @@ has-goes_on l p e = elim (cases_Bool (has (namespace p) (stays l))) [
 
 -- ---- a connection, and a tap
 
+-- the stays name the session where the packets do
 abbrev pub NamedAlike : Text → List TapPacket → Type 0
 NamedAlike pid l = list_any (stay_names pid) (stays l) ≡ list_any (packet_names pid) l
 
+-- one packet more
 one_more : (pid : Text) (l : List TapPacket) (p : TapPacket) → NamedAlike pid l → NamedAlike pid (l ++ p ∷ [])
 one_more pid l p ih = stay_side ∙ ap (λ b. b || packet_names pid p) ih ∙ sym packet_side
   where
@@ -118,15 +126,18 @@ all_more pid done (p ∷ behind) ih =
     ∙ all_more pid (done ++ p ∷ []) behind (one_more pid done p ih)
     ∙ ap (list_any (packet_names pid)) (append_assoc done (p ∷ []) behind)
 
+-- all packets of a connection
 pub named_alike : (pid : Text) (l : List TapPacket) → NamedAlike pid l
 named_alike pid l = all_more pid [] l refl
 
+-- a connection, as contracts see it
 in_connection : (stream : List StreamRec) (pid : Text) (connection : Connection) → list_any (names pid) (stays_of stream connection) ≡ connection_names pid connection
 in_connection stream pid connection =
     any_map (names pid) (told stream connection.c) (stays (packets_of connection))
     ∙ named_alike pid (packets_of connection)
     ∙ any_map (packet_names pid) (λ (placed : ℕ × TapPacket). placed.1) connection.packets
 
+-- connection after connection
 in_connections : (stream : List StreamRec) (pid : Text) (connections : List Connection)
     → list_any (names pid) (flat_map (stays_of stream) connections) ≡ list_any (connection_names pid) connections
 in_connections stream pid [] = refl
@@ -135,5 +146,6 @@ in_connections stream pid (connection ∷ connections) =
     ∙ ap (λ b. b || list_any (names pid) (flat_map (stays_of stream) connections)) (in_connection stream pid connection)
     ∙ ap (λ b. connection_names pid connection || b) (in_connections stream pid connections)
 
+-- a tap
 pub named_by_replies : (stream : List StreamRec) (recs : List ClientRec) (pid : Text) → list_any (names pid) (received_of stream recs).stays ≡ tap_names pid recs
 named_by_replies stream recs pid = in_connections stream pid (tap_packets recs).connections

@@ -1,7 +1,7 @@
 -- One packet more: it begins a stay at the end of the list, or it goes on with the last one of its namespace.
 use Rattle.std.proofs.Common.{◌≡◌, ℕ, suc, Bool, true, false, not, ◌&&◌, ◌||◌, cond, List, [], ◌∷◌, ◌++◌, length, set, refl, sym, ap, ◌∙◌, inl, inr, Option, Some, None, option_map, slice_get}
 use Rattle.std.specs.Str.{bytes_eq}
-use Rattle.std.proofs.lemmas.Bool.{true≢false, false≢true, cases_Bool, not-true, not-false}
+use Rattle.std.proofs.lemmas.Bool.{true≢false, false≢true, cases_Bool, not-true, not-false, or_parts}
 use Rattle.std.proofs.lemmas.List.{append_assoc, append-nil}
 use Rattle.std.proofs.lemmas.List.Folds.{list_any-append}
 use Rattle.std.proofs.lemmas.Option.{same_Some, none-some}
@@ -15,27 +15,26 @@ abbrev pub grow : List ℕ → TapPacket → List (List TapPacket) → List (Lis
 grow n p [] = []
 grow n p (s ∷ ss) = cond (of_namespace n s && not (has n ss)) ((s ++ p ∷ []) ∷ ss) (s ∷ grow n p ss)
 
+-- the last stay of the namespace
 abbrev pub last_in : List ℕ → List (List TapPacket) → List TapPacket
 last_in n [] = []
 last_in n (s ∷ ss) = cond (has n ss) (last_in n ss) (cond (of_namespace n s) s [])
 
+-- where no stay is in the namespace, none grows, and none is the last
 grow-none : (n : List ℕ) (p : TapPacket) (ss : List (List TapPacket)) → has n ss ≡ false → grow n p ss ≡ ss
 grow-none n p [] e = refl
-grow-none n p (s ∷ ss) e = go (grow-none n p ss) (of_namespace n s) e
-  where
-    go : (has n ss ≡ false → grow n p ss ≡ ss) → (b : Bool) → (b || has n ss) ≡ false → cond (b && not (has n ss)) ((s ++ p ∷ []) ∷ ss) (s ∷ grow n p ss) ≡ s ∷ ss
-    go ih true h = absurd (true≢false h)
-    go ih false h = ap (λ l. s ∷ l) (ih h)
+grow-none n p (s ∷ ss) e =
+    let parts = or_parts (of_namespace n s) (has n ss) e in
+    ap (λ b. cond (b && not (has n ss)) ((s ++ p ∷ []) ∷ ss) (s ∷ grow n p ss)) parts.0 ∙ ap (λ l. s ∷ l) (grow-none n p ss parts.1)
 
 pub last_in-none : (n : List ℕ) (ss : List (List TapPacket)) → has n ss ≡ false → last_in n ss ≡ []
 last_in-none n [] e = refl
-last_in-none n (s ∷ ss) e = go (of_namespace n s) e
-  where
-    go : (b : Bool) → (b || has n ss) ≡ false → cond (has n ss) (last_in n ss) (cond b s []) ≡ []
-    go true h = absurd (true≢false h)
-    go false h = ap (λ b. cond b (last_in n ss) []) h
+last_in-none n (s ∷ ss) e =
+    let parts = or_parts (of_namespace n s) (has n ss) e in
+    ap (λ b. cond b (last_in n ss) (cond (of_namespace n s) s [])) parts.1 ∙ ap (λ b. cond b s []) parts.0
 
-whole_stay-nil : (m : List TapPacket) → whole_stay [] m ≡ []
+-- no packet goes on with no stay
+pub whole_stay-nil : (m : List TapPacket) → whole_stay [] m ≡ []
 whole_stay-nil [] = refl
 whole_stay-nil (q ∷ m) = refl
 
@@ -48,6 +47,7 @@ stay_at-end n before q r e none =
     ∙ (passed n (before ++ q ∷ []) r).on none []
     ∙ ap (stay_after n) (append_assoc before (q ∷ []) r)
 
+-- where there is one, it is the stay in which the packets end
 last_in-some : (n : List ℕ) (before behind : List TapPacket) → has n (stays_from before behind) ≡ true → last_in n (stays_from before behind) ≡ stay_after n (before ++ behind)
 last_in-some n before [] some = absurd (false≢true some)
 last_in-some n before (q ∷ r) some = go (λ h. last_in-some n (before ++ q ∷ []) r h ∙ ap (stay_after n) (append_assoc before (q ∷ []) r)) (begins before q) refl some
@@ -74,9 +74,11 @@ last_in-stays n l = elim (cases_Bool (has n (stays l))) [
   | inr none ↦ last_in-none n (stays l) none ∙ sym (whole_stay-nil (in_namespace n l ++ [])) ∙ (passed n [] l).on none []
 ]
 
+-- a packet of another namespace changes no stay
 stay_at-other : (before : List TapPacket) (q : TapPacket) (r : List TapPacket) (p : TapPacket) → bytes_eq (namespace p) (namespace q) ≡ false → stay_at before q (r ++ p ∷ []) ≡ stay_at before q r
 stay_at-other before q r p e = ap (whole_stay (stay_after (namespace q) (before ++ q ∷ []))) (in_namespace-other (namespace q) r p e)
 
+-- nor does one after a later stay of the namespace began
 stay_at-stopped : (before : List TapPacket) (q : TapPacket) (r : List TapPacket) (p : TapPacket) → bytes_eq (namespace p) (namespace q) ≡ true
     → has (namespace q) (stays_from (before ++ q ∷ []) r) ≡ true → stay_at before q (r ++ p ∷ []) ≡ stay_at before q r
 stay_at-stopped before q r p e some =
@@ -92,6 +94,7 @@ stay_at-more before q r p e none =
     ∙ ap (λ l. whole_stay (stay_after (namespace q) l) (p ∷ [])) (append_assoc before (q ∷ []) r)
     ∙ ap (λ s. cond (goes_on (stay_after (namespace q) (before ++ q ∷ r)) p) (s ++ p ∷ []) s) (sym (stay_at-end (namespace q) before q r (itself_text (namespace q)) none))
 
+-- a packet that begins a stay adds one of itself alone
 pub stays-begins : (before behind : List TapPacket) (p : TapPacket) → begins (before ++ behind) p ≡ true → stays_from before (behind ++ p ∷ []) ≡ stays_from before behind ++ (p ∷ []) ∷ []
 stays-begins before [] p e =
     let starts : begins before p ≡ true = ap (λ l. begins l p) (sym (append-nil before)) ∙ e in
@@ -115,6 +118,7 @@ stays-begins before (q ∷ r) p e = go (stays-begins (before ++ q ∷ []) r p (a
     go next true starts = ap (λ s. s ∷ stays_from (before ++ q ∷ []) (r ++ p ∷ [])) same ∙ ap (λ ss. stay_at before q r ∷ ss) next
     go next false starts = next
 
+-- a packet that goes on with a stay adds itself to the last one of its namespace
 pub stays-goes_on : (before behind : List TapPacket) (p : TapPacket) → begins (before ++ behind) p ≡ false → stays_from before (behind ++ p ∷ []) ≡ grow (namespace p) p (stays_from before behind)
 stays-goes_on before [] p e =
     let goes : begins before p ≡ false = ap (λ l. begins l p) (sym (append-nil before)) ∙ e in
@@ -148,6 +152,7 @@ stays-goes_on before (q ∷ r) p e = go (stays-goes_on (before ++ q ∷ []) r p 
 
 -- ---- the places of the last stays
 
+-- a stay that grows stays in its namespace
 of_grown : (n m : List ℕ) (p : TapPacket) (s : List TapPacket) → of_namespace n s ≡ true → of_namespace m (s ++ p ∷ []) ≡ of_namespace m s
 of_grown n m p [] e = absurd (false≢true e)
 of_grown n m p (x ∷ xs) e = refl
@@ -161,6 +166,7 @@ has-grow n m p (s ∷ ss) = go (has-grow n m p ss) (of_namespace n s) (not (has 
     go ih true false e = ap (λ x. of_namespace m s || x) ih
     go ih false b e = ap (λ x. of_namespace m s || x) ih
 
+-- growing moves no stay
 pub place-grow : (n m : List ℕ) (p : TapPacket) (ss : List (List TapPacket)) → place m (grow n p ss) ≡ place m ss
 place-grow n m p [] = refl
 place-grow n m p (s ∷ ss) = go (place-grow n m p ss) (of_namespace n s) (not (has n ss)) refl
@@ -175,14 +181,7 @@ place-grow n m p (s ∷ ss) = go (place-grow n m p ss) (of_namespace n s) (not (
         ap (λ x. cond x (option_map suc (place m (grow n p ss))) (cond (of_namespace m s) (Some 0) None)) (has-grow n m p ss)
         ∙ ap (λ x. cond (has m ss) (option_map suc x) (cond (of_namespace m s) (Some 0) None)) ih
 
-place-none : (n : List ℕ) (ss : List (List TapPacket)) → has n ss ≡ false → place n ss ≡ None
-place-none n [] e = refl
-place-none n (s ∷ ss) e = go (of_namespace n s) e
-  where
-    go : (b : Bool) → (b || has n ss) ≡ false → cond (has n ss) (option_map suc (place n ss)) (cond b (Some 0) None) ≡ None
-    go true h = absurd (true≢false h)
-    go false h = ap (λ b. cond b (option_map suc (place n ss)) None) h
-
+-- a stay at the end is the last one of its namespace
 pub place-push : (m : List ℕ) (p : TapPacket) (ss : List (List TapPacket)) → place m (ss ++ (p ∷ []) ∷ []) ≡ cond (bytes_eq (namespace p) m) (Some (length ss)) (place m ss)
 place-push m p [] = refl
 place-push m p (s ∷ ss) = start ∙ go (bytes_eq (namespace p) m) (place-push m p ss)

@@ -9,6 +9,7 @@ use Rattle.aud_client.specs.TapPackets.{TapPacket}
 use Rattle.aud_client.specs.Open.{of_namespace, has}
 use Rattle.aud_client.specs.Stays.{namespace, in_namespace, goes_on, whole_stay, last_stay, stay_after, stay_at, begins, stays_from}
 
+-- equal texts
 pub same_text : (a b : List ℕ) → bytes_eq a b ≡ true → a ≡ b
 same_text a b = (bytes_decides a b).0
 
@@ -22,16 +23,19 @@ swap_text a b e = elim (cases_Bool (bytes_eq b a)) [ inl same ↦ absurd (true�
 abbrev pub joined : List TapPacket → TapPacket → List TapPacket
 joined stay q = cond (goes_on stay q) (stay ++ q ∷ []) (q ∷ [])
 
+-- one packet more of the namespace
 last_stay-more : (stay l : List TapPacket) (q : TapPacket) → last_stay stay (l ++ q ∷ []) ≡ joined (last_stay stay l) q
 last_stay-more stay [] q = refl
 last_stay-more stay (x ∷ l) q = last_stay-more (joined stay x) l q
 
+-- a packet at the end, of the namespace or of another
 pub in_namespace-same : (n : List ℕ) (l : List TapPacket) (q : TapPacket) → bytes_eq (namespace q) n ≡ true → in_namespace n (l ++ q ∷ []) ≡ in_namespace n l ++ q ∷ []
 in_namespace-same n l q e = filter-append (λ p. bytes_eq (namespace p) n) l (q ∷ []) ∙ ap (λ b. in_namespace n l ++ cond b (q ∷ []) []) e
 
 pub in_namespace-other : (n : List ℕ) (l : List TapPacket) (q : TapPacket) → bytes_eq (namespace q) n ≡ false → in_namespace n (l ++ q ∷ []) ≡ in_namespace n l
 in_namespace-other n l q e = filter-append (λ p. bytes_eq (namespace p) n) l (q ∷ []) ∙ ap (λ b. in_namespace n l ++ cond b (q ∷ []) []) e ∙ append-nil _
 
+-- the stay in which the packets end, with that packet
 pub stay_after-same : (n : List ℕ) (l : List TapPacket) (q : TapPacket) → bytes_eq (namespace q) n ≡ true → stay_after n (l ++ q ∷ []) ≡ joined (stay_after n l) q
 stay_after-same n l q e = ap (last_stay []) (in_namespace-same n l q e) ∙ last_stay-more [] (in_namespace n l) q
 
@@ -42,6 +46,7 @@ stay_after-other n l q e = ap (last_stay []) (in_namespace-other n l q e)
 pub begun : (before : List TapPacket) (q : TapPacket) → begins before q ≡ true → stay_after (namespace q) (before ++ q ∷ []) ≡ q ∷ []
 begun before q e = stay_after-same (namespace q) before q (itself_text (namespace q)) ∙ ap (λ b. cond b (stay_after (namespace q) before ++ q ∷ []) (q ∷ [])) (not-true _ e)
 
+-- a stay is in the namespace of its first packet
 whole_stay-first : (n : List ℕ) (q : TapPacket) (s m : List TapPacket) → of_namespace n (whole_stay (q ∷ s) m) ≡ bytes_eq (namespace q) n
 whole_stay-first n q s [] = refl
 whole_stay-first n q s (x ∷ m) =
@@ -55,10 +60,12 @@ pub record Pass (h : Bool) (s m e : List TapPacket) : Type 0 where
   pub on : h ≡ false → (x : List TapPacket) → whole_stay s (m ++ x) ≡ whole_stay e x
   pub stopped : h ≡ true → (x : List TapPacket) → whole_stay s (m ++ x) ≡ whole_stay s m
 
+-- the same, in other words
 along : (h k : Bool) (s t m l e f : List TapPacket) → h ≡ k → s ≡ t → m ≡ l → e ≡ f → Pass h s m e → Pass k t l f
 along h k s t m l e f p q r u pass =
     subst (λ x. Pass k t l x) u (subst (λ x. Pass k t x e) r (subst (λ x. Pass k x m e) q (subst (λ x. Pass x s m e) p pass)))
 
+-- past a packet that goes on
 pass-on : (h : Bool) (s m e : List TapPacket) (q : TapPacket) → goes_on s q ≡ true → Pass h (s ++ q ∷ []) m e → Pass h s (q ∷ m) e
 pass-on h s m e q g ih =
     record {
@@ -66,6 +73,7 @@ pass-on h s m e q g ih =
       stopped = λ some x. ap (λ b. cond b (whole_stay (s ++ q ∷ []) (m ++ x)) s) g ∙ ih.stopped some x ∙ sym (ap (λ b. cond b (whole_stay (s ++ q ∷ []) m) s) g);
     }
 
+-- past a packet that begins a stay
 pass-stop : (h : Bool) (s m e : List TapPacket) (q : TapPacket) → h ≡ true → goes_on s q ≡ false → Pass h s (q ∷ m) e
 pass-stop h s m e q some g =
     record {
@@ -73,9 +81,11 @@ pass-stop h s m e q some g =
       stopped = λ starts x. ap (λ b. cond b (whole_stay (s ++ q ∷ []) (m ++ x)) s) g ∙ sym (ap (λ b. cond b (whole_stay (s ++ q ∷ []) m) s) g);
     }
 
+-- what going through the packets behind gives in a namespace
 abbrev pub Passed : List ℕ → List TapPacket → List TapPacket → Type 0
 Passed n before behind = Pass (has n (stays_from before behind)) (stay_after n before) (in_namespace n behind) (stay_after n (before ++ behind))
 
+-- which stays begin, after a packet of another namespace, one that goes on, one that begins a stay
 has-other : (n : List ℕ) (before : List TapPacket) (q : TapPacket) (r : List TapPacket) → bytes_eq (namespace q) n ≡ false → has n (stays_from (before ++ q ∷ []) r) ≡ has n (stays_from before (q ∷ r))
 has-other n before q r e = elim (cases_Bool (begins before q)) [
   | inl starts ↦
@@ -92,9 +102,11 @@ has-begins n before q r e starts =
     ap (λ b. has n (cond b (stay_at before q r ∷ stays_from (before ++ q ∷ []) r) (stays_from (before ++ q ∷ []) r))) starts
     ∙ ap (λ b. b || has n (stays_from (before ++ q ∷ []) r)) (of_stay_at n before q r starts ∙ e)
 
+-- a packet begins a stay where it goes on with none
 pub begins-in : (n : List ℕ) (before : List TapPacket) (q : TapPacket) → bytes_eq (namespace q) n ≡ true → begins before q ≡ not (goes_on (stay_after n before) q)
 begins-in n before q e = ap (λ m. not (goes_on (stay_after m before) q)) (same_text (namespace q) n e)
 
+-- packet after packet
 pub passed : (n : List ℕ) (before behind : List TapPacket) → Passed n before behind
 passed n before [] = record { on = λ none x. ap (λ l. whole_stay (stay_after n l) x) (sym (append-nil before)); stopped = λ some x. absurd (false≢true some) }
 passed n before (q ∷ r) = elim (cases_Bool (bytes_eq (namespace q) n)) [

@@ -15,6 +15,7 @@ use Rattle.aud_client.specs.TapPackets.{is_refused, Received, received, engine_p
 use Rattle.aud_client.specs.ConnectionRead.{Reads, ReadsEngine, ReadsRecord, packets_read, wholes_in, bad_or}
 use Rattle.aud_client.specs.declared.connection.Reader.{Reader}
 
+-- what follows from what a call gave
 pub OnOk-then : {A E : Type 0} (r : Result A E) (P Q : Type 0) → (P → Q) → OnOk r P → OnOk r Q
 OnOk-then (Ok x) P Q f h = f h
 OnOk-then (Err e) P Q f h = h
@@ -23,10 +24,12 @@ pub OnOk-two : {A E : Type 0} (r : Result A E) (P Q R : Type 0) → (P → Q →
 OnOk-two (Ok x) P Q R f p q = f p q
 OnOk-two (Err e) P Q R f p q = p
 
+-- a record that is not bad
 pub bad_or-false : (bad : Option ℕ) (number : ℕ) → bad_or bad number false ≡ bad
 bad_or-false None number = refl
 bad_or-false (Some first) number = refl
 
+-- messages whose answers are these
 pub Reads-by : (number : ℕ) (messages : List Message) (old new : Reader) (held : List Message) (answers : List Answer)
     → Continues old.assembler messages answers held → new.assembler ≡ held
     → packets_read new ≡ packets_read old ++ at number (wholes_in answers)
@@ -40,17 +43,7 @@ Reads-by number messages old new held answers continues is packets bad waits =
       waits = λ _. subst Waits (sym is) waits;
     }
 
--- no message
-pub Reads-none : (number : ℕ) (old : Reader) → Reads number [] old old
-Reads-none number old =
-    record {
-      answers = [];
-      continues = λ place l. refl;
-      packets_are = sym (append-nil (packets_read old));
-      bad_is = sym (bad_or-false old.bad number);
-      waits = λ w. w;
-    }
-
+-- whole packets of two lists of answers
 wholes_in-append : (xs ys : List Answer) → wholes_in (xs ++ ys) ≡ wholes_in xs ++ wholes_in ys
 wholes_in-append [] ys = refl
 wholes_in-append (Ok whole ∷ xs) ys = ap (λ ws. Received whole ∷ ws) (wholes_in-append xs ys)
@@ -94,6 +87,7 @@ Reads-more number ps p old mid new a b =
 pub Reads-one : (number : ℕ) (p : eio.Packet) (old new : Reader) → Reads number (messages_of p) old new → Reads number (flat_map messages_of (p ∷ [])) old new
 Reads-one number p old new a = subst (λ (ms : List Message). Reads number ms old new) (sym (append-nil (messages_of p))) a
 
+-- the answers at a record are its own
 received-at : (number : ℕ) (xs : List Answer) → received number (at number xs) ≡ wholes_in xs
 received-at number [] = refl
 received-at number (Ok whole ∷ xs) =
@@ -108,7 +102,7 @@ refused-at number (x ∷ xs) =
     ∙ ap (λ b. is_refused x || b) (refused-at number xs)
 
 -- a record from the server, whose Engine.IO packets are these
-pub ReadsRecord-server : (number : ℕ) (rec : ClientRec) (r : Result (List eio.Packet) EioFault) (old new : Reader) → engine_packets rec ≡ r
+ReadsRecord-server : (number : ℕ) (rec : ClientRec) (r : Result (List eio.Packet) EioFault) (old new : Reader) → engine_packets rec ≡ r
     → ((answers : List (ℕ × Answer)) → packets_at answers (number, rec) ≡ at number (received number answers))
     → ReadsEngine number r old new → ReadsRecord number rec old new
 ReadsRecord-server number rec (Ok packets) old new is from_server reads =
@@ -131,3 +125,11 @@ ReadsRecord-server number rec (Err fault) old new is from_server reads =
       bad_is = reads.bad_is ∙ ap (bad_or old.bad number) (sym (ap (λ e. is_refused e || false) is));
       waits = λ w. subst Waits (sym reads.assembler_is) w;
     }
+
+-- the same, of a call that reads the record given
+pub OnOk-server : {A E : Type 0} (c : Result A E) (number : ℕ) (rec given : ClientRec) (r : Result (List eio.Packet) EioFault) (old new : Reader) → rec ≡ given → engine_packets given ≡ r
+    → ((answers : List (ℕ × Answer)) → packets_at answers (number, given) ≡ at number (received number answers))
+    → OnOk c (ReadsEngine number r old new) → OnOk c (ReadsRecord number rec old new)
+OnOk-server (Ok x) number rec given r old new same is from_server reads =
+    subst (λ (it : ClientRec). ReadsRecord number it old new) (sym same) (ReadsRecord-server number given r old new is from_server reads)
+OnOk-server (Err e) number rec given r old new same is from_server reads = reads

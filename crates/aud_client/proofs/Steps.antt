@@ -11,6 +11,7 @@ use Rattle.aud_client.specs.Open.{of_namespace, has, place, open_place}
 use Rattle.aud_client.proofs.Places.{same_text, stay_after-same, stay_after-other}
 use Rattle.aud_client.proofs.OnePass.{grow, last_in-none, last_in-stays, stays-begins, stays-goes_on, place-grow, place-push, grow-set}
 
+-- no place, no stay
 place-some : (n : List ℕ) (ss : List (List TapPacket)) → place n ss ≡ None → has n ss ≡ false
 place-some n [] e = refl
 place-some n (s ∷ ss) e = go (place-some n ss) (of_namespace n s) (has n ss) refl e
@@ -68,6 +69,7 @@ open-some l p k e = go (list_any is_disconnect (stay_after (namespace p) l)) ref
 
 -- ---- what stands open behind the packet
 
+-- after a packet that begins a stay
 pub open-begins : (l : List TapPacket) (p : TapPacket) → begins l p ≡ true → (m : List ℕ)
     → open_place m (l ++ p ∷ []) ≡ cond (bytes_eq (namespace p) m) (cond (is_disconnect p) None (Some (length (stays l)))) (open_place m l)
 open-begins l p e m =
@@ -88,6 +90,7 @@ open-begins l p e m =
         ap (λ s. cond (list_any is_disconnect s) None (Some (length (stays l)))) alone ∙ first (is_disconnect p)
     go false is = ap (λ s. cond (list_any is_disconnect s) None (place m (stays l))) (stay_after-other m l p is)
 
+-- after a packet that goes on with one
 pub open-goes_on : (l : List TapPacket) (p : TapPacket) → begins l p ≡ false → (m : List ℕ)
     → open_place m (l ++ p ∷ []) ≡ cond (bytes_eq (namespace p) m) (cond (is_disconnect p) None (open_place m l)) (open_place m l)
 open-goes_on l p e m =

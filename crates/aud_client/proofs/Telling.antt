@@ -15,6 +15,7 @@ use Rattle.aud_client.specs.Kept.{fresh, grown}
 
 -- ---- one packet
 
+-- tests with a constant
 bare : (b : Bool) → (b && true) ≡ b
 bare true = refl
 bare false = refl
@@ -50,14 +51,16 @@ no_ask (Sent packet) e = go (is_connect_kind packet.kind) e
 
 -- ---- a stay, and one packet more
 
+-- stays that tell the same
 same_told : (c : ℕ) (n : Text) (r u : Option ReplySeen) (a b : Option AskedSeen) (f g : List FrameSeen) → r ≡ u → a ≡ b → f ≡ g
     → ◌≡◌ {A = StaySeen} (record { c = c; nsp = n; reply = r; asked = a; frames = f }) (record { c = c; nsp = n; reply = u; asked = b; frames = g })
 same_told c n r u a b f g q v w = λ i. record { c = c; nsp = n; reply = q i; asked = v i; frames = w i }
 
-or_none : {X : Type 0} (o : Option X) → option_or o None ≡ o
+pub or_none : {X : Type 0} (o : Option X) → option_or o None ≡ o
 or_none None = refl
 or_none (Some x) = refl
 
+-- the last, with one more
 last_of-more : (xs : List AskedSeen) (y : AskedSeen) → last_of (xs ++ y ∷ []) ≡ Some y
 last_of-more [] y = refl
 last_of-more (x ∷ []) y = refl
@@ -71,6 +74,7 @@ reply_of-one p = go (is_reply p) refl
     go true e = refl
     go false e = sym (no_reply_at p e)
 
+-- a stay has a reply where a packet is one
 pub has_reply : (s : List TapPacket) → is_some (reply_of s) ≡ list_any is_reply s
 has_reply [] = refl
 has_reply (x ∷ xs) = go (has_reply xs) (is_reply x) refl
@@ -79,6 +83,7 @@ has_reply (x ∷ xs) = go (has_reply xs) (is_reply x) refl
     go ih true e = reply_at-some x e
     go ih false e = ih
 
+-- after the reply, packets change neither it nor what is in front of it
 pub replied : (s x : List TapPacket) → list_any is_reply s ≡ true → (reply_of (s ++ x) ≡ reply_of s) × (before_reply (s ++ x) ≡ before_reply s)
 replied [] x e = absurd (false≢true e)
 replied (y ∷ ys) x e = go (is_reply y) (replied ys x) e
@@ -88,6 +93,7 @@ replied (y ∷ ys) x e = go (is_reply y) (replied ys x) e
     go true ih e = (refl, refl)
     go false ih e = let both = ih e in (both.0, ap (λ l. y ∷ l) both.1)
 
+-- without a reply so far, those of the packets that follow count
 pub unreplied : (s x : List TapPacket) → list_any is_reply s ≡ false → (reply_of (s ++ x) ≡ reply_of x) × (before_reply (s ++ x) ≡ s ++ before_reply x)
 unreplied [] x e = (refl, refl)
 unreplied (y ∷ ys) x e = go (is_reply y) (unreplied ys x) e
@@ -112,6 +118,7 @@ asked-behind s p = go (is_reply p) refl
     go true e = ap (λ l. last_of (filter_map ask_of l)) (append-nil s) ∙ ap (λ o. option_or o (last_of (filter_map ask_of s))) (sym (no_ask-reply p e))
     go false e = asked-more s p (ask_of p) refl
 
+-- a stay of one packet
 pub told-first : (stream : List StreamRec) (c : ℕ) (p : TapPacket) → told stream c (p ∷ []) ≡ grown stream (fresh c (namespace p)) p
 told-first stream c p =
     same_told c (namespace p) _ _ _ _ _ _ (reply_of-one p ∙ sym (or_none (reply_at p))) (asked-behind [] p) (filter_map-append (frame_of stream) [] (p ∷ []))
@@ -124,6 +131,7 @@ no_connect (x ∷ xs) p e some =
     ∙ ap (λ b. is_connect p && b) (sym some)
     ∙ not-true (is_connect p && list_any is_reply (x ∷ xs)) ((and_parts (not (list_any is_disconnect (x ∷ xs))) (not (is_connect p && list_any is_reply (x ∷ xs))) e).1)
 
+-- a stay with one packet more
 pub told-more : (stream : List StreamRec) (c : ℕ) (s : List TapPacket) (p : TapPacket) → goes_on s p ≡ true
     → told stream c (s ++ p ∷ []) ≡ grown stream (told stream c s) p
 told-more stream c [] p e = absurd (false≢true e)

@@ -11,3 +11,4 @@ pub mod Kept
 pub mod BySession
 pub mod ReadTap
 pub mod Recording
+pub mod Clients

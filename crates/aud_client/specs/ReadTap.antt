@@ -1,10 +1,11 @@
 -- What is kept of a client's tap that was read.
 use Rattle.std.specs.Prelude.{◌≡◌}
+use Rattle.aud_node.specs.Naming.{kept_places}
 use Rattle.aud_node.specs.Stream.{Text}
 use Rattle.aud_client.specs.Received.{stays_naming}
-use Rattle.aud_client.specs.BySession.{kept_numbers, stays_numbered}
+use Rattle.aud_client.specs.BySession.{stays_numbered}
 use Rattle.aud_client.specs.declared.read_tap.ReadTap.TheInside.{Inside}
 
 -- of each pid, the numbers of the stays whose reply names it
 abbrev pub IsIndexed : Inside → Type 0
-IsIndexed t = (pid : Text) → stays_numbered t.received.stays (kept_numbers t.by_session pid) ≡ stays_naming pid t.received.stays
+IsIndexed t = (pid : Text) → stays_numbered t.received.stays (kept_places t.by_session pid) ≡ stays_naming pid t.received.stays

@@ -128,11 +128,11 @@ impl<'a> Connections<'a> {
     {
         let reader = read_connection(alloc, first, recs)?;
         self.bad = self.bad.or(reader.bad);
-        self.list.push(Connection {
-            c,
-            packets: reader.packets,
-        })?;
-        Ok(())
+        let packets = reader.packets;
+        match self.list.push(Connection { c, packets }) {
+            Ok(()) => Ok(()),
+            Err(_) => Err(AllocError),
+        }
     }
 }
 

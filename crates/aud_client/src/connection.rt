@@ -150,8 +150,10 @@ impl<'a> Reader<'a> {
         ensures assembler { self.new.assembler ≡ self.old.assembler }
         ensures bad { self.new.bad ≡ self.old.bad }
     {
-        self.packets.push(Placed { number, packet })?;
-        Ok(())
+        match self.packets.push(Placed { number, packet }) {
+            Ok(()) => Ok(()),
+            Err(_) => Err(AllocError),
+        }
     }
 
     /// The record doesn't decode.

@@ -21,6 +21,7 @@
 mod asked;
 mod by_session;
 mod client_tap;
+mod clients;
 mod connection;
 mod frame;
 mod laws;

@@ -1,16 +1,15 @@
 //! A client's tap that was read, with its stays by session.
-ghost use Rattle.std.specs.Prelude.{◌≡◌, ◌++◌, [], IfOk, OnOk, map, slice_get};
-ghost use Rattle.std.specs.List.{cons_option};
+ghost use Rattle.std.specs.Prelude.{◌≡◌, IfOk, map, slice_get};
 ghost use Rattle.std.specs.Option.{option_copied};
 ghost use Rattle.aud_client.specs.Received.{received_of, stays_naming};
 ghost use Rattle.aud_client.specs.BySession.{stays_numbered};
 
-use crate::by_session::BySession;
+use crate::by_session::by_session;
 use crate::client_tap::ClientTap;
 use crate::stay::Stay;
 use crate::tap::received;
 use crate::told::Received;
-use aud_node::Stream;
+use aud_node::{Naming, Stream};
 use aud_tap::Memory;
 use std::alloc::Global;
 use std::marker::Model;
@@ -20,7 +19,8 @@ use std::marker::Model;
 #[derive(Drop)]
 pub struct ReadTap<'a> {
     received: Received<'a>,
-    by_session: BySession,
+    /// Of each pid, the numbers of the stays whose reply names it.
+    by_session: Naming,
 }
 
 impl<'a> Model for ReadTap<'a> {
@@ -44,7 +44,7 @@ impl<'a> ReadTap<'a> {
         ensures { IfOk result (λ told. told ≡ received_of stream.now tap.entry) }
     {
         let received = received(alloc, tap, stream)?;
-        let by_session = BySession::build(alloc, &received.stays)?;
+        let by_session = by_session(alloc, received.stays.as_slice())?;
         Ok(ReadTap {
             received,
             by_session,
@@ -76,7 +76,12 @@ fn stays_at<'s, 'a>(
 {
     let mut at = Vec::new(alloc);
     for number in numbers {
-        push_stay(&mut at, stay_at(stays, *number))?;
+        let Some(stay) = stay_at(stays, *number) else {
+            continue;
+        };
+        let Ok(()) = at.push(stay) else {
+            return Err(Memory);
+        };
     }
     Ok(at)
 }
@@ -86,17 +91,4 @@ fn stay_at<'s, 'a>(stays: &'s [Stay<'a>], number: usize) -> Option<&'s Stay<'a>>
     ensures { option_copied result ≡ slice_get stays.now number }
 {
     stays.get(number)
-}
-
-/// The stay, if there is one, comes after the others.
-fn push_stay<'s, 'a>(at: &mut Vec<&'s Stay<'a>>, stay: Option<&'s Stay<'a>>) -> Result<(), Memory>
-    ensures { OnOk result (map (λ stay. stay.now) at.new.items ≡ map (λ stay. stay.now) at.old.items ++ cons_option (option_copied stay.entry) []) }
-{
-    let Some(stay) = stay else {
-        return Ok(());
-    };
-    match at.push(stay) {
-        Ok(()) => Ok(()),
-        Err(_) => Err(Memory),
-    }
 }

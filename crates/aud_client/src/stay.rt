@@ -1,5 +1,5 @@
 //! A stay of a client in a namespace.
-ghost use Rattle.std.specs.Prelude.{◌≡◌, ◌++◌, List, [], OnOk};
+ghost use Rattle.std.specs.Prelude.{◌≡◌, ◌++◌, List, [], IfOk, OnOk};
 ghost use Rattle.std.specs.List.{cons_option};
 ghost use Rattle.std.specs.Option.{option_copied};
 ghost use Rattle.aud_tap.specs.declared.records.StreamRec.{StreamRec};
@@ -10,15 +10,17 @@ ghost use Rattle.aud_client.specs.ConnectionRead.{packet_seen};
 ghost use Rattle.aud_client.specs.Replies.{is_this};
 ghost use Rattle.aud_client.specs.Received.{names, is_recovered};
 ghost use Rattle.aud_client.specs.Kept.{fresh, grown};
+ghost use Rattle.aud_client.specs.Stays.{namespace};
 
 use crate::asked::{Asked, asked_in};
 use crate::connection::TapPacket;
 use crate::frame::{Frame, frame_of};
 use crate::replies::{Reply, reply_of};
+use crate::stays::namespace;
 use aud_node::Stream;
 use aud_sio::{Packet, Whole};
 use aud_tap::Memory;
-use std::alloc::{AllocError, Global};
+use std::alloc::Global;
 use std::marker::Model;
 
 /// What the packets of one stay tell: one connection of a client to a namespace, from its first packet to a
@@ -65,16 +67,25 @@ impl<'a> Stay<'a> {
         }
     }
 
-    /// A stay without packets.
-    pub(crate) fn new(alloc: Global, c: u64, nsp: &'a str) -> Stay<'a>
-        ensures { result ≡ fresh c nsp.now }
+    /// A stay of one packet, in the connection with this number.
+    pub(crate) fn begun(
+        alloc: Global,
+        stream: &Stream<'_>,
+        c: u64,
+        packet: TapPacket<'a>,
+    ) -> Result<Stay<'a>, Memory>
+        ensures { IfOk result (λ stay. stay ≡ grown stream.now (fresh c (namespace (packet_seen packet.entry))) (packet_seen packet.entry)) }
     {
-        Stay {
+        let mut stay = Stay {
             c,
-            nsp,
+            nsp: namespace(&packet),
             reply: None,
             asked: None,
             frames: Vec::new(alloc),
+        };
+        match stay.add(alloc, stream, packet) {
+            Ok(()) => Ok(stay),
+            Err(fault) => Err(fault),
         }
     }
 
@@ -105,18 +116,20 @@ impl<'a> Stay<'a> {
         if let Some(reply) = reply_of(alloc, &whole)? {
             self.reply = Some(reply);
         }
-        self.keep(frame_of(stream, whole))?;
-        Ok(())
+        self.keep(frame_of(stream, whole))
     }
 
     /// The frame, if there is one, comes after the others.
-    fn keep(&mut self, frame: Option<Frame<'a>>) -> Result<(), AllocError>
+    fn keep(&mut self, frame: Option<Frame<'a>>) -> Result<(), Memory>
         ensures { OnOk result (self.new ≡ record self.old { frames = self.old.frames ++ cons_option frame.entry [] }) }
     {
-        if let Some(frame) = frame {
-            self.frames.push(frame)?;
+        let Some(frame) = frame else {
+            return Ok(());
+        };
+        match self.frames.push(frame) {
+            Ok(()) => Ok(()),
+            Err(_) => Err(Memory),
         }
-        Ok(())
     }
 
     /// A packet of the client.

@@ -9,6 +9,7 @@ ghost use Rattle.aud_client.specs.Stays.{is_connect, is_disconnect, namespace, p
 ghost use Rattle.aud_sio.specs.Packet.{view};
 ghost use Rattle.aud_client.specs.Told.{StaySeen};
 ghost use Rattle.aud_client.specs.Received.{stays_of};
+ghost use Rattle.aud_node.specs.Stream.{Text};
 ghost use Rattle.aud_client.specs.Kept.{Keeps, BeginsAt, GoesOn, open_at, place_for, unless_replied, fresh, grown};
 
 use crate::client_tap::Connection;
@@ -107,8 +108,17 @@ impl<'a> Stays<'a> {
     {
         let place = self.stays.len();
         self.mark(&packet, place)?;
-        let mut stay = Stay::new(self.alloc, c, namespace(&packet));
-        stay.add(self.alloc, stream, packet)?;
+        match Stay::begun(self.alloc, stream, c, packet) {
+            Ok(stay) => self.keep(stay),
+            Err(fault) => Err(fault),
+        }
+    }
+
+    /// The stay comes after the others.
+    fn keep(&mut self, stay: Stay<'a>) -> Result<(), Memory>
+        ensures stays { OnOk result (self.new.stays.items ≡ self.old.stays.items ++ stay.entry ∷ []) }
+        ensures open { (n : Text) → open_at self.new n ≡ open_at self.old n }
+    {
         match self.stays.push(stay) {
             Ok(()) => Ok(()),
             Err(_) => Err(Memory),
@@ -181,7 +191,7 @@ fn packet_in<'a, 'b>(packet: &'b TapPacket<'a>) -> &'b Packet<'a>
 }
 
 /// The packet's namespace, lent from the tap's records.
-fn namespace<'a>(packet: &TapPacket<'a>) -> &'a str
+pub fn namespace<'a>(packet: &TapPacket<'a>) -> &'a str
     ensures { result.now ≡ namespace (packet_seen packet.now) }
 {
     packet_in(packet).nsp

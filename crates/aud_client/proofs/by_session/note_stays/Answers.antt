@@ -1,7 +1,7 @@
 use Rattle.aud_node.specs.Naming.{kept_places}
 use Rattle.aud_node.proofs.NamingLemmas.{noted-item}
 use Rattle.aud_client.specs.Received.{names}
-use Rattle.aud_client.proofs.recording.note_stays.Goals as goal
+use Rattle.aud_client.proofs.by_session.note_stays.Goals as goal
 
 pub loop-stay-preserved : goal.loop-stay-preserved
 loop-stay-preserved c = λ q.

@@ -1,0 +1,62 @@
+-- What an index keeps of a list: the numbers, ascending, of the elements that pass a test.
+use Rattle.std.proofs.Common.{◌≡◌, ℕ, ◌+◌, ◌<◌, suc, Bool, true, false, cond, List, [], ◌∷◌, ◌++◌, length, map, take, get_or, refl, sym, ap, ◌∙◌, arith, append_assoc, length-append, Option, Some, slice_get}
+use Rattle.std.specs.List.{filter, filter_map, cons_option}
+use Rattle.std.specs.Option.{option_map_or}
+use Rattle.std.proofs.lemmas.List.{take_more, map-append}
+use Rattle.std.proofs.lemmas.List.Elements.{filter_map-append}
+use Rattle.std.proofs.lemmas.Option.{slice_get_read}
+use Rattle.aud_node.specs.Lists.{numbers_from}
+use Rattle.aud_node.specs.Naming.{noted}
+use Rattle.aud_node.proofs.NamingLemmas.{noted-next}
+
+module _ {X : Type 0} where
+  -- the numbers of the first elements that pass, so many looked at
+  abbrev pub passing_numbers : (Option X → Bool) → List X → ℕ → List ℕ
+  passing_numbers p xs count = filter (λ k. p (slice_get xs k)) (numbers_from 0 count)
+
+  -- one element more, noted where it passes
+  pub noted-at : (p : Option X → Bool) (xs : List X) (i : ℕ) (x : X) (old new : List ℕ) → i < length xs → x ≡ get_or xs i x
+      → old ≡ passing_numbers p xs i → new ≡ noted i (p (Some x)) old → new ≡ passing_numbers p xs (i + 1)
+  noted-at p xs i x old new within is before after =
+      after ∙ ap (λ o. noted i (p o) old) (sym (slice_get_read xs (length xs) i x refl within is)) ∙ noted-next (λ k. p (slice_get xs k)) i old before
+
+  -- the element after the first ones
+  after_these : (xs ys : List X) (y : X) → slice_get (xs ++ y ∷ ys) (length xs) ≡ Some y
+  after_these [] ys y = refl
+  after_these (x ∷ xs) ys y = after_these xs ys y
+
+  -- the elements with the numbers kept are those that pass: of the last ones, which stand after n others
+  numbered : (p : X → Bool) (all xs ys : List X) (n : ℕ) → xs ++ ys ≡ all → length xs ≡ n
+      → filter_map (slice_get all) (filter (λ k. option_map_or p (slice_get all k) false) (numbers_from n (length ys))) ≡ filter p ys
+  numbered p all xs [] n e l = refl
+  numbered p all xs (y ∷ ys) n e l =
+      ap (λ o. filter_map (slice_get all) (cond (option_map_or p o false) (n ∷ rest) rest)) here
+      ∙ go (numbered p all (xs ++ y ∷ []) ys (suc n) (append_assoc xs (y ∷ []) ys ∙ e) (omega (arith, length-append xs (y ∷ []), l))) (p y)
+    where
+      rest : List ℕ
+      rest = filter (λ k. option_map_or p (slice_get all k) false) (numbers_from (suc n) (length ys))
+
+      here : slice_get all n ≡ Some y
+      here = sym (ap (slice_get all) l) ∙ sym (ap (λ zs. slice_get zs (length xs)) e) ∙ after_these xs ys y
+
+      go : filter_map (slice_get all) rest ≡ filter p ys → (b : Bool) → filter_map (slice_get all) (cond b (n ∷ rest) rest) ≡ cond b (y ∷ filter p ys) (filter p ys)
+      go ih true = ap (λ o. cons_option o (filter_map (slice_get all) rest)) here ∙ ap (λ zs. y ∷ zs) ih
+      go ih false = ih
+
+  -- all elements
+  pub numbered_all : (p : X → Bool) (xs : List X) → filter_map (slice_get xs) (passing_numbers (λ o. option_map_or p o false) xs (length xs)) ≡ filter p xs
+  numbered_all p xs = numbered p xs [] xs 0 refl refl
+
+  -- the elements with the first of these numbers, with one number more
+  pub numbered-next : (xs : List X) (numbers : List ℕ) (i : ℕ) (o : Option X) (old new : List X) → i < length numbers → o ≡ slice_get xs (get_or numbers i 0)
+      → old ≡ filter_map (slice_get xs) (take i numbers) → new ≡ old ++ cons_option o [] → new ≡ filter_map (slice_get xs) (take (i + 1) numbers)
+  numbered-next xs numbers i o old new within is before after =
+      after ∙ ap (λ zs. zs ++ cons_option o []) before ∙ ap (λ u. filter_map (slice_get xs) (take i numbers) ++ cons_option u []) is
+      ∙ sym (ap (filter_map (slice_get xs)) (take_more numbers i 0 within) ∙ filter_map-append (slice_get xs) (take i numbers) (get_or numbers i 0 ∷ []))
+
+-- what is made of the first elements, with one element more
+pub mapped-next : {X Y : Type 0} (f : X → Y) (xs : List X) (i : ℕ) (x : X) (old new : List Y) → i < length xs → x ≡ get_or xs i x
+    → old ≡ map f (take i xs) → new ≡ old ++ f x ∷ [] → new ≡ map f (take (i + 1) xs)
+mapped-next f xs i x old new within is before after =
+    after ∙ ap (λ ys. ys ++ f x ∷ []) before ∙ sym (map-append f (take i xs) (x ∷ []))
+    ∙ ap (map f) (ap (λ y. take i xs ++ y ∷ []) is ∙ sym (take_more xs i x within))
