@@ -11,3 +11,4 @@ pub mod LineSteps
 pub mod OwnLines
 pub mod TapLaws
 pub mod Grown
+pub mod NameLemmas

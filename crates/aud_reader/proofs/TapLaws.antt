@@ -22,7 +22,7 @@ use Rattle.aud_tap.specs.declared.taps.Tap.{Tap}
 use Rattle.aud_tap.specs.Forms.{is_text}
 use Rattle.aud_tap.specs.Names.{place_of, AreNamedOnce}
 use Rattle.aud_reader.specs.Steps.{◌>>=◌, guard}
-use Rattle.aud_reader.specs.Bundle.{offset_of, with_entry, with_record, tap_named, with_records, kind_of_tap, same_kind, taps_on, no_records, another_tap, with_line}
+use Rattle.aud_reader.specs.Bundle.{offset_of, with_entry, with_record, tap_named, with_records, kind_of_tap, same_kind, taps_on, no_records, another_tap, with_line, taps_from, taps_of}
 use Rattle.aud_reader.specs.TapLaws.{AreDifferent, HasOneStreamAtMost, offsets_in, HasEachOffsetOnce}
 use Rattle.aud_reader.specs.Sound.{names_of, IsSound}
 use Rattle.aud_reader.proofs.LineSteps.{steps, guarded, guarded-not, new_entry, one_more, First, first_of_lines, Begins, Adds, line_step}
@@ -146,22 +146,34 @@ sound-line ts more line sound e = elim (line_step ts more line e) [
   | inr a ↦ sound-adds ts more line sound a
 ]
 
+sound-lines : (ts more : List Tap) (lines : List Line) → IsSound ts → taps_from ts lines ≡ Ok more → IsSound more
+sound-lines ts more [] sound e = let same : ts ≡ more = cc in rw (← same) sound
+sound-lines ts more (line ∷ lines) sound e =
+    let first = first_of_lines ts more line lines e in
+    sound-lines first.next more lines (elim first.step [
+      | inl passed ↦ rw passed.1 sound
+      | inr read ↦ elim read [ inl b ↦ sound-begins ts first.next line.bytes sound b | inr a ↦ sound-adds ts first.next line.bytes sound a ]
+    ]) first.rest
+
 -- ---- the places of names
 
 -- each tap is the first with its name
-pub named_once : (ts : List Tap) → AreDifferent (names_of ts) → AreNamedOnce ts
-named_once [] different place tap at = cc
-named_once (t ∷ ts) different zero tap at =
+pub first_with_name : (ts : List Tap) → AreDifferent (names_of ts) → AreNamedOnce ts
+first_with_name [] different place tap at = cc
+first_with_name (t ∷ ts) different zero tap at =
     let is : t ≡ tap = cc in
     let same : bytes_eq t.name tap.name ≡ true = (bytes_eq-Decides t.name tap.name).1 (ap (λ (x : Tap). x.name) is) in
     rw same refl
-named_once (t ∷ ts) different (suc place) tap at =
+first_with_name (t ∷ ts) different (suc place) tap at =
     let names = names_of ts in
     let within : place < length names = slice_get_within names place tap.name (slice_get-map (λ (x : Tap). x.name) ts place ∙ ap (option_map (λ (x : Tap). x.name)) at) in
     let here : get_or names place tap.name ≡ tap.name = get_or_from_slice_get names place tap.name tap.name (slice_get-map (λ (x : Tap). x.name) ts place ∙ ap (option_map (λ (x : Tap). x.name)) at) in
     let other : bytes_eq t.name tap.name ≡ false = no_text t.name tap.name (λ same. different 0 (suc place) tap.name (omega arith) (omega arith) (same ∙ sym here)) in
     let rest : AreDifferent names = λ i j d l m. different (suc i) (suc j) d (omega arith) (omega arith) in
-    rw (other, named_once ts rest place tap at) refl
+    rw (other, first_with_name ts rest place tap at) refl
   where
     no_text : (a b : List ℕ) → (a ≡ b → ⊥) → bytes_eq a b ≡ false
     no_text a b ne = elim (bytes_eq a b) as (λ r. bytes_eq a b ≡ r → r ≡ false) [ true ↦ λ h. absurd (ne ((bytes_eq-Decides a b).0 h)) | false ↦ λ h. refl ] refl
+
+pub named_once : (lines : List Line) (taps : List Tap) → taps_of lines ≡ Ok taps → AreNamedOnce taps
+named_once lines taps e = first_with_name taps (sound-lines [] taps lines sound-none e).names

@@ -1,14 +1,14 @@
 use Rattle.std.proofs.Common.{◌≡◌, None}
 use Rattle.aud_reader.specs.Kept.{taps_so_far}
 use Rattle.aud_reader.proofs.LineSteps.{taps_at_end}
-use Rattle.aud_reader.proofs.TapLaws.{named_once}
+use Rattle.aud_reader.proofs.TapLaws.{first_with_name}
 use Rattle.aud_reader.proofs.OwnLines.{own_lines, each_line}
 use Rattle.aud_reader.proofs.bundle.BundleReader.finish.Goals as goal
 
 pub returns-in-Ok-clause-names : goal.returns-in-Ok-clause-names
 returns-in-Ok-clause-names c =
     let none : c.self.inside.fault ≡ None = cc in
-    rw c.in-Ok.ensures (named_once (taps_so_far c.self.inside.taps) (c.self.invariant none).1.names)
+    rw c.in-Ok.ensures (first_with_name (taps_so_far c.self.inside.taps) (c.self.invariant none).1.names)
 
 pub returns-in-Ok-clause-own_lines : goal.returns-in-Ok-clause-own_lines
 returns-in-Ok-clause-own_lines c = λ lines is.
