@@ -25,7 +25,7 @@ use Rattle.aud_reader.specs.StreamRecord.{stream_record_of, event_of, other_of}
 use Rattle.aud_reader.specs.NodeRecord.{node_record_of}
 use Rattle.aud_reader.specs.ClientRecord.{client_record_of}
 use Rattle.aud_reader.specs.Record.{opened_line, kind_of, tap_of_kind, record_in, record_of, value_record, line_record}
-use Rattle.aud_reader.specs.Bundle.{offset_of, max_entries, max_records, pid_of, pids_fit, with_new_offset, with_entry, with_node_record, with_client_record, with_record, tap_named, with_records, kind_of_tap, pids_of, another_tap, no_records, with_header, with_later, with_kind, with_line, at_line, passing_empty, taps_after, then_on, taps_from, taps_of, Reading, taps_to_come}
+use Rattle.aud_reader.specs.Bundle.{offset_of, max_entries, max_records, pid_of, node_room, with_new_offset, with_entry, with_node_record, with_client_record, with_record, tap_named, with_records, kind_of_tap, pids_of, another_tap, no_records, with_header, with_later, with_kind, with_line, at_line, passing_empty, taps_after, then_on, taps_from, taps_of, Reading, taps_to_come}
 use Rattle.aud_reader.specs.Connections.{may_follow}
 use Rattle.aud_reader.specs.OwnLines.{recs_in}
 
@@ -120,8 +120,7 @@ put_node : (pids : List (List ℕ)) (records new : List NodeRec) (kind : List �
 unfolding with_node_record
 put_node pids records new kind d e =
     let read = steps (node_record_of kind d) _ new e in
-    let room = steps (guard Limit (nat_lt (length records) max_records)) _ new read.next in
-    let fit = steps (pids_fit (pids ++ option_to_list (pid_of read.value))) _ new room.next in
+    let room = steps (node_room (length records) (pids ++ option_to_list (pid_of read.value))) _ new read.next in
     record { value = read.value; reads = read.first; is = cc }
 
 put_client : (records new : List ClientRec) (kind : List ℕ) (d : Data) → with_client_record records kind d ≡ Ok new → Put (client_record_of kind d) records new

@@ -22,7 +22,7 @@ use Rattle.aud_tap.specs.Limits.{fits, fit_rooms, max_attachments, max_id, max_o
 use Rattle.aud_tap.specs.Forms.{is_id, is_namespace}
 use Rattle.aud_reader.specs.Fields.{decoded, each, list_or_empty, as_blob}
 use Rattle.aud_reader.specs.Header.{header_of}
-use Rattle.aud_reader.specs.StreamRecord.{stream_record_of, event_of, other_of}
+use Rattle.aud_reader.specs.StreamRecord.{stream_record_of, event_of, lists_of, other_of}
 use Rattle.aud_reader.specs.NodeRecord.{node_record_of, start_of, take_of, open_of, member_of, turn_of, gone_of}
 use Rattle.aud_reader.specs.ClientRecord.{client_record_of}
 use Rattle.aud_reader.specs.Record.{record_in, record_of, value_record}
@@ -48,77 +48,38 @@ header-back tap.Stream = refl
 header-back tap.Node = refl
 header-back tap.Client = refl
 
-begin-back : value_record begin_data ≡ Ok (Node (Start None))
-unfolding value_record record_of record_in node_record_of start_of
-begin-back = refl
+member-parts : (pid room : List ℕ) → is_session_id pid && is_room room ≡ true → (is_id pid ≡ true) × (fits max_id pid ≡ true) × (is_room room ≡ true)
+member-parts pid room h = let ps = both (is_session_id pid) (is_room room) h in let p = id-parts pid ps.0 in (p.0, p.1, ps.1)
 
-start-back : (off : List ℕ) → is_offset off ≡ true → value_record (offset_data (codes "start") off) ≡ Ok (Node (Start (Some off)))
-unfolding value_record record_of record_in node_record_of start_of
-start-back off h = let o = offset-parts off h in rw (o.0, o.1) refl
-
-take-back : (off : List ℕ) → is_offset off ≡ true → value_record (offset_data (codes "take") off) ≡ Ok (Node (Take off))
-unfolding value_record record_of record_in node_record_of take_of
-take-back off h = let o = offset-parts off h in rw (o.0, o.1) refl
-
-open-back : (pid sid nsp : List ℕ) → is_session_id pid ≡ true → is_session_id sid ≡ true → is_full_namespace nsp ≡ true → value_record (open_data pid sid nsp) ≡ Ok (Node (Opened pid sid nsp))
-unfolding value_record record_of record_in node_record_of open_of
-open-back pid sid nsp hp hs hn =
-    let p = id-parts pid hp in
-    let s = id-parts sid hs in
-    let n = namespace-parts nsp hn in
-    rw (p.0, s.0, n.0, p.1, s.1, n.1) refl
-
-member-back : (pid room : List ℕ) (kind : List ℕ) → is_session_id pid ≡ true → is_room room ≡ true → member_of (member_data kind pid room) ≡ Ok (pid, room)
-unfolding member_of
-member-back pid room kind hp hr = let p = id-parts pid hp in rw (p.0, p.1, hr) refl
-
-turn-back : (pid : List ℕ) (turn : ℕ) (kind : List ℕ) → is_session_id pid ≡ true → nat_le turn max_turn ≡ true → turn_of (turn_data kind pid turn) ≡ Ok (pid, turn)
-unfolding turn_of
-turn-back pid turn kind hp ht = let p = id-parts pid hp in rw (p.0, p.1, ht) refl
-
-gone-back : (pid : List ℕ) → is_session_id pid ≡ true → value_record (gone_data pid) ≡ Ok (Node (Gone pid))
-unfolding value_record record_of record_in node_record_of gone_of
-gone-back pid hp = let p = id-parts pid hp in rw (p.0, p.1) refl
+turn-parts : (pid : List ℕ) (turn : ℕ) → is_session_id pid && nat_le turn max_turn ≡ true → (is_id pid ≡ true) × (fits max_id pid ≡ true) × (nat_le turn max_turn ≡ true)
+turn-parts pid turn h = let ps = both (is_session_id pid) (nat_le turn max_turn) h in let p = id-parts pid ps.0 in (p.0, p.1, ps.1)
 
 pub node-back : (r : NodeRec) → node_is_well_formed r ≡ true → value_record (node_data r) ≡ Ok (Node r)
-unfolding value_record record_of record_in node_record_of
-node-back (Start None) h = begin-back
-node-back (Start (Some off)) h = start-back off h
-node-back (Take off) h = take-back off h
+unfolding value_record record_of record_in node_record_of start_of take_of open_of member_of turn_of gone_of
+node-back (Start None) h = refl
+node-back (Start (Some off)) h = let o = offset-parts off h in rw (o.0, o.1) refl
+node-back (Take off) h = let o = offset-parts off h in rw (o.0, o.1) refl
 node-back (Opened pid sid nsp) h =
     let ps = both (is_session_id pid && is_session_id sid) (is_full_namespace nsp) h in
-    let p = both (is_session_id pid) (is_session_id sid) ps.0 in
-    open-back pid sid nsp p.0 p.1 ps.1
-node-back (Join pid room) h =
-    let p = both (is_session_id pid) (is_room room) h in
-    rw (member-back pid room (codes "join") p.0 p.1) refl
-node-back (Leave pid room) h =
-    let p = both (is_session_id pid) (is_room room) h in
-    rw (member-back pid room (codes "leave") p.0 p.1) refl
-node-back (Broke pid turn) h =
-    let p = both (is_session_id pid) (nat_le turn max_turn) h in
-    rw (turn-back pid turn (codes "break") p.0 p.1) refl
-node-back (Back pid turn) h =
-    let p = both (is_session_id pid) (nat_le turn max_turn) h in
-    rw (turn-back pid turn (codes "back") p.0 p.1) refl
-node-back (Gone pid) h = gone-back pid h
-
-conn-back : (c : ℕ) → value_record (conn_data c) ≡ Ok (Client (Conn c))
-unfolding value_record record_of record_in client_record_of
-conn-back c = refl
+    let ids = both (is_session_id pid) (is_session_id sid) ps.0 in
+    let p = id-parts pid ids.0 in
+    let s = id-parts sid ids.1 in
+    let n = namespace-parts nsp ps.1 in
+    rw (p.0, s.0, n.0, p.1, s.1, n.1) refl
+node-back (Join pid room) h = let m = member-parts pid room h in rw (m.0, m.1, m.2) refl
+node-back (Leave pid room) h = let m = member-parts pid room h in rw (m.0, m.1, m.2) refl
+node-back (Broke pid turn) h = let t = turn-parts pid turn h in rw (t.0, t.1, t.2) refl
+node-back (Back pid turn) h = let t = turn-parts pid turn h in rw (t.0, t.1, t.2) refl
+node-back (Gone pid) h = let p = id-parts pid h in rw (p.0, p.1) refl
 
 pub decoded-encoded : (b : List ℕ) → IsBytes b → decoded (encoded b) ≡ Some b
 decoded-encoded b bytes = ap result_ok (decode_of-encode_of standard b refl bytes)
-
-binary-back : (b : List ℕ) → decoded (encoded b) ≡ Some b → value_record (binary_data b) ≡ Ok (Client (BytesIn b))
-unfolding value_record record_of record_in client_record_of
-binary-back b back = rw back refl
 
 pub client-back : (r : ClientRec) → DecodeBack (client_bytes r) → value_record (client_data r) ≡ Ok (Client r)
 unfolding value_record record_of record_in client_record_of
 client-back (Conn c) h = refl
 client-back (TextIn t) h = refl
-client-back (BytesIn b) h = binary-back b h.0
+client-back (BytesIn b) h = rw (h.0) refl
 client-back (Poll t) h = refl
 client-back (TextOut t) h = refl
 client-back Lost h = refl
@@ -234,7 +195,7 @@ blobs-or-empty [] h = refl
 blobs-or-empty (b ∷ bs) h = blobs-back (b ∷ bs) h
 
 event-back : (e : Event) → event_is_well_formed e ≡ true → DecodeBack e.bin → event_of (event_data e) ≡ Ok (Ev e)
-unfolding event_of
+unfolding event_of lists_of
 event-back e h bytes =
     let e4 = both (is_offset e.off && is_full_namespace e.nsp && fit_rooms e.rooms && fit_rooms e.except) (nat_le (length e.bin) max_attachments) h in
     let e3 = both (is_offset e.off && is_full_namespace e.nsp && fit_rooms e.rooms) (fit_rooms e.except) e4.0 in
