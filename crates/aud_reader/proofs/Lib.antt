@@ -7,5 +7,8 @@ pub mod TapNames
 pub mod ConnectionsLemmas
 pub mod TextsLemmas
 pub mod KeptLemmas
-pub mod NameLemmas
+pub mod LineSteps
+pub mod OwnLines
+pub mod TapLaws
 pub mod Grown
+pub mod NameLemmas

@@ -80,12 +80,15 @@ pid_of (Gone pid) = Some pid
 abbrev pub pids_fit : List (List ℕ) → Result (Unit {0}) InputCode
 pids_fit pids = guard Limit (nat_le (distinct_count is_text pids) max_pids)
 
+-- a tap of so many records has room for another, and these pids are not too many
+abbrev pub node_room : ℕ → List (List ℕ) → Result (Unit {0}) InputCode
+node_room count pids = guard Limit (nat_lt count max_records) >>= (λ room. pids_fit pids)
+
 -- a node's records with that of a line, beside the pids of all node records
 unfoldable pub with_node_record : List (List ℕ) → List NodeRec → List ℕ → Data → Result (List NodeRec) InputCode
 with_node_record pids records kind d = do
   rec ← node_record_of kind d
-  room ← guard Limit (nat_lt (length records) max_records)
-  fit ← pids_fit (pids ++ option_to_list (pid_of rec))
+  room ← node_room (length records) (pids ++ option_to_list (pid_of rec))
   Ok (records ++ rec ∷ [])
 
 -- a client's records with that of a line

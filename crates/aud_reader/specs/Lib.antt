@@ -12,6 +12,9 @@ pub mod ClientRecord
 pub mod Record
 pub mod Connections
 pub mod Bundle
+pub mod TapLaws
+pub mod Sound
+pub mod OwnLines
 pub mod Changes
 pub mod Texts
 pub mod Kept

@@ -11,21 +11,27 @@ use Rattle.aud_tap.specs.Forms.{is_text}
 use Rattle.aud_tap.specs.Json.{text_at}
 use Rattle.aud_reader.specs.Fields.{id_at, namespace_at, texts_at, blobs_at}
 
+-- the rooms that an event is for, those that are excepted, and its attachments
+unfoldable pub lists_of : Data → Result (List (List ℕ) × List (List ℕ) × List (List ℕ)) InputCode
+lists_of d = do
+  rooms ← need Field (texts_at (codes "rooms") d)
+  except ← need Field (texts_at (codes "except") d)
+  bin ← need Field (blobs_at (codes "bin") d)
+  Ok (rooms, except, bin)
+
 -- an event
 unfoldable pub event_of : Data → Result StreamRec InputCode
 event_of d = do
   off ← need Field (id_at (codes "off") d)
   nsp ← need Field (namespace_at (codes "nsp") d)
   text ← need Field (text_at (codes "text") d)
-  rooms ← need Field (texts_at (codes "rooms") d)
-  except ← need Field (texts_at (codes "except") d)
-  bin ← need Field (blobs_at (codes "bin") d)
+  lists ← lists_of d
   offset_fits ← guard Limit (fits max_offset off)
   namespace_fits ← guard Limit (fits max_namespace nsp)
-  rooms_fit ← guard Limit (fit_rooms rooms)
-  except_fit ← guard Limit (fit_rooms except)
-  attachments_fit ← guard Limit (nat_le (length bin) max_attachments)
-  Ok (Ev (record { off = off; nsp = nsp; rooms = rooms; except = except; text = text; bin = bin }))
+  rooms_fit ← guard Limit (fit_rooms lists.0)
+  except_fit ← guard Limit (fit_rooms lists.1)
+  attachments_fit ← guard Limit (nat_le (length lists.2) max_attachments)
+  Ok (Ev (record { off = off; nsp = nsp; rooms = lists.0; except = lists.1; text = text; bin = lists.2 }))
 
 -- an entry that is no event
 unfoldable pub other_of : Data → Result StreamRec InputCode

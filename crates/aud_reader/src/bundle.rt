@@ -12,6 +12,8 @@ ghost use Rattle.aud_tap.specs.Names.{AreNamedOnce};
 ghost use Rattle.aud_reader.specs.declared.line.Line.{Line};
 ghost use Rattle.aud_reader.specs.Lines.{result_of};
 ghost use Rattle.aud_reader.specs.Bundle.{taps_of};
+ghost use Rattle.aud_reader.specs.TapLaws.{HasOneStreamAtMost, HasEachOffsetOnce};
+ghost use Rattle.aud_reader.specs.OwnLines.{HaveTheirOwnLines, EachLineIsOfOneTap};
 
 use crate::fault::{LineFault, ReadFault, refuse};
 use crate::line::Line;
@@ -33,12 +35,13 @@ impl Model for BundleReader {
     ghost use Rattle.std.specs.Prelude.{◌≡◌, None};
     ghost use Rattle.aud_reader.specs.Bundle.{Reading};
     ghost use Rattle.aud_reader.specs.Kept.{Keeps, taps_so_far};
+    ghost use Rattle.aud_reader.specs.Sound.{IsSound};
 
     ghost Value = { Reading };
 
     ghost view = { λ s. record { taps = taps_so_far s.taps; fault = s.fault } };
 
-    ghost invariant = { λ s. s.fault ≡ None → Keeps s.taps };
+    ghost invariant = { λ s. s.fault ≡ None → Keeps s.taps × IsSound (taps_so_far s.taps) };
 }
 
 impl BundleReader {
@@ -78,9 +81,15 @@ impl BundleReader {
         }
     }
 
-    /// The taps of the lines, in the order of their headers. It refuses where a line was refused, and for want of memory.
+    /// The taps of the lines, in the order of their headers: each name once, one stream at most, in it each offset once,
+    /// and in each tap the records of its own lines. It refuses where a line was refused, and for want of memory.
     pub fn finish(self) -> Result<Taps, ReadFault>
         ensures ok { IfOk result (λ taps. taps_to_come self [] ≡ Ok taps) }
+        ensures names { IfOk result (λ taps. AreNamedOnce taps) }
+        ensures stream { IfOk result (λ taps. HasOneStreamAtMost taps) }
+        ensures offsets { IfOk result (λ taps. HasEachOffsetOnce taps) }
+        ensures own_lines { (lines : List Line) → taps_to_come self [] ≡ taps_of lines → IfOk result (λ taps. HaveTheirOwnLines lines taps) }
+        ensures each_line { (lines : List Line) → taps_to_come self [] ≡ taps_of lines → IfOk result (λ taps. EachLineIsOfOneTap lines taps) }
         ensures err { IfErr result (λ e. e ≢ ReadFault.Memory → self.fault ≡ Some e) }
         ensures refused { IfSome self.fault (λ fault. result ≡ Err fault) }
     {
@@ -102,6 +111,10 @@ impl BundleReader {
 pub fn read_bundle(alloc: Global, lines: &[Line]) -> Result<Taps, ReadFault>
     ensures read { IfOk result (λ taps. taps_of lines.now ≡ Ok taps) }
     ensures names { IfOk result (λ taps. AreNamedOnce taps) }
+    ensures stream { IfOk result (λ taps. HasOneStreamAtMost taps) }
+    ensures offsets { IfOk result (λ taps. HasEachOffsetOnce taps) }
+    ensures own_lines { IfOk result (λ taps. HaveTheirOwnLines lines.now taps) }
+    ensures each_line { IfOk result (λ taps. EachLineIsOfOneTap lines.now taps) }
     ensures refused { IfErr result (λ e. e ≢ ReadFault.Memory → taps_of lines.now ≡ Err e) }
 {
     let mut reader = BundleReader::new(alloc);

@@ -1,11 +1,11 @@
 -- What is written for a record reads as that record.
-use Rattle.std.proofs.Common.{◌≡◌, ◌==◌, ℕ, List, [], ◌∷◌, length, map, Option, Some, None, Bool, true, false, ◌&&◌, codes, nat_le, Ok, refl, ap}
+use Rattle.std.proofs.Common.{◌≡◌, ◌==◌, ℕ, List, [], ◌∷◌, length, map, Option, Some, None, Bool, true, false, ◌&&◌, codes, nat_le, Ok, refl, ap, ◌∙◌}
 use Rattle.std.specs.Result.{result_ok}
 use Rattle.std.proofs.lemmas.Bool.{eqb-true}
 use Rattle.base64.proofs.EngineFacts.{decode_of-encode_of}
 use Rattle.base64.specs.Engines.{standard}
 use Rattle.base64.specs.GeneralPurpose.{IsBytes}
-use Rattle.serde_json.specs.Data.{Data, string, array, Members, no_members, put}
+use Rattle.serde_json.specs.Data.{Data, string, array, Members, no_members, member, put}
 use Rattle.serde_json.specs.Find.{as_str, get_member}
 use Rattle.aud_tap.specs.declared.records.ClientRec.{ClientRec}
 use Rattle.aud_tap.specs.declared.records.ClientRec.TheVariants.{Conn, TextIn, BytesIn, Poll, TextOut, Lost}
@@ -22,7 +22,7 @@ use Rattle.aud_tap.specs.Limits.{fits, fit_rooms, max_attachments, max_id, max_o
 use Rattle.aud_tap.specs.Forms.{is_id, is_namespace}
 use Rattle.aud_reader.specs.Fields.{decoded, each, list_or_empty, as_blob}
 use Rattle.aud_reader.specs.Header.{header_of}
-use Rattle.aud_reader.specs.StreamRecord.{stream_record_of, event_of, other_of}
+use Rattle.aud_reader.specs.StreamRecord.{stream_record_of, event_of, lists_of, other_of}
 use Rattle.aud_reader.specs.NodeRecord.{node_record_of, start_of, take_of, open_of, member_of, turn_of, gone_of}
 use Rattle.aud_reader.specs.ClientRecord.{client_record_of}
 use Rattle.aud_reader.specs.Record.{record_in, record_of, value_record}
@@ -48,77 +48,38 @@ header-back tap.Stream = refl
 header-back tap.Node = refl
 header-back tap.Client = refl
 
-begin-back : value_record begin_data ≡ Ok (Node (Start None))
-unfolding value_record record_of record_in node_record_of start_of
-begin-back = refl
+member-parts : (pid room : List ℕ) → is_session_id pid && is_room room ≡ true → (is_id pid ≡ true) × (fits max_id pid ≡ true) × (is_room room ≡ true)
+member-parts pid room h = let ps = both (is_session_id pid) (is_room room) h in let p = id-parts pid ps.0 in (p.0, p.1, ps.1)
 
-start-back : (off : List ℕ) → is_offset off ≡ true → value_record (offset_data (codes "start") off) ≡ Ok (Node (Start (Some off)))
-unfolding value_record record_of record_in node_record_of start_of
-start-back off h = let o = offset-parts off h in rw (o.0, o.1) refl
-
-take-back : (off : List ℕ) → is_offset off ≡ true → value_record (offset_data (codes "take") off) ≡ Ok (Node (Take off))
-unfolding value_record record_of record_in node_record_of take_of
-take-back off h = let o = offset-parts off h in rw (o.0, o.1) refl
-
-open-back : (pid sid nsp : List ℕ) → is_session_id pid ≡ true → is_session_id sid ≡ true → is_full_namespace nsp ≡ true → value_record (open_data pid sid nsp) ≡ Ok (Node (Opened pid sid nsp))
-unfolding value_record record_of record_in node_record_of open_of
-open-back pid sid nsp hp hs hn =
-    let p = id-parts pid hp in
-    let s = id-parts sid hs in
-    let n = namespace-parts nsp hn in
-    rw (p.0, s.0, n.0, p.1, s.1, n.1) refl
-
-member-back : (pid room : List ℕ) (kind : List ℕ) → is_session_id pid ≡ true → is_room room ≡ true → member_of (member_data kind pid room) ≡ Ok (pid, room)
-unfolding member_of
-member-back pid room kind hp hr = let p = id-parts pid hp in rw (p.0, p.1, hr) refl
-
-turn-back : (pid : List ℕ) (turn : ℕ) (kind : List ℕ) → is_session_id pid ≡ true → nat_le turn max_turn ≡ true → turn_of (turn_data kind pid turn) ≡ Ok (pid, turn)
-unfolding turn_of
-turn-back pid turn kind hp ht = let p = id-parts pid hp in rw (p.0, p.1, ht) refl
-
-gone-back : (pid : List ℕ) → is_session_id pid ≡ true → value_record (gone_data pid) ≡ Ok (Node (Gone pid))
-unfolding value_record record_of record_in node_record_of gone_of
-gone-back pid hp = let p = id-parts pid hp in rw (p.0, p.1) refl
+turn-parts : (pid : List ℕ) (turn : ℕ) → is_session_id pid && nat_le turn max_turn ≡ true → (is_id pid ≡ true) × (fits max_id pid ≡ true) × (nat_le turn max_turn ≡ true)
+turn-parts pid turn h = let ps = both (is_session_id pid) (nat_le turn max_turn) h in let p = id-parts pid ps.0 in (p.0, p.1, ps.1)
 
 pub node-back : (r : NodeRec) → node_is_well_formed r ≡ true → value_record (node_data r) ≡ Ok (Node r)
-unfolding value_record record_of record_in node_record_of
-node-back (Start None) h = begin-back
-node-back (Start (Some off)) h = start-back off h
-node-back (Take off) h = take-back off h
+unfolding value_record record_of record_in node_record_of start_of take_of open_of member_of turn_of gone_of
+node-back (Start None) h = refl
+node-back (Start (Some off)) h = let o = offset-parts off h in rw (o.0, o.1) refl
+node-back (Take off) h = let o = offset-parts off h in rw (o.0, o.1) refl
 node-back (Opened pid sid nsp) h =
     let ps = both (is_session_id pid && is_session_id sid) (is_full_namespace nsp) h in
-    let p = both (is_session_id pid) (is_session_id sid) ps.0 in
-    open-back pid sid nsp p.0 p.1 ps.1
-node-back (Join pid room) h =
-    let p = both (is_session_id pid) (is_room room) h in
-    rw (member-back pid room (codes "join") p.0 p.1) refl
-node-back (Leave pid room) h =
-    let p = both (is_session_id pid) (is_room room) h in
-    rw (member-back pid room (codes "leave") p.0 p.1) refl
-node-back (Broke pid turn) h =
-    let p = both (is_session_id pid) (nat_le turn max_turn) h in
-    rw (turn-back pid turn (codes "break") p.0 p.1) refl
-node-back (Back pid turn) h =
-    let p = both (is_session_id pid) (nat_le turn max_turn) h in
-    rw (turn-back pid turn (codes "back") p.0 p.1) refl
-node-back (Gone pid) h = gone-back pid h
-
-conn-back : (c : ℕ) → value_record (conn_data c) ≡ Ok (Client (Conn c))
-unfolding value_record record_of record_in client_record_of
-conn-back c = refl
+    let ids = both (is_session_id pid) (is_session_id sid) ps.0 in
+    let p = id-parts pid ids.0 in
+    let s = id-parts sid ids.1 in
+    let n = namespace-parts nsp ps.1 in
+    rw (p.0, s.0, n.0, p.1, s.1, n.1) refl
+node-back (Join pid room) h = let m = member-parts pid room h in rw (m.0, m.1, m.2) refl
+node-back (Leave pid room) h = let m = member-parts pid room h in rw (m.0, m.1, m.2) refl
+node-back (Broke pid turn) h = let t = turn-parts pid turn h in rw (t.0, t.1, t.2) refl
+node-back (Back pid turn) h = let t = turn-parts pid turn h in rw (t.0, t.1, t.2) refl
+node-back (Gone pid) h = let p = id-parts pid h in rw (p.0, p.1) refl
 
 pub decoded-encoded : (b : List ℕ) → IsBytes b → decoded (encoded b) ≡ Some b
 decoded-encoded b bytes = ap result_ok (decode_of-encode_of standard b refl bytes)
-
-binary-back : (b : List ℕ) → decoded (encoded b) ≡ Some b → value_record (binary_data b) ≡ Ok (Client (BytesIn b))
-unfolding value_record record_of record_in client_record_of
-binary-back b back = rw back refl
 
 pub client-back : (r : ClientRec) → DecodeBack (client_bytes r) → value_record (client_data r) ≡ Ok (Client r)
 unfolding value_record record_of record_in client_record_of
 client-back (Conn c) h = refl
 client-back (TextIn t) h = refl
-client-back (BytesIn b) h = binary-back b h.0
+client-back (BytesIn b) h = rw (h.0) refl
 client-back (Poll t) h = refl
 client-back (TextOut t) h = refl
 client-back Lost h = refl
@@ -143,68 +104,87 @@ blobs-back : (bs : List (List ℕ)) → DecodeBack bs → each as_blob (text_ite
 blobs-back [] h = refl
 blobs-back (b ∷ bs) h = rw (h.0, blobs-back bs h.1) refl
 
-kind-at : (bin except : List (List ℕ)) (nsp off : List ℕ) (rooms : List (List ℕ)) (text : List ℕ) → get_member (codes "k") (event_members bin except nsp off rooms text) ≡ Some (string (codes "ev"))
-kind-at [] [] nsp off rooms text = refl
-kind-at [] (x ∷ xs) nsp off rooms text = refl
-kind-at (b ∷ bs) [] nsp off rooms text = refl
-kind-at (b ∷ bs) (x ∷ xs) nsp off rooms text = refl
-
-off-at : (bin except : List (List ℕ)) (nsp off : List ℕ) (rooms : List (List ℕ)) (text : List ℕ) → get_member (codes "off") (event_members bin except nsp off rooms text) ≡ Some (string off)
-off-at [] [] nsp off rooms text = refl
-off-at [] (x ∷ xs) nsp off rooms text = refl
-off-at (b ∷ bs) [] nsp off rooms text = refl
-off-at (b ∷ bs) (x ∷ xs) nsp off rooms text = refl
-
-nsp-at : (bin except : List (List ℕ)) (nsp off : List ℕ) (rooms : List (List ℕ)) (text : List ℕ) → get_member (codes "nsp") (event_members bin except nsp off rooms text) ≡ Some (string nsp)
-nsp-at [] [] nsp off rooms text = refl
-nsp-at [] (x ∷ xs) nsp off rooms text = refl
-nsp-at (b ∷ bs) [] nsp off rooms text = refl
-nsp-at (b ∷ bs) (x ∷ xs) nsp off rooms text = refl
-
-text-at : (bin except : List (List ℕ)) (nsp off : List ℕ) (rooms : List (List ℕ)) (text : List ℕ) → get_member (codes "text") (event_members bin except nsp off rooms text) ≡ Some (string text)
-text-at [] [] nsp off [] text = refl
-text-at [] (x ∷ xs) nsp off [] text = refl
-text-at (b ∷ bs) [] nsp off [] text = refl
-text-at (b ∷ bs) (x ∷ xs) nsp off [] text = refl
-text-at [] [] nsp off (r ∷ rs) text = refl
-text-at [] (x ∷ xs) nsp off (r ∷ rs) text = refl
-text-at (b ∷ bs) [] nsp off (r ∷ rs) text = refl
-text-at (b ∷ bs) (x ∷ xs) nsp off (r ∷ rs) text = refl
-
 -- a list as it stands, or nothing where it is empty
 abbrev unless_empty : List (List ℕ) → Option Data
 unless_empty [] = None
 unless_empty (t ∷ ts) = Some (array (text_items (t ∷ ts)))
 
-rooms-at : (bin except : List (List ℕ)) (nsp off : List ℕ) (rooms : List (List ℕ)) (text : List ℕ) → get_member (codes "rooms") (event_members bin except nsp off rooms text) ≡ unless_empty rooms
-rooms-at [] [] nsp off [] text = refl
-rooms-at [] (x ∷ xs) nsp off [] text = refl
-rooms-at (b ∷ bs) [] nsp off [] text = refl
-rooms-at (b ∷ bs) (x ∷ xs) nsp off [] text = refl
-rooms-at [] [] nsp off (r ∷ rs) text = refl
-rooms-at [] (x ∷ xs) nsp off (r ∷ rs) text = refl
-rooms-at (b ∷ bs) [] nsp off (r ∷ rs) text = refl
-rooms-at (b ∷ bs) (x ∷ xs) nsp off (r ∷ rs) text = refl
+-- a list of another key is passed over
+past : (key other : List ℕ) (ts : List (List ℕ)) (rest : Members) → ((d : Data) → get_member key (member other d rest) ≡ get_member key rest) → get_member key (list_member other ts rest) ≡ get_member key rest
+past key other [] rest apart = refl
+past key other (t ∷ ts) rest apart = apart (array (text_items (t ∷ ts)))
 
-except-at : (bin except : List (List ℕ)) (nsp off : List ℕ) (rooms : List (List ℕ)) (text : List ℕ) → get_member (codes "except") (event_members bin except nsp off rooms text) ≡ unless_empty except
-except-at [] [] nsp off [] text = refl
-except-at [] (x ∷ xs) nsp off [] text = refl
-except-at (b ∷ bs) [] nsp off [] text = refl
-except-at (b ∷ bs) (x ∷ xs) nsp off [] text = refl
-except-at [] [] nsp off (r ∷ rs) text = refl
-except-at [] (x ∷ xs) nsp off (r ∷ rs) text = refl
-except-at (b ∷ bs) [] nsp off (r ∷ rs) text = refl
-except-at (b ∷ bs) (x ∷ xs) nsp off (r ∷ rs) text = refl
+-- a list at its key
+here : (key : List ℕ) (ts : List (List ℕ)) (rest : Members) → ((d : Data) → get_member key (member key d rest) ≡ Some d) → get_member key rest ≡ None → get_member key (list_member key ts rest) ≡ unless_empty ts
+here key [] rest found none = none
+here key (t ∷ ts) rest found none = found (array (text_items (t ∷ ts)))
 
-bin-at : (bin except : List (List ℕ)) (nsp off : List ℕ) (rooms : List (List ℕ)) (text : List ℕ) → get_member (codes "bin") (event_members bin except nsp off rooms text) ≡ unless_empty bin
-bin-at [] [] nsp off [] text = refl
-bin-at [] (x ∷ xs) nsp off [] text = refl
-bin-at (b ∷ bs) [] nsp off [] text = refl
-bin-at (b ∷ bs) (x ∷ xs) nsp off [] text = refl
-bin-at [] [] nsp off (r ∷ rs) text = refl
-bin-at [] (x ∷ xs) nsp off (r ∷ rs) text = refl
-bin-at (b ∷ bs) [] nsp off (r ∷ rs) text = refl
-bin-at (b ∷ bs) (x ∷ xs) nsp off (r ∷ rs) text = refl
+-- a list that is put before greater keys
+put-first : (key : List ℕ) (ts : List (List ℕ)) (rest : Members) → ((d : Data) → put key d rest ≡ member key d rest) → put_unless_empty key (text_items ts) rest ≡ list_member key ts rest
+put-first key [] rest first = refl
+put-first key (t ∷ ts) rest first = first (array (text_items (t ∷ ts)))
+
+-- a member that is put before a list of a greater key
+put-before : (key other : List ℕ) (d : Data) (ts : List (List ℕ)) (rest : Members) → ((e : Data) → put key d (member other e rest) ≡ member key d (member other e rest)) → put key d rest ≡ member key d rest
+    → put key d (list_member other ts rest) ≡ member key d (list_member other ts rest)
+put-before key other d [] rest before none = none
+put-before key other d (t ∷ ts) rest before none = before (array (text_items (t ∷ ts)))
+
+module _ (bin except : List (List ℕ)) (nsp off : List ℕ) (rooms : List (List ℕ)) (text : List ℕ) where
+  -- from the rooms on, and from the kind on
+  abbrev from_rooms : Members
+  from_rooms = list_member (codes "rooms") rooms (text_member (codes "text") text no_members)
+
+  abbrev from_kind : Members
+  from_kind = text_member (codes "k") (codes "ev") (text_member (codes "nsp") nsp (text_member (codes "off") off from_rooms))
+
+  -- a key that is neither of the first two lists'
+  past_lists : (key : List ℕ) → ((d : Data) (ms : Members) → get_member key (member (codes "bin") d ms) ≡ get_member key ms) → ((d : Data) (ms : Members) → get_member key (member (codes "except") d ms) ≡ get_member key ms)
+      → get_member key (event_members bin except nsp off rooms text) ≡ get_member key from_kind
+  past_lists key no_bin no_except =
+      past key (codes "bin") bin (list_member (codes "except") except from_kind) (λ d. no_bin d (list_member (codes "except") except from_kind))
+      ∙ past key (codes "except") except from_kind (λ d. no_except d from_kind)
+
+  at_kind : get_member (codes "k") (event_members bin except nsp off rooms text) ≡ Some (string (codes "ev"))
+  at_kind = past_lists (codes "k") (λ d ms. refl) (λ d ms. refl)
+
+  at_off : get_member (codes "off") (event_members bin except nsp off rooms text) ≡ Some (string off)
+  at_off = past_lists (codes "off") (λ d ms. refl) (λ d ms. refl)
+
+  at_nsp : get_member (codes "nsp") (event_members bin except nsp off rooms text) ≡ Some (string nsp)
+  at_nsp = past_lists (codes "nsp") (λ d ms. refl) (λ d ms. refl)
+
+  at_text : get_member (codes "text") (event_members bin except nsp off rooms text) ≡ Some (string text)
+  at_text = past_lists (codes "text") (λ d ms. refl) (λ d ms. refl) ∙ past (codes "text") (codes "rooms") rooms _ (λ d. refl)
+
+  at_rooms : get_member (codes "rooms") (event_members bin except nsp off rooms text) ≡ unless_empty rooms
+  at_rooms = past_lists (codes "rooms") (λ d ms. refl) (λ d ms. refl) ∙ here (codes "rooms") rooms _ (λ d. refl) refl
+
+  at_except : get_member (codes "except") (event_members bin except nsp off rooms text) ≡ unless_empty except
+  at_except =
+      past (codes "except") (codes "bin") bin _ (λ d. refl)
+      ∙ here (codes "except") except from_kind (λ d. refl) (past (codes "except") (codes "rooms") rooms _ (λ d. refl))
+
+  at_bin : get_member (codes "bin") (event_members bin except nsp off rooms text) ≡ unless_empty bin
+  at_bin =
+      here (codes "bin") bin _ (λ d. refl)
+      (past (codes "bin") (codes "except") except from_kind (λ d. refl) ∙ past (codes "bin") (codes "rooms") rooms _ (λ d. refl))
+
+  -- the members of an event, put one by one from the greatest key down
+  pub event-put :
+      put_unless_empty (codes "bin") (text_items bin)
+      (put_unless_empty (codes "except") (text_items except)
+      (put (codes "k") (string (codes "ev"))
+      (put (codes "nsp") (string nsp)
+      (put (codes "off") (string off)
+      (put_unless_empty (codes "rooms") (text_items rooms)
+      (put (codes "text") (string text) no_members)))))) ≡ event_members bin except nsp off rooms text
+  event-put =
+      let rooms_put = put-first (codes "rooms") rooms (text_member (codes "text") text no_members) (λ d. refl) in
+      let off_put = put-before (codes "off") (codes "rooms") (string off) rooms (text_member (codes "text") text no_members) (λ e. refl) refl in
+      let except_put = put-first (codes "except") except from_kind (λ d. refl) in
+      let bin_put = put-first (codes "bin") bin (list_member (codes "except") except from_kind) (λ d. put-before (codes "bin") (codes "except") d except from_kind (λ e. refl) refl) in
+      rw (rooms_put, off_put, except_put) bin_put
 
 texts-or-empty : (ts : List (List ℕ)) → list_or_empty as_str (unless_empty ts) ≡ Some ts
 texts-or-empty [] = refl
@@ -215,7 +195,7 @@ blobs-or-empty [] h = refl
 blobs-or-empty (b ∷ bs) h = blobs-back (b ∷ bs) h
 
 event-back : (e : Event) → event_is_well_formed e ≡ true → DecodeBack e.bin → event_of (event_data e) ≡ Ok (Ev e)
-unfolding event_of
+unfolding event_of lists_of
 event-back e h bytes =
     let e4 = both (is_offset e.off && is_full_namespace e.nsp && fit_rooms e.rooms && fit_rooms e.except) (nat_le (length e.bin) max_attachments) h in
     let e3 = both (is_offset e.off && is_full_namespace e.nsp && fit_rooms e.rooms) (fit_rooms e.except) e4.0 in
@@ -225,12 +205,12 @@ event-back e h bytes =
     let n = namespace-parts e.nsp e1.1 in
     let bin = map encoded e.bin in
     rw (
-      off-at bin e.except e.nsp e.off e.rooms e.text,
-      nsp-at bin e.except e.nsp e.off e.rooms e.text,
-      text-at bin e.except e.nsp e.off e.rooms e.text,
-      rooms-at bin e.except e.nsp e.off e.rooms e.text,
-      except-at bin e.except e.nsp e.off e.rooms e.text,
-      bin-at bin e.except e.nsp e.off e.rooms e.text,
+      at_off bin e.except e.nsp e.off e.rooms e.text,
+      at_nsp bin e.except e.nsp e.off e.rooms e.text,
+      at_text bin e.except e.nsp e.off e.rooms e.text,
+      at_rooms bin e.except e.nsp e.off e.rooms e.text,
+      at_except bin e.except e.nsp e.off e.rooms e.text,
+      at_bin bin e.except e.nsp e.off e.rooms e.text,
       texts-or-empty e.rooms,
       texts-or-empty e.except,
       blobs-or-empty e.bin bytes,
@@ -249,7 +229,7 @@ other-back off h = let o = offset-parts off h in rw (o.0, o.1) refl
 
 stream-back : (r : StreamRec) → stream_is_well_formed r ≡ true → DecodeBack (stream_bytes r) → value_record (stream_data r) ≡ Ok (Stream r)
 unfolding value_record record_of record_in stream_record_of
-stream-back (Ev e) h bytes = rw (kind-at (map encoded e.bin) e.except e.nsp e.off e.rooms e.text, event-back e h bytes) refl
+stream-back (Ev e) h bytes = rw (at_kind (map encoded e.bin) e.except e.nsp e.off e.rooms e.text, event-back e h bytes) refl
 stream-back (Other off) h bytes = rw (other-back off h) refl
 
 header-of-version : (of : TapKind) (v : ℕ) → v == 1 ≡ true → value_record (header_data of v) ≡ Ok (Header of v)
@@ -260,22 +240,3 @@ record-back (Header of v) h bytes = header-of-version of v h
 record-back (Stream r) h bytes = stream-back r h bytes
 record-back (Node r) h bytes = node-back r h
 record-back (Client r) h bytes = client-back r bytes
-
--- ---- the members of an event, put one by one from the greatest key down
-
-pub event-put : (bin except : List (List ℕ)) (nsp off : List ℕ) (rooms : List (List ℕ)) (text : List ℕ)
-    → put_unless_empty (codes "bin") (text_items bin)
-    (put_unless_empty (codes "except") (text_items except)
-    (put (codes "k") (string (codes "ev"))
-    (put (codes "nsp") (string nsp)
-    (put (codes "off") (string off)
-    (put_unless_empty (codes "rooms") (text_items rooms)
-    (put (codes "text") (string text) no_members)))))) ≡ event_members bin except nsp off rooms text
-event-put [] [] nsp off [] text = refl
-event-put [] (x ∷ xs) nsp off [] text = refl
-event-put (b ∷ bs) [] nsp off [] text = refl
-event-put (b ∷ bs) (x ∷ xs) nsp off [] text = refl
-event-put [] [] nsp off (r ∷ rs) text = refl
-event-put [] (x ∷ xs) nsp off (r ∷ rs) text = refl
-event-put (b ∷ bs) [] nsp off (r ∷ rs) text = refl
-event-put (b ∷ bs) (x ∷ xs) nsp off (r ∷ rs) text = refl

@@ -1,9 +1,10 @@
 //! The records of a node tap, while they are read.
-ghost use Rattle.std.specs.Prelude.{◌≡◌, ◌++◌, List, ℕ, OnOk};
+ghost use Rattle.std.specs.Prelude.{◌≡◌, ◌++◌, List, ℕ, OnOk, option_to_list};
 ghost use Rattle.std.specs.List.{filter_map};
 ghost use Rattle.serde_json.specs.View.{view};
 ghost use Rattle.aud_reader.specs.Changes.{Becomes};
-ghost use Rattle.aud_reader.specs.Bundle.{pid_of, with_node_record};
+ghost use Rattle.aud_reader.specs.Bundle.{node_room, pid_of, with_node_record};
+ghost use Rattle.aud_reader.specs.Steps.{Gives};
 ghost use Rattle.aud_reader.specs.Texts.{HasPids};
 
 use super::pids::add_pid_of;
@@ -17,6 +18,22 @@ use std::collections::HashSet;
 
 /// The most records of a node tap or a client tap.
 pub const MAX_RECORDS: usize = 4_000_000;
+
+/// Adds the pid that a record speaks of to those of all node records, where there is room after so many records.
+fn admit(
+    alloc: Global,
+    count: usize,
+    pids: &mut HashSet<String>,
+    rec: &NodeRec,
+) -> Result<(), LineFault>
+    ensures room { (all : List (List ℕ)) → HasPids pids.old all → Gives result (node_room count (all ++ option_to_list (pid_of rec.now))) }
+    ensures pids { (all : List (List ℕ)) → HasPids pids.old all → OnOk result (HasPids pids.new (all ++ option_to_list (pid_of rec.now))) }
+{
+    if count >= MAX_RECORDS {
+        return Err(LIMIT);
+    }
+    add_pid_of(alloc, pids, rec)
+}
 
 /// Adds the record of a line, and its pid to those of all node records.
 #[tactic(auto, unfolding(crate::specs::Bundle::with_node_record))]
@@ -33,9 +50,8 @@ pub fn add_node_record(
         → OnOk result (HasPids pids.new (before ++ filter_map pid_of records.new.items ++ after)) }
 {
     let rec = node_record(alloc, kind, d)?;
-    if records.len() >= MAX_RECORDS {
-        return Err(LIMIT);
+    match admit(alloc, records.len(), pids, &rec) {
+        Ok(()) => push(records, rec),
+        Err(e) => Err(e),
     }
-    add_pid_of(alloc, pids, &rec)?;
-    push(records, rec)
 }

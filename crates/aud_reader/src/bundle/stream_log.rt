@@ -1,5 +1,5 @@
 //! The entries of the stream, while they are read.
-ghost use Rattle.std.specs.Prelude.{◌≡◌, ◌∷◌, ◌++◌, [], List, ℕ, not, MatchResult};
+ghost use Rattle.std.specs.Prelude.{◌≡◌, ◌<◌, ◌∷◌, ◌++◌, [], List, ℕ, not, vec_len, vec_capacity, OnOk, MatchResult};
 ghost use Rattle.std.specs.List.{list_any};
 ghost use Rattle.serde_json.specs.View.{view};
 ghost use Rattle.aud_reader.specs.declared.fault.InputCode.TheVariants.{OffsetTwice};
@@ -48,6 +48,24 @@ fn add_offset(alloc: Global, offsets: &mut HashSet<String>, off: &str) -> Result
     Ok(())
 }
 
+/// Adds the offset of an entry, unless it is there already, and makes room for the entry.
+fn admit(
+    alloc: Global,
+    entries: &mut Vec<StreamRec>,
+    offsets: &mut HashSet<String>,
+    entry: &StreamRec,
+) -> Result<(), LineFault>
+    ensures new { (all : List (List ℕ)) → HasTexts offsets.old all → Gives result (guard OffsetTwice (not (list_any (is_text (offset_of entry.now)) all))) }
+    ensures kept { (all : List (List ℕ)) → HasTexts offsets.old all → MatchResult result (λ _. HasTexts offsets.new (all ++ offset_of entry.now ∷ [])) (λ _. HasTexts offsets.new all) }
+    ensures items { entries.new.items ≡ entries.old.items }
+    ensures room { OnOk result (vec_len entries.new < vec_capacity entries.new) }
+{
+    let Ok(()) = entries.reserve(1) else {
+        return Err(LineFault::Memory);
+    };
+    add_offset(alloc, offsets, offset_of(entry))
+}
+
 /// The entries so far, and their offsets.
 #[derive(Drop)]
 pub struct StreamLog {
@@ -86,11 +104,10 @@ impl StreamLog {
     fn push(&mut self, entry: StreamRec) -> Result<(), LineFault>
         ensures { Becomes result self.new (with_new_offset self.old entry) }
     {
-        let Ok(()) = self.entries.reserve(1) else {
-            return Err(LineFault::Memory);
-        };
-        add_offset(self.alloc, &mut self.offsets, offset_of(&entry))?;
-        push(&mut self.entries, entry)
+        match admit(self.alloc, &mut self.entries, &mut self.offsets, &entry) {
+            Ok(()) => push(&mut self.entries, entry),
+            Err(e) => Err(e),
+        }
     }
 
     /// Adds the entry of a line.

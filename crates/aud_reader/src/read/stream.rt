@@ -4,7 +4,7 @@ ghost use Rattle.serde_json.specs.View.{view};
 ghost use Rattle.aud_tap.specs.Limits.{fit_rooms, max_attachments};
 ghost use Rattle.aud_tap.specs.WellFormed.{stream_is_well_formed};
 ghost use Rattle.aud_reader.specs.Steps.{Gives};
-ghost use Rattle.aud_reader.specs.StreamRecord.{event_of, other_of, stream_record_of};
+ghost use Rattle.aud_reader.specs.StreamRecord.{event_of, lists_of, other_of, stream_record_of};
 
 use super::fields::{blobs_at, copied, copies, id_at, namespace_at, text_at, texts_at};
 use crate::fault::{FIELD, LIMIT, LineFault, UNKNOWN_KIND};
@@ -22,6 +22,19 @@ fn lists_fit(rooms: &Texts, except: &Texts, bin: &Blobs) -> bool
         && bin.as_slice().len() <= MAX_ATTACHMENTS
 }
 
+/// The rooms that an event is for, those that are excepted, and its attachments.
+#[tactic(auto, unfolding(crate::specs::StreamRecord::lists_of))]
+fn lists(alloc: Global, d: &Value) -> Result<(Texts, Texts, Blobs), LineFault>
+    ensures { Gives result (lists_of (view d.now)) }
+{
+    let rooms = texts_at(alloc, "rooms", d)?;
+    let except = texts_at(alloc, "except", d)?;
+    match blobs_at(alloc, "bin", d) {
+        Ok(bin) => Ok((rooms, except, bin)),
+        Err(e) => Err(e),
+    }
+}
+
 #[tactic(auto, unfolding(crate::specs::StreamRecord::event_of))]
 fn event(alloc: Global, d: &Value) -> Result<StreamRec, LineFault>
     ensures reads { Gives result (event_of (view d.now)) }
@@ -30,9 +43,7 @@ fn event(alloc: Global, d: &Value) -> Result<StreamRec, LineFault>
     let off = id_at("off", d).ok_or(FIELD)?;
     let nsp = namespace_at("nsp", d).ok_or(FIELD)?;
     let text = text_at("text", d).ok_or(FIELD)?;
-    let rooms = texts_at(alloc, "rooms", d)?;
-    let except = texts_at(alloc, "except", d)?;
-    let bin = blobs_at(alloc, "bin", d)?;
+    let (rooms, except, bin) = lists(alloc, d)?;
     if !fits(MAX_OFFSET, off) || !fits(MAX_NAMESPACE, nsp) || !lists_fit(&rooms, &except, &bin) {
         return Err(LIMIT);
     }

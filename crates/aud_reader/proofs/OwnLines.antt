@@ -1,0 +1,180 @@
+-- A tap's records are those of its own lines.
+use Rattle.std.proofs.Common.{◌≡◌, ◌≢◌, ◌+◌, count_by, ℕ, suc, List, [], ◌∷◌, ◌++◌, Bool, true, false, cond, ◌⊎◌, inl, inr, Option, Some, None, option_to_list, Result, Ok, Err, refl, sym, ap, ◌∙◌, append_assoc, append-nil}
+use Rattle.std.specs.List.{cons_option}
+use Rattle.std.specs.List.{All, AllByRecursion, IsDistinct}
+use Rattle.std.specs.Option.{option_or, option_map_or}
+use Rattle.std.proofs.lemmas.List.Elements.{All-nil, All-cons}
+use Rattle.std.proofs.lemmas.List.Sums.{sum_by-append}
+use Rattle.std.proofs.lemmas.Map.Made.{IsDistinct-from_AllPairs}
+use Rattle.aud_reader.specs.Record.{line_record, opened_line}
+use Rattle.std.proofs.lemmas.List.Folds.{find-append}
+use Rattle.std.proofs.lemmas.Slice.Eq.{bytes_eq-Decides}
+use Rattle.aud_reader.specs.declared.line.Line.{Line}
+use Rattle.aud_tap.specs.declared.records.TapKind.{TapKind}
+use Rattle.aud_tap.specs.declared.records.TapKind.TheVariants as kind
+use Rattle.aud_tap.specs.declared.records.Rec.{Rec}
+use Rattle.aud_tap.specs.declared.records.Rec.TheVariants as rec
+use Rattle.aud_tap.specs.declared.taps.Records.{Records}
+use Rattle.aud_tap.specs.declared.taps.Tap.{Tap}
+use Rattle.aud_tap.specs.Forms.{is_text}
+use Rattle.aud_reader.specs.Bundle.{tap_named, kind_of_tap, with_records, no_records, taps_from, taps_of}
+use Rattle.aud_reader.specs.OwnLines.{record_for, records_for, recs_in, recs_of, recs_named, HaveTheirOwnLines, IsOfOneTap, EachLineIsOfOneTap}
+use Rattle.aud_reader.specs.TapLaws.{AreDifferent}
+use Rattle.aud_reader.specs.Sound.{names_of}
+use Rattle.aud_reader.proofs.LineSteps.{Begins, Adds, First, first_of_lines}
+
+-- what a line adds to the records of the tap of this name
+abbrev AddsFor : List ℕ → List Tap → List ℕ → List Tap → Type 0
+AddsFor name ts line more = recs_named name more ≡ recs_named name ts ++ option_to_list (record_for name (record { number = 0; bytes = line }))
+
+by_name : {P : Type 0} (name n : List ℕ) → (name ≡ n → P) → (is_text name n ≡ false → P) → P
+by_name {P} name n same other =
+    elim (is_text name n) as (λ b. is_text name n ≡ b → P) [
+      | true ↦ λ is. same ((bytes_eq-Decides name n).0 is)
+      | false ↦ λ is. other is
+    ] refl
+
+is_itself : (n : List ℕ) → is_text n n ≡ true
+is_itself n = (bytes_eq-Decides n n).1 refl
+
+-- ---- a header
+
+kind-new : (of : TapKind) (name : List ℕ) → recs_of (record { name = name; records = no_records of }) ≡ rec.Header of 1 ∷ []
+kind-new kind.Stream name = refl
+kind-new kind.Node name = refl
+kind-new kind.Client name = refl
+
+or_none : {A : Type 0} (o : Option A) → option_or o None ≡ o
+or_none None = refl
+or_none (Some x) = refl
+
+-- the line's record, where the line is read
+record-read : (name line n : List ℕ) (r : Rec) → line_record line ≡ Ok (n, r) → (number : ℕ) → record_for name (record { number = number; bytes = line }) ≡ cond (is_text name n) (Some r) None
+record-read name line n r reads number = rw reads refl
+
+begins-adds : (name : List ℕ) (ts more : List Tap) (line : List ℕ) → Begins ts line more → AddsFor name ts line more
+begins-adds name ts more line b =
+    let t : Tap = record { name = b.name; records = no_records b.of } in
+    rw (b.is, find-append (λ (u : Tap). is_text name u.name) ts (t ∷ []), record-read name line b.name (rec.Header b.of 1) b.reads 0)
+    (by_name name b.name
+    (λ same. let new : tap_named name ts ≡ None = rw same b.new in rw (new, same, is_itself b.name, kind-new b.of b.name) refl)
+    (λ other. rw (other, or_none (tap_named name ts), append-nil) refl))
+
+-- ---- a later line
+
+named-same : (name : List ℕ) (records : Records) (ts : List Tap) (t : Tap) → tap_named name ts ≡ Some t → tap_named name (with_records name records ts) ≡ Some (record t { records = records })
+named-same name records [] t e = cc
+named-same name records (u ∷ us) t e =
+    elim (is_text name u.name) as (λ b. is_text name u.name ≡ b → cond b (Some u) (tap_named name us) ≡ Some t
+    → tap_named name (cond b (record u { records = records } ∷ us) (u ∷ with_records name records us)) ≡ Some (record t { records = records })) [
+      | true ↦ λ is h. let same : u ≡ t = cc in rw (is, same) refl
+      | false ↦ λ is h. rw is (named-same name records us t h)
+    ] refl e
+
+named-other : (name n : List ℕ) (records : Records) (ts : List Tap) → is_text name n ≡ false → tap_named name (with_records n records ts) ≡ tap_named name ts
+named-other name n records [] other = refl
+named-other name n records (u ∷ us) other =
+    elim (is_text n u.name) as (λ b. is_text n u.name ≡ b → tap_named name (cond b (record u { records = records } ∷ us) (u ∷ with_records n records us)) ≡ tap_named name (u ∷ us)) [
+      | true ↦ λ is. let same : n ≡ u.name = (bytes_eq-Decides n u.name).0 is in rw (← same, other) refl
+      | false ↦ λ is. ap (λ o. cond (is_text name u.name) (Some u) o) (named-other name n records us other)
+    ] refl
+
+adds-adds : (name : List ℕ) (ts more : List Tap) (line : List ℕ) → Adds ts line more → AddsFor name ts line more
+adds-adds name ts more line a =
+    rw (a.is, record-read name line a.name a.grown.rec a.reads 0)
+    (by_name name a.name
+    (λ same.
+      rw (same, is_itself a.name, named-same a.name a.records ts a.found a.is_found, a.is_found)
+      (ap (λ k. rec.Header k 1 ∷ recs_in a.records) a.grown.same ∙ ap (λ rs. rec.Header (kind_of_tap (a.found).records) 1 ∷ rs) a.grown.recs))
+    (λ other. rw (other, named-other name a.name a.records ts other, append-nil) refl))
+
+-- ---- the lines
+
+add_first : (o : Option Rec) (before after : List Rec) → (before ++ option_to_list o) ++ after ≡ before ++ cons_option o after
+add_first None before after = rw append-nil refl
+add_first (Some r) before after = append_assoc before (r ∷ []) after
+
+line-adds : (name : List ℕ) (ts next : List Tap) (line : Line) → ((line.bytes ≡ []) × (next ≡ ts)) ⊎ (Begins ts line.bytes next ⊎ Adds ts line.bytes next)
+    → recs_named name next ≡ recs_named name ts ++ option_to_list (record_for name line)
+unfolding line_record opened_line
+line-adds name ts next line step =
+    elim step [
+      | inl passed ↦ rw (passed.1, passed.0, append-nil) refl
+      | inr read ↦ elim read [
+          | inl b ↦ begins-adds name ts next line.bytes b
+          | inr a ↦ adds-adds name ts next line.bytes a
+        ]
+    ]
+
+pub lines-add : (name : List ℕ) (ts more : List Tap) (lines : List Line) → taps_from ts lines ≡ Ok more → recs_named name more ≡ recs_named name ts ++ records_for name lines
+lines-add name ts more [] e = let same : ts ≡ more = cc in rw (same, append-nil) refl
+lines-add name ts more (line ∷ lines) e =
+    let first = first_of_lines ts more line lines e in
+    lines-add name first.next more lines first.rest
+    ∙ ap (λ rs. rs ++ records_for name lines) (line-adds name ts first.next line first.step)
+    ∙ add_first (record_for name line) (recs_named name ts) (records_for name lines)
+
+pub own_lines : (lines : List Line) (taps : List Tap) → taps_of lines ≡ Ok taps → HaveTheirOwnLines lines taps
+own_lines lines taps e name = sym (lines-add name [] taps lines e)
+
+-- ---- the tap of a line
+
+-- the tap of this name, and no other, has it
+pub record Named (name : List ℕ) (taps : List Tap) : Type 0 where
+  pub tap : Tap
+  pub is : tap_named name taps ≡ Some tap
+
+-- a tap that has begun stays
+still_named : (name : List ℕ) (ts more : List Tap) (lines : List Line) → Named name ts → taps_from ts lines ≡ Ok more → Named name more
+still_named name ts more lines named e = go (tap_named name more) refl (rw named.is at (lines-add name ts more lines e))
+  where
+    go : (found : Option Tap) → tap_named name more ≡ found → recs_named name more ≡ recs_of named.tap ++ records_for name lines → Named name more
+    go None is h = let none : [] ≡ recs_of named.tap ++ records_for name lines = ap (λ o. option_map_or recs_of o []) (sym is) ∙ h in cc
+    go (Some t) is h = record { tap = t; is = is }
+
+named-begins : (ts more : List Tap) (line : List ℕ) (b : Begins ts line more) → Named b.name more
+named-begins ts more line b =
+    let t : Tap = record { name = b.name; records = no_records b.of } in
+    record { tap = t; is = rw (b.is, find-append (λ (u : Tap). is_text b.name u.name) ts (t ∷ []), b.new, is_itself b.name) refl }
+
+named-adds : (ts more : List Tap) (line : List ℕ) (a : Adds ts line more) → Named a.name more
+named-adds ts more line a = record { tap = record a.found { records = a.records }; is = rw a.is (named-same a.name a.records ts a.found a.is_found) }
+
+count-first : (name : List ℕ) (t : Tap) (ts : List Tap) → count_by (λ (u : Tap). is_text name u.name) (t ∷ ts) ≡ count_by (λ (u : Tap). is_text name u.name) (t ∷ []) + count_by (λ (u : Tap). is_text name u.name) ts
+count-first name t ts = sum_by-append (λ (u : Tap). cond (is_text name u.name) 1 0) (t ∷ []) ts
+
+count-none : (name : List ℕ) (ts : List Tap) → AllByRecursion (λ other. is_text name other ≡ false) (names_of ts) → count_by (λ (u : Tap). is_text name u.name) ts ≡ 0
+count-none name [] h = refl
+count-none name (t ∷ ts) h = rw (count-first name t ts, h.0, count-none name ts h.1) refl
+
+count-one : (name : List ℕ) (ts : List Tap) (t : Tap) → IsDistinct is_text (names_of ts) → tap_named name ts ≡ Some t → count_by (λ (u : Tap). is_text name u.name) ts ≡ 1
+unfolding IsDistinct
+count-one name [] t different e = cc
+count-one name (u ∷ us) t different e =
+    elim (is_text name u.name) as (λ b. is_text name u.name ≡ b → cond b (Some u) (tap_named name us) ≡ Some t → count_by (λ (x : Tap). is_text name x.name) (u ∷ us) ≡ 1) [
+      | true ↦ λ is h.
+          let same : name ≡ u.name = (bytes_eq-Decides name u.name).0 is in
+          rw (count-first name u us, is, same, count-none u.name us different.0) refl
+      | false ↦ λ is h. rw (count-first name u us, is, count-one name us t different.1 h) refl
+    ] refl e
+
+of_one : (taps : List Tap) (line : Line) (name : List ℕ) (r : Rec) → AreDifferent (names_of taps) → line_record line.bytes ≡ Ok (name, r) → Named name taps → IsOfOneTap taps line
+of_one taps line name r different reads named =
+    record { name = name; rec = r; reads = reads; one = count-one name taps named.tap (IsDistinct-from_AllPairs bytes_eq-Decides (names_of taps) different) named.is }
+
+each-line : (ts more : List Tap) (lines : List Line) → AreDifferent (names_of more) → taps_from ts lines ≡ Ok more → EachLineIsOfOneTap lines more
+each-line ts more [] different e = All-nil _
+each-line ts more (line ∷ lines) different e =
+    let first = first_of_lines ts more line lines e in
+    All-cons (λ (l : Line). l.bytes ≢ [] → IsOfOneTap more l) line lines
+    (λ some. elim first.step [
+      | inl passed ↦ absurd (some passed.0)
+      | inr read ↦ elim read [
+          | inl b ↦ of_one more line b.name (rec.Header b.of 1) different b.reads (still_named b.name first.next more lines (named-begins ts first.next line.bytes b) first.rest)
+          | inr a ↦ of_one more line a.name a.grown.rec different a.reads (still_named a.name first.next more lines (named-adds ts first.next line.bytes a) first.rest)
+        ]
+    ])
+    (each-line first.next more lines different first.rest)
+
+pub each_line : (lines : List Line) (taps : List Tap) → AreDifferent (names_of taps) → taps_of lines ≡ Ok taps → EachLineIsOfOneTap lines taps
+each_line lines taps different e = each-line [] taps lines different e

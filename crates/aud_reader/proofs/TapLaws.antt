@@ -1,0 +1,179 @@
+-- What the taps of a bundle keep to, line after line.
+use Rattle.std.proofs.Common.{◌≡◌, ◌≢◌, ℕ, zero, suc, ◌+◌, ◌<◌, ◌≤◌, List, [], ◌∷◌, ◌++◌, length, map, slice_get, Bool, true, false, cond, not, ◌⊎◌, inl, inr, ◌&&◌, Option, Some, None, Result, Ok, Err, refl, sym, ap, ◌∙◌, arith, nat_lt, get_or, option_map}
+use Rattle.std.specs.List.{All, AllPairs, IsDistinct, AllByRecursion, list_any}
+use Rattle.std.specs.Str.{bytes_eq}
+use Rattle.std.proofs.lemmas.Bool.{ltb-true}
+use Rattle.std.proofs.lemmas.Cmp.{nat_list_eq_equiv}
+use Rattle.std.proofs.lemmas.Slice.Eq.{bytes_eq-Decides}
+use Rattle.std.proofs.lemmas.List.{map-append}
+use Rattle.std.proofs.lemmas.Option.{slice_get-map, slice_get_within, get_or_from_slice_get}
+use Rattle.std.proofs.lemmas.List.Elements.{All-nil, All-cons, All-tail, All-push}
+use Rattle.std.proofs.lemmas.List.Sums.{sum_by-append}
+use Rattle.std.proofs.lemmas.Map.Keys.{IsDistinct-push}
+use Rattle.std.proofs.lemmas.Map.Made.{AllPairs-from_IsDistinct, IsDistinct-from_AllPairs}
+use Rattle.serde_json.specs.Data.{Data}
+use Rattle.aud_reader.specs.declared.fault.InputCode.TheVariants.{OffsetTwice, SecondStream}
+use Rattle.aud_reader.specs.declared.line.Line.{Line}
+use Rattle.aud_tap.specs.declared.records.TapKind.{TapKind}
+use Rattle.aud_tap.specs.declared.records.TapKind.TheVariants as tap
+use Rattle.aud_tap.specs.declared.taps.Records.{Records}
+use Rattle.aud_tap.specs.declared.taps.Records.TheVariants.{Stream, Node, Client}
+use Rattle.aud_tap.specs.declared.taps.Tap.{Tap}
+use Rattle.aud_tap.specs.Forms.{is_text}
+use Rattle.aud_tap.specs.Names.{place_of, AreNamedOnce}
+use Rattle.aud_reader.specs.Steps.{◌>>=◌, guard}
+use Rattle.aud_reader.specs.Bundle.{offset_of, with_entry, with_record, tap_named, with_records, kind_of_tap, same_kind, taps_on, no_records, another_tap, with_line, taps_from, taps_of}
+use Rattle.aud_reader.specs.TapLaws.{AreDifferent, HasOneStreamAtMost, offsets_in, HasEachOffsetOnce}
+use Rattle.aud_reader.specs.Sound.{names_of, IsSound}
+use Rattle.aud_reader.proofs.LineSteps.{steps, guarded, guarded-not, new_entry, one_more, First, first_of_lines, Begins, Adds, line_step}
+
+-- ---- different texts
+
+different-push : (texts : List (List ℕ)) (text : List ℕ) → AreDifferent texts → list_any (is_text text) texts ≡ false → AreDifferent (texts ++ text ∷ [])
+different-push texts text different new =
+    AllPairs-from_IsDistinct bytes_eq-Decides _ (IsDistinct-push nat_list_eq_equiv texts text (IsDistinct-from_AllPairs bytes_eq-Decides texts different) new)
+
+-- ---- the names
+
+none-of : (name : List ℕ) (ts : List Tap) → tap_named name ts ≡ None → list_any (is_text name) (names_of ts) ≡ false
+none-of name [] e = refl
+none-of name (t ∷ ts) e =
+    elim (is_text name t.name) as (λ b. is_text name t.name ≡ b → cond b (Some t) (tap_named name ts) ≡ None → list_any (is_text name) (names_of (t ∷ ts)) ≡ false) [
+      | true ↦ λ is h. cc
+      | false ↦ λ is h. rw is (none-of name ts h)
+    ] refl e
+
+names-same : (name : List ℕ) (records : Records) (ts : List Tap) → names_of (with_records name records ts) ≡ names_of ts
+names-same name records [] = refl
+names-same name records (t ∷ ts) =
+    elim (is_text name t.name) as (λ b. names_of (cond b (record t { records = records } ∷ ts) (t ∷ with_records name records ts)) ≡ names_of (t ∷ ts)) [
+      | true ↦ refl
+      | false ↦ ap (λ names. t.name ∷ names) (names-same name records ts)
+    ]
+
+-- ---- the streams
+
+streams-new : (of : TapKind) (name : List ℕ) (ts : List Tap) → taps_on tap.Stream ts ≤ 1 → another_tap of ts ≡ Ok tt → taps_on tap.Stream (ts ++ record { name = name; records = no_records of } ∷ []) ≤ 1
+streams-new of name ts few room =
+    rw (sum_by-append (λ (t : Tap). cond (same_kind tap.Stream (kind_of_tap t.records)) 1 0) ts (record { name = name; records = no_records of } ∷ [])) (go of room)
+  where
+    go : (of : TapKind) → another_tap of ts ≡ Ok tt → taps_on tap.Stream ts + taps_on tap.Stream (record { name = name; records = no_records of } ∷ []) ≤ 1
+    go tap.Stream room = let none : taps_on tap.Stream ts < 1 = ltb-true _ _ (guarded SecondStream (nat_lt (taps_on tap.Stream ts) 1) tt room) in omega arith
+    go tap.Node room = omega arith
+    go tap.Client room = omega arith
+
+streams-first : (t : Tap) (ts : List Tap) → taps_on tap.Stream (t ∷ ts) ≡ taps_on tap.Stream (t ∷ []) + taps_on tap.Stream ts
+streams-first t ts = sum_by-append (λ (x : Tap). cond (same_kind tap.Stream (kind_of_tap x.records)) 1 0) (t ∷ []) ts
+
+streams-same : (name : List ℕ) (records : Records) (ts : List Tap) (t : Tap) → tap_named name ts ≡ Some t → kind_of_tap records ≡ kind_of_tap t.records → taps_on tap.Stream (with_records name records ts) ≡ taps_on tap.Stream ts
+streams-same name records [] t e same = cc
+streams-same name records (u ∷ us) t e same =
+    elim (is_text name u.name) as (λ b. cond b (Some u) (tap_named name us) ≡ Some t
+    → taps_on tap.Stream (cond b (record u { records = records } ∷ us) (u ∷ with_records name records us)) ≡ taps_on tap.Stream (u ∷ us)) [
+      | true ↦ λ h.
+          let is : u ≡ t = cc in
+          streams-first (record u { records = records }) us
+          ∙ ap (λ k. (0 + cond (same_kind tap.Stream k) 1 0) + taps_on tap.Stream us) (same ∙ ap (λ (x : Tap). kind_of_tap x.records) (sym is))
+          ∙ sym (streams-first u us)
+      | false ↦ λ h.
+          streams-first u (with_records name records us)
+          ∙ ap (λ n. taps_on tap.Stream (u ∷ []) + n) (streams-same name records us t h same)
+          ∙ sym (streams-first u us)
+    ] e
+
+-- ---- the offsets
+
+offsets-absent : (records : Records) → (kind_of_tap records ≡ tap.Stream → ⊥) → AreDifferent (offsets_in records)
+offsets-absent (Stream entries) other = absurd (other refl)
+offsets-absent (Node records) other = λ i j d l m. absurd (omega arith)
+offsets-absent (Client records) other = λ i j d l m. absurd (omega arith)
+
+offsets-none : (of : TapKind) → AreDifferent (offsets_in (no_records of))
+offsets-none tap.Stream = λ i j d l m. absurd (omega arith)
+offsets-none tap.Node = λ i j d l m. absurd (omega arith)
+offsets-none tap.Client = λ i j d l m. absurd (omega arith)
+
+offsets-more : (pids : List (List ℕ)) (old new : Records) (kind : List ℕ) (d : Data) → with_record pids old kind d ≡ Ok new → AreDifferent (offsets_in old) → AreDifferent (offsets_in new)
+offsets-more pids (Stream entries) new kind d e different =
+    let more = steps (with_entry entries kind d) _ new e in
+    let entry = new_entry entries more.value kind d more.first in
+    let test = steps (guard OffsetTwice (not (list_any (is_text (offset_of entry.value)) (map offset_of entries)))) _ more.value entry.next in
+    let is : new ≡ Stream (entries ++ entry.value ∷ []) = cc in
+    rw (is, map-append offset_of entries (entry.value ∷ []))
+    (different-push (map offset_of entries) (offset_of entry.value) different (guarded-not OffsetTwice (list_any (is_text (offset_of entry.value)) (map offset_of entries)) test.value test.first))
+offsets-more pids (Node records) new kind d e different = offsets-absent new (λ is. let same = (one_more pids (Node records) new kind d e).same in cc)
+offsets-more pids (Client records) new kind d e different = offsets-absent new (λ is. let same = (one_more pids (Client records) new kind d e).same in cc)
+
+All-head : {X : Type 0} (P : X → Type 0) (x : X) (xs : List X) → All P (x ∷ xs) → P x
+All-head P x xs h = h 0 x (omega arith)
+
+offsets-put : (name : List ℕ) (records : Records) (ts : List Tap) (t : Tap) → tap_named name ts ≡ Some t → (AreDifferent (offsets_in t.records) → AreDifferent (offsets_in records)) → HasEachOffsetOnce ts → HasEachOffsetOnce (with_records name records ts)
+offsets-put name records [] t e more all = cc
+offsets-put name records (u ∷ us) t e more all =
+    let P : Tap → Type 0 = λ (x : Tap). AreDifferent (offsets_in x.records) in
+    let first : P u = All-head P u us all in
+    let others : All P us = All-tail P u us all in
+    elim (is_text name u.name) as (λ b. cond b (Some u) (tap_named name us) ≡ Some t → HasEachOffsetOnce (cond b (record u { records = records } ∷ us) (u ∷ with_records name records us))) [
+      | true ↦ λ h. let is : u ≡ t = cc in All-cons P (record u { records = records }) us (more (rw is at first)) others
+      | false ↦ λ h. All-cons P u (with_records name records us) first (offsets-put name records us t h more others)
+    ] e
+
+-- ---- one more line
+
+sound-begins : (ts more : List Tap) (line : List ℕ) → IsSound ts → Begins ts line more → IsSound more
+sound-begins ts more line sound b =
+    let t : Tap = record { name = b.name; records = no_records b.of } in
+    rw b.is (record {
+      names = rw (map-append (λ (x : Tap). x.name) ts (t ∷ [])) (different-push (names_of ts) b.name sound.names (none-of b.name ts b.new));
+      stream = streams-new b.of b.name ts sound.stream b.room;
+      offsets = All-push (λ (x : Tap). AreDifferent (offsets_in x.records)) ts t sound.offsets (offsets-none b.of);
+    })
+
+sound-adds : (ts more : List Tap) (line : List ℕ) → IsSound ts → Adds ts line more → IsSound more
+sound-adds ts more line sound a =
+    rw a.is (record {
+      names = rw (names-same a.name a.records ts) sound.names;
+      stream = rw (streams-same a.name a.records ts a.found a.is_found a.grown.same) sound.stream;
+      offsets = offsets-put a.name a.records ts a.found a.is_found (offsets-more _ (a.found).records a.records a.kind a.d a.added) sound.offsets;
+    })
+
+pub sound-none : IsSound []
+sound-none = record { names = λ i j d l m. absurd (omega arith); stream = omega arith; offsets = All-nil _ }
+
+pub sound-line : (ts more : List Tap) (line : List ℕ) → IsSound ts → with_line ts line ≡ Ok more → IsSound more
+sound-line ts more line sound e = elim (line_step ts more line e) [
+  | inl b ↦ sound-begins ts more line sound b
+  | inr a ↦ sound-adds ts more line sound a
+]
+
+sound-lines : (ts more : List Tap) (lines : List Line) → IsSound ts → taps_from ts lines ≡ Ok more → IsSound more
+sound-lines ts more [] sound e = let same : ts ≡ more = cc in rw (← same) sound
+sound-lines ts more (line ∷ lines) sound e =
+    let first = first_of_lines ts more line lines e in
+    sound-lines first.next more lines (elim first.step [
+      | inl passed ↦ rw passed.1 sound
+      | inr read ↦ elim read [ inl b ↦ sound-begins ts first.next line.bytes sound b | inr a ↦ sound-adds ts first.next line.bytes sound a ]
+    ]) first.rest
+
+-- ---- the places of names
+
+-- each tap is the first with its name
+pub first_with_name : (ts : List Tap) → AreDifferent (names_of ts) → AreNamedOnce ts
+first_with_name [] different place tap at = cc
+first_with_name (t ∷ ts) different zero tap at =
+    let is : t ≡ tap = cc in
+    let same : bytes_eq t.name tap.name ≡ true = (bytes_eq-Decides t.name tap.name).1 (ap (λ (x : Tap). x.name) is) in
+    rw same refl
+first_with_name (t ∷ ts) different (suc place) tap at =
+    let names = names_of ts in
+    let within : place < length names = slice_get_within names place tap.name (slice_get-map (λ (x : Tap). x.name) ts place ∙ ap (option_map (λ (x : Tap). x.name)) at) in
+    let here : get_or names place tap.name ≡ tap.name = get_or_from_slice_get names place tap.name tap.name (slice_get-map (λ (x : Tap). x.name) ts place ∙ ap (option_map (λ (x : Tap). x.name)) at) in
+    let other : bytes_eq t.name tap.name ≡ false = no_text t.name tap.name (λ same. different 0 (suc place) tap.name (omega arith) (omega arith) (same ∙ sym here)) in
+    let rest : AreDifferent names = λ i j d l m. different (suc i) (suc j) d (omega arith) (omega arith) in
+    rw (other, first_with_name ts rest place tap at) refl
+  where
+    no_text : (a b : List ℕ) → (a ≡ b → ⊥) → bytes_eq a b ≡ false
+    no_text a b ne = elim (bytes_eq a b) as (λ r. bytes_eq a b ≡ r → r ≡ false) [ true ↦ λ h. absurd (ne ((bytes_eq-Decides a b).0 h)) | false ↦ λ h. refl ] refl
+
+pub named_once : (lines : List Line) (taps : List Tap) → taps_of lines ≡ Ok taps → AreNamedOnce taps
+named_once lines taps e = first_with_name taps (sound-lines [] taps lines sound-none e).names
