@@ -85,7 +85,7 @@ rooms_by_spans-are rooms_at low high spans are p past within =
 
 module _ (stream : List StreamRec) (pid : Text) (p : ℕ) where
   -- a position up to the greatest high has rooms
-  rooms_for-up_to : (held : Rooms) (slices : List Slice) → 0 < p → p ≤ greatest_high slices → (rooms : Rooms) × (rooms_for stream pid held slices p ≡ Some rooms)
+  pub rooms_for-up_to : (held : Rooms) (slices : List Slice) → 0 < p → p ≤ greatest_high slices → (rooms : Rooms) × (rooms_for stream pid held slices p ≡ Some rooms)
   rooms_for-up_to held [] some h = absurd (omega arith)
   rooms_for-up_to held (slice ∷ later) some h = go (nat_le p slice.high) refl (λ rooms below. rooms_for-up_to rooms later some below)
     where
@@ -96,7 +96,7 @@ module _ (stream : List StreamRec) (pid : Text) (p : ℕ) where
       go false e ih = (let above : slice.high < p = leb-false p slice.high e in ih (rooms_at_end pid held slice.recs) (omega arith))
 
   -- one past it has none
-  rooms_for-past : (held : Rooms) (slices : List Slice) → greatest_high slices < p → rooms_for stream pid held slices p ≡ None
+  pub rooms_for-past : (held : Rooms) (slices : List Slice) → greatest_high slices < p → rooms_for stream pid held slices p ≡ None
   rooms_for-past held [] h = refl
   rooms_for-past held (slice ∷ later) h =
       ap (λ b. cond b (Some (cond (nat_le p slice.low) held (rooms_at_take stream pid p held slice.recs))) (rooms_for stream pid (rooms_at_end pid held slice.recs) later p)) (lt-leb p slice.high (omega arith))

@@ -14,60 +14,7 @@ use Rattle.aud_node.specs.OwnRecords.{names}
 use Rattle.aud_node.specs.Stream.{Text, position}
 use Rattle.aud_rooms.specs.Rooms.{Rooms, rooms_after}
 use Rattle.aud_rooms.specs.TurnsDue.{rooms_at_end, rooms_at_take}
-
-pub record_at : {X : Type 0} (xs : List X) (i : ℕ) → i < length xs → (x : X) × (slice_get xs i ≡ Some x)
-record_at [] i h = absurd (omega arith)
-record_at (x ∷ xs) zero h = (x, refl)
-record_at (x ∷ xs) (suc i) h = record_at xs i (omega arith)
-
-drop_at : (log : List NodeRec) (i : ℕ) (rec : NodeRec) → slice_get log i ≡ Some rec → drop i log ≡ rec ∷ drop (suc i) log
-drop_at [] i rec at = absurd (none-some rec at)
-drop_at (x ∷ xs) zero rec at = ap (λ y. y ∷ xs) (same_Some x rec at)
-drop_at (x ∷ xs) (suc i) rec at = drop_at xs i rec at
-
-pub between-more : (log : List NodeRec) (i to : ℕ) (rec : NodeRec) → i < to → slice_get log i ≡ Some rec → between log i to ≡ rec ∷ between log (suc i) to
-between-more log i to rec h at =
-    let more : to - i ≡ suc (to - suc i) = omega arith in
-    ap (λ n. take n (drop i log)) more ∙ ap (take (suc (to - suc i))) (drop_at log i rec at)
-
-pub between-none : (log : List NodeRec) (i to : ℕ) → to ≤ i → between log i to ≡ []
-between-none log i to h = let none : to - i ≡ 0 = omega arith in ap (λ n. take n (drop i log)) none
-
--- the cursor never falls
-next_cursor-rises : (stream : List StreamRec) (i : ℕ) (rec : NodeRec) (cursor : ℕ) → (i ≡ 0 → cursor ≡ 0) → cursor ≤ next_cursor stream i rec cursor
-next_cursor-rises stream zero (Start None) cursor first = omega (arith, first refl)
-next_cursor-rises stream zero (Start (Some off)) cursor first = omega (arith, first refl)
-next_cursor-rises stream zero (Take off) cursor first = step (is_position (position stream off) (suc cursor))
-  where
-    step : (b : Bool) → cursor ≤ cond b (suc cursor) cursor
-    step true = omega arith
-    step false = omega arith
-next_cursor-rises stream (suc i) (Take off) cursor first = step (is_position (position stream off) (suc cursor))
-  where
-    step : (b : Bool) → cursor ≤ cond b (suc cursor) cursor
-    step true = omega arith
-    step false = omega arith
-next_cursor-rises stream zero _ cursor first = omega arith
-next_cursor-rises stream (suc i) _ cursor first = omega arith
-
-cursor_at-zero : (stream : List StreamRec) (log : List NodeRec) (i : ℕ) → i ≡ 0 → cursor_at stream log i ≡ 0
-cursor_at-zero stream log zero e = refl
-cursor_at-zero stream log (suc i) e = absurd (omega (arith, e))
-
-pub cursor_at-more : (stream : List StreamRec) (log : List NodeRec) (i : ℕ) → cursor_at stream log i ≤ cursor_at stream log (suc i)
-cursor_at-more stream log i = go (slice_get log i)
-  where
-    go : (o : Option NodeRec) → cursor_at stream log i ≤ cursor_past stream i o (cursor_at stream log i)
-    go None = omega arith
-    go (Some rec) = next_cursor-rises stream i rec (cursor_at stream log i) (cursor_at-zero stream log i)
-
-pub cursor_at-rises : (stream : List StreamRec) (log : List NodeRec) (i j : ℕ) → i ≤ j → cursor_at stream log i ≤ cursor_at stream log j
-cursor_at-rises stream log i zero h = let none : i ≡ 0 = omega arith in subst (λ n. cursor_at stream log n ≤ 0) (sym none) (omega arith)
-cursor_at-rises stream log i (suc j) h = go (cases_lt j i) (λ k. cursor_at-rises stream log i j k)
-  where
-    go : (j < i) ⊎ (i ≤ j) → (i ≤ j → cursor_at stream log i ≤ cursor_at stream log j) → cursor_at stream log i ≤ cursor_at stream log (suc j)
-    go (inl l) ih = let same : i ≡ suc j = omega arith in subst (λ n. cursor_at stream log i ≤ cursor_at stream log n) same (omega arith)
-    go (inr l) ih = omega (arith, ih l, cursor_at-more stream log j)
+use Rattle.aud_node.proofs.RecordLemmas.{slice_get_below, between-more, between-none, cursor_at-rises}
 
 -- a session's record leaves the cursor
 own_cursor : (stream : List StreamRec) (i : ℕ) (rec : NodeRec) (pid : Text) (cursor : ℕ) → names (Some rec) pid ≡ true → next_cursor stream i rec cursor ≡ cursor
@@ -162,7 +109,7 @@ module _ (stream : List StreamRec) (log : List NodeRec) (ordered : is_ordered st
           ∙ ap (λ v. cond v held (rooms_at_take stream pid p (rooms_after pid held rec) (between log (suc x) to))) taken
           ∙ sym (ap (rooms_at_end pid held) (between-none log m x (omega (arith, same))))
       go (suc d) m held e =
-          let (other, there) = record_at log m (omega (arith, e, b, within)) in
+          let (other, there) = slice_get_below log m (omega (arith, e, b, within)) in
           ap (rooms_at_take stream pid p held) (between-more log m to other (omega (arith, e, b)) there)
           ∙ ap (λ v. cond v held (rooms_at_take stream pid p (rooms_after pid held other) (between log (suc m) to))) (passed m other (omega (arith, e)) there)
           ∙ go d (suc m) (rooms_after pid held other) (omega (arith, e))
@@ -181,7 +128,7 @@ rooms_at_end-more log pid from x rec held a at within = go (x - from) from held 
         ∙ ap (rooms_at_end pid (rooms_after pid held rec)) (between-none log (suc x) (suc x) (omega arith))
         ∙ sym (ap (λ recs. rooms_after pid (rooms_at_end pid held recs) rec) (between-none log m x (omega (arith, same))))
     go (suc d) m held e =
-        let (other, there) = record_at log m (omega (arith, e, within)) in
+        let (other, there) = slice_get_below log m (omega (arith, e, within)) in
         ap (rooms_at_end pid held) (between-more log m (suc x) other (omega (arith, e)) there)
         ∙ go d (suc m) (rooms_after pid held other) (omega (arith, e))
         ∙ sym (ap (λ recs. rooms_after pid (rooms_at_end pid held recs) rec) (between-more log m x other (omega (arith, e)) there))
