@@ -1,9 +1,10 @@
 -- Consecutive records of a node's log, and the cursor along it.
-use Rattle.std.proofs.Common.{◌≡◌, ◌<◌, ◌≤◌, ◌+◌, ◌-◌, ℕ, zero, suc, Bool, true, false, cond, ◌&&◌, List, [], ◌∷◌, length, take, drop, Option, Some, None, slice_get, refl, sym, ap, subst, ◌∙◌, ◌⊎◌, inl, inr, nat_eq, nat_le, arith, is_some, bytes_eq}
+use Rattle.std.proofs.lemmas.Grind.{common_steps}
+use Rattle.std.proofs.Common.{◌≡◌, ◌<◌, ◌≤◌, ◌+◌, ◌-◌, ℕ, zero, suc, Bool, true, false, cond, List, [], ◌∷◌, length, Option, Some, None, slice_get, refl, sym, ap, ◌∙◌, arith}
 use Rattle.std.specs.List.{list_all}
 use Rattle.std.specs.FinSet as set
-use Rattle.std.proofs.lemmas.Bool.{cases_eq, cases_lt, eq-eqb, ne_eqb, false≢true, leb-true, leb-false, le-leb, lt-leb, eqb-true}
-use Rattle.std.proofs.lemmas.Option.{same_Some, none-some}
+use Rattle.std.proofs.lemmas.Bool.{ne_eqb, false≢true, eqb-true}
+use Rattle.std.proofs.lemmas.Option.{none-some}
 use Rattle.aud_tap.specs.declared.records.StreamRec.{StreamRec}
 use Rattle.aud_tap.specs.declared.records.NodeRec.{NodeRec}
 use Rattle.aud_tap.specs.declared.records.NodeRec.TheVariants.{Start, Take, Opened, Join, Leave, Broke, Back, Gone}
@@ -35,13 +36,7 @@ other_rooms pid held _ e = refl
 
 all_at : (p : ℕ → Bool) (first count n : ℕ) → list_all p (numbers_from first count) ≡ true → first ≤ n → n < first + count → p n ≡ true
 all_at p first zero n all a b = absurd (omega arith)
-all_at p first (suc count) n all a b = go (cases_eq first n) (p first) refl all (λ later h. all_at p (suc first) count n later h (omega arith))
-  where
-    go : (first ≡ n) ⊎ (first ≡ n → ⊥) → (v : Bool) → p first ≡ v → (v && list_all p (numbers_from (suc first) count)) ≡ true
-        → (list_all p (numbers_from (suc first) count) ≡ true → suc first ≤ n → p n ≡ true) → p n ≡ true
-    go same false e all ih = absurd (false≢true all)
-    go (inl same) true e all ih = ap p (sym same) ∙ e
-    go (inr other) true e all ih = ih all (omega arith)
+all_at p first (suc count) n all a b = grind (arith, common_steps, all_at p (suc first) count n, false≢true)
 
 -- each record of an ordered log is in order
 pub in_order_at : (stream : List StreamRec) (log : List NodeRec) (i : ℕ) (rec : NodeRec) → is_ordered stream log ≡ true → slice_get log i ≡ Some rec → i < length log
@@ -58,10 +53,7 @@ position_is (Some q) p e = ap Some (eqb-true q p e)
 -- behind the first record, the cursor comes to a position by that position's `take`
 reaching_takes : (stream : List StreamRec) (i : ℕ) (rec : NodeRec) (cursor p : ℕ) → is_in_order stream (suc i) cursor rec ≡ true → cursor < p → p ≤ next_cursor stream (suc i) rec cursor → takes stream p rec ≡ true
 reaching_takes stream i (Start off) cursor p e a b = absurd (false≢true e)
-reaching_takes stream i (Take off) cursor p e a b =
-    let next : next_cursor stream (suc i) (Take off) cursor ≡ suc cursor = ap (λ x. cond x (suc cursor) cursor) e in
-    let is : suc cursor ≡ p = omega (arith, next, a, b) in
-    ap (is_position (position stream off)) (sym is) ∙ e
+reaching_takes stream i (Take off) cursor p e a b = grind arith
 reaching_takes stream i (Opened pid sid nsp) cursor p e a b = absurd (omega arith)
 reaching_takes stream i (Join pid room) cursor p e a b = absurd (omega arith)
 reaching_takes stream i (Leave pid room) cursor p e a b = absurd (omega arith)
@@ -72,9 +64,7 @@ reaching_takes stream i (Gone pid) cursor p e a b = absurd (omega arith)
 -- a record that leaves the cursor before a position doesn't take it
 passing_takes : (stream : List StreamRec) (i : ℕ) (rec : NodeRec) (cursor p : ℕ) → is_in_order stream i cursor rec ≡ true → next_cursor stream i rec cursor < p → takes stream p rec ≡ false
 passing_takes stream zero (Take off) cursor p e h = absurd (false≢true e)
-passing_takes stream (suc i) (Take off) cursor p e h =
-    let next : next_cursor stream (suc i) (Take off) cursor ≡ suc cursor = ap (λ x. cond x (suc cursor) cursor) e in
-    ap (λ o. is_position o p) (position_is (position stream off) (suc cursor) e) ∙ ne_eqb (suc cursor) p (λ same. omega (arith, next, h, same))
+passing_takes stream (suc i) (Take off) cursor p e h = grind (arith, position_is (position stream off) (suc cursor) e, ne_eqb (suc cursor) p)
 passing_takes stream zero _ cursor p e h = refl
 passing_takes stream (suc i) _ cursor p e h = refl
 
