@@ -16,10 +16,11 @@ use Rattle.aud_merge.specs.Runs.{IsFinished, RunsOn}
 use Rattle.aud_merge.specs.Sessions.{Session}
 use Rattle.aud_merge.proofs.Steps.{stepped}
 use Rattle.aud_merge.proofs.Moves.{Synced, Synced-step}
-use Rattle.aud_merge.proofs.Slices.{between-none, part_from, rooms_for-behind, rooms_for-at_low, cursor_at-rises}
+use Rattle.aud_merge.proofs.Slices.{part_from, rooms_for-behind, rooms_for-at_low}
 use Rattle.aud_merge.proofs.Phases.{length-count, In, Spot, Waiting, Within, Over, Beyond, Holds}
 use Rattle.aud_merge.proofs.PhaseSteps.{moves_on}
 use Rattle.aud_merge.proofs.Spots.{rooms_left, spot_reached, Settled, reached-spot, Moves-rooms, step_left, Moves-step}
+use Rattle.aud_node.proofs.RecordLemmas.{between-none, cursor_at-rises}
 
 -- the session when it first reaches the position, from this state on
 abbrev pub judged : Cluster → Text → ℕ → State → List Step → Option Session

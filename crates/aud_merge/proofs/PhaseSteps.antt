@@ -17,9 +17,11 @@ use Rattle.aud_merge.specs.Sessions.{Here, Ended, session_after}
 use Rattle.aud_merge.specs.Runs.{RunsOn}
 use Rattle.aud_merge.proofs.Steps.{EntryStep, RecordStep, Stepped}
 use Rattle.aud_merge.proofs.Moves.{Named, Quiet, moved, Synced, Synced-step}
-use Rattle.aud_merge.proofs.Slices.{between-more, between-none, between-nil, end_parts, reaches-takes-behind}
-use Rattle.aud_merge.proofs.Records.{here-node, beginning-here, ended-after, begins-same, inner-after, ended, last-names, last-after, quiet-rooms, waiting, waiting-after, beginning-after, beginning-begins, begins-names, begun-beyond}
+use Rattle.aud_merge.proofs.Slices.{reaches-takes-behind}
+use Rattle.aud_merge.proofs.Records.{here-node, beginning-here, ended-after, inner-after, ended, last-names, last-after, quiet-rooms, waiting, waiting-after, beginning-after, begun-beyond}
 use Rattle.aud_merge.proofs.Phases.{never_again, Unstarted, Unstarted-step, Out, In, Spot, Waiting, Within, Over, Beyond, Holds, OnSlice, Moves, waits, begins as begins', elsewhere, goes, breaks, leaves, stays_over, passes, stays_beyond}
+use Rattle.aud_node.proofs.RecordLemmas.{between-more, between-none, between-nil}
+use Rattle.aud_rooms.proofs.Turns.{end_parts, begins-same, beginning-begins, begins-names}
 
 -- the spot after the step, and how it came there
 pub record Went (c : Cluster) (who : Who) (last : ℕ) (st' : State) (l i : ℕ) (before : Spot) : Type 0 where

@@ -18,7 +18,8 @@ use Rattle.aud_merge.specs.Runs.{record_count, log_length, RunsOn}
 use Rattle.aud_merge.specs.Sessions.{Here, Ended}
 use Rattle.aud_merge.proofs.Steps.{Stepped, stepped}
 use Rattle.aud_merge.proofs.Moves.{Named, Quiet, moved}
-use Rattle.aud_merge.proofs.Records.{IsBeyond, IsBeyond-after, beginning-allowed, ended, waiting, begins-names}
+use Rattle.aud_merge.proofs.Records.{IsBeyond, IsBeyond-after, beginning-allowed, ended, waiting}
+use Rattle.aud_rooms.proofs.Turns.{begins-names}
 
 pub within-count : (c : Cluster) (l i : ℕ) (rec : NodeRec) → slice_get (node_log c l) i ≡ Some rec → i < record_count c l
 within-count c l i rec at = go (log_at c l) at

@@ -10,7 +10,8 @@ use Rattle.aud_node.specs.TurnRecords.{pid_of, begins_turn}
 use Rattle.aud_rooms.specs.Rooms.{Rooms, own_room, rooms_after}
 use Rattle.aud_rooms.specs.Turns.{Who, beginning, Part, Inner, Last, Foreign, End, ByBreak, ByGone, ByLog, part_of}
 use Rattle.aud_merge.specs.Sessions.{Session, Absent, Here, Away, Ended, session_after}
-use Rattle.aud_merge.proofs.Basics.{cond_parts, same_text, itself_text, other_text}
+use Rattle.aud_merge.proofs.Basics.{cond_parts, other_text}
+use Rattle.aud_rooms.proofs.Turns.{same_text, itself_text}
 
 -- the session is in turn k or has passed it
 abbrev pub IsBeyond : ℕ → Session → Type 0
@@ -170,15 +171,6 @@ pub beginning-after : (l : ℕ) (who : Who) (k : ℕ) (held : Rooms) (s' : Sessi
 beginning-after l who zero held s' first e = sym (same_Some _ _ e) ∙ ap (λ rooms. Here l 0 who.sid who.nsp rooms) (sym (first refl))
 beginning-after l who (suc k) held s' first e = sym (same_Some _ _ (cond_parts (nat_eq (suc k) (suc k)) _ s' e).1)
 
-pub beginning-begins : (who : Who) (k : ℕ) → begins_turn who.pid k (beginning who k) ≡ true
-beginning-begins who zero = itself_text who.pid
-beginning-begins who (suc k) = and_from _ _ (itself_text who.pid) (eq-eqb (suc k) (suc k) refl)
-
-pub begins-names : (pid : Text) (k : ℕ) (rec : NodeRec) → begins_turn pid k rec ≡ true → pid_of rec ≡ Some pid
-begins-names pid zero (Opened other sid nsp) e = ap Some (same_text other pid e)
-begins-names pid (suc k) (Back other number) e = ap Some (same_text other pid (and_parts _ _ e).0)
-begins-names pid k _ e = absurd (false≢true e)
-
 -- a turn that has begun is beyond its beginning
 pub begun-beyond : (l : ℕ) (who : Who) (k : ℕ) (held : Rooms) (rec : NodeRec) (s' : Session)
     → begins_turn who.pid k rec ≡ true → session_after l rec (waiting who k held) ≡ Some s' → IsBeyond k s'
@@ -212,10 +204,3 @@ ended-after l (Back pid number) s' e = none-some s' e
 ended-after l (Gone pid) s' e = none-some s' e
 ended-after l (Start off) s' e = none-some s' e
 ended-after l (Take off) s' e = none-some s' e
-
--- a record begins one turn
-pub begins-same : (who : Who) (k n : ℕ) → begins_turn who.pid k (beginning who n) ≡ true → k ≡ n
-begins-same who zero zero e = refl
-begins-same who zero (suc n) e = absurd (false≢true e)
-begins-same who (suc k) zero e = absurd (false≢true e)
-begins-same who (suc k) (suc n) e = sym (eqb-true (suc n) (suc k) (and_parts _ _ e).1)

@@ -15,32 +15,6 @@ use Rattle.aud_rooms.specs.TurnsDue.{rooms_at_end, rooms_at_take, rooms_for}
 use Rattle.aud_merge.specs.Machine.{cursor_after}
 use Rattle.aud_merge.proofs.Moves.{position-take, next_position-at}
 
-drop_at : (log : List NodeRec) (i : ℕ) (rec : NodeRec) → slice_get log i ≡ Some rec → drop i log ≡ rec ∷ drop (suc i) log
-drop_at [] i rec at = absurd (none-some rec at)
-drop_at (x ∷ xs) zero rec at = ap (λ y. y ∷ xs) (same_Some x rec at)
-drop_at (x ∷ xs) (suc i) rec at = drop_at xs i rec at
-
-pub between-more : (log : List NodeRec) (i to : ℕ) (rec : NodeRec) → i < to → slice_get log i ≡ Some rec → between log i to ≡ rec ∷ between log (suc i) to
-between-more log i to rec h at =
-    let more : to - i ≡ suc (to - suc i) = omega arith in
-    ap (λ n. take n (drop i log)) more ∙ ap (take (suc (to - suc i))) (drop_at log i rec at)
-
-pub between-none : (log : List NodeRec) (i to : ℕ) → to ≤ i → between log i to ≡ []
-between-none log i to h = let none : to - i ≡ 0 = omega arith in ap (λ n. take n (drop i log)) none
-
-pub between-nil : (log : List NodeRec) (i to : ℕ) → to ≤ length log → between log i to ≡ [] → to ≤ i
-between-nil log i to h e =
-    let long : length (between log i to) ≡ min (to - i) (length log - i) = length-take (to - i) (drop i log) ∙ ap (min (to - i)) (length-drop i log) in
-    let none : length (between log i to) ≡ 0 = ap length e in
-    omega (arith, long, none)
-
-pub end_parts : (part : Part) (recs : List NodeRec) (rest : Option End) (e : End) → end_past part recs rest ≡ Some e
-    → ((part ≡ Inner) × (rest ≡ Some e)) ⊎ ((part ≡ Last e) × (recs ≡ []))
-end_parts Inner recs rest e is = inl (refl, is)
-end_parts (Last last) [] rest e is = inr (ap Last (same_Some last e is), refl)
-end_parts (Last last) (rec ∷ recs) rest e is = absurd (none-some e is)
-end_parts Foreign recs rest e is = absurd (none-some e is)
-
 -- the part of a slice from the record with this number on
 abbrev pub part_from : Cluster → Turn → ℕ → Slice
 part_from c t i =
@@ -104,42 +78,6 @@ pub rooms_for-at_low : (stream : List StreamRec) (pid : Text) (held : Rooms) (sl
 rooms_for-at_low stream pid held slice later p e h =
     ap (λ b. cond b (Some (cond (nat_le p slice.low) held (rooms_at_take stream pid p held slice.recs))) (rooms_for stream pid (rooms_at_end pid held slice.recs) later p)) (le-leb p slice.high (omega (arith, leb-true p slice.low e, h)))
     ∙ ap (λ b. Some (cond b held (rooms_at_take stream pid p held slice.recs))) e
-
--- the cursor never falls
-next_cursor-rises : (stream : List StreamRec) (i : ℕ) (rec : NodeRec) (cursor : ℕ) → (i ≡ 0 → cursor ≡ 0) → cursor ≤ next_cursor stream i rec cursor
-next_cursor-rises stream zero (Start None) cursor first = omega (arith, first refl)
-next_cursor-rises stream zero (Start (Some off)) cursor first = omega (arith, first refl)
-next_cursor-rises stream zero (Take off) cursor first = step (is_position (position stream off) (suc cursor))
-  where
-    step : (b : Bool) → cursor ≤ cond b (suc cursor) cursor
-    step true = omega arith
-    step false = omega arith
-next_cursor-rises stream (suc i) (Take off) cursor first = step (is_position (position stream off) (suc cursor))
-  where
-    step : (b : Bool) → cursor ≤ cond b (suc cursor) cursor
-    step true = omega arith
-    step false = omega arith
-next_cursor-rises stream zero _ cursor first = omega arith
-next_cursor-rises stream (suc i) _ cursor first = omega arith
-
-cursor_at-zero : (stream : List StreamRec) (log : List NodeRec) (i : ℕ) → i ≡ 0 → cursor_at stream log i ≡ 0
-cursor_at-zero stream log zero e = refl
-cursor_at-zero stream log (suc i) e = absurd (omega (arith, e))
-
-cursor_at-more : (stream : List StreamRec) (log : List NodeRec) (i : ℕ) → cursor_at stream log i ≤ cursor_at stream log (suc i)
-cursor_at-more stream log i = go (slice_get log i)
-  where
-    go : (o : Option NodeRec) → cursor_at stream log i ≤ cursor_past stream i o (cursor_at stream log i)
-    go None = omega arith
-    go (Some rec) = next_cursor-rises stream i rec (cursor_at stream log i) (cursor_at-zero stream log i)
-
-pub cursor_at-rises : (stream : List StreamRec) (log : List NodeRec) (i j : ℕ) → i ≤ j → cursor_at stream log i ≤ cursor_at stream log j
-cursor_at-rises stream log i zero h = let none : i ≡ 0 = omega arith in subst (λ n. cursor_at stream log n ≤ 0) (sym none) (omega arith)
-cursor_at-rises stream log i (suc j) h = go (cases_lt j i) (λ k. cursor_at-rises stream log i j k)
-  where
-    go : (j < i) ⊎ (i ≤ j) → (i ≤ j → cursor_at stream log i ≤ cursor_at stream log j) → cursor_at stream log i ≤ cursor_at stream log (suc j)
-    go (inl l) ih = let same : i ≡ suc j = omega arith in subst (λ n. cursor_at stream log i ≤ cursor_at stream log n) same (omega arith)
-    go (inr l) ih = omega (arith, ih l, cursor_at-more stream log j)
 
 pub reaches-takes-behind : (a : ℕ) (stream : List StreamRec) (i : ℕ) (rec : NodeRec) (cursor next p : ℕ)
     → 0 < i → cursor_after (take a stream) i rec cursor ≡ Some next → nat_le p cursor ≡ false → nat_le p next ≡ takes stream p rec

@@ -17,30 +17,14 @@ use Rattle.aud_merge.specs.declared.step.Step.{Step}
 use Rattle.aud_merge.specs.Machine.{State, start, after, session_of, taken_of, taken_in}
 use Rattle.aud_merge.specs.Runs.{IsRun, RunsOn}
 use Rattle.aud_merge.specs.Sessions.{Session, Absent, Here, Away, Ended}
-use Rattle.aud_merge.proofs.Basics.{itself_text}
-use Rattle.aud_merge.proofs.Steps.{Stepped, stepped}
+use Rattle.aud_merge.proofs.Steps.{Stepped, stepped, taken-grows}
 use Rattle.aud_merge.proofs.Moves.{Synced, Synced-step, Synced-start, RunsOn-run}
-use Rattle.aud_merge.proofs.Slices.{between-more, between-none}
 use Rattle.aud_merge.proofs.Records.{waiting, ended}
 use Rattle.aud_merge.proofs.Phases.{Unstarted, Spot, Waiting, Within, Over, Beyond, Holds, OnSlice, Moves, waits, begins, elsewhere, goes, breaks, leaves, stays_over, passes, stays_beyond}
 use Rattle.aud_merge.proofs.PhaseSteps.{moves_on}
 use Rattle.aud_merge.proofs.DueLaws.{at_start}
-
-pub slice_get-drop : (n : ℕ) (xs : List NodeRec) (i j : ℕ) → j ≡ n + i → slice_get (drop n xs) i ≡ slice_get xs j
-slice_get-drop zero xs i j e = let same : i ≡ j = omega (arith, e) in ap (slice_get xs) same
-slice_get-drop (suc n) [] i j e = refl
-slice_get-drop (suc n) (x ∷ xs) i zero e = absurd (omega (arith, e))
-slice_get-drop (suc n) (x ∷ xs) i (suc j) e = slice_get-drop n xs i j (omega (arith, e))
-
-take-push : (n : ℕ) (xs : List NodeRec) (x : NodeRec) → slice_get xs n ≡ Some x → take (suc n) xs ≡ take n xs ++ x ∷ []
-take-push n [] x e = absurd (none-some x e)
-take-push zero (y ∷ xs) x e = ap (λ z. z ∷ []) (same_Some y x e)
-take-push (suc n) (y ∷ xs) x e = ap (λ zs. y ∷ zs) (take-push n xs x e)
-
-between-push : (log : List NodeRec) (from at : ℕ) (rec : NodeRec) → from ≤ at → slice_get log at ≡ Some rec → between log from (suc at) ≡ between log from at ++ rec ∷ []
-between-push log from at rec h stands =
-    let more : suc at - from ≡ suc (at - from) = omega arith in
-    ap (λ n. take n (drop from log)) more ∙ take-push (at - from) (drop from log) rec (slice_get-drop from log (at - from) at (omega arith) ∙ stands)
+use Rattle.aud_node.proofs.RecordLemmas.{between-more, between-none, between-push}
+use Rattle.aud_rooms.proofs.Turns.{itself_text}
 
 pub after_records-push : (node : ℕ) (pid : Text) (s : Session) (xs : List NodeRec) (rec : NodeRec) → after_records node pid s (xs ++ rec ∷ []) ≡ session_past node pid (after_records node pid s xs) rec
 after_records-push node pid s [] rec = refl
@@ -154,20 +138,10 @@ AllTaken-push : (st : State) (done : List Turn) (t : Turn) → AllTaken st done 
 AllTaken-push st [] t all some h = (some, h, tt)
 AllTaken-push st (x ∷ done) t all some h = (all.0, all.1, AllTaken-push st done t all.2 some h)
 
-taken-rises : (c : Cluster) (st st' : State) (l i m : ℕ) → Stepped c st st' l i → taken_of st m ≤ taken_of st' m
-taken-rises c st st' l i m s = go (cases_eq m l)
-  where
-    go : (m ≡ l) ⊎ (m ≡ l → ⊥) → taken_of st m ≤ taken_of st' m
-    go (inl e) =
-        let was : taken_of st m ≡ i = ap (taken_of st) e ∙ s.was in
-        let now : taken_of st' m ≡ suc i = ap (taken_of st') e ∙ s.now in
-        omega (arith, was, now)
-    go (inr n) = let kept : taken_of st' m ≡ taken_of st m = ap taken_in (s.others m n) in omega (arith, kept)
-
 AllTaken-step : (c : Cluster) (st st' : State) (l i : ℕ) → Stepped c st st' l i → (done : List Turn) → AllTaken st done → AllTaken st' done
 AllTaken-step c st st' l i s [] all = tt
 AllTaken-step c st st' l i s (t ∷ later) all =
-    (all.0, (let before : t.to ≤ taken_of st t.node = all.1 in let rises = taken-rises c st st' l i t.node s in omega (arith, before, rises)), AllTaken-step c st st' l i s later all.2)
+    (all.0, (let before : t.to ≤ taken_of st t.node = all.1 in let rises = taken-grows c st st' l i t.node s in omega (arith, before, rises)), AllTaken-step c st st' l i s later all.2)
 
 abbrev ahead : Spot → List Turn
 ahead (Waiting k held rest) = rest

@@ -1,5 +1,5 @@
 -- Intervals apart from one another are the maximal intervals of the positions in them.
-use Rattle.std.proofs.Common.{◌≡◌, ◌<◌, ◌≤◌, ◌-◌, ℕ, suc, Bool, true, false, ◌||◌, ◌&&◌, List, [], ◌∷◌, ◌++◌, Option, Some, None, cond, refl, sym, ap, subst, ◌∙◌, ◌⊎◌, inl, inr, nat_lt, nat_le, arith, true≢false}
+use Rattle.std.proofs.Common.{◌≡◌, ◌<◌, ◌≤◌, ◌-◌, ℕ, suc, Bool, true, false, ◌||◌, List, [], ◌∷◌, ◌++◌, Option, Some, None, cond, refl, sym, ap, subst, ◌∙◌, ◌⊎◌, inl, inr, nat_lt, arith, true≢false}
 use Rattle.std.specs.List.{Contains, list_any}
 use Rattle.std.proofs.lemmas.Bool.{leb-true, leb-false}
 use Rattle.std.proofs.lemmas.List.{append-nil}
@@ -88,15 +88,7 @@ place_maximal low covered is i at =
 -- the interval of a position
 pub interval_of : (p : ℕ) (is : List Interval) → list_any (is_in p) is ≡ true → (i : Interval) × Contains is i × (i.after < p) × (p ≤ i.last)
 interval_of p [] e = absurd (true≢false (sym e))
-interval_of p (j ∷ js) e = go (λ later. interval_of p js later) (is_in p j) refl e
-  where
-    first : (a b : Bool) → (a && b) ≡ true → (a ≡ true) × (b ≡ true)
-    first true b e = (refl, e)
-    first false b e = absurd (true≢false (sym e))
-
-    go : (list_any (is_in p) js ≡ true → (i : Interval) × Contains js i × (i.after < p) × (p ≤ i.last)) → (b : Bool) → is_in p j ≡ b → (b || list_any (is_in p) js) ≡ true → (i : Interval) × Contains (j ∷ js) i × (i.after < p) × (p ≤ i.last)
-    go ih true at e = (let (x, y) = first (nat_lt j.after p) (nat_le p j.last) at in let past = leb-true (suc j.after) p x in (j, contains-first j js, omega arith, leb-true p j.last y))
-    go ih false at e = (let (i, among, x, y) = ih e in (i, contains-later j js i among, x, y))
+interval_of p (j ∷ js) e = grind (arith, interval_of p js, leb-true (suc j.after) p, contains-first j js, leb-true p j.last, contains-later j js)
 
 -- two maximal intervals with a position in common are one
 module _ (test : ℕ → Bool) (low high a b c d p : ℕ) (one : IsMaximalInterval test low high a b) (other : IsMaximalInterval test low high c d)
@@ -113,9 +105,4 @@ module _ (test : ℕ → Bool) (low high a b c d p : ℕ) (one : IsMaximalInterv
 
 pub maximal_same : (test : ℕ → Bool) (low high a b c d p : ℕ) → IsMaximalInterval test low high a b → IsMaximalInterval test low high c d
     → a ≤ p → p ≤ b → c ≤ p → p ≤ d → (a ≡ c) × (b ≡ d)
-maximal_same test low high a b c d p one other x y z w =
-    let e1 : a < c → ⊥ = not_earlier test low high a b c d p one other x y z w in
-    let e2 : c < a → ⊥ = not_earlier test low high c d a b p other one z w x y in
-    let e3 : b < d → ⊥ = not_shorter test low high a b c d p one other x y z w in
-    let e4 : d < b → ⊥ = not_shorter test low high c d a b p other one z w x y in
-    (omega arith, omega arith)
+maximal_same test low high a b c d p one other x y z w = grind (arith, not_earlier test low high a b c d p one other x y z w, not_earlier test low high c d a b p other one z w x y, not_shorter test low high a b c d p one other x y z w, not_shorter test low high c d a b p other one z w x y)

@@ -1,5 +1,7 @@
 -- When one room is held: intervals in order, apart from one another.
-use Rattle.std.proofs.Common.{◌≡◌, ◌<◌, ◌≤◌, ◌-◌, ℕ, zero, suc, Bool, true, false, ◌||◌, ◌&&◌, List, [], ◌∷◌, ◌++◌, length, take, drop, Option, Some, None, get_or, drop-cons, refl, sym, ap, subst, ◌∙◌, nat_lt, nat_le, arith}
+use Rattle.std.proofs.lemmas.Grind.{common_steps}
+use Rattle.std.proofs.lemmas.Option.{gets}
+use Rattle.std.proofs.Common.{◌≡◌, ◌<◌, ◌≤◌, ◌-◌, ℕ, zero, suc, Bool, true, false, ◌||◌, ◌&&◌, List, [], ◌∷◌, ◌++◌, length, take, Option, Some, None, get_or, refl, sym, ap, subst, ◌∙◌, nat_lt, nat_le, arith}
 use Rattle.std.specs.List.{list_any, slice_get}
 use Rattle.std.specs.Option.{is_some}
 use Rattle.std.proofs.lemmas.Bool.{le-leb, lt-leb}
@@ -68,13 +70,7 @@ apart_lower from lower covered (i ∷ is) since (a, b, c, rest) h = (omega arith
 
 -- the last element of a list
 pub last_part : {X : Type 0} (xs : List X) (x : X) → slice_get xs (length xs - 1) ≡ Some x → xs ≡ take (length xs - 1) xs ++ x ∷ []
-last_part xs x e =
-    let within : length xs - 1 < length xs = slice_get_within xs (length xs - 1) x e in
-    let at : Some (get_or xs (length xs - 1) x) ≡ Some x = sym (slice_get-get_or xs (length xs - 1) x within) ∙ e in
-    let same : get_or xs (length xs - 1) x ≡ x = cc in
-    let rest : drop (suc (length xs - 1)) xs ≡ [] = drop_all (suc (length xs - 1)) xs (omega arith) in
-    sym (take-append-drop (length xs - 1) xs)
-    ∙ ap (λ ys. take (length xs - 1) xs ++ ys) (drop-cons xs (length xs - 1) x within ∙ ap (λ y. y ∷ drop (suc (length xs - 1)) xs) same ∙ ap (λ ys. x ∷ ys) rest)
+last_part xs x e = grind (arith, common_steps, gets, slice_get_within, slice_get-get_or, drop_all, take-append-drop)
 
 -- the last interval goes on
 apart_resumed : (from covered : ℕ) (is : List Interval) (i : Interval) → i.last ≡ covered → AreApart from (is ++ i ∷ []) None covered → AreApart from is (Some i.after) covered
@@ -157,18 +153,11 @@ unused low covered after is h apart =
 -- the same, for times seen through the fields of what keeps them
 pub shut_used : (low covered after : ℕ) (t : Times) (old new : List Interval) (since : Option ℕ) → record { ended = old; since = since } ≡ t → since ≡ Some after → after < covered
     → new ≡ old ++ record { after = after; last = covered } ∷ [] → AreApart low t.ended t.since covered → Continues low covered t (record { ended = new; since = None })
-shut_used low covered after t old new since seen held some is =
-    subst (λ (s : Times). AreApart low s.ended s.since covered → Continues low covered s (record { ended = new; since = None })) seen
-    (subst (λ o. AreApart low old o covered → Continues low covered (record { ended = old; since = o }) (record { ended = new; since = None })) (sym held)
-    (subst (λ n. AreApart low old (Some after) covered → Continues low covered (record { ended = old; since = Some after }) (record { ended = n; since = None })) (sym is)
-    (ended low covered after old some)))
+shut_used low covered after t old new since seen held some is = grind (arith, ended, ended low covered after old some)
 
 pub shut_unused : (low covered after : ℕ) (t : Times) (old : List Interval) (since : Option ℕ) → record { ended = old; since = since } ≡ t → since ≡ Some after → covered ≤ after
     → AreApart low t.ended t.since covered → Continues low covered t (record { ended = old; since = None })
-shut_unused low covered after t old since seen held none =
-    subst (λ (s : Times). AreApart low s.ended s.since covered → Continues low covered s (record { ended = old; since = None })) seen
-    (subst (λ o. AreApart low old o covered → Continues low covered (record { ended = old; since = o }) (record { ended = old; since = None })) (sym held)
-    (unused low covered after old none))
+shut_unused low covered after t old since seen held none = grind (arith, ended, unused low covered after old none)
 
 -- each interval has positions
 pub some_at : (from covered : ℕ) (is : List Interval) (since : Option ℕ) (k : ℕ) (d : Interval) → AreApart from is since covered → k < length is → (get_or is k d).after < (get_or is k d).last
