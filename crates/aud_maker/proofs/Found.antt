@@ -11,7 +11,7 @@ use Rattle.aud_maker.specs.Begun.{AreAllBegun}
 use Rattle.aud_maker.specs.Ended.{are_ended}
 use Rattle.aud_maker.specs.Swept.{is_swept}
 use Rattle.aud_maker.specs.Chain.{HasNoChain, opening_of}
-use Rattle.aud_maker.proofs.BegunLemmas.{chain-same, chain-begun}
+use Rattle.aud_maker.proofs.BegunLemmas.{chain-same}
 use Rattle.aud_maker.proofs.EndedLemmas.{ended-turns, turns-ended, opening-names}
 use Rattle.aud_maker.proofs.SweptLemmas.{swept-covers, covers-swept}
 
@@ -19,13 +19,13 @@ some_turns : (c : Cluster) (turns : List Turn) (o : Text × Text) → opening_of
 some_turns c [] o e = absurd (none-some o e)
 some_turns c (t ∷ later) o e = omega arith
 
-module _ (c : Cluster) (pid : Text) (turns : List Turn) (begun : AreAllBegun c (own_places c pid) pid turns) where
+module _ (c : Cluster) (pid : Text) (turns : List Turn) (begun : AreAllBegun c pid turns) where
   pub is_chain : (sid nsp : Text) → opening_of c turns ≡ Some (sid, nsp) → are_ended c pid 0 turns ≡ true → list_all (is_swept c turns pid) (own_places c pid) ≡ true
       → IsChain c (record { pid = pid; sid = sid; nsp = nsp }) turns
   is_chain sid nsp opening ended swept =
       record {
         some = some_turns c turns (sid, nsp) opening;
-        are_turns = ended-turns c (own_places c pid) (record { pid = pid; sid = sid; nsp = nsp }) 0 turns begun.begun (λ _. opening) ended;
+        are_turns = ended-turns c (record { pid = pid; sid = sid; nsp = nsp }) 0 turns begun.begun (λ _. opening) ended;
         covers = swept-covers c pid turns swept;
       }
 
@@ -40,16 +40,9 @@ module _ (c : Cluster) (pid : Text) (turns : List Turn) (begun : AreAllBegun c (
 
   pub not_ended : are_ended c pid 0 turns ≡ false → HasNoChain c pid
   not_ended fails who other same chain =
-      let here = these who other same chain in
-      false≢true (sym fails
-      ∙ ap (λ p. are_ended c p 0 turns) (sym same)
-      ∙ turns-ended c (own_places c who.pid) who 0 turns (subst (λ p. AreAllBegun c (own_places c p) p turns) (sym same) begun).begun here.are_turns)
+      let all : AreAllBegun c who.pid turns = subst (λ p. AreAllBegun c p turns) (sym same) begun in
+      false≢true (sym fails ∙ ap (λ p. are_ended c p 0 turns) (sym same) ∙ turns-ended c who 0 turns all.begun (these who other same chain).are_turns)
 
   pub not_swept : list_all (is_swept c turns pid) (own_places c pid) ≡ false → HasNoChain c pid
   not_swept fails who other same chain =
-      let here = these who other same chain in
-      false≢true (sym fails ∙ ap (λ p. list_all (is_swept c turns p) (own_places c p)) (sym same) ∙ covers-swept c who turns here)
-
--- two chains of a session are one
-pub one_chain : (c : Cluster) (who one : Who) (turns other : List Turn) → one.pid ≡ who.pid → IsChain c who turns → IsChain c one other → other ≡ turns
-one_chain c who one turns other same chain more = chain-same c one who.pid turns other same (chain-begun c who turns chain) more
+      false≢true (sym fails ∙ ap (λ p. list_all (is_swept c turns p) (own_places c p)) (sym same) ∙ covers-swept c who turns (these who other same chain))

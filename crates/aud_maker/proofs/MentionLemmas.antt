@@ -1,5 +1,5 @@
 -- A set of strings that gains a text.
-use Rattle.std.proofs.Common.{◌≡◌, ◌<◌, ◌+◌, ℕ, Bool, true, false, cond, ◌||◌, List, [], ◌∷◌, ◌++◌, length, take, get_or, map, refl, sym, ap, ◌∙◌, bytes_eq}
+use Rattle.std.proofs.Common.{◌≡◌, ◌<◌, ◌+◌, ℕ, zero, suc, Bool, true, false, cond, ◌||◌, List, [], ◌∷◌, ◌++◌, length, take, get_or, map, Some, slice_get, refl, sym, ap, ◌∙◌, arith, bytes_eq}
 use Rattle.std.specs.List.{list_any, flat_map}
 use Rattle.std.specs.String.{string_bytes, string_eq}
 use Rattle.std.specs.declared.string.String.{String}
@@ -41,3 +41,8 @@ mentions-more of pids taps i tap h is =
     (flat_map_more of [] (take i taps) tap
     ∙ ap (λ t. flat_map of (take i taps ++ t ∷ [])) is
     ∙ ap (flat_map of) (sym (take_more taps i tap h)))
+
+pub tap_there : (taps : List Tap) (place : ℕ) → place < length taps → (tap : Tap) × (slice_get taps place ≡ Some tap)
+tap_there [] place h = absurd (omega arith)
+tap_there (tap ∷ taps) zero h = (tap, refl)
+tap_there (tap ∷ taps) (suc place) h = tap_there taps place (omega arith)

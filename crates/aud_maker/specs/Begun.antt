@@ -4,6 +4,7 @@ use Rattle.aud_tap.specs.declared.records.NodeRec.{NodeRec}
 use Rattle.aud_node.specs.Stream.{Text}
 use Rattle.aud_node.specs.Cluster.{Cluster, node_log}
 use Rattle.aud_node.specs.TurnRecords.{begins_turn, turn_range}
+use Rattle.aud_node.specs.OwnPlaces.{own_places}
 use Rattle.aud_rooms.specs.Turns.{Turn}
 
 -- the records with these numbers of the node at this place; else the other turn
@@ -21,10 +22,10 @@ abbrev pub AreBegun : Cluster → List ℕ → Text → ℕ → List Turn → Ty
 AreBegun c nodes pid k [] = Unit {0}
 AreBegun c nodes pid k (t ∷ later) = (turn_begun c nodes pid k ≡ Some t) × AreBegun c nodes pid (suc k) later
 
--- these are the turns from turn 0 on, up to the first that none of the nodes begins
-pub record AreAllBegun (c : Cluster) (nodes : List ℕ) (pid : Text) (turns : List Turn) : Type 0 where
-  pub begun : AreBegun c nodes pid 0 turns
-  pub no_more : turn_begun c nodes pid (length turns) ≡ None
+-- these are the session's turns from turn 0 on, up to the first that no node begins
+pub record AreAllBegun (c : Cluster) (pid : Text) (turns : List Turn) : Type 0 where
+  pub begun : AreBegun c (own_places c pid) pid 0 turns
+  pub no_more : turn_begun c (own_places c pid) pid (length turns) ≡ None
 
 -- no record of the log begins a turn of a greater number
 abbrev pub BeginsUpTo : List NodeRec → Text → ℕ → Type 0

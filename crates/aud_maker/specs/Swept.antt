@@ -18,7 +18,7 @@ abbrev pub turn_or : List Turn → Option ℕ → Option Turn → Option Turn
 turn_or turns None current = current
 turn_or turns (Some k) current = slice_get turns k
 
--- the turn that goes on behind the record, if there is one
+-- the turn that goes on after the record, if there is one
 abbrev pub turn_past : List Turn → Option NodeRec → Option Turn → Option Turn
 turn_past turns None current = current
 turn_past turns (Some rec) current = turn_or turns (number_begun rec) current

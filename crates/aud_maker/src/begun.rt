@@ -1,9 +1,9 @@
 //! The turns of a session that nodes' logs begin.
-ghost use Rattle.std.specs.Prelude.{◌≡◌, ◌≤◌, ℕ, List, IfOk, true, None};
-ghost use Rattle.std.specs.Option.{is_some};
+ghost use Rattle.std.specs.Prelude.{◌≡◌, ◌≤◌, ℕ, List, IfOk, MatchBool, true, None};
 ghost use Rattle.aud_node.specs.Cluster.{node_log};
 ghost use Rattle.aud_node.specs.TurnRecords.{begins_turn, turn_range};
 ghost use Rattle.aud_node.specs.OwnPlaces.{own_places};
+ghost use Rattle.aud_rooms.specs.Turns.{HasNoTurn};
 ghost use Rattle.aud_maker.specs.Begun.{placed_or, turn_begun, AreAllBegun, BeginsUpTo};
 
 use aud_node::{Logs, NodeLog};
@@ -19,7 +19,7 @@ pub(crate) fn begun_turns(
     pid: &str,
 ) -> Result<Vec<TurnPlace>, Memory>
     requires { nodes.now ≡ own_places logs.now pid.now }
-    ensures { IfOk result (λ turns. AreAllBegun logs.now nodes.now pid.now turns.items) }
+    ensures { IfOk result (λ turns. AreAllBegun logs.now pid.now turns.items) }
 {
     let last = last_begun(logs, nodes, pid);
     let mut turns = Vec::new(alloc);
@@ -36,7 +36,8 @@ pub(crate) fn begun_turns(
 
 /// Whether one of the nodes begins turn 0.
 pub(crate) fn is_opened(logs: &Logs<'_>, nodes: &[usize], pid: &str) -> bool
-    ensures { result ≡ is_some (turn_begun logs.now nodes.now pid.now 0) }
+    requires { nodes.now ≡ own_places logs.now pid.now }
+    ensures { MatchBool result (HasNoTurn logs.now pid.now 0 → ⊥) (HasNoTurn logs.now pid.now 0) }
 {
     turn_at(logs, nodes, pid, 0).is_some()
 }

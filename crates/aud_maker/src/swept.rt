@@ -29,7 +29,7 @@ fn is_node_swept(logs: &Logs<'_>, node: usize, pid: &str, turns: &[TurnPlace]) -
     };
     let mut current = None;
     for number in log.own(pid) {
-        current = turn_behind(log, *number, turns, current);
+        current = turn_after(log, *number, turns, current);
         if !stands_in(node, *number, &current) {
             return false;
         }
@@ -38,7 +38,7 @@ fn is_node_swept(logs: &Logs<'_>, node: usize, pid: &str, turns: &[TurnPlace]) -
 }
 
 /// The turn that goes on after the record with this number.
-fn turn_behind(
+fn turn_after(
     log: &NodeLog<'_>,
     number: usize,
     turns: &[TurnPlace],

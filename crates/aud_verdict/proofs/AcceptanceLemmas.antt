@@ -1,6 +1,6 @@
 -- What nothing refuses is accepted.
 use Rattle.std.proofs.Common.{◌≡◌, ◌≤◌, ℕ, suc, List, [], ◌∷◌, length, map, drop, slice_get, Option, Some, None, refl, sym, subst, ◌∙◌, inl, inr, nat_eq}
-use Rattle.std.proofs.lemmas.Bool.{true≢false}
+use Rattle.std.proofs.lemmas.Bool.{true≢false, true_from_ne_false}
 use Rattle.std.proofs.lemmas.Bool.Decides.{Decides-eqb}
 use Rattle.std.proofs.lemmas.Option.{same_Some, none-some}
 use Rattle.aud_node.specs.Stream.{Text}
@@ -17,7 +17,7 @@ use Rattle.aud_check.specs.NamedStays.{are_of_session}
 use Rattle.aud_check.specs.Shown.{who_of, slices_of}
 use Rattle.aud_check.specs.TurnRefusals.{Ends, HasCursors, IsTurnAccepted, end_of, is_begun_by}
 use Rattle.aud_check.specs.Refusals.{Place, AtTurn, AtWhole, Refuses, IsAccepted, case_of}
-use Rattle.aud_verdict.proofs.Decided.{Decided, decided, both, stable, not_false, at_most}
+use Rattle.aud_verdict.proofs.Decided.{Decided, decided, both, stable, at_most}
 use Rattle.aud_verdict.proofs.Cases.{all_received}
 use Rattle.aud_verdict.proofs.SpansDecided.{are_spans}
 
@@ -33,29 +33,32 @@ may_end c t later ByBreak = inl tt
 may_end c t later ByGone = none_later later
 may_end c t later ByLog = both (none_later later) (equal t.to (length (node_log c t.node)))
 
-ends : (c : Cluster) (pid : Text) (k : ℕ) (t : TurnSeen) (later : List TurnSeen) → Decided (Ends c pid k t later)
-ends c pid k t later = go (end_of pid k t.recs) refl
+-- an end that can't fail is there
+ends : (c : Cluster) (pid : Text) (k : ℕ) (t : TurnSeen) (later : List TurnSeen) → ((Ends c pid k t later → ⊥) → ⊥) → Ends c pid k t later
+ends c pid k t later h = go (end_of pid k t.recs) refl
   where
-    at : (end : End) → end_of pid k t.recs ≡ Some end → Decided (t.to ≤ length (log_named c t.node)) → Decided (MayEnd c (turn_at c t) (map (turn_at c) later) end) → Decided (Ends c pid k t later)
-    at end e (inl within) (inl may) = inl (record { within = within; end = end; is_end = e; may_end = may })
-    at end e (inl within) (inr not) =
-        inr (λ (is : Ends c pid k t later). not (subst (MayEnd c (turn_at c t) (map (turn_at c) later)) (same_Some is.end end (sym is.is_end ∙ e)) is.may_end))
-    at end e (inr not) may = inr (λ (is : Ends c pid k t later). not is.within)
-
-    go : (end : Option End) → end_of pid k t.recs ≡ end → Decided (Ends c pid k t later)
-    go None e = inr (λ (is : Ends c pid k t later). none-some is.end (sym e ∙ is.is_end))
-    go (Some end) e = at end e (at_most t.to (length (log_named c t.node))) (may_end c (turn_at c t) (map (turn_at c) later) end)
+    go : (end : Option End) → end_of pid k t.recs ≡ end → Ends c pid k t later
+    go None e = absurd (h (λ is. none-some is.end (sym e ∙ is.is_end)))
+    go (Some end) e =
+        record {
+          within = stable (at_most t.to (length (log_named c t.node))) (λ no. h (λ is. no is.within));
+          end = end;
+          is_end = e;
+          may_end =
+              stable (may_end c (turn_at c t) (map (turn_at c) later) end)
+              (λ no. h (λ is. no (subst (MayEnd c (turn_at c t) (map (turn_at c) later)) (same_Some is.end end (sym is.is_end ∙ e)) is.may_end)));
+        }
 
 module _ (c : Cluster) (cert : CertificateSeen) (free : (place : Place) (refusal : Refusal) → Refuses c cert place refusal → ⊥) where
   accepted_turn : (k : ℕ) (t : TurnSeen) → slice_get cert.turns k ≡ Some t → IsTurnAccepted c cert.pid k t (drop (suc k) cert.turns)
   accepted_turn k t at =
       let log = log_named c t.node in
       record {
-        begins = not_false (is_begun_by cert.pid k (slice_get t.recs 0)) (λ no. free (AtTurn k) NotItsTurn (t, at, no));
-        ends = stable (ends c cert.pid k t (drop (suc k) cert.turns)) (λ no. free (AtTurn k) NoEnd (t, at, no));
+        begins = true_from_ne_false (is_begun_by cert.pid k (slice_get t.recs 0)) (λ no. free (AtTurn k) NotItsTurn (t, at, no));
+        ends = ends c cert.pid k t (drop (suc k) cert.turns) (λ no. free (AtTurn k) NoEnd (t, at, no));
         cursors =
             record {
-              ordered = not_false (is_ordered c.stream log) (λ no. free (AtTurn k) Cursor (t, at, λ (has : HasCursors c.stream log t). true≢false (sym has.ordered ∙ no)));
+              ordered = true_from_ne_false (is_ordered c.stream log) (λ no. free (AtTurn k) Cursor (t, at, λ (has : HasCursors c.stream log t). true≢false (sym has.ordered ∙ no)));
               low_is = stable (equal t.low (cursor_at c.stream log (suc t.from))) (λ no. free (AtTurn k) Cursor (t, at, λ (has : HasCursors c.stream log t). no has.low_is));
               high_is = stable (equal t.high (cursor_at c.stream log t.to)) (λ no. free (AtTurn k) Cursor (t, at, λ (has : HasCursors c.stream log t). no has.high_is));
             };
@@ -66,6 +69,6 @@ module _ (c : Cluster) (cert : CertificateSeen) (free : (place : Place) (refusal
       record {
         are_turns = accepted_turn;
         are_spans = are_spans (rooms_by_turns c.stream (who_of cert) (slices_of c cert)) (first_low (slices_of c cert)) (greatest_high (slices_of c cert)) cert.spans (free AtWhole Span);
-        are_named = not_false (are_of_session (who_of cert) (case_of c cert).stays) (free AtWhole Names);
+        are_named = true_from_ne_false (are_of_session (who_of cert) (case_of c cert).stays) (free AtWhole Names);
         is_received = all_received (case_of c cert) (λ fault. free AtWhole (Received fault));
       }

@@ -37,45 +37,24 @@ use Rattle.aud_verdict.proofs.MadeLemmas.{there, who_is}
 
 -- ---- the four faults without a certificate
 
-early : (c : Cluster) (pid : Text) (fault : Fault) → maker.Holds c pid fault → rank fault < 4
-early c pid NoLog h = omega arith
-early c pid Chain h = omega arith
-early c pid Order h = omega arith
-early c pid Client h = omega arith
-early c pid _ h = absurd h
-
-same_rank : (fault : Fault) → rank fault < 4 → maker.rank fault ≡ rank fault
-same_rank NoLog h = refl
-same_rank Chain h = refl
-same_rank Order h = refl
-same_rank Client h = refl
-same_rank _ h = absurd (omega arith)
-
-known : (c : Cluster) (pid : Text) (fault : Fault) → rank fault < 4 → Holds c pid fault → maker.Holds c pid fault
-known c pid NoLog h holds = holds
-known c pid Chain h holds = holds
-known c pid Order h holds = holds
-known c pid Client h holds = holds
-known c pid _ h holds = absurd (omega arith)
-
-found : (c : Cluster) (pid : Text) (fault : Fault) → maker.Holds c pid fault → Holds c pid fault
-found c pid NoLog h = h
-found c pid Chain h = h
-found c pid Order h = h
-found c pid Client h = h
+found : (c : Cluster) (pid : Text) (fault : Fault) → maker.Holds c pid fault → (rank fault < 4) × (maker.rank fault ≡ rank fault) × Holds c pid fault
+found c pid NoLog h = (omega arith, refl, h)
+found c pid Chain h = (omega arith, refl, h)
+found c pid Order h = (omega arith, refl, h)
+found c pid Client h = (omega arith, refl, h)
 found c pid _ h = absurd h
+
+known : (c : Cluster) (pid : Text) (fault : Fault) → rank fault < 4 → Holds c pid fault → maker.Holds c pid fault × (maker.rank fault ≡ rank fault)
+known c pid NoLog h holds = (holds, refl)
+known c pid Chain h holds = (holds, refl)
+known c pid Order h holds = (holds, refl)
+known c pid Client h holds = (holds, refl)
+known c pid _ h holds = absurd (omega arith)
 
 pub not_made : (c : Cluster) (pid : Text) (fault : Fault) → maker.IsFirst c pid fault → IsFirst c pid fault
 not_made c pid fault is =
-    let front = early c pid fault is.holds in
-    let own = same_rank fault front in
-    record {
-      holds = found c pid fault is.holds;
-      none_before = λ other less h.
-          (let low : rank other < 4 = omega arith in
-          let its = same_rank other low in
-          is.none_before other (omega arith) (known c pid other low h));
-    }
+    let (front, own, holds) = found c pid fault is.holds in
+    record { holds = holds; none_before = λ other less h. (let (held, its) = known c pid other (omega arith) h in is.none_before other (omega arith) held) }
 
 -- ---- a made certificate
 
@@ -176,7 +155,7 @@ module _ (c : Cluster) (pid : Text) (cert : CertificateSeen) (once : AreNamedOnc
   none_early fault front h =
       none_holds c pid logged (λ no_chain. no_chain made.who made.turns made.names made.chain)
       (not_unordered c made.who pid made.turns made.names made.chain made.ordered) (ap (λ (ns : List ℕ). length ns) made.client.only) fault
-      (known c pid fault front h)
+      (known c pid fault front h).0
 
   -- ---- accepted
 

@@ -3,6 +3,7 @@ use Rattle.std.proofs.Common.{◌≡◌, ℕ, List, [], ◌∷◌, Option, Some,
 use Rattle.std.specs.Option.{IsSome}
 use Rattle.std.specs.Str.{bytes_eq}
 use Rattle.std.specs.Cmp.Lexicographic.{pointwise}
+use Rattle.std.proofs.lemmas.Bool.{false_from_ne_true}
 use Rattle.std.proofs.lemmas.Slice.Eq.{bytes_eq-Decides, slice_eq-Decides}
 use Rattle.aud_tap.specs.declared.records.StreamRec.{StreamRec}
 use Rattle.aud_tap.specs.declared.records.StreamRec.TheVariants.{Ev, Other}
@@ -14,7 +15,7 @@ use Rattle.aud_check.specs.Frames.{IsOf, IsEntry, AreEntries, IsFirstAltered, of
 use Rattle.aud_check.specs.Faults.{Case, HasFault, IsReceived, positions_in}
 use Rattle.aud_check.proofs.Agreed.{mismatch-none}
 use Rattle.aud_check.proofs.Mismatched.{none_mismatched}
-use Rattle.aud_verdict.proofs.Decided.{Decided, decided, both, not_true}
+use Rattle.aud_verdict.proofs.Decided.{Decided, decided, both}
 
 is_of : (frame : FrameSeen) (at : Option StreamRec) → Decided (IsOf frame at)
 is_of frame None = inr (λ h. h)
@@ -53,7 +54,7 @@ module _ (case : Case) (no_fault : (fault : Fault) → HasFault case fault → �
   all_received =
       record {
         decodes = none_bad case.told.bad (no_fault Frame);
-        has_no_orphan = not_true case.told.orphan (no_fault Orphan);
+        has_no_orphan = false_from_ne_true case.told.orphan (no_fault Orphan);
         are_entries = all_entries (entries case.stream case.frames);
         is_prefix = (mismatch-none (positions_in case) case.due).0 (none_mismatched case no_fault);
         has_no_window = no_window (wrong_window case.stream [] case.stays) refl;

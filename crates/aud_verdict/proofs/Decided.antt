@@ -1,5 +1,5 @@
 -- What is decided, one way or the other.
-use Rattle.std.proofs.Common.{◌≡◌, ◌<◌, ◌≤◌, ℕ, Bool, true, false, refl, ◌⊎◌, inl, inr, arith}
+use Rattle.std.proofs.Common.{◌<◌, ◌≤◌, ℕ, Bool, true, false, refl, ◌⊎◌, inl, inr, arith}
 use Rattle.std.specs.Bool.{Decides}
 use Rattle.std.proofs.lemmas.Bool.{false≢true, cases_lt}
 
@@ -30,24 +30,8 @@ pub stable : {P : Type 0} → Decided P → ((P → ⊥) → ⊥) → P
 stable (inl p) h = p
 stable (inr not) h = absurd (h not)
 
-pub not_false : (b : Bool) → (b ≡ false → ⊥) → b ≡ true
-not_false true h = refl
-not_false false h = absurd (h refl)
-
-pub not_true : (b : Bool) → (b ≡ true → ⊥) → b ≡ false
-not_true false h = refl
-not_true true h = absurd (h refl)
-
 pub less : (m n : ℕ) → Decided (m < n)
-less m n = go (cases_lt m n)
-  where
-    go : (m < n) ⊎ (n ≤ m) → Decided (m < n)
-    go (inl h) = inl h
-    go (inr h) = inr (λ (g : m < n). omega arith)
+less m n = elim (cases_lt m n) [ inl h ↦ inl h | inr h ↦ inr (λ (g : m < n). omega arith) ]
 
 pub at_most : (m n : ℕ) → Decided (m ≤ n)
-at_most m n = go (cases_lt n m)
-  where
-    go : (n < m) ⊎ (m ≤ n) → Decided (m ≤ n)
-    go (inl h) = inr (λ (g : m ≤ n). omega arith)
-    go (inr h) = inl h
+at_most m n = elim (cases_lt n m) [ inl h ↦ inr (λ (g : m ≤ n). omega arith) | inr h ↦ inl h ]

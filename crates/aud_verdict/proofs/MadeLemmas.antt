@@ -18,7 +18,7 @@ use Rattle.aud_maker.specs.Made.{name_at, turn_seen, is_turn_ordered, IsMade}
 use Rattle.aud_maker.proofs.Turns.{beginning-begins}
 use Rattle.aud_maker.proofs.Over.{turns-there}
 use Rattle.aud_check.specs.declared.refusal.Refusal.{Refusal}
-use Rattle.aud_check.specs.declared.refusal.Refusal.TheVariants.{NotItsTurn, EndInside, NoEnd, Cursor, Span, Names, Received, Memory}
+use Rattle.aud_check.specs.declared.refusal.Refusal.TheVariants.{Span, Names, Received, Memory}
 use Rattle.aud_check.specs.Shown.{opened_sid, opened_nsp, who_of, slices_of, turns_of, first_record}
 use Rattle.aud_check.specs.TurnRefusals.{IsTurnAccepted, AreTurnsAccepted}
 use Rattle.aud_check.specs.Refusals.{RefusesWhole, Refuses, Place, AtTurn, AtWhole, IsFirstRefusal}
@@ -102,11 +102,7 @@ module _ (c : Cluster) (pid : Text) (cert : CertificateSeen) (once : AreNamedOnc
   refused_whole Span refuses = absurd (refuses spans_accepted)
   refused_whole Names refuses = refl
   refused_whole (Received fault) refuses = refl
-  refused_whole NotItsTurn refuses = absurd refuses
-  refused_whole EndInside refuses = absurd refuses
-  refused_whole NoEnd refuses = absurd refuses
-  refused_whole Cursor refuses = absurd refuses
-  refused_whole Memory refuses = absurd refuses
+  refused_whole _ refuses = absurd refuses
 
   -- it is refused for its names or for what the client received alone
   pub refused_for : (place : Place) (refusal : Refusal) → Refuses c cert place refusal → IsSome (fault_found refusal)
@@ -117,11 +113,7 @@ module _ (c : Cluster) (pid : Text) (cert : CertificateSeen) (once : AreNamedOnc
 pub no_other : (c : Cluster) (cert : CertificateSeen) (refusal : Refusal) → IsFirstRefusal c cert refusal
     → ((place : Place) → Refuses c cert place refusal → IsSome (fault_found refusal))
     → (refusal ≡ Names → ⊥) → ((fault : Fault) → refusal ≡ Received fault → ⊥) → (refusal ≡ Memory → ⊥) → ⊥
-no_other c cert NotItsTurn first so no_names no_received no_memory = false≢true (so first.place first.refuses)
-no_other c cert EndInside first so no_names no_received no_memory = false≢true (so first.place first.refuses)
-no_other c cert NoEnd first so no_names no_received no_memory = false≢true (so first.place first.refuses)
-no_other c cert Cursor first so no_names no_received no_memory = false≢true (so first.place first.refuses)
-no_other c cert Span first so no_names no_received no_memory = false≢true (so first.place first.refuses)
 no_other c cert Names first so no_names no_received no_memory = no_names refl
 no_other c cert (Received fault) first so no_names no_received no_memory = no_received fault refl
 no_other c cert Memory first so no_names no_received no_memory = no_memory refl
+no_other c cert _ first so no_names no_received no_memory = false≢true (so first.place first.refuses)

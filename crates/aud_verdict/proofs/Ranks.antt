@@ -9,6 +9,7 @@ use Rattle.aud_client.specs.Told.{FrameSeen}
 use Rattle.aud_cert.specs.declared.fault.Fault.{Fault}
 use Rattle.aud_cert.specs.declared.fault.Fault.TheVariants.{NoLog, Chain, Order, Client, Names, Frame, Orphan, Content, Extra, Doubled, Swapped, Lost, Window, Tail}
 use Rattle.aud_check.specs.Frames.{AreEntries, IsEntry, IsFirstAltered, offset_at}
+use Rattle.aud_check.specs.Faults.{mismatch_fault}
 use Rattle.aud_verdict.specs.declared.verdict.Verdict.{Verdict}
 use Rattle.aud_verdict.specs.declared.verdict.Verdict.TheVariants.{Yes, No}
 use Rattle.aud_verdict.specs.Session.{Session, IsSession, case_of, received, due_to}
@@ -39,19 +40,7 @@ by_rank off n =
 
 stands : (fault : Fault) → slice_get (by_rank (about fault) (counted fault)) (rank fault) ≡ Some fault
 stands NoLog = refl
-stands Chain = refl
-stands Order = refl
-stands Client = refl
-stands Names = refl
-stands Frame = refl
-stands Orphan = refl
-stands (Content off) = refl
-stands (Extra off) = refl
-stands (Doubled off) = refl
-stands (Swapped off) = refl
-stands (Lost off) = refl
-stands (Window c) = refl
-stands (Tail n) = refl
+stands _ = refl
 
 -- the other fault is the one of this rank
 other_is : (fault other : Fault) → rank fault ≡ rank other → slice_get (by_rank (about other) (counted other)) (rank fault) ≡ Some other
@@ -80,35 +69,28 @@ module _ (c : Cluster) (pid : Text) where
   again : (s : Session) → IsSession c pid s → (named other : Fault) → 4 ≤ rank named → named ≡ other → Holds c pid other → HoldsOf c s named
   again s is named other late e h = at_session c pid s is named late (subst (Holds c pid) (sym e) h)
 
+  -- a fault that is about the first place where what was received isn't what was due
+  same_mismatch : (s : Session) → IsSession c pid s → (fault named other : Fault) → mismatch_fault (case_of c s) ≡ Some fault → 4 ≤ rank named → (HoldsOf c s named → mismatch_fault (case_of c s) ≡ Some named)
+      → Some named ≡ Some other → Holds c pid other → fault ≡ other
+  same_mismatch s is fault named other h late so e too =
+      let kind : named ≡ other = same_Some named other e in
+      same_Some fault named (sym h ∙ so (again s is named other late kind too)) ∙ kind
+
   same_fault : (fault other : Fault) → Holds c pid fault → Holds c pid other → rank fault ≡ rank other → fault ≡ other
-  same_fault NoLog other h too e = same_Some NoLog other (other_is NoLog other e)
-  same_fault Chain other h too e = same_Some Chain other (other_is Chain other e)
-  same_fault Order other h too e = same_Some Order other (other_is Order other e)
-  same_fault Client other h too e = same_Some Client other (other_is Client other e)
-  same_fault Names other h too e = same_Some Names other (other_is Names other e)
-  same_fault Frame other h too e = same_Some Frame other (other_is Frame other e)
-  same_fault Orphan other h too e = same_Some Orphan other (other_is Orphan other e)
   same_fault (Content off) other (s, is, (altered, first, named)) too e =
       let kind : Content (about other) ≡ other = same_Some (Content (about other)) other (other_is (Content off) other e) in
       let (same, first_too, so_named) = again s is (Content (about other)) other (omega arith) kind too in
       let one : altered ≡ same = same_altered c.stream (case_of c s).frames altered same first first_too in
       ap Content (named ∙ ap (λ (frame : FrameSeen). offset_at c.stream frame.position) one ∙ sym so_named) ∙ kind
-  same_fault (Extra off) other (s, is, h) too e =
-      let kind : Extra (about other) ≡ other = same_Some (Extra (about other)) other (other_is (Extra off) other e) in
-      same_Some (Extra off) (Extra (about other)) (sym h ∙ again s is (Extra (about other)) other (omega arith) kind too) ∙ kind
-  same_fault (Doubled off) other (s, is, h) too e =
-      let kind : Doubled (about other) ≡ other = same_Some (Doubled (about other)) other (other_is (Doubled off) other e) in
-      same_Some (Doubled off) (Doubled (about other)) (sym h ∙ again s is (Doubled (about other)) other (omega arith) kind too) ∙ kind
-  same_fault (Swapped off) other (s, is, h) too e =
-      let kind : Swapped (about other) ≡ other = same_Some (Swapped (about other)) other (other_is (Swapped off) other e) in
-      same_Some (Swapped off) (Swapped (about other)) (sym h ∙ again s is (Swapped (about other)) other (omega arith) kind too) ∙ kind
-  same_fault (Lost off) other (s, is, h) too e =
-      let kind : Lost (about other) ≡ other = same_Some (Lost (about other)) other (other_is (Lost off) other e) in
-      same_Some (Lost off) (Lost (about other)) (sym h ∙ again s is (Lost (about other)) other (omega arith) kind too) ∙ kind
+  same_fault (Extra off) other (s, is, h) too e = same_mismatch s is (Extra off) (Extra (about other)) other h (omega arith) (λ m. m) (other_is (Extra off) other e) too
+  same_fault (Doubled off) other (s, is, h) too e = same_mismatch s is (Doubled off) (Doubled (about other)) other h (omega arith) (λ m. m) (other_is (Doubled off) other e) too
+  same_fault (Swapped off) other (s, is, h) too e = same_mismatch s is (Swapped off) (Swapped (about other)) other h (omega arith) (λ m. m) (other_is (Swapped off) other e) too
+  same_fault (Lost off) other (s, is, h) too e = same_mismatch s is (Lost off) (Lost (about other)) other h (omega arith) (λ m. m) (other_is (Lost off) other e) too
   same_fault (Window n) other (s, is, h) too e =
       let kind : Window (counted other) ≡ other = same_Some (Window (counted other)) other (other_is (Window n) other e) in
       ap Window (same_Some n (counted other) (sym h ∙ again s is (Window (counted other)) other (omega arith) kind too)) ∙ kind
   same_fault (Tail n) other (s, is, h) too e = absurd h
+  same_fault fault other h too e = same_Some fault other (other_is fault other e)
 
   pub one_first : (fault other : Fault) → IsFirst c pid fault → IsFirst c pid other → fault ≡ other
   one_first fault other is too = go (cases_lt (rank fault) (rank other)) (cases_lt (rank other) (rank fault))

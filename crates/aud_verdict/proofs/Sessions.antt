@@ -1,7 +1,7 @@
 -- A pid has one session at most, and its client's tap names it.
 use Rattle.std.proofs.Common.{◌≡◌, ◌≤◌, ℕ, suc, Bool, true, false, ◌&&◌, ◌||◌, not, cond, List, [], ◌∷◌, length, Option, Some, None, refl, sym, ap, subst, ◌∙◌, arith}
 use Rattle.std.specs.List.{Contains, filter, list_any, list_all}
-use Rattle.std.proofs.lemmas.Bool.{false≢true, true≢false}
+use Rattle.std.proofs.lemmas.Bool.{false≢true, and_right}
 use Rattle.std.proofs.lemmas.Option.{some_pair_parts}
 use Rattle.std.proofs.lemmas.List.Elements.{All-head, All-same, filter_passes}
 use Rattle.std.proofs.lemmas.List.Folds.{list_all_at}
@@ -18,7 +18,8 @@ use Rattle.aud_client.proofs.Named.{named_by_replies}
 use Rattle.aud_cert.specs.declared.fault.Fault.{Fault}
 use Rattle.aud_cert.specs.declared.fault.Fault.TheVariants.{NoLog, Chain, Order, Client}
 use Rattle.aud_maker.proofs.EndedLemmas.{opening-names}
-use Rattle.aud_maker.proofs.Found.{one_chain}
+use Rattle.aud_maker.proofs.BegunLemmas.{one_chain}
+use Rattle.aud_maker.proofs.FirstFault.{one_fails}
 use Rattle.aud_check.specs.NamedStays.{is_of_session, is_empty, are_of_session}
 use Rattle.aud_check.specs.Shown.{recs_or_none}
 use Rattle.aud_verdict.specs.Session.{Session, IsSession, client_log, told, own_stays}
@@ -96,26 +97,12 @@ module _ (c : Cluster) (pid : Text) (s : Session) (is : IsSession c pid s) where
   some_stay : is_empty (own_stays c s) ≡ false
   some_stay = kept (names s.who.pid) (told c s).stays any_stay
 
-  one_fails : (test : StaySeen → Bool) (stays : List StaySeen) → list_all test stays ≡ false → (stay : StaySeen) × Contains stays stay × (test stay ≡ false)
-  one_fails test [] e = absurd (true≢false e)
-  one_fails test (stay ∷ stays) e = go (test stay) refl e (one_fails test stays)
-    where
-      go : (b : Bool) → test stay ≡ b → (b && list_all test stays) ≡ false → (list_all test stays ≡ false → (other : StaySeen) × Contains stays other × (test other ≡ false))
-          → (other : StaySeen) × Contains (stay ∷ stays) other × (test other ≡ false)
-      go false fails e ih = (stay, (0, omega arith, refl), fails)
-      go true passes e ih = (let (other, (k, h, at), fails) = ih e in (other, (suc k, omega (arith, h), at), fails))
-
   -- where they aren't all of the session, one of them has other names
   pub other_names : are_of_session s.who (own_stays c s) ≡ false → HasOtherNames c s
   other_names e =
       one_fails (is_of_session s.who) (own_stays c s)
       (sym (ap (λ b. not b && list_all (is_of_session s.who) (own_stays c s)) some_stay) ∙ e)
 
-  and_false : (b : Bool) → (b && false) ≡ false
-  and_false true = refl
-  and_false false = refl
-
   pub not_of_session : HasOtherNames c s → are_of_session s.who (own_stays c s) ≡ false
   not_of_session (stay, (k, h, at), fails) =
-      ap (λ b. not (is_empty (own_stays c s)) && b) (list_all_at (is_of_session s.who) (own_stays c s) k stay h (ap (is_of_session s.who) at ∙ fails))
-      ∙ and_false (not (is_empty (own_stays c s)))
+      and_right _ _ (list_all_at (is_of_session s.who) (own_stays c s) k stay h (ap (is_of_session s.who) at ∙ fails))

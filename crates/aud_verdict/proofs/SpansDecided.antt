@@ -1,5 +1,5 @@
 -- Whether spans are those of given rooms can't fail without being so.
-use Rattle.std.proofs.Common.{◌≡◌, ℕ, Bool, true, ◌&&◌, List, [], ◌∷◌, refl, sym, ap, ◌∙◌, inl, inr, nat_eq}
+use Rattle.std.proofs.Common.{◌≡◌, ℕ, Bool, ◌&&◌, List, [], ◌∷◌, refl, sym, ap, ◌∙◌, inl, inr, nat_eq}
 use Rattle.std.specs.Bool.{Decides}
 use Rattle.std.specs.List.{Contains}
 use Rattle.std.specs.Ordering.{nat_cmp}
@@ -9,13 +9,14 @@ use Rattle.std.specs.Str.{bytes_eq}
 use Rattle.std.specs.Cmp.Lexicographic.{slice_cmp}
 use Rattle.std.specs.declared.cmp.Ordering.{Ordering}
 use Rattle.std.specs.declared.cmp.Ordering.TheVariants.{Less, Equal, Greater}
-use Rattle.std.proofs.lemmas.Bool.{true≢false, false≢true, and_parts, eq-eqb, eqb-true}
+use Rattle.std.proofs.lemmas.Bool.{true≢false, false≢true, true_from_ne_false, false_from_ne_true}
+use Rattle.std.proofs.lemmas.Bool.Decides.{Decides-and, Decides-eqb, Decides-like}
 use Rattle.std.proofs.lemmas.Map.Made.{is_member-Decides}
 use Rattle.std.proofs.lemmas.Slice.Eq.{bytes_eq-Decides}
 use Rattle.aud_node.specs.Stream.{Text}
 use Rattle.aud_rooms.specs.Rooms.{Rooms}
 use Rattle.aud_rooms.specs.Spans.{RoomSpan, IsMaximalInterval, ComesBefore, ComesBeforeAll, AreInOrder, AreSpans}
-use Rattle.aud_verdict.proofs.Decided.{Decided, decided, both, either, stable, not_false, not_true, less, at_most}
+use Rattle.aud_verdict.proofs.Decided.{Decided, decided, both, either, stable, less, at_most}
 
 abbrev span_with : Text → ℕ → ℕ → RoomSpan
 span_with room first last = record { room = room; first = first; last = last }
@@ -23,22 +24,13 @@ span_with room first last = record { room = room; first = first; last = last }
 abbrev same_span : RoomSpan → RoomSpan → Bool
 same_span a b = bytes_eq a.room b.room && (nat_eq a.first b.first && nat_eq a.last b.last)
 
-same_span-itself : (a : RoomSpan) → same_span a a ≡ true
-same_span-itself a =
-    ap (λ x. x && (nat_eq a.first a.first && nat_eq a.last a.last)) ((bytes_eq-Decides a.room a.room).1 refl)
-    ∙ ap (λ x. x && nat_eq a.last a.last) (eq-eqb a.first a.first refl)
-    ∙ eq-eqb a.last a.last refl
-
 same_span-Decides : (a b : RoomSpan) → Decides (same_span a b) (a ≡ b)
-same_span-Decides a b = (there, λ e. ap (λ (s : RoomSpan). same_span s b) e ∙ same_span-itself b)
+same_span-Decides a b =
+    Decides-like (same_span a b) there (λ e. (ap (λ (s : RoomSpan). s.room) e, ap (λ (s : RoomSpan). s.first) e, ap (λ (s : RoomSpan). s.last) e))
+    (Decides-and _ _ (bytes_eq-Decides a.room b.room) (Decides-and _ _ (Decides-eqb a.first b.first) (Decides-eqb a.last b.last)))
   where
-    there : same_span a b ≡ true → a ≡ b
-    there e =
-        let (room, ends) = and_parts (bytes_eq a.room b.room) (nat_eq a.first b.first && nat_eq a.last b.last) e in
-        let (first, last) = and_parts (nat_eq a.first b.first) (nat_eq a.last b.last) ends in
-        ap (λ x. span_with x a.first a.last) ((bytes_eq-Decides a.room b.room).0 room)
-        ∙ ap (λ x. span_with b.room x a.last) (eqb-true a.first b.first first)
-        ∙ ap (span_with b.room b.first) (eqb-true a.last b.last last)
+    there : (a.room ≡ b.room) × (a.first ≡ b.first) × (a.last ≡ b.last) → a ≡ b
+    there (room, first, last) = ap (λ x. span_with x a.first a.last) room ∙ ap (λ x. span_with b.room x a.last) first ∙ ap (span_with b.room b.first) last
 
 contains : (spans : List RoomSpan) (s : RoomSpan) → Decided (Contains spans s)
 contains spans s = decided (is_member same_span spans s) (is_member-Decides same_span-Decides spans s)
@@ -67,9 +59,9 @@ maximal test low high first last h =
       past_low = stable (less low first) (λ not. h (λ is. not is.past_low));
       some = stable (at_most first last) (λ not. h (λ is. not is.some));
       to_high = stable (at_most last high) (λ not. h (λ is. not is.to_high));
-      held = λ p from to. not_false (test p) (λ no. h (λ is. true≢false (sym (is.held p from to) ∙ no)));
-      not_before = λ p past next. not_true (test p) (λ yes. h (λ is. false≢true (sym (is.not_before p past next) ∙ yes)));
-      not_behind = λ p within next. not_true (test p) (λ yes. h (λ is. false≢true (sym (is.not_behind p within next) ∙ yes)));
+      held = λ p from to. true_from_ne_false (test p) (λ no. h (λ is. true≢false (sym (is.held p from to) ∙ no)));
+      not_before = λ p past next. false_from_ne_true (test p) (λ yes. h (λ is. false≢true (sym (is.not_before p past next) ∙ yes)));
+      not_behind = λ p within next. false_from_ne_true (test p) (λ yes. h (λ is. false≢true (sym (is.not_behind p within next) ∙ yes)));
     }
 
 pub are_spans : (rooms_at : ℕ → Rooms) (low high : ℕ) (spans : List RoomSpan) → ((AreSpans rooms_at low high spans → ⊥) → ⊥) → AreSpans rooms_at low high spans

@@ -1,4 +1,4 @@
-use Rattle.std.proofs.Common.{◌≡◌, ◌+◌, ◌∙◌, Some, List, length, sym, ap, subst, arith}
+use Rattle.std.proofs.Common.{◌≡◌, ◌+◌, ◌∙◌, ℕ, Some, List, length, sym, ap, subst, arith}
 use Rattle.std.proofs.lemmas.List.{length_push}
 use Rattle.aud_rooms.specs.Turns.{Turn}
 use Rattle.aud_maker.specs.Begun.{AreBegun, turn_begun}
@@ -23,9 +23,10 @@ loop-number-preserved c =
 pub returns : goal.returns
 returns c =
     let logs = c.args.logs.now in
+    let pid = c.args.pid.now in
     let turns = c.loop-number.turns.items in
     let count : length turns ≡ c.loop-number.number = c.loop-number.invariant.count in
     record {
-      begun = c.loop-number.invariant.begun;
-      no_more = none_past logs c.args.nodes.now c.args.pid.now c.last_begun-last.result (length turns) c.last_begun-last.ensures (omega (arith, count, c.from-number-end.ensures, c.loop-number-test.false));
+      begun = subst (λ (ns : List ℕ). AreBegun logs ns pid 0 turns) c.requires c.loop-number.invariant.begun;
+      no_more = none_past logs pid c.last_begun-last.result (length turns) c.last_begun-last.ensures (omega (arith, count, c.from-number-end.ensures, c.loop-number-test.false));
     }
