@@ -1,5 +1,5 @@
 -- Texts that are tested for being the same. The other way round, and other tests of lists, are std's.
-use Rattle.std.proofs.Common.{◌≡◌, ℕ, Bool, true, false, List, refl, sym, ap, ◌∙◌, ◌⊎◌, inl, inr, true≢false, bytes_eq}
+use Rattle.std.proofs.Common.{◌≡◌, ℕ, true, false, List, refl, sym, ap, ◌∙◌, ◌⊎◌, inl, inr, true≢false, bytes_eq}
 use Rattle.std.specs.Cmp.Lexicographic.{bytes_decides}
 
 -- a test of two texts that succeeded: the texts are the same

@@ -29,8 +29,8 @@ returns-in_err-packet c =
     let done = map view c.loop-piece.packets.items in
     let next = after_some {t = c.next.new.self} c.in-Some.piece kept.0 kept.1 c.in-Some.ensures.steps in
     rw (p.1, p.2) (λ other.
-        kept.2 ∙ ap (λ texts. behind done (packets_of_texts texts)) next.1
-        ∙ behind-err done c.in-Some.piece.now next.0 c.in_err-packet.field-0.0 (c.in_err-packet.ensures.packet other))
+    kept.2 ∙ ap (λ texts. behind done (packets_of_texts texts)) next.1
+    ∙ behind-err done c.in-Some.piece.now next.0 c.in_err-packet.field-0.0 (c.in_err-packet.ensures.packet other))
 
 pub returns : goal.returns
 returns c =
