@@ -1,4 +1,4 @@
-use Rattle.std.proofs.Common.{◌≡◌, ◌∷◌, ◌++◌, [], ◌∙◌}
+use Rattle.std.proofs.Common.{◌∙◌}
 use Rattle.serde_json.specs.Find.{as_str}
 use Rattle.aud_reader.proofs.Lists.{each-some, need-ok}
 use Rattle.aud_reader.proofs.Grown.{grown}
