@@ -7,3 +7,7 @@ use Rattle.aud_reader.specs.Changes.{Becomes}
 pub on-grown : {X P : Type 0} {new grown : X} (result : Result (Unit {0}) LineFault) → Becomes result new (Ok grown) → (new ≡ grown → P) → OnOk result P
 on-grown (Ok done) becomes follows = follows cc
 on-grown (Err e) becomes follows = tt
+
+-- the new list, where it grew
+pub grown : {X : Type 0} (new longer : X) → Becomes (Ok tt) new (Ok longer) → longer ≡ new
+grown new longer becomes = cc

@@ -17,18 +17,18 @@ use Rattle.aud_reader.specs.declared.fault.LineFault.TheVariants as fault
 use Rattle.aud_tap.specs.declared.records.TapKind.{TapKind}
 use Rattle.aud_tap.specs.declared.records.TapKind.TheVariants as kind
 use Rattle.aud_tap.specs.declared.taps.Records.{Records}
-use Rattle.aud_tap.specs.declared.taps.Records.TheVariants.{Stream, Node, Client}
 use Rattle.aud_tap.specs.declared.taps.Tap.{Tap}
 use Rattle.aud_reader.specs.Steps.{◌>>=◌, Fails}
 use Rattle.aud_tap.specs.Forms.{is_text}
 use Rattle.aud_reader.specs.Header.{header_of}
 use Rattle.aud_reader.specs.Record.{opened_line, kind_of}
-use Rattle.aud_reader.specs.Bundle.{with_entry, with_node_record, with_client_record, with_record, tap_named, with_records, kind_of_tap, taps_on, same_kind, pids_in, pids_of, no_records, another_tap, with_header, with_later, with_kind, with_named, with_line}
+use Rattle.aud_reader.specs.Bundle.{with_record, tap_named, with_records, kind_of_tap, taps_on, same_kind, pids_in, pids_of, no_records, another_tap, with_header, with_later, with_kind, with_named, with_line}
 use Rattle.aud_reader.specs.Kept.{place_of, taps_so_far, Counted, Keeps}
 use Rattle.aud_reader.specs.Changes.{Becomes}
 use Rattle.aud_reader.specs.Texts.{HasPids}
 use Rattle.aud_reader.specs.declared.bundle.open_taps.OpenTaps.{OpenTaps}
 use Rattle.std.specs.Result.{OnOk}
+use Rattle.aud_reader.proofs.LineSteps.{one_more}
 
 -- ---- the place of a tap
 
@@ -126,21 +126,7 @@ around (u ∷ us) (suc i) t short at =
 
 -- one more record leaves the kind of a tap
 kind-stays : (pids : List (List ℕ)) (old new : Records) (word : List ℕ) (d : Data) → with_record pids old word d ≡ Ok new → kind_of_tap new ≡ kind_of_tap old
-kind-stays pids (Stream entries) new word d e =
-    elim (with_entry entries word d) as (λ r. (r >>= (λ more. Ok (Stream more))) ≡ Ok new → kind_of_tap new ≡ kind.Stream) [
-      | Ok more ↦ λ h. let is : new ≡ Stream more = cc in rw is refl
-      | Err code ↦ λ h. cc
-    ] e
-kind-stays pids (Node records) new word d e =
-    elim (with_node_record pids records word d) as (λ r. (r >>= (λ more. Ok (Node more))) ≡ Ok new → kind_of_tap new ≡ kind.Node) [
-      | Ok more ↦ λ h. let is : new ≡ Node more = cc in rw is refl
-      | Err code ↦ λ h. cc
-    ] e
-kind-stays pids (Client records) new word d e =
-    elim (with_client_record records word d) as (λ r. (r >>= (λ more. Ok (Client more))) ≡ Ok new → kind_of_tap new ≡ kind.Client) [
-      | Ok more ↦ λ h. let is : new ≡ Client more = cc in rw is refl
-      | Err code ↦ λ h. cc
-    ] e
+kind-stays pids old new word d e = (one_more pids old new word d e).same
 
 with_later-goes : (ts : List Tap) (name : List ℕ) (records : Records) (word : List ℕ) (d : Data) → is_text word (codes "tap") ≡ false
     → with_later ts name records word d ≡ (with_record (pids_of ts) records word d >>= (λ more. Ok (with_records name more ts)))

@@ -21,7 +21,7 @@ use Rattle.aud_tap.specs.declared.taps.Tap.{Tap}
 use Rattle.aud_tap.specs.Forms.{is_text}
 use Rattle.aud_reader.specs.Steps.{◌>>=◌, need, guard}
 use Rattle.aud_reader.specs.Header.{header_of}
-use Rattle.aud_reader.specs.StreamRecord.{stream_record_of, event_of, other_of}
+use Rattle.aud_reader.specs.StreamRecord.{stream_record_of}
 use Rattle.aud_reader.specs.NodeRecord.{node_record_of}
 use Rattle.aud_reader.specs.ClientRecord.{client_record_of}
 use Rattle.aud_reader.specs.Record.{opened_line, kind_of, tap_of_kind, record_in, record_of, value_record, line_record}

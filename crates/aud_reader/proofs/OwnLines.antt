@@ -1,7 +1,7 @@
 -- A tap's records are those of its own lines.
-use Rattle.std.proofs.Common.{◌≡◌, ◌≢◌, ◌+◌, count_by, ℕ, suc, List, [], ◌∷◌, ◌++◌, Bool, true, false, cond, ◌⊎◌, inl, inr, Option, Some, None, option_to_list, Result, Ok, Err, refl, sym, ap, ◌∙◌, append_assoc, append-nil}
+use Rattle.std.proofs.Common.{◌≡◌, ◌≢◌, ◌+◌, count_by, ℕ, List, [], ◌∷◌, ◌++◌, true, false, cond, ◌⊎◌, inl, inr, Option, Some, None, option_to_list, Ok, refl, sym, ap, ◌∙◌, append_assoc, append-nil}
 use Rattle.std.specs.List.{cons_option}
-use Rattle.std.specs.List.{All, AllByRecursion, IsDistinct}
+use Rattle.std.specs.List.{AllByRecursion, IsDistinct}
 use Rattle.std.specs.Option.{option_or, option_map_or}
 use Rattle.std.proofs.lemmas.List.Elements.{All-nil, All-cons}
 use Rattle.std.proofs.lemmas.List.Sums.{sum_by-append}
@@ -21,7 +21,7 @@ use Rattle.aud_reader.specs.Bundle.{tap_named, kind_of_tap, with_records, no_rec
 use Rattle.aud_reader.specs.OwnLines.{record_for, records_for, recs_in, recs_of, recs_named, HaveTheirOwnLines, IsOfOneTap, EachLineIsOfOneTap}
 use Rattle.aud_reader.specs.TapLaws.{AreDifferent}
 use Rattle.aud_reader.specs.Sound.{names_of}
-use Rattle.aud_reader.proofs.LineSteps.{Begins, Adds, First, first_of_lines}
+use Rattle.aud_reader.proofs.LineSteps.{Begins, Adds, first_of_lines}
 
 -- what a line adds to the records of the tap of this name
 abbrev AddsFor : List ℕ → List Tap → List ℕ → List Tap → Type 0
@@ -84,8 +84,8 @@ adds-adds name ts more line a =
     rw (a.is, record-read name line a.name a.grown.rec a.reads 0)
     (by_name name a.name
     (λ same.
-      rw (same, is_itself a.name, named-same a.name a.records ts a.found a.is_found, a.is_found)
-      (ap (λ k. rec.Header k 1 ∷ recs_in a.records) a.grown.same ∙ ap (λ rs. rec.Header (kind_of_tap (a.found).records) 1 ∷ rs) a.grown.recs))
+    rw (same, is_itself a.name, named-same a.name a.records ts a.found a.is_found, a.is_found)
+    (ap (λ k. rec.Header k 1 ∷ recs_in a.records) a.grown.same ∙ ap (λ rs. rec.Header (kind_of_tap (a.found).records) 1 ∷ rs) a.grown.recs))
     (λ other. rw (other, named-other name a.name a.records ts other, append-nil) refl))
 
 -- ---- the lines
@@ -101,9 +101,9 @@ line-adds name ts next line step =
     elim step [
       | inl passed ↦ rw (passed.1, passed.0, append-nil) refl
       | inr read ↦ elim read [
-          | inl b ↦ begins-adds name ts next line.bytes b
-          | inr a ↦ adds-adds name ts next line.bytes a
-        ]
+        | inl b ↦ begins-adds name ts next line.bytes b
+        | inr a ↦ adds-adds name ts next line.bytes a
+      ]
     ]
 
 pub lines-add : (name : List ℕ) (ts more : List Tap) (lines : List Line) → taps_from ts lines ≡ Ok more → recs_named name more ≡ recs_named name ts ++ records_for name lines
@@ -170,9 +170,9 @@ each-line ts more (line ∷ lines) different e =
     (λ some. elim first.step [
       | inl passed ↦ absurd (some passed.0)
       | inr read ↦ elim read [
-          | inl b ↦ of_one more line b.name (rec.Header b.of 1) different b.reads (still_named b.name first.next more lines (named-begins ts first.next line.bytes b) first.rest)
-          | inr a ↦ of_one more line a.name a.grown.rec different a.reads (still_named a.name first.next more lines (named-adds ts first.next line.bytes a) first.rest)
-        ]
+        | inl b ↦ of_one more line b.name (rec.Header b.of 1) different b.reads (still_named b.name first.next more lines (named-begins ts first.next line.bytes b) first.rest)
+        | inr a ↦ of_one more line a.name a.grown.rec different a.reads (still_named a.name first.next more lines (named-adds ts first.next line.bytes a) first.rest)
+      ]
     ])
     (each-line first.next more lines different first.rest)
 

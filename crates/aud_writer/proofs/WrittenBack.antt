@@ -27,7 +27,7 @@ use Rattle.aud_reader.specs.NodeRecord.{node_record_of, start_of, take_of, open_
 use Rattle.aud_reader.specs.ClientRecord.{client_record_of}
 use Rattle.aud_reader.specs.Record.{record_in, record_of, value_record}
 use Rattle.aud_tap.specs.WellFormed.{is_well_formed, event_is_well_formed, stream_is_well_formed, is_offset, is_session_id, is_room, is_full_namespace, node_is_well_formed}
-use Rattle.aud_writer.specs.Written.{record_data, stream_data, header_data, event_data, begin_data, offset_data, open_data, member_data, turn_data, gone_data, node_data, conn_data, binary_data, client_data, encoded, DecodeBack, stream_bytes, client_bytes, bytes_of, put_unless_empty, text_member, list_member, text_items}
+use Rattle.aud_writer.specs.Written.{record_data, stream_data, header_data, event_data, offset_data, node_data, client_data, encoded, DecodeBack, stream_bytes, client_bytes, bytes_of, put_unless_empty, text_member, list_member, text_items}
 
 both : (a b : Bool) → a && b ≡ true → (a ≡ true) × (b ≡ true)
 both true b h = (refl, h)

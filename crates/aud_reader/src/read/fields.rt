@@ -10,6 +10,7 @@ ghost use Rattle.aud_reader.specs.Fields.{number_at, id_at, namespace_at};
 ghost use Rattle.aud_reader.specs.Fields.{id_or_null, id_or_null_at, decoded, as_blob, bytes_at};
 ghost use Rattle.aud_reader.specs.Fields.{each, texts_at, blobs_at};
 
+use super::items::push;
 use crate::fault::{FIELD, LineFault};
 use aud_tap::{Blobs, Bytes, Text, Texts, is_id, is_namespace};
 use base64::DecodeAllocError;
@@ -136,9 +137,7 @@ fn texts(alloc: Global, items: &[Value]) -> Result<Texts, LineFault>
     let mut texts = Vec::new(alloc);
     for d in items {
         let text = as_text(alloc, d)?;
-        if texts.push(text).is_err() {
-            return Err(LineFault::Memory);
-        }
+        push(&mut texts, text)?;
     }
     Ok(Texts::new(texts))
 }
@@ -160,9 +159,7 @@ fn blobs(alloc: Global, items: &[Value]) -> Result<Blobs, LineFault>
     let mut blobs = Vec::new(alloc);
     for d in items {
         let bytes = as_blob(alloc, d)?;
-        if blobs.push(bytes).is_err() {
-            return Err(LineFault::Memory);
-        }
+        push(&mut blobs, bytes)?;
     }
     Ok(Blobs::new(blobs))
 }
