@@ -1,11 +1,9 @@
-pub mod Watched
-pub mod Written
-pub mod OneForEach
-pub mod Input
-pub mod Verdict
-pub mod Report
-pub mod CertificateLines
-pub mod Verified
 pub mod Decided
 pub mod Output
 pub use Rattle.aud_options.specs.Words
+pub use Rattle.aud_streams.specs.Watched
+pub use Rattle.aud_streams.specs.Written
+pub use Rattle.aud_input.specs.Input
+pub use Rattle.aud_report.specs.Report
+pub use Rattle.aud_answers.specs.Verified
+pub use Rattle.aud_verdict.specs.Judged

@@ -1,8 +1,6 @@
 -- What a run writes for its input, and how it ends.
-use Rattle.std.specs.Prelude.{◌≡◌, ℕ, List, Bool, if◌then◌else◌, Option, is_some, IfSome, Result, Ok, Err}
-use Rattle.std.specs.List.{list_all}
+use Rattle.std.specs.Prelude.{◌≡◌, ℕ, List, Option, IfSome, Result, Ok, Err}
 use Rattle.std.specs.Io.KnownBytes.{Appends}
-use Rattle.aud_reader.specs.declared.fault.InputCode.{InputCode}
 use Rattle.aud_reader.specs.declared.fault.ReadFault.{ReadFault}
 use Rattle.aud_reader.specs.declared.fault.ReadFault.TheVariants.{Input, Memory}
 use Rattle.aud_reader.specs.declared.line.Line.{Line}
@@ -11,44 +9,17 @@ use Rattle.aud_node.specs.Cluster.{Cluster, cluster_of}
 use Rattle.aud_maker.specs.Sessions.{sessions_of}
 use Rattle.aud_options.specs.declared.choice.Mode.{Mode}
 use Rattle.aud_options.specs.declared.choice.Mode.TheVariants.{Audit, Prove, Verify}
-use Rattle.aud_app.specs.declared.input.Layout.{Layout}
-use Rattle.aud_app.specs.declared.input.Layout.TheVariants.{Bundle, BundleAndCertificates}
-use Rattle.aud_app.specs.declared.program.Status.{Status}
-use Rattle.aud_app.specs.declared.program.Status.TheVariants.{AllYes, SomeNo, Refused}
-use Rattle.aud_app.specs.declared.verdict.Entry.{Entry}
-use Rattle.aud_app.specs.declared.answer.Answered.{Answered}
-use Rattle.aud_app.specs.Input.{InputSeen, input_of}
-use Rattle.aud_app.specs.Verdict.{is_yes}
-use Rattle.aud_app.specs.Report.{report_text, refusal_line}
-use Rattle.aud_app.specs.CertificateLines.{is_accepted, verify_text, prove_text}
-use Rattle.aud_app.specs.Verified.{AreAnswered}
+use Rattle.aud_input.specs.declared.input.Layout.{Layout}
+use Rattle.aud_input.specs.declared.input.Layout.TheVariants.{Bundle, BundleAndCertificates}
+use Rattle.aud_input.specs.Input.{InputSeen, input_of}
+use Rattle.aud_report.specs.declared.output.Status.{Status}
+use Rattle.aud_report.specs.declared.verdict.Entry.{Entry}
+use Rattle.aud_report.specs.Output.{OutputSeen, report_of, proving_of, refusal_of}
+use Rattle.aud_answers.specs.declared.answer.Answered.{Answered}
+use Rattle.aud_answers.specs.Lines.{verification_of}
+use Rattle.aud_answers.specs.Verified.{AreAnswered}
+use Rattle.aud_streams.specs.Written.{AppendsFront}
 use Rattle.aud_app.specs.Decided.{AreVerdicts, AreProofs}
-use Rattle.aud_app.specs.Written.{AppendsFront}
-
--- how a run ends, and the whole text that it writes
-pub record OutputSeen : Type 0 where
-  pub status : Status
-  pub text : List ℕ
-
--- how a run ends whose answers are all good, or are not
-abbrev pub status_of : Bool → Status
-status_of are_good = if are_good then AllYes else SomeNo
-
--- the output of an audit with these answers
-abbrev pub report_of : List Entry → OutputSeen
-report_of entries = record { status = status_of (list_all is_yes entries); text = report_text entries }
-
--- the output on certificates with these answers
-abbrev pub verification_of : List Answered → OutputSeen
-verification_of answers = record { status = status_of (list_all is_accepted answers); text = verify_text answers }
-
--- the output where this is the first refused line
-abbrev pub refusal_of : ℕ → InputCode → OutputSeen
-refusal_of n code = record { status = Refused; text = refusal_line n code }
-
--- the output with these certificates, a place for each session
-abbrev pub proving_of : List (Option Text) → OutputSeen
-proving_of proofs = record { status = status_of (list_all is_some proofs); text = prove_text proofs }
 
 -- the output of an audit: the report of the verdicts on all sessions, in the order of their first mentions
 abbrev pub IsReport : Cluster → OutputSeen → Type 0

@@ -19,19 +19,11 @@
 //! ```
 #![tactic(auto)]
 
-mod answer;
-mod certificate_lines;
-mod input;
-mod judge;
 mod output;
 mod program;
-mod report;
 mod sessions;
-mod streams;
-mod verdict;
-mod verify;
-mod watched;
 
 pub use aud_options::{Mode, Options, options};
-pub use program::{RunFault, Status, run};
-pub use watched::Watched;
+pub use aud_report::Status;
+pub use aud_streams::{RunFault, Watched};
+pub use program::run;

@@ -1,74 +1,23 @@
 //! What is written for an input.
 ghost use Rattle.std.specs.Prelude.{◌≡◌, IfOk, Ok};
 ghost use Rattle.aud_node.specs.Names.{AreNamedOnce};
-ghost use Rattle.aud_app.specs.Output.{status_of, report_of, refusal_of, proving_of, verification_of, IsReport, IsProving, IsVerification, IsOutputOn, IsOutputOver, IsOutput, layout_of};
+ghost use Rattle.aud_app.specs.Output.{IsReport, IsProving, IsVerification, IsOutputOn, IsOutputOver, IsOutput, layout_of};
 
-use crate::answer::Answered;
-use crate::certificate_lines::{are_all_accepted, are_all_shown, prove_text, verify_text};
-use crate::input::{Input, Layout, read_input};
-use crate::program::Status;
-use crate::report::{are_all_yes, refusal_text, report_text};
-use crate::sessions::{decide, prove};
-use crate::verdict::Entry;
-use crate::verify::answers;
+use crate::sessions::{audit, prove};
+use aud_answers::{answers, verification_on};
 use aud_client::Recording;
+use aud_input::{Input, Layout, read_input};
 use aud_options::Mode;
-use aud_reader::{InputCode, Line, ReadFault};
-use aud_tap::Text;
+use aud_reader::{Line, ReadFault};
+use aud_report::{Output, proving_on, refusal, report_on};
 use std::alloc::{AllocError, Global};
-use std::marker::Model;
-
-/// How a run ends, and the whole text that it writes.
-#[derive(Drop)]
-pub struct Output {
-    pub status: Status,
-    pub text: String,
-}
-
-impl Model for Output {
-    ghost use Rattle.std.specs.Prelude.{string_bytes};
-    ghost use Rattle.aud_app.specs.Output.{OutputSeen};
-
-    ghost Value = { OutputSeen };
-
-    ghost view = { λ o. record { status = o.status; text = string_bytes o.text } };
-}
-
-/// How a run ends whose answers are all good, or are not.
-fn status_of(are_good: bool) -> Status
-    ensures { result ≡ status_of are_good }
-{
-    if are_good {
-        Status::AllYes
-    } else {
-        Status::SomeNo
-    }
-}
-
-/// The report on sessions that are decided.
-fn report_on(alloc: Global, entries: &[Entry]) -> Result<Output, AllocError>
-    ensures { IfOk result (λ o. o ≡ report_of entries.now) }
-{
-    let text = report_text(alloc, entries)?;
-    let status = status_of(are_all_yes(entries));
-    Ok(Output { status, text })
-}
 
 /// The report on the sessions of this recording.
 fn audited(alloc: Global, recording: &Recording<'_>) -> Result<Output, AllocError>
     ensures { IfOk result (λ o. IsReport recording.now o) }
 {
-    let entries = decide(alloc, recording)?;
+    let entries = audit(alloc, recording)?;
     report_on(alloc, &entries)
-}
-
-/// The lines of certificates.
-fn proving_on(alloc: Global, proofs: &[Option<Text>]) -> Result<Output, AllocError>
-    ensures { IfOk result (λ o. o ≡ proving_of proofs.now) }
-{
-    let text = prove_text(alloc, proofs)?;
-    let status = status_of(are_all_shown(proofs));
-    Ok(Output { status, text })
 }
 
 /// The certificates of the sessions of this recording.
@@ -77,15 +26,6 @@ fn proved(alloc: Global, recording: &Recording<'_>) -> Result<Output, AllocError
 {
     let proofs = prove(alloc, recording)?;
     proving_on(alloc, &proofs)
-}
-
-/// The text on certificates that are answered.
-fn verification_on(alloc: Global, all: &[Answered]) -> Result<Output, AllocError>
-    ensures { IfOk result (λ o. o ≡ verification_of all.now) }
-{
-    let text = verify_text(alloc, all)?;
-    let status = status_of(are_all_accepted(all));
-    Ok(Output { status, text })
 }
 
 /// The answers on these certificates.
@@ -98,17 +38,6 @@ fn verified(
 {
     let all = answers(alloc, recording, certificates)?;
     verification_on(alloc, &all)
-}
-
-/// The refusal of a line.
-fn refusal(alloc: Global, line: u64, code: InputCode) -> Result<Output, AllocError>
-    ensures { IfOk result (λ o. o ≡ refusal_of line code) }
-{
-    let text = refusal_text(alloc, line, code)?;
-    Ok(Output {
-        status: Status::Refused,
-        text,
-    })
 }
 
 /// What the lines of a mode's input are.

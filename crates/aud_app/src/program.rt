@@ -1,50 +1,16 @@
 //! A whole run: bytes in, the report on them out.
 ghost use Rattle.std.specs.Prelude.{◌≡◌, ◌≤◌, ◌<◌, ◌⊎◌, true, IfOk, OnOk, Err};
-ghost use Rattle.aud_app.specs.Watched.{inner_of, calls_of, has_failed};
+ghost use Rattle.aud_streams.specs.Watched.{inner_of, calls_of, has_failed};
 ghost use Rattle.aud_app.specs.Output.{IsOutputOf, Writes, WritesFront};
 
-use crate::output::{Output, output_of};
-use crate::streams::{READ_LIMIT, read_all, write_out};
-use crate::watched::Watched;
+use crate::output::output_of;
 use aud_options::Options;
-use std::alloc::{AllocError, Global};
+use aud_report::{Output, Status};
+use aud_streams::{READ_LIMIT, RunFault, Watched, read_all, write_out};
+use std::alloc::Global;
 use std::io::{Read, Write};
 use std::sync::Wait;
 use std::thread::Threads;
-
-/// How a run ended.
-#[derive(Clone, Copy, Debug, PartialEq, Eq, Drop)]
-pub enum Status {
-    /// Each session is answered yes.
-    AllYes,
-    /// Some session is answered no.
-    SomeNo,
-    /// A line of the input is refused.
-    Refused,
-}
-
-/// Why a run has no report.
-#[derive(Clone, Copy, Debug, PartialEq, Eq, Drop)]
-pub enum RunFault {
-    Memory,
-    /// A read failed, or the input took too many reads.
-    Read,
-    /// A write failed or took nothing.
-    Write,
-    /// A thread could not be started.
-    Spawn,
-}
-
-impl From<AllocError> for RunFault {
-    ghost use Rattle.std.specs.Prelude.{◌≡◌};
-    ghost use Rattle.aud_app.specs.declared.program.RunFault.TheVariants.{Memory};
-
-    ghost from_gives = { λ _ e. e ≡ Memory };
-
-    fn from(_: AllocError) -> RunFault {
-        RunFault::Memory
-    }
-}
 
 /// Reads the input to its end, decides, and only then writes.
 pub fn run<H: Wait + Threads, R: Read, W: Write>(

@@ -3,12 +3,12 @@ ghost use Rattle.std.specs.Prelude.{◌≡◌, IfOk, map, string_bytes};
 ghost use Rattle.aud_maker.specs.Sessions.{sessions_of};
 ghost use Rattle.aud_app.specs.Decided.{IsEntry, AreVerdicts, IsProof, AreProofs};
 
-use crate::judge::{Judged, judge, verdict};
-use crate::verdict::Entry;
 use aud_cert_text::write_cert;
 use aud_client::Recording;
 use aud_maker::sessions;
+use aud_report::Entry;
 use aud_tap::Text;
+use aud_verdict::{Judged, decide, judge};
 use std::alloc::{AllocError, Global};
 
 /// The answer on a session.
@@ -16,8 +16,10 @@ fn entry(alloc: Global, recording: &Recording<'_>, pid: &str) -> Result<Entry, A
     ensures { IfOk result (λ entry. IsEntry recording.now pid.now entry) }
 {
     let name = Text::new(String::from_str(alloc, pid)?);
-    let verdict = verdict(alloc, recording, pid)?;
-    Ok(Entry { pid: name, verdict })
+    match decide(alloc, recording, pid) {
+        Ok(verdict) => Ok(Entry { pid: name, verdict }),
+        Err(_) => Err(AllocError),
+    }
 }
 
 /// The verdicts on these sessions, one for each, in order.
@@ -36,7 +38,7 @@ fn verdicts(
 }
 
 /// The verdict on each session that the logs mention, in the order of their first mentions.
-pub fn decide(alloc: Global, recording: &Recording<'_>) -> Result<Vec<Entry>, AllocError>
+pub fn audit(alloc: Global, recording: &Recording<'_>) -> Result<Vec<Entry>, AllocError>
     ensures { IfOk result (λ all. AreVerdicts recording.now (sessions_of recording.now) all.items) }
 {
     let Ok(pids) = sessions(alloc, recording) else {
@@ -49,12 +51,13 @@ pub fn decide(alloc: Global, recording: &Recording<'_>) -> Result<Vec<Entry>, Al
 fn proof(alloc: Global, recording: &Recording<'_>, pid: &str) -> Result<Option<Text>, AllocError>
     ensures { IfOk result (λ proof. IsProof recording.now pid.now proof) }
 {
-    match judge(alloc, recording, pid)? {
-        Judged::Shown(cert, _) => match write_cert(alloc, &cert) {
+    match judge(alloc, recording, pid) {
+        Ok(Judged::Shown(cert, _)) => match write_cert(alloc, &cert) {
             Ok(text) => Ok(Some(Text::new(text))),
             Err(_) => Err(AllocError),
         },
-        Judged::Faulty(_) => Ok(None),
+        Ok(Judged::Faulty(_)) => Ok(None),
+        Err(_) => Err(AllocError),
     }
 }
 

@@ -21,9 +21,9 @@ use Rattle.aud_check.specs.declared.refusal.Refusal.{Refusal}
 use Rattle.aud_check.specs.declared.refusal.Refusal.TheVariants.{Span, Names, Received, Memory}
 use Rattle.aud_check.specs.Shown.{opened_sid, opened_nsp, who_of, slices_of, turns_of, first_record}
 use Rattle.aud_check.specs.TurnRefusals.{IsTurnAccepted, AreTurnsAccepted}
-use Rattle.aud_check.specs.Refusals.{RefusesWhole, Refuses, Place, AtTurn, AtWhole, IsFirstRefusal}
+use Rattle.aud_check.specs.Refusals.{RefusesWhole, Refuses, Place, AtTurn, AtWhole, IsFirst, IsFirstRefusal}
 use Rattle.aud_check.proofs.TurnRefusals.{not_refused}
-use Rattle.aud_verdict.specs.Refused.{fault_found}
+use Rattle.aud_verdict.specs.Refused.{fault_found, IsOfSession}
 
 -- the records of a turn are the one that begins it, and the later ones
 begun : (log : List NodeRec) (from to : ℕ) (rec : NodeRec) → from < to → slice_get log from ≡ Some rec → between log from to ≡ rec ∷ between log (suc from) to
@@ -110,10 +110,18 @@ module _ (c : Cluster) (pid : Text) (cert : CertificateSeen) (once : AreNamedOnc
   refused_for AtWhole refusal refuses = refused_whole refusal refuses
 
 -- what refuses it is one of those, or want of memory
-pub no_other : (c : Cluster) (cert : CertificateSeen) (refusal : Refusal) → IsFirstRefusal c cert refusal
-    → ((place : Place) → Refuses c cert place refusal → IsSome (fault_found refusal))
-    → (refusal ≡ Names → ⊥) → ((fault : Fault) → refusal ≡ Received fault → ⊥) → (refusal ≡ Memory → ⊥) → ⊥
-no_other c cert Names first so no_names no_received no_memory = no_names refl
-no_other c cert (Received fault) first so no_names no_received no_memory = no_received fault refl
-no_other c cert Memory first so no_names no_received no_memory = no_memory refl
-no_other c cert _ first so no_names no_received no_memory = false≢true (so first.place first.refuses)
+pub of_session : (c : Cluster) (cert : CertificateSeen) (refusal : Refusal) → IsFirstRefusal c cert refusal
+    → ((place : Place) → Refuses c cert place refusal → IsSome (fault_found refusal)) → IsOfSession refusal
+of_session c cert Memory first so = tt
+of_session c cert refusal first so = so first.place first.refuses
+
+pub no_other : (refusal : Refusal) → IsOfSession refusal → (refusal ≡ Names → ⊥) → ((fault : Fault) → refusal ≡ Received fault → ⊥) → (refusal ≡ Memory → ⊥) → ⊥
+no_other Names is no_names no_received no_memory = no_names refl
+no_other (Received fault) is no_names no_received no_memory = no_received fault refl
+no_other Memory is no_names no_received no_memory = no_memory refl
+no_other refusal is no_names no_received no_memory = false≢true is
+
+-- a refusal that shows a fault is the first
+pub first_refusal : (c : Cluster) (cert : CertificateSeen) (refusal : Refusal) (fault : Fault) → IsFirstRefusal c cert refusal → fault_found refusal ≡ Some fault → IsFirst c cert refusal
+first_refusal c cert Memory fault first e = absurd (none-some fault e)
+first_refusal c cert refusal fault first e = first

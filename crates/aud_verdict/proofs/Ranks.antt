@@ -10,8 +10,8 @@ use Rattle.aud_cert.specs.declared.fault.Fault.{Fault}
 use Rattle.aud_cert.specs.declared.fault.Fault.TheVariants.{NoLog, Chain, Order, Client, Names, Frame, Orphan, Content, Extra, Doubled, Swapped, Lost, Window, Tail}
 use Rattle.aud_check.specs.Frames.{AreEntries, IsEntry, IsFirstAltered, offset_at}
 use Rattle.aud_check.specs.Faults.{mismatch_fault}
-use Rattle.aud_verdict.specs.declared.verdict.Verdict.{Verdict}
-use Rattle.aud_verdict.specs.declared.verdict.Verdict.TheVariants.{Yes, No}
+use Rattle.aud_report.specs.declared.verdict.Verdict.{Verdict}
+use Rattle.aud_report.specs.declared.verdict.Verdict.TheVariants.{Yes, No}
 use Rattle.aud_verdict.specs.Session.{Session, IsSession, case_of, received, due_to}
 use Rattle.aud_verdict.specs.Faults.{HoldsOf, Holds, rank, IsFirst}
 use Rattle.aud_verdict.specs.Verdict.{IsVerdict}

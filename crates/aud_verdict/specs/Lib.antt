@@ -3,7 +3,11 @@ pub use Rattle.aud_node.specs.Cluster
 pub use Rattle.aud_node.specs.Names
 pub use Rattle.aud_cert.specs.Certificate
 pub use Rattle.aud_merge.specs.Runs
+pub use Rattle.aud_maker.specs.Made
+pub use Rattle.aud_check.specs.Refusals
+pub use Rattle.aud_report.specs.Report
 pub mod Session
 pub mod Faults
 pub mod Verdict
 pub mod Refused
+pub mod Judged

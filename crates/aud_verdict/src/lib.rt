@@ -1,6 +1,7 @@
 //! The verdict on a session, in words that know no certificate, and what the acceptance of a certificate means.
 //!
-//! Begin at [`decide`], which finds the verdict; [`verdict_by_certificate`] says that what it finds is the verdict.
+//! Begin at [`judge`], which finds the verdict, and where it is yes the certificate that shows it; [`decide`] keeps the
+//! verdict alone. [`verdict_by_certificate`] says that what is found is the verdict.
 //!
 //! With the `recording` of `examples/lost_event.jsonl`, in which a replay leaves out an event:
 //!
@@ -25,5 +26,6 @@ mod verdict;
 pub use acceptance::{
     accepted_exactly, accepted_in_every_run, made_is_whole, read_is_over, refused_in_no_run,
 };
+pub use aud_report::Verdict;
 pub use laws::{verdict_by_certificate, verdict_in_every_run, verdict_is_one};
-pub use verdict::{Verdict, decide};
+pub use verdict::{Judged, decide, judge};

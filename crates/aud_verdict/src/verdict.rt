@@ -1,54 +1,73 @@
 //! The verdict on a session: its certificate is made, and then checked.
-ghost use Rattle.std.specs.Prelude.{IfOk};
+ghost use Rattle.std.specs.Prelude.{◌≡◌, IfOk, Some};
+ghost use Rattle.aud_verdict.specs.Judged.{IsJudged, HasCertificate};
+ghost use Rattle.aud_verdict.specs.Refused.{fault_found, IsOfSession};
 ghost use Rattle.aud_verdict.specs.Verdict.{IsVerdict};
 
 use crate::laws::verdict_by_certificate;
-use aud_cert::Fault;
+use aud_cert::{Certificate, Fault};
 use aud_check::{Accepted, Refusal, check};
 use aud_client::Recording;
 use aud_maker::{MakeFault, made_is_over, make};
+use aud_report::Verdict;
 use aud_tap::Memory;
 use std::alloc::Global;
 
-/// The answer on a session.
+/// What is found of a session.
 #[derive(Drop)]
-pub enum Verdict {
-    /// No fault holds: all that was received was due, in order, from the first event on.
-    Yes {
-        /// How many of the due events were received.
-        got: usize,
-        /// How many due events after the last one received were not.
-        tail: usize,
-        /// Over how many turns.
-        turns: usize,
-    },
+pub enum Judged<'a> {
+    /// The accepted certificate of all its turns, and how much of what was due was received.
+    Shown(Certificate<'a>, Accepted),
     /// The first fault that holds.
-    No(Fault),
+    Faulty(Fault),
 }
 
-/// The verdict on the session with this pid. It costs the session's own records and stays, and what is due to it.
-pub fn decide(alloc: Global, recording: &Recording<'_>, pid: &str) -> Result<Verdict, Memory>
-    ensures { IfOk result (IsVerdict recording.now pid.now) }
+/// The fault of the session whose certificate, of all its turns, is refused so.
+fn fault_found(refusal: Refusal) -> Result<Fault, Memory>
+    requires { IsOfSession refusal }
+    ensures { IfOk result (λ fault. fault_found refusal ≡ Some fault) }
+{
+    match refusal {
+        Refusal::Names => Ok(Fault::Names),
+        Refusal::Received(fault) => Ok(fault),
+        Refusal::Memory => Err(Memory),
+        // The turns and the spans of a certificate that was made are the session's.
+        _ => unreachable!(),
+    }
+}
+
+/// What is found of the session with this pid: the verdict on it, and where that is yes its certificate. It costs the
+/// session's own records and stays, and what is due to it.
+pub fn judge<'a>(alloc: Global, recording: &Recording<'a>, pid: &str) -> Result<Judged<'a>, Memory>
+    ensures { IfOk result (IsJudged recording.now pid.now) }
 {
     verdict_by_certificate();
     let cert = match make(alloc, recording, pid) {
         Ok(cert) => cert,
-        Err(MakeFault::Fault(fault)) => return Ok(Verdict::No(fault)),
+        Err(MakeFault::Fault(fault)) => return Ok(Judged::Faulty(fault)),
         Err(MakeFault::Memory) => return Err(Memory),
     };
     recording.named_once();
     made_is_over();
     match check(alloc, recording, &cert) {
-        Ok(counts) => {
+        Ok(counts) => Ok(Judged::Shown(cert, counts)),
+        Err(refusal) => match fault_found(refusal) {
+            Ok(fault) => Ok(Judged::Faulty(fault)),
+            Err(_) => Err(Memory),
+        },
+    }
+}
+
+/// The verdict on the session with this pid, at the cost of [`judge`].
+pub fn decide(alloc: Global, recording: &Recording<'_>, pid: &str) -> Result<Verdict, Memory>
+    ensures verdict { IfOk result (IsVerdict recording.now pid.now) }
+    ensures certificate { IfOk result (HasCertificate recording.now pid.now) }
+{
+    match judge(alloc, recording, pid)? {
+        Judged::Shown(_, counts) => {
             let Accepted { got, tail, turns } = counts;
             Ok(Verdict::Yes { got, tail, turns })
         }
-        Err(refusal) => match refusal {
-            Refusal::Names => Ok(Verdict::No(Fault::Names)),
-            Refusal::Received(fault) => Ok(Verdict::No(fault)),
-            Refusal::Memory => Err(Memory),
-            // The turns and the spans of a certificate that was made are the session's.
-            _ => unreachable!(),
-        },
+        Judged::Faulty(fault) => Ok(Verdict::No(fault)),
     }
 }

@@ -1,7 +1,7 @@
 use Rattle.std.proofs.Common.{string_bytes}
 use Rattle.std.proofs.lemmas.List.{take_more}
 use Rattle.aud_app.specs.Decided.{IsProof}
-use Rattle.aud_app.proofs.EachLemmas.{one_more-map}
+use Rattle.aud_report.proofs.EachLemmas.{one_more-map}
 use Rattle.aud_app.proofs.sessions.proofs.Goals as goal
 
 pub loop-pid-preserved : goal.loop-pid-preserved

@@ -1,7 +1,0 @@
-use Rattle.std.proofs.Common.{arith}
-use Rattle.aud_app.proofs.Bytes.{all_read}
-use Rattle.aud_app.proofs.streams.read_all.Goals as goal
-
-pub returns-in-Ok-eq0-clause-ok : goal.returns-in-Ok-eq0-clause-ok
-returns-in-Ok-eq0-clause-ok g c =
-    all_read _ _ _ _ c.read.new.buf _ c.in-Ok-eq0.field-0-test (omega (arith, c.read.auto.buf)) c.pieces.invariant.2 c.in-Ok-eq0.ensures.bytes

@@ -1,0 +1,3 @@
+pub use Rattle.aud_reader.specs.Lines
+pub use Rattle.aud_tap.specs.Names
+pub mod Input

@@ -1,0 +1,40 @@
+-- The report, and what is written in its place where a line is refused.
+use Rattle.std.specs.Prelude.{ℕ, ◌-◌, List, ◌++◌, codes, decimal, flat_map, length, count_by}
+use Rattle.aud_reader.specs.declared.fault.InputCode.{InputCode}
+use Rattle.aud_reader.specs.declared.fault.InputCode.TheVariants.{LineTooLong, NoTapName, NotJson, NoHeader, UnknownKind, Field, Limit, SecondStream, OffsetTwice, HeaderTwice, Version}
+use Rattle.aud_report.specs.declared.verdict.Verdict.{Verdict}
+use Rattle.aud_report.specs.declared.verdict.Verdict.TheVariants.{Yes, No}
+use Rattle.aud_report.specs.declared.verdict.Entry.{Entry}
+use Rattle.aud_cert.specs.Fault.{fault_text}
+use Rattle.aud_report.specs.Verdict.{is_yes}
+
+-- the line of a session
+abbrev pub line_of : List ℕ → Verdict → List ℕ
+line_of pid (Yes got tail turns) = codes "yes " ++ pid ++ codes " got=" ++ decimal got ++ codes " tail=" ++ decimal tail ++ codes " turns=" ++ decimal turns ++ codes "\n"
+line_of pid (No fault) = codes "no " ++ pid ++ codes " " ++ fault_text fault ++ codes "\n"
+
+-- the last line: how many sessions there are, and how many of them are answered yes and no
+abbrev pub totals_line : List Entry → List ℕ
+totals_line entries = codes "sessions=" ++ decimal (length entries) ++ codes " yes=" ++ decimal (count_by is_yes entries) ++ codes " no=" ++ decimal (length entries - count_by is_yes entries) ++ codes "\n"
+
+-- the report: a line for each session, and the counts
+abbrev pub report_text : List Entry → List ℕ
+report_text entries = flat_map (λ entry. line_of entry.pid entry.verdict) entries ++ totals_line entries
+
+-- the name of a refusal
+abbrev pub code_text : InputCode → List ℕ
+code_text LineTooLong = codes "LineTooLong"
+code_text NoTapName = codes "NoTapName"
+code_text NotJson = codes "NotJson"
+code_text NoHeader = codes "NoHeader"
+code_text UnknownKind = codes "UnknownKind"
+code_text Field = codes "Field"
+code_text Limit = codes "Limit"
+code_text SecondStream = codes "SecondStream"
+code_text OffsetTwice = codes "OffsetTwice"
+code_text HeaderTwice = codes "HeaderTwice"
+code_text Version = codes "Version"
+
+-- the one line that stands for a refused input
+abbrev pub refusal_line : ℕ → InputCode → List ℕ
+refusal_line n code = codes "line " ++ decimal n ++ codes ": " ++ code_text code ++ codes "\n"

@@ -1,0 +1,86 @@
+//! The report, and what is written in its place where a line is refused.
+ghost use Rattle.std.specs.Prelude.{◌≡◌, ◌++◌, IfOk, OnOk, string_bytes, count_by};
+ghost use Rattle.std.specs.List.{list_all};
+ghost use Rattle.aud_report.specs.Verdict.{is_yes};
+ghost use Rattle.aud_report.specs.Report.{line_of, totals_line, report_text, code_text, refusal_line};
+
+use crate::verdict::{Entry, Verdict};
+use aud_reader::InputCode;
+use std::alloc::{AllocError, Global};
+
+/// Puts a session's line at the end.
+fn push_line(out: &mut String, pid: &str, verdict: &Verdict) -> Result<(), AllocError>
+    ensures { OnOk result (string_bytes out.new ≡ string_bytes out.old ++ line_of pid.now verdict.now) }
+{
+    match verdict {
+        Verdict::Yes { got, tail, turns } => {
+            writeln!(out, "yes {pid} got={got} tail={tail} turns={turns}")
+        }
+        Verdict::No(fault) => writeln!(out, "no {pid} {fault}"),
+    }
+}
+
+/// Whether each answer is yes.
+pub fn are_all_yes(entries: &[Entry]) -> bool
+    ensures { result ≡ list_all is_yes entries.now }
+{
+    entries.iter().all(|entry| entry.is_yes())
+}
+
+/// How many answers are yes.
+fn count_yes(entries: &[Entry]) -> usize
+    ensures { result ≡ count_by is_yes entries.now }
+{
+    entries.iter().filter(|entry| entry.is_yes()).count()
+}
+
+/// Puts the counts at the end.
+fn push_totals(out: &mut String, entries: &[Entry]) -> Result<(), AllocError>
+    ensures { OnOk result (string_bytes out.new ≡ string_bytes out.old ++ totals_line entries.now) }
+{
+    let sessions = entries.len();
+    let yes = count_yes(entries);
+    let no = sessions.saturating_sub(yes);
+    writeln!(out, "sessions={sessions} yes={yes} no={no}")
+}
+
+/// The text of a report: a line for each session, and the counts.
+pub fn report_text(alloc: Global, entries: &[Entry]) -> Result<String, AllocError>
+    ensures { IfOk result (λ s. string_bytes s ≡ report_text entries.now) }
+{
+    let mut out = String::new(alloc);
+    for entry in entries {
+        push_line(&mut out, entry.pid.as_str(), &entry.verdict)?;
+    }
+    push_totals(&mut out, entries)?;
+    Ok(out)
+}
+
+/// The name of a refusal.
+fn code_name(code: InputCode) -> &'static str
+    ensures { result.now ≡ code_text code }
+{
+    match code {
+        InputCode::LineTooLong => "LineTooLong",
+        InputCode::NoTapName => "NoTapName",
+        InputCode::NotJson => "NotJson",
+        InputCode::NoHeader => "NoHeader",
+        InputCode::UnknownKind => "UnknownKind",
+        InputCode::Field => "Field",
+        InputCode::Limit => "Limit",
+        InputCode::SecondStream => "SecondStream",
+        InputCode::OffsetTwice => "OffsetTwice",
+        InputCode::HeaderTwice => "HeaderTwice",
+        InputCode::Version => "Version",
+    }
+}
+
+/// The one line that is written where a line of the input is refused.
+pub fn refusal_text(alloc: Global, line: u64, code: InputCode) -> Result<String, AllocError>
+    ensures { IfOk result (λ s. string_bytes s ≡ refusal_line line code) }
+{
+    let mut out = String::new(alloc);
+    let name = code_name(code);
+    writeln!(&mut out, "line {line}: {name}")?;
+    Ok(out)
+}

@@ -1,0 +1,26 @@
+-- What is found of a session.
+use Rattle.aud_node.specs.Stream.{Text}
+use Rattle.aud_node.specs.Cluster.{Cluster}
+use Rattle.aud_cert.specs.Certificate.{CertificateSeen}
+use Rattle.aud_maker.specs.Made.{IsMade}
+use Rattle.aud_check.specs.declared.certificate.Accepted.{Accepted}
+use Rattle.aud_check.specs.Refusals.{IsAccepted}
+use Rattle.aud_report.specs.declared.verdict.Verdict.{Verdict}
+use Rattle.aud_report.specs.declared.verdict.Verdict.TheVariants.{Yes, No}
+use Rattle.aud_verdict.specs.declared.verdict.Judged.{Judged}
+use Rattle.aud_verdict.specs.declared.verdict.Judged.TheVariants.{Shown, Faulty}
+use Rattle.aud_verdict.specs.Verdict.{IsVerdict}
+
+-- the certificate was made for the session and is accepted, and the verdict is yes with these numbers
+abbrev pub IsShown : Cluster → Text → CertificateSeen → Accepted → Type 0
+IsShown c pid cert counts = IsMade c pid cert × IsAccepted c cert × IsVerdict c pid (Yes counts.got counts.tail counts.turns)
+
+-- a certificate that shows that the verdict is yes, or the fault with which it is no
+abbrev pub IsJudged : Cluster → Text → Judged → Type 0
+IsJudged c pid (Shown cert counts) = IsShown c pid cert counts
+IsJudged c pid (Faulty fault) = IsVerdict c pid (No fault)
+
+-- where the verdict is yes, the session's certificate is accepted
+abbrev pub HasCertificate : Cluster → Text → Verdict → Type 0
+HasCertificate c pid (Yes got tail turns) = (cert : CertificateSeen) × IsMade c pid cert × IsAccepted c cert
+HasCertificate c pid (No fault) = Unit {0}
