@@ -1,5 +1,6 @@
 -- How far two lists agree.
 use Rattle.std.proofs.Common.{◌≡◌, ◌<◌, ◌≤◌, ◌+◌, ◌↔◌, ℕ, zero, suc, true, false, cond, List, [], ◌∷◌, ◌++◌, length, drop, Option, Some, None, slice_get, refl, sym, ap, ◌∙◌, nat_eq, arith}
+use Rattle.std.proofs.lemmas.List.{drop_all}
 use Rattle.std.proofs.lemmas.Option.{none-some, slice_get_past}
 use Rattle.aud_merge.specs.ByTurns.{IsPrefixOf}
 use Rattle.aud_check.specs.Compare.{agreed, mismatch, wrong_there, wrong_from}
@@ -49,10 +50,7 @@ agreed_empty [] = refl
 agreed_empty (x ∷ xs) = refl
 
 past_end : (xs ys : List ℕ) (i : ℕ) → length ys ≤ i → agreed xs (drop i ys) ≡ 0
-past_end xs [] zero h = agreed_empty xs
-past_end xs [] (suc i) h = agreed_empty xs
-past_end xs (y ∷ ys) zero h = absurd (omega arith)
-past_end xs (y ∷ ys) (suc i) h = past_end xs ys i (omega arith)
+past_end xs ys i h = ap (agreed xs) (drop_all i ys h) ∙ agreed_empty xs
 
 pub agreed_end : (xs ys : List ℕ) (i : ℕ) → length ys ≤ i → agreed xs ys ≡ i + agreed (drop i xs) (drop i ys) → i ≡ agreed xs ys
 agreed_end xs ys i h is = let z = past_end (drop i xs) ys i h in omega arith

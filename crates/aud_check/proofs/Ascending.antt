@@ -1,7 +1,8 @@
 -- Due positions ascend, and so do those that they begin with.
-use Rattle.std.proofs.Common.{◌≡◌, ◌<◌, ◌+◌, ℕ, zero, suc, Bool, List, [], ◌∷◌, ◌++◌, length, get_or, refl, sym, ap, ◌∙◌, arith, length-append}
+use Rattle.std.proofs.Common.{◌≡◌, ◌<◌, ◌+◌, ℕ, zero, suc, Bool, List, length, get_or, refl, sym, ap, ◌∙◌, arith, length-append}
 use Rattle.std.specs.List.{filter}
 use Rattle.std.specs.List.Sorted.{IsStrictlyIncreasing}
+use Rattle.std.proofs.lemmas.List.{get_or_append_left}
 use Rattle.std.proofs.lemmas.List.Kept.{AllPairs-from_increasing, IsStrictlyIncreasing-filter}
 use Rattle.aud_node.specs.Stream.{positions_after}
 use Rattle.aud_merge.specs.ByTurns.{IsPrefixOf}
@@ -27,16 +28,11 @@ increasing p count k h =
 pub ascending : (test : ℕ → Bool) (p count : ℕ) → IsAscending (filter test (positions_after p count))
 ascending test p count = AllPairs-from_increasing (filter test (positions_after p count)) (IsStrictlyIncreasing-filter test (positions_after p count) (increasing p count))
 
-in_front : (xs rest : List ℕ) (i d : ℕ) → i < length xs → get_or (xs ++ rest) i d ≡ get_or xs i d
-in_front [] rest i d h = absurd (omega arith)
-in_front (x ∷ xs) rest zero d h = refl
-in_front (x ∷ xs) rest (suc i) d h = in_front xs rest i d (omega arith)
-
 -- the front of ascending ones ascends
 pub front_ascends : (xs ys : List ℕ) → IsPrefixOf xs ys → IsAscending ys → IsAscending xs
 front_ascends xs ys (rest, is) all i j d less within =
     let long : length xs + length rest ≡ length ys = sym (length-append xs rest) ∙ ap length is in
     let x = all i j d less (omega arith) in
-    let one : get_or ys i d ≡ get_or xs i d = ap (λ zs. get_or zs i d) (sym is) ∙ in_front xs rest i d (omega arith) in
-    let other : get_or ys j d ≡ get_or xs j d = ap (λ zs. get_or zs j d) (sym is) ∙ in_front xs rest j d within in
+    let one : get_or ys i d ≡ get_or xs i d = ap (λ zs. get_or zs i d) (sym is) ∙ get_or_append_left xs rest d i (omega arith) in
+    let other : get_or ys j d ≡ get_or xs j d = ap (λ zs. get_or zs j d) (sym is) ∙ get_or_append_left xs rest d j within in
     omega (arith, x, one, other)

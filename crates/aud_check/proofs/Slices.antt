@@ -1,14 +1,12 @@
 -- Consecutive records of a log.
-use Rattle.std.proofs.Common.{◌≡◌, ◌<◌, ◌≤◌, ◌-◌, ℕ, zero, suc, List, [], ◌∷◌, length, take, drop, min, Some, slice_get, refl, sym, ap, ◌∙◌, ◌⊎◌, inl, inr, arith, length-take, length-drop}
+use Rattle.std.proofs.Common.{◌≡◌, ◌<◌, ◌≤◌, ◌-◌, ℕ, zero, suc, List, [], ◌∷◌, length, take, drop, drop-cons, min, Some, slice_get, refl, sym, ap, ◌∙◌, ◌⊎◌, inl, inr, arith, length-take, length-drop}
 use Rattle.std.proofs.lemmas.Bool.{cases_lt}
-use Rattle.std.proofs.lemmas.Option.{same_Some, none-some}
+use Rattle.std.proofs.lemmas.Option.{get_or_from_slice_get, slice_get_within}
 use Rattle.aud_tap.specs.declared.records.NodeRec.{NodeRec}
 use Rattle.aud_node.specs.Lists.{between}
 
 pub drop_at : {X : Type 0} (xs : List X) (i : ℕ) (x : X) → slice_get xs i ≡ Some x → drop i xs ≡ x ∷ drop (suc i) xs
-drop_at [] i x at = absurd (none-some x at)
-drop_at (y ∷ xs) zero x at = ap (λ z. z ∷ xs) (same_Some y x at)
-drop_at (y ∷ xs) (suc i) x at = drop_at xs i x at
+drop_at xs i x at = drop-cons xs i x (slice_get_within xs i x at) ∙ ap (λ z. z ∷ drop (suc i) xs) (get_or_from_slice_get xs i x x at)
 
 -- there is an element
 pub within_at : {X : Type 0} (xs : List X) (i : ℕ) → i < length xs → (x : X) × (slice_get xs i ≡ Some x)

@@ -1,11 +1,12 @@
 -- One element more of a list, as a loop reads it.
-use Rattle.std.proofs.Common.{◌≡◌, ◌<◌, ◌+◌, ◌==◌, ℕ, zero, suc, Bool, false, List, [], ◌∷◌, ◌++◌, length, map, take, drop, get_or, Option, Some, slice_get, refl, sym, ap, subst, ◌∙◌, arith, append-nil, true≢false}
+use Rattle.std.proofs.Common.{add-one, ◌≡◌, ◌<◌, ◌+◌, ◌==◌, ℕ, Bool, false, List, [], ◌∷◌, ◌++◌, length, map, take, drop, get_or, Option, Some, slice_get, refl, sym, ap, subst, ◌∙◌, arith, append-nil, true≢false}
 use Rattle.std.specs.List.{list_all}
 use Rattle.std.specs.Option.{option_map}
 use Rattle.std.proofs.lemmas.Grind.{flat_map-append}
 use Rattle.std.proofs.lemmas.List.{take-append-drop, map-append}
 use Rattle.std.proofs.lemmas.List.Folds.{list_all-map}
-use Rattle.std.proofs.lemmas.Option.{same_Some, none-some, slice_get-map, slice_get_read}
+use Rattle.std.proofs.lemmas.Option.{get_or_from_slice_get, same_Some, slice_get-map, slice_get_read, slice_get_within}
+use Rattle.std.proofs.Math.Seq.{take-suc}
 use Rattle.aud_tap.specs.declared.records.StreamRec.{StreamRec}
 use Rattle.aud_rooms.specs.Turns.{Who}
 use Rattle.aud_client.specs.Told.{StaySeen, FrameSeen}
@@ -21,19 +22,10 @@ at_map {X} {Y} f xs i x h is =
     go o e = ap (option_map f) e
 
 pub take_at : {Y : Type 0} (ys : List Y) (i : ℕ) (y : Y) → slice_get ys i ≡ Some y → take (i + 1) ys ≡ take i ys ++ y ∷ []
-take_at {Y} ys i y at = ap (λ n. take n ys) (let e : i + 1 ≡ suc i = omega arith in e) ∙ go ys i at
-  where
-    go : (ys : List Y) (i : ℕ) → slice_get ys i ≡ Some y → take (suc i) ys ≡ take i ys ++ y ∷ []
-    go [] i at = absurd (none-some y at)
-    go (x ∷ ys) zero at = none ys ∙ ap (λ z. z ∷ []) (same_Some x y at)
-      where
-        none : (zs : List Y) → x ∷ take zero zs ≡ x ∷ []
-        none [] = refl
-        none (z ∷ zs) = refl
-    go (x ∷ ys) (suc i) at = ap (λ zs. x ∷ zs) (go ys i at)
+take_at ys i y at = rw add-one (take-suc ys i y (slice_get_within ys i y at) ∙ ap (λ z. take i ys ++ z ∷ []) (get_or_from_slice_get ys i y y at))
 
 pub drop_from : {Y : Type 0} (ys : List Y) (i : ℕ) (y : Y) → slice_get ys i ≡ Some y → drop i ys ≡ y ∷ drop (i + 1) ys
-drop_from ys i y at = drop_at ys i y at ∙ ap (λ n. y ∷ drop n ys) (let e : suc i ≡ i + 1 = omega arith in e)
+drop_from ys i y at = rw add-one (drop_at ys i y at)
 
 -- ---- frames and entries
 
