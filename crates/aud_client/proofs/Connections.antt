@@ -4,8 +4,7 @@ use Rattle.std.proofs.lemmas.List.{append-nil, map-append}
 use Rattle.std.proofs.lemmas.List.Concat.{flat_map-append}
 use Rattle.aud_tap.specs.declared.records.StreamRec.{StreamRec}
 use Rattle.aud_client.specs.TapPackets.{TapPacket}
-use Rattle.aud_client.specs.ConnectionRead.{packet_seen, placed_seen}
-use Rattle.aud_client.specs.ClientRead.{connection_seen, connections_seen}
+use Rattle.aud_client.specs.Seen.{packet_seen, placed_seen, connection_seen, connections_seen}
 use Rattle.aud_client.specs.declared.connection.Placed.{Placed}
 use Rattle.aud_client.specs.declared.client_tap.Connection.{Connection}
 use Rattle.aud_client.specs.declared.stays.Stays.{Stays}

@@ -3,16 +3,9 @@ use Rattle.std.specs.Prelude.{◌≡◌, ℕ, suc, List, [], ◌∷◌, map, fla
 use Rattle.aud_tap.specs.declared.records.ClientRec.{ClientRec}
 use Rattle.aud_tap.specs.declared.records.ClientRec.TheVariants.{Conn}
 use Rattle.aud_client.specs.TapPackets.{Connection, numbered, packets_in, bad_in, first_of, tap_packets}
-use Rattle.aud_client.specs.ConnectionRead.{placed_seen, inside}
-use Rattle.aud_client.specs.declared.client_tap.Connection.{Connection as ConnectionCode}
+use Rattle.aud_client.specs.ConnectionRead.{inside}
+use Rattle.aud_client.specs.Seen.{connections_seen}
 use Rattle.aud_client.specs.declared.client_tap.ClientTap.TheInside.{Inside}
-
-abbrev pub connection_seen : ConnectionCode → Connection
-connection_seen connection = record { c = connection.c; packets = map placed_seen connection.packets.items }
-
--- what contracts see of connections
-abbrev pub connections_seen : List ConnectionCode → List Connection
-connections_seen connections = map connection_seen connections
 
 -- a connection of these records
 abbrev pub cut_seen : (ℕ × List (ℕ × ClientRec)) → Connection

@@ -9,25 +9,15 @@ use Rattle.aud_sio.specs.declared.packet.Packet.{Packet}
 use Rattle.aud_sio.specs.Packet.{view}
 use Rattle.aud_sio.specs.Message.{Message, messages_of, at}
 use Rattle.aud_sio.specs.Wholes.{Answer, wholes_of}
-use Rattle.aud_sio.specs.Assembly.{whole_view, Continues, Waits, wholes_after}
+use Rattle.aud_sio.specs.Assembly.{Continues, Waits, wholes_after}
 use Rattle.aud_client.specs.TapPackets.{TapPacket, Received, Sent, numbered, messages_at, packets_at, is_bad, is_refused, first_of}
-use Rattle.aud_client.specs.declared.connection.TapPacket.{TapPacket as PacketCode}
-use Rattle.aud_client.specs.declared.connection.TapPacket.TheVariants as code
-use Rattle.aud_client.specs.declared.connection.Placed.{Placed}
+use Rattle.aud_client.specs.Seen.{placed_seen}
 use Rattle.aud_client.specs.declared.connection.Reader.{Reader}
-
--- what contracts see of a packet
-abbrev pub packet_seen : PacketCode → TapPacket
-packet_seen (code.Received whole) = Received (whole_view whole)
-packet_seen (code.Sent packet) = Sent (view packet)
 
 -- the client's packet, if there is one
 abbrev pub sent_seen : Option Packet → List TapPacket
 sent_seen None = []
 sent_seen (Some packet) = Sent (view packet) ∷ []
-
-abbrev pub placed_seen : Placed → ℕ × TapPacket
-placed_seen placed = (placed.number, packet_seen placed.packet)
 
 -- the packets that were read
 abbrev pub packets_read : Reader → List (ℕ × TapPacket)

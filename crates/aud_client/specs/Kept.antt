@@ -9,7 +9,7 @@ use Rattle.std.specs.BTreeMap as tree
 use Rattle.aud_tap.specs.declared.records.StreamRec.{StreamRec}
 use Rattle.aud_node.specs.Stream.{Text}
 use Rattle.aud_client.specs.TapPackets.{TapPacket}
-use Rattle.aud_client.specs.ConnectionRead.{packet_seen}
+use Rattle.aud_client.specs.Seen.{packet_seen}
 use Rattle.aud_client.specs.declared.connection.Placed.{Placed}
 use Rattle.aud_client.specs.declared.stays.Stays.{Stays}
 use Rattle.aud_client.specs.Stays.{namespace, is_connect, is_disconnect, stays}

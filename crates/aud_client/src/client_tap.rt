@@ -46,7 +46,7 @@ impl<'a> Model for ClientTap<'a> {
 }
 
 impl<'a> ClientTap<'a> {
-    ghost use Rattle.aud_client.specs.ClientRead.{connections_seen};
+    ghost use Rattle.aud_client.specs.Seen.{connections_seen};
 
     /// What the records give.
     pub fn build(alloc: Global, recs: &'a [ClientRec]) -> Result<ClientTap<'a>, AllocError>
@@ -94,7 +94,8 @@ impl<'a> ClientTap<'a> {
 }
 
 impl<'a> Connections<'a> {
-    ghost use Rattle.aud_client.specs.ClientRead.{connections_seen, begun, cut_seen, bad_of};
+    ghost use Rattle.aud_client.specs.Seen.{connections_seen};
+    ghost use Rattle.aud_client.specs.ClientRead.{begun, cut_seen, bad_of};
 
     /// The record with this number, in front of these.
     fn take(

@@ -5,7 +5,8 @@ ghost use Rattle.aud_eio.specs.Body.{packets_of};
 ghost use Rattle.aud_sio.specs.Message.{messages_of, at};
 ghost use Rattle.aud_sio.specs.Packet.{packet_of, view};
 ghost use Rattle.aud_client.specs.TapPackets.{is_told, one_of, told, told_in};
-ghost use Rattle.aud_client.specs.ConnectionRead.{ReadsRecord, ReadsEngine, Reads, sent_seen, packets_read, packet_seen, bad_or};
+ghost use Rattle.aud_client.specs.ConnectionRead.{ReadsRecord, ReadsEngine, Reads, sent_seen, packets_read, bad_or};
+ghost use Rattle.aud_client.specs.Seen.{packet_seen};
 
 use aud_eio::{Eio, EioFault, decode_binary, decode_payload, decode_text};
 use aud_sio::{Assembler, Packet, PacketKind, SioFault, Whole, decode};

@@ -6,7 +6,7 @@ ghost use Rattle.aud_tap.specs.declared.records.StreamRec.{StreamRec};
 ghost use Rattle.aud_sio.specs.Packet.{view};
 ghost use Rattle.aud_sio.specs.Assembly.{whole_view};
 ghost use Rattle.aud_client.specs.TapPackets.{Received, Sent};
-ghost use Rattle.aud_client.specs.ConnectionRead.{packet_seen};
+ghost use Rattle.aud_client.specs.Seen.{packet_seen};
 ghost use Rattle.aud_client.specs.Replies.{is_this};
 ghost use Rattle.aud_client.specs.Received.{names, is_recovered};
 ghost use Rattle.aud_client.specs.Kept.{fresh, grown};

@@ -3,8 +3,7 @@ ghost use Rattle.std.specs.Prelude.{◌≡◌, ℕ, ◌++◌, ◌∷◌, List, [
 ghost use Rattle.std.specs.Option.{option_and_then};
 ghost use Rattle.aud_tap.specs.declared.records.StreamRec.{StreamRec};
 ghost use Rattle.aud_client.specs.TapPackets.{TapPacket as TapPacketSeen};
-ghost use Rattle.aud_client.specs.ClientRead.{connection_seen};
-ghost use Rattle.aud_client.specs.ConnectionRead.{packet_seen};
+ghost use Rattle.aud_client.specs.Seen.{connection_seen, packet_seen};
 ghost use Rattle.aud_client.specs.Stays.{is_connect, is_disconnect, namespace, packet_in};
 ghost use Rattle.aud_sio.specs.Packet.{view};
 ghost use Rattle.aud_client.specs.Told.{StaySeen};

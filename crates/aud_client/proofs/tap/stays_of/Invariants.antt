@@ -1,6 +1,6 @@
 use Rattle.std.proofs.Common.{◌≡◌, ◌++◌, flat_map}
 use Rattle.aud_client.specs.TapPackets.{tap_packets}
-use Rattle.aud_client.specs.ClientRead.{connections_seen}
+use Rattle.aud_client.specs.Seen.{connections_seen}
 use Rattle.aud_client.specs.Received.{stays_of}
 use Rattle.aud_client.proofs.tap.stays_of.Given as goal
 

@@ -1,6 +1,7 @@
 use Rattle.std.proofs.Common.{◌≡◌, ◌+◌, ◌∷◌, ◌++◌, map, drop, sym, ap, ◌∙◌, arith}
 use Rattle.std.proofs.lemmas.List.{drop_more, take_rest}
-use Rattle.aud_client.specs.ClientRead.{connections_seen, cut_seen, begun, bad_of}
+use Rattle.aud_client.specs.ClientRead.{cut_seen, begun, bad_of}
+use Rattle.aud_client.specs.Seen.{connections_seen}
 use Rattle.std.specs.Option.{option_or}
 use Rattle.aud_client.proofs.ClientLemmas.{HasTaken-more, HasTaken-all}
 use Rattle.aud_client.proofs.client_tap.ClientTap.build.Goals as goal

@@ -1,4 +1,4 @@
-use Rattle.aud_client.specs.ClientRead.{connections_seen}
+use Rattle.aud_client.specs.Seen.{connections_seen}
 use Rattle.aud_client.proofs.ClientLemmas.{HasTaken}
 use Rattle.aud_client.proofs.client_tap.ClientTap.build.Given as goal
 

@@ -1,4 +1,4 @@
-use Rattle.aud_client.specs.ConnectionRead.{packet_seen}
+use Rattle.aud_client.specs.Seen.{packet_seen}
 use Rattle.aud_client.proofs.Kept.{grown_at}
 use Rattle.aud_client.proofs.stays.Stays.grow.Goals as goal
 

@@ -1,5 +1,5 @@
 use Rattle.std.proofs.Common.{sym}
-use Rattle.aud_client.specs.ConnectionRead.{packet_seen}
+use Rattle.aud_client.specs.Seen.{packet_seen}
 use Rattle.aud_client.proofs.Kept.{kept-begin, kept-go_on}
 use Rattle.aud_client.proofs.stays.Stays.take.Goals as goal
 
