@@ -1,25 +1,17 @@
 -- Texts, look-ups, and options.
-use Rattle.std.proofs.Common.{◌≡◌, ◌<◌, ℕ, zero, suc, Bool, true, false, cond, List, [], ◌∷◌, length, set, Option, Some, None, slice_get, refl, sym, ap, ◌∙◌, ◌⊎◌, inl, inr, true≢false, bytes_eq, arith, option_map, option_and_then}
+use Rattle.std.proofs.Common.{◌≡◌, ℕ, zero, suc, Bool, true, false, cond, List, [], ◌∷◌, set, Option, Some, None, slice_get, refl, sym, ap, ◌∙◌, ◌⊎◌, bytes_eq, arith, option_map, option_and_then}
 use Rattle.std.specs.Ordering.{nat_cmp}
-use Rattle.std.specs.Cmp.Lexicographic.{slice_cmp, texts_ties, nat_list_cmp_total, bytes_decides}
+use Rattle.std.specs.Cmp.Lexicographic.{slice_cmp, texts_ties, nat_list_cmp_total}
 use Rattle.std.specs.FinMap as fin
 use Rattle.std.proofs.lemmas.Option.{same_Some, none-some}
 use Rattle.aud_node.specs.Stream.{Text}
-
-pub same_text : (a b : Text) → bytes_eq a b ≡ true → a ≡ b
-same_text a b = (bytes_decides a b).0
-
-pub itself_text : (a : Text) → bytes_eq a a ≡ true
-itself_text a = (bytes_decides a a).1 refl
+use Rattle.aud_rooms.proofs.Turns.{same_text, itself_text}
 
 pub other_text : (a b : Text) → (a ≡ b → ⊥) → bytes_eq a b ≡ false
 other_text a b n = elim (bytes_eq a b) as (λ v. bytes_eq a b ≡ v → v ≡ false) [ true ↦ λ e. absurd (n (same_text a b e)) | false ↦ λ e. refl ] refl
 
 pub cases_text : (a b : Text) → (a ≡ b) ⊎ (a ≡ b → ⊥)
-cases_text a b = elim (bytes_eq a b) as (λ v. bytes_eq a b ≡ v → (a ≡ b) ⊎ (a ≡ b → ⊥)) [
-  | true ↦ λ e. inl (same_text a b e)
-  | false ↦ λ e. inr (λ same. true≢false (sym (itself_text b) ∙ ap (λ t. bytes_eq t b) (sym same) ∙ e))
-] refl
+cases_text a b = grind (arith, same_text a b, itself_text b)
 
 module _ {X : Type 0} where
   pub get_insert_same : (m : fin.FinMap (slice_cmp nat_cmp) X) (k : Text) (v : X) → fin.get (fin.insert m k v) k ≡ Some v
@@ -39,11 +31,6 @@ module _ {X : Type 0} where
   slice_get-set_other (x ∷ xs) zero (suc j) v n = refl
   slice_get-set_other (x ∷ xs) (suc i) zero v n = refl
   slice_get-set_other (x ∷ xs) (suc i) (suc j) v n = slice_get-set_other xs i j v (λ e. n (ap suc e))
-
-  pub slice_get_below : (xs : List X) (i : ℕ) → i < length xs → (x : X) × (slice_get xs i ≡ Some x)
-  slice_get_below [] i h = absurd (omega arith)
-  slice_get_below (x ∷ xs) zero h = (x, refl)
-  slice_get_below (x ∷ xs) (suc i) h = slice_get_below xs i (omega arith)
 
 -- what an option that is there says of its parts
 module _ {A B : Type 0} where

@@ -3,19 +3,19 @@ use Rattle.std.proofs.Common.{◌≡◌, ◌<◌, ◌≤◌, ℕ, zero, suc, Boo
 use Rattle.std.specs.Ordering.{nat_cmp}
 use Rattle.std.specs.Cmp.Lexicographic.{slice_cmp}
 use Rattle.std.specs.FinMap as fin
-use Rattle.std.proofs.lemmas.Bool.{cases_lt, le-leb, lt-leb, leb-false, and_right}
+use Rattle.std.proofs.lemmas.Bool.{cases_lt, le-leb, lt-leb, and_right}
 use Rattle.std.proofs.lemmas.List.Elements.{filter_agree}
 use Rattle.aud_tap.specs.declared.records.StreamRec.{StreamRec}
 use Rattle.aud_node.specs.Cluster.{Cluster, node_log}
 use Rattle.aud_node.specs.Cursors.{cursor_at}
-use Rattle.aud_node.specs.Stream.{Text, entry, positions_after}
+use Rattle.aud_node.specs.Stream.{entry, positions_after}
 use Rattle.aud_rooms.specs.Rooms.{Rooms, own_room}
-use Rattle.aud_rooms.specs.Turns.{Who, Turn, Slice, slice_of, AreTurns, HasNoTurn}
-use Rattle.aud_rooms.specs.TurnsDue.{rooms_at_take, rooms_at_end, rooms_for, is_past_first, is_for_rooms, is_turn_due, turns_due, greatest_high}
+use Rattle.aud_rooms.specs.Turns.{Who, Turn, slice_of, AreTurns, HasNoTurn}
+use Rattle.aud_rooms.specs.TurnsDue.{is_past_first, is_for_rooms, is_turn_due, turns_due, greatest_high}
 use Rattle.aud_merge.specs.ByTurns.{IsPrefixOf, reaching_step, FallsAfter, rooms_given, HasRooms}
 use Rattle.aud_merge.specs.Due.{cursor_of, node_cursor, is_at_least, is_reached, states_from, states, reach, session_at_reach, birth, is_past, is_for_session, is_due, due}
 use Rattle.aud_merge.specs.declared.step.Step.{Step}
-use Rattle.aud_merge.specs.Machine.{State, start, after, session_of, taken_of}
+use Rattle.aud_merge.specs.Machine.{State, start, after, session_of}
 use Rattle.aud_merge.specs.Runs.{IsRun, RunsOn}
 use Rattle.aud_merge.specs.Sessions.{Session, Absent}
 use Rattle.aud_merge.proofs.Steps.{Stepped, stepped}
@@ -24,6 +24,7 @@ use Rattle.aud_merge.proofs.Phases.{Unstarted, length-count, Out, Waiting}
 use Rattle.aud_merge.proofs.Spots.{Settled}
 use Rattle.aud_merge.proofs.PhaseSteps.{begun_at, out_stays, reached-here}
 use Rattle.aud_merge.proofs.Judged.{first_index-find, first_index-find-map, agrees, falls}
+use Rattle.aud_rooms.proofs.ByTurns.{rooms_for-up_to, rooms_for-past}
 
 find-first : (c : Cluster) (test : State → Bool) (st : State) (steps : List Step) → test st ≡ true → find test (states_from c st steps) ≡ Some st
 find-first c test st [] e = ap (λ b. cond b (Some st) None) e
@@ -32,13 +33,7 @@ find-first c test st (s ∷ steps) e = ap (λ b. cond b (Some st) (find test (st
 -- the session's node has this cursor when the session is on a node for the first time
 born_from : (c : Cluster) (who : Who) (held : Rooms) (t : Turn) (later : List Turn) (steps : List Step) (st : State) → Out c who st 0 held (t ∷ later) → RunsOn c st steps → Synced c st
     → option_and_then (λ s. node_cursor s (session_of s who.pid)) (find (is_reached who.pid 0) (states_from c st steps)) ≡ Some (cursor_at c.stream (node_log c t.node) (suc t.from))
-born_from c who held t later [] st o finished synced =
-    let start_left : taken_of st t.node ≤ t.from = o.unstarted.0 in
-    let some = o.turns.0.some in
-    let within = o.turns.0.within in
-    let all = finished t.node in
-    let long = length-count c t.node in
-    absurd (omega (arith, start_left, some, within, all, long))
+born_from c who held t later [] st o finished synced = grind (arith, length-count c t.node)
 born_from c who held t later (s ∷ steps) st o runs synced =
     let (next, allowed, goes_on) = runs in
     let step = stepped c st next s allowed in
@@ -48,8 +43,8 @@ born_from c who held t later (s ∷ steps) st o runs synced =
     unreached : is_reached who.pid 0 st ≡ false
     unreached = ap (λ x. is_at_least (node_cursor st x) 0) o.session
 
-    behind : (next : State) → after c st s ≡ Some next → find (is_reached who.pid 0) (states_from c st (s ∷ steps)) ≡ find (is_reached who.pid 0) (states_from c next steps)
-    behind next allowed =
+    onward : (next : State) → after c st s ≡ Some next → find (is_reached who.pid 0) (states_from c st (s ∷ steps)) ≡ find (is_reached who.pid 0) (states_from c next steps)
+    onward next allowed =
         ap (λ b. cond b (Some st) (find (is_reached who.pid 0) (states_from c (unwrap_or (after c st s) st) steps))) unreached
         ∙ ap (λ x. find (is_reached who.pid 0) (states_from c (unwrap_or x st) steps)) allowed
 
@@ -57,11 +52,11 @@ born_from c who held t later (s ∷ steps) st o runs synced =
         → (Out c who next 0 held (t ∷ later) → option_and_then (λ s. node_cursor s (session_of s who.pid)) (find (is_reached who.pid 0) (states_from c next steps)) ≡ Some (cursor_at c.stream (node_log c t.node) (suc t.from)))
         → option_and_then (λ s. node_cursor s (session_of s who.pid)) (find (is_reached who.pid 0) (states_from c st (s ∷ steps))) ≡ Some (cursor_at c.stream (node_log c t.node) (suc t.from))
     go next allowed goes_on step synced' (inr quiet) ih =
-        ap (option_and_then (λ s. node_cursor s (session_of s who.pid))) (behind next allowed) ∙ ih (out_stays c who st next s.log s.index 0 held (t ∷ later) o step quiet)
+        ap (option_and_then (λ s. node_cursor s (session_of s who.pid))) (onward next allowed) ∙ ih (out_stays c who st next s.log s.index 0 held (t ∷ later) o step quiet)
     go next allowed goes_on step synced' (inl named) ih =
         let (same_log, same_index, here) = begun_at c who st next s.log s.index steps 0 held t later o step goes_on named in
         let reached : is_reached who.pid 0 next ≡ true = reached-here who.pid next 0 s.log 0 who.sid who.nsp held here ∙ le-leb 0 (cursor_of next s.log) (omega arith) in
-        ap (option_and_then (λ s. node_cursor s (session_of s who.pid))) (behind next allowed ∙ find-first c (is_reached who.pid 0) next steps reached)
+        ap (option_and_then (λ s. node_cursor s (session_of s who.pid))) (onward next allowed ∙ find-first c (is_reached who.pid 0) next steps reached)
         ∙ ap (node_cursor next) here
         ∙ ap Some (synced' s.log ∙ ap (cursor_at c.stream (node_log c s.log)) (step.now ∙ ap suc same_index) ∙ ap (λ n. cursor_at c.stream (node_log c n) (suc t.from)) same_log)
 
@@ -115,24 +110,6 @@ pub due-turns : (c : Cluster) (run : List Step) (who : Who) (turns : List Turn) 
     → due c run who.pid ≡ turns_due c.stream who (map (slice_of c) turns)
 due-turns c run who turns is are none = filter_agree _ _ (λ p. due_at c run who turns is are p (inr none)) (positions_after 0 (length c.stream))
 
--- a position up to the greatest high has rooms
-rooms_for-up_to : (stream : List StreamRec) (pid : Text) (held : Rooms) (slices : List Slice) (p : ℕ) → 0 < p → p ≤ greatest_high slices → (rooms : Rooms) × (rooms_for stream pid held slices p ≡ Some rooms)
-rooms_for-up_to stream pid held [] p some h = absurd (omega arith)
-rooms_for-up_to stream pid held (slice ∷ later) p some h = go (nat_le p slice.high) refl (λ rooms below. rooms_for-up_to stream pid rooms later p some below)
-  where
-    go : (b : Bool) → nat_le p slice.high ≡ b
-        → ((rooms : Rooms) → p ≤ greatest_high later → (found : Rooms) × (rooms_for stream pid rooms later p ≡ Some found))
-        → (rooms : Rooms) × (cond b (Some (cond (nat_le p slice.low) held (rooms_at_take stream pid p held slice.recs))) (rooms_for stream pid (rooms_at_end pid held slice.recs) later p) ≡ Some rooms)
-    go true e ih = (cond (nat_le p slice.low) held (rooms_at_take stream pid p held slice.recs), refl)
-    go false e ih = (let above : slice.high < p = leb-false p slice.high e in ih (rooms_at_end pid held slice.recs) (omega arith))
-
--- one past it has none
-rooms_for-past : (stream : List StreamRec) (pid : Text) (held : Rooms) (slices : List Slice) (p : ℕ) → greatest_high slices < p → rooms_for stream pid held slices p ≡ None
-rooms_for-past stream pid held [] p h = refl
-rooms_for-past stream pid held (slice ∷ later) p h =
-    ap (λ b. cond b (Some (cond (nat_le p slice.low) held (rooms_at_take stream pid p held slice.recs))) (rooms_for stream pid (rooms_at_end pid held slice.recs) later p)) (lt-leb p slice.high (omega arith))
-    ∙ rooms_for-past stream pid (rooms_at_end pid held slice.recs) later p (omega arith)
-
 -- what a test keeps of the positions up to h stands at the front of what it keeps
 front : (h : ℕ) (test shown : ℕ → Bool) → ((p : ℕ) → 0 < p → p ≤ h → test p ≡ shown p) → ((p : ℕ) → h < p → shown p ≡ false)
     → (n a : ℕ) → IsPrefixOf (filter shown (positions_after a n)) (filter test (positions_after a n))
@@ -160,8 +137,8 @@ pub due-shown : (c : Cluster) (run : List Step) (who : Who) (turns : List Turn) 
     → IsPrefixOf (turns_due c.stream who (map (slice_of c) turns)) (due c run who.pid)
 due-shown c run who turns is are =
     front (greatest_high (map (slice_of c) turns)) (is_due c run who.pid) (is_turn_due c.stream who (map (slice_of c) turns))
-    (λ p some h. due_at c run who turns is are p (inl (rooms_for-up_to c.stream who.pid (own_room who.sid) (map (slice_of c) turns) p some h)))
-    (λ p h. and_right (is_past_first (map (slice_of c) turns) p) _ (ap (is_for_rooms (entry c.stream p) who.nsp) (rooms_for-past c.stream who.pid (own_room who.sid) (map (slice_of c) turns) p h)))
+    (λ p some h. due_at c run who turns is are p (inl (rooms_for-up_to c.stream who.pid p (own_room who.sid) (map (slice_of c) turns) some h)))
+    (λ p h. and_right (is_past_first (map (slice_of c) turns) p) _ (ap (is_for_rooms (entry c.stream p) who.nsp) (rooms_for-past c.stream who.pid p (own_room who.sid) (map (slice_of c) turns) h)))
     (length c.stream) 0
 
 -- The moment that reaches a position falls after the step that the turns tell; where they tell none, there is none
@@ -197,11 +174,11 @@ due-shown-upto c run who turns is are (suc n) a = go (cases_lt (greatest_high (m
         → filter (is_turn_due c.stream who (map (slice_of c) turns)) (positions_after a (suc n)) ≡ filter (λ p. nat_le p (greatest_high (map (slice_of c) turns))) (filter (is_due c run who.pid) (positions_after a (suc n)))
     go (inl l) ih =
         ap (λ b. cond b (suc a ∷ filter (is_turn_due c.stream who (map (slice_of c) turns)) (positions_after (suc a) n)) (filter (is_turn_due c.stream who (map (slice_of c) turns)) (positions_after (suc a) n)))
-        (and_right (is_past_first (map (slice_of c) turns) (suc a)) _ (ap (is_for_rooms (entry c.stream (suc a)) who.nsp) (rooms_for-past c.stream who.pid (own_room who.sid) (map (slice_of c) turns) (suc a) l)))
+        (and_right (is_past_first (map (slice_of c) turns) (suc a)) _ (ap (is_for_rooms (entry c.stream (suc a)) who.nsp) (rooms_for-past c.stream who.pid (suc a) (own_room who.sid) (map (slice_of c) turns) l)))
         ∙ ih ∙ sym (drops (lt-leb (suc a) h l) (is_due c run who.pid (suc a)))
     go (inr l) ih =
         ap (λ xs. cond (is_turn_due c.stream who (map (slice_of c) turns) (suc a)) (suc a ∷ xs) xs) ih
-        ∙ ap (λ b. cond b (suc a ∷ filter (λ p. nat_le p h) rest) (filter (λ p. nat_le p h) rest)) (sym (due_at c run who turns is are (suc a) (inl (rooms_for-up_to c.stream who.pid (own_room who.sid) (map (slice_of c) turns) (suc a) (omega arith) l))))
+        ∙ ap (λ b. cond b (suc a ∷ filter (λ p. nat_le p h) rest) (filter (λ p. nat_le p h) rest)) (sym (due_at c run who turns is are (suc a) (inl (rooms_for-up_to c.stream who.pid (suc a) (own_room who.sid) (map (slice_of c) turns) (omega arith) l))))
         ∙ keeps (le-leb (suc a) h l) (is_due c run who.pid (suc a))
 
 pub due-shown-up_to_high : (c : Cluster) (run : List Step) (who : Who) (turns : List Turn) → IsRun c run → AreTurns c who 0 turns
@@ -211,7 +188,7 @@ due-shown-up_to_high c run who turns is are = due-shown-upto c run who turns is 
 -- the moments that reach the positions of the shown turns
 pub reach-shown : (c : Cluster) (run : List Step) (who : Who) (turns : List Turn) → IsRun c run → AreTurns c who 0 turns
     → (p : ℕ) → 0 < p → p ≤ greatest_high (map (slice_of c) turns) → FallsAfter run (reach c run who.pid p) (reaching_step c turns p)
-reach-shown c run who turns is are p some h = reach-turns c run who turns is are p (inl (rooms_for-up_to c.stream who.pid (own_room who.sid) (map (slice_of c) turns) p some h))
+reach-shown c run who turns is are p some h = reach-turns c run who turns is are p (inl (rooms_for-up_to c.stream who.pid p (own_room who.sid) (map (slice_of c) turns) some h))
 
 pub reach-all : (c : Cluster) (run : List Step) (who : Who) (turns : List Turn) → IsRun c run → AreTurns c who 0 turns → HasNoTurn c who.pid (length turns)
     → (p : ℕ) → FallsAfter run (reach c run who.pid p) (reaching_step c turns p)
@@ -220,7 +197,7 @@ reach-all c run who turns is are none p = reach-turns c run who turns is are p (
 -- the rooms of the positions of the shown turns
 pub rooms-shown : (c : Cluster) (run : List Step) (who : Who) (turns : List Turn) (p : ℕ) → IsRun c run → AreTurns c who 0 turns
     → 0 < p → p ≤ greatest_high (map (slice_of c) turns) → HasRooms who (session_at_reach c run who.pid p) (rooms_given c who turns p)
-rooms-shown c run who turns p is are some h = rooms-turns c run who turns is are p (inl (rooms_for-up_to c.stream who.pid (own_room who.sid) (map (slice_of c) turns) p some h))
+rooms-shown c run who turns p is are some h = rooms-turns c run who turns is are p (inl (rooms_for-up_to c.stream who.pid p (own_room who.sid) (map (slice_of c) turns) some h))
 
 pub rooms-all : (c : Cluster) (run : List Step) (who : Who) (turns : List Turn) (p : ℕ) → IsRun c run → AreTurns c who 0 turns → HasNoTurn c who.pid (length turns)
     → HasRooms who (session_at_reach c run who.pid p) (rooms_given c who turns p)

@@ -10,7 +10,8 @@ use Rattle.aud_node.specs.TurnRecords.{pid_of, begins_turn}
 use Rattle.aud_rooms.specs.Rooms.{Rooms, own_room, rooms_after}
 use Rattle.aud_rooms.specs.Turns.{Who, beginning, Part, Inner, Last, Foreign, End, ByBreak, ByGone, ByLog, part_of}
 use Rattle.aud_merge.specs.Sessions.{Session, Absent, Here, Away, Ended, session_after}
-use Rattle.aud_merge.proofs.Basics.{cond_parts, same_text, itself_text, other_text}
+use Rattle.aud_merge.proofs.Basics.{cond_parts, other_text}
+use Rattle.aud_rooms.proofs.Turns.{same_text, itself_text}
 
 -- the session is in turn k or has passed it
 abbrev pub IsBeyond : ℕ → Session → Type 0
@@ -58,23 +59,15 @@ inner-after l pid k sid nsp held at (Start off) s' part names e = absurd (none-s
 inner-after l pid k sid nsp held at (Take off) s' part names e = absurd (none-some pid names)
 inner-after l pid k sid nsp held at (Opened other sid' nsp') s' part names e = absurd (none-some s' e)
 inner-after l pid k sid nsp held at (Back other number) s' part names e = absurd (none-some s' e)
-inner-after l pid k sid nsp held at (Join other room) s' part names e =
-    let (here, is) = cond_parts (nat_eq at l) _ s' e in
-    let own : bytes_eq other pid ≡ true = ap (λ q. bytes_eq q pid) (same_Some other pid names) ∙ itself_text pid in
-    (eqb-true at l here, sym (same_Some _ _ is) ∙ ap (λ b. Here at k sid nsp (cond b (set'.insert held room) held)) (sym own))
-inner-after l pid k sid nsp held at (Leave other room) s' part names e =
-    let (here, is) = cond_parts (nat_eq at l) _ s' e in
-    let own : bytes_eq other pid ≡ true = ap (λ q. bytes_eq q pid) (same_Some other pid names) ∙ itself_text pid in
-    (eqb-true at l here, sym (same_Some _ _ is) ∙ ap (λ b. Here at k sid nsp (cond b (set'.remove held room) held)) (sym own))
+inner-after l pid k sid nsp held at (Join other room) s' part names e = grind (arith, cond_parts (nat_eq at l) _ s' e, itself_text pid, eqb-true at l)
+inner-after l pid k sid nsp held at (Leave other room) s' part names e = grind (arith, cond_parts (nat_eq at l) _ s' e, itself_text pid, eqb-true at l)
 inner-after l pid k sid nsp held at (Broke other number) s' part names e =
     let (here, is) = cond_parts (nat_eq at l && nat_eq k number) (Some (Away k sid nsp held)) s' e in
     let own : bytes_eq other pid ≡ true = ap (λ q. bytes_eq q pid) (same_Some other pid names) ∙ itself_text pid in
     let turn : nat_eq number k ≡ true = eq-eqb number k (sym (eqb-true k number (and_parts _ _ here).1)) in
     let broke : part_of pid k (Broke other number) ≡ Last ByBreak = ap (λ b. cond b (cond (nat_eq number k) (Last ByBreak) Foreign) Inner) own ∙ ap (λ b. cond b (Last ByBreak) Foreign) turn in
     absurd (inner_last ByBreak (sym part ∙ broke))
-inner-after l pid k sid nsp held at (Gone other) s' part names e =
-    let own : bytes_eq other pid ≡ true = ap (λ q. bytes_eq q pid) (same_Some other pid names) ∙ itself_text pid in
-    absurd (inner_last ByGone (sym part ∙ ap (λ b. cond b (Last ByGone) Inner) own))
+inner-after l pid k sid nsp held at (Gone other) s' part names e = grind (arith, itself_text pid, inner_last ByGone)
 
 cond_last : (b : Bool) (p : Part) (e : End) → cond b p Inner ≡ Last e → (b ≡ true) × (p ≡ Last e)
 cond_last true p e is = (refl, is)
@@ -87,15 +80,7 @@ ended ByGone k sid nsp held = Ended
 ended ByLog k sid nsp held = Ended
 
 cond_end : (b : Bool) (e e' : End) → cond b (Last e) Foreign ≡ Last e' → e ≡ e'
-cond_end true e e' is = by_last e e' is
-  where
-    end_of : Part → End
-    end_of (Last x) = x
-    end_of Inner = ByLog
-    end_of Foreign = ByLog
-
-    by_last : (e e' : End) → Last e ≡ Last e' → e ≡ e'
-    by_last e e' is = cc
+cond_end true e e' is = grind arith
 cond_end false e e' is = absurd (part_foreign e' is)
 
 pub last-names : (pid : Text) (k : ℕ) (rec : NodeRec) (e : End) → part_of pid k rec ≡ Last e → pid_of rec ≡ Some pid
@@ -170,15 +155,6 @@ pub beginning-after : (l : ℕ) (who : Who) (k : ℕ) (held : Rooms) (s' : Sessi
 beginning-after l who zero held s' first e = sym (same_Some _ _ e) ∙ ap (λ rooms. Here l 0 who.sid who.nsp rooms) (sym (first refl))
 beginning-after l who (suc k) held s' first e = sym (same_Some _ _ (cond_parts (nat_eq (suc k) (suc k)) _ s' e).1)
 
-pub beginning-begins : (who : Who) (k : ℕ) → begins_turn who.pid k (beginning who k) ≡ true
-beginning-begins who zero = itself_text who.pid
-beginning-begins who (suc k) = and_from _ _ (itself_text who.pid) (eq-eqb (suc k) (suc k) refl)
-
-pub begins-names : (pid : Text) (k : ℕ) (rec : NodeRec) → begins_turn pid k rec ≡ true → pid_of rec ≡ Some pid
-begins-names pid zero (Opened other sid nsp) e = ap Some (same_text other pid e)
-begins-names pid (suc k) (Back other number) e = ap Some (same_text other pid (and_parts _ _ e).0)
-begins-names pid k _ e = absurd (false≢true e)
-
 -- a turn that has begun is beyond its beginning
 pub begun-beyond : (l : ℕ) (who : Who) (k : ℕ) (held : Rooms) (rec : NodeRec) (s' : Session)
     → begins_turn who.pid k rec ≡ true → session_after l rec (waiting who k held) ≡ Some s' → IsBeyond k s'
@@ -212,10 +188,3 @@ ended-after l (Back pid number) s' e = none-some s' e
 ended-after l (Gone pid) s' e = none-some s' e
 ended-after l (Start off) s' e = none-some s' e
 ended-after l (Take off) s' e = none-some s' e
-
--- a record begins one turn
-pub begins-same : (who : Who) (k n : ℕ) → begins_turn who.pid k (beginning who n) ≡ true → k ≡ n
-begins-same who zero zero e = refl
-begins-same who zero (suc n) e = absurd (false≢true e)
-begins-same who (suc k) zero e = absurd (false≢true e)
-begins-same who (suc k) (suc n) e = sym (eqb-true (suc n) (suc k) (and_parts _ _ e).1)

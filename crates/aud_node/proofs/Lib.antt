@@ -1,4 +1,5 @@
 pub mod ListLemmas
+pub mod RecordLemmas
 pub mod MapLemmas
 pub mod PlaceLemmas
 pub mod PositionLemmas

@@ -1,13 +1,10 @@
 -- The places of the taps that name a pid.
-use Rattle.std.proofs.Common.{◌≡◌, ℕ, ◌+◌, ◌-◌, ◌<◌, ◌≤◌, zero, suc, Bool, true, false, cond, not, List, [], ◌∷◌, ◌++◌, length, map, take, get_or, refl, sym, ap, ◌∙◌, arith, Some, slice_get, nat_eq, ◌||◌}
+use Rattle.std.proofs.Common.{◌≡◌, ℕ, ◌+◌, ◌-◌, ◌<◌, zero, suc, Bool, true, false, cond, not, List, [], ◌∷◌, ◌++◌, length, take, get_or, refl, sym, ap, ◌∙◌, arith, Some, slice_get, nat_eq, ◌||◌}
 use Rattle.std.specs.List.{filter, list_any}
-use Rattle.std.specs.Option.{option_and_then}
-use Rattle.std.proofs.lemmas.List.{length-map, take_all}
 use Rattle.std.proofs.lemmas.List.Folds.{list_any_more}
 use Rattle.std.proofs.lemmas.Bool.{eq-eqb}
 use Rattle.std.proofs.lemmas.Option.{slice_get_read}
 use Rattle.aud_tap.specs.declared.records.NodeRec.{NodeRec}
-use Rattle.aud_tap.specs.declared.taps.Tap.{Tap}
 use Rattle.aud_node.specs.Lists.{numbers_from}
 use Rattle.aud_node.specs.Stream.{Text}
 use Rattle.aud_node.specs.OwnRecords.{names}
@@ -49,7 +46,7 @@ noted-more place true true xs = with_place-twice place xs
 noted-more place true false xs = refl
 noted-more place false b xs = refl
 
--- ---- a place behind lesser ones
+-- ---- a place after lesser ones
 
 abbrev pub AreBelow : ℕ → List ℕ → Type 0
 AreBelow n [] = Unit {0}

@@ -6,7 +6,6 @@ use Rattle.std.specs.Ordering.{nat_cmp, is_eq, ordering_reverse}
 use Rattle.std.specs.declared.cmp.Ordering.TheVariants.{Less}
 use Rattle.std.specs.Cmp.{IsTotalOrder}
 use Rattle.std.specs.Cmp.Lexicographic.{slice_cmp, nat_list_cmp_total, texts_ties, bytes_decides}
-use Rattle.std.specs.Option.{unwrap_or, option_map}
 use Rattle.std.proofs.lemmas.Option.{slice_get-map}
 use Rattle.std.specs.FinSet as set
 use denote.Ref.{Bor}
@@ -23,42 +22,17 @@ use Rattle.aud_rooms.proofs.Times.{or_none}
 use Rattle.aud_rooms.proofs.Maximal.{place, place_maximal, interval_of, maximal_same, closed}
 use Rattle.aud_rooms.proofs.RoomMaps.{same_text, contains-rooms_with}
 use Rattle.aud_rooms.proofs.Kept.{covered_is}
+use Rattle.std.proofs.lemmas.List.Elements.{Contains-append_cases, Contains-append_left, Contains-append_right}
 
 -- ---- lists
 
 contains-map : {X Y : Type 0} (f : X → Y) (xs : List X) (y : Y) → Contains (map f xs) y → (x : X) × Contains xs x × (f x ≡ y)
 contains-map f [] y among = absurd (contains-none y among)
-contains-map f (x ∷ xs) y among = go (λ later. contains-map f xs y later) (contains-parts (f x) (map f xs) y among)
-  where
-    go : (Contains (map f xs) y → (z : _) × Contains xs z × (f z ≡ y)) → (f x ≡ y) ⊎ Contains (map f xs) y → (z : _) × Contains (x ∷ xs) z × (f z ≡ y)
-    go ih (inl same) = (x, contains-first x xs, same)
-    go ih (inr later) = (let (z, among, same) = ih later in (z, contains-later x xs z among, same))
+contains-map f (x ∷ xs) y among = grind (arith, contains-map f xs y, contains-parts (f x) (map f xs) y among, contains-first x xs, contains-later x xs)
 
 map-contains : {X Y : Type 0} (f : X → Y) (xs : List X) (x : X) → Contains xs x → Contains (map f xs) (f x)
 map-contains f [] x among = absurd (contains-none x among)
-map-contains f (y ∷ ys) x among = go (λ later. map-contains f ys x later) (contains-parts y ys x among)
-  where
-    go : (Contains ys x → Contains (map f ys) (f x)) → (y ≡ x) ⊎ Contains ys x → Contains (f y ∷ map f ys) (f x)
-    go ih (inl same) = subst (λ z. Contains (f y ∷ map f ys) (f z)) same (contains-first (f y) (map f ys))
-    go ih (inr later) = contains-later (f y) (map f ys) (f x) (ih later)
-
-contains-append : {X : Type 0} (xs ys : List X) (x : X) → Contains (xs ++ ys) x → Contains xs x ⊎ Contains ys x
-contains-append [] ys x among = inr among
-contains-append (y ∷ xs) ys x among = go (λ later. contains-append xs ys x later) (contains-parts y (xs ++ ys) x among)
-  where
-    go : (Contains (xs ++ ys) x → Contains xs x ⊎ Contains ys x) → (y ≡ x) ⊎ Contains (xs ++ ys) x → Contains (y ∷ xs) x ⊎ Contains ys x
-    go ih (inl same) = inl (subst (Contains (y ∷ xs)) same (contains-first y xs))
-    go ih (inr later) = elim (ih later) as (λ _. Contains (y ∷ xs) x ⊎ Contains ys x) [ inl a ↦ inl (contains-later y xs x a) | inr b ↦ inr b ]
-
-append-contains : {X : Type 0} (xs ys : List X) (x : X) → Contains xs x ⊎ Contains ys x → Contains (xs ++ ys) x
-append-contains [] ys x (inl among) = absurd (contains-none x among)
-append-contains [] ys x (inr among) = among
-append-contains (y ∷ xs) ys x (inl among) = go (λ later. append-contains xs ys x (inl later)) (contains-parts y xs x among)
-  where
-    go : (Contains xs x → Contains (xs ++ ys) x) → (y ≡ x) ⊎ Contains xs x → Contains (y ∷ xs ++ ys) x
-    go ih (inl same) = subst (Contains (y ∷ (xs ++ ys))) same (contains-first y (xs ++ ys))
-    go ih (inr later) = contains-later y (xs ++ ys) x (ih later)
-append-contains (y ∷ xs) ys x (inr among) = contains-later y (xs ++ ys) x (append-contains xs ys x (inr among))
+map-contains f (y ∷ ys) x among = grind (arith, map-contains f ys x, contains-parts y ys x among, contains-first (f y) (map f ys), contains-later (f y) (map f ys) (f x))
 
 -- ---- the spans of one room
 
@@ -117,20 +91,17 @@ entry_of (e ∷ es) room t found = go (λ later. entry_of es room t later) (is_e
 
 among_entries : (cov : ℕ) (es : RoomMap Times) (s : RoomSpan) → Contains (spans_upto cov es) s → (e : (Bor Text) × Times) × Contains es e × Contains (spans_of e.0.now cov e.1) s
 among_entries cov [] s among = absurd (contains-none s among)
-among_entries cov (e ∷ es) s among = go (λ later. among_entries cov es s later) (contains-append (spans_of e.0.now cov e.1) (spans_upto cov es) s among)
-  where
-    go : (Contains (spans_upto cov es) s → (x : (Bor Text) × Times) × Contains es x × Contains (spans_of x.0.now cov x.1) s) → Contains (spans_of e.0.now cov e.1) s ⊎ Contains (spans_upto cov es) s
-        → (x : (Bor Text) × Times) × Contains (e ∷ es) x × Contains (spans_of x.0.now cov x.1) s
-    go ih (inl here) = (e, contains-first e es, here)
-    go ih (inr later) = (let (x, among, at) = ih later in (x, contains-later e es x among, at))
+among_entries cov (e ∷ es) s among = elim (Contains-append_cases (spans_of e.0.now cov e.1) (spans_upto cov es) s among) as (λ _. (x : (Bor Text) × Times) × Contains (e ∷ es) x × Contains (spans_of x.0.now cov x.1) s) [
+  | inl here ↦ (e, contains-first e es, here)
+  | inr later ↦ (let (x, there, at) = among_entries cov es s later in (x, contains-later e es x there, at))
+]
 
 entries_among : (cov : ℕ) (es : RoomMap Times) (e : (Bor Text) × Times) (s : RoomSpan) → Contains es e → Contains (spans_of e.0.now cov e.1) s → Contains (spans_upto cov es) s
 entries_among cov [] e s among at = absurd (contains-none e among)
-entries_among cov (x ∷ es) e s among at = append-contains (spans_of x.0.now cov x.1) (spans_upto cov es) s (go (λ later. entries_among cov es e s later at) (contains-parts x es e among))
-  where
-    go : (Contains es e → Contains (spans_upto cov es) s) → (x ≡ e) ⊎ Contains es e → Contains (spans_of x.0.now cov x.1) s ⊎ Contains (spans_upto cov es) s
-    go ih (inl same) = inl (subst (λ z. Contains (spans_of z.0.now cov z.1) s) (sym same) at)
-    go ih (inr later) = inr (ih later)
+entries_among cov (x ∷ es) e s among at = elim (contains-parts x es e among) as (λ _. Contains (spans_upto cov (x ∷ es)) s) [
+  | inl same ↦ Contains-append_left (spans_of x.0.now cov x.1) (spans_upto cov es) s (subst (λ (y : (Bor Text) × Times). Contains (spans_of y.0.now cov y.1) s) (sym same) at)
+  | inr later ↦ Contains-append_right (spans_of x.0.now cov x.1) (spans_upto cov es) s (entries_among cov es e s later at)
+]
 
 order-append : (xs ys : List RoomSpan) → AreInOrder xs → AreInOrder ys → ((x y : RoomSpan) → Contains xs x → Contains ys y → ComesBefore x y) → AreInOrder (xs ++ ys)
 order-append [] ys a b before = b
@@ -147,11 +118,7 @@ order-append (x ∷ xs) ys a b before =
 
 below_each : (k : Bor Text) (es : RoomMap Times) (e : (Bor Text) × Times) → AllByRecursion (λ y. by_room k y ≡ Less) (map (λ x. x.0) es) → Contains es e → by_room k e.0 ≡ Less
 below_each k [] e all among = absurd (contains-none e among)
-below_each k (x ∷ es) e (first, rest) among = go (λ later. below_each k es e rest later) (contains-parts x es e among)
-  where
-    go : (Contains es e → by_room k e.0 ≡ Less) → (x ≡ e) ⊎ Contains es e → by_room k e.0 ≡ Less
-    go ih (inl same) = subst (λ (z : (Bor Text) × Times). by_room k z.0 ≡ Less) same first
-    go ih (inr later) = ih later
+below_each k (x ∷ es) e (first, rest) among = grind (arith, below_each k es e rest, contains-parts x es e among)
 
 module _ (low cov : ℕ) where
   room_of : (e : (Bor Text) × Times) → AreApart low e.1.ended e.1.since cov → (s : RoomSpan) → Contains (spans_of e.0.now cov e.1) s → s.room ≡ e.0.now
@@ -230,16 +197,7 @@ module _ (low cov : ℕ) (es : RoomMap Times) (kept : AreKept low cov es) (order
   by_entries = record { each = each; all = all; in_order = all_in_order low cov es ordered apart_of }
 
   given_at : (p : ℕ) → low < p → p ≤ cov → rooms_with (is_held_at p) es ≡ rooms_given (assigned_of low cov es) p
-  given_at p past upto =
-      let within : p - suc low < cov - low = omega arith in
-      let same : suc low + (p - suc low) ≡ p = omega arith in
-      sym (
-      ap (λ o. unwrap_or o set.empty) (
-      slice_get-map (λ q. rooms_with (is_held_at q) es) (positions_after low (cov - low)) (p - suc low)
-      ∙ ap (option_map (λ q. rooms_with (is_held_at q) es)) (position_at low (cov - low) (p - suc low) within)
-      )
-      ∙ ap (λ q. rooms_with (is_held_at q) es) same
-      )
+  given_at p past upto = grind (arith, slice_get-map, position_at low (cov - low) (p - suc low))
 
   pub finished : AreSpansOf (assigned_of low cov es) (spans_upto cov es)
   finished =

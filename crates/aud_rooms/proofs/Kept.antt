@@ -1,4 +1,6 @@
 -- What a builder of spans keeps of each room, seen as the rooms of each position.
+use Rattle.std.proofs.lemmas.Grind.{common_steps}
+use Rattle.std.proofs.lemmas.Bool.Decides.{nat_tests}
 use Rattle.std.proofs.Common.{◌≡◌, ◌<◌, ◌≤◌, ◌+◌, ◌-◌, ℕ, Bool, true, false, cond, ◌||◌, ◌&&◌, not, [], ◌++◌, map, replicate, Option, Some, None, refl, sym, ap, subst, ◌∙◌, arith}
 use Rattle.std.proofs.lemmas.List.{append-nil, length-map}
 use Rattle.std.specs.Ordering.{nat_cmp, is_eq, eq_by_cmp}
@@ -11,9 +13,10 @@ use Rattle.aud_rooms.specs.Assigned.{covered, starting, with_joined, with_left, 
 use Rattle.aud_rooms.specs.Times.{Times, AreApart, Continues, is_held_at, is_held_now}
 use Rattle.aud_rooms.specs.RoomMap.{RoomMap, at_room, do_pass, rooms_with}
 use Rattle.aud_rooms.specs.Building.{assigned_of, AreKept}
-use Rattle.aud_rooms.proofs.Times.{lt_false, held_beyond, apart_longer}
+use Rattle.aud_rooms.proofs.Times.{held_beyond, apart_longer}
 use Rattle.aud_rooms.proofs.RoomMaps.{same_text, contains-rooms_with, same_rooms}
 use Rattle.aud_rooms.proofs.Ranges.{map_positions, length-positions, map_more, map_same}
+use Rattle.std.proofs.lemmas.Bool.{le-ltb}
 
 -- ---- more positions are covered
 
@@ -33,17 +36,10 @@ module _ (low cov position : ℕ) (es : RoomMap Times) (kept : AreKept low cov e
       }
 
   pub covered_is : covered (assigned_of low cov es) ≡ cov
-  covered_is =
-      let above = kept.above in
-      ap (λ n. low + n) (length-map (positions_after low (cov - low)) (λ p. rooms_with (is_held_at p) es) ∙ length-positions low (cov - low))
-      ∙ omega arith
+  covered_is = grind (arith, common_steps, length-map, length-positions)
 
   later : map (λ p. rooms_with (is_held_at p) es) (positions_after (low + (cov - low)) (position - cov)) ≡ replicate (position - cov) (rooms_with is_held_now es)
-  later =
-      let above = kept.above in
-      ap (λ n. map (λ p. rooms_with (is_held_at p) es) (positions_after n (position - cov))) (let e : low + (cov - low) ≡ cov = omega arith in e)
-      ∙ map_positions (λ p. rooms_with (is_held_at p) es) (λ _. rooms_with is_held_now es) cov (position - cov) (λ p past _. now_beyond p past)
-      ∙ map_same (rooms_with is_held_now es) cov (position - cov)
+  later = grind (arith, map_positions, now_beyond, map_same (rooms_with is_held_now es) cov (position - cov))
 
   pub covers_more : cov ≤ position → assigned_of low position es ≡ covered_upto position (assigned_of low cov es)
   covers_more h =
@@ -57,12 +53,7 @@ module _ (low cov position : ℕ) (es : RoomMap Times) (kept : AreKept low cov e
       )
 
   pub covers_no_more : position ≤ cov → assigned_of low cov es ≡ covered_upto position (assigned_of low cov es)
-  covers_no_more h =
-      ap (λ xs. record { low = low; sets = xs; held = rooms_with is_held_now es }) (
-      sym (append-nil (map (λ p. rooms_with (is_held_at p) es) (positions_after low (cov - low))))
-      ∙ ap (λ n. map (λ p. rooms_with (is_held_at p) es) (positions_after low (cov - low)) ++ replicate n (rooms_with is_held_now es))
-      (let e : 0 ≡ position - cov = omega arith in e ∙ ap (λ n. position - n) (sym covered_is))
-      )
+  covers_no_more h = grind (arith, append-nil, covered_is)
 
 -- ---- a room's times change
 
@@ -112,19 +103,13 @@ module _ (low cov : ℕ) (olds news : RoomMap Times) (room : Text) (t : Times)
   -- the covered positions keep their rooms
   module _ (above : low ≤ cov) (same : (p : ℕ) → p ≤ cov → do_pass (is_held_at p) (at_room olds room) ≡ is_held_at p t) where
     same_sets : map (λ p. rooms_with (is_held_at p) news) (positions_after low (cov - low)) ≡ map (λ p. rooms_with (is_held_at p) olds) (positions_after low (cov - low))
-    same_sets =
-        map_positions (λ p. rooms_with (is_held_at p) news) (λ p. rooms_with (is_held_at p) olds) low (cov - low)
-        (λ p a b. unchanged (is_held_at p) (same p (omega arith)))
+    same_sets = grind (arith, map_positions, unchanged)
 
     pub assigned_joined : is_held_now t ≡ true → assigned_of low cov news ≡ with_joined room (assigned_of low cov olds)
-    assigned_joined now =
-        ap (λ xs. record { low = low; sets = xs; held = rooms_with is_held_now news }) same_sets
-        ∙ ap (λ xs. record { low = low; sets = map (λ p. rooms_with (is_held_at p) olds) (positions_after low (cov - low)); held = xs }) (gained is_held_now now)
+    assigned_joined now = grind (arith, same_sets, gained is_held_now now)
 
     pub assigned_left : is_held_now t ≡ false → assigned_of low cov news ≡ with_left room (assigned_of low cov olds)
-    assigned_left now =
-        ap (λ xs. record { low = low; sets = xs; held = rooms_with is_held_now news }) same_sets
-        ∙ ap (λ xs. record { low = low; sets = map (λ p. rooms_with (is_held_at p) olds) (positions_after low (cov - low)); held = xs }) (lost is_held_now now)
+    assigned_left now = grind (arith, same_sets, lost is_held_now now)
 
 -- ---- the builder's steps
 
@@ -136,9 +121,7 @@ module _ (birth : ℕ) (sid : Text) (olds news : RoomMap Times) (empty : olds �
   none test = refl
 
   from_none : (q : Bor Text) → at_room news q.now ≡ cond (is_eq (slice_cmp nat_cmp sid q.now)) (Some (record { ended = []; since = Some birth })) None
-  from_none q =
-      updates q ∙ ap (λ u. cond (is_eq (slice_cmp nat_cmp sid q.now)) (Some u) (at_room olds q.now)) is
-      ∙ ap (λ es. cond (is_eq (slice_cmp nat_cmp sid q.now)) (Some (record { ended = []; since = Some birth })) (at_room es q.now)) empty
+  from_none q = grind arith
 
   pub kept_started : AreKept birth birth news
   kept_started =
@@ -148,7 +131,7 @@ module _ (birth : ℕ) (sid : Text) (olds news : RoomMap Times) (empty : olds �
 
   pub assigned_started : assigned_of birth birth news ≡ starting sid birth
   assigned_started =
-      assigned_joined birth birth [] news sid (record { ended = []; since = Some birth }) from_none (omega arith) (λ p h. sym (lt_false birth p h)) refl
+      assigned_joined birth birth [] news sid (record { ended = []; since = Some birth }) from_none (omega arith) (λ p h. sym (le-ltb birth p h)) refl
       ∙ ap (λ n. record { low = birth; sets = map (λ p. rooms_with (is_held_at p) []) (positions_after birth n); held = set.insert (rooms_with is_held_now []) sid }) (let e : birth - birth ≡ 0 = omega arith in e)
       ∙ ap (λ rooms. record { low = birth; sets = []; held = set.insert rooms sid }) (none is_held_now)
 
@@ -172,9 +155,7 @@ module _ (low cov : ℕ) (olds : RoomMap Times) (room : Text) (absent : at_room 
   module _ (unchanged news : RoomMap Times) (same : unchanged ≡ olds) (t : Times) (is : t ≡ record { ended = []; since = Some cov })
       (updates : (q : Bor Text) → at_room news q.now ≡ cond (is_eq (slice_cmp nat_cmp room q.now)) (Some t) (at_room unchanged q.now)) where
     from_olds : (q : Bor Text) → at_room news q.now ≡ cond (is_eq (slice_cmp nat_cmp room q.now)) (Some (record { ended = []; since = Some cov })) (at_room olds q.now)
-    from_olds q =
-        updates q ∙ ap (λ u. cond (is_eq (slice_cmp nat_cmp room q.now)) (Some u) (at_room unchanged q.now)) is
-        ∙ ap (λ es. cond (is_eq (slice_cmp nat_cmp room q.now)) (Some (record { ended = []; since = Some cov })) (at_room es q.now)) same
+    from_olds q = grind (arith, common_steps, nat_tests, unchanged)
 
     pub kept_first : AreKept low cov news
     kept_first = kept_put low cov olds news room (record { ended = []; since = Some cov }) from_olds kept (kept.above, omega arith)
@@ -182,7 +163,7 @@ module _ (low cov : ℕ) (olds : RoomMap Times) (room : Text) (absent : at_room 
     pub assigned_first : assigned_of low cov news ≡ with_joined room (assigned_of low cov olds)
     assigned_first =
         assigned_joined low cov olds news room (record { ended = []; since = Some cov }) from_olds kept.above
-        (λ p h. ap (do_pass (is_held_at p)) absent ∙ sym (lt_false cov p h)) refl
+        (λ p h. ap (do_pass (is_held_at p)) absent ∙ sym (le-ltb cov p h)) refl
 
   without : set.remove (rooms_with is_held_now olds) room ≡ rooms_with is_held_now olds
   without = same_rooms _ _ (λ q. set.contains-remove nat_list_cmp_total (rooms_with is_held_now olds) room q ∙ go q (eq_by_cmp (slice_cmp nat_cmp) q room) refl)

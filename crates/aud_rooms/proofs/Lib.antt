@@ -18,3 +18,4 @@ pub mod Candidate
 pub mod OwnNumbers
 pub mod Records
 pub mod Walk
+pub mod Turns

@@ -1,13 +1,13 @@
 -- Intervals apart from one another are the maximal intervals of the positions in them.
-use Rattle.std.proofs.Common.{◌≡◌, ◌<◌, ◌≤◌, ◌-◌, ℕ, suc, Bool, true, false, ◌||◌, ◌&&◌, List, [], ◌∷◌, ◌++◌, Option, Some, None, cond, refl, sym, ap, subst, ◌∙◌, ◌⊎◌, inl, inr, nat_lt, nat_le, arith, true≢false}
+use Rattle.std.proofs.Common.{◌≡◌, ◌<◌, ◌≤◌, ◌-◌, ℕ, suc, Bool, true, false, ◌||◌, List, [], ◌∷◌, ◌++◌, Option, Some, None, cond, refl, sym, ap, subst, ◌∙◌, ◌⊎◌, inl, inr, nat_lt, arith, true≢false}
 use Rattle.std.specs.List.{Contains, list_any}
-use Rattle.std.proofs.lemmas.Bool.{leb-true, leb-false}
+use Rattle.std.proofs.lemmas.Bool.{leb-true, leb-false, or_from, or_right}
 use Rattle.std.proofs.lemmas.List.{append-nil}
 use Rattle.aud_rooms.specs.declared.interval.Interval.{Interval}
 use Rattle.aud_rooms.specs.Spans.{IsMaximalInterval}
 use Rattle.aud_rooms.specs.Times.{Times, is_in, AreApart, Continues, intervals_upto, open_interval}
 use Rattle.aud_rooms.proofs.Members.{contains-none, contains-parts, contains-first, contains-later}
-use Rattle.aud_rooms.proofs.Times.{or_false, before, behind, inside, none_before, ended, unused}
+use Rattle.aud_rooms.proofs.Times.{before, beyond, inside, none_before, ended, unused}
 
 -- the open interval ends with the covered positions
 closed_parts : (low covered : ℕ) (is : List Interval) (since : Option ℕ) → AreApart low is since covered
@@ -38,10 +38,6 @@ pub record Place (from covered : ℕ) (is : List Interval) (i : Interval) : Type
   pub not_before : list_any (is_in i.after) is ≡ false
   pub not_behind : list_any (is_in (suc i.last)) is ≡ false
 
-or_true : (a b : Bool) → b ≡ true → (a || b) ≡ true
-or_true true b e = refl
-or_true false b e = e
-
 pub place : (from covered : ℕ) (is : List Interval) (i : Interval) → AreApart from is None covered → Contains is i → Place from covered is i
 place from covered [] i apart among = absurd (contains-none i among)
 place from covered (j ∷ js) i (a, b, c, rest) among = go (λ later. place (suc j.last) covered js i rest later) (contains-parts j js i among)
@@ -53,8 +49,8 @@ place from covered (j ∷ js) i (a, b, c, rest) among = go (λ later. place (suc
           some = b;
           to = c;
           held = λ p x y. ap (λ z. z || list_any (is_in p) js) (inside p j x y);
-          not_before = or_false (is_in j.after j) _ (before j.after j (omega arith)) (none_before (suc j.last) covered j.after js None rest (omega arith));
-          not_behind = or_false (is_in (suc j.last) j) _ (behind (suc j.last) j (omega arith)) (none_before (suc j.last) covered (suc j.last) js None rest (omega arith));
+          not_before = or_from (is_in j.after j) _ (before j.after j (omega arith)) (none_before (suc j.last) covered j.after js None rest (omega arith));
+          not_behind = or_from (is_in (suc j.last) j) _ (beyond (suc j.last) j (omega arith)) (none_before (suc j.last) covered (suc j.last) js None rest (omega arith));
         }
 
     go : (Contains js i → Place (suc j.last) covered js i) → (j ≡ i) ⊎ Contains js i → Place from covered (j ∷ js) i
@@ -67,9 +63,9 @@ place from covered (j ∷ js) i (a, b, c, rest) among = go (λ later. place (suc
           above = omega arith;
           some = at.some;
           to = at.to;
-          held = λ p x y. or_true (is_in p j) _ (at.held p x y);
-          not_before = or_false (is_in i.after j) _ (behind i.after j (omega arith)) at.not_before;
-          not_behind = or_false (is_in (suc i.last) j) _ (behind (suc i.last) j (omega arith)) at.not_behind;
+          held = λ p x y. or_right (is_in p j) _ (at.held p x y);
+          not_before = or_from (is_in i.after j) _ (beyond i.after j (omega arith)) at.not_before;
+          not_behind = or_from (is_in (suc i.last) j) _ (beyond (suc i.last) j (omega arith)) at.not_behind;
         }
 
 pub place_maximal : (low covered : ℕ) (is : List Interval) (i : Interval) → Place low covered is i → IsMaximalInterval (λ p. list_any (is_in p) is) low covered (suc i.after) i.last
@@ -88,15 +84,7 @@ place_maximal low covered is i at =
 -- the interval of a position
 pub interval_of : (p : ℕ) (is : List Interval) → list_any (is_in p) is ≡ true → (i : Interval) × Contains is i × (i.after < p) × (p ≤ i.last)
 interval_of p [] e = absurd (true≢false (sym e))
-interval_of p (j ∷ js) e = go (λ later. interval_of p js later) (is_in p j) refl e
-  where
-    first : (a b : Bool) → (a && b) ≡ true → (a ≡ true) × (b ≡ true)
-    first true b e = (refl, e)
-    first false b e = absurd (true≢false (sym e))
-
-    go : (list_any (is_in p) js ≡ true → (i : Interval) × Contains js i × (i.after < p) × (p ≤ i.last)) → (b : Bool) → is_in p j ≡ b → (b || list_any (is_in p) js) ≡ true → (i : Interval) × Contains (j ∷ js) i × (i.after < p) × (p ≤ i.last)
-    go ih true at e = (let (x, y) = first (nat_lt j.after p) (nat_le p j.last) at in let past = leb-true (suc j.after) p x in (j, contains-first j js, omega arith, leb-true p j.last y))
-    go ih false at e = (let (i, among, x, y) = ih e in (i, contains-later j js i among, x, y))
+interval_of p (j ∷ js) e = grind (arith, interval_of p js, leb-true (suc j.after) p, contains-first j js, leb-true p j.last, contains-later j js)
 
 -- two maximal intervals with a position in common are one
 module _ (test : ℕ → Bool) (low high a b c d p : ℕ) (one : IsMaximalInterval test low high a b) (other : IsMaximalInterval test low high c d)
@@ -113,9 +101,4 @@ module _ (test : ℕ → Bool) (low high a b c d p : ℕ) (one : IsMaximalInterv
 
 pub maximal_same : (test : ℕ → Bool) (low high a b c d p : ℕ) → IsMaximalInterval test low high a b → IsMaximalInterval test low high c d
     → a ≤ p → p ≤ b → c ≤ p → p ≤ d → (a ≡ c) × (b ≡ d)
-maximal_same test low high a b c d p one other x y z w =
-    let e1 : a < c → ⊥ = not_earlier test low high a b c d p one other x y z w in
-    let e2 : c < a → ⊥ = not_earlier test low high c d a b p other one z w x y in
-    let e3 : b < d → ⊥ = not_shorter test low high a b c d p one other x y z w in
-    let e4 : d < b → ⊥ = not_shorter test low high c d a b p other one z w x y in
-    (omega arith, omega arith)
+maximal_same test low high a b c d p one other x y z w = grind (arith, not_earlier test low high a b c d p one other x y z w, not_earlier test low high c d a b p other one z w x y, not_shorter test low high a b c d p one other x y z w, not_shorter test low high c d a b p other one z w x y)

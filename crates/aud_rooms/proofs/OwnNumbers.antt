@@ -1,5 +1,5 @@
 -- The numbers of a session's records, between two numbers.
-use Rattle.std.proofs.Common.{◌≡◌, ◌<◌, ◌≤◌, ◌+◌, ◌-◌, ℕ, zero, suc, Bool, true, false, cond, ◌&&◌, List, [], ◌∷◌, ◌++◌, length, take, drop, get_or, filter, refl, ap, ◌∙◌, nat_lt, arith, slice_get}
+use Rattle.std.proofs.Common.{◌≡◌, ◌<◌, ◌≤◌, ◌+◌, ◌-◌, ℕ, zero, suc, Bool, true, false, ◌&&◌, List, [], ◌∷◌, ◌++◌, length, take, drop, get_or, filter, refl, ap, ◌∙◌, nat_lt, arith, slice_get}
 use Rattle.std.specs.List.{AllWithin}
 use Rattle.std.specs.List.Sorted.{IsNonDecreasing}
 use Rattle.std.proofs.lemmas.Bool.{le-leb, lt-leb, leb-true, leb-false}
@@ -36,11 +36,7 @@ rises-lower low x (y ∷ xs) h r = (let above = r.0 in (omega arith, r.1))
 
 rises-filter : (p : ℕ → Bool) (first count : ℕ) → Rises first (filter p (numbers_from first count))
 rises-filter p first zero = tt
-rises-filter p first (suc count) = go (p first) (rises-lower first (suc first) (filter p (numbers_from (suc first) count)) (omega arith) (rises-filter p (suc first) count))
-  where
-    go : (b : Bool) → Rises first (filter p (numbers_from (suc first) count)) → Rises first (cond b (first ∷ filter p (numbers_from (suc first) count)) (filter p (numbers_from (suc first) count)))
-    go true r = (omega arith, r)
-    go false r = r
+rises-filter p first (suc count) = grind (arith, rises-filter p (suc first) count, rises-lower first (suc first) (filter p (numbers_from (suc first) count)))
 
 rises-above : (low : ℕ) (xs : List ℕ) (j d : ℕ) → Rises low xs → j < length xs → low ≤ get_or xs j d
 rises-above low [] j d r h = absurd (omega arith)
@@ -68,22 +64,12 @@ module _ (p own : ℕ → Bool) where
   -- where all numbers pass, the filter keeps them
   filter_all : (first count : ℕ) → ((n : ℕ) → first ≤ n → n < first + count → p n ≡ true) → filter p (filter own (numbers_from first count)) ≡ filter own (numbers_from first count)
   filter_all first zero all = refl
-  filter_all first (suc count) all = go (own first) (filter_all (suc first) count (λ n a b. all n (omega arith) (omega arith)))
-    where
-      go : (b : Bool) → filter p (filter own (numbers_from (suc first) count)) ≡ filter own (numbers_from (suc first) count)
-          → filter p (cond b (first ∷ filter own (numbers_from (suc first) count)) (filter own (numbers_from (suc first) count))) ≡ cond b (first ∷ filter own (numbers_from (suc first) count)) (filter own (numbers_from (suc first) count))
-      go true ih = ap (λ b. cond b (first ∷ filter p (filter own (numbers_from (suc first) count))) (filter p (filter own (numbers_from (suc first) count)))) (all first (omega arith) (omega arith)) ∙ ap (λ ns. first ∷ ns) ih
-      go false ih = ih
+  filter_all first (suc count) all = grind (arith, filter_all (suc first) count)
 
   -- where none passes, it keeps none
   filter_no : (first count : ℕ) → ((n : ℕ) → first ≤ n → n < first + count → p n ≡ false) → filter p (filter own (numbers_from first count)) ≡ []
   filter_no first zero none = refl
-  filter_no first (suc count) none = go (own first) (filter_no (suc first) count (λ n a b. none n (omega arith) (omega arith)))
-    where
-      go : (b : Bool) → filter p (filter own (numbers_from (suc first) count)) ≡ []
-          → filter p (cond b (first ∷ filter own (numbers_from (suc first) count)) (filter own (numbers_from (suc first) count))) ≡ []
-      go true ih = ap (λ b. cond b (first ∷ filter p (filter own (numbers_from (suc first) count))) (filter p (filter own (numbers_from (suc first) count)))) (none first (omega arith) (omega arith)) ∙ ih
-      go false ih = ih
+  filter_no first (suc count) none = grind (arith, filter_no (suc first) count)
 
 nothing_more : (ns : List ℕ) → ns ++ [] ≡ ns
 nothing_more [] = refl
@@ -106,26 +92,8 @@ module _ (log : List NodeRec) (pid : Text) (from to : ℕ) (h : from ≤ to) (wi
   high n a = ap (λ c. c && nat_lt n to) (le-leb from n (omega arith)) ∙ lt-leb (suc n) to (omega arith)
 
   parts : numbers_from 0 (length log) ≡ numbers_from 0 from ++ (numbers_from from (to - from) ++ numbers_from to (length log - to))
-  parts =
-      let all : length log ≡ from + ((to - from) + (length log - to)) = omega arith in
-      let a : 0 + from ≡ from = omega arith in
-      let b : from + (to - from) ≡ to = omega arith in
-      ap (numbers_from 0) all
-      ∙ numbers_more 0 from ((to - from) + (length log - to))
-      ∙ ap (λ n. numbers_from 0 from ++ numbers_from n ((to - from) + (length log - to))) a
-      ∙ ap (λ ns. numbers_from 0 from ++ ns) (numbers_more from (to - from) (length log - to) ∙ ap (λ n. numbers_from from (to - from) ++ numbers_from n (length log - to)) b)
+  parts = grind (arith, numbers_more 0 from ((to - from) + (length log - to)), numbers_more from (to - from) (length log - to))
 
   -- the session's records between two numbers are those of the numbers in between
   pub own_between-is : own_between log pid from to ≡ filter own (numbers_from from (to - from))
-  own_between-is =
-      let middle = numbers_from from (to - from) in
-      let back = numbers_from to (length log - to) in
-      ap (λ ns. filter test (filter own ns)) parts
-      ∙ ap (filter test) (filter-append own (numbers_from 0 from) (middle ++ back))
-      ∙ filter-append test (filter own (numbers_from 0 from)) (filter own (middle ++ back))
-      ∙ ap (λ ns. ns ++ filter test (filter own (middle ++ back))) (filter_no test own 0 from (λ n a b. low n (omega (arith, b))))
-      ∙ ap (filter test) (filter-append own middle back)
-      ∙ filter-append test (filter own middle) (filter own back)
-      ∙ ap (λ ns. filter test (filter own middle) ++ ns) (filter_no test own to (length log - to) (λ n a b. high n a))
-      ∙ nothing_more (filter test (filter own middle))
-      ∙ filter_all test own from (to - from) (λ n a b. inside n a (omega (arith, b)))
+  own_between-is = grind (arith, parts, filter-append own (numbers_from 0 from), filter-append test (filter own (numbers_from 0 from)), filter_no test own 0 from, low, filter-append own, filter-append test, filter_no test own to (length log - to), high, nothing_more, filter_all test own from (to - from), inside)

@@ -1,5 +1,5 @@
--- The parts of a list before and behind the place where a test begins to fail.
-use Rattle.std.proofs.Common.{◌≡◌, ◌≤◌, ℕ, zero, suc, Bool, true, false, cond, List, [], ◌∷◌, length, take, drop, get_or, filter, refl, ap, ◌∙◌, arith}
+-- The parts of a list before and after the place where a test begins to fail.
+use Rattle.std.proofs.Common.{◌≡◌, ◌≤◌, ℕ, zero, suc, Bool, true, false, cond, List, [], ◌∷◌, length, take, drop, filter, refl, ap, ◌∙◌, arith}
 use Rattle.std.specs.List.{AllByRecursion, AllWithin}
 
 -- a test that holds of the first elements alone keeps these
@@ -23,11 +23,7 @@ module _ (is_low is_within test : ℕ → Bool) (too_low : (y : ℕ) → is_low 
   middle_parts [] zero (suc count) low high h front back g = refl
   middle_parts [] (suc before) zero low high h front back g = refl
   middle_parts [] (suc before) (suc count) low high h front back g = refl
-  middle_parts (x ∷ xs) zero count low high h front back g =
-      filter_take test (x ∷ xs) count
-      (λ k d a b. high_enough (get_or (x ∷ xs) k d) true (high k d (omega arith) (omega arith)) (front k d a b))
-      (λ k d a b. high_enough (get_or (x ∷ xs) k d) false (high k d (omega arith) b) (back k d a b))
-      g
+  middle_parts (x ∷ xs) zero count low high h front back g = grind (arith, filter_take test (x ∷ xs) count)
   middle_parts (x ∷ xs) (suc before) count low high h front back g =
       ap (λ b. cond b (x ∷ filter test xs) (filter test xs)) (too_low x (low 0 x (omega arith) (omega arith)))
       ∙ middle_parts xs before count (λ k d a b. low (suc k) d (omega arith) (omega arith)) (λ k d a b. high (suc k) d (omega arith) (omega arith)) (omega arith) front back g
@@ -39,7 +35,7 @@ front_all P Q f [] (suc i) front h = tt
 front_all P Q f (x ∷ xs) zero front h = tt
 front_all P Q f (x ∷ xs) (suc i) front h = (f x (front 0 x (omega arith) (omega arith)), front_all P Q f xs i (λ k d a b. front (suc k) d (omega arith) (omega arith)) (omega arith))
 
--- and behind it
+-- and after it
 pub back_all : (P Q : ℕ → Type 0) → ((y : ℕ) → Q y → P y) → (xs : List ℕ) (i : ℕ) → AllWithin Q xs i (length xs) → AllByRecursion P (drop i xs)
 back_all P Q f [] zero back = tt
 back_all P Q f [] (suc i) back = tt

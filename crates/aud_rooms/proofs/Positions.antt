@@ -1,29 +1,15 @@
 -- Spans go by the rooms of the positions past low up to high alone.
-use Rattle.std.proofs.Common.{◌≡◌, ◌<◌, ◌≤◌, ℕ, Bool, List, sym, ap, ◌∙◌, arith}
-use Rattle.std.specs.FinSet as set
+use Rattle.std.proofs.Common.{◌≡◌, ◌<◌, ◌≤◌, ℕ, Bool, List, sym, arith}
 use Rattle.aud_rooms.specs.Rooms.{Rooms}
 use Rattle.aud_rooms.specs.Spans.{RoomSpan, IsMaximalInterval, IsMaximal, AreSpans}
 
 pub interval_alike : (test other : ℕ → Bool) (low high first last : ℕ) → ((p : ℕ) → low < p → p ≤ high → test p ≡ other p)
     → IsMaximalInterval test low high first last → IsMaximalInterval other low high first last
-interval_alike test other low high first last same m =
-    let past = m.past_low in
-    let some = m.some in
-    let to = m.to_high in
-    record {
-      past_low = m.past_low;
-      some = m.some;
-      to_high = m.to_high;
-      held = λ p a b. sym (same p (omega arith) (omega arith)) ∙ m.held p a b;
-      not_before = λ p a b. sym (same p a (omega arith)) ∙ m.not_before p a b;
-      not_behind = λ p a b. sym (same p (omega arith) a) ∙ m.not_behind p a b;
-    }
+interval_alike test other low high first last same m = grind arith
 
 pub maximal_alike : (rooms_at other : ℕ → Rooms) (low high : ℕ) → ((p : ℕ) → low < p → p ≤ high → rooms_at p ≡ other p)
     → (s : RoomSpan) → IsMaximal rooms_at low high s → IsMaximal other low high s
-maximal_alike rooms_at other low high same s m =
-    interval_alike (λ p. set.contains (rooms_at p) s.room) (λ p. set.contains (other p) s.room) low high s.first s.last
-    (λ p a b. ap (λ rooms. set.contains rooms s.room) (same p a b)) m
+maximal_alike rooms_at other low high same s m = grind (arith, interval_alike)
 
 pub spans_alike : (rooms_at other : ℕ → Rooms) (low high : ℕ) (spans : List RoomSpan) → ((p : ℕ) → low < p → p ≤ high → rooms_at p ≡ other p)
     → AreSpans rooms_at low high spans → AreSpans other low high spans

@@ -4,9 +4,7 @@ use Rattle.aud_node.specs.Stream.{positions_after}
 
 pub map_positions : {X : Type 0} (f g : ℕ → X) (low count : ℕ) → ((p : ℕ) → low < p → p ≤ low + count → f p ≡ g p) → map f (positions_after low count) ≡ map g (positions_after low count)
 map_positions f g low zero same = refl
-map_positions f g low (suc count) same =
-    ap (λ x. x ∷ map f (positions_after (suc low) count)) (same (suc low) (omega arith) (omega arith))
-    ∙ ap (λ xs. g (suc low) ∷ xs) (map_positions f g (suc low) count (λ p a b. same p (omega arith) (omega arith)))
+map_positions f g low (suc count) same = grind (arith, map_positions f g (suc low) count)
 
 pub length-positions : (low count : ℕ) → length (positions_after low count) ≡ count
 length-positions low zero = refl

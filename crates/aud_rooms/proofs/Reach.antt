@@ -1,4 +1,6 @@
 -- The rooms at a position, by the spans that have begun.
+use Rattle.std.proofs.lemmas.Grind.{common_steps}
+use Rattle.std.proofs.lemmas.Bool.Decides.{nat_tests}
 use Rattle.std.proofs.Common.{◌≡◌, ◌<◌, ◌≤◌, ℕ, suc, Bool, true, false, cond, ◌||◌, ◌&&◌, List, [], ◌∷◌, ◌++◌, map, filter, length, max, get_or, Option, Some, None, refl, sym, ap, ◌∙◌, nat_le, arith}
 use Rattle.std.specs.List.{AllByRecursion, list_any}
 use Rattle.std.specs.List.Sorted.{IsNonDecreasingBy}
@@ -6,14 +8,14 @@ use Rattle.std.specs.Ordering.{nat_cmp, is_eq, eq_by_cmp}
 use Rattle.std.specs.Cmp.{eq_by_cmp_equiv}
 use Rattle.std.specs.Cmp.Lexicographic.{slice_cmp, nat_list_cmp_total}
 use Rattle.std.specs.FinSet as set
-use Rattle.std.proofs.lemmas.Bool.{le-leb, lt-leb, leb-true, leb-false}
+use Rattle.std.proofs.lemmas.Bool.{le-leb, lt-leb, leb-true, leb-false, or_from}
 use Rattle.std.proofs.lemmas.List.Folds.{list_any-append}
 use denote.Ref.{Bor}
 use Rattle.aud_node.specs.Stream.{Text}
 use Rattle.aud_rooms.specs.Spans.{RoomSpan, is_within, rooms_by_spans}
 use Rattle.aud_rooms.specs.RoomMap.{RoomMap, at_room, do_pass, rooms_with}
 use Rattle.aud_rooms.specs.Reached.{reaches, HasReached, AreByFirst}
-use Rattle.aud_rooms.proofs.Times.{or_none, or_false}
+use Rattle.aud_rooms.proofs.Times.{or_none}
 use Rattle.aud_rooms.proofs.RoomMaps.{same_text, contains-rooms_with, same_rooms}
 
 -- one more span begins
@@ -41,28 +43,14 @@ pub greatest_first : (p last : ℕ) (o : Option ℕ) → o ≡ None → nat_le p
 greatest_first p last o none = ap (λ o. do_pass (nat_le p) o || nat_le p last) (sym none)
 
 pub greatest_of : (p one other : ℕ) (o : Option ℕ) → o ≡ Some other → nat_le p (max one other) ≡ (do_pass (nat_le p) o || nat_le p one)
-greatest_of p one other o some = either (nat_le p one) refl (nat_le p other) refl ∙ ap (λ o. do_pass (nat_le p) o || nat_le p one) (sym some)
-  where
-    either : (a : Bool) → nat_le p one ≡ a → (b : Bool) → nat_le p other ≡ b → nat_le p (max one other) ≡ (nat_le p other || nat_le p one)
-    either true e b f = le-leb p (max one other) (let h = leb-true p one e in omega arith) ∙ sym (or_true (nat_le p other) (nat_le p one) e)
-      where
-        or_true : (a b : Bool) → b ≡ true → (a || b) ≡ true
-        or_true true b e = refl
-        or_true false b e = e
-    either false e true f = le-leb p (max one other) (let h = leb-true p other f in omega arith) ∙ sym (ap (λ b. b || nat_le p one) f)
-    either false e false f = lt-leb p (max one other) (let h = leb-false p one e in let k = leb-false p other f in omega arith) ∙ sym (or_false (nat_le p other) (nat_le p one) f e)
+greatest_of p one other o some = grind (arith, le-leb p (max one other), leb-true p one, leb-true p other, lt-leb p (max one other), leb-false p one, leb-false p other, or_from (nat_le p other) (nat_le p one))
 
 -- ---- the rooms of the spans that hold a position
 
 any_within : (room : Text) (p : ℕ) (spans : List RoomSpan) → list_any (eq_by_cmp (slice_cmp nat_cmp) room) (map (λ (s : RoomSpan). s.room) (filter (is_within p) spans))
     ≡ list_any (λ s. is_within p s && is_eq (slice_cmp nat_cmp room s.room)) spans
 any_within room p [] = refl
-any_within room p (s ∷ spans) = go (is_within p s) ∙ ap (λ b. (is_within p s && is_eq (slice_cmp nat_cmp room s.room)) || b) (any_within room p spans)
-  where
-    go : (b : Bool) → list_any (eq_by_cmp (slice_cmp nat_cmp) room) (map (λ (s : RoomSpan). s.room) (cond b (s ∷ filter (is_within p) spans) (filter (is_within p) spans)))
-        ≡ ((b && is_eq (slice_cmp nat_cmp room s.room)) || list_any (eq_by_cmp (slice_cmp nat_cmp) room) (map (λ (s : RoomSpan). s.room) (filter (is_within p) spans)))
-    go true = refl
-    go false = refl
+any_within room p (s ∷ spans) = grind (arith, any_within room p spans)
 
 pub contains-rooms_by_spans : (spans : List RoomSpan) (p : ℕ) (room : Text) → set.contains (rooms_by_spans spans p) room ≡ list_any (λ s. is_within p s && is_eq (slice_cmp nat_cmp room s.room)) spans
 contains-rooms_by_spans spans p room =
@@ -71,34 +59,15 @@ contains-rooms_by_spans spans p room =
 module _ (p : ℕ) (room : Text) where
   any_begun : (begun : List RoomSpan) → AllByRecursion (λ (s : RoomSpan). s.first ≤ p) begun → list_any (λ s. is_within p s && is_eq (slice_cmp nat_cmp room s.room)) begun ≡ list_any (reaches room p) begun
   any_begun [] all = refl
-  any_begun (s ∷ begun) (first, rest) =
-      ap (λ b. ((b && nat_le p s.last) && is_eq (slice_cmp nat_cmp room s.room)) || list_any (λ s. is_within p s && is_eq (slice_cmp nat_cmp room s.room)) begun) (le-leb s.first p first)
-      ∙ ap (λ b. (nat_le p s.last && is_eq (slice_cmp nat_cmp room s.room)) || b) (any_begun begun rest)
-      ∙ ap (λ b. b || list_any (reaches room p) begun) (swapped (nat_le p s.last) (is_eq (slice_cmp nat_cmp room s.room)))
-    where
-      swapped : (a b : Bool) → (a && b) ≡ (b && a)
-      swapped true true = refl
-      swapped true false = refl
-      swapped false true = refl
-      swapped false false = refl
+  any_begun (s ∷ begun) (first, rest) = grind (arith, any_begun begun rest, le-leb s.first p first)
 
   any_ahead : (ahead : List RoomSpan) → AllByRecursion (λ (s : RoomSpan). p < s.first) ahead → list_any (λ s. is_within p s && is_eq (slice_cmp nat_cmp room s.room)) ahead ≡ false
   any_ahead [] all = refl
-  any_ahead (s ∷ ahead) (first, rest) =
-      ap (λ b. ((b && nat_le p s.last) && is_eq (slice_cmp nat_cmp room s.room)) || list_any (λ s. is_within p s && is_eq (slice_cmp nat_cmp room s.room)) ahead) (lt-leb s.first p first)
-      ∙ any_ahead ahead rest
+  any_ahead (s ∷ ahead) (first, rest) = grind (arith, any_ahead ahead rest, lt-leb s.first p first)
 
 pub reached_rooms : (es : RoomMap ℕ) (begun ahead : List RoomSpan) (p : ℕ) → HasReached es begun → AllByRecursion (λ (s : RoomSpan). s.first ≤ p) begun → AllByRecursion (λ (s : RoomSpan). p < s.first) ahead
     → rooms_with (nat_le p) es ≡ rooms_by_spans (begun ++ ahead) p
-reached_rooms es begun ahead p reached past later =
-    same_rooms _ _ (λ room.
-    contains-rooms_with (nat_le p) es room ∙ reached.same room p
-    ∙ sym (
-    contains-rooms_by_spans (begun ++ ahead) p room
-    ∙ list_any-append (λ s. is_within p s && is_eq (slice_cmp nat_cmp room s.room)) begun ahead
-    ∙ ap (λ b. list_any (λ s. is_within p s && is_eq (slice_cmp nat_cmp room s.room)) begun || b) (any_ahead p room ahead later)
-    ∙ or_none _ ∙ any_begun p room begun past
-    ))
+reached_rooms es begun ahead p reached past later = grind (arith, common_steps, nat_tests, same_rooms, contains-rooms_with, contains-rooms_by_spans, list_any-append, any_ahead, or_none, any_begun)
 
 -- ---- spans in the order of their first positions
 

@@ -1,9 +1,10 @@
 -- Consecutive records of a node's log, and the cursor along it.
-use Rattle.std.proofs.Common.{◌≡◌, ◌<◌, ◌≤◌, ◌+◌, ◌-◌, ℕ, zero, suc, Bool, true, false, cond, ◌&&◌, List, [], ◌∷◌, length, take, drop, Option, Some, None, slice_get, refl, sym, ap, subst, ◌∙◌, ◌⊎◌, inl, inr, nat_eq, nat_le, arith, is_some, bytes_eq}
+use Rattle.std.proofs.lemmas.Grind.{common_steps}
+use Rattle.std.proofs.Common.{◌≡◌, ◌<◌, ◌≤◌, ◌+◌, ◌-◌, ℕ, zero, suc, Bool, true, false, cond, List, [], ◌∷◌, length, Option, Some, None, slice_get, refl, sym, ap, ◌∙◌, arith}
 use Rattle.std.specs.List.{list_all}
 use Rattle.std.specs.FinSet as set
-use Rattle.std.proofs.lemmas.Bool.{cases_eq, cases_lt, eq-eqb, ne_eqb, false≢true, leb-true, leb-false, le-leb, lt-leb, eqb-true}
-use Rattle.std.proofs.lemmas.Option.{same_Some, none-some}
+use Rattle.std.proofs.lemmas.Bool.{ne_eqb, false≢true, eqb-true}
+use Rattle.std.proofs.lemmas.Option.{none-some}
 use Rattle.aud_tap.specs.declared.records.StreamRec.{StreamRec}
 use Rattle.aud_tap.specs.declared.records.NodeRec.{NodeRec}
 use Rattle.aud_tap.specs.declared.records.NodeRec.TheVariants.{Start, Take, Opened, Join, Leave, Broke, Back, Gone}
@@ -14,60 +15,7 @@ use Rattle.aud_node.specs.OwnRecords.{names}
 use Rattle.aud_node.specs.Stream.{Text, position}
 use Rattle.aud_rooms.specs.Rooms.{Rooms, rooms_after}
 use Rattle.aud_rooms.specs.TurnsDue.{rooms_at_end, rooms_at_take}
-
-pub record_at : {X : Type 0} (xs : List X) (i : ℕ) → i < length xs → (x : X) × (slice_get xs i ≡ Some x)
-record_at [] i h = absurd (omega arith)
-record_at (x ∷ xs) zero h = (x, refl)
-record_at (x ∷ xs) (suc i) h = record_at xs i (omega arith)
-
-drop_at : (log : List NodeRec) (i : ℕ) (rec : NodeRec) → slice_get log i ≡ Some rec → drop i log ≡ rec ∷ drop (suc i) log
-drop_at [] i rec at = absurd (none-some rec at)
-drop_at (x ∷ xs) zero rec at = ap (λ y. y ∷ xs) (same_Some x rec at)
-drop_at (x ∷ xs) (suc i) rec at = drop_at xs i rec at
-
-pub between-more : (log : List NodeRec) (i to : ℕ) (rec : NodeRec) → i < to → slice_get log i ≡ Some rec → between log i to ≡ rec ∷ between log (suc i) to
-between-more log i to rec h at =
-    let more : to - i ≡ suc (to - suc i) = omega arith in
-    ap (λ n. take n (drop i log)) more ∙ ap (take (suc (to - suc i))) (drop_at log i rec at)
-
-pub between-none : (log : List NodeRec) (i to : ℕ) → to ≤ i → between log i to ≡ []
-between-none log i to h = let none : to - i ≡ 0 = omega arith in ap (λ n. take n (drop i log)) none
-
--- the cursor never falls
-next_cursor-rises : (stream : List StreamRec) (i : ℕ) (rec : NodeRec) (cursor : ℕ) → (i ≡ 0 → cursor ≡ 0) → cursor ≤ next_cursor stream i rec cursor
-next_cursor-rises stream zero (Start None) cursor first = omega (arith, first refl)
-next_cursor-rises stream zero (Start (Some off)) cursor first = omega (arith, first refl)
-next_cursor-rises stream zero (Take off) cursor first = step (is_position (position stream off) (suc cursor))
-  where
-    step : (b : Bool) → cursor ≤ cond b (suc cursor) cursor
-    step true = omega arith
-    step false = omega arith
-next_cursor-rises stream (suc i) (Take off) cursor first = step (is_position (position stream off) (suc cursor))
-  where
-    step : (b : Bool) → cursor ≤ cond b (suc cursor) cursor
-    step true = omega arith
-    step false = omega arith
-next_cursor-rises stream zero _ cursor first = omega arith
-next_cursor-rises stream (suc i) _ cursor first = omega arith
-
-cursor_at-zero : (stream : List StreamRec) (log : List NodeRec) (i : ℕ) → i ≡ 0 → cursor_at stream log i ≡ 0
-cursor_at-zero stream log zero e = refl
-cursor_at-zero stream log (suc i) e = absurd (omega (arith, e))
-
-pub cursor_at-more : (stream : List StreamRec) (log : List NodeRec) (i : ℕ) → cursor_at stream log i ≤ cursor_at stream log (suc i)
-cursor_at-more stream log i = go (slice_get log i)
-  where
-    go : (o : Option NodeRec) → cursor_at stream log i ≤ cursor_past stream i o (cursor_at stream log i)
-    go None = omega arith
-    go (Some rec) = next_cursor-rises stream i rec (cursor_at stream log i) (cursor_at-zero stream log i)
-
-pub cursor_at-rises : (stream : List StreamRec) (log : List NodeRec) (i j : ℕ) → i ≤ j → cursor_at stream log i ≤ cursor_at stream log j
-cursor_at-rises stream log i zero h = let none : i ≡ 0 = omega arith in subst (λ n. cursor_at stream log n ≤ 0) (sym none) (omega arith)
-cursor_at-rises stream log i (suc j) h = go (cases_lt j i) (λ k. cursor_at-rises stream log i j k)
-  where
-    go : (j < i) ⊎ (i ≤ j) → (i ≤ j → cursor_at stream log i ≤ cursor_at stream log j) → cursor_at stream log i ≤ cursor_at stream log (suc j)
-    go (inl l) ih = let same : i ≡ suc j = omega arith in subst (λ n. cursor_at stream log i ≤ cursor_at stream log n) same (omega arith)
-    go (inr l) ih = omega (arith, ih l, cursor_at-more stream log j)
+use Rattle.aud_node.proofs.RecordLemmas.{slice_get_below, between-more, between-none, cursor_at-rises}
 
 -- a session's record leaves the cursor
 own_cursor : (stream : List StreamRec) (i : ℕ) (rec : NodeRec) (pid : Text) (cursor : ℕ) → names (Some rec) pid ≡ true → next_cursor stream i rec cursor ≡ cursor
@@ -88,13 +36,7 @@ other_rooms pid held _ e = refl
 
 all_at : (p : ℕ → Bool) (first count n : ℕ) → list_all p (numbers_from first count) ≡ true → first ≤ n → n < first + count → p n ≡ true
 all_at p first zero n all a b = absurd (omega arith)
-all_at p first (suc count) n all a b = go (cases_eq first n) (p first) refl all (λ later h. all_at p (suc first) count n later h (omega arith))
-  where
-    go : (first ≡ n) ⊎ (first ≡ n → ⊥) → (v : Bool) → p first ≡ v → (v && list_all p (numbers_from (suc first) count)) ≡ true
-        → (list_all p (numbers_from (suc first) count) ≡ true → suc first ≤ n → p n ≡ true) → p n ≡ true
-    go same false e all ih = absurd (false≢true all)
-    go (inl same) true e all ih = ap p (sym same) ∙ e
-    go (inr other) true e all ih = ih all (omega arith)
+all_at p first (suc count) n all a b = grind (arith, common_steps, all_at p (suc first) count n, false≢true)
 
 -- each record of an ordered log is in order
 pub in_order_at : (stream : List StreamRec) (log : List NodeRec) (i : ℕ) (rec : NodeRec) → is_ordered stream log ≡ true → slice_get log i ≡ Some rec → i < length log
@@ -108,13 +50,10 @@ position_is : (o : Option ℕ) (p : ℕ) → is_position o p ≡ true → o ≡ 
 position_is None p e = absurd (false≢true e)
 position_is (Some q) p e = ap Some (eqb-true q p e)
 
--- behind the first record, the cursor comes to a position by that position's `take`
+-- after the first record, the cursor comes to a position by that position's `take`
 reaching_takes : (stream : List StreamRec) (i : ℕ) (rec : NodeRec) (cursor p : ℕ) → is_in_order stream (suc i) cursor rec ≡ true → cursor < p → p ≤ next_cursor stream (suc i) rec cursor → takes stream p rec ≡ true
 reaching_takes stream i (Start off) cursor p e a b = absurd (false≢true e)
-reaching_takes stream i (Take off) cursor p e a b =
-    let next : next_cursor stream (suc i) (Take off) cursor ≡ suc cursor = ap (λ x. cond x (suc cursor) cursor) e in
-    let is : suc cursor ≡ p = omega (arith, next, a, b) in
-    ap (is_position (position stream off)) (sym is) ∙ e
+reaching_takes stream i (Take off) cursor p e a b = grind arith
 reaching_takes stream i (Opened pid sid nsp) cursor p e a b = absurd (omega arith)
 reaching_takes stream i (Join pid room) cursor p e a b = absurd (omega arith)
 reaching_takes stream i (Leave pid room) cursor p e a b = absurd (omega arith)
@@ -125,9 +64,7 @@ reaching_takes stream i (Gone pid) cursor p e a b = absurd (omega arith)
 -- a record that leaves the cursor before a position doesn't take it
 passing_takes : (stream : List StreamRec) (i : ℕ) (rec : NodeRec) (cursor p : ℕ) → is_in_order stream i cursor rec ≡ true → next_cursor stream i rec cursor < p → takes stream p rec ≡ false
 passing_takes stream zero (Take off) cursor p e h = absurd (false≢true e)
-passing_takes stream (suc i) (Take off) cursor p e h =
-    let next : next_cursor stream (suc i) (Take off) cursor ≡ suc cursor = ap (λ x. cond x (suc cursor) cursor) e in
-    ap (λ o. is_position o p) (position_is (position stream off) (suc cursor) e) ∙ ne_eqb (suc cursor) p (λ same. omega (arith, next, h, same))
+passing_takes stream (suc i) (Take off) cursor p e h = grind (arith, position_is (position stream off) (suc cursor) e, ne_eqb (suc cursor) p)
 passing_takes stream zero _ cursor p e h = refl
 passing_takes stream (suc i) _ cursor p e h = refl
 
@@ -162,7 +99,7 @@ module _ (stream : List StreamRec) (log : List NodeRec) (ordered : is_ordered st
           ∙ ap (λ v. cond v held (rooms_at_take stream pid p (rooms_after pid held rec) (between log (suc x) to))) taken
           ∙ sym (ap (rooms_at_end pid held) (between-none log m x (omega (arith, same))))
       go (suc d) m held e =
-          let (other, there) = record_at log m (omega (arith, e, b, within)) in
+          let (other, there) = slice_get_below log m (omega (arith, e, b, within)) in
           ap (rooms_at_take stream pid p held) (between-more log m to other (omega (arith, e, b)) there)
           ∙ ap (λ v. cond v held (rooms_at_take stream pid p (rooms_after pid held other) (between log (suc m) to))) (passed m other (omega (arith, e)) there)
           ∙ go d (suc m) (rooms_after pid held other) (omega (arith, e))
@@ -181,7 +118,7 @@ rooms_at_end-more log pid from x rec held a at within = go (x - from) from held 
         ∙ ap (rooms_at_end pid (rooms_after pid held rec)) (between-none log (suc x) (suc x) (omega arith))
         ∙ sym (ap (λ recs. rooms_after pid (rooms_at_end pid held recs) rec) (between-none log m x (omega (arith, same))))
     go (suc d) m held e =
-        let (other, there) = record_at log m (omega (arith, e, within)) in
+        let (other, there) = slice_get_below log m (omega (arith, e, within)) in
         ap (rooms_at_end pid held) (between-more log m (suc x) other (omega (arith, e)) there)
         ∙ go d (suc m) (rooms_after pid held other) (omega (arith, e))
         ∙ sym (ap (λ recs. rooms_after pid (rooms_at_end pid held recs) rec) (between-more log m x other (omega (arith, e)) there))

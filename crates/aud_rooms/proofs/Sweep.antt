@@ -1,5 +1,6 @@
 -- The sweep over the spans in the order of their first positions.
-use Rattle.std.proofs.Common.{◌≡◌, ◌<◌, ◌≤◌, ℕ, suc, cond, ◌&&◌, List, [], ◌∷◌, ◌++◌, append_assoc, map, filter, length, take, drop, get_or, drop-cons, refl, sym, ap, subst, ◌∙◌, ◌+◌, arith}
+use Rattle.std.proofs.lemmas.Grind.{common_steps}
+use Rattle.std.proofs.Common.{◌≡◌, ◌<◌, ◌≤◌, ℕ, suc, ◌&&◌, List, [], ◌∷◌, ◌++◌, append_assoc, map, filter, length, take, drop, get_or, drop-cons, refl, sym, ap, subst, ◌∙◌, ◌+◌, arith}
 use Rattle.std.specs.List.{AllByRecursion}
 use Rattle.std.specs.List.Sorted.{IsPermutation, IsNonDecreasing}
 use Rattle.std.specs.Ordering.{nat_cmp, is_eq}
@@ -48,7 +49,7 @@ ahead_of (x ∷ begun) s later (all, rest) = ahead_of begun s later rest
 abbrev pub HaveBegun : List RoomSpan → ℕ → Type 0
 HaveBegun spans p = AllByRecursion (λ (s : RoomSpan). s.first ≤ p) spans
 
--- these spans begin behind the position
+-- these spans begin after the position
 abbrev pub AreAhead : List RoomSpan → ℕ → Type 0
 AreAhead spans p = AllByRecursion (λ (s : RoomSpan). p < s.first) spans
 
@@ -67,15 +68,11 @@ module _ (all : List RoomSpan) (stream : List StreamRec) (nsp : Text) (found : L
   module _ (begun : List RoomSpan) (es : RoomMap ℕ) (due rest : List ℕ) (was : Swept all stream nsp found begun es due rest) (ahead : List RoomSpan) (parts : all ≡ begun ++ ahead) where
     -- at positions before which no other span begins
     due_at : (p : ℕ) → HaveBegun begun p → AreAhead ahead p → is_due_at es stream nsp p ≡ is_for_spans all stream nsp p
-    due_at p past later =
-        ap (is_for (entry stream p) nsp)
-        (reached_rooms es begun ahead p was.reached past later ∙ ap (λ spans. rooms_by_spans spans p) (sym parts))
+    due_at p past later = grind (arith, common_steps, reached_rooms, ahead, past, parts)
 
     due_all : (ps : List ℕ) → AllByRecursion (HaveBegun begun) ps → AllByRecursion (AreAhead ahead) ps → filter (is_due_at es stream nsp) ps ≡ filter (is_for_spans all stream nsp) ps
     due_all [] past later = refl
-    due_all (p ∷ ps) (past, pasts) (later, laters) =
-        ap (λ b. cond b (p ∷ filter (is_due_at es stream nsp) ps) (filter (is_due_at es stream nsp) ps)) (due_at p past later)
-        ∙ ap (λ qs. cond (is_for_spans all stream nsp p) (p ∷ qs) qs) (due_all ps pasts laters)
+    due_all (p ∷ ps) (past, pasts) (later, laters) = grind (arith, common_steps, due_all ps pasts laters, due_at, past)
 
     -- up to the first position at which one more span has begun
     swept_begun : (s : RoomSpan) (news : RoomMap ℕ) (before later more : List ℕ) → HasReached news (begun ++ s ∷ [])
@@ -115,18 +112,10 @@ module _ (xs : List (Bor RoomSpan)) (stream : List StreamRec) (nsp : Text) (foun
         ∙ ap (λ ys. seen (take i xs) ++ seen ys) (drop-cons xs i d within ∙ ap (λ y. y ∷ drop (suc i) xs) (sym is))
 
     ahead : (p : ℕ) → p < d.now.first → AreAhead (d.now ∷ seen (drop (suc i) xs)) p
-    ahead p low =
-        all_map (λ (s : RoomSpan). d.now.first ≤ s.first) (λ (s : RoomSpan). p < s.first) (λ s h. omega arith) (d.now ∷ seen (drop (suc i) xs))
-        (ahead_of (seen (take i xs)) d.now (seen (drop (suc i) xs)) (subst AreByFirst parts sorted))
+    ahead p low = grind (arith, common_steps, all_map, ahead_of, parts)
 
     begun_more : seen (take i xs) ++ d.now ∷ [] ≡ seen (take (i + 1) xs)
-    begun_more =
-        ap (λ y. seen (take i xs) ++ y.now ∷ []) is
-        ∙ sym (
-        ap (λ n. seen (take n xs)) (let e : i + 1 ≡ suc i = omega arith in e)
-        ∙ ap seen (take-suc xs i d within)
-        ∙ map-append (λ (s : Bor RoomSpan). s.now) (take i xs) (get_or xs i d ∷ [])
-        )
+    begun_more = grind (arith, take-suc xs i d within, map-append)
 
     pub swept_step : Swept (seen xs) stream nsp found (seen (take (i + 1) xs)) news more later
     swept_step =
@@ -136,13 +125,7 @@ module _ (xs : List (Bor RoomSpan)) (stream : List StreamRec) (nsp : Text) (foun
         (all_map (λ p. p < d.now.first) (AreAhead (d.now ∷ seen (drop (suc i) xs))) ahead before below) above ascending adds)
 
   pub swept_end : length xs ≤ i → more ≡ due ++ filter (is_due_at es stream nsp) rest → more ≡ filter (is_for_spans (seen xs) stream nsp) found
-  swept_end none adds =
-      let gone : seen (drop i xs) ≡ [] = ap seen (drop_all i xs none) in
-      adds
-      ∙ ap (λ ps. due ++ ps)
-      (due_all (seen xs) stream nsp found (seen (take i xs)) es due rest was (seen (drop i xs)) (seen_parts xs i) rest was.past
-      (all_each (AreAhead (seen (drop i xs))) (λ p. subst (λ spans. AreAhead spans p) (sym gone) tt) rest))
-      ∙ was.so_far
+  swept_end none adds = grind (arith, drop_all, due_all, seen_parts, all_each, drop_all i xs none, due_all (seen xs) stream nsp found (seen (take i xs)) es due rest was (seen (drop i xs)) (seen_parts xs i) rest was.past, seen_parts xs i, all_each (AreAhead (seen (drop i xs))))
 
 -- ---- spans in another order
 

@@ -1,5 +1,5 @@
 -- Two lists in order that contain the same spans are one.
-use Rattle.std.proofs.Common.{◌≡◌, ℕ, List, [], ◌∷◌, refl, sym, ap, subst, ◌∙◌, ◌⊎◌, inl, inr, arith}
+use Rattle.std.proofs.Common.{◌≡◌, ℕ, List, [], ◌∷◌, refl, sym, ap, subst, ◌∙◌, inl, inr, arith}
 use Rattle.std.specs.List.{Contains}
 use Rattle.std.specs.Ordering.{nat_cmp, ordering_reverse}
 use Rattle.std.specs.declared.cmp.Ordering.TheVariants.{Less, Equal, Greater}
@@ -27,43 +27,24 @@ one_way a b (inr (same, later)) (inr (other, earlier)) = omega arith
 
 before_each : (a : RoomSpan) (spans : List RoomSpan) (s : RoomSpan) → ComesBeforeAll a spans → Contains spans s → ComesBefore a s
 before_each a [] s all among = absurd (contains-none s among)
-before_each a (b ∷ spans) s (first, later) among = go (λ below. before_each a spans s later below) (contains-parts b spans s among)
-  where
-    go : (Contains spans s → ComesBefore a s) → (b ≡ s) ⊎ Contains spans s → ComesBefore a s
-    go ih (inl same) = subst (ComesBefore a) same first
-    go ih (inr below) = ih below
+before_each a (b ∷ spans) s (first, later) among = grind (arith, before_each a spans s later, contains-parts b spans s among)
 
 module _ (x : RoomSpan) (xs : List RoomSpan) (y : RoomSpan) (ys : List RoomSpan) (a : AreInOrder (x ∷ xs)) (b : AreInOrder (y ∷ ys))
     (there : (s : RoomSpan) → Contains (x ∷ xs) s → Contains (y ∷ ys) s) (back : (s : RoomSpan) → Contains (y ∷ ys) s → Contains (x ∷ xs) s) where
   same_first : x ≡ y
-  same_first = go (contains-parts y ys x (there x (contains-first x xs))) (contains-parts x xs y (back y (contains-first y ys)))
-    where
-      go : (y ≡ x) ⊎ Contains ys x → (x ≡ y) ⊎ Contains xs y → x ≡ y
-      go (inl same) other = sym same
-      go (inr below) (inl same) = same
-      go (inr below) (inr under) = absurd (one_way x y (before_each x xs y a.0 under) (before_each y ys x b.0 below))
+  same_first = grind (arith, contains-parts y ys x (there x (contains-first x xs)), contains-first x xs, contains-parts x xs y (back y (contains-first y ys)), contains-first y ys, one_way x y, before_each x xs y a.0, before_each y ys x b.0)
 
   rest_there : (s : RoomSpan) → Contains xs s → Contains ys s
-  rest_there s among = go (contains-parts y ys s (there s (contains-later x xs s among)))
-    where
-      go : (y ≡ s) ⊎ Contains ys s → Contains ys s
-      go (inl same) = (let before = before_each x xs s a.0 among in let is : s ≡ x = sym same ∙ sym same_first in absurd (one_way x x (subst (ComesBefore x) is before) (subst (ComesBefore x) is before)))
-      go (inr below) = below
+  rest_there s among = grind (arith, contains-parts y ys s (there s (contains-later x xs s among)), contains-later x xs s among, before_each x xs s a.0 among, same_first, one_way x x)
 
   rest_back : (s : RoomSpan) → Contains ys s → Contains xs s
-  rest_back s among = go (contains-parts x xs s (back s (contains-later y ys s among)))
-    where
-      go : (x ≡ s) ⊎ Contains xs s → Contains xs s
-      go (inl same) = (let before = before_each y ys s b.0 among in let is : s ≡ y = sym same ∙ same_first in absurd (one_way y y (subst (ComesBefore y) is before) (subst (ComesBefore y) is before)))
-      go (inr below) = below
+  rest_back s among = grind (arith, contains-parts x xs s (back s (contains-later y ys s among)), contains-later y ys s among, before_each y ys s b.0 among, same_first, one_way y y)
 
 pub same_list : (xs ys : List RoomSpan) → AreInOrder xs → AreInOrder ys → ((s : RoomSpan) → Contains xs s → Contains ys s) → ((s : RoomSpan) → Contains ys s → Contains xs s) → xs ≡ ys
 same_list [] [] a b there back = refl
 same_list [] (y ∷ ys) a b there back = absurd (contains-none y (back y (contains-first y ys)))
 same_list (x ∷ xs) [] a b there back = absurd (contains-none x (there x (contains-first x xs)))
-same_list (x ∷ xs) (y ∷ ys) a b there back =
-    ap (λ s. s ∷ xs) (same_first x xs y ys a b there back)
-    ∙ ap (λ l. y ∷ l) (same_list xs ys a.1 b.1 (rest_there x xs y ys a b there back) (rest_back x xs y ys a b there back))
+same_list (x ∷ xs) (y ∷ ys) a b there back = grind (arith, same_list xs ys a.1 b.1 (rest_there x xs y ys a b there back) (rest_back x xs y ys a b there back), same_first x xs y ys a b there back, rest_there x xs y ys a b there back, rest_back x xs y ys a b there back)
 
 pub unique : (rooms_at : ℕ → Rooms) (low high : ℕ) (one other : List RoomSpan) → AreSpans rooms_at low high one → AreSpans rooms_at low high other → one ≡ other
 unique rooms_at low high one other a b =

@@ -1,27 +1,28 @@
 -- What is told to the builder of spans gives the positions the rooms of the turns.
-use Rattle.std.proofs.Common.{◌≡◌, ◌<◌, ◌≤◌, ◌+◌, ◌-◌, ℕ, zero, suc, Bool, true, false, cond, List, [], ◌∷◌, ◌++◌, length, map, filter, replicate, max, Option, Some, None, slice_get, unwrap_or, option_map, refl, sym, ap, subst, ◌∙◌, ◌⊎◌, inl, inr, nat_le, arith, length-append}
+use Rattle.std.proofs.lemmas.Grind.{common_steps}
+use Rattle.std.proofs.Common.{◌≡◌, ◌<◌, ◌≤◌, ◌+◌, ◌-◌, ℕ, zero, suc, Bool, true, false, cond, List, [], ◌∷◌, ◌++◌, length, map, filter, replicate, max, Option, Some, None, slice_get, unwrap_or, option_map, refl, sym, ap, subst, ◌∙◌, inl, inr, nat_le, arith}
 use Rattle.std.specs.List.{All}
 use Rattle.std.specs.FinSet as set
 use Rattle.std.proofs.lemmas.Bool.{cases_lt, le-leb, lt-leb}
 use Rattle.std.proofs.lemmas.List.{length-replicate}
 use Rattle.std.proofs.lemmas.List.Elements.{All-head, All-tail}
-use Rattle.aud_tap.specs.declared.records.StreamRec.{StreamRec}
 use Rattle.aud_tap.specs.declared.records.NodeRec.{NodeRec}
 use Rattle.aud_node.specs.Cluster.{Cluster, node_log}
 use Rattle.aud_node.specs.Cursors.{cursor_at}
 use Rattle.aud_node.specs.Lists.{between, numbers_from}
 use Rattle.aud_node.specs.OwnRecords.{names}
 use Rattle.aud_node.specs.Stream.{Text}
-use Rattle.aud_rooms.specs.Rooms.{Rooms, own_room, rooms_after}
-use Rattle.aud_rooms.specs.Turns.{Who, Turn, Slice, slice_of}
+use Rattle.aud_rooms.specs.Rooms.{Rooms, rooms_after}
+use Rattle.aud_rooms.specs.Turns.{Turn, slice_of}
 use Rattle.aud_rooms.specs.TurnsDue.{rooms_at_end, rooms_at_take, rooms_for, greatest_high}
 use Rattle.aud_rooms.specs.Spans.{RoomSpan, AreSpans, AreSpansOfTurns, first_low, rooms_by_turns}
 use Rattle.aud_rooms.specs.Assigned.{Assigned, starting, covered, rooms_given, covered_upto, AreSpansOf}
-use Rattle.aud_rooms.specs.TurnPlaces.{IsWithin, IsInOrder, own_between}
-use Rattle.aud_rooms.specs.Walk.{with_record, at_cursor, walked_record, walked_records, walked_turn, walked_turns}
+use Rattle.aud_rooms.specs.TurnPlaces.{IsInOrder, own_between}
+use Rattle.aud_rooms.specs.Walk.{at_cursor, walked_record, walked_records, walked_turn, walked_turns}
 use Rattle.aud_rooms.proofs.Positions.{spans_alike}
 use Rattle.aud_rooms.proofs.OwnNumbers.{own_between-is}
-use Rattle.aud_rooms.proofs.Records.{record_at, between-none, cursor_at-rises, own_cursor_at, other_rooms, rooms_at_take-is, rooms_at_end-more}
+use Rattle.aud_rooms.proofs.Records.{own_cursor_at, other_rooms, rooms_at_take-is, rooms_at_end-more}
+use Rattle.aud_node.proofs.RecordLemmas.{slice_get_below, between-none, cursor_at-rises}
 
 get-front : {X : Type 0} (xs ys : List X) (i : ℕ) → i < length xs → slice_get (xs ++ ys) i ≡ slice_get xs i
 get-front [] ys i h = absurd (omega arith)
@@ -37,9 +38,7 @@ get-back (x ∷ xs) count y (suc i) h g = get-back xs count y i (omega arith) (o
 
 module _ (a : Assigned) (q : ℕ) where
   pub covered-upto : covered (covered_upto q a) ≡ max (covered a) q
-  covered-upto =
-      let parts : length (a.sets ++ replicate (q - covered a) a.held) ≡ length a.sets + (q - covered a) = length-append a.sets (replicate (q - covered a) a.held) ∙ ap (λ n. length a.sets + n) (length-replicate (q - covered a) a.held) in
-      omega (arith, parts)
+  covered-upto = grind (arith, common_steps, length-replicate)
 
   pub given_before : (p : ℕ) → a.low < p → p ≤ covered a → rooms_given (covered_upto q a) p ≡ rooms_given a p
   given_before p past within = ap (λ o. unwrap_or o set.empty) (get-front a.sets (replicate (q - covered a) a.held) (p - suc a.low) (omega arith))
@@ -132,11 +131,11 @@ module _ (c : Cluster) (pid : Text) (t : Turn) (in_order : IsInOrder c t) (a : A
           inside = before.gives.inside;
           now = λ p past upto. elim (cases_lt (cur x) p) as (λ _. b.held ≡ want p) [
             | inl next ↦
-                let behind : t.from < x = elim (cases_lt t.from x) as (λ _. t.from < x) [
+                let after_first : t.from < x = elim (cases_lt t.from x) as (λ _. t.from < x) [
                   | inl later ↦ later
                   | inr upto_it ↦ (let same : suc x ≡ suc t.from = omega (arith, upto_it, h) in absurd (omega (arith, ap cur same, reached, from, past, upto)))
                 ] in
-                before.held ∙ sym (rooms_at_take-is c.stream log in_order.ordered pid t.from t.to x rec p a.held h g within (omega (arith, behind)) at next upto)
+                before.held ∙ sym (rooms_at_take-is c.stream log in_order.ordered pid t.from t.to x rec p a.held h g within (omega (arith, after_first)) at next upto)
             | inr earlier ↦ before.gives.now p past earlier
           ];
         };
@@ -168,7 +167,7 @@ module _ (c : Cluster) (pid : Text) (t : Turn) (in_order : IsInOrder c t) (a : A
   all : (count x : ℕ) (b : Assigned) → t.from ≤ x → x + count ≡ t.to → Before x b → Before t.to (walked_records c t.node pid (filter own (numbers_from x count)) b)
   all zero x b h e before = subst (λ n. Before n b) (omega (arith, e)) before
   all (suc count) x b h e before =
-      let (rec, at) = record_at log x (omega (arith, e, within)) in
+      let (rec, at) = slice_get_below log x (omega (arith, e, within)) in
       let some_left : x < t.to = omega (arith, e) in
       go (own x)
       (λ is. all count (suc x) (walked_record c t.node pid x b) (omega (arith, h)) (omega (arith, e)) (its_own x rec b h some_left at (ap (λ o. names o pid) (sym at) ∙ is) before))
@@ -184,9 +183,7 @@ module _ (c : Cluster) (pid : Text) (t : Turn) (in_order : IsInOrder c t) (a : A
       go false its others is = others is
 
   pub records_give : Before t.to (walked_records c t.node pid (own_between log pid t.from t.to) a)
-  records_give =
-      subst (λ numbers. Before t.to (walked_records c t.node pid numbers a)) (sym (own_between-is log pid t.from t.to (omega (arith, some)) within))
-      (all (t.to - t.from) t.from a (omega arith) (omega (arith, some)) first)
+  records_give = grind (arith, own_between-is log pid t.from t.to, some, within, all (t.to - t.from) t.from a, first)
 
 -- a turn covers the positions up to its high
 record Walked (c : Cluster) (pid : Text) (t : Turn) (a b : Assigned) : Type 0 where
@@ -263,10 +260,7 @@ turns_walked c pid (t ∷ turns) in_order a = go (turn_walked c pid t (All-head 
 
 lowest : (c : Cluster) (turns : List Turn) → All (IsInOrder c) turns → first_low (map (slice_of c) turns) ≤ greatest_high (map (slice_of c) turns)
 lowest c [] in_order = omega arith
-lowest c (t ∷ turns) in_order =
-    let some = (All-head (IsInOrder c) t turns in_order).is_within.some in
-    let rises = cursor_at-rises c.stream (node_log c t.node) (suc t.from) t.to (omega (arith, some)) in
-    omega (arith, rises)
+lowest c (t ∷ turns) in_order = grind (arith, All-head (IsInOrder c) t turns in_order, cursor_at-rises c.stream (node_log c t.node) (suc t.from) t.to)
 
 module _ (c : Cluster) (pid sid nsp : Text) (turns : List Turn) (in_order : All (IsInOrder c) turns) where
   abbrev begun : Assigned
@@ -312,6 +306,4 @@ module _ {X : Type 0} (f g h : X → X) (same : (x : X) → f (g x) ≡ h x) whe
 -- one record more for the builder
 pub record_told : (c : Cluster) (node : ℕ) (pid : Text) (numbers : List ℕ) (number : ℕ) (o : Option Assigned)
     → option_map (walked_record c node pid number) (option_map (walked_records c node pid numbers) o) ≡ option_map (walked_records c node pid (numbers ++ number ∷ [])) o
-record_told c node pid numbers number o =
-    mapped_twice (walked_record c node pid number) (walked_records c node pid numbers) (walked_records c node pid (numbers ++ number ∷ []))
-    (λ a. sym (walked_records-more c node pid numbers number a)) o
+record_told c node pid numbers number o = grind (arith, mapped_twice (walked_record c node pid number) (walked_records c node pid numbers) (walked_records c node pid (numbers ++ number ∷ [])), walked_records-more c node pid numbers number)

@@ -1,8 +1,5 @@
-use Rattle.std.proofs.Common.{◌≡◌, take, suc}
+use Rattle.std.proofs.Common.{◌≡◌, take}
 use Rattle.std.specs.Option.{option_map}
-use Rattle.aud_node.specs.Cluster.{node_log}
-use Rattle.aud_node.specs.Cursors.{cursor_at}
-use Rattle.aud_rooms.specs.Assigned.{covered_upto}
 use Rattle.aud_rooms.specs.Walk.{walked_records}
 use Rattle.aud_rooms.proofs.turn_spans.walk_turn.Given as goal
 
