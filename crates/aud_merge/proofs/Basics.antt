@@ -1,7 +1,7 @@
 -- Texts, look-ups, and options.
-use Rattle.std.proofs.Common.{◌≡◌, ◌<◌, ℕ, zero, suc, Bool, true, false, cond, List, [], ◌∷◌, length, set, Option, Some, None, slice_get, refl, sym, ap, ◌∙◌, ◌⊎◌, inl, inr, true≢false, bytes_eq, arith, option_map, option_and_then}
+use Rattle.std.proofs.Common.{◌≡◌, ℕ, zero, suc, Bool, true, false, cond, List, [], ◌∷◌, set, Option, Some, None, slice_get, refl, sym, ap, ◌∙◌, ◌⊎◌, bytes_eq, arith, option_map, option_and_then}
 use Rattle.std.specs.Ordering.{nat_cmp}
-use Rattle.std.specs.Cmp.Lexicographic.{slice_cmp, texts_ties, nat_list_cmp_total, bytes_decides}
+use Rattle.std.specs.Cmp.Lexicographic.{slice_cmp, texts_ties, nat_list_cmp_total}
 use Rattle.std.specs.FinMap as fin
 use Rattle.std.proofs.lemmas.Option.{same_Some, none-some}
 use Rattle.aud_node.specs.Stream.{Text}
@@ -11,10 +11,7 @@ pub other_text : (a b : Text) → (a ≡ b → ⊥) → bytes_eq a b ≡ false
 other_text a b n = elim (bytes_eq a b) as (λ v. bytes_eq a b ≡ v → v ≡ false) [ true ↦ λ e. absurd (n (same_text a b e)) | false ↦ λ e. refl ] refl
 
 pub cases_text : (a b : Text) → (a ≡ b) ⊎ (a ≡ b → ⊥)
-cases_text a b = elim (bytes_eq a b) as (λ v. bytes_eq a b ≡ v → (a ≡ b) ⊎ (a ≡ b → ⊥)) [
-  | true ↦ λ e. inl (same_text a b e)
-  | false ↦ λ e. inr (λ same. true≢false (sym (itself_text b) ∙ ap (λ t. bytes_eq t b) (sym same) ∙ e))
-] refl
+cases_text a b = grind (arith, same_text a b, itself_text b)
 
 module _ {X : Type 0} where
   pub get_insert_same : (m : fin.FinMap (slice_cmp nat_cmp) X) (k : Text) (v : X) → fin.get (fin.insert m k v) k ≡ Some v

@@ -1,13 +1,12 @@
 -- Where the greedy order blocks, no run exists.
-use Rattle.std.proofs.Common.{◌≡◌, ◌≢◌, ◌<◌, ◌≤◌, ◌+◌, ℕ, zero, suc, Bool, true, false, cond, List, [], ◌∷◌, length, Option, Some, None, refl, sym, ap, subst, ◌∙◌, ◌⊎◌, inl, inr, nat_lt, is_some, arith, unwrap_or, option_map}
+use Rattle.std.proofs.Common.{◌≡◌, ◌≢◌, ◌<◌, ◌≤◌, ◌+◌, ℕ, zero, suc, Bool, true, false, cond, List, [], ◌∷◌, length, Option, Some, None, refl, sym, ap, subst, ◌∙◌, ◌⊎◌, inl, inr, is_some, arith, unwrap_or}
 use Rattle.std.proofs.lemmas.Bool.{cases_lt, ltb-true, false≢true}
 use Rattle.std.proofs.lemmas.Option.{same_Some, none-some, slice_get_past}
-use Rattle.aud_tap.specs.declared.taps.Tap.{Tap}
 use Rattle.aud_node.specs.Cluster.{Cluster}
 use Rattle.aud_merge.specs.declared.step.Step.{Step}
 use Rattle.aud_merge.specs.Machine.{State, start, after, taken_of}
 use Rattle.aud_merge.specs.Order.{first_allowed, IsGreedy, unfinished_fronts, IsBlockedAt}
-use Rattle.aud_merge.specs.Runs.{record_count, log_length, IsRun, AreAllowed, state_after, front}
+use Rattle.aud_merge.specs.Runs.{record_count, IsRun, AreAllowed, state_after, front}
 use Rattle.aud_merge.proofs.Steps.{stepped}
 use Rattle.aud_merge.proofs.Exchange.{blocked-no_run}
 
@@ -44,35 +43,11 @@ none_chosen c st (suc count) place e q low high = go (after c st (front st place
 
 -- nor at a place that has no log
 no_log : (c : Cluster) (st : State) (q : ℕ) → length c.taps ≤ q → after c st (front st q) ≡ None
-no_log c st q h = go (after c st (front st q)) refl
-  where
-    go : (o : Option State) → after c st (front st q) ≡ o → o ≡ None
-    go None e = refl
-    go (Some next) e =
-        let counted = (stepped c st next (front st q) e).counted in
-        let none : record_count c q ≡ 0 = ap (λ (o : Option Tap). log_length (option_map (λ (tap : Tap). tap.records) o)) (slice_get_past c.taps q h) in
-        absurd (omega (arith, counted, none))
+no_log c st q h = grind (arith, stepped c st, slice_get_past c.taps q h)
 
 has_unfinished : (c : Cluster) (st : State) (count place : ℕ) → unfinished_fronts c st place count ≢ [] → (q : ℕ) × (taken_of st q < record_count c q)
 has_unfinished c st zero place n = absurd (n refl)
-has_unfinished c st (suc count) place n = go (nat_lt (taken_of st place) (record_count c place)) refl n (λ m. has_unfinished c st count (suc place) m)
-  where
-    go : (b : Bool) → nat_lt (taken_of st place) (record_count c place) ≡ b → cond b (front st place ∷ unfinished_fronts c st (suc place) count) (unfinished_fronts c st (suc place) count) ≢ []
-        → (unfinished_fronts c st (suc place) count ≢ [] → (q : ℕ) × (taken_of st q < record_count c q)) → (q : ℕ) × (taken_of st q < record_count c q)
-    go true e n ih = (place, ltb-true (taken_of st place) (record_count c place) e)
-    go false e n ih = ih n
+has_unfinished c st (suc count) place n = grind (arith, has_unfinished c st count (suc place), ltb-true (taken_of st place) (record_count c place))
 
 pub greedily_blocked-no_run : (c : Cluster) (fronts : List Step) → IsBlockedAt c fronts → (run : List Step) → IsRun c run → ⊥
-greedily_blocked-no_run c fronts b run is =
-    let st = state_after c (start c) b.steps in
-    let (q, more) = has_unfinished c st (length c.taps) 0 (λ e. b.some (b.are_fronts ∙ e)) in
-    blocked-no_run c b.steps (record {
-      allowed = greedy-allowed c b.steps (start c) b.greedy;
-      unfinished = q;
-      has_more = more;
-      blocked = λ place. at place (cases_lt place (length c.taps));
-    }) run is
-  where
-    at : (place : ℕ) → (place < length c.taps) ⊎ (length c.taps ≤ place) → after c (state_after c (start c) b.steps) (front (state_after c (start c) b.steps) place) ≡ None
-    at place (inl l) = none_chosen c (state_after c (start c) b.steps) (length c.taps) 0 b.none_left place (omega arith) (omega (arith, l))
-    at place (inr l) = no_log c (state_after c (start c) b.steps) place l
+greedily_blocked-no_run c fronts b run is = grind (arith, has_unfinished c, blocked-no_run c b.steps, greedy-allowed c b.steps (start c) b.greedy, none_chosen c (state_after c (start c) b.steps) (length c.taps) 0 b.none_left, no_log c (state_after c (start c) b.steps))

@@ -1,5 +1,5 @@
 -- A chain has no turn after its last.
-use Rattle.std.proofs.Common.{ℕ, List, length, arith}
+use Rattle.std.proofs.Common.{List, length, arith}
 use Rattle.std.proofs.lemmas.Option.{slice_get_within}
 use Rattle.aud_node.specs.Cluster.{Cluster}
 use Rattle.aud_rooms.specs.Turns.{Who, Turn, HasNoTurn, IsChain}

@@ -3,19 +3,19 @@ use Rattle.std.proofs.Common.{◌≡◌, ◌<◌, ◌≤◌, ℕ, zero, suc, Boo
 use Rattle.std.specs.Ordering.{nat_cmp}
 use Rattle.std.specs.Cmp.Lexicographic.{slice_cmp}
 use Rattle.std.specs.FinMap as fin
-use Rattle.std.proofs.lemmas.Bool.{cases_lt, le-leb, lt-leb, leb-false, and_right}
+use Rattle.std.proofs.lemmas.Bool.{cases_lt, le-leb, lt-leb, and_right}
 use Rattle.std.proofs.lemmas.List.Elements.{filter_agree}
 use Rattle.aud_tap.specs.declared.records.StreamRec.{StreamRec}
 use Rattle.aud_node.specs.Cluster.{Cluster, node_log}
 use Rattle.aud_node.specs.Cursors.{cursor_at}
-use Rattle.aud_node.specs.Stream.{Text, entry, positions_after}
+use Rattle.aud_node.specs.Stream.{entry, positions_after}
 use Rattle.aud_rooms.specs.Rooms.{Rooms, own_room}
-use Rattle.aud_rooms.specs.Turns.{Who, Turn, Slice, slice_of, AreTurns, HasNoTurn}
-use Rattle.aud_rooms.specs.TurnsDue.{rooms_at_take, rooms_at_end, rooms_for, is_past_first, is_for_rooms, is_turn_due, turns_due, greatest_high}
+use Rattle.aud_rooms.specs.Turns.{Who, Turn, slice_of, AreTurns, HasNoTurn}
+use Rattle.aud_rooms.specs.TurnsDue.{is_past_first, is_for_rooms, is_turn_due, turns_due, greatest_high}
 use Rattle.aud_merge.specs.ByTurns.{IsPrefixOf, reaching_step, FallsAfter, rooms_given, HasRooms}
 use Rattle.aud_merge.specs.Due.{cursor_of, node_cursor, is_at_least, is_reached, states_from, states, reach, session_at_reach, birth, is_past, is_for_session, is_due, due}
 use Rattle.aud_merge.specs.declared.step.Step.{Step}
-use Rattle.aud_merge.specs.Machine.{State, start, after, session_of, taken_of}
+use Rattle.aud_merge.specs.Machine.{State, start, after, session_of}
 use Rattle.aud_merge.specs.Runs.{IsRun, RunsOn}
 use Rattle.aud_merge.specs.Sessions.{Session, Absent}
 use Rattle.aud_merge.proofs.Steps.{Stepped, stepped}
@@ -33,13 +33,7 @@ find-first c test st (s ∷ steps) e = ap (λ b. cond b (Some st) (find test (st
 -- the session's node has this cursor when the session is on a node for the first time
 born_from : (c : Cluster) (who : Who) (held : Rooms) (t : Turn) (later : List Turn) (steps : List Step) (st : State) → Out c who st 0 held (t ∷ later) → RunsOn c st steps → Synced c st
     → option_and_then (λ s. node_cursor s (session_of s who.pid)) (find (is_reached who.pid 0) (states_from c st steps)) ≡ Some (cursor_at c.stream (node_log c t.node) (suc t.from))
-born_from c who held t later [] st o finished synced =
-    let start_left : taken_of st t.node ≤ t.from = o.unstarted.0 in
-    let some = o.turns.0.some in
-    let within = o.turns.0.within in
-    let all = finished t.node in
-    let long = length-count c t.node in
-    absurd (omega (arith, start_left, some, within, all, long))
+born_from c who held t later [] st o finished synced = grind (arith, length-count c t.node)
 born_from c who held t later (s ∷ steps) st o runs synced =
     let (next, allowed, goes_on) = runs in
     let step = stepped c st next s allowed in
@@ -49,8 +43,8 @@ born_from c who held t later (s ∷ steps) st o runs synced =
     unreached : is_reached who.pid 0 st ≡ false
     unreached = ap (λ x. is_at_least (node_cursor st x) 0) o.session
 
-    behind : (next : State) → after c st s ≡ Some next → find (is_reached who.pid 0) (states_from c st (s ∷ steps)) ≡ find (is_reached who.pid 0) (states_from c next steps)
-    behind next allowed =
+    onward : (next : State) → after c st s ≡ Some next → find (is_reached who.pid 0) (states_from c st (s ∷ steps)) ≡ find (is_reached who.pid 0) (states_from c next steps)
+    onward next allowed =
         ap (λ b. cond b (Some st) (find (is_reached who.pid 0) (states_from c (unwrap_or (after c st s) st) steps))) unreached
         ∙ ap (λ x. find (is_reached who.pid 0) (states_from c (unwrap_or x st) steps)) allowed
 
@@ -58,11 +52,11 @@ born_from c who held t later (s ∷ steps) st o runs synced =
         → (Out c who next 0 held (t ∷ later) → option_and_then (λ s. node_cursor s (session_of s who.pid)) (find (is_reached who.pid 0) (states_from c next steps)) ≡ Some (cursor_at c.stream (node_log c t.node) (suc t.from)))
         → option_and_then (λ s. node_cursor s (session_of s who.pid)) (find (is_reached who.pid 0) (states_from c st (s ∷ steps))) ≡ Some (cursor_at c.stream (node_log c t.node) (suc t.from))
     go next allowed goes_on step synced' (inr quiet) ih =
-        ap (option_and_then (λ s. node_cursor s (session_of s who.pid))) (behind next allowed) ∙ ih (out_stays c who st next s.log s.index 0 held (t ∷ later) o step quiet)
+        ap (option_and_then (λ s. node_cursor s (session_of s who.pid))) (onward next allowed) ∙ ih (out_stays c who st next s.log s.index 0 held (t ∷ later) o step quiet)
     go next allowed goes_on step synced' (inl named) ih =
         let (same_log, same_index, here) = begun_at c who st next s.log s.index steps 0 held t later o step goes_on named in
         let reached : is_reached who.pid 0 next ≡ true = reached-here who.pid next 0 s.log 0 who.sid who.nsp held here ∙ le-leb 0 (cursor_of next s.log) (omega arith) in
-        ap (option_and_then (λ s. node_cursor s (session_of s who.pid))) (behind next allowed ∙ find-first c (is_reached who.pid 0) next steps reached)
+        ap (option_and_then (λ s. node_cursor s (session_of s who.pid))) (onward next allowed ∙ find-first c (is_reached who.pid 0) next steps reached)
         ∙ ap (node_cursor next) here
         ∙ ap Some (synced' s.log ∙ ap (cursor_at c.stream (node_log c s.log)) (step.now ∙ ap suc same_index) ∙ ap (λ n. cursor_at c.stream (node_log c n) (suc t.from)) same_log)
 

@@ -64,9 +64,7 @@ position-more (suc a) (suc b) (x ∷ xs) off q h e = found (bytes_eq (offset_of 
     found false ih e = let (p, at, is) = map_parts suc (position (take a xs) off) q e in ap (option_map suc) (ih p at) ∙ ap Some is
 
 taken-more : (a b : ℕ) (stream : List StreamRec) (off : Text) (cursor next : ℕ) → a ≤ b → next_position (position (take a stream) off) cursor ≡ Some next → next_position (position (take b stream) off) cursor ≡ Some next
-taken-more a b stream off cursor next h e =
-    let (at, is) = next_position-at (position (take a stream) off) cursor next e in
-    ap (λ o. next_position o cursor) (position-more a b stream off (suc cursor) h at) ∙ sym (ap (λ o. next_position o cursor) at) ∙ e
+taken-more a b stream off cursor next h e = grind (arith, next_position-at (position (take a stream) off) cursor next e, position-more a b stream off (suc cursor) h)
 
 cursor_after-more : (a b : ℕ) (stream : List StreamRec) (i : ℕ) (rec : NodeRec) (cursor next : ℕ) → a ≤ b → cursor_after (take a stream) i rec cursor ≡ Some next → cursor_after (take b stream) i rec cursor ≡ Some next
 cursor_after-more a b stream zero (Start None) cursor next h e = e
@@ -99,10 +97,7 @@ puts l rec (Some pid) m m' e =
     }
 
 after-at : (c : Cluster) (u : State) (s : Step) (done : Progress) (log : Records) → slice_get u.logs s.log ≡ Some done → done.taken ≡ s.index → log_at c s.log ≡ Some log → after c u s ≡ after_next c u s.log done log
-after-at c u s done log at was is =
-    ap (option_and_then (λ (done : Progress). cond (nat_eq done.taken s.index) (option_and_then (after_next c u s.log done) (log_at c s.log)) None)) at
-    ∙ ap (λ b. cond b (option_and_then (after_next c u s.log done) (log_at c s.log)) None) (eq-eqb done.taken s.index was)
-    ∙ ap (option_and_then (after_next c u s.log done)) is
+after-at c u s done log at was is = grind (arith, eq-eqb done.taken s.index was, is)
 
 does_log : (c : Cluster) (st st' : State) (s : Step) (done : Progress) (log : Records) → slice_get st.logs s.log ≡ Some done → done.taken ≡ s.index → log_at c s.log ≡ Some log → after_next c st s.log done log ≡ Some st' → Does c st st' s
 does_log c st st' s done (Client recs) at was log e = absurd (none-some st' e)
@@ -174,10 +169,10 @@ put_comm m None (Some y) apart = refl
 put_comm m (Some x) None apart = refl
 put_comm m (Some x) (Some y) apart = insert_comm m x y apart
 
-same_behind : (m : Sessions) (x y : Option (Text × Session)) → Apart x y → SameAt x m (put_in y m)
-same_behind m None y apart = tt
-same_behind m (Some x) None apart = refl
-same_behind m (Some x) (Some y) apart = get_insert_other m y.0 y.1 x.0 apart
+same_after : (m : Sessions) (x y : Option (Text × Session)) → Apart x y → SameAt x m (put_in y m)
+same_after m None y apart = tt
+same_after m (Some x) None apart = refl
+same_after m (Some x) (Some y) apart = get_insert_other m y.0 y.1 x.0 apart
 
 apart_turned : (x y : Option (Text × Session)) → Apart x y → Apart y x
 apart_turned None None apart = tt
@@ -194,11 +189,9 @@ twice_comm st l m p q x y n apart =
     λ i. record { logs = logs i; sessions = sessions i }
 
 -- the second step is allowed after the first one
-allowed-behind : (c : Cluster) (st st1 st2 : State) (x s : Step) (dx : Does c st st1 x) (ds : Does c st st2 s) → after c st s ≡ Some st2 → (x.log ≡ s.log → ⊥) → Apart dx.put ds.put
+allowed-after : (c : Cluster) (st st1 st2 : State) (x s : Step) (dx : Does c st st1 x) (ds : Does c st st2 s) → after c st s ≡ Some st2 → (x.log ≡ s.log → ⊥) → Apart dx.put ds.put
     → after c st2 x ≡ Some (done_to (done_to st s.log ds.p ds.put) x.log dx.p dx.put)
-allowed-behind c st st1 st2 x s dx ds e n apart =
-    ap (λ u. after c u x) ds.is
-    ∙ dx.again (done_to st s.log ds.p ds.put) (slice_get-set_other st.logs s.log x.log ds.p n) (subst (λ u. appended c st ≤ appended c u) ds.is (appended-grows c st st2 s.log s.index (stepped c st st2 s e))) (same_behind st.sessions dx.put ds.put apart)
+allowed-after c st st1 st2 x s dx ds e n apart = grind (arith, slice_get-set_other st.logs s.log x.log ds.p n, appended-grows c st st2 s.log s.index (stepped c st st2 s e), stepped c st st2 s e, same_after st.sessions dx.put ds.put apart, apart)
 
 -- both records begin one turn of the session
 record BothBegin (pid : Text) (one other : NodeRec) : Type 0 where
@@ -253,12 +246,7 @@ apart c st st1 st2 x s dx ds n sx ss steps runs = go dx.put ds.put dx.named ds.n
 
 -- AN ALLOWED STEP may be taken at once, where the rest of a run is there
 exchange : (c : Cluster) (steps : List Step) (st : State) → RunsOn c st steps → (x : Step) (st1 : State) → after c st x ≡ Some st1 → (rest : List Step) × RunsOn c st1 rest
-exchange c [] st finished x st1 e =
-    let sx = stepped c st st1 x e in
-    let was = sx.was in
-    let counted = sx.counted in
-    let all = finished x.log in
-    absurd (omega (arith, was, counted, all))
+exchange c [] st finished x st1 e = grind (arith, stepped c st st1 x e)
 exchange c (s ∷ steps) st runs x st1 e = go (cases_eq x.log s.log) (λ st2 st3 later allowed. exchange c steps st2 later x st3 allowed)
   where
     same_step : (st2 : State) → after c st s ≡ Some st2 → x.log ≡ s.log → st2 ≡ st1
@@ -284,9 +272,9 @@ exchange c (s ∷ steps) st runs x st1 e = go (cases_eq x.log s.log) (λ st2 st3
         let dx = does c st st1 x e in
         let ds = does c st st2 s allowed in
         let far = apart c st st1 st2 x s dx ds n (stepped c st st1 x e) (stepped c st st2 s allowed) steps later in
-        let (rest, ends) = ih st2 _ later (allowed-behind c st st1 st2 x s dx ds allowed n far) in
+        let (rest, ends) = ih st2 _ later (allowed-after c st st1 st2 x s dx ds allowed n far) in
         let first : after c st1 s ≡ Some (done_to (done_to st x.log dx.p dx.put) s.log ds.p ds.put) =
-        allowed-behind c st st2 st1 s x ds dx e (λ e. n (sym e)) (apart_turned dx.put ds.put far) in
+        allowed-after c st st2 st1 s x ds dx e (λ e. n (sym e)) (apart_turned dx.put ds.put far) in
         let same : done_to (done_to st x.log dx.p dx.put) s.log ds.p ds.put ≡ done_to (done_to st s.log ds.p ds.put) x.log dx.p dx.put =
         twice_comm st x.log s.log dx.p ds.p dx.put ds.put n far in
         (s ∷ rest, (_, first ∙ ap Some same, ends))
@@ -294,25 +282,15 @@ exchange c (s ∷ steps) st runs x st1 e = go (cases_eq x.log s.log) (λ st2 st3
 -- what was allowed to be taken from the start leaves the rest of a run
 goes_on : (c : Cluster) (steps : List Step) (st : State) → AreAllowed c st steps → (run : List Step) → RunsOn c st run → (rest : List Step) × RunsOn c (state_after c st steps) rest
 goes_on c [] st allowed run runs = (run, runs)
-goes_on c (s ∷ steps) st allowed run runs =
-    let (next, at, later) = allowed in
-    let (rest, left) = exchange c run st runs s next at in
-    let (ends, runs') = goes_on c steps next later rest left in
-    (ends, subst (λ o. RunsOn c (state_after c (unwrap_or o st) steps) ends) (sym at) runs')
+goes_on c (s ∷ steps) st allowed run runs = grind (arith, goes_on c steps, exchange c run st runs s)
 
 no_first : (c : Cluster) (st : State) (l : ℕ) → taken_of st l < record_count c l → ((place : ℕ) → after c st (front st place) ≡ None) → (rest : List Step) → RunsOn c st rest → ⊥
 no_first c st l more blocked [] finished = let all = finished l in omega (arith, all, more)
-no_first c st l more blocked (s ∷ rest) runs =
-    let (next, at, later) = runs in
-    let was : taken_of st s.log ≡ s.index = (stepped c st next s at).was in
-    let step : front st s.log ≡ s = (λ i. record { log = s.log; index = was i }) in
-    none-some next (sym (blocked s.log) ∙ ap (after c st) step ∙ at)
+no_first c st l more blocked (s ∷ rest) runs = grind (arith, stepped c st)
 
 -- WHERE A MACHINE BLOCKS, no run exists
 pub blocked-no_run : (c : Cluster) (steps : List Step) → IsBlocked c steps → (run : List Step) → IsRun c run → ⊥
-blocked-no_run c steps b run is =
-    let (rest, left) = goes_on c steps (start c) b.allowed run (RunsOn-run c run is) in
-    no_first c (state_after c (start c) steps) b.unfinished b.has_more b.blocked rest left
+blocked-no_run c steps b run is = grind (arith, goes_on c steps (start c) b.allowed run (RunsOn-run c run is), RunsOn-run c run is, is, no_first c (state_after c (start c) steps) b.unfinished b.has_more b.blocked)
 
 -- where a run exists, an allowed step stays allowed until its log's next step is taken
 pub stays_allowed : (c : Cluster) (steps : List Step) (run : List Step) → IsRun c run → AreAllowed c (start c) steps
@@ -321,7 +299,7 @@ pub stays_allowed : (c : Cluster) (steps : List Step) (run : List Step) → IsRu
 stays_allowed c steps run is allowed x s st1 st2 ex es n =
     let st = state_after c (start c) steps in
     let (rest, left) = goes_on c steps (start c) allowed run (RunsOn-run c run is) in
-    let (later, behind) = exchange c rest st left s st2 es in
+    let (later, goes) = exchange c rest st left s st2 es in
     let dx = does c st st1 x ex in
     let ds = does c st st2 s es in
-    (_, allowed-behind c st st1 st2 x s dx ds es n (apart c st st1 st2 x s dx ds n (stepped c st st1 x ex) (stepped c st st2 s es) later behind))
+    (_, allowed-after c st st1 st2 x s dx ds es n (apart c st st1 st2 x s dx ds n (stepped c st st1 x ex) (stepped c st st2 s es) later goes))

@@ -1,22 +1,19 @@
 -- The session at the moment when it first reaches a position, in a run and by its turns.
-use Rattle.std.proofs.Common.{◌≡◌, ◌≤◌, ◌-◌, ℕ, suc, Bool, true, false, cond, List, [], ◌∷◌, map, find, Option, Some, None, slice_get, refl, sym, ap, subst, ◌∙◌, nat_le, arith, option_map, option_and_then, unwrap_or}
+use Rattle.std.proofs.Common.{◌≡◌, ℕ, suc, Bool, true, false, cond, List, [], ◌∷◌, map, find, Option, Some, None, slice_get, refl, sym, ap, subst, ◌∙◌, arith, option_map, option_and_then, unwrap_or}
 use Rattle.std.proofs.lemmas.Bool.{false≢true}
-use Rattle.std.proofs.lemmas.Option.{same_Some}
 use Rattle.aud_node.specs.Cluster.{Cluster, node_log}
-use Rattle.aud_node.specs.Cursors.{cursor_at}
 use Rattle.aud_node.specs.Lists.{first_index}
 use Rattle.aud_node.specs.Stream.{Text}
-use Rattle.aud_rooms.specs.Turns.{Who, slice_of, End, ByLog, turn_end, MayEnd}
-use Rattle.aud_rooms.specs.TurnsDue.{rooms_for}
-use Rattle.aud_merge.specs.ByTurns.{first_reaching, reaching_step, FallsAfter, HasRooms}
+use Rattle.aud_rooms.specs.Turns.{Who, slice_of}
+use Rattle.aud_merge.specs.ByTurns.{FallsAfter, HasRooms}
 use Rattle.aud_merge.specs.Due.{is_reached, states_from}
 use Rattle.aud_merge.specs.declared.step.Step.{Step}
-use Rattle.aud_merge.specs.Machine.{State, after, session_of, taken_of}
+use Rattle.aud_merge.specs.Machine.{State, after, session_of}
 use Rattle.aud_merge.specs.Runs.{IsFinished, RunsOn}
 use Rattle.aud_merge.specs.Sessions.{Session}
 use Rattle.aud_merge.proofs.Steps.{stepped}
 use Rattle.aud_merge.proofs.Moves.{Synced, Synced-step}
-use Rattle.aud_merge.proofs.Slices.{part_from, rooms_for-behind, rooms_for-at_low}
+use Rattle.aud_merge.proofs.Slices.{part_from, rooms_for-at_low}
 use Rattle.aud_merge.proofs.Phases.{length-count, In, Spot, Waiting, Within, Over, Beyond, Holds}
 use Rattle.aud_merge.proofs.PhaseSteps.{moves_on}
 use Rattle.aud_merge.proofs.Spots.{rooms_left, spot_reached, Settled, reached-spot, Moves-rooms, step_left, Moves-step}
@@ -34,30 +31,18 @@ and_then-map f g (Some x) = refl
 pub first_index-find : {X Y : Type 0} (test : X → Bool) (f : X → Option Y) (xs : List X)
     → option_and_then (λ t. option_and_then f (slice_get xs t)) (first_index test xs) ≡ option_and_then f (find test xs)
 first_index-find test f [] = refl
-first_index-find test f (x ∷ xs) = go (test x) (first_index-find test f xs)
-  where
-    go : (b : Bool) → option_and_then (λ t. option_and_then f (slice_get xs t)) (first_index test xs) ≡ option_and_then f (find test xs)
-        → option_and_then (λ t. option_and_then f (slice_get (x ∷ xs) t)) (cond b (Some 0) (option_map suc (first_index test xs))) ≡ option_and_then f (cond b (Some x) (find test xs))
-    go true ih = refl
-    go false ih = and_then-map (λ t. option_and_then f (slice_get (x ∷ xs) t)) suc (first_index test xs) ∙ ih
+first_index-find test f (x ∷ xs) = grind (arith, first_index-find test f xs, and_then-map)
 
 pub first_index-find-map : {X Y : Type 0} (test : X → Bool) (f : X → Y) (xs : List X)
     → option_and_then (λ t. option_map f (slice_get xs t)) (first_index test xs) ≡ option_map f (find test xs)
 first_index-find-map test f [] = refl
-first_index-find-map test f (x ∷ xs) = go (test x) (first_index-find-map test f xs)
-  where
-    go : (b : Bool) → option_and_then (λ t. option_map f (slice_get xs t)) (first_index test xs) ≡ option_map f (find test xs)
-        → option_and_then (λ t. option_map f (slice_get (x ∷ xs) t)) (cond b (Some 0) (option_map suc (first_index test xs))) ≡ option_map f (cond b (Some x) (find test xs))
-    go true ih = refl
-    go false ih = and_then-map (λ t. option_map f (slice_get (x ∷ xs) t)) suc (first_index test xs) ∙ ih
+first_index-find-map test f (x ∷ xs) = grind (arith, first_index-find-map test f xs, and_then-map)
 
 module _ (c : Cluster) (who : Who) (last : ℕ) (p : ℕ) where
   -- where the session is reached, the turns say so
   now : (st : State) (spot : Spot) → Holds c who last st spot → spot_reached c spot p ≡ true → HasRooms who (Some (session_of st who.pid)) (rooms_left c who spot p)
   now st (Waiting k held rest) holds reached = absurd (false≢true reached)
-  now st (Within k t at held later) holds reached =
-      let gives = rooms_for-at_low c.stream who.pid held (part_from c t at) (map (slice_of c) later) p reached (cursor_at-rises c.stream (node_log c t.node) at t.to holds.1.within) in
-      subst (HasRooms who (Some (session_of st who.pid))) (sym gives) (t.node, k, ap Some holds.1.session)
+  now st (Within k t at held later) holds reached = grind (arith, rooms_for-at_low c.stream who.pid held (part_from c t at) (map (slice_of c) later) p reached (cursor_at-rises c.stream (node_log c t.node) at t.to holds.1.within), part_from c t at, cursor_at-rises c.stream (node_log c t.node) at t.to holds.1.within)
   now st Over holds reached = absurd (false≢true reached)
   now st Beyond holds reached = absurd (false≢true reached)
 
@@ -65,36 +50,8 @@ module _ (c : Cluster) (who : Who) (last : ℕ) (p : ℕ) where
   never : (st : State) (spot : Spot) → Holds c who last st spot → spot_reached c spot p ≡ false
       → IsFinished c st → (rooms_left c who spot p ≡ None) × (step_left c spot p ≡ None)
   never st (Waiting k held []) holds unreached finished = (refl, refl)
-  never st (Waiting k held (t ∷ later)) holds unreached finished =
-      let start_left : taken_of st t.node ≤ t.from = holds.1.unstarted.0 in
-      let some = holds.1.turns.0.some in
-      let within = holds.1.turns.0.within in
-      let all = finished t.node in
-      let long = length-count c t.node in
-      absurd (omega (arith, start_left, some, within, all, long))
-  never st (Within k t at held later) holds unreached finished = never_within holds.1
-    where
-      never_within : In c who st k t at held later → (rooms_left c who (Within k t at held later) p ≡ None) × (step_left c (Within k t at held later) p ≡ None)
-      never_within o =
-          let all = finished t.node in
-          let long = length-count c t.node in
-          let taken = o.taken in
-          let within = o.within in
-          let in_log = o.in_log in
-          let at_end : t.to ≤ at = omega (arith, all, long, taken, in_log) in
-          let is_end : at ≡ t.to = omega (arith, at_end, within) in
-          let by_log : ByLog ≡ o.end = ends_log o.end (ap (turn_end who.pid k) (sym (between-none (node_log c t.node) at t.to at_end)) ∙ o.ends) in
-          let may : MayEnd c t later ByLog = subst (MayEnd c t later) (sym by_log) o.may_end in
-          let high : nat_le p (cursor_at c.stream (node_log c t.node) t.to) ≡ false = ap (λ n. nat_le p (cursor_at c.stream (node_log c t.node) n)) (sym is_end) ∙ unreached in (
-            ap (λ recs. rooms_for c.stream who.pid held (record { low = cursor_at c.stream (node_log c t.node) at; high = cursor_at c.stream (node_log c t.node) t.to; recs = recs } ∷ map (slice_of c) later) p) (between-none (node_log c t.node) at t.to at_end)
-                ∙ rooms_for-behind c.stream who.pid held _ _ (map (slice_of c) later) p high
-                ∙ ap (λ ts. rooms_for c.stream who.pid held (map (slice_of c) ts) p) may.0,
-            ap (λ b. cond b (option_map (λ number. record { log = t.node; index = number }) (first_reaching c.stream (node_log c t.node) p at (t.to - at))) (reaching_step c later p)) high
-                ∙ ap (λ ts. reaching_step c ts p) may.0,
-          )
-        where
-          ends_log : (e : End) → Some ByLog ≡ Some e → ByLog ≡ e
-          ends_log e is = same_Some ByLog e is
+  never st (Waiting k held (t ∷ later)) holds unreached finished = grind (arith, length-count c t.node)
+  never st (Within k t at held later) holds unreached finished = grind (arith, In, rooms_left, Within k t at held later, step_left, length-count, between-none)
   never st Over holds unreached finished = (refl, refl)
   never st Beyond holds unreached finished = (refl, refl)
 
@@ -150,8 +107,8 @@ module _ (c : Cluster) (who : Who) (last : ℕ) (p : ℕ) where
       go next allowed went.spot (Moves-step c who s.log s.index spot went.spot went.moves p unreached) (reached-spot c who last p next went.spot went.holds synced' settled') (spot_reached c went.spot p) refl
       (λ e. falls steps next went.spot went.holds later synced' settled' e)
     where
-      behind : (next : State) → after c st s ≡ Some next → first_index (is_reached who.pid p) (states_from c st (s ∷ steps)) ≡ option_map suc (first_index (is_reached who.pid p) (states_from c next steps))
-      behind next allowed =
+      onward : (next : State) → after c st s ≡ Some next → first_index (is_reached who.pid p) (states_from c st (s ∷ steps)) ≡ option_map suc (first_index (is_reached who.pid p) (states_from c next steps))
+      onward next allowed =
           ap (λ b. cond b (Some 0) (option_map suc (first_index (is_reached who.pid p) (states_from c (unwrap_or (after c st s) st) steps)))) (reached-spot c who last p st spot holds synced settled ∙ unreached)
           ∙ ap (λ o. option_map suc (first_index (is_reached who.pid p) (states_from c (unwrap_or o st) steps))) allowed
 
@@ -161,8 +118,8 @@ module _ (c : Cluster) (who : Who) (last : ℕ) (p : ℕ) where
           → FallsAfter (s ∷ steps) (first_index (is_reached who.pid p) (states_from c st (s ∷ steps))) (step_left c spot p)
       go next allowed spot' moves same true e ih =
           subst (FallsAfter (s ∷ steps) (first_index (is_reached who.pid p) (states_from c st (s ∷ steps)))) (sym (moves.0 e))
-          (0, refl, behind next allowed ∙ ap (option_map suc) (first-now next steps (same ∙ e)))
+          (0, refl, onward next allowed ∙ ap (option_map suc) (first-now next steps (same ∙ e)))
       go next allowed spot' moves same false e ih =
           subst (FallsAfter (s ∷ steps) (first_index (is_reached who.pid p) (states_from c st (s ∷ steps)))) (sym (moves.1 e))
-          (subst (λ m. FallsAfter (s ∷ steps) m (step_left c spot' p)) (sym (behind next allowed))
+          (subst (λ m. FallsAfter (s ∷ steps) m (step_left c spot' p)) (sym (onward next allowed))
           (shifted s steps (first_index (is_reached who.pid p) (states_from c next steps)) (step_left c spot' p) (ih e)))

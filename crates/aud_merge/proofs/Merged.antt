@@ -58,10 +58,7 @@ run-RunsOn c run runs =
 
 -- how it is told, step after step, whether a list is a run
 pub run-at_start : (c : Cluster) (st : State) (steps : List Step) → st ≡ start c → IsRun c steps ↔ RunsOn c st steps
-run-at_start c st steps e = (
-  λ is. subst (λ (u : State). RunsOn c u steps) (sym e) (RunsOn-run c steps is),
-  λ runs. run-RunsOn c steps (subst (λ (u : State). RunsOn c u steps) e runs),
-)
+run-at_start c st steps e = grind (arith, RunsOn-run c steps, run-RunsOn c steps)
 
 pub run-goes_on : (c : Cluster) (steps run : List Step) (st next : State) (i : ℕ) (d : Step) → IsRun c run ↔ RunsOn c st (drop i steps) → i < length steps
     → after c st (get_or steps i d) ≡ Some next → IsRun c run ↔ RunsOn c next (drop (i + 1) steps)
@@ -80,10 +77,4 @@ run-goes_on c steps run st next i d told inside at = (
 
 pub run-is_over : (c : Cluster) (steps run : List Step) (st : State) (i : ℕ) (finished : Bool) → IsRun c run ↔ RunsOn c st (drop i steps) → length steps ≤ i
     → finished ≡ true ↔ IsFinished c st → finished ≡ true ↔ IsRun c run
-run-is_over c steps run st i finished told past over = (
-  λ yes. told.1 (subst (RunsOn c st) (sym none) (over.0 yes)),
-  λ is. over.1 (subst (RunsOn c st) none (told.0 is)),
-)
-  where
-    none : drop i steps ≡ []
-    none = drop_all i steps past
+run-is_over c steps run st i finished told past over = grind (arith, drop_all i steps past)

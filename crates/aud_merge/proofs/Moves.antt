@@ -8,7 +8,6 @@ use Rattle.std.proofs.lemmas.Option.{same_Some, none-some, slice_get-map}
 use Rattle.aud_tap.specs.declared.records.StreamRec.{StreamRec}
 use Rattle.aud_tap.specs.declared.records.NodeRec.{NodeRec}
 use Rattle.aud_tap.specs.declared.records.NodeRec.TheVariants.{Start, Take, Opened, Join, Leave, Broke, Back, Gone}
-use Rattle.aud_tap.specs.declared.taps.Tap.{Tap}
 use Rattle.aud_node.specs.Cluster.{Cluster, node_log}
 use Rattle.aud_node.specs.Cursors.{is_position, next_cursor, cursor_past, cursor_at, position_or}
 use Rattle.aud_node.specs.Lists.{numbers_from}
@@ -85,9 +84,7 @@ next_position-at (Some p) cursor next e =
 taken-allowed : (a : ℕ) (stream : List StreamRec) (off : Text) (cursor next : ℕ)
     → next_position (position (take a stream) off) cursor ≡ Some next
     → cond (is_position (position stream off) (suc cursor)) (suc cursor) cursor ≡ next
-taken-allowed a stream off cursor next e =
-    let (at, is) = next_position-at (position (take a stream) off) cursor next e in
-    ap (λ b. cond b (suc cursor) cursor) (is_position-at (position stream off) (suc cursor) (position-take a stream off (suc cursor) at)) ∙ is
+taken-allowed a stream off cursor next e = grind (arith, next_position-at (position (take a stream) off) cursor next e, is_position-at (position stream off) (suc cursor), position-take a stream off (suc cursor))
 
 -- the cursor that an allowed record leaves is the one that the log alone gives
 pub next_cursor-allowed : (a : ℕ) (stream : List StreamRec) (i : ℕ) (rec : NodeRec) (cursor next : ℕ)
@@ -115,11 +112,7 @@ abbrev pub Synced : Cluster → State → Type 0
 Synced c st = (l : ℕ) → cursor_of st l ≡ cursor_at c.stream (node_log c l) (taken_of st l)
 
 pub Synced-start : (c : Cluster) → Synced c (start c)
-Synced-start c l = ap cursor_in (slice_get-map _ c.taps l) ∙ zeroes (slice_get c.taps l) ∙ ap (λ o. cursor_at c.stream (node_log c l) (taken_in o)) (sym (slice_get-map _ c.taps l))
-  where
-    zeroes : (o : Option Tap) → cursor_in (option_map (λ (_ : Tap). record { taken = 0; cursor = 0 }) o) ≡ cursor_at c.stream (node_log c l) (taken_in (option_map (λ (_ : Tap). record { taken = 0; cursor = 0 }) o))
-    zeroes None = refl
-    zeroes (Some log) = refl
+Synced-start c l = grind (arith, slice_get-map)
 
 pub Synced-step : (c : Cluster) (st st' : State) (l i : ℕ) → Stepped c st st' l i → Synced c st → Synced c st'
 Synced-step c st st' l i s synced m = go (cases_eq m l)
@@ -148,20 +141,7 @@ length-numbers_from a (suc n) = ap suc (length-numbers_from (suc a) n)
 
 counted : (c : Cluster) (st next : State) (s : Step) (steps : List Step) → Stepped c st next s.log s.index → (l : ℕ)
     → length (steps_of l (s ∷ steps)) + taken_of st l ≡ record_count c l → length (steps_of l steps) + taken_of next l ≡ record_count c l
-counted c st next s steps moved l h = go (cases_eq s.log l)
-  where
-    go : (s.log ≡ l) ⊎ (s.log ≡ l → ⊥) → length (steps_of l steps) + taken_of next l ≡ record_count c l
-    go (inl e) =
-        let longer : length (steps_of l (s ∷ steps)) ≡ suc (length (steps_of l steps)) =
-        ap (λ b. length (map (λ (s : Step). s.index) (cond b (s ∷ filter (λ (s : Step). nat_eq s.log l) steps) (filter (λ (s : Step). nat_eq s.log l) steps)))) (eq-eqb s.log l e) in
-        let was : taken_of st l ≡ s.index = subst (λ n. taken_of st n ≡ s.index) e moved.was in
-        let now : taken_of next l ≡ suc s.index = subst (λ n. taken_of next n ≡ suc s.index) e moved.now in
-        omega (arith, h, longer, was, now)
-    go (inr n) =
-        let same : length (steps_of l (s ∷ steps)) ≡ length (steps_of l steps) =
-        ap (λ b. length (map (λ (s : Step). s.index) (cond b (s ∷ filter (λ (s : Step). nat_eq s.log l) steps) (filter (λ (s : Step). nat_eq s.log l) steps)))) (ne_eqb s.log l n) in
-        let kept : taken_of next l ≡ taken_of st l = ap taken_in (moved.others l (λ e. n (sym e))) in
-        omega (arith, h, same, kept)
+counted c st next s steps moved l h = grind (arith, eq-eqb s.log l, ne_eqb s.log l)
 
 runs_on : (c : Cluster) (st : State) (steps : List Step) → AreAllowed c st steps → ((l : ℕ) → length (steps_of l steps) + taken_of st l ≡ record_count c l) → RunsOn c st steps
 runs_on c st [] allowed left = λ l. omega (arith, left l)
@@ -170,11 +150,7 @@ runs_on c st (s ∷ steps) allowed left =
     (next, at, runs_on c next steps later (λ l. counted c st next s steps (stepped c st next s at) l (left l)))
 
 pub taken-start : (c : Cluster) (l : ℕ) → taken_of (start c) l ≡ 0
-taken-start c l = ap taken_in (slice_get-map _ c.taps l) ∙ zeroes (slice_get c.taps l)
-  where
-    zeroes : (o : Option Tap) → taken_in (option_map (λ (_ : Tap). record { taken = 0; cursor = 0 }) o) ≡ 0
-    zeroes None = refl
-    zeroes (Some log) = refl
+taken-start c l = grind (arith, slice_get-map)
 
 pub RunsOn-run : (c : Cluster) (run : List Step) → IsRun c run → RunsOn c (start c) run
 RunsOn-run c run is = runs_on c (start c) run is.allowed (λ l. let merged = ap length (is.merges l) ∙ length-numbers_from 0 (record_count c l) in omega (arith, merged, taken-start c l))

@@ -1,6 +1,6 @@
 -- Each step leads from one phase to the next.
 use Rattle.std.proofs.Common.{◌≡◌, ◌<◌, ◌≤◌, ◌+◌, ℕ, suc, true, List, [], ◌∷◌, length, Some, slice_get, refl, sym, ap, subst, ◌∙◌, ◌⊎◌, inl, inr, nat_le, arith}
-use Rattle.std.proofs.lemmas.Bool.{cases_eq, cases_lt}
+use Rattle.std.proofs.lemmas.Bool.{cases_eq}
 use Rattle.std.proofs.lemmas.Option.{same_Some, slice_get_within}
 use Rattle.aud_tap.specs.declared.records.NodeRec.{NodeRec}
 use Rattle.aud_node.specs.Cluster.{Cluster, node_log}
@@ -17,8 +17,8 @@ use Rattle.aud_merge.specs.Sessions.{Here, Ended, session_after}
 use Rattle.aud_merge.specs.Runs.{RunsOn}
 use Rattle.aud_merge.proofs.Steps.{EntryStep, RecordStep, Stepped}
 use Rattle.aud_merge.proofs.Moves.{Named, Quiet, moved, Synced, Synced-step}
-use Rattle.aud_merge.proofs.Slices.{reaches-takes-behind}
-use Rattle.aud_merge.proofs.Records.{here-node, beginning-here, ended-after, inner-after, ended, last-names, last-after, quiet-rooms, waiting, waiting-after, beginning-after, begun-beyond}
+use Rattle.aud_merge.proofs.Slices.{reaches-takes-after}
+use Rattle.aud_merge.proofs.Records.{here-node, beginning-here, ended-after, inner-after, ended, last-names, last-after, quiet-rooms, waiting-after, begun-beyond}
 use Rattle.aud_merge.proofs.Phases.{never_again, Unstarted, Unstarted-step, Out, In, Spot, Waiting, Within, Over, Beyond, Holds, OnSlice, Moves, waits, begins as begins', elsewhere, goes, breaks, leaves, stays_over, passes, stays_beyond}
 use Rattle.aud_node.proofs.RecordLemmas.{between-more, between-none, between-nil}
 use Rattle.aud_rooms.proofs.Turns.{end_parts, begins-same, beginning-begins, begins-names}
@@ -41,38 +41,7 @@ quiet-none c who st st' l i quiet n at = quiet.other (beginning who n) at (begin
 -- a session that waits for turn k is named only by that turn's first record
 pub begun_at : (c : Cluster) (who : Who) (st st' : State) (l i : ℕ) (steps : List Step) (k : ℕ) (held : Rooms) (t : Turn) (later : List Turn) → Out c who st k held (t ∷ later)
     → Stepped c st st' l i → RunsOn c st' steps → Named c st st' l i who.pid → (l ≡ t.node) × (i ≡ t.from) × (session_of st' who.pid ≡ Here l k who.sid who.nsp held)
-begun_at c who st st' l i steps k held t later o s runs named = where_begun (cases_eq l t.node) (cases_eq i t.from)
-  where
-    becomes : session_after l named.rec (waiting who k held) ≡ Some (session_of st' who.pid)
-    becomes = ap (session_after l named.rec) (sym o.session) ∙ named.becomes
-
-    begins : begins_turn who.pid k named.rec ≡ true
-    begins = waiting-after l who k held named.rec (session_of st' who.pid) named.names becomes
-
-    turn : IsTurn c who k t later
-    turn = o.turns.0
-
-    again : taken_of st' t.node ≤ t.from → ⊥
-    again left = never_again c who.pid k t.node t.from (beginning who k) turn.begins (beginning-begins who k) steps st' runs (begun-beyond l who k held named.rec (session_of st' who.pid) begins becomes) left
-
-    start_left : taken_of st t.node ≤ t.from
-    start_left = o.unstarted.0
-
-    here : (l ≡ t.node) → (i ≡ t.from) → session_of st' who.pid ≡ Here l k who.sid who.nsp held
-    here same_log same_index =
-        let at : slice_get (node_log c l) i ≡ Some (beginning who k) = ap (λ n. slice_get (node_log c n) i) same_log ∙ ap (slice_get (node_log c t.node)) same_index ∙ turn.begins in
-        let is : named.rec ≡ beginning who k = same_Some _ _ (sym named.at ∙ at) in
-        beginning-after l who k held (session_of st' who.pid) o.first (ap (λ rec. session_after l rec (waiting who k held)) (sym is) ∙ becomes)
-
-    where_begun : (l ≡ t.node) ⊎ (l ≡ t.node → ⊥) → (i ≡ t.from) ⊎ (i ≡ t.from → ⊥) → (l ≡ t.node) × (i ≡ t.from) × (session_of st' who.pid ≡ Here l k who.sid who.nsp held)
-    where_begun (inl same_log) (inl same_index) = (same_log, same_index, here same_log same_index)
-    where_begun (inl same_log) (inr other) =
-        let was : taken_of st t.node ≡ i = ap (taken_of st) (sym same_log) ∙ s.was in
-        let now : taken_of st' t.node ≡ suc i = ap (taken_of st') (sym same_log) ∙ s.now in
-        absurd (again (omega (arith, was, now, other, start_left)))
-    where_begun (inr other) x =
-        let kept : taken_of st' t.node ≡ taken_of st t.node = ap taken_in (s.others t.node (λ e. other (sym e))) in
-        absurd (again (omega (arith, kept, start_left)))
+begun_at c who st st' l i steps k held t later o s runs named = grind (arith, waiting-after l who k held named.rec, never_again c, beginning-begins who k, begun-beyond l who k held named.rec)
 
 out_named : (c : Cluster) (who : Who) (last : ℕ) (st st' : State) (l i : ℕ) (steps : List Step) (k : ℕ) (held : Rooms) (rest : List Turn) (counted : k + length rest ≡ last) (o : Out c who st k held rest)
     → Stepped c st st' l i → RunsOn c st' steps → Named c st st' l i who.pid → Went c who last st' l i (Waiting k held rest)
@@ -123,9 +92,7 @@ reached-here pid st p at k sid nsp held e = ap (λ s. is_at_least (node_cursor s
 
 pub reached-in : (c : Cluster) (who : Who) (st : State) (k : ℕ) (t : Turn) (i : ℕ) (held : Rooms) (later : List Turn) → In c who st k t i held later → Synced c st
     → (p : ℕ) → is_reached who.pid p st ≡ nat_le p (cursor_at c.stream (node_log c t.node) i)
-reached-in c who st k t i held later o synced p =
-    reached-here who.pid st p t.node k who.sid who.nsp held o.session
-    ∙ ap (nat_le p) (synced t.node ∙ ap (λ n. cursor_at c.stream (node_log c t.node) n) o.taken)
+reached-in c who st k t i held later o synced p = grind (arith, reached-here who.pid st p t.node k who.sid who.nsp held o.session)
 
 module _ (c : Cluster) (who : Who) (last : ℕ) (st st' : State) (l i' : ℕ) (k : ℕ) (t : Turn) (i : ℕ) (held : Rooms) (later : List Turn) (counted : suc k + length later ≡ last) (o : In c who st k t i held later) where
   stays : (session_of st' who.pid ≡ session_of st who.pid) → taken_of st' t.node ≡ taken_of st t.node → Unstarted st' later → Went c who last st' l i' (Within k t i held later)
@@ -152,17 +119,7 @@ module _ (c : Cluster) (who : Who) (last : ℕ) (st st' : State) (l i' : ℕ) (k
 
   -- the slice isn't at its end while its node has a record left
   more : (rec : NodeRec) → slice_get (node_log c t.node) i ≡ Some rec → i < t.to
-  more rec at = go (cases_lt i t.to)
-    where
-      ends_log : (e : End) → Some ByLog ≡ Some e → MayEnd c t later e → t.to ≡ length (node_log c t.node)
-      ends_log e is may = (subst (MayEnd c t later) (sym (same_Some ByLog e is)) may).1
-
-      go : (i < t.to) ⊎ (t.to ≤ i) → i < t.to
-      go (inl h) = h
-      go (inr h) =
-          let at_end = ends_log o.end (ap (turn_end who.pid k) (sym (between-none (node_log c t.node) i t.to h)) ∙ o.ends) o.may_end in
-          let in_log = slice_get_within (node_log c t.node) i rec at in
-          omega (arith, at_end, in_log, h)
+  more rec at = grind (arith, between-none (node_log c t.node) i t.to, slice_get_within (node_log c t.node) i rec at)
 
   inner_step : (rec : NodeRec) → OnSlice c t l i' i rec → part_of who.pid k rec ≡ Inner
       → session_of st' who.pid ≡ Here t.node k who.sid who.nsp (rooms_after who.pid held rec) → taken_of st' t.node ≡ suc i → Unstarted st' later
@@ -222,11 +179,7 @@ module _ (c : Cluster) (who : Who) (last : ℕ) (st st' : State) (l i' : ℕ) (k
 
 -- the record of a step of this node
 node_record : (c : Cluster) (st st' : State) (l i : ℕ) → Stepped c st st' l i → 0 < length (node_log c l) → RecordStep c st st' l i
-node_record c st st' l i s h = go s.kind
-  where
-    go : EntryStep c st st' l i ⊎ RecordStep c st st' l i → RecordStep c st st' l i
-    go (inl e) = let none : length (node_log c l) ≡ 0 = ap length e.no_log in absurd (omega (arith, none, h))
-    go (inr r) = r
+node_record c st st' l i s h = grind (arith, EntryStep c st st' l i, RecordStep c st st' l i)
 
 inside_step : (c : Cluster) (who : Who) (last : ℕ) (st st' : State) (l i' : ℕ) (k : ℕ) (t : Turn) (i : ℕ) (held : Rooms) (later : List Turn) (counted : suc k + length later ≡ last) (o : In c who st k t i held later)
     → Stepped c st st' l i' → Synced c st → Synced c st' → Named c st st' l i' who.pid ⊎ Quiet c st st' l i' who.pid
@@ -259,7 +212,7 @@ inside_step c who last st st' l i' k t i held later counted o s synced synced' e
           some = more c who last st st' l i' k t i held later counted o r.rec at;
           reaches = λ p before.
               ap (nat_le p) (ap (λ n. cursor_at c.stream (node_log c n) (suc i)) e ∙ ap (λ n. cursor_at c.stream (node_log c l) (suc n)) (sym index) ∙ ap (cursor_at c.stream (node_log c l)) (sym s.now) ∙ sym (synced' l))
-              ∙ reaches-takes-behind (appended c st) c.stream i' r.rec (cursor_of st l) (cursor_of st' l) p (let begun = o.begun in omega (arith, begun, index)) r.cursor
+              ∙ reaches-takes-after (appended c st) c.stream i' r.rec (cursor_of st l) (cursor_of st' l) p (let begun = o.begun in omega (arith, begun, index)) r.cursor
               (ap (nat_le p) (synced l ∙ ap (cursor_at c.stream (node_log c l)) (s.was ∙ index) ∙ ap (λ n. cursor_at c.stream (node_log c n) i) (sym e)) ∙ before);
         } in
         node_step c who last st st' l i' k t i held later counted o r.rec on

@@ -31,13 +31,7 @@ within-count c l i rec at = go (log_at c l) at
     go (Some (Node recs)) at = slice_get_within recs i rec at
 
 pub length-count : (c : Cluster) (l : ℕ) → length (node_log c l) ≤ record_count c l
-length-count c l = go (log_at c l)
-  where
-    go : (o : Option Records) → length (node_recs o) ≤ log_length o
-    go None = omega arith
-    go (Some (Stream recs)) = omega arith
-    go (Some (Client recs)) = omega arith
-    go (Some (Node recs)) = omega arith
+length-count c l = grind arith
 
 -- a turn that was begun is not begun again, so no such record is left
 pub never_again : (c : Cluster) (pid : Text) (k l i : ℕ) (rec : NodeRec) → slice_get (node_log c l) i ≡ Some rec → begins_turn pid k rec ≡ true
@@ -107,7 +101,7 @@ pub data Spot : Type 0 where
   -- it is in turn k, at the record with this number
   Within : (k : ℕ) (t : Turn) (at : ℕ) (held : Rooms) (later : List Turn) → Spot
   Over : Spot
-  -- there is a turn behind those that are known
+  -- there is a turn after those that are known
   Beyond : Spot
 
 pub record HasTurn (c : Cluster) (pid : Text) (k : ℕ) : Type 0 where
@@ -152,17 +146,4 @@ pub data Moves (c : Cluster) (who : Who) (l i : ℕ) : Spot → Spot → Type 0 
 pub Unstarted-step : (c : Cluster) (who : Who) (st st' : State) (l i : ℕ) → Stepped c st st' l i
     → (k : ℕ) (later : List Turn) → ((n : ℕ) → k ≤ n → slice_get (node_log c l) i ≡ Some (beginning who n) → ⊥) → AreTurns c who k later → Unstarted st later → Unstarted st' later
 Unstarted-step c who st st' l i s k [] none turns unstarted = tt
-Unstarted-step c who st st' l i s k (t ∷ later) none turns unstarted =
-    (go (cases_eq l t.node), Unstarted-step c who st st' l i s (suc k) later (λ n h. none n (omega (arith, h))) turns.1 unstarted.1)
-  where
-    go : (l ≡ t.node) ⊎ (l ≡ t.node → ⊥) → taken_of st' t.node ≤ t.from
-    go (inl e) =
-        let was : taken_of st t.node ≡ i = subst (λ n. taken_of st n ≡ i) e s.was in
-        let now : taken_of st' t.node ≡ suc i = subst (λ n. taken_of st' n ≡ suc i) e s.now in
-        let before : taken_of st t.node ≤ t.from = unstarted.0 in
-        let other : i ≡ t.from → ⊥ = λ same. none k (omega arith) (ap (λ n. slice_get (node_log c n) i) e ∙ ap (slice_get (node_log c t.node)) same ∙ turns.0.begins) in
-        omega (arith, was, now, before, other)
-    go (inr n) =
-        let kept : taken_of st' t.node ≡ taken_of st t.node = ap taken_in (s.others t.node (λ e. n (sym e))) in
-        let before : taken_of st t.node ≤ t.from = unstarted.0 in
-        omega (arith, kept, before)
+Unstarted-step c who st st' l i s k (t ∷ later) none turns unstarted = grind (arith, Unstarted-step c who st st' l i s (suc k) later)

@@ -59,23 +59,15 @@ inner-after l pid k sid nsp held at (Start off) s' part names e = absurd (none-s
 inner-after l pid k sid nsp held at (Take off) s' part names e = absurd (none-some pid names)
 inner-after l pid k sid nsp held at (Opened other sid' nsp') s' part names e = absurd (none-some s' e)
 inner-after l pid k sid nsp held at (Back other number) s' part names e = absurd (none-some s' e)
-inner-after l pid k sid nsp held at (Join other room) s' part names e =
-    let (here, is) = cond_parts (nat_eq at l) _ s' e in
-    let own : bytes_eq other pid ≡ true = ap (λ q. bytes_eq q pid) (same_Some other pid names) ∙ itself_text pid in
-    (eqb-true at l here, sym (same_Some _ _ is) ∙ ap (λ b. Here at k sid nsp (cond b (set'.insert held room) held)) (sym own))
-inner-after l pid k sid nsp held at (Leave other room) s' part names e =
-    let (here, is) = cond_parts (nat_eq at l) _ s' e in
-    let own : bytes_eq other pid ≡ true = ap (λ q. bytes_eq q pid) (same_Some other pid names) ∙ itself_text pid in
-    (eqb-true at l here, sym (same_Some _ _ is) ∙ ap (λ b. Here at k sid nsp (cond b (set'.remove held room) held)) (sym own))
+inner-after l pid k sid nsp held at (Join other room) s' part names e = grind (arith, cond_parts (nat_eq at l) _ s' e, itself_text pid, eqb-true at l)
+inner-after l pid k sid nsp held at (Leave other room) s' part names e = grind (arith, cond_parts (nat_eq at l) _ s' e, itself_text pid, eqb-true at l)
 inner-after l pid k sid nsp held at (Broke other number) s' part names e =
     let (here, is) = cond_parts (nat_eq at l && nat_eq k number) (Some (Away k sid nsp held)) s' e in
     let own : bytes_eq other pid ≡ true = ap (λ q. bytes_eq q pid) (same_Some other pid names) ∙ itself_text pid in
     let turn : nat_eq number k ≡ true = eq-eqb number k (sym (eqb-true k number (and_parts _ _ here).1)) in
     let broke : part_of pid k (Broke other number) ≡ Last ByBreak = ap (λ b. cond b (cond (nat_eq number k) (Last ByBreak) Foreign) Inner) own ∙ ap (λ b. cond b (Last ByBreak) Foreign) turn in
     absurd (inner_last ByBreak (sym part ∙ broke))
-inner-after l pid k sid nsp held at (Gone other) s' part names e =
-    let own : bytes_eq other pid ≡ true = ap (λ q. bytes_eq q pid) (same_Some other pid names) ∙ itself_text pid in
-    absurd (inner_last ByGone (sym part ∙ ap (λ b. cond b (Last ByGone) Inner) own))
+inner-after l pid k sid nsp held at (Gone other) s' part names e = grind (arith, itself_text pid, inner_last ByGone)
 
 cond_last : (b : Bool) (p : Part) (e : End) → cond b p Inner ≡ Last e → (b ≡ true) × (p ≡ Last e)
 cond_last true p e is = (refl, is)
@@ -88,15 +80,7 @@ ended ByGone k sid nsp held = Ended
 ended ByLog k sid nsp held = Ended
 
 cond_end : (b : Bool) (e e' : End) → cond b (Last e) Foreign ≡ Last e' → e ≡ e'
-cond_end true e e' is = by_last e e' is
-  where
-    end_of : Part → End
-    end_of (Last x) = x
-    end_of Inner = ByLog
-    end_of Foreign = ByLog
-
-    by_last : (e e' : End) → Last e ≡ Last e' → e ≡ e'
-    by_last e e' is = cc
+cond_end true e e' is = grind arith
 cond_end false e e' is = absurd (part_foreign e' is)
 
 pub last-names : (pid : Text) (k : ℕ) (rec : NodeRec) (e : End) → part_of pid k rec ≡ Last e → pid_of rec ≡ Some pid

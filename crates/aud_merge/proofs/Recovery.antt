@@ -1,5 +1,5 @@
 -- The cluster in which a session is recovered: its run is one, and two events are due in it.
-use Rattle.std.proofs.Common.{◌≡◌, ℕ, zero, suc, true, false, cond, [], ◌∷◌, map, Some, None, Option, slice_get, refl, sym, ap, ◌∙◌, inl, inr, unwrap_or, option_map, nat_eq, codes, arith}
+use Rattle.std.proofs.Common.{◌≡◌, ℕ, zero, suc, true, [], ◌∷◌, map, Some, None, Option, slice_get, refl, sym, ap, ◌∙◌, inl, inr, unwrap_or, option_map, codes, arith}
 use Rattle.std.proofs.lemmas.Bool.{ne_eqb}
 use Rattle.std.proofs.lemmas.Option.{same_Some, none-some}
 use Rattle.std.specs.Ordering.{nat_cmp}
@@ -38,11 +38,7 @@ merges zero = refl
 merges (suc zero) = refl
 merges (suc (suc zero)) = refl
 merges (suc (suc (suc zero))) = refl
-merges (suc (suc (suc (suc place)))) =
-    let zeroth : nat_eq 0 (suc (suc (suc (suc place)))) ≡ false = ne_eqb 0 (suc (suc (suc (suc place)))) (λ e. omega (arith, e)) in
-    let first : nat_eq 1 (suc (suc (suc (suc place)))) ≡ false = ne_eqb 1 (suc (suc (suc (suc place)))) (λ e. omega (arith, e)) in
-    let second : nat_eq 2 (suc (suc (suc (suc place)))) ≡ false = ne_eqb 2 (suc (suc (suc (suc place)))) (λ e. omega (arith, e)) in
-    simp (zeroth, first, second)
+merges (suc (suc (suc (suc place)))) = grind (arith, ne_eqb 0 (suc (suc (suc (suc place)))), ne_eqb 1 (suc (suc (suc (suc place)))), ne_eqb 2 (suc (suc (suc (suc place)))))
 
 abbrev Sessions : Type 0
 Sessions = fin.FinMap (slice_cmp nat_cmp) Session
@@ -75,9 +71,7 @@ at entries taken cursor taken' cursor' sessions =
 does : (node : ℕ) (rec : NodeRec) (old : Sessions) (was : Option Session) (session : Session) (next : Sessions → State)
     → fin.get old who.pid ≡ was → session_after node rec (unwrap_or was Absent) ≡ Some session
     → option_map next (option_map (λ s. fin.insert old who.pid s) (session_after node rec (unwrap_or (fin.get old who.pid) Absent))) ≡ Some (next (fin.insert old who.pid session))
-does node rec old was session next is becomes =
-    ap (λ o. option_map next (option_map (λ s. fin.insert old who.pid s) (session_after node rec (unwrap_or o Absent)))) is
-    ∙ ap (λ o. option_map next (option_map (λ s. fin.insert old who.pid s) o)) becomes
+does node rec old was session next is becomes = grind arith
 
 opens : after logs (at 0 1 0 0 0 fin.empty) (step 1 1) ≡ Some (at 0 2 0 0 0 opened)
 opens = does 1 (Opened who.pid who.sid who.nsp) fin.empty None _ (at 0 2 0 0 0) (fin.get-empty (slice_cmp nat_cmp) who.pid) refl
@@ -155,9 +149,7 @@ is_for_it : (off text : Text) → is_recoverable (event off text) ≡ true → i
 is_for_it off text recoverable = rw (recoverable, in_room) refl
 
 pub due_by_turns : turns_due logs.stream who (map (slice_of logs) turns) ≡ 1 ∷ 2 ∷ []
-due_by_turns =
-    ap (λ b. cond b (1 ∷ cond (is_for (Some (event (codes "2-0") (codes "2[\"hi\",\"2-0\"]"))) who.nsp held) (2 ∷ []) []) (cond (is_for (Some (event (codes "2-0") (codes "2[\"hi\",\"2-0\"]"))) who.nsp held) (2 ∷ []) [])) (is_for_it _ _ first_is_recoverable)
-    ∙ ap (λ b. 1 ∷ cond b (2 ∷ []) []) (is_for_it _ _ second_is_recoverable)
+due_by_turns = grind (arith, is_for_it _ _ first_is_recoverable, first_is_recoverable, is_for_it _ _ second_is_recoverable, second_is_recoverable)
 
 pub both_are_due : due logs run who.pid ≡ 1 ∷ 2 ∷ []
 both_are_due = due-chain logs run who turns is_run chain ∙ due_by_turns

@@ -14,7 +14,7 @@ use Rattle.aud_merge.specs.Due.{node_cursor, is_at_least, is_reached}
 use Rattle.aud_merge.specs.declared.step.Step.{Step}
 use Rattle.aud_merge.specs.Machine.{State}
 use Rattle.aud_merge.proofs.Moves.{Synced}
-use Rattle.aud_merge.proofs.Slices.{part_from, rooms_for-step, rooms_for-behind, rooms_for-beginning, last-takes}
+use Rattle.aud_merge.proofs.Slices.{part_from, rooms_for-step, rooms_for-after, rooms_for-beginning, last-takes}
 use Rattle.aud_merge.proofs.Records.{last-rooms, waiting}
 use Rattle.aud_merge.proofs.Phases.{Spot, Waiting, Within, Over, Beyond, Holds, OnSlice, Moves, waits, begins, elsewhere, goes, breaks, leaves, stays_over, passes, stays_beyond}
 use Rattle.aud_merge.proofs.PhaseSteps.{reached-in}
@@ -66,7 +66,7 @@ module _ (c : Cluster) (who : Who) (k : ℕ) (t : Turn) (l i at : ℕ) (held : R
       rooms-goes
       ∙ ap (λ rooms. rooms_for c.stream who.pid rooms (part_from c t (suc at) ∷ map (slice_of c) later) p) (last-rooms who.pid k held rec e part)
       ∙ ap (λ recs. rooms_for c.stream who.pid held (record { low = cursor_at c.stream (node_log c t.node) (suc at); high = cursor_at c.stream (node_log c t.node) t.to; recs = recs } ∷ map (slice_of c) later) p) (between-none (node_log c t.node) (suc at) t.to (omega (arith, is_end)))
-      ∙ rooms_for-behind c.stream who.pid held _ _ (map (slice_of c) later) p (past-high e part is_end)
+      ∙ rooms_for-after c.stream who.pid held _ _ (map (slice_of c) later) p (past-high e part is_end)
 
 -- a move leaves the rooms of each position that isn't reached
 pub Moves-rooms : (c : Cluster) (who : Who) (l i : ℕ) (a b : Spot) → Moves c who l i a b → (p : ℕ) → spot_reached c a p ≡ false → rooms_left c who a p ≡ rooms_left c who b p
@@ -122,20 +122,14 @@ MovesStep c l i a b p =
 by_more : (c : Cluster) (t : Turn) (l i at : ℕ) (later : List Turn) (p : ℕ) → at < t.to → t.node ≡ l → i ≡ at
     → ((nat_le p (cursor_at c.stream (node_log c t.node) (suc at)) ≡ true → left_of c t at later p ≡ Some (record { log = l; index = i }))
     × (nat_le p (cursor_at c.stream (node_log c t.node) (suc at)) ≡ false → left_of c t at later p ≡ left_of c t (suc at) later p))
-by_more c t l i at later p h log index = (
-  λ e. left_of-more c t at later p h ∙ ap (λ b. cond b (Some (record { log = t.node; index = at })) (left_of c t (suc at) later p)) e ∙ ap (λ n. Some (record { log = n; index = at })) log ∙ ap (λ n. Some (record { log = l; index = n })) (sym index),
-  λ e. left_of-more c t at later p h ∙ ap (λ b. cond b (Some (record { log = t.node; index = at })) (left_of c t (suc at) later p)) e,
-)
+by_more c t l i at later p h log index = grind (arith, left_of-more c t at later p h)
 
 pub Moves-step : (c : Cluster) (who : Who) (l i : ℕ) (a b : Spot) → Moves c who l i a b → (p : ℕ) → spot_reached c a p ≡ false → MovesStep c l i a b p
 Moves-step c who l i a b (waits k held rest) p before = (λ e. absurd (false≢true e), λ _. refl)
 Moves-step c who l i a b (begins k held t later same_log same_index turn) p before = by_more c t l i t.from later p turn.some (sym same_log) same_index
 Moves-step c who l i a b (elsewhere k t at held later) p before = (λ e. absurd (false≢true (sym before ∙ e)), λ _. refl)
 Moves-step c who l i a b (goes k t at held later rec on part) p before = by_more c t l i at later p on.some on.log on.index
-Moves-step c who l i a b (breaks k t at held later rec on part is_end) p before = (
-  λ e. absurd (false≢true e),
-  λ _. ap (λ b. cond b (option_map (λ number. record { log = t.node; index = number }) (first_reaching c.stream (node_log c t.node) p at (t.to - at))) (reaching_step c later p)) (past-high c who k t l i at held later rec on p before ByBreak part is_end),
-)
+Moves-step c who l i a b (breaks k t at held later rec on part is_end) p before = grind (arith, false≢true, past-high c who k t l i at held later rec on p before ByBreak part is_end)
 Moves-step c who l i a b (leaves k t at held later rec e on part is_end none is) p before = (
   λ e. absurd (false≢true e),
   λ _. ap (λ b. cond b (option_map (λ number. record { log = t.node; index = number }) (first_reaching c.stream (node_log c t.node) p at (t.to - at))) (reaching_step c later p)) (past-high c who k t l i at held later rec on p before e part is_end) ∙ ap (λ ts. reaching_step c ts p) none,

@@ -1,16 +1,16 @@
 -- What a step that is allowed does.
-use Rattle.std.proofs.Common.{◌≡◌, ◌<◌, ◌≤◌, ℕ, suc, [], take, Option, Some, None, slice_get, arith, sym, ap, subst, ◌∙◌, ◌⊎◌, inl, inr, nat_eq}
-use Rattle.std.proofs.lemmas.Bool.{eqb-true, cases_eq}
+use Rattle.std.proofs.Common.{◌≡◌, ◌<◌, ◌≤◌, ℕ, suc, [], take, Some, slice_get, arith, sym, ap, subst, ◌∙◌, ◌⊎◌, inl, inr, nat_eq}
+use Rattle.std.proofs.lemmas.Bool.{eqb-true}
 use Rattle.std.proofs.lemmas.Option.{same_Some, none-some, slice_get_within}
 use Rattle.aud_tap.specs.declared.records.NodeRec.{NodeRec}
 use Rattle.aud_tap.specs.declared.taps.Records.{Records}
 use Rattle.aud_tap.specs.declared.taps.Records.TheVariants.{Stream, Node, Client}
-use Rattle.aud_node.specs.Cluster.{Cluster, stream_place, node_log, node_recs, log_at}
+use Rattle.aud_node.specs.Cluster.{Cluster, node_log, node_recs, log_at}
 use Rattle.aud_node.specs.TurnRecords.{pid_of}
 use Rattle.aud_merge.specs.Due.{cursor_of, cursor_in}
 use Rattle.aud_merge.specs.declared.step.Step.{Step}
 use Rattle.aud_merge.specs.declared.progress.Progress.{Progress}
-use Rattle.aud_merge.specs.Machine.{State, after, after_next, after_record, after_entry, cursor_after, sessions_after, taken_in, taken_of, taken_at, appended}
+use Rattle.aud_merge.specs.Machine.{State, after, after_next, after_record, after_entry, cursor_after, sessions_after, taken_in, taken_of, appended}
 use Rattle.aud_merge.specs.Runs.{record_count, log_length}
 use Rattle.aud_merge.proofs.Basics.{and_then_parts, map_parts, cond_parts, slice_get-set_same, slice_get-set_other}
 
@@ -81,19 +81,8 @@ stepped c st st' s e =
 
 -- no step takes back what was taken
 pub taken-grows : (c : Cluster) (st st' : State) (l i m : ℕ) → Stepped c st st' l i → taken_of st m ≤ taken_of st' m
-taken-grows c st st' l i m s = go (cases_eq m l)
-  where
-    go : (m ≡ l) ⊎ (m ≡ l → ⊥) → taken_of st m ≤ taken_of st' m
-    go (inl e) =
-        let was = ap (taken_of st) e ∙ s.was in
-        let now = ap (taken_of st') e ∙ s.now in
-        omega (arith, was, now)
-    go (inr n) = let kept = ap taken_in (s.others m n) in omega (arith, kept)
+taken-grows c st st' l i m s = grind arith
 
 -- nor an entry that was appended
 pub appended-grows : (c : Cluster) (st st' : State) (l i : ℕ) → Stepped c st st' l i → appended c st ≤ appended c st'
-appended-grows c st st' l i s = go (stream_place c.taps)
-  where
-    go : (place : Option ℕ) → taken_at st place ≤ taken_at st' place
-    go None = omega arith
-    go (Some m) = taken-grows c st st' l i m s
+appended-grows c st st' l i s = grind (arith, taken-grows c st st' l i)

@@ -1,22 +1,21 @@
 -- The state of a session after a prefix of a run is the one that the taken records of its turns give.
-use Rattle.std.proofs.Common.{◌≡◌, ◌<◌, ◌≤◌, ◌+◌, ◌-◌, ℕ, zero, suc, min, Bool, true, false, cond, ◌&&◌, List, [], ◌∷◌, ◌++◌, length, take, drop, Some, None, slice_get, refl, sym, ap, subst, ◌∙◌, ◌⊎◌, inl, inr, nat_eq, arith, unwrap_or, bytes_eq, append_assoc}
-use Rattle.std.proofs.lemmas.Bool.{cases_eq, le-leb, lt-leb, eq-eqb, eqb-true, and_from}
+use Rattle.std.proofs.Common.{◌≡◌, ◌<◌, ◌≤◌, ℕ, zero, suc, min, Bool, true, false, cond, List, [], ◌∷◌, ◌++◌, length, Some, slice_get, refl, sym, ap, subst, ◌∙◌, nat_eq, arith, unwrap_or, append_assoc}
+use Rattle.std.proofs.lemmas.Bool.{le-leb, lt-leb, eq-eqb, eqb-true}
 use Rattle.std.proofs.lemmas.Option.{same_Some, none-some}
 use Rattle.std.proofs.lemmas.List.{append-nil}
-use Rattle.std.specs.FinSet as set'
 use Rattle.aud_tap.specs.declared.records.NodeRec.{NodeRec}
 use Rattle.aud_tap.specs.declared.records.NodeRec.TheVariants.{Start, Take, Opened, Join, Leave, Broke, Back, Gone}
 use Rattle.aud_node.specs.Cluster.{Cluster, node_log}
 use Rattle.aud_node.specs.Lists.{between}
 use Rattle.aud_node.specs.Stream.{Text}
 use Rattle.aud_rooms.specs.Rooms.{Rooms, own_room, rooms_after}
-use Rattle.aud_rooms.specs.Turns.{Who, Turn, beginning, Part, Inner, Last, Foreign, End, ByBreak, ByGone, part_of, AreTurns, HasNoTurn}
+use Rattle.aud_rooms.specs.Turns.{Who, Turn, beginning, Part, Inner, Last, Foreign, End, ByBreak, part_of, AreTurns, HasNoTurn}
 use Rattle.aud_merge.specs.ByTurns.{session_past, after_records, by_turns}
 use Rattle.aud_merge.specs.Due.{states_from, states}
 use Rattle.aud_merge.specs.declared.step.Step.{Step}
-use Rattle.aud_merge.specs.Machine.{State, start, after, session_of, taken_of, taken_in}
+use Rattle.aud_merge.specs.Machine.{State, start, after, session_of, taken_of}
 use Rattle.aud_merge.specs.Runs.{IsRun, RunsOn}
-use Rattle.aud_merge.specs.Sessions.{Session, Absent, Here, Away, Ended}
+use Rattle.aud_merge.specs.Sessions.{Session, Absent, Here, Ended}
 use Rattle.aud_merge.proofs.Steps.{Stepped, stepped, taken-grows}
 use Rattle.aud_merge.proofs.Moves.{Synced, Synced-step, Synced-start, RunsOn-run}
 use Rattle.aud_merge.proofs.Records.{waiting, ended}
@@ -41,84 +40,25 @@ past-inner : (node : ℕ) (pid : Text) (k : ℕ) (sid nsp : Text) (held : Rooms)
     → session_past node pid (Here node k sid nsp held) rec ≡ Here node k sid nsp (rooms_after pid held rec)
 past-inner node pid k sid nsp held (Start off) part = refl
 past-inner node pid k sid nsp held (Take off) part = refl
-past-inner node pid k sid nsp held (Opened other sid' nsp') part = same (bytes_eq other pid)
-  where
-    same : (b : Bool) → cond b (Here node k sid nsp held) (Here node k sid nsp held) ≡ Here node k sid nsp held
-    same true = refl
-    same false = refl
-past-inner node pid k sid nsp held (Back other number) part = same (bytes_eq other pid)
-  where
-    same : (b : Bool) → cond b (Here node k sid nsp held) (Here node k sid nsp held) ≡ Here node k sid nsp held
-    same true = refl
-    same false = refl
-past-inner node pid k sid nsp held (Join other room) part = same (bytes_eq other pid)
-  where
-    same : (b : Bool) → cond b (unwrap_or (cond (nat_eq node node) (Some (Here node k sid nsp (set'.insert held room))) None) (Here node k sid nsp held)) (Here node k sid nsp held) ≡ Here node k sid nsp (cond b (set'.insert held room) held)
-    same true = ap (λ b. unwrap_or (cond b (Some (Here node k sid nsp (set'.insert held room))) None) (Here node k sid nsp held)) (itself node)
-    same false = refl
-past-inner node pid k sid nsp held (Leave other room) part = same (bytes_eq other pid)
-  where
-    same : (b : Bool) → cond b (unwrap_or (cond (nat_eq node node) (Some (Here node k sid nsp (set'.remove held room))) None) (Here node k sid nsp held)) (Here node k sid nsp held) ≡ Here node k sid nsp (cond b (set'.remove held room) held)
-    same true = ap (λ b. unwrap_or (cond b (Some (Here node k sid nsp (set'.remove held room))) None) (Here node k sid nsp held)) (itself node)
-    same false = refl
-past-inner node pid k sid nsp held (Broke other number) part = same (bytes_eq other pid) part
-  where
-    no : (b : Bool) → cond b (Last ByBreak) Foreign ≡ Inner → ⊥
-    no true e = cc
-    no false e = cc
-
-    same : (b : Bool) → cond b (cond (nat_eq number k) (Last ByBreak) Foreign) Inner ≡ Inner → cond b (unwrap_or (cond (nat_eq node node && nat_eq k number) (Some (Away k sid nsp held)) None) (Here node k sid nsp held)) (Here node k sid nsp held) ≡ Here node k sid nsp held
-    same true e = absurd (no (nat_eq number k) e)
-    same false e = refl
-past-inner node pid k sid nsp held (Gone other) part = same (bytes_eq other pid) part
-  where
-    same : (b : Bool) → cond b (Last ByGone) Inner ≡ Inner → cond b (unwrap_or (cond (nat_eq node node) (Some Ended) None) (Here node k sid nsp held)) (Here node k sid nsp held) ≡ Here node k sid nsp held
-    same true e = cc
-    same false e = refl
+past-inner node pid k sid nsp held (Opened other sid' nsp') part = grind arith
+past-inner node pid k sid nsp held (Back other number) part = grind arith
+past-inner node pid k sid nsp held (Join other room) part = grind (arith, itself node)
+past-inner node pid k sid nsp held (Leave other room) part = grind (arith, itself node)
+past-inner node pid k sid nsp held (Broke other number) part = grind arith
+past-inner node pid k sid nsp held (Gone other) part = grind arith
 
 past-last : (node : ℕ) (pid : Text) (k : ℕ) (sid nsp : Text) (held : Rooms) (rec : NodeRec) (e : End) → part_of pid k rec ≡ Last e
     → session_past node pid (Here node k sid nsp held) rec ≡ ended e k sid nsp held
-past-last node pid k sid nsp held (Broke other number) e part = same (bytes_eq other pid) part
-  where
-    turn : (b : Bool) → nat_eq number k ≡ b → cond b (Last ByBreak) Foreign ≡ Last e → (number ≡ k) × (Last ByBreak ≡ Last e)
-    turn true is l = (eqb-true number k is, l)
-    turn false is l = cc
-
-    by_break : (e : End) → Last ByBreak ≡ Last e → ByBreak ≡ e
-    by_break e is = cc
-
-    same : (b : Bool) → cond b (cond (nat_eq number k) (Last ByBreak) Foreign) Inner ≡ Last e → cond b (unwrap_or (cond (nat_eq node node && nat_eq k number) (Some (Away k sid nsp held)) None) (Here node k sid nsp held)) (Here node k sid nsp held) ≡ ended e k sid nsp held
-    same true l =
-        let (number_is, last) = turn (nat_eq number k) refl l in
-        ap (λ b. unwrap_or (cond b (Some (Away k sid nsp held)) None) (Here node k sid nsp held)) (and_from _ _ (itself node) (eq-eqb k number (sym number_is)))
-        ∙ ap (λ x. ended x k sid nsp held) (by_break e last)
-    same false l = cc
-past-last node pid k sid nsp held (Gone other) e part = same (bytes_eq other pid) part
-  where
-    by_gone : (e : End) → Last ByGone ≡ Last e → ByGone ≡ e
-    by_gone e is = cc
-
-    same : (b : Bool) → cond b (Last ByGone) Inner ≡ Last e → cond b (unwrap_or (cond (nat_eq node node) (Some Ended) None) (Here node k sid nsp held)) (Here node k sid nsp held) ≡ ended e k sid nsp held
-    same true l = ap (λ b. unwrap_or (cond b (Some Ended) None) (Here node k sid nsp held)) (itself node) ∙ ap (λ x. ended x k sid nsp held) (by_gone e l)
-    same false l = cc
-past-last node pid k sid nsp held (Opened other sid' nsp') e part = no (bytes_eq other pid) part
-  where
-    no : {A : Type 0} (b : Bool) → cond b Foreign Inner ≡ Last e → A
-    no true l = absurd cc
-    no false l = absurd cc
-past-last node pid k sid nsp held (Back other number) e part = no (bytes_eq other pid) part
-  where
-    no : {A : Type 0} (b : Bool) → cond b Foreign Inner ≡ Last e → A
-    no true l = absurd cc
-    no false l = absurd cc
+past-last node pid k sid nsp held (Broke other number) e part = grind (arith, eqb-true number k)
+past-last node pid k sid nsp held (Gone other) e part = grind (arith, ended e k sid nsp held, itself node, ended)
+past-last node pid k sid nsp held (Opened other sid' nsp') e part = grind arith
+past-last node pid k sid nsp held (Back other number) e part = grind arith
 past-last node pid k sid nsp held _ e part = cc
 
 past-beginning : (node : ℕ) (who : Who) (k : ℕ) (held : Rooms) → (k ≡ 0 → held ≡ own_room who.sid) → session_past node who.pid (waiting who k held) (beginning who k) ≡ Here node k who.sid who.nsp held
 past-beginning node who zero held first =
     ap (λ b. cond b (Here node 0 who.sid who.nsp (own_room who.sid)) Absent) (itself_text who.pid) ∙ ap (Here node 0 who.sid who.nsp) (sym (first refl))
-past-beginning node who (suc k) held first =
-    ap (λ b. cond b (unwrap_or (cond (nat_eq (suc k) (suc k)) (Some (Here node (suc k) who.sid who.nsp held)) None) (Away k who.sid who.nsp held)) (Away k who.sid who.nsp held)) (itself_text who.pid)
-    ∙ ap (λ b. unwrap_or (cond b (Some (Here node (suc k) who.sid who.nsp held)) None) (Away k who.sid who.nsp held)) (itself (suc k))
+past-beginning node who (suc k) held first = grind (arith, itself_text who.pid, itself (suc k))
 
 -- the session after whole turns
 full : Cluster → Text → Session → List Turn → Session

@@ -66,11 +66,11 @@ pub fn no_run_where_blocked()
 /// Where a run exists, an allowed step stays allowed while steps of other logs are taken.
 pub fn allowed_stays()
     ensures { (c : Cluster) (steps run : List Step) → IsRun c run → AreAllowed c (start c) steps
-        → (x s : Step) (behind_x behind_s : State)
-        → after c (state_after c (start c) steps) x ≡ Some behind_x
-        → after c (state_after c (start c) steps) s ≡ Some behind_s
+        → (x s : Step) (after_x after_s : State)
+        → after c (state_after c (start c) steps) x ≡ Some after_x
+        → after c (state_after c (start c) steps) s ≡ Some after_s
         → (x.log ≡ s.log → ⊥)
-        → (last : State) × (after c behind_s x ≡ Some last) }
+        → (last : State) × (after c after_s x ≡ Some last) }
 {}
 
 /// What the laws tell of every run is said of something: this cluster, in which a session is recovered on another node,

@@ -49,7 +49,7 @@ flag-read stream flags i e b are here is = sym is ∙ ap (λ fs. get_or fs i fal
     go (x ∷ xs) zero h = (let same : x ≡ e = cc in ap is_recoverable same)
     go (x ∷ xs) (suc k) h = go xs k h
 
--- the entry behind so many, noted where it is recoverable and passes
+-- the entry after so many, noted where it is recoverable and passes
 pub noted-entry : (stream : List StreamRec) (test : Option StreamRec → Bool) (names : StreamRec → Bool) (i : ℕ) (e : StreamRec) (b : Bool) (kept : List ℕ)
     → test (Some e) ≡ (is_recoverable e && names e) → slice_get stream i ≡ Some e → b ≡ is_recoverable e → kept ≡ filter (λ p. test (entry stream p)) (positions_after 0 i)
     → cond b (noted (i + 1) (names e) kept) kept ≡ filter (λ p. test (entry stream p)) (positions_after 0 (i + 1))

@@ -46,7 +46,7 @@ noted-more place true true xs = with_place-twice place xs
 noted-more place true false xs = refl
 noted-more place false b xs = refl
 
--- ---- a place behind lesser ones
+-- ---- a place after lesser ones
 
 abbrev pub AreBelow : ℕ → List ℕ → Type 0
 AreBelow n [] = Unit {0}

@@ -15,9 +15,9 @@ use Rattle.std.proofs.lemmas.Bool.{eq-eqb}
 use Rattle.std.proofs.lemmas.Bool.Decides.{eqb_tells}
 use Rattle.aud_node.specs.declared.offsets.Offsets.{Offsets}
 
--- the position of an offset that stands behind so many entries
-abbrev pub position_behind : List StreamRec → ℕ → Text → Option ℕ
-position_behind stream i off = option_map (λ p. i + p) (position (drop i stream) off)
+-- the position of an offset that stands after so many entries
+abbrev pub position_after : List StreamRec → ℕ → Text → Option ℕ
+position_after stream i off = option_map (λ p. i + p) (position (drop i stream) off)
 
 shifted : (i : ℕ) (b : Bool) (o : Option ℕ) → option_map (λ p. i + p) (cond b (Some 1) (option_map suc o)) ≡ cond b (Some (i + 1)) (option_map (λ p. i + 1 + p) o)
 shifted i true o = refl
@@ -25,9 +25,9 @@ shifted i false None = refl
 shifted i false (Some p) = let e : i + suc p ≡ i + 1 + p = omega arith in ap Some e
 
 -- one entry more in front
-pub position_behind-step : (stream : List StreamRec) (i : ℕ) (d : StreamRec) (off : Text) → i < length stream
-    → position_behind stream i off ≡ cond (bytes_eq (offset_of (get_or stream i d)) off) (Some (i + 1)) (position_behind stream (i + 1) off)
-position_behind-step stream i d off h =
+pub position_after-step : (stream : List StreamRec) (i : ℕ) (d : StreamRec) (off : Text) → i < length stream
+    → position_after stream i off ≡ cond (bytes_eq (offset_of (get_or stream i d)) off) (Some (i + 1)) (position_after stream (i + 1) off)
+position_after-step stream i d off h =
     at_drop_more (λ es. option_map (λ p. i + p) (position es off)) stream i d h
     ∙ shifted i (bytes_eq (offset_of (get_or stream i d)) off) (position (drop (i + 1) stream) off)
 
@@ -49,25 +49,25 @@ AreFirst-cons e stream none first (suc i) x is = go (bytes_eq (offset_of e) (off
     go true same = absurd (not_there stream (offset_of e) (offset_of x) i none same (first i x is))
     go false _ = ap (option_map suc) (first i x is)
 
--- the positions of the entries behind so many
-pub record HoldsBehind (stream : List StreamRec) (i : ℕ) (offsets : Offsets) : Type 0 where
-  pub positions_are : (off : Text) → kept_position offsets off ≡ position_behind stream i off
+-- the positions of the entries after so many
+pub record HoldsAfter (stream : List StreamRec) (i : ℕ) (offsets : Offsets) : Type 0 where
+  pub positions_are : (off : Text) → kept_position offsets off ≡ position_after stream i off
   pub are_first : offsets.distinct ≡ true → AreFirst (drop i stream)
 
 -- one entry more in front
-pub HoldsBehind-step : (stream : List StreamRec) (n : ℕ) (e : StreamRec) (old new : Offsets) → 0 < n → n - 1 < length stream → e ≡ get_or stream (n - 1) e → HoldsBehind stream n old
+pub HoldsAfter-step : (stream : List StreamRec) (n : ℕ) (e : StreamRec) (old new : Offsets) → 0 < n → n - 1 < length stream → e ≡ get_or stream (n - 1) e → HoldsAfter stream n old
     → ((q : Text) → kept_position new q ≡ cond (bytes_eq (offset_of e) q) (Some (n - 1 + 1)) (kept_position old q))
     → (new.distinct ≡ true → old.distinct ≡ true) → (new.distinct ≡ true → kept_position old (offset_of e) ≡ None)
-    → HoldsBehind stream (n - 1) new
-HoldsBehind-step stream n e old new some within read held marked was_distinct was_new =
+    → HoldsAfter stream (n - 1) new
+HoldsAfter-step stream n e old new some within read held marked was_distinct was_new =
     let next : n - 1 + 1 ≡ n = omega arith in
     let front : drop (n - 1) stream ≡ e ∷ drop n stream = drop-read stream n e some within read in
     record {
       positions_are = λ off.
           marked off
-          ∙ ap (cond (bytes_eq (offset_of e) off) (Some (n - 1 + 1))) (held.positions_are off ∙ ap (λ k. position_behind stream k off) (sym next))
-          ∙ ap (λ x. cond (bytes_eq (offset_of x) off) (Some (n - 1 + 1)) (position_behind stream (n - 1 + 1) off)) read
-          ∙ sym (position_behind-step stream (n - 1) e off within);
+          ∙ ap (cond (bytes_eq (offset_of e) off) (Some (n - 1 + 1))) (held.positions_are off ∙ ap (λ k. position_after stream k off) (sym next))
+          ∙ ap (λ x. cond (bytes_eq (offset_of x) off) (Some (n - 1 + 1)) (position_after stream (n - 1 + 1) off)) read
+          ∙ sym (position_after-step stream (n - 1) e off within);
       are_first = λ distinct.
           let none : position (drop n stream) (offset_of e) ≡ None = unmapped n (position (drop n stream) (offset_of e)) (sym (held.positions_are (offset_of e)) ∙ was_new distinct) in
           subst AreFirst (sym front) (AreFirst-cons e (drop n stream) none (held.are_first (was_distinct distinct)));
@@ -77,9 +77,9 @@ HoldsBehind-step stream n e old new some within read held marked was_distinct wa
     unmapped k None h = refl
     unmapped k (Some p) h = cc
 
--- the entries behind none are all
-pub HoldsBehind-all : (stream : List StreamRec) (offsets : Offsets) → HoldsBehind stream 0 offsets → HoldsOffsets stream offsets
-HoldsBehind-all stream offsets held =
+-- the entries after none are all
+pub HoldsAfter-all : (stream : List StreamRec) (offsets : Offsets) → HoldsAfter stream 0 offsets → HoldsOffsets stream offsets
+HoldsAfter-all stream offsets held =
     record { positions_are = λ off. held.positions_are off ∙ same (position stream off); are_first = held.are_first }
   where
     same : (o : Option ℕ) → option_map (λ p. 0 + p) o ≡ o
@@ -127,13 +127,13 @@ is_position-false (Some q) p h = go (eqb_tells q p)
     go (inl t) = absurd (h (ap Some t.1))
     go (inr f) = f.0
 
--- an offset that the entry behind the cursor hasn't
+-- an offset that the entry after the cursor hasn't
 pub next-other : (stream : List StreamRec) (off : Text) (cursor : ℕ) → has_offset (slice_get stream cursor) off ≡ false → None ≡ next_position stream off cursor
 next-other stream off cursor other =
     let none : position stream off ≡ Some (suc cursor) → ⊥ = λ h. (let t = there stream off cursor h in cc) in
     ap (λ b. cond b (Some (suc cursor)) None) (sym (is_position-false (position stream off) (suc cursor) none))
 
--- the offset of the entry behind the cursor, which is the first with it
+-- the offset of the entry after the cursor, which is the first with it
 pub next-first : (stream : List StreamRec) (e : StreamRec) (off : Text) (cursor : ℕ) → AreFirst stream → slice_get stream cursor ≡ Some e → bytes_eq (offset_of e) off ≡ true → Some (suc cursor) ≡ next_position stream off cursor
 next-first stream e off cursor first here same =
     let is : offset_of e ≡ off = (bytes_eq-Decides (offset_of e) off).0 same in

@@ -12,13 +12,13 @@ use Rattle.aud_node.specs.declared.turns.Span.{Span}
 range : (a b c d : ℕ) → a ≡ c → b ≡ d → ◌≡◌ {A = Option (ℕ × ℕ)} (Some (a, b)) (Some (c, d))
 range a b c d from to = ap (λ x. Some (x, b)) from ∙ ap (λ y. Some (c, y)) to
 
--- the numbers of records that stand behind so many others
-abbrev pub behind : ℕ → Option (ℕ × ℕ) → Option (ℕ × ℕ)
-behind i range = option_map (λ (r : ℕ × ℕ). (i + r.0, i + r.1)) range
+-- the numbers of records that stand after so many others
+abbrev pub after : ℕ → Option (ℕ × ℕ) → Option (ℕ × ℕ)
+after i range = option_map (λ (r : ℕ × ℕ). (i + r.0, i + r.1)) range
 
 -- the turns that begin with a record from this number on, and how far one goes on that began before
 pub record HoldsFrom (log : List NodeRec) (i : ℕ) (turns : Turns) : Type 0 where
-  pub spans_are : (pid : Text) (k : ℕ) → option_map span_range (kept_span turns pid k) ≡ behind i (turn_range (drop i log) pid k)
+  pub spans_are : (pid : Text) (k : ℕ) → option_map span_range (kept_span turns pid k) ≡ after i (turn_range (drop i log) pid k)
   pub ends_are : (pid : Text) → kept_end turns pid (length log) ≡ i + length (rest_of_turn pid (drop i log))
 
 -- the rest of a turn is the front of what follows
@@ -33,12 +33,12 @@ rest-taken pid (rec ∷ recs) = go (is_begin pid rec) (is_end pid rec) (rest-tak
 
 -- one record more in front
 pub turn_range-cons : (rec : NodeRec) (recs : List NodeRec) (pid : Text) (k : ℕ)
-    → turn_range (rec ∷ recs) pid k ≡ cond (begins_turn pid k rec) (Some (0, suc (length (rest_of_turn pid recs)))) (behind 1 (turn_range recs pid k))
+    → turn_range (rec ∷ recs) pid k ≡ cond (begins_turn pid k rec) (Some (0, suc (length (rest_of_turn pid recs)))) (after 1 (turn_range recs pid k))
 turn_range-cons rec recs pid k = go (begins_turn pid k rec) (first_index (begins_turn pid k) recs)
   where
     go : (b : Bool) (o : Option ℕ)
         → option_map (λ from. (from, from + length (turn_in pid (drop from (rec ∷ recs))))) (cond b (Some 0) (option_map suc o))
-        ≡ cond b (Some (0, suc (length (rest_of_turn pid recs)))) (behind 1 (option_map (λ from. (from, from + length (turn_in pid (drop from recs)))) o))
+        ≡ cond b (Some (0, suc (length (rest_of_turn pid recs)))) (after 1 (option_map (λ from. (from, from + length (turn_in pid (drop from recs)))) o))
     go true o = range 0 (0 + suc (length (rest_of_turn pid recs))) 0 (suc (length (rest_of_turn pid recs))) refl (omega arith)
     go false None = refl
     go false (Some from) =
@@ -59,20 +59,20 @@ module _ (log : List NodeRec) (i n : ℕ) (next : n ≡ i + 1) (rec : NodeRec) (
   begun pid = range i (n + length (rest_of_turn pid (drop n log))) (i + 0) (i + suc (length (rest_of_turn pid (drop n log)))) (omega arith) (omega arith)
 
   -- the numbers of a turn that begins later
-  later : (o : Option (ℕ × ℕ)) → behind n o ≡ behind i (behind 1 o)
+  later : (o : Option (ℕ × ℕ)) → after n o ≡ after i (after 1 o)
   later None = refl
   later (Some (from, to)) = range (n + from) (n + to) (i + (1 + from)) (i + (1 + to)) (omega arith) (omega arith)
 
   module _ (old new : Turns) (held : HoldsFrom log n old) where
     spans-step : ((q : Text) (k : ℕ) → kept_span new q k ≡ cond (begins_turn q k rec) (Some (record { from = i; to = kept_end old q (length log) })) (kept_span old q k))
-        → (pid : Text) (k : ℕ) → option_map span_range (kept_span new pid k) ≡ behind i (turn_range (drop i log) pid k)
+        → (pid : Text) (k : ℕ) → option_map span_range (kept_span new pid k) ≡ after i (turn_range (drop i log) pid k)
     spans-step spans pid k =
         ap (option_map span_range) (spans pid k)
         ∙ go (begins_turn pid k rec)
-        ∙ sym (ap (behind i) (ap (λ rs. turn_range rs pid k) front ∙ turn_range-cons rec (drop n log) pid k))
+        ∙ sym (ap (after i) (ap (λ rs. turn_range rs pid k) front ∙ turn_range-cons rec (drop n log) pid k))
       where
         go : (b : Bool) → option_map span_range (cond b (Some (record { from = i; to = kept_end old pid (length log) })) (kept_span old pid k))
-            ≡ behind i (cond b (Some (0, suc (length (rest_of_turn pid (drop n log))))) (behind 1 (turn_range (drop n log) pid k)))
+            ≡ after i (cond b (Some (0, suc (length (rest_of_turn pid (drop n log))))) (after 1 (turn_range (drop n log) pid k)))
         go true = ap (λ end. Some (i, end)) (held.ends_are pid) ∙ begun pid
         go false = held.spans_are pid k ∙ later (turn_range (drop n log) pid k)
 
@@ -91,13 +91,13 @@ module _ (log : List NodeRec) (i n : ℕ) (next : n ≡ i + 1) (rec : NodeRec) (
 
 -- ---- the records with these numbers
 
-behind-none : (o : Option (ℕ × ℕ)) → behind 0 o ≡ o
-behind-none None = refl
-behind-none (Some (from, to)) = range (0 + from) (0 + to) from to (omega arith) (omega arith)
+after-none : (o : Option (ℕ × ℕ)) → after 0 o ≡ o
+after-none None = refl
+after-none (Some (from, to)) = range (0 + from) (0 + to) from to (omega arith) (omega arith)
 
 -- from the first record on
 pub HoldsFrom-first : (log : List NodeRec) (turns : Turns) → HoldsFrom log 0 turns → HoldsTurns log turns
-HoldsFrom-first log turns held pid k = held.spans_are pid k ∙ behind-none (turn_range log pid k)
+HoldsFrom-first log turns held pid k = held.spans_are pid k ∙ after-none (turn_range log pid k)
 
 turn-taken : (pid : Text) (log : List NodeRec) → take (length (turn_in pid log)) log ≡ turn_in pid log
 turn-taken pid [] = refl
@@ -140,7 +140,7 @@ turn_range-within [] pid k = tt
 turn_range-within (rec ∷ recs) pid k =
     subst (IsWithin (suc (length recs))) (sym (turn_range-cons rec recs pid k)) (go (begins_turn pid k rec) (turn_range recs pid k) (turn_range-within recs pid k))
   where
-    go : (b : Bool) (o : Option (ℕ × ℕ)) → IsWithin (length recs) o → IsWithin (suc (length recs)) (cond b (Some (0, suc (length (rest_of_turn pid recs)))) (behind 1 o))
+    go : (b : Bool) (o : Option (ℕ × ℕ)) → IsWithin (length recs) o → IsWithin (suc (length recs)) (cond b (Some (0, suc (length (rest_of_turn pid recs)))) (after 1 o))
     go true o h = let few = length-rest pid recs in (omega arith, omega arith)
     go false None h = h
     go false (Some r) h = (omega (arith, h.0), omega (arith, h.1))

@@ -14,6 +14,6 @@ is_some_recoverable (Some e) = is_recoverable e
 abbrev pub is_recoverable_at : List StreamRec → ℕ → Bool
 is_recoverable_at stream p = is_some_recoverable (entry stream p)
 
--- the position behind the cursor, if the offset stands there
+-- the position after the cursor, if the offset stands there
 abbrev pub next_position : List StreamRec → Text → ℕ → Option ℕ
 next_position stream off cursor = if is_position (position stream off) (suc cursor) then Some (suc cursor) else None

@@ -14,7 +14,7 @@ abbrev pub is_place : ℕ → Option ℕ → Bool
 is_place place None = false
 is_place place (Some other) = nat_eq other place
 
--- the places with this one behind them, where it isn't the last of them already
+-- the places with this one after them, where it isn't the last of them already
 abbrev pub with_place : ℕ → List ℕ → List ℕ
 with_place place places = if is_place place (slice_get places (length places - 1)) then places else places ++ place ∷ []
 

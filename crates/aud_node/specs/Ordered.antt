@@ -8,8 +8,8 @@ use Rattle.aud_node.specs.Lists.{numbers_from}
 use Rattle.aud_node.specs.Stream.{position}
 use Rattle.aud_node.specs.Cursors.{is_position, cursor_at}
 
--- the record with this number, behind this cursor, is in order: the first one is a `start` at the stream's begin or
--- behind an entry of the stream, no other one is a `start`, and each `take` is of the position after the cursor
+-- the record with this number, after this cursor, is in order: the first one is a `start` at the stream's begin or
+-- after an entry of the stream, no other one is a `start`, and each `take` is of the position after the cursor
 abbrev pub is_in_order : List StreamRec → ℕ → ℕ → NodeRec → Bool
 is_in_order stream zero cursor (Start None) = true
 is_in_order stream zero cursor (Start (Some off)) = is_some (position stream off)

@@ -37,7 +37,7 @@ is_end pid (Broke other number) = bytes_eq other pid
 is_end pid (Gone other) = bytes_eq other pid
 is_end pid _ = false
 
--- of the records behind one that begins a turn, those of that turn: through the next `break` or `gone`, or those
+-- of the records after one that begins a turn, those of that turn: through the next `break` or `gone`, or those
 -- before the next `open` or `back`, or all, whichever are fewest
 abbrev pub rest_of_turn : Text → List NodeRec → List NodeRec
 rest_of_turn pid [] = []

@@ -4,17 +4,12 @@ use Rattle.std.proofs.lemmas.Bool.Decides.{nat_tests}
 use Rattle.std.proofs.Common.{◌≡◌, ◌<◌, ◌≤◌, ◌+◌, ℕ, zero, suc, Bool, true, false, ◌&&◌, ◌||◌, List, [], ◌∷◌, ◌++◌, filter, length, get_or, None, refl, sym, ap, ◌∙◌, ◌⊎◌, inl, inr, arith, nat_eq, true≢false}
 use Rattle.std.specs.List.{AllPairs, dedup, dedup_from}
 use Rattle.std.specs.List.Sorted.{IsNonDecreasing}
-use Rattle.std.proofs.lemmas.Bool.{eq-eqb, eqb-true}
+use Rattle.std.proofs.lemmas.Bool.{eq-eqb, eqb-true, and_right, or_from, or_right}
 use Rattle.std.proofs.lemmas.List.Folds.{list_any-append}
 use Rattle.std.proofs.lemmas.Option.{slice_get_past}
 use Rattle.aud_tap.specs.declared.records.StreamRec.{StreamRec}
 use Rattle.aud_node.specs.Stream.{entry, positions_after}
 use Rattle.aud_rooms.specs.Candidates.{is_among}
-use Rattle.aud_rooms.proofs.Times.{and_false, or_false}
-
-or_true : (a b : Bool) → b ≡ true → (a || b) ≡ true
-or_true true b e = refl
-or_true false b e = e
 
 and_true : (a : Bool) → (a && true) ≡ a
 and_true true = refl
@@ -28,14 +23,14 @@ pub among-append : (xs ys : List ℕ) (p : ℕ) → is_among (xs ++ ys) p ≡ (i
 among-append xs ys p = list_any-append (nat_eq p) xs ys
 
 pub among-filter : (test : ℕ → Bool) (xs : List ℕ) (p : ℕ) → is_among (filter test xs) p ≡ (test p && is_among xs p)
-among-filter test [] p = sym (and_false (test p) false refl)
+among-filter test [] p = sym (and_right (test p) false refl)
 among-filter test (x ∷ xs) p = grind (arith, among-filter test xs p, eqb-true p x)
 
 -- ---- the positions of the stream
 
 among-positions : (low count p : ℕ) → low < p → p ≤ low + count → is_among (positions_after low count) p ≡ true
 among-positions low zero p a b = absurd (omega arith)
-among-positions low (suc count) p a b = grind (arith, common_steps, nat_tests, among-positions (suc low) count p, or_true, eq-eqb)
+among-positions low (suc count) p a b = grind (arith, common_steps, nat_tests, among-positions (suc low) count p, or_right, eq-eqb)
 
 in_stream : (stream : List StreamRec) (p : ℕ) → (is_among (positions_after 0 (length stream)) p ≡ true) ⊎ (entry stream p ≡ None)
 in_stream stream zero = inr refl
@@ -95,10 +90,10 @@ non_decreasing (x ∷ xs) (above, up) (suc i) (suc j) d h g = non_decreasing xs 
 
 none_above : (n : ℕ) (xs : List ℕ) (p : ℕ) → AreAbove n xs → p ≤ n → is_among xs p ≡ false
 none_above n [] p above h = refl
-none_above n (x ∷ xs) p (first, rest) h = or_false (nat_eq p x) _ (differs p x (inl (omega arith))) (none_above n xs p rest h)
+none_above n (x ∷ xs) p (first, rest) h = or_from (nat_eq p x) _ (differs p x (inl (omega arith))) (none_above n xs p rest h)
 
 not_below : (n : ℕ) (xs : List ℕ) (p : ℕ) → AreAbove n xs → is_among (n ∷ xs) p ≡ true → n ≤ p
-not_below n xs p above among = grind (arith, common_steps, nat_tests, or_false, differs, none_above)
+not_below n xs p above among = grind (arith, common_steps, nat_tests, or_from, differs, none_above)
 
 first-among : (x : ℕ) (xs : List ℕ) → is_among (x ∷ xs) x ≡ true
 first-among x xs = ap (λ b. b || is_among xs x) (eq-eqb x x refl)

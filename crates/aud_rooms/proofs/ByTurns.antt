@@ -1,12 +1,12 @@
 -- What is due by the spans of the turns.
 use Rattle.std.proofs.lemmas.Grind.{common_steps}
 use Rattle.std.proofs.lemmas.Bool.Decides.{nat_tests}
-use Rattle.std.proofs.Common.{◌≡◌, ◌<◌, ◌≤◌, ◌-◌, ℕ, suc, Bool, true, false, cond, ◌&&◌, List, [], ◌∷◌, length, map, filter, Some, None, refl, sym, ap, ◌∙◌, ◌⊎◌, inl, inr, nat_le, nat_lt, arith, true≢false}
+use Rattle.std.proofs.Common.{◌≡◌, ◌<◌, ◌≤◌, ◌-◌, ℕ, suc, Bool, true, false, cond, ◌&&◌, List, [], ◌∷◌, length, map, filter, Some, None, refl, sym, ap, ◌∙◌, ◌⊎◌, inl, inr, nat_le, nat_lt, arith}
 use Rattle.std.specs.List.{list_any}
 use Rattle.std.specs.Ordering.{nat_cmp, eq_by_cmp}
 use Rattle.std.specs.Cmp.Lexicographic.{slice_cmp, texts_ties, nat_list_cmp_total, bytes_decides}
 use Rattle.std.specs.FinSet as set
-use Rattle.std.proofs.lemmas.Bool.{cases_lt, le-leb, lt-leb, leb-true, leb-false}
+use Rattle.std.proofs.lemmas.Bool.{cases_lt, le-leb, lt-leb, leb-true, leb-false, and_from, and_right, and_parts}
 use Rattle.std.proofs.lemmas.List.Elements.{filter_agree}
 use Rattle.aud_tap.specs.declared.records.StreamRec.{StreamRec}
 use Rattle.aud_node.specs.Stream.{Text, entry, positions_after}
@@ -19,21 +19,8 @@ use Rattle.aud_rooms.specs.Spans.{IsMaximal, AreSpans, AreSpansOfTurns, first_lo
 use Rattle.aud_rooms.proofs.Intervals.{start_of, stop_of}
 use Rattle.aud_rooms.proofs.Members.{any_kept, kept_any}
 
-and_both : (a b : Bool) → a ≡ true → b ≡ true → (a && b) ≡ true
-and_both a b x y = ap (λ z. z && b) x ∙ y
-
-and_first : (a b : Bool) → (a && b) ≡ true → a ≡ true
-and_first true b e = refl
-and_first false b e = e
-
-and_second : (a b : Bool) → (a && b) ≡ true → b ≡ true
-and_second true b e = e
-and_second false b e = absurd (true≢false (sym e))
-
 same_bools : (a b : Bool) → (a ≡ true → b ≡ true) → (b ≡ true → a ≡ true) → a ≡ b
-same_bools true b f g = sym (f refl)
-same_bools false true f g = g refl
-same_bools false false f g = refl
+same_bools a b f g = grind arith
 
 -- the maximal interval around a position whose rooms hold the room
 pub maximal_around : (rooms_at : ℕ → Rooms) (low high p : ℕ) (room : Text) → low < p → p ≤ high → set.contains (rooms_at p) room ≡ true
@@ -71,15 +58,15 @@ rooms_by_spans-are rooms_at low high spans are p past within =
     there : (room : Text) → list_any (eq_by_cmp (slice_cmp nat_cmp) room) (map (λ (s : RoomSpan). s.room) (filter (is_within p) spans)) ≡ true → set.contains (rooms_at p) room ≡ true
     there room e =
         let (s, among, at, tie) = any_kept (λ (s : RoomSpan). s.room) (eq_by_cmp (slice_cmp nat_cmp) room) (is_within p) spans e in
-        let from = leb-true s.first p (and_first (nat_le s.first p) (nat_le p s.last) at) in
-        let to = leb-true p s.last (and_second (nat_le s.first p) (nat_le p s.last) at) in
+        let from = leb-true s.first p (and_parts (nat_le s.first p) (nat_le p s.last) at).0 in
+        let to = leb-true p s.last (and_parts (nat_le s.first p) (nat_le p s.last) at).1 in
         ap (set.contains (rooms_at p)) (same_text room s.room tie) ∙ (are.each s among).held p from to
 
     back : (room : Text) → set.contains (rooms_at p) room ≡ true → list_any (eq_by_cmp (slice_cmp nat_cmp) room) (map (λ (s : RoomSpan). s.room) (filter (is_within p) spans)) ≡ true
     back room e =
         let (s, same, maximal, from, to) = maximal_around rooms_at low high p room past within e in
         kept_any (λ (s : RoomSpan). s.room) (eq_by_cmp (slice_cmp nat_cmp) room) (is_within p) spans s (are.all s maximal)
-        (and_both (nat_le s.first p) (nat_le p s.last) (le-leb s.first p from) (le-leb p s.last to))
+        (and_from (nat_le s.first p) (nat_le p s.last) (le-leb s.first p from) (le-leb p s.last to))
         (ap (eq_by_cmp (slice_cmp nat_cmp) room) same ∙ itself room)
 
     at : (room : Text) → set.contains (rooms_by_spans spans p) room ≡ set.contains (rooms_at p) room
@@ -102,10 +89,6 @@ module _ (stream : List StreamRec) (pid : Text) (p : ℕ) where
   rooms_for-past held [] h = refl
   rooms_for-past held (slice ∷ later) h = grind (arith, rooms_for-past (rooms_at_end pid held slice.recs) later, lt-leb p slice.high)
 
-false_end : (a b : Bool) → b ≡ false → (a && b) ≡ false
-false_end true b e = e
-false_end false b e = refl
-
 past_low : (slices : List Slice) (p : ℕ) → 0 < length slices → is_past_first slices p ≡ nat_lt (first_low slices) p
 past_low [] p some = absurd (omega arith)
 past_low (slice ∷ later) p some = refl
@@ -113,7 +96,7 @@ past_low (slice ∷ later) p some = refl
 module _ (stream : List StreamRec) (who : Who) (slices : List Slice) (spans : List RoomSpan) (are : AreSpansOfTurns stream who slices spans) where
   -- past the greatest high
   beyond : (p : ℕ) → greatest_high slices < p → is_due_by_spans spans stream who.nsp (first_low slices) (greatest_high slices) p ≡ is_turn_due stream who slices p
-  beyond p above = grind (arith, common_steps, nat_tests, false_end, lt-leb, rooms_for-past)
+  beyond p above = grind (arith, common_steps, nat_tests, and_right, lt-leb, rooms_for-past)
 
   -- up to it, past the first low
   between : (p : ℕ) → 0 < p → p ≤ greatest_high slices → first_low slices < p

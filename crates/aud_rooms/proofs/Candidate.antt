@@ -7,7 +7,7 @@ use Rattle.std.specs.Ordering.{nat_cmp, is_eq}
 use Rattle.std.specs.Cmp.Lexicographic.{slice_cmp}
 use Rattle.std.specs.FinSet as set
 use Rattle.std.specs.Str.{bytes_eq}
-use Rattle.std.proofs.lemmas.Bool.{le-leb, lt-leb, and_parts}
+use Rattle.std.proofs.lemmas.Bool.{le-leb, lt-leb, and_parts, and_right, le-ltb, lt-ltb, or_from}
 use Rattle.std.proofs.lemmas.List.Elements.{filter_agree}
 use Rattle.std.proofs.lemmas.List.Folds.{list_any_more}
 use Rattle.std.proofs.lemmas.Map.Text.{is_eq-slice_cmp}
@@ -20,7 +20,7 @@ use Rattle.aud_node.specs.Addressees.{is_to_all, is_to_room, positions_to_all, p
 use Rattle.aud_rooms.specs.Rooms.{is_empty, is_for}
 use Rattle.aud_rooms.specs.Spans.{RoomSpan, is_within, rooms_by_spans, is_due_by_spans, due_by_spans}
 use Rattle.aud_rooms.specs.Candidates.{is_among, is_past_upto, is_to_span, is_candidate, candidates, is_for_spans}
-use Rattle.aud_rooms.proofs.Times.{and_false, or_false, or_none, lt_true, lt_false}
+use Rattle.aud_rooms.proofs.Times.{or_none}
 use Rattle.aud_rooms.proofs.Among.{among-append, among-filter, among-stream}
 use Rattle.aud_rooms.proofs.Reach.{contains-rooms_by_spans}
 
@@ -32,7 +32,7 @@ and_true false = refl
 
 -- the positions that are cut out of a room's are those past birth up to high that the span holds
 within_both : (birth high p : ℕ) (s : RoomSpan) → is_past_upto (max birth (s.first - 1)) (min high s.last) p ≡ (is_past_upto birth high p && is_within p s)
-within_both birth high p s = grind (arith, common_steps, nat_tests, lt_true, lt_false, and_false, lt-leb, le-leb)
+within_both birth high p s = grind (arith, common_steps, nat_tests, lt-ltb, le-ltb, and_right, lt-leb, le-leb)
 
 module _ (stream : List StreamRec) (nsp : Text) (birth high : ℕ) where
   to_room_among : (room : Text) (p : ℕ) → is_among (positions_to_room stream nsp room) p ≡ is_to_room (entry stream p) nsp room
@@ -105,7 +105,7 @@ module _ (spans : List RoomSpan) (p : ℕ) where
   for_some : (o : Option StreamRec) (nsp : Text) → is_for o nsp (rooms_by_spans spans p) ≡ true
       → (is_to_all o nsp || list_any (λ s. is_within p s && is_to_room o nsp s.room) spans) ≡ true
   for_some None nsp due = absurd (true≢false (sym due))
-  for_some (Some (Other off)) nsp due = absurd (true≢false (sym due ∙ and_false (is_recoverable (Other off)) false refl))
+  for_some (Some (Other off)) nsp due = absurd (true≢false (sym due ∙ and_right (is_recoverable (Other off)) false refl))
   for_some (Some (Ev event)) nsp due = for_event event nsp due
 
 filter_both : (p q : ℕ → Bool) (xs : List ℕ) → filter p (filter q xs) ≡ filter (λ x. q x && p x) xs
@@ -115,12 +115,12 @@ filter_both p q (x ∷ xs) = grind (arith, filter_both p q xs)
 module _ (spans : List RoomSpan) (stream : List StreamRec) (nsp : Text) (birth high : ℕ) where
   pub none_candidate : (p : ℕ) → entry stream p ≡ None → is_candidate spans stream nsp birth high p ≡ false
   none_candidate p none =
-      and_false (is_past_upto birth high p) _
-      (or_false (is_to_all (entry stream p) nsp) _ (ap (λ o. is_to_all o nsp) none) (go spans))
+      and_right (is_past_upto birth high p) _
+      (or_from (is_to_all (entry stream p) nsp) _ (ap (λ o. is_to_all o nsp) none) (go spans))
     where
       go : (some : List RoomSpan) → list_any (is_to_span stream nsp p) some ≡ false
       go [] = refl
-      go (s ∷ some) = or_false (is_to_span stream nsp p s) _ (and_false (is_within p s) _ (ap (λ o. is_to_room o nsp s.room) none)) (go some)
+      go (s ∷ some) = or_from (is_to_span stream nsp p s) _ (and_right (is_within p s) _ (ap (λ o. is_to_room o nsp s.room) none)) (go some)
 
   due_alike : (p : ℕ) → (is_candidate spans stream nsp birth high p && is_for_spans spans stream nsp p) ≡ is_due_by_spans spans stream nsp birth high p
   due_alike p = go (is_for_spans spans stream nsp p) refl
@@ -135,8 +135,8 @@ module _ (spans : List RoomSpan) (stream : List StreamRec) (nsp : Text) (birth h
           ∙ ap (λ b. b && is_for_spans spans stream nsp p) (and_true (is_past_upto birth high p))
           ∙ apart (nat_lt birth p) (nat_le p high) (is_for_spans spans stream nsp p)
       go false other =
-          and_false (is_candidate spans stream nsp birth high p) _ other
-          ∙ sym (and_false (nat_lt birth p) _ (and_false (nat_le p high) _ other))
+          and_right (is_candidate spans stream nsp birth high p) _ other
+          ∙ sym (and_right (nat_lt birth p) _ (and_right (nat_le p high) _ other))
 
   -- of them, those that are addressed to the rooms whose spans hold them
   pub candidates_due : filter (is_for_spans spans stream nsp) (candidates spans stream nsp birth high) ≡ due_by_spans spans stream nsp birth high

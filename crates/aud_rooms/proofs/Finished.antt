@@ -22,6 +22,7 @@ use Rattle.aud_rooms.proofs.Times.{or_none}
 use Rattle.aud_rooms.proofs.Maximal.{place, place_maximal, interval_of, maximal_same, closed}
 use Rattle.aud_rooms.proofs.RoomMaps.{same_text, contains-rooms_with}
 use Rattle.aud_rooms.proofs.Kept.{covered_is}
+use Rattle.std.proofs.lemmas.List.Elements.{Contains-append_cases, Contains-append_left, Contains-append_right}
 
 -- ---- lists
 
@@ -32,16 +33,6 @@ contains-map f (x ∷ xs) y among = grind (arith, contains-map f xs y, contains-
 map-contains : {X Y : Type 0} (f : X → Y) (xs : List X) (x : X) → Contains xs x → Contains (map f xs) (f x)
 map-contains f [] x among = absurd (contains-none x among)
 map-contains f (y ∷ ys) x among = grind (arith, map-contains f ys x, contains-parts y ys x among, contains-first (f y) (map f ys), contains-later (f y) (map f ys) (f x))
-
-contains-append : {X : Type 0} (xs ys : List X) (x : X) → Contains (xs ++ ys) x → Contains xs x ⊎ Contains ys x
-contains-append [] ys x among = inr among
-contains-append (y ∷ xs) ys x among = grind (arith, contains-append xs ys x, contains-parts y (xs ++ ys) x among, contains-first y xs, contains-later y xs x)
-
-append-contains : {X : Type 0} (xs ys : List X) (x : X) → Contains xs x ⊎ Contains ys x → Contains (xs ++ ys) x
-append-contains [] ys x (inl among) = absurd (contains-none x among)
-append-contains [] ys x (inr among) = among
-append-contains (y ∷ xs) ys x (inl among) = grind (arith, append-contains xs ys x, contains-parts y xs x among, contains-first y (xs ++ ys), contains-later y (xs ++ ys) x)
-append-contains (y ∷ xs) ys x (inr among) = contains-later y (xs ++ ys) x (append-contains xs ys x (inr among))
 
 -- ---- the spans of one room
 
@@ -100,11 +91,17 @@ entry_of (e ∷ es) room t found = go (λ later. entry_of es room t later) (is_e
 
 among_entries : (cov : ℕ) (es : RoomMap Times) (s : RoomSpan) → Contains (spans_upto cov es) s → (e : (Bor Text) × Times) × Contains es e × Contains (spans_of e.0.now cov e.1) s
 among_entries cov [] s among = absurd (contains-none s among)
-among_entries cov (e ∷ es) s among = grind (arith, among_entries cov es s, contains-append (spans_of e.0.now cov e.1) (spans_upto cov es) s among, contains-first e es, contains-later e es)
+among_entries cov (e ∷ es) s among = elim (Contains-append_cases (spans_of e.0.now cov e.1) (spans_upto cov es) s among) as (λ _. (x : (Bor Text) × Times) × Contains (e ∷ es) x × Contains (spans_of x.0.now cov x.1) s) [
+  | inl here ↦ (e, contains-first e es, here)
+  | inr later ↦ (let (x, there, at) = among_entries cov es s later in (x, contains-later e es x there, at))
+]
 
 entries_among : (cov : ℕ) (es : RoomMap Times) (e : (Bor Text) × Times) (s : RoomSpan) → Contains es e → Contains (spans_of e.0.now cov e.1) s → Contains (spans_upto cov es) s
 entries_among cov [] e s among at = absurd (contains-none e among)
-entries_among cov (x ∷ es) e s among at = grind (arith, entries_among cov es e s, append-contains (spans_of x.0.now cov x.1) (spans_upto cov es) s, contains-parts x es e among)
+entries_among cov (x ∷ es) e s among at = elim (contains-parts x es e among) as (λ _. Contains (spans_upto cov (x ∷ es)) s) [
+  | inl same ↦ Contains-append_left (spans_of x.0.now cov x.1) (spans_upto cov es) s (subst (λ (y : (Bor Text) × Times). Contains (spans_of y.0.now cov y.1) s) (sym same) at)
+  | inr later ↦ Contains-append_right (spans_of x.0.now cov x.1) (spans_upto cov es) s (entries_among cov es e s later at)
+]
 
 order-append : (xs ys : List RoomSpan) → AreInOrder xs → AreInOrder ys → ((x y : RoomSpan) → Contains xs x → Contains ys y → ComesBefore x y) → AreInOrder (xs ++ ys)
 order-append [] ys a b before = b

@@ -13,9 +13,10 @@ use Rattle.aud_rooms.specs.Assigned.{covered, starting, with_joined, with_left, 
 use Rattle.aud_rooms.specs.Times.{Times, AreApart, Continues, is_held_at, is_held_now}
 use Rattle.aud_rooms.specs.RoomMap.{RoomMap, at_room, do_pass, rooms_with}
 use Rattle.aud_rooms.specs.Building.{assigned_of, AreKept}
-use Rattle.aud_rooms.proofs.Times.{lt_false, held_beyond, apart_longer}
+use Rattle.aud_rooms.proofs.Times.{held_beyond, apart_longer}
 use Rattle.aud_rooms.proofs.RoomMaps.{same_text, contains-rooms_with, same_rooms}
 use Rattle.aud_rooms.proofs.Ranges.{map_positions, length-positions, map_more, map_same}
+use Rattle.std.proofs.lemmas.Bool.{le-ltb}
 
 -- ---- more positions are covered
 
@@ -130,7 +131,7 @@ module _ (birth : ℕ) (sid : Text) (olds news : RoomMap Times) (empty : olds �
 
   pub assigned_started : assigned_of birth birth news ≡ starting sid birth
   assigned_started =
-      assigned_joined birth birth [] news sid (record { ended = []; since = Some birth }) from_none (omega arith) (λ p h. sym (lt_false birth p h)) refl
+      assigned_joined birth birth [] news sid (record { ended = []; since = Some birth }) from_none (omega arith) (λ p h. sym (le-ltb birth p h)) refl
       ∙ ap (λ n. record { low = birth; sets = map (λ p. rooms_with (is_held_at p) []) (positions_after birth n); held = set.insert (rooms_with is_held_now []) sid }) (let e : birth - birth ≡ 0 = omega arith in e)
       ∙ ap (λ rooms. record { low = birth; sets = []; held = set.insert rooms sid }) (none is_held_now)
 
@@ -162,7 +163,7 @@ module _ (low cov : ℕ) (olds : RoomMap Times) (room : Text) (absent : at_room 
     pub assigned_first : assigned_of low cov news ≡ with_joined room (assigned_of low cov olds)
     assigned_first =
         assigned_joined low cov olds news room (record { ended = []; since = Some cov }) from_olds kept.above
-        (λ p h. ap (do_pass (is_held_at p)) absent ∙ sym (lt_false cov p h)) refl
+        (λ p h. ap (do_pass (is_held_at p)) absent ∙ sym (le-ltb cov p h)) refl
 
   without : set.remove (rooms_with is_held_now olds) room ≡ rooms_with is_held_now olds
   without = same_rooms _ _ (λ q. set.contains-remove nat_list_cmp_total (rooms_with is_held_now olds) room q ∙ go q (eq_by_cmp (slice_cmp nat_cmp) q room) refl)

@@ -1,13 +1,13 @@
 -- Intervals apart from one another are the maximal intervals of the positions in them.
 use Rattle.std.proofs.Common.{◌≡◌, ◌<◌, ◌≤◌, ◌-◌, ℕ, suc, Bool, true, false, ◌||◌, List, [], ◌∷◌, ◌++◌, Option, Some, None, cond, refl, sym, ap, subst, ◌∙◌, ◌⊎◌, inl, inr, nat_lt, arith, true≢false}
 use Rattle.std.specs.List.{Contains, list_any}
-use Rattle.std.proofs.lemmas.Bool.{leb-true, leb-false}
+use Rattle.std.proofs.lemmas.Bool.{leb-true, leb-false, or_from, or_right}
 use Rattle.std.proofs.lemmas.List.{append-nil}
 use Rattle.aud_rooms.specs.declared.interval.Interval.{Interval}
 use Rattle.aud_rooms.specs.Spans.{IsMaximalInterval}
 use Rattle.aud_rooms.specs.Times.{Times, is_in, AreApart, Continues, intervals_upto, open_interval}
 use Rattle.aud_rooms.proofs.Members.{contains-none, contains-parts, contains-first, contains-later}
-use Rattle.aud_rooms.proofs.Times.{or_false, before, behind, inside, none_before, ended, unused}
+use Rattle.aud_rooms.proofs.Times.{before, beyond, inside, none_before, ended, unused}
 
 -- the open interval ends with the covered positions
 closed_parts : (low covered : ℕ) (is : List Interval) (since : Option ℕ) → AreApart low is since covered
@@ -38,10 +38,6 @@ pub record Place (from covered : ℕ) (is : List Interval) (i : Interval) : Type
   pub not_before : list_any (is_in i.after) is ≡ false
   pub not_behind : list_any (is_in (suc i.last)) is ≡ false
 
-or_true : (a b : Bool) → b ≡ true → (a || b) ≡ true
-or_true true b e = refl
-or_true false b e = e
-
 pub place : (from covered : ℕ) (is : List Interval) (i : Interval) → AreApart from is None covered → Contains is i → Place from covered is i
 place from covered [] i apart among = absurd (contains-none i among)
 place from covered (j ∷ js) i (a, b, c, rest) among = go (λ later. place (suc j.last) covered js i rest later) (contains-parts j js i among)
@@ -53,8 +49,8 @@ place from covered (j ∷ js) i (a, b, c, rest) among = go (λ later. place (suc
           some = b;
           to = c;
           held = λ p x y. ap (λ z. z || list_any (is_in p) js) (inside p j x y);
-          not_before = or_false (is_in j.after j) _ (before j.after j (omega arith)) (none_before (suc j.last) covered j.after js None rest (omega arith));
-          not_behind = or_false (is_in (suc j.last) j) _ (behind (suc j.last) j (omega arith)) (none_before (suc j.last) covered (suc j.last) js None rest (omega arith));
+          not_before = or_from (is_in j.after j) _ (before j.after j (omega arith)) (none_before (suc j.last) covered j.after js None rest (omega arith));
+          not_behind = or_from (is_in (suc j.last) j) _ (beyond (suc j.last) j (omega arith)) (none_before (suc j.last) covered (suc j.last) js None rest (omega arith));
         }
 
     go : (Contains js i → Place (suc j.last) covered js i) → (j ≡ i) ⊎ Contains js i → Place from covered (j ∷ js) i
@@ -67,9 +63,9 @@ place from covered (j ∷ js) i (a, b, c, rest) among = go (λ later. place (suc
           above = omega arith;
           some = at.some;
           to = at.to;
-          held = λ p x y. or_true (is_in p j) _ (at.held p x y);
-          not_before = or_false (is_in i.after j) _ (behind i.after j (omega arith)) at.not_before;
-          not_behind = or_false (is_in (suc i.last) j) _ (behind (suc i.last) j (omega arith)) at.not_behind;
+          held = λ p x y. or_right (is_in p j) _ (at.held p x y);
+          not_before = or_from (is_in i.after j) _ (beyond i.after j (omega arith)) at.not_before;
+          not_behind = or_from (is_in (suc i.last) j) _ (beyond (suc i.last) j (omega arith)) at.not_behind;
         }
 
 pub place_maximal : (low covered : ℕ) (is : List Interval) (i : Interval) → Place low covered is i → IsMaximalInterval (λ p. list_any (is_in p) is) low covered (suc i.after) i.last

@@ -1,4 +1,4 @@
--- The parts of a list before and behind the place where a test begins to fail.
+-- The parts of a list before and after the place where a test begins to fail.
 use Rattle.std.proofs.Common.{◌≡◌, ◌≤◌, ℕ, zero, suc, Bool, true, false, cond, List, [], ◌∷◌, length, take, drop, filter, refl, ap, ◌∙◌, arith}
 use Rattle.std.specs.List.{AllByRecursion, AllWithin}
 
@@ -35,7 +35,7 @@ front_all P Q f [] (suc i) front h = tt
 front_all P Q f (x ∷ xs) zero front h = tt
 front_all P Q f (x ∷ xs) (suc i) front h = (f x (front 0 x (omega arith) (omega arith)), front_all P Q f xs i (λ k d a b. front (suc k) d (omega arith) (omega arith)) (omega arith))
 
--- and behind it
+-- and after it
 pub back_all : (P Q : ℕ → Type 0) → ((y : ℕ) → Q y → P y) → (xs : List ℕ) (i : ℕ) → AllWithin Q xs i (length xs) → AllByRecursion P (drop i xs)
 back_all P Q f [] zero back = tt
 back_all P Q f [] (suc i) back = tt

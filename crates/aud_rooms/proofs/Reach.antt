@@ -8,14 +8,14 @@ use Rattle.std.specs.Ordering.{nat_cmp, is_eq, eq_by_cmp}
 use Rattle.std.specs.Cmp.{eq_by_cmp_equiv}
 use Rattle.std.specs.Cmp.Lexicographic.{slice_cmp, nat_list_cmp_total}
 use Rattle.std.specs.FinSet as set
-use Rattle.std.proofs.lemmas.Bool.{le-leb, lt-leb, leb-true, leb-false}
+use Rattle.std.proofs.lemmas.Bool.{le-leb, lt-leb, leb-true, leb-false, or_from}
 use Rattle.std.proofs.lemmas.List.Folds.{list_any-append}
 use denote.Ref.{Bor}
 use Rattle.aud_node.specs.Stream.{Text}
 use Rattle.aud_rooms.specs.Spans.{RoomSpan, is_within, rooms_by_spans}
 use Rattle.aud_rooms.specs.RoomMap.{RoomMap, at_room, do_pass, rooms_with}
 use Rattle.aud_rooms.specs.Reached.{reaches, HasReached, AreByFirst}
-use Rattle.aud_rooms.proofs.Times.{or_none, or_false}
+use Rattle.aud_rooms.proofs.Times.{or_none}
 use Rattle.aud_rooms.proofs.RoomMaps.{same_text, contains-rooms_with, same_rooms}
 
 -- one more span begins
@@ -43,7 +43,7 @@ pub greatest_first : (p last : ℕ) (o : Option ℕ) → o ≡ None → nat_le p
 greatest_first p last o none = ap (λ o. do_pass (nat_le p) o || nat_le p last) (sym none)
 
 pub greatest_of : (p one other : ℕ) (o : Option ℕ) → o ≡ Some other → nat_le p (max one other) ≡ (do_pass (nat_le p) o || nat_le p one)
-greatest_of p one other o some = grind (arith, le-leb p (max one other), leb-true p one, leb-true p other, lt-leb p (max one other), leb-false p one, leb-false p other, or_false (nat_le p other) (nat_le p one))
+greatest_of p one other o some = grind (arith, le-leb p (max one other), leb-true p one, leb-true p other, lt-leb p (max one other), leb-false p one, leb-false p other, or_from (nat_le p other) (nat_le p one))
 
 -- ---- the rooms of the spans that hold a position
 

@@ -50,7 +50,7 @@ position_is : (o : Option ℕ) (p : ℕ) → is_position o p ≡ true → o ≡ 
 position_is None p e = absurd (false≢true e)
 position_is (Some q) p e = ap Some (eqb-true q p e)
 
--- behind the first record, the cursor comes to a position by that position's `take`
+-- after the first record, the cursor comes to a position by that position's `take`
 reaching_takes : (stream : List StreamRec) (i : ℕ) (rec : NodeRec) (cursor p : ℕ) → is_in_order stream (suc i) cursor rec ≡ true → cursor < p → p ≤ next_cursor stream (suc i) rec cursor → takes stream p rec ≡ true
 reaching_takes stream i (Start off) cursor p e a b = absurd (false≢true e)
 reaching_takes stream i (Take off) cursor p e a b = grind arith

@@ -49,7 +49,7 @@ ahead_of (x ∷ begun) s later (all, rest) = ahead_of begun s later rest
 abbrev pub HaveBegun : List RoomSpan → ℕ → Type 0
 HaveBegun spans p = AllByRecursion (λ (s : RoomSpan). s.first ≤ p) spans
 
--- these spans begin behind the position
+-- these spans begin after the position
 abbrev pub AreAhead : List RoomSpan → ℕ → Type 0
 AreAhead spans p = AllByRecursion (λ (s : RoomSpan). p < s.first) spans
 

@@ -4,56 +4,43 @@ use Rattle.std.proofs.lemmas.Option.{gets}
 use Rattle.std.proofs.Common.{◌≡◌, ◌<◌, ◌≤◌, ◌-◌, ℕ, zero, suc, Bool, true, false, ◌||◌, ◌&&◌, List, [], ◌∷◌, ◌++◌, length, take, Option, Some, None, get_or, refl, sym, ap, subst, ◌∙◌, nat_lt, nat_le, arith}
 use Rattle.std.specs.List.{list_any, slice_get}
 use Rattle.std.specs.Option.{is_some}
-use Rattle.std.proofs.lemmas.Bool.{le-leb, lt-leb}
+use Rattle.std.proofs.lemmas.Bool.{le-leb, lt-leb, and_right, le-ltb, lt-ltb, or_from}
 use Rattle.std.proofs.lemmas.List.Folds.{list_any-append}
 use Rattle.std.proofs.lemmas.List.{drop_all, take-append-drop}
 use Rattle.std.proofs.lemmas.Option.{slice_get_within, slice_get-get_or}
 use Rattle.aud_rooms.specs.declared.interval.Interval.{Interval}
 use Rattle.aud_rooms.specs.Times.{Times, is_in, is_past, is_held_at, is_held_now, AreApart, Continues}
 
-pub lt_true : (a b : ℕ) → a < b → nat_lt a b ≡ true
-lt_true a b h = le-leb (suc a) b (omega arith)
-
-pub lt_false : (a b : ℕ) → b ≤ a → nat_lt a b ≡ false
-lt_false a b h = lt-leb (suc a) b (omega arith)
-
-pub and_false : (a b : Bool) → b ≡ false → (a && b) ≡ false
-and_false true b e = e
-and_false false b e = refl
-
-pub or_false : (a b : Bool) → a ≡ false → b ≡ false → (a || b) ≡ false
-or_false a b x y = ap (λ z. z || b) x ∙ y
-
 pub or_none : (a : Bool) → (a || false) ≡ a
 or_none true = refl
 or_none false = refl
 
 pub before : (p : ℕ) (i : Interval) → p ≤ i.after → is_in p i ≡ false
-before p i h = ap (λ b. b && nat_le p i.last) (lt_false i.after p h)
+before p i h = ap (λ b. b && nat_le p i.last) (le-ltb i.after p h)
 
-pub behind : (p : ℕ) (i : Interval) → i.last < p → is_in p i ≡ false
-behind p i h = and_false (nat_lt i.after p) (nat_le p i.last) (lt-leb p i.last h)
+pub beyond : (p : ℕ) (i : Interval) → i.last < p → is_in p i ≡ false
+beyond p i h = and_right (nat_lt i.after p) (nat_le p i.last) (lt-leb p i.last h)
 
 pub inside : (p : ℕ) (i : Interval) → i.after < p → p ≤ i.last → is_in p i ≡ true
-inside p i a b = ap (λ x. x && nat_le p i.last) (lt_true i.after p a) ∙ le-leb p i.last b
+inside p i a b = ap (λ x. x && nat_le p i.last) (lt-ltb i.after p a) ∙ le-leb p i.last b
 
 -- no interval has a position that isn't past the number that they begin from
 pub none_before : (from covered p : ℕ) (is : List Interval) (since : Option ℕ) → AreApart from is since covered → p ≤ from → list_any (is_in p) is ≡ false
 none_before from covered p [] since apart h = refl
-none_before from covered p (i ∷ is) since (a, b, c, rest) h = or_false (is_in p i) _ (before p i (omega arith)) (none_before (suc i.last) covered p is since rest (omega arith))
+none_before from covered p (i ∷ is) since (a, b, c, rest) h = or_from (is_in p i) _ (before p i (omega arith)) (none_before (suc i.last) covered p is since rest (omega arith))
 
 -- nor one past the covered positions
-pub none_behind : (from covered p : ℕ) (is : List Interval) (since : Option ℕ) → AreApart from is since covered → covered < p → list_any (is_in p) is ≡ false
-none_behind from covered p [] since apart h = refl
-none_behind from covered p (i ∷ is) since (a, b, c, rest) h = or_false (is_in p i) _ (behind p i (omega arith)) (none_behind (suc i.last) covered p is since rest h)
+pub none_after : (from covered p : ℕ) (is : List Interval) (since : Option ℕ) → AreApart from is since covered → covered < p → list_any (is_in p) is ≡ false
+none_after from covered p [] since apart h = refl
+none_after from covered p (i ∷ is) since (a, b, c, rest) h = or_from (is_in p i) _ (beyond p i (omega arith)) (none_after (suc i.last) covered p is since rest h)
 
 -- past the covered positions a room is held where it is held now
 pub held_beyond : (low covered p : ℕ) (t : Times) → AreApart low t.ended t.since covered → covered < p → is_held_at p t ≡ is_held_now t
-held_beyond low covered p t apart h = ap (λ b. b || is_past p t.since) (none_behind low covered p t.ended t.since apart h) ∙ past low t.ended t.since apart
+held_beyond low covered p t apart h = ap (λ b. b || is_past p t.since) (none_after low covered p t.ended t.since apart h) ∙ past low t.ended t.since apart
   where
     past : (from : ℕ) (is : List Interval) (since : Option ℕ) → AreApart from is since covered → is_past p since ≡ is_some since
     past from is None apart = refl
-    past from [] (Some after) (a, b) = lt_true after p (omega arith)
+    past from [] (Some after) (a, b) = lt-ltb after p (omega arith)
     past from (i ∷ is) (Some after) (a, b, c, rest) = past (suc i.last) is (Some after) rest
 
 -- they stay apart as more positions are covered
@@ -94,7 +81,7 @@ resumed low covered is old i parts ends apart =
     and_true true = refl
     and_true false = refl
 
--- a new one begins behind them
+-- a new one begins after them
 apart_begun : (from covered : ℕ) (is : List Interval) (i : Interval) → i.last < covered → AreApart from (is ++ i ∷ []) None covered → AreApart from (is ++ i ∷ []) (Some covered) covered
 apart_begun from covered [] i ends (a, b, c, rest) = (a, b, c, (omega arith, omega arith))
 apart_begun from covered (j ∷ js) i ends (a, b, c, rest) = (a, b, c, apart_begun (suc j.last) covered js i ends rest)
@@ -104,7 +91,7 @@ last_upto from covered [] i (a, b, c, rest) = c
 last_upto from covered (j ∷ js) i (a, b, c, rest) = last_upto (suc j.last) covered js i rest
 
 same_begun : (covered p : ℕ) (is : List Interval) → p ≤ covered → (list_any (is_in p) is || nat_lt covered p) ≡ (list_any (is_in p) is || false)
-same_begun covered p is h = ap (λ b. list_any (is_in p) is || b) (lt_false covered p h)
+same_begun covered p is h = ap (λ b. list_any (is_in p) is || b) (le-ltb covered p h)
 
 pub begun : (low covered : ℕ) (is old : List Interval) (i : Interval) → old ≡ is ++ i ∷ [] → (i.last ≡ covered → ⊥) → AreApart low old None covered
     → Continues low covered (record { ended = old; since = None }) (record { ended = old; since = Some covered })
@@ -147,7 +134,7 @@ pub unused : (low covered after : ℕ) (is : List Interval) → covered ≤ afte
 unused low covered after is h apart =
     record {
       apart = apart_unused low covered after is apart;
-      same = λ p to. ap (λ b. list_any (is_in p) is || b) (sym (lt_false after p (omega arith)));
+      same = λ p to. ap (λ b. list_any (is_in p) is || b) (sym (le-ltb after p (omega arith)));
     }
 
 -- the same, for times seen through the fields of what keeps them

@@ -131,11 +131,11 @@ module _ (c : Cluster) (pid : Text) (t : Turn) (in_order : IsInOrder c t) (a : A
           inside = before.gives.inside;
           now = λ p past upto. elim (cases_lt (cur x) p) as (λ _. b.held ≡ want p) [
             | inl next ↦
-                let behind : t.from < x = elim (cases_lt t.from x) as (λ _. t.from < x) [
+                let after_first : t.from < x = elim (cases_lt t.from x) as (λ _. t.from < x) [
                   | inl later ↦ later
                   | inr upto_it ↦ (let same : suc x ≡ suc t.from = omega (arith, upto_it, h) in absurd (omega (arith, ap cur same, reached, from, past, upto)))
                 ] in
-                before.held ∙ sym (rooms_at_take-is c.stream log in_order.ordered pid t.from t.to x rec p a.held h g within (omega (arith, behind)) at next upto)
+                before.held ∙ sym (rooms_at_take-is c.stream log in_order.ordered pid t.from t.to x rec p a.held h g within (omega (arith, after_first)) at next upto)
             | inr earlier ↦ before.gives.now p past earlier
           ];
         };

@@ -47,7 +47,7 @@ pub data End : Type 0 where
   ByGone : End
   ByLog : End
 
--- what a record behind the first one is to turn k of the session
+-- what a record after the first one is to turn k of the session
 pub data Part : Type 0 where
   Inner : Part
   Last : End → Part
@@ -62,14 +62,14 @@ part_of pid k (Broke other number) = if bytes_eq other pid then (if nat_eq numbe
 part_of pid k (Gone other) = if bytes_eq other pid then Last ByGone else Inner
 part_of pid k _ = Inner
 
--- the end of the records from one on that is such a part, where the records behind it have this end
+-- the end of the records from one on that is such a part, where the records after it have this end
 abbrev pub end_past : Part → List NodeRec → Option End → Option End
 end_past Inner recs end = end
 end_past (Last last) [] end = Some last
 end_past (Last last) (rec ∷ recs) end = None
 end_past Foreign recs end = None
 
--- how turn k ends, whose records behind the first one these are; none where they aren't records of it
+-- how turn k ends, whose records after the first one these are; none where they aren't records of it
 abbrev pub turn_end : Text → ℕ → List NodeRec → Option End
 turn_end pid k [] = Some ByLog
 turn_end pid k (rec ∷ recs) = end_past (part_of pid k rec) recs (turn_end pid k recs)

@@ -1,18 +1,17 @@
 use Rattle.std.proofs.Common.{◌≡◌, ◌≤◌, ◌∙◌, ℕ, Bool, true, false, ap, sym, rules, subst, length, drop, take, nat_le, ◌&&◌}
 use Rattle.std.specs.List.Sorted.{IsNonDecreasing, IsPartitionPoint}
-use Rattle.std.proofs.lemmas.Bool.{leb-true, leb-false}
+use Rattle.std.proofs.lemmas.Bool.{leb-true, leb-false, le-ltb, lt-ltb}
 use Rattle.std.proofs.lemmas.List.Sorted.{IsPartitionPoint-from_clause, IsPartitionedBy-leb, IsNonDecreasingBy-drop}
 use Rattle.aud_rooms.specs.Candidates.{is_past_upto}
-use Rattle.aud_rooms.proofs.Times.{lt_true, lt_false}
 use Rattle.aud_rooms.proofs.Parts.{middle_parts}
 use Rattle.aud_rooms.proofs.candidates.inside.Goals as goal
 
 module _ (after upto : ℕ) where
   too_low : (y : ℕ) → nat_le y after ≡ true → is_past_upto after upto y ≡ false
-  too_low y e = (let below = leb-true y after e in ap (λ b. b && nat_le y upto) (lt_false after y below))
+  too_low y e = (let below = leb-true y after e in ap (λ b. b && nat_le y upto) (le-ltb after y below))
 
   high_enough : (y : ℕ) (b : Bool) → nat_le y after ≡ false → nat_le y upto ≡ b → is_past_upto after upto y ≡ b
-  high_enough y b e f = (let past = leb-false y after e in ap (λ c. c && nat_le y upto) (lt_true after y past) ∙ f)
+  high_enough y b e f = (let past = leb-false y after e in ap (λ c. c && nat_le y upto) (lt-ltb after y past) ∙ f)
 
 pub returns : goal.returns
 returns c =
