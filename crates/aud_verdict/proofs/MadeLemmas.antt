@@ -1,12 +1,10 @@
 -- A made certificate is refused neither for a turn nor for its spans, and is of its whole session.
-use Rattle.std.proofs.Common.{◌≡◌, ◌<◌, ◌+◌, ◌-◌, ℕ, zero, suc, true, List, [], ◌∷◌, length, map, drop, slice_get, Some, refl, sym, ap, subst, ◌∙◌, arith, drop-cons}
+use Rattle.std.proofs.Common.{◌≡◌, ◌<◌, ◌+◌, ℕ, zero, suc, true, List, [], ◌∷◌, length, map, drop, slice_get, Some, refl, sym, ap, subst, ◌∙◌, arith}
 use Rattle.std.specs.List.{list_all}
 use Rattle.std.specs.Option.{IsSome}
 use Rattle.std.proofs.lemmas.Bool.{false≢true, and_parts}
-use Rattle.std.proofs.lemmas.Option.{none-some, slice_get_within, get_or_from_slice_get}
-use Rattle.aud_tap.specs.declared.records.NodeRec.{NodeRec}
+use Rattle.std.proofs.lemmas.Option.{none-some}
 use Rattle.aud_node.specs.Stream.{Text}
-use Rattle.aud_node.specs.Lists.{between}
 use Rattle.aud_node.specs.Cursors.{cursor_at}
 use Rattle.aud_node.specs.Cluster.{Cluster, node_log}
 use Rattle.aud_node.specs.Names.{AreNamedOnce}
