@@ -1,8 +1,8 @@
 -- Turns that end as they may are turns.
-use Rattle.std.proofs.Common.{◌≡◌, ◌<◌, ◌≤◌, ◌+◌, ◌-◌, ℕ, zero, suc, Bool, true, false, cond, ◌&&◌, List, [], ◌∷◌, length, take, drop, get_or, Option, Some, None, slice_get, refl, sym, ap, ◌∙◌, ◌⊎◌, inl, inr, nat_eq, arith, bytes_eq}
+use Rattle.std.proofs.Common.{◌≡◌, ◌<◌, ◌≤◌, ◌+◌, ◌-◌, ℕ, zero, suc, true, ◌&&◌, List, [], ◌∷◌, length, take, drop, get_or, Option, Some, None, slice_get, refl, sym, ap, ◌∙◌, inl, inr, nat_eq, arith, bytes_eq}
 use Rattle.std.proofs.lemmas.Bool.{eq-eqb, eqb-true, false≢true, and_parts, and_from}
 use Rattle.std.proofs.lemmas.List.{at_drop_more}
-use Rattle.std.proofs.lemmas.Option.{same_Some, none-some}
+use Rattle.std.proofs.lemmas.Option.{same_Some}
 use Rattle.aud_tap.specs.declared.records.NodeRec.{NodeRec}
 use Rattle.aud_tap.specs.declared.records.NodeRec.TheVariants.{Opened, Back}
 use Rattle.aud_node.specs.Cluster.{Cluster, node_log}
@@ -11,7 +11,7 @@ use Rattle.aud_node.specs.OwnPlaces.{own_places}
 use Rattle.aud_node.specs.Stream.{Text}
 use Rattle.aud_node.specs.TurnRecords.{begins_turn, is_begin, is_end, rest_of_turn}
 use Rattle.aud_node.proofs.TurnLemmas.{rest-taken}
-use Rattle.aud_rooms.specs.Turns.{Who, Turn, beginning, End, ByBreak, ByGone, ByLog, part_of, end_past, turn_end, MayEnd, AreTurns}
+use Rattle.aud_rooms.specs.Turns.{Who, Turn, beginning, End, ByBreak, ByGone, ByLog, part_of, turn_end, MayEnd, AreTurns}
 use Rattle.aud_client.proofs.Places.{same_text}
 use Rattle.aud_maker.specs.Begun.{AreBegun}
 use Rattle.aud_maker.specs.Chain.{names_opened, opening_of}

@@ -1,5 +1,5 @@
 -- The sweep over a session's records finds whether all stand in the turns.
-use Rattle.std.proofs.Common.{◌≡◌, ◌<◌, ◌≤◌, ◌+◌, ℕ, zero, suc, Bool, true, false, cond, ◌&&◌, List, [], ◌∷◌, length, filter, Option, Some, None, slice_get, get_or, refl, sym, ap, subst, ◌∙◌, ◌⊎◌, inl, inr, nat_eq, nat_le, nat_lt, arith}
+use Rattle.std.proofs.Common.{◌≡◌, ◌<◌, ◌≤◌, ℕ, zero, suc, Bool, true, false, cond, ◌&&◌, List, [], ◌∷◌, length, filter, Option, Some, None, slice_get, get_or, refl, sym, ap, subst, ◌∙◌, ◌⊎◌, inl, inr, nat_eq, nat_le, nat_lt, arith}
 use Rattle.std.specs.List.{Contains, list_all}
 use Rattle.std.proofs.lemmas.Bool.{cases_eq, eq-eqb, eqb-true, false≢true, and_parts, and_from, le-leb, leb-true}
 use Rattle.std.proofs.lemmas.Option.{same_Some, none-some}
@@ -13,7 +13,7 @@ use Rattle.aud_node.specs.Stream.{Text}
 use Rattle.aud_node.specs.TurnRecords.{pid_of, begins_turn}
 use Rattle.aud_node.specs.OwnPlaces.{own_places}
 use Rattle.aud_node.specs.OwnRecords.{names, own_numbers}
-use Rattle.aud_rooms.specs.Turns.{Who, Turn, beginning, AreTurns, StandsIn, IsChain}
+use Rattle.aud_rooms.specs.Turns.{Who, Turn, beginning, StandsIn, IsChain}
 use Rattle.aud_rooms.proofs.Members.{contains-none, contains-parts}
 use Rattle.aud_maker.specs.Swept.{number_begun, turn_or, turn_past, is_in, are_in, is_swept}
 use Rattle.aud_maker.proofs.Turns.{begins-names, beginning-begins, no_begin_inside, first_there, standing}

@@ -1,5 +1,5 @@
 -- What nothing refuses is accepted.
-use Rattle.std.proofs.Common.{◌≡◌, ◌≤◌, ℕ, suc, List, [], ◌∷◌, length, map, drop, slice_get, Option, Some, None, refl, sym, subst, ◌∙◌, inl, inr, nat_eq}
+use Rattle.std.proofs.Common.{◌≡◌, ℕ, suc, List, [], ◌∷◌, length, map, drop, slice_get, Option, Some, None, refl, sym, subst, ◌∙◌, inl, inr, nat_eq}
 use Rattle.std.proofs.lemmas.Bool.{true≢false, true_from_ne_false}
 use Rattle.std.proofs.lemmas.Bool.Decides.{Decides-eqb}
 use Rattle.std.proofs.lemmas.Option.{same_Some, none-some}
@@ -44,9 +44,7 @@ ends c pid k t later h = go (end_of pid k t.recs) refl
           within = stable (at_most t.to (length (log_named c t.node))) (λ no. h (λ is. no is.within));
           end = end;
           is_end = e;
-          may_end =
-              stable (may_end c (turn_at c t) (map (turn_at c) later) end)
-              (λ no. h (λ is. no (subst (MayEnd c (turn_at c t) (map (turn_at c) later)) (same_Some is.end end (sym is.is_end ∙ e)) is.may_end)));
+          may_end = stable (may_end c (turn_at c t) (map (turn_at c) later) end) (λ no. h (λ is. no (subst (MayEnd c (turn_at c t) (map (turn_at c) later)) (same_Some is.end end (sym is.is_end ∙ e)) is.may_end)));
         }
 
 module _ (c : Cluster) (cert : CertificateSeen) (free : (place : Place) (refusal : Refusal) → Refuses c cert place refusal → ⊥) where

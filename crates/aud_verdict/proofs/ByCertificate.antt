@@ -1,5 +1,5 @@
 -- What is found by making a session's certificate and checking it is its verdict.
-use Rattle.std.proofs.Common.{◌≡◌, ◌<◌, ◌≤◌, ◌+◌, ◌*◌, ℕ, true, false, List, [], ◌∷◌, map, length, Option, Some, None, slice_get, unwrap_or, refl, sym, ap, subst, ◌∙◌, ◌⊎◌, inl, inr, arith}
+use Rattle.std.proofs.Common.{◌≡◌, ◌<◌, ◌≤◌, ◌+◌, ◌-◌, ◌*◌, min, ℕ, true, false, List, [], ◌∷◌, map, length, Option, Some, None, slice_get, unwrap_or, refl, sym, ap, subst, ◌∙◌, ◌⊎◌, inl, inr, arith}
 use Rattle.std.specs.Option.{option_and_then}
 use Rattle.std.proofs.lemmas.Bool.{true≢false, false≢true, cases_lt}
 use Rattle.std.proofs.lemmas.List.{length-map}
@@ -70,41 +70,30 @@ case_with c place pid due =
 
 -- where a fault of what was received stands in the two orders
 abbrev Placed : Case → Fault → Type 0
-Placed case f =
-    ((fault_rank f < 3) × (rank f ≡ 5 + fault_rank f))
-    ⊎ (((fault_rank f ≡ 3) × (8 ≤ rank f) × (rank f ≤ 11) × (mismatch_fault case ≡ Some f)) ⊎ ((fault_rank f ≡ 4) × (rank f ≡ 12)))
+Placed case f = (fault_rank f ≡ min (rank f - 5) 3 + (rank f - 11)) × (5 ≤ rank f) × (rank f ≤ 12) × (8 ≤ rank f → rank f ≤ 11 → mismatch_fault case ≡ Some f)
 
 placed : (case : Case) (f : Fault) → HasFault case f → Placed case f
-placed case Frame h = inl (omega arith, refl)
-placed case Orphan h = inl (omega arith, refl)
-placed case (Content off) h = inl (omega arith, refl)
-placed case (Extra off) h = inr (inl (refl, omega arith, omega arith, h))
-placed case (Doubled off) h = inr (inl (refl, omega arith, omega arith, h))
-placed case (Swapped off) h = inr (inl (refl, omega arith, omega arith, h))
-placed case (Lost off) h = inr (inl (refl, omega arith, omega arith, h))
-placed case (Window n) h = inr (inr (refl, refl))
+placed case Frame h = (omega arith, omega arith, omega arith, λ a b. absurd (omega arith))
+placed case Orphan h = (omega arith, omega arith, omega arith, λ a b. absurd (omega arith))
+placed case (Content off) h = (omega arith, omega arith, omega arith, λ a b. absurd (omega arith))
+placed case (Extra off) h = (omega arith, omega arith, omega arith, λ a b. h)
+placed case (Doubled off) h = (omega arith, omega arith, omega arith, λ a b. h)
+placed case (Swapped off) h = (omega arith, omega arith, omega arith, λ a b. h)
+placed case (Lost off) h = (omega arith, omega arith, omega arith, λ a b. h)
+placed case (Window n) h = (omega arith, omega arith, omega arith, λ a b. absurd (omega arith))
 placed case _ h = absurd h
 
-lower : (case : Case) (g f : Fault) → rank g < rank f → Placed case g → Placed case f → fault_rank g < fault_rank f
-lower case g f less (inl a) (inl b) = omega arith
-lower case g f less (inl a) (inr (inl b)) = omega arith
-lower case g f less (inl a) (inr (inr b)) = omega arith
-lower case g f less (inr (inl a)) (inl b) = omega arith
-lower case g f less (inr (inl a)) (inr (inl b)) =
-    let one : rank g ≡ rank f = ap rank (same_Some g f (sym a.3 ∙ b.3)) in
-    omega arith
-lower case g f less (inr (inl a)) (inr (inr b)) = omega arith
-lower case g f less (inr (inr a)) (inl b) = omega arith
-lower case g f less (inr (inr a)) (inr (inl b)) = omega arith
-lower case g f less (inr (inr a)) (inr (inr b)) = omega arith
+lower : (case : Case) (g f : Fault) → rank g < rank f → HasFault case g → HasFault case f → fault_rank g < fault_rank f
+lower case g f less h k =
+    let (g_is, g_low, g_high, g_mismatch) = placed case g h in
+    let (f_is, f_low, f_high, f_mismatch) = placed case f k in
+    elim (cases_lt (fault_rank g) (fault_rank f)) [
+      | inl before ↦ before
+      | inr after ↦ (let one : rank g ≡ rank f = ap rank (same_Some g f (sym (g_mismatch (omega arith) (omega arith)) ∙ f_mismatch (omega arith) (omega arith))) in absurd (omega arith))
+    ]
 
 pub late : (case : Case) (f : Fault) → HasFault case f → 4 ≤ rank f
-late case f h = go (placed case f h)
-  where
-    go : Placed case f → 4 ≤ rank f
-    go (inl a) = omega arith
-    go (inr (inl a)) = omega arith
-    go (inr (inr a)) = omega arith
+late case f h = let (is, low, high, mismatched) = placed case f h in omega arith
 
 pub as_held : (c : Cluster) (s : Session) (f : Fault) → HasFault (case_of c s) f → HoldsOf c s f
 as_held c s Names h = absurd h
@@ -214,7 +203,7 @@ module _ (c : Cluster) (pid : Text) (cert : CertificateSeen) (once : AreNamedOnc
         is.none_before check.AtWhole refused.Names (omega arith) (stays_same ∙ not_of_session c pid session is_session h)
     not_before other less h =
         let at = whole is.place is.refuses in
-        let low = lower (case_of c session) other f less (placed (case_of c session) other h) (placed (case_of c session) f has) in
+        let low = lower (case_of c session) other f less h has in
         is.none_before check.AtWhole (refused.Received other) (omega arith) (subst (λ (case : Case). HasFault case other) (sym case_is) h)
 
     first_received : IsFirst c pid f

@@ -1,6 +1,6 @@
 -- What was received, where no fault of it holds.
 use Rattle.std.proofs.Common.{◌≡◌, ℕ, List, [], ◌∷◌, Option, Some, None, refl, ap, ◌⊎◌, inl, inr}
-use Rattle.std.specs.Option.{IsSome}
+use Rattle.std.specs.Option.{is_some}
 use Rattle.std.specs.Str.{bytes_eq}
 use Rattle.std.specs.Cmp.Lexicographic.{pointwise}
 use Rattle.std.proofs.lemmas.Bool.{false_from_ne_true}
@@ -42,20 +42,16 @@ module _ (case : Case) (no_fault : (fault : Fault) → HasFault case fault → �
   all_entries (inl are) = are
   all_entries (inr (altered, first)) = absurd (no_fault (Content (offset_at case.stream altered.position)) (altered, first, refl))
 
-  none_bad : (bad : Option ℕ) → (IsSome bad → ⊥) → bad ≡ None
-  none_bad None h = refl
-  none_bad (Some number) h = absurd (h refl)
-
-  no_window : (c : Option ℕ) → wrong_window case.stream [] case.stays ≡ c → c ≡ None
-  no_window None e = refl
-  no_window (Some c) e = absurd (no_fault (Window c) e)
+  nothing : (o : Option ℕ) → ((n : ℕ) → o ≡ Some n → ⊥) → o ≡ None
+  nothing None h = refl
+  nothing (Some n) h = absurd (h n refl)
 
   pub all_received : IsReceived case
   all_received =
       record {
-        decodes = none_bad case.told.bad (no_fault Frame);
+        decodes = nothing case.told.bad (λ n e. no_fault Frame (ap is_some e));
         has_no_orphan = false_from_ne_true case.told.orphan (no_fault Orphan);
         are_entries = all_entries (entries case.stream case.frames);
         is_prefix = (mismatch-none (positions_in case) case.due).0 (none_mismatched case no_fault);
-        has_no_window = no_window (wrong_window case.stream [] case.stays) refl;
+        has_no_window = nothing (wrong_window case.stream [] case.stays) (λ n e. no_fault (Window n) e);
       }

@@ -1,12 +1,10 @@
 -- A made certificate is refused neither for a turn nor for its spans, and is of its whole session.
-use Rattle.std.proofs.Common.{◌≡◌, ◌<◌, ◌+◌, ◌-◌, ℕ, zero, suc, true, List, [], ◌∷◌, length, map, drop, slice_get, Some, refl, sym, ap, subst, ◌∙◌, arith, drop-cons}
+use Rattle.std.proofs.Common.{◌≡◌, ◌<◌, ◌+◌, ℕ, zero, suc, true, List, [], ◌∷◌, length, map, drop, slice_get, Some, refl, sym, ap, subst, ◌∙◌, arith}
 use Rattle.std.specs.List.{list_all}
 use Rattle.std.specs.Option.{IsSome}
 use Rattle.std.proofs.lemmas.Bool.{false≢true, and_parts}
-use Rattle.std.proofs.lemmas.Option.{none-some, slice_get_within, get_or_from_slice_get}
-use Rattle.aud_tap.specs.declared.records.NodeRec.{NodeRec}
+use Rattle.std.proofs.lemmas.Option.{none-some}
 use Rattle.aud_node.specs.Stream.{Text}
-use Rattle.aud_node.specs.Lists.{between}
 use Rattle.aud_node.specs.Cursors.{cursor_at}
 use Rattle.aud_node.specs.Cluster.{Cluster, node_log}
 use Rattle.aud_node.specs.Names.{AreNamedOnce}
@@ -14,6 +12,7 @@ use Rattle.aud_rooms.specs.Turns.{Who, Turn, beginning, IsTurn, AreTurns, IsChai
 use Rattle.aud_rooms.specs.Spans.{AreSpansOfTurns}
 use Rattle.aud_cert.specs.declared.fault.Fault.{Fault}
 use Rattle.aud_cert.specs.Certificate.{TurnSeen, CertificateSeen, turn_at, place_named}
+use Rattle.aud_merge.proofs.Slices.{between-more}
 use Rattle.aud_maker.specs.Made.{name_at, turn_seen, is_turn_ordered, IsMade}
 use Rattle.aud_maker.proofs.Turns.{beginning-begins}
 use Rattle.aud_maker.proofs.Over.{turns-there}
@@ -24,20 +23,14 @@ use Rattle.aud_check.specs.TurnRefusals.{IsTurnAccepted, AreTurnsAccepted}
 use Rattle.aud_check.specs.Refusals.{RefusesWhole, Refuses, Place, AtTurn, AtWhole, IsFirst, IsFirstRefusal}
 use Rattle.aud_check.proofs.TurnRefusals.{not_refused}
 use Rattle.aud_verdict.specs.Refused.{fault_found, IsOfSession}
+use Rattle.aud_verdict.proofs.Sessions.{who_with}
 
--- the records of a turn are the one that begins it, and the later ones
-begun : (log : List NodeRec) (from to : ℕ) (rec : NodeRec) → from < to → slice_get log from ≡ Some rec → between log from to ≡ rec ∷ between log (suc from) to
-begun log from to rec some at =
-    let within = slice_get_within log from rec at in
-    let is = get_or_from_slice_get log from rec rec at in
-    let count : to - from ≡ suc (to - suc from) = omega arith in
-    rw (drop-cons log from rec within, is, count) refl
-
+-- a turn of a made certificate is accepted
 accepted-turn : (c : Cluster) (who : Who) (k : ℕ) (t : Turn) (later : List Turn) → IsTurn c who k t later → is_turn_ordered c t ≡ true
     → turn_at c (turn_seen c t) ≡ t → map (turn_at c) (map (turn_seen c) later) ≡ later → IsTurnAccepted c who.pid k (turn_seen c t) (map (turn_seen c) later)
 accepted-turn c who k t later is ordered there those =
     let place : place_named c (name_at c t.node) ≡ t.node = ap (λ (x : Turn). x.node) there in
-    let recs = begun (node_log c t.node) t.from t.to (beginning who k) is.some is.begins in
+    let recs = between-more (node_log c t.node) t.from t.to (beginning who k) is.some is.begins in
     record {
       begins = rw recs (beginning-begins who k);
       ends = record { within = rw place is.within; end = is.end; is_end = rw recs is.ends; may_end = rw (there, those) is.may_end };
@@ -63,10 +56,7 @@ accepted-from c who n (u ∷ us) are ordered there (suc k) t at =
 
 first-opened : (c : Cluster) (who : Who) (turns : List Turn) → 0 < length turns → AreTurns c who 0 turns → first_record (map (turn_seen c) turns) ≡ Some (beginning who 0)
 first-opened c who [] some are = absurd (omega arith)
-first-opened c who (t ∷ turns) some are = rw (begun (node_log c t.node) t.from t.to (beginning who 0) are.0.some are.0.begins) refl
-
-abbrev who_with : Text → Text → Text → Who
-who_with pid sid nsp = record { pid = pid; sid = sid; nsp = nsp }
+first-opened c who (t ∷ turns) some are = rw (between-more (node_log c t.node) t.from t.to (beginning who 0) are.0.some are.0.begins) refl
 
 module _ (c : Cluster) (pid : Text) (cert : CertificateSeen) (once : AreNamedOnce c.taps) (made : IsMade c pid cert) where
   pub there : turns_of c cert ≡ made.turns

@@ -1,7 +1,7 @@
 -- A pid has one session at most, and its client's tap names it.
-use Rattle.std.proofs.Common.{◌≡◌, ◌≤◌, ℕ, suc, Bool, true, false, ◌&&◌, ◌||◌, not, cond, List, [], ◌∷◌, length, Option, Some, None, refl, sym, ap, subst, ◌∙◌, arith}
-use Rattle.std.specs.List.{Contains, filter, list_any, list_all}
-use Rattle.std.proofs.lemmas.Bool.{false≢true, and_right}
+use Rattle.std.proofs.Common.{◌≡◌, ◌≤◌, ℕ, Bool, true, false, ◌&&◌, not, List, [], ◌∷◌, length, Option, Some, None, refl, inl, inr, sym, ap, subst, ◌∙◌, arith}
+use Rattle.std.specs.List.{filter, list_any, list_all}
+use Rattle.std.proofs.lemmas.Bool.{false≢true, cases_Bool, and_right}
 use Rattle.std.proofs.lemmas.Option.{some_pair_parts}
 use Rattle.std.proofs.lemmas.List.Elements.{All-head, All-same, filter_passes}
 use Rattle.std.proofs.lemmas.List.Folds.{list_all_at}
@@ -25,7 +25,7 @@ use Rattle.aud_check.specs.Shown.{recs_or_none}
 use Rattle.aud_verdict.specs.Session.{Session, IsSession, client_log, told, own_stays}
 use Rattle.aud_verdict.specs.Faults.{HasOtherNames, HoldsOf, Holds, rank}
 
-abbrev who_with : Text → Text → Text → Who
+abbrev pub who_with : Text → Text → Text → Who
 who_with pid sid nsp = record { pid = pid; sid = sid; nsp = nsp }
 
 abbrev session_with : Who → List Turn → ℕ → Session
@@ -87,12 +87,7 @@ module _ (c : Cluster) (pid : Text) (s : Session) (is : IsSession c pid s) where
 
   kept : (test : StaySeen → Bool) (stays : List StaySeen) → list_any test stays ≡ true → is_empty (filter test stays) ≡ false
   kept test [] e = absurd (false≢true e)
-  kept test (stay ∷ stays) e = go (test stay) e (kept test stays)
-    where
-      go : (b : Bool) → (b || list_any test stays) ≡ true → (list_any test stays ≡ true → is_empty (filter test stays) ≡ false)
-          → is_empty (cond b (stay ∷ filter test stays) (filter test stays)) ≡ false
-      go true e ih = refl
-      go false e ih = ih e
+  kept test (stay ∷ stays) e = elim (cases_Bool (test stay)) as (λ _. is_empty (filter test (stay ∷ stays)) ≡ false) [ inl passes ↦ rw passes refl | inr fails ↦ rw fails (kept test stays (rw fails at e)) ]
 
   some_stay : is_empty (own_stays c s) ≡ false
   some_stay = kept (names s.who.pid) (told c s).stays any_stay

@@ -26,11 +26,12 @@ same_span a b = bytes_eq a.room b.room && (nat_eq a.first b.first && nat_eq a.la
 
 same_span-Decides : (a b : RoomSpan) → Decides (same_span a b) (a ≡ b)
 same_span-Decides a b =
-    Decides-like (same_span a b) there (λ e. (ap (λ (s : RoomSpan). s.room) e, ap (λ (s : RoomSpan). s.first) e, ap (λ (s : RoomSpan). s.last) e))
-    (Decides-and _ _ (bytes_eq-Decides a.room b.room) (Decides-and _ _ (Decides-eqb a.first b.first) (Decides-eqb a.last b.last)))
+    Decides-like (same_span a b) there (λ e. (ap (λ (s : RoomSpan). s.room) e, (ap (λ (s : RoomSpan). s.first) e, ap (λ (s : RoomSpan). s.last) e)))
+    (Decides-and (bytes_eq a.room b.room) (nat_eq a.first b.first && nat_eq a.last b.last) (bytes_eq-Decides a.room b.room)
+    (Decides-and (nat_eq a.first b.first) (nat_eq a.last b.last) (Decides-eqb a.first b.first) (Decides-eqb a.last b.last)))
   where
-    there : (a.room ≡ b.room) × (a.first ≡ b.first) × (a.last ≡ b.last) → a ≡ b
-    there (room, first, last) = ap (λ x. span_with x a.first a.last) room ∙ ap (λ x. span_with b.room x a.last) first ∙ ap (span_with b.room b.first) last
+    there : (a.room ≡ b.room) × ((a.first ≡ b.first) × (a.last ≡ b.last)) → a ≡ b
+    there (room, (first, last)) = ap (λ x. span_with x a.first a.last) room ∙ ap (λ x. span_with b.room x a.last) first ∙ ap (span_with b.room b.first) last
 
 contains : (spans : List RoomSpan) (s : RoomSpan) → Decided (Contains spans s)
 contains spans s = decided (is_member same_span spans s) (is_member-Decides same_span-Decides spans s)

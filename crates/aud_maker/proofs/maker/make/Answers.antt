@@ -1,8 +1,8 @@
-use Rattle.std.proofs.Common.{◌≡◌, ◌∙◌, true, length, refl, sym, ap, subst}
+use Rattle.std.proofs.Common.{◌≡◌, ◌∙◌, length, refl, sym, ap, subst}
 use Rattle.std.specs.List.{list_all}
 use Rattle.std.proofs.lemmas.Option.{MatchOption-at_none, MatchOption-at_some}
 use Rattle.aud_node.specs.Cluster.{Cluster}
-use Rattle.aud_rooms.specs.Turns.{Who, IsChain}
+use Rattle.aud_rooms.specs.Turns.{IsChain}
 use Rattle.aud_maker.specs.Chain.{HasNoChain}
 use Rattle.aud_cert.specs.declared.fault.Fault.TheVariants.{NoLog, Chain, Order, Client}
 use Rattle.aud_client.specs.Replies.{naming_places}
