@@ -19,17 +19,17 @@ abbrev pub answer_line : Answered → List ℕ
 answer_line a = line_on a.line a.answer
 
 -- whether an answer is ok
-abbrev pub accepts : Answer → Bool
-accepts (Accepted pid counts) = true
-accepts _ = false
+abbrev pub answers_ok : Answer → Bool
+answers_ok (Accepted pid counts) = true
+answers_ok _ = false
 
 -- whether a certificate is accepted
-abbrev pub is_accepted : Answered → Bool
-is_accepted a = accepts a.answer
+abbrev pub is_ok : Answered → Bool
+is_ok a = answers_ok a.answer
 
 -- the last line: how many certificates there are, and how many of them are ok and bad
 abbrev pub counts_line : List Answered → List ℕ
-counts_line all = codes "certs=" ++ decimal (length all) ++ codes " ok=" ++ decimal (count_by is_accepted all) ++ codes " bad=" ++ decimal (length all - count_by is_accepted all) ++ codes "\n"
+counts_line all = codes "certs=" ++ decimal (length all) ++ codes " ok=" ++ decimal (count_by is_ok all) ++ codes " bad=" ++ decimal (length all - count_by is_ok all) ++ codes "\n"
 
 -- what is written on certificates: a line for each, and the counts
 abbrev pub verify_text : List Answered → List ℕ
@@ -37,4 +37,4 @@ verify_text all = flat_map answer_line all ++ counts_line all
 
 -- the output on certificates with these answers
 abbrev pub verification_of : List Answered → OutputSeen
-verification_of answers = record { status = status_of (list_all is_accepted answers); text = verify_text answers }
+verification_of answers = record { status = status_of (list_all is_ok answers); text = verify_text answers }

@@ -8,7 +8,7 @@ use Rattle.aud_cert.specs.Certificate.{CertificateSeen}
 use Rattle.aud_cert_text.specs.Reading.{certificate_of}
 use Rattle.aud_check.specs.declared.certificate.Accepted as check
 use Rattle.aud_check.specs.Shown.{shown_due, frames_received}
-use Rattle.aud_check.specs.Refusals.{IsFirst, IsAccepted}
+use Rattle.aud_check.specs.Refusals.{RefusesFirst, IsAccepted}
 use Rattle.aud_answers.specs.declared.answer.Answer.{Answer}
 use Rattle.aud_answers.specs.declared.answer.Answer.TheVariants.{Accepted, Unread, Refused}
 use Rattle.aud_answers.specs.declared.answer.Answered.{Answered}
@@ -25,7 +25,7 @@ counts_of c cert = record {
 -- the answer on a certificate that is read: all that it says is so, or what refuses it first
 abbrev pub IsAnswerOn : Cluster → CertificateSeen → Answer → Type 0
 IsAnswerOn c cert (Accepted pid counts) = IsAccepted c cert × (pid ≡ cert.pid) × (counts ≡ counts_of c cert)
-IsAnswerOn c cert (Refused refusal) = IsFirst c cert refusal
+IsAnswerOn c cert (Refused refusal) = RefusesFirst c cert refusal
 IsAnswerOn c cert (Unread fault) = ⊥
 
 -- the answer on the text's reading; want of memory is none

@@ -24,10 +24,10 @@ pub struct Answered {
 }
 
 impl Answered {
-    ghost use Rattle.aud_answers.specs.Lines.{is_accepted};
+    ghost use Rattle.aud_answers.specs.Lines.{is_ok};
 
-    pub fn is_accepted(&self) -> bool
-        ensures { result ≡ is_accepted self.now }
+    pub fn is_ok(&self) -> bool
+        ensures { result ≡ is_ok self.now }
     {
         matches!(&self.answer, Answer::Accepted { .. })
     }

@@ -1,7 +1,7 @@
 //! The lines on certificates.
 ghost use Rattle.std.specs.Prelude.{◌≡◌, ◌++◌, IfOk, OnOk, string_bytes, count_by};
 ghost use Rattle.std.specs.List.{list_all};
-ghost use Rattle.aud_answers.specs.Lines.{is_accepted, answer_line, counts_line, verify_text, verification_of};
+ghost use Rattle.aud_answers.specs.Lines.{is_ok, answer_line, counts_line, verify_text, verification_of};
 
 use crate::answer::{Answer, Answered};
 use aud_report::{Output, status_of};
@@ -23,17 +23,17 @@ fn push_answer(out: &mut String, answered: &Answered) -> Result<(), AllocError>
 }
 
 /// Whether each certificate is accepted.
-fn are_all_accepted(all: &[Answered]) -> bool
-    ensures { result ≡ list_all is_accepted all.now }
+fn are_all_ok(all: &[Answered]) -> bool
+    ensures { result ≡ list_all is_ok all.now }
 {
-    all.iter().all(|answered| answered.is_accepted())
+    all.iter().all(|answered| answered.is_ok())
 }
 
 /// How many certificates are accepted.
-fn count_accepted(all: &[Answered]) -> usize
-    ensures { result ≡ count_by is_accepted all.now }
+fn count_ok(all: &[Answered]) -> usize
+    ensures { result ≡ count_by is_ok all.now }
 {
-    all.iter().filter(|answered| answered.is_accepted()).count()
+    all.iter().filter(|answered| answered.is_ok()).count()
 }
 
 /// Puts the counts at the end.
@@ -41,7 +41,7 @@ fn push_counts(out: &mut String, all: &[Answered]) -> Result<(), AllocError>
     ensures { OnOk result (string_bytes out.new ≡ string_bytes out.old ++ counts_line all.now) }
 {
     let certs = all.len();
-    let ok = count_accepted(all);
+    let ok = count_ok(all);
     let bad = certs.saturating_sub(ok);
     writeln!(out, "certs={certs} ok={ok} bad={bad}")
 }
@@ -63,6 +63,6 @@ pub fn verification_on(alloc: Global, all: &[Answered]) -> Result<Output, AllocE
     ensures { IfOk result (λ o. o ≡ verification_of all.now) }
 {
     let text = verify_text(alloc, all)?;
-    let status = status_of(are_all_accepted(all));
+    let status = status_of(are_all_ok(all));
     Ok(Output { status, text })
 }

@@ -4,25 +4,25 @@ use Rattle.aud_node.specs.Stream.{Text}
 use Rattle.aud_node.specs.Cluster.{Cluster}
 use Rattle.aud_cert.specs.declared.fault.Fault.{Fault}
 use Rattle.aud_cert.specs.Certificate.{CertificateSeen}
-use Rattle.aud_cert_text.specs.Text.{text_of}
+use Rattle.aud_cert_text.specs.Text.{certificate_text}
 use Rattle.aud_check.specs.declared.certificate.Accepted.{Accepted}
 use Rattle.aud_report.specs.declared.verdict.Verdict.TheVariants.{No}
-use Rattle.aud_report.specs.declared.verdict.Entry.{Entry}
+use Rattle.aud_report.specs.declared.verdict.SessionVerdict.{SessionVerdict}
 use Rattle.aud_report.specs.OneForEach.{OneForEach}
 use Rattle.aud_verdict.specs.Verdict.{IsVerdict}
 use Rattle.aud_verdict.specs.Judged.{IsShown, HasCertificate}
 
 -- the answer on a session: the verdict, and where that is yes an accepted certificate shows it
-abbrev pub IsEntry : Cluster → Text → Entry → Type 0
-IsEntry c pid entry = (entry.pid ≡ pid) × IsVerdict c pid entry.verdict × HasCertificate c pid entry.verdict
+abbrev pub IsSessionVerdict : Cluster → Text → SessionVerdict → Type 0
+IsSessionVerdict c pid entry = (entry.pid ≡ pid) × IsVerdict c pid entry.verdict × HasCertificate c pid entry.verdict
 
 -- the answers on these sessions, one for each, in order
-abbrev pub AreVerdicts : Cluster → List Text → List Entry → Type 0
-AreVerdicts c = OneForEach (IsEntry c)
+abbrev pub AreVerdicts : Cluster → List Text → List SessionVerdict → Type 0
+AreVerdicts c = OneForEach (IsSessionVerdict c)
 
 -- the text of the session's certificate, where the verdict is yes; none where it is no
 abbrev pub IsProof : Cluster → Text → Option Text → Type 0
-IsProof c pid (Some text) = (cert : CertificateSeen) × (counts : Accepted) × IsShown c pid cert counts × (text ≡ text_of cert)
+IsProof c pid (Some text) = (cert : CertificateSeen) × (counts : Accepted) × IsShown c pid cert counts × (text ≡ certificate_text cert)
 IsProof c pid None = (fault : Fault) × IsVerdict c pid (No fault)
 
 -- the certificates of these sessions, a place for each, in order

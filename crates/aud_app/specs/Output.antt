@@ -13,7 +13,7 @@ use Rattle.aud_input.specs.declared.input.Layout.{Layout}
 use Rattle.aud_input.specs.declared.input.Layout.TheVariants.{Bundle, BundleAndCertificates}
 use Rattle.aud_input.specs.Input.{InputSeen, input_of}
 use Rattle.aud_report.specs.declared.output.Status.{Status}
-use Rattle.aud_report.specs.declared.verdict.Entry.{Entry}
+use Rattle.aud_report.specs.declared.verdict.SessionVerdict.{SessionVerdict}
 use Rattle.aud_report.specs.Output.{OutputSeen, report_of, proving_of, refusal_of}
 use Rattle.aud_answers.specs.declared.answer.Answered.{Answered}
 use Rattle.aud_answers.specs.Lines.{verification_of}
@@ -23,7 +23,7 @@ use Rattle.aud_app.specs.Decided.{AreVerdicts, AreProofs}
 
 -- the output of an audit: the report of the verdicts on all sessions, in the order of their first mentions
 abbrev pub IsReport : Cluster → OutputSeen → Type 0
-IsReport c output = (entries : List Entry) × AreVerdicts c (sessions_of c) entries × (output ≡ report_of entries)
+IsReport c output = (entries : List SessionVerdict) × AreVerdicts c (sessions_of c) entries × (output ≡ report_of entries)
 
 -- the certificates of all sessions that are answered yes, in the order of their first mentions
 abbrev pub IsProving : Cluster → OutputSeen → Type 0

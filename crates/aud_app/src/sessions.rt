@@ -1,23 +1,23 @@
 //! The verdicts on the sessions, and their certificates.
 ghost use Rattle.std.specs.Prelude.{◌≡◌, IfOk, map, string_bytes};
 ghost use Rattle.aud_maker.specs.Sessions.{sessions_of};
-ghost use Rattle.aud_app.specs.Decided.{IsEntry, AreVerdicts, IsProof, AreProofs};
+ghost use Rattle.aud_app.specs.Decided.{IsSessionVerdict, AreVerdicts, IsProof, AreProofs};
 
 use aud_cert_text::write_cert;
 use aud_client::Recording;
 use aud_maker::sessions;
-use aud_report::Entry;
+use aud_report::SessionVerdict;
 use aud_tap::Text;
 use aud_verdict::{Judged, decide, judge};
 use std::alloc::{AllocError, Global};
 
 /// The answer on a session.
-fn entry(alloc: Global, recording: &Recording<'_>, pid: &str) -> Result<Entry, AllocError>
-    ensures { IfOk result (λ entry. IsEntry recording.now pid.now entry) }
+fn entry(alloc: Global, recording: &Recording<'_>, pid: &str) -> Result<SessionVerdict, AllocError>
+    ensures { IfOk result (λ entry. IsSessionVerdict recording.now pid.now entry) }
 {
     let name = Text::new(String::from_str(alloc, pid)?);
     match decide(alloc, recording, pid) {
-        Ok(verdict) => Ok(Entry { pid: name, verdict }),
+        Ok(verdict) => Ok(SessionVerdict { pid: name, verdict }),
         Err(_) => Err(AllocError),
     }
 }
@@ -27,7 +27,7 @@ fn verdicts(
     alloc: Global,
     recording: &Recording<'_>,
     pids: &[String],
-) -> Result<Vec<Entry>, AllocError>
+) -> Result<Vec<SessionVerdict>, AllocError>
     ensures { IfOk result (λ all. AreVerdicts recording.now (map string_bytes pids.now) all.items) }
 {
     let mut all = Vec::new(alloc);
@@ -38,7 +38,7 @@ fn verdicts(
 }
 
 /// The verdict on each session that the logs mention, in the order of their first mentions.
-pub fn audit(alloc: Global, recording: &Recording<'_>) -> Result<Vec<Entry>, AllocError>
+pub fn audit(alloc: Global, recording: &Recording<'_>) -> Result<Vec<SessionVerdict>, AllocError>
     ensures { IfOk result (λ all. AreVerdicts recording.now (sessions_of recording.now) all.items) }
 {
     let Ok(pids) = sessions(alloc, recording) else {

@@ -26,7 +26,7 @@ pub record CertificateSeen : Type 0 where
   pub turns : List TurnSeen
   pub spans : List RoomSpan
 
--- the place of the tap with this name; the place behind all taps where there is none
+-- the place of the tap with this name; the place after all taps where there is none
 abbrev pub place_named : Cluster → Text → ℕ
 place_named c name = unwrap_or (place_of c.taps name) (length c.taps)
 

@@ -10,10 +10,10 @@ use Rattle.aud_node.specs.Cluster.{Cluster}
 use Rattle.aud_rooms.specs.Spans.{RoomSpan}
 use Rattle.aud_cert.specs.Certificate.{TurnSeen, CertificateSeen, IsTurnOver, IsOver}
 use Rattle.aud_cert_text.specs.Steps.{each}
-use Rattle.aud_cert_text.specs.Told.{span_of, turn_of, each_item, told_in}
+use Rattle.aud_cert_text.specs.Parsed.{parsed_span, parsed_turn, each_item, parsed_certificate}
 use Rattle.aud_cert_text.specs.Text.{items, span_data, turn_data, certificate_data}
 use Rattle.aud_cert_text.specs.Reading.{json_of, is_node, is_client, turn_over, certificate_over, certificate_of}
-use Rattle.aud_cert_text.specs.Sound.{turn_told, told_by, names_taps, IsSound}
+use Rattle.aud_cert_text.specs.Sound.{turn_without_records, without_records, names_taps, IsSound}
 
 -- ---- the JSON is shallow and has no float
 
@@ -41,39 +41,39 @@ certificate-float cert = rw (spans-float cert.spans, turns-float cert.turns) ref
 
 -- ---- what the text tells
 
-span-back : (s : RoomSpan) → span_of (span_data s) ≡ Ok s
-unfolding span_of
+span-back : (s : RoomSpan) → parsed_span (span_data s) ≡ Ok s
+unfolding parsed_span
 span-back s = refl
 
-turn-back : (t : TurnSeen) → turn_of (turn_data t) ≡ Ok (turn_told t)
-unfolding turn_of
+turn-back : (t : TurnSeen) → parsed_turn (turn_data t) ≡ Ok (turn_without_records t)
+unfolding parsed_turn
 turn-back t = refl
 
-spans-back : (spans : List RoomSpan) → each_item span_of (items span_data spans) ≡ Ok spans
+spans-back : (spans : List RoomSpan) → each_item parsed_span (items span_data spans) ≡ Ok spans
 spans-back [] = refl
 spans-back (s ∷ spans) = rw (span-back s, spans-back spans) refl
 
-turns-back : (turns : List TurnSeen) → each_item turn_of (items turn_data turns) ≡ Ok (map turn_told turns)
+turns-back : (turns : List TurnSeen) → each_item parsed_turn (items turn_data turns) ≡ Ok (map turn_without_records turns)
 turns-back [] = refl
 turns-back (t ∷ turns) = rw (turn-back t, turns-back turns) refl
 
-told-back : (cert : CertificateSeen) → told_in (certificate_data cert) ≡ Ok (told_by cert)
-unfolding told_in
-told-back cert = rw (spans-back cert.spans, turns-back cert.turns) refl
+parsed-back : (cert : CertificateSeen) → parsed_certificate (certificate_data cert) ≡ Ok (without_records cert)
+unfolding parsed_certificate
+parsed-back cert = rw (spans-back cert.spans, turns-back cert.turns) refl
 
 -- ---- what is looked up
 
-lent-back : (c : Cluster) (t : TurnSeen) → is_node c t.node ≡ true → IsTurnOver c t → turn_over c (turn_told t) ≡ Ok t
+lent-back : (c : Cluster) (t : TurnSeen) → is_node c t.node ≡ true → IsTurnOver c t → turn_over c (turn_without_records t) ≡ Ok t
 unfolding turn_over
 lent-back c t known is = rw (known, ← is) refl
 
-all-lent-back : (c : Cluster) (turns : List TurnSeen) → list_all (λ (t : TurnSeen). is_node c t.node) turns ≡ true → All (IsTurnOver c) turns → each (turn_over c) (map turn_told turns) ≡ Ok turns
+all-lent-back : (c : Cluster) (turns : List TurnSeen) → list_all (λ (t : TurnSeen). is_node c t.node) turns ≡ true → All (IsTurnOver c) turns → each (turn_over c) (map turn_without_records turns) ≡ Ok turns
 all-lent-back c [] known are = refl
 all-lent-back c (t ∷ turns) known are =
     let parts = and_parts (is_node c t.node) (list_all (λ (u : TurnSeen). is_node c u.node) turns) known in
     rw (lent-back c t parts.0 (All-head (IsTurnOver c) t turns are), all-lent-back c turns parts.1 (All-tail (IsTurnOver c) t turns are)) refl
 
-over-back : (c : Cluster) (cert : CertificateSeen) → names_taps c cert ≡ true → IsOver c cert → certificate_over c (told_by cert) ≡ Ok cert
+over-back : (c : Cluster) (cert : CertificateSeen) → names_taps c cert ≡ true → IsOver c cert → certificate_over c (without_records cert) ≡ Ok cert
 unfolding certificate_over
 over-back c cert known are =
     let parts = and_parts (is_client c cert.client) (list_all (λ (t : TurnSeen). is_node c t.node) cert.turns) known in
@@ -81,4 +81,4 @@ over-back c cert known are =
 
 pub certificate-back : (text : Text) (cert : CertificateSeen) → json_of text ≡ Ok (certificate_data cert) → (c : Cluster) → IsSound c cert → certificate_of c text ≡ Ok cert
 unfolding certificate_of
-certificate-back text cert json c sound = rw (json, told-back cert, sound.formed, over-back c cert sound.taps sound.over, sound.within) refl
+certificate-back text cert json c sound = rw (json, parsed-back cert, sound.formed, over-back c cert sound.taps sound.over, sound.within) refl

@@ -8,7 +8,7 @@ use Rattle.serde_json.specs.declared.value.Value.{Value}
 use Rattle.aud_cert_text.specs.declared.fault.CertFault.{CertFault}
 use Rattle.aud_cert_text.specs.declared.fault.CertFault.TheVariants.{Syntax, UnknownTap, Range, Memory}
 use Rattle.aud_cert_text.specs.Steps.{◌>>=◌, each, Fails}
-use Rattle.aud_cert_text.specs.Told.{each_item}
+use Rattle.aud_cert_text.specs.Parsed.{each_item}
 use Rattle.aud_cert_text.specs.Text.{items}
 
 -- what was read so far, and then what is left

@@ -20,13 +20,13 @@ front false None h = cc
 front false (Some j) h = let e : suc j ≡ 0 = ap (λ o. unwrap_or o 0) h in absurd (omega arith)
 
 -- a first index past 0
-behind : (b : Bool) (o : Option ℕ) (k : ℕ) → cond b (Some 0) (option_map suc o) ≡ Some (suc k) → o ≡ Some k
-behind true o k h = let e : 0 ≡ suc k = ap (λ o. unwrap_or o 0) h in absurd (omega arith)
-behind false None k h = cc
-behind false (Some j) k h = let e : suc j ≡ suc k = ap (λ o. unwrap_or o 0) h in let same : j ≡ k = omega arith in ap Some same
+after : (b : Bool) (o : Option ℕ) (k : ℕ) → cond b (Some 0) (option_map suc o) ≡ Some (suc k) → o ≡ Some k
+after true o k h = let e : 0 ≡ suc k = ap (λ o. unwrap_or o 0) h in absurd (omega arith)
+after false None k h = cc
+after false (Some j) k h = let e : suc j ≡ suc k = ap (λ o. unwrap_or o 0) h in let same : j ≡ k = omega arith in ap Some same
 
 -- the tap at the place of a name has that name
 pub named : (taps : List Tap) (name : Text) (i : ℕ) (tap : Tap) → place_of taps name ≡ Some i → Some tap ≡ slice_get taps i → tap.name ≡ name
 named [] name i tap h at = cc
 named (t ∷ ts) name zero tap h at = ap (λ o. (unwrap_or o t).name) at ∙ (bytes_eq-Decides t.name name).0 (front (bytes_eq t.name name) (place_of ts name) h)
-named (t ∷ ts) name (suc k) tap h at = named ts name k tap (behind (bytes_eq t.name name) (place_of ts name) k h) at
+named (t ∷ ts) name (suc k) tap h at = named ts name k tap (after (bytes_eq t.name name) (place_of ts name) k h) at

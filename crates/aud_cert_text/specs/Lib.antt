@@ -3,6 +3,6 @@ pub use Rattle.aud_cert.specs.Certificate
 pub mod Fault
 pub mod Text
 pub mod Steps
-pub mod Told
+pub mod Parsed
 pub mod Reading
 pub mod Sound

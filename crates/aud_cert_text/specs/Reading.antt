@@ -15,7 +15,7 @@ use Rattle.aud_cert_text.specs.declared.fault.CertFault.{CertFault}
 use Rattle.aud_cert_text.specs.declared.fault.CertFault.TheVariants.{Syntax, UnknownTap, Range}
 use Rattle.aud_cert.specs.Certificate.{TurnSeen, CertificateSeen, log_named, recs_named}
 use Rattle.aud_cert_text.specs.Steps.{◌>>=◌, need, guard, each}
-use Rattle.aud_cert_text.specs.Told.{TurnTold, CertificateTold, told_in}
+use Rattle.aud_cert_text.specs.Parsed.{ParsedTurn, ParsedCertificate, parsed_certificate}
 
 -- ---- K1: the text
 
@@ -24,15 +24,15 @@ unfoldable pub json_of : Text → Result Data CertFault
 json_of text = if is_utf8 text then need Syntax (read text) else Err Syntax
 
 -- there is a turn
-abbrev pub has_turns : List TurnTold → Bool
+abbrev pub has_turns : List ParsedTurn → Bool
 has_turns [] = false
 has_turns (t ∷ ts) = true
 
 -- at least one turn, and a pid and names of the bytes and the lengths that a bundle gives them
-abbrev pub is_formed : CertificateTold → Bool
-is_formed told =
-    has_turns told.turns && is_session_id told.pid && is_tap_name told.client
-    && list_all (λ (t : TurnTold). is_tap_name t.node) told.turns
+abbrev pub is_formed : ParsedCertificate → Bool
+is_formed parsed =
+    has_turns parsed.turns && is_session_id parsed.pid && is_tap_name parsed.client
+    && list_all (λ (t : ParsedTurn). is_tap_name t.node) parsed.turns
 
 -- ---- K2: the taps
 
@@ -45,17 +45,17 @@ abbrev pub is_client : Cluster → Text → Bool
 is_client c name = is_some (option_and_then (client_at c) (place_of c.taps name))
 
 -- the turn with its records
-unfoldable pub turn_over : Cluster → TurnTold → Result TurnSeen CertFault
+unfoldable pub turn_over : Cluster → ParsedTurn → Result TurnSeen CertFault
 turn_over c t = do
   known ← guard UnknownTap (is_node c t.node)
   Ok (record { node = t.node; from = t.from; to = t.to; low = t.low; high = t.high; recs = recs_named c t.node t.from t.to })
 
 -- the certificate with its records
-unfoldable pub certificate_over : Cluster → CertificateTold → Result CertificateSeen CertFault
-certificate_over c told = do
-  known ← guard UnknownTap (is_client c told.client)
-  turns ← each (turn_over c) told.turns
-  Ok (record { pid = told.pid; client = told.client; turns = turns; spans = told.spans })
+unfoldable pub certificate_over : Cluster → ParsedCertificate → Result CertificateSeen CertFault
+certificate_over c parsed = do
+  known ← guard UnknownTap (is_client c parsed.client)
+  turns ← each (turn_over c) parsed.turns
+  Ok (record { pid = parsed.pid; client = parsed.client; turns = turns; spans = parsed.spans })
 
 -- ---- K3: the numbers
 
@@ -70,18 +70,18 @@ abbrev pub is_span_within : Cluster → RoomSpan → Bool
 is_span_within c s = nat_le 1 s.first && nat_le s.first s.last && nat_le s.last (length c.stream)
 
 -- so is each turn and each span
-abbrev pub is_within : Cluster → CertificateSeen → Bool
-is_within c cert = list_all (is_turn_within c) cert.turns && list_all (is_span_within c) cert.spans
+abbrev pub is_certificate_within : Cluster → CertificateSeen → Bool
+is_certificate_within c cert = list_all (is_turn_within c) cert.turns && list_all (is_span_within c) cert.spans
 
 -- ---- all of it
 
 -- the certificate that JSON tells, or the first of `Syntax`, `UnknownTap` and `Range` that holds of all of it
 abbrev pub certificate_in : Cluster → Data → Result CertificateSeen CertFault
 certificate_in c d = do
-  told ← told_in d
-  formed ← guard Syntax (is_formed told)
-  cert ← certificate_over c told
-  within ← guard Range (is_within c cert)
+  parsed ← parsed_certificate d
+  formed ← guard Syntax (is_formed parsed)
+  cert ← certificate_over c parsed
+  within ← guard Range (is_certificate_within c cert)
   Ok cert
 
 -- the certificate, or the first of `Syntax`, `UnknownTap` and `Range` that holds of the whole text

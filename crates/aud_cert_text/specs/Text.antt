@@ -37,5 +37,5 @@ certificate_data cert =
     (member (codes "turns") (array (items turn_data cert.turns)) no_members))))
 
 -- the certificate's text
-abbrev pub text_of : CertificateSeen → Text
-text_of cert = compact_text (certificate_data cert)
+abbrev pub certificate_text : CertificateSeen → Text
+certificate_text cert = compact_text (certificate_data cert)

@@ -6,7 +6,7 @@ ghost use Rattle.aud_cert.specs.Certificate.{log_named, IsTurnOver, IsOver};
 ghost use Rattle.aud_cert_text.specs.Reading.{is_node, is_client, turn_over, certificate_over};
 
 use crate::fault::CertFault;
-use crate::told::{CertificateTold, TurnTold};
+use crate::parsed::{ParsedCertificate, ParsedTurn};
 use aud_cert::{Certificate, Turn};
 use aud_node::{Logs, Recs};
 use std::alloc::Global;
@@ -46,34 +46,34 @@ fn client_named<'a>(logs: &'a Logs<'_>, name: &str) -> Option<&'a str>
 
 /// The turn with its records.
 #[tactic(auto, unfolding(crate::specs::Reading::turn_over))]
-fn turn<'a>(logs: &'a Logs<'_>, told: &TurnTold<'_>) -> Result<Turn<'a>, CertFault>
-    ensures { Gives result (turn_over logs.now told.now) }
+fn turn<'a>(logs: &'a Logs<'_>, parsed: &ParsedTurn<'_>) -> Result<Turn<'a>, CertFault>
+    ensures { Gives result (turn_over logs.now parsed.now) }
 {
-    let node = node_named(logs, told.node).ok_or(CertFault::UnknownTap)?;
+    let node = node_named(logs, parsed.node).ok_or(CertFault::UnknownTap)?;
     Ok(Turn {
         node: node.name,
-        from: told.from,
-        to: told.to,
-        low: told.low,
-        high: told.high,
-        recs: node.recs.between(told.from as usize, told.to as usize),
+        from: parsed.from,
+        to: parsed.to,
+        low: parsed.low,
+        high: parsed.high,
+        recs: node.recs.between(parsed.from as usize, parsed.to as usize),
     })
 }
 
 fn turns<'a>(
     alloc: Global,
     logs: &'a Logs<'_>,
-    told: &[TurnTold<'_>],
+    parsed: &[ParsedTurn<'_>],
 ) -> Result<Vec<Turn<'a>>, CertFault>
     ensures reads { MatchResult result
-        (λ turns. each (turn_over logs.now) told.now ≡ Ok turns.items)
-        (λ e. Fails e (each (turn_over logs.now) told.now)) }
+        (λ turns. each (turn_over logs.now) parsed.now ≡ Ok turns.items)
+        (λ e. Fails e (each (turn_over logs.now) parsed.now)) }
     ensures over { IfOk result (λ turns. All (IsTurnOver logs.now) turns.items) }
-    ensures count { IfOk result (λ turns. length turns.items ≡ length told.now) }
+    ensures count { IfOk result (λ turns. length turns.items ≡ length parsed.now) }
 {
     let mut turns = Vec::new(alloc);
-    for told in told {
-        let turn = turn(logs, told)?;
+    for parsed in parsed {
+        let turn = turn(logs, parsed)?;
         if turns.push(turn).is_err() {
             return Err(CertFault::Memory);
         }
@@ -86,19 +86,19 @@ fn turns<'a>(
 pub fn certificate<'a>(
     alloc: Global,
     logs: &'a Logs<'_>,
-    told: CertificateTold<'_, 'a>,
+    parsed: ParsedCertificate<'_, 'a>,
 ) -> Result<Certificate<'a>, CertFault>
-    ensures reads { Gives result (certificate_over logs.now told.entry) }
+    ensures reads { Gives result (certificate_over logs.now parsed.entry) }
     ensures over { IfOk result (λ cert. IsOver logs.now cert) }
-    ensures count { IfOk result (λ cert. length cert.turns ≡ length told.entry.turns) }
+    ensures count { IfOk result (λ cert. length cert.turns ≡ length parsed.entry.turns) }
 {
-    let client = client_named(logs, told.client).ok_or(CertFault::UnknownTap)?;
-    let turns = turns(alloc, logs, told.turns.as_slice())?;
-    let pid = String::from_str(alloc, told.pid)?;
+    let client = client_named(logs, parsed.client).ok_or(CertFault::UnknownTap)?;
+    let turns = turns(alloc, logs, parsed.turns.as_slice())?;
+    let pid = String::from_str(alloc, parsed.pid)?;
     Ok(Certificate {
         pid,
         client,
         turns,
-        spans: told.spans,
+        spans: parsed.spans,
     })
 }

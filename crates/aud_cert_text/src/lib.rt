@@ -20,7 +20,7 @@
 mod fault;
 mod lend;
 mod read;
-mod told;
+mod parsed;
 mod within;
 mod write;
 

@@ -4,14 +4,14 @@ ghost use Rattle.std.specs.List.{list_all};
 ghost use Rattle.serde_json.specs.View.{view};
 ghost use Rattle.aud_tap.specs.TapName.{is_tap_name};
 ghost use Rattle.aud_cert_text.specs.Steps.{Gives, Fails};
-ghost use Rattle.aud_cert_text.specs.Told.{TurnTold};
+ghost use Rattle.aud_cert_text.specs.Parsed.{ParsedTurn};
 ghost use Rattle.aud_cert.specs.Certificate.{IsOver};
 ghost use Rattle.aud_cert_text.specs.Sound.{IsSound};
 ghost use Rattle.aud_cert_text.specs.Reading.{json_of, is_formed, certificate_in, certificate_of};
 
 use crate::fault::CertFault;
 use crate::lend::certificate;
-use crate::told::{CertificateTold, TurnTold, told};
+use crate::parsed::{ParsedCertificate, ParsedTurn, parsed};
 use crate::within::is_within;
 use aud_cert::Certificate;
 use aud_node::Logs;
@@ -34,23 +34,23 @@ fn json(alloc: Global, text: &[u8]) -> Result<Value, CertFault>
     }
 }
 
-fn are_nodes_named(turns: &[TurnTold<'_>]) -> bool
-    ensures { result ≡ list_all (λ (t : TurnTold). is_tap_name t.node) turns.now }
+fn are_nodes_named(turns: &[ParsedTurn<'_>]) -> bool
+    ensures { result ≡ list_all (λ (t : ParsedTurn). is_tap_name t.node) turns.now }
 {
     turns.iter().all(|turn| is_tap_name(turn.node))
 }
 
 /// There is a turn, and the pid and the names are of the form that they have in a bundle.
-fn is_formed(told: &CertificateTold<'_, '_>) -> bool
-    ensures { result ≡ is_formed told.now }
+fn is_formed(parsed: &ParsedCertificate<'_, '_>) -> bool
+    ensures { result ≡ is_formed parsed.now }
 {
-    if told.turns.as_slice().is_empty() {
+    if parsed.turns.as_slice().is_empty() {
         return false;
     }
-    if !is_session_id(told.pid) || !is_tap_name(told.client) {
+    if !is_session_id(parsed.pid) || !is_tap_name(parsed.client) {
         return false;
     }
-    are_nodes_named(told.turns.as_slice())
+    are_nodes_named(parsed.turns.as_slice())
 }
 
 /// The certificate of a text, which lends its names and records from the logs. Unknown keys are passed over, and of a
@@ -83,11 +83,11 @@ fn certificate_in<'a>(
     ensures some { IfOk result (λ cert. 0 < length cert.turns) }
     ensures sound { IfOk result (λ cert. IsSound logs.now cert) }
 {
-    let told = told(alloc, d)?;
-    if !is_formed(&told) {
+    let parsed = parsed(alloc, d)?;
+    if !is_formed(&parsed) {
         return Err(CertFault::Syntax);
     }
-    let cert = certificate(alloc, logs, told)?;
+    let cert = certificate(alloc, logs, parsed)?;
     if !is_within(logs, &cert) {
         return Err(CertFault::Range);
     }

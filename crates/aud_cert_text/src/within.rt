@@ -2,7 +2,7 @@
 ghost use Rattle.std.specs.Prelude.{◌≡◌, length};
 ghost use Rattle.std.specs.List.{list_all};
 ghost use Rattle.aud_cert.specs.Certificate.{log_named};
-ghost use Rattle.aud_cert_text.specs.Reading.{is_turn_within, is_span_within, is_within};
+ghost use Rattle.aud_cert_text.specs.Reading.{is_turn_within, is_span_within, is_certificate_within};
 
 use crate::lend::node_named;
 use aud_cert::{Certificate, Turn};
@@ -68,7 +68,7 @@ fn are_spans_within(logs: &Logs<'_>, spans: &[Span<'_>]) -> bool
 
 /// No record is past its log's end, no position past the stream's, and each turn and each span has some.
 pub fn is_within(logs: &Logs<'_>, cert: &Certificate<'_>) -> bool
-    ensures { result ≡ is_within logs.now cert.now }
+    ensures { result ≡ is_certificate_within logs.now cert.now }
 {
     if !are_turns_within(logs, cert.turns.as_slice()) {
         return false;

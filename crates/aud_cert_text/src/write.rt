@@ -5,7 +5,7 @@ ghost use Rattle.aud_node.specs.Cluster.{Cluster};
 ghost use Rattle.aud_cert_text.specs.declared.fault.CertFault.TheVariants.{Memory};
 ghost use Rattle.aud_cert_text.specs.Reading.{json_of, certificate_of};
 ghost use Rattle.aud_cert_text.specs.Sound.{IsSound};
-ghost use Rattle.aud_cert_text.specs.Text.{items, span_data, turn_data, certificate_data, text_of};
+ghost use Rattle.aud_cert_text.specs.Text.{items, span_data, turn_data, certificate_data, certificate_text};
 
 use crate::fault::CertFault;
 use aud_cert::{Certificate, Turn};
@@ -57,7 +57,7 @@ fn certificate_value(alloc: Global, cert: &Certificate<'_>) -> Result<Value, All
 }
 
 fn certificate_json(alloc: Global, cert: &Certificate<'_>) -> Result<String, AllocError>
-    ensures text { IfOk result (λ text. string_bytes text ≡ text_of cert.now) }
+    ensures text { IfOk result (λ text. string_bytes text ≡ certificate_text cert.now) }
     ensures reads { IfOk result (λ text. json_of (string_bytes text) ≡ Ok (certificate_data cert.now)) }
 {
     let value = certificate_value(alloc, cert)?;
@@ -67,7 +67,7 @@ fn certificate_json(alloc: Global, cert: &Certificate<'_>) -> Result<String, All
 /// The text of a certificate: one line of JSON without blanks and without a newline, its keys in byte order. Its records
 /// are not written. The one error is `Memory`.
 pub fn write_cert(alloc: Global, cert: &Certificate<'_>) -> Result<String, CertFault>
-    ensures written { IfOk result (λ text. string_bytes text ≡ text_of cert.now) }
+    ensures written { IfOk result (λ text. string_bytes text ≡ certificate_text cert.now) }
     ensures refused { IfErr result (λ e. e ≡ Memory) }
     ensures reads_back { IfOk result (λ text. (c : Cluster) → IsSound c cert.now → certificate_of c (string_bytes text) ≡ Ok cert.now) }
 {

@@ -16,7 +16,8 @@ use Rattle.aud_cert.specs.Certificate.{TurnSeen, CertificateSeen, IsTurnOver, tu
 use Rattle.aud_rooms.specs.TurnPlaces.{IsInOrder}
 use Rattle.aud_rooms.specs.TurnsDue.{greatest_high}
 use Rattle.aud_rooms.specs.Spans.{first_low}
-use Rattle.aud_check.specs.Shown.{opened_sid, opened_nsp, who_in, who_of, shown_low, shown_high, slices_at}
+use Rattle.aud_check.specs.Shown.{opened_sid, opened_nsp, who_in, who_of, slices_at}
+use Rattle.aud_check.specs.Private.ShownBounds.{first_shown_low, greatest_shown_high}
 use Rattle.aud_check.specs.TurnRefusals.{is_begun_by, IsTurnAccepted, AreTurnsAccepted}
 use Rattle.aud_check.proofs.Slices.{within_at, between-more}
 use Rattle.aud_check.proofs.TurnRefusals.{begun-some, from_within, from_to}
@@ -124,12 +125,12 @@ pub are_turns : (c : Cluster) (cert : CertificateSeen) → All (IsTurnOver c) ce
 are_turns c cert over all = turns_named c cert.pid cert.turns over all
 
 -- where accepted turns start, and how far they reach
-pub lows : (c : Cluster) (pid : Text) (k : ℕ) (turns : List TurnSeen) → AcceptedFrom c pid k turns → shown_low turns ≡ first_low (slices_at c turns)
+pub lows : (c : Cluster) (pid : Text) (k : ℕ) (turns : List TurnSeen) → AcceptedFrom c pid k turns → first_shown_low turns ≡ first_low (slices_at c turns)
 lows c pid k [] all = refl
 lows c pid k (t ∷ later) (is, others) = is.cursors.low_is
 
-pub highs : (c : Cluster) (pid : Text) (k : ℕ) (turns : List TurnSeen) → AcceptedFrom c pid k turns → shown_high turns ≡ greatest_high (slices_at c turns)
+pub highs : (c : Cluster) (pid : Text) (k : ℕ) (turns : List TurnSeen) → AcceptedFrom c pid k turns → greatest_shown_high turns ≡ greatest_high (slices_at c turns)
 highs c pid k [] all = refl
 highs c pid k (t ∷ later) (is, others) =
-    ap (λ n. max n (shown_high later)) is.cursors.high_is
+    ap (λ n. max n (greatest_shown_high later)) is.cursors.high_is
     ∙ ap (λ n. max (slice_of c (turn_at c t)).high n) (highs c pid (suc k) later others)

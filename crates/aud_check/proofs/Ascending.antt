@@ -6,7 +6,7 @@ use Rattle.std.proofs.lemmas.List.{get_or_append_left}
 use Rattle.std.proofs.lemmas.List.Kept.{AllPairs-from_increasing, IsStrictlyIncreasing-filter}
 use Rattle.aud_node.specs.Stream.{positions_after}
 use Rattle.aud_merge.specs.ByTurns.{IsPrefixOf}
-use Rattle.aud_check.specs.Ascending.{IsAscending}
+use Rattle.aud_check.specs.Private.Ascending.{IsAscending}
 
 get_or-positions : (p count k d : ℕ) → k < count → get_or (positions_after p count) k d ≡ p + k + 1
 get_or-positions p zero k d h = absurd (omega arith)

@@ -12,50 +12,51 @@ use Rattle.aud_node.specs.Cluster.{Cluster}
 use Rattle.aud_node.specs.NodeTaps.{client_at}
 use Rattle.aud_rooms.specs.Turns.{Who}
 use Rattle.aud_cert.specs.Certificate.{place_named}
-use Rattle.aud_client.specs.Told.{StaySeen, FrameSeen}
-use Rattle.aud_client.specs.Received.{ReceivedSeen, received_of, received_list, stays_naming, frames_by_stay, are_in}
-use Rattle.aud_check.specs.Client.{case_for, told_named}
+use Rattle.aud_client.specs.StaySeen.{StaySeen, FrameSeen}
+use Rattle.aud_client.specs.Received.{TranscriptSeen, transcript_of, received_list, stays_naming, frames_by_stay, are_in_namespace}
+use Rattle.aud_check.specs.Client.{case_for}
+use Rattle.aud_check.specs.Private.ClientCheck.{transcript_named}
 use Rattle.aud_check.specs.Faults.{Case}
 use Rattle.aud_check.specs.NamedStays.{are_of_session, is_of_session, is_empty, has_sid}
 use Rattle.aud_check.specs.Shown.{recs_or_none}
-use Rattle.aud_check.specs.Wrong.{by_stays}
+use Rattle.aud_check.specs.Private.Wrong.{by_stays}
 
-all_in : (who : Who) (stays : List StaySeen) → list_all (is_of_session who) stays ≡ true → are_in who.nsp stays ≡ true
+all_in : (who : Who) (stays : List StaySeen) → list_all (is_of_session who) stays ≡ true → are_in_namespace who.nsp stays ≡ true
 all_in who [] all = refl
 all_in who (stay ∷ stays) all =
     let (first, rest) = and_parts (is_of_session who stay) (list_all (is_of_session who) stays) all in
     let (same, named) = and_parts (bytes_eq stay.nsp who.nsp) (has_sid who.sid stay.reply) first in
-    ap (λ b. b && are_in who.nsp stays) same ∙ all_in who stays rest
+    ap (λ b. b && are_in_namespace who.nsp stays) same ∙ all_in who stays rest
 
 -- what a tap tells is told by its records
-pub told_recs : (c : Cluster) (client : Text) (t : ReceivedSeen) → Some t ≡ told_named c client
-    → (recs : List ClientRec) × (client_at c (place_named c client) ≡ Some recs) × (t ≡ received_of c.stream recs)
+pub told_recs : (c : Cluster) (client : Text) (t : TranscriptSeen) → Some t ≡ transcript_named c client
+    → (recs : List ClientRec) × (client_at c (place_named c client) ≡ Some recs) × (t ≡ transcript_of c.stream recs)
 told_recs c client t is = go (client_at c (place_named c client)) refl is
   where
-    go : (o : Option (List ClientRec)) → client_at c (place_named c client) ≡ o → Some t ≡ option_map (received_of c.stream) o
-        → (recs : List ClientRec) × (client_at c (place_named c client) ≡ Some recs) × (t ≡ received_of c.stream recs)
-    go None at told = absurd (none-some t (sym told))
-    go (Some recs) at told = (recs, at, ap (λ o. unwrap_or o t) told)
+    go : (o : Option (List ClientRec)) → client_at c (place_named c client) ≡ o → Some t ≡ option_map (transcript_of c.stream) o
+        → (recs : List ClientRec) × (client_at c (place_named c client) ≡ Some recs) × (t ≡ transcript_of c.stream recs)
+    go None at transcript = absurd (none-some t (sym transcript))
+    go (Some recs) at transcript = (recs, at, ap (λ o. unwrap_or o t) transcript)
 
 -- the stays of one session are in one namespace
-pub one_namespace : (who : Who) (stays : List StaySeen) → are_of_session who stays ≡ true → are_in who.nsp stays ≡ true
+pub one_namespace : (who : Who) (stays : List StaySeen) → are_of_session who stays ≡ true → are_in_namespace who.nsp stays ≡ true
 one_namespace who stays is = all_in who stays (and_parts (not (is_empty stays)) (list_all (is_of_session who) stays) is).1
 
 module _ (c : Cluster) (client : Text) (who : Who) (due : List ℕ) where
   -- the case of a tap with these records, where these are the frames
   abbrev case_with : List ClientRec → List FrameSeen → Case
   case_with recs frames =
-      record { stream = c.stream; told = received_of c.stream recs; stays = stays_naming who.pid (received_of c.stream recs).stays; frames = frames; due = due }
+      record { stream = c.stream; transcript = transcript_of c.stream recs; stays = stays_naming who.pid (transcript_of c.stream recs).stays; frames = frames; due = due }
 
   -- where the stays of the named tap are of one session, the list by place is the list by stays
-  pub case_by_stays : ((stream : List StreamRec) (recs : List ClientRec) (pid nsp : Text) → are_in nsp (stays_naming pid (received_of stream recs).stays) ≡ true → received_list stream recs pid ≡ frames_by_stay pid (received_of stream recs).stays)
-      → (tap : ReceivedSeen) → Some tap ≡ told_named c client → (stream : List StreamRec) (told : ReceivedSeen) (stays : List StaySeen)
-      → stream ≡ c.stream → told ≡ tap → stays ≡ stays_naming who.pid tap.stays → are_of_session who stays ≡ true → by_stays stream told stays due ≡ case_for c client who.pid due
-  case_by_stays law tap is stream told stays of_c of_tap own named =
+  pub case_by_stays : ((stream : List StreamRec) (recs : List ClientRec) (pid nsp : Text) → are_in_namespace nsp (stays_naming pid (transcript_of stream recs).stays) ≡ true → received_list stream recs pid ≡ frames_by_stay pid (transcript_of stream recs).stays)
+      → (tap : TranscriptSeen) → Some tap ≡ transcript_named c client → (stream : List StreamRec) (transcript : TranscriptSeen) (stays : List StaySeen)
+      → stream ≡ c.stream → transcript ≡ tap → stays ≡ stays_naming who.pid tap.stays → are_of_session who stays ≡ true → by_stays stream transcript stays due ≡ case_for c client who.pid due
+  case_by_stays law tap is stream transcript stays of_c of_tap own named =
       let (recs, at, tells) = told_recs c client tap is in
-      let its : stays ≡ stays_naming who.pid (received_of c.stream recs).stays = own ∙ ap (λ (r : ReceivedSeen). stays_naming who.pid r.stays) tells in
-      let one = one_namespace who (stays_naming who.pid (received_of c.stream recs).stays) (subst (λ ss. are_of_session who ss ≡ true) its named) in
-      ap (λ s. by_stays s told stays due) of_c
+      let its : stays ≡ stays_naming who.pid (transcript_of c.stream recs).stays = own ∙ ap (λ (r : TranscriptSeen). stays_naming who.pid r.stays) tells in
+      let one = one_namespace who (stays_naming who.pid (transcript_of c.stream recs).stays) (subst (λ ss. are_of_session who ss ≡ true) its named) in
+      ap (λ s. by_stays s transcript stays due) of_c
       ∙ ap (λ t. by_stays c.stream t stays due) (of_tap ∙ tells)
-      ∙ ap (λ ss. by_stays c.stream (received_of c.stream recs) ss due) its
+      ∙ ap (λ ss. by_stays c.stream (transcript_of c.stream recs) ss due) its
       ∙ sym (ap (λ o. case_with (recs_or_none o) (received_list c.stream (recs_or_none o) who.pid)) at ∙ ap (case_with recs) (law c.stream recs who.pid who.nsp one))

@@ -3,9 +3,9 @@ use Rattle.std.proofs.Common.{◌≡◌, ◌<◌, ◌≤◌, ◌-◌, ℕ, zero,
 use Rattle.std.specs.List.{list_all}
 use Rattle.std.proofs.lemmas.Bool.{cases_lt, le-leb, lt-leb, lt-ltb, le-ltb}
 use Rattle.std.proofs.Math.Bool.{and-false}
-use Rattle.aud_client.specs.Told.{FrameSeen}
-use Rattle.aud_check.specs.Ascending.{IsAscending, is_cut, is_cut_or_not}
-use Rattle.aud_check.specs.Frames.{is_between}
+use Rattle.aud_client.specs.StaySeen.{FrameSeen}
+use Rattle.aud_check.specs.Private.Ascending.{IsAscending, is_cut, is_cut_or_not}
+use Rattle.aud_check.specs.Frames.{is_cut_at}
 
 front_all : (q : ℕ) (xs : List ℕ) (count : ℕ) → ((i : ℕ) → i < count → i < length xs → get_or xs i 0 ≤ q) → list_all (λ p. nat_le p q) (take count xs) ≡ true
 front_all q [] zero all = refl
@@ -51,7 +51,7 @@ module _ (xs : List ℕ) (count q : ℕ) (ascending : IsAscending xs) (within : 
       go (inl past) = lt-ltb q (get_or xs count 0) past ∙ sym (back_all q xs count (λ i a b. above i a b (cases_lt count i)))
         where
           above : (i : ℕ) → count ≤ i → i < length xs → (count < i) ⊎ (i ≤ count) → q < get_or xs i 0
-          above i a b (inl behind) = let x = ascending count i 0 behind b in omega (arith, x, past)
+          above i a b (inl after) = let x = ascending count i 0 after b in omega (arith, x, past)
           above i a b (inr at) = let same : count ≡ i = omega arith in let x = ap (λ k. get_or xs k 0) same in omega (arith, x, past)
       go (inr upto) = le-ltb q (get_or xs count 0) upto ∙ sym (back_some q xs count more upto)
 
@@ -78,7 +78,7 @@ from_there f [] [] = refl
 from_there f [] (y ∷ onward) = ap (λ b. f (position_of y) && b) (from_there f [] onward)
 from_there f (x ∷ before) onward = from_there f before onward
 
-pub is_between-cut : (before onward : List FrameSeen) (o : Option ℕ) → is_between before onward o ≡ is_cut_or_not (map position_of (before ++ onward)) (length before) o
+pub is_between-cut : (before onward : List FrameSeen) (o : Option ℕ) → is_cut_at before onward o ≡ is_cut_or_not (map position_of (before ++ onward)) (length before) o
 is_between-cut before onward None = refl
 is_between-cut before onward (Some q) =
     ap (λ b. b && list_all (λ (frame : FrameSeen). nat_lt q frame.position) onward) (sym (in_front (λ p. nat_le p q) before onward))

@@ -10,12 +10,13 @@ use Rattle.aud_check.specs.declared.received.Wrong.TheVariants as found
 use Rattle.aud_merge.specs.ByTurns.{IsPrefixOf}
 use Rattle.aud_check.specs.Compare.{mismatch}
 use Rattle.aud_check.specs.Frames.{AreEntries, wrong_window}
-use Rattle.aud_check.specs.Faults.{Case, HasFault, IsFirstFault, fault_of, fault_rank, positions_in}
-use Rattle.aud_check.specs.Wrong.{IsFault, IsFirstWrong}
+use Rattle.aud_check.specs.Faults.{Case, HasFault, fault_of, fault_rank, positions_in}
+use Rattle.aud_check.specs.Private.FirstFault.{IsFirstFault}
+use Rattle.aud_check.specs.Private.Wrong.{IsFault, IsFirstWrong}
 use Rattle.aud_check.proofs.Agreed.{mismatch-none}
 use Rattle.aud_check.proofs.Ranks.{no_mismatch, what_is_left}
 
-module _ (case : Case) (decodes : case.told.bad ≡ None) (has_no_orphan : case.told.orphan ≡ false) (are_entries : AreEntries case.stream case.frames) where
+module _ (case : Case) (decodes : case.transcript.bad ≡ None) (has_no_orphan : case.transcript.orphan ≡ false) (are_entries : AreEntries case.stream case.frames) where
   -- none of the faults in front of a mismatch
   none_in_front : (other : Fault) → fault_rank other < 3 → HasFault case other → ⊥
   none_in_front other before h =

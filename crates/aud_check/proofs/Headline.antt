@@ -15,7 +15,7 @@ use Rattle.aud_check.specs.declared.refusal.Refusal.TheVariants.{Received, Memor
 use Rattle.aud_check.specs.Faults.{HasFault, mismatch_fault, positions_in}
 use Rattle.aud_check.specs.Shown.{who_of, turns_of, shown_due}
 use Rattle.aud_check.specs.TurnRefusals.{AreTurnsAccepted}
-use Rattle.aud_check.specs.Refusals.{Place, AtTurn, AtWhole, Refuses, IsFirst, IsFirstRefusal, IsMismatch, case_of}
+use Rattle.aud_check.specs.Refusals.{Place, AtTurn, AtWhole, Refuses, RefusesFirst, IsFirstRefusal, IsMismatch, certificate_case}
 use Rattle.aud_check.proofs.AcceptedTurns.{all_accepted, are_turns}
 use Rattle.aud_check.proofs.Prefixes.{prefix_of_prefix}
 use Rattle.aud_check.proofs.Ranks.{no_mismatch}
@@ -28,22 +28,22 @@ carried P {lent} {c} {parts} {cert} same is holds = subst (λ l. P l cert) same 
 module _ (c : Cluster) (cert : CertificateSeen) where
   -- the received positions are a prefix of what is due in every run
   pub in_every_run : ((c : Cluster) (run : List Step) (who : Who) (turns : List Turn) → IsRun c run → AreTurns c who 0 turns → IsPrefixOf (turns_due c.stream who (map (slice_of c) turns)) (due c run who.pid))
-      → IsOver c cert → AreTurnsAccepted c cert.pid cert.turns → IsPrefixOf (positions_in (case_of c cert)) (shown_due c cert)
-      → (run : List Step) → IsRun c run → IsPrefixOf (positions_in (case_of c cert)) (due c run cert.pid)
+      → IsOver c cert → AreTurnsAccepted c cert.pid cert.turns → IsPrefixOf (positions_in (certificate_case c cert)) (shown_due c cert)
+      → (run : List Step) → IsRun c run → IsPrefixOf (positions_in (certificate_case c cert)) (due c run cert.pid)
   in_every_run law over accepted prefix run is =
-      prefix_of_prefix (positions_in (case_of c cert)) (shown_due c cert) (due c run cert.pid) prefix
+      prefix_of_prefix (positions_in (certificate_case c cert)) (shown_due c cert) (due c run cert.pid) prefix
       (law c run (who_of cert) (turns_of c cert) is (are_turns c cert over (all_accepted c cert.pid cert.turns accepted)))
 
   -- a fault that is the first refusal holds
-  holds : (f : Fault) → IsFirst c cert (Received f) → HasFault (case_of c cert) f
+  holds : (f : Fault) → RefusesFirst c cert (Received f) → HasFault (certificate_case c cert) f
   holds f is = go is.place is.refuses
     where
-      go : (place : Place) → Refuses c cert place (Received f) → HasFault (case_of c cert) f
+      go : (place : Place) → Refuses c cert place (Received f) → HasFault (certificate_case c cert) f
       go (AtTurn k) (t, at, h) = absurd h
       go AtWhole h = h
 
   -- where a mismatch is refused, it is the fault
-  refused_mismatch : (refusal : Refusal) → IsMismatch refusal → IsFirst c cert refusal → (f : Fault) × (mismatch_fault (case_of c cert) ≡ Some f)
+  refused_mismatch : (refusal : Refusal) → IsMismatch refusal → RefusesFirst c cert refusal → (f : Fault) × (mismatch_fault (certificate_case c cert) ≡ Some f)
   refused_mismatch (Received (fault.Extra off)) about is = (fault.Extra off, holds (fault.Extra off) is)
   refused_mismatch (Received (fault.Doubled off)) about is = (fault.Doubled off, holds (fault.Doubled off) is)
   refused_mismatch (Received (fault.Swapped off)) about is = (fault.Swapped off, holds (fault.Swapped off) is)
@@ -51,15 +51,15 @@ module _ (c : Cluster) (cert : CertificateSeen) where
   refused_mismatch _ about is = absurd about
 
   -- of the whole chain, a mismatch says that in no run they are
-  pub in_no_run : (refusal : Refusal) → IsFirst c cert refusal → IsMismatch refusal
+  pub in_no_run : (refusal : Refusal) → RefusesFirst c cert refusal → IsMismatch refusal
       → ((c : Cluster) (run : List Step) (who : Who) (turns : List Turn) → IsRun c run → IsChain c who turns → due c run who.pid ≡ turns_due c.stream who (map (slice_of c) turns))
-      → IsChain c (who_of cert) (turns_of c cert) → (run : List Step) → IsRun c run → IsPrefixOf (positions_in (case_of c cert)) (due c run cert.pid) → ⊥
+      → IsChain c (who_of cert) (turns_of c cert) → (run : List Step) → IsRun c run → IsPrefixOf (positions_in (certificate_case c cert)) (due c run cert.pid) → ⊥
   in_no_run refusal is about law chain run of_logs prefix =
       let (f, found) = refused_mismatch refusal about is in
       let same = law c run (who_of cert) (turns_of c cert) of_logs chain in
-      no_mismatch (case_of c cert) ((mismatch-none (positions_in (case_of c cert)) (shown_due c cert)).1 (subst (IsPrefixOf (positions_in (case_of c cert))) same prefix)) f found
+      no_mismatch (certificate_case c cert) ((mismatch-none (positions_in (certificate_case c cert)) (shown_due c cert)).1 (subst (IsPrefixOf (positions_in (certificate_case c cert))) same prefix)) f found
 
 -- a mismatch is no want of memory
-pub first_of_all : (c : Cluster) (cert : CertificateSeen) (refusal : Refusal) → IsMismatch refusal → IsFirstRefusal c cert refusal → IsFirst c cert refusal
+pub first_of_all : (c : Cluster) (cert : CertificateSeen) (refusal : Refusal) → IsMismatch refusal → IsFirstRefusal c cert refusal → RefusesFirst c cert refusal
 first_of_all c cert Memory about is = absurd about
 first_of_all c cert _ about is = is

@@ -8,15 +8,18 @@ use Rattle.aud_rooms.specs.Spans.{RoomSpan, AreSpansOfTurns}
 use Rattle.aud_cert.specs.Certificate.{CertificateSeen, TurnSeen}
 use Rattle.aud_check.specs.declared.refusal.Refusal.{Refusal}
 use Rattle.aud_check.specs.declared.refusal.Refusal.TheVariants.{Span, Names, Received, Memory}
-use Rattle.aud_check.specs.Client.{case_for, IsClientRefusal}
+use Rattle.aud_check.specs.Client.{case_for}
+use Rattle.aud_check.specs.Private.ClientCheck.{IsClientRefusal}
 use Rattle.aud_check.specs.Faults.{Case, IsReceived}
 use Rattle.aud_check.specs.NamedStays.{are_of_session}
 use Rattle.aud_check.specs.Shown.{slices_at, slices_of, who_in, who_of, shown_due}
-use Rattle.aud_check.specs.TurnRefusals.{AreTurnsAccepted, IsFirstOfTurns}
-use Rattle.aud_check.specs.Refusals.{IsFirst, IsFirstRefusal, IsAccepted, case_of, seen_as}
+use Rattle.aud_check.specs.TurnRefusals.{AreTurnsAccepted}
+use Rattle.aud_check.specs.Private.TurnCheck.{IsFirstOfTurns}
+use Rattle.aud_check.specs.Refusals.{RefusesFirst, IsFirstRefusal, IsAccepted, certificate_case}
+use Rattle.aud_check.specs.Private.Parts.{seen_as}
 use Rattle.aud_check.proofs.Ranks.{first_of_turns, first_span, first_names, first_fault}
 
-pub first_refusal : (c : Cluster) (cert : CertificateSeen) (refusal : Refusal) → IsFirst c cert refusal → IsFirstRefusal c cert refusal
+pub first_refusal : (c : Cluster) (cert : CertificateSeen) (refusal : Refusal) → RefusesFirst c cert refusal → IsFirstRefusal c cert refusal
 first_refusal c cert Memory is = tt
 first_refusal c cert _ is = is
 
@@ -25,7 +28,7 @@ turns_first c cert refusal is = first_refusal c cert refusal (first_of_turns c c
 
 -- where turns and spans are right, a refusal of the tap is the first
 pub client_first : (c : Cluster) (cert : CertificateSeen) → AreTurnsAccepted c cert.pid cert.turns → AreSpansOfTurns c.stream (who_of cert) (slices_of c cert) cert.spans
-    → (refusal : Refusal) → IsClientRefusal (who_of cert) (case_of c cert) refusal → IsFirstRefusal c cert refusal
+    → (refusal : Refusal) → IsClientRefusal (who_of cert) (certificate_case c cert) refusal → IsFirstRefusal c cert refusal
 client_first c cert turns spans Names h = first_names c cert turns (λ not. not spans) h
 client_first c cert turns spans (Received f) (named, first) = first_fault c cert turns (λ not. not spans) (λ h. true≢false (sym named ∙ h)) f first
 client_first c cert turns spans Memory h = tt
@@ -47,14 +50,14 @@ module _ (c : Cluster) (who : Who) (client : Text) (turns : List TurnSeen) (span
     due_is : due ≡ shown_due c cert
     due_is = is ∙ ap (λ (w : Who). turns_due c.stream w (slices_at c turns)) named
 
-    case_same : case_for c client who.pid due ≡ case_of c cert
+    case_same : case_for c client who.pid due ≡ certificate_case c cert
     case_same = ap (case_for c client who.pid) due_is
 
     pub refused_first : AreTurnsAccepted c who.pid turns → AreSpansOfTurns c.stream who (slices_at c turns) spans
         → (refusal : Refusal) → IsClientRefusal who (case_for c client who.pid due) refusal → IsFirstRefusal c cert refusal
     refused_first accepted are refusal h =
         client_first c cert accepted (spans_are are) refusal
-        (subst (λ (w : Who). IsClientRefusal w (case_of c cert) refusal) named (subst (λ (case : Case). IsClientRefusal who case refusal) case_same h))
+        (subst (λ (w : Who). IsClientRefusal w (certificate_case c cert) refusal) named (subst (λ (case : Case). IsClientRefusal who case refusal) case_same h))
 
     pub judged : AreTurnsAccepted c who.pid turns → AreSpansOfTurns c.stream who (slices_at c turns) spans
         → are_of_session who (case_for c client who.pid due).stays ≡ true → IsReceived (case_for c client who.pid due) → IsAccepted c cert
@@ -62,7 +65,7 @@ module _ (c : Cluster) (who : Who) (client : Text) (turns : List TurnSeen) (span
         record {
           are_turns = accepted;
           are_spans = spans_are are;
-          are_named = subst (λ (w : Who). are_of_session w (case_of c cert).stays ≡ true) named (subst (λ (case : Case). are_of_session who case.stays ≡ true) case_same of_session);
+          are_named = subst (λ (w : Who). are_of_session w (certificate_case c cert).stays ≡ true) named (subst (λ (case : Case). are_of_session who case.stays ≡ true) case_same of_session);
           is_received = subst IsReceived case_same received;
         }
 

@@ -8,7 +8,7 @@ use Rattle.aud_tap.specs.declared.records.NodeRec.{NodeRec}
 use Rattle.aud_tap.specs.declared.records.NodeRec.TheVariants.{Opened, Broke, Back, Gone}
 use Rattle.aud_node.specs.Lists.{between, numbers_from}
 use Rattle.aud_node.specs.Stream.{Text}
-use Rattle.aud_node.specs.OwnRecords.{names, own_numbers}
+use Rattle.aud_node.specs.OwnRecords.{record_names, own_numbers}
 use Rattle.aud_rooms.specs.TurnPlaces.{is_between, own_between}
 use Rattle.aud_rooms.specs.Turns.{Part, Inner, Last, Foreign, End, ByBreak, ByGone, ByLog, part_of, end_past, turn_end}
 use Rattle.aud_check.proofs.Slices.{within_at, between-more, between-past}
@@ -29,14 +29,14 @@ own_end pid k log to [] = Some ByLog
 own_end pid k log to (n ∷ ns) = numbered_end (part_at pid k (slice_get log n)) (nat_eq (n + 1) to) (own_end pid k log to ns)
 
 -- a record that doesn't name the session stands inside
-pub inner_of_others : (pid : Text) (k : ℕ) (rec : NodeRec) → names (Some rec) pid ≡ false → part_of pid k rec ≡ Inner
+pub inner_of_others : (pid : Text) (k : ℕ) (rec : NodeRec) → record_names (Some rec) pid ≡ false → part_of pid k rec ≡ Inner
 inner_of_others pid k (Opened other sid nsp) e = ap (λ b. cond b Foreign Inner) e
 inner_of_others pid k (Broke other number) e = ap (λ b. cond b (cond (nat_eq number k) (Last ByBreak) Foreign) Inner) e
 inner_of_others pid k (Back other number) e = ap (λ b. cond b Foreign Inner) e
 inner_of_others pid k (Gone other) e = ap (λ b. cond b (Last ByGone) Inner) e
 inner_of_others pid k _ e = refl
 
--- a number that isn't kept, behind another test
+-- a number that isn't kept, after another test
 left_out : (test : ℕ → Bool) (a : ℕ) (rest : List ℕ) (b : Bool) → test a ≡ false → filter test (cond b (a ∷ rest) rest) ≡ filter test rest
 left_out test a rest true e = ap (λ c. cond c (a ∷ filter test rest) (filter test rest)) e
 left_out test a rest false e = refl
@@ -56,14 +56,14 @@ inside : (from to n : ℕ) → from ≤ n → n < to → is_between from to n �
 inside from to n h g = ap (λ b. b && nat_lt n to) (le-leb from n h) ∙ le-leb (suc n) to (omega arith)
 
 module _ (pid : Text) (k : ℕ) (log : List NodeRec) (from to : ℕ) where
-  -- the number behind the last record
+  -- the number after the last record
   abbrev last : ℕ
   last = min to (length log)
 
   abbrev own : ℕ → Bool
-  own number = names (slice_get log number) pid
+  own number = record_names (slice_get log number) pid
 
-  -- what a record makes of the end behind it, by its number or by the records behind it
+  -- what a record makes of the end after it, by its number or by the records after it
   numbered : (i : ℕ) (part : Part) (rest : Option End) → i < to → i < length log → numbered_end part (nat_eq (i + 1) last) rest ≡ end_past part (between log (suc i) to) rest
   numbered i Inner rest h g = refl
   numbered i Foreign rest h g = refl
@@ -83,7 +83,7 @@ module _ (pid : Text) (k : ℕ) (log : List NodeRec) (from to : ℕ) where
   EndsFrom a numbers = own_end pid k log last (filter (is_between from to) numbers) ≡ turn_end pid k (between log (max from a) to)
 
   -- one record in front, by where it stands
-  step : (a : ℕ) (rec : NodeRec) → slice_get log a ≡ Some rec → (rest : List ℕ) → EndsFrom (suc a) rest → (b : Bool) → names (Some rec) pid ≡ b
+  step : (a : ℕ) (rec : NodeRec) → slice_get log a ≡ Some rec → (rest : List ℕ) → EndsFrom (suc a) rest → (b : Bool) → record_names (Some rec) pid ≡ b
       → (a < from) ⊎ (from ≤ a) → (a < to) ⊎ (to ≤ a) → EndsFrom a (cond b (a ∷ rest) rest)
   step a rec at rest ih b named (inl low) upto =
       let same : max from (suc a) ≡ max from a = omega arith in
@@ -103,15 +103,15 @@ module _ (pid : Text) (k : ℕ) (log : List NodeRec) (from to : ℕ) where
       kept : List ℕ
       kept = filter (is_between from to) rest
 
-      behind : Option End
-      behind = turn_end pid k (between log (suc a) to)
+      after : Option End
+      after = turn_end pid k (between log (suc a) to)
 
-      go : (b : Bool) → names (Some rec) pid ≡ b → own_end pid k log last kept ≡ behind → own_end pid k log last (cond b (a ∷ kept) kept) ≡ end_past (part_of pid k rec) (between log (suc a) to) behind
+      go : (b : Bool) → record_names (Some rec) pid ≡ b → own_end pid k log last kept ≡ after → own_end pid k log last (cond b (a ∷ kept) kept) ≡ end_past (part_of pid k rec) (between log (suc a) to) after
       go true is ih =
           ap (λ o. numbered_end (part_at pid k o) (nat_eq (a + 1) last) (own_end pid k log last kept)) at
           ∙ ap (numbered_end (part_of pid k rec) (nat_eq (a + 1) last)) ih
-          ∙ numbered a (part_of pid k rec) behind below (slice_get_within log a rec at)
-      go false is ih = ih ∙ sym (ap (λ part. end_past part (between log (suc a) to) behind) (inner_of_others pid k rec is))
+          ∙ numbered a (part_of pid k rec) after below (slice_get_within log a rec at)
+      go false is ih = ih ∙ sym (ap (λ part. end_past part (between log (suc a) to) after) (inner_of_others pid k rec is))
 
   own_end-from : (count a : ℕ) → a + count ≡ length log → EndsFrom a (filter own (numbers_from a count))
   own_end-from zero a e = sym (ap (turn_end pid k) (between-past log (max from a) to (omega arith)))
@@ -119,8 +119,8 @@ module _ (pid : Text) (k : ℕ) (log : List NodeRec) (from to : ℕ) where
       let (rec, at) = within_at log a (omega arith) in
       let rest : List ℕ = filter own (numbers_from (suc a) count) in
       let ih : EndsFrom (suc a) rest = own_end-from count (suc a) (omega arith) in
-      subst (λ b. EndsFrom a (cond b (a ∷ rest) rest)) (sym (ap (λ o. names o pid) at))
-      (step a rec at rest ih (names (Some rec) pid) refl (cases_lt a from) (cases_lt a to))
+      subst (λ b. EndsFrom a (cond b (a ∷ rest) rest)) (sym (ap (λ o. record_names o pid) at))
+      (step a rec at rest ih (record_names (Some rec) pid) refl (cases_lt a from) (cases_lt a to))
 
   -- the turn's end by its records, and by those that name the session
   pub turn_end-own : turn_end pid k (between log from to) ≡ own_end pid k log last (own_between log pid from to)

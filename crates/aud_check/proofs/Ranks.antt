@@ -6,7 +6,7 @@ use Rattle.std.proofs.lemmas.Option.{none-some, same_Some, slice_get_within}
 use Rattle.aud_node.specs.Stream.{Text}
 use Rattle.aud_node.specs.Cluster.{Cluster}
 use Rattle.aud_tap.specs.declared.records.StreamRec.{StreamRec}
-use Rattle.aud_client.specs.Told.{FrameSeen}
+use Rattle.aud_client.specs.StaySeen.{FrameSeen}
 use Rattle.aud_cert.specs.Certificate.{CertificateSeen, TurnSeen}
 use Rattle.aud_cert.specs.declared.fault.Fault.{Fault}
 use Rattle.aud_cert.specs.declared.fault.Fault.TheVariants as fault
@@ -14,9 +14,11 @@ use Rattle.aud_check.specs.declared.refusal.Refusal.{Refusal}
 use Rattle.aud_check.specs.declared.refusal.Refusal.TheVariants.{NotItsTurn, EndInside, NoEnd, Cursor, Span, Names, Received}
 use Rattle.aud_check.specs.Compare.{mismatch}
 use Rattle.aud_check.specs.Frames.{AreEntries, IsEntry, IsFirstAltered, wrong_window}
-use Rattle.aud_check.specs.Faults.{Case, HasFault, IsReceived, IsFirstFault, fault_of, mismatch_fault, positions_in, fault_rank}
-use Rattle.aud_check.specs.TurnRefusals.{RefusesTurn, IsFirstOfTurns, AreTurnsAccepted, refusal_rank}
-use Rattle.aud_check.specs.Refusals.{Place, AtTurn, AtWhole, Refuses, RefusesWhole, IsFirst, IsAccepted, rank, case_of}
+use Rattle.aud_check.specs.Faults.{Case, HasFault, IsReceived, fault_of, mismatch_fault, positions_in, fault_rank}
+use Rattle.aud_check.specs.Private.FirstFault.{IsFirstFault}
+use Rattle.aud_check.specs.TurnRefusals.{RefusesTurn, AreTurnsAccepted, refusal_rank}
+use Rattle.aud_check.specs.Private.TurnCheck.{IsFirstOfTurns}
+use Rattle.aud_check.specs.Refusals.{Place, AtTurn, AtWhole, Refuses, RefusesWhole, RefusesFirst, IsAccepted, place_rank, certificate_case}
 use Rattle.aud_check.proofs.Agreed.{mismatch-none}
 use Rattle.aud_check.proofs.TurnRefusals.{not_refused}
 
@@ -30,7 +32,7 @@ turn_rank c pid k t later _ h = absurd h
 
 module _ (c : Cluster) (cert : CertificateSeen) where
   -- the first that refuses the turns is the first of all
-  pub first_of_turns : (refusal : Refusal) → IsFirstOfTurns c cert.pid cert.turns refusal → IsFirst c cert refusal
+  pub first_of_turns : (refusal : Refusal) → IsFirstOfTurns c cert.pid cert.turns refusal → RefusesFirst c cert refusal
   first_of_turns refusal is =
       record { place = AtTurn is.number; refuses = (is.turn, is.stands, is.is_first.refuses); none_before = go }
     where
@@ -47,7 +49,7 @@ module _ (c : Cluster) (cert : CertificateSeen) where
           is.is_first.none_before other (omega arith)
           (subst (λ s. RefusesTurn c cert.pid is.number s (drop (suc is.number) cert.turns) other) turn (subst (λ n. RefusesTurn c cert.pid n t (drop (suc n) cert.turns) other) same h))
 
-      go : (place : Place) (other : Refusal) → rank cert place other < 4 * is.number + refusal_rank refusal → Refuses c cert place other → ⊥
+      go : (place : Place) (other : Refusal) → place_rank cert place other < 4 * is.number + refusal_rank refusal → Refuses c cert place other → ⊥
       go (AtTurn k) other before (t, at, h) = at_turn k other before t at h (cases_lt k is.number)
       go AtWhole other before h =
           let within = slice_get_within cert.turns is.number is.turn is.stands in
@@ -56,21 +58,21 @@ module _ (c : Cluster) (cert : CertificateSeen) where
 
   -- where the turns are accepted, the first that refuses the whole is the first of all
   pub first_of_whole : AreTurnsAccepted c cert.pid cert.turns → (refusal : Refusal) → RefusesWhole c cert refusal
-      → ((other : Refusal) → refusal_rank other < refusal_rank refusal → RefusesWhole c cert other → ⊥) → IsFirst c cert refusal
+      → ((other : Refusal) → refusal_rank other < refusal_rank refusal → RefusesWhole c cert other → ⊥) → RefusesFirst c cert refusal
   first_of_whole turns refusal h none = record { place = AtWhole; refuses = h; none_before = go }
     where
-      go : (place : Place) (other : Refusal) → rank cert place other < 4 * length cert.turns + refusal_rank refusal → Refuses c cert place other → ⊥
+      go : (place : Place) (other : Refusal) → place_rank cert place other < 4 * length cert.turns + refusal_rank refusal → Refuses c cert place other → ⊥
       go (AtTurn k) other before (t, at, refuses) = not_refused c cert.pid k t (drop (suc k) cert.turns) (turns k t at) other refuses
       go AtWhole other before refuses = none other (omega arith) refuses
 
 -- ---- faults
 
-entry_of : (stream : List StreamRec) (before : List FrameSeen) (altered : FrameSeen) (behind : List FrameSeen) → AreEntries stream (before ++ altered ∷ behind) → IsEntry stream altered
-entry_of stream [] altered behind (is, rest) = is
-entry_of stream (frame ∷ before) altered behind (is, rest) = entry_of stream before altered behind rest
+entry_of : (stream : List StreamRec) (before : List FrameSeen) (altered : FrameSeen) (after : List FrameSeen) → AreEntries stream (before ++ altered ∷ after) → IsEntry stream altered
+entry_of stream [] altered after (is, rest) = is
+entry_of stream (frame ∷ before) altered after (is, rest) = entry_of stream before altered after rest
 
 pub no_altered : (stream : List StreamRec) (frames : List FrameSeen) (altered : FrameSeen) → AreEntries stream frames → IsFirstAltered stream frames altered → ⊥
-no_altered stream frames altered are is = is.is_altered (entry_of stream is.before altered is.behind (subst (AreEntries stream) is.parts are))
+no_altered stream frames altered are is = is.is_altered (entry_of stream is.before altered is.after (subst (AreEntries stream) is.parts are))
 
 pub no_mismatch : (case : Case) → mismatch (positions_in case) case.due ≡ None → (f : Fault) → mismatch_fault case ≡ Some f → ⊥
 no_mismatch case none f h = none-some f (sym (ap (option_map (fault_of case.stream)) none) ∙ h)
@@ -79,10 +81,10 @@ pub some_or_none : {A : Type 0} (o : Option A) → o ≡ None → IsSome o → �
 some_or_none None e h = true≢false (sym h)
 some_or_none (Some x) e h = none-some x (sym e)
 
-module _ (case : Case) (decodes : case.told.bad ≡ None) (has_no_orphan : case.told.orphan ≡ false) (are_entries : AreEntries case.stream case.frames) where
+module _ (case : Case) (decodes : case.transcript.bad ≡ None) (has_no_orphan : case.transcript.orphan ≡ false) (are_entries : AreEntries case.stream case.frames) where
   -- where the tap decodes, has no orphan and each frame is its entry, a fault is a mismatch or a window
   pub what_is_left : (f : Fault) → HasFault case f → ((mismatch_fault case ≡ Some f) × (fault_rank f ≡ 3)) ⊎ ((wrong_window case.stream [] case.stays ≡ None → ⊥) × (fault_rank f ≡ 4))
-  what_is_left fault.Frame h = absurd (some_or_none case.told.bad decodes h)
+  what_is_left fault.Frame h = absurd (some_or_none case.transcript.bad decodes h)
   what_is_left fault.Orphan h = absurd (true≢false (sym h ∙ has_no_orphan))
   what_is_left (fault.Content off) (altered, first, named) = absurd (no_altered case.stream case.frames altered are_entries first)
   what_is_left (fault.Extra off) h = inl (h, refl)
@@ -101,10 +103,10 @@ no_fault case is f h =
     ]
 
 module _ (c : Cluster) (cert : CertificateSeen) where
-  pub first_span : AreTurnsAccepted c cert.pid cert.turns → RefusesWhole c cert Span → IsFirst c cert Span
+  pub first_span : AreTurnsAccepted c cert.pid cert.turns → RefusesWhole c cert Span → RefusesFirst c cert Span
   first_span turns h = first_of_whole c cert turns Span h (λ other before refuses. absurd (omega arith))
 
-  pub first_names : AreTurnsAccepted c cert.pid cert.turns → (RefusesWhole c cert Span → ⊥) → RefusesWhole c cert Names → IsFirst c cert Names
+  pub first_names : AreTurnsAccepted c cert.pid cert.turns → (RefusesWhole c cert Span → ⊥) → RefusesWhole c cert Names → RefusesFirst c cert Names
   first_names turns spans h = first_of_whole c cert turns Names h go
     where
       go : (other : Refusal) → refusal_rank other < 1 → RefusesWhole c cert other → ⊥
@@ -113,7 +115,7 @@ module _ (c : Cluster) (cert : CertificateSeen) where
       go (Received f) before refuses = absurd (omega arith)
       go _ before refuses = refuses
 
-  pub first_fault : AreTurnsAccepted c cert.pid cert.turns → (RefusesWhole c cert Span → ⊥) → (RefusesWhole c cert Names → ⊥) → (f : Fault) → IsFirstFault (case_of c cert) f → IsFirst c cert (Received f)
+  pub first_fault : AreTurnsAccepted c cert.pid cert.turns → (RefusesWhole c cert Span → ⊥) → (RefusesWhole c cert Names → ⊥) → (f : Fault) → IsFirstFault (certificate_case c cert) f → RefusesFirst c cert (Received f)
   first_fault turns spans names f is = first_of_whole c cert turns (Received f) is.holds go
     where
       go : (other : Refusal) → refusal_rank other < 2 + fault_rank f → RefusesWhole c cert other → ⊥
@@ -127,5 +129,5 @@ module _ (c : Cluster) (cert : CertificateSeen) where
   nothing_refuses is (AtTurn k) refusal (t, at, h) = not_refused c cert.pid k t (drop (suc k) cert.turns) (is.are_turns k t at) refusal h
   nothing_refuses is AtWhole Span h = h is.are_spans
   nothing_refuses is AtWhole Names h = true≢false (sym is.are_named ∙ h)
-  nothing_refuses is AtWhole (Received f) h = no_fault (case_of c cert) is.is_received f h
+  nothing_refuses is AtWhole (Received f) h = no_fault (certificate_case c cert) is.is_received f h
   nothing_refuses is AtWhole _ h = h

@@ -9,8 +9,8 @@ use Rattle.std.specs.FinSet as set
 use Rattle.serde_json.proofs.OnLiterals.{serde_json_on_literals}
 use Rattle.aud_sio.specs.Kind.{kind_at}
 use Rattle.aud_sio.specs.Attachments.{attachments_at}
-use Rattle.aud_sio.specs.Namespace.{namespace_at}
-use Rattle.aud_sio.specs.AckId.{id_at}
+use Rattle.aud_sio.specs.Namespace.{leading_namespace}
+use Rattle.aud_sio.specs.AckId.{ack_id_at}
 use Rattle.aud_sio.specs.Payload.{last_of_payload, payload_at}
 use Rattle.aud_sio.specs.Packet.{packet_of}
 use Rattle.aud_node.specs.Recoverable.{is_recoverable}
@@ -23,7 +23,7 @@ use Rattle.aud_merge.proofs.Recovery.{held, in_room, due_by_turns}
 use Rattle.aud_cert.specs.Certificate.{TurnSeen, IsOver}
 use Rattle.aud_check.specs.Faults.{IsReceived, positions_in}
 use Rattle.aud_check.specs.NamedStays.{are_of_session}
-use Rattle.aud_check.specs.Refusals.{IsAccepted, case_of}
+use Rattle.aud_check.specs.Refusals.{IsAccepted, certificate_case}
 use Rattle.aud_check.specs.Shown.{who_of, slices_of}
 use Rattle.aud_check.specs.TurnRefusals.{IsTurnAccepted, AreTurnsAccepted}
 use Rattle.aud_check.specs.Recovery.{certificate}
@@ -68,7 +68,7 @@ maximal room is =
       to_high = omega arith;
       held = held_at_both room is;
       not_before = λ p past e. absurd (omega (arith, past, e));
-      not_behind = λ p upto e. absurd (omega (arith, upto, e));
+      not_after = λ p upto e. absurd (omega (arith, upto, e));
     }
 
 in_own_room : set.contains held (codes "s1") ≡ true
@@ -103,7 +103,7 @@ all : (room : Text) (first last : ℕ) → IsMaximal (rooms_by_turns logs.stream
     → Contains certificate.spans (record { room = room; first = first; last = last })
 all room zero last m = let past = m.past_low in absurd (omega (arith, past))
 all room (suc zero) zero m = let some = m.some in absurd (omega (arith, some))
-all room (suc zero) (suc zero) m = absurd (false≢true (sym (m.not_behind 2 (omega arith) refl) ∙ m.held 1 (omega arith) (omega arith)))
+all room (suc zero) (suc zero) m = absurd (false≢true (sym (m.not_after 2 (omega arith) refl) ∙ m.held 1 (omega arith) (omega arith)))
 all room (suc zero) (suc (suc zero)) m = among room (its_rooms room (m.held 1 (omega arith) (omega arith)))
 all room (suc zero) (suc (suc (suc last))) m = let high = m.to_high in absurd (omega (arith, high))
 all room (suc (suc zero)) zero m = let some = m.some in absurd (omega (arith, some))
@@ -126,16 +126,16 @@ are_spans = record { each = each; all = λ s m. all s.room s.first s.last m; in_
 
 -- ---- the client
 
-are_named : are_of_session (who_of certificate) (case_of logs certificate).stays ≡ true
-unfolding is_recoverable packet_of kind_at attachments_at namespace_at id_at payload_at last_of_payload serde_json_on_literals
+are_named : are_of_session (who_of certificate) (certificate_case logs certificate).stays ≡ true
+unfolding is_recoverable packet_of kind_at attachments_at leading_namespace ack_id_at payload_at last_of_payload serde_json_on_literals
 are_named = refl
 
-pub received : positions_in (case_of logs certificate) ≡ 1 ∷ 2 ∷ []
-unfolding is_recoverable packet_of kind_at attachments_at namespace_at id_at payload_at last_of_payload serde_json_on_literals
+pub received : positions_in (certificate_case logs certificate) ≡ 1 ∷ 2 ∷ []
+unfolding is_recoverable packet_of kind_at attachments_at leading_namespace ack_id_at payload_at last_of_payload serde_json_on_literals
 received = refl
 
-is_received : IsReceived (case_of logs certificate)
-unfolding is_recoverable packet_of kind_at attachments_at namespace_at id_at payload_at last_of_payload serde_json_on_literals
+is_received : IsReceived (certificate_case logs certificate)
+unfolding is_recoverable packet_of kind_at attachments_at leading_namespace ack_id_at payload_at last_of_payload serde_json_on_literals
 is_received =
     record {
       decodes = refl;

@@ -30,9 +30,9 @@ none_of (x ∷ xs) e = absurd (omega arith)
 pub between-past : (log : List NodeRec) (i to : ℕ) → min to (length log) ≤ i → between log i to ≡ []
 between-past log i to h = none_of (between log i to) (let long = length-between log i to in omega (arith, long))
 
--- those behind the first one
-pub between-behind : (log : List NodeRec) (from to : ℕ) → drop 1 (between log from to) ≡ between log (suc from) to
-between-behind log from to = go (cases_lt from (min to (length log)))
+-- those after the first one
+pub between-after : (log : List NodeRec) (from to : ℕ) → drop 1 (between log from to) ≡ between log (suc from) to
+between-after log from to = go (cases_lt from (min to (length log)))
   where
     go : (from < min to (length log)) ⊎ (min to (length log) ≤ from) → drop 1 (between log from to) ≡ between log (suc from) to
     go (inl some) =

@@ -9,7 +9,7 @@ use Rattle.std.proofs.lemmas.Option.{get_or_from_slice_get, same_Some, slice_get
 use Rattle.std.proofs.Math.Seq.{take-suc}
 use Rattle.aud_tap.specs.declared.records.StreamRec.{StreamRec}
 use Rattle.aud_rooms.specs.Turns.{Who}
-use Rattle.aud_client.specs.Told.{StaySeen, FrameSeen}
+use Rattle.aud_client.specs.StaySeen.{StaySeen, FrameSeen}
 use Rattle.aud_check.specs.Frames.{AreEntries, IsEntry, IsFirstAltered, frames_in}
 use Rattle.aud_check.specs.NamedStays.{are_of_session, is_of_session}
 use Rattle.aud_check.proofs.Slices.{drop_at}
@@ -41,7 +41,7 @@ module _ {X : Type 0} (f : X → FrameSeen) (stream : List StreamRec) (xs : List
   altered_at fails =
       record {
         before = take i (map f xs);
-        behind = drop (i + 1) (map f xs);
+        after = drop (i + 1) (map f xs);
         parts = sym (take-append-drop i (map f xs)) ∙ ap (λ ys. take i (map f xs) ++ ys) (drop_from (map f xs) i (f x) (at_map f xs i x h is));
         are_entries = all;
         is_altered = fails;

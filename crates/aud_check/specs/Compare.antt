@@ -4,19 +4,19 @@ use Rattle.std.specs.List.{list_any, common_prefix_len}
 use Rattle.aud_check.specs.declared.compare.Mismatch.{Mismatch}
 use Rattle.aud_check.specs.declared.compare.Mismatch.TheVariants.{Extra, Doubled, Swapped, Lost}
 
-abbrev pub has : List ℕ → ℕ → Bool
-has positions p = list_any (λ q. nat_eq q p) positions
+abbrev pub has_position : List ℕ → ℕ → Bool
+has_position positions p = list_any (λ q. nat_eq q p) positions
 
 -- what is wrong where one was due and another was received, before these: the due one comes later, or it doesn't
 abbrev pub displaced : List ℕ → ℕ → Option ℕ → Mismatch
 displaced later g None = Doubled g
-displaced later g (Some d) = if has later d then Swapped d else Lost d
+displaced later g (Some d) = if has_position later d then Swapped d else Lost d
 
 -- what is wrong at place i, where g was received: it isn't due at all, or it was received before, or another is due
 abbrev pub wrong_there : List ℕ → List ℕ → ℕ → ℕ → Mismatch
 wrong_there received due i g =
-    if has due g
-    then (if has (take i received) g then Doubled g else displaced (drop (i + 1) received) g (slice_get due i))
+    if has_position due g
+    then (if has_position (take i received) g then Doubled g else displaced (drop (i + 1) received) g (slice_get due i))
     else Extra g
 
 abbrev pub wrong_from : List ℕ → List ℕ → ℕ → Option ℕ → Option Mismatch

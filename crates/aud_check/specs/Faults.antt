@@ -1,11 +1,11 @@
 -- What is wrong with what a client received of a session, and which fault comes first.
-use Rattle.std.specs.Prelude.{◌≡◌, ◌<◌, ℕ, true, false, List, [], map, Option, Some, None, IsSome}
+use Rattle.std.specs.Prelude.{◌≡◌, ℕ, true, false, List, [], map, Option, Some, None, IsSome}
 use Rattle.std.specs.Option.{option_map}
 use Rattle.aud_tap.specs.declared.records.StreamRec.{StreamRec}
 use Rattle.aud_node.specs.Stream.{Text}
 use Rattle.aud_merge.specs.ByTurns.{IsPrefixOf}
-use Rattle.aud_client.specs.Told.{StaySeen, FrameSeen}
-use Rattle.aud_client.specs.Received.{ReceivedSeen}
+use Rattle.aud_client.specs.StaySeen.{StaySeen, FrameSeen}
+use Rattle.aud_client.specs.Received.{TranscriptSeen}
 use Rattle.aud_cert.specs.declared.fault.Fault.{Fault}
 use Rattle.aud_cert.specs.declared.fault.Fault.TheVariants.{Frame, Orphan, Content, Extra, Doubled, Swapped, Lost, Window}
 use Rattle.aud_check.specs.declared.compare.Mismatch.{Mismatch}
@@ -16,7 +16,7 @@ use Rattle.aud_check.specs.Frames.{AreEntries, IsFirstAltered, offset_at, wrong_
 -- the stream, what the client's tap tells, the stays that name the session, what was received of it, and what was due
 pub record Case : Type 0 where
   pub stream : List StreamRec
-  pub told : ReceivedSeen
+  pub transcript : TranscriptSeen
   pub stays : List StaySeen
   pub frames : List FrameSeen
   pub due : List ℕ
@@ -49,8 +49,8 @@ mismatch_fault case = option_map (fault_of case.stream) (mismatch (positions_in 
 
 -- where each fault holds
 abbrev pub HasFault : Case → Fault → Type 0
-HasFault case Frame = IsSome case.told.bad
-HasFault case Orphan = case.told.orphan ≡ true
+HasFault case Frame = IsSome case.transcript.bad
+HasFault case Orphan = case.transcript.orphan ≡ true
 HasFault case (Content off) = (altered : FrameSeen) × IsFirstAltered case.stream case.frames altered × (off ≡ offset_at case.stream altered.position)
 HasFault case (Extra off) = mismatch_fault case ≡ Some (Extra off)
 HasFault case (Doubled off) = mismatch_fault case ≡ Some (Doubled off)
@@ -62,8 +62,8 @@ HasFault case _ = ⊥
 -- every record decodes, every event that came has a session and is its entry, the due positions begin with those
 -- received, and every recovery went on where it had to
 pub record IsReceived (case : Case) : Type 0 where
-  pub decodes : case.told.bad ≡ None
-  pub has_no_orphan : case.told.orphan ≡ false
+  pub decodes : case.transcript.bad ≡ None
+  pub has_no_orphan : case.transcript.orphan ≡ false
   pub are_entries : AreEntries case.stream case.frames
   pub is_prefix : IsPrefixOf (positions_in case) case.due
   pub has_no_window : wrong_window case.stream [] case.stays ≡ None
@@ -79,8 +79,3 @@ fault_rank (Swapped off) = 3
 fault_rank (Lost off) = 3
 fault_rank (Window c) = 4
 fault_rank _ = 5
-
--- of all faults that hold this is the first
-pub record IsFirstFault (case : Case) (fault : Fault) : Type 0 where
-  pub holds : HasFault case fault
-  pub none_before : (other : Fault) → fault_rank other < fault_rank fault → HasFault case other → ⊥

@@ -2,15 +2,13 @@ pub use Rattle.aud_merge.specs.ByTurns
 pub use Rattle.aud_cert.specs.Certificate
 pub use Rattle.aud_client.specs.Received
 pub mod Compare
-pub mod TurnEnd
 pub mod Shown
 pub mod NamedStays
-pub mod Ascending
 pub mod Frames
 pub mod Faults
-pub mod Wrong
 pub mod TurnRefusals
 pub mod Client
 pub mod Refusals
 pub mod Words
 pub mod Recovery
+pub mod Private

@@ -5,7 +5,7 @@ use Rattle.std.specs.Str.{bytes_eq}
 use Rattle.aud_node.specs.Stream.{Text}
 use Rattle.aud_client.specs.Replies.{ReplySeen}
 use Rattle.aud_rooms.specs.Turns.{Who}
-use Rattle.aud_client.specs.Told.{StaySeen}
+use Rattle.aud_client.specs.StaySeen.{StaySeen}
 
 -- there is a reply, and it has this sid
 abbrev pub has_sid : Text → Option ReplySeen → Bool

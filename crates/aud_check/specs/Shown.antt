@@ -1,5 +1,5 @@
 -- What a certificate shows: a session, its turns in the logs, and its client's tap.
-use Rattle.std.specs.Prelude.{ℕ, List, [], ◌∷◌, map, max, Option, Some, None, slice_get}
+use Rattle.std.specs.Prelude.{ℕ, List, [], ◌∷◌, map, Option, Some, None, slice_get}
 use Rattle.aud_tap.specs.declared.records.NodeRec.{NodeRec}
 use Rattle.aud_tap.specs.declared.records.NodeRec.TheVariants.{Opened}
 use Rattle.aud_tap.specs.declared.records.ClientRec.{ClientRec}
@@ -9,7 +9,7 @@ use Rattle.aud_node.specs.NodeTaps.{client_at}
 use Rattle.aud_rooms.specs.Turns.{Who, Turn, Slice, slice_of}
 use Rattle.aud_rooms.specs.TurnsDue.{turns_due}
 use Rattle.aud_cert.specs.Certificate.{CertificateSeen, TurnSeen, turn_at, place_named}
-use Rattle.aud_client.specs.Told.{FrameSeen}
+use Rattle.aud_client.specs.StaySeen.{FrameSeen}
 use Rattle.aud_client.specs.Received.{received_list}
 
 -- the sid and the namespace that the record opens a session with; empty texts where it is no `open`
@@ -38,16 +38,6 @@ who_of cert = who_in cert.pid cert.turns
 abbrev pub slices_at : Cluster → List TurnSeen → List Slice
 slices_at c turns = map (slice_of c) (map (turn_at c) turns)
 
--- the position that turns show to start from
-abbrev pub shown_low : List TurnSeen → ℕ
-shown_low [] = 0
-shown_low (t ∷ later) = t.low
-
--- the greatest position that turns show
-abbrev pub shown_high : List TurnSeen → ℕ
-shown_high [] = 0
-shown_high (t ∷ later) = max t.high (shown_high later)
-
 -- where the turns stand in the logs
 abbrev pub turns_of : Cluster → CertificateSeen → List Turn
 turns_of c cert = map (turn_at c) cert.turns
@@ -66,9 +56,9 @@ recs_or_none None = []
 recs_or_none (Some recs) = recs
 
 -- the records of the client's tap with this name
-abbrev pub client_log : Cluster → Text → List ClientRec
-client_log c name = recs_or_none (client_at c (place_named c name))
+abbrev pub client_log_named : Cluster → Text → List ClientRec
+client_log_named c name = recs_or_none (client_at c (place_named c name))
 
 -- the events that the client received of the session, in the order of its tap
 abbrev pub frames_received : Cluster → CertificateSeen → List FrameSeen
-frames_received c cert = received_list c.stream (client_log c cert.client) cert.pid
+frames_received c cert = received_list c.stream (client_log_named c cert.client) cert.pid

@@ -1,5 +1,5 @@
 -- What refuses a turn of a certificate.
-use Rattle.std.specs.Prelude.{◌≡◌, ◌<◌, ◌≤◌, ◌+◌, ℕ, suc, Bool, true, false, List, map, length, drop, slice_get, Option, Some, None}
+use Rattle.std.specs.Prelude.{◌≡◌, ◌≤◌, ◌+◌, ℕ, suc, Bool, true, false, List, map, length, drop, slice_get, Option, Some, None}
 use Rattle.aud_tap.specs.declared.records.StreamRec.{StreamRec}
 use Rattle.aud_tap.specs.declared.records.NodeRec.{NodeRec}
 use Rattle.aud_node.specs.Stream.{Text}
@@ -18,7 +18,7 @@ abbrev pub is_begun_by : Text → ℕ → Option NodeRec → Bool
 is_begun_by pid k None = false
 is_begun_by pid k (Some rec) = begins_turn pid k rec
 
--- how turn k ends, whose records these are; none where one behind the first is no record of it, or ends it before
+-- how turn k ends, whose records these are; none where one after the first is no record of it, or ends it before
 -- others
 abbrev pub end_of : Text → ℕ → List NodeRec → Option End
 end_of pid k recs = turn_end pid k (drop 1 recs)
@@ -66,16 +66,3 @@ refusal_rank Span = 0
 refusal_rank Names = 1
 refusal_rank (Received fault) = 2 + fault_rank fault
 refusal_rank Memory = 8
-
--- of all that refuses the turn this is the first
-pub record IsFirstOfTurn (c : Cluster) (pid : Text) (k : ℕ) (t : TurnSeen) (later : List TurnSeen) (refusal : Refusal) : Type 0 where
-  pub refuses : RefusesTurn c pid k t later refusal
-  pub none_before : (other : Refusal) → refusal_rank other < refusal_rank refusal → RefusesTurn c pid k t later other → ⊥
-
--- of all that refuses the turns this is the first: the turns in front are accepted
-pub record IsFirstOfTurns (c : Cluster) (pid : Text) (turns : List TurnSeen) (refusal : Refusal) : Type 0 where
-  pub number : ℕ
-  pub turn : TurnSeen
-  pub stands : slice_get turns number ≡ Some turn
-  pub is_first : IsFirstOfTurn c pid number turn (drop (suc number) turns) refusal
-  pub accepted : (k : ℕ) (t : TurnSeen) → k < number → slice_get turns k ≡ Some t → IsTurnAccepted c pid k t (drop (suc k) turns)

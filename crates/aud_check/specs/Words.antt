@@ -16,6 +16,6 @@ refusal_text Names = codes "K10 Names"
 refusal_text (Received fault) = codes "K11 Received " ++ fault_text fault
 refusal_text Memory = codes "K12 Memory"
 
--- how many due events were received, how many behind them were not, and over how many turns
+-- how many due events were received, how many after them were not, and over how many turns
 abbrev pub accepted_text : Accepted → List ℕ
 accepted_text a = codes "got=" ++ decimal a.got ++ codes " tail=" ++ decimal a.tail ++ codes " turns=" ++ decimal a.turns

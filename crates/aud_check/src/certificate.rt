@@ -8,20 +8,21 @@ ghost use Rattle.aud_merge.specs.Due.{due};
 ghost use Rattle.aud_merge.specs.ByTurns.{IsPrefixOf};
 ghost use Rattle.aud_rooms.specs.Turns.{AreTurns, IsChain};
 ghost use Rattle.aud_cert.specs.Certificate.{IsOver, IsTurnOver};
-ghost use Rattle.aud_check.specs.Client.{told_named};
+ghost use Rattle.aud_check.specs.Private.ClientCheck.{transcript_named};
 ghost use Rattle.aud_check.specs.Faults.{positions_in};
 ghost use Rattle.aud_check.specs.Frames.{AreEntries};
-ghost use Rattle.aud_check.specs.Refusals.{IsAccepted, IsFirstRefusal, IsMismatch, Place, Refuses, case_of, seen_as};
+ghost use Rattle.aud_check.specs.Refusals.{IsAccepted, IsFirstRefusal, IsMismatch, Place, Refuses, certificate_case};
+ghost use Rattle.aud_check.specs.Private.Parts.{seen_as};
 ghost use Rattle.aud_check.specs.Shown.{frames_received, shown_due, turns_of, who_in, who_of};
 
-use crate::client::{check_client, told_named};
+use crate::client::{check_client, transcript_named};
 use crate::due::shown_due;
 use crate::refusal::Refusal;
-use crate::session::{Session, session_of};
+use crate::session::{ShownSession, session_of};
 use crate::spans::are_spans;
 use crate::turn::check_turns;
 use aud_cert::{Certificate, Turn};
-use aud_client::{ReadTap, Recording};
+use aud_client::{IndexedTranscript, Recording};
 use aud_merge::due_by_turns;
 use aud_node::Logs;
 use aud_rooms::Span;
@@ -67,22 +68,22 @@ pub fn check(
 
     // Delivery in every run.
     ensures in_every_run { OnOk result ((run : List Step) → IsRun recording.now run
-        → IsPrefixOf (positions_in (case_of recording.now cert.now)) (due recording.now run cert.now.pid)) }
+        → IsPrefixOf (positions_in (certificate_case recording.now cert.now)) (due recording.now run cert.now.pid)) }
     ensures frames_are_entries { OnOk result (AreEntries recording.now.stream (frames_received recording.now cert.now)) }
     ensures counts_in_every_run { IfOk result (λ a. IsChain recording.now (who_of cert.now) (turns_of recording.now cert.now)
         → (run : List Step) → IsRun recording.now run → a.got + a.tail ≡ length (due recording.now run cert.now.pid)) }
     ensures in_no_run { IfErr result (λ refusal. IsMismatch refusal
         → IsChain recording.now (who_of cert.now) (turns_of recording.now cert.now)
         → (run : List Step) → IsRun recording.now run
-        → IsPrefixOf (positions_in (case_of recording.now cert.now)) (due recording.now run cert.now.pid) → ⊥) }
+        → IsPrefixOf (positions_in (certificate_case recording.now cert.now)) (due recording.now run cert.now.pid) → ⊥) }
 {
     due_by_turns();
     let logs = recording.logs();
-    let told = told_named(recording, cert.client);
+    let transcript = transcript_named(recording, cert.client);
     let session = session_of(logs, cert);
     let turns = cert.turns.as_slice();
     let spans = cert.spans.as_slice();
-    judge(alloc, logs, &session, cert.client, told, turns, spans)
+    judge(alloc, logs, &session, cert.client, transcript, turns, spans)
 }
 
 /// The answer on the certificate with these parts, by what it says of this certificate alone: the turns are looked at
@@ -90,13 +91,13 @@ pub fn check(
 fn judge<'a>(
     alloc: Global,
     logs: &Logs<'a>,
-    session: &Session<'_, 'a>,
+    session: &ShownSession<'_, 'a>,
     client: &str,
-    told: Option<&ReadTap<'_>>,
+    transcript: Option<&IndexedTranscript<'_>>,
     turns: &[Turn<'_>],
     spans: &[Span<'_>],
 ) -> Result<Accepted, Refusal>
-    requires told { option_copied told ≡ told_named logs.now client.now }
+    requires transcript { option_copied transcript ≡ transcript_named logs.now client.now }
     requires over { All (IsTurnOver logs.now) turns.now }
     requires session { session.now ≡ who_in session.now.pid turns.now }
     ensures accepted { OnOk result (IsAccepted logs.now (seen_as session.now.pid client.now turns.now spans.now)) }
@@ -117,7 +118,7 @@ fn judge<'a>(
     let Ok(due) = shown_due(alloc, logs, session, turns, spans) else {
         return Err(Refusal::Memory);
     };
-    match check_client(alloc, logs, session, client, told, due.as_slice()) {
+    match check_client(alloc, logs, session, client, transcript, due.as_slice()) {
         Ok(got) => Ok(Accepted {
             got,
             tail: due.len() - got,

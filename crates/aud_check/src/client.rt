@@ -1,16 +1,17 @@
 //! The client's tap that a certificate names.
 ghost use Rattle.std.specs.Prelude.{◌≡◌, IfErr, IfOk, OnOk, Some, length, true};
 ghost use Rattle.std.specs.Option.{option_copied};
-ghost use Rattle.aud_check.specs.Ascending.{IsAscending};
-ghost use Rattle.aud_check.specs.Client.{IsClientRefusal, case_for, told_named};
+ghost use Rattle.aud_check.specs.Private.Ascending.{IsAscending};
+ghost use Rattle.aud_check.specs.Client.{case_for};
+ghost use Rattle.aud_check.specs.Private.ClientCheck.{IsClientRefusal, transcript_named};
 ghost use Rattle.aud_check.specs.Faults.{IsReceived};
 ghost use Rattle.aud_check.specs.NamedStays.{are_of_session};
 
 use crate::received::{Wrong, check_received};
 use crate::refusal::Refusal;
-use crate::session::Session;
+use crate::session::ShownSession;
 use crate::stays::are_of_session;
-use aud_client::{ReadTap, Recording, received_by_stays};
+use aud_client::{IndexedTranscript, Recording, received_by_stays};
 use aud_node::Logs;
 use std::alloc::Global;
 
@@ -19,34 +20,34 @@ use std::alloc::Global;
 pub(crate) fn check_client(
     alloc: Global,
     logs: &Logs<'_>,
-    session: &Session<'_, '_>,
+    session: &ShownSession<'_, '_>,
     client: &str,
-    told: Option<&ReadTap<'_>>,
+    transcript: Option<&IndexedTranscript<'_>>,
     due: &[u64],
 ) -> Result<usize, Refusal>
-    requires told { option_copied told ≡ told_named logs.now client.now }
+    requires transcript { option_copied transcript ≡ transcript_named logs.now client.now }
     requires ascending { IsAscending due.now }
     ensures named { OnOk result (are_of_session session.now (case_for logs.now client.now session.now.pid due.now).stays ≡ true) }
     ensures received { OnOk result (IsReceived (case_for logs.now client.now session.now.pid due.now)) }
     ensures got { IfOk result (λ got. got ≡ length (case_for logs.now client.now session.now.pid due.now).frames) }
     ensures refused { IfErr result (IsClientRefusal session.now (case_for logs.now client.now session.now.pid due.now)) }
 {
-    match told {
-        Some(told) => check_told(alloc, logs, session, client, told, due),
+    match transcript {
+        Some(transcript) => check_transcript(alloc, logs, session, client, transcript, due),
         None => Err(Refusal::Names),
     }
 }
 
 /// The same of a tap that is there. The session's own stays are looked at, and no others.
-fn check_told(
+fn check_transcript(
     alloc: Global,
     logs: &Logs<'_>,
-    session: &Session<'_, '_>,
+    session: &ShownSession<'_, '_>,
     client: &str,
-    told: &ReadTap<'_>,
+    transcript: &IndexedTranscript<'_>,
     due: &[u64],
 ) -> Result<usize, Refusal>
-    requires told { Some told.now ≡ told_named logs.now client.now }
+    requires transcript { Some transcript.now ≡ transcript_named logs.now client.now }
     requires ascending { IsAscending due.now }
     ensures named { OnOk result (are_of_session session.now (case_for logs.now client.now session.now.pid due.now).stays ≡ true) }
     ensures received { OnOk result (IsReceived (case_for logs.now client.now session.now.pid due.now)) }
@@ -54,14 +55,14 @@ fn check_told(
     ensures refused { IfErr result (IsClientRefusal session.now (case_for logs.now client.now session.now.pid due.now)) }
 {
     received_by_stays();
-    let Ok(named) = told.naming(alloc, session.pid) else {
+    let Ok(named) = transcript.naming(alloc, session.pid) else {
         return Err(Refusal::Memory);
     };
     let stays = named.as_slice();
     if !are_of_session(session, stays) {
         return Err(Refusal::Names);
     }
-    match check_received(alloc, logs.stream(), told.received(), stays, due) {
+    match check_received(alloc, logs.stream(), transcript.transcript(), stays, due) {
         Ok(got) => Ok(got),
         Err(Wrong::Fault(fault)) => Err(Refusal::Received(fault)),
         Err(Wrong::Memory) => Err(Refusal::Memory),
@@ -69,11 +70,11 @@ fn check_told(
 }
 
 /// What the client's tap with this name tells.
-pub(crate) fn told_named<'r, 'a>(
+pub(crate) fn transcript_named<'r, 'a>(
     recording: &'r Recording<'a>,
     name: &str,
-) -> Option<&'r ReadTap<'a>>
-    ensures { option_copied result ≡ told_named recording.now name.now }
+) -> Option<&'r IndexedTranscript<'a>>
+    ensures { option_copied result ≡ transcript_named recording.now name.now }
 {
     match recording.logs().place_of(name) {
         Some(place) => recording.client(place),

@@ -1,6 +1,6 @@
 //! The events that came against the entries of the stream.
 ghost use Rattle.std.specs.Prelude.{◌≡◌, ◌↔◌, IsTrue, MatchOption, map};
-ghost use Rattle.aud_sio.specs.Message.{bytes_of};
+ghost use Rattle.aud_sio.specs.Message.{blob_bytes};
 ghost use Rattle.aud_sio.specs.Assembly.{blob_view};
 ghost use Rattle.aud_check.specs.Frames.{AreEntries, IsEntry, IsFirstAltered};
 
@@ -40,7 +40,7 @@ fn is_entry(stream: &Stream<'_>, frame: &Frame<'_>) -> bool
 
 /// Whether the attachments are these bytes.
 fn are_blobs(blobs: &[Blob<'_>], bytes: &[Bytes]) -> bool
-    ensures { IsTrue result ↔ (map bytes_of (map blob_view blobs.now) ≡ bytes.now) }
+    ensures { IsTrue result ↔ (map blob_bytes (map blob_view blobs.now) ≡ bytes.now) }
 {
     if blobs.len() != bytes.len() {
         return false;
@@ -55,7 +55,7 @@ fn are_blobs(blobs: &[Blob<'_>], bytes: &[Bytes]) -> bool
 
 /// Whether the attachment is these bytes.
 fn is_blob(blob: &Blob<'_>, bytes: &Bytes) -> bool
-    ensures { IsTrue result ↔ (bytes_of (blob_view blob.now) ≡ bytes.now) }
+    ensures { IsTrue result ↔ (blob_bytes (blob_view blob.now) ≡ bytes.now) }
 {
     blob.as_slice() == bytes.as_slice()
 }

@@ -2,10 +2,11 @@
 ghost use Rattle.std.specs.Prelude.{◌≡◌, IfOk};
 ghost use Rattle.aud_rooms.specs.Spans.{AreSpansOfTurns};
 ghost use Rattle.aud_rooms.specs.TurnsDue.{turns_due};
-ghost use Rattle.aud_check.specs.Shown.{shown_high, shown_low, slices_at};
+ghost use Rattle.aud_check.specs.Shown.{slices_at};
+ghost use Rattle.aud_check.specs.Private.ShownBounds.{greatest_shown_high, first_shown_low};
 ghost use Rattle.aud_check.specs.TurnRefusals.{AreTurnsAccepted};
 
-use crate::session::Session;
+use crate::session::ShownSession;
 use aud_cert::Turn;
 use aud_node::Logs;
 use aud_rooms::{Span, due_by_spans_of_turns, due_of};
@@ -16,7 +17,7 @@ use std::alloc::Global;
 pub(crate) fn shown_due(
     alloc: Global,
     logs: &Logs<'_>,
-    session: &Session<'_, '_>,
+    session: &ShownSession<'_, '_>,
     turns: &[Turn<'_>],
     spans: &[Span<'_>],
 ) -> Result<Vec<u64>, Memory>
@@ -25,15 +26,15 @@ pub(crate) fn shown_due(
     ensures { IfOk result (λ due. due.items ≡ turns_due logs.now.stream session.now (slices_at logs.now turns.now)) }
 {
     due_by_spans_of_turns();
-    let birth = first_low(turns);
-    let high = greatest_high(turns);
+    let birth = first_shown_low(turns);
+    let high = greatest_shown_high(turns);
     let due = due_of(alloc, spans, logs.stream(), session.nsp, birth, high)?;
     Ok(due)
 }
 
 /// The position that the first turn starts from.
-fn first_low(turns: &[Turn<'_>]) -> u64
-    ensures { result ≡ shown_low turns.now }
+fn first_shown_low(turns: &[Turn<'_>]) -> u64
+    ensures { result ≡ first_shown_low turns.now }
 {
     match turns.first() {
         Some(turn) => turn.low,
@@ -42,8 +43,8 @@ fn first_low(turns: &[Turn<'_>]) -> u64
 }
 
 /// The greatest position that the turns reach.
-fn greatest_high(turns: &[Turn<'_>]) -> u64
-    ensures { result ≡ shown_high turns.now }
+fn greatest_shown_high(turns: &[Turn<'_>]) -> u64
+    ensures { result ≡ greatest_shown_high turns.now }
 {
     let mut high = 0;
     for turn in turns {

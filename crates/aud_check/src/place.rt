@@ -19,7 +19,7 @@ pub(crate) fn places_of(
 {
     let mut places = Vec::new(alloc);
     for turn in turns {
-        let Ok(()) = places.push(place_of(logs, turn)) else {
+        let Ok(()) = places.push(turn_place(logs, turn)) else {
             return Err(Memory);
         };
     }
@@ -27,7 +27,7 @@ pub(crate) fn places_of(
 }
 
 /// Where the turn stands; past all taps where none has the name of its node.
-pub(crate) fn place_of(logs: &Logs<'_>, turn: &Turn<'_>) -> TurnPlace
+pub(crate) fn turn_place(logs: &Logs<'_>, turn: &Turn<'_>) -> TurnPlace
     ensures { result ≡ turn_at logs.now turn.now }
 {
     TurnPlace {

@@ -1,18 +1,18 @@
 //! What a client received of a session against what was due to it.
 ghost use Rattle.std.specs.Prelude.{◌≡◌, IfErr, IfOk, OnOk, length, map};
-ghost use Rattle.aud_client.specs.Told.{FrameSeen};
+ghost use Rattle.aud_client.specs.StaySeen.{FrameSeen};
 ghost use Rattle.aud_cert.specs.declared.fault.Fault.TheVariants.{Content};
-ghost use Rattle.aud_check.specs.Ascending.{IsAscending};
+ghost use Rattle.aud_check.specs.Private.Ascending.{IsAscending};
 ghost use Rattle.aud_check.specs.Faults.{IsReceived, fault_of, named, position_in};
 ghost use Rattle.aud_check.specs.Frames.{frames_in, offset_at};
-ghost use Rattle.aud_check.specs.Wrong.{IsFault, IsFirstWrong, by_stays};
+ghost use Rattle.aud_check.specs.Private.Wrong.{IsFault, IsFirstWrong, by_stays};
 
 use crate::compare::{Mismatch, first_mismatch};
 use crate::content::first_altered;
 use crate::stays::frames_in;
 use crate::window::wrong_window;
 use aud_cert::Fault;
-use aud_client::{Frame, Received, Stay};
+use aud_client::{Frame, Transcript, Stay};
 use aud_node::{Stream, offset};
 use aud_tap::{Memory, Text};
 use std::alloc::Global;
@@ -29,7 +29,7 @@ pub(crate) enum Wrong {
 pub(crate) fn check_received(
     alloc: Global,
     stream: &Stream<'_>,
-    received: &Received<'_>,
+    received: &Transcript<'_>,
     stays: &[&Stay<'_>],
     due: &[u64],
 ) -> Result<usize, Wrong>

@@ -6,7 +6,7 @@ ghost use Rattle.aud_rooms.specs.Turns.{slice_of};
 ghost use Rattle.aud_cert.specs.Certificate.{IsOver, IsTurnOver};
 ghost use Rattle.aud_check.specs.Shown.{first_record, who_of};
 
-use crate::place::{place_of, records_at};
+use crate::place::{turn_place, records_at};
 use aud_cert::{Certificate, Turn};
 use aud_node::Logs;
 use aud_rooms::TurnPlace;
@@ -15,13 +15,13 @@ use std::marker::Model;
 
 /// The session that a certificate shows, as its `open` in the logs names it; lent.
 #[derive(Drop)]
-pub(crate) struct Session<'s, 'a> {
+pub(crate) struct ShownSession<'s, 'a> {
     pub(crate) pid: &'s str,
     pub(crate) sid: &'a str,
     pub(crate) nsp: &'a str,
 }
 
-impl<'s, 'a> Model for Session<'s, 'a> {
+impl<'s, 'a> Model for ShownSession<'s, 'a> {
     ghost use Rattle.aud_rooms.specs.Turns.{Who};
 
     ghost Value = { Who };
@@ -30,17 +30,17 @@ impl<'s, 'a> Model for Session<'s, 'a> {
 }
 
 /// The session that the certificate shows; without sid and namespace where the first turn's first record is no `open`.
-pub(crate) fn session_of<'s, 'a>(logs: &Logs<'a>, cert: &'s Certificate<'_>) -> Session<'s, 'a>
+pub(crate) fn session_of<'s, 'a>(logs: &Logs<'a>, cert: &'s Certificate<'_>) -> ShownSession<'s, 'a>
     requires { IsOver logs.now cert.now }
     ensures { result ≡ who_of cert.now }
 {
     match first_record(logs, cert.turns.as_slice()) {
-        Some(NodeRec::Opened { sid, nsp, .. }) => Session {
+        Some(NodeRec::Opened { sid, nsp, .. }) => ShownSession {
             pid: cert.pid.as_str(),
             sid: sid.as_str(),
             nsp: nsp.as_str(),
         },
-        _ => Session {
+        _ => ShownSession {
             pid: cert.pid.as_str(),
             sid: "",
             nsp: "",
@@ -56,7 +56,7 @@ fn first_record<'a>(logs: &Logs<'a>, turns: &[Turn<'_>]) -> Option<&'a NodeRec>
     let Some(turn) = turns.first() else {
         return None;
     };
-    first_at(logs, &place_of(logs, turn))
+    first_at(logs, &turn_place(logs, turn))
 }
 
 /// The first of the records at this place, lent by the logs.

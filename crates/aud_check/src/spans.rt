@@ -7,7 +7,7 @@ ghost use Rattle.aud_check.specs.Shown.{slices_at};
 ghost use Rattle.aud_check.specs.TurnRefusals.{AreTurnsAccepted};
 
 use crate::place::places_of;
-use crate::session::Session;
+use crate::session::ShownSession;
 use aud_cert::Turn;
 use aud_node::Logs;
 use aud_rooms::{Span, spans_are_unique, spans_of_turns};
@@ -18,7 +18,7 @@ use std::alloc::Global;
 pub(crate) fn are_spans<'a>(
     alloc: Global,
     logs: &Logs<'a>,
-    session: &Session<'_, 'a>,
+    session: &ShownSession<'_, 'a>,
     turns: &[Turn<'_>],
     spans: &[Span<'_>],
 ) -> Result<bool, Memory>

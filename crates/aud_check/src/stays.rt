@@ -4,13 +4,13 @@ ghost use Rattle.std.specs.List.{list_all};
 ghost use Rattle.aud_check.specs.NamedStays.{are_of_session, has_sid, is_of_session};
 ghost use Rattle.aud_check.specs.Frames.{frames_in};
 
-use crate::session::Session;
+use crate::session::ShownSession;
 use aud_client::{Frame, Reply, Stay};
 use aud_tap::Memory;
 use std::alloc::Global;
 
 /// Whether there are stays, and each is of the session's namespace and has a reply with the session's sid.
-pub(crate) fn are_of_session(session: &Session<'_, '_>, stays: &[&Stay<'_>]) -> bool
+pub(crate) fn are_of_session(session: &ShownSession<'_, '_>, stays: &[&Stay<'_>]) -> bool
     ensures { result ≡ are_of_session session.now (map (λ stay. stay.now) stays.now) }
 {
     if stays.is_empty() {
@@ -19,14 +19,14 @@ pub(crate) fn are_of_session(session: &Session<'_, '_>, stays: &[&Stay<'_>]) -> 
     all_are_of_session(session, stays)
 }
 
-fn all_are_of_session(session: &Session<'_, '_>, stays: &[&Stay<'_>]) -> bool
+fn all_are_of_session(session: &ShownSession<'_, '_>, stays: &[&Stay<'_>]) -> bool
     ensures { result ≡ list_all (λ stay. is_of_session session.now stay.now) stays.now }
 {
     stays.iter().all(|stay| is_of_session(session, *stay))
 }
 
 /// Whether the stay is of the session's namespace, and its reply has the session's sid.
-fn is_of_session(session: &Session<'_, '_>, stay: &Stay<'_>) -> bool
+fn is_of_session(session: &ShownSession<'_, '_>, stay: &Stay<'_>) -> bool
     ensures { result ≡ is_of_session session.now stay.now }
 {
     stay.nsp == session.nsp && has_sid(session.sid, &stay.reply)

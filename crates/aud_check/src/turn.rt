@@ -7,10 +7,11 @@ ghost use Rattle.aud_node.specs.Ordered.{is_ordered};
 ghost use Rattle.aud_rooms.specs.TurnPlaces.{IsWithin};
 ghost use Rattle.aud_rooms.specs.Turns.{MayEnd};
 ghost use Rattle.aud_cert.specs.Certificate.{IsTurnOver, log_named, turn_at};
-ghost use Rattle.aud_check.specs.TurnEnd.{end_seen};
-ghost use Rattle.aud_check.specs.TurnRefusals.{AreTurnsAccepted, HasCursors, IsFirstOfTurn, IsFirstOfTurns, IsTurnAccepted, is_begun_by};
+ghost use Rattle.aud_check.specs.Private.TurnEnd.{end_seen};
+ghost use Rattle.aud_check.specs.TurnRefusals.{AreTurnsAccepted, HasCursors, IsTurnAccepted, is_begun_by};
+ghost use Rattle.aud_check.specs.Private.TurnCheck.{IsFirstOfTurn, IsFirstOfTurns};
 
-use crate::place::{place_of, records_at};
+use crate::place::{turn_place, records_at};
 use crate::refusal::Refusal;
 use crate::turn_end::{End, turn_end};
 use aud_cert::Turn;
@@ -51,7 +52,7 @@ pub(crate) fn check_turn(
     if !is_begun_by(turn.recs.get(0), pid, number) {
         return Err(Refusal::NotItsTurn);
     }
-    let place = place_of(logs, turn);
+    let place = turn_place(logs, turn);
     let Some(end) = turn_end(logs, &place, pid, number) else {
         return Err(Refusal::EndInside);
     };

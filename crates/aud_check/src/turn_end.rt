@@ -4,7 +4,7 @@ ghost use Rattle.std.specs.Option.{option_map};
 ghost use Rattle.aud_node.specs.Cluster.{node_log};
 ghost use Rattle.aud_rooms.specs.TurnPlaces.{own_between};
 ghost use Rattle.aud_rooms.specs.Turns.{part_of, slice_of};
-ghost use Rattle.aud_check.specs.TurnEnd.{end_seen, part_seen};
+ghost use Rattle.aud_check.specs.Private.TurnEnd.{end_seen, part_seen};
 ghost use Rattle.aud_check.specs.TurnRefusals.{end_of};
 
 use crate::place::records_at;
@@ -41,7 +41,7 @@ pub(crate) fn turn_end(logs: &Logs<'_>, place: &TurnPlace, pid: &str, turn: usiz
         return Some(End::Log);
     };
     let last = place.to.min(recs.len());
-    for number in own_behind_first(logs, place, pid) {
+    for number in own_after_first(logs, place, pid) {
         let Some(rec) = recs.get(*number) else {
             return None;
         };
@@ -56,16 +56,16 @@ pub(crate) fn turn_end(logs: &Logs<'_>, place: &TurnPlace, pid: &str, turn: usiz
 }
 
 /// The numbers, ascending, of the records at this place after the first one that name the pid.
-fn own_behind_first<'l>(logs: &'l Logs<'_>, place: &TurnPlace, pid: &str) -> &'l [usize]
+fn own_after_first<'l>(logs: &'l Logs<'_>, place: &TurnPlace, pid: &str) -> &'l [usize]
     requires { place.now.from < place.now.to }
     ensures { result.now ≡ own_between (node_log logs.now place.now.node) pid.now (suc place.now.from) place.now.to }
 {
-    let behind_first = TurnPlace {
+    let after_first = TurnPlace {
         node: place.node,
         from: place.from + 1,
         to: place.to,
     };
-    behind_first.own(logs, pid)
+    after_first.own(logs, pid)
 }
 
 /// What the record is to the session's turn with this number.

@@ -1,8 +1,8 @@
 //! What a client asked for when it came back.
 ghost use Rattle.std.specs.Prelude.{◌≡◌, ◌≤◌, ◌&&◌, [], length, map, not};
-ghost use Rattle.aud_client.specs.Told.{FrameSeen};
+ghost use Rattle.aud_client.specs.StaySeen.{FrameSeen};
 ghost use Rattle.aud_client.specs.Received.{is_recovered};
-ghost use Rattle.aud_check.specs.Ascending.{IsAscending, is_cut, is_cut_or_not};
+ghost use Rattle.aud_check.specs.Private.Ascending.{IsAscending, is_cut, is_cut_or_not};
 ghost use Rattle.aud_check.specs.Frames.{asked_position, frames_in, wrong_window};
 
 use aud_client::{Asked, Stay};

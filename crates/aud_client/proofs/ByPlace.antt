@@ -11,27 +11,27 @@ use Rattle.aud_tap.specs.declared.records.StreamRec.{StreamRec}
 use Rattle.aud_tap.specs.declared.records.ClientRec.{ClientRec}
 use Rattle.aud_node.specs.Stream.{Text}
 use Rattle.aud_client.specs.TapPackets.{TapPacket, Connection, tap_packets}
-use Rattle.aud_client.specs.Stays.{namespace, in_namespace, goes_on, whole_stay, stay_after, stay_at, begins, stays_from, stays}
-use Rattle.aud_client.specs.Open.{of_namespace}
-use Rattle.aud_client.specs.Told.{FrameSeen, StaySeen, told, frame_of, frames_of, namespace_of}
-use Rattle.aud_client.specs.Received.{packets_of, stays_of, names, stays_naming, frames_by_stay, received_from, received_list, received_of, are_in}
+use Rattle.aud_client.specs.Stays.{namespace, in_namespace, goes_on, whole_stay, stay_after, stay_at, begins_stay, stays_from, stays}
+use Rattle.aud_client.specs.Private.Open.{of_namespace}
+use Rattle.aud_client.specs.StaySeen.{FrameSeen, StaySeen, stay_of, frame_of, frames_of, namespace_of}
+use Rattle.aud_client.specs.Received.{connection_packets, stays_of, stay_names_pid, stays_naming, frames_by_stay, received_from, received_list, transcript_of, are_in_namespace}
 use Rattle.aud_client.proofs.Places.{same_text, itself_text, stay_after-same, stay_after-other, begins-in, of_stay_at}
 use Rattle.aud_client.proofs.OnePass.{whole_stay-nil}
 use Rattle.aud_client.proofs.Named.{stay_names}
 
--- what follows of the stay among the packets behind, all of one namespace
+-- what follows of the stay among the packets after, all of one namespace
 abbrev pub rest_of : List TapPacket → List TapPacket → List TapPacket
 rest_of stay [] = []
-rest_of stay (q ∷ behind) = cond (goes_on stay q) (q ∷ rest_of (stay ++ q ∷ []) behind) []
+rest_of stay (q ∷ after) = cond (goes_on stay q) (q ∷ rest_of (stay ++ q ∷ []) after) []
 
 -- a stay is its front and what follows of it
-front_and_rest : (stay behind : List TapPacket) → whole_stay stay behind ≡ stay ++ rest_of stay behind
+front_and_rest : (stay after : List TapPacket) → whole_stay stay after ≡ stay ++ rest_of stay after
 front_and_rest stay [] = sym (append-nil stay)
-front_and_rest stay (q ∷ behind) = go (front_and_rest (stay ++ q ∷ []) behind) (goes_on stay q)
+front_and_rest stay (q ∷ after) = go (front_and_rest (stay ++ q ∷ []) after) (goes_on stay q)
   where
-    go : whole_stay (stay ++ q ∷ []) behind ≡ (stay ++ q ∷ []) ++ rest_of (stay ++ q ∷ []) behind → (b : Bool)
-        → cond b (whole_stay (stay ++ q ∷ []) behind) stay ≡ stay ++ cond b (q ∷ rest_of (stay ++ q ∷ []) behind) []
-    go ih true = ih ∙ append_assoc stay (q ∷ []) (rest_of (stay ++ q ∷ []) behind)
+    go : whole_stay (stay ++ q ∷ []) after ≡ (stay ++ q ∷ []) ++ rest_of (stay ++ q ∷ []) after → (b : Bool)
+        → cond b (whole_stay (stay ++ q ∷ []) after) stay ≡ stay ++ cond b (q ∷ rest_of (stay ++ q ∷ []) after) []
+    go ih true = ih ∙ append_assoc stay (q ∷ []) (rest_of (stay ++ q ∷ []) after)
     go ih false = sym (append-nil stay)
 
 module _ (stream : List StreamRec) (pid n : Text) where
@@ -47,16 +47,16 @@ module _ (stream : List StreamRec) (pid n : Text) where
   abbrev pub fits : List TapPacket → Bool
   fits stay = cond (stay_names pid stay) (of_namespace n stay) true
 
-  -- those packets behind that are in the stay that stands open in the namespace, and the stays that begin behind
+  -- those packets after that are in the stay that stands open in the namespace, and the stays that begin after
   abbrev pub Goes : List TapPacket → List TapPacket → Type 0
-  Goes before behind =
-      received_from stream pid before behind
-      ≡ if_named (stay_names pid (whole_stay (stay_after n before) (in_namespace n behind))) (rest_of (stay_after n before) (in_namespace n behind))
-      ++ flat_map of_stay (stays_from before behind)
+  Goes before after =
+      received_from stream pid before after
+      ≡ if_named (stay_names pid (whole_stay (stay_after n before) (in_namespace n after))) (rest_of (stay_after n before) (in_namespace n after))
+      ++ flat_map of_stay (stays_from before after)
 
   -- no stay that stands open in another namespace names the session
   abbrev pub OthersDont : List TapPacket → List TapPacket → Type 0
-  OthersDont before behind = (m : Text) → bytes_eq m n ≡ false → stay_names pid (whole_stay (stay_after m before) (in_namespace m behind)) ≡ false
+  OthersDont before after = (m : Text) → bytes_eq m n ≡ false → stay_names pid (whole_stay (stay_after m before) (in_namespace m after)) ≡ false
 
   -- no packets, no frames
   nothing : (b : Bool) → if_named b [] ≡ []
@@ -80,12 +80,12 @@ module _ (stream : List StreamRec) (pid n : Text) where
   elsewhere : (m : Text) (q : TapPacket) (r : List TapPacket) → bytes_eq (namespace q) m ≡ false → in_namespace m (q ∷ r) ≡ in_namespace m r
   elsewhere m q r is = ap (λ b. cond b (q ∷ in_namespace m r) (in_namespace m r)) is
 
-  -- the stays that begin at the packet or behind it
+  -- the stays that begin at the packet or after it
   abbrev begin_at : (b : Bool) → List TapPacket → TapPacket → List TapPacket → List (List TapPacket)
   begin_at b before q r = cond b (stay_at before q r ∷ stays_from (before ++ q ∷ []) r) (stays_from (before ++ q ∷ []) r)
 
   -- the packet's stay stands open before it, where the packet goes on with it
-  stands_open : (before : List TapPacket) (q : TapPacket) (r : List TapPacket) → begins before q ≡ false
+  stands_open : (before : List TapPacket) (q : TapPacket) (r : List TapPacket) → begins_stay before q ≡ false
       → whole_stay (stay_after (namespace q) before) (in_namespace (namespace q) (q ∷ r)) ≡ stay_at before q r
   stands_open before q r goes =
       let m = namespace q in
@@ -103,7 +103,7 @@ module _ (stream : List StreamRec) (pid n : Text) where
   -- a packet of another namespace is in no stay that names the session
   other_dont : (before : List TapPacket) (q : TapPacket) (r : List TapPacket) → list_all fits (stays_from before (q ∷ r)) ≡ true → OthersDont before (q ∷ r)
       → bytes_eq (namespace q) n ≡ false → stay_names pid (stay_at before q r) ≡ false
-  other_dont before q r fit others other = elim (cases_Bool (begins before q)) [
+  other_dont before q r fit others other = elim (cases_Bool (begins_stay before q)) [
     | inl starts ↦
         let first : fits (stay_at before q r) ≡ true =
         (and_parts _ _ (sym (ap (λ b. list_all fits (begin_at b before q r)) starts) ∙ fit)).0 in
@@ -112,18 +112,18 @@ module _ (stream : List StreamRec) (pid n : Text) where
   ]
 
   -- the stays that begin later fit too
-  fit_behind : (before : List TapPacket) (q : TapPacket) (r : List TapPacket) → list_all fits (stays_from before (q ∷ r)) ≡ true
+  fit_after : (before : List TapPacket) (q : TapPacket) (r : List TapPacket) → list_all fits (stays_from before (q ∷ r)) ≡ true
       → list_all fits (stays_from (before ++ q ∷ []) r) ≡ true
-  fit_behind before q r fit = go (begins before q) fit
+  fit_after before q r fit = go (begins_stay before q) fit
     where
       go : (b : Bool) → list_all fits (begin_at b before q r) ≡ true → list_all fits (stays_from (before ++ q ∷ []) r) ≡ true
       go true e = (and_parts _ _ e).1
       go false e = e
 
   -- after the packet, too, no stay open in another namespace names the session
-  others_behind : (before : List TapPacket) (q : TapPacket) (r : List TapPacket) → list_all fits (stays_from before (q ∷ r)) ≡ true → OthersDont before (q ∷ r)
+  others_after : (before : List TapPacket) (q : TapPacket) (r : List TapPacket) → list_all fits (stays_from before (q ∷ r)) ≡ true → OthersDont before (q ∷ r)
       → OthersDont (before ++ q ∷ []) r
-  others_behind before q r fit others m other = elim (cases_Bool (bytes_eq (namespace q) m)) [
+  others_after before q r fit others m other = elim (cases_Bool (bytes_eq (namespace q) m)) [
     | inl is ↦
         let same = same_text (namespace q) m is in
         ap (λ k. stay_names pid (whole_stay (stay_after k (before ++ q ∷ [])) (in_namespace k r))) (sym same)
@@ -134,7 +134,7 @@ module _ (stream : List StreamRec) (pid n : Text) where
         ∙ others m other
   ]
 
-  -- ---- the packet in front of those behind
+  -- ---- the packet in front of those after
 
   -- what the stay that stands open gives
   abbrev from_open : List TapPacket → List TapPacket → List FrameSeen
@@ -148,7 +148,7 @@ module _ (stream : List StreamRec) (pid n : Text) where
       ∙ ih
       ∙ ap (λ s. from_open s (in_namespace n r) ++ flat_map of_stay (stays_from (before ++ q ∷ []) r)) (stay_after-other n before q other)
       ∙ ap (λ l. from_open (stay_after n before) l ++ flat_map of_stay (stays_from (before ++ q ∷ []) r)) (sym (elsewhere n q r other))
-      ∙ ap (λ l. from_open (stay_after n before) (in_namespace n (q ∷ r)) ++ l) (sym (dropped (begins before q)))
+      ∙ ap (λ l. from_open (stay_after n before) (in_namespace n (q ∷ r)) ++ l) (sym (dropped (begins_stay before q)))
     where
       dropped : (b : Bool) → flat_map of_stay (begin_at b before q r) ≡ flat_map of_stay (stays_from (before ++ q ∷ []) r)
       dropped true = ap (λ b. if_named b (stay_at before q r) ++ flat_map of_stay (stays_from (before ++ q ∷ []) r)) names_not
@@ -215,15 +215,15 @@ module _ (stream : List StreamRec) (pid n : Text) where
           ∙ ap (λ s. of_stay s ++ later) at
 
   -- packet after packet
-  goes : (before behind : List TapPacket) → list_all fits (stays_from before behind) ≡ true → OthersDont before behind → Goes before behind
+  goes : (before after : List TapPacket) → list_all fits (stays_from before after) ≡ true → OthersDont before after → Goes before after
   goes before [] fit others = sym (ap (λ l. l ++ []) (nothing (stay_names pid (stay_after n before))))
   goes before (q ∷ r) fit others = elim (cases_Bool (bytes_eq (namespace q) n)) [
     | inr other ↦
         goes-other before q r other (other_dont before q r fit others other)
-        (goes (before ++ q ∷ []) r (fit_behind before q r fit) (others_behind before q r fit others))
+        (goes (before ++ q ∷ []) r (fit_after before q r fit) (others_after before q r fit others))
     | inl same ↦ elim (cases_Bool (goes_on (stay_after n before) q)) [
-      | inl on ↦ goes-on before q r same on (goes (before ++ q ∷ []) r (fit_behind before q r fit) (others_behind before q r fit others))
-      | inr starts ↦ goes-begins before q r same starts (goes (before ++ q ∷ []) r (fit_behind before q r fit) (others_behind before q r fit others))
+      | inl on ↦ goes-on before q r same on (goes (before ++ q ∷ []) r (fit_after before q r fit) (others_after before q r fit others))
+      | inr starts ↦ goes-begins before q r same starts (goes (before ++ q ∷ []) r (fit_after before q r fit) (others_after before q r fit others))
     ]
   ]
 
@@ -241,18 +241,18 @@ module _ (stream : List StreamRec) (pid n : Text) where
       ∙ ap (λ x. x ++ flat_map of_stay (stays l)) (nothing (stay_names pid (whole_stay [] (in_namespace n l))))
 
   -- the frames by stay, over what the stays tell
-  by_stay : (c : ℕ) (ss : List (List TapPacket)) → flat_map of_stay ss ≡ frames_by_stay pid (map (told stream c) ss)
+  by_stay : (c : ℕ) (ss : List (List TapPacket)) → flat_map of_stay ss ≡ frames_by_stay pid (map (stay_of stream c) ss)
   by_stay c [] = refl
   by_stay c (s ∷ ss) = go (stay_names pid s) (by_stay c ss)
     where
-      go : (b : Bool) → flat_map of_stay ss ≡ frames_by_stay pid (map (told stream c) ss)
+      go : (b : Bool) → flat_map of_stay ss ≡ frames_by_stay pid (map (stay_of stream c) ss)
           → if_named b s ++ flat_map of_stay ss
-          ≡ flat_map (λ stay. stay.frames) (cond b (told stream c s ∷ stays_naming pid (map (told stream c) ss)) (stays_naming pid (map (told stream c) ss)))
+          ≡ flat_map (λ stay. stay.frames) (cond b (stay_of stream c s ∷ stays_naming pid (map (stay_of stream c) ss)) (stays_naming pid (map (stay_of stream c) ss)))
       go true ih = ap (λ l. frames_of stream s ++ l) ih
       go false ih = ih
 
   -- where the naming stays are in the namespace, all stays fit
-  fit : (c : ℕ) (ss : List (List TapPacket)) → are_in n (stays_naming pid (map (told stream c) ss)) ≡ true → list_all fits ss ≡ true
+  fit : (c : ℕ) (ss : List (List TapPacket)) → are_in_namespace n (stays_naming pid (map (stay_of stream c) ss)) ≡ true → list_all fits ss ≡ true
   fit c [] e = refl
   fit c (s ∷ ss) e = go (stay_names pid s) refl e (fit c ss)
     where
@@ -261,11 +261,11 @@ module _ (stream : List StreamRec) (pid n : Text) where
       in_it (p ∷ ps) names_it e = e
 
       go : (b : Bool) → stay_names pid s ≡ b
-          → are_in n (cond b (told stream c s ∷ stays_naming pid (map (told stream c) ss)) (stays_naming pid (map (told stream c) ss))) ≡ true
-          → (are_in n (stays_naming pid (map (told stream c) ss)) ≡ true → list_all fits ss ≡ true)
+          → are_in_namespace n (cond b (stay_of stream c s ∷ stays_naming pid (map (stay_of stream c) ss)) (stays_naming pid (map (stay_of stream c) ss))) ≡ true
+          → (are_in_namespace n (stays_naming pid (map (stay_of stream c) ss)) ≡ true → list_all fits ss ≡ true)
           → (cond b (of_namespace n s) true && list_all fits ss) ≡ true
       go true is e ih =
-          let parts = and_parts (bytes_eq (namespace_of s) n) (are_in n (stays_naming pid (map (told stream c) ss))) e in
+          let parts = and_parts (bytes_eq (namespace_of s) n) (are_in_namespace n (stays_naming pid (map (stay_of stream c) ss))) e in
           and_from _ _ (in_it s is parts.0) (ih parts.1)
       go false is e ih = ih e
 
@@ -273,25 +273,25 @@ module _ (stream : List StreamRec) (pid n : Text) where
 
   -- the frames by stay, of two lists of stays
   joined_frames : (ss us : List StaySeen) → frames_by_stay pid (ss ++ us) ≡ frames_by_stay pid ss ++ frames_by_stay pid us
-  joined_frames ss us = ap (flat_map (λ (stay : StaySeen). stay.frames)) (filter-append (names pid) ss us) ∙ flat_map-append (λ (stay : StaySeen). stay.frames) (stays_naming pid ss) (stays_naming pid us)
+  joined_frames ss us = ap (flat_map (λ (stay : StaySeen). stay.frames)) (filter-append (stay_names_pid pid) ss us) ∙ flat_map-append (λ (stay : StaySeen). stay.frames) (stays_naming pid ss) (stays_naming pid us)
 
   -- connection after connection
-  of_connections : (connections : List Connection) → are_in n (stays_naming pid (flat_map (stays_of stream) connections)) ≡ true
-      → flat_map (λ (connection : Connection). received_from stream pid [] (packets_of connection)) connections ≡ frames_by_stay pid (flat_map (stays_of stream) connections)
+  of_connections : (connections : List Connection) → are_in_namespace n (stays_naming pid (flat_map (stays_of stream) connections)) ≡ true
+      → flat_map (λ (connection : Connection). received_from stream pid [] (connection_packets connection)) connections ≡ frames_by_stay pid (flat_map (stays_of stream) connections)
   of_connections [] e = refl
   of_connections (connection ∷ connections) e =
-      let behind = flat_map (stays_of stream) connections in
+      let after = flat_map (stays_of stream) connections in
       let parts =
-      and_parts (are_in n (stays_naming pid (stays_of stream connection))) (are_in n (stays_naming pid behind))
-      (sym (ap (are_in n) (filter-append (names pid) (stays_of stream connection) behind)
-      ∙ list_all-append (λ (stay : StaySeen). bytes_eq stay.nsp n) (stays_naming pid (stays_of stream connection)) (stays_naming pid behind))
+      and_parts (are_in_namespace n (stays_naming pid (stays_of stream connection))) (are_in_namespace n (stays_naming pid after))
+      (sym (ap (are_in_namespace n) (filter-append (stay_names_pid pid) (stays_of stream connection) after)
+      ∙ list_all-append (λ (stay : StaySeen). bytes_eq stay.nsp n) (stays_naming pid (stays_of stream connection)) (stays_naming pid after))
       ∙ e) in
-      ap (λ l. l ++ flat_map (λ (c : Connection). received_from stream pid [] (packets_of c)) connections)
-      (by_place (packets_of connection) (fit connection.c (stays (packets_of connection)) parts.0) ∙ by_stay connection.c (stays (packets_of connection)))
+      ap (λ l. l ++ flat_map (λ (c : Connection). received_from stream pid [] (connection_packets c)) connections)
+      (by_place (connection_packets connection) (fit connection.c (stays (connection_packets connection)) parts.0) ∙ by_stay connection.c (stays (connection_packets connection)))
       ∙ ap (λ l. frames_by_stay pid (stays_of stream connection) ++ l) (of_connections connections parts.1)
-      ∙ sym (joined_frames (stays_of stream connection) behind)
+      ∙ sym (joined_frames (stays_of stream connection) after)
 
 -- the law
-pub received_by_stays : (stream : List StreamRec) (recs : List ClientRec) (pid nsp : Text) → are_in nsp (stays_naming pid (received_of stream recs).stays) ≡ true
-    → received_list stream recs pid ≡ frames_by_stay pid (received_of stream recs).stays
+pub received_by_stays : (stream : List StreamRec) (recs : List ClientRec) (pid nsp : Text) → are_in_namespace nsp (stays_naming pid (transcript_of stream recs).stays) ≡ true
+    → received_list stream recs pid ≡ frames_by_stay pid (transcript_of stream recs).stays
 received_by_stays stream recs pid nsp e = of_connections stream pid nsp (tap_packets recs).connections e

@@ -4,9 +4,9 @@ use Rattle.aud_tap.specs.declared.records.ClientRec.{ClientRec}
 use Rattle.aud_tap.specs.declared.records.ClientRec.TheVariants.{Conn, TextIn, BytesIn, Poll, TextOut, Lost}
 use Rattle.aud_sio.specs.Wholes.{wholes_of}
 use Rattle.std.specs.List.{filter}
-use Rattle.aud_client.specs.TapPackets.{Connection, numbered, until_end, connections_in, messages_at, answers_in, packets_at, packets_in, is_bad, bad_in, first_of}
-use Rattle.aud_client.specs.ConnectionRead.{HasRead, packets_read, inside}
-use Rattle.aud_client.specs.ClientRead.{begun, bad_of, cut_seen}
+use Rattle.aud_client.specs.TapPackets.{Connection, numbered_records, until_end, connections_in, messages_at, answers_in, packets_at, packets_in, is_bad, bad_in, first_of}
+use Rattle.aud_client.specs.Private.ConnectionRead.{HasRead, packets_read, inside}
+use Rattle.aud_client.specs.Private.ClientRead.{begun, bad_of, cut_seen}
 use Rattle.std.specs.Option.{option_or}
 use Rattle.std.proofs.lemmas.List.{map-append, drop_all}
 use Rattle.std.proofs.lemmas.Grind.{flat_map-append}
@@ -14,7 +14,7 @@ use Rattle.aud_client.specs.declared.connection.Reader.{Reader}
 use Rattle.aud_client.proofs.Telling.{or_none}
 
 -- what stands before the next end
-pub until_end-numbered : (n : ℕ) (recs : List ClientRec) → until_end (numbered n recs) ≡ numbered n (inside recs)
+pub until_end-numbered : (n : ℕ) (recs : List ClientRec) → until_end (numbered_records n recs) ≡ numbered_records n (inside recs)
 until_end-numbered n [] = refl
 until_end-numbered n (Conn c ∷ recs) = refl
 until_end-numbered n (Lost ∷ recs) = refl
@@ -24,8 +24,8 @@ until_end-numbered n (Poll t ∷ recs) = ap (λ r. (n, Poll t) ∷ r) (until_end
 until_end-numbered n (TextOut t ∷ recs) = ap (λ r. (n, TextOut t) ∷ r) (until_end-numbered (suc n) recs)
 
 -- one record more in front
-pub connections_in-cons : (n : ℕ) (rec : ClientRec) (recs : List ClientRec) → connections_in (numbered n (rec ∷ recs)) ≡ begun n rec recs ++ connections_in (numbered (suc n) recs)
-connections_in-cons n (Conn c) recs = ap (λ r. (c, r) ∷ connections_in (numbered (suc n) recs)) (until_end-numbered (suc n) recs)
+pub connections_in-cons : (n : ℕ) (rec : ClientRec) (recs : List ClientRec) → connections_in (numbered_records n (rec ∷ recs)) ≡ begun n rec recs ++ connections_in (numbered_records (suc n) recs)
+connections_in-cons n (Conn c) recs = ap (λ r. (c, r) ∷ connections_in (numbered_records (suc n) recs)) (until_end-numbered (suc n) recs)
 connections_in-cons n Lost recs = refl
 connections_in-cons n (TextIn t) recs = refl
 connections_in-cons n (BytesIn b) recs = refl
@@ -33,16 +33,16 @@ connections_in-cons n (Poll t) recs = refl
 connections_in-cons n (TextOut t) recs = refl
 
 -- all that a connection gives
-pub answers-all : (first : ℕ) (recs : List ClientRec) (reader : Reader) (h : HasRead first recs reader) → answers_in (numbered first recs) ≡ h.answers
+pub answers-all : (first : ℕ) (recs : List ClientRec) (reader : Reader) (h : HasRead first recs reader) → answers_in (numbered_records first recs) ≡ h.answers
 answers-all first recs reader h =
-    ap wholes_of (sym (append-nil (flat_map messages_at (numbered first recs)))) ∙ h.continues [] ∙ ap (λ r. h.answers ++ r) h.waits ∙ append-nil h.answers
+    ap wholes_of (sym (append-nil (flat_map messages_at (numbered_records first recs)))) ∙ h.continues [] ∙ ap (λ r. h.answers ++ r) h.waits ∙ append-nil h.answers
 
 -- the packets of a connection that was read
-pub packets-all : (first : ℕ) (recs : List ClientRec) (reader : Reader) → HasRead first recs reader → packets_read reader ≡ packets_in (numbered first recs)
-packets-all first recs reader h = h.packets_are ∙ ap (λ xs. flat_map (packets_at xs) (numbered first recs)) (sym (answers-all first recs reader h))
+pub packets-all : (first : ℕ) (recs : List ClientRec) (reader : Reader) → HasRead first recs reader → packets_read reader ≡ packets_in (numbered_records first recs)
+packets-all first recs reader h = h.packets_are ∙ ap (λ xs. flat_map (packets_at xs) (numbered_records first recs)) (sym (answers-all first recs reader h))
 
-pub bad-all : (first : ℕ) (recs : List ClientRec) (reader : Reader) → HasRead first recs reader → reader.bad ≡ first_of (bad_in (numbered first recs))
-bad-all first recs reader h = h.bad_is ∙ ap (λ xs. first_of (map (λ (rec : ℕ × ClientRec). rec.0) (filter (is_bad xs) (numbered first recs)))) (sym (answers-all first recs reader h))
+pub bad-all : (first : ℕ) (recs : List ClientRec) (reader : Reader) → HasRead first recs reader → reader.bad ≡ first_of (bad_in (numbered_records first recs))
+bad-all first recs reader h = h.bad_is ∙ ap (λ xs. first_of (map (λ (rec : ℕ × ClientRec). rec.0) (filter (is_bad xs) (numbered_records first recs)))) (sym (answers-all first recs reader h))
 
 -- the first of two lists
 pub first_of-append : (xs ys : List ℕ) → first_of (xs ++ ys) ≡ option_or (first_of xs) (first_of ys)
@@ -55,8 +55,8 @@ option_or_assoc (Some n) b c = refl
 
 -- what was read of the first records, and what the others give
 pub record HasTaken (recs : List ClientRec) (i : ℕ) (seen : List Connection) (bad : Option ℕ) : Type 0 where
-  pub connections_are : seen ++ map cut_seen (connections_in (numbered i (drop i recs))) ≡ map cut_seen (connections_in (numbered 0 recs))
-  pub bad_is : option_or bad (bad_of (connections_in (numbered i (drop i recs)))) ≡ bad_of (connections_in (numbered 0 recs))
+  pub connections_are : seen ++ map cut_seen (connections_in (numbered_records i (drop i recs))) ≡ map cut_seen (connections_in (numbered_records 0 recs))
+  pub bad_is : option_or bad (bad_of (connections_in (numbered_records i (drop i recs)))) ≡ bad_of (connections_in (numbered_records 0 recs))
 
 -- one record more was taken
 pub HasTaken-more : (recs : List ClientRec) (i : ℕ) (rec : ClientRec) (seen after : List Connection) (bad first : Option ℕ) → drop i recs ≡ rec ∷ drop (i + 1) recs
@@ -66,17 +66,17 @@ HasTaken-more recs i rec seen after bad first front seen_is bad_is held =
     let next : i + 1 ≡ suc i = omega arith in
     let rest = drop (i + 1) recs in
     let begins = begun i rec rest in
-    let later = connections_in (numbered (suc i) rest) in
-    let all : connections_in (numbered i (drop i recs)) ≡ begins ++ later = ap (λ r. connections_in (numbered i r)) front ∙ connections_in-cons i rec rest in
+    let later = connections_in (numbered_records (suc i) rest) in
+    let all : connections_in (numbered_records i (drop i recs)) ≡ begins ++ later = ap (λ r. connections_in (numbered_records i r)) front ∙ connections_in-cons i rec rest in
     record {
       connections_are =
-          ap (λ n. after ++ map cut_seen (connections_in (numbered n rest))) next
+          ap (λ n. after ++ map cut_seen (connections_in (numbered_records n rest))) next
           ∙ ap (λ r. r ++ map cut_seen later) seen_is
           ∙ append_assoc seen (map cut_seen begins) (map cut_seen later)
           ∙ ap (λ r. seen ++ r) (sym (ap (map cut_seen) all ∙ map-append cut_seen begins later))
           ∙ held.connections_are;
       bad_is =
-          ap (λ n. option_or first (bad_of (connections_in (numbered n rest)))) next
+          ap (λ n. option_or first (bad_of (connections_in (numbered_records n rest)))) next
           ∙ ap (λ r. option_or r (bad_of later)) bad_is
           ∙ option_or_assoc bad (bad_of begins) (bad_of later)
           ∙ ap (option_or bad) (sym (ap bad_of all ∙ ap first_of (flat_map-append (λ (cut : ℕ × List (ℕ × ClientRec)). bad_in cut.1) begins later) ∙ first_of-append (flat_map (λ (cut : ℕ × List (ℕ × ClientRec)). bad_in cut.1) begins) (flat_map (λ (cut : ℕ × List (ℕ × ClientRec)). bad_in cut.1) later)))
@@ -85,9 +85,9 @@ HasTaken-more recs i rec seen after bad first front seen_is bad_is held =
 
 -- all records were taken
 pub HasTaken-all : (recs : List ClientRec) (i : ℕ) (seen : List Connection) (bad : Option ℕ) → length recs ≤ i → HasTaken recs i seen bad
-    → (seen ≡ map cut_seen (connections_in (numbered 0 recs))) × (bad ≡ bad_of (connections_in (numbered 0 recs)))
+    → (seen ≡ map cut_seen (connections_in (numbered_records 0 recs))) × (bad ≡ bad_of (connections_in (numbered_records 0 recs)))
 HasTaken-all recs i seen bad end held =
     let none : drop i recs ≡ [] = drop_all i recs end in (
-      sym (append-nil seen) ∙ sym (ap (λ r. seen ++ map cut_seen (connections_in (numbered i r))) none) ∙ held.connections_are,
-      sym (or_none bad) ∙ sym (ap (λ r. option_or bad (bad_of (connections_in (numbered i r)))) none) ∙ held.bad_is,
+      sym (append-nil seen) ∙ sym (ap (λ r. seen ++ map cut_seen (connections_in (numbered_records i r))) none) ∙ held.connections_are,
+      sym (or_none bad) ∙ sym (ap (λ r. option_or bad (bad_of (connections_in (numbered_records i r)))) none) ∙ held.bad_is,
     )

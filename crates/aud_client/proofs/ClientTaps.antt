@@ -12,37 +12,36 @@ use Rattle.aud_node.specs.NodeTaps.{client_recs, client_at}
 use Rattle.aud_node.specs.Cluster.{Cluster}
 use Rattle.aud_node.specs.Stream.{Text}
 use Rattle.aud_client.specs.Replies.{is_naming, naming_places}
-use Rattle.aud_client.specs.Received.{ReceivedSeen, received_of}
-use Rattle.aud_client.specs.Clients.{told_by, is_told, places_telling}
-use Rattle.aud_client.specs.Recording.{told_at}
+use Rattle.aud_client.specs.Received.{TranscriptSeen, transcript_of, transcript_at}
+use Rattle.aud_client.specs.Private.Clients.{transcript_in, has_naming_stay, naming_transcripts}
 use Rattle.aud_client.proofs.Named.{named_by_replies}
 
 -- what stands at a place, if there is one
-abbrev pub flat : Option (Option ReceivedSeen) → Option ReceivedSeen
-flat o = option_and_then (λ told. told) o
+abbrev pub flat : Option (Option TranscriptSeen) → Option TranscriptSeen
+flat o = option_and_then (λ transcript. transcript) o
 
 -- what the tap at a place tells
-flat-told : (stream : List StreamRec) (o : Option Tap) → flat (option_map (told_by stream) o) ≡ option_map (received_of stream) (option_and_then client_recs o)
-flat-told stream None = refl
-flat-told stream (Some tap) = refl
+flat-transcript : (stream : List StreamRec) (o : Option Tap) → flat (option_map (transcript_in stream) o) ≡ option_map (transcript_of stream) (option_and_then client_recs o)
+flat-transcript stream None = refl
+flat-transcript stream (Some tap) = refl
 
 -- what is kept at the place is what the client's tap there tells
-pub told_at-kept : (c : Cluster) (clients : List (Option ReceivedSeen)) (place : ℕ) → clients ≡ map (told_by c.stream) c.taps → flat (slice_get clients place) ≡ told_at c place
+pub told_at-kept : (c : Cluster) (clients : List (Option TranscriptSeen)) (place : ℕ) → clients ≡ map (transcript_in c.stream) c.taps → flat (slice_get clients place) ≡ transcript_at c place
 told_at-kept c clients place kept =
-    ap flat (ap (λ told. slice_get told place) kept ∙ slice_get-map (told_by c.stream) c.taps place) ∙ flat-told c.stream (slice_get c.taps place)
+    ap flat (ap (λ transcript. slice_get transcript place) kept ∙ slice_get-map (transcript_in c.stream) c.taps place) ∙ flat-transcript c.stream (slice_get c.taps place)
 
 -- a tap tells of a stay of the session where it names the session
-told-naming : (stream : List StreamRec) (pid : Text) (recs : Option (List ClientRec)) → is_told pid (option_map (received_of stream) recs) ≡ is_naming pid recs
-told-naming stream pid None = refl
-told-naming stream pid (Some recs) = named_by_replies stream recs pid
+transcript-naming : (stream : List StreamRec) (pid : Text) (recs : Option (List ClientRec)) → has_naming_stay pid (option_map (transcript_of stream) recs) ≡ is_naming pid recs
+transcript-naming stream pid None = refl
+transcript-naming stream pid (Some recs) = named_by_replies stream recs pid
 
 filter-alike : (p q : ℕ → Bool) (xs : List ℕ) → ((x : ℕ) → p x ≡ q x) → filter p xs ≡ filter q xs
 filter-alike p q [] alike = refl
 filter-alike p q (x ∷ xs) alike = ap (λ b. cond b (x ∷ filter p xs) (filter p xs)) (alike x) ∙ ap (λ ys. cond (q x) (x ∷ ys) ys) (filter-alike p q xs alike)
 
 -- the places of those that tell of a stay of the session are those of the taps that name it
-pub places_naming : (c : Cluster) (clients : List (Option ReceivedSeen)) (pid : Text) → clients ≡ map (told_by c.stream) c.taps → places_telling clients pid ≡ naming_places c.taps pid
+pub places_naming : (c : Cluster) (clients : List (Option TranscriptSeen)) (pid : Text) → clients ≡ map (transcript_in c.stream) c.taps → naming_transcripts clients pid ≡ naming_places c.taps pid
 places_naming c clients pid kept =
-    filter-alike (λ place. is_told pid (flat (slice_get clients place))) (λ place. is_naming pid (client_at c place)) (numbers_from 0 (length clients))
-    (λ place. ap (is_told pid) (told_at-kept c clients place kept) ∙ told-naming c.stream pid (client_at c place))
-    ∙ ap (λ n. filter (λ place. is_naming pid (client_at c place)) (numbers_from 0 n)) (ap length kept ∙ length-map c.taps (told_by c.stream))
+    filter-alike (λ place. has_naming_stay pid (flat (slice_get clients place))) (λ place. is_naming pid (client_at c place)) (numbers_from 0 (length clients))
+    (λ place. ap (has_naming_stay pid) (told_at-kept c clients place kept) ∙ transcript-naming c.stream pid (client_at c place))
+    ∙ ap (λ n. filter (λ place. is_naming pid (client_at c place)) (numbers_from 0 n)) (ap length kept ∙ length-map c.taps (transcript_in c.stream))

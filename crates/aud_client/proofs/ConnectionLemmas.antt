@@ -8,8 +8,8 @@ use Rattle.aud_tap.specs.declared.records.ClientRec.TheVariants.{Conn, TextIn, B
 use Rattle.aud_sio.specs.Message.{at}
 use Rattle.aud_sio.specs.Wholes.{Answer, wholes_of}
 use Rattle.aud_sio.specs.Assembly.{Waits, wholes_after}
-use Rattle.aud_client.specs.TapPackets.{Received, received, numbered, messages_at, packets_at, is_bad, is_refused, engine_packets, first_of}
-use Rattle.aud_client.specs.ConnectionRead.{AreBefore, HasRead, ReadsRecord, packets_read, bad_or}
+use Rattle.aud_client.specs.TapPackets.{FromServer, server_packets, numbered_records, messages_at, packets_at, is_bad, is_refused, engine_packets, first_of}
+use Rattle.aud_client.specs.Private.ConnectionRead.{AreBefore, HasRead, ReadsRecord, packets_read, bad_or}
 use Rattle.aud_client.specs.declared.connection.Reader.{Reader}
 
 -- numbers of other records
@@ -24,10 +24,10 @@ abbrev refused_at : ℕ → List (ℕ × Answer) → Bool
 refused_at number answers = list_any (λ (answer : ℕ × Answer). nat_eq answer.0 number && is_refused answer.1) answers
 
 -- of the record with this number, answers at lesser numbers tell nothing
-received-before : (n : ℕ) (xs ys : List (ℕ × Answer)) → AreBefore n xs → received n (xs ++ ys) ≡ received n ys
+received-before : (n : ℕ) (xs ys : List (ℕ × Answer)) → AreBefore n xs → server_packets n (xs ++ ys) ≡ server_packets n ys
 received-before n [] ys h = refl
 received-before n ((place, Ok whole) ∷ xs) ys h =
-    ap (λ b. cond b (Received whole ∷ received n (xs ++ ys)) (received n (xs ++ ys))) (differ place n h.0) ∙ received-before n xs ys h.1
+    ap (λ b. cond b (FromServer whole ∷ server_packets n (xs ++ ys)) (server_packets n (xs ++ ys))) (differ place n h.0) ∙ received-before n xs ys h.1
 received-before n ((place, Err fault) ∷ xs) ys h = received-before n xs ys h.1
 
 refused_at-before : (n : ℕ) (xs ys : List (ℕ × Answer)) → AreBefore n xs → refused_at n (xs ++ ys) ≡ refused_at n ys
@@ -36,10 +36,10 @@ refused_at-before n (x ∷ xs) ys h =
     ap (λ b. (b && is_refused x.1) || refused_at n (xs ++ ys)) (differ x.0 n h.0) ∙ refused_at-before n xs ys h.1
 
 -- nor do those at greater ones
-received-elsewhere : (k n : ℕ) (xs : List Answer) → k < n → received k (at n xs) ≡ []
+received-elsewhere : (k n : ℕ) (xs : List Answer) → k < n → server_packets k (at n xs) ≡ []
 received-elsewhere k n [] h = refl
 received-elsewhere k n (Ok whole ∷ xs) h =
-    ap (λ b. cond b (Received whole ∷ received k (at n xs)) (received k (at n xs))) (differ_up k n h) ∙ received-elsewhere k n xs h
+    ap (λ b. cond b (FromServer whole ∷ server_packets k (at n xs)) (server_packets k (at n xs))) (differ_up k n h) ∙ received-elsewhere k n xs h
 received-elsewhere k n (Err fault ∷ xs) h = received-elsewhere k n xs h
 
 refused_at-elsewhere : (k n : ℕ) (xs : List Answer) → k < n → refused_at k (at n xs) ≡ false
@@ -47,9 +47,9 @@ refused_at-elsewhere k n [] h = refl
 refused_at-elsewhere k n (x ∷ xs) h = ap (λ b. (b && is_refused x) || refused_at k (at n xs)) (differ_up k n h) ∙ refused_at-elsewhere k n xs h
 
 -- answers at a later record add nothing to an earlier one
-received-other : (k n : ℕ) (xs : List (ℕ × Answer)) (ys : List Answer) → k < n → received k (xs ++ at n ys) ≡ received k xs
+received-other : (k n : ℕ) (xs : List (ℕ × Answer)) (ys : List Answer) → k < n → server_packets k (xs ++ at n ys) ≡ server_packets k xs
 received-other k n [] ys h = received-elsewhere k n ys h
-received-other k n ((place, Ok whole) ∷ xs) ys h = ap (λ r. cond (nat_eq place k) (Received whole ∷ r) r) (received-other k n xs ys h)
+received-other k n ((place, Ok whole) ∷ xs) ys h = ap (λ r. cond (nat_eq place k) (FromServer whole ∷ r) r) (received-other k n xs ys h)
 received-other k n ((place, Err fault) ∷ xs) ys h = received-other k n xs ys h
 
 refused_at-other : (k n : ℕ) (xs : List (ℕ × Answer)) (ys : List Answer) → k < n → refused_at k (xs ++ at n ys) ≡ refused_at k xs
@@ -57,7 +57,7 @@ refused_at-other k n [] ys h = refused_at-elsewhere k n ys h
 refused_at-other k n (x ∷ xs) ys h = ap (λ r. (nat_eq x.0 k && is_refused x.1) || r) (refused_at-other k n xs ys h)
 
 -- the packets at a record, by what was received there
-packets_at-same : (xs ys : List (ℕ × Answer)) (k : ℕ) (rec : ClientRec) → received k xs ≡ received k ys → packets_at xs (k, rec) ≡ packets_at ys (k, rec)
+packets_at-same : (xs ys : List (ℕ × Answer)) (k : ℕ) (rec : ClientRec) → server_packets k xs ≡ server_packets k ys → packets_at xs (k, rec) ≡ packets_at ys (k, rec)
 packets_at-same xs ys k (Conn c) e = ap (at k) e
 packets_at-same xs ys k (TextIn t) e = ap (at k) e
 packets_at-same xs ys k (BytesIn b) e = ap (at k) e
@@ -66,25 +66,25 @@ packets_at-same xs ys k (TextOut t) e = refl
 packets_at-same xs ys k Lost e = ap (at k) e
 
 -- the numbers go on
-numbered-append : (first : ℕ) (xs ys : List ClientRec) → numbered first (xs ++ ys) ≡ numbered first xs ++ numbered (first + length xs) ys
-numbered-append first [] ys = let e : first ≡ first + 0 = omega arith in ap (λ n. numbered n ys) e
+numbered-append : (first : ℕ) (xs ys : List ClientRec) → numbered_records first (xs ++ ys) ≡ numbered_records first xs ++ numbered_records (first + length xs) ys
+numbered-append first [] ys = let e : first ≡ first + 0 = omega arith in ap (λ n. numbered_records n ys) e
 numbered-append first (x ∷ xs) ys =
     let e : suc first + length xs ≡ first + suc (length xs) = omega arith in
-    ap (λ r. (first, x) ∷ r) (numbered-append (suc first) xs ys ∙ ap (λ n. numbered (suc first) xs ++ numbered n ys) e)
+    ap (λ r. (first, x) ∷ r) (numbered-append (suc first) xs ys ∙ ap (λ n. numbered_records (suc first) xs ++ numbered_records n ys) e)
 
 -- what the first records give doesn't change with answers at a later one
 packets-other : (n first : ℕ) (xs : List (ℕ × Answer)) (ys : List Answer) (recs : List ClientRec) → first + length recs ≤ n
-    → flat_map (packets_at (xs ++ at n ys)) (numbered first recs) ≡ flat_map (packets_at xs) (numbered first recs)
+    → flat_map (packets_at (xs ++ at n ys)) (numbered_records first recs) ≡ flat_map (packets_at xs) (numbered_records first recs)
 packets-other n first xs ys [] h = refl
 packets-other n first xs ys (rec ∷ recs) h =
-    ap (λ r. r ++ flat_map (packets_at (xs ++ at n ys)) (numbered (suc first) recs)) (packets_at-same (xs ++ at n ys) xs first rec (received-other first n xs ys (omega arith)))
+    ap (λ r. r ++ flat_map (packets_at (xs ++ at n ys)) (numbered_records (suc first) recs)) (packets_at-same (xs ++ at n ys) xs first rec (received-other first n xs ys (omega arith)))
     ∙ ap (λ r. packets_at xs (first, rec) ++ r) (packets-other n (suc first) xs ys recs (omega arith))
 
 bad-other : (n first : ℕ) (xs : List (ℕ × Answer)) (ys : List Answer) (recs : List ClientRec) → first + length recs ≤ n
-    → filter (is_bad (xs ++ at n ys)) (numbered first recs) ≡ filter (is_bad xs) (numbered first recs)
+    → filter (is_bad (xs ++ at n ys)) (numbered_records first recs) ≡ filter (is_bad xs) (numbered_records first recs)
 bad-other n first xs ys [] h = refl
 bad-other n first xs ys (rec ∷ recs) h =
-    ap (λ b. cond b ((first, rec) ∷ filter (is_bad (xs ++ at n ys)) (numbered (suc first) recs)) (filter (is_bad (xs ++ at n ys)) (numbered (suc first) recs)))
+    ap (λ b. cond b ((first, rec) ∷ filter (is_bad (xs ++ at n ys)) (numbered_records (suc first) recs)) (filter (is_bad (xs ++ at n ys)) (numbered_records (suc first) recs)))
     (ap (λ b. is_refused (engine_packets rec) || b) (refused_at-other first n xs ys (omega arith)))
     ∙ ap (λ r. cond (is_bad xs (first, rec)) ((first, rec) ∷ r) r) (bad-other n (suc first) xs ys recs (omega arith))
 
@@ -134,8 +134,8 @@ HasRead-more first recs rec old new before more =
       before = AreBefore-more n (first + length (recs ++ rec ∷ [])) before.answers more.answers (omega (arith, length-append recs (rec ∷ []))) before.before;
       continues = λ l.
           ap (λ r. wholes_of (flat_map messages_at r ++ l)) all
-          ∙ ap (λ m. wholes_of (m ++ l)) (flat_map-append messages_at (numbered first recs) ((n, rec) ∷ []) ∙ ap (λ m. flat_map messages_at (numbered first recs) ++ m) (append-nil (messages_at (n, rec))))
-          ∙ ap wholes_of (append_assoc (flat_map messages_at (numbered first recs)) (messages_at (n, rec)) l)
+          ∙ ap (λ m. wholes_of (m ++ l)) (flat_map-append messages_at (numbered_records first recs) ((n, rec) ∷ []) ∙ ap (λ m. flat_map messages_at (numbered_records first recs) ++ m) (append-nil (messages_at (n, rec))))
+          ∙ ap wholes_of (append_assoc (flat_map messages_at (numbered_records first recs)) (messages_at (n, rec)) l)
           ∙ before.continues (messages_at (n, rec) ++ l)
           ∙ ap (λ r. before.answers ++ r) (more.continues l)
           ∙ sym (append_assoc before.answers (at n more.answers) (wholes_after new.assembler l));
@@ -143,13 +143,13 @@ HasRead-more first recs rec old new before more =
           more.packets_are
           ∙ ap (λ r. r ++ packets_at (at n more.answers) (n, rec)) before.packets_are
           ∙ ap (λ r. r ++ packets_at (at n more.answers) (n, rec)) (sym (packets-other n first before.answers more.answers recs (omega arith)))
-          ∙ ap (λ r. flat_map (packets_at (before.answers ++ at n more.answers)) (numbered first recs) ++ r) (packets_at-same (at n more.answers) (before.answers ++ at n more.answers) n rec (sym (received-before n before.answers (at n more.answers) before.before)))
-          ∙ ap (λ r. flat_map (packets_at (before.answers ++ at n more.answers)) (numbered first recs) ++ r) (sym (append-nil (packets_at (before.answers ++ at n more.answers) (n, rec))))
-          ∙ sym (ap (flat_map (packets_at (before.answers ++ at n more.answers))) all ∙ flat_map-append (packets_at (before.answers ++ at n more.answers)) (numbered first recs) ((n, rec) ∷ []));
+          ∙ ap (λ r. flat_map (packets_at (before.answers ++ at n more.answers)) (numbered_records first recs) ++ r) (packets_at-same (at n more.answers) (before.answers ++ at n more.answers) n rec (sym (received-before n before.answers (at n more.answers) before.before)))
+          ∙ ap (λ r. flat_map (packets_at (before.answers ++ at n more.answers)) (numbered_records first recs) ++ r) (sym (append-nil (packets_at (before.answers ++ at n more.answers) (n, rec))))
+          ∙ sym (ap (flat_map (packets_at (before.answers ++ at n more.answers))) all ∙ flat_map-append (packets_at (before.answers ++ at n more.answers)) (numbered_records first recs) ((n, rec) ∷ []));
       bad_is =
           more.bad_is
           ∙ ap (λ b. bad_or b n (is_bad (at n more.answers) (n, rec))) (before.bad_is ∙ ap (λ r. first_of (map (λ (rec : ℕ × ClientRec). rec.0) r)) (sym (bad-other n first before.answers more.answers recs (omega arith))))
-          ∙ ap (λ b. bad_or (first_bad (is_bad (before.answers ++ at n more.answers)) (numbered first recs)) n (is_refused (engine_packets rec) || b)) (sym (refused_at-before n before.answers (at n more.answers) before.before))
-          ∙ sym (ap (first_bad (is_bad (before.answers ++ at n more.answers))) all ∙ first_bad-last (is_bad (before.answers ++ at n more.answers)) (numbered first recs) (n, rec));
+          ∙ ap (λ b. bad_or (first_bad (is_bad (before.answers ++ at n more.answers)) (numbered_records first recs)) n (is_refused (engine_packets rec) || b)) (sym (refused_at-before n before.answers (at n more.answers) before.before))
+          ∙ sym (ap (first_bad (is_bad (before.answers ++ at n more.answers))) all ∙ first_bad-last (is_bad (before.answers ++ at n more.answers)) (numbered_records first recs) (n, rec));
       waits = more.waits before.waits;
     }

@@ -8,14 +8,14 @@ use Rattle.std.proofs.lemmas.Option.{same_Some, none-some, slice_get-map, slice_
 use Rattle.aud_tap.specs.declared.records.StreamRec.{StreamRec}
 use Rattle.aud_client.specs.TapPackets.{TapPacket}
 use Rattle.aud_client.specs.declared.stays.Stays.{Stays}
-use Rattle.aud_client.specs.Stays.{namespace, is_connect, is_disconnect, is_reply, goes_on, stay_after, begins, stays}
-use Rattle.aud_client.specs.Open.{open_place}
-use Rattle.aud_client.specs.Told.{StaySeen, told}
-use Rattle.aud_client.specs.Kept.{Keeps, open_at, place_for, unless_replied, fresh, grown}
+use Rattle.aud_client.specs.Stays.{namespace, is_connect, is_disconnect, is_reply, goes_on, stay_after, begins_stay, stays}
+use Rattle.aud_client.specs.Private.Open.{open_place}
+use Rattle.aud_client.specs.StaySeen.{StaySeen, stay_of}
+use Rattle.aud_client.specs.Private.Kept.{KeepsStays, open_at, place_for, unless_replied, empty_stay, grown}
 use Rattle.aud_client.proofs.OnePass.{stays-begins, stays-goes_on}
 use Rattle.aud_client.proofs.Steps.{open-none, open-some, open-begins, open-goes_on}
-use Rattle.aud_client.proofs.Telling.{has_reply, told-first, told-more}
-use Rattle.aud_client.proofs.Maps.{get_behind, set_behind}
+use Rattle.aud_client.proofs.Telling.{has_reply, transcript-first, transcript-more}
+use Rattle.aud_client.proofs.Maps.{get_after, set_after}
 
 -- a stay that grows at its place
 pub grown_at : {T E : Type 0} (stream : List StreamRec) (r : Result T E) (items : List StaySeen) (place : ℕ) (s new : StaySeen) (p : TapPacket) (t : StaySeen)
@@ -28,70 +28,70 @@ grown_at stream (Ok x) items place s new p t h at is w =
 
 module _ (stream : List StreamRec) (c : ℕ) where
   -- the stay that stands open in the packet's namespace
-  told_at : (st : Stays) (done : List StaySeen) (l : List TapPacket) (p : TapPacket) (k : ℕ) → Keeps stream c st done l → open_place (namespace p) l ≡ Some k
-      → slice_get st.stays.items (length done + k) ≡ Some (told stream c (stay_after (namespace p) l))
+  told_at : (st : Stays) (done : List StaySeen) (l : List TapPacket) (p : TapPacket) (k : ℕ) → KeepsStays stream c st done l → open_place (namespace p) l ≡ Some k
+      → slice_get st.stays.items (length done + k) ≡ Some (stay_of stream c (stay_after (namespace p) l))
   told_at st done l p k keeps at =
-      ap (λ ts. slice_get ts (length done + k)) keeps.stays_are ∙ get_behind done (map (told stream c) (stays l)) k ∙ slice_get-map (told stream c) (stays l) k ∙ ap (option_map (told stream c)) (open-some l p k at).0
+      ap (λ ts. slice_get ts (length done + k)) keeps.stays_are ∙ get_after done (map (stay_of stream c) (stays l)) k ∙ slice_get-map (stay_of stream c) (stays l) k ∙ ap (option_map (stay_of stream c)) (open-some l p k at).0
 
   -- the place that the code finds, in the words of the definition
-  pub place_for-is : (st : Stays) (done : List StaySeen) (l : List TapPacket) (p : TapPacket) → Keeps stream c st done l
-      → place_for st p ≡ cond (begins l p) None (option_map (λ k. length done + k) (open_place (namespace p) l))
+  pub place_for-is : (st : Stays) (done : List StaySeen) (l : List TapPacket) (p : TapPacket) → KeepsStays stream c st done l
+      → place_for st p ≡ cond (begins_stay l p) None (option_map (λ k. length done + k) (open_place (namespace p) l))
   place_for-is st done l p keeps = go (open_place (namespace p) l) refl
     where
       either : (b : Bool) → None ≡ cond {A = Option ℕ} b None None
       either true = refl
       either false = refl
 
-      behind : (k : ℕ) → open_place (namespace p) l ≡ Some k → (o : Option StaySeen) → o ≡ Some (told stream c (stay_after (namespace p) l))
-          → option_and_then (unless_replied p (length done + k)) o ≡ cond (begins l p) None (Some (length done + k))
-      behind k at None e = absurd (none-some _ e)
-      behind k at (Some s) e =
-          let same : s ≡ told stream c (stay_after (namespace p) l) = same_Some s (told stream c (stay_after (namespace p) l)) e in
+      after : (k : ℕ) → open_place (namespace p) l ≡ Some k → (o : Option StaySeen) → o ≡ Some (stay_of stream c (stay_after (namespace p) l))
+          → option_and_then (unless_replied p (length done + k)) o ≡ cond (begins_stay l p) None (Some (length done + k))
+      after k at None e = absurd (none-some _ e)
+      after k at (Some s) e =
+          let same : s ≡ stay_of stream c (stay_after (namespace p) l) = same_Some s (stay_of stream c (stay_after (namespace p) l)) e in
           let replied : is_some s.reply ≡ list_any is_reply (stay_after (namespace p) l) = ap (λ (t : StaySeen). is_some t.reply) same ∙ has_reply (stay_after (namespace p) l) in
           ap (λ b. cond (is_connect p && b) None (Some (length done + k))) replied ∙ ap (λ b. cond b None (Some (length done + k))) (sym (open-some l p k at).1)
 
-      go : (o : Option ℕ) → open_place (namespace p) l ≡ o → place_for st p ≡ cond (begins l p) None (option_map (λ k. length done + k) o)
+      go : (o : Option ℕ) → open_place (namespace p) l ≡ o → place_for st p ≡ cond (begins_stay l p) None (option_map (λ k. length done + k) o)
       go None at =
           ap (option_and_then (λ k. option_and_then (unless_replied p k) (slice_get st.stays.items k))) (keeps.open_are (namespace p) ∙ ap (option_map (λ k. length done + k)) at)
-          ∙ either (begins l p)
+          ∙ either (begins_stay l p)
       go (Some k) at =
           ap (option_and_then (λ k. option_and_then (unless_replied p k) (slice_get st.stays.items k))) (keeps.open_are (namespace p) ∙ ap (option_map (λ k. length done + k)) at)
-          ∙ behind k at (slice_get st.stays.items (length done + k)) (told_at st done l p k keeps at)
+          ∙ after k at (slice_get st.stays.items (length done + k)) (told_at st done l p k keeps at)
 
   -- where it finds none, the packet begins a stay
-  none-begins : (st : Stays) (done : List StaySeen) (l : List TapPacket) (p : TapPacket) → Keeps stream c st done l → place_for st p ≡ None → begins l p ≡ true
-  none-begins st done l p keeps e = go (open_place (namespace p) l) refl (begins l p) refl (sym (place_for-is st done l p keeps) ∙ e)
+  none-begins : (st : Stays) (done : List StaySeen) (l : List TapPacket) (p : TapPacket) → KeepsStays stream c st done l → place_for st p ≡ None → begins_stay l p ≡ true
+  none-begins st done l p keeps e = go (open_place (namespace p) l) refl (begins_stay l p) refl (sym (place_for-is st done l p keeps) ∙ e)
     where
-      go : (o : Option ℕ) → open_place (namespace p) l ≡ o → (b : Bool) → begins l p ≡ b → cond b None (option_map (λ k. length done + k) o) ≡ None → begins l p ≡ true
+      go : (o : Option ℕ) → open_place (namespace p) l ≡ o → (b : Bool) → begins_stay l p ≡ b → cond b None (option_map (λ k. length done + k) o) ≡ None → begins_stay l p ≡ true
       go None at b is w = open-none l p at
       go (Some k) at true is w = is
       go (Some k) at false is w = absurd (none-some _ (sym w))
 
   -- where it finds one, the packet goes on with the stay there
-  some-goes_on : (st : Stays) (done : List StaySeen) (l : List TapPacket) (p : TapPacket) (place : ℕ) → Keeps stream c st done l → place_for st p ≡ Some place
-      → (begins l p ≡ false) × ((k : ℕ) × (open_place (namespace p) l ≡ Some k) × (length done + k ≡ place))
-  some-goes_on st done l p place keeps e = go (open_place (namespace p) l) refl (begins l p) refl (sym (place_for-is st done l p keeps) ∙ e)
+  some-goes_on : (st : Stays) (done : List StaySeen) (l : List TapPacket) (p : TapPacket) (place : ℕ) → KeepsStays stream c st done l → place_for st p ≡ Some place
+      → (begins_stay l p ≡ false) × ((k : ℕ) × (open_place (namespace p) l ≡ Some k) × (length done + k ≡ place))
+  some-goes_on st done l p place keeps e = go (open_place (namespace p) l) refl (begins_stay l p) refl (sym (place_for-is st done l p keeps) ∙ e)
     where
-      go : (o : Option ℕ) → open_place (namespace p) l ≡ o → (b : Bool) → begins l p ≡ b → cond b None (option_map (λ k. length done + k) o) ≡ Some place
-          → (begins l p ≡ false) × ((k : ℕ) × (open_place (namespace p) l ≡ Some k) × (length done + k ≡ place))
+      go : (o : Option ℕ) → open_place (namespace p) l ≡ o → (b : Bool) → begins_stay l p ≡ b → cond b None (option_map (λ k. length done + k) o) ≡ Some place
+          → (begins_stay l p ≡ false) × ((k : ℕ) × (open_place (namespace p) l ≡ Some k) × (length done + k ≡ place))
       go o at true is w = absurd (none-some _ w)
       go None at false is w = absurd (none-some _ w)
       go (Some k) at false is w = (is, (k, at, same_Some (length done + k) place w))
 
   -- a packet that begins a stay
   pub kept-begin : {T E : Type 0} (r : Result T E) (st nw : Stays) (done : List StaySeen) (l : List TapPacket) (p : TapPacket) → place_for st p ≡ None
-      → OnOk r (nw.stays.items ≡ st.stays.items ++ grown stream (fresh c (namespace p)) p ∷ [])
+      → OnOk r (nw.stays.items ≡ st.stays.items ++ grown stream (empty_stay c (namespace p)) p ∷ [])
       → OnOk r ((n : List ℕ) → open_at nw n ≡ cond (bytes_eq (namespace p) n) (cond (is_disconnect p) None (Some (length st.stays.items))) (open_at st n))
-      → Keeps stream c st done l → OnOk r (Keeps stream c nw done (l ++ p ∷ []))
+      → KeepsStays stream c st done l → OnOk r (KeepsStays stream c nw done (l ++ p ∷ []))
   kept-begin (Err x) st nw done l p e list opens keeps = tt
   kept-begin (Ok x) st nw done l p e list opens keeps =
       record {
         stays_are =
-            list ∙ ap (λ ts. ts ++ grown stream (fresh c (namespace p)) p ∷ []) keeps.stays_are
-            ∙ append_assoc done (map (told stream c) (stays l)) (grown stream (fresh c (namespace p)) p ∷ [])
-            ∙ ap (λ t. done ++ (map (told stream c) (stays l) ++ t ∷ [])) (sym (told-first stream c p))
-            ∙ ap (λ ts. done ++ ts) (sym (map-append (told stream c) (stays l) ((p ∷ []) ∷ [])))
-            ∙ ap (λ ss. done ++ map (told stream c) ss) (sym (stays-begins [] l p starts));
+            list ∙ ap (λ ts. ts ++ grown stream (empty_stay c (namespace p)) p ∷ []) keeps.stays_are
+            ∙ append_assoc done (map (stay_of stream c) (stays l)) (grown stream (empty_stay c (namespace p)) p ∷ [])
+            ∙ ap (λ t. done ++ (map (stay_of stream c) (stays l) ++ t ∷ [])) (sym (transcript-first stream c p))
+            ∙ ap (λ ts. done ++ ts) (sym (map-append (stay_of stream c) (stays l) ((p ∷ []) ∷ [])))
+            ∙ ap (λ ss. done ++ map (stay_of stream c) ss) (sym (stays-begins [] l p starts));
         open_are = λ n.
             opens n ∙ ap (λ o. cond (bytes_eq (namespace p) n) (cond (is_disconnect p) None (Some (length st.stays.items))) o) (keeps.open_are n)
             ∙ ap (λ m. cond (bytes_eq (namespace p) n) (cond (is_disconnect p) None (Some m)) (option_map (λ k. length done + k) (open_place n l))) size
@@ -99,11 +99,11 @@ module _ (stream : List StreamRec) (c : ℕ) where
             ∙ ap (option_map (λ k. length done + k)) (sym (open-begins l p starts n));
       }
     where
-      starts : begins l p ≡ true
+      starts : begins_stay l p ≡ true
       starts = none-begins st done l p keeps e
 
       size : length st.stays.items ≡ length done + length (stays l)
-      size = ap length keeps.stays_are ∙ length-append done (map (told stream c) (stays l)) ∙ ap (λ k. length done + k) (length-map (stays l) (told stream c))
+      size = ap length keeps.stays_are ∙ length-append done (map (stay_of stream c) (stays l)) ∙ ap (λ k. length done + k) (length-map (stays l) (stay_of stream c))
 
       out : (b d : Bool) (o : Option ℕ) → cond b (cond d None (Some (length done + length (stays l)))) (option_map (λ k. length done + k) o)
           ≡ option_map (λ k. length done + k) (cond b (cond d None (Some (length (stays l)))) o)
@@ -115,7 +115,7 @@ module _ (stream : List StreamRec) (c : ℕ) where
   pub kept-go_on : {T E : Type 0} (r : Result T E) (st nw : Stays) (done : List StaySeen) (l : List TapPacket) (p : TapPacket) (place : ℕ) → place_for st p ≡ Some place
       → ((t : StaySeen) → slice_get st.stays.items place ≡ Some t → OnOk r (nw.stays.items ≡ set st.stays.items place (grown stream t p)))
       → OnOk r ((n : List ℕ) → open_at nw n ≡ cond (bytes_eq (namespace p) n) (cond (is_disconnect p) None (open_at st n)) (open_at st n))
-      → Keeps stream c st done l → OnOk r (Keeps stream c nw done (l ++ p ∷ []))
+      → KeepsStays stream c st done l → OnOk r (KeepsStays stream c nw done (l ++ p ∷ []))
   kept-go_on (Err x) st nw done l p place e list opens keeps = tt
   kept-go_on (Ok x) st nw done l p place e list opens keeps = go (some-goes_on st done l p place keeps e)
     where
@@ -129,18 +129,18 @@ module _ (stream : List StreamRec) (c : ℕ) where
       out true false o = refl
       out false d o = refl
 
-      go : (begins l p ≡ false) × ((k : ℕ) × (open_place (namespace p) l ≡ Some k) × (length done + k ≡ place)) → Keeps stream c nw done (l ++ p ∷ [])
+      go : (begins_stay l p ≡ false) × ((k : ℕ) × (open_place (namespace p) l ≡ Some k) × (length done + k ≡ place)) → KeepsStays stream c nw done (l ++ p ∷ [])
       go (goes, (k, at, is)) =
           let stay = stay_after (namespace p) l in
           record {
             stays_are =
-                list (told stream c stay) (ap (slice_get st.stays.items) (sym is) ∙ told_at st done l p k keeps at)
-                ∙ ap (λ i. set st.stays.items i (grown stream (told stream c stay) p)) (sym is)
-                ∙ ap (λ ts. set ts (length done + k) (grown stream (told stream c stay) p)) keeps.stays_are
-                ∙ set_behind done (map (told stream c) (stays l)) k (grown stream (told stream c stay) p)
-                ∙ ap (λ t. done ++ set (map (told stream c) (stays l)) k t) (sym (told-more stream c stay p (twice (goes_on stay p) goes)))
-                ∙ ap (λ ts. done ++ ts) (sym (map-set (told stream c) (stays l) k (stay ++ p ∷ [])))
-                ∙ ap (λ ss. done ++ map (told stream c) ss) (sym (stays-goes_on [] l p goes ∙ (open-some l p k at).2));
+                list (stay_of stream c stay) (ap (slice_get st.stays.items) (sym is) ∙ told_at st done l p k keeps at)
+                ∙ ap (λ i. set st.stays.items i (grown stream (stay_of stream c stay) p)) (sym is)
+                ∙ ap (λ ts. set ts (length done + k) (grown stream (stay_of stream c stay) p)) keeps.stays_are
+                ∙ set_after done (map (stay_of stream c) (stays l)) k (grown stream (stay_of stream c stay) p)
+                ∙ ap (λ t. done ++ set (map (stay_of stream c) (stays l)) k t) (sym (transcript-more stream c stay p (twice (goes_on stay p) goes)))
+                ∙ ap (λ ts. done ++ ts) (sym (map-set (stay_of stream c) (stays l) k (stay ++ p ∷ [])))
+                ∙ ap (λ ss. done ++ map (stay_of stream c) ss) (sym (stays-goes_on [] l p goes ∙ (open-some l p k at).2));
             open_are = λ n.
                 opens n ∙ ap (λ o. cond (bytes_eq (namespace p) n) (cond (is_disconnect p) None o) o) (keeps.open_are n)
                 ∙ out (bytes_eq (namespace p) n) (is_disconnect p) (open_place n l)

@@ -7,12 +7,12 @@ use Rattle.std.proofs.lemmas.List.Folds.{list_any-append}
 use Rattle.aud_tap.specs.declared.records.StreamRec.{StreamRec}
 use Rattle.aud_tap.specs.declared.records.ClientRec.{ClientRec}
 use Rattle.aud_node.specs.Stream.{Text}
-use Rattle.aud_client.specs.TapPackets.{TapPacket, Received, Sent, Connection, tap_packets}
+use Rattle.aud_client.specs.TapPackets.{TapPacket, FromServer, FromClient, Connection, tap_packets}
 use Rattle.aud_client.specs.Replies.{reply_names, packet_names, connection_names, tap_names}
-use Rattle.aud_client.specs.Stays.{namespace, is_reply, is_from_server, goes_on, stay_after, begins, stays}
-use Rattle.aud_client.specs.Open.{of_namespace, has}
-use Rattle.aud_client.specs.Told.{reply_at, reply_of, told}
-use Rattle.aud_client.specs.Received.{packets_of, stays_of, names, received_of}
+use Rattle.aud_client.specs.Stays.{namespace, is_reply, is_from_server, goes_on, stay_after, begins_stay, stays}
+use Rattle.aud_client.specs.Private.Open.{of_namespace, has_stay}
+use Rattle.aud_client.specs.StaySeen.{reply_at, reply_of, stay_of}
+use Rattle.aud_client.specs.Received.{connection_packets, stays_of, stay_names_pid, transcript_of}
 use Rattle.aud_client.proofs.OnePass.{grow, last_in, last_in-none, last_in-stays, stays-begins, stays-goes_on}
 use Rattle.aud_client.proofs.Telling.{no_reply_at, reply_of-one, replied, unreplied, none_yet, no_connect}
 
@@ -45,8 +45,8 @@ any_map test f (x ∷ xs) = ap (λ b. test (f x) || b) (any_map test f xs)
 
 -- a packet names the session where its reply does
 at_packet : (pid : Text) (p : TapPacket) → reply_names pid (reply_at p) ≡ packet_names pid p
-at_packet pid (Received whole) = refl
-at_packet pid (Sent packet) = refl
+at_packet pid (FromServer whole) = refl
+at_packet pid (FromClient packet) = refl
 
 -- a stay of one packet
 alone : (pid : Text) (p : TapPacket) → stay_names pid (p ∷ []) ≡ packet_names pid p
@@ -67,17 +67,17 @@ names-more pid s p e = elim (cases_Bool (list_any is_reply s)) [
 ]
 
 -- any of the stays, where the last one of the namespace grows
-any-grow : (test : List TapPacket → Bool) (b : Bool) (n : Text) (p : TapPacket) (ss : List (List TapPacket)) → has n ss ≡ true
+any-grow : (test : List TapPacket → Bool) (b : Bool) (n : Text) (p : TapPacket) (ss : List (List TapPacket)) → has_stay n ss ≡ true
     → test (last_in n ss ++ p ∷ []) ≡ (test (last_in n ss) || b) → list_any test (grow n p ss) ≡ (list_any test ss || b)
 any-grow test b n p [] some e = absurd (false≢true some)
-any-grow test b n p (s ∷ ss) some e = go (any-grow test b n p ss) (of_namespace n s) (has n ss) refl some e
+any-grow test b n p (s ∷ ss) some e = go (any-grow test b n p ss) (of_namespace n s) (has_stay n ss) refl some e
   where
     either : (a : Bool) → list_any test (cond (a && false) ((s ++ p ∷ []) ∷ ss) (s ∷ grow n p ss)) ≡ (test s || list_any test (grow n p ss))
     either true = refl
     either false = refl
 
-    go : (has n ss ≡ true → test (last_in n ss ++ p ∷ []) ≡ (test (last_in n ss) || b) → list_any test (grow n p ss) ≡ (list_any test ss || b))
-        → (a h : Bool) → has n ss ≡ h → (a || h) ≡ true
+    go : (has_stay n ss ≡ true → test (last_in n ss ++ p ∷ []) ≡ (test (last_in n ss) || b) → list_any test (grow n p ss) ≡ (list_any test ss || b))
+        → (a h : Bool) → has_stay n ss ≡ h → (a || h) ≡ true
         → test (cond h (last_in n ss) (cond a s []) ++ p ∷ []) ≡ (test (cond h (last_in n ss) (cond a s [])) || b)
         → list_any test (cond (a && not h) ((s ++ p ∷ []) ∷ ss) (s ∷ grow n p ss)) ≡ ((test s || list_any test ss) || b)
     go ih a true is some e = either a ∙ ap (λ x. test s || x) (ih is e) ∙ or_assoc (test s) (list_any test ss) b
@@ -85,8 +85,8 @@ any-grow test b n p (s ∷ ss) some e = go (any-grow test b n p ss) (of_namespac
     go ih false false is some e = absurd (false≢true some)
 
 -- where a packet goes on with a stay, there is one
-has-goes_on : (l : List TapPacket) (p : TapPacket) → begins l p ≡ false → has (namespace p) (stays l) ≡ true
-has-goes_on l p e = elim (cases_Bool (has (namespace p) (stays l))) [
+has-goes_on : (l : List TapPacket) (p : TapPacket) → begins_stay l p ≡ false → has_stay (namespace p) (stays l) ≡ true
+has-goes_on l p e = elim (cases_Bool (has_stay (namespace p) (stays l))) [
   | inl some ↦ some
   | inr none ↦
       absurd (true≢false (ap (λ s. not (goes_on s p)) (sym (sym (last_in-stays (namespace p) l) ∙ last_in-none (namespace p) (stays l) none)) ∙ e))
@@ -106,7 +106,7 @@ one_more pid l p ih = stay_side ∙ ap (λ b. b || packet_names pid p) ih ∙ sy
     packet_side = list_any-append (packet_names pid) l (p ∷ []) ∙ ap (λ b. list_any (packet_names pid) l || b) (or_false (packet_names pid p))
 
     stay_side : list_any (stay_names pid) (stays (l ++ p ∷ [])) ≡ (list_any (stay_names pid) (stays l) || packet_names pid p)
-    stay_side = elim (cases_Bool (begins l p)) [
+    stay_side = elim (cases_Bool (begins_stay l p)) [
       | inl starts ↦
           ap (list_any (stay_names pid)) (stays-begins [] l p starts)
           ∙ list_any-append (stay_names pid) (stays l) ((p ∷ []) ∷ [])
@@ -119,33 +119,33 @@ one_more pid l p ih = stay_side ∙ ap (λ b. b || packet_names pid p) ih ∙ sy
           ∙ ap (λ s. stay_names pid s || packet_names pid p) (sym (last_in-stays (namespace p) l)))
     ]
 
-all_more : (pid : Text) (done behind : List TapPacket) → NamedAlike pid done → NamedAlike pid (done ++ behind)
+all_more : (pid : Text) (done after : List TapPacket) → NamedAlike pid done → NamedAlike pid (done ++ after)
 all_more pid done [] ih = ap (λ l. list_any (stay_names pid) (stays l)) (append-nil done) ∙ ih ∙ ap (list_any (packet_names pid)) (sym (append-nil done))
-all_more pid done (p ∷ behind) ih =
-    ap (λ l. list_any (stay_names pid) (stays l)) (sym (append_assoc done (p ∷ []) behind))
-    ∙ all_more pid (done ++ p ∷ []) behind (one_more pid done p ih)
-    ∙ ap (list_any (packet_names pid)) (append_assoc done (p ∷ []) behind)
+all_more pid done (p ∷ after) ih =
+    ap (λ l. list_any (stay_names pid) (stays l)) (sym (append_assoc done (p ∷ []) after))
+    ∙ all_more pid (done ++ p ∷ []) after (one_more pid done p ih)
+    ∙ ap (list_any (packet_names pid)) (append_assoc done (p ∷ []) after)
 
 -- all packets of a connection
 pub named_alike : (pid : Text) (l : List TapPacket) → NamedAlike pid l
 named_alike pid l = all_more pid [] l refl
 
 -- a connection, as contracts see it
-in_connection : (stream : List StreamRec) (pid : Text) (connection : Connection) → list_any (names pid) (stays_of stream connection) ≡ connection_names pid connection
+in_connection : (stream : List StreamRec) (pid : Text) (connection : Connection) → list_any (stay_names_pid pid) (stays_of stream connection) ≡ connection_names pid connection
 in_connection stream pid connection =
-    any_map (names pid) (told stream connection.c) (stays (packets_of connection))
-    ∙ named_alike pid (packets_of connection)
+    any_map (stay_names_pid pid) (stay_of stream connection.c) (stays (connection_packets connection))
+    ∙ named_alike pid (connection_packets connection)
     ∙ any_map (packet_names pid) (λ (placed : ℕ × TapPacket). placed.1) connection.packets
 
 -- connection after connection
 in_connections : (stream : List StreamRec) (pid : Text) (connections : List Connection)
-    → list_any (names pid) (flat_map (stays_of stream) connections) ≡ list_any (connection_names pid) connections
+    → list_any (stay_names_pid pid) (flat_map (stays_of stream) connections) ≡ list_any (connection_names pid) connections
 in_connections stream pid [] = refl
 in_connections stream pid (connection ∷ connections) =
-    list_any-append (names pid) (stays_of stream connection) (flat_map (stays_of stream) connections)
-    ∙ ap (λ b. b || list_any (names pid) (flat_map (stays_of stream) connections)) (in_connection stream pid connection)
+    list_any-append (stay_names_pid pid) (stays_of stream connection) (flat_map (stays_of stream) connections)
+    ∙ ap (λ b. b || list_any (stay_names_pid pid) (flat_map (stays_of stream) connections)) (in_connection stream pid connection)
     ∙ ap (λ b. connection_names pid connection || b) (in_connections stream pid connections)
 
 -- a tap
-pub named_by_replies : (stream : List StreamRec) (recs : List ClientRec) (pid : Text) → list_any (names pid) (received_of stream recs).stays ≡ tap_names pid recs
+pub named_by_replies : (stream : List StreamRec) (recs : List ClientRec) (pid : Text) → list_any (stay_names_pid pid) (transcript_of stream recs).stays ≡ tap_names pid recs
 named_by_replies stream recs pid = in_connections stream pid (tap_packets recs).connections

@@ -6,8 +6,8 @@ use Rattle.std.proofs.lemmas.Bool.{true≢false, false≢true, cases_Bool, not-t
 use Rattle.std.proofs.lemmas.List.{append_assoc, append-nil}
 use Rattle.std.proofs.lemmas.List.Elements.{filter-append}
 use Rattle.aud_client.specs.TapPackets.{TapPacket}
-use Rattle.aud_client.specs.Open.{of_namespace, has}
-use Rattle.aud_client.specs.Stays.{namespace, in_namespace, goes_on, whole_stay, last_stay, stay_after, stay_at, begins, stays_from}
+use Rattle.aud_client.specs.Private.Open.{of_namespace, has_stay}
+use Rattle.aud_client.specs.Stays.{namespace, in_namespace, goes_on, whole_stay, last_stay, stay_after, stay_at, begins_stay, stays_from}
 
 -- equal texts
 pub same_text : (a b : List ℕ) → bytes_eq a b ≡ true → a ≡ b
@@ -43,7 +43,7 @@ pub stay_after-other : (n : List ℕ) (l : List TapPacket) (q : TapPacket) → b
 stay_after-other n l q e = ap (last_stay []) (in_namespace-other n l q e)
 
 -- a packet that begins a stay stands in it alone
-pub begun : (before : List TapPacket) (q : TapPacket) → begins before q ≡ true → stay_after (namespace q) (before ++ q ∷ []) ≡ q ∷ []
+pub begun : (before : List TapPacket) (q : TapPacket) → begins_stay before q ≡ true → stay_after (namespace q) (before ++ q ∷ []) ≡ q ∷ []
 begun before q e = stay_after-same (namespace q) before q (itself_text (namespace q)) ∙ ap (λ b. cond b (stay_after (namespace q) before ++ q ∷ []) (q ∷ [])) (not-true _ e)
 
 -- a stay is in the namespace of its first packet
@@ -52,7 +52,7 @@ whole_stay-first n q s [] = refl
 whole_stay-first n q s (x ∷ m) =
     elim (goes_on (q ∷ s) x) as (λ b. of_namespace n (cond b (whole_stay (q ∷ (s ++ x ∷ [])) m) (q ∷ s)) ≡ bytes_eq (namespace q) n) [ true ↦ whole_stay-first n q (s ++ x ∷ []) m | false ↦ refl ]
 
-pub of_stay_at : (n : List ℕ) (before : List TapPacket) (q : TapPacket) (r : List TapPacket) → begins before q ≡ true → of_namespace n (stay_at before q r) ≡ bytes_eq (namespace q) n
+pub of_stay_at : (n : List ℕ) (before : List TapPacket) (q : TapPacket) (r : List TapPacket) → begins_stay before q ≡ true → of_namespace n (stay_at before q r) ≡ bytes_eq (namespace q) n
 of_stay_at n before q r e = ap (λ s. of_namespace n (whole_stay s (in_namespace (namespace q) r))) (begun before q e) ∙ whole_stay-first n q [] (in_namespace (namespace q) r)
 
 -- going through the packets m of a namespace, from the stay s: none begins another stay, and e is the last; or one does
@@ -81,33 +81,33 @@ pass-stop h s m e q some g =
       stopped = λ starts x. ap (λ b. cond b (whole_stay (s ++ q ∷ []) (m ++ x)) s) g ∙ sym (ap (λ b. cond b (whole_stay (s ++ q ∷ []) m) s) g);
     }
 
--- what going through the packets behind gives in a namespace
+-- what going through the packets after gives in a namespace
 abbrev pub Passed : List ℕ → List TapPacket → List TapPacket → Type 0
-Passed n before behind = Pass (has n (stays_from before behind)) (stay_after n before) (in_namespace n behind) (stay_after n (before ++ behind))
+Passed n before after = Pass (has_stay n (stays_from before after)) (stay_after n before) (in_namespace n after) (stay_after n (before ++ after))
 
 -- which stays begin, after a packet of another namespace, one that goes on, one that begins a stay
-has-other : (n : List ℕ) (before : List TapPacket) (q : TapPacket) (r : List TapPacket) → bytes_eq (namespace q) n ≡ false → has n (stays_from (before ++ q ∷ []) r) ≡ has n (stays_from before (q ∷ r))
-has-other n before q r e = elim (cases_Bool (begins before q)) [
+has-other : (n : List ℕ) (before : List TapPacket) (q : TapPacket) (r : List TapPacket) → bytes_eq (namespace q) n ≡ false → has_stay n (stays_from (before ++ q ∷ []) r) ≡ has_stay n (stays_from before (q ∷ r))
+has-other n before q r e = elim (cases_Bool (begins_stay before q)) [
   | inl starts ↦
-      ap (λ b. b || has n (stays_from (before ++ q ∷ []) r)) (sym (of_stay_at n before q r starts ∙ e))
-      ∙ sym (ap (λ b. has n (cond b (stay_at before q r ∷ stays_from (before ++ q ∷ []) r) (stays_from (before ++ q ∷ []) r))) starts)
-  | inr stays_on ↦ sym (ap (λ b. has n (cond b (stay_at before q r ∷ stays_from (before ++ q ∷ []) r) (stays_from (before ++ q ∷ []) r))) stays_on)
+      ap (λ b. b || has_stay n (stays_from (before ++ q ∷ []) r)) (sym (of_stay_at n before q r starts ∙ e))
+      ∙ sym (ap (λ b. has_stay n (cond b (stay_at before q r ∷ stays_from (before ++ q ∷ []) r) (stays_from (before ++ q ∷ []) r))) starts)
+  | inr stays_on ↦ sym (ap (λ b. has_stay n (cond b (stay_at before q r ∷ stays_from (before ++ q ∷ []) r) (stays_from (before ++ q ∷ []) r))) stays_on)
 ]
 
-has-joins : (n : List ℕ) (before : List TapPacket) (q : TapPacket) (r : List TapPacket) → begins before q ≡ false → has n (stays_from (before ++ q ∷ []) r) ≡ has n (stays_from before (q ∷ r))
-has-joins n before q r stays_on = sym (ap (λ b. has n (cond b (stay_at before q r ∷ stays_from (before ++ q ∷ []) r) (stays_from (before ++ q ∷ []) r))) stays_on)
+has-joins : (n : List ℕ) (before : List TapPacket) (q : TapPacket) (r : List TapPacket) → begins_stay before q ≡ false → has_stay n (stays_from (before ++ q ∷ []) r) ≡ has_stay n (stays_from before (q ∷ r))
+has-joins n before q r stays_on = sym (ap (λ b. has_stay n (cond b (stay_at before q r ∷ stays_from (before ++ q ∷ []) r) (stays_from (before ++ q ∷ []) r))) stays_on)
 
-has-begins : (n : List ℕ) (before : List TapPacket) (q : TapPacket) (r : List TapPacket) → bytes_eq (namespace q) n ≡ true → begins before q ≡ true → has n (stays_from before (q ∷ r)) ≡ true
+has-begins : (n : List ℕ) (before : List TapPacket) (q : TapPacket) (r : List TapPacket) → bytes_eq (namespace q) n ≡ true → begins_stay before q ≡ true → has_stay n (stays_from before (q ∷ r)) ≡ true
 has-begins n before q r e starts =
-    ap (λ b. has n (cond b (stay_at before q r ∷ stays_from (before ++ q ∷ []) r) (stays_from (before ++ q ∷ []) r))) starts
-    ∙ ap (λ b. b || has n (stays_from (before ++ q ∷ []) r)) (of_stay_at n before q r starts ∙ e)
+    ap (λ b. has_stay n (cond b (stay_at before q r ∷ stays_from (before ++ q ∷ []) r) (stays_from (before ++ q ∷ []) r))) starts
+    ∙ ap (λ b. b || has_stay n (stays_from (before ++ q ∷ []) r)) (of_stay_at n before q r starts ∙ e)
 
 -- a packet begins a stay where it goes on with none
-pub begins-in : (n : List ℕ) (before : List TapPacket) (q : TapPacket) → bytes_eq (namespace q) n ≡ true → begins before q ≡ not (goes_on (stay_after n before) q)
+pub begins-in : (n : List ℕ) (before : List TapPacket) (q : TapPacket) → bytes_eq (namespace q) n ≡ true → begins_stay before q ≡ not (goes_on (stay_after n before) q)
 begins-in n before q e = ap (λ m. not (goes_on (stay_after m before) q)) (same_text (namespace q) n e)
 
 -- packet after packet
-pub passed : (n : List ℕ) (before behind : List TapPacket) → Passed n before behind
+pub passed : (n : List ℕ) (before after : List TapPacket) → Passed n before after
 passed n before [] = record { on = λ none x. ap (λ l. whole_stay (stay_after n l) x) (sym (append-nil before)); stopped = λ some x. absurd (false≢true some) }
 passed n before (q ∷ r) = elim (cases_Bool (bytes_eq (namespace q) n)) [
   | inr other ↦ along _ _ _ _ _ _ _ _ (has-other n before q r other) (stay_after-other n before q other) (sym (ap (λ b. cond b (q ∷ in_namespace n r) (in_namespace n r)) other)) next (passed n (before ++ q ∷ []) r)

@@ -11,8 +11,8 @@ use Rattle.std.proofs.lemmas.Grind.{flat_map-append}
 use Rattle.std.proofs.lemmas.Bool.{eq-eqb}
 use Rattle.aud_eio.specs.declared.packet.EioFault.{EioFault}
 use Rattle.aud_tap.specs.declared.records.ClientRec.{ClientRec}
-use Rattle.aud_client.specs.TapPackets.{is_refused, Received, received, engine_packets, packets_at, messages_or_none}
-use Rattle.aud_client.specs.ConnectionRead.{Reads, ReadsEngine, ReadsRecord, packets_read, wholes_in, bad_or}
+use Rattle.aud_client.specs.TapPackets.{is_refused, FromServer, server_packets, engine_packets, packets_at, messages_or_none}
+use Rattle.aud_client.specs.Private.ConnectionRead.{Reads, ReadsEngine, ReadsRecord, packets_read, wholes_in, bad_or}
 use Rattle.aud_client.specs.declared.connection.Reader.{Reader}
 
 -- what follows from what a call gave
@@ -46,7 +46,7 @@ Reads-by number messages old new held answers continues is packets bad waits =
 -- whole packets of two lists of answers
 wholes_in-append : (xs ys : List Answer) → wholes_in (xs ++ ys) ≡ wholes_in xs ++ wholes_in ys
 wholes_in-append [] ys = refl
-wholes_in-append (Ok whole ∷ xs) ys = ap (λ ws. Received whole ∷ ws) (wholes_in-append xs ys)
+wholes_in-append (Ok whole ∷ xs) ys = ap (λ ws. FromServer whole ∷ ws) (wholes_in-append xs ys)
 wholes_in-append (Err fault ∷ xs) ys = wholes_in-append xs ys
 
 bad_or-twice : (bad : Option ℕ) (number : ℕ) (a b : Bool) → bad_or (bad_or bad number a) number b ≡ bad_or bad number (a || b)
@@ -88,11 +88,11 @@ pub Reads-one : (number : ℕ) (p : eio.Packet) (old new : Reader) → Reads num
 Reads-one number p old new a = subst (λ (ms : List Message). Reads number ms old new) (sym (append-nil (messages_of p))) a
 
 -- the answers at a record are its own
-received-at : (number : ℕ) (xs : List Answer) → received number (at number xs) ≡ wholes_in xs
+received-at : (number : ℕ) (xs : List Answer) → server_packets number (at number xs) ≡ wholes_in xs
 received-at number [] = refl
 received-at number (Ok whole ∷ xs) =
-    ap (λ b. cond b (Received whole ∷ received number (at number xs)) (received number (at number xs))) (eq-eqb number number refl)
-    ∙ ap (λ ws. Received whole ∷ ws) (received-at number xs)
+    ap (λ b. cond b (FromServer whole ∷ server_packets number (at number xs)) (server_packets number (at number xs))) (eq-eqb number number refl)
+    ∙ ap (λ ws. FromServer whole ∷ ws) (received-at number xs)
 received-at number (Err fault ∷ xs) = received-at number xs
 
 refused-at : (number : ℕ) (xs : List Answer) → list_any (λ (answer : ℕ × Answer). nat_eq answer.0 number && is_refused answer.1) (at number xs) ≡ list_any is_refused xs
@@ -103,7 +103,7 @@ refused-at number (x ∷ xs) =
 
 -- a record from the server, whose Engine.IO packets are these
 ReadsRecord-server : (number : ℕ) (rec : ClientRec) (r : Result (List eio.Packet) EioFault) (old new : Reader) → engine_packets rec ≡ r
-    → ((answers : List (ℕ × Answer)) → packets_at answers (number, rec) ≡ at number (received number answers))
+    → ((answers : List (ℕ × Answer)) → packets_at answers (number, rec) ≡ at number (server_packets number answers))
     → ReadsEngine number r old new → ReadsRecord number rec old new
 ReadsRecord-server number rec (Ok packets) old new is from_server reads =
     record {
@@ -128,7 +128,7 @@ ReadsRecord-server number rec (Err fault) old new is from_server reads =
 
 -- the same, of a call that reads the record given
 pub OnOk-server : {A E : Type 0} (c : Result A E) (number : ℕ) (rec given : ClientRec) (r : Result (List eio.Packet) EioFault) (old new : Reader) → rec ≡ given → engine_packets given ≡ r
-    → ((answers : List (ℕ × Answer)) → packets_at answers (number, given) ≡ at number (received number answers))
+    → ((answers : List (ℕ × Answer)) → packets_at answers (number, given) ≡ at number (server_packets number answers))
     → OnOk c (ReadsEngine number r old new) → OnOk c (ReadsRecord number rec old new)
 OnOk-server (Ok x) number rec given r old new same is from_server reads =
     subst (λ (it : ClientRec). ReadsRecord number it old new) (sym same) (ReadsRecord-server number given r old new is from_server reads)

@@ -6,34 +6,34 @@ use Rattle.std.proofs.lemmas.Bool.{true≢false, false≢true, not-true, not-fal
 use Rattle.std.proofs.lemmas.List.Folds.{list_any-append}
 use Rattle.std.proofs.lemmas.Option.{none-some}
 use Rattle.aud_client.specs.TapPackets.{TapPacket}
-use Rattle.aud_client.specs.Stays.{namespace, is_connect, is_disconnect, is_reply, goes_on, stay_after, begins, stays}
-use Rattle.aud_client.specs.Open.{of_namespace, has, place, open_place}
+use Rattle.aud_client.specs.Stays.{namespace, is_connect, is_disconnect, is_reply, goes_on, stay_after, begins_stay, stays}
+use Rattle.aud_client.specs.Private.Open.{of_namespace, has_stay, place, open_place}
 use Rattle.aud_client.proofs.Places.{same_text, stay_after-same, stay_after-other}
 use Rattle.aud_client.proofs.OnePass.{grow, last_in-none, last_in-stays, stays-begins, stays-goes_on, place-grow, place-push, grow-set}
 
 -- no place, no stay
-place-some : (n : List ℕ) (ss : List (List TapPacket)) → place n ss ≡ None → has n ss ≡ false
+place-some : (n : List ℕ) (ss : List (List TapPacket)) → place n ss ≡ None → has_stay n ss ≡ false
 place-some n [] e = refl
-place-some n (s ∷ ss) e = go (place-some n ss) (of_namespace n s) (has n ss) refl e
+place-some n (s ∷ ss) e = go (place-some n ss) (of_namespace n s) (has_stay n ss) refl e
   where
-    go : (place n ss ≡ None → has n ss ≡ false) → (a h : Bool) → has n ss ≡ h → cond h (option_map suc (place n ss)) (cond a (Some 0) None) ≡ None → (a || h) ≡ false
-    go ih a true some e = behind (place n ss) refl e
+    go : (place n ss ≡ None → has_stay n ss ≡ false) → (a h : Bool) → has_stay n ss ≡ h → cond h (option_map suc (place n ss)) (cond a (Some 0) None) ≡ None → (a || h) ≡ false
+    go ih a true some e = after (place n ss) refl e
       where
-        behind : (o : Option ℕ) → place n ss ≡ o → option_map suc o ≡ None → (a || true) ≡ false
-        behind None at e = absurd (true≢false (sym some ∙ ih at))
-        behind (Some j) at e = absurd (none-some (suc j) (sym e))
+        after : (o : Option ℕ) → place n ss ≡ o → option_map suc o ≡ None → (a || true) ≡ false
+        after None at e = absurd (true≢false (sym some ∙ ih at))
+        after (Some j) at e = absurd (none-some (suc j) (sym e))
     go ih true false none e = absurd (none-some 0 (sym e))
     go ih false false none e = refl
 
 -- where no stay goes on in its namespace, a packet begins one
-pub open-none : (l : List TapPacket) (p : TapPacket) → open_place (namespace p) l ≡ None → begins l p ≡ true
+pub open-none : (l : List TapPacket) (p : TapPacket) → open_place (namespace p) l ≡ None → begins_stay l p ≡ true
 open-none l p e = go (list_any is_disconnect (stay_after (namespace p) l)) refl e
   where
     ended : (s : List TapPacket) → list_any is_disconnect s ≡ true → not (goes_on s p) ≡ true
     ended [] h = absurd (false≢true h)
     ended (x ∷ xs) h = ap (λ b. not (not b && not (is_connect p && list_any is_reply (x ∷ xs)))) h
 
-    go : (b : Bool) → list_any is_disconnect (stay_after (namespace p) l) ≡ b → cond b None (place (namespace p) (stays l)) ≡ None → begins l p ≡ true
+    go : (b : Bool) → list_any is_disconnect (stay_after (namespace p) l) ≡ b → cond b None (place (namespace p) (stays l)) ≡ None → begins_stay l p ≡ true
     go true h e = ended (stay_after (namespace p) l) h
     go false h e =
         let nothing : stay_after (namespace p) l ≡ [] = sym (last_in-stays (namespace p) l) ∙ last_in-none (namespace p) (stays l) (place-some (namespace p) (stays l) e) in
@@ -42,7 +42,7 @@ open-none l p e = go (list_any is_disconnect (stay_after (namespace p) l)) refl 
 -- where one does: which it is, and when the packet goes on with it
 pub open-some : (l : List TapPacket) (p : TapPacket) (k : ℕ) → open_place (namespace p) l ≡ Some k
     → (slice_get (stays l) k ≡ Some (stay_after (namespace p) l))
-    × (begins l p ≡ (is_connect p && list_any is_reply (stay_after (namespace p) l)))
+    × (begins_stay l p ≡ (is_connect p && list_any is_reply (stay_after (namespace p) l)))
     × (grow (namespace p) p (stays l) ≡ set (stays l) k (stay_after (namespace p) l ++ p ∷ []))
 open-some l p k e = go (list_any is_disconnect (stay_after (namespace p) l)) refl e
   where
@@ -56,7 +56,7 @@ open-some l p k e = go (list_any is_disconnect (stay_after (namespace p) l)) ref
 
     go : (b : Bool) → list_any is_disconnect (stay_after (namespace p) l) ≡ b → cond b None (place (namespace p) (stays l)) ≡ Some k
         → (slice_get (stays l) k ≡ Some (stay_after (namespace p) l))
-        × (begins l p ≡ (is_connect p && list_any is_reply (stay_after (namespace p) l)))
+        × (begins_stay l p ≡ (is_connect p && list_any is_reply (stay_after (namespace p) l)))
         × (grow (namespace p) p (stays l) ≡ set (stays l) k (stay_after (namespace p) l ++ p ∷ []))
     go true h e = absurd (none-some k e)
     go false h e =
@@ -67,10 +67,10 @@ open-some l p k e = go (list_any is_disconnect (stay_after (namespace p) l)) ref
           grows ∙ ap (λ s. set (stays l) k (s ++ p ∷ [])) last,
         )
 
--- ---- what stands open behind the packet
+-- ---- what stands open after the packet
 
 -- after a packet that begins a stay
-pub open-begins : (l : List TapPacket) (p : TapPacket) → begins l p ≡ true → (m : List ℕ)
+pub open-begins : (l : List TapPacket) (p : TapPacket) → begins_stay l p ≡ true → (m : List ℕ)
     → open_place m (l ++ p ∷ []) ≡ cond (bytes_eq (namespace p) m) (cond (is_disconnect p) None (Some (length (stays l)))) (open_place m l)
 open-begins l p e m =
     ap (λ ss. cond (list_any is_disconnect (stay_after m (l ++ p ∷ []))) None (place m ss)) (stays-begins [] l p e)
@@ -91,7 +91,7 @@ open-begins l p e m =
     go false is = ap (λ s. cond (list_any is_disconnect s) None (place m (stays l))) (stay_after-other m l p is)
 
 -- after a packet that goes on with one
-pub open-goes_on : (l : List TapPacket) (p : TapPacket) → begins l p ≡ false → (m : List ℕ)
+pub open-goes_on : (l : List TapPacket) (p : TapPacket) → begins_stay l p ≡ false → (m : List ℕ)
     → open_place m (l ++ p ∷ []) ≡ cond (bytes_eq (namespace p) m) (cond (is_disconnect p) None (open_place m l)) (open_place m l)
 open-goes_on l p e m =
     ap (λ ss. cond (list_any is_disconnect (stay_after m (l ++ p ∷ []))) None (place m ss)) (stays-goes_on [] l p e)

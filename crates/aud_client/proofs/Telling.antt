@@ -7,11 +7,11 @@ use Rattle.std.proofs.lemmas.List.{append-nil}
 use Rattle.std.proofs.lemmas.List.Elements.{filter_map-append}
 use Rattle.aud_tap.specs.declared.records.StreamRec.{StreamRec}
 use Rattle.aud_node.specs.Stream.{Text}
-use Rattle.aud_client.specs.TapPackets.{TapPacket, Received, Sent}
-use Rattle.aud_client.specs.Replies.{ReplySeen, told_by, value_of, is_connect as is_connect_kind}
+use Rattle.aud_client.specs.TapPackets.{TapPacket, FromServer, FromClient}
+use Rattle.aud_client.specs.Replies.{ReplySeen, reply_in_value, value_of, is_connect_kind}
 use Rattle.aud_client.specs.Stays.{namespace, is_connect, is_disconnect, is_reply, is_from_server, goes_on}
-use Rattle.aud_client.specs.Told.{AskedSeen, FrameSeen, StaySeen, told, reply_at, reply_of, before_reply, asked_by, ask_of, last_of, asked_of, frame_of}
-use Rattle.aud_client.specs.Kept.{fresh, grown}
+use Rattle.aud_client.specs.StaySeen.{AskedSeen, FrameSeen, StaySeen, stay_of, reply_at, reply_of, before_reply, asked_by, ask_of, last_of, asked_of, frame_of}
+use Rattle.aud_client.specs.Private.Kept.{empty_stay, grown}
 
 -- ---- one packet
 
@@ -26,24 +26,24 @@ never false = refl
 
 -- a packet that is no reply tells none
 pub no_reply_at : (p : TapPacket) → is_reply p ≡ false → reply_at p ≡ None
-no_reply_at (Sent packet) e = refl
-no_reply_at (Received whole) e =
-    ap (λ b. cond b (Some (told_by (value_of whole.packet.payload))) None) (sym (bare (is_connect_kind whole.packet.kind)) ∙ e)
+no_reply_at (FromClient packet) e = refl
+no_reply_at (FromServer whole) e =
+    ap (λ b. cond b (Some (reply_in_value (value_of whole.packet.payload))) None) (sym (bare (is_connect_kind whole.packet.kind)) ∙ e)
 
 -- a reply tells one
 pub reply_at-some : (p : TapPacket) → is_reply p ≡ true → is_some (reply_at p) ≡ true
-reply_at-some (Sent packet) e = absurd (false≢true (sym (never (is_connect_kind packet.kind)) ∙ e))
-reply_at-some (Received whole) e =
-    ap (λ b. is_some (cond b (Some (told_by (value_of whole.packet.payload))) None)) (sym (bare (is_connect_kind whole.packet.kind)) ∙ e)
+reply_at-some (FromClient packet) e = absurd (false≢true (sym (never (is_connect_kind packet.kind)) ∙ e))
+reply_at-some (FromServer whole) e =
+    ap (λ b. is_some (cond b (Some (reply_in_value (value_of whole.packet.payload))) None)) (sym (bare (is_connect_kind whole.packet.kind)) ∙ e)
 
 -- a reply asks for nothing, nor does what is no CONNECT
 no_ask-reply : (p : TapPacket) → is_reply p ≡ true → ask_of p ≡ None
-no_ask-reply (Received whole) e = refl
-no_ask-reply (Sent packet) e = absurd (false≢true (sym (never (is_connect_kind packet.kind)) ∙ e))
+no_ask-reply (FromServer whole) e = refl
+no_ask-reply (FromClient packet) e = absurd (false≢true (sym (never (is_connect_kind packet.kind)) ∙ e))
 
 no_ask : (p : TapPacket) → is_connect p ≡ false → ask_of p ≡ None
-no_ask (Received whole) e = refl
-no_ask (Sent packet) e = go (is_connect_kind packet.kind) e
+no_ask (FromServer whole) e = refl
+no_ask (FromClient packet) e = go (is_connect_kind packet.kind) e
   where
     go : (b : Bool) → b ≡ false → cond b (option_and_then asked_by (value_of packet.payload)) None ≡ None
     go true e = absurd (true≢false e)
@@ -110,18 +110,18 @@ asked-more : (s : List TapPacket) (p : TapPacket) (o : Option AskedSeen) → ask
 asked-more s p None e = ap last_of (filter_map-append ask_of s (p ∷ []) ∙ ap (λ o. filter_map ask_of s ++ cons_option o []) e ∙ append-nil _)
 asked-more s p (Some x) e = ap last_of (filter_map-append ask_of s (p ∷ []) ∙ ap (λ o. filter_map ask_of s ++ cons_option o []) e) ∙ last_of-more (filter_map ask_of s) x
 
--- a packet behind packets without a reply, itself in front of the reply or the reply
-asked-behind : (s : List TapPacket) (p : TapPacket) → last_of (filter_map ask_of (s ++ before_reply (p ∷ []))) ≡ option_or (ask_of p) (last_of (filter_map ask_of s))
-asked-behind s p = go (is_reply p) refl
+-- a packet after packets without a reply, itself in front of the reply or the reply
+asked-after : (s : List TapPacket) (p : TapPacket) → last_of (filter_map ask_of (s ++ before_reply (p ∷ []))) ≡ option_or (ask_of p) (last_of (filter_map ask_of s))
+asked-after s p = go (is_reply p) refl
   where
     go : (b : Bool) → is_reply p ≡ b → last_of (filter_map ask_of (s ++ cond b [] (p ∷ []))) ≡ option_or (ask_of p) (last_of (filter_map ask_of s))
     go true e = ap (λ l. last_of (filter_map ask_of l)) (append-nil s) ∙ ap (λ o. option_or o (last_of (filter_map ask_of s))) (sym (no_ask-reply p e))
     go false e = asked-more s p (ask_of p) refl
 
 -- a stay of one packet
-pub told-first : (stream : List StreamRec) (c : ℕ) (p : TapPacket) → told stream c (p ∷ []) ≡ grown stream (fresh c (namespace p)) p
-told-first stream c p =
-    same_told c (namespace p) _ _ _ _ _ _ (reply_of-one p ∙ sym (or_none (reply_at p))) (asked-behind [] p) (filter_map-append (frame_of stream) [] (p ∷ []))
+pub transcript-first : (stream : List StreamRec) (c : ℕ) (p : TapPacket) → stay_of stream c (p ∷ []) ≡ grown stream (empty_stay c (namespace p)) p
+transcript-first stream c p =
+    same_told c (namespace p) _ _ _ _ _ _ (reply_of-one p ∙ sym (or_none (reply_at p))) (asked-after [] p) (filter_map-append (frame_of stream) [] (p ∷ []))
 
 -- after a reply no CONNECT goes on
 pub no_connect : (s : List TapPacket) (p : TapPacket) → goes_on s p ≡ true → list_any is_reply s ≡ true → is_connect p ≡ false
@@ -132,10 +132,10 @@ no_connect (x ∷ xs) p e some =
     ∙ not-true (is_connect p && list_any is_reply (x ∷ xs)) ((and_parts (not (list_any is_disconnect (x ∷ xs))) (not (is_connect p && list_any is_reply (x ∷ xs))) e).1)
 
 -- a stay with one packet more
-pub told-more : (stream : List StreamRec) (c : ℕ) (s : List TapPacket) (p : TapPacket) → goes_on s p ≡ true
-    → told stream c (s ++ p ∷ []) ≡ grown stream (told stream c s) p
-told-more stream c [] p e = absurd (false≢true e)
-told-more stream c (x ∷ xs) p e = same_told c (namespace x) _ _ _ _ _ _ (both (cases_Bool (list_any is_reply (x ∷ xs)))).0 (both (cases_Bool (list_any is_reply (x ∷ xs)))).1 (filter_map-append (frame_of stream) (x ∷ xs) (p ∷ []))
+pub transcript-more : (stream : List StreamRec) (c : ℕ) (s : List TapPacket) (p : TapPacket) → goes_on s p ≡ true
+    → stay_of stream c (s ++ p ∷ []) ≡ grown stream (stay_of stream c s) p
+transcript-more stream c [] p e = absurd (false≢true e)
+transcript-more stream c (x ∷ xs) p e = same_told c (namespace x) _ _ _ _ _ _ (both (cases_Bool (list_any is_reply (x ∷ xs)))).0 (both (cases_Bool (list_any is_reply (x ∷ xs)))).1 (filter_map-append (frame_of stream) (x ∷ xs) (p ∷ []))
   where
     not_reply : list_any is_reply (x ∷ xs) ≡ true → is_reply p ≡ false
     not_reply some = ap (λ b. b && is_from_server p) (no_connect (x ∷ xs) p e some)
@@ -154,6 +154,6 @@ told-more stream c (x ∷ xs) p e = same_told c (namespace x) _ _ _ _ _ _ (both 
     both (inr none) = (
       (unreplied (x ∷ xs) (p ∷ []) none).0 ∙ reply_of-one p ∙ sym (or_none (reply_at p)) ∙ ap (option_or (reply_at p)) (sym (none_yet (x ∷ xs) none)),
       ap (λ l. last_of (filter_map ask_of l)) (unreplied (x ∷ xs) (p ∷ []) none).1
-          ∙ asked-behind (x ∷ xs) p
+          ∙ asked-after (x ∷ xs) p
           ∙ ap (λ l. option_or (ask_of p) (last_of (filter_map ask_of l))) (sym (all_before none)),
     )

@@ -17,7 +17,7 @@ use Rattle.aud_sio.specs.Wholes.{WholeSeen}
 use Rattle.aud_node.specs.Lists.{numbers_from}
 use Rattle.aud_node.specs.Stream.{Text}
 use Rattle.aud_node.specs.NodeTaps.{client_recs}
-use Rattle.aud_client.specs.TapPackets.{TapPacket, Received, Sent, Connection, tap_packets}
+use Rattle.aud_client.specs.TapPackets.{TapPacket, FromServer, FromClient, Connection, tap_packets}
 
 -- the session that a reply names, if it names one, and the session's sid
 pub record ReplySeen : Type 0 where
@@ -33,22 +33,22 @@ abbrev pub sid_in : Data → Text
 sid_in json = unwrap_or (text_at (codes "sid") json) []
 
 -- what the value of a payload tells: nothing, where there is none
-abbrev pub told_by : Option Data → ReplySeen
-told_by None = record { pid = None; sid = [] }
-told_by (Some json) = record { pid = pid_in json; sid = sid_in json }
+abbrev pub reply_in_value : Option Data → ReplySeen
+reply_in_value None = record { pid = None; sid = [] }
+reply_in_value (Some json) = record { pid = pid_in json; sid = sid_in json }
 
 -- the value of a payload, where there is one
 abbrev pub value_of : Option Text → Option Data
 value_of payload = option_and_then read payload
 
 -- the packet is a CONNECT
-abbrev pub is_connect : PacketKind → Bool
-is_connect Connect = true
-is_connect _ = false
+abbrev pub is_connect_kind : PacketKind → Bool
+is_connect_kind Connect = true
+is_connect_kind _ = false
 
 -- the reply that a packet of the server is, if it is a CONNECT
 abbrev pub reply_in : WholeSeen → Option ReplySeen
-reply_in whole = if is_connect whole.packet.kind then Some (told_by (value_of whole.packet.payload)) else None
+reply_in whole = if is_connect_kind whole.packet.kind then Some (reply_in_value (value_of whole.packet.payload)) else None
 
 -- ---- the replies of a tap
 
@@ -64,8 +64,8 @@ reply_names pid (Some reply) = is_this pid reply.pid
 
 -- the packet is a reply that names the pid
 abbrev pub packet_names : Text → TapPacket → Bool
-packet_names pid (Received whole) = reply_names pid (reply_in whole)
-packet_names pid (Sent packet) = false
+packet_names pid (FromServer whole) = reply_names pid (reply_in whole)
+packet_names pid (FromClient packet) = false
 
 -- a packet of the connection is a reply that names the pid
 abbrev pub connection_names : Text → Connection → Bool

@@ -1,8 +1,8 @@
 -- What contracts see of packets and connections.
 use Rattle.std.specs.Prelude.{ℕ, List, map}
-use Rattle.aud_sio.specs.Packet.{view}
+use Rattle.aud_sio.specs.Packet.{packet_view}
 use Rattle.aud_sio.specs.Assembly.{whole_view}
-use Rattle.aud_client.specs.TapPackets.{TapPacket, Received, Sent, Connection}
+use Rattle.aud_client.specs.TapPackets.{TapPacket, FromServer, FromClient, Connection}
 use Rattle.aud_client.specs.declared.connection.TapPacket.{TapPacket as PacketCode}
 use Rattle.aud_client.specs.declared.connection.TapPacket.TheVariants as code
 use Rattle.aud_client.specs.declared.connection.Placed.{Placed}
@@ -10,8 +10,8 @@ use Rattle.aud_client.specs.declared.client_tap.Connection.{Connection as Connec
 
 -- a packet, its attachments put together
 abbrev pub packet_seen : PacketCode → TapPacket
-packet_seen (code.Received whole) = Received (whole_view whole)
-packet_seen (code.Sent packet) = Sent (view packet)
+packet_seen (code.FromServer whole) = FromServer (whole_view whole)
+packet_seen (code.FromClient packet) = FromClient (packet_view packet)
 
 -- a packet at its record
 abbrev pub placed_seen : Placed → ℕ × TapPacket

@@ -6,8 +6,8 @@ use Rattle.aud_sio.specs.declared.kind.PacketKind.{PacketKind}
 use Rattle.aud_sio.specs.declared.kind.PacketKind.TheVariants.{Disconnect}
 use Rattle.aud_sio.specs.Packet.{PacketSeen}
 use Rattle.aud_node.specs.Stream.{Text}
-use Rattle.aud_client.specs.TapPackets.{TapPacket, Received, Sent}
-use Rattle.aud_client.specs.Replies.{is_connect as is_connect_kind}
+use Rattle.aud_client.specs.TapPackets.{TapPacket, FromServer, FromClient}
+use Rattle.aud_client.specs.Replies.{is_connect_kind}
 
 abbrev pub is_disconnect_kind : PacketKind → Bool
 is_disconnect_kind Disconnect = true
@@ -15,12 +15,12 @@ is_disconnect_kind _ = false
 
 -- the packet itself, without its attachments and its way
 abbrev pub packet_in : TapPacket → PacketSeen
-packet_in (Received whole) = whole.packet
-packet_in (Sent packet) = packet
+packet_in (FromServer whole) = whole.packet
+packet_in (FromClient packet) = packet
 
 abbrev pub is_from_server : TapPacket → Bool
-is_from_server (Received whole) = true
-is_from_server (Sent packet) = false
+is_from_server (FromServer whole) = true
+is_from_server (FromClient packet) = false
 
 abbrev pub namespace : TapPacket → Text
 namespace p = (packet_in p).nsp
@@ -46,35 +46,35 @@ abbrev pub goes_on : List TapPacket → TapPacket → Bool
 goes_on [] q = false
 goes_on (p ∷ ps) q = not (list_any is_disconnect (p ∷ ps)) && not (is_connect q && list_any is_reply (p ∷ ps))
 
--- a stay of which these packets are the front, with what follows of it among the packets behind, all of one namespace
+-- a stay of which these packets are the front, with what follows of it among the packets after, all of one namespace
 abbrev pub whole_stay : List TapPacket → List TapPacket → List TapPacket
 whole_stay stay [] = stay
-whole_stay stay (q ∷ behind) = if goes_on stay q then whole_stay (stay ++ q ∷ []) behind else stay
+whole_stay stay (q ∷ after) = if goes_on stay q then whole_stay (stay ++ q ∷ []) after else stay
 
 -- the stay in which the packets end, all of one namespace, after a stay that stands open
 abbrev pub last_stay : List TapPacket → List TapPacket → List TapPacket
 last_stay stay [] = stay
-last_stay stay (q ∷ behind) = last_stay (if goes_on stay q then stay ++ q ∷ [] else q ∷ []) behind
+last_stay stay (q ∷ after) = last_stay (if goes_on stay q then stay ++ q ∷ [] else q ∷ []) after
 
 -- the stay in which the namespace's packets end
 abbrev pub stay_after : Text → List TapPacket → List TapPacket
 stay_after nsp packets = last_stay [] (in_namespace nsp packets)
 
--- the stay of the packet with these in front of it and these behind it: those of its namespace alone count
+-- the stay of the packet with these in front of it and these after it: those of its namespace alone count
 abbrev pub stay_at : List TapPacket → TapPacket → List TapPacket → List TapPacket
-stay_at before p behind = whole_stay (stay_after (namespace p) (before ++ p ∷ [])) (in_namespace (namespace p) behind)
+stay_at before p after = whole_stay (stay_after (namespace p) (before ++ p ∷ [])) (in_namespace (namespace p) after)
 
 -- whether the packet is the first one of its stay
-abbrev pub begins : List TapPacket → TapPacket → Bool
-begins before p = not (goes_on (stay_after (namespace p) before) p)
+abbrev pub begins_stay : List TapPacket → TapPacket → Bool
+begins_stay before p = not (goes_on (stay_after (namespace p) before) p)
 
--- the stays that begin behind these packets
+-- the stays that begin after these packets
 abbrev pub stays_from : List TapPacket → List TapPacket → List (List TapPacket)
 stays_from before [] = []
-stays_from before (p ∷ behind) =
-    if begins before p
-    then stay_at before p behind ∷ stays_from (before ++ p ∷ []) behind
-    else stays_from (before ++ p ∷ []) behind
+stays_from before (p ∷ after) =
+    if begins_stay before p
+    then stay_at before p after ∷ stays_from (before ++ p ∷ []) after
+    else stays_from (before ++ p ∷ []) after
 
 -- the stays of a connection's packets, in the order of their first packet
 abbrev pub stays : List TapPacket → List (List TapPacket)

@@ -5,7 +5,7 @@ use Rattle.aud_tap.specs.declared.records.ClientRec.{ClientRec}
 use Rattle.aud_tap.specs.declared.records.ClientRec.TheVariants.{Conn, TextIn, BytesIn, Poll, TextOut, Lost}
 use Rattle.aud_eio.specs.declared.packet.EioFault.{EioFault}
 use Rattle.aud_eio.specs.Packet as eio
-use Rattle.aud_eio.specs.Body.{packets_of}
+use Rattle.aud_eio.specs.Body.{engine_packets_of}
 use Rattle.aud_sio.specs.declared.fault.SioFault.{SioFault}
 use Rattle.aud_sio.specs.declared.kind.PacketKind.{PacketKind}
 use Rattle.aud_sio.specs.declared.kind.PacketKind.TheVariants.{Connect, Disconnect}
@@ -15,8 +15,8 @@ use Rattle.aud_sio.specs.Wholes.{WholeSeen, Answer, wholes_of}
 
 -- a packet of a connection: whole, from the server; or a CONNECT or a DISCONNECT of the client
 pub data TapPacket : Type 0 where
-  Received : WholeSeen → TapPacket
-  Sent : PacketSeen → TapPacket
+  FromServer : WholeSeen → TapPacket
+  FromClient : PacketSeen → TapPacket
 
 -- a connection: its number, and its packets, each with the number of the record that it stands at
 pub record Connection : Type 0 where
@@ -31,9 +31,9 @@ pub record TapPackets : Type 0 where
 -- ---- the records of a connection
 
 -- the records with their numbers, from this number on
-abbrev pub numbered : ℕ → List ClientRec → List (ℕ × ClientRec)
-numbered number [] = []
-numbered number (rec ∷ recs) = (number, rec) ∷ numbered (suc number) recs
+abbrev pub numbered_records : ℕ → List ClientRec → List (ℕ × ClientRec)
+numbered_records number [] = []
+numbered_records number (rec ∷ recs) = (number, rec) ∷ numbered_records (suc number) recs
 
 -- the records before the next `conn` or `lost`
 abbrev pub until_end : List (ℕ × ClientRec) → List (ℕ × ClientRec)
@@ -42,7 +42,7 @@ until_end ((number, Conn c) ∷ recs) = []
 until_end ((number, Lost) ∷ recs) = []
 until_end (rec ∷ recs) = rec ∷ until_end recs
 
--- each `conn` begins a connection, of the records behind it up to the next `conn` or `lost`
+-- each `conn` begins a connection, of the records after it up to the next `conn` or `lost`
 abbrev pub connections_in : List (ℕ × ClientRec) → List (ℕ × List (ℕ × ClientRec))
 connections_in [] = []
 connections_in ((number, Conn c) ∷ recs) = (c, until_end recs) ∷ connections_in recs
@@ -56,9 +56,9 @@ one_of (Err fault) = Err fault
 
 -- the Engine.IO packets of a record from the server, or why it has none
 abbrev pub engine_packets : ClientRec → Result (List eio.Packet) EioFault
-engine_packets (TextIn t) = one_of (eio.packet_of t)
+engine_packets (TextIn t) = one_of (eio.engine_packet_of t)
 engine_packets (BytesIn b) = Ok (eio.Lent b ∷ [])
-engine_packets (Poll t) = packets_of t
+engine_packets (Poll t) = engine_packets_of t
 engine_packets _ = Ok []
 
 abbrev pub messages_or_none : ℕ → Result (List eio.Packet) EioFault → List (ℕ × Message)
@@ -76,30 +76,30 @@ answers_in recs = wholes_of (flat_map messages_at recs)
 -- ---- what the client sends
 
 -- a CONNECT or a DISCONNECT; everything else is read past
-abbrev pub is_told : PacketKind → Bool
-is_told Connect = true
-is_told Disconnect = true
-is_told _ = false
+abbrev pub is_connection_kind : PacketKind → Bool
+is_connection_kind Connect = true
+is_connection_kind Disconnect = true
+is_connection_kind _ = false
 
-abbrev pub told : Result PacketSeen SioFault → List TapPacket
-told (Ok packet) = if is_told packet.kind then Sent packet ∷ [] else []
-told (Err fault) = []
+abbrev pub client_packet : Result PacketSeen SioFault → List TapPacket
+client_packet (Ok packet) = if is_connection_kind packet.kind then FromClient packet ∷ [] else []
+client_packet (Err fault) = []
 
-abbrev pub told_in : Result eio.Packet EioFault → List TapPacket
-told_in (Ok (eio.Message text)) = told (packet_of text)
-told_in _ = []
+abbrev pub client_packet_in : Result eio.Packet EioFault → List TapPacket
+client_packet_in (Ok (eio.Message text)) = client_packet (packet_of text)
+client_packet_in _ = []
 
 -- ---- the packets of a connection, and its bad records
 
-abbrev pub received : ℕ → List (ℕ × Answer) → List TapPacket
-received number [] = []
-received number ((place, Ok whole) ∷ answers) = if nat_eq place number then Received whole ∷ received number answers else received number answers
-received number ((place, Err fault) ∷ answers) = received number answers
+abbrev pub server_packets : ℕ → List (ℕ × Answer) → List TapPacket
+server_packets number [] = []
+server_packets number ((place, Ok whole) ∷ answers) = if nat_eq place number then FromServer whole ∷ server_packets number answers else server_packets number answers
+server_packets number ((place, Err fault) ∷ answers) = server_packets number answers
 
 -- the packets that stand at a record: of the client's, its own; of the server's, those that are whole there
 abbrev pub packets_at : List (ℕ × Answer) → (ℕ × ClientRec) → List (ℕ × TapPacket)
-packets_at answers (number, TextOut t) = at number (told_in (eio.packet_of t))
-packets_at answers (number, rec) = at number (received number answers)
+packets_at answers (number, TextOut t) = at number (client_packet_in (eio.engine_packet_of t))
+packets_at answers (number, rec) = at number (server_packets number answers)
 
 abbrev pub is_refused : {A E : Type 0} → Result A E → Bool
 is_refused (Ok x) = false
@@ -124,6 +124,6 @@ first_of (number ∷ numbers) = Some number
 abbrev pub tap_packets : List ClientRec → TapPackets
 tap_packets recs =
     record {
-      connections = map (λ (cut : ℕ × List (ℕ × ClientRec)). record { c = cut.0; packets = packets_in cut.1 }) (connections_in (numbered 0 recs));
-      bad = first_of (flat_map (λ (cut : ℕ × List (ℕ × ClientRec)). bad_in cut.1) (connections_in (numbered 0 recs)));
+      connections = map (λ (cut : ℕ × List (ℕ × ClientRec)). record { c = cut.0; packets = packets_in cut.1 }) (connections_in (numbered_records 0 recs));
+      bad = first_of (flat_map (λ (cut : ℕ × List (ℕ × ClientRec)). bad_in cut.1) (connections_in (numbered_records 0 recs)));
     }

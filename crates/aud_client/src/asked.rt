@@ -3,8 +3,8 @@ ghost use Rattle.std.specs.Prelude.{◌≡◌, IfOk, string_bytes};
 ghost use Rattle.std.specs.Option.{option_copied, option_map, option_and_then};
 ghost use Rattle.serde_json.specs.View.{view as data_of};
 ghost use Rattle.aud_client.specs.Replies.{value_of};
-ghost use Rattle.aud_sio.specs.Packet.{view};
-ghost use Rattle.aud_client.specs.Told.{asked_in, asked_by};
+ghost use Rattle.aud_sio.specs.Packet.{packet_view};
+ghost use Rattle.aud_client.specs.StaySeen.{asked_in, asked_by};
 
 use crate::payload::{text_at, value_of};
 use aud_sio::{Packet, PacketKind};
@@ -26,7 +26,7 @@ pub struct Asked {
 impl Model for Asked {
     ghost use Rattle.std.specs.Prelude.{string_bytes};
     ghost use Rattle.std.specs.Option.{option_map};
-    ghost use Rattle.aud_client.specs.Told.{AskedSeen};
+    ghost use Rattle.aud_client.specs.StaySeen.{AskedSeen};
 
     ghost Value = { AskedSeen };
 
@@ -35,7 +35,7 @@ impl Model for Asked {
 
 /// What a packet of the client asks for, if it is a CONNECT that does.
 pub(crate) fn asked_in(alloc: Global, packet: &Packet<'_>) -> Result<Option<Asked>, Memory>
-    ensures { IfOk result (λ asked. asked ≡ asked_in (view packet.now)) }
+    ensures { IfOk result (λ asked. asked ≡ asked_in (packet_view packet.now)) }
 {
     match packet.kind {
         PacketKind::Connect => asked_by_payload(alloc, packet.payload),

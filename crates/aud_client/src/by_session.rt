@@ -3,8 +3,8 @@ ghost use Rattle.std.specs.Prelude.{◌≡◌, IfOk, OnOk};
 ghost use Rattle.std.specs.List.{list_any};
 ghost use Rattle.aud_node.specs.Naming.{kept_places, noted};
 ghost use Rattle.aud_node.specs.Stream.{Text};
-ghost use Rattle.aud_client.specs.Received.{names, stays_naming};
-ghost use Rattle.aud_client.specs.BySession.{stays_numbered};
+ghost use Rattle.aud_client.specs.Received.{stay_names_pid, stays_naming};
+ghost use Rattle.aud_client.specs.Private.BySession.{stays_numbered};
 
 use crate::stay::Stay;
 use aud_node::Naming;
@@ -24,7 +24,7 @@ pub fn by_session(alloc: Global, stays: &[Stay<'_>]) -> Result<Naming, Memory>
 
 /// Notes at the place the sessions that the replies of these stays name.
 pub fn note_stays(naming: &mut Naming, place: usize, stays: &[Stay<'_>]) -> Result<(), Memory>
-    ensures { OnOk result ((q : Text) → kept_places naming.new q ≡ noted place (list_any (names q) stays.now) (kept_places naming.old q)) }
+    ensures { OnOk result ((q : Text) → kept_places naming.new q ≡ noted place (list_any (stay_names_pid q) stays.now) (kept_places naming.old q)) }
 {
     for stay in stays {
         note_stay(naming, place, stay)?;
@@ -34,7 +34,7 @@ pub fn note_stays(naming: &mut Naming, place: usize, stays: &[Stay<'_>]) -> Resu
 
 /// Notes at the place the session that the stay's reply names, if it names one.
 fn note_stay(naming: &mut Naming, place: usize, stay: &Stay<'_>) -> Result<(), Memory>
-    ensures { OnOk result ((q : Text) → kept_places naming.new q ≡ noted place (names q stay.now) (kept_places naming.old q)) }
+    ensures { OnOk result ((q : Text) → kept_places naming.new q ≡ noted place (stay_names_pid q stay.now) (kept_places naming.old q)) }
 {
     let Some(reply) = &stay.reply else {
         return Ok(());

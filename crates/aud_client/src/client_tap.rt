@@ -1,8 +1,8 @@
 //! The packets of a client's tap.
 ghost use Rattle.std.specs.Prelude.{◌≡◌, ◌+◌, ◌^◌, ◌<◌, ◌++◌, ◌∷◌, [], IfOk, OnOk, length, map};
 ghost use Rattle.std.specs.Option.{option_or};
-ghost use Rattle.aud_client.specs.TapPackets.{tap_packets, numbered, bad_in, first_of};
-ghost use Rattle.aud_client.specs.ConnectionRead.{HasRead, inside, ends_connection};
+ghost use Rattle.aud_client.specs.TapPackets.{tap_packets, numbered_records, bad_in, first_of};
+ghost use Rattle.aud_client.specs.Private.ConnectionRead.{HasRead, inside, ends_connection};
 
 use crate::connection::{Placed, Reader};
 use aud_tap::ClientRec;
@@ -38,11 +38,11 @@ impl<'a> Model for ClientTap<'a> {
 
     ghost Value = { List ClientRec };
 
-    ghost use Rattle.aud_client.specs.ClientRead.{IsRead};
+    ghost use Rattle.aud_client.specs.Private.ClientRead.{HoldsConnections};
 
     ghost view = { λ t. t.recs.now };
 
-    ghost invariant = { IsRead };
+    ghost invariant = { HoldsConnections };
 }
 
 impl<'a> ClientTap<'a> {
@@ -95,7 +95,7 @@ impl<'a> ClientTap<'a> {
 
 impl<'a> Connections<'a> {
     ghost use Rattle.aud_client.specs.Seen.{connections_seen};
-    ghost use Rattle.aud_client.specs.ClientRead.{begun, cut_seen, bad_of};
+    ghost use Rattle.aud_client.specs.Private.ClientRead.{begun, cut_seen, bad_of};
 
     /// The record with this number, in front of these.
     fn take(
@@ -103,14 +103,14 @@ impl<'a> Connections<'a> {
         alloc: Global,
         number: usize,
         rec: &ClientRec,
-        behind: &'a [ClientRec],
+        after: &'a [ClientRec],
     ) -> Result<(), AllocError>
-        requires { number + 1 + length behind.now < 2 ^ 64 }
-        ensures connections { OnOk result (connections_seen self.new.list.items ≡ connections_seen self.old.list.items ++ map cut_seen (begun number rec.now behind.now)) }
-        ensures bad { OnOk result (self.new.bad ≡ option_or self.old.bad (bad_of (begun number rec.now behind.now))) }
+        requires { number + 1 + length after.now < 2 ^ 64 }
+        ensures connections { OnOk result (connections_seen self.new.list.items ≡ connections_seen self.old.list.items ++ map cut_seen (begun number rec.now after.now)) }
+        ensures bad { OnOk result (self.new.bad ≡ option_or self.old.bad (bad_of (begun number rec.now after.now))) }
     {
         match rec {
-            ClientRec::Conn { c } => self.begin(alloc, *c, number + 1, behind),
+            ClientRec::Conn { c } => self.begin(alloc, *c, number + 1, after),
             _ => Ok(()),
         }
     }
@@ -124,8 +124,8 @@ impl<'a> Connections<'a> {
         recs: &'a [ClientRec],
     ) -> Result<(), AllocError>
         requires { first + length recs.now < 2 ^ 64 }
-        ensures connections { OnOk result (connections_seen self.new.list.items ≡ connections_seen self.old.list.items ++ cut_seen (c, numbered first (inside recs.now)) ∷ []) }
-        ensures bad { OnOk result (self.new.bad ≡ option_or self.old.bad (first_of (bad_in (numbered first (inside recs.now))))) }
+        ensures connections { OnOk result (connections_seen self.new.list.items ≡ connections_seen self.old.list.items ++ cut_seen (c, numbered_records first (inside recs.now)) ∷ []) }
+        ensures bad { OnOk result (self.new.bad ≡ option_or self.old.bad (first_of (bad_in (numbered_records first (inside recs.now))))) }
     {
         let reader = read_connection(alloc, first, recs)?;
         self.bad = self.bad.or(reader.bad);

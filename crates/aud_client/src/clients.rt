@@ -3,11 +3,11 @@ ghost use Rattle.std.specs.Prelude.{◌≡◌, IfOk, OnOk, map};
 ghost use Rattle.std.specs.Option.{option_copied};
 ghost use Rattle.aud_node.specs.Naming.{kept_places, noted};
 ghost use Rattle.aud_node.specs.Stream.{Text};
-ghost use Rattle.aud_client.specs.Clients.{AreRead, is_told, places_telling, told_by};
+ghost use Rattle.aud_client.specs.Private.Clients.{AreRead, has_naming_stay, naming_transcripts, transcript_in};
 
 use crate::by_session::note_stays;
 use crate::client_tap::ClientTap;
-use crate::read_tap::ReadTap;
+use crate::indexed_transcript::IndexedTranscript;
 use aud_node::{Logs, Naming, Stream};
 use aud_tap::{Memory, Records, Tap};
 use std::alloc::Global;
@@ -16,7 +16,7 @@ use std::alloc::Global;
 #[derive(Drop)]
 pub struct Clients<'a> {
     /// What each tap tells, where it is a client's.
-    pub told: Vec<Option<ReadTap<'a>>>,
+    pub transcript: Vec<Option<IndexedTranscript<'a>>>,
     /// Of each pid, the places of the clients' taps with a reply that names it.
     pub naming: Naming,
 }
@@ -26,9 +26,9 @@ impl<'a> Clients<'a> {
     pub fn read(alloc: Global, logs: &Logs<'a>) -> Result<Clients<'a>, Memory>
         ensures { IfOk result (AreRead logs.now) }
     {
-        let told = told_of(alloc, logs.stream(), logs.taps())?;
-        let naming = naming_of(alloc, told.as_slice())?;
-        Ok(Clients { told, naming })
+        let transcript = told_of(alloc, logs.stream(), logs.taps())?;
+        let naming = naming_of(alloc, transcript.as_slice())?;
+        Ok(Clients { transcript, naming })
     }
 }
 
@@ -37,30 +37,30 @@ fn told_of<'a>(
     alloc: Global,
     stream: &Stream<'_>,
     taps: &'a [Tap],
-) -> Result<Vec<Option<ReadTap<'a>>>, Memory>
-    ensures { IfOk result (λ told. told.items ≡ map (told_by stream.now) taps.now) }
+) -> Result<Vec<Option<IndexedTranscript<'a>>>, Memory>
+    ensures { IfOk result (λ transcript. transcript.items ≡ map (transcript_in stream.now) taps.now) }
 {
-    let mut told = Vec::new(alloc);
+    let mut transcript = Vec::new(alloc);
     for tap in taps {
-        let Ok(()) = told.push(told_by(alloc, stream, tap)?) else {
+        let Ok(()) = transcript.push(transcript_in(alloc, stream, tap)?) else {
             return Err(Memory);
         };
     }
-    Ok(told)
+    Ok(transcript)
 }
 
 /// What the tap tells, if it is a client's.
-fn told_by<'a>(
+fn transcript_in<'a>(
     alloc: Global,
     stream: &Stream<'_>,
     tap: &'a Tap,
-) -> Result<Option<ReadTap<'a>>, Memory>
-    ensures { IfOk result (λ told. told ≡ told_by stream.now tap.now) }
+) -> Result<Option<IndexedTranscript<'a>>, Memory>
+    ensures { IfOk result (λ transcript. transcript ≡ transcript_in stream.now tap.now) }
 {
     match &tap.records {
         Records::Client(recs) => {
             let decoded = ClientTap::build(alloc, recs.as_slice())?;
-            Ok(Some(ReadTap::read(alloc, decoded, stream)?))
+            Ok(Some(IndexedTranscript::read(alloc, decoded, stream)?))
         }
         Records::Stream(_) => Ok(None),
         Records::Node(_) => Ok(None),
@@ -68,8 +68,8 @@ fn told_by<'a>(
 }
 
 /// Of each pid, the places of those that tell of a stay whose reply names it.
-fn naming_of(alloc: Global, clients: &[Option<ReadTap<'_>>]) -> Result<Naming, Memory>
-    ensures { IfOk result (λ naming. (pid : Text) → kept_places naming pid ≡ places_telling clients.now pid) }
+fn naming_of(alloc: Global, clients: &[Option<IndexedTranscript<'_>>]) -> Result<Naming, Memory>
+    ensures { IfOk result (λ naming. (pid : Text) → kept_places naming pid ≡ naming_transcripts clients.now pid) }
 {
     let mut naming = Naming::new(alloc);
     for (place, client) in clients.iter().enumerate() {
@@ -79,11 +79,11 @@ fn naming_of(alloc: Global, clients: &[Option<ReadTap<'_>>]) -> Result<Naming, M
 }
 
 /// Notes what the tap at this place tells, after all those noted so far.
-fn note_client(naming: &mut Naming, place: usize, told: Option<&ReadTap<'_>>) -> Result<(), Memory>
-    ensures { OnOk result ((q : Text) → kept_places naming.new q ≡ noted place (is_told q (option_copied told.entry)) (kept_places naming.old q)) }
+fn note_client(naming: &mut Naming, place: usize, transcript: Option<&IndexedTranscript<'_>>) -> Result<(), Memory>
+    ensures { OnOk result ((q : Text) → kept_places naming.new q ≡ noted place (has_naming_stay q (option_copied transcript.entry)) (kept_places naming.old q)) }
 {
-    match told {
-        Some(told) => note_stays(naming, place, told.received().stays.as_slice()),
+    match transcript {
+        Some(transcript) => note_stays(naming, place, transcript.transcript().stays.as_slice()),
         None => Ok(()),
     }
 }

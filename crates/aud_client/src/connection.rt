@@ -1,11 +1,11 @@
 //! The packets of one connection of a client.
 ghost use Rattle.std.specs.Prelude.{◌≡◌, ◌++◌, ◌∷◌, [], IfOk, OnOk, Some, None, true, flat_map, map};
-ghost use Rattle.aud_eio.specs.Packet.{view as eio_view, packet_of as eio_packet_of};
-ghost use Rattle.aud_eio.specs.Body.{packets_of};
+ghost use Rattle.aud_eio.specs.Packet.{engine_view, engine_packet_of};
+ghost use Rattle.aud_eio.specs.Body.{engine_packets_of};
 ghost use Rattle.aud_sio.specs.Message.{messages_of, at};
-ghost use Rattle.aud_sio.specs.Packet.{packet_of, view};
-ghost use Rattle.aud_client.specs.TapPackets.{is_told, one_of, told, told_in};
-ghost use Rattle.aud_client.specs.ConnectionRead.{ReadsRecord, ReadsEngine, Reads, sent_seen, packets_read, bad_or};
+ghost use Rattle.aud_sio.specs.Packet.{packet_of, packet_view};
+ghost use Rattle.aud_client.specs.TapPackets.{is_connection_kind, one_of, client_packet, client_packet_in};
+ghost use Rattle.aud_client.specs.Private.ConnectionRead.{ReadsRecord, ReadsEngine, Reads, sent_seen, packets_read, bad_or};
 ghost use Rattle.aud_client.specs.Seen.{packet_seen};
 
 use aud_eio::{Eio, EioFault, decode_binary, decode_payload, decode_text};
@@ -17,9 +17,9 @@ use std::alloc::{AllocError, Global};
 #[derive(Drop)]
 pub enum TapPacket<'a> {
     /// From the server, with its attachments.
-    Received(Whole<'a>),
+    FromServer(Whole<'a>),
     /// A CONNECT or a DISCONNECT of the client.
-    Sent(Packet<'a>),
+    FromClient(Packet<'a>),
 }
 
 /// A packet at its record: the one that its last attachment came with.
@@ -71,7 +71,7 @@ impl<'a> Reader<'a> {
 
     /// A text message from the server.
     fn read_text(&mut self, number: usize, text: &'a str) -> Result<(), AllocError>
-        ensures { OnOk result (ReadsEngine number (one_of (eio_packet_of text.now)) self.old self.new) }
+        ensures { OnOk result (ReadsEngine number (one_of (engine_packet_of text.now)) self.old self.new) }
     {
         match decode_text(self.alloc, text) {
             Ok(packet) => self.receive(number, packet),
@@ -85,7 +85,7 @@ impl<'a> Reader<'a> {
 
     /// A polling body from the server.
     fn read_body(&mut self, number: usize, body: &'a str) -> Result<(), AllocError>
-        ensures { OnOk result (ReadsEngine number (packets_of body.now) self.old self.new) }
+        ensures { OnOk result (ReadsEngine number (engine_packets_of body.now) self.old self.new) }
     {
         match decode_payload(self.alloc, body) {
             Ok(packets) => self.receive_all(number, packets),
@@ -99,7 +99,7 @@ impl<'a> Reader<'a> {
 
     /// Engine.IO packets of one record.
     fn receive_all(&mut self, number: usize, packets: Vec<Eio<'a>>) -> Result<(), AllocError>
-        ensures { OnOk result (Reads number (flat_map messages_of (map eio_view packets.entry.items)) self.old self.new) }
+        ensures { OnOk result (Reads number (flat_map messages_of (map engine_view packets.entry.items)) self.old self.new) }
     {
         for packet in packets {
             self.receive(number, packet)?;
@@ -109,10 +109,10 @@ impl<'a> Reader<'a> {
 
     /// An Engine.IO packet from the server.
     fn receive(&mut self, number: usize, packet: Eio<'a>) -> Result<(), AllocError>
-        ensures { OnOk result (Reads number (messages_of (eio_view packet.entry)) self.old self.new) }
+        ensures { OnOk result (Reads number (messages_of (engine_view packet.entry)) self.old self.new) }
     {
         match self.assembler.feed(packet) {
-            Ok(Some(whole)) => self.place(number, TapPacket::Received(whole)),
+            Ok(Some(whole)) => self.place(number, TapPacket::FromServer(whole)),
             Ok(None) => Ok(()),
             Err(fault) => self.refuse_packet(number, fault),
         }
@@ -136,12 +136,12 @@ impl<'a> Reader<'a> {
 
     /// The text of an Engine.IO packet of the client: all but a CONNECT or a DISCONNECT is read past.
     fn read_sent(&mut self, number: usize, text: &'a str) -> Result<(), AllocError>
-        ensures packets { OnOk result (packets_read self.new ≡ packets_read self.old ++ at number (told_in (eio_packet_of text.now))) }
+        ensures packets { OnOk result (packets_read self.new ≡ packets_read self.old ++ at number (client_packet_in (engine_packet_of text.now))) }
         ensures assembler { self.new.assembler ≡ self.old.assembler }
         ensures bad { self.new.bad ≡ self.old.bad }
     {
         match sent(self.alloc, text)? {
-            Some(packet) => self.place(number, TapPacket::Sent(packet)),
+            Some(packet) => self.place(number, TapPacket::FromClient(packet)),
             None => Ok(()),
         }
     }
@@ -171,7 +171,7 @@ impl<'a> Reader<'a> {
 
 /// The CONNECT or DISCONNECT that an Engine.IO packet of the client carries.
 fn sent(alloc: Global, text: &str) -> Result<Option<Packet<'_>>, AllocError>
-    ensures { IfOk result (λ sent. sent_seen sent ≡ told_in (eio_packet_of text.now)) }
+    ensures { IfOk result (λ sent. sent_seen sent ≡ client_packet_in (engine_packet_of text.now)) }
 {
     match decode_text(alloc, text) {
         Ok(Eio::Message(message)) => sent_packet(alloc, message),
@@ -182,18 +182,18 @@ fn sent(alloc: Global, text: &str) -> Result<Option<Packet<'_>>, AllocError>
 
 /// The packet of a message, if it is a CONNECT or a DISCONNECT.
 fn sent_packet(alloc: Global, message: &str) -> Result<Option<Packet<'_>>, AllocError>
-    ensures { IfOk result (λ sent. sent_seen sent ≡ told (packet_of message.now)) }
+    ensures { IfOk result (λ sent. sent_seen sent ≡ client_packet (packet_of message.now)) }
 {
     match decode(alloc, message) {
-        Ok(packet) if is_told(packet.kind) => Ok(Some(packet)),
+        Ok(packet) if is_connection_kind(packet.kind) => Ok(Some(packet)),
         Err(SioFault::Memory) => Err(AllocError),
         _ => Ok(None),
     }
 }
 
 /// Whether the kind is one that a client's tap is asked for.
-fn is_told(kind: PacketKind) -> bool
-    ensures { result ≡ is_told kind }
+fn is_connection_kind(kind: PacketKind) -> bool
+    ensures { result ≡ is_connection_kind kind }
 {
     match kind {
         PacketKind::Connect | PacketKind::Disconnect => true,

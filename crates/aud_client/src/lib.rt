@@ -1,6 +1,6 @@
 //! What clients sent and received: the packets of their taps, the stays of their connections, and the frames in them.
 //!
-//! Begin at [`Recording`], which reads all taps of a bundle once; [`received`] goes through a tap's packets.
+//! Begin at [`Recording`], which reads all taps of a bundle once; [`read_transcript`] goes through a tap's packets.
 //!
 //! With the `taps` of `examples/bundle_a.jsonl`:
 //!
@@ -10,7 +10,7 @@
 //! let recording = Recording::read(alloc, taps)?;
 //! assert_eq!(rt; recording.naming("P"), [2].as_slice()); // the place of `c1`
 //! let client = recording.client(2).ok_or("no client")?;
-//! let stay = client.received().stays.first().ok_or("no stay")?;
+//! let stay = client.transcript().stays.first().ok_or("no stay")?;
 //! assert!(rt; stay.names("P"));
 //! let frame = stay.frames.first().ok_or("no frame")?;
 //! assert_eq!(rt; frame.position, 1);
@@ -26,22 +26,22 @@ mod connection;
 mod frame;
 mod laws;
 mod payload;
-mod read_tap;
+mod indexed_transcript;
 mod recording;
 mod replies;
 mod stay;
 mod stays;
 mod tap;
-mod told;
+mod transcript;
 
 pub use asked::Asked;
 pub use client_tap::{ClientTap, Connection};
 pub use connection::{Placed, TapPacket};
 pub use frame::Frame;
 pub use laws::received_by_stays;
-pub use read_tap::ReadTap;
+pub use indexed_transcript::IndexedTranscript;
 pub use recording::Recording;
 pub use replies::{Reply, reply_of};
 pub use stay::Stay;
-pub use tap::received;
-pub use told::Received;
+pub use tap::read_transcript;
+pub use transcript::Transcript;

@@ -3,11 +3,11 @@ ghost use Rattle.std.specs.Prelude.{◌≡◌, IfOk};
 ghost use Rattle.std.specs.Option.{option_copied};
 ghost use Rattle.aud_tap.specs.Names.{AreNamedOnce};
 ghost use Rattle.aud_node.specs.Cluster.{cluster_of};
-ghost use Rattle.aud_client.specs.Recording.{told_at};
+ghost use Rattle.aud_client.specs.Received.{transcript_at};
 ghost use Rattle.aud_client.specs.Replies.{naming_places};
 
 use crate::clients::Clients;
-use crate::read_tap::ReadTap;
+use crate::indexed_transcript::IndexedTranscript;
 use aud_node::Logs;
 use aud_tap::{Memory, Taps};
 use std::alloc::Global;
@@ -24,13 +24,13 @@ pub struct Recording<'a> {
 
 impl<'a> Model for Recording<'a> {
     ghost use Rattle.aud_node.specs.Cluster.{Cluster};
-    ghost use Rattle.aud_client.specs.Clients.{IsRead};
+    ghost use Rattle.aud_client.specs.Private.Clients.{HoldsRecording};
 
     ghost Value = { Cluster };
 
     ghost view = { λ r. r.logs };
 
-    ghost invariant = { IsRead };
+    ghost invariant = { HoldsRecording };
 }
 
 impl<'a> Recording<'a> {
@@ -59,11 +59,11 @@ impl<'a> Recording<'a> {
     }
 
     /// What the tap at this place tells, lent; none where it is no client's.
-    pub fn client(&self, place: usize) -> Option<&ReadTap<'a>>
-        ensures { option_copied result ≡ told_at self.now place }
+    pub fn client(&self, place: usize) -> Option<&IndexedTranscript<'a>>
+        ensures { option_copied result ≡ transcript_at self.now place }
     {
-        match self.clients.told.get(place) {
-            Some(told) => told.as_ref(),
+        match self.clients.transcript.get(place) {
+            Some(transcript) => transcript.as_ref(),
             None => None,
         }
     }

@@ -2,7 +2,7 @@
 ghost use Rattle.std.specs.Prelude.{◌≡◌, IfOk, option_map, string_bytes};
 ghost use Rattle.serde_json.specs.View.{view as data_of};
 ghost use Rattle.aud_sio.specs.Assembly.{whole_view};
-ghost use Rattle.aud_client.specs.Replies.{is_connect, pid_in, reply_in, sid_in, told_by, value_of};
+ghost use Rattle.aud_client.specs.Replies.{is_connect_kind, pid_in, reply_in, sid_in, reply_in_value, value_of};
 
 use crate::payload::{text_at, value_of};
 use aud_sio::{PacketKind, Whole};
@@ -35,22 +35,22 @@ impl Model for Reply {
 pub fn reply_of(alloc: Global, whole: &Whole<'_>) -> Result<Option<Reply>, Memory>
     ensures { IfOk result (λ reply. reply ≡ reply_in (whole_view whole.now)) }
 {
-    if !is_connect(whole.packet.kind) {
+    if !is_connect_kind(whole.packet.kind) {
         return Ok(None);
     }
-    let reply = told_by(alloc, whole.packet.payload)?;
+    let reply = reply_in_value(alloc, whole.packet.payload)?;
     Ok(Some(reply))
 }
 
-fn is_connect(kind: PacketKind) -> bool
-    ensures { result ≡ is_connect kind }
+fn is_connect_kind(kind: PacketKind) -> bool
+    ensures { result ≡ is_connect_kind kind }
 {
     matches!(kind, PacketKind::Connect)
 }
 
 /// What the payload tells.
-fn told_by(alloc: Global, payload: Option<&str>) -> Result<Reply, Memory>
-    ensures { IfOk result (λ reply. reply ≡ told_by (value_of (option_map (λ text. text.now) payload.entry))) }
+fn reply_in_value(alloc: Global, payload: Option<&str>) -> Result<Reply, Memory>
+    ensures { IfOk result (λ reply. reply ≡ reply_in_value (value_of (option_map (λ text. text.now) payload.entry))) }
 {
     let Some(json) = value_of(alloc, payload)? else {
         return Ok(Reply {

@@ -3,13 +3,13 @@ ghost use Rattle.std.specs.Prelude.{◌≡◌, ◌++◌, List, [], IfOk, OnOk};
 ghost use Rattle.std.specs.List.{cons_option};
 ghost use Rattle.std.specs.Option.{option_copied};
 ghost use Rattle.aud_tap.specs.declared.records.StreamRec.{StreamRec};
-ghost use Rattle.aud_sio.specs.Packet.{view};
+ghost use Rattle.aud_sio.specs.Packet.{packet_view};
 ghost use Rattle.aud_sio.specs.Assembly.{whole_view};
-ghost use Rattle.aud_client.specs.TapPackets.{Received, Sent};
+ghost use Rattle.aud_client.specs.TapPackets.{FromServer, FromClient};
 ghost use Rattle.aud_client.specs.Seen.{packet_seen};
 ghost use Rattle.aud_client.specs.Replies.{is_this};
-ghost use Rattle.aud_client.specs.Received.{names, is_recovered};
-ghost use Rattle.aud_client.specs.Kept.{fresh, grown};
+ghost use Rattle.aud_client.specs.Received.{stay_names_pid, is_recovered};
+ghost use Rattle.aud_client.specs.Private.Kept.{empty_stay, grown};
 ghost use Rattle.aud_client.specs.Stays.{namespace};
 
 use crate::asked::{Asked, asked_in};
@@ -39,7 +39,7 @@ pub struct Stay<'a> {
 }
 
 impl<'a> Model for Stay<'a> {
-    ghost use Rattle.aud_client.specs.Told.{StaySeen};
+    ghost use Rattle.aud_client.specs.StaySeen.{StaySeen};
 
     ghost Value = { StaySeen };
 
@@ -49,7 +49,7 @@ impl<'a> Model for Stay<'a> {
 impl<'a> Stay<'a> {
     /// Whether the reply names the session.
     pub fn names(&self, pid: &str) -> bool
-        ensures { result ≡ names pid.now self.now }
+        ensures { result ≡ stay_names_pid pid.now self.now }
     {
         match self.reply.as_ref() {
             Some(reply) => is_this(reply.pid.as_deref(), pid),
@@ -74,7 +74,7 @@ impl<'a> Stay<'a> {
         c: u64,
         packet: TapPacket<'a>,
     ) -> Result<Stay<'a>, Memory>
-        ensures { IfOk result (λ stay. stay ≡ grown stream.now (fresh c (namespace (packet_seen packet.entry))) (packet_seen packet.entry)) }
+        ensures { IfOk result (λ stay. stay ≡ grown stream.now (empty_stay c (namespace (packet_seen packet.entry))) (packet_seen packet.entry)) }
     {
         let mut stay = Stay {
             c,
@@ -99,8 +99,8 @@ impl<'a> Stay<'a> {
         ensures { OnOk result (self.new ≡ grown stream.now self.old (packet_seen packet.entry)) }
     {
         match packet {
-            TapPacket::Received(whole) => self.receive(alloc, stream, whole),
-            TapPacket::Sent(packet) => self.ask(alloc, &packet),
+            TapPacket::FromServer(whole) => self.receive(alloc, stream, whole),
+            TapPacket::FromClient(packet) => self.ask(alloc, &packet),
         }
     }
 
@@ -111,7 +111,7 @@ impl<'a> Stay<'a> {
         stream: &Stream<'_>,
         whole: Whole<'a>,
     ) -> Result<(), Memory>
-        ensures { OnOk result (self.new ≡ grown stream.now self.old (Received (whole_view whole.entry))) }
+        ensures { OnOk result (self.new ≡ grown stream.now self.old (FromServer (whole_view whole.entry))) }
     {
         if let Some(reply) = reply_of(alloc, &whole)? {
             self.reply = Some(reply);
@@ -134,7 +134,7 @@ impl<'a> Stay<'a> {
 
     /// A packet of the client.
     fn ask(&mut self, alloc: Global, packet: &Packet<'_>) -> Result<(), Memory>
-        ensures { (stream : List StreamRec) → OnOk result (self.new ≡ grown stream self.old (Sent (view packet.now))) }
+        ensures { (stream : List StreamRec) → OnOk result (self.new ≡ grown stream self.old (FromClient (packet_view packet.now))) }
     {
         if let Some(asked) = asked_in(alloc, packet)? {
             self.asked = Some(asked);

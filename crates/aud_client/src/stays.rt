@@ -5,11 +5,11 @@ ghost use Rattle.aud_tap.specs.declared.records.StreamRec.{StreamRec};
 ghost use Rattle.aud_client.specs.TapPackets.{TapPacket as TapPacketSeen};
 ghost use Rattle.aud_client.specs.Seen.{connection_seen, packet_seen};
 ghost use Rattle.aud_client.specs.Stays.{is_connect, is_disconnect, namespace, packet_in};
-ghost use Rattle.aud_sio.specs.Packet.{view};
-ghost use Rattle.aud_client.specs.Told.{StaySeen};
+ghost use Rattle.aud_sio.specs.Packet.{packet_view};
+ghost use Rattle.aud_client.specs.StaySeen.{StaySeen};
 ghost use Rattle.aud_client.specs.Received.{stays_of};
 ghost use Rattle.aud_node.specs.Stream.{Text};
-ghost use Rattle.aud_client.specs.Kept.{Keeps, BeginsAt, GoesOn, open_at, place_for, unless_replied, fresh, grown};
+ghost use Rattle.aud_client.specs.Private.Kept.{KeepsStays, BeginsAt, GoesOn, open_at, place_for, unless_replied, empty_stay, grown};
 
 use crate::client_tap::Connection;
 use crate::connection::TapPacket;
@@ -59,14 +59,14 @@ impl<'a> Stays<'a> {
 
     /// No stay goes on.
     fn begin_connection(&mut self)
-        ensures { (stream : List StreamRec) (c : ℕ) → Keeps stream c self.new self.old.stays.items [] }
+        ensures { (stream : List StreamRec) (c : ℕ) → KeepsStays stream c self.new self.old.stays.items [] }
     {
         self.open.clear();
     }
 
     /// The next packet of the connection with this number.
     fn take(&mut self, stream: &Stream<'_>, c: u64, packet: TapPacket<'a>) -> Result<(), Memory>
-        ensures { (done : List StaySeen) (packets : List TapPacketSeen) → Keeps stream.now c self.old done packets → OnOk result (Keeps stream.now c self.new done (packets ++ packet_seen packet.entry ∷ [])) }
+        ensures { (done : List StaySeen) (packets : List TapPacketSeen) → KeepsStays stream.now c self.old done packets → OnOk result (KeepsStays stream.now c self.new done (packets ++ packet_seen packet.entry ∷ [])) }
     {
         match self.place_for(&packet) {
             Some(place) => self.go_on(stream, place, packet),
@@ -102,7 +102,7 @@ impl<'a> Stays<'a> {
 
     /// The packet begins a stay.
     fn begin(&mut self, stream: &Stream<'_>, c: u64, packet: TapPacket<'a>) -> Result<(), Memory>
-        ensures stays { OnOk result (self.new.stays.items ≡ self.old.stays.items ++ grown stream.now (fresh c (namespace (packet_seen packet.entry))) (packet_seen packet.entry) ∷ []) }
+        ensures stays { OnOk result (self.new.stays.items ≡ self.old.stays.items ++ grown stream.now (empty_stay c (namespace (packet_seen packet.entry))) (packet_seen packet.entry) ∷ []) }
         ensures open { OnOk result (BeginsAt (packet_seen packet.entry) (length self.old.stays.items) self.old self.new) }
     {
         let place = self.stays.len();
@@ -181,11 +181,11 @@ impl<'a> Stays<'a> {
 
 /// The packet itself, without its attachments and its way.
 fn packet_in<'a, 'b>(packet: &'b TapPacket<'a>) -> &'b Packet<'a>
-    ensures { view result.now ≡ packet_in (packet_seen packet.now) }
+    ensures { packet_view result.now ≡ packet_in (packet_seen packet.now) }
 {
     match packet {
-        TapPacket::Received(whole) => &whole.packet,
-        TapPacket::Sent(packet) => packet,
+        TapPacket::FromServer(whole) => &whole.packet,
+        TapPacket::FromClient(packet) => packet,
     }
 }
 

@@ -2,30 +2,30 @@
 ghost use Rattle.std.specs.Prelude.{◌≡◌, IfOk};
 ghost use Rattle.std.specs.List.{list_any};
 ghost use Rattle.std.specs.Option.{option_copied};
-ghost use Rattle.aud_client.specs.Received.{received_of, tap_stays, is_orphan, names_somebody};
+ghost use Rattle.aud_client.specs.Received.{transcript_of, tap_stays, is_orphan, names_somebody};
 
 use crate::client_tap::ClientTap;
 use crate::replies::Reply;
 use crate::stay::Stay;
 use crate::stays::Stays;
-use crate::told::Received;
+use crate::transcript::Transcript;
 use aud_node::Stream;
 use aud_tap::Memory;
 use std::alloc::Global;
 
 /// The stays of the tap, with the frames that are recoverable in this stream. The packets are let go: what the frames
 /// keep of them is moved out.
-pub fn received<'a>(
+pub fn read_transcript<'a>(
     alloc: Global,
     tap: ClientTap<'a>,
     stream: &Stream<'_>,
-) -> Result<Received<'a>, Memory>
-    ensures { IfOk result (λ r. r ≡ received_of stream.now tap.entry) }
+) -> Result<Transcript<'a>, Memory>
+    ensures { IfOk result (λ r. r ≡ transcript_of stream.now tap.entry) }
 {
     let bad = tap.bad();
     let stays = stays_of(alloc, tap, stream)?;
     let orphan = has_orphan(stays.as_slice());
-    Ok(Received { bad, orphan, stays })
+    Ok(Transcript { bad, orphan, stays })
 }
 
 /// The stays of all connections, in one pass.

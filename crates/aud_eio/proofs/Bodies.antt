@@ -4,31 +4,31 @@ use Rattle.std.proofs.lemmas.List.{append_assoc}
 use Rattle.std.proofs.lemmas.Iterator.{YieldsList}
 use Rattle.aud_eio.specs.declared.packet.EioFault.{EioFault}
 use Rattle.aud_base.specs.Steps.{◌>>=◌}
-use Rattle.aud_eio.specs.Packet.{Packet, packet_of, text_of}
+use Rattle.aud_eio.specs.Packet.{Packet, engine_packet_of, engine_text}
 use Rattle.aud_eio.specs.Body.{packets_of_texts, body_of}
 
--- packets behind those that stand already
-abbrev pub behind : List Packet → Result (List Packet) EioFault → Result (List Packet) EioFault
-behind done rest = rest >>= (λ packets. Ok (done ++ packets))
+-- packets after those that stand already
+abbrev pub after : List Packet → Result (List Packet) EioFault → Result (List Packet) EioFault
+after done rest = rest >>= (λ packets. Ok (done ++ packets))
 
-pub behind-nil : (rest : Result (List Packet) EioFault) → rest ≡ behind [] rest
-behind-nil (Ok packets) = refl
-behind-nil (Err fault) = refl
+pub after-nil : (rest : Result (List Packet) EioFault) → rest ≡ after [] rest
+after-nil (Ok packets) = refl
+after-nil (Err fault) = refl
 
-behind-one : (done : List Packet) (packet : Packet) (rest : Result (List Packet) EioFault)
-    → behind done (rest >>= (λ packets. Ok (packet ∷ packets))) ≡ behind (done ++ packet ∷ []) rest
-behind-one done packet (Ok packets) = rw append_assoc refl
-behind-one done packet (Err fault) = refl
+after-one : (done : List Packet) (packet : Packet) (rest : Result (List Packet) EioFault)
+    → after done (rest >>= (λ packets. Ok (packet ∷ packets))) ≡ after (done ++ packet ∷ []) rest
+after-one done packet (Ok packets) = rw append_assoc refl
+after-one done packet (Err fault) = refl
 
 -- the next text is a packet
-pub behind-ok : (done : List Packet) (text : List ℕ) (texts : List (List ℕ)) (packet : Packet) → packet_of text ≡ Ok packet
-    → behind done (packets_of_texts (text ∷ texts)) ≡ behind (done ++ packet ∷ []) (packets_of_texts texts)
-behind-ok done text texts packet is = rw is (behind-one done packet (packets_of_texts texts))
+pub after-ok : (done : List Packet) (text : List ℕ) (texts : List (List ℕ)) (packet : Packet) → engine_packet_of text ≡ Ok packet
+    → after done (packets_of_texts (text ∷ texts)) ≡ after (done ++ packet ∷ []) (packets_of_texts texts)
+after-ok done text texts packet is = rw is (after-one done packet (packets_of_texts texts))
 
 -- the next text is none
-pub behind-err : (done : List Packet) (text : List ℕ) (texts : List (List ℕ)) (fault : EioFault) → packet_of text ≡ Err fault
-    → behind done (packets_of_texts (text ∷ texts)) ≡ Err fault
-behind-err done text texts fault is = rw is refl
+pub after-err : (done : List Packet) (text : List ℕ) (texts : List (List ℕ)) (fault : EioFault) → engine_packet_of text ≡ Err fault
+    → after done (packets_of_texts (text ∷ texts)) ≡ Err fault
+after-err done text texts fault is = rw is refl
 
 module _ {S A B : Type 0} {steps : S → Option A → S → Type 0} {v : A → B} {s t : S} where
   -- what an iterator still yields, after one more item
@@ -58,8 +58,8 @@ gap-one_more (y ∷ ys) x = refl
 
 -- the body of one packet more
 pub body-one_more : (packets : List Packet) (packet : Packet)
-    → body_of (packets ++ packet ∷ []) ≡ body_of packets ++ gap packets ++ text_of packet
+    → body_of (packets ++ packet ∷ []) ≡ body_of packets ++ gap packets ++ engine_text packet
 body-one_more [] packet = refl
 body-one_more (first ∷ []) packet = rw append_assoc refl
 body-one_more (first ∷ next ∷ packets) packet =
-    ap (λ rest. text_of first ++ 30 ∷ rest) (body-one_more (next ∷ packets) packet) ∙ simp append_assoc refl
+    ap (λ rest. engine_text first ++ 30 ∷ rest) (body-one_more (next ∷ packets) packet) ∙ simp append_assoc refl

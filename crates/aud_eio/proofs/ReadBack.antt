@@ -11,8 +11,9 @@ use Rattle.base64.specs.Engines.{standard}
 use Rattle.aud_eio.specs.declared.packet.Control.{Control as ControlType}
 use Rattle.aud_eio.specs.declared.packet.Control.TheVariants.{Opening, Closing, Ping, Pong, Upgrade, Noop}
 use Rattle.aud_eio.specs.declared.packet.Eio.{Eio}
-use Rattle.aud_eio.specs.Packet.{Packet, Control, Message, Lent, Own, view, digit_of, text_of, delivered, ReadsBack}
-use Rattle.aud_eio.specs.Body.{packets_of, packets_of_texts, pieces_of, body_of, FitsBody}
+use Rattle.aud_eio.specs.Packet.{Packet, Control, Message, Lent, Own, engine_view, digit_of, engine_text, delivered}
+use Rattle.aud_eio.specs.Private.ReadBack.{ReadsBack}
+use Rattle.aud_eio.specs.Body.{engine_packets_of, packets_of_texts, body_pieces, body_of, FitsBody}
 
 abbrev is_separator : ℕ → Bool
 is_separator b = b == 30
@@ -74,7 +75,7 @@ free_from [] h = refl
 free_from (x ∷ xs) h =
     rw (ne_eqb x 30 (h 0 x (omega arith)), free_from xs (λ k d l. h (suc k) d (omega arith))) refl
 
-free_text : (packet : Packet) → FitsBody packet → IsFree (text_of packet)
+free_text : (packet : Packet) → FitsBody packet → IsFree (engine_text packet)
 free_text (Control kind payload) fits = rw (free_digit kind, free_from payload fits) refl
 free_text (Message text) fits = free_from text fits
 free_text (Lent bytes) fits = free_base64 bytes
@@ -88,31 +89,31 @@ other_than_separator (x ∷ xs) free =
 -- ---- the pieces are the texts
 
 abbrev texts_of : List Eio → List (List ℕ)
-texts_of packets = map text_of (map view packets)
+texts_of packets = map engine_text (map engine_view packets)
 
 abbrev AllFit : List Eio → Type 0
-AllFit packets = All (λ packet. FitsBody (view packet)) packets
+AllFit packets = All (λ packet. FitsBody (engine_view packet)) packets
 
 pieces-body : (packet : Eio) (packets : List Eio) → AllFit (packet ∷ packets)
-    → pieces_of (join_with_byte 30 (texts_of (packet ∷ packets))) ≡ texts_of (packet ∷ packets)
-pieces-body packet [] fit = slice_split_none is_separator (text_of (view packet))
-    (other_than_separator _ (free_text (view packet) (fit 0 packet (omega arith))))
+    → body_pieces (join_with_byte 30 (texts_of (packet ∷ packets))) ≡ texts_of (packet ∷ packets)
+pieces-body packet [] fit = slice_split_none is_separator (engine_text (engine_view packet))
+    (other_than_separator _ (free_text (engine_view packet) (fit 0 packet (omega arith))))
 pieces-body packet (next ∷ packets) fit =
-    slice_split_at is_separator (text_of (view packet)) 30 (join_with_byte 30 (texts_of (next ∷ packets)))
-    (other_than_separator _ (free_text (view packet) (fit 0 packet (omega arith)))) refl
-    ∙ ap (λ texts. text_of (view packet) ∷ texts) (pieces-body next packets (λ k d l. fit (suc k) d (omega arith)))
+    slice_split_at is_separator (engine_text (engine_view packet)) 30 (join_with_byte 30 (texts_of (next ∷ packets)))
+    (other_than_separator _ (free_text (engine_view packet) (fit 0 packet (omega arith)))) refl
+    ∙ ap (λ texts. engine_text (engine_view packet) ∷ texts) (pieces-body next packets (λ k d l. fit (suc k) d (omega arith)))
 
 -- ---- the packets are those written
 
-texts_read_back : (packets : List Eio) → All (λ packet. ReadsBack (view packet)) packets
-    → packets_of_texts (texts_of packets) ≡ Ok (map delivered (map view packets))
+texts_read_back : (packets : List Eio) → All (λ packet. ReadsBack (engine_view packet)) packets
+    → packets_of_texts (texts_of packets) ≡ Ok (map delivered (map engine_view packets))
 texts_read_back [] back = refl
 texts_read_back (packet ∷ packets) back =
-    let first : ReadsBack (view packet) = back 0 packet (omega arith) in
+    let first : ReadsBack (engine_view packet) = back 0 packet (omega arith) in
     rw (first, texts_read_back packets (λ k d l. back (suc k) d (omega arith))) refl
 
-pub body_reads_back : (packets : List Eio) → 0 < length packets → AllFit packets → All (λ packet. ReadsBack (view packet)) packets
-    → packets_of (body_of (map view packets)) ≡ Ok (map delivered (map view packets))
+pub body_reads_back : (packets : List Eio) → 0 < length packets → AllFit packets → All (λ packet. ReadsBack (engine_view packet)) packets
+    → engine_packets_of (body_of (map engine_view packets)) ≡ Ok (map delivered (map engine_view packets))
 body_reads_back [] some fit back = absurd (omega arith)
 body_reads_back (packet ∷ packets) some fit back =
     ap packets_of_texts (pieces-body packet packets fit) ∙ texts_read_back (packet ∷ packets) back

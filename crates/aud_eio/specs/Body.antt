@@ -3,29 +3,29 @@ use Rattle.std.specs.Prelude.{◌≢◌, ℕ, ◌==◌, List, [], ◌∷◌, map
 use Rattle.std.specs.List.{slice_split, join_with_byte}
 use Rattle.aud_eio.specs.declared.packet.EioFault.{EioFault}
 use Rattle.aud_base.specs.Steps.{◌>>=◌}
-use Rattle.aud_eio.specs.Packet.{Packet, Control, Message, Lent, Own, packet_of, text_of}
+use Rattle.aud_eio.specs.Packet.{Packet, Control, Message, Lent, Own, engine_packet_of, engine_text}
 
 -- the byte between two packets, 0x1e
 abbrev pub separator : ℕ
 separator = 30
 
 -- the texts between the separators: one more than there are separators
-abbrev pub pieces_of : List ℕ → List (List ℕ)
-pieces_of body = slice_split (λ b. b == separator) body
+abbrev pub body_pieces : List ℕ → List (List ℕ)
+body_pieces body = slice_split (λ b. b == separator) body
 
 -- the packets of texts, or the fault of the first text that is no packet
 abbrev pub packets_of_texts : List (List ℕ) → Result (List Packet) EioFault
 packets_of_texts [] = Ok []
 packets_of_texts (text ∷ texts) =
-    packet_of text >>= (λ packet. packets_of_texts texts >>= (λ packets. Ok (packet ∷ packets)))
+    engine_packet_of text >>= (λ packet. packets_of_texts texts >>= (λ packets. Ok (packet ∷ packets)))
 
 -- the packets of a body
-abbrev pub packets_of : List ℕ → Result (List Packet) EioFault
-packets_of body = packets_of_texts (pieces_of body)
+abbrev pub engine_packets_of : List ℕ → Result (List Packet) EioFault
+engine_packets_of body = packets_of_texts (body_pieces body)
 
 -- the body of packets: their texts, with a separator between each two
 abbrev pub body_of : List Packet → List ℕ
-body_of packets = join_with_byte separator (map text_of packets)
+body_of packets = join_with_byte separator (map engine_text packets)
 
 -- no text of the packet holds the separator
 abbrev pub FitsBody : Packet → Type 0

@@ -1,3 +1,4 @@
 pub mod Answer
 pub mod Packet
 pub mod Body
+pub mod Private

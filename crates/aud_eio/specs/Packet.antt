@@ -1,5 +1,5 @@
 -- The packet of a text, and the text of a packet (Engine.IO protocol 4, "Packet encoding").
-use Rattle.std.specs.Prelude.{◌≡◌, ℕ, ◌==◌, List, [], ◌∷◌, if◌then◌else◌, Option, Some, None, option_map, Result, Ok, Err}
+use Rattle.std.specs.Prelude.{ℕ, ◌==◌, List, [], ◌∷◌, if◌then◌else◌, Option, Some, None, option_map, Result, Ok, Err}
 use Rattle.std.specs.Result.{result_ok}
 use Rattle.base64.specs.GeneralPurpose.{decode_of, encode_of}
 use Rattle.base64.specs.Engines.{standard}
@@ -18,11 +18,11 @@ pub data Packet : Type 0 where
   Lent : List ℕ → Packet
   Own : List ℕ → Packet
 
-abbrev pub view : Eio → Packet
-view (code.Control kind payload) = Control kind payload.now
-view (code.Message text) = Message text.now
-view (code.Lent bytes) = Lent bytes.now
-view (code.Own bytes) = Own bytes.items
+abbrev pub engine_view : Eio → Packet
+engine_view (code.Control kind payload) = Control kind payload.now
+engine_view (code.Message text) = Message text.now
+engine_view (code.Lent bytes) = Lent bytes.now
+engine_view (code.Own bytes) = Own bytes.items
 
 -- the type digit of a control packet
 abbrev pub digit_of : ControlType → ℕ
@@ -39,29 +39,25 @@ control_of b = if b == 48 then Some Opening else (if b == 49 then Some Closing e
     else (if b == 51 then Some Pong else (if b == 53 then Some Upgrade else (if b == 54 then Some Noop else None)))))
 
 -- the bytes of a text in base64: padded, with unused bits zero (RFC 4648, section 4)
-abbrev pub bytes_of : List ℕ → Option (List ℕ)
-bytes_of text = result_ok (decode_of standard text)
+abbrev pub base64_bytes : List ℕ → Option (List ℕ)
+base64_bytes text = result_ok (decode_of standard text)
 
 -- the packet of a text: digit 4 a message, `b` bytes in base64, the other digits up to 6 controls
-abbrev pub packet_of : List ℕ → Result Packet EioFault
-packet_of [] = Err Empty
-packet_of (b ∷ payload) =
+abbrev pub engine_packet_of : List ℕ → Result Packet EioFault
+engine_packet_of [] = Err Empty
+engine_packet_of (b ∷ payload) =
     if b == 52 then Ok (Message payload)
-    else (if b == 98 then need BadBase64 (option_map Own (bytes_of payload))
+    else (if b == 98 then need BadBase64 (option_map Own (base64_bytes payload))
     else need UnknownType (option_map (λ kind. Control kind payload) (control_of b)))
 
 -- the text of a packet
-abbrev pub text_of : Packet → List ℕ
-text_of (Control kind payload) = digit_of kind ∷ payload
-text_of (Message text) = 52 ∷ text
-text_of (Lent bytes) = 98 ∷ encode_of standard bytes
-text_of (Own bytes) = 98 ∷ encode_of standard bytes
+abbrev pub engine_text : Packet → List ℕ
+engine_text (Control kind payload) = digit_of kind ∷ payload
+engine_text (Message text) = 52 ∷ text
+engine_text (Lent bytes) = 98 ∷ encode_of standard bytes
+engine_text (Own bytes) = 98 ∷ encode_of standard bytes
 
 -- a packet as its text delivers it: bytes come in base64
 abbrev pub delivered : Packet → Packet
 delivered (Lent bytes) = Own bytes
 delivered packet = packet
-
--- the text of a packet gives the packet
-abbrev pub ReadsBack : Packet → Type 0
-ReadsBack packet = packet_of (text_of packet) ≡ Ok (delivered packet)

@@ -1,8 +1,9 @@
 //! The packets of a body, and the body of packets.
 ghost use Rattle.std.specs.Prelude.{◌≡◌, ◌<◌, ◌++◌, length, map, All, string_bytes, IfOk, IfErr, OnOk};
 ghost use Rattle.aud_eio.specs.Answer.{Gives};
-ghost use Rattle.aud_eio.specs.Packet.{view, delivered, ReadsBack};
-ghost use Rattle.aud_eio.specs.Body.{packets_of, body_of, FitsBody};
+ghost use Rattle.aud_eio.specs.Packet.{engine_view, delivered};
+ghost use Rattle.aud_eio.specs.Private.ReadBack.{ReadsBack};
+ghost use Rattle.aud_eio.specs.Body.{engine_packets_of, body_of, FitsBody};
 
 use crate::text::{decode_text, push_packet};
 use crate::{Eio, EioFault};
@@ -12,7 +13,7 @@ use std::alloc::{AllocError, Global};
 /// long-polling"); their texts are lent from it. The fault is that of the first piece that is no packet, or `Memory`.
 /// A body without a byte is one empty piece, and refused as `Empty`.
 pub fn decode_payload(alloc: Global, body: &str) -> Result<Vec<Eio<'_>>, EioFault>
-    ensures { Gives (λ packets. map view packets.items) result (packets_of body.now) }
+    ensures { Gives (λ packets. map engine_view packets.items) result (engine_packets_of body.now) }
 {
     let mut packets = Vec::new(alloc);
     for piece in body.split('\u{1e}') {
@@ -26,9 +27,9 @@ pub fn decode_payload(alloc: Global, body: &str) -> Result<Vec<Eio<'_>>, EioFaul
 /// and no text of one holds that byte. The one error is `Memory`.
 pub fn encode_payload(alloc: Global, packets: &[Eio<'_>]) -> Result<String, EioFault>
     requires some { 0 < length packets.now }
-    requires fit { All (λ packet. FitsBody (view packet)) packets.now }
-    ensures body { IfOk result (λ body. string_bytes body ≡ body_of (map view packets.now)) }
-    ensures reads_back { IfOk result (λ body. packets_of (string_bytes body) ≡ Ok (map delivered (map view packets.now))) }
+    requires fit { All (λ packet. FitsBody (engine_view packet)) packets.now }
+    ensures body { IfOk result (λ body. string_bytes body ≡ body_of (map engine_view packets.now)) }
+    ensures reads_back { IfOk result (λ body. engine_packets_of (string_bytes body) ≡ Ok (map delivered (map engine_view packets.now))) }
     ensures memory { IfErr result (λ e. e ≡ EioFault.Memory) }
 {
     let mut body = String::new(alloc);
@@ -38,8 +39,8 @@ pub fn encode_payload(alloc: Global, packets: &[Eio<'_>]) -> Result<String, EioF
 
 /// Writes packets after a text, of which memory may leave a part.
 fn push_packets(packets: &[Eio<'_>], body: &mut String) -> Result<(), AllocError>
-    ensures body { OnOk result (string_bytes body.new ≡ string_bytes body.old ++ body_of (map view packets.now)) }
-    ensures read_back { OnOk result (All (λ packet. ReadsBack (view packet)) packets.now) }
+    ensures body { OnOk result (string_bytes body.new ≡ string_bytes body.old ++ body_of (map engine_view packets.now)) }
+    ensures read_back { OnOk result (All (λ packet. ReadsBack (engine_view packet)) packets.now) }
 {
     let mut between = "";
     for packet in packets {

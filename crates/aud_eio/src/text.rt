@@ -4,7 +4,8 @@ ghost use Rattle.base64.specs.GeneralPurpose.{decode_of, encode_of};
 ghost use Rattle.base64.specs.Engines.{standard};
 ghost use Rattle.aud_base.specs.Steps.{need};
 ghost use Rattle.aud_eio.specs.Answer.{Gives};
-ghost use Rattle.aud_eio.specs.Packet.{Packet, view, control_of, digit_of, bytes_of, packet_of, text_of, delivered, ReadsBack};
+ghost use Rattle.aud_eio.specs.Packet.{Packet, engine_view, control_of, digit_of, base64_bytes, engine_packet_of, engine_text, delivered};
+ghost use Rattle.aud_eio.specs.Private.ReadBack.{ReadsBack};
 
 use crate::{Control, Eio, EioFault};
 use base64::DecodeAllocError;
@@ -15,7 +16,7 @@ use std::alloc::{AllocError, Global};
 /// message is one packet. A `b` packet is read on either transport, and it alone takes memory: the other packets are
 /// never refused as `Memory`.
 pub fn decode_text(alloc: Global, text: &str) -> Result<Eio<'_>, EioFault>
-    ensures packet { Gives view result (packet_of text.now) }
+    ensures packet { Gives engine_view result (engine_packet_of text.now) }
     ensures memory { result ≡ Err EioFault.Memory → slice_index text.now 0 ≡ 98 }
 {
     let Some(first) = text.as_bytes().first() else {
@@ -33,15 +34,15 @@ pub fn decode_text(alloc: Global, text: &str) -> Result<Eio<'_>, EioFault>
 
 /// The packet of a binary message of WebSocket, which has no type digit. It lends the bytes.
 pub fn decode_binary(bytes: &[u8]) -> Eio<'_>
-    ensures { view result ≡ Packet.Lent bytes.now }
+    ensures { engine_view result ≡ Packet.Lent bytes.now }
 {
     Eio::Lent(bytes)
 }
 
 /// The text of a packet; bytes are written as `b` and base64, and read back as own bytes. The one error is `Memory`.
 pub fn encode_text(alloc: Global, packet: &Eio<'_>) -> Result<String, EioFault>
-    ensures text { IfOk result (λ text. string_bytes text ≡ text_of (view packet.now)) }
-    ensures reads_back { IfOk result (λ text. packet_of (string_bytes text) ≡ Ok (delivered (view packet.now))) }
+    ensures text { IfOk result (λ text. string_bytes text ≡ engine_text (engine_view packet.now)) }
+    ensures reads_back { IfOk result (λ text. engine_packet_of (string_bytes text) ≡ Ok (delivered (engine_view packet.now))) }
     ensures memory { IfErr result (λ e. e ≡ EioFault.Memory) }
 {
     let mut text = String::new(alloc);
@@ -51,8 +52,8 @@ pub fn encode_text(alloc: Global, packet: &Eio<'_>) -> Result<String, EioFault>
 
 /// Writes a packet after a text, of which memory may leave a part.
 pub(crate) fn push_packet(packet: &Eio<'_>, text: &mut String) -> Result<(), AllocError>
-    ensures text { OnOk result (string_bytes text.new ≡ string_bytes text.old ++ text_of (view packet.now)) }
-    ensures reads_back { ReadsBack (view packet.now) }
+    ensures text { OnOk result (string_bytes text.new ≡ string_bytes text.old ++ engine_text (engine_view packet.now)) }
+    ensures reads_back { ReadsBack (engine_view packet.now) }
 {
     match packet {
         Eio::Control(kind, payload) => push_typed(digit_of(*kind), payload, text),
@@ -79,7 +80,7 @@ fn push_base64(bytes: &[u8], text: &mut String) -> Result<(), AllocError>
 }
 
 fn decode_base64<'a>(alloc: Global, text: &str) -> Result<Eio<'a>, EioFault>
-    ensures { Gives view result (need EioFault.BadBase64 (option_map Packet.Own (bytes_of text.now))) }
+    ensures { Gives engine_view result (need EioFault.BadBase64 (option_map Packet.Own (base64_bytes text.now))) }
 {
     match STANDARD.decode(alloc, text.as_bytes()) {
         Ok(bytes) => Ok(Eio::Own(bytes)),

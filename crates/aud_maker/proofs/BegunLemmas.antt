@@ -9,13 +9,13 @@ use Rattle.aud_node.specs.Cluster.{Cluster, node_log, node_recs}
 use Rattle.aud_node.specs.Lists.{numbers_from}
 use Rattle.aud_node.specs.Stream.{Text}
 use Rattle.aud_node.specs.TurnRecords.{pid_of, begins_turn, rest_of_turn, turn_range}
-use Rattle.aud_node.specs.OwnRecords.{is_pid, names, own_numbers}
+use Rattle.aud_node.specs.OwnRecords.{is_pid, record_names, own_numbers}
 use Rattle.aud_node.specs.OwnPlaces.{is_none, has_own, own_places}
-use Rattle.aud_node.proofs.TurnLemmas.{behind, turn_range-cons, IsWithin, turn_range-within}
+use Rattle.aud_node.proofs.TurnLemmas.{after, turn_range-cons, IsWithin, turn_range-within}
 use Rattle.aud_rooms.specs.Turns.{Who, Turn, beginning, HasNoTurn, IsChain}
 use Rattle.aud_rooms.proofs.Members.{contains-none, contains-parts, contains-first, contains-later}
 use Rattle.aud_client.proofs.Places.{same_text, itself_text}
-use Rattle.aud_maker.specs.Begun.{placed_or, turn_begun, AreBegun, AreAllBegun, BeginsUpTo}
+use Rattle.aud_maker.specs.Private.Begun.{placed_or, turn_begun, AreBegun, AreAllBegun, BeginsUpTo}
 use Rattle.aud_maker.proofs.Turns.{begins-names, beginning-begins, turn-to, first_there, found}
 
 -- ---- the nodes with records of the session
@@ -42,10 +42,10 @@ tap_of c node i rec at = go (slice_get c.taps node) at
     go None at = absurd (none-some rec at)
     go (Some tap) at = (tap, refl)
 
-pub named : (pid : Text) (rec : NodeRec) → pid_of rec ≡ Some pid → names (Some rec) pid ≡ true
+pub named : (pid : Text) (rec : NodeRec) → pid_of rec ≡ Some pid → record_names (Some rec) pid ≡ true
 named pid rec e = ap (λ o. is_pid o pid) e ∙ itself_text pid
 
-pub unnamed : (rec : NodeRec) (pid : Text) → names (Some rec) pid ≡ true → pid_of rec ≡ Some pid
+pub unnamed : (rec : NodeRec) (pid : Text) → record_names (Some rec) pid ≡ true → pid_of rec ≡ Some pid
 unnamed rec pid e = go (pid_of rec) e
   where
     go : (o : Option Text) → is_pid o pid ≡ true → o ≡ Some pid
@@ -56,7 +56,7 @@ unnamed rec pid e = go (pid_of rec) e
 pub own_number : (log : List NodeRec) (pid : Text) (i : ℕ) (rec : NodeRec) → slice_get log i ≡ Some rec → pid_of rec ≡ Some pid → Contains (own_numbers log pid) i
 own_number log pid i rec at names_it =
     let within = slice_get_within log i rec at in
-    among (λ number. names (slice_get log number) pid) 0 (length log) i (ap (λ o. names o pid) at ∙ named pid rec names_it) (omega arith) (omega arith)
+    among (λ number. record_names (slice_get log number) pid) 0 (length log) i (ap (λ o. record_names o pid) at ∙ named pid rec names_it) (omega arith) (omega arith)
 
 -- its node is one of the places
 pub own_place : (c : Cluster) (pid : Text) (node i : ℕ) (rec : NodeRec) → slice_get (node_log c node) i ≡ Some rec → pid_of rec ≡ Some pid → Contains (own_places c pid) node
@@ -71,7 +71,7 @@ own_place c pid node i rec at names_it =
 
 -- ---- the turn that a log begins
 
--- the numbers of turn k: of the first record that begins it, and of the rest of the turn behind that
+-- the numbers of turn k: of the first record that begins it, and of the rest of the turn after that
 pub record IsIndexed (log : List NodeRec) (pid : Text) (k from to : ℕ) : Type 0 where
   pub first : NodeRec
   pub there : slice_get log from ≡ Some first
@@ -90,8 +90,8 @@ indexed (x ∷ xs) pid k = go (begins_turn pid k x) refl (indexed xs pid k)
     count : ℕ
     count = length (rest_of_turn pid xs)
 
-    step : (b : Bool) → begins_turn pid k x ≡ b → turn_range (x ∷ xs) pid k ≡ cond b (Some (0, suc count)) (behind 1 (turn_range xs pid k))
-    step b e = turn_range-cons x xs pid k ∙ ap (λ b. cond b (Some (0, suc count)) (behind 1 (turn_range xs pid k))) e
+    step : (b : Bool) → begins_turn pid k x ≡ b → turn_range (x ∷ xs) pid k ≡ cond b (Some (0, suc count)) (after 1 (turn_range xs pid k))
+    step b e = turn_range-cons x xs pid k ∙ ap (λ b. cond b (Some (0, suc count)) (after 1 (turn_range xs pid k))) e
 
     later : begins_turn pid k x ≡ false → BeginsNone xs pid k → BeginsNone (x ∷ xs) pid k
     later e none zero rec at begins = false≢true (sym e ∙ ap (begins_turn pid k) (same_Some x rec at) ∙ begins)
@@ -101,13 +101,13 @@ indexed (x ∷ xs) pid k = go (begins_turn pid k x) refl (indexed xs pid k)
         → ((turn_range xs pid k ≡ None) × BeginsNone xs pid k) ⊎ ((from : ℕ) × (to : ℕ) × (turn_range xs pid k ≡ Some (from, to)) × IsIndexed xs pid k from to)
         → ((turn_range (x ∷ xs) pid k ≡ None) × BeginsNone (x ∷ xs) pid k) ⊎ ((from : ℕ) × (to : ℕ) × (turn_range (x ∷ xs) pid k ≡ Some (from, to)) × IsIndexed (x ∷ xs) pid k from to)
     go true e rest = inr (0, suc count, step true e, record { first = x; there = refl; parts = refl; begins = e; within = (subst (IsWithin (suc (length xs))) (step true e) (turn_range-within (x ∷ xs) pid k)).1; to_is = omega arith })
-    go false e (inl (none, nowhere)) = inl (step false e ∙ ap (behind 1) none, later e nowhere)
+    go false e (inl (none, nowhere)) = inl (step false e ∙ ap (after 1) none, later e nowhere)
     go false e (inr (from, to, is, r)) =
         let to_is = r.to_is in
         let within = r.within in
         let a : 1 + from ≡ suc from = omega arith in
         let b : 1 + to ≡ suc to = omega arith in
-        inr (suc from, suc to, step false e ∙ ap (behind 1) is ∙ ap (λ n. Some (n, 1 + to)) a ∙ ap (λ n. Some (suc from, n)) b, record { first = r.first; there = r.there; parts = r.parts; begins = r.begins; within = omega arith; to_is = omega arith })
+        inr (suc from, suc to, step false e ∙ ap (after 1) is ∙ ap (λ n. Some (n, 1 + to)) a ∙ ap (λ n. Some (suc from, n)) b, record { first = r.first; there = r.there; parts = r.parts; begins = r.begins; within = omega arith; to_is = omega arith })
 
 -- the turn k of the session that a node begins
 abbrev pub IsBegun : Cluster → Text → ℕ → Turn → Type 0

@@ -9,13 +9,13 @@ use Rattle.aud_node.specs.Cluster.{Cluster, node_log}
 use Rattle.aud_node.specs.Lists.{between}
 use Rattle.aud_node.specs.OwnPlaces.{own_places}
 use Rattle.aud_node.specs.Stream.{Text}
-use Rattle.aud_node.specs.TurnRecords.{begins_turn, is_begin, is_end, rest_of_turn}
+use Rattle.aud_node.specs.TurnRecords.{begins_turn, begins_any_turn, ends_any_turn, rest_of_turn}
 use Rattle.aud_node.proofs.TurnLemmas.{rest-taken}
 use Rattle.aud_rooms.specs.Turns.{Who, Turn, beginning, End, ByBreak, ByGone, ByLog, part_of, turn_end, MayEnd, AreTurns}
 use Rattle.aud_client.proofs.Places.{same_text}
-use Rattle.aud_maker.specs.Begun.{AreBegun}
-use Rattle.aud_maker.specs.Chain.{names_opened, opening_of}
-use Rattle.aud_maker.specs.Ended.{end_by, may_end, is_ended, is_empty, are_ended}
+use Rattle.aud_maker.specs.Private.Begun.{AreBegun}
+use Rattle.aud_maker.specs.Private.Opening.{names_opened, opening_of}
+use Rattle.aud_maker.specs.Private.Ended.{end_by, may_end, is_ended, is_empty, are_ended}
 use Rattle.aud_maker.proofs.Turns.{Kind, kind, slice_get-drop}
 use Rattle.aud_maker.proofs.BegunLemmas.{IsIndexed, begun-is}
 
@@ -32,7 +32,7 @@ rest-end : (pid : Text) (k : ℕ) (rec : NodeRec) (recs : List NodeRec) → end_
 rest-end pid k rec [] plain = sym plain
 rest-end pid k rec (x ∷ xs) plain = go (kind pid k x) (λ e. rest-end pid k x xs e)
   where
-    go : Kind (is_begin pid x) (is_end pid x) (part_of pid k x) (end_by pid k (Some x))
+    go : Kind (begins_any_turn pid x) (ends_any_turn pid x) (part_of pid k x) (end_by pid k (Some x))
         → (end_by pid k (Some x) ≡ Some ByLog → turn_end pid k (rest_of_turn pid xs) ≡ end_by pid k (slice_get (x ∷ xs) (length (rest_of_turn pid xs))))
         → turn_end pid k (rest_of_turn pid (x ∷ xs)) ≡ end_by pid k (slice_get (rec ∷ x ∷ xs) (length (rest_of_turn pid (x ∷ xs))))
     go (inl (begins, ends, part, by)) ih = rw (begins, ends, part) (ih by)

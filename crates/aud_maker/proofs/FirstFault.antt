@@ -13,9 +13,9 @@ use Rattle.aud_rooms.specs.Turns.{Who, Turn, AreTurns, HasNoTurn, IsChain}
 use Rattle.aud_rooms.specs.TurnPlaces.{IsInOrder}
 use Rattle.aud_cert.specs.declared.fault.Fault.{Fault}
 use Rattle.aud_cert.specs.declared.fault.Fault.TheVariants.{NoLog, Chain, Order, Client}
-use Rattle.aud_maker.specs.Begun.{turn_begun}
+use Rattle.aud_maker.specs.Private.Begun.{turn_begun}
 use Rattle.aud_maker.specs.Chain.{HasNoChain}
-use Rattle.aud_maker.specs.Faults.{HasUnordered, Holds, rank, IsFirst, NoneHolds}
+use Rattle.aud_maker.specs.Faults.{HasUnordered, HasMakeFault, make_fault_rank, IsFirstMakeFault, HasNoMakeFault}
 use Rattle.aud_maker.specs.Made.{is_turn_ordered}
 use Rattle.aud_maker.proofs.BegunLemmas.{IsBegun, begun, one_chain}
 
@@ -62,7 +62,7 @@ in_order c who k (t ∷ turns) are e =
 -- ---- the first fault that holds
 
 module _ (c : Cluster) (pid : Text) where
-  pub none_holds : (HasNoTurn c pid 0 → ⊥) → (HasNoChain c pid → ⊥) → (HasUnordered c pid → ⊥) → length (naming_places c.taps pid) ≡ 1 → NoneHolds c pid
+  pub none_holds : (HasNoTurn c pid 0 → ⊥) → (HasNoChain c pid → ⊥) → (HasUnordered c pid → ⊥) → length (naming_places c.taps pid) ≡ 1 → HasNoMakeFault c pid
   none_holds logged chained ordered one NoLog holds = logged holds
   none_holds logged chained ordered one Chain holds = chained holds
   none_holds logged chained ordered one Order holds = ordered holds
@@ -70,30 +70,30 @@ module _ (c : Cluster) (pid : Text) where
   none_holds logged chained ordered one _ holds = holds
 
   -- of the faults before this rank none holds
-  none_before : (n : ℕ) → (0 < n → Holds c pid NoLog → ⊥) → (1 < n → Holds c pid Chain → ⊥) → (2 < n → Holds c pid Order → ⊥) → n < 4 → (other : Fault) → rank other < n → Holds c pid other → ⊥
+  none_before : (n : ℕ) → (0 < n → HasMakeFault c pid NoLog → ⊥) → (1 < n → HasMakeFault c pid Chain → ⊥) → (2 < n → HasMakeFault c pid Order → ⊥) → n < 4 → (other : Fault) → make_fault_rank other < n → HasMakeFault c pid other → ⊥
   none_before n logged chained ordered h NoLog less holds = logged less holds
   none_before n logged chained ordered h Chain less holds = chained less holds
   none_before n logged chained ordered h Order less holds = ordered less holds
   none_before n logged chained ordered h Client less holds = omega arith
   none_before n logged chained ordered h _ less holds = holds
 
-  pub first_no_log : HasNoTurn c pid 0 → IsFirst c pid NoLog
+  pub first_no_log : HasNoTurn c pid 0 → IsFirstMakeFault c pid NoLog
   first_no_log holds = record { holds = holds; none_before = λ other h. absurd (omega arith) }
 
   module _ (logged : HasNoTurn c pid 0 → ⊥) where
-    pub first_chain : HasNoChain c pid → IsFirst c pid Chain
+    pub first_chain : HasNoChain c pid → IsFirstMakeFault c pid Chain
     first_chain holds = record { holds = holds; none_before = none_before 1 (λ h. logged) (λ h. absurd (omega arith)) (λ h. absurd (omega arith)) (omega arith) }
 
     -- the session has a chain
     module _ (who : Who) (turns : List Turn) (same : who.pid ≡ pid) (chain : IsChain c who turns) where
-      pub first_order : list_all (is_turn_ordered c) turns ≡ false → IsFirst c pid Order
+      pub first_order : list_all (is_turn_ordered c) turns ≡ false → IsFirstMakeFault c pid Order
       first_order fails =
           record { holds = unordered c who pid turns same chain fails; none_before = none_before 2 (λ h. logged) (λ h none. none who turns same chain) (λ h. absurd (omega arith)) (omega arith) }
 
       module _ (passes : list_all (is_turn_ordered c) turns ≡ true) where
-        pub first_client : (length (naming_places c.taps pid) ≡ 1 → ⊥) → IsFirst c pid Client
+        pub first_client : (length (naming_places c.taps pid) ≡ 1 → ⊥) → IsFirstMakeFault c pid Client
         first_client holds =
             record { holds = holds; none_before = none_before 3 (λ h. logged) (λ h none. none who turns same chain) (λ h. not_unordered c who pid turns same chain passes) (omega arith) }
 
-        pub no_fault : length (naming_places c.taps pid) ≡ 1 → NoneHolds c pid
+        pub no_fault : length (naming_places c.taps pid) ≡ 1 → HasNoMakeFault c pid
         no_fault one = none_holds logged (λ none. none who turns same chain) (not_unordered c who pid turns same chain passes) one

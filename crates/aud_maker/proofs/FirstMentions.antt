@@ -9,7 +9,7 @@ use Rattle.aud_node.specs.Lists.{numbers_from}
 use Rattle.aud_node.specs.Stream.{Text}
 use Rattle.aud_client.proofs.Places.{same_text}
 use Rattle.aud_maker.specs.Sessions.{first_mention, first_mentions}
-use Rattle.aud_maker.specs.Mentioned.{with_mention, with_mentions}
+use Rattle.aud_maker.specs.Private.Mentioned.{with_mention, with_mentions}
 
 or-false : (b : Bool) → b || false ≡ b
 or-false true = refl

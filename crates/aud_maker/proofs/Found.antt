@@ -7,10 +7,11 @@ use Rattle.aud_node.specs.Cluster.{Cluster}
 use Rattle.aud_node.specs.Stream.{Text}
 use Rattle.aud_rooms.specs.Turns.{Who, Turn, IsChain}
 use Rattle.aud_node.specs.OwnPlaces.{own_places}
-use Rattle.aud_maker.specs.Begun.{AreAllBegun}
-use Rattle.aud_maker.specs.Ended.{are_ended}
-use Rattle.aud_maker.specs.Swept.{is_swept}
-use Rattle.aud_maker.specs.Chain.{HasNoChain, opening_of}
+use Rattle.aud_maker.specs.Private.Begun.{AreAllBegun}
+use Rattle.aud_maker.specs.Private.Ended.{are_ended}
+use Rattle.aud_maker.specs.Private.Swept.{is_swept}
+use Rattle.aud_maker.specs.Chain.{HasNoChain}
+use Rattle.aud_maker.specs.Private.Opening.{opening_of}
 use Rattle.aud_maker.proofs.BegunLemmas.{chain-same}
 use Rattle.aud_maker.proofs.EndedLemmas.{ended-turns, turns-ended, opening-names}
 use Rattle.aud_maker.proofs.SweptLemmas.{swept-covers, covers-swept}

@@ -8,7 +8,7 @@ use Rattle.aud_node.specs.Stream.{Text}
 use Rattle.aud_node.specs.TurnRecords.{begins_turn}
 use Rattle.aud_node.specs.OwnRecords.{own_numbers}
 use Rattle.aud_node.specs.OwnPlaces.{own_places}
-use Rattle.aud_maker.specs.Begun.{BeginsUpTo}
+use Rattle.aud_maker.specs.Private.Begun.{BeginsUpTo}
 use Rattle.aud_maker.proofs.Turns.{begins-names}
 use Rattle.aud_maker.proofs.BegunLemmas.{own_number, own_place}
 

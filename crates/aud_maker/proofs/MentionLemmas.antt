@@ -7,7 +7,7 @@ use Rattle.std.proofs.lemmas.List.{map-append, take_more, flat_map_more}
 use Rattle.aud_tap.specs.declared.taps.Tap.{Tap}
 use Rattle.indexmap.specs.IndexSet.{insert_key}
 use Rattle.aud_node.specs.Stream.{Text}
-use Rattle.aud_maker.specs.Mentioned.{with_mention, with_mentions}
+use Rattle.aud_maker.specs.Private.Mentioned.{with_mention, with_mentions}
 
 any-map : {A B : Type 0} (test : B → Bool) (f : A → B) (xs : List A) → list_any test (map f xs) ≡ list_any (λ x. test (f x)) xs
 any-map test f [] = refl

@@ -12,10 +12,10 @@ use Rattle.aud_node.specs.Lists.{numbers_from}
 use Rattle.aud_node.specs.Stream.{Text}
 use Rattle.aud_node.specs.TurnRecords.{pid_of, begins_turn}
 use Rattle.aud_node.specs.OwnPlaces.{own_places}
-use Rattle.aud_node.specs.OwnRecords.{names, own_numbers}
+use Rattle.aud_node.specs.OwnRecords.{record_names, own_numbers}
 use Rattle.aud_rooms.specs.Turns.{Who, Turn, beginning, StandsIn, IsChain}
 use Rattle.aud_rooms.proofs.Members.{contains-none, contains-parts}
-use Rattle.aud_maker.specs.Swept.{number_begun, turn_or, turn_past, is_in, are_in, is_swept}
+use Rattle.aud_maker.specs.Private.Swept.{number_begun, turn_or, turn_past, is_in_turn, are_in_turns, is_swept}
 use Rattle.aud_maker.proofs.Turns.{begins-names, beginning-begins, no_begin_inside, first_there, standing}
 use Rattle.aud_maker.proofs.BegunLemmas.{named, unnamed, own_number, own_place}
 
@@ -23,7 +23,7 @@ use Rattle.aud_maker.proofs.BegunLemmas.{named, unnamed, own_number, own_place}
 
 -- what stands in this turn stands in the turns
 abbrev IsAmong : List Turn → ℕ → Option Turn → Type 0
-IsAmong turns node current = (number : ℕ) → is_in node number current ≡ true → StandsIn node number turns
+IsAmong turns node current = (number : ℕ) → is_in_turn node number current ≡ true → StandsIn node number turns
 
 in-one : (turns : List Turn) (node j : ℕ) → IsAmong turns node (slice_get turns j)
 in-one [] node j number e = absurd (false≢true e)
@@ -41,7 +41,7 @@ among-past turns node (Some rec) current is = go (number_begun rec)
     go None = is
     go (Some k) = in-one turns node k
 
-in-all : (log : List NodeRec) (turns : List Turn) (node : ℕ) (ns : List ℕ) (current : Option Turn) → IsAmong turns node current → are_in log turns node ns current ≡ true → (n : ℕ) → Contains ns n → StandsIn node n turns
+in-all : (log : List NodeRec) (turns : List Turn) (node : ℕ) (ns : List ℕ) (current : Option Turn) → IsAmong turns node current → are_in_turns log turns node ns current ≡ true → (n : ℕ) → Contains ns n → StandsIn node n turns
 in-all log turns node [] current is all n here = absurd (contains-none n here)
 in-all log turns node (x ∷ ns) current is all n here =
     let next = among-past turns node (slice_get log x) current is in
@@ -60,7 +60,7 @@ swept-covers c pid turns all node number rec at names_it =
 -- ---- records that stand in the turns are passed
 
 -- a number that a record of the session gives a turn is that of a turn that it begins
-begun-begins : (pid : Text) (rec : NodeRec) (k : ℕ) → names (Some rec) pid ≡ true → number_begun rec ≡ Some k → begins_turn pid k rec ≡ true
+begun-begins : (pid : Text) (rec : NodeRec) (k : ℕ) → record_names (Some rec) pid ≡ true → number_begun rec ≡ Some k → begins_turn pid k rec ≡ true
 begun-begins pid (Opened other sid nsp) k own e = subst (λ n. begins_turn pid n (Opened other sid nsp) ≡ true) (same_Some 0 k e) own
 begun-begins pid (Back other zero) k own e = absurd (none-some k e)
 begun-begins pid (Back other (suc n)) k own e = subst (λ m. begins_turn pid m (Back other (suc n)) ≡ true) (same_Some (suc n) k e) (and_from _ _ own (eq-eqb (suc n) (suc n) refl))
@@ -75,7 +75,7 @@ module _ (c : Cluster) (who : Who) (turns : List Turn) (chain : IsChain c who tu
   log = node_log c node
 
   abbrev own : ℕ → Bool
-  own number = names (slice_get log number) who.pid
+  own number = record_names (slice_get log number) who.pid
 
   -- inside a turn of the node it is the turn that goes on before this record
   abbrev GoesOn : ℕ → Option Turn → Type 0
@@ -85,7 +85,7 @@ module _ (c : Cluster) (who : Who) (turns : List Turn) (chain : IsChain c who tu
   first_record j t at same = let (later, turn) = first_there c who turns j t chain.are_turns at in ap (λ m. slice_get (node_log c m) t.from) (sym same) ∙ turn.begins
 
   own_first : (j : ℕ) (t : Turn) → slice_get turns j ≡ Some t → t.node ≡ node → own t.from ≡ true
-  own_first j t at same = ap (λ o. names o who.pid) (first_record j t at same) ∙ named who.pid (beginning who j) (begins-names who.pid j (beginning who j) (beginning-begins who j))
+  own_first j t at same = ap (λ o. record_names o who.pid) (first_record j t at same) ∙ named who.pid (beginning who j) (begins-names who.pid j (beginning who j) (beginning-begins who j))
 
   -- after a record that isn't the session's
   go_other : (x : ℕ) (current : Option Turn) → own x ≡ false → GoesOn x current → GoesOn (suc x) current
@@ -96,7 +96,7 @@ module _ (c : Cluster) (who : Who) (turns : List Turn) (chain : IsChain c who tu
       ]
 
   -- after one of the session
-  go_own : (x : ℕ) (rec : NodeRec) (current : Option Turn) → slice_get log x ≡ Some rec → names (Some rec) who.pid ≡ true → GoesOn x current
+  go_own : (x : ℕ) (rec : NodeRec) (current : Option Turn) → slice_get log x ≡ Some rec → record_names (Some rec) who.pid ≡ true → GoesOn x current
       → (j : ℕ) (t : Turn) → slice_get turns j ≡ Some t → t.node ≡ node → t.from ≤ x → x < t.to → turn_past turns (slice_get log x) current ≡ Some t
   go_own x rec current there its on j t at same from below = go (cases_eq t.from x) (number_begun rec) refl
     where
@@ -111,25 +111,25 @@ module _ (c : Cluster) (who : Who) (turns : List Turn) (chain : IsChain c who tu
       go (inr ne) (Some n) e = absurd (inside ne n e)
 
   -- it stands in the turn that goes on
-  stands_now : (x : ℕ) (rec : NodeRec) (current : Option Turn) → slice_get log x ≡ Some rec → names (Some rec) who.pid ≡ true → GoesOn x current → is_in node x (turn_past turns (slice_get log x) current) ≡ true
+  stands_now : (x : ℕ) (rec : NodeRec) (current : Option Turn) → slice_get log x ≡ Some rec → record_names (Some rec) who.pid ≡ true → GoesOn x current → is_in_turn node x (turn_past turns (slice_get log x) current) ≡ true
   stands_now x rec current there its on =
       let (j, t, at, same, from, below) = standing node x turns (chain.covers node x rec there (unnamed rec who.pid its)) in
-      ap (is_in node x) (go_own x rec current there its on j t at same from below)
+      ap (is_in_turn node x) (go_own x rec current there its on j t at same from below)
       ∙ and_from _ _ (eq-eqb t.node node same) (and_from _ _ (le-leb t.from x from) (le-leb (suc x) t.to below))
 
-  swept-from : (count x : ℕ) (current : Option Turn) → GoesOn x current → are_in log turns node (filter own (numbers_from x count)) current ≡ true
+  swept-from : (count x : ℕ) (current : Option Turn) → GoesOn x current → are_in_turns log turns node (filter own (numbers_from x count)) current ≡ true
   swept-from zero x current on = refl
   swept-from (suc count) x current on = go (own x) refl (slice_get log x) refl (λ next goes. swept-from count (suc x) next goes)
     where
       later : List ℕ
       later = filter own (numbers_from (suc x) count)
 
-      go : (v : Bool) → own x ≡ v → (o : Option NodeRec) → slice_get log x ≡ o → ((next : Option Turn) → GoesOn (suc x) next → are_in log turns node later next ≡ true)
-          → are_in log turns node (cond v (x ∷ later) later) current ≡ true
+      go : (v : Bool) → own x ≡ v → (o : Option NodeRec) → slice_get log x ≡ o → ((next : Option Turn) → GoesOn (suc x) next → are_in_turns log turns node later next ≡ true)
+          → are_in_turns log turns node (cond v (x ∷ later) later) current ≡ true
       go false e o at ih = ih current (go_other x current e on)
-      go true e None at ih = absurd (false≢true (ap (λ o. names o who.pid) (sym at) ∙ e))
+      go true e None at ih = absurd (false≢true (ap (λ o. record_names o who.pid) (sym at) ∙ e))
       go true e (Some rec) at ih =
-          let its : names (Some rec) who.pid ≡ true = ap (λ o. names o who.pid) (sym at) ∙ e in
+          let its : record_names (Some rec) who.pid ≡ true = ap (λ o. record_names o who.pid) (sym at) ∙ e in
           and_from _ _ (stands_now x rec current at its on)
           (ih (turn_past turns (slice_get log x) current) (λ j t there same from below. go_own x rec current at its on j t there same (omega arith) (omega arith)))
 

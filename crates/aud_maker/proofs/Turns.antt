@@ -6,10 +6,10 @@ use Rattle.aud_tap.specs.declared.records.NodeRec.{NodeRec}
 use Rattle.aud_tap.specs.declared.records.NodeRec.TheVariants.{Opened, Broke, Back, Gone}
 use Rattle.aud_node.specs.Cluster.{Cluster, node_log}
 use Rattle.aud_node.specs.Stream.{Text}
-use Rattle.aud_node.specs.TurnRecords.{pid_of, begins_turn, is_begin, is_end, rest_of_turn}
+use Rattle.aud_node.specs.TurnRecords.{pid_of, begins_turn, begins_any_turn, ends_any_turn, rest_of_turn}
 use Rattle.aud_rooms.specs.Turns.{Who, Turn, beginning, Part, Inner, Last, Foreign, End, ByBreak, ByGone, ByLog, part_of, end_past, turn_end, MayEnd, IsTurn, AreTurns, StandsIn, IsChain}
 use Rattle.aud_client.proofs.Places.{same_text, itself_text}
-use Rattle.aud_maker.specs.Ended.{end_by}
+use Rattle.aud_maker.specs.Private.Ended.{end_by}
 
 -- ---- records that begin a turn
 
@@ -28,12 +28,12 @@ pub beginning-begins : (who : Who) (k : ℕ) → begins_turn who.pid k (beginnin
 beginning-begins who zero = itself_text who.pid
 beginning-begins who (suc k) = and_from _ _ (itself_text who.pid) (eq-eqb (suc k) (suc k) refl)
 
-begins-some : (pid : Text) (k : ℕ) (rec : NodeRec) → begins_turn pid k rec ≡ true → is_begin pid rec ≡ true
+begins-some : (pid : Text) (k : ℕ) (rec : NodeRec) → begins_turn pid k rec ≡ true → begins_any_turn pid rec ≡ true
 begins-some pid zero (Opened other sid nsp) e = e
 begins-some pid (suc k) (Back other number) e = (and_parts _ _ e).0
 begins-some pid k _ e = absurd (false≢true e)
 
--- ---- records behind the first of a turn
+-- ---- records after the first of a turn
 
 -- such a record stands inside, or begins a turn, or ends one
 abbrev pub Kind : Bool → Bool → Part → Option End → Type 0
@@ -59,7 +59,7 @@ kind-gone : (own : Bool) → Kind false own (cond own (Last ByGone) Inner) (cond
 kind-gone true = inr (inr (refl, refl, alone ByGone, refl))
 kind-gone false = inl (refl, refl, refl, refl)
 
-pub kind : (pid : Text) (k : ℕ) (rec : NodeRec) → Kind (is_begin pid rec) (is_end pid rec) (part_of pid k rec) (end_by pid k (Some rec))
+pub kind : (pid : Text) (k : ℕ) (rec : NodeRec) → Kind (begins_any_turn pid rec) (ends_any_turn pid rec) (part_of pid k rec) (end_by pid k (Some rec))
 kind pid k (Opened other sid nsp) = kind-begin (bytes_eq other pid)
 kind pid k (Back other number) = kind-begin (bytes_eq other pid)
 kind pid k (Broke other number) = kind-break (bytes_eq other pid) (nat_eq number k)
@@ -75,7 +75,7 @@ rest-count pid k (x ∷ xs) zero e h ends with_log = let all = with_log (sym (sa
 rest-count pid k (x ∷ xs) (suc count) e h ends with_log =
     go (kind pid k x) (λ rest. rest-count pid k xs count e (omega arith) rest (λ is. (let all = with_log is in omega (arith, all))))
   where
-    go : Kind (is_begin pid x) (is_end pid x) (part_of pid k x) (end_by pid k (Some x)) → (turn_end pid k (take count xs) ≡ Some e → length (rest_of_turn pid xs) ≡ count) → length (rest_of_turn pid (x ∷ xs)) ≡ suc count
+    go : Kind (begins_any_turn pid x) (ends_any_turn pid x) (part_of pid k x) (end_by pid k (Some x)) → (turn_end pid k (take count xs) ≡ Some e → length (rest_of_turn pid xs) ≡ count) → length (rest_of_turn pid (x ∷ xs)) ≡ suc count
     go (inl (begins, ends_one, part, by)) ih = rw (begins, ends_one) (ap suc (ih (rw part at ends)))
     go (inr (inl (begins, part))) ih = absurd (none-some e (rw part at ends))
     go (inr (inr (begins, ends_one, last, by))) ih =
@@ -84,14 +84,14 @@ rest-count pid k (x ∷ xs) (suc count) e h ends with_log =
         rw (begins, ends_one) one
 
 -- none of them begins a turn
-rest-begins : (pid : Text) (recs : List NodeRec) (j : ℕ) (rec : NodeRec) → slice_get recs j ≡ Some rec → j < length (rest_of_turn pid recs) → is_begin pid rec ≡ true → ⊥
+rest-begins : (pid : Text) (recs : List NodeRec) (j : ℕ) (rec : NodeRec) → slice_get recs j ≡ Some rec → j < length (rest_of_turn pid recs) → begins_any_turn pid rec ≡ true → ⊥
 rest-begins pid [] j rec at h begins = none-some rec at
-rest-begins pid (x ∷ xs) j rec at h begins = go (is_begin pid x) (is_end pid x) refl j at h (λ i there less. rest-begins pid xs i rec there less begins)
+rest-begins pid (x ∷ xs) j rec at h begins = go (begins_any_turn pid x) (ends_any_turn pid x) refl j at h (λ i there less. rest-begins pid xs i rec there less begins)
   where
-    go : (b e : Bool) → is_begin pid x ≡ b → (j : ℕ) → slice_get (x ∷ xs) j ≡ Some rec → j < length (cond b [] (cond e (x ∷ []) (x ∷ rest_of_turn pid xs)))
+    go : (b e : Bool) → begins_any_turn pid x ≡ b → (j : ℕ) → slice_get (x ∷ xs) j ≡ Some rec → j < length (cond b [] (cond e (x ∷ []) (x ∷ rest_of_turn pid xs)))
         → ((i : ℕ) → slice_get xs i ≡ Some rec → i < length (rest_of_turn pid xs) → ⊥) → ⊥
     go true e is j at h ih = omega arith
-    go false e is zero at h ih = false≢true (sym is ∙ ap (is_begin pid) (same_Some x rec at) ∙ begins)
+    go false e is zero at h ih = false≢true (sym is ∙ ap (begins_any_turn pid) (same_Some x rec at) ∙ begins)
     go false true is (suc j) at h ih = omega arith
     go false false is (suc j) at h ih = ih j at (omega arith)
 
@@ -116,7 +116,7 @@ module _ (c : Cluster) (who : Who) (k : ℕ) (t : Turn) (later : List Turn) (tur
       let count = rest-count who.pid k (drop (suc t.from) (node_log c t.node)) (t.to - suc t.from) turn.end (omega arith) turn.ends (λ is. (let all = by_log c t later turn.end turn.may_end is in omega arith)) in
       omega arith
 
-  -- behind a turn's first record none begins a turn
+  -- after a turn's first record none begins a turn
   pub no_begin_inside : (i n : ℕ) (rec : NodeRec) → t.from < i → i < t.to → slice_get (node_log c t.node) i ≡ Some rec → begins_turn who.pid n rec ≡ true → ⊥
   no_begin_inside i n rec past below at begins =
       let to = turn-to in

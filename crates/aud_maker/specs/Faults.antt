@@ -24,31 +24,31 @@ pub record HasUnordered (c : Cluster) (pid : Text) : Type 0 where
 
 -- where each of the maker's faults holds: no node has an `open` of the pid; its records are no chain of turns; the
 -- node of a turn isn't ordered; not exactly one client tap has a reply that names the pid
-abbrev pub Holds : Cluster → Text → Fault → Type 0
-Holds c pid NoLog = HasNoTurn c pid 0
-Holds c pid Chain = HasNoChain c pid
-Holds c pid Order = HasUnordered c pid
-Holds c pid Client = length (naming_places c.taps pid) ≡ 1 → ⊥
-Holds c pid _ = ⊥
+abbrev pub HasMakeFault : Cluster → Text → Fault → Type 0
+HasMakeFault c pid NoLog = HasNoTurn c pid 0
+HasMakeFault c pid Chain = HasNoChain c pid
+HasMakeFault c pid Order = HasUnordered c pid
+HasMakeFault c pid Client = length (naming_places c.taps pid) ≡ 1 → ⊥
+HasMakeFault c pid _ = ⊥
 
 -- the order in which they are named
-abbrev pub rank : Fault → ℕ
-rank NoLog = 0
-rank Chain = 1
-rank Order = 2
-rank Client = 3
-rank _ = 4
+abbrev pub make_fault_rank : Fault → ℕ
+make_fault_rank NoLog = 0
+make_fault_rank Chain = 1
+make_fault_rank Order = 2
+make_fault_rank Client = 3
+make_fault_rank _ = 4
 
 -- of all of them this is the first that holds
-pub record IsFirst (c : Cluster) (pid : Text) (fault : Fault) : Type 0 where
-  pub holds : Holds c pid fault
-  pub none_before : (other : Fault) → rank other < rank fault → Holds c pid other → ⊥
+pub record IsFirstMakeFault (c : Cluster) (pid : Text) (fault : Fault) : Type 0 where
+  pub holds : HasMakeFault c pid fault
+  pub none_before : (other : Fault) → make_fault_rank other < make_fault_rank fault → HasMakeFault c pid other → ⊥
 
 -- none of them holds
-abbrev pub NoneHolds : Cluster → Text → Type 0
-NoneHolds c pid = (fault : Fault) → Holds c pid fault → ⊥
+abbrev pub HasNoMakeFault : Cluster → Text → Type 0
+HasNoMakeFault c pid = (fault : Fault) → HasMakeFault c pid fault → ⊥
 
 -- the fault is the first that holds; of want of memory nothing is said
 abbrev pub IsWhy : Cluster → Text → MakeFault → Type 0
-IsWhy c pid (Because fault) = IsFirst c pid fault
+IsWhy c pid (Because fault) = IsFirstMakeFault c pid fault
 IsWhy c pid Memory = Unit {0}

@@ -12,8 +12,8 @@ use Rattle.aud_node.specs.Stream.{Text}
 use Rattle.aud_node.specs.Cluster.{Cluster, node_recs}
 use Rattle.aud_node.specs.NodeTaps.{client_recs}
 use Rattle.aud_node.specs.TurnRecords.{pid_of}
-use Rattle.aud_client.specs.Told.{StaySeen}
-use Rattle.aud_client.specs.Received.{received_of}
+use Rattle.aud_client.specs.StaySeen.{StaySeen}
+use Rattle.aud_client.specs.Received.{transcript_of}
 
 -- the pids that a tap's records name, if it is a node's
 abbrev pub node_pids : Tap → List Text
@@ -26,7 +26,7 @@ stay_pid stay = option_and_then (λ reply. reply.pid) stay.reply
 -- the pids that the replies of a client's tap name, stay after stay
 abbrev pub reply_pids : List StreamRec → Option (List ClientRec) → List Text
 reply_pids stream None = []
-reply_pids stream (Some recs) = filter_map stay_pid (received_of stream recs).stays
+reply_pids stream (Some recs) = filter_map stay_pid (transcript_of stream recs).stays
 
 -- all mentions: in the nodes' taps, and then in the clients' taps
 abbrev pub mentions : Cluster → List Text

@@ -4,7 +4,7 @@ ghost use Rattle.aud_node.specs.Cluster.{node_log};
 ghost use Rattle.aud_node.specs.TurnRecords.{begins_turn, turn_range};
 ghost use Rattle.aud_node.specs.OwnPlaces.{own_places};
 ghost use Rattle.aud_rooms.specs.Turns.{HasNoTurn};
-ghost use Rattle.aud_maker.specs.Begun.{placed_or, turn_begun, AreAllBegun, BeginsUpTo};
+ghost use Rattle.aud_maker.specs.Private.Begun.{placed_or, turn_begun, AreAllBegun, BeginsUpTo};
 
 use aud_node::{Logs, NodeLog};
 use aud_rooms::TurnPlace;

@@ -2,7 +2,8 @@
 ghost use Rattle.std.specs.Prelude.{◌≡◌, IfOk, MatchOption, None, Some};
 ghost use Rattle.aud_rooms.specs.Turns.{IsChain};
 ghost use Rattle.aud_node.specs.OwnPlaces.{own_places};
-ghost use Rattle.aud_maker.specs.Chain.{HasNoChain, opening_of};
+ghost use Rattle.aud_maker.specs.Chain.{HasNoChain};
+ghost use Rattle.aud_maker.specs.Private.Opening.{opening_of};
 
 use crate::begun::begun_turns;
 use crate::ended::are_turns_ended;

@@ -2,8 +2,8 @@
 ghost use Rattle.std.specs.Prelude.{◌≡◌, IfOk, IfErr, OnOk};
 ghost use Rattle.std.specs.Option.{is_some};
 ghost use Rattle.aud_node.specs.OwnPlaces.{own_places};
-ghost use Rattle.aud_maker.specs.Begun.{turn_begun};
-ghost use Rattle.aud_maker.specs.Faults.{NoneHolds, IsWhy};
+ghost use Rattle.aud_maker.specs.Private.Begun.{turn_begun};
+ghost use Rattle.aud_maker.specs.Faults.{HasNoMakeFault, IsWhy};
 ghost use Rattle.aud_maker.specs.Made.{IsMade};
 
 use crate::begun::is_opened;
@@ -33,7 +33,7 @@ pub fn make<'a>(
     pid: &str,
 ) -> Result<Certificate<'a>, MakeFault>
     ensures made { IfOk result (λ cert. IsMade recording.now pid.now cert) }
-    ensures no_fault { OnOk result (NoneHolds recording.now pid.now) }
+    ensures no_fault { OnOk result (HasNoMakeFault recording.now pid.now) }
     ensures why { IfErr result (IsWhy recording.now pid.now) }
 {
     let logs = recording.logs();

@@ -1,6 +1,6 @@
 //! Sessions in the order of their first mentions.
 ghost use Rattle.std.specs.Prelude.{◌≡◌, IfOk, OnOk, [], map, string_bytes};
-ghost use Rattle.aud_maker.specs.Mentioned.{with_mention};
+ghost use Rattle.aud_maker.specs.Private.Mentioned.{with_mention};
 
 use aud_tap::Memory;
 use indexmap::IndexSet;

@@ -4,7 +4,7 @@ ghost use Rattle.std.specs.List.{filter_map};
 ghost use Rattle.aud_node.specs.TurnRecords.{pid_of};
 ghost use Rattle.aud_node.specs.NodeTaps.{client_at};
 ghost use Rattle.aud_maker.specs.Sessions.{node_pids, stay_pid, reply_pids, sessions_of};
-ghost use Rattle.aud_maker.specs.Mentioned.{with_mentions};
+ghost use Rattle.aud_maker.specs.Private.Mentioned.{with_mentions};
 
 use crate::mentioned::Mentioned;
 use aud_client::{Recording, Stay};
@@ -59,7 +59,7 @@ fn mention_client(
     ensures { OnOk result (mentioned.new ≡ with_mentions mentioned.old (reply_pids recording.now.stream (client_at recording.now place))) }
 {
     match recording.client(place) {
-        Some(told) => mention_replies(mentioned, &told.received().stays),
+        Some(transcript) => mention_replies(mentioned, &transcript.transcript().stays),
         None => Ok(()),
     }
 }

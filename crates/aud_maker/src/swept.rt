@@ -1,7 +1,7 @@
 //! Whether a session's records stand in its turns.
 ghost use Rattle.std.specs.Prelude.{◌≡◌, slice_get};
 ghost use Rattle.std.specs.List.{list_all};
-ghost use Rattle.aud_maker.specs.Swept.{number_begun, turn_past, is_in, is_swept};
+ghost use Rattle.aud_maker.specs.Private.Swept.{number_begun, turn_past, is_in_turn, is_swept};
 
 use aud_node::{Logs, NodeLog};
 use aud_rooms::TurnPlace;
@@ -69,7 +69,7 @@ fn begun_by(rec: &NodeRec) -> Option<u16>
 
 /// Whether there is a turn, and the node's record with this number stands in it.
 fn stands_in(node: usize, number: usize, turn: &Option<TurnPlace>) -> bool
-    ensures { result ≡ is_in node number turn.now }
+    ensures { result ≡ is_in_turn node number turn.now }
 {
     match turn {
         Some(turn) => turn.node == node && turn.from <= number && number < turn.to,

@@ -12,12 +12,13 @@ use Rattle.aud_node.specs.Stream.{entry, positions_after}
 use Rattle.aud_rooms.specs.Rooms.{Rooms, own_room}
 use Rattle.aud_rooms.specs.Turns.{Who, Turn, slice_of, AreTurns, HasNoTurn}
 use Rattle.aud_rooms.specs.TurnsDue.{is_past_first, is_for_rooms, is_turn_due, turns_due, greatest_high}
-use Rattle.aud_merge.specs.ByTurns.{IsPrefixOf, reaching_step, FallsAfter, rooms_given, HasRooms}
-use Rattle.aud_merge.specs.Due.{cursor_of, node_cursor, is_at_least, is_reached, states_from, states, reach, session_at_reach, birth, is_past, is_for_session, is_due, due}
+use Rattle.aud_merge.specs.ByTurns.{IsPrefixOf, reaching_step, FallsAfter, rooms_of_turns, HasRooms}
+use Rattle.aud_merge.specs.Due.{cursor_of, node_cursor, is_at_least, is_reached, states_from, states, reach, session_at_reach, birth, is_past_birth, is_for_session, is_due, due}
 use Rattle.aud_merge.specs.declared.step.Step.{Step}
 use Rattle.aud_merge.specs.Machine.{State, start, after, session_of}
-use Rattle.aud_merge.specs.Runs.{IsRun, RunsOn}
-use Rattle.aud_merge.specs.Sessions.{Session, Absent}
+use Rattle.aud_merge.specs.Runs.{IsRun}
+use Rattle.aud_merge.specs.Private.RunsOn.{RunsOn}
+use Rattle.aud_merge.specs.Sessions.{SessionState, Absent}
 use Rattle.aud_merge.proofs.Steps.{Stepped, stepped}
 use Rattle.aud_merge.proofs.Moves.{Named, Quiet, moved, Synced, Synced-step, Synced-start, RunsOn-run, taken-start}
 use Rattle.aud_merge.proofs.Phases.{Unstarted, length-count, Out, Waiting}
@@ -76,31 +77,31 @@ at_start c who turns are =
 
 -- WHEN THE SESSION FIRST REACHES p, it has the rooms that the turns give it, if they settle it
 pub rooms-turns : (c : Cluster) (run : List Step) (who : Who) (turns : List Turn) → IsRun c run → AreTurns c who 0 turns
-    → (p : ℕ) → Settled c who (length turns) (rooms_given c who turns p)
-    → HasRooms who (session_at_reach c run who.pid p) (rooms_given c who turns p)
+    → (p : ℕ) → Settled c who (length turns) (rooms_of_turns c who turns p)
+    → HasRooms who (session_at_reach c run who.pid p) (rooms_of_turns c who turns p)
 rooms-turns c run who turns is are p settled =
-    subst (λ s. HasRooms who s (rooms_given c who turns p)) (sym (first_index-find-map (is_reached who.pid p) (λ s. session_of s who.pid) (states c run)))
+    subst (λ s. HasRooms who s (rooms_of_turns c who turns p)) (sym (first_index-find-map (is_reached who.pid p) (λ s. session_of s who.pid) (states c run)))
     (agrees c who (length turns) p run (start c) (Waiting 0 (own_room who.sid) turns) (omega arith, at_start c who turns are) (RunsOn-run c run is) (Synced-start c) settled)
 
 -- so an entry is for the session there where it is for those rooms
-for_rooms : (who : Who) (at : Option StreamRec) (session : Option Session) (rooms : Option Rooms) → HasRooms who session rooms → is_for_session at session ≡ is_for_rooms at who.nsp rooms
+for_rooms : (who : Who) (at : Option StreamRec) (session : Option SessionState) (rooms : Option Rooms) → HasRooms who session rooms → is_for_session at session ≡ is_for_rooms at who.nsp rooms
 for_rooms who at session None none = ap (is_for_session at) none
 for_rooms who at session (Some held) here = ap (is_for_session at) here.2
 
 for_given : (c : Cluster) (run : List Step) (who : Who) (turns : List Turn) → IsRun c run → AreTurns c who 0 turns
-    → (p : ℕ) → Settled c who (length turns) (rooms_given c who turns p)
-    → is_for_session (entry c.stream p) (session_at_reach c run who.pid p) ≡ is_for_rooms (entry c.stream p) who.nsp (rooms_given c who turns p)
+    → (p : ℕ) → Settled c who (length turns) (rooms_of_turns c who turns p)
+    → is_for_session (entry c.stream p) (session_at_reach c run who.pid p) ≡ is_for_rooms (entry c.stream p) who.nsp (rooms_of_turns c who turns p)
 for_given c run who turns is are p settled =
-    for_rooms who (entry c.stream p) (session_at_reach c run who.pid p) (rooms_given c who turns p) (rooms-turns c run who turns is are p settled)
+    for_rooms who (entry c.stream p) (session_at_reach c run who.pid p) (rooms_of_turns c who turns p) (rooms-turns c run who turns is are p settled)
 
 -- a position is due in the run where it is due by the turns, if they settle it
 pub due_at : (c : Cluster) (run : List Step) (who : Who) (turns : List Turn) → IsRun c run → AreTurns c who 0 turns
-    → (p : ℕ) → Settled c who (length turns) (rooms_given c who turns p)
+    → (p : ℕ) → Settled c who (length turns) (rooms_of_turns c who turns p)
     → is_due c run who.pid p ≡ is_turn_due c.stream who (map (slice_of c) turns) p
 due_at c run who [] is are p settled =
-    and_right (is_past (birth c run who.pid) p) (is_for_session (entry c.stream p) (session_at_reach c run who.pid p)) (for_given c run who [] is are p settled)
+    and_right (is_past_birth (birth c run who.pid) p) (is_for_session (entry c.stream p) (session_at_reach c run who.pid p)) (for_given c run who [] is are p settled)
 due_at c run who (t ∷ later) is are p settled =
-    ap (λ o. is_past o p && is_for_session (entry c.stream p) (session_at_reach c run who.pid p))
+    ap (λ o. is_past_birth o p && is_for_session (entry c.stream p) (session_at_reach c run who.pid p))
     (first_index-find (is_reached who.pid 0) (λ s. node_cursor s (session_of s who.pid)) (states c run)
     ∙ born_from c who (own_room who.sid) t later run (start c) (at_start c who (t ∷ later) are) (RunsOn-run c run is) (Synced-start c))
     ∙ ap (λ b. is_past_first (map (slice_of c) (t ∷ later)) p && b) (for_given c run who (t ∷ later) is are p settled)
@@ -143,7 +144,7 @@ due-shown c run who turns is are =
 
 -- The moment that reaches a position falls after the step that the turns tell; where they tell none, there is none
 pub reach-turns : (c : Cluster) (run : List Step) (who : Who) (turns : List Turn) → IsRun c run → AreTurns c who 0 turns
-    → (p : ℕ) → Settled c who (length turns) (rooms_given c who turns p)
+    → (p : ℕ) → Settled c who (length turns) (rooms_of_turns c who turns p)
     → FallsAfter run (reach c run who.pid p) (reaching_step c turns p)
 reach-turns c run who turns is are p settled =
     falls c who (length turns) p run (start c) (Waiting 0 (own_room who.sid) turns) (omega arith, at_start c who turns are) (RunsOn-run c run is) (Synced-start c) settled refl
@@ -196,9 +197,9 @@ reach-all c run who turns is are none p = reach-turns c run who turns is are p (
 
 -- the rooms of the positions of the shown turns
 pub rooms-shown : (c : Cluster) (run : List Step) (who : Who) (turns : List Turn) (p : ℕ) → IsRun c run → AreTurns c who 0 turns
-    → 0 < p → p ≤ greatest_high (map (slice_of c) turns) → HasRooms who (session_at_reach c run who.pid p) (rooms_given c who turns p)
+    → 0 < p → p ≤ greatest_high (map (slice_of c) turns) → HasRooms who (session_at_reach c run who.pid p) (rooms_of_turns c who turns p)
 rooms-shown c run who turns p is are some h = rooms-turns c run who turns is are p (inl (rooms_for-up_to c.stream who.pid p (own_room who.sid) (map (slice_of c) turns) some h))
 
 pub rooms-all : (c : Cluster) (run : List Step) (who : Who) (turns : List Turn) (p : ℕ) → IsRun c run → AreTurns c who 0 turns → HasNoTurn c who.pid (length turns)
-    → HasRooms who (session_at_reach c run who.pid p) (rooms_given c who turns p)
+    → HasRooms who (session_at_reach c run who.pid p) (rooms_of_turns c who turns p)
 rooms-all c run who turns p is are none = rooms-turns c run who turns is are p (inr none)

@@ -17,9 +17,10 @@ use Rattle.aud_node.specs.TurnRecords.{pid_of, begins_turn}
 use Rattle.aud_rooms.specs.Turns.{Who}
 use Rattle.aud_merge.specs.declared.step.Step.{Step}
 use Rattle.aud_merge.specs.declared.progress.Progress.{Progress}
-use Rattle.aud_merge.specs.Machine.{State, start, after, after_next, after_record, after_entry, cursor_after, next_position, sessions_after, session_of, taken_of, appended, taken_in}
-use Rattle.aud_merge.specs.Runs.{record_count, IsRun, AreAllowed, IsBlocked, state_after, front, RunsOn}
-use Rattle.aud_merge.specs.Sessions.{Session, Absent, Here, Away, Ended, session_after}
+use Rattle.aud_merge.specs.Machine.{State, start, after, after_next, after_record, after_entry, allowed_cursor, position_if_next, sessions_after, session_of, taken_of, appended, taken_in}
+use Rattle.aud_merge.specs.Runs.{record_count, IsRun, AreAllowed, IsBlocked, state_after, front}
+use Rattle.aud_merge.specs.Private.RunsOn.{RunsOn}
+use Rattle.aud_merge.specs.Sessions.{SessionState, Absent, Here, Away, Ended, session_after}
 use Rattle.aud_merge.proofs.Basics.{and_then_parts, map_parts, cond_parts, cases_text, slice_get-set_other, get_insert_same, get_insert_other}
 use Rattle.aud_merge.proofs.Steps.{Stepped, stepped, appended-grows}
 use Rattle.aud_merge.proofs.Moves.{Named, next_position-at, RunsOn-run}
@@ -27,28 +28,28 @@ use Rattle.aud_merge.proofs.Records.{IsBeyond, here-node, ended-after, waiting-a
 use Rattle.aud_merge.proofs.Phases.{never_again}
 
 abbrev pub Sessions : Type 0
-Sessions = fin.FinMap (slice_cmp nat_cmp) Session
+Sessions = fin.FinMap (slice_cmp nat_cmp) SessionState
 
-abbrev pub put_in : Option (Text × Session) → Sessions → Sessions
+abbrev pub put_in : Option (Text × SessionState) → Sessions → Sessions
 put_in None m = m
 put_in (Some x) m = fin.insert m x.0 x.1
 
-abbrev pub SameAt : Option (Text × Session) → Sessions → Sessions → Type 0
+abbrev pub SameAt : Option (Text × SessionState) → Sessions → Sessions → Type 0
 SameAt None m u = Unit {0}
 SameAt (Some x) m u = fin.get u x.0 ≡ fin.get m x.0
 
 -- a state with the changes of one step
-abbrev pub done_to : State → ℕ → Progress → Option (Text × Session) → State
+abbrev pub done_to : State → ℕ → Progress → Option (Text × SessionState) → State
 done_to u l p put = record { logs = set u.logs l p; sessions = put_in put u.sessions }
 
-abbrev pub NamedPut : Cluster → State → State → ℕ → ℕ → Option (Text × Session) → Type 0
+abbrev pub NamedPut : Cluster → State → State → ℕ → ℕ → Option (Text × SessionState) → Type 0
 NamedPut c st st' l i None = Unit {0}
 NamedPut c st st' l i (Some x) = Named c st st' l i x.0
 
 -- what an allowed step does, it does in each later state in which its log and its session are the same
 pub record Does (c : Cluster) (st st' : State) (s : Step) : Type 0 where
   pub p : Progress
-  pub put : Option (Text × Session)
+  pub put : Option (Text × SessionState)
   is : st' ≡ done_to st s.log p put
   pub named : NamedPut c st st' s.log s.index put
   again : (u : State) → slice_get u.logs s.log ≡ slice_get st.logs s.log → appended c st ≤ appended c u → SameAt put st.sessions u.sessions → after c u s ≡ Some (done_to u s.log p put)
@@ -63,10 +64,10 @@ position-more (suc a) (suc b) (x ∷ xs) off q h e = found (bytes_eq (offset_of 
     found true ih e = e
     found false ih e = let (p, at, is) = map_parts suc (position (take a xs) off) q e in ap (option_map suc) (ih p at) ∙ ap Some is
 
-taken-more : (a b : ℕ) (stream : List StreamRec) (off : Text) (cursor next : ℕ) → a ≤ b → next_position (position (take a stream) off) cursor ≡ Some next → next_position (position (take b stream) off) cursor ≡ Some next
+taken-more : (a b : ℕ) (stream : List StreamRec) (off : Text) (cursor next : ℕ) → a ≤ b → position_if_next (position (take a stream) off) cursor ≡ Some next → position_if_next (position (take b stream) off) cursor ≡ Some next
 taken-more a b stream off cursor next h e = grind (arith, next_position-at (position (take a stream) off) cursor next e, position-more a b stream off (suc cursor) h)
 
-cursor_after-more : (a b : ℕ) (stream : List StreamRec) (i : ℕ) (rec : NodeRec) (cursor next : ℕ) → a ≤ b → cursor_after (take a stream) i rec cursor ≡ Some next → cursor_after (take b stream) i rec cursor ≡ Some next
+cursor_after-more : (a b : ℕ) (stream : List StreamRec) (i : ℕ) (rec : NodeRec) (cursor next : ℕ) → a ≤ b → allowed_cursor (take a stream) i rec cursor ≡ Some next → allowed_cursor (take b stream) i rec cursor ≡ Some next
 cursor_after-more a b stream zero (Start None) cursor next h e = e
 cursor_after-more a b stream zero (Start (Some off)) cursor next h e = position-more a b stream off next h e
 cursor_after-more a b stream (suc i) (Start off) cursor next h e = absurd (none-some next e)
@@ -77,10 +78,10 @@ cursor_after-more a b stream (suc i) _ cursor next h e = e
 
 -- what a record does to the sessions
 record Puts (l : ℕ) (rec : NodeRec) (named : Option Text) (m m' : Sessions) : Type 0 where
-  pub put : Option (Text × Session)
+  pub put : Option (Text × SessionState)
   is : m' ≡ put_in put m
   again : (u : Sessions) → SameAt put m u → sessions_after l rec named u ≡ Some (put_in put u)
-  of : (x : Text × Session) → put ≡ Some x → (named ≡ Some x.0) × (session_after l rec (unwrap_or (fin.get m x.0) Absent) ≡ Some (unwrap_or (fin.get m' x.0) Absent))
+  of : (x : Text × SessionState) → put ≡ Some x → (named ≡ Some x.0) × (session_after l rec (unwrap_or (fin.get m x.0) Absent) ≡ Some (unwrap_or (fin.get m' x.0) Absent))
 
 puts : (l : ℕ) (rec : NodeRec) (named : Option Text) (m m' : Sessions) → sessions_after l rec named m ≡ Some m' → Puts l rec named m m'
 puts l rec None m m' e = record { put = None; is = sym (same_Some m m' e); again = λ u _. refl; of = λ x is. absurd (none-some x is) }
@@ -92,7 +93,7 @@ puts l rec (Some pid) m m' e =
       is = sym put;
       again = λ u same. ap (λ o. option_map (λ s. fin.insert u pid s) (session_after l rec (unwrap_or o Absent))) same ∙ ap (option_map (λ s. fin.insert u pid s)) allowed;
       of = λ x is.
-          (let key : pid ≡ x.0 = ap (λ (y : Text × Session). y.0) (same_Some _ _ is) in
+          (let key : pid ≡ x.0 = ap (λ (y : Text × SessionState). y.0) (same_Some _ _ is) in
           (ap Some key, ap (λ q. session_after l rec (unwrap_or (fin.get m q) Absent)) (sym key) ∙ allowed ∙ ap (λ o. Some (unwrap_or o Absent)) (sym at ∙ ap (fin.get m') key)));
     }
 
@@ -112,7 +113,7 @@ does_log c st st' s done (Stream recs) at was log e =
     }
 does_log c st st' s done (Node recs) at was log e =
     let (rec, found, became) = and_then_parts (after_record c st s.log done) (slice_get recs done.taken) st' e in
-    let (cursor, moved, rest) = and_then_parts _ (cursor_after (take (appended c st) c.stream) done.taken rec done.cursor) st' became in
+    let (cursor, moved, rest) = and_then_parts _ (allowed_cursor (take (appended c st) c.stream) done.taken rec done.cursor) st' became in
     let (sessions, kept, is) = map_parts _ (sessions_after s.log rec (pid_of rec) st.sessions) st' rest in
     let ps : Puts s.log rec (pid_of rec) st.sessions sessions = puts s.log rec (pid_of rec) st.sessions sessions kept in
     record {
@@ -127,8 +128,8 @@ does_log c st st' s done (Node recs) at was log e =
           ∙ ap (option_map (λ (sessions : Sessions). record { logs = set u.logs s.log (record { taken = suc done.taken; cursor = cursor }); sessions = sessions })) (ps.again u.sessions at_session);
     }
   where
-    of_put : (rec : NodeRec) → slice_get (node_log c s.log) s.index ≡ Some rec → (sessions : Sessions) → sessions ≡ st'.sessions → (put : Option (Text × Session))
-        → ((x : Text × Session) → put ≡ Some x → (pid_of rec ≡ Some x.0) × (session_after s.log rec (unwrap_or (fin.get st.sessions x.0) Absent) ≡ Some (unwrap_or (fin.get sessions x.0) Absent)))
+    of_put : (rec : NodeRec) → slice_get (node_log c s.log) s.index ≡ Some rec → (sessions : Sessions) → sessions ≡ st'.sessions → (put : Option (Text × SessionState))
+        → ((x : Text × SessionState) → put ≡ Some x → (pid_of rec ≡ Some x.0) × (session_after s.log rec (unwrap_or (fin.get st.sessions x.0) Absent) ≡ Some (unwrap_or (fin.get sessions x.0) Absent)))
         → NamedPut c st st' s.log s.index put
     of_put rec at sessions same None of = tt
     of_put rec at sessions same (Some x) of =
@@ -142,7 +143,7 @@ does c st st' s e =
     let (log, is, became) = and_then_parts (after_next c st s.log done) (log_at c s.log) st' next in
     does_log c st st' s done log at (eqb-true _ _ was) is became
 
-insert_comm : (m : Sessions) (x y : Text × Session) → (x.0 ≡ y.0 → ⊥) → fin.insert (fin.insert m x.0 x.1) y.0 y.1 ≡ fin.insert (fin.insert m y.0 y.1) x.0 x.1
+insert_comm : (m : Sessions) (x y : Text × SessionState) → (x.0 ≡ y.0 → ⊥) → fin.insert (fin.insert m x.0 x.1) y.0 y.1 ≡ fin.insert (fin.insert m y.0 y.1) x.0 x.1
 insert_comm m x y n = fin.same_map nat_list_cmp_total (fin.slice_cmp-IsAntisymmetric fin.nat_cmp-IsAntisymmetric) _ _ (λ q. at q (cases_text q x.0) (cases_text q y.0))
   where
     at : (q : Text) → (q ≡ x.0) ⊎ (q ≡ x.0 → ⊥) → (q ≡ y.0) ⊎ (q ≡ y.0 → ⊥) → fin.get (fin.insert (fin.insert m x.0 x.1) y.0 y.1) q ≡ fin.get (fin.insert (fin.insert m y.0 y.1) x.0 x.1) q
@@ -158,30 +159,30 @@ insert_comm m x y n = fin.same_map nat_list_cmp_total (fin.slice_cmp-IsAntisymme
         ∙ sym (get_insert_other (fin.insert m y.0 y.1) x.0 x.1 q a ∙ get_insert_other m y.0 y.1 q b)
 
 -- the sessions of two steps differ
-abbrev Apart : Option (Text × Session) → Option (Text × Session) → Type 0
+abbrev Apart : Option (Text × SessionState) → Option (Text × SessionState) → Type 0
 Apart None y = Unit {0}
 Apart (Some x) None = Unit {0}
 Apart (Some x) (Some y) = x.0 ≡ y.0 → ⊥
 
-put_comm : (m : Sessions) (x y : Option (Text × Session)) → Apart x y → put_in y (put_in x m) ≡ put_in x (put_in y m)
+put_comm : (m : Sessions) (x y : Option (Text × SessionState)) → Apart x y → put_in y (put_in x m) ≡ put_in x (put_in y m)
 put_comm m None None apart = refl
 put_comm m None (Some y) apart = refl
 put_comm m (Some x) None apart = refl
 put_comm m (Some x) (Some y) apart = insert_comm m x y apart
 
-same_after : (m : Sessions) (x y : Option (Text × Session)) → Apart x y → SameAt x m (put_in y m)
+same_after : (m : Sessions) (x y : Option (Text × SessionState)) → Apart x y → SameAt x m (put_in y m)
 same_after m None y apart = tt
 same_after m (Some x) None apart = refl
 same_after m (Some x) (Some y) apart = get_insert_other m y.0 y.1 x.0 apart
 
-apart_turned : (x y : Option (Text × Session)) → Apart x y → Apart y x
+apart_turned : (x y : Option (Text × SessionState)) → Apart x y → Apart y x
 apart_turned None None apart = tt
 apart_turned None (Some y) apart = tt
 apart_turned (Some x) None apart = tt
 apart_turned (Some x) (Some y) apart = λ e. apart (sym e)
 
 -- what two steps of different logs and different sessions do, they do in either order
-twice_comm : (st : State) (l m : ℕ) (p q : Progress) (x y : Option (Text × Session)) → (l ≡ m → ⊥) → Apart x y
+twice_comm : (st : State) (l m : ℕ) (p q : Progress) (x y : Option (Text × SessionState)) → (l ≡ m → ⊥) → Apart x y
     → done_to (done_to st l p x) m q y ≡ done_to (done_to st m q y) l p x
 twice_comm st l m p q x y n apart =
     let logs : set (set st.logs l p) m q ≡ set (set st.logs m q) l p = set_comm st.logs l m p q n in
@@ -200,7 +201,7 @@ record BothBegin (pid : Text) (one other : NodeRec) : Type 0 where
   other_begins : begins_turn pid k other ≡ true
 
 -- two records of different nodes are allowed of one session only if they begin the same turn
-both_begin : (pid : Text) (l m : ℕ) (one other : NodeRec) (s s1 s2 : Session) → (l ≡ m → ⊥) → pid_of one ≡ Some pid → pid_of other ≡ Some pid
+both_begin : (pid : Text) (l m : ℕ) (one other : NodeRec) (s s1 s2 : SessionState) → (l ≡ m → ⊥) → pid_of one ≡ Some pid → pid_of other ≡ Some pid
     → session_after l one s ≡ Some s1 → session_after m other s ≡ Some s2 → BothBegin pid one other
 both_begin pid l m one other Absent s1 s2 n names names' e e' =
     let who : Who = record { pid = pid; sid = []; nsp = [] } in
@@ -212,7 +213,7 @@ both_begin pid l m one other (Away turn sid nsp rooms) s1 s2 n names names' e e'
     record { k = suc turn; one_begins = waiting-after l who (suc turn) rooms one s1 names e; other_begins = waiting-after m who (suc turn) rooms other s2 names' e' }
 both_begin pid l m one other Ended s1 s2 n names names' e e' = absurd (ended-after l one s1 e)
 
-begins-beyond : (l : ℕ) (pid : Text) (k : ℕ) (rec : NodeRec) (s s' : Session) → begins_turn pid k rec ≡ true → session_after l rec s ≡ Some s' → IsBeyond k s'
+begins-beyond : (l : ℕ) (pid : Text) (k : ℕ) (rec : NodeRec) (s s' : SessionState) → begins_turn pid k rec ≡ true → session_after l rec s ≡ Some s' → IsBeyond k s'
 begins-beyond l pid zero (Opened other sid nsp) Absent s' begins e = subst (IsBeyond 0) (same_Some _ _ e) (omega arith)
 begins-beyond l pid (suc k) (Back other number) (Away turn sid nsp rooms) s' begins e =
     let own : number ≡ suc k = eqb-true number (suc k) (and_parts (bytes_eq other pid) (nat_eq number (suc k)) begins).1 in
@@ -239,7 +240,7 @@ apart c st st1 st2 x s dx ds n sx ss steps runs = go dx.put ds.put dx.named ds.n
         never_again c pid both.k x.log x.index nx.rec nx.at both.one_begins steps st2 runs
         (begins-beyond s.log pid both.k ns.rec (session_of st pid) (session_of st2 pid) both.other_begins ns.becomes) left
 
-    go : (a b : Option (Text × Session)) → NamedPut c st st1 x.log x.index a → NamedPut c st st2 s.log s.index b → Apart a b
+    go : (a b : Option (Text × SessionState)) → NamedPut c st st1 x.log x.index a → NamedPut c st st2 s.log s.index b → Apart a b
     go None b na nb = tt
     go (Some a) None na nb = tt
     go (Some a) (Some b) na nb = λ e. conflict b.0 (subst (Named c st st1 x.log x.index) e na) nb

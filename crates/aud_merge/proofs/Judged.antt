@@ -9,8 +9,8 @@ use Rattle.aud_merge.specs.ByTurns.{FallsAfter, HasRooms}
 use Rattle.aud_merge.specs.Due.{is_reached, states_from}
 use Rattle.aud_merge.specs.declared.step.Step.{Step}
 use Rattle.aud_merge.specs.Machine.{State, after, session_of}
-use Rattle.aud_merge.specs.Runs.{IsFinished, RunsOn}
-use Rattle.aud_merge.specs.Sessions.{Session}
+use Rattle.aud_merge.specs.Private.RunsOn.{IsFinished, RunsOn}
+use Rattle.aud_merge.specs.Sessions.{SessionState}
 use Rattle.aud_merge.proofs.Steps.{stepped}
 use Rattle.aud_merge.proofs.Moves.{Synced, Synced-step}
 use Rattle.aud_merge.proofs.Slices.{part_from, rooms_for-at_low}
@@ -20,7 +20,7 @@ use Rattle.aud_merge.proofs.Spots.{rooms_left, spot_reached, Settled, reached-sp
 use Rattle.aud_node.proofs.RecordLemmas.{between-none, cursor_at-rises}
 
 -- the session when it first reaches the position, from this state on
-abbrev pub judged : Cluster → Text → ℕ → State → List Step → Option Session
+abbrev pub judged : Cluster → Text → ℕ → State → List Step → Option SessionState
 judged c pid p st steps = option_map (λ s. session_of s pid) (find (is_reached pid p) (states_from c st steps))
 
 and_then-map : {A B C : Type 0} (f : B → Option C) (g : A → B) (o : Option A) → option_and_then f (option_map g o) ≡ option_and_then (λ x. f (g x)) o

@@ -9,62 +9,63 @@ use Rattle.aud_merge.specs.Sessions as seen
 use Rattle.aud_tap.specs.declared.records.NodeRec.{NodeRec}
 use Rattle.aud_merge.specs.Machine.{sessions_after}
 use Rattle.aud_merge.specs.Sessions.{session_after}
-use Rattle.aud_merge.specs.declared.session.Session.{Session}
-use Rattle.aud_merge.specs.SessionSeen.{session_seen, sessions_of, seen_or_absent}
+use Rattle.aud_merge.specs.declared.session.OpenedSession.{OpenedSession}
+use Rattle.aud_merge.specs.SessionSeen.{session_seen, seen_or_absent}
+use Rattle.aud_merge.specs.Private.SessionsSeen.{sessions_seen}
 
 abbrev Sessions : Type 0
-Sessions = fin.FinMap (slice_cmp nat_cmp) seen.Session
+Sessions = fin.FinMap (slice_cmp nat_cmp) seen.SessionState
 
-pub get-sessions_of : (entries : List ((Bor (List ℕ)) × Session)) (pid : List ℕ) → fin.get (sessions_of entries) pid ≡ option_map session_seen (lookup (λ k. is_eq (slice_cmp nat_cmp pid k.now)) entries)
+pub get-sessions_of : (entries : List ((Bor (List ℕ)) × OpenedSession)) (pid : List ℕ) → fin.get (sessions_seen entries) pid ≡ option_map session_seen (lookup (λ k. is_eq (slice_cmp nat_cmp pid k.now)) entries)
 get-sessions_of entries pid = fin.get-from_entries nat_list_cmp_total (map (λ e. (e.0.now, session_seen e.1)) entries) pid ∙ same entries
   where
-    either : (b : Bool) (s : Session) (o : Option Session) → cond b (Some (session_seen s)) (option_map session_seen o) ≡ option_map session_seen (cond b (Some s) o)
+    either : (b : Bool) (s : OpenedSession) (o : Option OpenedSession) → cond b (Some (session_seen s)) (option_map session_seen o) ≡ option_map session_seen (cond b (Some s) o)
     either true s o = refl
     either false s o = refl
 
-    same : (es : List ((Bor (List ℕ)) × Session)) → fin.find (slice_cmp nat_cmp) pid (map (λ e. (e.0.now, session_seen e.1)) es) ≡ option_map session_seen (lookup (λ k. is_eq (slice_cmp nat_cmp pid k.now)) es)
+    same : (es : List ((Bor (List ℕ)) × OpenedSession)) → fin.find (slice_cmp nat_cmp) pid (map (λ e. (e.0.now, session_seen e.1)) es) ≡ option_map session_seen (lookup (λ k. is_eq (slice_cmp nat_cmp pid k.now)) es)
     same [] = refl
     same (e ∷ es) = ap (cond (is_eq (slice_cmp nat_cmp pid e.0.now)) (Some (session_seen e.1))) (same es) ∙ either (is_eq (slice_cmp nat_cmp pid e.0.now)) e.1 (lookup (λ k. is_eq (slice_cmp nat_cmp pid k.now)) es)
 
-pub or_absent : (o : Option Session) → seen_or_absent o ≡ unwrap_or (option_map session_seen o) seen.Absent
+pub or_absent : (o : Option OpenedSession) → seen_or_absent o ≡ unwrap_or (option_map session_seen o) seen.Absent
 or_absent None = refl
 or_absent (Some s) = refl
 
-pub sessions_of-insert : (olds news : List ((Bor (List ℕ)) × Session)) (pid : List ℕ) (s : Session)
+pub sessions_of-insert : (olds news : List ((Bor (List ℕ)) × OpenedSession)) (pid : List ℕ) (s : OpenedSession)
     → ((q : Bor (List ℕ)) → lookup (λ k. is_eq (slice_cmp nat_cmp q.now k.now)) news ≡ cond (is_eq (slice_cmp nat_cmp pid q.now)) (Some s) (lookup (λ k. is_eq (slice_cmp nat_cmp q.now k.now)) olds))
-    → sessions_of news ≡ fin.insert (sessions_of olds) pid (session_seen s)
+    → sessions_seen news ≡ fin.insert (sessions_seen olds) pid (session_seen s)
 sessions_of-insert olds news pid s updates = fin.same_map nat_list_cmp_total (fin.slice_cmp-IsAntisymmetric fin.nat_cmp-IsAntisymmetric) _ _ at
   where
-    either : (b : Bool) (o : Option Session) → option_map session_seen (cond b (Some s) o) ≡ cond b (Some (session_seen s)) (option_map session_seen o)
+    either : (b : Bool) (o : Option OpenedSession) → option_map session_seen (cond b (Some s) o) ≡ cond b (Some (session_seen s)) (option_map session_seen o)
     either true o = refl
     either false o = refl
 
-    at : (q : List ℕ) → fin.get (sessions_of news) q ≡ fin.get (fin.insert (sessions_of olds) pid (session_seen s)) q
+    at : (q : List ℕ) → fin.get (sessions_seen news) q ≡ fin.get (fin.insert (sessions_seen olds) pid (session_seen s)) q
     at q =
         get-sessions_of news q ∙ ap (option_map session_seen) (updates (record { ref_ptr = (0, 0); now = q }))
         ∙ either (is_eq (slice_cmp nat_cmp pid q)) (lookup (λ k. is_eq (slice_cmp nat_cmp q k.now)) olds)
         ∙ ap (λ o. cond (is_eq (slice_cmp nat_cmp pid q)) (Some (session_seen s)) o) (sym (get-sessions_of olds q))
-        ∙ ap (λ b. cond b (Some (session_seen s)) (fin.get (sessions_of olds) q)) ((eq_by_cmp_equiv nat_list_cmp_total).symm pid q)
-        ∙ sym (fin.get-insert nat_list_cmp_total (sessions_of olds) pid (session_seen s) q)
+        ∙ ap (λ b. cond b (Some (session_seen s)) (fin.get (sessions_seen olds) q)) ((eq_by_cmp_equiv nat_list_cmp_total).symm pid q)
+        ∙ sym (fin.get-insert nat_list_cmp_total (sessions_seen olds) pid (session_seen s) q)
 
 -- what a look-up of the pid in the entries found
-module _ (entries : List ((Bor (List ℕ)) × Session)) (old : Sessions) (same : sessions_of entries ≡ old) (pid : List ℕ) where
-  pub found : (o : Option Session) → o ≡ lookup (λ k. is_eq (slice_cmp nat_cmp pid k.now)) entries → unwrap_or (fin.get old pid) seen.Absent ≡ seen_or_absent o
+module _ (entries : List ((Bor (List ℕ)) × OpenedSession)) (old : Sessions) (same : sessions_seen entries ≡ old) (pid : List ℕ) where
+  pub found : (o : Option OpenedSession) → o ≡ lookup (λ k. is_eq (slice_cmp nat_cmp pid k.now)) entries → unwrap_or (fin.get old pid) seen.Absent ≡ seen_or_absent o
   found o is =
       ap (λ (m : Sessions). unwrap_or (fin.get m pid) seen.Absent) (sym same)
       ∙ ap (λ x. unwrap_or x seen.Absent) (get-sessions_of entries pid ∙ ap (option_map session_seen) (sym is))
       ∙ sym (or_absent o)
 
 -- a record that names the pid, and the session that it finds
-module _ (node : ℕ) (rec : NodeRec) (named : Option (List ℕ)) (old : Sessions) (pid : List ℕ) (names : Some pid ≡ named) (session : seen.Session) (is : unwrap_or (fin.get old pid) seen.Absent ≡ session) where
+module _ (node : ℕ) (rec : NodeRec) (named : Option (List ℕ)) (old : Sessions) (pid : List ℕ) (names : Some pid ≡ named) (session : seen.SessionState) (is : unwrap_or (fin.get old pid) seen.Absent ≡ session) where
   pub allowed_there : IsSome (sessions_after node rec named old) → IsSome (session_after node rec session)
   allowed_there allowed = mapped (session_after node rec session) (subst (λ s. IsSome (option_map (λ x. fin.insert old pid x) (session_after node rec s))) is (subst (λ n. IsSome (sessions_after node rec n old)) (sym names) allowed))
     where
-      mapped : (o : Option seen.Session) → IsSome (option_map (λ x. fin.insert old pid x) o) → IsSome o
+      mapped : (o : Option seen.SessionState) → IsSome (option_map (λ x. fin.insert old pid x) o) → IsSome o
       mapped None e = e
       mapped (Some x) e = refl
 
-  pub changed_there : (next : seen.Session) (new : Sessions) → session_after node rec session ≡ Some next → new ≡ fin.insert old pid next → sessions_after node rec named old ≡ Some new
+  pub changed_there : (next : seen.SessionState) (new : Sessions) → session_after node rec session ≡ Some next → new ≡ fin.insert old pid next → sessions_after node rec named old ≡ Some new
   changed_there next new becomes put =
       ap (λ n. sessions_after node rec n old) (sym names)
       ∙ ap (λ s. option_map (λ x. fin.insert old pid x) (session_after node rec s)) is

@@ -8,7 +8,8 @@ use Rattle.aud_node.specs.Cluster.{Cluster}
 use Rattle.aud_node.specs.Lists.{numbers_from}
 use Rattle.aud_merge.specs.declared.step.Step.{Step}
 use Rattle.aud_merge.specs.Machine.{State, start, after, taken_of, taken_in}
-use Rattle.aud_merge.specs.Runs.{record_count, IsFinished, RunsOn, AreAllowed, IsRun}
+use Rattle.aud_merge.specs.Runs.{record_count, AreAllowed, IsRun}
+use Rattle.aud_merge.specs.Private.RunsOn.{IsFinished, RunsOn}
 use Rattle.aud_merge.proofs.Steps.{Stepped, stepped}
 use Rattle.aud_merge.proofs.Moves.{steps_of, taken-start, RunsOn-run}
 

@@ -15,9 +15,10 @@ use Rattle.aud_node.specs.Stream.{Text, position, offset_of}
 use Rattle.aud_node.specs.TurnRecords.{pid_of}
 use Rattle.aud_merge.specs.Due.{cursor_of, cursor_in}
 use Rattle.aud_merge.specs.declared.step.Step.{Step}
-use Rattle.aud_merge.specs.Machine.{State, start, cursor_after, next_position, sessions_after, session_of, taken_in, taken_of, appended}
-use Rattle.aud_merge.specs.Runs.{record_count, AreAllowed, IsRun, RunsOn}
-use Rattle.aud_merge.specs.Sessions.{Session, Absent, session_after}
+use Rattle.aud_merge.specs.Machine.{State, start, allowed_cursor, position_if_next, sessions_after, session_of, taken_in, taken_of, appended}
+use Rattle.aud_merge.specs.Runs.{record_count, AreAllowed, IsRun}
+use Rattle.aud_merge.specs.Private.RunsOn.{RunsOn}
+use Rattle.aud_merge.specs.Sessions.{SessionState, Absent, session_after}
 use Rattle.aud_merge.proofs.Basics.{map_parts, cond_parts, cases_text, get_insert_same, get_insert_other}
 use Rattle.aud_merge.proofs.Steps.{EntryStep, RecordStep, Stepped, stepped}
 
@@ -33,7 +34,7 @@ pub record Quiet (c : Cluster) (st st' : State) (l i : ℕ) (pid : Text) : Type 
   pub session : session_of st' pid ≡ session_of st pid
   pub other : (rec : NodeRec) → slice_get (node_log c l) i ≡ Some rec → pid_of rec ≡ Some pid → ⊥
 
-sessions_step : (l : ℕ) (rec : NodeRec) (named : Option Text) (m m' : fin.FinMap (slice_cmp nat_cmp) Session) (pid : Text)
+sessions_step : (l : ℕ) (rec : NodeRec) (named : Option Text) (m m' : fin.FinMap (slice_cmp nat_cmp) SessionState) (pid : Text)
     → sessions_after l rec named m ≡ Some m'
     → ((named ≡ Some pid) × (session_after l rec (unwrap_or (fin.get m pid) Absent) ≡ Some (unwrap_or (fin.get m' pid) Absent)))
     ⊎ ((named ≡ Some pid → ⊥) × (unwrap_or (fin.get m' pid) Absent ≡ unwrap_or (fin.get m pid) Absent))
@@ -74,7 +75,7 @@ pub is_position-at : (o : Option ℕ) (p : ℕ) → o ≡ Some p → is_position
 is_position-at None p e = absurd (none-some p e)
 is_position-at (Some q) p e = eq-eqb q p (same_Some q p e)
 
-pub next_position-at : (o : Option ℕ) (cursor next : ℕ) → next_position o cursor ≡ Some next → (o ≡ Some (suc cursor)) × (suc cursor ≡ next)
+pub next_position-at : (o : Option ℕ) (cursor next : ℕ) → position_if_next o cursor ≡ Some next → (o ≡ Some (suc cursor)) × (suc cursor ≡ next)
 next_position-at None cursor next e = absurd (none-some next e)
 next_position-at (Some p) cursor next e =
     let (at, is) = cond_parts (nat_eq p (suc cursor)) (Some p) next e in
@@ -82,13 +83,13 @@ next_position-at (Some p) cursor next e =
     (ap Some same, sym same ∙ same_Some p next is)
 
 taken-allowed : (a : ℕ) (stream : List StreamRec) (off : Text) (cursor next : ℕ)
-    → next_position (position (take a stream) off) cursor ≡ Some next
+    → position_if_next (position (take a stream) off) cursor ≡ Some next
     → cond (is_position (position stream off) (suc cursor)) (suc cursor) cursor ≡ next
 taken-allowed a stream off cursor next e = grind (arith, next_position-at (position (take a stream) off) cursor next e, is_position-at (position stream off) (suc cursor), position-take a stream off (suc cursor))
 
 -- the cursor that an allowed record leaves is the one that the log alone gives
 pub next_cursor-allowed : (a : ℕ) (stream : List StreamRec) (i : ℕ) (rec : NodeRec) (cursor next : ℕ)
-    → cursor_after (take a stream) i rec cursor ≡ Some next → next_cursor stream i rec cursor ≡ next
+    → allowed_cursor (take a stream) i rec cursor ≡ Some next → next_cursor stream i rec cursor ≡ next
 next_cursor-allowed a stream zero (Start None) cursor next e = same_Some 0 next e
 next_cursor-allowed a stream zero (Start (Some off)) cursor next e = ap (λ o. position_or o cursor) (position-take a stream off next e)
 next_cursor-allowed a stream (suc i) (Start off) cursor next e = absurd (none-some next e)

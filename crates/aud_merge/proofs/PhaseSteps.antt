@@ -14,7 +14,7 @@ use Rattle.aud_merge.specs.Due.{cursor_of, node_cursor, is_at_least, is_reached}
 use Rattle.aud_merge.specs.declared.step.Step.{Step}
 use Rattle.aud_merge.specs.Machine.{State, session_of, taken_in, taken_of, appended}
 use Rattle.aud_merge.specs.Sessions.{Here, Ended, session_after}
-use Rattle.aud_merge.specs.Runs.{RunsOn}
+use Rattle.aud_merge.specs.Private.RunsOn.{RunsOn}
 use Rattle.aud_merge.proofs.Steps.{EntryStep, RecordStep, Stepped}
 use Rattle.aud_merge.proofs.Moves.{Named, Quiet, moved, Synced, Synced-step}
 use Rattle.aud_merge.proofs.Slices.{reaches-takes-after}

@@ -14,7 +14,8 @@ use Rattle.aud_rooms.specs.Rooms.{Rooms, own_room, rooms_after}
 use Rattle.aud_rooms.specs.Turns.{Who, Turn, beginning, Inner, Last, End, ByBreak, part_of, turn_end, MayEnd, IsTurn, AreTurns}
 use Rattle.aud_merge.specs.declared.step.Step.{Step}
 use Rattle.aud_merge.specs.Machine.{State, session_of, taken_in, taken_of}
-use Rattle.aud_merge.specs.Runs.{record_count, log_length, RunsOn}
+use Rattle.aud_merge.specs.Runs.{record_count, log_length}
+use Rattle.aud_merge.specs.Private.RunsOn.{RunsOn}
 use Rattle.aud_merge.specs.Sessions.{Here, Ended}
 use Rattle.aud_merge.proofs.Steps.{Stepped, stepped}
 use Rattle.aud_merge.proofs.Moves.{Named, Quiet, moved}

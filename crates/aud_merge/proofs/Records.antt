@@ -9,18 +9,18 @@ use Rattle.aud_node.specs.Stream.{Text}
 use Rattle.aud_node.specs.TurnRecords.{pid_of, begins_turn}
 use Rattle.aud_rooms.specs.Rooms.{Rooms, own_room, rooms_after}
 use Rattle.aud_rooms.specs.Turns.{Who, beginning, Part, Inner, Last, Foreign, End, ByBreak, ByGone, ByLog, part_of}
-use Rattle.aud_merge.specs.Sessions.{Session, Absent, Here, Away, Ended, session_after}
+use Rattle.aud_merge.specs.Sessions.{SessionState, Absent, Here, Away, Ended, session_after}
 use Rattle.aud_merge.proofs.Basics.{cond_parts, other_text}
 use Rattle.aud_rooms.proofs.Turns.{same_text, itself_text}
 
 -- the session is in turn k or has passed it
-abbrev pub IsBeyond : ℕ → Session → Type 0
+abbrev pub IsBeyond : ℕ → SessionState → Type 0
 IsBeyond k Absent = ⊥
 IsBeyond k (Here node turn sid nsp rooms) = k ≤ turn
 IsBeyond k (Away turn sid nsp rooms) = k ≤ turn
 IsBeyond k Ended = Unit {0}
 
-pub IsBeyond-after : (l k : ℕ) (rec : NodeRec) (s s' : Session) → session_after l rec s ≡ Some s' → IsBeyond k s → IsBeyond k s'
+pub IsBeyond-after : (l k : ℕ) (rec : NodeRec) (s s' : SessionState) → session_after l rec s ≡ Some s' → IsBeyond k s → IsBeyond k s'
 IsBeyond-after l k (Opened pid sid nsp) Absent s' e b = absurd b
 IsBeyond-after l k (Join pid room) (Here at turn sid nsp rooms) s' e b = subst (IsBeyond k) (same_Some _ _ (cond_parts (nat_eq at l) _ s' e).1) b
 IsBeyond-after l k (Leave pid room) (Here at turn sid nsp rooms) s' e b = subst (IsBeyond k) (same_Some _ _ (cond_parts (nat_eq at l) _ s' e).1) b
@@ -34,7 +34,7 @@ IsBeyond-after l k (Back pid number) (Away turn sid nsp rooms) s' e b =
 IsBeyond-after l k _ _ s' e b = absurd (none-some s' e)
 
 -- the record that begins turn k is allowed only before that turn
-pub beginning-allowed : (l : ℕ) (pid : Text) (k : ℕ) (rec : NodeRec) (s s' : Session) → begins_turn pid k rec ≡ true → session_after l rec s ≡ Some s' → IsBeyond k s → ⊥
+pub beginning-allowed : (l : ℕ) (pid : Text) (k : ℕ) (rec : NodeRec) (s s' : SessionState) → begins_turn pid k rec ≡ true → session_after l rec s ≡ Some s' → IsBeyond k s → ⊥
 beginning-allowed l pid zero (Opened other sid nsp) Absent s' begins e b = b
 beginning-allowed l pid (suc k) (Back other number) (Away turn sid nsp rooms) s' begins e b =
     let (next, is) = cond_parts (nat_eq number (suc turn)) _ s' e in
@@ -52,7 +52,7 @@ inner_last : (e : End) → Inner ≡ Last e → ⊥
 inner_last e is = cc
 
 -- an inner record that names the session moves its rooms alone
-pub inner-after : (l : ℕ) (pid : Text) (k : ℕ) (sid nsp : Text) (held : Rooms) (at : ℕ) (rec : NodeRec) (s' : Session)
+pub inner-after : (l : ℕ) (pid : Text) (k : ℕ) (sid nsp : Text) (held : Rooms) (at : ℕ) (rec : NodeRec) (s' : SessionState)
     → part_of pid k rec ≡ Inner → pid_of rec ≡ Some pid → session_after l rec (Here at k sid nsp held) ≡ Some s'
     → (at ≡ l) × (s' ≡ Here at k sid nsp (rooms_after pid held rec))
 inner-after l pid k sid nsp held at (Start off) s' part names e = absurd (none-some pid names)
@@ -74,7 +74,7 @@ cond_last true p e is = (refl, is)
 cond_last false p e is = absurd (inner_last e is)
 
 -- a record that ends the turn names the session, and does this
-abbrev pub ended : End → ℕ → Text → Text → Rooms → Session
+abbrev pub ended : End → ℕ → Text → Text → Rooms → SessionState
 ended ByBreak k sid nsp held = Away k sid nsp held
 ended ByGone k sid nsp held = Ended
 ended ByLog k sid nsp held = Ended
@@ -93,7 +93,7 @@ last-names pid k (Leave other room) e part = absurd (inner_last e part)
 last-names pid k (Broke other number) e part = ap Some (same_text other pid (cond_last _ _ e part).0)
 last-names pid k (Gone other) e part = ap Some (same_text other pid (cond_last _ _ e part).0)
 
-pub last-after : (l : ℕ) (pid : Text) (k : ℕ) (sid nsp : Text) (held : Rooms) (at : ℕ) (rec : NodeRec) (s' : Session) (e : End)
+pub last-after : (l : ℕ) (pid : Text) (k : ℕ) (sid nsp : Text) (held : Rooms) (at : ℕ) (rec : NodeRec) (s' : SessionState) (e : End)
     → part_of pid k rec ≡ Last e → session_after l rec (Here at k sid nsp held) ≡ Some s' → s' ≡ ended e k sid nsp held
 last-after l pid k sid nsp held at (Start off) s' e part is = absurd (inner_last e part)
 last-after l pid k sid nsp held at (Take off) s' e part is = absurd (inner_last e part)
@@ -131,12 +131,12 @@ last-rooms pid k held (Leave other room) e part = absurd (inner_last e part)
 last-rooms pid k held _ e part = refl
 
 -- what stands before turn k
-abbrev pub waiting : Who → ℕ → Rooms → Session
+abbrev pub waiting : Who → ℕ → Rooms → SessionState
 waiting who zero held = Absent
 waiting who (suc k) held = Away k who.sid who.nsp held
 
 -- while it waits for turn k, only a record that begins that turn may name it
-pub waiting-after : (l : ℕ) (who : Who) (k : ℕ) (held : Rooms) (rec : NodeRec) (s' : Session)
+pub waiting-after : (l : ℕ) (who : Who) (k : ℕ) (held : Rooms) (rec : NodeRec) (s' : SessionState)
     → pid_of rec ≡ Some who.pid → session_after l rec (waiting who k held) ≡ Some s' → begins_turn who.pid k rec ≡ true
 waiting-after l who zero held (Start off) s' names e = absurd (none-some who.pid names)
 waiting-after l who zero held (Take off) s' names e = absurd (none-some who.pid names)
@@ -149,14 +149,14 @@ waiting-after l who (suc k) held (Back other number) s' names e =
 waiting-after l who (suc k) held _ s' names e = absurd (none-some s' e)
 
 -- and then the turn has begun
-pub beginning-after : (l : ℕ) (who : Who) (k : ℕ) (held : Rooms) (s' : Session)
+pub beginning-after : (l : ℕ) (who : Who) (k : ℕ) (held : Rooms) (s' : SessionState)
     → (k ≡ 0 → held ≡ own_room who.sid)
     → session_after l (beginning who k) (waiting who k held) ≡ Some s' → s' ≡ Here l k who.sid who.nsp held
 beginning-after l who zero held s' first e = sym (same_Some _ _ e) ∙ ap (λ rooms. Here l 0 who.sid who.nsp rooms) (sym (first refl))
 beginning-after l who (suc k) held s' first e = sym (same_Some _ _ (cond_parts (nat_eq (suc k) (suc k)) _ s' e).1)
 
 -- a turn that has begun is beyond its beginning
-pub begun-beyond : (l : ℕ) (who : Who) (k : ℕ) (held : Rooms) (rec : NodeRec) (s' : Session)
+pub begun-beyond : (l : ℕ) (who : Who) (k : ℕ) (held : Rooms) (rec : NodeRec) (s' : SessionState)
     → begins_turn who.pid k rec ≡ true → session_after l rec (waiting who k held) ≡ Some s' → IsBeyond k s'
 begun-beyond l who zero held (Opened other sid nsp) s' begins e = subst (IsBeyond 0) (same_Some _ _ e) (omega arith)
 begun-beyond l who (suc k) held (Back other number) s' begins e =
@@ -167,7 +167,7 @@ begun-beyond l who (suc k) held (Back other number) s' begins e =
 begun-beyond l who k held _ s' begins e = absurd (false≢true begins)
 
 -- what a session that is on a node may do, it does by that node's records
-pub here-node : (l : ℕ) (rec : NodeRec) (at k : ℕ) (sid nsp : Text) (held : Rooms) (s' : Session) → session_after l rec (Here at k sid nsp held) ≡ Some s' → at ≡ l
+pub here-node : (l : ℕ) (rec : NodeRec) (at k : ℕ) (sid nsp : Text) (held : Rooms) (s' : SessionState) → session_after l rec (Here at k sid nsp held) ≡ Some s' → at ≡ l
 here-node l (Join pid room) at k sid nsp held s' e = eqb-true at l (cond_parts (nat_eq at l) _ s' e).0
 here-node l (Leave pid room) at k sid nsp held s' e = eqb-true at l (cond_parts (nat_eq at l) _ s' e).0
 here-node l (Broke pid number) at k sid nsp held s' e = eqb-true at l (and_parts _ _ (cond_parts (nat_eq at l && nat_eq k number) (Some (Away k sid nsp held)) s' e).0).0
@@ -175,11 +175,11 @@ here-node l (Gone pid) at k sid nsp held s' e = eqb-true at l (cond_parts (nat_e
 here-node l _ at k sid nsp held s' e = absurd (none-some s' e)
 
 -- it doesn't begin a turn
-pub beginning-here : (l : ℕ) (who : Who) (n : ℕ) (at k : ℕ) (sid nsp : Text) (held : Rooms) (s' : Session) → session_after l (beginning who n) (Here at k sid nsp held) ≡ Some s' → ⊥
+pub beginning-here : (l : ℕ) (who : Who) (n : ℕ) (at k : ℕ) (sid nsp : Text) (held : Rooms) (s' : SessionState) → session_after l (beginning who n) (Here at k sid nsp held) ≡ Some s' → ⊥
 beginning-here l who zero at k sid nsp held s' e = none-some s' e
 beginning-here l who (suc n) at k sid nsp held s' e = none-some s' e
 
-pub ended-after : (l : ℕ) (rec : NodeRec) (s' : Session) → session_after l rec Ended ≡ Some s' → ⊥
+pub ended-after : (l : ℕ) (rec : NodeRec) (s' : SessionState) → session_after l rec Ended ≡ Some s' → ⊥
 ended-after l (Opened pid sid nsp) s' e = none-some s' e
 ended-after l (Join pid room) s' e = none-some s' e
 ended-after l (Leave pid room) s' e = none-some s' e

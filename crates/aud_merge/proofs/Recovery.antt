@@ -9,8 +9,8 @@ use Rattle.std.specs.FinSet as set
 use Rattle.serde_json.proofs.OnLiterals.{serde_json_on_literals}
 use Rattle.aud_sio.specs.Kind.{kind_at}
 use Rattle.aud_sio.specs.Attachments.{attachments_at}
-use Rattle.aud_sio.specs.Namespace.{namespace_at}
-use Rattle.aud_sio.specs.AckId.{id_at}
+use Rattle.aud_sio.specs.Namespace.{leading_namespace}
+use Rattle.aud_sio.specs.AckId.{ack_id_at}
 use Rattle.aud_sio.specs.Payload.{last_of_payload, payload_at}
 use Rattle.aud_sio.specs.Packet.{packet_of}
 use Rattle.aud_tap.specs.declared.records.NodeRec.{NodeRec}
@@ -24,10 +24,10 @@ use Rattle.aud_rooms.specs.Turns.{AreTurns, IsChain, StandsIn, slice_of, ByBreak
 use Rattle.aud_rooms.specs.TurnsDue.{turns_due}
 use Rattle.aud_merge.specs.Machine.{State, start, after}
 use Rattle.aud_merge.specs.Runs.{IsMerging, AreAllowed, IsRun}
-use Rattle.aud_merge.specs.Sessions.{Session, Absent, Here, Away, session_after}
+use Rattle.aud_merge.specs.Sessions.{SessionState, Absent, Here, Away, session_after}
 use Rattle.aud_merge.specs.ByTurns.{FallsAfter, IsPrefixOf}
 use Rattle.aud_merge.specs.Due.{due, reach}
-use Rattle.aud_merge.specs.Recovery.{who, event, logs, turns, step, live_take, back, run, received}
+use Rattle.aud_merge.specs.Recovery.{who, event, logs, turns, step, live_take, back, run, received_positions}
 use Rattle.aud_merge.proofs.Basics.{get_insert_same}
 use Rattle.aud_merge.proofs.WholeChain.{reach-chain, due-chain}
 
@@ -41,7 +41,7 @@ merges (suc (suc (suc zero))) = refl
 merges (suc (suc (suc (suc place)))) = grind (arith, ne_eqb 0 (suc (suc (suc (suc place)))), ne_eqb 1 (suc (suc (suc (suc place)))), ne_eqb 2 (suc (suc (suc (suc place)))))
 
 abbrev Sessions : Type 0
-Sessions = fin.FinMap (slice_cmp nat_cmp) Session
+Sessions = fin.FinMap (slice_cmp nat_cmp) SessionState
 
 -- the rooms of the session, once it has joined one
 abbrev pub held : Rooms
@@ -68,7 +68,7 @@ at entries taken cursor taken' cursor' sessions =
     }
 
 -- what a record does to the session
-does : (node : ℕ) (rec : NodeRec) (old : Sessions) (was : Option Session) (session : Session) (next : Sessions → State)
+does : (node : ℕ) (rec : NodeRec) (old : Sessions) (was : Option SessionState) (session : SessionState) (next : Sessions → State)
     → fin.get old who.pid ≡ was → session_after node rec (unwrap_or was Absent) ≡ Some session
     → option_map next (option_map (λ s. fin.insert old who.pid s) (session_after node rec (unwrap_or (fin.get old who.pid) Absent))) ≡ Some (next (fin.insert old who.pid session))
 does node rec old was session next is becomes = grind arith
@@ -134,11 +134,11 @@ chain = record { some = omega arith; are_turns = are; covers = covers }
 -- ---- what is due
 
 first_is_recoverable : is_recoverable (event (codes "1-0") (codes "2[\"hi\",\"1-0\"]")) ≡ true
-unfolding is_recoverable packet_of kind_at attachments_at namespace_at id_at payload_at last_of_payload serde_json_on_literals
+unfolding is_recoverable packet_of kind_at attachments_at leading_namespace ack_id_at payload_at last_of_payload serde_json_on_literals
 first_is_recoverable = refl
 
 second_is_recoverable : is_recoverable (event (codes "2-0") (codes "2[\"hi\",\"2-0\"]")) ≡ true
-unfolding is_recoverable packet_of kind_at attachments_at namespace_at id_at payload_at last_of_payload serde_json_on_literals
+unfolding is_recoverable packet_of kind_at attachments_at leading_namespace ack_id_at payload_at last_of_payload serde_json_on_literals
 second_is_recoverable = refl
 
 -- the session is in the room
@@ -162,5 +162,5 @@ first_is_live = reach-chain logs run who turns is_run chain 1
 pub second_is_replayed : FallsAfter run (reach logs run who.pid 2) (Some back)
 second_is_replayed = reach-chain logs run who turns is_run chain 2
 
-pub received_is_front : IsPrefixOf received (due logs run who.pid)
+pub received_is_front : IsPrefixOf received_positions (due logs run who.pid)
 received_is_front = ([], sym both_are_due)

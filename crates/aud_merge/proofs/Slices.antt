@@ -12,7 +12,7 @@ use Rattle.aud_node.specs.Stream.{Text, position}
 use Rattle.aud_rooms.specs.Rooms.{Rooms, rooms_after}
 use Rattle.aud_rooms.specs.Turns.{Who, Turn, Slice, beginning, Last, End, part_of}
 use Rattle.aud_rooms.specs.TurnsDue.{rooms_for}
-use Rattle.aud_merge.specs.Machine.{cursor_after}
+use Rattle.aud_merge.specs.Machine.{allowed_cursor}
 use Rattle.aud_merge.proofs.Moves.{position-take, next_position-at}
 
 -- the part of a slice from the record with this number on
@@ -29,7 +29,7 @@ taken-reaches stream o cursor next p at is before = grind (arith, leb-false p cu
 
 -- after the first record, the cursor comes to reach a position by that position's `take` alone
 pub reaches-takes : (a : ℕ) (stream : List StreamRec) (i : ℕ) (rec : NodeRec) (cursor next p : ℕ)
-    → cursor_after (take a stream) (suc i) rec cursor ≡ Some next → nat_le p cursor ≡ false → nat_le p next ≡ takes stream p rec
+    → allowed_cursor (take a stream) (suc i) rec cursor ≡ Some next → nat_le p cursor ≡ false → nat_le p next ≡ takes stream p rec
 reaches-takes a stream i (Start off) cursor next p e before = absurd (none-some next e)
 reaches-takes a stream i (Take off) cursor next p e before = grind (arith, next_position-at (position (take a stream) off) cursor next e, taken-reaches stream (position stream off) cursor next p, position-take a stream off (suc cursor))
 reaches-takes a stream i (Opened pid sid nsp) cursor next p e before = ap (nat_le p) (sym (same_Some cursor next e)) ∙ before
@@ -61,7 +61,7 @@ pub rooms_for-at_low : (stream : List StreamRec) (pid : Text) (held : Rooms) (sl
 rooms_for-at_low stream pid held slice later p e h = grind (arith, le-leb p slice.high, leb-true p slice.low e)
 
 pub reaches-takes-after : (a : ℕ) (stream : List StreamRec) (i : ℕ) (rec : NodeRec) (cursor next p : ℕ)
-    → 0 < i → cursor_after (take a stream) i rec cursor ≡ Some next → nat_le p cursor ≡ false → nat_le p next ≡ takes stream p rec
+    → 0 < i → allowed_cursor (take a stream) i rec cursor ≡ Some next → nat_le p cursor ≡ false → nat_le p next ≡ takes stream p rec
 reaches-takes-after a stream zero rec cursor next p h e before = absurd (omega arith)
 reaches-takes-after a stream (suc i) rec cursor next p h e before = reaches-takes a stream i rec cursor next p e before
 

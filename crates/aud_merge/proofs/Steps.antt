@@ -10,7 +10,7 @@ use Rattle.aud_node.specs.TurnRecords.{pid_of}
 use Rattle.aud_merge.specs.Due.{cursor_of, cursor_in}
 use Rattle.aud_merge.specs.declared.step.Step.{Step}
 use Rattle.aud_merge.specs.declared.progress.Progress.{Progress}
-use Rattle.aud_merge.specs.Machine.{State, after, after_next, after_record, after_entry, cursor_after, sessions_after, taken_in, taken_of, appended}
+use Rattle.aud_merge.specs.Machine.{State, after, after_next, after_record, after_entry, allowed_cursor, sessions_after, taken_in, taken_of, appended}
 use Rattle.aud_merge.specs.Runs.{record_count, log_length}
 use Rattle.aud_merge.proofs.Basics.{and_then_parts, map_parts, cond_parts, slice_get-set_same, slice_get-set_other}
 
@@ -24,7 +24,7 @@ pub record EntryStep (c : Cluster) (st st' : State) (l i : ℕ) : Type 0 where
 pub record RecordStep (c : Cluster) (st st' : State) (l i : ℕ) : Type 0 where
   pub rec : NodeRec
   pub at : slice_get (node_log c l) i ≡ Some rec
-  pub cursor : cursor_after (take (appended c st) c.stream) i rec (cursor_of st l) ≡ Some (cursor_of st' l)
+  pub cursor : allowed_cursor (take (appended c st) c.stream) i rec (cursor_of st l) ≡ Some (cursor_of st' l)
   pub sessions : sessions_after l rec (pid_of rec) st.sessions ≡ Some st'.sessions
 
 pub record Stepped (c : Cluster) (st st' : State) (l i : ℕ) : Type 0 where
@@ -55,7 +55,7 @@ stepped_log c st st' l i done (Stream recs) at was log e =
 stepped_log c st st' l i done (Client recs) at was log e = absurd (none-some st' e)
 stepped_log c st st' l i done (Node recs) at was log e =
     let (rec, found, became) = and_then_parts (after_record c st l done) (slice_get recs done.taken) st' e in
-    let (cursor, moved, rest) = and_then_parts _ (cursor_after (take (appended c st) c.stream) done.taken rec done.cursor) st' became in
+    let (cursor, moved, rest) = and_then_parts _ (allowed_cursor (take (appended c st) c.stream) done.taken rec done.cursor) st' became in
     let (sessions, kept, is) = map_parts _ (sessions_after l rec (pid_of rec) st.sessions) st' rest in
     let here : slice_get st'.logs l ≡ Some (record { taken = suc done.taken; cursor = cursor }) =
     ap (λ (s : State). slice_get s.logs l) (sym is) ∙ slice_get-set_same st.logs l _ done at in
@@ -67,7 +67,7 @@ stepped_log c st st' l i done (Node recs) at was log e =
       kind = inr (record {
         rec = rec;
         at = ap (λ o. slice_get (node_recs o) i) log ∙ ap (λ n. slice_get recs n) (sym was) ∙ found;
-        cursor = ap (λ n. cursor_after (take (appended c st) c.stream) n rec (cursor_of st l)) (sym was) ∙ ap (λ n. cursor_after (take (appended c st) c.stream) done.taken rec n) (ap cursor_in at) ∙ moved ∙ ap Some (sym (ap cursor_in here));
+        cursor = ap (λ n. allowed_cursor (take (appended c st) c.stream) n rec (cursor_of st l)) (sym was) ∙ ap (λ n. allowed_cursor (take (appended c st) c.stream) done.taken rec n) (ap cursor_in at) ∙ moved ∙ ap Some (sym (ap cursor_in here));
         sessions = kept ∙ ap (λ (s : State). Some s.sessions) is;
       });
     }

@@ -14,8 +14,9 @@ use Rattle.aud_merge.specs.ByTurns.{session_past, after_records, by_turns}
 use Rattle.aud_merge.specs.Due.{states_from, states}
 use Rattle.aud_merge.specs.declared.step.Step.{Step}
 use Rattle.aud_merge.specs.Machine.{State, start, after, session_of, taken_of}
-use Rattle.aud_merge.specs.Runs.{IsRun, RunsOn}
-use Rattle.aud_merge.specs.Sessions.{Session, Absent, Here, Ended}
+use Rattle.aud_merge.specs.Runs.{IsRun}
+use Rattle.aud_merge.specs.Private.RunsOn.{RunsOn}
+use Rattle.aud_merge.specs.Sessions.{SessionState, Absent, Here, Ended}
 use Rattle.aud_merge.proofs.Steps.{Stepped, stepped, taken-grows}
 use Rattle.aud_merge.proofs.Moves.{Synced, Synced-step, Synced-start, RunsOn-run}
 use Rattle.aud_merge.proofs.Records.{waiting, ended}
@@ -25,7 +26,7 @@ use Rattle.aud_merge.proofs.DueLaws.{at_start}
 use Rattle.aud_node.proofs.RecordLemmas.{between-more, between-none, between-push}
 use Rattle.aud_rooms.proofs.Turns.{itself_text}
 
-pub after_records-push : (node : ℕ) (pid : Text) (s : Session) (xs : List NodeRec) (rec : NodeRec) → after_records node pid s (xs ++ rec ∷ []) ≡ session_past node pid (after_records node pid s xs) rec
+pub after_records-push : (node : ℕ) (pid : Text) (s : SessionState) (xs : List NodeRec) (rec : NodeRec) → after_records node pid s (xs ++ rec ∷ []) ≡ session_past node pid (after_records node pid s xs) rec
 after_records-push node pid s [] rec = refl
 after_records-push node pid s (x ∷ xs) rec = after_records-push node pid (session_past node pid s x) xs rec
 
@@ -61,11 +62,11 @@ past-beginning node who zero held first =
 past-beginning node who (suc k) held first = grind (arith, itself_text who.pid, itself (suc k))
 
 -- the session after whole turns
-full : Cluster → Text → Session → List Turn → Session
+full : Cluster → Text → SessionState → List Turn → SessionState
 full c pid s [] = s
 full c pid s (t ∷ later) = full c pid (after_records t.node pid s (between (node_log c t.node) t.from t.to)) later
 
-full-push : (c : Cluster) (pid : Text) (s : Session) (done : List Turn) (t : Turn) → full c pid s (done ++ t ∷ []) ≡ after_records t.node pid (full c pid s done) (between (node_log c t.node) t.from t.to)
+full-push : (c : Cluster) (pid : Text) (s : SessionState) (done : List Turn) (t : Turn) → full c pid s (done ++ t ∷ []) ≡ after_records t.node pid (full c pid s done) (between (node_log c t.node) t.from t.to)
 unfolding full
 full-push c pid s [] t = refl
 full-push c pid s (x ∷ done) t = full-push c pid (after_records x.node pid s (between (node_log c x.node) x.from x.to)) done t
@@ -90,7 +91,7 @@ ahead Over = []
 ahead Beyond = []
 
 -- the session before the turns ahead, and what their taken records make of it
-abbrev BaseAt : Cluster → Who → Spot → Session → Type 0
+abbrev BaseAt : Cluster → Who → Spot → SessionState → Type 0
 BaseAt c who (Waiting k held rest) base = base ≡ waiting who k held
 BaseAt c who (Within k t at held later) base = (t.from < t.to) × (after_records t.node who.pid base (between (node_log c t.node) t.from at) ≡ Here t.node k who.sid who.nsp held)
 BaseAt c who Over base = base ≡ Ended
@@ -173,7 +174,7 @@ Moves-kept c who last turns st st' l i a b stays_over s before after none kept =
 Moves-kept c who last turns st st' l i a b (passes k held) s before after none kept = absurd (none after.node after.at after.rec after.stands after.begins)
 Moves-kept c who last turns st st' l i a b stays_beyond s before after none kept = absurd kept.at
 
-by_turns-done : (c : Cluster) (pid : Text) (st : State) (s : Session) (done rest : List Turn) → AllTaken st done → by_turns c pid st s (done ++ rest) ≡ by_turns c pid st (full c pid s done) rest
+by_turns-done : (c : Cluster) (pid : Text) (st : State) (s : SessionState) (done rest : List Turn) → AllTaken st done → by_turns c pid st s (done ++ rest) ≡ by_turns c pid st (full c pid s done) rest
 unfolding full
 by_turns-done c pid st s [] rest all = refl
 by_turns-done c pid st s (t ∷ done) rest all =
@@ -184,7 +185,7 @@ by_turns-done c pid st s (t ∷ done) rest all =
     ∙ ap (λ n. by_turns c pid st (after_records t.node pid s (between (node_log c t.node) t.from n)) (done ++ rest)) whole
     ∙ by_turns-done c pid st (after_records t.node pid s (between (node_log c t.node) t.from t.to)) done rest all.2
 
-by_turns-unstarted : (c : Cluster) (pid : Text) (st : State) (s : Session) (rest : List Turn) → Unstarted st rest → by_turns c pid st s rest ≡ s
+by_turns-unstarted : (c : Cluster) (pid : Text) (st : State) (s : SessionState) (rest : List Turn) → Unstarted st rest → by_turns c pid st s rest ≡ s
 by_turns-unstarted c pid st s [] none = refl
 by_turns-unstarted c pid st s (t ∷ rest) none =
     ap (λ b. cond b s (by_turns c pid st (after_records t.node pid s (between (node_log c t.node) t.from (min (taken_of st t.node) t.to))) rest)) (le-leb (taken_of st t.node) t.from none.0)
@@ -193,7 +194,7 @@ told : (c : Cluster) (who : Who) (last : ℕ) (turns : List Turn) (st : State) (
 told c who last turns st spot holds kept =
     ahead_told spot holds (full c who.pid Absent kept.done) kept.at ∙ sym (by_turns-done c who.pid st Absent kept.done (ahead spot) kept.all) ∙ ap (by_turns c who.pid st Absent) (sym kept.split)
   where
-    ahead_told : (spot : Spot) → Holds c who last st spot → (base : Session) → BaseAt c who spot base → session_of st who.pid ≡ by_turns c who.pid st base (ahead spot)
+    ahead_told : (spot : Spot) → Holds c who last st spot → (base : SessionState) → BaseAt c who spot base → session_of st who.pid ≡ by_turns c who.pid st base (ahead spot)
     ahead_told (Waiting k held rest) holds base at = holds.1.session ∙ sym at ∙ sym (by_turns-unstarted c who.pid st base rest holds.1.unstarted)
     ahead_told (Within k t at held later) holds base here =
         let taken = holds.1.taken in

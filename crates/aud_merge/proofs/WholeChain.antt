@@ -3,7 +3,7 @@ use Rattle.std.proofs.Common.{◌≡◌, ℕ, List, Some, slice_get, map}
 use Rattle.aud_node.specs.Cluster.{Cluster}
 use Rattle.aud_rooms.specs.Turns.{Who, Turn, IsChain, slice_of}
 use Rattle.aud_rooms.specs.TurnsDue.{turns_due}
-use Rattle.aud_merge.specs.ByTurns.{by_turns, FallsAfter, reaching_step, rooms_given, HasRooms}
+use Rattle.aud_merge.specs.ByTurns.{by_turns, FallsAfter, reaching_step, rooms_of_turns, HasRooms}
 use Rattle.aud_merge.specs.Due.{due, states, reach, session_at_reach}
 use Rattle.aud_merge.specs.declared.step.Step.{Step}
 use Rattle.aud_merge.specs.Machine.{State, session_of}
@@ -25,5 +25,5 @@ pub due-chain : (c : Cluster) (run : List Step) (who : Who) (turns : List Turn) 
 due-chain c run who turns is chain = due-turns c run who turns is chain.are_turns (chain-none c who turns chain)
 
 pub rooms-chain : (c : Cluster) (run : List Step) (who : Who) (turns : List Turn) (p : ℕ) → IsRun c run → IsChain c who turns
-    → HasRooms who (session_at_reach c run who.pid p) (rooms_given c who turns p)
+    → HasRooms who (session_at_reach c run who.pid p) (rooms_of_turns c who turns p)
 rooms-chain c run who turns p is chain = rooms-all c run who turns p is chain.are_turns (chain-none c who turns chain)

@@ -12,7 +12,7 @@ use Rattle.aud_node.specs.TurnRecords.{pid_of}
 use Rattle.aud_rooms.specs.Rooms.{Rooms, own_room}
 use Rattle.aud_rooms.specs.Turns.{Who, Turn, slice_of}
 use Rattle.aud_rooms.specs.TurnsDue.{rooms_for}
-use Rattle.aud_merge.specs.Sessions.{Session, Here, session_after}
+use Rattle.aud_merge.specs.Sessions.{SessionState, Here, session_after}
 use Rattle.aud_merge.specs.declared.step.Step.{Step}
 use Rattle.aud_merge.specs.Machine.{State, taken_of}
 
@@ -39,12 +39,12 @@ FallsAfter run moment (Some step) = (t : ℕ) × (slice_get run t ≡ Some step)
 -- the rooms that the turns give a position: of the first turn whose high reaches it, those at the turn's start where
 -- its low does, else those at the position's `take`. The first turn starts in the one room named by the sid, a later
 -- one with the rooms at the end of the one before
-abbrev pub rooms_given : Cluster → Who → List Turn → ℕ → Option Rooms
-rooms_given c who turns p = rooms_for c.stream who.pid (own_room who.sid) (map (slice_of c) turns) p
+abbrev pub rooms_of_turns : Cluster → Who → List Turn → ℕ → Option Rooms
+rooms_of_turns c who turns p = rooms_for c.stream who.pid (own_room who.sid) (map (slice_of c) turns) p
 
 -- the session is on a node, with the sid and the namespace of its `open` and these rooms; where there are no rooms,
 -- there is no session
-abbrev pub HasRooms : Who → Option Session → Option Rooms → Type 0
+abbrev pub HasRooms : Who → Option SessionState → Option Rooms → Type 0
 HasRooms who session None = session ≡ None
 HasRooms who session (Some held) = (node turn : ℕ) × (session ≡ Some (Here node turn who.sid who.nsp held))
 
@@ -57,16 +57,16 @@ is_pid None pid = false
 is_pid (Some other) pid = bytes_eq other pid
 
 -- what a record of the node makes of the session of this pid
-abbrev pub session_past : ℕ → Text → Session → NodeRec → Session
+abbrev pub session_past : ℕ → Text → SessionState → NodeRec → SessionState
 session_past node pid session rec = if is_pid (pid_of rec) pid then unwrap_or (session_after node rec session) session else session
 
 -- what the records of the node make of the session of this pid
-abbrev pub after_records : ℕ → Text → Session → List NodeRec → Session
+abbrev pub after_records : ℕ → Text → SessionState → List NodeRec → SessionState
 after_records node pid session [] = session
 after_records node pid session (rec ∷ recs) = after_records node pid (session_past node pid session rec) recs
 
 -- the session that the taken records of its turns give, from how far each log has come
-abbrev pub by_turns : Cluster → Text → State → Session → List Turn → Session
+abbrev pub by_turns : Cluster → Text → State → SessionState → List Turn → SessionState
 by_turns c pid st before [] = before
 by_turns c pid st before (t ∷ later) =
     if nat_le (taken_of st t.node) t.from

@@ -7,7 +7,7 @@ use Rattle.aud_node.specs.Lists.{first_index}
 use Rattle.aud_node.specs.Stream.{Text, entry, positions_after}
 use Rattle.aud_node.specs.Cluster.{Cluster}
 use Rattle.aud_rooms.specs.Rooms.{is_for}
-use Rattle.aud_merge.specs.Sessions.{Session, Absent, Here, Away, Ended}
+use Rattle.aud_merge.specs.Sessions.{SessionState, Absent, Here, Away, Ended}
 use Rattle.aud_merge.specs.declared.step.Step.{Step}
 use Rattle.aud_merge.specs.declared.progress.Progress.{Progress}
 use Rattle.aud_merge.specs.Machine.{State, start, after, session_of}
@@ -30,7 +30,7 @@ abbrev pub cursor_of : State → ℕ → ℕ
 cursor_of st node = cursor_in (slice_get st.logs node)
 
 -- the cursor of the node that the session is on
-abbrev pub node_cursor : State → Session → Option ℕ
+abbrev pub node_cursor : State → SessionState → Option ℕ
 node_cursor st Absent = None
 node_cursor st (Here node turn sid nsp rooms) = Some (cursor_of st node)
 node_cursor st (Away turn sid nsp rooms) = None
@@ -49,11 +49,11 @@ abbrev pub reach : Cluster → List Step → Text → ℕ → Option ℕ
 reach c run pid p = first_index (is_reached pid p) (states c run)
 
 -- the session after the first t steps
-abbrev pub session_at : Cluster → List Step → Text → ℕ → Option Session
+abbrev pub session_at : Cluster → List Step → Text → ℕ → Option SessionState
 session_at c run pid t = option_map (λ st. session_of st pid) (slice_get (states c run) t)
 
 -- the session when it is first on a node whose cursor is at least p
-abbrev pub session_at_reach : Cluster → List Step → Text → ℕ → Option Session
+abbrev pub session_at_reach : Cluster → List Step → Text → ℕ → Option SessionState
 session_at_reach c run pid p = option_and_then (session_at c run pid) (reach c run pid p)
 
 -- the cursor of the session's node after the step that opens it, with which it is on a node for the first time
@@ -64,12 +64,12 @@ birth c run pid =
     (first_index (is_reached pid 0) (states c run))
 
 -- there is a birth, and the position is past it
-abbrev pub is_past : Option ℕ → ℕ → Bool
-is_past None p = false
-is_past (Some birth) p = nat_lt birth p
+abbrev pub is_past_birth : Option ℕ → ℕ → Bool
+is_past_birth None p = false
+is_past_birth (Some birth) p = nat_lt birth p
 
 -- the entry is recoverable and addressed to the namespace and the rooms of the session
-abbrev pub is_for_session : Option StreamRec → Option Session → Bool
+abbrev pub is_for_session : Option StreamRec → Option SessionState → Bool
 is_for_session at None = false
 is_for_session at (Some Absent) = false
 is_for_session at (Some (Here node turn sid nsp rooms)) = is_for at nsp rooms
@@ -79,7 +79,7 @@ is_for_session at (Some Ended) = false
 -- past birth, reached, recoverable, and addressed to the namespace and rooms that the session has when it is reached
 abbrev pub is_due : Cluster → List Step → Text → ℕ → Bool
 is_due c run pid p =
-    is_past (birth c run pid) p
+    is_past_birth (birth c run pid) p
     && is_for_session (entry c.stream p) (session_at_reach c run pid p)
 
 -- the positions that are due to the session, ascending

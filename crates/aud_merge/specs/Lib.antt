@@ -12,3 +12,4 @@ pub mod Due
 pub mod Order
 pub mod ByTurns
 pub mod Recovery
+pub mod Private

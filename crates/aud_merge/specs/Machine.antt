@@ -14,12 +14,12 @@ use Rattle.aud_node.specs.Cluster.{Cluster, stream_place, log_at}
 use Rattle.aud_node.specs.TurnRecords.{pid_of}
 use Rattle.aud_merge.specs.declared.step.Step.{Step}
 use Rattle.aud_merge.specs.declared.progress.Progress.{Progress}
-use Rattle.aud_merge.specs.Sessions.{Session, Absent, session_after}
+use Rattle.aud_merge.specs.Sessions.{SessionState, Absent, session_after}
 
 -- how far each log has come, in the order of the taps, and the sessions by pid
 pub record State : Type 0 where
   pub logs : List Progress
-  pub sessions : fin.FinMap (slice_cmp nat_cmp) Session
+  pub sessions : fin.FinMap (slice_cmp nat_cmp) SessionState
 
 -- nothing was taken
 abbrev pub start : Cluster → State
@@ -42,25 +42,25 @@ abbrev pub appended : Cluster → State → ℕ
 appended c st = taken_at st (stream_place c.taps)
 
 -- the session of this pid
-abbrev pub session_of : State → Text → Session
+abbrev pub session_of : State → Text → SessionState
 session_of st pid = unwrap_or (fin.get st.sessions pid) Absent
 
 -- the position, if it is the one after the cursor
-abbrev pub next_position : Option ℕ → ℕ → Option ℕ
-next_position None cursor = None
-next_position (Some p) cursor = if nat_eq p (suc cursor) then Some p else None
+abbrev pub position_if_next : Option ℕ → ℕ → Option ℕ
+position_if_next None cursor = None
+position_if_next (Some p) cursor = if nat_eq p (suc cursor) then Some p else None
 
 -- the cursor that the node's record with this number leaves, where these entries are appended; none where the record
 -- isn't allowed
-abbrev pub cursor_after : List StreamRec → ℕ → NodeRec → ℕ → Option ℕ
-cursor_after entries zero (Start None) cursor = Some 0
-cursor_after entries zero (Start (Some off)) cursor = position entries off
-cursor_after entries (suc number) (Start off) cursor = None
-cursor_after entries number (Take off) cursor = next_position (position entries off) cursor
-cursor_after entries number _ cursor = Some cursor
+abbrev pub allowed_cursor : List StreamRec → ℕ → NodeRec → ℕ → Option ℕ
+allowed_cursor entries zero (Start None) cursor = Some 0
+allowed_cursor entries zero (Start (Some off)) cursor = position entries off
+allowed_cursor entries (suc number) (Start off) cursor = None
+allowed_cursor entries number (Take off) cursor = position_if_next (position entries off) cursor
+allowed_cursor entries number _ cursor = Some cursor
 
 -- the sessions that the node's record leaves, which names this pid, if any; none where it isn't allowed
-abbrev pub sessions_after : ℕ → NodeRec → Option Text → fin.FinMap (slice_cmp nat_cmp) Session → Option (fin.FinMap (slice_cmp nat_cmp) Session)
+abbrev pub sessions_after : ℕ → NodeRec → Option Text → fin.FinMap (slice_cmp nat_cmp) SessionState → Option (fin.FinMap (slice_cmp nat_cmp) SessionState)
 sessions_after node rec None sessions = Some sessions
 sessions_after node rec (Some pid) sessions =
     option_map (λ session. fin.insert sessions pid session) (session_after node rec (unwrap_or (fin.get sessions pid) Absent))
@@ -74,7 +74,7 @@ after_record c st node done rec =
     (λ sessions.
     record { logs = set st.logs node (record { taken = suc done.taken; cursor = cursor }); sessions = sessions })
     (sessions_after node rec (pid_of rec) st.sessions))
-    (cursor_after (take (appended c st) c.stream) done.taken rec done.cursor)
+    (allowed_cursor (take (appended c st) c.stream) done.taken rec done.cursor)
 
 -- the state after the stream's next entry, which is always allowed
 abbrev pub after_entry : State → ℕ → Progress → StreamRec → Option State

@@ -47,8 +47,8 @@ client =
     ∷ TextIn (codes "40{\"sid\":\"s1\",\"pid\":\"P\"}") ∷ []
 
 -- the positions of the events that the client received, in its order
-abbrev pub received : List ℕ
-received = 1 ∷ 2 ∷ []
+abbrev pub received_positions : List ℕ
+received_positions = 1 ∷ 2 ∷ []
 
 abbrev pub tap : Text → Records → Tap
 tap name records = record { name = name; records = records }

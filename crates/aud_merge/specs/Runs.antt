@@ -1,5 +1,5 @@
 -- Runs: mergings of the logs in which each step is allowed.
-use Rattle.std.specs.Prelude.{◌≡◌, ◌<◌, ◌≤◌, ℕ, List, [], ◌∷◌, map, length, Option, Some, None, nat_eq}
+use Rattle.std.specs.Prelude.{◌≡◌, ◌<◌, ℕ, List, [], ◌∷◌, map, length, Option, Some, None, nat_eq}
 use Rattle.std.specs.List.{filter}
 use Rattle.std.specs.Option.{unwrap_or}
 use Rattle.aud_tap.specs.declared.taps.Records.{Records}
@@ -34,15 +34,6 @@ AreAllowed c st (step ∷ steps) = (next : State) × (after c st step ≡ Some n
 pub record IsRun (c : Cluster) (steps : List Step) : Type 0 where
   pub merges : IsMerging c steps
   pub allowed : AreAllowed c (start c) steps
-
--- no log has a record that wasn't taken
-abbrev pub IsFinished : Cluster → State → Type 0
-IsFinished c st = (place : ℕ) → record_count c place ≤ taken_of st place
-
--- the steps are the rest of a run: from this state on each of them is allowed, and then no log has more
-abbrev pub RunsOn : Cluster → State → List Step → Type 0
-RunsOn c st [] = IsFinished c st
-RunsOn c st (step ∷ steps) = (next : State) × (after c st step ≡ Some next) × RunsOn c next steps
 
 -- the state after the steps
 abbrev pub state_after : Cluster → State → List Step → State

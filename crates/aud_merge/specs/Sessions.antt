@@ -7,14 +7,14 @@ use Rattle.aud_node.specs.Stream.{Text}
 use Rattle.aud_rooms.specs.Rooms.{Rooms, own_room}
 
 -- never opened; on the node whose tap stands at this place, in this turn; away after this turn, to be recovered; over
-pub data Session : Type 0 where
-  Absent : Session
-  Here : (node turn : ℕ) (sid nsp : Text) (rooms : Rooms) → Session
-  Away : (turn : ℕ) (sid nsp : Text) (rooms : Rooms) → Session
-  Ended : Session
+pub data SessionState : Type 0 where
+  Absent : SessionState
+  Here : (node turn : ℕ) (sid nsp : Text) (rooms : Rooms) → SessionState
+  Away : (turn : ℕ) (sid nsp : Text) (rooms : Rooms) → SessionState
+  Ended : SessionState
 
 -- what the record of the node makes of the session that it names; none where it isn't allowed
-abbrev pub session_after : ℕ → NodeRec → Session → Option Session
+abbrev pub session_after : ℕ → NodeRec → SessionState → Option SessionState
 session_after node (Opened pid sid nsp) Absent = Some (Here node 0 sid nsp (own_room sid))
 session_after node (Join pid room) (Here at turn sid nsp rooms) = if nat_eq at node then Some (Here at turn sid nsp (set.insert rooms room)) else None
 session_after node (Leave pid room) (Here at turn sid nsp rooms) = if nat_eq at node then Some (Here at turn sid nsp (set.remove rooms room)) else None

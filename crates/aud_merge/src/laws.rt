@@ -12,7 +12,7 @@ ghost use Rattle.aud_merge.specs.Runs.{IsRun, IsBlocked, AreAllowed, state_after
 ghost use Rattle.aud_merge.specs.Order.{IsBlockedAt};
 ghost use Rattle.aud_merge.specs.Due.{due, reach, session_at_reach, states};
 ghost use Rattle.aud_merge.specs.Recovery as recovery;
-ghost use Rattle.aud_merge.specs.ByTurns.{IsPrefixOf, FallsAfter, HasRooms, reaching_step, rooms_given, by_turns};
+ghost use Rattle.aud_merge.specs.ByTurns.{IsPrefixOf, FallsAfter, HasRooms, reaching_step, rooms_of_turns, by_turns};
 
 /// After each prefix of a run, a session is what the taken records of its turns make of it.
 pub fn session_by_turns()
@@ -37,10 +37,10 @@ pub fn reach_by_turns()
 pub fn rooms_by_turns()
     ensures all { (c : Cluster) (run : List Step) (who : Who) (turns : List Turn) (p : ℕ)
         → IsRun c run → IsChain c who turns
-        → HasRooms who (session_at_reach c run who.pid p) (rooms_given c who turns p) }
+        → HasRooms who (session_at_reach c run who.pid p) (rooms_of_turns c who turns p) }
     ensures shown { (c : Cluster) (run : List Step) (who : Who) (turns : List Turn) (p : ℕ)
         → IsRun c run → AreTurns c who 0 turns → 0 < p → p ≤ greatest_high (map (slice_of c) turns)
-        → HasRooms who (session_at_reach c run who.pid p) (rooms_given c who turns p) }
+        → HasRooms who (session_at_reach c run who.pid p) (rooms_of_turns c who turns p) }
 {}
 
 /// In each run, what is due to a session is what is due by its turns.
@@ -82,5 +82,5 @@ pub fn run_with_recovery()
     ensures both_are_due { due recovery.logs recovery.run recovery.who.pid ≡ 1 ∷ 2 ∷ [] }
     ensures first_is_live { FallsAfter recovery.run (reach recovery.logs recovery.run recovery.who.pid 1) (Some recovery.live_take) }
     ensures second_is_replayed { FallsAfter recovery.run (reach recovery.logs recovery.run recovery.who.pid 2) (Some recovery.back) }
-    ensures received_is_front { IsPrefixOf recovery.received (due recovery.logs recovery.run recovery.who.pid) }
+    ensures received_is_front { IsPrefixOf recovery.received_positions (due recovery.logs recovery.run recovery.who.pid) }
 {}

@@ -35,6 +35,6 @@ pub use laws::{
 };
 pub use machine::{allowed, apply};
 pub use run::is_run;
-pub use session::{At, Session};
+pub use session::{At, OpenedSession};
 pub use state::State;
 pub use step::Step;

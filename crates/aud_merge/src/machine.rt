@@ -1,7 +1,7 @@
 //! Which step is allowed, and what it does.
 ghost use Rattle.std.specs.Prelude.{◌≡◌, ◌<◌, ◌+◌, ◌^◌, OnOk, OnErr, IsSome, Some, is_some, take, slice_get};
 ghost use Rattle.aud_node.specs.Stream.{position};
-ghost use Rattle.aud_merge.specs.Machine.{after, after_next, after_record, cursor_after};
+ghost use Rattle.aud_merge.specs.Machine.{after, after_next, after_record, allowed_cursor};
 
 use crate::progress::Progress;
 use crate::state::State;
@@ -44,12 +44,12 @@ fn record_allowed(state: &State, logs: &Logs, node: usize, done: Progress, rec: 
     ensures { result ≡ is_some (after_record logs.now state.now node done rec.now) }
 {
     let appended = state.appended(logs);
-    cursor_after(logs.stream(), appended, rec, done).is_some() && state.allows(node, rec)
+    allowed_cursor(logs.stream(), appended, rec, done).is_some() && state.allows(node, rec)
 }
 
 /// The cursor after the next record of a node that has come so far; none where it isn't allowed.
-fn cursor_after(stream: &Stream, appended: usize, rec: &NodeRec, done: Progress) -> Option<u64>
-    ensures { result ≡ cursor_after (take appended stream.now) done.taken rec.now done.cursor }
+fn allowed_cursor(stream: &Stream, appended: usize, rec: &NodeRec, done: Progress) -> Option<u64>
+    ensures { result ≡ allowed_cursor (take appended stream.now) done.taken rec.now done.cursor }
 {
     match rec {
         NodeRec::Start { off: None } if done.taken == 0 => Some(0),
@@ -130,7 +130,7 @@ fn take_record<'a>(
     ensures taken { OnOk result (after_record logs.now state.old node done rec.now ≡ Some state.new) }
     ensures unchanged { OnErr result (state.new ≡ state.old) }
 {
-    let Some(cursor) = cursor_after(logs.stream(), state.appended(logs), rec, done) else {
+    let Some(cursor) = allowed_cursor(logs.stream(), state.appended(logs), rec, done) else {
         unreachable!()
     };
     state.change(node, rec)?;

@@ -1,6 +1,7 @@
 //! Which lists of steps are runs.
 ghost use Rattle.std.specs.Prelude.{◌≡◌, ◌↔◌, IfOk, Some, true};
-ghost use Rattle.aud_merge.specs.Runs.{IsFinished, IsRun, log_length};
+ghost use Rattle.aud_merge.specs.Runs.{IsRun, log_length};
+ghost use Rattle.aud_merge.specs.Private.RunsOn.{IsFinished};
 
 use crate::machine::{allowed, apply};
 use crate::state::State;

@@ -21,7 +21,7 @@ pub enum At {
 
 /// A session that was opened.
 #[derive(Drop)]
-pub struct Session<'a> {
+pub struct OpenedSession<'a> {
     pub at: At,
     /// The turn that it is in, or, between turns, the one before; counted from 0.
     pub turn: u16,
@@ -30,9 +30,9 @@ pub struct Session<'a> {
     pub rooms: RoomSet<'a>,
 }
 
-impl<'a> Session<'a> {
+impl<'a> OpenedSession<'a> {
     /// The session that an allowed `open` of the node makes.
-    pub(crate) fn open(alloc: Global, node: usize, rec: &'a NodeRec) -> Result<Session<'a>, Memory>
+    pub(crate) fn open(alloc: Global, node: usize, rec: &'a NodeRec) -> Result<OpenedSession<'a>, Memory>
         requires { IsSome (session_after node rec.now Absent) }
         ensures { IfOk result (λ session. session_after node rec.now Absent ≡ Some (session_seen session)) }
     {
@@ -41,7 +41,7 @@ impl<'a> Session<'a> {
         };
         let mut rooms = RoomSet::new(alloc);
         rooms.join(sid.as_str())?;
-        Ok(Session {
+        Ok(OpenedSession {
             at: At::Node(node),
             turn: 0,
             sid: sid.as_str(),
@@ -72,7 +72,7 @@ impl<'a> Session<'a> {
 }
 
 /// Whether the node's record, which names this session, is allowed; no session is one that wasn't opened.
-pub(crate) fn allows(session: Option<&Session>, node: usize, rec: &NodeRec) -> bool
+pub(crate) fn allows(session: Option<&OpenedSession>, node: usize, rec: &NodeRec) -> bool
     ensures { result ≡ is_some (session_after node rec.now (seen_or_absent (option_copied session.entry))) }
 {
     let Some(session) = session else {

@@ -7,7 +7,7 @@ ghost use Rattle.aud_merge.specs.Machine.{sessions_after};
 ghost use Rattle.aud_merge.specs.Sessions.{Absent};
 ghost use Rattle.aud_merge.specs.SessionSeen.{seen_or_absent, session_seen};
 
-use crate::session::{Session, allows};
+use crate::session::{OpenedSession, allows};
 use aud_node::pid;
 use aud_tap::{Memory, NodeRec};
 use std::alloc::Global;
@@ -18,22 +18,22 @@ use std::marker::Model;
 #[derive(Drop)]
 pub(crate) struct Sessions<'a> {
     alloc: Global,
-    map: BTreeMap<&'a str, Session<'a>>,
+    map: BTreeMap<&'a str, OpenedSession<'a>>,
 }
 
 impl<'a> Model for Sessions<'a> {
     ghost use Rattle.std.specs.Ordering.{nat_cmp};
     ghost use Rattle.std.specs.Cmp.Lexicographic.{slice_cmp};
     ghost use Rattle.std.specs.FinMap as fin;
-    ghost use Rattle.aud_merge.specs.Sessions.{Session};
+    ghost use Rattle.aud_merge.specs.Sessions.{SessionState};
     ghost use Rattle.aud_merge.specs.Code.{sessions_code};
-    ghost use Rattle.aud_merge.specs.SessionSeen.{sessions_of};
+    ghost use Rattle.aud_merge.specs.Private.SessionsSeen.{sessions_seen};
 
-    ghost Value = { fin.FinMap (slice_cmp nat_cmp) Session };
+    ghost Value = { fin.FinMap (slice_cmp nat_cmp) SessionState };
 
     ghost coded = { sessions_code };
 
-    ghost view = { λ s. sessions_of s.map.entries };
+    ghost view = { λ s. sessions_seen s.map.entries };
 }
 
 impl<'a> Sessions<'a> {
@@ -48,7 +48,7 @@ impl<'a> Sessions<'a> {
     }
 
     /// The session of a pid; none where it wasn't opened.
-    pub(crate) fn get(&self, pid: &str) -> Option<&Session<'a>>
+    pub(crate) fn get(&self, pid: &str) -> Option<&OpenedSession<'a>>
         ensures { seen_or_absent (option_copied result) ≡ unwrap_or (fin.get self.now pid.now) Absent }
     {
         self.map.get(pid)
@@ -75,11 +75,11 @@ impl<'a> Sessions<'a> {
         };
         match self.map.get_mut(pid) {
             Some(session) => session.change(node, rec),
-            None => self.insert(pid, Session::open(self.alloc, node, rec)?),
+            None => self.insert(pid, OpenedSession::open(self.alloc, node, rec)?),
         }
     }
 
-    fn insert(&mut self, pid: &'a str, session: Session<'a>) -> Result<(), Memory>
+    fn insert(&mut self, pid: &'a str, session: OpenedSession<'a>) -> Result<(), Memory>
         ensures inserted { OnOk result (self.new ≡ fin.insert self.old pid.now (session_seen session.entry)) }
         ensures unchanged { OnErr result (self.new ≡ self.old) }
     {

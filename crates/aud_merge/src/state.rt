@@ -6,7 +6,7 @@ ghost use Rattle.aud_merge.specs.Machine.{appended, session_of, sessions_after, 
 ghost use Rattle.aud_merge.specs.SessionSeen.{seen_or_absent};
 
 use crate::progress::Progress;
-use crate::session::Session;
+use crate::session::OpenedSession;
 use crate::sessions::Sessions;
 use aud_node::Logs;
 use aud_tap::{Memory, NodeRec, Tap};
@@ -50,7 +50,7 @@ impl<'a> State<'a> {
     }
 
     /// The session of a pid; none where it wasn't opened.
-    pub fn session(&self, pid: &str) -> Option<&Session<'a>>
+    pub fn session(&self, pid: &str) -> Option<&OpenedSession<'a>>
         ensures { seen_or_absent (option_copied result) ≡ session_of self.now pid.now }
     {
         self.sessions.get(pid)

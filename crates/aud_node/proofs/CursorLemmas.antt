@@ -10,7 +10,7 @@ use Rattle.aud_tap.specs.declared.records.StreamRec.{StreamRec}
 use Rattle.aud_tap.specs.declared.records.NodeRec.{NodeRec}
 use Rattle.aud_node.specs.Lists.{numbers_from}
 use Rattle.aud_node.specs.Cursors.{cursor_at, next_cursor, cursor_past}
-use Rattle.aud_node.specs.NodeIndices.{cursors_after}
+use Rattle.aud_node.specs.Private.CursorIndex.{cursors_after}
 use Rattle.aud_node.specs.NodeTap.{cursor_after}
 use Rattle.aud_node.specs.Ordered.{is_in_order, is_some_in_order, is_ordered}
 

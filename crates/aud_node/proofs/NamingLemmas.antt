@@ -7,7 +7,7 @@ use Rattle.std.proofs.lemmas.Option.{slice_get_read}
 use Rattle.aud_tap.specs.declared.records.NodeRec.{NodeRec}
 use Rattle.aud_node.specs.Lists.{numbers_from}
 use Rattle.aud_node.specs.Stream.{Text}
-use Rattle.aud_node.specs.OwnRecords.{names}
+use Rattle.aud_node.specs.OwnRecords.{record_names}
 use Rattle.aud_node.specs.OwnPlaces.{is_none}
 use Rattle.aud_node.specs.Naming.{is_place, with_place, noted}
 use Rattle.aud_node.proofs.CursorLemmas.{filter-more}
@@ -102,18 +102,18 @@ some-more p i = ap (λ xs. not (is_none xs)) (sym (filter-more p i (filter p (nu
 
 -- one of the first records names the pid
 abbrev pub some_names : List NodeRec → Text → ℕ → Bool
-some_names recs pid i = not (is_none (filter (λ number. names (slice_get recs number) pid) (numbers_from 0 i)))
+some_names recs pid i = not (is_none (filter (λ number. record_names (slice_get recs number) pid) (numbers_from 0 i)))
 
 -- the place, noted where the next record names the pid
 pub noted-record : (place : ℕ) (recs : List NodeRec) (pid : Text) (i : ℕ) (rec : NodeRec) (base mid new : List ℕ) → i < length recs → rec ≡ get_or recs i rec
-    → mid ≡ noted place (some_names recs pid i) base → new ≡ noted place (names (Some rec) pid) mid → new ≡ noted place (some_names recs pid (i + 1)) base
+    → mid ≡ noted place (some_names recs pid i) base → new ≡ noted place (record_names (Some rec) pid) mid → new ≡ noted place (some_names recs pid (i + 1)) base
 noted-record place recs pid i rec base mid new within read before after =
     after
-    ∙ ap (noted place (names (Some rec) pid)) before
-    ∙ noted-more place (some_names recs pid i) (names (Some rec) pid) base
+    ∙ ap (noted place (record_names (Some rec) pid)) before
+    ∙ noted-more place (some_names recs pid i) (record_names (Some rec) pid) base
     ∙ ap (λ b. noted place b base)
-    (ap (λ o. some_names recs pid i || names o pid) (sym (slice_get_read recs (length recs) i rec refl within read))
-    ∙ sym (some-more (λ number. names (slice_get recs number) pid) i))
+    (ap (λ o. some_names recs pid i || record_names o pid) (sym (slice_get_read recs (length recs) i rec refl within read))
+    ∙ sym (some-more (λ number. record_names (slice_get recs number) pid) i))
 
 -- ---- a loop over what may name the pid
 

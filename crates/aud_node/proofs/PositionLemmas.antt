@@ -6,9 +6,10 @@ use Rattle.std.proofs.lemmas.Slice.Eq.{bytes_eq-Decides}
 use Rattle.std.proofs.lemmas.Option.{slice_get-map}
 use Rattle.aud_tap.specs.declared.records.StreamRec.{StreamRec}
 use Rattle.aud_node.specs.Recoverable.{is_recoverable}
-use Rattle.aud_node.specs.AtPosition.{is_some_recoverable, is_recoverable_at, next_position}
+use Rattle.aud_node.specs.AtPosition.{is_some_recoverable, is_recoverable_at}
+use Rattle.aud_node.specs.Private.NextPosition.{next_position}
 use Rattle.aud_node.specs.Stream.{Text, position, offset_of}
-use Rattle.aud_node.specs.Offsets.{kept_position, AreFirst, HoldsOffsets}
+use Rattle.aud_node.specs.Private.OffsetIndex.{kept_position, AreFirst, HoldsOffsets}
 use Rattle.aud_node.specs.Cursors.{is_position}
 use Rattle.aud_node.proofs.ListLemmas.{drop-read}
 use Rattle.std.proofs.lemmas.Bool.{eq-eqb}

@@ -3,10 +3,10 @@ use Rattle.std.proofs.Common.{◌≡◌, ℕ, ◌+◌, ◌-◌, ◌<◌, ◌≤�
 use Rattle.aud_tap.specs.declared.records.NodeRec.{NodeRec}
 use Rattle.aud_node.specs.Lists.{first_index, between}
 use Rattle.aud_node.specs.Stream.{Text}
-use Rattle.aud_node.specs.TurnRecords.{begins_turn, is_begin, is_end, rest_of_turn, turn_in, turn_of, turn_range}
-use Rattle.aud_node.specs.Turns.{kept_span, kept_end, span_range, HoldsTurns}
+use Rattle.aud_node.specs.TurnRecords.{begins_turn, begins_any_turn, ends_any_turn, rest_of_turn, turn_in, turn_records, turn_range}
+use Rattle.aud_node.specs.Private.TurnIndex.{kept_range, kept_end, range_numbers, HoldsTurns}
 use Rattle.aud_node.specs.declared.turns.Turns.{Turns}
-use Rattle.aud_node.specs.declared.turns.Span.{Span}
+use Rattle.aud_node.specs.declared.turns.TurnRange.{TurnRange}
 
 -- the same numbers
 range : (a b c d : ℕ) → a ≡ c → b ≡ d → ◌≡◌ {A = Option (ℕ × ℕ)} (Some (a, b)) (Some (c, d))
@@ -18,13 +18,13 @@ after i range = option_map (λ (r : ℕ × ℕ). (i + r.0, i + r.1)) range
 
 -- the turns that begin with a record from this number on, and how far one goes on that began before
 pub record HoldsFrom (log : List NodeRec) (i : ℕ) (turns : Turns) : Type 0 where
-  pub spans_are : (pid : Text) (k : ℕ) → option_map span_range (kept_span turns pid k) ≡ after i (turn_range (drop i log) pid k)
+  pub spans_are : (pid : Text) (k : ℕ) → option_map range_numbers (kept_range turns pid k) ≡ after i (turn_range (drop i log) pid k)
   pub ends_are : (pid : Text) → kept_end turns pid (length log) ≡ i + length (rest_of_turn pid (drop i log))
 
 -- the rest of a turn is the front of what follows
 pub rest-taken : (pid : Text) (log : List NodeRec) → take (length (rest_of_turn pid log)) log ≡ rest_of_turn pid log
 rest-taken pid [] = refl
-rest-taken pid (rec ∷ recs) = go (is_begin pid rec) (is_end pid rec) (rest-taken pid recs)
+rest-taken pid (rec ∷ recs) = go (begins_any_turn pid rec) (ends_any_turn pid rec) (rest-taken pid recs)
   where
     go : (b e : Bool) → take (length (rest_of_turn pid recs)) recs ≡ rest_of_turn pid recs → take (length (cond b [] (cond e (rec ∷ []) (rec ∷ rest_of_turn pid recs)))) (rec ∷ recs) ≡ cond b [] (cond e (rec ∷ []) (rec ∷ rest_of_turn pid recs))
     go true e h = refl
@@ -46,8 +46,8 @@ turn_range-cons rec recs pid k = go (begins_turn pid k rec) (first_index (begins
 
 module _ (log : List NodeRec) (i n : ℕ) (next : n ≡ i + 1) (rec : NodeRec) (front : drop i log ≡ rec ∷ drop n log) where
   -- how many records the rest of a turn has, with one record more in front
-  rest-step : (pid : Text) → i + length (rest_of_turn pid (rec ∷ drop n log)) ≡ cond (is_begin pid rec) i (cond (is_end pid rec) (i + 1) (n + length (rest_of_turn pid (drop n log))))
-  rest-step pid = go (is_begin pid rec) (is_end pid rec)
+  rest-step : (pid : Text) → i + length (rest_of_turn pid (rec ∷ drop n log)) ≡ cond (begins_any_turn pid rec) i (cond (ends_any_turn pid rec) (i + 1) (n + length (rest_of_turn pid (drop n log))))
+  rest-step pid = go (begins_any_turn pid rec) (ends_any_turn pid rec)
     where
       go : (b e : Bool) → i + length (cond b [] (cond e (rec ∷ []) (rec ∷ rest_of_turn pid (drop n log)))) ≡ cond b i (cond e (i + 1) (n + length (rest_of_turn pid (drop n log))))
       go true e = omega arith
@@ -64,28 +64,28 @@ module _ (log : List NodeRec) (i n : ℕ) (next : n ≡ i + 1) (rec : NodeRec) (
   later (Some (from, to)) = range (n + from) (n + to) (i + (1 + from)) (i + (1 + to)) (omega arith) (omega arith)
 
   module _ (old new : Turns) (held : HoldsFrom log n old) where
-    spans-step : ((q : Text) (k : ℕ) → kept_span new q k ≡ cond (begins_turn q k rec) (Some (record { from = i; to = kept_end old q (length log) })) (kept_span old q k))
-        → (pid : Text) (k : ℕ) → option_map span_range (kept_span new pid k) ≡ after i (turn_range (drop i log) pid k)
+    spans-step : ((q : Text) (k : ℕ) → kept_range new q k ≡ cond (begins_turn q k rec) (Some (record { from = i; to = kept_end old q (length log) })) (kept_range old q k))
+        → (pid : Text) (k : ℕ) → option_map range_numbers (kept_range new pid k) ≡ after i (turn_range (drop i log) pid k)
     spans-step spans pid k =
-        ap (option_map span_range) (spans pid k)
+        ap (option_map range_numbers) (spans pid k)
         ∙ go (begins_turn pid k rec)
         ∙ sym (ap (after i) (ap (λ rs. turn_range rs pid k) front ∙ turn_range-cons rec (drop n log) pid k))
       where
-        go : (b : Bool) → option_map span_range (cond b (Some (record { from = i; to = kept_end old pid (length log) })) (kept_span old pid k))
+        go : (b : Bool) → option_map range_numbers (cond b (Some (record { from = i; to = kept_end old pid (length log) })) (kept_range old pid k))
             ≡ after i (cond b (Some (0, suc (length (rest_of_turn pid (drop n log))))) (after 1 (turn_range (drop n log) pid k)))
         go true = ap (λ end. Some (i, end)) (held.ends_are pid) ∙ begun pid
         go false = held.spans_are pid k ∙ later (turn_range (drop n log) pid k)
 
-    ends-step : ((q : Text) → kept_end new q (length log) ≡ cond (is_begin q rec) i (cond (is_end q rec) (i + 1) (kept_end old q (length log))))
+    ends-step : ((q : Text) → kept_end new q (length log) ≡ cond (begins_any_turn q rec) i (cond (ends_any_turn q rec) (i + 1) (kept_end old q (length log))))
         → (pid : Text) → kept_end new pid (length log) ≡ i + length (rest_of_turn pid (drop i log))
     ends-step ends pid =
         ends pid
-        ∙ ap (λ end. cond (is_begin pid rec) i (cond (is_end pid rec) (i + 1) end)) (held.ends_are pid)
+        ∙ ap (λ end. cond (begins_any_turn pid rec) i (cond (ends_any_turn pid rec) (i + 1) end)) (held.ends_are pid)
         ∙ sym (ap (λ rs. i + length (rest_of_turn pid rs)) front ∙ rest-step pid)
 
     -- one record more in front
-    pub step : ((q : Text) (k : ℕ) → kept_span new q k ≡ cond (begins_turn q k rec) (Some (record { from = i; to = kept_end old q (length log) })) (kept_span old q k))
-        → ((q : Text) → kept_end new q (length log) ≡ cond (is_begin q rec) i (cond (is_end q rec) (i + 1) (kept_end old q (length log))))
+    pub step : ((q : Text) (k : ℕ) → kept_range new q k ≡ cond (begins_turn q k rec) (Some (record { from = i; to = kept_end old q (length log) })) (kept_range old q k))
+        → ((q : Text) → kept_end new q (length log) ≡ cond (begins_any_turn q rec) i (cond (ends_any_turn q rec) (i + 1) (kept_end old q (length log))))
         → HoldsFrom log i new
     step spans ends = record { spans_are = spans-step spans; ends_are = ends-step ends }
 
@@ -104,7 +104,7 @@ turn-taken pid [] = refl
 turn-taken pid (rec ∷ recs) = ap (λ rs. rec ∷ rs) (rest-taken pid recs)
 
 -- the records of a turn are those with its numbers
-pub turn_of-range : (log : List NodeRec) (pid : Text) (k : ℕ) → option_map (λ (r : ℕ × ℕ). between log r.0 r.1) (turn_range log pid k) ≡ turn_of log pid k
+pub turn_of-range : (log : List NodeRec) (pid : Text) (k : ℕ) → option_map (λ (r : ℕ × ℕ). between log r.0 r.1) (turn_range log pid k) ≡ turn_records log pid k
 turn_of-range log pid k = go (first_index (begins_turn pid k) log)
   where
     go : (o : Option ℕ) → option_map (λ (r : ℕ × ℕ). between log r.0 r.1) (option_map (λ from. (from, from + length (turn_in pid (drop from log)))) o) ≡ option_map (λ from. turn_in pid (drop from log)) o
@@ -114,17 +114,17 @@ turn_of-range log pid k = go (first_index (begins_turn pid k) log)
         ap Some (ap (λ k. take k (drop from log)) count ∙ turn-taken pid (drop from log))
 
 -- these are the records that are kept
-pub turn_of-kept : (log : List NodeRec) (turns : Turns) (pid : Text) (k : ℕ) → HoldsTurns log turns → option_map (λ (span : Span). between log span.from span.to) (kept_span turns pid k) ≡ turn_of log pid k
+pub turn_of-kept : (log : List NodeRec) (turns : Turns) (pid : Text) (k : ℕ) → HoldsTurns log turns → option_map (λ (span : TurnRange). between log span.from span.to) (kept_range turns pid k) ≡ turn_records log pid k
 turn_of-kept log turns pid k held =
-    sym (go (kept_span turns pid k)) ∙ ap (option_map (λ (r : ℕ × ℕ). between log r.0 r.1)) (held pid k) ∙ turn_of-range log pid k
+    sym (go (kept_range turns pid k)) ∙ ap (option_map (λ (r : ℕ × ℕ). between log r.0 r.1)) (held pid k) ∙ turn_of-range log pid k
   where
-    go : (o : Option Span) → option_map (λ (r : ℕ × ℕ). between log r.0 r.1) (option_map span_range o) ≡ option_map (λ (span : Span). between log span.from span.to) o
+    go : (o : Option TurnRange) → option_map (λ (r : ℕ × ℕ). between log r.0 r.1) (option_map range_numbers o) ≡ option_map (λ (span : TurnRange). between log span.from span.to) o
     go None = refl
     go (Some span) = refl
 
 length-rest : (pid : Text) (log : List NodeRec) → length (rest_of_turn pid log) ≤ length log
 length-rest pid [] = omega arith
-length-rest pid (rec ∷ recs) = go (is_begin pid rec) (is_end pid rec) (length-rest pid recs)
+length-rest pid (rec ∷ recs) = go (begins_any_turn pid rec) (ends_any_turn pid rec) (length-rest pid recs)
   where
     go : (b e : Bool) → length (rest_of_turn pid recs) ≤ length recs → length (cond b [] (cond e (rec ∷ []) (rec ∷ rest_of_turn pid recs))) ≤ suc (length recs)
     go true e h = omega arith

@@ -1,17 +1,11 @@
 -- What the index of the stream by whom its entries are addressed to answers.
-use Rattle.std.specs.Prelude.{◌≡◌, ℕ, Bool, false, List, [], length, Option, Some, None, ◌&&◌, ◌==◌}
+use Rattle.std.specs.Prelude.{ℕ, Bool, false, List, length, Option, Some, None, ◌&&◌, ◌==◌}
 use Rattle.std.specs.List.{filter, list_any}
-use Rattle.std.specs.Option.{option_map_or}
-use Rattle.std.specs.Ordering.{nat_cmp}
-use Rattle.std.specs.Cmp.Lexicographic.{slice_cmp}
 use Rattle.std.specs.Str.{bytes_eq}
-use Rattle.std.specs.BTreeMap as tree
 use Rattle.aud_tap.specs.declared.records.StreamRec.{StreamRec}
 use Rattle.aud_tap.specs.declared.records.StreamRec.TheVariants.{Ev, Other}
 use Rattle.aud_node.specs.Stream.{Text, entry, positions_after}
 use Rattle.aud_node.specs.Recoverable.{is_recoverable}
-use Rattle.aud_node.specs.declared.positions.Positions.{Positions}
-use Rattle.aud_node.specs.declared.addressees.Addressees.{Addressees}
 
 -- the entry is an event of the namespace, and the room is one of its rooms
 abbrev pub names_room : StreamRec → Text → Text → Bool
@@ -40,16 +34,3 @@ positions_to_room stream nsp room = filter (λ p. is_to_room (entry stream p) ns
 -- the positions, ascending, of the recoverable entries for the whole namespace
 abbrev pub positions_to_all : List StreamRec → Text → List ℕ
 positions_to_all stream nsp = filter (λ p. is_to_all (entry stream p) nsp) (positions_after 0 (length stream))
-
--- the positions that are kept for the text
-abbrev pub kept_for : Positions → Text → List ℕ
-kept_for positions text = option_map_or (λ ps. ps.items) (tree.get_by (λ k. slice_cmp nat_cmp text k.now) positions.by_text) []
-
--- the positions that are kept for the room of the namespace
-abbrev pub kept_to_room : Addressees → Text → Text → List ℕ
-kept_to_room addressees nsp room = option_map_or (λ positions. kept_for positions room) (tree.get_by (λ k. slice_cmp nat_cmp nsp k.now) addressees.rooms) []
-
--- the positions that are kept are those of the stream
-pub record HoldsAddressees (stream : List StreamRec) (addressees : Addressees) : Type 0 where
-  pub rooms_are : (nsp room : Text) → kept_to_room addressees nsp room ≡ positions_to_room stream nsp room
-  pub everyone_is : (nsp : Text) → kept_for addressees.everyone nsp ≡ positions_to_all stream nsp

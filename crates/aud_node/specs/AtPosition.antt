@@ -1,9 +1,8 @@
 -- What the stream has at a position.
-use Rattle.std.specs.Prelude.{ℕ, suc, List, Bool, false, Option, Some, None, if◌then◌else◌}
+use Rattle.std.specs.Prelude.{ℕ, List, Bool, false, Option, Some, None}
 use Rattle.aud_tap.specs.declared.records.StreamRec.{StreamRec}
-use Rattle.aud_node.specs.Stream.{Text, position, entry}
+use Rattle.aud_node.specs.Stream.{entry}
 use Rattle.aud_node.specs.Recoverable.{is_recoverable}
-use Rattle.aud_node.specs.Cursors.{is_position}
 
 -- there is an entry, and it is recoverable
 abbrev pub is_some_recoverable : Option StreamRec → Bool
@@ -13,7 +12,3 @@ is_some_recoverable (Some e) = is_recoverable e
 -- the entry at the position is recoverable; false where there is none
 abbrev pub is_recoverable_at : List StreamRec → ℕ → Bool
 is_recoverable_at stream p = is_some_recoverable (entry stream p)
-
--- the position after the cursor, if the offset stands there
-abbrev pub next_position : List StreamRec → Text → ℕ → Option ℕ
-next_position stream off cursor = if is_position (position stream off) (suc cursor) then Some (suc cursor) else None

@@ -9,13 +9,8 @@ pub mod NodeTap
 pub mod NodeTaps
 pub mod Names
 pub mod AtPosition
-pub mod Offsets
 pub mod OwnRecords
 pub mod OwnPlaces
-pub mod NodeIndices
-pub mod Turns
-pub mod NodeIndexed
 pub mod Naming
 pub mod Addressees
-pub mod StreamIndices
-pub mod LogsIndexed
+pub mod Private

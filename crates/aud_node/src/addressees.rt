@@ -4,7 +4,8 @@ ghost use Rattle.std.specs.List.{list_any};
 ghost use Rattle.std.specs.Str.{bytes_eq};
 ghost use Rattle.aud_node.specs.Recoverable.{is_recoverable};
 ghost use Rattle.aud_node.specs.Naming.{noted};
-ghost use Rattle.aud_node.specs.Addressees.{HoldsAddressees, kept_for, kept_to_room, names_no_room, names_room};
+ghost use Rattle.aud_node.specs.Addressees.{names_no_room, names_room};
+ghost use Rattle.aud_node.specs.Private.AddresseeIndex.{HoldsAddressees, kept_for, kept_to_room};
 
 use crate::positions::Positions;
 use aud_tap::{StreamRec, Text};

@@ -15,7 +15,7 @@ pub struct Cursors {
 }
 
 impl Cursors {
-    ghost use Rattle.aud_node.specs.NodeIndices.{HoldsCursors};
+    ghost use Rattle.aud_node.specs.Private.CursorIndex.{HoldsCursors};
 
     /// The cursors of the log.
     pub fn build(

@@ -32,11 +32,11 @@ impl<'a> Model for Logs<'a> {
 
     ghost Value = { Cluster };
 
-    ghost use Rattle.aud_node.specs.LogsIndexed.{IsIndexed};
+    ghost use Rattle.aud_node.specs.Private.LogsIndex.{HoldsTaps};
 
     ghost view = { λ l. cluster_of l.taps.now };
 
-    ghost invariant = { IsIndexed };
+    ghost invariant = { HoldsTaps };
 }
 
 impl<'a> Logs<'a> {

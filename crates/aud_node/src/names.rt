@@ -2,7 +2,8 @@
 ghost use Rattle.std.specs.Prelude.{◌≡◌, IfOk, OnOk, Some, if◌then◌else◌};
 ghost use Rattle.std.specs.Str.{bytes_eq};
 ghost use Rattle.aud_node.specs.Stream.{Text};
-ghost use Rattle.aud_node.specs.Names.{place_of, kept_place};
+ghost use Rattle.aud_node.specs.Names.{place_of};
+ghost use Rattle.aud_node.specs.Private.NameIndex.{kept_place};
 
 use aud_tap::Tap;
 use std::alloc::{AllocError, Global};

@@ -3,7 +3,7 @@ ghost use Rattle.std.specs.Prelude.{◌≡◌, ◌-◌, IfOk, OnOk, [], Some, le
 ghost use Rattle.std.specs.Str.{bytes_eq};
 ghost use Rattle.aud_node.specs.Stream.{Text};
 ghost use Rattle.aud_node.specs.Cluster.{cluster_of, node_recs};
-ghost use Rattle.aud_node.specs.OwnRecords.{names, own_numbers};
+ghost use Rattle.aud_node.specs.OwnRecords.{record_names, own_numbers};
 ghost use Rattle.aud_node.specs.OwnPlaces.{is_none, own_places};
 ghost use Rattle.aud_node.specs.Naming.{is_place, kept_places, noted, with_place};
 
@@ -72,7 +72,7 @@ impl Naming {
     }
 
     fn note_record(&mut self, place: usize, rec: &NodeRec) -> Result<(), Memory>
-        ensures { OnOk result ((q : Text) → kept_places self.new q ≡ noted place (names (Some rec.now) q) (kept_places self.old q)) }
+        ensures { OnOk result ((q : Text) → kept_places self.new q ≡ noted place (record_names (Some rec.now) q) (kept_places self.old q)) }
     {
         match pid(rec) {
             Some(pid) => self.note(place, pid),

@@ -1,7 +1,7 @@
 //! A node's log.
 ghost use Rattle.std.specs.Prelude.{◌≡◌, ◌<◌, ◌≤◌, IfOk, IfSome, length, option_map};
 ghost use Rattle.aud_node.specs.Lists.{between};
-ghost use Rattle.aud_node.specs.TurnRecords.{turn_of, turn_range};
+ghost use Rattle.aud_node.specs.TurnRecords.{turn_records, turn_range};
 ghost use Rattle.aud_node.specs.Ordered.{is_ordered};
 ghost use Rattle.aud_node.specs.OwnRecords.{own_numbers};
 ghost use Rattle.aud_node.specs.NodeTap.{cursor_after};
@@ -31,11 +31,11 @@ impl<'a> Model for NodeLog<'a> {
 
     ghost Value = { NodeTap };
 
-    ghost use Rattle.aud_node.specs.NodeIndexed.{IsIndexed};
+    ghost use Rattle.aud_node.specs.Private.NodeLogIndex.{HoldsNodeLog};
 
     ghost view = { λ n. record { stream = n.stream.now; recs = n.recs.now } };
 
-    ghost invariant = { IsIndexed };
+    ghost invariant = { HoldsNodeLog };
 }
 
 impl<'a> NodeLog<'a> {
@@ -85,7 +85,7 @@ impl<'a> NodeLog<'a> {
 
     /// The records of the session's turn, which counts from 0; none where no record begins it.
     pub fn turn_of(&self, pid: &str, turn: u16) -> Option<Recs<'a>>
-        ensures { result ≡ turn_of self.now.recs pid.now turn }
+        ensures { result ≡ turn_records self.now.recs pid.now turn }
     {
         match self.turns.get(pid, turn) {
             Some(span) => Some(self.recs().between(span.from, span.to)),
@@ -96,7 +96,7 @@ impl<'a> NodeLog<'a> {
     /// The numbers of the records of that turn, which count from 0.
     pub fn turn_range(&self, pid: &str, turn: u16) -> Option<Range<usize>>
         ensures value { option_map (λ range. (range.start, range.end)) result ≡ turn_range self.now.recs pid.now turn }
-        ensures records { option_map (λ range. between self.now.recs range.start range.end) result ≡ turn_of self.now.recs pid.now turn }
+        ensures records { option_map (λ range. between self.now.recs range.start range.end) result ≡ turn_records self.now.recs pid.now turn }
         ensures within { IfSome result (λ range. (range.start < range.end) × (range.end ≤ length self.now.recs)) }
     {
         match self.turns.get(pid, turn) {

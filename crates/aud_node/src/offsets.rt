@@ -2,7 +2,7 @@
 ghost use Rattle.std.specs.Prelude.{◌≡◌, IfOk, OnOk, Some, None, true, if◌then◌else◌};
 ghost use Rattle.std.specs.Str.{bytes_eq};
 ghost use Rattle.aud_node.specs.Stream.{Text};
-ghost use Rattle.aud_node.specs.Offsets.{kept_position, HoldsOffsets};
+ghost use Rattle.aud_node.specs.Private.OffsetIndex.{kept_position, HoldsOffsets};
 
 use crate::fields::offset;
 use aud_tap::StreamRec;

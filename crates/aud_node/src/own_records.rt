@@ -2,7 +2,8 @@
 ghost use Rattle.std.specs.Prelude.{◌≡◌, IfOk, OnOk, ℕ, ◌++◌, ◌∷◌, [], if◌then◌else◌, Some};
 ghost use Rattle.std.specs.Str.{bytes_eq};
 ghost use Rattle.aud_node.specs.Stream.{Text};
-ghost use Rattle.aud_node.specs.OwnRecords.{own_numbers, kept_numbers, names};
+ghost use Rattle.aud_node.specs.OwnRecords.{own_numbers, record_names};
+ghost use Rattle.aud_node.specs.Private.OwnIndex.{kept_numbers};
 
 use crate::fields::pid;
 use aud_tap::NodeRec;
@@ -41,7 +42,7 @@ impl<'a> OwnRecords<'a> {
 
     /// The record has this number.
     fn put(&mut self, number: usize, rec: &'a NodeRec) -> Result<(), AllocError>
-        ensures { OnOk result ((q : Text) → kept_numbers self.new q ≡ (if names (Some rec.now) q then kept_numbers self.old q ++ number ∷ [] else kept_numbers self.old q)) }
+        ensures { OnOk result ((q : Text) → kept_numbers self.new q ≡ (if record_names (Some rec.now) q then kept_numbers self.old q ++ number ∷ [] else kept_numbers self.old q)) }
     {
         match pid(rec) {
             Some(pid) => self.note(pid, number),

@@ -3,7 +3,7 @@ ghost use Rattle.std.specs.Prelude.{◌≡◌, OnOk, ℕ, List, []};
 ghost use Rattle.std.specs.List.{list_any};
 ghost use Rattle.std.specs.Str.{bytes_eq};
 ghost use Rattle.aud_node.specs.Naming.{noted, with_place};
-ghost use Rattle.aud_node.specs.Addressees.{kept_for};
+ghost use Rattle.aud_node.specs.Private.AddresseeIndex.{kept_for};
 
 use aud_tap::Text;
 use std::alloc::{AllocError, Global};

@@ -1,6 +1,6 @@
 //! Which entries a server sends again after a recovery.
 ghost use Rattle.std.specs.Prelude.{◌≡◌, IfOk, map};
-ghost use Rattle.aud_sio.specs.Packet.{view};
+ghost use Rattle.aud_sio.specs.Packet.{packet_view};
 ghost use Rattle.aud_node.specs.Recoverable.{is_recoverable, is_packet_of, is_event};
 
 use aud_sio::{Packet, PacketKind, SioFault, decode, last_text};
@@ -35,7 +35,7 @@ fn is_recoverable(alloc: Global, entry: &StreamRec) -> Result<bool, AllocError>
 
 /// Whether the packet is one that a server sends again for the event.
 fn is_packet_of(event: &Event, packet: &Packet<'_>) -> bool
-    ensures { result ≡ is_packet_of event.now (view packet.now) }
+    ensures { result ≡ is_packet_of event.now (packet_view packet.now) }
 {
     is_event(packet.kind)
         && packet.nsp == event.nsp.as_str()

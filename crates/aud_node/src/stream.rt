@@ -2,7 +2,8 @@
 ghost use Rattle.std.specs.Prelude.{◌≡◌, IfOk};
 ghost use Rattle.std.specs.Option.{option_copied};
 ghost use Rattle.aud_node.specs.Stream.{position, entry};
-ghost use Rattle.aud_node.specs.AtPosition.{is_recoverable_at, next_position};
+ghost use Rattle.aud_node.specs.AtPosition.{is_recoverable_at};
+ghost use Rattle.aud_node.specs.Private.NextPosition.{next_position};
 ghost use Rattle.aud_node.specs.Addressees.{positions_to_all, positions_to_room};
 
 use crate::addressees::Addressees;
@@ -28,11 +29,11 @@ impl<'a> Model for Stream<'a> {
 
     ghost Value = { List StreamRec };
 
-    ghost use Rattle.aud_node.specs.StreamIndices.{IsIndexed};
+    ghost use Rattle.aud_node.specs.Private.StreamIndex.{HoldsStream};
 
     ghost view = { λ s. s.entries.now };
 
-    ghost invariant = { IsIndexed };
+    ghost invariant = { HoldsStream };
 }
 
 impl<'a> Stream<'a> {

@@ -2,8 +2,8 @@
 ghost use Rattle.std.specs.Prelude.{◌≡◌, ◌<◌, ◌+◌, IfOk, OnOk, ℕ, Some, if◌then◌else◌, ◌&&◌, nat_eq};
 ghost use Rattle.std.specs.Str.{bytes_eq};
 ghost use Rattle.aud_node.specs.Stream.{Text};
-ghost use Rattle.aud_node.specs.TurnRecords.{begins_turn, is_begin, is_end};
-ghost use Rattle.aud_node.specs.Turns.{kept_span, kept_end, HoldsTurns};
+ghost use Rattle.aud_node.specs.TurnRecords.{begins_turn, begins_any_turn, ends_any_turn};
+ghost use Rattle.aud_node.specs.Private.TurnIndex.{kept_range, kept_end, HoldsTurns};
 
 use aud_tap::NodeRec;
 use std::alloc::{AllocError, Global};
@@ -11,7 +11,7 @@ use std::collections::BTreeMap;
 
 /// Consecutive records by their numbers: `to` is not included.
 #[derive(Clone, Copy)]
-pub struct Span {
+pub struct TurnRange {
     pub from: usize,
     pub to: usize,
 }
@@ -22,7 +22,7 @@ pub struct Turns<'a> {
     alloc: Global,
     /// Of each pid, where a turn ends that is going on before the records seen so far.
     ends: BTreeMap<&'a str, usize>,
-    spans: BTreeMap<&'a str, BTreeMap<u16, Span>>,
+    spans: BTreeMap<&'a str, BTreeMap<u16, TurnRange>>,
 }
 
 impl<'a> Turns<'a> {
@@ -42,8 +42,8 @@ impl<'a> Turns<'a> {
     }
 
     /// The records of the pid's turn with this number.
-    pub fn get(&self, pid: &str, turn: u16) -> Option<Span>
-        ensures { result ≡ kept_span self.now pid.now turn }
+    pub fn get(&self, pid: &str, turn: u16) -> Option<TurnRange>
+        ensures { result ≡ kept_range self.now pid.now turn }
     {
         match self.spans.get(pid) {
             Some(spans) => spans.get(&turn).copied(),
@@ -54,8 +54,8 @@ impl<'a> Turns<'a> {
     /// One record more, which stands before those seen so far of a log with `len` records.
     fn put(&mut self, len: usize, number: usize, rec: &'a NodeRec) -> Result<(), AllocError>
         requires { number < len }
-        ensures spans { OnOk result ((q : Text) (k : ℕ) → kept_span self.new q k ≡ (if begins_turn q k rec.now then Some (record { from = number; to = kept_end self.old q len }) else kept_span self.old q k)) }
-        ensures ends { OnOk result ((q : Text) → kept_end self.new q len ≡ (if is_begin q rec.now then number else if is_end q rec.now then number + 1 else kept_end self.old q len)) }
+        ensures spans { OnOk result ((q : Text) (k : ℕ) → kept_range self.new q k ≡ (if begins_turn q k rec.now then Some (record { from = number; to = kept_end self.old q len }) else kept_range self.old q k)) }
+        ensures ends { OnOk result ((q : Text) → kept_end self.new q len ≡ (if begins_any_turn q rec.now then number else if ends_any_turn q rec.now then number + 1 else kept_end self.old q len)) }
     {
         match rec {
             NodeRec::Opened { pid, .. } => self.begin(len, pid.as_str(), 0, number),
@@ -75,20 +75,20 @@ impl<'a> Turns<'a> {
         turn: u16,
         number: usize,
     ) -> Result<(), AllocError>
-        ensures spans { OnOk result ((q : Text) (k : ℕ) → kept_span self.new q k ≡ (if bytes_eq pid.now q && nat_eq turn k then Some (record { from = number; to = kept_end self.old pid.now len }) else kept_span self.old q k)) }
+        ensures spans { OnOk result ((q : Text) (k : ℕ) → kept_range self.new q k ≡ (if bytes_eq pid.now q && nat_eq turn k then Some (record { from = number; to = kept_end self.old pid.now len }) else kept_range self.old q k)) }
         ensures ends { OnOk result ((q : Text) → kept_end self.new q len ≡ (if bytes_eq pid.now q then number else kept_end self.old q len)) }
     {
         let to = match self.ends.get(pid) {
             Some(end) => *end,
             None => len,
         };
-        self.keep(pid, turn, Span { from: number, to })?;
+        self.keep(pid, turn, TurnRange { from: number, to })?;
         self.end(pid, number)
     }
 
     /// The turn with this number is these records, whichever it was before.
-    fn keep(&mut self, pid: &'a str, turn: u16, span: Span) -> Result<(), AllocError>
-        ensures spans { OnOk result ((q : Text) (k : ℕ) → kept_span self.new q k ≡ (if bytes_eq pid.now q && nat_eq turn k then Some span else kept_span self.old q k)) }
+    fn keep(&mut self, pid: &'a str, turn: u16, span: TurnRange) -> Result<(), AllocError>
+        ensures spans { OnOk result ((q : Text) (k : ℕ) → kept_range self.new q k ≡ (if bytes_eq pid.now q && nat_eq turn k then Some span else kept_range self.old q k)) }
         ensures ends { (q : Text) (len : ℕ) → kept_end self.new q len ≡ kept_end self.old q len }
     {
         self.spans.entry(pid)?.or_default().insert(turn, span)?;
@@ -97,7 +97,7 @@ impl<'a> Turns<'a> {
 
     /// A turn of the pid that is going on ends before the record with this number.
     fn end(&mut self, pid: &'a str, number: usize) -> Result<(), AllocError>
-        ensures spans { (q : Text) (k : ℕ) → kept_span self.new q k ≡ kept_span self.old q k }
+        ensures spans { (q : Text) (k : ℕ) → kept_range self.new q k ≡ kept_range self.old q k }
         ensures ends { OnOk result ((q : Text) (len : ℕ) → kept_end self.new q len ≡ (if bytes_eq pid.now q then number else kept_end self.old q len)) }
     {
         self.ends.insert(pid, number)?;

@@ -39,33 +39,33 @@ abbrev pub workers_joined : List ℕ → Option ℕ
 workers_joined word = if starts_with nat_eq word (codes "--workers=") then workers_named (drop 10 word) else None
 
 -- whether nothing more is asked for: no word is left, or only --, after which no word is an option
-abbrev pub is_end : Words → Bool
-is_end [] = true
-is_end (word ∷ []) = bytes_eq word.now (codes "--")
-is_end (word ∷ next ∷ words) = false
+abbrev pub is_end_of_words : Words → Bool
+is_end_of_words [] = true
+is_end_of_words (word ∷ []) = bytes_eq word.now (codes "--")
+is_end_of_words (word ∷ next ∷ words) = false
 
 -- the workers of an option and of the number, which is the next word
 abbrev pub workers_apart : List ℕ → Words → Option ℕ
 workers_apart option [] = None
 workers_apart option (number ∷ rest) =
-    if bytes_eq option (codes "--workers") && is_end rest then workers_named number.now else None
+    if bytes_eq option (codes "--workers") && is_end_of_words rest then workers_named number.now else None
 
 -- the workers that the words after `audit` give
 abbrev pub workers_given : Words → Option ℕ
 workers_given [] = None
-workers_given (word ∷ rest) = if is_end rest then workers_joined word.now else workers_apart word.now rest
+workers_given (word ∷ rest) = if is_end_of_words rest then workers_joined word.now else workers_apart word.now rest
 
 -- the workers that the words after a mode's name ask for: 4 where they give none, and only audit is given others
 abbrev pub workers_asked : Mode → Words → Option ℕ
-workers_asked Audit words = if is_end words then Some 4 else workers_given words
-workers_asked Prove words = if is_end words then Some 4 else None
-workers_asked Verify words = if is_end words then Some 4 else None
+workers_asked Audit words = if is_end_of_words words then Some 4 else workers_given words
+workers_asked Prove words = if is_end_of_words words then Some 4 else None
+workers_asked Verify words = if is_end_of_words words then Some 4 else None
 
 -- the options that the words after the name of this mode ask for
-abbrev pub asked_of : Words → Mode → Option Options
-asked_of words mode = option_map (λ workers. record { mode = mode; workers = workers }) (workers_asked mode words)
+abbrev pub options_asked : Words → Mode → Option Options
+options_asked words mode = option_map (λ workers. record { mode = mode; workers = workers }) (workers_asked mode words)
 
 -- what the words ask for, where they are understood
 abbrev pub asked : Words → Option Options
 asked [] = None
-asked (name ∷ words) = option_and_then (asked_of words) (mode_named name.now)
+asked (name ∷ words) = option_and_then (options_asked words) (mode_named name.now)

@@ -1,7 +1,7 @@
 //! The words of the command line: [`options`] reads them, and the parser has the help and the
 //! errors.
 ghost use Rattle.std.specs.Prelude.{◌≡◌, ◌≤◌, None, Some, IfErr, IfOk, IfSome};
-ghost use Rattle.aud_options.specs.Words.{asked, is_end, mode_named, mode_of, workers_asked, workers_given, workers_joined, workers_named};
+ghost use Rattle.aud_options.specs.Words.{asked, is_end_of_words, mode_named, mode_of, workers_asked, workers_given, workers_joined, workers_named};
 
 use crate::choice::{Mode, Options};
 use clap::error::ErrorKind;
@@ -114,7 +114,7 @@ fn workers_joined(word: &str) -> Option<u8>
 /// Whether nothing more is asked for: no word is left, or only `--`, after which no word is an
 /// option.
 fn is_end(words: &[&str]) -> bool
-    ensures { result ≡ is_end words.now }
+    ensures { result ≡ is_end_of_words words.now }
 {
     match words {
         [] => true,

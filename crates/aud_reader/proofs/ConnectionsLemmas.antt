@@ -1,10 +1,11 @@
--- The connection behind one more record of a client tap.
+-- The connection after one more record of a client tap.
 use Rattle.std.proofs.Common.{◌≡◌, ℕ, List, [], ◌∷◌, ◌++◌, Bool, true, false, Option, Some, None, unwrap_or, refl, append-nil}
 use Rattle.std.specs.List.{filter_map, last_or}
 use Rattle.std.proofs.lemmas.List.Elements.{filter_map-append}
 use Rattle.aud_tap.specs.declared.records.ClientRec.{ClientRec}
 use Rattle.aud_tap.specs.declared.records.ClientRec.TheVariants.{Conn, TextIn, BytesIn, Poll, TextOut, Lost}
-use Rattle.aud_reader.specs.Connections.{begins, opens, Connected}
+use Rattle.aud_reader.specs.Connections.{connection_begun, opens}
+use Rattle.aud_reader.specs.Private.Connected.{Connected}
 
 -- the last of two
 abbrev pub later : {A : Type 0} → Option A → Option A → Option A
@@ -23,10 +24,10 @@ last-more says recs rec (Some x) e = rw (filter_map-append says recs (rec ∷ []
 
 -- one more record
 pub connected-more : (recs : List ClientRec) (rec : ClientRec) (last : Option ℕ) (is_open : Bool) → Connected recs last is_open
-    → Connected (recs ++ rec ∷ []) (later last (begins rec)) (unwrap_or (opens rec) is_open)
+    → Connected (recs ++ rec ∷ []) (later last (connection_begun rec)) (unwrap_or (opens rec) is_open)
 connected-more recs rec last is_open old =
     record {
-      number = rw (last-more begins recs rec (begins rec) refl, ← old.number) refl;
+      number = rw (last-more connection_begun recs rec (connection_begun rec) refl, ← old.number) refl;
       state = rw (last-more opens recs rec (opens rec) refl, old.state) (unwrap_or-later (last_or None (filter_map opens recs)) (opens rec));
     }
   where

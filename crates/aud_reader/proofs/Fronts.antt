@@ -1,7 +1,8 @@
 -- The front of a list of lines.
 use Rattle.std.proofs.Common.{ℕ, List, [], ◌∷◌, ◌++◌, Ok, Err, refl, sym, append_assoc, append-nil}
 use Rattle.aud_reader.specs.declared.line.Line.{Line}
-use Rattle.aud_reader.specs.Lines.{Split, IsFront, line_at, line_ended, with_line}
+use Rattle.aud_reader.specs.Lines.{Split, IsFront, line_at}
+use Rattle.aud_reader.specs.Private.SplitterSteps.{line_ended, splitter_with_line}
 
 pub front-same : (ls : List Line) → IsFront ls ls
 front-same ls = record { rest = []; is = sym (append-nil ls) }
@@ -14,7 +15,7 @@ front-after given front lines first = record { rest = first.rest; is = rw first.
 
 -- a line that ends leaves those that wait
 pub front-line_ended : (s : Split) (front : List ℕ) → IsFront s.waiting (line_ended s front).waiting
-front-line_ended s front = elim (line_at s.number (s.rest ++ front)) as (λ r. IsFront s.waiting (with_line s r).waiting) [
+front-line_ended s front = elim (line_at s.number (s.rest ++ front)) as (λ r. IsFront s.waiting (splitter_with_line s r).waiting) [
   | Ok line ↦ record { rest = line ∷ []; is = refl }
   | Err fault ↦ front-same s.waiting
 ]

@@ -21,11 +21,12 @@ use Rattle.aud_tap.specs.declared.taps.Tap.{Tap}
 use Rattle.aud_reader.specs.Steps.{◌>>=◌, Fails}
 use Rattle.aud_tap.specs.Forms.{is_text}
 use Rattle.aud_reader.specs.Header.{header_of}
-use Rattle.aud_reader.specs.Record.{opened_line, kind_of}
-use Rattle.aud_reader.specs.Bundle.{with_record, tap_named, with_records, kind_of_tap, taps_on, same_kind, pids_in, pids_of, no_records, another_tap, with_header, with_later, with_kind, with_named, with_line}
-use Rattle.aud_reader.specs.Kept.{place_of, taps_so_far, Counted, Keeps}
-use Rattle.aud_reader.specs.Changes.{Becomes}
-use Rattle.aud_reader.specs.Texts.{HasPids}
+use Rattle.aud_reader.specs.Record.{opened_line, kind_named}
+use Rattle.aud_reader.specs.Bundle.{with_tap_record, tap_named, with_records, kind_of_tap, taps_on, same_kind, pids_in, pids_of, no_records, another_tap, with_header, with_later, with_kind, with_named, with_line}
+use Rattle.aud_reader.specs.Private.Kept.{place_of, Counted, KeepsTaps}
+use Rattle.aud_reader.specs.SoFar.{taps_so_far}
+use Rattle.aud_reader.specs.Private.Changes.{Becomes}
+use Rattle.aud_reader.specs.Private.Texts.{HasPids}
 use Rattle.aud_reader.specs.declared.bundle.open_taps.OpenTaps.{OpenTaps}
 use Rattle.std.specs.Result.{OnOk}
 use Rattle.aud_reader.proofs.LineSteps.{one_more}
@@ -125,11 +126,11 @@ around (u ∷ us) (suc i) t short at =
 -- ---- a later line of a tap
 
 -- one more record leaves the kind of a tap
-kind-stays : (pids : List (List ℕ)) (old new : Records) (word : List ℕ) (d : Data) → with_record pids old word d ≡ Ok new → kind_of_tap new ≡ kind_of_tap old
+kind-stays : (pids : List (List ℕ)) (old new : Records) (word : List ℕ) (d : Data) → with_tap_record pids old word d ≡ Ok new → kind_of_tap new ≡ kind_of_tap old
 kind-stays pids old new word d e = (one_more pids old new word d e).same
 
 with_later-goes : (ts : List Tap) (name : List ℕ) (records : Records) (word : List ℕ) (d : Data) → is_text word (codes "tap") ≡ false
-    → with_later ts name records word d ≡ (with_record (pids_of ts) records word d >>= (λ more. Ok (with_records name more ts)))
+    → with_later ts name records word d ≡ (with_tap_record (pids_of ts) records word d >>= (λ more. Ok (with_records name more ts)))
 unfolding with_later
 with_later-goes ts name records word d e = rw e refl
 
@@ -157,18 +158,18 @@ becomes-then (Err fault.Memory) x y reading f e is = tt
 becomes-then (Err (fault.Code code)) x y reading f e is = rw is refl
 
 pub go_on-taps : (ts : List Tap) (i : ℕ) (t t' : Tap) (name word : List ℕ) (d : Data) (r : Result (Unit {0}) LineFault) → place_of name ts ≡ Some i → get_or ts i t ≡ t → is_text word (codes "tap") ≡ false
-    → t'.name ≡ t.name → Becomes r t'.records (with_record (pids_of ts) t.records word d) → Becomes r (set ts i t') (with_named ts name word d)
+    → t'.name ≡ t.name → Becomes r t'.records (with_tap_record (pids_of ts) t.records word d) → Becomes r (set ts i t') (with_named ts name word d)
 go_on-taps ts i t t' name word d r place at e same is =
     let named : List ℕ → Tap = λ n. record { name = n; records = t'.records } in
     let renamed : record t { records = t'.records } ≡ t' = ap named (sym same) in
     rw (named-later ts i t name word d place at, with_later-goes ts name t.records word d e)
-    (becomes-then r t'.records (set ts i t') (with_record (pids_of ts) t.records word d) (λ more. Ok (with_records name more ts))
+    (becomes-then r t'.records (set ts i t') (with_tap_record (pids_of ts) t.records word d) (λ more. Ok (with_records name more ts))
     (ap Ok (with_records-at name t'.records ts i t place at ∙ ap (set ts i) renamed)) is)
 
 pub go_on-keeps : (s s' : OpenTaps) (i : ℕ) (t t' : Tap) (word : List ℕ) (d : Data) (r : Result (Unit {0}) LineFault) → taps_so_far s' ≡ set (taps_so_far s) i t' → s'.places ≡ s.places → s'.counts ≡ s.counts
-    → Keeps s → (short : i < length (taps_so_far s)) → (at : get_or (taps_so_far s) i t ≡ t) → t'.name ≡ t.name → Becomes r t'.records (with_record (pids_of (taps_so_far s)) t.records word d)
+    → KeepsTaps s → (short : i < length (taps_so_far s)) → (at : get_or (taps_so_far s) i t ≡ t) → t'.name ≡ t.name → Becomes r t'.records (with_tap_record (pids_of (taps_so_far s)) t.records word d)
     → OnOk r (HasPids s'.pids ((around (taps_so_far s) i t short at).before ++ pids_in t'.records ++ (around (taps_so_far s) i t short at).after))
-    → OnOk r (Keeps s')
+    → OnOk r (KeepsTaps s')
 go_on-keeps s s' i t t' word d (Err e) taps places counts keeps short at same is pids = tt
 go_on-keeps s s' i t t' word d (Ok u) taps places counts keeps short at same is pids =
     let ts = taps_so_far s in
@@ -185,17 +186,17 @@ go_on-keeps s s' i t t' word d (Ok u) taps places counts keeps short at same is 
 
 -- ---- a new tap
 
-abbrev or_behind : Option ℕ → Bool → ℕ → Option ℕ
-or_behind (Some i) b n = Some i
-or_behind None b n = cond b (Some n) None
+abbrev or_after : Option ℕ → Bool → ℕ → Option ℕ
+or_after (Some i) b n = Some i
+or_after None b n = cond b (Some n) None
 
-place_of-push : (text : List ℕ) (ts : List Tap) (t : Tap) → place_of text (ts ++ t ∷ []) ≡ or_behind (place_of text ts) (is_text text t.name) (length ts)
+place_of-push : (text : List ℕ) (ts : List Tap) (t : Tap) → place_of text (ts ++ t ∷ []) ≡ or_after (place_of text ts) (is_text text t.name) (length ts)
 place_of-push text [] t = refl
 place_of-push text (u ∷ us) t =
     ap (λ o. cond (is_text text u.name) (Some 0) (option_map suc o)) (place_of-push text us t)
     ∙ step (is_text text u.name) (place_of text us) (is_text text t.name) (length us)
   where
-    step : (b : Bool) (o : Option ℕ) (last : Bool) (n : ℕ) → cond b (Some 0) (option_map suc (or_behind o last n)) ≡ or_behind (cond b (Some 0) (option_map suc o)) last (suc n)
+    step : (b : Bool) (o : Option ℕ) (last : Bool) (n : ℕ) → cond b (Some 0) (option_map suc (or_after o last n)) ≡ or_after (cond b (Some 0) (option_map suc o)) last (suc n)
     step true o last n = refl
     step false (Some i) last n = refl
     step false None true n = refl
@@ -210,11 +211,11 @@ places-put m n ts t key size spells sized updates places first text =
     ∙ rw (spells, sized) (found (is_text text t.name) refl)
     ∙ sym (place_of-push text ts t)
   where
-    other : (o : Option ℕ) → o ≡ or_behind o false (length ts)
+    other : (o : Option ℕ) → o ≡ or_after o false (length ts)
     other (Some i) = refl
     other None = refl
 
-    found : (b : Bool) → is_text text t.name ≡ b → cond (bytes_eq t.name text) (Some (length ts)) (place_of text ts) ≡ or_behind (place_of text ts) (is_text text t.name) (length ts)
+    found : (b : Bool) → is_text text t.name ≡ b → cond (bytes_eq t.name text) (Some (length ts)) (place_of text ts) ≡ or_after (place_of text ts) (is_text text t.name) (length ts)
     found true e =
         let same : text ≡ t.name = (bytes_eq-Decides text t.name).0 e in
         let none : place_of text ts ≡ None = rw same first in
@@ -235,11 +236,11 @@ pids-empty kind.Stream = refl
 pids-empty kind.Node = refl
 pids-empty kind.Client = refl
 
-pub begin-keeps : (s s' : OpenTaps) (name : List ℕ) (of : TapKind) (r : Result (Unit {0}) LineFault) → Keeps s → s'.pids ≡ s.pids
+pub begin-keeps : (s s' : OpenTaps) (name : List ℕ) (of : TapKind) (r : Result (Unit {0}) LineFault) → KeepsTaps s → s'.pids ≡ s.pids
     → Becomes r (taps_so_far s') (Ok (taps_so_far s ++ record { name = name; records = no_records of } ∷ []))
     → OnOk r ((text : List ℕ) → get_by_text s'.places text ≡ place_of text (taps_so_far s'))
     → Counted s'.counts (taps_so_far s ++ record { name = name; records = no_records of } ∷ [])
-    → OnOk r (Keeps s')
+    → OnOk r (KeepsTaps s')
 begin-keeps s s' name of (Err e) keeps same is places counts = tt
 begin-keeps s s' name of (Ok u) keeps same is places counts =
     let ts = taps_so_far s in
@@ -257,6 +258,6 @@ pub not-is : (b r : Bool) → r ≡ not b → r ≡ false → b ≡ true
 not-is true r e f = refl
 not-is false r e f = cc
 
-pub with_line-goes : (ts : List Tap) (line name word : List ℕ) (d : Data) → opened_line line ≡ Ok (name, d) → kind_of d ≡ Ok word → with_line ts line ≡ with_named ts name word d
+pub with_line-goes : (ts : List Tap) (line name word : List ℕ) (d : Data) → opened_line line ≡ Ok (name, d) → kind_named d ≡ Ok word → with_line ts line ≡ with_named ts name word d
 unfolding with_line
 with_line-goes ts line name word d opened kind = rw (opened, kind) refl

@@ -24,8 +24,8 @@ use Rattle.aud_reader.specs.Header.{header_of}
 use Rattle.aud_reader.specs.StreamRecord.{stream_record_of}
 use Rattle.aud_reader.specs.NodeRecord.{node_record_of}
 use Rattle.aud_reader.specs.ClientRecord.{client_record_of}
-use Rattle.aud_reader.specs.Record.{opened_line, kind_of, tap_of_kind, record_in, record_of, value_record, line_record}
-use Rattle.aud_reader.specs.Bundle.{offset_of, max_entries, max_records, pid_of, node_room, with_new_offset, with_entry, with_node_record, with_client_record, with_record, tap_named, with_records, kind_of_tap, pids_of, another_tap, no_records, with_header, with_later, with_kind, with_line, at_line, passing_empty, taps_after, then_on, taps_from, taps_of, Reading, taps_to_come}
+use Rattle.aud_reader.specs.Record.{opened_line, kind_named, tap_of_kind, record_in, record_of, value_record, line_record}
+use Rattle.aud_reader.specs.Bundle.{offset_of, max_entries, max_records, pid_of, node_room, with_new_offset, with_entry, with_node_record, with_client_record, with_tap_record, tap_named, with_records, kind_of_tap, pids_of, another_tap, no_records, with_header, with_later, with_kind, with_line, at_line, passing_empty, taps_after, then_on, taps_from, taps_of, Reading, taps_to_come}
 use Rattle.aud_reader.specs.Connections.{may_follow}
 use Rattle.aud_reader.specs.OwnLines.{recs_in}
 
@@ -134,7 +134,7 @@ put_client records new kind d e =
 read_in : (of : TapKind) (kind : List ℕ) (d : Data) (r : Rec) → tap_of_kind kind ≡ Some of → record_in of kind d ≡ Ok r → (need UnknownKind (tap_of_kind kind) >>= (λ of. record_in of kind d)) ≡ Ok r
 read_in of kind d r known read = rw known read
 
-pub one_more : (pids : List (List ℕ)) (old new : Records) (kind : List ℕ) (d : Data) → with_record pids old kind d ≡ Ok new → OneMore old kind d new
+pub one_more : (pids : List (List ℕ)) (old new : Records) (kind : List ℕ) (d : Data) → with_tap_record pids old kind d ≡ Ok new → OneMore old kind d new
 unfolding record_in
 one_more pids (Stream entries) new kind d e =
     let more = steps (with_entry entries kind d) _ new e in
@@ -186,22 +186,22 @@ pub record Adds (ts : List Tap) (line : List ℕ) (more : List Tap) : Type 0 whe
   pub kind : List ℕ
   pub d : Data
   pub is_found : tap_named name ts ≡ Some found
-  pub added : with_record (pids_of ts) found.records kind d ≡ Ok records
+  pub added : with_tap_record (pids_of ts) found.records kind d ≡ Ok records
   pub grown : OneMore found.records kind d records
   pub reads : line_record line ≡ Ok (name, grown.rec)
   pub is : more ≡ with_records name records ts
 
-header_reads : (line name kind : List ℕ) (d : Data) (of : TapKind) → opened_line line ≡ Ok (name, d) → kind_of d ≡ Ok kind → is_text kind (codes "tap") ≡ true → header_of d ≡ Ok of
+header_reads : (line name kind : List ℕ) (d : Data) (of : TapKind) → opened_line line ≡ Ok (name, d) → kind_named d ≡ Ok kind → is_text kind (codes "tap") ≡ true → header_of d ≡ Ok of
     → line_record line ≡ Ok (name, rec.Header of 1)
 unfolding line_record value_record record_of
 header_reads line name kind d of opened word tap header = rw (opened, word, tap, header) refl
 
-later_reads : (line name kind : List ℕ) (d : Data) (r : Rec) → opened_line line ≡ Ok (name, d) → kind_of d ≡ Ok kind → is_text kind (codes "tap") ≡ false
+later_reads : (line name kind : List ℕ) (d : Data) (r : Rec) → opened_line line ≡ Ok (name, d) → kind_named d ≡ Ok kind → is_text kind (codes "tap") ≡ false
     → (need UnknownKind (tap_of_kind kind) >>= (λ of. record_in of kind d)) ≡ Ok r → line_record line ≡ Ok (name, r)
 unfolding line_record value_record record_of
 later_reads line name kind d r opened word later read = rw (opened, word, later, read) refl
 
-begins : (ts more : List Tap) (line name kind : List ℕ) (d : Data) → opened_line line ≡ Ok (name, d) → kind_of d ≡ Ok kind → tap_named name ts ≡ None → with_header ts name kind d ≡ Ok more → Begins ts line more
+begins : (ts more : List Tap) (line name kind : List ℕ) (d : Data) → opened_line line ≡ Ok (name, d) → kind_named d ≡ Ok kind → tap_named name ts ≡ None → with_header ts name kind d ≡ Ok more → Begins ts line more
 unfolding with_header
 begins ts more line name kind d opened word new e =
     let header = steps (guard NoHeader (is_text kind (codes "tap"))) _ more e in
@@ -217,11 +217,11 @@ begins ts more line name kind d opened word new e =
       is = cc;
     }
 
-adds : (ts more : List Tap) (line name kind : List ℕ) (d : Data) (t : Tap) → opened_line line ≡ Ok (name, d) → kind_of d ≡ Ok kind → tap_named name ts ≡ Some t → with_later ts name t.records kind d ≡ Ok more → Adds ts line more
+adds : (ts more : List Tap) (line name kind : List ℕ) (d : Data) (t : Tap) → opened_line line ≡ Ok (name, d) → kind_named d ≡ Ok kind → tap_named name ts ≡ Some t → with_later ts name t.records kind d ≡ Ok more → Adds ts line more
 unfolding with_later
 adds ts more line name kind d t opened word found e =
     let later = steps (guard HeaderTwice (not (is_text kind (codes "tap")))) _ more e in
-    let added = steps (with_record (pids_of ts) t.records kind d) _ more later.next in
+    let added = steps (with_tap_record (pids_of ts) t.records kind d) _ more later.next in
     let no_header = guarded-not HeaderTwice (is_text kind (codes "tap")) later.value later.first in
     let grown = one_more (pids_of ts) t.records added.value kind d added.first in
     record {
@@ -237,7 +237,7 @@ adds ts more line name kind d t opened word found e =
       is = cc;
     }
 
-begins_or_adds : (ts more : List Tap) (line name kind : List ℕ) (d : Data) (found : Option Tap) → opened_line line ≡ Ok (name, d) → kind_of d ≡ Ok kind → tap_named name ts ≡ found
+begins_or_adds : (ts more : List Tap) (line name kind : List ℕ) (d : Data) (found : Option Tap) → opened_line line ≡ Ok (name, d) → kind_named d ≡ Ok kind → tap_named name ts ≡ found
     → with_kind ts name found kind d ≡ Ok more → Begins ts line more ⊎ Adds ts line more
 begins_or_adds ts more line name kind d None opened word is e = inl (begins ts more line name kind d opened word is e)
 begins_or_adds ts more line name kind d (Some t) opened word is e = inr (adds ts more line name kind d t opened word is e)
@@ -246,7 +246,7 @@ pub line_step : (ts more : List Tap) (line : List ℕ) → with_line ts line ≡
 unfolding with_line
 line_step ts more line e =
     let opened = steps (opened_line line) _ more e in
-    let word = steps (kind_of opened.value.1) _ more opened.next in
+    let word = steps (kind_named opened.value.1) _ more opened.next in
     begins_or_adds ts more line opened.value.0 word.value opened.value.1 (tap_named opened.value.0 ts) opened.first word.first refl word.next
 
 -- ---- the lines

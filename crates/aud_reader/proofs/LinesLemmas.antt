@@ -10,7 +10,8 @@ use Rattle.aud_reader.specs.declared.line.Line.{Line}
 use Rattle.aud_reader.specs.declared.fault.ReadFault.{ReadFault}
 use Rattle.aud_reader.specs.declared.fault.ReadFault.TheVariants.{Input}
 use Rattle.aud_reader.specs.declared.fault.InputCode.TheVariants.{LineTooLong}
-use Rattle.aud_reader.specs.Lines.{Split, IsPartial, pieces_of, onto_first, without_return, is_too_long, numbered, lines_to_come, line_ended, line_begun, line_at, with_line, result_of, after_lines, has_newline}
+use Rattle.aud_reader.specs.Lines.{Split, IsPartial, line_pieces, onto_first, without_return, is_too_long, lines_from, lines_to_come, line_at, result_of, after_lines, has_newline}
+use Rattle.aud_reader.specs.Private.SplitterSteps.{line_ended, line_begun, splitter_with_line}
 
 decide : (b : Bool) → (b ≡ true) ⊎ (b ≡ false)
 decide true = inl refl
@@ -33,10 +34,10 @@ pub has_newline-append : (a b : List ℕ) → has_newline a ≡ false → has_ne
 has_newline-append a b p q = rw (list_any-append (λ x. x == 10) a b, p) q
 
 -- a newline ends the line that has begun
-pub pieces_of-line : (front more : List ℕ) → has_newline front ≡ false → pieces_of (front ++ 10 ∷ more) ≡ front ∷ pieces_of more
+pub pieces_of-line : (front more : List ℕ) → has_newline front ≡ false → line_pieces (front ++ 10 ∷ more) ≡ front ∷ line_pieces more
 pieces_of-line [] more p = refl
 pieces_of-line (x ∷ front) more p =
-    elim (x == 10) as (λ t. (t || has_newline front) ≡ false → cond t ([] ∷ pieces_of (front ++ 10 ∷ more)) (onto_first x (pieces_of (front ++ 10 ∷ more))) ≡ (x ∷ front) ∷ pieces_of more) [
+    elim (x == 10) as (λ t. (t || has_newline front) ≡ false → cond t ([] ∷ line_pieces (front ++ 10 ∷ more)) (onto_first x (line_pieces (front ++ 10 ∷ more))) ≡ (x ∷ front) ∷ line_pieces more) [
       | true ↦ λ h. cc
       | false ↦ λ h. ap (onto_first x) (pieces_of-line front more h)
     ] p
@@ -52,26 +53,26 @@ begins-onto_first x [] = record { tail = []; others = []; is = refl }
 begins-onto_first x (l ∷ ls) = record { tail = l; others = ls; is = refl }
 
 -- bytes with no newline are the front of the first piece
-pub pieces_of-first : (x : ℕ) (front more : List ℕ) → has_newline (x ∷ front) ≡ false → BeginsWith (x ∷ front) (pieces_of (x ∷ front ++ more))
+pub pieces_of-first : (x : ℕ) (front more : List ℕ) → has_newline (x ∷ front) ≡ false → BeginsWith (x ∷ front) (line_pieces (x ∷ front ++ more))
 pieces_of-first x [] more p =
-    elim (x == 10) as (λ t. (t || false) ≡ false → BeginsWith (x ∷ []) (cond t ([] ∷ pieces_of more) (onto_first x (pieces_of more)))) [
+    elim (x == 10) as (λ t. (t || false) ≡ false → BeginsWith (x ∷ []) (cond t ([] ∷ line_pieces more) (onto_first x (line_pieces more)))) [
       | true ↦ λ h. absurd (cc)
-      | false ↦ λ h. begins-onto_first x (pieces_of more)
+      | false ↦ λ h. begins-onto_first x (line_pieces more)
     ] p
 pieces_of-first x (y ∷ front) more p =
     elim (x == 10) as (λ t. (t || has_newline (y ∷ front)) ≡ false
-    → BeginsWith (x ∷ y ∷ front) (cond t ([] ∷ pieces_of (y ∷ front ++ more)) (onto_first x (pieces_of (y ∷ front ++ more))))) [
+    → BeginsWith (x ∷ y ∷ front) (cond t ([] ∷ line_pieces (y ∷ front ++ more)) (onto_first x (line_pieces (y ∷ front ++ more))))) [
       | true ↦ λ h. absurd (cc)
       | false ↦ λ h. let rest = pieces_of-first y front more h in record { tail = rest.tail; others = rest.others; is = ap (onto_first x) rest.is }
     ] p
 
 -- what follows the last newline is one piece
-pub pieces_of-last : (rest : List ℕ) → has_newline rest ≡ false → 0 < length rest → pieces_of rest ≡ rest ∷ []
+pub pieces_of-last : (rest : List ℕ) → has_newline rest ≡ false → 0 < length rest → line_pieces rest ≡ rest ∷ []
 pieces_of-last [] p q = absurd (omega arith)
 pieces_of-last (x ∷ []) p q =
     elim (x == 10) as (λ t. (t || false) ≡ false → cond t ([] ∷ []) (onto_first x []) ≡ (x ∷ []) ∷ []) [ true ↦ λ h. cc | false ↦ λ h. refl ] p
 pieces_of-last (x ∷ y ∷ rest) p q =
-    elim (x == 10) as (λ t. (t || has_newline (y ∷ rest)) ≡ false → cond t ([] ∷ pieces_of (y ∷ rest)) (onto_first x (pieces_of (y ∷ rest))) ≡ (x ∷ y ∷ rest) ∷ []) [
+    elim (x == 10) as (λ t. (t || has_newline (y ∷ rest)) ≡ false → cond t ([] ∷ line_pieces (y ∷ rest)) (onto_first x (line_pieces (y ∷ rest))) ≡ (x ∷ y ∷ rest) ∷ []) [
       | true ↦ λ h. cc
       | false ↦ λ h. ap (onto_first x) (pieces_of-last (y ∷ rest) h (omega arith))
     ] p
@@ -96,15 +97,15 @@ is_too_long-append l (x ∷ more) p =
     let e = length-append l (x ∷ more) in
     lt-ltb _ _ (omega arith)
 
-numbered-long : (n : ℕ) (l : List ℕ) (ls : List (List ℕ)) → is_too_long l ≡ true → numbered n (l ∷ ls) ≡ record { lines = []; fault = Some (Input n LineTooLong) }
+numbered-long : (n : ℕ) (l : List ℕ) (ls : List (List ℕ)) → is_too_long l ≡ true → lines_from n (l ∷ ls) ≡ record { lines = []; fault = Some (Input n LineTooLong) }
 numbered-long n l ls p = rw p refl
 
 numbered-short : (n : ℕ) (l : List ℕ) (ls : List (List ℕ)) → is_too_long l ≡ false
-    → numbered n (l ∷ ls) ≡ after_lines (record { number = n; bytes = without_return l } ∷ []) (numbered (n + 1) ls)
+    → lines_from n (l ∷ ls) ≡ after_lines (record { number = n; bytes = without_return l } ∷ []) (lines_from (n + 1) ls)
 numbered-short n l ls p = rw p refl
 
-pieces_of-ended : (rest front more : List ℕ) → has_newline rest ≡ false → has_newline front ≡ false → pieces_of (rest ++ (front ++ 10 ∷ more)) ≡ (rest ++ front) ∷ pieces_of more
-pieces_of-ended rest front more p q = ap pieces_of (sym (append_assoc rest front (10 ∷ more))) ∙ pieces_of-line (rest ++ front) more (has_newline-append rest front p q)
+pieces_of-ended : (rest front more : List ℕ) → has_newline rest ≡ false → has_newline front ≡ false → line_pieces (rest ++ (front ++ 10 ∷ more)) ≡ (rest ++ front) ∷ line_pieces more
+pieces_of-ended rest front more p q = ap line_pieces (sym (append_assoc rest front (10 ∷ more))) ∙ pieces_of-line (rest ++ front) more (has_newline-append rest front p q)
 
 -- a line that ends
 to_come-line_ended : (s : Split) (front more : List ℕ) → s.fault ≡ None → has_newline s.rest ≡ false → has_newline front ≡ false
@@ -112,8 +113,8 @@ to_come-line_ended : (s : Split) (front more : List ℕ) → s.fault ≡ None �
 to_come-line_ended s front more none whole front_whole =
     let ended = pieces_of-ended s.rest front more whole front_whole in
     elim (decide (is_too_long (s.rest ++ front))) [
-      | inl long ↦ rw (none, ended, numbered-long s.number (s.rest ++ front) (pieces_of more) long, long, append-nil) refl
-      | inr short ↦ rw (none, ended, numbered-short s.number (s.rest ++ front) (pieces_of more) short, short, append_assoc) refl
+      | inl long ↦ rw (none, ended, numbered-long s.number (s.rest ++ front) (line_pieces more) long, long, append-nil) refl
+      | inr short ↦ rw (none, ended, numbered-short s.number (s.rest ++ front) (line_pieces more) short, short, append_assoc) refl
     ]
 
 -- the last line, which no newline ends
@@ -128,10 +129,10 @@ to_come-last s none whole some =
 
 -- a line that has begun and is too long is refused, whatever follows
 to_come-long : (s : Split) (more : List ℕ) → has_newline s.rest ≡ false → is_too_long s.rest ≡ true
-    → numbered s.number (pieces_of (s.rest ++ more)) ≡ record { lines = []; fault = Some (Input s.number LineTooLong) }
+    → lines_from s.number (line_pieces (s.rest ++ more)) ≡ record { lines = []; fault = Some (Input s.number LineTooLong) }
 to_come-long s more whole long =
     elim s.rest as (λ rest. has_newline rest ≡ false → is_too_long rest ≡ true
-    → numbered s.number (pieces_of (rest ++ more)) ≡ record { lines = []; fault = Some (Input s.number LineTooLong) }) [
+    → lines_from s.number (line_pieces (rest ++ more)) ≡ record { lines = []; fault = Some (Input s.number LineTooLong) }) [
       | [] ↦ λ h l. absurd (let e : 4194304 < 0 = ltb-true _ _ l in omega arith)
       | x ∷ front ↦ λ h l.
           let first = pieces_of-first x front more h in
@@ -156,7 +157,7 @@ to_come-next s t left front others more none whole front_whole cut ended =
     rw (cut, ended, append_assoc) (to_come-line_ended s front (others ++ more) none whole front_whole)
 
 rest-is : (s : Split) (front : List ℕ) → (line_ended s front).rest ≡ []
-rest-is s front = elim (line_at s.number (s.rest ++ front)) as (λ r. (with_line s r).rest ≡ []) [ Ok line ↦ refl | Err f ↦ refl ]
+rest-is s front = elim (line_at s.number (s.rest ++ front)) as (λ r. (splitter_with_line s r).rest ≡ []) [ Ok line ↦ refl | Err f ↦ refl ]
 
 -- after a line nothing has begun
 pub rest-line_ended : (s : Split) (front : List ℕ) → IsPartial (line_ended s front).rest

@@ -18,14 +18,14 @@ use Rattle.aud_tap.specs.declared.taps.Records.{Records}
 use Rattle.aud_tap.specs.declared.taps.Tap.{Tap}
 use Rattle.aud_tap.specs.Forms.{is_text}
 use Rattle.aud_reader.specs.Bundle.{tap_named, kind_of_tap, with_records, no_records, taps_from, taps_of}
-use Rattle.aud_reader.specs.OwnLines.{record_for, records_for, recs_in, recs_of, recs_named, HaveTheirOwnLines, IsOfOneTap, EachLineIsOfOneTap}
+use Rattle.aud_reader.specs.OwnLines.{record_for, records_for, recs_in, recs_of, recs_by_name, HaveTheirOwnLines, IsOfOneTap, EachLineIsOfOneTap}
 use Rattle.aud_reader.specs.TapLaws.{AreDifferent}
-use Rattle.aud_reader.specs.Sound.{names_of}
+use Rattle.aud_reader.specs.Private.Sound.{names_of}
 use Rattle.aud_reader.proofs.LineSteps.{Begins, Adds, first_of_lines}
 
 -- what a line adds to the records of the tap of this name
 abbrev AddsFor : List ℕ → List Tap → List ℕ → List Tap → Type 0
-AddsFor name ts line more = recs_named name more ≡ recs_named name ts ++ option_to_list (record_for name (record { number = 0; bytes = line }))
+AddsFor name ts line more = recs_by_name name more ≡ recs_by_name name ts ++ option_to_list (record_for name (record { number = 0; bytes = line }))
 
 by_name : {P : Type 0} (name n : List ℕ) → (name ≡ n → P) → (is_text name n ≡ false → P) → P
 by_name {P} name n same other =
@@ -95,7 +95,7 @@ add_first None before after = rw append-nil refl
 add_first (Some r) before after = append_assoc before (r ∷ []) after
 
 line-adds : (name : List ℕ) (ts next : List Tap) (line : Line) → ((line.bytes ≡ []) × (next ≡ ts)) ⊎ (Begins ts line.bytes next ⊎ Adds ts line.bytes next)
-    → recs_named name next ≡ recs_named name ts ++ option_to_list (record_for name line)
+    → recs_by_name name next ≡ recs_by_name name ts ++ option_to_list (record_for name line)
 unfolding line_record opened_line
 line-adds name ts next line step =
     elim step [
@@ -106,13 +106,13 @@ line-adds name ts next line step =
       ]
     ]
 
-pub lines-add : (name : List ℕ) (ts more : List Tap) (lines : List Line) → taps_from ts lines ≡ Ok more → recs_named name more ≡ recs_named name ts ++ records_for name lines
+pub lines-add : (name : List ℕ) (ts more : List Tap) (lines : List Line) → taps_from ts lines ≡ Ok more → recs_by_name name more ≡ recs_by_name name ts ++ records_for name lines
 lines-add name ts more [] e = let same : ts ≡ more = cc in rw (same, append-nil) refl
 lines-add name ts more (line ∷ lines) e =
     let first = first_of_lines ts more line lines e in
     lines-add name first.next more lines first.rest
     ∙ ap (λ rs. rs ++ records_for name lines) (line-adds name ts first.next line first.step)
-    ∙ add_first (record_for name line) (recs_named name ts) (records_for name lines)
+    ∙ add_first (record_for name line) (recs_by_name name ts) (records_for name lines)
 
 pub own_lines : (lines : List Line) (taps : List Tap) → taps_of lines ≡ Ok taps → HaveTheirOwnLines lines taps
 own_lines lines taps e name = sym (lines-add name [] taps lines e)
@@ -128,7 +128,7 @@ pub record Named (name : List ℕ) (taps : List Tap) : Type 0 where
 still_named : (name : List ℕ) (ts more : List Tap) (lines : List Line) → Named name ts → taps_from ts lines ≡ Ok more → Named name more
 still_named name ts more lines named e = go (tap_named name more) refl (rw named.is at (lines-add name ts more lines e))
   where
-    go : (found : Option Tap) → tap_named name more ≡ found → recs_named name more ≡ recs_of named.tap ++ records_for name lines → Named name more
+    go : (found : Option Tap) → tap_named name more ≡ found → recs_by_name name more ≡ recs_of named.tap ++ records_for name lines → Named name more
     go None is h = let none : [] ≡ recs_of named.tap ++ records_for name lines = ap (λ o. option_map_or recs_of o []) (sym is) ∙ h in cc
     go (Some t) is h = record { tap = t; is = is }
 

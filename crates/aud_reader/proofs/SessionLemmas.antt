@@ -4,7 +4,7 @@ use Rattle.aud_reader.specs.declared.line.Line.{Line}
 use Rattle.aud_reader.specs.declared.fault.ReadFault.{ReadFault}
 use Rattle.aud_reader.specs.declared.fault.ReadFault.TheVariants.{Input, Memory}
 use Rattle.aud_reader.specs.Lines.{Lines, Split, IsFront, lines_of, lines_to_come, result_of, after_lines}
-use Rattle.aud_reader.specs.Session.{Feeds, Takes, Finishes, Call, Feed, Take, Follow, fed, taken, fresh, TakenAndLastAreLines, TakenAreLinesBefore, TakenAreFront}
+use Rattle.aud_reader.specs.Session.{FeedsPiece, Takes, Finishes, SplitterCall, Feed, Take, SplitterCallsFollow, fed, taken, new_splitter, TakenAndLastAreLines, TakenAreLinesBefore, TakenAreFront}
 use Rattle.aud_reader.proofs.LinesLemmas.{some_of}
 use Rattle.aud_reader.proofs.Fronts.{front-of-front, front-after}
 
@@ -15,7 +15,7 @@ same-if_some s t result None fault refused e = cc
 same-if_some s t result (Some f) fault refused e = refused.1
 
 -- a refusal stays
-refusal_stays : (s t : Split) (calls : List Call) (fault : ReadFault) → Follow s calls t → s.fault ≡ Some fault → t.fault ≡ Some fault
+refusal_stays : (s t : Split) (calls : List SplitterCall) (fault : ReadFault) → SplitterCallsFollow s calls t → s.fault ≡ Some fault → t.fault ≡ Some fault
 refusal_stays s t [] fault follow e = rw follow e
 refusal_stays s t (Feed piece result new ∷ calls) fault follow e =
     refusal_stays new t calls fault follow.1 (rw (same-if_some s new result s.fault fault follow.0.refused e) e)
@@ -29,7 +29,7 @@ after_lines-append : (a b : List Line) (ls : Lines) → after_lines (a ++ b) ls 
 after_lines-append a b ls = rw append_assoc refl
 
 -- what was taken, and what is still to come, unless memory ran out
-to_come-follow : (s t : Split) (calls : List Call) (more : List ℕ) → Follow s calls t → ¬ (t.fault ≡ Some Memory)
+to_come-follow : (s t : Split) (calls : List SplitterCall) (more : List ℕ) → SplitterCallsFollow s calls t → ¬ (t.fault ≡ Some Memory)
     → after_lines (taken calls) (lines_to_come t more) ≡ lines_to_come s (fed calls ++ more)
 to_come-follow s t [] more follow memory = rw follow refl
 to_come-follow s t (Feed piece result new ∷ calls) more follow memory =
@@ -47,7 +47,7 @@ to_come-memory : (t : Split) (text : List ℕ) (fault : ReadFault) → t.fault �
 to_come-memory t text fault e = rw e (append-nil t.waiting)
 
 -- what one call of `feed` does to a front of what comes after it
-front-fed : (s t : Split) (piece : List ℕ) (result : Result (Unit {0}) ReadFault) (front : List Line) (text : List ℕ) → Feeds s piece result t
+front-fed : (s t : Split) (piece : List ℕ) (result : Result (Unit {0}) ReadFault) (front : List Line) (text : List ℕ) → FeedsPiece s piece result t
     → IsFront front (lines_to_come t text).lines → IsFront front (lines_to_come s (piece ++ text)).lines
 front-fed s t piece result front text feeds first =
     let going : ¬ (result ≡ Err Memory) → IsFront front (lines_to_come s (piece ++ text)).lines = λ other. subst (λ ls. IsFront front ls.lines) (feeds.lines text other) first in
@@ -57,7 +57,7 @@ front-fed s t piece result front text feeds first =
       | Some Memory ↦ λ e. front-of-front front t.waiting _ (rw (to_come-memory t text Memory e) at first) (feeds.front text)
     ] refl
 
-front-follow : (s t : Split) (calls : List Call) (more : List ℕ) → Follow s calls t
+front-follow : (s t : Split) (calls : List SplitterCall) (more : List ℕ) → SplitterCallsFollow s calls t
     → IsFront (taken calls ++ t.waiting) (lines_to_come s (fed calls ++ more)).lines
 front-follow s t [] more follow = rw follow (record { rest = _; is = refl })
 front-follow s t (Feed piece result new ∷ calls) more follow =
@@ -80,7 +80,7 @@ going-at_end t ls ends e =
 pub taken_and_last : TakenAndLastAreLines
 taken_and_last = λ calls last ls follow finish.
     ap lines_of (sym (append-nil (fed calls)))
-    ∙ sym (to_come-follow fresh last calls [] follow (going-at_end last ls finish.ok))
+    ∙ sym (to_come-follow new_splitter last calls [] follow (going-at_end last ls finish.ok))
     ∙ ap (after_lines (taken calls)) finish.ok
 
 refused-gives : (t : Split) (text : List ℕ) (fault : ReadFault) → t.fault ≡ Some fault → lines_to_come t text ≡ record { lines = t.waiting; fault = Some fault }
@@ -89,44 +89,44 @@ refused-gives t text fault e = rw (e, append-nil) refl
 pub taken_before : TakenAreLinesBefore
 taken_before = λ calls last fault follow e other more.
     let going : ¬ (last.fault ≡ Some Memory) = λ m. let is : Some fault ≡ Some Memory = sym e ∙ m in other (cc) in
-    sym (to_come-follow fresh last calls more follow going) ∙ ap (after_lines (taken calls)) (refused-gives last more fault e)
+    sym (to_come-follow new_splitter last calls more follow going) ∙ ap (after_lines (taken calls)) (refused-gives last more fault e)
 
 pub taken_front : TakenAreFront
-taken_front = λ calls last follow more. front-follow fresh last calls more follow
+taken_front = λ calls last follow more. front-follow new_splitter last calls more follow
 
 -- a splitter that came, from the begin of an input, by calls that fed this text and took these lines
 pub record Came (text : List ℕ) (given : List Line) (s : Split) : Type 0 where
-  pub calls : List Call
-  pub follow : Follow fresh calls s
+  pub calls : List SplitterCall
+  pub follow : SplitterCallsFollow new_splitter calls s
   pub feeds : fed calls ≡ text
   pub takes : taken calls ≡ given
 
-pub came-fresh : Came [] [] fresh
+pub came-fresh : Came [] [] new_splitter
 came-fresh = record { calls = []; follow = refl; feeds = refl; takes = refl }
 
-follow-append : (s t u : Split) (xs ys : List Call) → Follow s xs t → Follow t ys u → Follow s (xs ++ ys) u
-follow-append s t u [] ys first second = subst (λ start. Follow start ys u) first second
+follow-append : (s t u : Split) (xs ys : List SplitterCall) → SplitterCallsFollow s xs t → SplitterCallsFollow t ys u → SplitterCallsFollow s (xs ++ ys) u
+follow-append s t u [] ys first second = subst (λ start. SplitterCallsFollow start ys u) first second
 follow-append s t u (Feed piece result new ∷ xs) ys first second = (first.0, follow-append new t u xs ys first.1 second)
 follow-append s t u (Take given new ∷ xs) ys first second = (first.0, follow-append new t u xs ys first.1 second)
 
-fed-append : (xs ys : List Call) → fed (xs ++ ys) ≡ fed xs ++ fed ys
+fed-append : (xs ys : List SplitterCall) → fed (xs ++ ys) ≡ fed xs ++ fed ys
 fed-append [] ys = refl
 fed-append (Feed piece result new ∷ xs) ys = rw (fed-append xs ys) (sym (append_assoc piece (fed xs) (fed ys)))
 fed-append (Take given new ∷ xs) ys = fed-append xs ys
 
-taken-append : (xs ys : List Call) → taken (xs ++ ys) ≡ taken xs ++ taken ys
+taken-append : (xs ys : List SplitterCall) → taken (xs ++ ys) ≡ taken xs ++ taken ys
 taken-append [] ys = refl
 taken-append (Feed piece result new ∷ xs) ys = taken-append xs ys
 taken-append (Take given new ∷ xs) ys = rw (taken-append xs ys) (sym (append_assoc given (taken xs) (taken ys)))
 
 -- one more piece
 pub came-feed : (text : List ℕ) (given : List Line) (s t : Split) (piece : List ℕ) (result : Result (Unit {0}) ReadFault)
-    → Came text given s → Feeds s piece result t → Came (text ++ piece) given t
+    → Came text given s → FeedsPiece s piece result t → Came (text ++ piece) given t
 came-feed text given s t piece result came feeds =
     let call = Feed piece result t ∷ [] in
     record {
       calls = came.calls ++ call;
-      follow = follow-append fresh s t came.calls call came.follow (feeds, refl);
+      follow = follow-append new_splitter s t came.calls call came.follow (feeds, refl);
       feeds = fed-append came.calls call ∙ rw (came.feeds, append-nil piece) refl;
       takes = taken-append came.calls call ∙ rw (came.takes, append-nil given) refl;
     }
@@ -137,7 +137,7 @@ came-take text given ls s t came takes =
     let call = Take ls t ∷ [] in
     record {
       calls = came.calls ++ call;
-      follow = follow-append fresh s t came.calls call came.follow (takes, refl);
+      follow = follow-append new_splitter s t came.calls call came.follow (takes, refl);
       feeds = fed-append came.calls call ∙ rw (came.feeds, append-nil text) refl;
       takes = taken-append came.calls call ∙ rw (came.takes, append-nil ls) refl;
     }

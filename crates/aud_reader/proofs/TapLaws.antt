@@ -22,9 +22,9 @@ use Rattle.aud_tap.specs.declared.taps.Tap.{Tap}
 use Rattle.aud_tap.specs.Forms.{is_text}
 use Rattle.aud_tap.specs.Names.{AreNamedOnce}
 use Rattle.aud_reader.specs.Steps.{guard}
-use Rattle.aud_reader.specs.Bundle.{offset_of, with_entry, with_record, tap_named, with_records, kind_of_tap, same_kind, taps_on, no_records, another_tap, with_line, taps_from, taps_of}
+use Rattle.aud_reader.specs.Bundle.{offset_of, with_entry, with_tap_record, tap_named, with_records, kind_of_tap, same_kind, taps_on, no_records, another_tap, with_line, taps_from, taps_of}
 use Rattle.aud_reader.specs.TapLaws.{AreDifferent, offsets_in, HasEachOffsetOnce}
-use Rattle.aud_reader.specs.Sound.{names_of, IsSound}
+use Rattle.aud_reader.specs.Private.Sound.{names_of, AreSoundTaps}
 use Rattle.aud_reader.proofs.LineSteps.{steps, guarded, guarded-not, new_entry, one_more, first_of_lines, Begins, Adds, line_step}
 
 -- ---- different texts
@@ -93,7 +93,7 @@ offsets-none tap.Stream = λ i j d l m. absurd (omega arith)
 offsets-none tap.Node = λ i j d l m. absurd (omega arith)
 offsets-none tap.Client = λ i j d l m. absurd (omega arith)
 
-offsets-more : (pids : List (List ℕ)) (old new : Records) (kind : List ℕ) (d : Data) → with_record pids old kind d ≡ Ok new → AreDifferent (offsets_in old) → AreDifferent (offsets_in new)
+offsets-more : (pids : List (List ℕ)) (old new : Records) (kind : List ℕ) (d : Data) → with_tap_record pids old kind d ≡ Ok new → AreDifferent (offsets_in old) → AreDifferent (offsets_in new)
 offsets-more pids (Stream entries) new kind d e different =
     let more = steps (with_entry entries kind d) _ new e in
     let entry = new_entry entries more.value kind d more.first in
@@ -120,7 +120,7 @@ offsets-put name records (u ∷ us) t e more all =
 
 -- ---- one more line
 
-sound-begins : (ts more : List Tap) (line : List ℕ) → IsSound ts → Begins ts line more → IsSound more
+sound-begins : (ts more : List Tap) (line : List ℕ) → AreSoundTaps ts → Begins ts line more → AreSoundTaps more
 sound-begins ts more line sound b =
     let t : Tap = record { name = b.name; records = no_records b.of } in
     rw b.is (record {
@@ -129,7 +129,7 @@ sound-begins ts more line sound b =
       offsets = All-push (λ (x : Tap). AreDifferent (offsets_in x.records)) ts t sound.offsets (offsets-none b.of);
     })
 
-sound-adds : (ts more : List Tap) (line : List ℕ) → IsSound ts → Adds ts line more → IsSound more
+sound-adds : (ts more : List Tap) (line : List ℕ) → AreSoundTaps ts → Adds ts line more → AreSoundTaps more
 sound-adds ts more line sound a =
     rw a.is (record {
       names = rw (names-same a.name a.records ts) sound.names;
@@ -137,16 +137,16 @@ sound-adds ts more line sound a =
       offsets = offsets-put a.name a.records ts a.found a.is_found (offsets-more _ (a.found).records a.records a.kind a.d a.added) sound.offsets;
     })
 
-pub sound-none : IsSound []
+pub sound-none : AreSoundTaps []
 sound-none = record { names = λ i j d l m. absurd (omega arith); stream = omega arith; offsets = All-nil _ }
 
-pub sound-line : (ts more : List Tap) (line : List ℕ) → IsSound ts → with_line ts line ≡ Ok more → IsSound more
+pub sound-line : (ts more : List Tap) (line : List ℕ) → AreSoundTaps ts → with_line ts line ≡ Ok more → AreSoundTaps more
 sound-line ts more line sound e = elim (line_step ts more line e) [
   | inl b ↦ sound-begins ts more line sound b
   | inr a ↦ sound-adds ts more line sound a
 ]
 
-sound-lines : (ts more : List Tap) (lines : List Line) → IsSound ts → taps_from ts lines ≡ Ok more → IsSound more
+sound-lines : (ts more : List Tap) (lines : List Line) → AreSoundTaps ts → taps_from ts lines ≡ Ok more → AreSoundTaps more
 sound-lines ts more [] sound e = let same : ts ≡ more = cc in rw (← same) sound
 sound-lines ts more (line ∷ lines) sound e =
     let first = first_of_lines ts more line lines e in

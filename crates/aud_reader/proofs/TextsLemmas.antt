@@ -20,7 +20,7 @@ use Rattle.std.proofs.lemmas.Map.Text.{hash_set_updates_text}
 use Rattle.aud_reader.specs.declared.fault.InputCode.TheVariants.{Limit}
 use Rattle.aud_tap.specs.Forms.{is_text}
 use Rattle.aud_reader.specs.Bundle.{max_pids, pid_of, pids_fit}
-use Rattle.aud_reader.specs.Texts.{HasTexts, HasPids}
+use Rattle.aud_reader.specs.Private.Texts.{HasTexts, HasPids}
 
 any-push : (q text : List ℕ) (texts : List (List ℕ)) → list_any (is_text q) (texts ++ text ∷ []) ≡ (list_any (is_text q) texts || is_text q text)
 any-push q text texts = list_any-append (is_text q) texts (text ∷ []) ∙ ap (λ b. list_any (is_text q) texts || b) (or-false (is_text q text))

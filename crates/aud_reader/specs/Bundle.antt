@@ -25,7 +25,7 @@ use Rattle.aud_reader.specs.StreamRecord.{stream_record_of}
 use Rattle.aud_reader.specs.NodeRecord.{node_record_of}
 use Rattle.aud_reader.specs.ClientRecord.{client_record_of}
 use Rattle.aud_reader.specs.Connections.{may_follow}
-use Rattle.aud_reader.specs.Record.{opened_line, kind_of}
+use Rattle.aud_reader.specs.Record.{opened_line, kind_named}
 
 -- ---- the limits of a bundle
 
@@ -100,10 +100,10 @@ with_client_record records kind d = do
   Ok (records ++ rec ∷ [])
 
 -- the records of a tap with that of a line
-abbrev pub with_record : List (List ℕ) → Records → List ℕ → Data → Result Records InputCode
-with_record pids (Stream entries) kind d = with_entry entries kind d >>= (λ more. Ok (Stream more))
-with_record pids (Node records) kind d = with_node_record pids records kind d >>= (λ more. Ok (Node more))
-with_record pids (Client records) kind d = with_client_record records kind d >>= (λ more. Ok (Client more))
+abbrev pub with_tap_record : List (List ℕ) → Records → List ℕ → Data → Result Records InputCode
+with_tap_record pids (Stream entries) kind d = with_entry entries kind d >>= (λ more. Ok (Stream more))
+with_tap_record pids (Node records) kind d = with_node_record pids records kind d >>= (λ more. Ok (Node more))
+with_tap_record pids (Client records) kind d = with_client_record records kind d >>= (λ more. Ok (Client more))
 
 -- ---- taps
 
@@ -149,7 +149,7 @@ another_tap kind.Stream taps = guard SecondStream (nat_lt (taps_on kind.Stream t
 another_tap kind.Node taps = guard Limit (nat_lt (taps_on kind.Node taps) max_node_taps)
 another_tap kind.Client taps = guard Limit (nat_lt (taps_on kind.Client taps) max_client_taps)
 
--- a tap's records behind its header
+-- a tap's records after its header
 abbrev pub no_records : TapKind → Records
 no_records kind.Stream = Stream []
 no_records kind.Node = Node []
@@ -167,7 +167,7 @@ with_header taps name kind d = do
 unfoldable pub with_later : List Tap → List ℕ → Records → List ℕ → Data → Result (List Tap) InputCode
 with_later taps name records kind d = do
   later ← guard HeaderTwice (not (is_text kind (codes "tap")))
-  more ← with_record (pids_of taps) records kind d
+  more ← with_tap_record (pids_of taps) records kind d
   Ok (with_records name more taps)
 
 -- the first line of a tap, or a later one
@@ -182,7 +182,7 @@ with_named taps name kind d = with_kind taps name (tap_named name taps) kind d
 unfoldable pub with_line : List Tap → List ℕ → Result (List Tap) InputCode
 with_line taps line = do
   parts ← opened_line line
-  kind ← kind_of parts.1
+  kind ← kind_named parts.1
   with_named taps parts.0 kind parts.1
 
 -- ---- the lines
@@ -219,7 +219,7 @@ pub record Reading : Type 0 where
   pub taps : List Tap
   pub fault : Option ReadFault
 
--- a refusal stands for all that comes behind it
+-- a refusal stands for all that comes after it
 abbrev pub unless_refused : {A : Type 0} → Option ReadFault → Result A ReadFault → Result A ReadFault
 unless_refused None r = r
 unless_refused (Some f) r = Err f

@@ -50,14 +50,14 @@ bytes_at key d = option_and_then as_blob (get key d)
 -- ---- a list of fields
 
 -- what each of the items is, if all are something
-abbrev pub each : {A : Type 0} → (Data → Option A) → Items → Option (List A)
-each as_item no_items = Some []
-each as_item (item d ds) = option_and_then (λ x. option_map (λ xs. x ∷ xs) (each as_item ds)) (as_item d)
+abbrev pub all_items : {A : Type 0} → (Data → Option A) → Items → Option (List A)
+all_items as_item no_items = Some []
+all_items as_item (item d ds) = option_and_then (λ x. option_map (λ xs. x ∷ xs) (all_items as_item ds)) (as_item d)
 
 -- a list that may be absent, which is the empty one
 abbrev pub list_or_empty : {A : Type 0} → (Data → Option A) → Option Data → Option (List A)
 list_or_empty as_item None = Some []
-list_or_empty as_item (Some d) = option_and_then (each as_item) (as_array d)
+list_or_empty as_item (Some d) = option_and_then (all_items as_item) (as_array d)
 
 -- a list of texts, empty where it is absent
 abbrev pub texts_at : List ℕ → Data → Option (List (List ℕ))

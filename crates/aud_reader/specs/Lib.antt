@@ -13,8 +13,6 @@ pub mod Record
 pub mod Connections
 pub mod Bundle
 pub mod TapLaws
-pub mod Sound
 pub mod OwnLines
-pub mod Changes
-pub mod Texts
-pub mod Kept
+pub mod SoFar
+pub mod Private

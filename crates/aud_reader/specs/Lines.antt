@@ -13,9 +13,9 @@ onto_first b [] = (b ∷ []) ∷ []
 onto_first b (l ∷ ls) = (b ∷ l) ∷ ls
 
 -- what stands before each newline, and what follows the last one, if anything does
-abbrev pub pieces_of : List ℕ → List (List ℕ)
-pieces_of [] = []
-pieces_of (b ∷ bs) = if b == 10 then [] ∷ pieces_of bs else onto_first b (pieces_of bs)
+abbrev pub line_pieces : List ℕ → List (List ℕ)
+line_pieces [] = []
+line_pieces (b ∷ bs) = if b == 10 then [] ∷ line_pieces bs else onto_first b (line_pieces bs)
 
 -- one carriage return at the end is dropped
 abbrev pub without_return : List ℕ → List ℕ
@@ -44,13 +44,13 @@ line_then (Ok line) ls = after_lines (line ∷ []) ls
 line_then (Err f) ls = record { lines = []; fault = Some f }
 
 -- the lines of these pieces, of which the first has the number n, up to the first that is refused
-abbrev pub numbered : ℕ → List (List ℕ) → Lines
-numbered n [] = record { lines = []; fault = None }
-numbered n (l ∷ ls) = line_then (line_at n l) (numbered (n + 1) ls)
+abbrev pub lines_from : ℕ → List (List ℕ) → Lines
+lines_from n [] = record { lines = []; fault = None }
+lines_from n (l ∷ ls) = line_then (line_at n l) (lines_from (n + 1) ls)
 
 -- the lines of an input
 abbrev pub lines_of : List ℕ → Lines
-lines_of text = numbered 1 (pieces_of text)
+lines_of text = lines_from 1 (line_pieces text)
 
 -- a splitter: the whole lines that weren't handed out, the number of the line that has begun, what came of it, and the refusal
 pub record Split : Type 0 where
@@ -64,14 +64,14 @@ pub record IsFront (front lines : List Line) : Type 0 where
   pub rest : List Line
   pub is : lines ≡ front ++ rest
 
--- nothing behind a refusal
+-- nothing after a refusal
 abbrev pub unless_fault : Option ReadFault → Lines → Lines
 unless_fault None ls = ls
 unless_fault (Some f) ls = record { lines = []; fault = Some f }
 
 -- what a splitter gives from now on, where this is the rest of its input
 abbrev pub lines_to_come : Split → List ℕ → Lines
-lines_to_come s more = after_lines s.waiting (unless_fault s.fault (numbered s.number (pieces_of (s.rest ++ more))))
+lines_to_come s more = after_lines s.waiting (unless_fault s.fault (lines_from s.number (line_pieces (s.rest ++ more))))
 
 -- a newline stands among these bytes
 abbrev pub has_newline : List ℕ → Bool
@@ -86,16 +86,3 @@ pub record IsPartial (l : List ℕ) : Type 0 where
 abbrev pub result_of : Option ReadFault → Result (Unit {0}) ReadFault
 result_of None = Ok tt
 result_of (Some f) = Err f
-
--- a splitter after a line, or its refusal
-abbrev pub with_line : Split → Result Line ReadFault → Split
-with_line s (Ok line) = record { waiting = s.waiting ++ line ∷ []; number = s.number + 1; rest = []; fault = None }
-with_line s (Err f) = record { waiting = s.waiting; number = s.number; rest = []; fault = Some f }
-
--- a splitter after these bytes and a newline
-abbrev pub line_ended : Split → List ℕ → Split
-line_ended s front = with_line s (line_at s.number (s.rest ++ front))
-
--- a splitter after these bytes, in which no newline stands
-abbrev pub line_begun : Split → List ℕ → Split
-line_begun s front = record s { rest = s.rest ++ front; fault = if is_too_long (s.rest ++ front) then Some (Input s.number LineTooLong) else None }

@@ -59,8 +59,8 @@ abbrev pub leave_of : Data → Result NodeRec InputCode
 leave_of d = member_of d >>= (λ m. Ok (Leave m.0 m.1))
 
 -- a pid and the number of a turn
-unfoldable pub turn_of : Data → Result (List ℕ × ℕ) InputCode
-turn_of d = do
+unfoldable pub pid_and_turn : Data → Result (List ℕ × ℕ) InputCode
+pid_and_turn d = do
   pid ← need Field (id_at (codes "pid") d)
   turn ← need Field (number_at (codes "turn") d)
   pid_fits ← guard Limit (fits max_id pid)
@@ -69,11 +69,11 @@ turn_of d = do
 
 -- a connection broke
 abbrev pub break_of : Data → Result NodeRec InputCode
-break_of d = turn_of d >>= (λ t. Ok (Broke t.0 t.1))
+break_of d = pid_and_turn d >>= (λ t. Ok (Broke t.0 t.1))
 
 -- a session was recovered
 abbrev pub back_of : Data → Result NodeRec InputCode
-back_of d = turn_of d >>= (λ t. Ok (Back t.0 t.1))
+back_of d = pid_and_turn d >>= (λ t. Ok (Back t.0 t.1))
 
 -- a session is over
 unfoldable pub gone_of : Data → Result NodeRec InputCode

@@ -40,14 +40,14 @@ abbrev pub recs_of : Tap → List Rec
 recs_of t = rec.Header (kind_of_tap t.records) 1 ∷ recs_in t.records
 
 -- those of the tap of this name; none where there is no such tap
-abbrev pub recs_named : List ℕ → List Tap → List Rec
-recs_named name taps = option_map_or recs_of (tap_named name taps) []
+abbrev pub recs_by_name : List ℕ → List Tap → List Rec
+recs_by_name name taps = option_map_or recs_of (tap_named name taps) []
 
 -- ---- the laws
 
 -- a tap's header and its records are those of the lines that name it, in their order: none is lost, and none added
 abbrev pub HaveTheirOwnLines : List Line → List Tap → Type 0
-HaveTheirOwnLines lines taps = (name : List ℕ) → records_for name lines ≡ recs_named name taps
+HaveTheirOwnLines lines taps = (name : List ℕ) → records_for name lines ≡ recs_by_name name taps
 
 -- a line has a record, and exactly one tap has the name that it begins with
 pub record IsOfOneTap (taps : List Tap) (line : Line) : Type 0 where

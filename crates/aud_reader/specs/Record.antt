@@ -24,11 +24,11 @@ use Rattle.aud_reader.specs.ClientRecord.{client_record_of}
 unfoldable pub json_of : List ℕ → Result Data InputCode
 json_of bytes = if is_utf8 bytes then need NotJson (read bytes) else Err NotJson
 
--- what stands before the first blank, and what stands behind it
+-- what stands before the first blank, and what stands after it
 abbrev pub cut_at_blank : List ℕ → Option (List ℕ × List ℕ)
 cut_at_blank line = option_map (λ i. (take i line, drop (i + 1) line)) (position (λ b. b == 32) line)
 
--- a line taken apart: the tap's name, and the value behind the first blank
+-- a line taken apart: the tap's name, and the value after the first blank
 unfoldable pub opened_line : List ℕ → Result (List ℕ × Data) InputCode
 opened_line line = do
   line_fits ← guard LineTooLong (nat_le (length line) max_line)
@@ -38,8 +38,8 @@ opened_line line = do
   Ok (parts.0, d)
 
 -- what an object says that it is
-abbrev pub kind_of : Data → Result (List ℕ) InputCode
-kind_of d = need Field (text_at (codes "k") d)
+abbrev pub kind_named : Data → Result (List ℕ) InputCode
+kind_named d = need Field (text_at (codes "k") d)
 
 -- the kinds of record of a stream, a node and a client
 abbrev pub stream_kinds : List (List ℕ)
@@ -81,7 +81,7 @@ record_of kind d =
 -- the record of a value, by what it says that it is
 unfoldable pub value_record : Data → Result Rec InputCode
 value_record d = do
-  kind ← kind_of d
+  kind ← kind_named d
   record_of kind d
 
 -- the tap's name and the record of a line

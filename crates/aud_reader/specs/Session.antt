@@ -6,7 +6,7 @@ use Rattle.aud_reader.specs.declared.fault.ReadFault.TheVariants.{Memory}
 use Rattle.aud_reader.specs.Lines.{Split, IsFront, lines_of, lines_to_come, result_of}
 
 -- what `feed` says of a splitter, the piece, the answer, and the splitter after it
-pub record Feeds (old : Split) (piece : List ℕ) (result : Result (Unit {0}) ReadFault) (new : Split) : Type 0 where
+pub record FeedsPiece (old : Split) (piece : List ℕ) (result : Result (Unit {0}) ReadFault) (new : Split) : Type 0 where
   pub value : result ≡ result_of new.fault
   pub lines : (more : List ℕ) → ¬ (result ≡ Err Memory) → lines_to_come new more ≡ lines_to_come old (piece ++ more)
   pub refused : IfSome old.fault (λ fault. (result ≡ Err fault) × (new ≡ old))
@@ -23,45 +23,45 @@ pub record Finishes (old : Split) (result : Result (List Line) ReadFault) : Type
   pub err : IfErr result (λ e. ¬ (e ≡ Memory) → old.fault ≡ Some e)
 
 -- one call, with what it gives and the splitter after it
-pub data Call : Type 0 where
-  Feed : List ℕ → Result (Unit {0}) ReadFault → Split → Call
-  Take : List Line → Split → Call
+pub data SplitterCall : Type 0 where
+  Feed : List ℕ → Result (Unit {0}) ReadFault → Split → SplitterCall
+  Take : List Line → Split → SplitterCall
 
 -- each call begins with the splitter that the one before it left
-abbrev pub Follow : Split → List Call → Split → Type 0
-Follow old [] last = last ≡ old
-Follow old (Feed piece result new ∷ calls) last = Feeds old piece result new × Follow new calls last
-Follow old (Take given new ∷ calls) last = Takes old given new × Follow new calls last
+abbrev pub SplitterCallsFollow : Split → List SplitterCall → Split → Type 0
+SplitterCallsFollow old [] last = last ≡ old
+SplitterCallsFollow old (Feed piece result new ∷ calls) last = FeedsPiece old piece result new × SplitterCallsFollow new calls last
+SplitterCallsFollow old (Take given new ∷ calls) last = Takes old given new × SplitterCallsFollow new calls last
 
 -- the pieces that were fed, joined
-abbrev pub fed : List Call → List ℕ
+abbrev pub fed : List SplitterCall → List ℕ
 fed [] = []
 fed (Feed piece result new ∷ calls) = piece ++ fed calls
 fed (Take given new ∷ calls) = fed calls
 
 -- the lines that were taken, joined
-abbrev pub taken : List Call → List Line
+abbrev pub taken : List SplitterCall → List Line
 taken [] = []
 taken (Feed piece result new ∷ calls) = taken calls
 taken (Take given new ∷ calls) = given ++ taken calls
 
 -- a splitter at the begin of an input
-abbrev pub fresh : Split
-fresh = record { waiting = []; number = 1; rest = []; fault = None }
+abbrev pub new_splitter : Split
+new_splitter = record { waiting = []; number = 1; rest = []; fault = None }
 
 -- the lines taken, and then those that `finish` gives, are the lines of the joined pieces
 abbrev pub TakenAndLastAreLines : Type 0
-TakenAndLastAreLines = (calls : List Call) (last : Split) (ls : List Line) → Follow fresh calls last → Finishes last (Ok ls)
+TakenAndLastAreLines = (calls : List SplitterCall) (last : Split) (ls : List Line) → SplitterCallsFollow new_splitter calls last → Finishes last (Ok ls)
     → lines_of (fed calls) ≡ record { lines = taken calls ++ ls; fault = None }
 
 -- where a line is refused, the lines taken, and then those that wait, are the lines before it; the refusal, which `feed`
 -- and `finish` give, is that of the joined pieces, and of all that may follow them
 abbrev pub TakenAreLinesBefore : Type 0
-TakenAreLinesBefore = (calls : List Call) (last : Split) (fault : ReadFault) → Follow fresh calls last → last.fault ≡ Some fault → ¬ (fault ≡ Memory)
+TakenAreLinesBefore = (calls : List SplitterCall) (last : Split) (fault : ReadFault) → SplitterCallsFollow new_splitter calls last → last.fault ≡ Some fault → ¬ (fault ≡ Memory)
     → (more : List ℕ) → lines_of (fed calls ++ more) ≡ record { lines = taken calls ++ last.waiting; fault = Some fault }
 
 -- where memory ran out too, the lines taken, and then those that wait, are the front of the lines of the joined pieces,
 -- and of all that may follow them
 abbrev pub TakenAreFront : Type 0
-TakenAreFront = (calls : List Call) (last : Split) → Follow fresh calls last
+TakenAreFront = (calls : List SplitterCall) (last : Split) → SplitterCallsFollow new_splitter calls last
     → (more : List ℕ) → IsFront (taken calls ++ last.waiting) (lines_of (fed calls ++ more)).lines

@@ -34,14 +34,15 @@ pub struct BundleReader {
 impl Model for BundleReader {
     ghost use Rattle.std.specs.Prelude.{◌≡◌, None};
     ghost use Rattle.aud_reader.specs.Bundle.{Reading};
-    ghost use Rattle.aud_reader.specs.Kept.{Keeps, taps_so_far};
-    ghost use Rattle.aud_reader.specs.Sound.{IsSound};
+    ghost use Rattle.aud_reader.specs.Private.Kept.{KeepsTaps};
+    ghost use Rattle.aud_reader.specs.SoFar.{taps_so_far};
+    ghost use Rattle.aud_reader.specs.Private.Sound.{AreSoundTaps};
 
     ghost Value = { Reading };
 
     ghost view = { λ s. record { taps = taps_so_far s.taps; fault = s.fault } };
 
-    ghost invariant = { λ s. s.fault ≡ None → Keeps s.taps × IsSound (taps_so_far s.taps) };
+    ghost invariant = { λ s. s.fault ≡ None → KeepsTaps s.taps × AreSoundTaps (taps_so_far s.taps) };
 }
 
 impl BundleReader {

@@ -1,6 +1,7 @@
 //! The lines of an input that comes in pieces.
 ghost use Rattle.std.specs.Prelude.{◌≡◌, ◌+◌, ◌-◌, ◌^◌, ◌<◌, ◌≤◌, ◌++◌, [], ◌∷◌, List, ℕ, length, take, Some, None, Ok, Err, IfOk, IfErr, OnOk, IfSome, IfNone, false, ◌≢◌};
-ghost use Rattle.aud_reader.specs.Lines.{IsFront, lines_of, lines_to_come, without_return, has_newline, IsPartial, line_at, line_ended, line_begun, result_of};
+ghost use Rattle.aud_reader.specs.Lines.{IsFront, lines_of, lines_to_come, without_return, has_newline, IsPartial, line_at, result_of};
+ghost use Rattle.aud_reader.specs.Private.SplitterSteps.{line_ended, line_begun};
 
 use crate::fault::{InputCode, ReadFault, refuse};
 use crate::line::Line;

@@ -4,7 +4,7 @@ use Rattle.std.specs.List.{list_all}
 use Rattle.aud_reader.specs.declared.fault.InputCode.{InputCode}
 use Rattle.aud_report.specs.declared.output.Status.{Status}
 use Rattle.aud_report.specs.declared.output.Status.TheVariants.{AllYes, SomeNo, Refused}
-use Rattle.aud_report.specs.declared.verdict.Entry.{Entry}
+use Rattle.aud_report.specs.declared.verdict.SessionVerdict.{SessionVerdict}
 use Rattle.aud_report.specs.Verdict.{is_yes}
 use Rattle.aud_report.specs.Report.{report_text, refusal_line}
 use Rattle.aud_report.specs.Proving.{prove_text}
@@ -19,7 +19,7 @@ abbrev pub status_of : Bool → Status
 status_of are_good = if are_good then AllYes else SomeNo
 
 -- the output of an audit with these answers
-abbrev pub report_of : List Entry → OutputSeen
+abbrev pub report_of : List SessionVerdict → OutputSeen
 report_of entries = record { status = status_of (list_all is_yes entries); text = report_text entries }
 
 -- the output with these certificates, a place for each session

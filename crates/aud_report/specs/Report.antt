@@ -4,7 +4,7 @@ use Rattle.aud_reader.specs.declared.fault.InputCode.{InputCode}
 use Rattle.aud_reader.specs.declared.fault.InputCode.TheVariants.{LineTooLong, NoTapName, NotJson, NoHeader, UnknownKind, Field, Limit, SecondStream, OffsetTwice, HeaderTwice, Version}
 use Rattle.aud_report.specs.declared.verdict.Verdict.{Verdict}
 use Rattle.aud_report.specs.declared.verdict.Verdict.TheVariants.{Yes, No}
-use Rattle.aud_report.specs.declared.verdict.Entry.{Entry}
+use Rattle.aud_report.specs.declared.verdict.SessionVerdict.{SessionVerdict}
 use Rattle.aud_cert.specs.Fault.{fault_text}
 use Rattle.aud_report.specs.Verdict.{is_yes}
 
@@ -14,11 +14,11 @@ line_of pid (Yes got tail turns) = codes "yes " ++ pid ++ codes " got=" ++ decim
 line_of pid (No fault) = codes "no " ++ pid ++ codes " " ++ fault_text fault ++ codes "\n"
 
 -- the last line: how many sessions there are, and how many of them are answered yes and no
-abbrev pub totals_line : List Entry → List ℕ
+abbrev pub totals_line : List SessionVerdict → List ℕ
 totals_line entries = codes "sessions=" ++ decimal (length entries) ++ codes " yes=" ++ decimal (count_by is_yes entries) ++ codes " no=" ++ decimal (length entries - count_by is_yes entries) ++ codes "\n"
 
 -- the report: a line for each session, and the counts
-abbrev pub report_text : List Entry → List ℕ
+abbrev pub report_text : List SessionVerdict → List ℕ
 report_text entries = flat_map (λ entry. line_of entry.pid entry.verdict) entries ++ totals_line entries
 
 -- the name of a refusal

@@ -2,7 +2,7 @@
 use Rattle.std.specs.Prelude.{Bool, true, false}
 use Rattle.aud_report.specs.declared.verdict.Verdict.{Verdict}
 use Rattle.aud_report.specs.declared.verdict.Verdict.TheVariants.{Yes, No}
-use Rattle.aud_report.specs.declared.verdict.Entry.{Entry}
+use Rattle.aud_report.specs.declared.verdict.SessionVerdict.{SessionVerdict}
 
 -- whether a verdict is yes
 abbrev pub yes_of : Verdict → Bool
@@ -10,5 +10,5 @@ yes_of (Yes got tail turns) = true
 yes_of (No fault) = false
 
 -- whether the verdict on a session is yes
-abbrev pub is_yes : Entry → Bool
+abbrev pub is_yes : SessionVerdict → Bool
 is_yes entry = yes_of entry.verdict

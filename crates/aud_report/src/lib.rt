@@ -21,4 +21,4 @@ mod report;
 mod verdict;
 
 pub use output::{Output, Status, proving_on, refusal, report_on, status_of};
-pub use verdict::{Entry, Verdict};
+pub use verdict::{SessionVerdict, Verdict};

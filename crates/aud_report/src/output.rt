@@ -4,7 +4,7 @@ ghost use Rattle.aud_report.specs.Output.{status_of, report_of, proving_of, refu
 
 use crate::proving::{are_all_shown, prove_text};
 use crate::report::{are_all_yes, refusal_text, report_text};
-use crate::verdict::Entry;
+use crate::verdict::SessionVerdict;
 use aud_reader::InputCode;
 use aud_tap::Text;
 use std::alloc::{AllocError, Global};
@@ -49,7 +49,7 @@ pub fn status_of(are_good: bool) -> Status
 }
 
 /// The report on sessions that are decided: a line for each, and the counts.
-pub fn report_on(alloc: Global, entries: &[Entry]) -> Result<Output, AllocError>
+pub fn report_on(alloc: Global, entries: &[SessionVerdict]) -> Result<Output, AllocError>
     ensures { IfOk result (λ o. o ≡ report_of entries.now) }
 {
     let text = report_text(alloc, entries)?;

@@ -4,7 +4,7 @@ ghost use Rattle.std.specs.List.{list_all};
 ghost use Rattle.aud_report.specs.Verdict.{is_yes};
 ghost use Rattle.aud_report.specs.Report.{line_of, totals_line, report_text, code_text, refusal_line};
 
-use crate::verdict::{Entry, Verdict};
+use crate::verdict::{SessionVerdict, Verdict};
 use aud_reader::InputCode;
 use std::alloc::{AllocError, Global};
 
@@ -21,21 +21,21 @@ fn push_line(out: &mut String, pid: &str, verdict: &Verdict) -> Result<(), Alloc
 }
 
 /// Whether each answer is yes.
-pub fn are_all_yes(entries: &[Entry]) -> bool
+pub fn are_all_yes(entries: &[SessionVerdict]) -> bool
     ensures { result ≡ list_all is_yes entries.now }
 {
     entries.iter().all(|entry| entry.is_yes())
 }
 
 /// How many answers are yes.
-fn count_yes(entries: &[Entry]) -> usize
+fn count_yes(entries: &[SessionVerdict]) -> usize
     ensures { result ≡ count_by is_yes entries.now }
 {
     entries.iter().filter(|entry| entry.is_yes()).count()
 }
 
 /// Puts the counts at the end.
-fn push_totals(out: &mut String, entries: &[Entry]) -> Result<(), AllocError>
+fn push_totals(out: &mut String, entries: &[SessionVerdict]) -> Result<(), AllocError>
     ensures { OnOk result (string_bytes out.new ≡ string_bytes out.old ++ totals_line entries.now) }
 {
     let sessions = entries.len();
@@ -45,7 +45,7 @@ fn push_totals(out: &mut String, entries: &[Entry]) -> Result<(), AllocError>
 }
 
 /// The text of a report: a line for each session, and the counts.
-pub fn report_text(alloc: Global, entries: &[Entry]) -> Result<String, AllocError>
+pub fn report_text(alloc: Global, entries: &[SessionVerdict]) -> Result<String, AllocError>
     ensures { IfOk result (λ s. string_bytes s ≡ report_text entries.now) }
 {
     let mut out = String::new(alloc);

@@ -20,12 +20,12 @@ pub enum Verdict {
 
 /// A session and the answer on it.
 #[derive(Drop)]
-pub struct Entry {
+pub struct SessionVerdict {
     pub pid: Text,
     pub verdict: Verdict,
 }
 
-impl Entry {
+impl SessionVerdict {
     ghost use Rattle.std.specs.Prelude.{◌≡◌};
     ghost use Rattle.aud_report.specs.Verdict.{is_yes};
 

@@ -9,7 +9,7 @@ use Rattle.std.proofs.lemmas.List.Folds.{list_any-append}
 use Rattle.std.proofs.lemmas.Option.{slice_get_past}
 use Rattle.aud_tap.specs.declared.records.StreamRec.{StreamRec}
 use Rattle.aud_node.specs.Stream.{entry, positions_after}
-use Rattle.aud_rooms.specs.Candidates.{is_among}
+use Rattle.aud_rooms.specs.Private.Candidates.{is_among}
 
 and_true : (a : Bool) → (a && true) ≡ a
 and_true true = refl

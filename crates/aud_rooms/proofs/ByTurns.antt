@@ -37,7 +37,7 @@ maximal_around rooms_at low high p room past within held =
         to_high = b.to_high;
         held = λ q x y. elim (cases_lt p q) as (λ _. test q ≡ true) [ inl above ↦ b.held q (omega arith) y | inr below ↦ a.held q x below ];
         not_before = a.not_before;
-        not_behind = b.not_behind;
+        not_after = b.not_after;
       },
       a.reaches,
       b.reaches,

@@ -19,7 +19,7 @@ use Rattle.aud_node.specs.Recoverable.{is_recoverable}
 use Rattle.aud_node.specs.Addressees.{is_to_all, is_to_room, positions_to_all, positions_to_room}
 use Rattle.aud_rooms.specs.Rooms.{is_empty, is_for}
 use Rattle.aud_rooms.specs.Spans.{RoomSpan, is_within, rooms_by_spans, is_due_by_spans, due_by_spans}
-use Rattle.aud_rooms.specs.Candidates.{is_among, is_past_upto, is_to_span, is_candidate, candidates, is_for_spans}
+use Rattle.aud_rooms.specs.Private.Candidates.{is_among, is_past_upto, is_to_span, is_candidate, candidates, is_for_spans}
 use Rattle.aud_rooms.proofs.Times.{or_none}
 use Rattle.aud_rooms.proofs.Among.{among-append, among-filter, among-stream}
 use Rattle.aud_rooms.proofs.Reach.{contains-rooms_by_spans}

@@ -12,10 +12,10 @@ use denote.Ref.{Bor}
 use Rattle.aud_node.specs.Stream.{Text, positions_after}
 use Rattle.aud_rooms.specs.declared.interval.Interval.{Interval}
 use Rattle.aud_rooms.specs.Spans.{RoomSpan, IsMaximalInterval, IsMaximal, ComesBefore, ComesBeforeAll, AreInOrder, AreSpans}
-use Rattle.aud_rooms.specs.Assigned.{rooms_given, AreSpansOf}
-use Rattle.aud_rooms.specs.Times.{Times, is_in, is_held_at, AreApart, intervals_upto, span_of, spans_of}
-use Rattle.aud_rooms.specs.RoomMap.{RoomMap, at_room, do_pass, rooms_with, by_room, AreOrdered}
-use Rattle.aud_rooms.specs.Building.{assigned_of, AreKept, spans_upto}
+use Rattle.aud_rooms.specs.Assigned.{assigned_rooms, AreSpansOf}
+use Rattle.aud_rooms.specs.Private.Times.{Times, is_in_interval, is_held_at, AreApart, intervals_upto, span_of, spans_of}
+use Rattle.aud_rooms.specs.Private.RoomMap.{RoomMap, at_room, do_pass, rooms_with, by_room, AreOrdered}
+use Rattle.aud_rooms.specs.Private.Building.{assigned_of, AreKept, spans_upto}
 use Rattle.aud_rooms.proofs.Members.{contains-none, contains-parts, contains-first, contains-later}
 use Rattle.aud_rooms.proofs.Positions.{interval_alike, spans_alike}
 use Rattle.aud_rooms.proofs.Times.{or_none}
@@ -37,12 +37,12 @@ map-contains f (y ∷ ys) x among = grind (arith, map-contains f ys x, contains-
 -- ---- the spans of one room
 
 module _ (low cov : ℕ) (room : Text) (t : Times) (apart : AreApart low t.ended t.since cov) where
-  same_at : (p : ℕ) → p ≤ cov → list_any (is_in p) (intervals_upto cov t) ≡ is_held_at p t
-  same_at p h = sym (or_none (list_any (is_in p) (intervals_upto cov t))) ∙ (closed low cov t apart).same p h
+  same_at : (p : ℕ) → p ≤ cov → list_any (is_in_interval p) (intervals_upto cov t) ≡ is_held_at p t
+  same_at p h = sym (or_none (list_any (is_in_interval p) (intervals_upto cov t))) ∙ (closed low cov t apart).same p h
 
   interval_maximal : (i : Interval) → Contains (intervals_upto cov t) i → IsMaximalInterval (λ p. is_held_at p t) low cov (suc i.after) i.last
   interval_maximal i among =
-      interval_alike (λ p. list_any (is_in p) (intervals_upto cov t)) (λ p. is_held_at p t) low cov (suc i.after) i.last (λ p a b. same_at p b)
+      interval_alike (λ p. list_any (is_in_interval p) (intervals_upto cov t)) (λ p. is_held_at p t) low cov (suc i.after) i.last (λ p a b. same_at p b)
       (place_maximal low cov (intervals_upto cov t) i (place low cov (intervals_upto cov t) i (closed low cov t apart).apart among))
 
   pub span_maximal : (s : RoomSpan) → Contains (spans_of room cov t) s → (s.room ≡ room) × IsMaximalInterval (λ p. is_held_at p t) low cov s.first s.last
@@ -57,7 +57,7 @@ module _ (low cov : ℕ) (room : Text) (t : Times) (apart : AreApart low t.ended
       let past = m.past_low in
       let some = m.some in
       let to = m.to_high in
-      let held : list_any (is_in first) (intervals_upto cov t) ≡ true = same_at first (omega arith) ∙ m.held first (omega arith) (omega arith) in
+      let held : list_any (is_in_interval first) (intervals_upto cov t) ≡ true = same_at first (omega arith) ∙ m.held first (omega arith) (omega arith) in
       let (i, among, after, upto) = interval_of first (intervals_upto cov t) held in
       let (same_first, same_last) = maximal_same (λ p. is_held_at p t) low cov (suc i.after) i.last first last first (interval_maximal i among) m (omega arith) upto (omega arith) (omega arith) in
       subst (λ n. Contains (spans_of room cov t) (record { room = room; first = first; last = n })) same_last
@@ -196,10 +196,10 @@ module _ (low cov : ℕ) (es : RoomMap Times) (kept : AreKept low cov es) (order
   by_entries : AreSpans (λ p. rooms_with (is_held_at p) es) low cov (spans_upto cov es)
   by_entries = record { each = each; all = all; in_order = all_in_order low cov es ordered apart_of }
 
-  given_at : (p : ℕ) → low < p → p ≤ cov → rooms_with (is_held_at p) es ≡ rooms_given (assigned_of low cov es) p
+  given_at : (p : ℕ) → low < p → p ≤ cov → rooms_with (is_held_at p) es ≡ assigned_rooms (assigned_of low cov es) p
   given_at p past upto = grind (arith, slice_get-map, position_at low (cov - low) (p - suc low))
 
   pub finished : AreSpansOf (assigned_of low cov es) (spans_upto cov es)
   finished =
-      subst (λ n. AreSpans (rooms_given (assigned_of low cov es)) low n (spans_upto cov es)) (sym (covered_is low cov cov es kept))
-      (spans_alike (λ p. rooms_with (is_held_at p) es) (rooms_given (assigned_of low cov es)) low cov (spans_upto cov es) given_at by_entries)
+      subst (λ n. AreSpans (assigned_rooms (assigned_of low cov es)) low n (spans_upto cov es)) (sym (covered_is low cov cov es kept))
+      (spans_alike (λ p. rooms_with (is_held_at p) es) (assigned_rooms (assigned_of low cov es)) low cov (spans_upto cov es) given_at by_entries)

@@ -10,9 +10,9 @@ use Rattle.std.specs.FinSet as set
 use denote.Ref.{Bor}
 use Rattle.aud_node.specs.Stream.{Text, positions_after}
 use Rattle.aud_rooms.specs.Assigned.{covered, starting, with_joined, with_left, covered_upto}
-use Rattle.aud_rooms.specs.Times.{Times, AreApart, Continues, is_held_at, is_held_now}
-use Rattle.aud_rooms.specs.RoomMap.{RoomMap, at_room, do_pass, rooms_with}
-use Rattle.aud_rooms.specs.Building.{assigned_of, AreKept}
+use Rattle.aud_rooms.specs.Private.Times.{Times, AreApart, ContinuesTimes, is_held_at, is_held_now}
+use Rattle.aud_rooms.specs.Private.RoomMap.{RoomMap, at_room, do_pass, rooms_with}
+use Rattle.aud_rooms.specs.Private.Building.{assigned_of, AreKept}
 use Rattle.aud_rooms.proofs.Times.{held_beyond, apart_longer}
 use Rattle.aud_rooms.proofs.RoomMaps.{same_text, contains-rooms_with, same_rooms}
 use Rattle.aud_rooms.proofs.Ranges.{map_positions, length-positions, map_more, map_same}
@@ -137,7 +137,7 @@ module _ (birth : ℕ) (sid : Text) (olds news : RoomMap Times) (empty : olds �
 
 module _ (low cov : ℕ) (olds news : RoomMap Times) (room : Text) (old new : Times) (found : at_room olds room ≡ Some old)
     (updates : (q : Bor Text) → at_room news q.now ≡ cond (is_eq (slice_cmp nat_cmp room q.now)) (Some new) (at_room olds q.now))
-    (kept : AreKept low cov olds) (continues : Continues low cov old new) where
+    (kept : AreKept low cov olds) (continues : ContinuesTimes low cov old new) where
   pub kept_continued : AreKept low cov news
   kept_continued = kept_put low cov olds news room new updates kept continues.apart
 

@@ -5,28 +5,28 @@ use Rattle.std.proofs.lemmas.Bool.{leb-true, leb-false, or_from, or_right}
 use Rattle.std.proofs.lemmas.List.{append-nil}
 use Rattle.aud_rooms.specs.declared.interval.Interval.{Interval}
 use Rattle.aud_rooms.specs.Spans.{IsMaximalInterval}
-use Rattle.aud_rooms.specs.Times.{Times, is_in, AreApart, Continues, intervals_upto, open_interval}
+use Rattle.aud_rooms.specs.Private.Times.{Times, is_in_interval, AreApart, ContinuesTimes, intervals_upto, open_interval}
 use Rattle.aud_rooms.proofs.Members.{contains-none, contains-parts, contains-first, contains-later}
 use Rattle.aud_rooms.proofs.Times.{before, beyond, inside, none_before, ended, unused}
 
 -- the open interval ends with the covered positions
 closed_parts : (low covered : ℕ) (is : List Interval) (since : Option ℕ) → AreApart low is since covered
-    → Continues low covered (record { ended = is; since = since }) (record { ended = is ++ open_interval since covered; since = None })
+    → ContinuesTimes low covered (record { ended = is; since = since }) (record { ended = is ++ open_interval since covered; since = None })
 closed_parts low covered is None apart =
     record {
       apart = subst (λ l. AreApart low l None covered) (sym (append-nil is)) apart;
-      same = λ p h. ap (λ l. list_any (is_in p) l || false) (append-nil is);
+      same = λ p h. ap (λ l. list_any (is_in_interval p) l || false) (append-nil is);
     }
 closed_parts low covered is (Some after) apart = go (nat_lt after covered) refl
   where
     go : (b : Bool) → nat_lt after covered ≡ b
-        → Continues low covered (record { ended = is; since = Some after }) (record { ended = is ++ cond b (record { after = after; last = covered } ∷ []) []; since = None })
+        → ContinuesTimes low covered (record { ended = is; since = Some after }) (record { ended = is ++ cond b (record { after = after; last = covered } ∷ []) []; since = None })
     go true e = ended low covered after is (let h = leb-true (suc after) covered e in omega arith) apart
     go false e =
-        subst (λ l. Continues low covered (record { ended = is; since = Some after }) (record { ended = l; since = None })) (sym (append-nil is))
+        subst (λ l. ContinuesTimes low covered (record { ended = is; since = Some after }) (record { ended = l; since = None })) (sym (append-nil is))
         (unused low covered after is (let h = leb-false (suc after) covered e in omega arith) apart)
 
-pub closed : (low covered : ℕ) (t : Times) → AreApart low t.ended t.since covered → Continues low covered t (record { ended = intervals_upto covered t; since = None })
+pub closed : (low covered : ℕ) (t : Times) → AreApart low t.ended t.since covered → ContinuesTimes low covered t (record { ended = intervals_upto covered t; since = None })
 closed low covered t apart = closed_parts low covered t.ended t.since apart
 
 -- an interval among those
@@ -34,9 +34,9 @@ pub record Place (from covered : ℕ) (is : List Interval) (i : Interval) : Type
   pub above : from ≤ i.after
   pub some : i.after < i.last
   pub to : i.last ≤ covered
-  pub held : (p : ℕ) → i.after < p → p ≤ i.last → list_any (is_in p) is ≡ true
-  pub not_before : list_any (is_in i.after) is ≡ false
-  pub not_behind : list_any (is_in (suc i.last)) is ≡ false
+  pub held : (p : ℕ) → i.after < p → p ≤ i.last → list_any (is_in_interval p) is ≡ true
+  pub not_before : list_any (is_in_interval i.after) is ≡ false
+  pub not_after : list_any (is_in_interval (suc i.last)) is ≡ false
 
 pub place : (from covered : ℕ) (is : List Interval) (i : Interval) → AreApart from is None covered → Contains is i → Place from covered is i
 place from covered [] i apart among = absurd (contains-none i among)
@@ -48,9 +48,9 @@ place from covered (j ∷ js) i (a, b, c, rest) among = go (λ later. place (suc
           above = a;
           some = b;
           to = c;
-          held = λ p x y. ap (λ z. z || list_any (is_in p) js) (inside p j x y);
-          not_before = or_from (is_in j.after j) _ (before j.after j (omega arith)) (none_before (suc j.last) covered j.after js None rest (omega arith));
-          not_behind = or_from (is_in (suc j.last) j) _ (beyond (suc j.last) j (omega arith)) (none_before (suc j.last) covered (suc j.last) js None rest (omega arith));
+          held = λ p x y. ap (λ z. z || list_any (is_in_interval p) js) (inside p j x y);
+          not_before = or_from (is_in_interval j.after j) _ (before j.after j (omega arith)) (none_before (suc j.last) covered j.after js None rest (omega arith));
+          not_after = or_from (is_in_interval (suc j.last) j) _ (beyond (suc j.last) j (omega arith)) (none_before (suc j.last) covered (suc j.last) js None rest (omega arith));
         }
 
     go : (Contains js i → Place (suc j.last) covered js i) → (j ≡ i) ⊎ Contains js i → Place from covered (j ∷ js) i
@@ -63,12 +63,12 @@ place from covered (j ∷ js) i (a, b, c, rest) among = go (λ later. place (suc
           above = omega arith;
           some = at.some;
           to = at.to;
-          held = λ p x y. or_right (is_in p j) _ (at.held p x y);
-          not_before = or_from (is_in i.after j) _ (beyond i.after j (omega arith)) at.not_before;
-          not_behind = or_from (is_in (suc i.last) j) _ (beyond (suc i.last) j (omega arith)) at.not_behind;
+          held = λ p x y. or_right (is_in_interval p j) _ (at.held p x y);
+          not_before = or_from (is_in_interval i.after j) _ (beyond i.after j (omega arith)) at.not_before;
+          not_after = or_from (is_in_interval (suc i.last) j) _ (beyond (suc i.last) j (omega arith)) at.not_after;
         }
 
-pub place_maximal : (low covered : ℕ) (is : List Interval) (i : Interval) → Place low covered is i → IsMaximalInterval (λ p. list_any (is_in p) is) low covered (suc i.after) i.last
+pub place_maximal : (low covered : ℕ) (is : List Interval) (i : Interval) → Place low covered is i → IsMaximalInterval (λ p. list_any (is_in_interval p) is) low covered (suc i.after) i.last
 place_maximal low covered is i at =
     let above = at.above in
     let some = at.some in
@@ -77,12 +77,12 @@ place_maximal low covered is i at =
       some = omega arith;
       to_high = at.to;
       held = λ p x y. at.held p (omega arith) y;
-      not_before = λ p _ next. let same : i.after ≡ p = omega arith in subst (λ q. list_any (is_in q) is ≡ false) same at.not_before;
-      not_behind = λ p _ next. subst (λ q. list_any (is_in q) is ≡ false) (sym next) at.not_behind;
+      not_before = λ p _ next. let same : i.after ≡ p = omega arith in subst (λ q. list_any (is_in_interval q) is ≡ false) same at.not_before;
+      not_after = λ p _ next. subst (λ q. list_any (is_in_interval q) is ≡ false) (sym next) at.not_after;
     }
 
 -- the interval of a position
-pub interval_of : (p : ℕ) (is : List Interval) → list_any (is_in p) is ≡ true → (i : Interval) × Contains is i × (i.after < p) × (p ≤ i.last)
+pub interval_of : (p : ℕ) (is : List Interval) → list_any (is_in_interval p) is ≡ true → (i : Interval) × Contains is i × (i.after < p) × (p ≤ i.last)
 interval_of p [] e = absurd (true≢false (sym e))
 interval_of p (j ∷ js) e = grind (arith, interval_of p js, leb-true (suc j.after) p, contains-first j js, leb-true p j.last, contains-later j js)
 
@@ -97,7 +97,7 @@ module _ (test : ℕ → Bool) (low high a b c d p : ℕ) (one : IsMaximalInterv
   not_shorter : b < d → ⊥
   not_shorter h =
       let to = other.to_high in
-      true≢false (sym (other.held (suc b) (omega arith) (omega arith)) ∙ one.not_behind (suc b) (omega arith) refl)
+      true≢false (sym (other.held (suc b) (omega arith) (omega arith)) ∙ one.not_after (suc b) (omega arith) refl)
 
 pub maximal_same : (test : ℕ → Bool) (low high a b c d p : ℕ) → IsMaximalInterval test low high a b → IsMaximalInterval test low high c d
     → a ≤ p → p ≤ b → c ≤ p → p ≤ d → (a ≡ c) × (b ≡ d)

@@ -7,7 +7,7 @@ use Rattle.std.proofs.lemmas.List.Elements.{filter-append}
 use Rattle.aud_tap.specs.declared.records.NodeRec.{NodeRec}
 use Rattle.aud_node.specs.Lists.{numbers_from}
 use Rattle.aud_node.specs.Stream.{Text}
-use Rattle.aud_node.specs.OwnRecords.{names, own_numbers}
+use Rattle.aud_node.specs.OwnRecords.{record_names, own_numbers}
 use Rattle.aud_rooms.specs.TurnPlaces.{is_between, own_between}
 use Rattle.aud_rooms.proofs.Parts.{middle_parts}
 
@@ -51,7 +51,7 @@ rises-ascend low (x ∷ xs) r (suc i) zero d h g = absurd (omega arith)
 rises-ascend low (x ∷ xs) r (suc i) (suc j) d h g = rises-ascend x xs r.1 i j d (omega arith) (omega arith)
 
 pub own_ascend : (log : List NodeRec) (pid : Text) → IsNonDecreasing (own_numbers log pid)
-own_ascend log pid = rises-ascend 0 (own_numbers log pid) (rises-filter (λ number. names (slice_get log number) pid) 0 (length log))
+own_ascend log pid = rises-ascend 0 (own_numbers log pid) (rises-filter (λ number. record_names (slice_get log number) pid) 0 (length log))
 
 pub numbers_more : (first one more : ℕ) → numbers_from first (one + more) ≡ numbers_from first one ++ numbers_from (first + one) more
 numbers_more first zero more = (let e : 0 + more ≡ more = omega arith in let f : first ≡ first + 0 = omega arith in ap (numbers_from first) e ∙ ap (λ n. numbers_from n more) f)
@@ -80,7 +80,7 @@ module _ (log : List NodeRec) (pid : Text) (from to : ℕ) (h : from ≤ to) (wi
   test = is_between from to
 
   abbrev own : ℕ → Bool
-  own number = names (slice_get log number) pid
+  own number = record_names (slice_get log number) pid
 
   low : (n : ℕ) → n < from → is_between from to n ≡ false
   low n b = ap (λ c. c && nat_lt n to) (lt-leb from n b)

@@ -11,25 +11,25 @@ use Rattle.aud_tap.specs.declared.records.NodeRec.TheVariants.{Start, Take, Open
 use Rattle.aud_node.specs.Cursors.{takes, is_position, next_cursor, cursor_past, cursor_at}
 use Rattle.aud_node.specs.Lists.{between, numbers_from}
 use Rattle.aud_node.specs.Ordered.{is_in_order, is_some_in_order, is_ordered}
-use Rattle.aud_node.specs.OwnRecords.{names}
+use Rattle.aud_node.specs.OwnRecords.{record_names}
 use Rattle.aud_node.specs.Stream.{Text, position}
 use Rattle.aud_rooms.specs.Rooms.{Rooms, rooms_after}
 use Rattle.aud_rooms.specs.TurnsDue.{rooms_at_end, rooms_at_take}
 use Rattle.aud_node.proofs.RecordLemmas.{slice_get_below, between-more, between-none, cursor_at-rises}
 
 -- a session's record leaves the cursor
-own_cursor : (stream : List StreamRec) (i : ℕ) (rec : NodeRec) (pid : Text) (cursor : ℕ) → names (Some rec) pid ≡ true → next_cursor stream i rec cursor ≡ cursor
+own_cursor : (stream : List StreamRec) (i : ℕ) (rec : NodeRec) (pid : Text) (cursor : ℕ) → record_names (Some rec) pid ≡ true → next_cursor stream i rec cursor ≡ cursor
 own_cursor stream i (Start off) pid cursor e = absurd (false≢true e)
 own_cursor stream i (Take off) pid cursor e = absurd (false≢true e)
 own_cursor stream zero _ pid cursor e = refl
 own_cursor stream (suc i) _ pid cursor e = refl
 
-pub own_cursor_at : (stream : List StreamRec) (log : List NodeRec) (i : ℕ) (rec : NodeRec) (pid : Text) → slice_get log i ≡ Some rec → names (Some rec) pid ≡ true
+pub own_cursor_at : (stream : List StreamRec) (log : List NodeRec) (i : ℕ) (rec : NodeRec) (pid : Text) → slice_get log i ≡ Some rec → record_names (Some rec) pid ≡ true
     → cursor_at stream log (suc i) ≡ cursor_at stream log i
 own_cursor_at stream log i rec pid at e = ap (λ o. cursor_past stream i o (cursor_at stream log i)) at ∙ own_cursor stream i rec pid (cursor_at stream log i) e
 
 -- a record that isn't the session's leaves its rooms
-pub other_rooms : (pid : Text) (held : Rooms) (rec : NodeRec) → names (Some rec) pid ≡ false → rooms_after pid held rec ≡ held
+pub other_rooms : (pid : Text) (held : Rooms) (rec : NodeRec) → record_names (Some rec) pid ≡ false → rooms_after pid held rec ≡ held
 other_rooms pid held (Join other room) e = ap (λ b. cond b (set.insert held room) held) e
 other_rooms pid held (Leave other room) e = ap (λ b. cond b (set.remove held room) held) e
 other_rooms pid held _ e = refl

@@ -14,9 +14,9 @@ use Rattle.aud_tap.specs.declared.records.StreamRec.{StreamRec}
 use Rattle.aud_node.specs.Stream.{Text, entry}
 use Rattle.aud_rooms.specs.Rooms.{is_for}
 use Rattle.aud_rooms.specs.Spans.{RoomSpan, is_within, rooms_by_spans}
-use Rattle.aud_rooms.specs.RoomMap.{RoomMap}
-use Rattle.aud_rooms.specs.Reached.{HasReached, AreByFirst, is_due_at}
-use Rattle.aud_rooms.specs.Candidates.{is_for_spans}
+use Rattle.aud_rooms.specs.Private.RoomMap.{RoomMap}
+use Rattle.aud_rooms.specs.Private.Reached.{HasReached, AreByFirst, is_due_at}
+use Rattle.aud_rooms.specs.Private.Candidates.{is_for_spans}
 use Rattle.aud_rooms.proofs.RoomMaps.{same_rooms}
 use Rattle.aud_rooms.proofs.Reach.{reached_rooms, contains-rooms_by_spans}
 

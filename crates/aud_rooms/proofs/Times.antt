@@ -9,36 +9,36 @@ use Rattle.std.proofs.lemmas.List.Folds.{list_any-append}
 use Rattle.std.proofs.lemmas.List.{drop_all, take-append-drop}
 use Rattle.std.proofs.lemmas.Option.{slice_get_within, slice_get-get_or}
 use Rattle.aud_rooms.specs.declared.interval.Interval.{Interval}
-use Rattle.aud_rooms.specs.Times.{Times, is_in, is_past, is_held_at, is_held_now, AreApart, Continues}
+use Rattle.aud_rooms.specs.Private.Times.{Times, is_in_interval, is_past_start, is_held_at, is_held_now, AreApart, ContinuesTimes}
 
 pub or_none : (a : Bool) → (a || false) ≡ a
 or_none true = refl
 or_none false = refl
 
-pub before : (p : ℕ) (i : Interval) → p ≤ i.after → is_in p i ≡ false
+pub before : (p : ℕ) (i : Interval) → p ≤ i.after → is_in_interval p i ≡ false
 before p i h = ap (λ b. b && nat_le p i.last) (le-ltb i.after p h)
 
-pub beyond : (p : ℕ) (i : Interval) → i.last < p → is_in p i ≡ false
+pub beyond : (p : ℕ) (i : Interval) → i.last < p → is_in_interval p i ≡ false
 beyond p i h = and_right (nat_lt i.after p) (nat_le p i.last) (lt-leb p i.last h)
 
-pub inside : (p : ℕ) (i : Interval) → i.after < p → p ≤ i.last → is_in p i ≡ true
+pub inside : (p : ℕ) (i : Interval) → i.after < p → p ≤ i.last → is_in_interval p i ≡ true
 inside p i a b = ap (λ x. x && nat_le p i.last) (lt-ltb i.after p a) ∙ le-leb p i.last b
 
 -- no interval has a position that isn't past the number that they begin from
-pub none_before : (from covered p : ℕ) (is : List Interval) (since : Option ℕ) → AreApart from is since covered → p ≤ from → list_any (is_in p) is ≡ false
+pub none_before : (from covered p : ℕ) (is : List Interval) (since : Option ℕ) → AreApart from is since covered → p ≤ from → list_any (is_in_interval p) is ≡ false
 none_before from covered p [] since apart h = refl
-none_before from covered p (i ∷ is) since (a, b, c, rest) h = or_from (is_in p i) _ (before p i (omega arith)) (none_before (suc i.last) covered p is since rest (omega arith))
+none_before from covered p (i ∷ is) since (a, b, c, rest) h = or_from (is_in_interval p i) _ (before p i (omega arith)) (none_before (suc i.last) covered p is since rest (omega arith))
 
 -- nor one past the covered positions
-pub none_after : (from covered p : ℕ) (is : List Interval) (since : Option ℕ) → AreApart from is since covered → covered < p → list_any (is_in p) is ≡ false
+pub none_after : (from covered p : ℕ) (is : List Interval) (since : Option ℕ) → AreApart from is since covered → covered < p → list_any (is_in_interval p) is ≡ false
 none_after from covered p [] since apart h = refl
-none_after from covered p (i ∷ is) since (a, b, c, rest) h = or_from (is_in p i) _ (beyond p i (omega arith)) (none_after (suc i.last) covered p is since rest h)
+none_after from covered p (i ∷ is) since (a, b, c, rest) h = or_from (is_in_interval p i) _ (beyond p i (omega arith)) (none_after (suc i.last) covered p is since rest h)
 
 -- past the covered positions a room is held where it is held now
 pub held_beyond : (low covered p : ℕ) (t : Times) → AreApart low t.ended t.since covered → covered < p → is_held_at p t ≡ is_held_now t
-held_beyond low covered p t apart h = ap (λ b. b || is_past p t.since) (none_after low covered p t.ended t.since apart h) ∙ past low t.ended t.since apart
+held_beyond low covered p t apart h = ap (λ b. b || is_past_start p t.since) (none_after low covered p t.ended t.since apart h) ∙ past low t.ended t.since apart
   where
-    past : (from : ℕ) (is : List Interval) (since : Option ℕ) → AreApart from is since covered → is_past p since ≡ is_some since
+    past : (from : ℕ) (is : List Interval) (since : Option ℕ) → AreApart from is since covered → is_past_start p since ≡ is_some since
     past from is None apart = refl
     past from [] (Some after) (a, b) = lt-ltb after p (omega arith)
     past from (i ∷ is) (Some after) (a, b, c, rest) = past (suc i.last) is (Some after) rest
@@ -65,15 +65,15 @@ apart_resumed from covered [] i ends (a, b, c, rest) = (a, omega arith)
 apart_resumed from covered (j ∷ js) i ends (a, b, c, rest) = (a, b, c, apart_resumed (suc j.last) covered js i ends rest)
 
 pub resumed : (low covered : ℕ) (is old : List Interval) (i : Interval) → old ≡ is ++ i ∷ [] → i.last ≡ covered → AreApart low old None covered
-    → Continues low covered (record { ended = old; since = None }) (record { ended = is; since = Some i.after })
+    → ContinuesTimes low covered (record { ended = old; since = None }) (record { ended = is; since = Some i.after })
 resumed low covered is old i parts ends apart =
     record {
       apart = apart_resumed low covered is i ends (subst (λ o. AreApart low o None covered) parts apart);
       same = λ p h.
-          let at : is_in p i ≡ nat_lt i.after p = ap (λ b. nat_lt i.after p && b) (le-leb p i.last (omega arith)) ∙ and_true (nat_lt i.after p) in
+          let at : is_in_interval p i ≡ nat_lt i.after p = ap (λ b. nat_lt i.after p && b) (le-leb p i.last (omega arith)) ∙ and_true (nat_lt i.after p) in
           sym (
-          or_none (list_any (is_in p) old) ∙ ap (list_any (is_in p)) parts ∙ list_any-append (is_in p) is (i ∷ [])
-          ∙ ap (λ b. list_any (is_in p) is || b) (or_none (is_in p i) ∙ at)
+          or_none (list_any (is_in_interval p) old) ∙ ap (list_any (is_in_interval p)) parts ∙ list_any-append (is_in_interval p) is (i ∷ [])
+          ∙ ap (λ b. list_any (is_in_interval p) is || b) (or_none (is_in_interval p i) ∙ at)
           );
     }
   where
@@ -90,11 +90,11 @@ last_upto : (from covered : ℕ) (is : List Interval) (i : Interval) → AreApar
 last_upto from covered [] i (a, b, c, rest) = c
 last_upto from covered (j ∷ js) i (a, b, c, rest) = last_upto (suc j.last) covered js i rest
 
-same_begun : (covered p : ℕ) (is : List Interval) → p ≤ covered → (list_any (is_in p) is || nat_lt covered p) ≡ (list_any (is_in p) is || false)
-same_begun covered p is h = ap (λ b. list_any (is_in p) is || b) (le-ltb covered p h)
+same_begun : (covered p : ℕ) (is : List Interval) → p ≤ covered → (list_any (is_in_interval p) is || nat_lt covered p) ≡ (list_any (is_in_interval p) is || false)
+same_begun covered p is h = ap (λ b. list_any (is_in_interval p) is || b) (le-ltb covered p h)
 
 pub begun : (low covered : ℕ) (is old : List Interval) (i : Interval) → old ≡ is ++ i ∷ [] → (i.last ≡ covered → ⊥) → AreApart low old None covered
-    → Continues low covered (record { ended = old; since = None }) (record { ended = old; since = Some covered })
+    → ContinuesTimes low covered (record { ended = old; since = None }) (record { ended = old; since = Some covered })
 begun low covered is old i parts apart_from apart =
     record {
       apart =
@@ -115,14 +115,14 @@ apart_unused from covered after [] apart = tt
 apart_unused from covered after (i ∷ is) (a, b, c, rest) = (a, b, c, apart_unused (suc i.last) covered after is rest)
 
 pub ended : (low covered after : ℕ) (is : List Interval) → after < covered → AreApart low is (Some after) covered
-    → Continues low covered (record { ended = is; since = Some after }) (record { ended = is ++ record { after = after; last = covered } ∷ []; since = None })
+    → ContinuesTimes low covered (record { ended = is; since = Some after }) (record { ended = is ++ record { after = after; last = covered } ∷ []; since = None })
 ended low covered after is h apart =
     record {
       apart = apart_ended low covered after is h apart;
       same = λ p to.
-          or_none (list_any (is_in p) (is ++ record { after = after; last = covered } ∷ []))
-          ∙ list_any-append (is_in p) is (record { after = after; last = covered } ∷ [])
-          ∙ ap (λ b. list_any (is_in p) is || b) (or_none (nat_lt after p && nat_le p covered) ∙ ap (λ b. nat_lt after p && b) (le-leb p covered to) ∙ and_true (nat_lt after p));
+          or_none (list_any (is_in_interval p) (is ++ record { after = after; last = covered } ∷ []))
+          ∙ list_any-append (is_in_interval p) is (record { after = after; last = covered } ∷ [])
+          ∙ ap (λ b. list_any (is_in_interval p) is || b) (or_none (nat_lt after p && nat_le p covered) ∙ ap (λ b. nat_lt after p && b) (le-leb p covered to) ∙ and_true (nat_lt after p));
     }
   where
     and_true : (a : Bool) → (a && true) ≡ a
@@ -130,20 +130,20 @@ ended low covered after is h apart =
     and_true false = refl
 
 pub unused : (low covered after : ℕ) (is : List Interval) → covered ≤ after → AreApart low is (Some after) covered
-    → Continues low covered (record { ended = is; since = Some after }) (record { ended = is; since = None })
+    → ContinuesTimes low covered (record { ended = is; since = Some after }) (record { ended = is; since = None })
 unused low covered after is h apart =
     record {
       apart = apart_unused low covered after is apart;
-      same = λ p to. ap (λ b. list_any (is_in p) is || b) (sym (le-ltb after p (omega arith)));
+      same = λ p to. ap (λ b. list_any (is_in_interval p) is || b) (sym (le-ltb after p (omega arith)));
     }
 
 -- the same, for times seen through the fields of what keeps them
 pub shut_used : (low covered after : ℕ) (t : Times) (old new : List Interval) (since : Option ℕ) → record { ended = old; since = since } ≡ t → since ≡ Some after → after < covered
-    → new ≡ old ++ record { after = after; last = covered } ∷ [] → AreApart low t.ended t.since covered → Continues low covered t (record { ended = new; since = None })
+    → new ≡ old ++ record { after = after; last = covered } ∷ [] → AreApart low t.ended t.since covered → ContinuesTimes low covered t (record { ended = new; since = None })
 shut_used low covered after t old new since seen held some is = grind (arith, ended, ended low covered after old some)
 
 pub shut_unused : (low covered after : ℕ) (t : Times) (old : List Interval) (since : Option ℕ) → record { ended = old; since = since } ≡ t → since ≡ Some after → covered ≤ after
-    → AreApart low t.ended t.since covered → Continues low covered t (record { ended = old; since = None })
+    → AreApart low t.ended t.since covered → ContinuesTimes low covered t (record { ended = old; since = None })
 shut_unused low covered after t old since seen held none = grind (arith, ended, unused low covered after old none)
 
 -- each interval has positions

@@ -10,15 +10,15 @@ use Rattle.aud_tap.specs.declared.records.NodeRec.{NodeRec}
 use Rattle.aud_node.specs.Cluster.{Cluster, node_log}
 use Rattle.aud_node.specs.Cursors.{cursor_at}
 use Rattle.aud_node.specs.Lists.{between, numbers_from}
-use Rattle.aud_node.specs.OwnRecords.{names}
+use Rattle.aud_node.specs.OwnRecords.{record_names}
 use Rattle.aud_node.specs.Stream.{Text}
 use Rattle.aud_rooms.specs.Rooms.{Rooms, rooms_after}
 use Rattle.aud_rooms.specs.Turns.{Turn, slice_of}
 use Rattle.aud_rooms.specs.TurnsDue.{rooms_at_end, rooms_at_take, rooms_for, greatest_high}
 use Rattle.aud_rooms.specs.Spans.{RoomSpan, AreSpans, AreSpansOfTurns, first_low, rooms_by_turns}
-use Rattle.aud_rooms.specs.Assigned.{Assigned, starting, covered, rooms_given, covered_upto, AreSpansOf}
+use Rattle.aud_rooms.specs.Assigned.{Assigned, starting, covered, assigned_rooms, covered_upto, AreSpansOf}
 use Rattle.aud_rooms.specs.TurnPlaces.{IsInOrder, own_between}
-use Rattle.aud_rooms.specs.Walk.{at_cursor, walked_record, walked_records, walked_turn, walked_turns}
+use Rattle.aud_rooms.specs.Private.Walk.{at_cursor, walked_record, walked_records, walked_turn, walked_turns}
 use Rattle.aud_rooms.proofs.Positions.{spans_alike}
 use Rattle.aud_rooms.proofs.OwnNumbers.{own_between-is}
 use Rattle.aud_rooms.proofs.Records.{own_cursor_at, other_rooms, rooms_at_take-is, rooms_at_end-more}
@@ -40,10 +40,10 @@ module _ (a : Assigned) (q : ℕ) where
   pub covered-upto : covered (covered_upto q a) ≡ max (covered a) q
   covered-upto = grind (arith, common_steps, length-replicate)
 
-  pub given_before : (p : ℕ) → a.low < p → p ≤ covered a → rooms_given (covered_upto q a) p ≡ rooms_given a p
+  pub given_before : (p : ℕ) → a.low < p → p ≤ covered a → assigned_rooms (covered_upto q a) p ≡ assigned_rooms a p
   given_before p past within = ap (λ o. unwrap_or o set.empty) (get-front a.sets (replicate (q - covered a) a.held) (p - suc a.low) (omega arith))
 
-  pub given_now : (p : ℕ) → covered a < p → p ≤ q → rooms_given (covered_upto q a) p ≡ a.held
+  pub given_now : (p : ℕ) → covered a < p → p ≤ q → assigned_rooms (covered_upto q a) p ≡ a.held
   given_now p past within = ap (λ o. unwrap_or o set.empty) (get-back a.sets (q - covered a) a.held (p - suc a.low) (omega arith) (omega arith))
 
 -- between two states the positions up to the one were kept, and the later ones have wanted rooms, those up to a cursor
@@ -52,8 +52,8 @@ pub record Gives (want : ℕ → Rooms) (cursor : ℕ) (a b : Assigned) : Type 0
   pub low : b.low ≡ a.low
   pub from : covered a ≤ covered b
   pub to : covered b ≤ max (covered a) cursor
-  pub kept : (p : ℕ) → a.low < p → p ≤ covered a → rooms_given b p ≡ rooms_given a p
-  pub inside : (p : ℕ) → covered a < p → p ≤ covered b → rooms_given b p ≡ want p
+  pub kept : (p : ℕ) → a.low < p → p ≤ covered a → assigned_rooms b p ≡ assigned_rooms a p
+  pub inside : (p : ℕ) → covered a < p → p ≤ covered b → assigned_rooms b p ≡ want p
   pub now : (p : ℕ) → covered b < p → p ≤ cursor → b.held ≡ want p
 
 -- the positions up to the cursor are covered
@@ -68,7 +68,7 @@ gives-covered want cursor a b g =
       from = omega (arith, all, from);
       to = omega (arith, all, to);
       kept = λ p x y. given_before b cursor p (omega (arith, x, low)) (omega (arith, y, from)) ∙ g.kept p x y;
-      inside = λ p x y. elim (cases_lt (covered b) p) as (λ _. rooms_given (covered_upto cursor b) p ≡ want p) [
+      inside = λ p x y. elim (cases_lt (covered b) p) as (λ _. assigned_rooms (covered_upto cursor b) p ≡ want p) [
         | inl past ↦ given_now b cursor p past (omega (arith, y, all, past)) ∙ g.now p past (omega (arith, y, all, past))
         | inr within ↦ given_before b cursor p (omega (arith, x, low)) within ∙ g.inside p x within
       ];
@@ -87,7 +87,7 @@ module _ (c : Cluster) (pid : Text) (t : Turn) (in_order : IsInOrder c t) (a : A
   want p = rooms_at_take c.stream pid p a.held (between log t.from t.to)
 
   abbrev own : ℕ → Bool
-  own number = names (slice_get log number) pid
+  own number = record_names (slice_get log number) pid
 
   -- before the record with this number
   pub record Before (x : ℕ) (b : Assigned) : Type 0 where
@@ -116,7 +116,7 @@ module _ (c : Cluster) (pid : Text) (t : Turn) (in_order : IsInOrder c t) (a : A
       }
 
   -- a record of another session, or of none
-  other : (x : ℕ) (rec : NodeRec) (b : Assigned) → t.from ≤ x → x < t.to → slice_get log x ≡ Some rec → names (Some rec) pid ≡ false → Before x b → Before (suc x) b
+  other : (x : ℕ) (rec : NodeRec) (b : Assigned) → t.from ≤ x → x < t.to → slice_get log x ≡ Some rec → record_names (Some rec) pid ≡ false → Before x b → Before (suc x) b
   other x rec b h g at not_own before =
       let low = before.gives.low in
       let from = before.gives.from in
@@ -146,7 +146,7 @@ module _ (c : Cluster) (pid : Text) (t : Turn) (in_order : IsInOrder c t) (a : A
       }
 
   -- one of the session's own records
-  its_own : (x : ℕ) (rec : NodeRec) (b : Assigned) → t.from ≤ x → x < t.to → slice_get log x ≡ Some rec → names (Some rec) pid ≡ true → Before x b → Before (suc x) (walked_record c t.node pid x b)
+  its_own : (x : ℕ) (rec : NodeRec) (b : Assigned) → t.from ≤ x → x < t.to → slice_get log x ≡ Some rec → record_names (Some rec) pid ≡ true → Before x b → Before (suc x) (walked_record c t.node pid x b)
   its_own x rec b h g at is_own before =
       let stays : cur (suc x) ≡ cur x = own_cursor_at c.stream log x rec pid at is_own in
       let here : Gives want (cur (suc x)) a (covered_upto (cur (suc x)) b) = gives-covered want (cur (suc x)) a b (subst (λ n. Gives want n a b) (sym stays) before.gives) in
@@ -170,8 +170,8 @@ module _ (c : Cluster) (pid : Text) (t : Turn) (in_order : IsInOrder c t) (a : A
       let (rec, at) = slice_get_below log x (omega (arith, e, within)) in
       let some_left : x < t.to = omega (arith, e) in
       go (own x)
-      (λ is. all count (suc x) (walked_record c t.node pid x b) (omega (arith, h)) (omega (arith, e)) (its_own x rec b h some_left at (ap (λ o. names o pid) (sym at) ∙ is) before))
-      (λ is. all count (suc x) b (omega (arith, h)) (omega (arith, e)) (other x rec b h some_left at (ap (λ o. names o pid) (sym at) ∙ is) before))
+      (λ is. all count (suc x) (walked_record c t.node pid x b) (omega (arith, h)) (omega (arith, e)) (its_own x rec b h some_left at (ap (λ o. record_names o pid) (sym at) ∙ is) before))
+      (λ is. all count (suc x) b (omega (arith, h)) (omega (arith, e)) (other x rec b h some_left at (ap (λ o. record_names o pid) (sym at) ∙ is) before))
       refl
     where
       go : (v : Bool)
@@ -189,9 +189,9 @@ module _ (c : Cluster) (pid : Text) (t : Turn) (in_order : IsInOrder c t) (a : A
 record Walked (c : Cluster) (pid : Text) (t : Turn) (a b : Assigned) : Type 0 where
   low : b.low ≡ a.low
   upto : covered b ≡ max (covered a) (slice_of c t).high
-  kept : (p : ℕ) → a.low < p → p ≤ covered a → rooms_given b p ≡ rooms_given a p
+  kept : (p : ℕ) → a.low < p → p ≤ covered a → assigned_rooms b p ≡ assigned_rooms a p
   inside : (p : ℕ) → covered a < p → p ≤ (slice_of c t).high
-      → rooms_given b p ≡ cond (nat_le p (slice_of c t).low) a.held (rooms_at_take c.stream pid p a.held (slice_of c t).recs)
+      → assigned_rooms b p ≡ cond (nat_le p (slice_of c t).low) a.held (rooms_at_take c.stream pid p a.held (slice_of c t).recs)
   held : b.held ≡ rooms_at_end pid a.held (slice_of c t).recs
 
 turn_walked : (c : Cluster) (pid : Text) (t : Turn) (in_order : IsInOrder c t) (a : Assigned) → Walked c pid t a (walked_turn c pid t a)
@@ -212,7 +212,7 @@ turn_walked c pid t in_order a =
       low = before.gives.low;
       upto = omega (arith, begun, all, from, to, rises);
       kept = λ p x y. ends.kept p x (omega (arith, begun, y)) ∙ given_before a low p x y;
-      inside = λ p x y. elim (cases_lt low p) as (λ _. rooms_given (covered_upto high last) p ≡ cond (nat_le p low) a.held (rooms_at_take c.stream pid p a.held (slice_of c t).recs)) [
+      inside = λ p x y. elim (cases_lt low p) as (λ _. assigned_rooms (covered_upto high last) p ≡ cond (nat_le p low) a.held (rooms_at_take c.stream pid p a.held (slice_of c t).recs)) [
         | inl past ↦
             ends.inside p (omega (arith, begun, x, past)) (omega (arith, all, y))
             ∙ ap (λ v. cond v a.held (rooms_at_take c.stream pid p a.held (slice_of c t).recs)) (sym (lt-leb p low past))
@@ -228,9 +228,9 @@ turn_walked c pid t in_order a =
 record AllWalked (c : Cluster) (pid : Text) (turns : List Turn) (a b : Assigned) : Type 0 where
   low : b.low ≡ a.low
   upto : covered b ≡ max (covered a) (greatest_high (map (slice_of c) turns))
-  kept : (p : ℕ) → a.low < p → p ≤ covered a → rooms_given b p ≡ rooms_given a p
+  kept : (p : ℕ) → a.low < p → p ≤ covered a → assigned_rooms b p ≡ assigned_rooms a p
   inside : (p : ℕ) → covered a < p → p ≤ greatest_high (map (slice_of c) turns)
-      → rooms_for c.stream pid a.held (map (slice_of c) turns) p ≡ Some (rooms_given b p)
+      → rooms_for c.stream pid a.held (map (slice_of c) turns) p ≡ Some (assigned_rooms b p)
 
 turns_walked : (c : Cluster) (pid : Text) (turns : List Turn) → All (IsInOrder c) turns → (a : Assigned) → AllWalked c pid turns a (walked_turns c pid turns a)
 turns_walked c pid [] in_order a =
@@ -247,7 +247,7 @@ turns_walked c pid (t ∷ turns) in_order a = go (turn_walked c pid t (All-head 
           low = rest.low ∙ one.low;
           upto = omega (arith, upto, all);
           kept = λ p x y. rest.kept p (omega (arith, x, low)) (omega (arith, y, upto)) ∙ one.kept p x y;
-          inside = λ p x y. elim (cases_lt (slice_of c t).high p) as (λ _. rooms_for c.stream pid a.held (map (slice_of c) (t ∷ turns)) p ≡ Some (rooms_given (walked_turns c pid turns (walked_turn c pid t a)) p)) [
+          inside = λ p x y. elim (cases_lt (slice_of c t).high p) as (λ _. rooms_for c.stream pid a.held (map (slice_of c) (t ∷ turns)) p ≡ Some (assigned_rooms (walked_turns c pid turns (walked_turn c pid t a)) p)) [
             | inl past ↦
                 ap (λ v. cond v (Some (cond (nat_le p (slice_of c t).low) a.held (rooms_at_take c.stream pid p a.held (slice_of c t).recs))) (rooms_for c.stream pid (rooms_at_end pid a.held (slice_of c t).recs) (map (slice_of c) turns) p)) (lt-leb p (slice_of c t).high past)
                 ∙ ap (λ held. rooms_for c.stream pid held (map (slice_of c) turns) p) (sym one.held)
@@ -284,7 +284,7 @@ module _ (c : Cluster) (pid sid nsp : Text) (turns : List Turn) (in_order : All 
       let low : told.low ≡ first_low (map (slice_of c) turns) = told_all.low in
       subst (λ n. AreSpans by_turns n (greatest_high (map (slice_of c) turns)) spans) low
       (subst (λ n. AreSpans by_turns told.low n spans) told_upto
-      (spans_alike (rooms_given told) by_turns told.low (covered told) spans
+      (spans_alike (assigned_rooms told) by_turns told.low (covered told) spans
       (λ p x y. sym (ap (λ o. unwrap_or o set.empty) (told_all.inside p (omega (arith, x, low)) (omega (arith, y, told_upto))))) are))
 
 -- one record more

@@ -22,8 +22,8 @@ abbrev pub covered : Assigned → ℕ
 covered a = a.low + length a.sets
 
 -- the rooms of a position
-abbrev pub rooms_given : Assigned → ℕ → Rooms
-rooms_given a p = unwrap_or (slice_get a.sets (p - suc a.low)) set.empty
+abbrev pub assigned_rooms : Assigned → ℕ → Rooms
+assigned_rooms a p = unwrap_or (slice_get a.sets (p - suc a.low)) set.empty
 
 -- the room is held from now on
 abbrev pub with_joined : Text → Assigned → Assigned
@@ -39,7 +39,7 @@ covered_upto position a = record a { sets = a.sets ++ replicate (position - cove
 
 -- the spans are those of the covered positions
 abbrev pub AreSpansOf : Assigned → List RoomSpan → Type 0
-AreSpansOf a spans = AreSpans (rooms_given a) a.low (covered a) spans
+AreSpansOf a spans = AreSpans (assigned_rooms a) a.low (covered a) spans
 
 -- a set of rooms is stored as one of lists of bytes
 abbrev pub rooms_code : Coded Rooms

@@ -5,10 +5,5 @@ pub mod Turns
 pub mod TurnsDue
 pub mod Spans
 pub mod Assigned
-pub mod Times
-pub mod RoomMap
-pub mod Reached
-pub mod Candidates
-pub mod Building
 pub mod TurnPlaces
-pub mod Walk
+pub mod Private

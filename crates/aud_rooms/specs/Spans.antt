@@ -25,7 +25,7 @@ pub record IsMaximalInterval (test : ℕ → Bool) (low high first last : ℕ) :
   pub to_high : last ≤ high
   pub held : (p : ℕ) → first ≤ p → p ≤ last → test p ≡ true
   pub not_before : (p : ℕ) → low < p → suc p ≡ first → test p ≡ false
-  pub not_behind : (p : ℕ) → p ≤ high → p ≡ suc last → test p ≡ false
+  pub not_after : (p : ℕ) → p ≤ high → p ≡ suc last → test p ≡ false
 
 -- the span is a maximal interval of the positions whose rooms hold its room
 abbrev pub IsMaximal : (ℕ → Rooms) → ℕ → ℕ → RoomSpan → Type 0

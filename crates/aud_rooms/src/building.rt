@@ -26,7 +26,7 @@ impl<'a> Model for Building<'a> {
 
     ghost coded = { assigned_code };
 
-    ghost use Rattle.aud_rooms.specs.Building.{assigned_of, AreKept};
+    ghost use Rattle.aud_rooms.specs.Private.Building.{assigned_of, AreKept};
 
     ghost view = { λ a. assigned_of a.low a.covered a.rooms.entries };
 

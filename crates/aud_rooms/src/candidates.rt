@@ -2,7 +2,7 @@
 ghost use Rattle.std.specs.Prelude.{◌≡◌, ◌<◌, ◌≤◌, ◌++◌, ℕ, IfOk};
 ghost use Rattle.std.specs.List.{AllByRecursion, filter};
 ghost use Rattle.std.specs.List.Sorted.{IsNonDecreasing};
-ghost use Rattle.aud_rooms.specs.Candidates.{candidates, is_among, is_candidate, is_past_upto};
+ghost use Rattle.aud_rooms.specs.Private.Candidates.{candidates, is_among, is_candidate, is_past_upto};
 
 use crate::span::Span;
 use aud_node::Stream;

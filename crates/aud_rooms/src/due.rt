@@ -5,8 +5,8 @@ ghost use Rattle.std.specs.List.Sorted.{IsNonDecreasing, IsPermutation};
 ghost use Rattle.aud_node.specs.Stream.{entry};
 ghost use Rattle.aud_rooms.specs.Rooms.{is_for};
 ghost use Rattle.aud_rooms.specs.Spans.{due_by_spans};
-ghost use Rattle.aud_rooms.specs.Candidates.{is_for_spans};
-ghost use Rattle.aud_rooms.specs.Reached.{AreByFirst, is_due_at};
+ghost use Rattle.aud_rooms.specs.Private.Candidates.{is_for_spans};
+ghost use Rattle.aud_rooms.specs.Private.Reached.{AreByFirst, is_due_at};
 
 use crate::addressee::{Holds, is_for_holder};
 use crate::candidates::{candidates_of, cut_before};

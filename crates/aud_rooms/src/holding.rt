@@ -1,6 +1,6 @@
 //! When one room is held.
 ghost use Rattle.std.specs.Prelude.{◌≡◌, ◌<◌, ◌≤◌, ◌++◌, ◌∷◌, ℕ, [], IsTrue, OnOk, OnErr, Some, None, false};
-ghost use Rattle.aud_rooms.specs.Times.{Times, AreApart, Continues, is_held_now, spans_of, span_of};
+ghost use Rattle.aud_rooms.specs.Private.Times.{Times, AreApart, ContinuesTimes, is_held_now, spans_of, span_of};
 
 use crate::interval::Interval;
 use crate::span::Span;
@@ -17,7 +17,7 @@ pub struct Holding {
 }
 
 impl Model for Holding {
-    ghost use Rattle.aud_rooms.specs.Times.{Times};
+    ghost use Rattle.aud_rooms.specs.Private.Times.{Times};
 
     ghost Value = { Times };
 
@@ -38,7 +38,7 @@ impl Holding {
     /// The room is held from now on.
     pub fn open(&mut self, covered: u64)
         ensures continues { (low : ℕ) → low ≤ covered → AreApart low self.old.ended self.old.since covered
-            → Continues low covered self.old self.new }
+            → ContinuesTimes low covered self.old self.new }
         ensures held { IsTrue (is_held_now self.new) }
     {
         if self.since.is_none() {
@@ -49,7 +49,7 @@ impl Holding {
     /// The room is held no longer.
     pub fn shut(&mut self, covered: u64) -> Result<(), Memory>
         ensures continues { (low : ℕ) → AreApart low self.old.ended self.old.since covered
-            → Continues low covered self.old self.new }
+            → ContinuesTimes low covered self.old self.new }
         ensures left { OnOk result (is_held_now self.new ≡ false) }
         ensures unchanged { OnErr result (self.new ≡ self.old) }
     {
@@ -115,7 +115,7 @@ fn push_span<'a>(spans: &mut Vec<Span<'a>>, room: &'a str, interval: Interval) -
 /// that interval goes on.
 fn resume(ended: &mut Vec<Interval>, covered: u64) -> u64
     ensures { (low : ℕ) → low ≤ covered → AreApart low ended.old.items None covered
-        → Continues low covered (record { ended = ended.old.items; since = None }) (record { ended = ended.new.items; since = Some result }) }
+        → ContinuesTimes low covered (record { ended = ended.old.items; since = None }) (record { ended = ended.new.items; since = Some result }) }
 {
     if let Some(latest) = ended.last().copied() {
         if latest.last == covered {

@@ -2,8 +2,8 @@
 ghost use Rattle.std.specs.Prelude.{◌≡◌, ◌++◌, ◌∷◌, [], List, OnOk, nat_le};
 ghost use Rattle.aud_rooms.specs.Rooms.{Rooms};
 ghost use Rattle.aud_rooms.specs.Spans.{RoomSpan};
-ghost use Rattle.aud_rooms.specs.RoomMap.{rooms_with};
-ghost use Rattle.aud_rooms.specs.Reached.{HasReached};
+ghost use Rattle.aud_rooms.specs.Private.RoomMap.{rooms_with};
+ghost use Rattle.aud_rooms.specs.Private.Reached.{HasReached};
 
 use crate::addressee::Holds;
 use crate::span::Span;

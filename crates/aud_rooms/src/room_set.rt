@@ -39,7 +39,7 @@ impl<'a> RoomSet<'a> {
     }
 
     /// Whether the room is held.
-    pub fn has(&self, room: &str) -> bool
+    pub fn contains(&self, room: &str) -> bool
         ensures { result ≡ set.contains self.now room.now }
     {
         self.rooms.contains(room)
@@ -69,6 +69,6 @@ impl<'a> Holds for RoomSet<'a> {
     ghost rooms = { λ held. held };
 
     fn holds(&self, room: &str) -> bool {
-        self.has(room)
+        self.contains(room)
     }
 }

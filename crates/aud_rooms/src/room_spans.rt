@@ -1,8 +1,8 @@
 //! The spans of all rooms.
 ghost use Rattle.std.specs.Prelude.{◌≡◌, ℕ, Some, IfOk, List};
-ghost use Rattle.aud_rooms.specs.Times.{Times, AreApart};
-ghost use Rattle.aud_rooms.specs.RoomMap.{at_room, AreOrdered};
-ghost use Rattle.aud_rooms.specs.Building.{spans_upto};
+ghost use Rattle.aud_rooms.specs.Private.Times.{Times, AreApart};
+ghost use Rattle.aud_rooms.specs.Private.RoomMap.{at_room, AreOrdered};
+ghost use Rattle.aud_rooms.specs.Private.Building.{spans_upto};
 
 use crate::holding::Holding;
 use crate::span::Span;

@@ -6,7 +6,7 @@ ghost use Rattle.aud_node.specs.Stream.{Text};
 ghost use Rattle.aud_rooms.specs.Turns.{slice_of};
 ghost use Rattle.aud_rooms.specs.TurnPlaces.{IsWithin, IsInOrder};
 ghost use Rattle.aud_rooms.specs.Spans.{AreSpansOfTurns, first_low};
-ghost use Rattle.aud_rooms.specs.Walk.{with_record, walked_record, walked_turn};
+ghost use Rattle.aud_rooms.specs.Private.Walk.{held_after_record, walked_record, walked_turn};
 
 use crate::builder::SpanBuilder;
 use crate::span::Span;
@@ -93,7 +93,7 @@ fn change_rooms<'a>(
     pid: &str,
     rec: &'a NodeRec,
 ) -> Result<(), Memory>
-    ensures { OnOk result (builder.new ≡ option_map (with_record pid.now rec.now) builder.old) }
+    ensures { OnOk result (builder.new ≡ option_map (held_after_record pid.now rec.now) builder.old) }
 {
     match rec {
         NodeRec::Join { pid: other, room } if other.as_str() == pid => builder.join(room.as_str()),

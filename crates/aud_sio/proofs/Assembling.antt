@@ -7,7 +7,8 @@ use Rattle.aud_sio.specs.declared.fault.SioFault.TheVariants.{TextWhileBinary}
 use Rattle.aud_sio.specs.Packet.{PacketSeen, packet_of}
 use Rattle.aud_sio.specs.Message.{Blob, Message, Text, Bytes, at}
 use Rattle.aud_sio.specs.Wholes.{WholeSeen, Answer, leading_bytes, wholes_of}
-use Rattle.aud_sio.specs.Assembly.{gives_with, wholes_after}
+use Rattle.aud_sio.specs.Assembly.{wholes_after}
+use Rattle.aud_sio.specs.Private.Awaited.{gives_with}
 
 -- a packet with attachments in front of others
 abbrev pub with_bin : WholeSeen → List Blob → WholeSeen
@@ -83,6 +84,6 @@ pub held : (text : List ℕ) (packet : PacketSeen) (blobs : List Blob) (count : 
     → packet_of text ≡ Ok packet → packet.attachments ≡ length blobs + count
     → wholes_after (Text text ∷ map Bytes blobs) l ≡ gives_with 0 (record { text = text; packet = packet; bin = blobs }) count l
 held text packet blobs count l reads awaits =
-    let behind = at 0 (map Bytes blobs) ++ l in
+    let later = at 0 (map Bytes blobs) ++ l in
     let w : WholeSeen = record { text = text; packet = packet; bin = [] } in
-    text_first 0 text packet behind reads ∙ ap (λ n. gives_with 0 w n behind) awaits ∙ many_attached 0 w blobs count l
+    text_first 0 text packet later reads ∙ ap (λ n. gives_with 0 w n later) awaits ∙ many_attached 0 w blobs count l

@@ -5,7 +5,7 @@ use Rattle.aud_sio.specs.declared.fault.SioFault.TheVariants.{Memory}
 use Rattle.aud_sio.specs.declared.whole.Whole.{Whole}
 use Rattle.aud_sio.specs.Message.{Message, messages_of, at}
 use Rattle.aud_sio.specs.Assembly.{Feeds, Continues, wholes_after}
-use Rattle.aud_sio.specs.Calls.{Call, answers_of, Follow, answers, messages, AnswersAreWholes}
+use Rattle.aud_sio.specs.Calls.{FeedCall, answers_of, FeedCallsFollow, answers, messages, AnswersAreWholes}
 
 -- what a call with memory says
 continues : (old messages : List Message) (result : Result (Option Whole) SioFault) (new : List Message)
@@ -13,7 +13,7 @@ continues : (old messages : List Message) (result : Result (Option Whole) SioFau
 continues old messages (Ok given) new feeds memory = feeds
 continues old messages (Err fault) new feeds memory = feeds (λ same. memory (ap Err same))
 
-follows : (held : List Message) (calls : List Call) → Follow held calls → wholes_after held (messages calls) ≡ answers calls
+follows : (held : List Message) (calls : List FeedCall) → FeedCallsFollow held calls → wholes_after held (messages calls) ≡ answers calls
 follows held [] waits = waits
 follows held (call ∷ calls) follow =
     continues held (messages_of call.packet) call.result call.held follow.0 follow.1 call.place (messages calls)

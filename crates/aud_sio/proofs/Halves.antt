@@ -4,22 +4,23 @@ use Rattle.std.proofs.lemmas.List.{length-map}
 use Rattle.aud_sio.specs.declared.fault.SioFault.TheVariants.{TextWhileBinary}
 use Rattle.aud_sio.specs.declared.whole.Whole.{Whole}
 use Rattle.aud_sio.specs.declared.half.Half.{Half}
-use Rattle.aud_sio.specs.Packet.{view, packet_of}
+use Rattle.aud_sio.specs.Packet.{packet_view, packet_of}
 use Rattle.aud_sio.specs.Message.{Message, Text}
-use Rattle.aud_sio.specs.Assembly.{blob_view, whole_view, messages_of_whole, messages_held, wholes_after, gives_with, Continues, Waits}
+use Rattle.aud_sio.specs.Assembly.{blob_view, whole_view, messages_of_whole, messages_held, wholes_after, Continues, Waits}
+use Rattle.aud_sio.specs.Private.Awaited.{gives_with}
 use Rattle.aud_sio.proofs.Assembling.{held, ends_early, text_among}
 
 -- so many attachments are awaited, less one
 abbrev pub after_next : Whole → ℕ
 after_next w = w.packet.attachments - suc (length w.bin.items)
 
-pub whole_held : (w : Whole) (l : List (ℕ × Message)) → packet_of w.text.now ≡ Ok (view w.packet) → length w.bin.items < w.packet.attachments
+pub whole_held : (w : Whole) (l : List (ℕ × Message)) → packet_of w.text.now ≡ Ok (packet_view w.packet) → length w.bin.items < w.packet.attachments
     → wholes_after (messages_of_whole w) l ≡ gives_with 0 (whole_view w) (suc (after_next w)) l
 whole_held w l reads awaits =
     let few : w.packet.attachments ≡ length (map blob_view w.bin.items) + suc (after_next w) = rw length-map (omega arith) in
-    held w.text.now (view w.packet) (map blob_view w.bin.items) (suc (after_next w)) l reads few
+    held w.text.now (packet_view w.packet) (map blob_view w.bin.items) (suc (after_next w)) l reads few
 
-pub whole_waits : (w : Whole) → packet_of w.text.now ≡ Ok (view w.packet) → length w.bin.items < w.packet.attachments
+pub whole_waits : (w : Whole) → packet_of w.text.now ≡ Ok (packet_view w.packet) → length w.bin.items < w.packet.attachments
     → Waits (messages_of_whole w)
 whole_waits w reads awaits = whole_held w [] reads awaits ∙ ends_early 0 (whole_view w) (after_next w)
 

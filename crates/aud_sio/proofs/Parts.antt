@@ -18,10 +18,10 @@ use Rattle.aud_sio.specs.declared.kind.PacketKind.{PacketKind}
 use Rattle.aud_base.specs.Steps.{◌>>=◌, guard}
 use Rattle.aud_base.proofs.StepLemmas.{same-ok, part-of, guard-ok}
 use Rattle.aud_sio.specs.Kind.{kind_at, is_binary, wants_array}
-use Rattle.aud_sio.specs.Digits.{digit_count, number_at, after_digits}
+use Rattle.aud_sio.specs.Digits.{digit_count, leading_number, after_digits}
 use Rattle.aud_sio.specs.Attachments.{count_at, attachments_at}
-use Rattle.aud_sio.specs.Namespace.{is_comma, main_namespace, namespace_at}
-use Rattle.aud_sio.specs.AckId.{id_at}
+use Rattle.aud_sio.specs.Namespace.{is_comma, main_namespace, leading_namespace}
+use Rattle.aud_sio.specs.AckId.{ack_id_at}
 use Rattle.aud_sio.specs.Payload.{last_of_payload, payload_at}
 use Rattle.aud_sio.specs.Packet.{PacketSeen, packet_of}
 use Rattle.aud_sio.specs.Written.{written_payload}
@@ -62,10 +62,10 @@ three_guards fault a b c x y is =
 count-of : (text : List ℕ) (read : ℕ × List ℕ) → count_at text ≡ Ok read → read.0 ≤ 64
 unfolding count_at
 count-of text read is =
-    let found = three_guards Attachments (nat_le 1 (digit_count text) && nat_le (digit_count text) 2) (slice_index (after_digits text) 0 == 45) (nat_le (number_at text) 64)
-    (number_at text, drop 1 (after_digits text)) read is in
-    let few : number_at text ≤ 64 = grind (arith, nat_tests, found.0) in
-    let same : number_at text ≡ read.0 = ap (λ r. r.0) found.1 in
+    let found = three_guards Attachments (nat_le 1 (digit_count text) && nat_le (digit_count text) 2) (slice_index (after_digits text) 0 == 45) (nat_le (leading_number text) 64)
+    (leading_number text, drop 1 (after_digits text)) read is in
+    let few : leading_number text ≤ 64 = grind (arith, nat_tests, found.0) in
+    let same : leading_number text ≡ read.0 = ap (λ r. r.0) found.1 in
     omega (arith, few, same)
 
 pub attachments-of : (kind : PacketKind) (text : List ℕ) (read : ℕ × List ℕ) → attachments_at kind text ≡ Ok read → (read.0 ≤ 64) × (is_binary kind ≡ false → read.0 ≡ 0)
@@ -81,8 +81,8 @@ slash-first (b ∷ bs) slash =
     let other : is_comma b ≡ false = grind (arith, nat_tests, slash) in
     rw (take_while-cons (λ x. not (is_comma x)) b bs, other) slash
 
-pub namespace-of : (text : List ℕ) (read : List ℕ × List ℕ) → namespace_at text ≡ read → (slice_index read.0 0 ≡ 47) × (position_or_len is_comma read.0 ≡ length read.0)
-unfolding namespace_at
+pub namespace-of : (text : List ℕ) (read : List ℕ × List ℕ) → leading_namespace text ≡ read → (slice_index read.0 0 ≡ 47) × (position_or_len is_comma read.0 ≡ length read.0)
+unfolding leading_namespace
 namespace-of text read is = elim (cases_Bool (slice_index text 0 == 47)) [
   | inl slash ↦
       let named : before_first is_comma text ≡ read.0 = ap (λ r. r.0) (rw slash at is) in
@@ -97,7 +97,7 @@ one_guard : {A : Type 0} (fault : SioFault) (a : Bool) (x y : A) → (guard faul
 one_guard fault a x y is = let held = guard-ok fault a (Ok x) y is in (held.0, same-ok x y held.1)
 
 -- up to 18 digits write less than a one and 18 zeros
-number-small : (text : List ℕ) → digit_count text ≤ 18 → number_at text < 10 ^ 18
+number-small : (text : List ℕ) → digit_count text ≤ 18 → leading_number text < 10 ^ 18
 number-small text few =
     let small = digits_value-lt 10 (take_while is_ascii_digit text) (front-digits text) in
     let count : length (take_while is_ascii_digit text) ≡ digit_count text = length-prefix_len is_ascii_digit text in
@@ -109,10 +109,10 @@ id-cases : (b : Bool) (m n : ℕ) → (if b then None else Some m) ≡ Some n �
 id-cases true m n is = (cc)
 id-cases false m n is = (cc)
 
-pub id-of : (text : List ℕ) (read : Option ℕ × List ℕ) → id_at text ≡ Ok read → ((n : ℕ) → read.0 ≡ Some n → n < 10 ^ 18) × (digit_count read.1 ≡ 0)
-unfolding id_at
+pub id-of : (text : List ℕ) (read : Option ℕ × List ℕ) → ack_id_at text ≡ Ok read → ((n : ℕ) → read.0 ≡ Some n → n < 10 ^ 18) × (digit_count read.1 ≡ 0)
+unfolding ack_id_at
 id-of text read is =
-    let found = one_guard AckId (nat_le (digit_count text) 18) (if digit_count text == 0 then None else Some (number_at text), after_digits text) read is in
+    let found = one_guard AckId (nat_le (digit_count text) 18) (if digit_count text == 0 then None else Some (leading_number text), after_digits text) read is in
     let few : digit_count text ≤ 18 = grind (arith, nat_tests, found.0) in
     let rest : after_digits text ≡ read.1 = ap (λ r. r.1) found.1 in
     (λ n id. let same = id-cases _ _ n (ap (λ r. r.0) found.1 ∙ id) in omega (arith, same, number-small text few), rw (← rest) (prefix_len-drop is_ascii_digit text))
@@ -158,11 +158,11 @@ unfolding packet_of
 parts-of text p is =
     let kind = part-of (kind_at text) _ p is in
     let count = part-of (attachments_at kind.0.0 kind.0.1) _ p kind.2 in
-    let id = part-of (id_at (namespace_at count.0.1).1) _ p count.2 in
+    let id = part-of (ack_id_at (leading_namespace count.0.1).1) _ p count.2 in
     let end = part-of (payload_at kind.0.0 id.0.1) _ p id.2 in
     let attachments = attachments-of kind.0.0 kind.0.1 count.0 count.1 in
-    let nsp = namespace-of count.0.1 (namespace_at count.0.1) refl in
-    let number = id-of (namespace_at count.0.1).1 id.0 id.1 in
+    let nsp = namespace-of count.0.1 (leading_namespace count.0.1) refl in
+    let number = id-of (leading_namespace count.0.1).1 id.0 id.1 in
     let left = sym (payload-text kind.0.0 id.0.1 end.0 end.1) in
     subst HasParts (same-ok _ p end.2) (record {
       few = attachments.0;

@@ -20,10 +20,10 @@ use Rattle.aud_base.specs.Steps.{◌>>=◌}
 use Rattle.aud_sio.specs.Kind.{kind_at, is_binary, type_digit}
 use Rattle.aud_sio.specs.Digits.{digit_count}
 use Rattle.aud_sio.specs.Attachments.{count_at, attachments_at}
-use Rattle.aud_sio.specs.Namespace.{is_comma, main_namespace, namespace_at}
-use Rattle.aud_sio.specs.AckId.{id_at}
+use Rattle.aud_sio.specs.Namespace.{is_comma, main_namespace, leading_namespace}
+use Rattle.aud_sio.specs.AckId.{ack_id_at}
 use Rattle.aud_sio.specs.Packet.{PacketSeen, packet_of, IsSpelled}
-use Rattle.aud_sio.specs.Written.{written_count, written_namespace, written_id, written_payload, text_of}
+use Rattle.aud_sio.specs.Written.{written_count, written_namespace, written_id, written_payload, packet_text}
 
 -- ---- digits before other bytes
 
@@ -48,13 +48,13 @@ numerals = numerals_by_value _ tells_all_ascii_digits
 -- ---- each part, written before what follows it
 
 -- few digits are read as an id
-id-of-digits : (ds rest : List ℕ) → 0 < length ds → length ds ≤ 18 → digit_count (ds ++ rest) ≡ length ds → id_at (ds ++ rest) ≡ Ok (Some (digits_value 10 ds), rest)
-unfolding id_at
+id-of-digits : (ds rest : List ℕ) → 0 < length ds → length ds ≤ 18 → digit_count (ds ++ rest) ≡ length ds → ack_id_at (ds ++ rest) ≡ Ok (Some (digits_value 10 ds), rest)
+unfolding ack_id_at
 id-of-digits ds rest some few count = rw (count, le-true _ _ few, some-true _ some, take-append_seam ds rest, drop-append_seam ds rest) refl
 
 -- what is written of an id is read as it
-id-read : (id : Option ℕ) (rest : List ℕ) → ((n : ℕ) → id ≡ Some n → n < 10 ^ 18) → digit_count rest ≡ 0 → id_at (written_id id ++ rest) ≡ Ok (id, rest)
-unfolding id_at
+id-read : (id : Option ℕ) (rest : List ℕ) → ((n : ℕ) → id ≡ Some n → n < 10 ^ 18) → digit_count rest ≡ 0 → ack_id_at (written_id id ++ rest) ≡ Ok (id, rest)
+unfolding ack_id_at
 id-read None rest small none = rw none refl
 id-read (Some n) rest small none =
     let within : n < 10 ^ 18 = small n refl in
@@ -93,14 +93,14 @@ either false n = refl
 comma-after : (nsp rest : List ℕ) → position_or_len is_comma nsp ≡ length nsp → position_or_len is_comma (nsp ++ 44 ∷ rest) ≡ length nsp
 comma-after nsp rest whole = rw (prefix_len-append, whole) (either _ (length nsp))
 
-namespace-before : (nsp rest : List ℕ) → slice_index nsp 0 ≡ 47 → position_or_len is_comma nsp ≡ length nsp → namespace_at (nsp ++ 44 ∷ rest) ≡ (nsp, rest)
-unfolding namespace_at
+namespace-before : (nsp rest : List ℕ) → slice_index nsp 0 ≡ 47 → position_or_len is_comma nsp ≡ length nsp → leading_namespace (nsp ++ 44 ∷ rest) ≡ (nsp, rest)
+unfolding leading_namespace
 namespace-before nsp rest slash whole =
     rw (starts_same nsp (44 ∷ rest) slash, comma-after nsp rest whole, take-append_seam nsp (44 ∷ rest), drop-append-add nsp (44 ∷ rest) 1) refl
 
 -- what is written of a namespace is read as it
-namespace-read : (nsp rest : List ℕ) → slice_index nsp 0 ≡ 47 → position_or_len is_comma nsp ≡ length nsp → (slice_index rest 0 == 47) ≡ false → namespace_at (written_namespace nsp ++ rest) ≡ (nsp, rest)
-unfolding namespace_at
+namespace-read : (nsp rest : List ℕ) → slice_index nsp 0 ≡ 47 → position_or_len is_comma nsp ≡ length nsp → (slice_index rest 0 == 47) ≡ false → leading_namespace (written_namespace nsp ++ rest) ≡ (nsp, rest)
+unfolding leading_namespace
 namespace-read nsp rest slash whole none = elim (cases_Bool (bytes_eq nsp main_namespace)) [
   | inl main ↦ rw ((bytes_eq-Decides nsp main_namespace).0 main, none) refl
   | inr other ↦ rw (other, append_assoc) (namespace-before nsp rest slash whole)
@@ -133,8 +133,8 @@ reads_then : {A B : Type 0} (r : Result A SioFault) (x : A) (f : A → Result B 
 reads_then r x f y part more = ap (λ q. q >>= f) part ∙ more
 
 -- the text, part by part from its end
-nested : (p : PacketSeen) → text_of p ≡ type_digit p.kind ∷ (written_count p.kind p.attachments ++ (written_namespace p.nsp ++ (written_id p.id ++ written_payload p.payload)))
-unfolding text_of
+nested : (p : PacketSeen) → packet_text p ≡ type_digit p.kind ∷ (written_count p.kind p.attachments ++ (written_namespace p.nsp ++ (written_id p.id ++ written_payload p.payload)))
+unfolding packet_text
 nested p = simp append_assoc
 
 nested-reads : (p : PacketSeen) → HasParts p
@@ -144,7 +144,7 @@ nested-reads p parts =
     let slash = no_slash-id p.id (written_payload p.payload) parts.small parts.no_slash in
     let count = count-read p.kind p.attachments (written_namespace p.nsp ++ (written_id p.id ++ written_payload p.payload)) parts.few parts.none in
     let nsp = namespace-read p.nsp (written_id p.id ++ written_payload p.payload) parts.slash parts.no_comma slash in
-    let id = ap (λ read. id_at read.1) nsp ∙ id-read p.id (written_payload p.payload) parts.small parts.no_digit in
+    let id = ap (λ read. ack_id_at read.1) nsp ∙ id-read p.id (written_payload p.payload) parts.small parts.no_digit in
     let whole = ap (λ (read : List ℕ × List ℕ). ok (record p { nsp = read.0 })) nsp in
     reads_then (kind_at _) _ _ _ (kind-read p.kind _)
     (reads_then _ _ _ _ count (reads_then _ _ _ _ id (reads_then _ _ _ _ parts.payload whole)))
@@ -152,13 +152,13 @@ nested-reads p parts =
     ok : PacketSeen → Result PacketSeen SioFault
     ok q = Ok q
 
-pub written-reads : (p : PacketSeen) → HasParts p → packet_of (text_of p) ≡ Ok p
+pub written-reads : (p : PacketSeen) → HasParts p → packet_of (packet_text p) ≡ Ok p
 written-reads p parts = ap packet_of (nested p) ∙ nested-reads p parts
 
 -- what is written of a packet that some text spells is a text of it
-pub spelled_reads_back : (p : PacketSeen) → IsSpelled p → packet_of (text_of p) ≡ Ok p
+pub spelled_reads_back : (p : PacketSeen) → IsSpelled p → packet_of (packet_text p) ≡ Ok p
 spelled_reads_back p spelled = written-reads p (parts-of spelled.text p spelled.reads)
 
 -- so a packet that was built by hand is shown to be spelled by some text
 pub parts_spelled : (p : PacketSeen) → HasParts p → IsSpelled p
-parts_spelled p parts = record { text = text_of p; reads = written-reads p parts }
+parts_spelled p parts = record { text = packet_text p; reads = written-reads p parts }

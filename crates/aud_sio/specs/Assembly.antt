@@ -1,14 +1,14 @@
 -- What an assembler holds and answers.
-use Rattle.std.specs.Prelude.{◌≡◌, ◌-◌, ℕ, length, Bool, true, false, List, [], ◌∷◌, ◌++◌, map, Option, Some, None, Result, Ok, Err}
+use Rattle.std.specs.Prelude.{◌≡◌, ℕ, Bool, true, false, List, [], ◌∷◌, ◌++◌, map, Option, Some, None, Result, Ok, Err}
 use Rattle.aud_sio.specs.declared.fault.SioFault.{SioFault}
 use Rattle.aud_sio.specs.declared.fault.SioFault.TheVariants.{Memory}
 use Rattle.aud_sio.specs.declared.whole.Blob.{Blob as BlobCode}
 use Rattle.aud_sio.specs.declared.whole.Blob.TheVariants as code
 use Rattle.aud_sio.specs.declared.whole.Whole.{Whole}
 use Rattle.aud_sio.specs.declared.half.Half.{Half}
-use Rattle.aud_sio.specs.Packet.{view, has_payload}
+use Rattle.aud_sio.specs.Packet.{packet_view, has_payload}
 use Rattle.aud_sio.specs.Message.{Blob, Lent, Own, Message, Text, Bytes, at}
-use Rattle.aud_sio.specs.Wholes.{WholeSeen, Answer, answer_to, last_place, consumed, wholes_past, wholes_of}
+use Rattle.aud_sio.specs.Wholes.{WholeSeen, Answer, wholes_of}
 
 -- what contracts see of an attachment
 abbrev pub blob_view : BlobCode → Blob
@@ -17,7 +17,7 @@ blob_view (code.Own bytes) = Own bytes.items
 
 -- what contracts see of a whole packet
 abbrev pub whole_view : Whole → WholeSeen
-whole_view w = record { text = w.text.now; packet = view w.packet; bin = map blob_view w.bin.items }
+whole_view w = record { text = w.text.now; packet = packet_view w.packet; bin = map blob_view w.bin.items }
 
 -- the messages that a packet was put together from
 abbrev pub messages_of_whole : Whole → List Message
@@ -38,7 +38,7 @@ abbrev pub answer_of : Option Whole → List Answer
 answer_of None = []
 answer_of (Some w) = Ok (whole_view w) ∷ []
 
--- what is answered to messages, and what comes after that, is what they give behind those held
+-- what is answered to messages, and what comes after that, is what they give after those held
 abbrev pub Continues : List Message → List Message → List Answer → List Message → Type 0
 Continues old messages answers new = (place : ℕ) (l : List (ℕ × Message))
     → wholes_after old (at place messages ++ l) ≡ at place answers ++ wholes_after new l
@@ -57,12 +57,3 @@ takes_memory held messages = false
 -- nothing comes of what is held, unless more messages come
 abbrev pub Waits : List Message → Type 0
 Waits held = wholes_after held [] ≡ []
-
--- what comes of a packet that awaits so many attachments more, whose last message so far stands at a place
-abbrev pub gives_with : ℕ → WholeSeen → ℕ → List (ℕ × Message) → List (ℕ × Answer)
-gives_with place whole count l = at (last_place place count l) (answer_to whole count l) ++ wholes_past (consumed count l) l
-
--- what comes of a packet, with the attachments that it awaits, is an answer at once and what is held then gives
-abbrev pub Keeps : WholeSeen → List Answer → List Message → Type 0
-Keeps whole answers new = (place : ℕ) (l : List (ℕ × Message))
-    → gives_with place whole (whole.packet.attachments - length whole.bin) l ≡ at place answers ++ wholes_after new l

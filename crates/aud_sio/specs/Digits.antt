@@ -9,8 +9,8 @@ abbrev pub digit_count : List ℕ → ℕ
 digit_count text = prefix_len is_ascii_digit text
 
 -- the number that they write
-abbrev pub number_at : List ℕ → ℕ
-number_at text = digits_value 10 (take_while is_ascii_digit text)
+abbrev pub leading_number : List ℕ → ℕ
+leading_number text = digits_value 10 (take_while is_ascii_digit text)
 
 -- what follows them
 abbrev pub after_digits : List ℕ → List ℕ

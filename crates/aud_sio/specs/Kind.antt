@@ -25,14 +25,14 @@ abbrev pub type_digit : PacketKind → ℕ
 type_digit kind = 48 + type_number kind
 
 -- the kind with this digit
-abbrev pub kind_of : ℕ → Result PacketKind SioFault
-kind_of byte = need UnknownType (find (λ kind. type_digit kind == byte) kinds)
+abbrev pub kind_of_digit : ℕ → Result PacketKind SioFault
+kind_of_digit byte = need UnknownType (find (λ kind. type_digit kind == byte) kinds)
 
 -- the kind at the front, and the rest
 unfoldable pub kind_at : List ℕ → Result (PacketKind × List ℕ) SioFault
 kind_at [] = Err Empty
 kind_at (byte ∷ rest) = do
-  kind ← kind_of byte
+  kind ← kind_of_digit byte
   Ok (kind, rest)
 
 -- whether binary messages follow the packet

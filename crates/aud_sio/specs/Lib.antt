@@ -11,3 +11,4 @@ pub mod Wholes
 pub mod Assembly
 pub mod Calls
 pub mod Written
+pub mod Private

@@ -8,9 +8,9 @@ pub data Blob : Type 0 where
   Own : List ℕ → Blob
 
 -- the bytes of an attachment
-abbrev pub bytes_of : Blob → List ℕ
-bytes_of (Lent bytes) = bytes
-bytes_of (Own bytes) = bytes
+abbrev pub blob_bytes : Blob → List ℕ
+blob_bytes (Lent bytes) = bytes
+blob_bytes (Own bytes) = bytes
 
 -- a message of text or of bytes
 pub data Message : Type 0 where

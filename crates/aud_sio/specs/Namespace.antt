@@ -11,5 +11,5 @@ abbrev pub main_namespace : List ℕ
 main_namespace = codes "/"
 
 -- a namespace begins with a slash and ends at the first comma, which is dropped
-unfoldable pub namespace_at : List ℕ → List ℕ × List ℕ
-namespace_at text = if slice_index text 0 == 47 then (before_first is_comma text, after_first is_comma text) else (main_namespace, text)
+unfoldable pub leading_namespace : List ℕ → List ℕ × List ℕ
+leading_namespace text = if slice_index text 0 == 47 then (before_first is_comma text, after_first is_comma text) else (main_namespace, text)

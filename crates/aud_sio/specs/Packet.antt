@@ -7,8 +7,8 @@ use Rattle.aud_sio.specs.declared.packet.Packet.{Packet}
 use Rattle.aud_base.specs.Steps.{◌>>=◌}
 use Rattle.aud_sio.specs.Kind.{kind_at}
 use Rattle.aud_sio.specs.Attachments.{attachments_at}
-use Rattle.aud_sio.specs.Namespace.{namespace_at}
-use Rattle.aud_sio.specs.AckId.{id_at}
+use Rattle.aud_sio.specs.Namespace.{leading_namespace}
+use Rattle.aud_sio.specs.AckId.{ack_id_at}
 use Rattle.aud_sio.specs.Payload.{payload_at}
 
 -- a packet as contracts see it: its texts are their bytes, wherever they lie
@@ -21,8 +21,8 @@ pub record PacketSeen : Type 0 where
   pub last : Option (List ℕ)
 
 -- what contracts see of a packet
-abbrev pub view : Packet → PacketSeen
-view p = record {
+abbrev pub packet_view : Packet → PacketSeen
+packet_view p = record {
   kind = p.kind;
   attachments = p.attachments;
   nsp = p.nsp.now;
@@ -36,8 +36,8 @@ unfoldable pub packet_of : List ℕ → Result PacketSeen SioFault
 packet_of text = do
   (kind, rest) ← kind_at text
   (attachments, rest) ← attachments_at kind rest
-  let (nsp, rest) = namespace_at rest
-  (id, rest) ← id_at rest
+  let (nsp, rest) = leading_namespace rest
+  (id, rest) ← ack_id_at rest
   (payload, last) ← payload_at kind rest
   Ok (record { kind = kind; attachments = attachments; nsp = nsp; id = id; payload = payload; last = last })
 
@@ -46,8 +46,8 @@ unfoldable pub payload_text : List ℕ → Result (List ℕ) SioFault
 payload_text text = do
   (kind, rest) ← kind_at text
   (attachments, rest) ← attachments_at kind rest
-  let (nsp, rest) = namespace_at rest
-  (id, rest) ← id_at rest
+  let (nsp, rest) = leading_namespace rest
+  (id, rest) ← ack_id_at rest
   Ok rest
 
 -- whether any byte is left for the payload

@@ -1,4 +1,4 @@
--- The whole packets of a list of messages: each packet with the attachments behind its text (Socket.IO protocol 5,
+-- The whole packets of a list of messages: each packet with the attachments after its text (Socket.IO protocol 5,
 -- "Packet encoding"). Each message stands at a place, and each answer at that of the last message that it consumed.
 use Rattle.std.specs.Prelude.{ℕ, zero, suc, nat_le, nat_lt, List, [], ◌∷◌, ◌++◌, length, take, map, slice_index, Result, Ok, Err, if◌then◌else◌}
 use Rattle.aud_sio.specs.declared.fault.SioFault.{SioFault}

@@ -29,5 +29,5 @@ abbrev pub written_payload : Option (List ℕ) → List ℕ
 written_payload payload = unwrap_or payload []
 
 -- the text of a packet: its parts in their order, numbers without leading zeros, the payload as it is
-unfoldable pub text_of : PacketSeen → List ℕ
-text_of p = written_kind p.kind ++ written_count p.kind p.attachments ++ written_namespace p.nsp ++ written_id p.id ++ written_payload p.payload
+unfoldable pub packet_text : PacketSeen → List ℕ
+packet_text p = written_kind p.kind ++ written_count p.kind p.attachments ++ written_namespace p.nsp ++ written_id p.id ++ written_payload p.payload

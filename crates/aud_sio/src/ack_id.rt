@@ -1,7 +1,7 @@
 //! The acknowledgement id of a packet.
 ghost use Rattle.std.specs.Prelude.{◌≢◌, Err};
 ghost use Rattle.aud_sio.specs.Reading.{Gives};
-ghost use Rattle.aud_sio.specs.AckId.{id_at};
+ghost use Rattle.aud_sio.specs.AckId.{ack_id_at};
 
 use crate::digits::{number_of, split_digits};
 use crate::fault::SioFault;
@@ -10,9 +10,9 @@ use crate::fault::SioFault;
 const MOST_DIGITS: usize = 18;
 
 /// The id that the digits at the front write, if any stand there, and the rest.
-#[tactic(auto, unfolding(crate::specs::AckId::id_at))]
+#[tactic(auto, unfolding(crate::specs::AckId::ack_id_at))]
 pub(crate) fn id_at(text: &str) -> Result<(Option<u64>, &str), SioFault>
-    ensures value { Gives (λ read. (read.0, read.1.now)) result (id_at text.now) }
+    ensures value { Gives (λ read. (read.0, read.1.now)) result (ack_id_at text.now) }
     ensures memory { result ≢ Err SioFault.Memory }
 {
     let (digits, rest) = split_digits(text);

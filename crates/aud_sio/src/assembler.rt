@@ -1,9 +1,10 @@
 //! Packets with their attachments, out of Engine.IO packets.
 ghost use Rattle.std.specs.Prelude.{◌≡◌, ◌≤◌, ◌∷◌, [], length, Err, IfErr, IfOk, IsSome, true};
-ghost use Rattle.aud_eio.specs.Packet.{view as packet_view};
-ghost use Rattle.aud_sio.specs.Packet.{has_payload, packet_of, view};
+ghost use Rattle.aud_eio.specs.Packet.{engine_view};
+ghost use Rattle.aud_sio.specs.Packet.{has_payload, packet_of, packet_view};
 ghost use Rattle.aud_sio.specs.Message.{Text, Bytes, messages_of};
-ghost use Rattle.aud_sio.specs.Assembly.{Feeds, Keeps, Waits, takes_memory, blob_view, whole_view, messages_held, messages_of_whole, answer_of};
+ghost use Rattle.aud_sio.specs.Assembly.{Feeds, Waits, takes_memory, blob_view, whole_view, messages_held, messages_of_whole, answer_of};
+ghost use Rattle.aud_sio.specs.Private.Awaited.{KeepsAwaited};
 
 use crate::fault::SioFault;
 use crate::half::Half;
@@ -49,12 +50,12 @@ impl<'a> Assembler<'a> {
     /// comes at rest and for an attachment that is awaited, and for nothing else. After a refusal, want of memory too,
     /// the assembler is at rest: it holds nothing of the refused packet.
     pub fn feed(&mut self, packet: Eio<'a>) -> Result<Option<Whole<'a>>, SioFault>
-        ensures answers { Feeds self.old (messages_of (packet_view packet.entry)) result self.new }
-        ensures control { messages_of (packet_view packet.entry) ≡ [] → (result ≡ Ok None) × (self.new ≡ self.old) }
+        ensures answers { Feeds self.old (messages_of (engine_view packet.entry)) result self.new }
+        ensures control { messages_of (engine_view packet.entry) ≡ [] → (result ≡ Ok None) × (self.new ≡ self.old) }
         ensures waits { Waits self.new }
         ensures rest_refused { IfErr result (λ _. self.new ≡ []) }
         ensures rest_given { IfOk result (λ whole. IsSome whole → self.new ≡ []) }
-        ensures memory { result ≡ Err SioFault.Memory → takes_memory self.old (messages_of (packet_view packet.entry)) ≡ true }
+        ensures memory { result ≡ Err SioFault.Memory → takes_memory self.old (messages_of (engine_view packet.entry)) ≡ true }
     {
         let half = self.half.take();
         match packet {
@@ -132,9 +133,9 @@ impl<'a> Assembler<'a> {
     /// Gives the packet, where it awaits no attachment, and else holds it.
     fn keep(&mut self, whole: Whole<'a>) -> Option<Whole<'a>>
         requires rest { self.old ≡ [] }
-        requires read { packet_of whole.text.now ≡ Ok (view whole.packet) }
+        requires read { packet_of whole.text.now ≡ Ok (packet_view whole.packet) }
         requires few { length whole.bin.items ≤ whole.packet.attachments }
-        ensures answers { Keeps (whole_view whole.entry) (answer_of result) self.new }
+        ensures answers { KeepsAwaited (whole_view whole.entry) (answer_of result) self.new }
         ensures waits { Waits self.new }
         ensures rest_given { IsSome result → self.new ≡ [] }
     {

@@ -1,7 +1,7 @@
 //! The kind of a packet: the digit at the front of its text.
 ghost use Rattle.std.specs.Prelude.{◌≡◌, ◌≢◌, ◌<◌, Err, OnOk};
 ghost use Rattle.aud_sio.specs.Reading.{Gives};
-ghost use Rattle.aud_sio.specs.Kind.{is_binary, kind_at, kind_of, type_digit, wants_array};
+ghost use Rattle.aud_sio.specs.Kind.{is_binary, kind_at, kind_of_digit, type_digit, wants_array};
 
 use crate::fault::SioFault;
 
@@ -38,7 +38,7 @@ pub(crate) fn kind_at(text: &str) -> Result<(PacketKind, &str), SioFault>
 }
 
 fn kind_of(byte: u8) -> Result<PacketKind, SioFault>
-    ensures value { result ≡ kind_of byte }
+    ensures value { result ≡ kind_of_digit byte }
     ensures ascii { OnOk result (byte < 128) }
     ensures memory { result ≢ Err SioFault.Memory }
 {

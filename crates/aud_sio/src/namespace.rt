@@ -1,15 +1,15 @@
 //! The namespace of a packet.
 ghost use Rattle.std.specs.Prelude.{◌≡◌};
 ghost use Rattle.std.specs.List.{after_first, before_first};
-ghost use Rattle.aud_sio.specs.Namespace.{is_comma, namespace_at};
+ghost use Rattle.aud_sio.specs.Namespace.{is_comma, leading_namespace};
 
 /// The namespace of a packet that names none.
 pub(crate) const MAIN: &str = "/";
 
 /// The namespace at the front of a text, and the rest: `/` where none stands there.
-#[tactic(auto, unfolding(crate::specs::Namespace::namespace_at))]
+#[tactic(auto, unfolding(crate::specs::Namespace::leading_namespace))]
 pub(crate) fn namespace_at(text: &str) -> (&str, &str)
-    ensures { (result.0.now, result.1.now) ≡ namespace_at text.now }
+    ensures { (result.0.now, result.1.now) ≡ leading_namespace text.now }
 {
     match text.as_bytes().first() {
         Some(b'/') => split_comma(text),

@@ -1,7 +1,7 @@
 //! The packet of a text.
 ghost use Rattle.std.specs.Prelude.{◌≡◌, Err, IfOk, option_map, true};
 ghost use Rattle.aud_sio.specs.Reading.{Gives};
-ghost use Rattle.aud_sio.specs.Packet.{IsSpelled, has_payload, packet_of, view};
+ghost use Rattle.aud_sio.specs.Packet.{IsSpelled, has_payload, packet_of, packet_view};
 
 use crate::ack_id::id_at;
 use crate::attachments::attachments_at;
@@ -38,8 +38,8 @@ pub struct Packet<'a> {
 /// and that CONNECT, DISCONNECT and CONNECT_ERROR take any JSON or none, is this crate's choice.
 #[tactic(auto, unfolding(crate::specs::Packet::packet_of, crate::specs::Packet::payload_text))]
 pub fn decode(alloc: Global, text: &str) -> Result<Packet<'_>, SioFault>
-    ensures value { Gives view result (packet_of text.now) }
-    ensures spelled { IfOk result (λ packet. IsSpelled (view packet)) }
+    ensures value { Gives packet_view result (packet_of text.now) }
+    ensures spelled { IfOk result (λ packet. IsSpelled (packet_view packet)) }
     ensures memory { result ≡ Err SioFault.Memory → has_payload text.now ≡ true }
 {
     let (kind, rest) = kind_at(text)?;
@@ -59,7 +59,7 @@ pub fn decode(alloc: Global, text: &str) -> Result<Packet<'_>, SioFault>
 
 /// The text at the end of the packet's payload, decoded, lent from `last`; none where another element stands there.
 pub fn last_text<'a>(packet: &'a Packet<'_>) -> Option<&'a str>
-    ensures { option_map (λ s. s.now) result ≡ (view packet.now).last }
+    ensures { option_map (λ s. s.now) result ≡ (packet_view packet.now).last }
 {
     packet.last.as_deref()
 }

@@ -1,6 +1,6 @@
 //! A packet with its attachments.
 ghost use Rattle.std.specs.Prelude.{◌≡◌};
-ghost use Rattle.aud_sio.specs.Message.{bytes_of};
+ghost use Rattle.aud_sio.specs.Message.{blob_bytes};
 ghost use Rattle.aud_sio.specs.Assembly.{blob_view};
 
 use crate::packet::Packet;
@@ -17,7 +17,7 @@ pub enum Blob<'a> {
 impl<'a> Blob<'a> {
     /// The bytes, lent.
     pub fn as_slice(&self) -> &[u8]
-        ensures { result.now ≡ bytes_of (blob_view self.now) }
+        ensures { result.now ≡ blob_bytes (blob_view self.now) }
     {
         match self {
             Blob::Lent(bytes) => bytes,

@@ -1,7 +1,7 @@
 //! The text of a packet.
 ghost use Rattle.std.specs.Prelude.{◌≡◌, ◌++◌, IfErr, IfOk, Ok, OnOk, option_map, string_bytes};
-ghost use Rattle.aud_sio.specs.Packet.{IsSpelled, packet_of, view};
-ghost use Rattle.aud_sio.specs.Written.{text_of, written_count, written_id, written_namespace};
+ghost use Rattle.aud_sio.specs.Packet.{IsSpelled, packet_of, packet_view};
+ghost use Rattle.aud_sio.specs.Written.{packet_text, written_count, written_id, written_namespace};
 ghost use Rattle.aud_sio.specs.declared.fault.SioFault.TheVariants.{Memory};
 
 use crate::fault::SioFault;
@@ -17,17 +17,17 @@ use std::alloc::{AllocError, Global};
 /// (proofs/RoundTrip.antt) shows that some text spells it. The one error is `Memory`.
 #[tactic(auto, using(crate::proofs::RoundTrip::spelled_reads_back))]
 pub fn encode(alloc: Global, packet: &Packet<'_>) -> Result<String, SioFault>
-    requires spelled { IsSpelled (view packet.now) }
-    ensures form { IfOk result (λ text. string_bytes text ≡ text_of (view packet.now)) }
-    ensures reads_back { IfOk result (λ text. packet_of (string_bytes text) ≡ Ok (view packet.now)) }
+    requires spelled { IsSpelled (packet_view packet.now) }
+    ensures form { IfOk result (λ text. string_bytes text ≡ packet_text (packet_view packet.now)) }
+    ensures reads_back { IfOk result (λ text. packet_of (string_bytes text) ≡ Ok (packet_view packet.now)) }
     ensures memory { IfErr result (λ e. e ≡ Memory) }
 {
     Ok(text_of(alloc, packet)?)
 }
 
-#[tactic(auto, unfolding(crate::specs::Written::text_of))]
+#[tactic(auto, unfolding(crate::specs::Written::packet_text))]
 fn text_of(alloc: Global, packet: &Packet<'_>) -> Result<String, AllocError>
-    ensures { IfOk result (λ text. string_bytes text ≡ text_of (view packet.now)) }
+    ensures { IfOk result (λ text. string_bytes text ≡ packet_text (packet_view packet.now)) }
 {
     let mut text = String::new(alloc);
     text.push(packet.kind.digit())?;

@@ -16,7 +16,7 @@ use Rattle.aud_check.specs.declared.refusal.Refusal.TheVariants.{NotItsTurn, NoE
 use Rattle.aud_check.specs.NamedStays.{are_of_session}
 use Rattle.aud_check.specs.Shown.{who_of, slices_of}
 use Rattle.aud_check.specs.TurnRefusals.{Ends, HasCursors, IsTurnAccepted, end_of, is_begun_by}
-use Rattle.aud_check.specs.Refusals.{Place, AtTurn, AtWhole, Refuses, IsAccepted, case_of}
+use Rattle.aud_check.specs.Refusals.{Place, AtTurn, AtWhole, Refuses, IsAccepted, certificate_case}
 use Rattle.aud_verdict.proofs.Decided.{Decided, decided, both, stable, at_most}
 use Rattle.aud_verdict.proofs.Cases.{all_received}
 use Rattle.aud_verdict.proofs.SpansDecided.{are_spans}
@@ -67,6 +67,6 @@ module _ (c : Cluster) (cert : CertificateSeen) (free : (place : Place) (refusal
       record {
         are_turns = accepted_turn;
         are_spans = are_spans (rooms_by_turns c.stream (who_of cert) (slices_of c cert)) (first_low (slices_of c cert)) (greatest_high (slices_of c cert)) cert.spans (free AtWhole Span);
-        are_named = true_from_ne_false (are_of_session (who_of cert) (case_of c cert).stays) (free AtWhole Names);
-        is_received = all_received (case_of c cert) (λ fault. free AtWhole (Received fault));
+        are_named = true_from_ne_false (are_of_session (who_of cert) (certificate_case c cert).stays) (free AtWhole Names);
+        is_received = all_received (certificate_case c cert) (λ fault. free AtWhole (Received fault));
       }

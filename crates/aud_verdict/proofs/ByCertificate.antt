@@ -13,7 +13,7 @@ use Rattle.aud_client.specs.Replies.{is_naming}
 use Rattle.aud_node.specs.TurnRecords.{begins_turn}
 use Rattle.aud_rooms.specs.Turns.{Who, Turn, beginning, slice_of, HasNoTurn, AreTurns}
 use Rattle.aud_rooms.specs.TurnsDue.{turns_due}
-use Rattle.aud_client.specs.Received.{received_of, received_list, stays_naming}
+use Rattle.aud_client.specs.Received.{transcript_of, received_list, stays_naming}
 use Rattle.aud_cert.specs.declared.fault.Fault.{Fault}
 use Rattle.aud_cert.specs.declared.fault.Fault.TheVariants.{NoLog, Chain, Order, Client, Names, Frame, Orphan, Content, Extra, Doubled, Swapped, Lost, Window}
 use Rattle.aud_cert.specs.Certificate.{TurnSeen, CertificateSeen, place_named}
@@ -28,8 +28,8 @@ use Rattle.aud_check.specs.NamedStays.{are_of_session}
 use Rattle.aud_check.specs.Faults.{Case, HasFault, IsReceived, fault_rank, mismatch_fault}
 use Rattle.aud_check.specs.Refusals as check
 use Rattle.aud_check.proofs.Ranks.{no_fault}
-use Rattle.aud_verdict.specs.Session.{Session, IsSession, own_stays, due_to, case_of}
-use Rattle.aud_verdict.specs.Faults.{HoldsOf, Holds, rank, IsFirst, NoneHolds}
+use Rattle.aud_verdict.specs.Session.{SessionLogs, IsSession, own_stays, due_to, session_case}
+use Rattle.aud_verdict.specs.Faults.{HoldsOf, Holds, verdict_rank, HoldsFirst, NoneHolds}
 use Rattle.aud_verdict.specs.Verdict.{IsYes}
 use Rattle.aud_verdict.specs.Refused.{fault_found}
 use Rattle.aud_verdict.proofs.Sessions.{at_session, held, naming, other_names, not_of_session}
@@ -37,21 +37,21 @@ use Rattle.aud_verdict.proofs.MadeLemmas.{there, who_is}
 
 -- ---- the four faults without a certificate
 
-found : (c : Cluster) (pid : Text) (fault : Fault) → maker.Holds c pid fault → (rank fault < 4) × (maker.rank fault ≡ rank fault) × Holds c pid fault
+found : (c : Cluster) (pid : Text) (fault : Fault) → maker.HasMakeFault c pid fault → (verdict_rank fault < 4) × (maker.make_fault_rank fault ≡ verdict_rank fault) × Holds c pid fault
 found c pid NoLog h = (omega arith, refl, h)
 found c pid Chain h = (omega arith, refl, h)
 found c pid Order h = (omega arith, refl, h)
 found c pid Client h = (omega arith, refl, h)
 found c pid _ h = absurd h
 
-known : (c : Cluster) (pid : Text) (fault : Fault) → rank fault < 4 → Holds c pid fault → maker.Holds c pid fault × (maker.rank fault ≡ rank fault)
+known : (c : Cluster) (pid : Text) (fault : Fault) → verdict_rank fault < 4 → Holds c pid fault → maker.HasMakeFault c pid fault × (maker.make_fault_rank fault ≡ verdict_rank fault)
 known c pid NoLog h holds = (holds, refl)
 known c pid Chain h holds = (holds, refl)
 known c pid Order h holds = (holds, refl)
 known c pid Client h holds = (holds, refl)
 known c pid _ h holds = absurd (omega arith)
 
-pub not_made : (c : Cluster) (pid : Text) (fault : Fault) → maker.IsFirst c pid fault → IsFirst c pid fault
+pub not_made : (c : Cluster) (pid : Text) (fault : Fault) → maker.IsFirstMakeFault c pid fault → HoldsFirst c pid fault
 not_made c pid fault is =
     let (front, own, holds) = found c pid fault is.holds in
     record { holds = holds; none_before = λ other less h. (let (held, its) = known c pid other (omega arith) h in is.none_before other (omega arith) held) }
@@ -62,15 +62,15 @@ abbrev case_with : Cluster → ℕ → Text → List ℕ → Case
 case_with c place pid due =
     record {
       stream = c.stream;
-      told = received_of c.stream (recs_or_none (client_at c place));
-      stays = stays_naming pid (received_of c.stream (recs_or_none (client_at c place))).stays;
+      transcript = transcript_of c.stream (recs_or_none (client_at c place));
+      stays = stays_naming pid (transcript_of c.stream (recs_or_none (client_at c place))).stays;
       frames = received_list c.stream (recs_or_none (client_at c place)) pid;
       due = due;
     }
 
 -- where a fault of what was received stands in the two orders
 abbrev Placed : Case → Fault → Type 0
-Placed case f = (fault_rank f ≡ min (rank f - 5) 3 + (rank f - 11)) × (5 ≤ rank f) × (rank f ≤ 12) × (8 ≤ rank f → rank f ≤ 11 → mismatch_fault case ≡ Some f)
+Placed case f = (fault_rank f ≡ min (verdict_rank f - 5) 3 + (verdict_rank f - 11)) × (5 ≤ verdict_rank f) × (verdict_rank f ≤ 12) × (8 ≤ verdict_rank f → verdict_rank f ≤ 11 → mismatch_fault case ≡ Some f)
 
 placed : (case : Case) (f : Fault) → HasFault case f → Placed case f
 placed case Frame h = (omega arith, omega arith, omega arith, λ a b. absurd (omega arith))
@@ -83,24 +83,24 @@ placed case (Lost off) h = (omega arith, omega arith, omega arith, λ a b. h)
 placed case (Window n) h = (omega arith, omega arith, omega arith, λ a b. absurd (omega arith))
 placed case _ h = absurd h
 
-lower : (case : Case) (g f : Fault) → rank g < rank f → HasFault case g → HasFault case f → fault_rank g < fault_rank f
+lower : (case : Case) (g f : Fault) → verdict_rank g < verdict_rank f → HasFault case g → HasFault case f → fault_rank g < fault_rank f
 lower case g f less h k =
     let (g_is, g_low, g_high, g_mismatch) = placed case g h in
     let (f_is, f_low, f_high, f_mismatch) = placed case f k in
     elim (cases_lt (fault_rank g) (fault_rank f)) [
       | inl before ↦ before
-      | inr after ↦ (let one : rank g ≡ rank f = ap rank (same_Some g f (sym (g_mismatch (omega arith) (omega arith)) ∙ f_mismatch (omega arith) (omega arith))) in absurd (omega arith))
+      | inr after ↦ (let one : verdict_rank g ≡ verdict_rank f = ap verdict_rank (same_Some g f (sym (g_mismatch (omega arith) (omega arith)) ∙ f_mismatch (omega arith) (omega arith))) in absurd (omega arith))
     ]
 
-pub late : (case : Case) (f : Fault) → HasFault case f → 4 ≤ rank f
+pub late : (case : Case) (f : Fault) → HasFault case f → 4 ≤ verdict_rank f
 late case f h = let (is, low, high, mismatched) = placed case f h in omega arith
 
-pub as_held : (c : Cluster) (s : Session) (f : Fault) → HasFault (case_of c s) f → HoldsOf c s f
+pub as_held : (c : Cluster) (s : SessionLogs) (f : Fault) → HasFault (session_case c s) f → HoldsOf c s f
 as_held c s Names h = absurd h
 as_held c s f h = h
 
 module _ (c : Cluster) (pid : Text) (cert : CertificateSeen) (once : AreNamedOnce c.taps) (made : IsMade c pid cert) where
-  abbrev session : Session
+  abbrev session : SessionLogs
   session = record { who = made.who; turns = made.turns; client = made.client.place }
 
   is_session : IsSession c pid session
@@ -118,15 +118,15 @@ module _ (c : Cluster) (pid : Text) (cert : CertificateSeen) (once : AreNamedOnc
       ap (λ (w : Who). turns_due c.stream w (slices_of c cert)) (who_is c pid cert once made)
       ∙ ap (λ (ts : List Turn). turns_due c.stream made.who (map (slice_of c) ts)) (there c pid cert once made)
 
-  case_is : check.case_of c cert ≡ case_of c session
+  case_is : check.certificate_case c cert ≡ session_case c session
   case_is =
       ap (λ place. case_with c place cert.pid (shown_due c cert)) place_is
       ∙ ap (λ p. case_with c made.client.place p (shown_due c cert)) (made.is.pid_is ∙ sym made.names)
       ∙ ap (case_with c made.client.place made.who.pid) due_is
 
-  stays_same : are_of_session (who_of cert) (check.case_of c cert).stays ≡ are_of_session made.who (own_stays c session)
+  stays_same : are_of_session (who_of cert) (check.certificate_case c cert).stays ≡ are_of_session made.who (own_stays c session)
   stays_same =
-      ap (λ (w : Who). are_of_session w (check.case_of c cert).stays) (who_is c pid cert once made)
+      ap (λ (w : Who). are_of_session w (check.certificate_case c cert).stays) (who_is c pid cert once made)
       ∙ ap (λ (case : Case). are_of_session made.who case.stays) case_is
 
   -- ---- none of the four faults holds
@@ -140,7 +140,7 @@ module _ (c : Cluster) (pid : Text) (cert : CertificateSeen) (once : AreNamedOnc
           no_turn t.node t.from (beginning made.who 0) are.0.begins
           (ap (λ p. begins_turn p 0 (beginning made.who 0)) (sym made.names) ∙ beginning-begins made.who 0)
 
-  none_early : (fault : Fault) → rank fault < 4 → Holds c pid fault → ⊥
+  none_early : (fault : Fault) → verdict_rank fault < 4 → Holds c pid fault → ⊥
   none_early fault front h =
       none_holds c pid logged (λ no_chain. no_chain made.who made.turns made.names made.chain)
       (not_unordered c made.who pid made.turns made.names made.chain made.ordered) (ap (λ (ns : List ℕ). length ns) made.client.only) fault
@@ -151,12 +151,12 @@ module _ (c : Cluster) (pid : Text) (cert : CertificateSeen) (once : AreNamedOnc
   module _ (is : check.IsAccepted c cert) where
     none_late : (fault : Fault) → HoldsOf c session fault → ⊥
     none_late Names h = true≢false (sym is.are_named ∙ stays_same ∙ not_of_session c pid session is_session h)
-    none_late fault h = no_fault (case_of c session) (subst IsReceived case_is is.is_received) fault h
+    none_late fault h = no_fault (session_case c session) (subst IsReceived case_is is.is_received) fault h
 
     pub none_of_accepted : NoneHolds c pid
-    none_of_accepted fault h = go (cases_lt (rank fault) 4)
+    none_of_accepted fault h = go (cases_lt (verdict_rank fault) 4)
       where
-        go : (rank fault < 4) ⊎ (4 ≤ rank fault) → ⊥
+        go : (verdict_rank fault < 4) ⊎ (4 ≤ verdict_rank fault) → ⊥
         go (inl front) = none_early fault front h
         go (inr back) = none_late fault (at_session c pid session is_session fault back h)
 
@@ -173,51 +173,51 @@ module _ (c : Cluster) (pid : Text) (cert : CertificateSeen) (once : AreNamedOnc
 
   -- ---- refused
 
-  of_names : (place : check.Place) → check.Refuses c cert place refused.Names → are_of_session (who_of cert) (check.case_of c cert).stays ≡ false
+  of_names : (place : check.Place) → check.Refuses c cert place refused.Names → are_of_session (who_of cert) (check.certificate_case c cert).stays ≡ false
   of_names (check.AtTurn k) (t, at, h) = absurd h
   of_names check.AtWhole h = h
 
-  of_received : (f : Fault) (place : check.Place) → check.Refuses c cert place (refused.Received f) → HasFault (case_of c session) f
+  of_received : (f : Fault) (place : check.Place) → check.Refuses c cert place (refused.Received f) → HasFault (session_case c session) f
   of_received f (check.AtTurn k) (t, at, h) = absurd h
   of_received f check.AtWhole h = subst (λ (case : Case). HasFault case f) case_is h
 
-  first_names : check.IsFirst c cert refused.Names → IsFirst c pid Names
+  first_names : check.RefusesFirst c cert refused.Names → HoldsFirst c pid Names
   first_names is =
       record {
         holds = held c pid session is_session Names (omega arith) (other_names c pid session is_session (sym stays_same ∙ of_names is.place is.refuses));
         none_before = none_early;
       }
 
-  module _ (f : Fault) (is : check.IsFirst c cert (refused.Received f)) where
-    has : HasFault (case_of c session) f
+  module _ (f : Fault) (is : check.RefusesFirst c cert (refused.Received f)) where
+    has : HasFault (session_case c session) f
     has = of_received f is.place is.refuses
 
     -- of the check's refusals the place of this one is the whole
-    whole : (place : check.Place) → check.Refuses c cert place (refused.Received f) → check.rank cert place (refused.Received f) ≡ 4 * length cert.turns + (2 + fault_rank f)
+    whole : (place : check.Place) → check.Refuses c cert place (refused.Received f) → check.place_rank cert place (refused.Received f) ≡ 4 * length cert.turns + (2 + fault_rank f)
     whole (check.AtTurn k) (t, at, h) = absurd h
     whole check.AtWhole h = refl
 
-    not_before : (other : Fault) → rank other < rank f → HoldsOf c session other → ⊥
+    not_before : (other : Fault) → verdict_rank other < verdict_rank f → HoldsOf c session other → ⊥
     not_before Names less h =
         let at = whole is.place is.refuses in
         is.none_before check.AtWhole refused.Names (omega arith) (stays_same ∙ not_of_session c pid session is_session h)
     not_before other less h =
         let at = whole is.place is.refuses in
-        let low = lower (case_of c session) other f less h has in
+        let low = lower (session_case c session) other f less h has in
         is.none_before check.AtWhole (refused.Received other) (omega arith) (subst (λ (case : Case). HasFault case other) (sym case_is) h)
 
-    first_received : IsFirst c pid f
+    first_received : HoldsFirst c pid f
     first_received =
         record {
-          holds = held c pid session is_session f (late (case_of c session) f has) (as_held c session f has);
-          none_before = λ other less h. go other less h (cases_lt (rank other) 4);
+          holds = held c pid session is_session f (late (session_case c session) f has) (as_held c session f has);
+          none_before = λ other less h. go other less h (cases_lt (verdict_rank other) 4);
         }
       where
-        go : (other : Fault) → rank other < rank f → Holds c pid other → (rank other < 4) ⊎ (4 ≤ rank other) → ⊥
+        go : (other : Fault) → verdict_rank other < verdict_rank f → Holds c pid other → (verdict_rank other < 4) ⊎ (4 ≤ verdict_rank other) → ⊥
         go other less h (inl front) = none_early other front h
         go other less h (inr back) = not_before other less (at_session c pid session is_session other back h)
 
-  pub first_found : (refusal : Refusal) (fault : Fault) → check.IsFirst c cert refusal → fault_found refusal ≡ Some fault → IsFirst c pid fault
-  first_found refused.Names fault is e = subst (IsFirst c pid) (same_Some Names fault e) (first_names is)
-  first_found (refused.Received f) fault is e = subst (IsFirst c pid) (same_Some f fault e) (first_received f is)
+  pub first_found : (refusal : Refusal) (fault : Fault) → check.RefusesFirst c cert refusal → fault_found refusal ≡ Some fault → HoldsFirst c pid fault
+  first_found refused.Names fault is e = subst (HoldsFirst c pid) (same_Some Names fault e) (first_names is)
+  first_found (refused.Received f) fault is e = subst (HoldsFirst c pid) (same_Some f fault e) (first_received f is)
   first_found _ fault is e = absurd (none-some fault e)

@@ -8,7 +8,7 @@ use Rattle.std.proofs.lemmas.Slice.Eq.{bytes_eq-Decides, slice_eq-Decides}
 use Rattle.aud_tap.specs.declared.records.StreamRec.{StreamRec}
 use Rattle.aud_tap.specs.declared.records.StreamRec.TheVariants.{Ev, Other}
 use Rattle.aud_node.specs.Stream.{entry}
-use Rattle.aud_client.specs.Told.{FrameSeen}
+use Rattle.aud_client.specs.StaySeen.{FrameSeen}
 use Rattle.aud_cert.specs.declared.fault.Fault.{Fault}
 use Rattle.aud_cert.specs.declared.fault.Fault.TheVariants.{Frame, Orphan, Content, Window}
 use Rattle.aud_check.specs.Frames.{IsOf, IsEntry, AreEntries, IsFirstAltered, offset_at, wrong_window}
@@ -34,8 +34,8 @@ entries stream (frame ∷ frames) = go (is_of frame (entry stream frame.position
         → AreEntries stream (frame ∷ frames) ⊎ ((altered : FrameSeen) × IsFirstAltered stream (frame ∷ frames) altered)
     go (inl is) (inl are) = inl (is, are)
     go (inl is) (inr (altered, first)) =
-        inr (altered, record { before = frame ∷ first.before; behind = first.behind; parts = ap (λ (fs : List FrameSeen). frame ∷ fs) first.parts; are_entries = (is, first.are_entries); is_altered = first.is_altered })
-    go (inr not) others = inr (frame, record { before = []; behind = frames; parts = refl; are_entries = tt; is_altered = not })
+        inr (altered, record { before = frame ∷ first.before; after = first.after; parts = ap (λ (fs : List FrameSeen). frame ∷ fs) first.parts; are_entries = (is, first.are_entries); is_altered = first.is_altered })
+    go (inr not) others = inr (frame, record { before = []; after = frames; parts = refl; are_entries = tt; is_altered = not })
 
 module _ (case : Case) (no_fault : (fault : Fault) → HasFault case fault → ⊥) where
   all_entries : AreEntries case.stream case.frames ⊎ ((altered : FrameSeen) × IsFirstAltered case.stream case.frames altered) → AreEntries case.stream case.frames
@@ -49,8 +49,8 @@ module _ (case : Case) (no_fault : (fault : Fault) → HasFault case fault → �
   pub all_received : IsReceived case
   all_received =
       record {
-        decodes = nothing case.told.bad (λ n e. no_fault Frame (ap is_some e));
-        has_no_orphan = false_from_ne_true case.told.orphan (no_fault Orphan);
+        decodes = nothing case.transcript.bad (λ n e. no_fault Frame (ap is_some e));
+        has_no_orphan = false_from_ne_true case.transcript.orphan (no_fault Orphan);
         are_entries = all_entries (entries case.stream case.frames);
         is_prefix = (mismatch-none (positions_in case) case.due).0 (none_mismatched case no_fault);
         has_no_window = nothing (wrong_window case.stream [] case.stays) (λ n e. no_fault (Window n) e);

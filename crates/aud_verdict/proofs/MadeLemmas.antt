@@ -20,7 +20,7 @@ use Rattle.aud_check.specs.declared.refusal.Refusal.{Refusal}
 use Rattle.aud_check.specs.declared.refusal.Refusal.TheVariants.{Span, Names, Received, Memory}
 use Rattle.aud_check.specs.Shown.{opened_sid, opened_nsp, who_of, slices_of, turns_of, first_record}
 use Rattle.aud_check.specs.TurnRefusals.{IsTurnAccepted, AreTurnsAccepted}
-use Rattle.aud_check.specs.Refusals.{RefusesWhole, Refuses, Place, AtTurn, AtWhole, IsFirst, IsFirstRefusal}
+use Rattle.aud_check.specs.Refusals.{RefusesWhole, Refuses, Place, AtTurn, AtWhole, RefusesFirst, IsFirstRefusal}
 use Rattle.aud_check.proofs.TurnRefusals.{not_refused}
 use Rattle.aud_verdict.specs.Refused.{fault_found, IsOfSession}
 use Rattle.aud_verdict.proofs.Sessions.{who_with}
@@ -112,6 +112,6 @@ no_other Memory is no_names no_received no_memory = no_memory refl
 no_other refusal is no_names no_received no_memory = false≢true is
 
 -- a refusal that shows a fault is the first
-pub first_refusal : (c : Cluster) (cert : CertificateSeen) (refusal : Refusal) (fault : Fault) → IsFirstRefusal c cert refusal → fault_found refusal ≡ Some fault → IsFirst c cert refusal
+pub first_refusal : (c : Cluster) (cert : CertificateSeen) (refusal : Refusal) (fault : Fault) → IsFirstRefusal c cert refusal → fault_found refusal ≡ Some fault → RefusesFirst c cert refusal
 first_refusal c cert Memory fault first e = absurd (none-some fault e)
 first_refusal c cert refusal fault first e = first

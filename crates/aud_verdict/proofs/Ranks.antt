@@ -5,15 +5,15 @@ use Rattle.std.proofs.lemmas.Option.{same_Some}
 use Rattle.aud_tap.specs.declared.records.StreamRec.{StreamRec}
 use Rattle.aud_node.specs.Stream.{Text}
 use Rattle.aud_node.specs.Cluster.{Cluster}
-use Rattle.aud_client.specs.Told.{FrameSeen}
+use Rattle.aud_client.specs.StaySeen.{FrameSeen}
 use Rattle.aud_cert.specs.declared.fault.Fault.{Fault}
 use Rattle.aud_cert.specs.declared.fault.Fault.TheVariants.{NoLog, Chain, Order, Client, Names, Frame, Orphan, Content, Extra, Doubled, Swapped, Lost, Window, Tail}
 use Rattle.aud_check.specs.Frames.{AreEntries, IsEntry, IsFirstAltered, offset_at}
 use Rattle.aud_check.specs.Faults.{mismatch_fault}
 use Rattle.aud_report.specs.declared.verdict.Verdict.{Verdict}
 use Rattle.aud_report.specs.declared.verdict.Verdict.TheVariants.{Yes, No}
-use Rattle.aud_verdict.specs.Session.{Session, IsSession, case_of, received, due_to}
-use Rattle.aud_verdict.specs.Faults.{HoldsOf, Holds, rank, IsFirst}
+use Rattle.aud_verdict.specs.Session.{SessionLogs, IsSession, session_case, received_by, due_to}
+use Rattle.aud_verdict.specs.Faults.{HoldsOf, Holds, verdict_rank, HoldsFirst}
 use Rattle.aud_verdict.specs.Verdict.{IsVerdict}
 use Rattle.aud_verdict.proofs.Sessions.{one_session, at_session}
 
@@ -38,12 +38,12 @@ abbrev by_rank : Text → ℕ → List Fault
 by_rank off n =
     NoLog ∷ Chain ∷ Order ∷ Client ∷ Names ∷ Frame ∷ Orphan ∷ Content off ∷ Extra off ∷ Doubled off ∷ Swapped off ∷ Lost off ∷ Window n ∷ Tail n ∷ []
 
-stands : (fault : Fault) → slice_get (by_rank (about fault) (counted fault)) (rank fault) ≡ Some fault
+stands : (fault : Fault) → slice_get (by_rank (about fault) (counted fault)) (verdict_rank fault) ≡ Some fault
 stands NoLog = refl
 stands _ = refl
 
 -- the other fault is the one of this rank
-other_is : (fault other : Fault) → rank fault ≡ rank other → slice_get (by_rank (about other) (counted other)) (rank fault) ≡ Some other
+other_is : (fault other : Fault) → verdict_rank fault ≡ verdict_rank other → slice_get (by_rank (about other) (counted other)) (verdict_rank fault) ≡ Some other
 other_is fault other e = ap (slice_get (by_rank (about other) (counted other))) e ∙ stands other
 
 -- ---- one fault of each rank
@@ -63,24 +63,24 @@ one_altered stream (frame ∷ before) (head ∷ first) altered other after rest 
 
 same_altered : (stream : List StreamRec) (frames : List FrameSeen) (altered other : FrameSeen) → IsFirstAltered stream frames altered → IsFirstAltered stream frames other → altered ≡ other
 same_altered stream frames altered other is too =
-    one_altered stream is.before too.before altered other is.behind too.behind (sym is.parts ∙ too.parts) is.are_entries is.is_altered too.are_entries too.is_altered
+    one_altered stream is.before too.before altered other is.after too.after (sym is.parts ∙ too.parts) is.are_entries is.is_altered too.are_entries too.is_altered
 
 module _ (c : Cluster) (pid : Text) where
-  again : (s : Session) → IsSession c pid s → (named other : Fault) → 4 ≤ rank named → named ≡ other → Holds c pid other → HoldsOf c s named
+  again : (s : SessionLogs) → IsSession c pid s → (named other : Fault) → 4 ≤ verdict_rank named → named ≡ other → Holds c pid other → HoldsOf c s named
   again s is named other late e h = at_session c pid s is named late (subst (Holds c pid) (sym e) h)
 
   -- a fault that is about the first place where what was received isn't what was due
-  same_mismatch : (s : Session) → IsSession c pid s → (fault named other : Fault) → mismatch_fault (case_of c s) ≡ Some fault → 4 ≤ rank named → (HoldsOf c s named → mismatch_fault (case_of c s) ≡ Some named)
+  same_mismatch : (s : SessionLogs) → IsSession c pid s → (fault named other : Fault) → mismatch_fault (session_case c s) ≡ Some fault → 4 ≤ verdict_rank named → (HoldsOf c s named → mismatch_fault (session_case c s) ≡ Some named)
       → Some named ≡ Some other → Holds c pid other → fault ≡ other
   same_mismatch s is fault named other h late so e too =
       let kind : named ≡ other = same_Some named other e in
       same_Some fault named (sym h ∙ so (again s is named other late kind too)) ∙ kind
 
-  same_fault : (fault other : Fault) → Holds c pid fault → Holds c pid other → rank fault ≡ rank other → fault ≡ other
+  same_fault : (fault other : Fault) → Holds c pid fault → Holds c pid other → verdict_rank fault ≡ verdict_rank other → fault ≡ other
   same_fault (Content off) other (s, is, (altered, first, named)) too e =
       let kind : Content (about other) ≡ other = same_Some (Content (about other)) other (other_is (Content off) other e) in
       let (same, first_too, so_named) = again s is (Content (about other)) other (omega arith) kind too in
-      let one : altered ≡ same = same_altered c.stream (case_of c s).frames altered same first first_too in
+      let one : altered ≡ same = same_altered c.stream (session_case c s).frames altered same first first_too in
       ap Content (named ∙ ap (λ (frame : FrameSeen). offset_at c.stream frame.position) one ∙ sym so_named) ∙ kind
   same_fault (Extra off) other (s, is, h) too e = same_mismatch s is (Extra off) (Extra (about other)) other h (omega arith) (λ m. m) (other_is (Extra off) other e) too
   same_fault (Doubled off) other (s, is, h) too e = same_mismatch s is (Doubled off) (Doubled (about other)) other h (omega arith) (λ m. m) (other_is (Doubled off) other e) too
@@ -92,10 +92,10 @@ module _ (c : Cluster) (pid : Text) where
   same_fault (Tail n) other (s, is, h) too e = absurd h
   same_fault fault other h too e = same_Some fault other (other_is fault other e)
 
-  pub one_first : (fault other : Fault) → IsFirst c pid fault → IsFirst c pid other → fault ≡ other
-  one_first fault other is too = go (cases_lt (rank fault) (rank other)) (cases_lt (rank other) (rank fault))
+  pub one_first : (fault other : Fault) → HoldsFirst c pid fault → HoldsFirst c pid other → fault ≡ other
+  one_first fault other is too = go (cases_lt (verdict_rank fault) (verdict_rank other)) (cases_lt (verdict_rank other) (verdict_rank fault))
     where
-      go : (rank fault < rank other) ⊎ (rank other ≤ rank fault) → (rank other < rank fault) ⊎ (rank fault ≤ rank other) → fault ≡ other
+      go : (verdict_rank fault < verdict_rank other) ⊎ (verdict_rank other ≤ verdict_rank fault) → (verdict_rank other < verdict_rank fault) ⊎ (verdict_rank fault ≤ verdict_rank other) → fault ≡ other
       go (inl less) h = absurd (too.none_before fault less is.holds)
       go (inr more) (inl less) = absurd (is.none_before other less too.holds)
       go (inr more) (inr less) = same_fault fault other is.holds too.holds (omega arith)
@@ -103,10 +103,10 @@ module _ (c : Cluster) (pid : Text) where
   pub one_verdict : (one other : Verdict) → IsVerdict c pid one → IsVerdict c pid other → one ≡ other
   one_verdict (Yes got tail turns) (Yes count rest number) is too =
       let same : is.session ≡ too.session = one_session c pid is.session too.session is.is_session too.is_session in
-      let counts : got ≡ count = is.got_is ∙ ap (λ (s : Session). length (received c s)) same ∙ sym too.got_is in
-      let sums : got + tail ≡ count + rest = is.tail_is ∙ ap (λ (s : Session). length (due_to c s)) same ∙ sym too.tail_is in
+      let counts : got ≡ count = is.got_is ∙ ap (λ (s : SessionLogs). length (received_by c s)) same ∙ sym too.got_is in
+      let sums : got + tail ≡ count + rest = is.tail_is ∙ ap (λ (s : SessionLogs). length (due_to c s)) same ∙ sym too.tail_is in
       let tails : tail ≡ rest = omega arith in
-      let numbers : turns ≡ number = is.turns_are ∙ ap (λ (s : Session). length s.turns) same ∙ sym too.turns_are in
+      let numbers : turns ≡ number = is.turns_are ∙ ap (λ (s : SessionLogs). length s.turns) same ∙ sym too.turns_are in
       cc
   one_verdict (Yes got tail turns) (No fault) is too = absurd (is.none_holds fault too.holds)
   one_verdict (No fault) (Yes got tail turns) is too = absurd (too.none_holds fault is.holds)

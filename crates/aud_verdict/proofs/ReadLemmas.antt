@@ -7,8 +7,8 @@ use Rattle.aud_cert_text.specs.declared.fault.CertFault.{CertFault}
 use Rattle.aud_cert_text.specs.declared.fault.CertFault.TheVariants.{Syntax, UnknownTap, Range}
 use Rattle.aud_cert.specs.Certificate.{TurnSeen, CertificateSeen, IsOver}
 use Rattle.aud_cert_text.specs.Steps.{◌>>=◌, guard, each}
-use Rattle.aud_cert_text.specs.Told.{TurnTold, CertificateTold, told_in}
-use Rattle.aud_cert_text.specs.Reading.{json_of, has_turns, is_formed, is_client, turn_over, certificate_over, is_within, certificate_of}
+use Rattle.aud_cert_text.specs.Parsed.{ParsedTurn, ParsedCertificate, parsed_certificate}
+use Rattle.aud_cert_text.specs.Reading.{json_of, has_turns, is_formed, is_client, turn_over, certificate_over, is_certificate_within, certificate_of}
 use Rattle.aud_cert_text.proofs.Over.{each-length, turns-over}
 
 -- what each step gave
@@ -21,45 +21,45 @@ guard_ok fault true r y e = (refl, e)
 guard_ok fault false r y e = cc
 
 -- the certificate of what was told
-abbrev of_turns : CertificateTold → List TurnSeen → CertificateSeen
-of_turns told turns = record { pid = told.pid; client = told.client; turns = turns; spans = told.spans }
+abbrev of_turns : ParsedCertificate → List TurnSeen → CertificateSeen
+of_turns transcript turns = record { pid = transcript.pid; client = transcript.client; turns = turns; spans = transcript.spans }
 
 -- the last steps of the reading
 abbrev within : Cluster → CertificateSeen → Result CertificateSeen CertFault
-within c cert = guard Range (is_within c cert) >>= (λ u. Ok cert)
+within c cert = guard Range (is_certificate_within c cert) >>= (λ u. Ok cert)
 
-abbrev formed : Cluster → CertificateTold → Result CertificateSeen CertFault
-formed c told = guard Syntax (is_formed told) >>= (λ u. certificate_over c told >>= within c)
+abbrev formed : Cluster → ParsedCertificate → Result CertificateSeen CertFault
+formed c transcript = guard Syntax (is_formed transcript) >>= (λ u. certificate_over c transcript >>= within c)
 
 same_ok : {A : Type 0} (x y : A) → ◌≡◌ {A = Result A CertFault} (Ok x) (Ok y) → x ≡ y
 same_ok x y e = cc
 
-told_over : (c : Cluster) (told : CertificateTold) (cert : CertificateSeen) → certificate_over c told ≡ Ok cert
-    → (turns : List TurnSeen) × (each (turn_over c) told.turns ≡ Ok turns) × (of_turns told turns ≡ cert)
+told_over : (c : Cluster) (transcript : ParsedCertificate) (cert : CertificateSeen) → certificate_over c transcript ≡ Ok cert
+    → (turns : List TurnSeen) × (each (turn_over c) transcript.turns ≡ Ok turns) × (of_turns transcript turns ≡ cert)
 unfolding certificate_over
-told_over c told cert e =
-    let (known, rest) = guard_ok UnknownTap (is_client c told.client) (each (turn_over c) told.turns >>= (λ turns. Ok (of_turns told turns))) cert e in
-    let (turns, are, is) = step_ok (each (turn_over c) told.turns) (λ turns. Ok (of_turns told turns)) cert rest in
-    (turns, are, same_ok (of_turns told turns) cert is)
+told_over c transcript cert e =
+    let (known, rest) = guard_ok UnknownTap (is_client c transcript.client) (each (turn_over c) transcript.turns >>= (λ turns. Ok (of_turns transcript turns))) cert e in
+    let (turns, are, is) = step_ok (each (turn_over c) transcript.turns) (λ turns. Ok (of_turns transcript turns)) cert rest in
+    (turns, are, same_ok (of_turns transcript turns) cert is)
 
-some_told : (turns : List TurnTold) → has_turns turns ≡ true → 0 < length turns
+some_told : (turns : List ParsedTurn) → has_turns turns ≡ true → 0 < length turns
 some_told [] e = absurd (false≢true e)
 some_told (t ∷ turns) e = omega arith
 
-of_told : (c : Cluster) (told : CertificateTold) (cert : CertificateSeen) → formed c told ≡ Ok cert → IsOver c cert × (0 < length cert.turns)
-of_told c told cert e =
-    let (is_formed, rest) = guard_ok Syntax (is_formed told) (certificate_over c told >>= within c) cert e in
-    let (made, is, last) = step_ok (certificate_over c told) (within c) cert rest in
-    let (no_matter, same) = guard_ok Range (is_within c made) (Ok made) cert last in
-    let (turns, are, whole) = told_over c told made is in
-    let all : of_turns told turns ≡ cert = whole ∙ same_ok made cert same in
-    let some = some_told told.turns (and_parts _ _ (and_parts _ _ (and_parts _ _ is_formed).0).0).0 in
-    let long = each-length (turn_over c) told.turns turns are in
-    rw (← all) (turns-over c told.turns turns are, omega (arith, some, long))
+of_told : (c : Cluster) (transcript : ParsedCertificate) (cert : CertificateSeen) → formed c transcript ≡ Ok cert → IsOver c cert × (0 < length cert.turns)
+of_told c transcript cert e =
+    let (is_formed, rest) = guard_ok Syntax (is_formed transcript) (certificate_over c transcript >>= within c) cert e in
+    let (made, is, last) = step_ok (certificate_over c transcript) (within c) cert rest in
+    let (no_matter, same) = guard_ok Range (is_certificate_within c made) (Ok made) cert last in
+    let (turns, are, whole) = told_over c transcript made is in
+    let all : of_turns transcript turns ≡ cert = whole ∙ same_ok made cert same in
+    let some = some_told transcript.turns (and_parts _ _ (and_parts _ _ (and_parts _ _ is_formed).0).0).0 in
+    let long = each-length (turn_over c) transcript.turns turns are in
+    rw (← all) (turns-over c transcript.turns turns are, omega (arith, some, long))
 
 pub read_over : (c : Cluster) (text : Text) (cert : CertificateSeen) → certificate_of c text ≡ Ok cert → IsOver c cert × (0 < length cert.turns)
 unfolding certificate_of
 read_over c text cert e =
-    let (d, is, rest) = step_ok (json_of text) (λ d. told_in d >>= formed c) cert e in
-    let (told, are, last) = step_ok (told_in d) (formed c) cert rest in
-    of_told c told cert last
+    let (d, is, rest) = step_ok (json_of text) (λ d. parsed_certificate d >>= formed c) cert e in
+    let (transcript, are, last) = step_ok (parsed_certificate d) (formed c) cert rest in
+    of_told c transcript cert last

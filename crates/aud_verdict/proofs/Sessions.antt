@@ -12,8 +12,8 @@ use Rattle.aud_node.specs.Cluster.{Cluster}
 use Rattle.aud_node.specs.NodeTaps.{client_at}
 use Rattle.aud_client.specs.Replies.{is_naming, tap_names, naming_places}
 use Rattle.aud_rooms.specs.Turns.{Who, Turn, IsChain}
-use Rattle.aud_client.specs.Told.{StaySeen}
-use Rattle.aud_client.specs.Received.{names}
+use Rattle.aud_client.specs.StaySeen.{StaySeen}
+use Rattle.aud_client.specs.Received.{stay_names_pid}
 use Rattle.aud_client.proofs.Named.{named_by_replies}
 use Rattle.aud_cert.specs.declared.fault.Fault.{Fault}
 use Rattle.aud_cert.specs.declared.fault.Fault.TheVariants.{NoLog, Chain, Order, Client}
@@ -22,13 +22,13 @@ use Rattle.aud_maker.proofs.BegunLemmas.{one_chain}
 use Rattle.aud_maker.proofs.FirstFault.{one_fails}
 use Rattle.aud_check.specs.NamedStays.{is_of_session, is_empty, are_of_session}
 use Rattle.aud_check.specs.Shown.{recs_or_none}
-use Rattle.aud_verdict.specs.Session.{Session, IsSession, client_log, told, own_stays}
-use Rattle.aud_verdict.specs.Faults.{HasOtherNames, HoldsOf, Holds, rank}
+use Rattle.aud_verdict.specs.Session.{SessionLogs, IsSession, client_log, transcript, own_stays}
+use Rattle.aud_verdict.specs.Faults.{HasOtherNames, HoldsOf, Holds, verdict_rank}
 
 abbrev pub who_with : Text → Text → Text → Who
 who_with pid sid nsp = record { pid = pid; sid = sid; nsp = nsp }
 
-abbrev session_with : Who → List Turn → ℕ → Session
+abbrev session_with : Who → List Turn → ℕ → SessionLogs
 session_with who turns client = record { who = who; turns = turns; client = client }
 
 one_who : (c : Cluster) (one other : Who) (turns : List Turn) → one.pid ≡ other.pid → IsChain c one turns → IsChain c other turns → one ≡ other
@@ -38,7 +38,7 @@ one_who c one other turns same is too =
     let parts = some_pair_parts one.sid other.sid one.nsp other.nsp (sym opened ∙ again) in
     ap (λ x. who_with x one.sid one.nsp) same ∙ ap (λ x. who_with other.pid x one.nsp) parts.0 ∙ ap (who_with other.pid other.sid) parts.1
 
-pub one_session : (c : Cluster) (pid : Text) (one other : Session) → IsSession c pid one → IsSession c pid other → one ≡ other
+pub one_session : (c : Cluster) (pid : Text) (one other : SessionLogs) → IsSession c pid one → IsSession c pid other → one ≡ other
 one_session c pid one other is too =
     let named : other.who.pid ≡ one.who.pid = too.names ∙ sym is.names in
     let turns : other.turns ≡ one.turns = one_chain c one.who other.who one.turns other.turns named is.chain too.chain in
@@ -49,18 +49,18 @@ one_session c pid one other is too =
 
 -- ---- faults of a session that is there
 
-module _ (c : Cluster) (pid : Text) (s : Session) (is : IsSession c pid s) where
-  moved : (fault : Fault) → (t : Session) × IsSession c pid t × HoldsOf c t fault → HoldsOf c s fault
-  moved fault (t, too, h) = subst (λ (x : Session). HoldsOf c x fault) (one_session c pid t s too is) h
+module _ (c : Cluster) (pid : Text) (s : SessionLogs) (is : IsSession c pid s) where
+  moved : (fault : Fault) → (t : SessionLogs) × IsSession c pid t × HoldsOf c t fault → HoldsOf c s fault
+  moved fault (t, too, h) = subst (λ (x : SessionLogs). HoldsOf c x fault) (one_session c pid t s too is) h
 
-  pub at_session : (fault : Fault) → 4 ≤ rank fault → Holds c pid fault → HoldsOf c s fault
+  pub at_session : (fault : Fault) → 4 ≤ verdict_rank fault → Holds c pid fault → HoldsOf c s fault
   at_session NoLog late h = absurd (omega arith)
   at_session Chain late h = absurd (omega arith)
   at_session Order late h = absurd (omega arith)
   at_session Client late h = absurd (omega arith)
   at_session fault late h = moved fault h
 
-  pub held : (fault : Fault) → 4 ≤ rank fault → HoldsOf c s fault → Holds c pid fault
+  pub held : (fault : Fault) → 4 ≤ verdict_rank fault → HoldsOf c s fault → Holds c pid fault
   held NoLog late h = absurd (omega arith)
   held Chain late h = absurd (omega arith)
   held Order late h = absurd (omega arith)
@@ -79,9 +79,9 @@ module _ (c : Cluster) (pid : Text) (s : Session) (is : IsSession c pid s) where
   its_tap None e = absurd (false≢true e)
   its_tap (Some recs) e = e
 
-  any_stay : list_any (names s.who.pid) (told c s).stays ≡ true
+  any_stay : list_any (stay_names_pid s.who.pid) (transcript c s).stays ≡ true
   any_stay =
-      ap (λ p. list_any (names p) (told c s).stays) is.names
+      ap (λ p. list_any (stay_names_pid p) (transcript c s).stays) is.names
       ∙ named_by_replies c.stream (client_log c s) pid
       ∙ its_tap (client_at c s.client) naming
 
@@ -90,7 +90,7 @@ module _ (c : Cluster) (pid : Text) (s : Session) (is : IsSession c pid s) where
   kept test (stay ∷ stays) e = elim (cases_Bool (test stay)) as (λ _. is_empty (filter test (stay ∷ stays)) ≡ false) [ inl passes ↦ rw passes refl | inr fails ↦ rw fails (kept test stays (rw fails at e)) ]
 
   some_stay : is_empty (own_stays c s) ≡ false
-  some_stay = kept (names s.who.pid) (told c s).stays any_stay
+  some_stay = kept (stay_names_pid s.who.pid) (transcript c s).stays any_stay
 
   -- where they aren't all of the session, one of them has other names
   pub other_names : are_of_session s.who (own_stays c s) ≡ false → HasOtherNames c s

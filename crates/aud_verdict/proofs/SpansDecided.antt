@@ -62,7 +62,7 @@ maximal test low high first last h =
       to_high = stable (at_most last high) (λ not. h (λ is. not is.to_high));
       held = λ p from to. true_from_ne_false (test p) (λ no. h (λ is. true≢false (sym (is.held p from to) ∙ no)));
       not_before = λ p past next. false_from_ne_true (test p) (λ yes. h (λ is. false≢true (sym (is.not_before p past next) ∙ yes)));
-      not_behind = λ p within next. false_from_ne_true (test p) (λ yes. h (λ is. false≢true (sym (is.not_behind p within next) ∙ yes)));
+      not_after = λ p within next. false_from_ne_true (test p) (λ yes. h (λ is. false≢true (sym (is.not_after p within next) ∙ yes)));
     }
 
 pub are_spans : (rooms_at : ℕ → Rooms) (low high : ℕ) (spans : List RoomSpan) → ((AreSpans rooms_at low high spans → ⊥) → ⊥) → AreSpans rooms_at low high spans

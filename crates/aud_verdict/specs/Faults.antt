@@ -5,7 +5,7 @@ use Rattle.aud_node.specs.Stream.{Text}
 use Rattle.aud_node.specs.Cluster.{Cluster}
 use Rattle.aud_client.specs.Replies.{naming_places}
 use Rattle.aud_rooms.specs.Turns.{HasNoTurn}
-use Rattle.aud_client.specs.Told.{StaySeen, FrameSeen}
+use Rattle.aud_client.specs.StaySeen.{StaySeen, FrameSeen}
 use Rattle.aud_cert.specs.declared.fault.Fault.{Fault}
 use Rattle.aud_cert.specs.declared.fault.Fault.TheVariants.{NoLog, Chain, Order, Client, Names, Frame, Orphan, Content, Extra, Doubled, Swapped, Lost, Window, Tail}
 use Rattle.aud_maker.specs.Chain.{HasNoChain}
@@ -13,25 +13,25 @@ use Rattle.aud_maker.specs.Faults.{HasUnordered}
 use Rattle.aud_check.specs.NamedStays.{is_of_session}
 use Rattle.aud_check.specs.Frames.{IsFirstAltered, offset_at, wrong_window}
 use Rattle.aud_check.specs.Faults.{mismatch_fault}
-use Rattle.aud_verdict.specs.Session.{Session, IsSession, told, own_stays, received, case_of}
+use Rattle.aud_verdict.specs.Session.{SessionLogs, IsSession, transcript, own_stays, received_by, session_case}
 
 -- a reply that names the session has another sid or namespace than its `open`
-abbrev pub HasOtherNames : Cluster → Session → Type 0
+abbrev pub HasOtherNames : Cluster → SessionLogs → Type 0
 HasOtherNames c s = (stay : StaySeen) × Contains (own_stays c s) stay × (is_of_session s.who stay ≡ false)
 
 -- where each fault holds that is about what the client's tap tells of the session: a reply names it otherwise; a record
 -- of the tap doesn't decode; an event there has no session; of the events received the first that isn't its entry; at
 -- the first place where the positions received aren't those due, what is wrong; the connection of the first recovery
 -- that was asked for wrongly
-abbrev pub HoldsOf : Cluster → Session → Fault → Type 0
+abbrev pub HoldsOf : Cluster → SessionLogs → Fault → Type 0
 HoldsOf c s Names = HasOtherNames c s
-HoldsOf c s Frame = IsSome (told c s).bad
-HoldsOf c s Orphan = (told c s).orphan ≡ true
-HoldsOf c s (Content off) = (altered : FrameSeen) × IsFirstAltered c.stream (received c s) altered × (off ≡ offset_at c.stream altered.position)
-HoldsOf c s (Extra off) = mismatch_fault (case_of c s) ≡ Some (Extra off)
-HoldsOf c s (Doubled off) = mismatch_fault (case_of c s) ≡ Some (Doubled off)
-HoldsOf c s (Swapped off) = mismatch_fault (case_of c s) ≡ Some (Swapped off)
-HoldsOf c s (Lost off) = mismatch_fault (case_of c s) ≡ Some (Lost off)
+HoldsOf c s Frame = IsSome (transcript c s).bad
+HoldsOf c s Orphan = (transcript c s).orphan ≡ true
+HoldsOf c s (Content off) = (altered : FrameSeen) × IsFirstAltered c.stream (received_by c s) altered × (off ≡ offset_at c.stream altered.position)
+HoldsOf c s (Extra off) = mismatch_fault (session_case c s) ≡ Some (Extra off)
+HoldsOf c s (Doubled off) = mismatch_fault (session_case c s) ≡ Some (Doubled off)
+HoldsOf c s (Swapped off) = mismatch_fault (session_case c s) ≡ Some (Swapped off)
+HoldsOf c s (Lost off) = mismatch_fault (session_case c s) ≡ Some (Lost off)
 HoldsOf c s (Window connection) = wrong_window c.stream [] (own_stays c s) ≡ Some connection
 HoldsOf c s _ = ⊥
 
@@ -43,29 +43,29 @@ Holds c pid NoLog = HasNoTurn c pid 0
 Holds c pid Chain = HasNoChain c pid
 Holds c pid Order = HasUnordered c pid
 Holds c pid Client = length (naming_places c.taps pid) ≡ 1 → ⊥
-Holds c pid fault = (s : Session) × IsSession c pid s × HoldsOf c s fault
+Holds c pid fault = (s : SessionLogs) × IsSession c pid s × HoldsOf c s fault
 
 -- the order in which they are named
-abbrev pub rank : Fault → ℕ
-rank NoLog = 0
-rank Chain = 1
-rank Order = 2
-rank Client = 3
-rank Names = 4
-rank Frame = 5
-rank Orphan = 6
-rank (Content off) = 7
-rank (Extra off) = 8
-rank (Doubled off) = 9
-rank (Swapped off) = 10
-rank (Lost off) = 11
-rank (Window c) = 12
-rank (Tail n) = 13
+abbrev pub verdict_rank : Fault → ℕ
+verdict_rank NoLog = 0
+verdict_rank Chain = 1
+verdict_rank Order = 2
+verdict_rank Client = 3
+verdict_rank Names = 4
+verdict_rank Frame = 5
+verdict_rank Orphan = 6
+verdict_rank (Content off) = 7
+verdict_rank (Extra off) = 8
+verdict_rank (Doubled off) = 9
+verdict_rank (Swapped off) = 10
+verdict_rank (Lost off) = 11
+verdict_rank (Window c) = 12
+verdict_rank (Tail n) = 13
 
 -- of all faults that hold this is the first
-pub record IsFirst (c : Cluster) (pid : Text) (fault : Fault) : Type 0 where
+pub record HoldsFirst (c : Cluster) (pid : Text) (fault : Fault) : Type 0 where
   pub holds : Holds c pid fault
-  pub none_before : (other : Fault) → rank other < rank fault → Holds c pid other → ⊥
+  pub none_before : (other : Fault) → verdict_rank other < verdict_rank fault → Holds c pid other → ⊥
 
 -- none of them holds
 abbrev pub NoneHolds : Cluster → Text → Type 0

@@ -7,48 +7,48 @@ use Rattle.aud_node.specs.NodeTaps.{client_at}
 use Rattle.aud_client.specs.Replies.{naming_places}
 use Rattle.aud_rooms.specs.Turns.{Who, Turn, slice_of, IsChain}
 use Rattle.aud_rooms.specs.TurnsDue.{turns_due}
-use Rattle.aud_client.specs.Told.{StaySeen, FrameSeen}
-use Rattle.aud_client.specs.Received.{ReceivedSeen, received_of, received_list, stays_naming}
+use Rattle.aud_client.specs.StaySeen.{StaySeen, FrameSeen}
+use Rattle.aud_client.specs.Received.{TranscriptSeen, transcript_of, received_list, stays_naming}
 use Rattle.aud_check.specs.Faults.{Case, positions_in}
 use Rattle.aud_check.specs.Shown.{recs_or_none}
 
 -- a session, its turns, and the place of its client's tap
-pub record Session : Type 0 where
+pub record SessionLogs : Type 0 where
   pub who : Who
   pub turns : List Turn
   pub client : ℕ
 
 -- the session of this pid: its records in all node logs are these turns, each once and nothing outside, and this is the
 -- one client tap with a reply that names it
-pub record IsSession (c : Cluster) (pid : Text) (s : Session) : Type 0 where
+pub record IsSession (c : Cluster) (pid : Text) (s : SessionLogs) : Type 0 where
   pub names : s.who.pid ≡ pid
   pub chain : IsChain c s.who s.turns
   pub only : naming_places c.taps pid ≡ s.client ∷ []
 
 -- the records of its client's tap
-abbrev pub client_log : Cluster → Session → List ClientRec
+abbrev pub client_log : Cluster → SessionLogs → List ClientRec
 client_log c s = recs_or_none (client_at c s.client)
 
 -- what that tap tells
-abbrev pub told : Cluster → Session → ReceivedSeen
-told c s = received_of c.stream (client_log c s)
+abbrev pub transcript : Cluster → SessionLogs → TranscriptSeen
+transcript c s = transcript_of c.stream (client_log c s)
 
 -- the tap's stays whose reply names the session
-abbrev pub own_stays : Cluster → Session → List StaySeen
-own_stays c s = stays_naming s.who.pid (told c s).stays
+abbrev pub own_stays : Cluster → SessionLogs → List StaySeen
+own_stays c s = stays_naming s.who.pid (transcript c s).stays
 
 -- the events that the client received of the session, in the order of the tap
-abbrev pub received : Cluster → Session → List FrameSeen
-received c s = received_list c.stream (client_log c s) s.who.pid
+abbrev pub received_by : Cluster → SessionLogs → List FrameSeen
+received_by c s = received_list c.stream (client_log c s) s.who.pid
 
 -- the positions that were due to the session by its turns, ascending
-abbrev pub due_to : Cluster → Session → List ℕ
+abbrev pub due_to : Cluster → SessionLogs → List ℕ
 due_to c s = turns_due c.stream s.who (map (slice_of c) s.turns)
 
 -- what was received, against what was due
-abbrev pub case_of : Cluster → Session → Case
-case_of c s = record { stream = c.stream; told = told c s; stays = own_stays c s; frames = received c s; due = due_to c s }
+abbrev pub session_case : Cluster → SessionLogs → Case
+session_case c s = record { stream = c.stream; transcript = transcript c s; stays = own_stays c s; frames = received_by c s; due = due_to c s }
 
 -- the positions that were received
-abbrev pub positions : Cluster → Session → List ℕ
-positions c s = positions_in (case_of c s)
+abbrev pub positions : Cluster → SessionLogs → List ℕ
+positions c s = positions_in (session_case c s)

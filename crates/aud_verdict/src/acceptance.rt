@@ -14,7 +14,7 @@ ghost use Rattle.aud_cert_text.specs.Reading.{certificate_of};
 ghost use Rattle.aud_maker.specs.Made.{IsMade};
 ghost use Rattle.aud_check.specs.declared.refusal.Refusal.{Refusal};
 ghost use Rattle.aud_check.specs.Faults.{positions_in};
-ghost use Rattle.aud_check.specs.Refusals.{IsAccepted, IsFirst, IsMismatch, Place, Refuses, case_of};
+ghost use Rattle.aud_check.specs.Refusals.{IsAccepted, RefusesFirst, IsMismatch, Place, Refuses, certificate_case};
 ghost use Rattle.aud_check.specs.Shown.{shown_due, turns_of, who_of};
 
 use aud_merge::due_by_turns;
@@ -32,7 +32,7 @@ pub fn accepted_in_every_run()
         → IsOver c cert → IsAccepted c cert → AreTurns c (who_of cert) 0 (turns_of c cert) }
     ensures prefix { (c : Cluster) (cert : CertificateSeen) (run : List Step)
         → IsOver c cert → IsAccepted c cert → IsRun c run
-        → IsPrefixOf (positions_in (case_of c cert)) (due c run cert.pid) }
+        → IsPrefixOf (positions_in (certificate_case c cert)) (due c run cert.pid) }
     ensures all { (c : Cluster) (cert : CertificateSeen) (run : List Step)
         → IsChain c (who_of cert) (turns_of c cert) → IsRun c run → shown_due c cert ≡ due c run cert.pid }
 {
@@ -43,8 +43,8 @@ pub fn accepted_in_every_run()
 /// `LOST`, what the client received is a front of what is due in none.
 pub fn refused_in_no_run()
     ensures { (c : Cluster) (cert : CertificateSeen) (refusal : Refusal) (run : List Step)
-        → IsFirst c cert refusal → IsMismatch refusal → IsChain c (who_of cert) (turns_of c cert) → IsRun c run
-        → IsPrefixOf (positions_in (case_of c cert)) (due c run cert.pid) → ⊥ }
+        → RefusesFirst c cert refusal → IsMismatch refusal → IsChain c (who_of cert) (turns_of c cert) → IsRun c run
+        → IsPrefixOf (positions_in (certificate_case c cert)) (due c run cert.pid) → ⊥ }
 {
     due_by_turns();
 }

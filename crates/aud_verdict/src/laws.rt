@@ -18,7 +18,7 @@ ghost use Rattle.aud_check.specs.Refusals as check;
 ghost use Rattle.aud_check.specs.Shown.{frames_received, shown_due};
 ghost use Rattle.aud_report.specs.declared.verdict.Verdict.{Verdict};
 ghost use Rattle.aud_report.specs.declared.verdict.Verdict.TheVariants.{Yes, No};
-ghost use Rattle.aud_verdict.specs.Session.{Session, IsSession, positions, received};
+ghost use Rattle.aud_verdict.specs.Session.{SessionLogs, IsSession, positions, received_by};
 ghost use Rattle.aud_verdict.specs.Faults.{IsMisdelivery};
 ghost use Rattle.aud_verdict.specs.Verdict.{IsVerdict};
 ghost use Rattle.aud_verdict.specs.Refused.{fault_found};
@@ -35,7 +35,7 @@ pub fn verdict_is_one()
 pub fn verdict_by_certificate()
     // No certificate could be made.
     ensures not_made { (c : Cluster) (pid : Text) (fault : Fault)
-        → maker.IsFirst c pid fault → IsVerdict c pid (No fault) }
+        → maker.IsFirstMakeFault c pid fault → IsVerdict c pid (No fault) }
 
     // It was made and is accepted, with these numbers.
     ensures accepted { (c : Cluster) (pid : Text) (cert : CertificateSeen) (got tail turns : ℕ)
@@ -48,7 +48,7 @@ pub fn verdict_by_certificate()
     // It was made and is refused: for its names or for what the client received, and never for a turn, a cursor or a
     // span.
     ensures refused { (c : Cluster) (pid : Text) (cert : CertificateSeen) (refusal : Refusal) (fault : Fault)
-        → AreNamedOnce c.taps → IsMade c pid cert → check.IsFirst c cert refusal → fault_found refusal ≡ Some fault
+        → AreNamedOnce c.taps → IsMade c pid cert → check.RefusesFirst c cert refusal → fault_found refusal ≡ Some fault
         → IsVerdict c pid (No fault) }
     ensures refused_so { (c : Cluster) (pid : Text) (cert : CertificateSeen) (place : check.Place) (refusal : Refusal)
         → AreNamedOnce c.taps → IsMade c pid cert → check.Refuses c cert place refusal → IsSome (fault_found refusal) }
@@ -57,14 +57,14 @@ pub fn verdict_by_certificate()
 /// What a verdict says of every run: after a yes, what was received is a front of what is due, and each event is its
 /// entry; after `EXTRA`, `DOUBLED`, `SWAPPED` and `LOST` it is a front in none.
 pub fn verdict_in_every_run()
-    ensures yes { (c : Cluster) (pid : Text) (got tail turns : ℕ) (s : Session) (run : List Step)
+    ensures yes { (c : Cluster) (pid : Text) (got tail turns : ℕ) (s : SessionLogs) (run : List Step)
         → IsVerdict c pid (Yes got tail turns) → IsSession c pid s → IsRun c run
         → IsPrefixOf (positions c s) (due c run pid) }
     ensures counts { (c : Cluster) (pid : Text) (got tail turns : ℕ) (run : List Step)
         → IsVerdict c pid (Yes got tail turns) → IsRun c run → got + tail ≡ length (due c run pid) }
-    ensures entries { (c : Cluster) (pid : Text) (got tail turns : ℕ) (s : Session)
-        → IsVerdict c pid (Yes got tail turns) → IsSession c pid s → AreEntries c.stream (received c s) }
-    ensures no { (c : Cluster) (pid : Text) (fault : Fault) (s : Session) (run : List Step)
+    ensures entries { (c : Cluster) (pid : Text) (got tail turns : ℕ) (s : SessionLogs)
+        → IsVerdict c pid (Yes got tail turns) → IsSession c pid s → AreEntries c.stream (received_by c s) }
+    ensures no { (c : Cluster) (pid : Text) (fault : Fault) (s : SessionLogs) (run : List Step)
         → IsVerdict c pid (No fault) → IsMisdelivery fault → IsSession c pid s → IsRun c run
         → IsPrefixOf (positions c s) (due c run pid) → ⊥ }
 {

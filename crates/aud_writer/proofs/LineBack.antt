@@ -8,10 +8,10 @@ use Rattle.serde_json.specs.Written.{compact_text}
 use Rattle.aud_tap.specs.declared.records.Rec.{Rec}
 use Rattle.aud_tap.specs.Limits.{fits, max_name, max_line}
 use Rattle.aud_tap.specs.TapName.{is_name_byte, is_tap_name}
-use Rattle.aud_reader.specs.Record.{cut_at_blank}
-use Rattle.aud_reader.specs.Record.{json_of, opened_line, line_record}
+use Rattle.aud_reader.specs.Record.{cut_at_blank, json_of, opened_line, line_record}
 use Rattle.aud_tap.specs.WellFormed.{is_well_formed}
-use Rattle.aud_writer.specs.Written.{DecodeBack, bytes_of, record_data, line_text}
+use Rattle.aud_writer.specs.Written.{record_data, line_text}
+use Rattle.aud_writer.specs.Private.BytesBack.{DecodeBack, blobs_of}
 use Rattle.aud_writer.proofs.WrittenBack.{record-back}
 
 both : (a b : Bool) → a && b ≡ true → (a ≡ true) × (b ≡ true)
@@ -32,13 +32,13 @@ blank-at name text h =
     let within : length name < length (name ++ 32 ∷ text) = rw (length-append name (32 ∷ text)) (omega arith) in
     rw (blank_index name text h, lt-ltb (length name) (length (name ++ 32 ∷ text)) within) refl
 
-behind-blank : (name text : List ℕ) → drop (length name + 1) (name ++ 32 ∷ text) ≡ text
-behind-blank name text = drop-append-add name (32 ∷ text) 1
+after-blank : (name text : List ℕ) → drop (length name + 1) (name ++ 32 ∷ text) ≡ text
+after-blank name text = drop-append-add name (32 ∷ text) 1
 
 cut-written : (name text : List ℕ) → is_tap_name name ≡ true → cut_at_blank (name ++ 32 ∷ text) ≡ Some (name, text)
-cut-written name text h = rw (blank-at name text (both (fits max_name name) (list_all is_name_byte name) h).1, take-append_seam name (32 ∷ text), behind-blank name text) refl
+cut-written name text h = rw (blank-at name text (both (fits max_name name) (list_all is_name_byte name) h).1, take-append_seam name (32 ∷ text), after-blank name text) refl
 
 pub line-back : (name : List ℕ) (rec : Rec) → is_tap_name name ≡ true → is_well_formed rec ≡ true → nat_le (length (line_text name rec)) max_line ≡ true
-    → json_of (compact_text (record_data rec)) ≡ Ok (record_data rec) → DecodeBack (bytes_of rec) → line_record (line_text name rec) ≡ Ok (name, rec)
+    → json_of (compact_text (record_data rec)) ≡ Ok (record_data rec) → DecodeBack (blobs_of rec) → line_record (line_text name rec) ≡ Ok (name, rec)
 unfolding line_record opened_line
 line-back name rec named formed fit json back = rw (fit, cut-written name (compact_text (record_data rec)) named, named, json, record-back rec formed back) refl

@@ -6,7 +6,8 @@ use Rattle.serde_json.specs.Data.{Data, Members, put, array, string, Items, no_i
 use Rattle.serde_json.specs.View.{view, items_view}
 use Rattle.serde_json.specs.declared.value.Value.{Value, the_lemmas}
 use Rattle.aud_reader.specs.Fields.{decoded}
-use Rattle.aud_writer.specs.Written.{encoded, DecodeBack, text_items, put_unless_empty}
+use Rattle.aud_writer.specs.Written.{encoded, text_items}
+use Rattle.aud_writer.specs.Private.BytesBack.{DecodeBack, put_unless_empty}
 
 abbrev with_last : Items → Data → Items
 with_last no_items last = item last no_items

@@ -20,14 +20,15 @@ use Rattle.aud_tap.specs.declared.records.Rec.{Rec}
 use Rattle.aud_tap.specs.declared.records.Rec.TheVariants.{Header, Stream, Node, Client}
 use Rattle.aud_tap.specs.Limits.{fits, fit_rooms, max_attachments, max_id, max_offset, max_namespace, max_turn}
 use Rattle.aud_tap.specs.Forms.{is_id, is_namespace}
-use Rattle.aud_reader.specs.Fields.{decoded, each, list_or_empty, as_blob}
+use Rattle.aud_reader.specs.Fields.{decoded, all_items, list_or_empty, as_blob}
 use Rattle.aud_reader.specs.Header.{header_of}
 use Rattle.aud_reader.specs.StreamRecord.{stream_record_of, event_of, lists_of, other_of}
-use Rattle.aud_reader.specs.NodeRecord.{node_record_of, start_of, take_of, open_of, member_of, turn_of, gone_of}
+use Rattle.aud_reader.specs.NodeRecord.{node_record_of, start_of, take_of, open_of, member_of, pid_and_turn, gone_of}
 use Rattle.aud_reader.specs.ClientRecord.{client_record_of}
 use Rattle.aud_reader.specs.Record.{record_in, record_of, value_record}
 use Rattle.aud_tap.specs.WellFormed.{is_well_formed, event_is_well_formed, stream_is_well_formed, is_offset, is_session_id, is_room, is_full_namespace, node_is_well_formed}
-use Rattle.aud_writer.specs.Written.{record_data, stream_data, header_data, event_data, offset_data, node_data, client_data, encoded, DecodeBack, stream_bytes, client_bytes, bytes_of, put_unless_empty, text_member, list_member, text_items}
+use Rattle.aud_writer.specs.Written.{record_data, stream_data, header_data, event_data, offset_data, node_data, client_data, encoded, text_member, list_member, text_items}
+use Rattle.aud_writer.specs.Private.BytesBack.{DecodeBack, stream_bytes, client_bytes, blobs_of, put_unless_empty}
 
 both : (a b : Bool) → a && b ≡ true → (a ≡ true) × (b ≡ true)
 both true b h = (refl, h)
@@ -55,7 +56,7 @@ turn-parts : (pid : List ℕ) (turn : ℕ) → is_session_id pid && nat_le turn 
 turn-parts pid turn h = let ps = both (is_session_id pid) (nat_le turn max_turn) h in let p = id-parts pid ps.0 in (p.0, p.1, ps.1)
 
 pub node-back : (r : NodeRec) → node_is_well_formed r ≡ true → value_record (node_data r) ≡ Ok (Node r)
-unfolding value_record record_of record_in node_record_of start_of take_of open_of member_of turn_of gone_of
+unfolding value_record record_of record_in node_record_of start_of take_of open_of member_of pid_and_turn gone_of
 node-back (Start None) h = refl
 node-back (Start (Some off)) h = let o = offset-parts off h in rw (o.0, o.1) refl
 node-back (Take off) h = let o = offset-parts off h in rw (o.0, o.1) refl
@@ -96,11 +97,11 @@ event_members bin except nsp off rooms text =
     (list_member (codes "rooms") rooms
     (text_member (codes "text") text no_members))))))
 
-texts-back : (ts : List (List ℕ)) → each as_str (text_items ts) ≡ Some ts
+texts-back : (ts : List (List ℕ)) → all_items as_str (text_items ts) ≡ Some ts
 texts-back [] = refl
 texts-back (t ∷ ts) = rw (texts-back ts) refl
 
-blobs-back : (bs : List (List ℕ)) → DecodeBack bs → each as_blob (text_items (map encoded bs)) ≡ Some bs
+blobs-back : (bs : List (List ℕ)) → DecodeBack bs → all_items as_blob (text_items (map encoded bs)) ≡ Some bs
 blobs-back [] h = refl
 blobs-back (b ∷ bs) h = rw (h.0, blobs-back bs h.1) refl
 
@@ -235,7 +236,7 @@ stream-back (Other off) h bytes = rw (other-back off h) refl
 header-of-version : (of : TapKind) (v : ℕ) → v == 1 ≡ true → value_record (header_data of v) ≡ Ok (Header of v)
 header-of-version of v h = rw (eqb-true v 1 h) (header-back of)
 
-pub record-back : (r : Rec) → is_well_formed r ≡ true → DecodeBack (bytes_of r) → value_record (record_data r) ≡ Ok r
+pub record-back : (r : Rec) → is_well_formed r ≡ true → DecodeBack (blobs_of r) → value_record (record_data r) ≡ Ok r
 record-back (Header of v) h bytes = header-of-version of v h
 record-back (Stream r) h bytes = stream-back r h bytes
 record-back (Node r) h bytes = node-back r h

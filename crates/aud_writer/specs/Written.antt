@@ -1,8 +1,8 @@
 -- The line of a record: keys in byte order, no blanks, and empty lists left out.
-use Rattle.std.specs.Prelude.{◌≡◌, ℕ, nat_le, List, [], ◌∷◌, ◌++◌, length, map, codes, Some, None, Result, Ok}
+use Rattle.std.specs.Prelude.{ℕ, nat_le, List, [], ◌∷◌, ◌++◌, length, map, codes, Some, None, Result, Ok}
 use Rattle.base64.specs.GeneralPurpose.{encode_of}
 use Rattle.base64.specs.Engines.{standard}
-use Rattle.serde_json.specs.Data.{Data, null, number, string, array, object, unsigned, Items, no_items, item, Members, no_members, member, put}
+use Rattle.serde_json.specs.Data.{Data, null, number, string, array, object, unsigned, Items, no_items, item, Members, no_members, member}
 use Rattle.serde_json.specs.Written.{compact_text}
 use Rattle.aud_reader.specs.declared.fault.InputCode.{InputCode}
 use Rattle.aud_reader.specs.declared.fault.InputCode.TheVariants.{LineTooLong}
@@ -19,7 +19,6 @@ use Rattle.aud_tap.specs.declared.records.Rec.{Rec}
 use Rattle.aud_tap.specs.declared.records.Rec.TheVariants.{Header, Stream, Node, Client}
 use Rattle.aud_reader.specs.Steps.{◌>>=◌, guard}
 use Rattle.aud_tap.specs.Limits.{max_line}
-use Rattle.aud_reader.specs.Fields.{decoded}
 
 -- ---- members of an object, each before those of greater keys
 
@@ -41,42 +40,11 @@ abbrev pub list_member : List ℕ → List (List ℕ) → Members → Members
 list_member key [] rest = rest
 list_member key (t ∷ ts) rest = member key (array (text_items (t ∷ ts))) rest
 
--- a list put under a key, unless it is empty
-abbrev pub put_unless_empty : List ℕ → Items → Members → Members
-put_unless_empty key no_items ms = ms
-put_unless_empty key (item d ds) ms = put key (array (item d ds)) ms
-
 -- bytes in base64 (RFC 4648, section 4), padded
 abbrev pub encoded : List ℕ → List ℕ
 encoded = encode_of standard
 
--- each of these decodes to the bytes that it was made of
-abbrev pub DecodeBack : List (List ℕ) → Type 0
-DecodeBack [] = Unit {0}
-DecodeBack (b ∷ bs) = (decoded (encoded b) ≡ Some b) × DecodeBack bs
-
 -- ---- the bytes in a record
-
--- in one of the stream: its attachments
-abbrev pub stream_bytes : StreamRec → List (List ℕ)
-stream_bytes (Ev e) = e.bin
-stream_bytes (Other off) = []
-
--- in one of a client: the binary message
-abbrev pub client_bytes : ClientRec → List (List ℕ)
-client_bytes (Conn c) = []
-client_bytes (TextIn t) = []
-client_bytes (BytesIn b) = b ∷ []
-client_bytes (Poll t) = []
-client_bytes (TextOut t) = []
-client_bytes Lost = []
-
--- in any
-abbrev pub bytes_of : Rec → List (List ℕ)
-bytes_of (Header of v) = []
-bytes_of (Stream r) = stream_bytes r
-bytes_of (Node r) = []
-bytes_of (Client r) = client_bytes r
 
 -- ---- the JSON of a record
 
@@ -133,8 +101,8 @@ member_data kind pid room =
     (text_member (codes "room") room no_members)))
 
 -- `{"k":..,"pid":..,"turn":..}`
-abbrev pub turn_data : List ℕ → List ℕ → ℕ → Data
-turn_data kind pid turn =
+abbrev pub pid_and_turn_data : List ℕ → List ℕ → ℕ → Data
+pid_and_turn_data kind pid turn =
     object (text_member (codes "k") kind
     (text_member (codes "pid") pid
     (number_member (codes "turn") turn no_members)))
@@ -153,8 +121,8 @@ node_data (Take off) = offset_data (codes "take") off
 node_data (Opened pid sid nsp) = open_data pid sid nsp
 node_data (Join pid room) = member_data (codes "join") pid room
 node_data (Leave pid room) = member_data (codes "leave") pid room
-node_data (Broke pid turn) = turn_data (codes "break") pid turn
-node_data (Back pid turn) = turn_data (codes "back") pid turn
+node_data (Broke pid turn) = pid_and_turn_data (codes "break") pid turn
+node_data (Back pid turn) = pid_and_turn_data (codes "back") pid turn
 node_data (Gone pid) = gone_data pid
 
 -- `{"c":..,"k":"conn"}`

@@ -6,7 +6,8 @@ ghost use Rattle.aud_reader.specs.Steps.{IsRefusal};
 ghost use Rattle.aud_tap.specs.TapName.{is_tap_name};
 ghost use Rattle.aud_reader.specs.Record.{json_of, line_record};
 ghost use Rattle.aud_tap.specs.WellFormed.{is_well_formed};
-ghost use Rattle.aud_writer.specs.Written.{DecodeBack, bytes_of, tap_word, header_data, record_data, line_text, written_line};
+ghost use Rattle.aud_writer.specs.Written.{tap_word, header_data, record_data, line_text, written_line};
+ghost use Rattle.aud_writer.specs.Private.BytesBack.{DecodeBack, blobs_of};
 
 use super::client::client_value;
 use super::node::node_value;
@@ -35,7 +36,7 @@ fn header_value(alloc: Global, of: TapKind, v: u64) -> Result<Value, AllocError>
 
 fn record_value(alloc: Global, rec: &Rec) -> Result<Value, AllocError>
     ensures data { IfOk result (λ v. view v ≡ record_data rec.now) }
-    ensures back { IfOk result (λ v. DecodeBack (bytes_of rec.now)) }
+    ensures back { IfOk result (λ v. DecodeBack (blobs_of rec.now)) }
 {
     match rec {
         Rec::Header { of, v } => header_value(alloc, *of, *v),
@@ -49,7 +50,7 @@ fn record_json(alloc: Global, rec: &Rec) -> Result<String, AllocError>
     ensures text { IfOk result (λ json. string_bytes json ≡ compact_text (record_data rec.now)) }
     ensures reads { IfOk result
         (λ json. json_of (string_bytes json) ≡ Ok (record_data rec.now)) }
-    ensures back { IfOk result (λ json. DecodeBack (bytes_of rec.now)) }
+    ensures back { IfOk result (λ json. DecodeBack (blobs_of rec.now)) }
 {
     let value = record_value(alloc, rec)?;
     value.to_string(alloc)
@@ -59,7 +60,7 @@ fn line_bytes(alloc: Global, name: &str, rec: &Rec) -> Result<Vec<u8>, AllocErro
     ensures bytes { IfOk result (λ line. line.items ≡ line_text name.now rec.now) }
     ensures reads { IfOk result
         (λ line. json_of (compact_text (record_data rec.now)) ≡ Ok (record_data rec.now)) }
-    ensures back { IfOk result (λ line. DecodeBack (bytes_of rec.now)) }
+    ensures back { IfOk result (λ line. DecodeBack (blobs_of rec.now)) }
 {
     let json = record_json(alloc, rec)?;
     let mut line = Vec::new(alloc);

@@ -1,7 +1,7 @@
 //! The JSON of a node's record.
 ghost use Rattle.std.specs.Prelude.{◌≡◌, IfOk};
 ghost use Rattle.serde_json.specs.View.{view};
-ghost use Rattle.aud_writer.specs.Written.{begin_data, open_data, member_data, turn_data, gone_data, node_data};
+ghost use Rattle.aud_writer.specs.Written.{begin_data, open_data, member_data, pid_and_turn_data, gone_data, node_data};
 
 use super::stream::offset_value;
 use aud_tap::NodeRec;
@@ -27,7 +27,7 @@ fn member_value(alloc: Global, kind: &str, pid: &str, room: &str) -> Result<Valu
 }
 
 fn turn_value(alloc: Global, kind: &str, pid: &str, turn: u16) -> Result<Value, AllocError>
-    ensures { IfOk result (λ v. view v ≡ turn_data kind.now pid.now turn) }
+    ensures { IfOk result (λ v. view v ≡ pid_and_turn_data kind.now pid.now turn) }
 {
     json!(in alloc; {"k": kind, "pid": pid, "turn": turn})
 }

@@ -52,8 +52,8 @@ pub fn assert_answer(
     asked: Asked<'_>,
     answer: &str,
 ) -> Result<(), Fail> {
-    let told = answer_over(alloc, bundle, asked)?;
-    assert_eq!(rt; told.as_str(), answer);
+    let transcript = answer_over(alloc, bundle, asked)?;
+    assert_eq!(rt; transcript.as_str(), answer);
     Ok(())
 }
 

@@ -1,31 +1,31 @@
 //! What clients' taps tell, as texts.
-use aud_client::{Frame, ReadTap, Received, Recording, Stay};
+use aud_client::{Frame, IndexedTranscript, Transcript, Recording, Stay};
 use std::alloc::{AllocError, Global};
 use std::test::Fail;
 
 /// What the client's tap with this name tells.
-fn received<'r, 'a>(recording: &'r Recording<'a>, name: &str) -> Result<&'r Received<'a>, Fail> {
+fn received<'r, 'a>(recording: &'r Recording<'a>, name: &str) -> Result<&'r Transcript<'a>, Fail> {
     let place = recording.logs().place_of(name).ok_or("no such tap")?;
-    let told = recording.client(place).ok_or("no client")?;
-    Ok(told.received())
+    let transcript = recording.client(place).ok_or("no client")?;
+    Ok(transcript.transcript())
 }
 
 /// A line for each stay of the tap with this name, and then whether it has an orphan, and its first bad record.
 pub fn stays(alloc: Global, recording: &Recording<'_>, name: &str) -> Result<String, Fail> {
-    let told = received(recording, name)?;
+    let transcript = received(recording, name)?;
     let mut out = String::new(alloc);
-    write_stays(&mut out, told)?;
+    write_stays(&mut out, transcript)?;
     Ok(out)
 }
 
-fn write_stays(out: &mut String, told: &Received<'_>) -> Result<(), AllocError> {
-    for stay in told.stays.iter() {
+fn write_stays(out: &mut String, transcript: &Transcript<'_>) -> Result<(), AllocError> {
+    for stay in transcript.stays.iter() {
         write_stay(out, stay)?;
     }
-    if told.orphan {
+    if transcript.orphan {
         writeln!(out, "orphan")?;
     }
-    if let Some(number) = told.bad {
+    if let Some(number) = transcript.bad {
         writeln!(out, "bad {number}")?;
     }
     Ok(())
@@ -55,9 +55,9 @@ fn write_stay(out: &mut String, stay: &Stay<'_>) -> Result<(), AllocError> {
 
 /// A line for each frame of the tap with this name.
 pub fn frames(alloc: Global, recording: &Recording<'_>, name: &str) -> Result<String, Fail> {
-    let told = received(recording, name)?;
+    let transcript = received(recording, name)?;
     let mut out = String::new(alloc);
-    for stay in told.stays.iter() {
+    for stay in transcript.stays.iter() {
         write_frames(&mut out, stay.frames.as_slice())?;
     }
     Ok(out)
@@ -85,9 +85,9 @@ pub fn recovered(
     name: &str,
     pid: &str,
 ) -> Result<String, Fail> {
-    let told = received(recording, name)?;
+    let transcript = received(recording, name)?;
     let mut out = String::new(alloc);
-    for stay in told.stays.iter() {
+    for stay in transcript.stays.iter() {
         let (names, recovered) = (stay.names(pid), stay.is_recovered());
         writeln!(&mut out, "{names} {recovered}")?;
     }
@@ -103,7 +103,7 @@ pub fn naming(
 ) -> Result<String, Fail> {
     let mut out = String::new(alloc);
     match recording.client(place) {
-        Some(told) => write_naming(&mut out, alloc, told, pid)?,
+        Some(transcript) => write_naming(&mut out, alloc, transcript, pid)?,
         None => write!(&mut out, "no client")?,
     }
     Ok(out)
@@ -112,12 +112,12 @@ pub fn naming(
 fn write_naming(
     out: &mut String,
     alloc: Global,
-    told: &ReadTap<'_>,
+    transcript: &IndexedTranscript<'_>,
     pid: &str,
 ) -> Result<(), Fail> {
-    let count = told.received().stays.len();
+    let count = transcript.transcript().stays.len();
     write!(out, "{count} stays:")?;
-    for stay in told.naming(alloc, pid)? {
+    for stay in transcript.naming(alloc, pid)? {
         let c = stay.c;
         write!(out, " {c}")?;
     }

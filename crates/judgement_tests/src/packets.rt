@@ -47,42 +47,42 @@ pub fn places(alloc: Global, recording: &Recording<'_>, pid: &str) -> Result<Str
 }
 
 /// The number of the connection, and each packet with the record at which it stands.
-fn write_connection(told: &mut String, connection: &Connection<'_>) -> Result<(), Fail> {
-    write!(told, "; {}:", connection.c)?;
+fn write_connection(transcript: &mut String, connection: &Connection<'_>) -> Result<(), Fail> {
+    write!(transcript, "; {}:", connection.c)?;
     for placed in connection.packets.as_slice() {
         let (from, kind) = match &placed.packet {
-            TapPacket::Received(whole) => ("in", whole.packet.kind),
-            TapPacket::Sent(packet) => ("out", packet.kind),
+            TapPacket::FromServer(whole) => ("in", whole.packet.kind),
+            TapPacket::FromClient(packet) => ("out", packet.kind),
         };
-        write!(told, " {} {from} {kind:?}", placed.number)?;
+        write!(transcript, " {} {from} {kind:?}", placed.number)?;
     }
     Ok(())
 }
 
 /// How many records the tap has, its first bad record, and the connections.
 fn tap_told(alloc: Global, tap: &ClientTap<'_>) -> Result<String, Fail> {
-    let mut told = format!(in alloc; "{} records, bad {:?}", tap.recs().len(), tap.bad())?;
+    let mut transcript = format!(in alloc; "{} records, bad {:?}", tap.recs().len(), tap.bad())?;
     for connection in tap.connections() {
-        write_connection(&mut told, connection)?;
+        write_connection(&mut transcript, connection)?;
     }
-    Ok(told)
+    Ok(transcript)
 }
 
 /// The packet's namespace, its text and its attachments.
 fn whole_told(alloc: Global, whole: &Whole<'_>) -> Result<String, Fail> {
-    let mut told = format!(in alloc; "{} {}", whole.packet.nsp, whole.text)?;
+    let mut transcript = format!(in alloc; "{} {}", whole.packet.nsp, whole.text)?;
     for blob in whole.bin.as_slice() {
         let bytes = blob.as_slice();
-        write!(told, " {bytes:?}")?;
+        write!(transcript, " {bytes:?}")?;
     }
-    Ok(told)
+    Ok(transcript)
 }
 
 /// The packet of the server with this index in the first connection.
 fn received<'t, 'a>(tap: &'t ClientTap<'a>, index: usize) -> Option<&'t Whole<'a>> {
     match &tap.connections().first()?.packets.get(index)?.packet {
-        TapPacket::Received(whole) => Some(whole),
-        TapPacket::Sent(_) => None,
+        TapPacket::FromServer(whole) => Some(whole),
+        TapPacket::FromClient(_) => None,
     }
 }
 

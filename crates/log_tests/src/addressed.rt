@@ -36,7 +36,7 @@ impl Asked {
 impl Question for Asked {
     fn answer(&self, alloc: Global, logs: &Logs<'_>) -> Result<String, Fail> {
         let rooms = self.rooms(alloc)?;
-        let mut told = format!(in alloc; "{}:", rooms.has("r"))?;
+        let mut told = format!(in alloc; "{}:", rooms.contains("r"))?;
         for position in 1..4 {
             if let Some(entry) = logs.stream().entry(position) {
                 if addressed(entry, self.nsp, &rooms) {

@@ -39,8 +39,8 @@ fn take<'a>(state: &mut State<'a>, logs: &Logs<'a>, step: &Step) -> Result<(), F
 /// Where the session `P` is, its turn, and whether it is in its own room and in `r`.
 fn session_told(alloc: Global, state: &State<'_>) -> Result<String, Fail> {
     let session = state.session("P").ok_or("no session")?;
-    let own = session.rooms.has("s1");
-    let other = session.rooms.has("r");
+    let own = session.rooms.contains("s1");
+    let other = session.rooms.contains("r");
     Ok(format!(in alloc;
         "{:?}, turn {}, s1 {own}, r {other}",
         session.at, session.turn

@@ -1,7 +1,8 @@
 //! The records of a client tap, while they are read.
 ghost use Rattle.std.specs.Prelude.{◌≡◌, ◌∷◌, ◌++◌, [], Ok};
 ghost use Rattle.serde_json.specs.View.{view};
-ghost use Rattle.aud_reader.specs.Connections.{Connected, may_follow};
+ghost use Rattle.aud_reader.specs.Connections.{may_follow};
+ghost use Rattle.aud_reader.specs.Private.Connected.{Connected};
 ghost use Rattle.aud_reader.specs.Bundle.{with_client_record};
 
 use super::node_log::MAX_RECORDS;
@@ -25,7 +26,7 @@ pub struct ClientLog {
 impl Model for ClientLog {
     ghost use Rattle.std.specs.Prelude.{List};
     ghost use Rattle.aud_tap.specs.declared.records.ClientRec.{ClientRec};
-    ghost use Rattle.aud_reader.specs.Connections.{Connected};
+    ghost use Rattle.aud_reader.specs.Private.Connected.{Connected};
 
     ghost Value = { List ClientRec };
 
@@ -35,7 +36,7 @@ impl Model for ClientLog {
 }
 
 impl ClientLog {
-    ghost use Rattle.aud_reader.specs.Changes.{Becomes};
+    ghost use Rattle.aud_reader.specs.Private.Changes.{Becomes};
 
     pub fn new(alloc: Global) -> ClientLog
         ensures { result ≡ [] }

@@ -23,7 +23,7 @@ pub struct Counts {
 }
 
 impl Counts {
-    ghost use Rattle.aud_reader.specs.Kept.{Counted};
+    ghost use Rattle.aud_reader.specs.Private.Kept.{Counted};
 
     pub fn new() -> Counts
         ensures { Counted result [] }

@@ -2,10 +2,10 @@
 ghost use Rattle.std.specs.Prelude.{◌≡◌, ◌++◌, List, ℕ, OnOk, option_to_list};
 ghost use Rattle.std.specs.List.{filter_map};
 ghost use Rattle.serde_json.specs.View.{view};
-ghost use Rattle.aud_reader.specs.Changes.{Becomes};
+ghost use Rattle.aud_reader.specs.Private.Changes.{Becomes};
 ghost use Rattle.aud_reader.specs.Bundle.{node_room, pid_of, with_node_record};
 ghost use Rattle.aud_reader.specs.Steps.{Gives};
-ghost use Rattle.aud_reader.specs.Texts.{HasPids};
+ghost use Rattle.aud_reader.specs.Private.Texts.{HasPids};
 
 use super::pids::add_pid_of;
 use crate::fault::{LIMIT, LineFault};

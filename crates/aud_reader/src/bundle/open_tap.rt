@@ -2,9 +2,9 @@
 ghost use Rattle.std.specs.Prelude.{◌≡◌, ◌++◌, List, ℕ, OnOk};
 ghost use Rattle.std.specs.List.{filter_map};
 ghost use Rattle.serde_json.specs.View.{view};
-ghost use Rattle.aud_reader.specs.Changes.{Becomes};
-ghost use Rattle.aud_reader.specs.Bundle.{no_records, pid_of, pids_in, with_node_record, with_record};
-ghost use Rattle.aud_reader.specs.Texts.{HasPids};
+ghost use Rattle.aud_reader.specs.Private.Changes.{Becomes};
+ghost use Rattle.aud_reader.specs.Bundle.{no_records, pid_of, pids_in, with_node_record, with_tap_record};
+ghost use Rattle.aud_reader.specs.Private.Texts.{HasPids};
 
 use super::client_log::ClientLog;
 use super::node_log::add_node_record;
@@ -17,22 +17,22 @@ use std::collections::HashSet;
 
 /// The records of a tap so far.
 #[derive(Drop)]
-pub enum Log {
+pub enum OpenLog {
     Stream(StreamLog),
     Node(Vec<NodeRec>),
     Client(ClientLog),
 }
 
-impl Log {
-    ghost use Rattle.aud_reader.specs.Kept.{records_so_far};
+impl OpenLog {
+    ghost use Rattle.aud_reader.specs.SoFar.{records_so_far};
 
-    fn new(alloc: Global, of: TapKind) -> Log
+    fn new(alloc: Global, of: TapKind) -> OpenLog
         ensures { records_so_far result ≡ no_records of }
     {
         match of {
-            TapKind::Stream => Log::Stream(StreamLog::new(alloc)),
-            TapKind::Node => Log::Node(Vec::new(alloc)),
-            TapKind::Client => Log::Client(ClientLog::new(alloc)),
+            TapKind::Stream => OpenLog::Stream(StreamLog::new(alloc)),
+            TapKind::Node => OpenLog::Node(Vec::new(alloc)),
+            TapKind::Client => OpenLog::Client(ClientLog::new(alloc)),
         }
     }
 
@@ -45,14 +45,14 @@ impl Log {
         d: &Value,
     ) -> Result<(), LineFault>
         ensures records { (before after : List (List ℕ)) → HasPids pids.old (before ++ pids_in (records_so_far self.old) ++ after)
-            → Becomes result (records_so_far self.new) (with_record (before ++ pids_in (records_so_far self.old) ++ after) (records_so_far self.old) kind.now (view d.now)) }
+            → Becomes result (records_so_far self.new) (with_tap_record (before ++ pids_in (records_so_far self.old) ++ after) (records_so_far self.old) kind.now (view d.now)) }
         ensures pids { (before after : List (List ℕ)) → HasPids pids.old (before ++ pids_in (records_so_far self.old) ++ after)
             → OnOk result (HasPids pids.new (before ++ pids_in (records_so_far self.new) ++ after)) }
     {
         match self {
-            Log::Stream(entries) => entries.add(kind, d),
-            Log::Node(records) => add_node_record(alloc, records, pids, kind, d),
-            Log::Client(records) => records.add(kind, d),
+            OpenLog::Stream(entries) => entries.add(kind, d),
+            OpenLog::Node(records) => add_node_record(alloc, records, pids, kind, d),
+            OpenLog::Client(records) => records.add(kind, d),
         }
     }
 
@@ -60,9 +60,9 @@ impl Log {
         ensures { result ≡ records_so_far self }
     {
         match self {
-            Log::Stream(entries) => Records::Stream(entries.close()),
-            Log::Node(records) => Records::Node(NodeRecs::new(records)),
-            Log::Client(records) => Records::Client(records.close()),
+            OpenLog::Stream(entries) => Records::Stream(entries.close()),
+            OpenLog::Node(records) => Records::Node(NodeRecs::new(records)),
+            OpenLog::Client(records) => Records::Client(records.close()),
         }
     }
 }
@@ -71,11 +71,11 @@ impl Log {
 #[derive(Drop)]
 pub struct OpenTap {
     name: Text,
-    log: Log,
+    log: OpenLog,
 }
 
 impl OpenTap {
-    ghost use Rattle.aud_reader.specs.Kept.{records_so_far, tap_so_far};
+    ghost use Rattle.aud_reader.specs.SoFar.{records_so_far, tap_so_far};
 
     /// A tap without records.
     pub fn new(alloc: Global, name: Text, of: TapKind) -> OpenTap
@@ -83,7 +83,7 @@ impl OpenTap {
     {
         OpenTap {
             name,
-            log: Log::new(alloc, of),
+            log: OpenLog::new(alloc, of),
         }
     }
 
@@ -97,7 +97,7 @@ impl OpenTap {
     ) -> Result<(), LineFault>
         ensures name { self.new.name ≡ self.old.name }
         ensures records { (before after : List (List ℕ)) → HasPids pids.old (before ++ pids_in (records_so_far self.old.log) ++ after)
-            → Becomes result (records_so_far self.new.log) (with_record (before ++ pids_in (records_so_far self.old.log) ++ after) (records_so_far self.old.log) kind.now (view d.now)) }
+            → Becomes result (records_so_far self.new.log) (with_tap_record (before ++ pids_in (records_so_far self.old.log) ++ after) (records_so_far self.old.log) kind.now (view d.now)) }
         ensures pids { (before after : List (List ℕ)) → HasPids pids.old (before ++ pids_in (records_so_far self.old.log) ++ after)
             → OnOk result (HasPids pids.new (before ++ pids_in (records_so_far self.new.log) ++ after)) }
     {

@@ -2,7 +2,7 @@
 ghost use Rattle.std.specs.Prelude.{◌≡◌, ◌<◌, ◌∷◌, ◌++◌, [], List, ℕ, length, IfOk, OnOk, Ok, Some, None};
 ghost use Rattle.std.specs.HashMap.{get_by_text};
 ghost use Rattle.serde_json.specs.View.{view};
-ghost use Rattle.aud_reader.specs.Changes.{Becomes};
+ghost use Rattle.aud_reader.specs.Private.Changes.{Becomes};
 ghost use Rattle.aud_reader.specs.Bundle.{no_records, with_header, with_line, with_named};
 
 use super::counts::Counts;
@@ -33,11 +33,12 @@ pub struct OpenTaps {
 }
 
 impl OpenTaps {
-    ghost use Rattle.aud_reader.specs.Kept.{Keeps, place_of, taps_so_far};
+    ghost use Rattle.aud_reader.specs.Private.Kept.{KeepsTaps, place_of};
+    ghost use Rattle.aud_reader.specs.SoFar.{taps_so_far};
 
     pub fn new(alloc: Global) -> OpenTaps
         ensures taps { taps_so_far result ≡ [] }
-        ensures keeps { Keeps result }
+        ensures keeps { KeepsTaps result }
     {
         OpenTaps {
             alloc,
@@ -71,10 +72,10 @@ impl OpenTaps {
     /// Reads the first line of a tap, which is its header.
     #[tactic(auto, unfolding(crate::specs::Bundle::with_header))]
     fn begin(&mut self, name: &str, kind: &str, d: &Value) -> Result<(), LineFault>
-        requires keeps { Keeps self.old }
+        requires keeps { KeepsTaps self.old }
         requires first { place_of name.now (taps_so_far self.old) ≡ None }
         ensures taps { Becomes result (taps_so_far self.new) (with_header (taps_so_far self.old) name.now kind.now (view d.now)) }
-        ensures keeps { OnOk result (Keeps self.new) }
+        ensures keeps { OnOk result (KeepsTaps self.new) }
     {
         if kind != "tap" {
             return Err(NO_HEADER);
@@ -89,10 +90,10 @@ impl OpenTaps {
     /// Reads a later line of the tap at a place.
     #[tactic(auto, unfolding(crate::specs::Bundle::with_later))]
     fn go_on(&mut self, place: usize, kind: &str, d: &Value) -> Result<(), LineFault>
-        requires keeps { Keeps self.old }
+        requires keeps { KeepsTaps self.old }
         requires place { place < length (taps_so_far self.old) }
         ensures taps { (name : List ℕ) → place_of name (taps_so_far self.old) ≡ Some place → Becomes result (taps_so_far self.new) (with_named (taps_so_far self.old) name kind.now (view d.now)) }
-        ensures keeps { OnOk result (Keeps self.new) }
+        ensures keeps { OnOk result (KeepsTaps self.new) }
     {
         if kind == "tap" {
             return Err(HEADER_TWICE);
@@ -104,9 +105,9 @@ impl OpenTaps {
     /// Reads a line.
     #[tactic(auto, unfolding(crate::specs::Bundle::with_line))]
     pub fn read_line(&mut self, line: &[u8]) -> Result<(), LineFault>
-        requires { Keeps self.old }
+        requires { KeepsTaps self.old }
         ensures taps { Becomes result (taps_so_far self.new) (with_line (taps_so_far self.old) line.now) }
-        ensures keeps { OnOk result (Keeps self.new) }
+        ensures keeps { OnOk result (KeepsTaps self.new) }
     {
         let (name, d) = opened_line(self.alloc, line)?;
         let kind = kind_of(&d)?;

@@ -2,7 +2,7 @@
 ghost use Rattle.std.specs.Prelude.{◌≡◌, ◌∷◌, ◌++◌, [], List, ℕ, OnOk, option_map, option_to_list};
 ghost use Rattle.aud_reader.specs.Steps.{Gives};
 ghost use Rattle.aud_reader.specs.Bundle.{pid_of, pids_fit};
-ghost use Rattle.aud_reader.specs.Texts.{HasPids};
+ghost use Rattle.aud_reader.specs.Private.Texts.{HasPids};
 
 use crate::fault::{LIMIT, LineFault};
 use aud_tap::NodeRec;

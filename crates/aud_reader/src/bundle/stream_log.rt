@@ -5,7 +5,7 @@ ghost use Rattle.serde_json.specs.View.{view};
 ghost use Rattle.aud_reader.specs.declared.fault.InputCode.TheVariants.{OffsetTwice};
 ghost use Rattle.aud_reader.specs.Steps.{Gives, guard};
 ghost use Rattle.aud_tap.specs.Forms.{is_text};
-ghost use Rattle.aud_reader.specs.Texts.{HasTexts};
+ghost use Rattle.aud_reader.specs.Private.Texts.{HasTexts};
 ghost use Rattle.aud_reader.specs.Bundle.{offset_of, with_entry, with_new_offset};
 
 use crate::fault::{InputCode, LIMIT, LineFault};
@@ -78,7 +78,7 @@ impl Model for StreamLog {
     ghost use Rattle.std.specs.Prelude.{List, map};
     ghost use Rattle.aud_tap.specs.declared.records.StreamRec.{StreamRec};
     ghost use Rattle.aud_reader.specs.Bundle.{offset_of};
-    ghost use Rattle.aud_reader.specs.Texts.{HasTexts};
+    ghost use Rattle.aud_reader.specs.Private.Texts.{HasTexts};
 
     ghost Value = { List StreamRec };
 
@@ -88,7 +88,7 @@ impl Model for StreamLog {
 }
 
 impl StreamLog {
-    ghost use Rattle.aud_reader.specs.Changes.{Becomes};
+    ghost use Rattle.aud_reader.specs.Private.Changes.{Becomes};
 
     pub fn new(alloc: Global) -> StreamLog
         ensures { result ≡ [] }

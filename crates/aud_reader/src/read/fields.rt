@@ -8,7 +8,7 @@ ghost use Rattle.aud_tap.specs.Forms.{is_id, is_namespace};
 ghost use Rattle.aud_tap.specs.Json.{text_at};
 ghost use Rattle.aud_reader.specs.Fields.{number_at, id_at, namespace_at};
 ghost use Rattle.aud_reader.specs.Fields.{id_or_null, id_or_null_at, decoded, as_blob, bytes_at};
-ghost use Rattle.aud_reader.specs.Fields.{each, texts_at, blobs_at};
+ghost use Rattle.aud_reader.specs.Fields.{all_items, texts_at, blobs_at};
 
 use super::items::push;
 use crate::fault::{FIELD, LineFault};
@@ -132,7 +132,7 @@ fn as_text(alloc: Global, d: &Value) -> Result<Text, LineFault>
 }
 
 fn texts(alloc: Global, items: &[Value]) -> Result<Texts, LineFault>
-    ensures { Gives result (need Field (each as_str (items_view items.now))) }
+    ensures { Gives result (need Field (all_items as_str (items_view items.now))) }
 {
     let mut texts = Vec::new(alloc);
     for d in items {
@@ -154,7 +154,7 @@ pub fn texts_at(alloc: Global, key: &str, d: &Value) -> Result<Texts, LineFault>
 }
 
 fn blobs(alloc: Global, items: &[Value]) -> Result<Blobs, LineFault>
-    ensures { Gives result (need Field (each as_blob (items_view items.now))) }
+    ensures { Gives result (need Field (all_items as_blob (items_view items.now))) }
 {
     let mut blobs = Vec::new(alloc);
     for d in items {

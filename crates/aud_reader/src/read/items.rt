@@ -1,6 +1,6 @@
 //! Lists that grow.
 ghost use Rattle.std.specs.Prelude.{◌≡◌, ◌<◌, ◌∷◌, ◌++◌, [], Ok, OnErr, vec_len, vec_capacity};
-ghost use Rattle.aud_reader.specs.Changes.{Becomes};
+ghost use Rattle.aud_reader.specs.Private.Changes.{Becomes};
 
 use crate::fault::LineFault;
 

@@ -5,7 +5,7 @@ ghost use Rattle.aud_tap.specs.Limits.{max_turn};
 ghost use Rattle.aud_tap.specs.WellFormed.{is_session_id, is_room, node_is_well_formed};
 ghost use Rattle.aud_reader.specs.Steps.{Gives};
 ghost use Rattle.aud_reader.specs.NodeRecord.{start_of, take_of, open_of, member_of, join_of};
-ghost use Rattle.aud_reader.specs.NodeRecord.{leave_of, turn_of, break_of, back_of, gone_of};
+ghost use Rattle.aud_reader.specs.NodeRecord.{leave_of, pid_and_turn, break_of, back_of, gone_of};
 ghost use Rattle.aud_reader.specs.NodeRecord.{node_record_of};
 
 use super::fields::{copied, copies, id_at, id_or_null_at, namespace_at, number_at, text_at};
@@ -92,9 +92,9 @@ fn leave(alloc: Global, d: &Value) -> Result<NodeRec, LineFault>
 }
 
 /// A pid and the number of a turn.
-#[tactic(auto, unfolding(crate::specs::NodeRecord::turn_of))]
+#[tactic(auto, unfolding(crate::specs::NodeRecord::pid_and_turn))]
 fn turn(alloc: Global, d: &Value) -> Result<(Text, u16), LineFault>
-    ensures reads { Gives result (turn_of (view d.now)) }
+    ensures reads { Gives result (pid_and_turn (view d.now)) }
     ensures formed { IfOk result (λ t. IsTrue (is_session_id t.0 && nat_le t.1 max_turn)) }
 {
     let pid = id_at("pid", d).ok_or(FIELD)?;

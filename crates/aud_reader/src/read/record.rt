@@ -3,7 +3,7 @@ ghost use Rattle.std.specs.Prelude.{◌≡◌, Ok, IfOk, IsTrue, MatchResult};
 ghost use Rattle.serde_json.specs.View.{view};
 ghost use Rattle.aud_reader.specs.Steps.{Gives, Fails};
 ghost use Rattle.aud_tap.specs.WellFormed.{is_well_formed};
-ghost use Rattle.aud_reader.specs.Record.{kind_of, tap_of_kind, record_in, record_of, value_record};
+ghost use Rattle.aud_reader.specs.Record.{kind_named, tap_of_kind, record_in, record_of, value_record};
 
 use super::client::client_record;
 use super::fields::text_at;
@@ -59,8 +59,8 @@ fn record(alloc: Global, kind: &str, d: &Value) -> Result<Rec, LineFault>
 /// What an object says that it is.
 pub fn kind_of(d: &Value) -> Result<&str, LineFault>
     ensures { MatchResult result
-        (λ k. kind_of (view d.now) ≡ Ok k.now)
-        (λ e. Fails e (kind_of (view d.now))) }
+        (λ k. kind_named (view d.now) ≡ Ok k.now)
+        (λ e. Fails e (kind_named (view d.now))) }
 {
     text_at("k", d).ok_or(FIELD)
 }

@@ -1,6 +1,6 @@
 use Rattle.std.proofs.Common.{string_bytes}
 use Rattle.std.proofs.lemmas.List.{take_more}
-use Rattle.aud_app.specs.Decided.{IsEntry}
+use Rattle.aud_app.specs.Decided.{IsSessionVerdict}
 use Rattle.aud_report.proofs.EachLemmas.{one_more-map}
 use Rattle.aud_app.proofs.sessions.verdicts.Goals as goal
 
@@ -8,4 +8,4 @@ pub loop-pid-preserved : goal.loop-pid-preserved
 loop-pid-preserved c =
     let front = take_more c.args.pids.now c.loop-pid.pid-index c.pid-item.result c.loop-pid-test.true in
     let entry = rw c.as_str.ensures.value at c.in_ok-entry.ensures in
-    rw (front, ← c.pid-item.is, c.in_ok-push.ensures.items) (one_more-map (IsEntry c.args.recording.now) string_bytes _ _ c.pid-item.result _ c.loop-pid.invariant entry)
+    rw (front, ← c.pid-item.is, c.in_ok-push.ensures.items) (one_more-map (IsSessionVerdict c.args.recording.now) string_bytes _ _ c.pid-item.result _ c.loop-pid.invariant entry)

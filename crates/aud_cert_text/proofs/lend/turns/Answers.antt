@@ -6,24 +6,24 @@ use Rattle.aud_cert_text.specs.Reading.{turn_over}
 use Rattle.aud_cert_text.proofs.Lists.{each-ok, each-fails, each-done}
 use Rattle.aud_cert_text.proofs.lend.turns.Goals as goal
 
-pub loop-told-preserved : goal.loop-told-preserved
-loop-told-preserved c =
-    let longer = each-ok (turn_over c.args.logs.now) _ _ _ _ c.loop-told.turns.items c.loop-told-test.true c.told-item.is c.in_ok-turn.ensures in
+pub loop-parsed-preserved : goal.loop-parsed-preserved
+loop-parsed-preserved c =
+    let longer = each-ok (turn_over c.args.logs.now) _ _ _ _ c.loop-parsed.turns.items c.loop-parsed-test.true c.parsed-item.is c.in_ok-turn.ensures in
     grind (arith, common_steps)
 
 pub returns-in_err-turn : goal.returns-in_err-turn
 returns-in_err-turn c =
     let p = err_from_is_err_and c.from_residual.result c.from_residual.ensures.1 in
     rw p.1 (record {
-      reads = rw (p.2, ← c.loop-told.invariant) (each-fails (turn_over c.args.logs.now) _ _ _ _ c.loop-told.turns.items c.loop-told-test.true c.told-item.is c.in_err-turn.ensures);
+      reads = rw (p.2, ← c.loop-parsed.invariant) (each-fails (turn_over c.args.logs.now) _ _ _ _ c.loop-parsed.turns.items c.loop-parsed-test.true c.parsed-item.is c.in_err-turn.ensures);
       over = tt;
       count = tt;
     })
 
 pub returns-clause-over : goal.returns-clause-over
 returns-clause-over c =
-    turns-over c.args.logs.now c.args.told.now c.loop-told.turns.items (each-done (turn_over c.args.logs.now) c.args.told.now c.loop-told.told-index c.loop-told.turns.items (omega arith) c.loop-told.invariant)
+    turns-over c.args.logs.now c.args.parsed.now c.loop-parsed.turns.items (each-done (turn_over c.args.logs.now) c.args.parsed.now c.loop-parsed.parsed-index c.loop-parsed.turns.items (omega arith) c.loop-parsed.invariant)
 
 pub returns-clause-count : goal.returns-clause-count
 returns-clause-count c =
-    each-length (turn_over c.args.logs.now) c.args.told.now c.loop-told.turns.items (each-done (turn_over c.args.logs.now) c.args.told.now c.loop-told.told-index c.loop-told.turns.items (omega arith) c.loop-told.invariant)
+    each-length (turn_over c.args.logs.now) c.args.parsed.now c.loop-parsed.turns.items (each-done (turn_over c.args.logs.now) c.args.parsed.now c.loop-parsed.parsed-index c.loop-parsed.turns.items (omega arith) c.loop-parsed.invariant)

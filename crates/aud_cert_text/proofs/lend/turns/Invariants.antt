@@ -4,5 +4,5 @@ use Rattle.aud_cert_text.specs.Reading.{turn_over}
 use Rattle.aud_cert_text.proofs.Lists.{with_front}
 use Rattle.aud_cert_text.proofs.lend.turns.Given as goal
 
-abbrev pub invariant-loop-told : goal.invariant-loop-told
-invariant-loop-told l = with_front l.turns.items (each (turn_over l.logs) (drop l.told-index l.told)) ≡ each (turn_over l.logs) l.told
+abbrev pub invariant-loop-parsed : goal.invariant-loop-parsed
+invariant-loop-parsed l = with_front l.turns.items (each (turn_over l.logs) (drop l.parsed-index l.parsed)) ≡ each (turn_over l.logs) l.parsed

@@ -10,7 +10,7 @@ use Rattle.aud_check.specs.declared.certificate.Accepted.{Accepted}
 use Rattle.aud_check.specs.declared.refusal.Refusal.{Refusal}
 use Rattle.aud_check.specs.Faults.{positions_in}
 use Rattle.aud_check.specs.Shown.{frames_received, shown_due, turns_of, who_of}
-use Rattle.aud_check.specs.Refusals.{IsAccepted, IsFirstRefusal, IsMismatch, case_of}
+use Rattle.aud_check.specs.Refusals.{IsAccepted, IsFirstRefusal, IsMismatch, certificate_case}
 use Rattle.aud_check.proofs.AcceptedTurns.{all_accepted, are_turns}
 use Rattle.aud_check.proofs.Headline.{carried, first_of_all, in_every_run, in_no_run}
 use Rattle.aud_check.proofs.Judged.{same_cert}
@@ -51,6 +51,6 @@ returns c =
           (λ a all chain run is. all ∙ sym (ap length (c.due_by_turns.ensures.all C run (who_of cert) (turns_of C cert) is chain))) tail;
       in_no_run =
           IfErr-weaker result (IsFirstRefusal C cert)
-          (λ (refusal : Refusal). IsMismatch refusal → IsChain C (who_of cert) (turns_of C cert) → (run : List Step) → IsRun C run → IsPrefixOf (positions_in (case_of C cert)) (due C run cert.pid) → ⊥)
+          (λ (refusal : Refusal). IsMismatch refusal → IsChain C (who_of cert) (turns_of C cert) → (run : List Step) → IsRun C run → IsPrefixOf (positions_in (certificate_case C cert)) (due C run cert.pid) → ⊥)
           (λ refusal first about. in_no_run C cert refusal (first_of_all C cert refusal about first) about c.due_by_turns.ensures.all) refused;
     }

@@ -1,10 +1,11 @@
 use Rattle.std.proofs.Common.{length, sym, subst, ◌∙◌, true≢false}
 use Rattle.aud_rooms.specs.Turns.{Who}
 use Rattle.aud_rooms.specs.TurnsDue.{is_turn_due}
-use Rattle.aud_check.specs.Ascending.{IsAscending}
+use Rattle.aud_check.specs.Private.Ascending.{IsAscending}
 use Rattle.aud_check.specs.Shown.{slices_at}
-use Rattle.aud_check.specs.Refusals.{seen_as}
-use Rattle.aud_check.specs.TurnRefusals.{AreTurnsAccepted, IsFirstOfTurns}
+use Rattle.aud_check.specs.Private.Parts.{seen_as}
+use Rattle.aud_check.specs.TurnRefusals.{AreTurnsAccepted}
+use Rattle.aud_check.specs.Private.TurnCheck.{IsFirstOfTurns}
 use Rattle.aud_check.proofs.Ascending.{ascending}
 use Rattle.aud_check.proofs.Judged.{turns_first, span_first, refused_first, judged}
 use Rattle.aud_check.proofs.certificate.judge.Goals as goal

@@ -12,12 +12,12 @@ returns c =
     let who = c.args.session.now in
     let spans = c.args.spans.now in
     let accepted = all_accepted C who.pid turns c.requires.accepted in
-    let low = c.first_low-birth.ensures ∙ lows C who.pid 0 turns accepted in
-    let high = c.greatest_high-high.ensures ∙ highs C who.pid 0 turns accepted in
+    let low = c.first_shown_low-birth.ensures ∙ lows C who.pid 0 turns accepted in
+    let high = c.greatest_shown_high-high.ensures ∙ highs C who.pid 0 turns accepted in
     let nsp : c.session.inside.nsp.now ≡ who.nsp = ap (λ (w : Who). w.nsp) c.session.view_is in
     c.in_ok-due.ensures
-    ∙ ap (λ stream. due_by_spans spans stream c.session.inside.nsp.now c.first_low-birth.result c.greatest_high-high.result) c.stream.ensures
-    ∙ ap (λ n. due_by_spans spans C.stream n c.first_low-birth.result c.greatest_high-high.result) nsp
-    ∙ ap (λ n. due_by_spans spans C.stream who.nsp n c.greatest_high-high.result) low
+    ∙ ap (λ stream. due_by_spans spans stream c.session.inside.nsp.now c.first_shown_low-birth.result c.greatest_shown_high-high.result) c.stream.ensures
+    ∙ ap (λ n. due_by_spans spans C.stream n c.first_shown_low-birth.result c.greatest_shown_high-high.result) nsp
+    ∙ ap (λ n. due_by_spans spans C.stream who.nsp n c.greatest_shown_high-high.result) low
     ∙ ap (due_by_spans spans C.stream who.nsp (first_low (slices_at C turns))) high
     ∙ c.due_by_spans_of_turns.ensures C.stream who (slices_at C turns) spans c.requires.spans

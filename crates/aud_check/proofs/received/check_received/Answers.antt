@@ -4,7 +4,7 @@ use Rattle.aud_merge.specs.ByTurns.{IsPrefixOf}
 use Rattle.aud_check.specs.Compare.{mismatch}
 use Rattle.aud_check.specs.Faults.{positions_in}
 use Rattle.aud_check.specs.Frames.{AreEntries}
-use Rattle.aud_check.specs.Wrong.{by_stays}
+use Rattle.aud_check.specs.Private.Wrong.{by_stays}
 use Rattle.aud_check.proofs.Ascending.{front_ascends}
 use Rattle.aud_check.proofs.Cuts.{position_of}
 use Rattle.aud_check.proofs.FirstFault.{mismatch_first, window_first}

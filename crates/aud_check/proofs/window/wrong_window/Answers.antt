@@ -1,6 +1,6 @@
 use Rattle.std.proofs.Common.{◌≡◌, Some, length, ap, ◌∙◌, arith}
 use Rattle.std.proofs.lemmas.Grind.{common_steps}
-use Rattle.aud_client.specs.Told.{StaySeen}
+use Rattle.aud_client.specs.StaySeen.{StaySeen}
 use Rattle.aud_check.proofs.Windows.{left_more, asked_wrongly, asked_rightly}
 use Rattle.aud_check.proofs.window.wrong_window.Goals as goal
 

@@ -1,14 +1,14 @@
 use Rattle.std.proofs.Common.{◌≡◌, false, length, ap, ◌∙◌, arith}
 use Rattle.std.specs.Option.{option_map_or}
 use Rattle.aud_node.specs.Naming.{kept_places}
-use Rattle.aud_client.specs.BySession.{stays_numbered}
-use Rattle.aud_client.specs.Received.{names}
+use Rattle.aud_client.specs.Private.BySession.{stays_numbered}
+use Rattle.aud_client.specs.Received.{stay_names_pid}
 use Rattle.aud_client.proofs.Numbers.{passing_numbers, noted-at, numbered_all}
 use Rattle.aud_client.proofs.by_session.by_session.Goals as goal
 
 pub loop-number-preserved : goal.loop-number-preserved
 loop-number-preserved c = λ q.
-    noted-at (λ stay. option_map_or (names q) stay false) c.args.stays.now c.loop-number.number c.index-stays-number.result
+    noted-at (λ stay. option_map_or (stay_names_pid q) stay false) c.args.stays.now c.loop-number.number c.index-stays-number.result
     (kept_places c.loop-number.kept q) (kept_places c.note_stay.new.naming q)
     (omega arith) c.index-stays-number.is (c.loop-number.invariant q) (c.in_ok-note_stay.ensures q)
 
@@ -16,4 +16,4 @@ pub returns : goal.returns
 returns c = λ q.
     let stays = c.args.stays.now in
     let all : c.loop-number.number ≡ length stays = omega arith in
-    ap (stays_numbered stays) (c.loop-number.invariant q ∙ ap (passing_numbers (λ stay. option_map_or (names q) stay false) stays) all) ∙ numbered_all (names q) stays
+    ap (stays_numbered stays) (c.loop-number.invariant q ∙ ap (passing_numbers (λ stay. option_map_or (stay_names_pid q) stay false) stays) all) ∙ numbered_all (stay_names_pid q) stays

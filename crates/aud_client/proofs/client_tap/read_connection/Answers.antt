@@ -1,7 +1,7 @@
 use Rattle.std.proofs.Common.{◌≡◌, ◌+◌, ◌∷◌, ◌++◌, [], ℕ, List, cond, take, drop, length, refl, sym, ap, ◌∙◌, subst, arith, append_assoc}
 use Rattle.std.proofs.lemmas.List.{drop_more, take_more, length-take-le}
 use Rattle.aud_tap.specs.declared.records.ClientRec.{ClientRec}
-use Rattle.aud_client.specs.ConnectionRead.{HasRead, ReadsRecord, inside}
+use Rattle.aud_client.specs.Private.ConnectionRead.{HasRead, ReadsRecord, inside}
 use Rattle.aud_client.proofs.ConnectionLemmas.{HasRead-none, HasRead-more}
 use Rattle.aud_client.proofs.client_tap.read_connection.Goals as goal
 

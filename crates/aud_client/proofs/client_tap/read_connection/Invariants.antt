@@ -1,5 +1,5 @@
 use Rattle.std.proofs.Common.{◌≡◌, ◌++◌, take, drop}
-use Rattle.aud_client.specs.ConnectionRead.{HasRead, inside}
+use Rattle.aud_client.specs.Private.ConnectionRead.{HasRead, inside}
 use Rattle.aud_client.proofs.client_tap.read_connection.Given as goal
 
 abbrev pub invariant-loop-i : goal.invariant-loop-i

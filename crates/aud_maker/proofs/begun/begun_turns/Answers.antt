@@ -1,7 +1,7 @@
 use Rattle.std.proofs.Common.{◌≡◌, ◌+◌, ◌∙◌, ℕ, Some, List, length, sym, ap, subst, arith}
 use Rattle.std.proofs.lemmas.List.{length_push}
 use Rattle.aud_rooms.specs.Turns.{Turn}
-use Rattle.aud_maker.specs.Begun.{AreBegun, turn_begun}
+use Rattle.aud_maker.specs.Private.Begun.{AreBegun, turn_begun}
 use Rattle.aud_maker.proofs.BegunLemmas.{begun-more, none_past}
 use Rattle.aud_maker.proofs.begun.begun_turns.Goals as goal
 

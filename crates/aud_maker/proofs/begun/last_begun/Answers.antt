@@ -2,7 +2,7 @@ use Rattle.std.proofs.Common.{List, ℕ, subst}
 use Rattle.std.specs.List.{All}
 use Rattle.std.proofs.lemmas.List.{take_all}
 use Rattle.aud_node.specs.Cluster.{node_log}
-use Rattle.aud_maker.specs.Begun.{BeginsUpTo}
+use Rattle.aud_maker.specs.Private.Begun.{BeginsUpTo}
 use Rattle.aud_maker.proofs.Last.{nodes-upto}
 use Rattle.aud_maker.proofs.begun.last_begun.Goals as goal
 

@@ -1,7 +1,7 @@
 use Rattle.std.proofs.Common.{take}
 use Rattle.std.specs.List.{All}
 use Rattle.aud_node.specs.Cluster.{node_log}
-use Rattle.aud_maker.specs.Begun.{BeginsUpTo}
+use Rattle.aud_maker.specs.Private.Begun.{BeginsUpTo}
 use Rattle.aud_maker.proofs.begun.last_begun.Given as goal
 
 abbrev pub invariant-loop-node : goal.invariant-loop-node

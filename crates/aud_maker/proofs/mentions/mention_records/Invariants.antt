@@ -1,7 +1,7 @@
 use Rattle.std.proofs.Common.{◌≡◌, drop}
 use Rattle.std.specs.List.{filter_map}
 use Rattle.aud_node.specs.TurnRecords.{pid_of}
-use Rattle.aud_maker.specs.Mentioned.{with_mentions}
+use Rattle.aud_maker.specs.Private.Mentioned.{with_mentions}
 use Rattle.aud_maker.proofs.mentions.mention_records.Given as goal
 
 abbrev pub invariant-loop-rec : goal.invariant-loop-rec

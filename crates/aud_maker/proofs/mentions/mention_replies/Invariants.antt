@@ -1,7 +1,7 @@
 use Rattle.std.proofs.Common.{◌≡◌, drop}
 use Rattle.std.specs.List.{filter_map}
 use Rattle.aud_maker.specs.Sessions.{stay_pid}
-use Rattle.aud_maker.specs.Mentioned.{with_mentions}
+use Rattle.aud_maker.specs.Private.Mentioned.{with_mentions}
 use Rattle.aud_maker.proofs.mentions.mention_replies.Given as goal
 
 abbrev pub invariant-loop-stay : goal.invariant-loop-stay

@@ -10,7 +10,7 @@ use Rattle.aud_node.specs.Cluster.{Cluster}
 use Rattle.aud_node.specs.NodeTaps.{client_recs}
 use Rattle.aud_node.specs.Stream.{Text}
 use Rattle.aud_maker.specs.Sessions.{node_pids, reply_pids, mentions, sessions_of}
-use Rattle.aud_maker.specs.Mentioned.{with_mentions}
+use Rattle.aud_maker.specs.Private.Mentioned.{with_mentions}
 use Rattle.aud_maker.proofs.MentionLemmas.{with_mentions-append, mentions-more, tap_there}
 use Rattle.aud_maker.proofs.FirstMentions.{first-mentions}
 use Rattle.aud_maker.proofs.mentions.sessions.Goals as goal

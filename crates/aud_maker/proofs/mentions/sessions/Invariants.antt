@@ -1,7 +1,7 @@
 use Rattle.std.proofs.Common.{◌≡◌, [], take, flat_map}
 use Rattle.aud_node.specs.NodeTaps.{client_recs}
 use Rattle.aud_maker.specs.Sessions.{node_pids, reply_pids}
-use Rattle.aud_maker.specs.Mentioned.{with_mentions}
+use Rattle.aud_maker.specs.Private.Mentioned.{with_mentions}
 use Rattle.aud_maker.proofs.mentions.sessions.Given as goal
 
 abbrev pub invariant-loop-tap : goal.invariant-loop-tap

@@ -1,5 +1,6 @@
 use Rattle.std.proofs.Common.{◌↔◌, drop}
-use Rattle.aud_merge.specs.Runs.{IsRun, RunsOn}
+use Rattle.aud_merge.specs.Runs.{IsRun}
+use Rattle.aud_merge.specs.Private.RunsOn.{RunsOn}
 use Rattle.aud_merge.proofs.run.is_run.Given as goal
 
 abbrev pub invariant-loop-step : goal.invariant-loop-step

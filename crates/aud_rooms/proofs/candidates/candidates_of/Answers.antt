@@ -3,7 +3,7 @@ use Rattle.std.proofs.lemmas.List.Filters.{dedup_is}
 use Rattle.std.proofs.lemmas.List.Kept.{AllPairs-from_increasing}
 use Rattle.std.proofs.lemmas.List.Sorted.{list_any-IsPermutation}
 use Rattle.std.proofs.lemmas.Map.Keys.{IsStrictlyIncreasing-dedup}
-use Rattle.aud_rooms.specs.Candidates.{is_among, candidates, is_candidate}
+use Rattle.aud_rooms.specs.Private.Candidates.{is_among, candidates, is_candidate}
 use Rattle.aud_rooms.proofs.Among.{among-dedup, among-stream, ascends-pairs, ascends-positions, same_ascending}
 use Rattle.aud_rooms.proofs.Candidate.{none_candidate}
 use Rattle.aud_rooms.proofs.candidates.candidates_of.Goals as goal

@@ -4,7 +4,7 @@ use Rattle.std.specs.List.Sorted.{IsNonDecreasing}
 use Rattle.aud_node.specs.Stream.{entry}
 use Rattle.aud_node.specs.Addressees.{is_to_all, is_to_room, positions_to_all, positions_to_room}
 use Rattle.aud_rooms.specs.Spans.{RoomSpan}
-use Rattle.aud_rooms.specs.Candidates.{is_past_upto}
+use Rattle.aud_rooms.specs.Private.Candidates.{is_past_upto}
 use Rattle.aud_rooms.proofs.Among.{ascends-positions, non_decreasing}
 use Rattle.aud_rooms.proofs.Candidate.{gathered-none, gathered-more}
 use Rattle.aud_rooms.proofs.candidates.gathered.Goals as goal

@@ -1,5 +1,5 @@
 use Rattle.std.proofs.Common.{◌≡◌, ℕ, take}
-use Rattle.aud_rooms.specs.Candidates.{is_among, is_candidate}
+use Rattle.aud_rooms.specs.Private.Candidates.{is_among, is_candidate}
 use Rattle.aud_rooms.proofs.candidates.gathered.Given as goal
 
 abbrev pub invariant-loop-span : goal.invariant-loop-span

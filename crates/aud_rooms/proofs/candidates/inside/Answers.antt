@@ -2,7 +2,7 @@ use Rattle.std.proofs.Common.{◌≡◌, ◌≤◌, ◌∙◌, ℕ, Bool, true, 
 use Rattle.std.specs.List.Sorted.{IsNonDecreasing, IsPartitionPoint}
 use Rattle.std.proofs.lemmas.Bool.{leb-true, leb-false, le-ltb, lt-ltb}
 use Rattle.std.proofs.lemmas.List.Sorted.{IsPartitionPoint-from_clause, IsPartitionedBy-leb, IsNonDecreasingBy-drop}
-use Rattle.aud_rooms.specs.Candidates.{is_past_upto}
+use Rattle.aud_rooms.specs.Private.Candidates.{is_past_upto}
 use Rattle.aud_rooms.proofs.Parts.{middle_parts}
 use Rattle.aud_rooms.proofs.candidates.inside.Goals as goal
 

@@ -3,7 +3,7 @@ use denote.Ref.{Bor}
 use Rattle.std.specs.List.{AllByRecursion}
 use Rattle.std.proofs.Common.{◌<◌, ◌≤◌}
 use Rattle.aud_rooms.specs.Spans.{RoomSpan}
-use Rattle.aud_rooms.specs.Reached.{HasReached}
+use Rattle.aud_rooms.specs.Private.Reached.{HasReached}
 use Rattle.aud_rooms.proofs.Sweep.{swept_step, swept_end}
 use Rattle.aud_rooms.proofs.due.due_by_first.Goals as goal
 

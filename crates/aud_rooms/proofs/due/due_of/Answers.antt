@@ -3,7 +3,7 @@ use Rattle.std.specs.List.Sorted.{IsNonDecreasing}
 use Rattle.std.proofs.lemmas.Result.{IfOk-weaker}
 use denote.Ref.{Bor}
 use Rattle.aud_rooms.specs.Spans.{RoomSpan}
-use Rattle.aud_rooms.specs.Candidates.{candidates, is_candidate, is_for_spans}
+use Rattle.aud_rooms.specs.Private.Candidates.{candidates, is_candidate, is_for_spans}
 use Rattle.aud_rooms.proofs.Among.{ascends-positions, non_decreasing}
 use Rattle.aud_rooms.proofs.Candidate.{candidates_due}
 use Rattle.aud_rooms.proofs.Sweep.{for_permuted}

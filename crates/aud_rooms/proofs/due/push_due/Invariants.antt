@@ -1,5 +1,5 @@
 use Rattle.std.proofs.Common.{◌≡◌, ◌++◌, filter, take}
-use Rattle.aud_rooms.specs.Reached.{is_due_at}
+use Rattle.aud_rooms.specs.Private.Reached.{is_due_at}
 use Rattle.aud_rooms.proofs.due.push_due.Given as goal
 
 abbrev pub invariant-loop-position : goal.invariant-loop-position

@@ -1,6 +1,6 @@
 use Rattle.std.proofs.Common.{◌≡◌, map}
 use Rattle.std.specs.Map.Iter.{deref_pair}
-use Rattle.aud_rooms.specs.Building.{spans_upto}
+use Rattle.aud_rooms.specs.Private.Building.{spans_upto}
 use Rattle.aud_rooms.proofs.room_spans.spans_of_rooms.Given as goal
 
 abbrev pub invariant-loop-room : goal.invariant-loop-room

@@ -6,7 +6,7 @@ use Rattle.aud_rooms.specs.Turns.{slice_of}
 use Rattle.aud_node.specs.Stream.{Text}
 use Rattle.aud_rooms.specs.Spans.{AreSpansOfTurns, first_low}
 use Rattle.aud_rooms.specs.Assigned.{starting, AreSpansOf}
-use Rattle.aud_rooms.specs.Walk.{walked_turn, walked_turns}
+use Rattle.aud_rooms.specs.Private.Walk.{walked_turn, walked_turns}
 use Rattle.aud_rooms.proofs.Walk.{walked_turns-more, spans_of_walked}
 use Rattle.aud_rooms.proofs.turn_spans.spans_of_turns.Goals as goal
 

@@ -2,7 +2,7 @@ use Rattle.std.proofs.Common.{◌≡◌, take, map, Some}
 use Rattle.aud_rooms.specs.Turns.{slice_of}
 use Rattle.aud_rooms.specs.Spans.{first_low}
 use Rattle.aud_rooms.specs.Assigned.{starting}
-use Rattle.aud_rooms.specs.Walk.{walked_turns}
+use Rattle.aud_rooms.specs.Private.Walk.{walked_turns}
 use Rattle.aud_rooms.proofs.turn_spans.spans_of_turns.Given as goal
 
 abbrev pub invariant-loop-turn : goal.invariant-loop-turn

@@ -1,6 +1,6 @@
 use Rattle.std.proofs.Common.{◌≡◌, ◌∙◌, ◌<◌, ap, sym, take, length, get_or, option_map}
 use Rattle.std.proofs.lemmas.List.{take_more}
-use Rattle.aud_rooms.specs.Walk.{walked_record, walked_records}
+use Rattle.aud_rooms.specs.Private.Walk.{walked_record, walked_records}
 use Rattle.aud_rooms.proofs.Walk.{record_told}
 use Rattle.aud_rooms.proofs.turn_spans.walk_turn.Goals as goal
 

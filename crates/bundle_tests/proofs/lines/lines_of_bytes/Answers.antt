@@ -2,7 +2,7 @@ use Rattle.std.proofs.Common.{arith, ◌≡◌, ◌+◌, ◌++◌, ◌∷◌, []
 use Rattle.std.proofs.lemmas.List.{take_all}
 use Rattle.std.proofs.lemmas.Grind.{take_at_read}
 use Rattle.aud_reader.specs.Lines.{lines_of}
-use Rattle.aud_reader.specs.Session.{Feeds, Takes, Finishes}
+use Rattle.aud_reader.specs.Session.{FeedsPiece, Takes, Finishes}
 use Rattle.aud_reader.proofs.SessionLemmas.{Came, came-feed, came-take, came-finish}
 use Rattle.bundle_tests.proofs.lines.lines_of_bytes.Goals as goal
 
@@ -12,7 +12,7 @@ loop-byte-preserved c =
     let fed = c.feed.ensures in
     let left = c.take.ensures.left in
     let cut : take (c.loop-byte.byte-index + 1) c.args.input.now ≡ take c.loop-byte.byte-index c.args.input.now ++ _ ∷ [] = (take_at_read c.args.input.now c.loop-byte.byte-index 0 (omega (arith, c.loop-byte-test.true))).1 in
-    let feeds : Feeds c.loop-byte.splitter _ c.feed.result c.feed.new.self = record { value = fed.value; lines = fed.lines; refused = fed.refused; front = fed.front } in
+    let feeds : FeedsPiece c.loop-byte.splitter _ c.feed.result c.feed.new.self = record { value = fed.value; lines = fed.lines; refused = fed.refused; front = fed.front } in
     let takes : Takes c.feed.new.self c.take.result.items c.take.new.self = record { lines = c.take.ensures.lines; left = left } in
     let next = came-take _ _ _ _ _ (came-feed _ _ _ _ _ _ inv.came feeds) takes in
     record {

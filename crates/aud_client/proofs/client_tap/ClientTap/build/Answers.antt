@@ -1,6 +1,6 @@
 use Rattle.std.proofs.Common.{◌≡◌, ◌+◌, ◌∷◌, ◌++◌, map, drop, sym, ap, ◌∙◌, arith}
 use Rattle.std.proofs.lemmas.List.{drop_more, take_rest}
-use Rattle.aud_client.specs.ClientRead.{cut_seen, begun, bad_of}
+use Rattle.aud_client.specs.Private.ClientRead.{cut_seen, begun, bad_of}
 use Rattle.aud_client.specs.Seen.{connections_seen}
 use Rattle.std.specs.Option.{option_or}
 use Rattle.aud_client.proofs.ClientLemmas.{HasTaken-more, HasTaken-all}
@@ -14,10 +14,10 @@ loop-number-preserved c =
     let old = c.loop-number.read in
     let new = c.take.new.self in
     let front : drop i recs ≡ rec ∷ drop (i + 1) recs = drop_more recs i rec (omega arith) ∙ ap (λ r. r ∷ drop (i + 1) recs) (sym c.index-recs-number.is) in
-    let behind = take_rest recs (i + 1) in
+    let after = take_rest recs (i + 1) in
     HasTaken-more recs i rec (connections_seen old.list.items) (connections_seen new.list.items) old.bad new.bad front
-    (c.in_ok-take.ensures.connections ∙ ap (λ b. connections_seen old.list.items ++ map cut_seen (begun i rec b)) behind)
-    (c.in_ok-take.ensures.bad ∙ ap (λ b. option_or old.bad (bad_of (begun i rec b))) behind)
+    (c.in_ok-take.ensures.connections ∙ ap (λ b. connections_seen old.list.items ++ map cut_seen (begun i rec b)) after)
+    (c.in_ok-take.ensures.bad ∙ ap (λ b. option_or old.bad (bad_of (begun i rec b))) after)
     c.loop-number.invariant
 
 pub invariant_of-result : goal.invariant_of-result

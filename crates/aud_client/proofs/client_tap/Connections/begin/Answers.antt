@@ -1,7 +1,7 @@
 use Rattle.std.proofs.Common.{◌∷◌, ◌++◌, [], ap, ◌∙◌}
 use Rattle.std.specs.Option.{option_or}
 use Rattle.std.proofs.lemmas.List.{map-append}
-use Rattle.aud_client.specs.ConnectionRead.{inside}
+use Rattle.aud_client.specs.Private.ConnectionRead.{inside}
 use Rattle.aud_client.specs.Seen.{connection_seen, connections_seen}
 use Rattle.aud_client.proofs.ClientLemmas.{packets-all, bad-all}
 use Rattle.aud_client.proofs.client_tap.Connections.begin.Goals as goal

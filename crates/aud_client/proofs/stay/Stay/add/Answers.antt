@@ -1,5 +1,5 @@
 use Rattle.std.proofs.Common.{rules}
 use Rattle.aud_client.proofs.stay.Stay.add.Goals as goal
 
-pub returns-in-Sent : goal.returns-in-Sent
-returns-in-Sent c = search (rules, c.ask.ensures c.args.stream.now)
+pub returns-in-FromClient : goal.returns-in-FromClient
+returns-in-FromClient c = search (rules, c.ask.ensures c.args.stream.now)

@@ -1,6 +1,6 @@
 use Rattle.std.proofs.Common.{rules, ◌≡◌, ◌++◌, ◌∷◌, [], sym, ap, ◌∙◌, subst, append-nil, append_assoc}
 use Rattle.std.proofs.lemmas.List.{nil_from_length}
-use Rattle.aud_client.specs.Kept.{Keeps, packets_seen}
+use Rattle.aud_client.specs.Private.Kept.{KeepsStays, packets_seen}
 use Rattle.aud_client.proofs.Connections.{connection_done, packet_more}
 use Rattle.aud_client.proofs.stays.Stays.connection.Goals as goal
 
@@ -19,4 +19,4 @@ returns c =
     let all : c.loop-placed.yielded ≡ c.args.connection.packets.items =
     sym (append-nil c.loop-placed.yielded) ∙ ap (λ r. c.loop-placed.yielded ++ r) (sym (nil_from_length c.loop-placed.placed-iterator.rest.items (search (rules, c.in-None.ensures)))) ∙ c.loop-placed.invariant.packets_are in
     connection_done c.args.stream.now c.loop-placed.self c.args.self.now.stays.items c.args.connection
-    (subst (λ packets. Keeps c.args.stream.now c.args.connection.c c.loop-placed.self c.args.self.now.stays.items (packets_seen packets)) all c.loop-placed.invariant.keeps)
+    (subst (λ packets. KeepsStays c.args.stream.now c.args.connection.c c.loop-placed.self c.args.self.now.stays.items (packets_seen packets)) all c.loop-placed.invariant.keeps)

@@ -2,7 +2,7 @@ use Rattle.std.proofs.Common.{ap, ◌∙◌, cond, None}
 use Rattle.std.specs.Str.{bytes_eq}
 use Rattle.aud_client.specs.Seen.{packet_seen}
 use Rattle.aud_client.specs.Stays.{namespace}
-use Rattle.aud_client.specs.Kept.{open_at}
+use Rattle.aud_client.specs.Private.Kept.{open_at}
 use Rattle.aud_client.proofs.Maps.{updated}
 use Rattle.aud_client.proofs.stays.Stays.end.Goals as goal
 

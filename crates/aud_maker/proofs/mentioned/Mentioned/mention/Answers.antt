@@ -1,5 +1,5 @@
 use Rattle.std.proofs.Common.{◌∙◌, sym, ap}
-use Rattle.aud_maker.specs.Mentioned.{with_mention}
+use Rattle.aud_maker.specs.Private.Mentioned.{with_mention}
 use Rattle.aud_maker.proofs.MentionLemmas.{mention-known, mention-new}
 use Rattle.aud_maker.proofs.mentioned.Mentioned.mention.Goals as goal
 

@@ -1,7 +1,8 @@
 use Rattle.std.proofs.Common.{◌≡◌, length, slice_get, ap, ◌∙◌, refl, arith, Some, true, false}
 use Rattle.std.proofs.lemmas.Option.{slice_get_read}
 use Rattle.aud_tap.specs.declared.records.StreamRec.{StreamRec}
-use Rattle.aud_node.specs.Addressees.{kept_for, kept_to_room, is_to_all, is_to_room, names_no_room, names_room}
+use Rattle.aud_node.specs.Addressees.{is_to_all, is_to_room, names_no_room, names_room}
+use Rattle.aud_node.specs.Private.AddresseeIndex.{kept_for, kept_to_room}
 use Rattle.aud_node.proofs.AddresseeLemmas.{flag-read, noted-entry}
 use Rattle.aud_node.proofs.addressees.Addressees.build.Goals as goal
 use Rattle.aud_node.proofs.addressees.Addressees.build.Goals.{then-recoverable-i+in_ok-note, else-recoverable-i}

@@ -1,7 +1,8 @@
 use Rattle.std.proofs.Common.{◌≡◌}
 use Rattle.std.specs.List.{filter}
 use Rattle.aud_node.specs.Stream.{Text, entry, positions_after}
-use Rattle.aud_node.specs.Addressees.{kept_for, kept_to_room, is_to_all, is_to_room}
+use Rattle.aud_node.specs.Addressees.{is_to_all, is_to_room}
+use Rattle.aud_node.specs.Private.AddresseeIndex.{kept_for, kept_to_room}
 use Rattle.aud_node.proofs.addressees.Addressees.build.Given as goal
 
 abbrev pub invariant-loop-i : goal.invariant-loop-i

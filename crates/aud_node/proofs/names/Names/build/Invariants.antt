@@ -1,6 +1,6 @@
 use Rattle.std.proofs.Common.{◌≡◌}
 use Rattle.aud_node.specs.Stream.{Text}
-use Rattle.aud_node.specs.Names.{kept_place}
+use Rattle.aud_node.specs.Private.NameIndex.{kept_place}
 use Rattle.aud_node.proofs.PlaceLemmas.{place_after}
 use Rattle.aud_node.proofs.names.Names.build.Given as goal
 

@@ -1,6 +1,6 @@
 use Rattle.std.proofs.Common.{◌≡◌, ℕ, ◌+◌, ◌-◌, cond, Some, sym, ap, ◌∙◌, arith, subst}
 use Rattle.std.specs.Str.{bytes_eq}
-use Rattle.aud_node.specs.Offsets.{kept_position}
+use Rattle.aud_node.specs.Private.OffsetIndex.{kept_position}
 use Rattle.aud_node.proofs.PositionLemmas.{HoldsAfter, HoldsAfter-step, HoldsAfter-all}
 use Rattle.aud_node.proofs.offsets.Offsets.build.Goals as goal
 

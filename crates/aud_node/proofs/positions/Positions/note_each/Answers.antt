@@ -2,7 +2,7 @@ use Rattle.std.proofs.Common.{ap, ◌∙◌}
 use Rattle.std.specs.Str.{bytes_eq}
 use Rattle.aud_node.specs.Stream.{Text}
 use Rattle.aud_node.specs.Naming.{noted}
-use Rattle.aud_node.specs.Addressees.{kept_for}
+use Rattle.aud_node.specs.Private.AddresseeIndex.{kept_for}
 use Rattle.aud_node.proofs.NamingLemmas.{noted-item}
 use Rattle.aud_node.proofs.positions.Positions.note_each.Goals as goal
 

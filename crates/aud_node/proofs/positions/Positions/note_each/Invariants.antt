@@ -3,7 +3,7 @@ use Rattle.std.specs.List.{list_any}
 use Rattle.std.specs.Str.{bytes_eq}
 use Rattle.aud_node.specs.Stream.{Text}
 use Rattle.aud_node.specs.Naming.{noted}
-use Rattle.aud_node.specs.Addressees.{kept_for}
+use Rattle.aud_node.specs.Private.AddresseeIndex.{kept_for}
 use Rattle.aud_node.proofs.positions.Positions.note_each.Given as goal
 
 abbrev pub invariant-loop-text : goal.invariant-loop-text

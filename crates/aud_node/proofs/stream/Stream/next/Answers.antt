@@ -1,6 +1,6 @@
 use Rattle.std.proofs.Common.{◌≡◌, ◌+◌, suc, sym, ap, ◌∙◌, arith, Some, None}
 use Rattle.std.specs.Str.{bytes_eq}
-use Rattle.aud_node.specs.AtPosition.{next_position}
+use Rattle.aud_node.specs.Private.NextPosition.{next_position}
 use Rattle.aud_node.proofs.ListLemmas.{got, false_from_not, true_from_not}
 use Rattle.aud_node.proofs.PositionLemmas.{has_offset, next-other, next-first}
 use Rattle.aud_node.proofs.stream.Stream.next.Goals as goal

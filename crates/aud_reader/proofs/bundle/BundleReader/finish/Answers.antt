@@ -1,5 +1,5 @@
 use Rattle.std.proofs.Common.{◌≡◌, None}
-use Rattle.aud_reader.specs.Kept.{taps_so_far}
+use Rattle.aud_reader.specs.SoFar.{taps_so_far}
 use Rattle.aud_reader.proofs.LineSteps.{taps_at_end}
 use Rattle.aud_reader.proofs.TapLaws.{first_with_name}
 use Rattle.aud_reader.proofs.OwnLines.{own_lines, each_line}

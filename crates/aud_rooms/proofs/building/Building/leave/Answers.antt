@@ -2,7 +2,7 @@ use Rattle.std.proofs.Common.{refl, ap, sym, subst, ◌∙◌}
 use Rattle.std.specs.Option.{IsSome}
 use Rattle.std.proofs.lemmas.Result.{on_ok_weaker}
 use Rattle.aud_rooms.specs.Assigned.{with_left}
-use Rattle.aud_rooms.specs.Building.{AreKept, assigned_of}
+use Rattle.aud_rooms.specs.Private.Building.{AreKept, assigned_of}
 use Rattle.aud_rooms.proofs.Kept.{kept_continued, assigned_shut, assigned_absent}
 use Rattle.aud_rooms.proofs.building.Building.leave.Goals as goal
 

@@ -1,5 +1,5 @@
 use Rattle.std.proofs.Common.{sym, subst}
-use Rattle.aud_rooms.specs.Times.{Times, AreApart}
+use Rattle.aud_rooms.specs.Private.Times.{Times, AreApart}
 use Rattle.aud_rooms.proofs.Times.{some_at}
 use Rattle.aud_rooms.proofs.holding.Holding.push_spans.Goals as goal
 

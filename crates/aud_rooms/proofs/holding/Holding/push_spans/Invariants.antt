@@ -1,5 +1,5 @@
 use Rattle.std.proofs.Common.{◌≡◌, ◌++◌, map, take}
-use Rattle.aud_rooms.specs.Times.{span_of}
+use Rattle.aud_rooms.specs.Private.Times.{span_of}
 use Rattle.aud_rooms.proofs.holding.Holding.push_spans.Given as goal
 
 abbrev pub invariant-loop-interval : goal.invariant-loop-interval

@@ -1,5 +1,5 @@
 use Rattle.std.proofs.Common.{nat_le, sym, ap, ◌∙◌}
-use Rattle.aud_rooms.specs.RoomMap.{do_pass}
+use Rattle.aud_rooms.specs.Private.RoomMap.{do_pass}
 use Rattle.aud_rooms.proofs.RoomMaps.{contains-rooms_with}
 use Rattle.aud_rooms.proofs.reached.ReachedHolds.holds.Goals as goal
 

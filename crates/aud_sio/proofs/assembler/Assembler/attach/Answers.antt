@@ -1,7 +1,8 @@
 use Rattle.std.proofs.Common.{◌≡◌, ◌-◌, ◌++◌, ◌∷◌, [], length, map, ap, sym, ◌∙◌, arith}
 use Rattle.std.proofs.lemmas.List.{length-map, map-append, length-append}
 use Rattle.aud_sio.specs.Message.{Bytes}
-use Rattle.aud_sio.specs.Assembly.{blob_view, whole_view, gives_with}
+use Rattle.aud_sio.specs.Assembly.{blob_view, whole_view}
+use Rattle.aud_sio.specs.Private.Awaited.{gives_with}
 use Rattle.aud_sio.proofs.Assembling.{one_attached, with_bin}
 use Rattle.aud_sio.proofs.Halves.{after_next, whole_held}
 use Rattle.aud_sio.proofs.assembler.Assembler.attach.Goals as goal

@@ -1,6 +1,7 @@
 use Rattle.std.proofs.Common.{◌≡◌, ◌-◌, ◌<◌, suc, length, map, ap, sym, ◌∙◌, arith}
 use Rattle.std.proofs.lemmas.List.{length-map}
-use Rattle.aud_sio.specs.Assembly.{blob_view, whole_view, gives_with}
+use Rattle.aud_sio.specs.Assembly.{blob_view, whole_view}
+use Rattle.aud_sio.specs.Private.Awaited.{gives_with}
 use Rattle.aud_sio.proofs.Assembling.{any_place}
 use Rattle.aud_sio.proofs.Halves.{after_next, whole_held, whole_waits}
 use Rattle.aud_sio.proofs.assembler.Assembler.keep.Goals as goal

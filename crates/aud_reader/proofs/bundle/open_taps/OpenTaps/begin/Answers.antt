@@ -2,7 +2,7 @@ use Rattle.std.proofs.Common.{◌≡◌, true, codes}
 use Rattle.serde_json.specs.View.{view}
 use Rattle.aud_tap.specs.Forms.{is_text}
 use Rattle.aud_reader.specs.Bundle.{another_tap}
-use Rattle.aud_reader.specs.Kept.{taps_so_far}
+use Rattle.aud_reader.specs.SoFar.{taps_so_far}
 use Rattle.aud_reader.proofs.KeptLemmas.{not-is, with_header-goes, fails-then, begin-keeps}
 use Rattle.aud_reader.proofs.bundle.open_taps.OpenTaps.begin.Goals as goal
 

@@ -1,5 +1,5 @@
 use Rattle.std.proofs.Common.{◌≡◌, map}
-use Rattle.aud_reader.specs.Kept.{tap_so_far}
+use Rattle.aud_reader.specs.SoFar.{tap_so_far}
 use Rattle.aud_reader.proofs.bundle.open_taps.OpenTaps.close.Given as goal
 
 abbrev pub invariant-loop-tap : goal.invariant-loop-tap

@@ -1,7 +1,8 @@
 use Rattle.std.proofs.Common.{◌≡◌, ◌∷◌, [], length, None, arith}
 use Rattle.std.specs.String.{string_bytes}
 use Rattle.std.proofs.lemmas.List.{length-map, map-append}
-use Rattle.aud_reader.specs.Kept.{place_of, tap_so_far, taps_so_far}
+use Rattle.aud_reader.specs.Private.Kept.{place_of}
+use Rattle.aud_reader.specs.SoFar.{tap_so_far, taps_so_far}
 use Rattle.aud_reader.proofs.Grown.{on-grown}
 use Rattle.aud_reader.proofs.KeptLemmas.{places-put}
 use Rattle.aud_reader.proofs.bundle.open_taps.OpenTaps.push.Goals as goal

@@ -1,6 +1,7 @@
 use Rattle.std.proofs.Common.{◌≡◌, ◌∙◌, Some, None, sym}
 use Rattle.serde_json.specs.View.{view}
-use Rattle.aud_reader.specs.Kept.{place_of, taps_so_far}
+use Rattle.aud_reader.specs.Private.Kept.{place_of}
+use Rattle.aud_reader.specs.SoFar.{taps_so_far}
 use Rattle.aud_reader.proofs.KeptLemmas.{place-bound, with_line-goes, named-first}
 use Rattle.aud_reader.proofs.bundle.open_taps.OpenTaps.read_line.Goals as goal
 

@@ -1,0 +1,8 @@
+-- What contracts of private functions alone cite: what the code keeps, and its steps. No public clause rests on these words.
+pub mod BySession
+pub mod Kept
+pub mod Open
+pub mod ReadTap
+pub mod ClientRead
+pub mod ConnectionRead
+pub mod Clients

@@ -1,0 +1,94 @@
+//! A client's tap that was read, with its stays by session.
+ghost use Rattle.std.specs.Prelude.{◌≡◌, IfOk, map, slice_get};
+ghost use Rattle.std.specs.Option.{option_copied};
+ghost use Rattle.aud_client.specs.Received.{transcript_of, stays_naming};
+ghost use Rattle.aud_client.specs.Private.BySession.{stays_numbered};
+
+use crate::by_session::by_session;
+use crate::client_tap::ClientTap;
+use crate::stay::Stay;
+use crate::tap::read_transcript;
+use crate::transcript::Transcript;
+use aud_node::{Naming, Stream};
+use aud_tap::Memory;
+use std::alloc::Global;
+use std::marker::Model;
+
+/// What a client's tap tells, and which of its stays name which session: a session then costs its own stays. Seen as
+/// what the tap tells.
+#[derive(Drop)]
+pub struct IndexedTranscript<'a> {
+    transcript: Transcript<'a>,
+    /// Of each pid, the numbers of the stays whose reply names it.
+    by_session: Naming,
+}
+
+impl<'a> Model for IndexedTranscript<'a> {
+    ghost use Rattle.aud_client.specs.Received.{TranscriptSeen};
+    ghost use Rattle.aud_client.specs.Private.ReadTap.{HoldsStaysByPid};
+
+    ghost Value = { TranscriptSeen };
+
+    ghost view = { λ t. t.transcript };
+
+    ghost invariant = { HoldsStaysByPid };
+}
+
+impl<'a> IndexedTranscript<'a> {
+    /// Reads the tap, all of it once.
+    pub fn read(
+        alloc: Global,
+        tap: ClientTap<'a>,
+        stream: &Stream<'_>,
+    ) -> Result<IndexedTranscript<'a>, Memory>
+        ensures { IfOk result (λ transcript. transcript ≡ transcript_of stream.now tap.entry) }
+    {
+        let transcript = read_transcript(alloc, tap, stream)?;
+        let by_session = by_session(alloc, transcript.stays.as_slice())?;
+        Ok(IndexedTranscript {
+            transcript,
+            by_session,
+        })
+    }
+
+    /// What the tap tells, lent.
+    pub fn transcript(&self) -> &Transcript<'a>
+        ensures { result.now ≡ self.now }
+    {
+        &self.transcript
+    }
+
+    /// The stays whose reply names the session, in the tap's order, lent. No other stay is looked at.
+    pub fn naming<'s>(&'s self, alloc: Global, pid: &str) -> Result<Vec<&'s Stay<'a>>, Memory>
+        ensures { IfOk result (λ naming. map (λ stay. stay.now) naming.items ≡ stays_naming pid.now self.now.stays) }
+    {
+        stays_at(alloc, &self.transcript.stays, self.by_session.of(pid))
+    }
+}
+
+/// The stays with these numbers, lent.
+fn stays_at<'s, 'a>(
+    alloc: Global,
+    stays: &'s [Stay<'a>],
+    numbers: &[usize],
+) -> Result<Vec<&'s Stay<'a>>, Memory>
+    ensures { IfOk result (λ at. map (λ stay. stay.now) at.items ≡ stays_numbered stays.now numbers.now) }
+{
+    let mut at = Vec::new(alloc);
+    for number in numbers {
+        let Some(stay) = stay_at(stays, *number) else {
+            continue;
+        };
+        let Ok(()) = at.push(stay) else {
+            return Err(Memory);
+        };
+    }
+    Ok(at)
+}
+
+/// The stay with this number.
+fn stay_at<'s, 'a>(stays: &'s [Stay<'a>], number: usize) -> Option<&'s Stay<'a>>
+    ensures { option_copied result ≡ slice_get stays.now number }
+{
+    stays.get(number)
+}
