@@ -19,8 +19,8 @@
 
 mod fault;
 mod lend;
-mod read;
 mod parsed;
+mod read;
 mod within;
 mod write;
 

@@ -65,9 +65,9 @@ module _ {X : Type 0} (f : X → StaySeen) (stream : List StreamRec) (xs : List 
   pub left_more : (length stay.frames ≤ left) × (length (frames_in (take (i + 1) stays)) + (left - length stay.frames) ≡ length positions)
   left_more =
       let more : length (frames_in (take (i + 1) stays)) ≡ length (frames_in (take i stays)) + length stay.frames =
-          ap length (ap frames_in (take_at stays i stay at) ∙ flat_map-append (λ (s : StaySeen). s.frames) (take i stays) (stay ∷ []))
-          ∙ length-append (frames_in (take i stays)) (stay.frames ++ [])
-          ∙ ap (λ fs. length (frames_in (take i stays)) + length fs) (append-nil stay.frames)
+      ap length (ap frames_in (take_at stays i stay at) ∙ flat_map-append (λ (s : StaySeen). s.frames) (take i stays) (stay ∷ []))
+      ∙ length-append (frames_in (take i stays)) (stay.frames ++ [])
+      ∙ ap (λ fs. length (frames_in (take i stays)) + length fs) (append-nil stay.frames)
       in
       let within = long in
       (omega (arith, within, rest, counted), omega (arith, within, rest, counted, more))

@@ -12,7 +12,7 @@ use crate::content::first_altered;
 use crate::stays::frames_in;
 use crate::window::wrong_window;
 use aud_cert::Fault;
-use aud_client::{Frame, Transcript, Stay};
+use aud_client::{Frame, Stay, Transcript};
 use aud_node::{Stream, offset};
 use aud_tap::{Memory, Text};
 use std::alloc::Global;

@@ -79,7 +79,11 @@ fn naming_of(alloc: Global, clients: &[Option<IndexedTranscript<'_>>]) -> Result
 }
 
 /// Notes what the tap at this place tells, after all those noted so far.
-fn note_client(naming: &mut Naming, place: usize, transcript: Option<&IndexedTranscript<'_>>) -> Result<(), Memory>
+fn note_client(
+    naming: &mut Naming,
+    place: usize,
+    transcript: Option<&IndexedTranscript<'_>>,
+) -> Result<(), Memory>
     ensures { OnOk result ((q : Text) → kept_places naming.new q ≡ noted place (has_naming_stay q (option_copied transcript.entry)) (kept_places naming.old q)) }
 {
     match transcript {

@@ -32,7 +32,11 @@ pub struct OpenedSession<'a> {
 
 impl<'a> OpenedSession<'a> {
     /// The session that an allowed `open` of the node makes.
-    pub(crate) fn open(alloc: Global, node: usize, rec: &'a NodeRec) -> Result<OpenedSession<'a>, Memory>
+    pub(crate) fn open(
+        alloc: Global,
+        node: usize,
+        rec: &'a NodeRec,
+    ) -> Result<OpenedSession<'a>, Memory>
         requires { IsSome (session_after node rec.now Absent) }
         ensures { IfOk result (λ session. session_after node rec.now Absent ≡ Some (session_seen session)) }
     {

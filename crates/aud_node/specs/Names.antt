@@ -1,3 +1,2 @@
 -- The places of taps by their names.
 pub use Rattle.aud_tap.specs.Names.{place_of, AreNamedOnce}
-

@@ -12,7 +12,7 @@ use Rattle.aud_rooms.specs.Turns.{Who, Turn, beginning, IsTurn, AreTurns, IsChai
 use Rattle.aud_rooms.specs.Spans.{AreSpansOfTurns}
 use Rattle.aud_cert.specs.declared.fault.Fault.{Fault}
 use Rattle.aud_cert.specs.Certificate.{TurnSeen, CertificateSeen, turn_at, place_named}
-use Rattle.aud_merge.proofs.Slices.{between-more}
+use Rattle.aud_node.proofs.RecordLemmas.{between-more}
 use Rattle.aud_maker.specs.Made.{name_at, turn_seen, is_turn_ordered, IsMade}
 use Rattle.aud_maker.proofs.Turns.{beginning-begins}
 use Rattle.aud_maker.proofs.Over.{turns-there}

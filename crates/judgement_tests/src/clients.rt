@@ -1,5 +1,5 @@
 //! What clients' taps tell, as texts.
-use aud_client::{Frame, IndexedTranscript, Transcript, Recording, Stay};
+use aud_client::{Frame, IndexedTranscript, Recording, Stay, Transcript};
 use std::alloc::{AllocError, Global};
 use std::test::Fail;
 

@@ -8,7 +8,7 @@ pub returns-then-is_asked_wrongly : goal.returns-then-is_asked_wrongly
 returns-then-is_asked_wrongly c =
     ap (λ (s : StaySeen). Some s.c) c.stay.view_is
     ∙ asked_wrongly (λ stay. stay.now) c.args.stream.now c.args.stays.now c.args.positions.now c.requires.positions c.loop-stay.stay-index c.loop-stay.left c.stay-item.result c.loop-stay-test.true c.stay-item.is c.loop-stay.invariant.counted
-        c.is_asked_wrongly.result c.is_asked_wrongly.ensures c.if-is_asked_wrongly.true
+    c.is_asked_wrongly.result c.is_asked_wrongly.ensures c.if-is_asked_wrongly.true
     ∙ c.loop-stay.invariant.passed
 
 pub overflow_sub-left : goal.overflow_sub-left
