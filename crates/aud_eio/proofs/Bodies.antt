@@ -11,10 +11,12 @@ use Rattle.aud_eio.specs.Body.{packets_of_texts, body_of}
 abbrev pub after : List Packet → Result (List Packet) EioFault → Result (List Packet) EioFault
 after done rest = rest >>= (λ packets. Ok (done ++ packets))
 
+-- after no packets stand the rest alone
 pub after-nil : (rest : Result (List Packet) EioFault) → rest ≡ after [] rest
 after-nil (Ok packets) = refl
 after-nil (Err fault) = refl
 
+-- a packet before the rest is one more after those done
 after-one : (done : List Packet) (packet : Packet) (rest : Result (List Packet) EioFault)
     → after done (rest >>= (λ packets. Ok (packet ∷ packets))) ≡ after (done ++ packet ∷ []) rest
 after-one done packet (Ok packets) = rw append_assoc refl
@@ -52,6 +54,7 @@ pub gap-map : {A B : Type 0} (f : A → B) (xs : List A) → gap (map f xs) ≡ 
 gap-map f [] = refl
 gap-map f (x ∷ xs) = refl
 
+-- after one packet or more, a separator stands before the next
 pub gap-one_more : {A : Type 0} (xs : List A) (x : A) → 30 ∷ [] ≡ gap (xs ++ x ∷ [])
 gap-one_more [] x = refl
 gap-one_more (y ∷ ys) x = refl

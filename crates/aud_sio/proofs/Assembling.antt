@@ -43,6 +43,7 @@ text_among before place w count text l = rw (lt-leb (suc count) 0 (omega arith),
 pub ends_early : (place : ℕ) (w : WholeSeen) (count : ℕ) → gives_with place w (suc count) [] ≡ []
 ends_early place w count = rw (lt-leb (suc count) 0 (omega arith)) refl
 
+-- attachments that come one after another count down what is awaited, and stand in their order
 many_attached : (place : ℕ) (w : WholeSeen) (blobs : List Blob) (count : ℕ) (l : List (ℕ × Message))
     → gives_with place w (length blobs + count) (at place (map Bytes blobs) ++ l) ≡ gives_with place (with_bin w blobs) count l
 many_attached place w [] count l = rw (zero-add, append-nil) refl
@@ -62,6 +63,7 @@ text_first place text packet l reads =
       | Err fault ↦ (place, Err fault) ∷ wholes_of l
     ]) reads
 
+-- a text that is no packet is refused where it stands, and what follows is read from rest
 pub text_refused : (place : ℕ) (text : List ℕ) (fault : SioFault) (l : List (ℕ × Message)) → packet_of text ≡ Err fault
     → wholes_of ((place, Text text) ∷ l) ≡ (place, Err fault) ∷ wholes_of l
 text_refused place text fault l reads =

@@ -13,6 +13,7 @@ continues : (old messages : List Message) (result : Result (Option Whole) SioFau
 continues old messages (Ok given) new feeds memory = feeds
 continues old messages (Err fault) new feeds memory = feeds (λ same. memory (ap Err same))
 
+-- the whole packets of the messages of a list of calls are what the calls answered
 follows : (held : List Message) (calls : List FeedCall) → FeedCallsFollow held calls → wholes_after held (messages calls) ≡ answers calls
 follows held [] waits = waits
 follows held (call ∷ calls) follow =

@@ -68,6 +68,7 @@ count-of text read is =
     let same : leading_number text ≡ read.0 = ap (λ r. r.0) found.1 in
     omega (arith, few, same)
 
+-- a count of attachments that was read is at most 64, and 0 where the kind takes none
 pub attachments-of : (kind : PacketKind) (text : List ℕ) (read : ℕ × List ℕ) → attachments_at kind text ≡ Ok read → (read.0 ≤ 64) × (is_binary kind ≡ false → read.0 ≡ 0)
 unfolding attachments_at
 attachments-of kind text read is = elim (cases_Bool (is_binary kind)) [
@@ -81,6 +82,7 @@ slash-first (b ∷ bs) slash =
     let other : is_comma b ≡ false = grind (arith, nat_tests, slash) in
     rw (take_while-cons (λ x. not (is_comma x)) b bs, other) slash
 
+-- a namespace that was read begins with a slash and has no comma
 pub namespace-of : (text : List ℕ) (read : List ℕ × List ℕ) → leading_namespace text ≡ read → (slice_index read.0 0 ≡ 47) × (position_or_len is_comma read.0 ≡ length read.0)
 unfolding leading_namespace
 namespace-of text read is = elim (cases_Bool (slice_index text 0 == 47)) [
@@ -109,6 +111,7 @@ id-cases : (b : Bool) (m n : ℕ) → (if b then None else Some m) ≡ Some n �
 id-cases true m n is = (cc)
 id-cases false m n is = (cc)
 
+-- an id that was read has at most 18 digits, and none follows it
 pub id-of : (text : List ℕ) (read : Option ℕ × List ℕ) → ack_id_at text ≡ Ok read → ((n : ℕ) → read.0 ≡ Some n → n < 10 ^ 18) × (digit_count read.1 ≡ 0)
 unfolding ack_id_at
 id-of text read is =
@@ -153,6 +156,7 @@ pub record HasParts (p : PacketSeen) : Type 0 where
   pub no_slash : (slice_index (written_payload p.payload) 0 == 47) ≡ false
   pub payload : payload_at p.kind (written_payload p.payload) ≡ Ok (p.payload, p.last)
 
+-- a packet that was read has the parts of its text, each in its form
 pub parts-of : (text : List ℕ) (p : PacketSeen) → packet_of text ≡ Ok p → HasParts p
 unfolding packet_of
 parts-of text p is =

@@ -5,6 +5,7 @@ use Rattle.serde_json.specs.View.{view, items_view}
 use Rattle.serde_json.specs.declared.value.Value.{Value}
 use Rattle.aud_sio.specs.Payload.{last_item}
 
+-- the last item of a list is the one at its length less one
 last_at : (v : Value) (vs : List Value) → last_item (items_view (v ∷ vs)) ≡ option_map view (slice_get (v ∷ vs) (length vs))
 last_at v [] = refl
 last_at v (w ∷ vs) = last_at w vs

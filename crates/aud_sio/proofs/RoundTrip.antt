@@ -93,6 +93,7 @@ either false n = refl
 comma-after : (nsp rest : List ℕ) → position_or_len is_comma nsp ≡ length nsp → position_or_len is_comma (nsp ++ 44 ∷ rest) ≡ length nsp
 comma-after nsp rest whole = rw (prefix_len-append, whole) (either _ (length nsp))
 
+-- a namespace with a comma after it is read back whole
 namespace-before : (nsp rest : List ℕ) → slice_index nsp 0 ≡ 47 → position_or_len is_comma nsp ≡ length nsp → leading_namespace (nsp ++ 44 ∷ rest) ≡ (nsp, rest)
 unfolding leading_namespace
 namespace-before nsp rest slash whole =
