@@ -1,4 +1,4 @@
--- Which positions a list has, and ascending lists with the same ones.
+-- Which positions a list has.
 use Rattle.std.proofs.lemmas.Grind.{common_steps}
 use Rattle.std.proofs.lemmas.Bool.Decides.{nat_tests}
 use Rattle.std.proofs.Common.{◌≡◌, ◌<◌, ◌≤◌, ◌+◌, ℕ, zero, suc, Bool, true, false, ◌&&◌, ◌||◌, List, [], ◌∷◌, ◌++◌, filter, length, get_or, None, refl, sym, ap, ◌∙◌, ◌⊎◌, inl, inr, arith, nat_eq, true≢false}
@@ -9,15 +9,8 @@ use Rattle.std.proofs.lemmas.List.Folds.{list_any-append}
 use Rattle.std.proofs.lemmas.Option.{slice_get_past}
 use Rattle.aud_tap.specs.declared.records.StreamRec.{StreamRec}
 use Rattle.aud_node.specs.Stream.{entry, positions_after}
+use Rattle.aud_base.proofs.Truth.{and_true}
 use Rattle.aud_rooms.specs.Private.Candidates.{is_among}
-
-and_true : (a : Bool) → (a && true) ≡ a
-and_true true = refl
-and_true false = refl
-
-pub differs : (p x : ℕ) → (p < x) ⊎ (x < p) → nat_eq p x ≡ false
-differs p x (inl h) = grind arith
-differs p x (inr h) = grind arith
 
 pub among-append : (xs ys : List ℕ) (p : ℕ) → is_among (xs ++ ys) p ≡ (is_among xs p || is_among ys p)
 among-append xs ys p = list_any-append (nat_eq p) xs ys
@@ -49,58 +42,3 @@ among-dedup_from k (x ∷ xs) p = grind (arith, among-dedup_from k xs p, among-d
 pub among-dedup : (xs : List ℕ) (p : ℕ) → is_among (dedup nat_eq xs) p ≡ is_among xs p
 among-dedup [] p = refl
 among-dedup (x ∷ xs) p = among-dedup_from x xs p
-
--- ---- ascending lists
-
-abbrev pub AreAbove : ℕ → List ℕ → Type 0
-AreAbove n [] = Unit {0}
-AreAbove n (x ∷ xs) = (n < x) × AreAbove n xs
-
-abbrev pub Ascends : List ℕ → Type 0
-Ascends [] = Unit {0}
-Ascends (x ∷ xs) = AreAbove x xs × Ascends xs
-
-above-read : (n : ℕ) (xs : List ℕ) → ((k : ℕ) → k < length xs → n < get_or xs k 0) → AreAbove n xs
-above-read n [] all = tt
-above-read n (x ∷ xs) all = (all 0 (omega arith), above-read n xs (λ k h. all (suc k) (omega arith)))
-
-pub ascends-pairs : (xs : List ℕ) → AllPairs (λ x y. x < y) xs → Ascends xs
-ascends-pairs [] all = tt
-ascends-pairs (x ∷ xs) all = (above-read x xs (λ k h. all 0 (suc k) 0 (omega arith) (omega arith)), ascends-pairs xs (λ i j d a b. all (suc i) (suc j) d (omega arith) (omega arith)))
-
-above-positions : (test : ℕ → Bool) (n low count : ℕ) → n ≤ low → AreAbove n (filter test (positions_after low count))
-above-positions test n low zero h = tt
-above-positions test n low (suc count) h = grind (arith, above-positions test n (suc low) count)
-
-pub ascends-positions : (test : ℕ → Bool) (low count : ℕ) → Ascends (filter test (positions_after low count))
-ascends-positions test low zero = tt
-ascends-positions test low (suc count) = grind (arith, ascends-positions test (suc low) count, above-positions test (suc low) (suc low) count)
-
-above-at : (n : ℕ) (xs : List ℕ) (k d : ℕ) → AreAbove n xs → k < length xs → n ≤ get_or xs k d
-above-at n [] k d above h = absurd (omega arith)
-above-at n (x ∷ xs) zero d (first, rest) h = omega arith
-above-at n (x ∷ xs) (suc k) d (first, rest) h = above-at n xs k d rest (omega arith)
-
-pub non_decreasing : (xs : List ℕ) → Ascends xs → IsNonDecreasing xs
-non_decreasing [] up i j d h g = absurd (omega arith)
-non_decreasing (x ∷ xs) up zero zero d h g = omega arith
-non_decreasing (x ∷ xs) (above, up) zero (suc j) d h g = above-at x xs j d above (omega arith)
-non_decreasing (x ∷ xs) up (suc i) zero d h g = absurd (omega arith)
-non_decreasing (x ∷ xs) (above, up) (suc i) (suc j) d h g = non_decreasing xs up i j d (omega arith) (omega arith)
-
-none_above : (n : ℕ) (xs : List ℕ) (p : ℕ) → AreAbove n xs → p ≤ n → is_among xs p ≡ false
-none_above n [] p above h = refl
-none_above n (x ∷ xs) p (first, rest) h = or_from (nat_eq p x) _ (differs p x (inl (omega arith))) (none_above n xs p rest h)
-
-not_below : (n : ℕ) (xs : List ℕ) (p : ℕ) → AreAbove n xs → is_among (n ∷ xs) p ≡ true → n ≤ p
-not_below n xs p above among = grind (arith, common_steps, nat_tests, or_from, differs, none_above)
-
-first-among : (x : ℕ) (xs : List ℕ) → is_among (x ∷ xs) x ≡ true
-first-among x xs = ap (λ b. b || is_among xs x) (eq-eqb x x refl)
-
--- there is one ascending list of given positions
-pub same_ascending : (xs ys : List ℕ) → Ascends xs → Ascends ys → ((p : ℕ) → is_among xs p ≡ is_among ys p) → xs ≡ ys
-same_ascending [] [] a b same = refl
-same_ascending [] (y ∷ ys) a b same = absurd (true≢false (sym (first-among y ys) ∙ sym (same y)))
-same_ascending (x ∷ xs) [] a b same = absurd (true≢false (sym (first-among x xs) ∙ same x))
-same_ascending (x ∷ xs) (y ∷ ys) (above, a) (over, b) same = grind (arith, same_ascending xs ys a b, not_below x xs y above, first-among y ys, not_below y ys x over, first-among x xs, none_above x xs, none_above y ys)

@@ -20,15 +20,12 @@ use Rattle.aud_node.specs.Addressees.{is_to_all, is_to_room, positions_to_all, p
 use Rattle.aud_rooms.specs.Rooms.{is_empty, is_for}
 use Rattle.aud_rooms.specs.Spans.{RoomSpan, is_within, rooms_by_spans, is_due_by_spans, due_by_spans}
 use Rattle.aud_rooms.specs.Private.Candidates.{is_among, is_past_upto, is_to_span, is_candidate, candidates, is_for_spans}
-use Rattle.aud_rooms.proofs.Times.{or_none}
+use Rattle.aud_base.proofs.Truth.{and_true, or_none}
+use Rattle.aud_rooms.proofs.Parts.{filter_twice}
 use Rattle.aud_rooms.proofs.Among.{among-append, among-filter, among-stream}
 use Rattle.aud_rooms.proofs.Reach.{contains-rooms_by_spans}
 
 -- ---- gathering
-
-and_true : (a : Bool) → (a && true) ≡ a
-and_true true = refl
-and_true false = refl
 
 -- the positions that are cut out of a room's are those past birth up to high that the span holds
 within_both : (birth high p : ℕ) (s : RoomSpan) → is_past_upto (max birth (s.first - 1)) (min high s.last) p ≡ (is_past_upto birth high p && is_within p s)
@@ -108,10 +105,6 @@ module _ (spans : List RoomSpan) (p : ℕ) where
   for_some (Some (Other off)) nsp due = absurd (true≢false (sym due ∙ and_right (is_recoverable (Other off)) false refl))
   for_some (Some (Ev event)) nsp due = for_event event nsp due
 
-filter_both : (p q : ℕ → Bool) (xs : List ℕ) → filter p (filter q xs) ≡ filter (λ x. q x && p x) xs
-filter_both p q [] = refl
-filter_both p q (x ∷ xs) = grind (arith, filter_both p q xs)
-
 module _ (spans : List RoomSpan) (stream : List StreamRec) (nsp : Text) (birth high : ℕ) where
   pub none_candidate : (p : ℕ) → entry stream p ≡ None → is_candidate spans stream nsp birth high p ≡ false
   none_candidate p none =
@@ -141,5 +134,4 @@ module _ (spans : List RoomSpan) (stream : List StreamRec) (nsp : Text) (birth h
   -- of them, those that are addressed to the rooms whose spans hold them
   pub candidates_due : filter (is_for_spans spans stream nsp) (candidates spans stream nsp birth high) ≡ due_by_spans spans stream nsp birth high
   candidates_due =
-      filter_both (is_for_spans spans stream nsp) (is_candidate spans stream nsp birth high) (positions_after 0 (length stream))
-      ∙ filter_agree _ _ due_alike (positions_after 0 (length stream))
+      filter_twice (is_for_spans spans stream nsp) (is_candidate spans stream nsp birth high) (is_due_by_spans spans stream nsp birth high) due_alike (positions_after 0 (length stream))

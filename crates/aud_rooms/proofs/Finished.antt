@@ -17,8 +17,9 @@ use Rattle.aud_rooms.specs.Private.Times.{Times, is_in_interval, is_held_at, Are
 use Rattle.aud_rooms.specs.Private.RoomMap.{RoomMap, at_room, do_pass, rooms_with, by_room, AreOrdered}
 use Rattle.aud_rooms.specs.Private.Building.{assigned_of, AreKept, spans_upto}
 use Rattle.aud_rooms.proofs.Members.{contains-none, contains-parts, contains-first, contains-later}
+use Rattle.aud_rooms.proofs.Ascending.{number_at}
 use Rattle.aud_rooms.proofs.Positions.{interval_alike, spans_alike}
-use Rattle.aud_rooms.proofs.Times.{or_none}
+use Rattle.aud_base.proofs.Truth.{or_none}
 use Rattle.aud_rooms.proofs.Maximal.{place, place_maximal, interval_of, maximal_same, closed}
 use Rattle.aud_rooms.proofs.RoomMaps.{same_text, contains-rooms_with}
 use Rattle.aud_rooms.proofs.Kept.{covered_is}
@@ -138,11 +139,6 @@ module _ (low cov : ℕ) where
       let second : y.room ≡ other.0.now = room_of other (apart other (contains-later e es other among)) y at in
       inl (ap (λ a. slice_cmp nat_cmp a y.room) first ∙ ap (slice_cmp nat_cmp e.0.now) second ∙ below_each e.0 es other below among))
 
-position_at : (low count k : ℕ) → k < count → slice_get (positions_after low count) k ≡ Some (suc low + k)
-position_at low zero k h = absurd (omega arith)
-position_at low (suc count) zero h = ap Some (let e : suc low ≡ suc low + 0 = omega arith in e)
-position_at low (suc count) (suc k) h = position_at (suc low) count k (omega arith) ∙ ap Some (let e : suc (suc low) + k ≡ suc low + suc k = omega arith in e)
-
 pub by_room_total : IsTotalOrder by_room
 by_room_total =
     record {
@@ -197,7 +193,7 @@ module _ (low cov : ℕ) (es : RoomMap Times) (kept : AreKept low cov es) (order
   by_entries = record { each = each; all = all; in_order = all_in_order low cov es ordered apart_of }
 
   given_at : (p : ℕ) → low < p → p ≤ cov → rooms_with (is_held_at p) es ≡ assigned_rooms (assigned_of low cov es) p
-  given_at p past upto = grind (arith, slice_get-map, position_at low (cov - low) (p - suc low))
+  given_at p past upto = grind (arith, slice_get-map, number_at (suc low) (cov - low) (p - suc low))
 
   pub finished : AreSpansOf (assigned_of low cov es) (spans_upto cov es)
   finished =

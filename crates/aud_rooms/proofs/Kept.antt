@@ -15,7 +15,8 @@ use Rattle.aud_rooms.specs.Private.RoomMap.{RoomMap, at_room, do_pass, rooms_wit
 use Rattle.aud_rooms.specs.Private.Building.{assigned_of, AreKept}
 use Rattle.aud_rooms.proofs.Times.{held_beyond, apart_longer}
 use Rattle.aud_rooms.proofs.RoomMaps.{same_text, contains-rooms_with, same_rooms}
-use Rattle.aud_rooms.proofs.Ranges.{map_positions, length-positions, map_more, map_same}
+use Rattle.aud_rooms.proofs.Ascending.{length-numbers}
+use Rattle.aud_rooms.proofs.Ranges.{map_positions, map_more, map_same}
 use Rattle.std.proofs.lemmas.Bool.{le-ltb}
 
 -- ---- more positions are covered
@@ -36,7 +37,7 @@ module _ (low cov position : ℕ) (es : RoomMap Times) (kept : AreKept low cov e
       }
 
   pub covered_is : covered (assigned_of low cov es) ≡ cov
-  covered_is = grind (arith, common_steps, length-map, length-positions)
+  covered_is = grind (arith, common_steps, length-map, length-numbers)
 
   later : map (λ p. rooms_with (is_held_at p) es) (positions_after (low + (cov - low)) (position - cov)) ≡ replicate (position - cov) (rooms_with is_held_now es)
   later = grind (arith, map_positions, now_beyond, map_same (rooms_with is_held_now es) cov (position - cov))

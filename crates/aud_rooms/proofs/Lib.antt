@@ -1,4 +1,5 @@
 pub mod Sets
+pub mod Ascending
 pub mod Intervals
 pub mod Members
 pub mod ByTurns

@@ -15,7 +15,7 @@ use Rattle.aud_node.specs.Stream.{Text}
 use Rattle.aud_rooms.specs.Spans.{RoomSpan, is_within, rooms_by_spans}
 use Rattle.aud_rooms.specs.Private.RoomMap.{RoomMap, at_room, do_pass, rooms_with}
 use Rattle.aud_rooms.specs.Private.Reached.{reaches, HasReached, AreByFirst}
-use Rattle.aud_rooms.proofs.Times.{or_none}
+use Rattle.aud_base.proofs.Truth.{or_none}
 use Rattle.aud_rooms.proofs.RoomMaps.{same_text, contains-rooms_with, same_rooms}
 
 -- one more span begins

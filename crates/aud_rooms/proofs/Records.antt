@@ -15,7 +15,8 @@ use Rattle.aud_node.specs.OwnRecords.{record_names}
 use Rattle.aud_node.specs.Stream.{Text, position}
 use Rattle.aud_rooms.specs.Rooms.{Rooms, rooms_after}
 use Rattle.aud_rooms.specs.TurnsDue.{rooms_at_end, rooms_at_take}
-use Rattle.aud_node.proofs.RecordLemmas.{slice_get_below, between-more, between-none, cursor_at-rises}
+use Rattle.aud_node.proofs.RecordLemmas.{cursor_at-rises}
+use Rattle.aud_base.proofs.Lists.{element_at, between-more, between-none}
 
 -- a session's record leaves the cursor
 own_cursor : (stream : List StreamRec) (i : ℕ) (rec : NodeRec) (pid : Text) (cursor : ℕ) → record_names (Some rec) pid ≡ true → next_cursor stream i rec cursor ≡ cursor
@@ -99,7 +100,7 @@ module _ (stream : List StreamRec) (log : List NodeRec) (ordered : is_ordered st
           ∙ ap (λ v. cond v held (rooms_at_take stream pid p (rooms_after pid held rec) (between log (suc x) to))) taken
           ∙ sym (ap (rooms_at_end pid held) (between-none log m x (omega (arith, same))))
       go (suc d) m held e =
-          let (other, there) = slice_get_below log m (omega (arith, e, b, within)) in
+          let (other, there) = element_at log m (omega (arith, e, b, within)) in
           ap (rooms_at_take stream pid p held) (between-more log m to other (omega (arith, e, b)) there)
           ∙ ap (λ v. cond v held (rooms_at_take stream pid p (rooms_after pid held other) (between log (suc m) to))) (passed m other (omega (arith, e)) there)
           ∙ go d (suc m) (rooms_after pid held other) (omega (arith, e))
@@ -118,7 +119,7 @@ rooms_at_end-more log pid from x rec held a at within = go (x - from) from held 
         ∙ ap (rooms_at_end pid (rooms_after pid held rec)) (between-none log (suc x) (suc x) (omega arith))
         ∙ sym (ap (λ recs. rooms_after pid (rooms_at_end pid held recs) rec) (between-none log m x (omega (arith, same))))
     go (suc d) m held e =
-        let (other, there) = slice_get_below log m (omega (arith, e, within)) in
+        let (other, there) = element_at log m (omega (arith, e, within)) in
         ap (rooms_at_end pid held) (between-more log m (suc x) other (omega (arith, e)) there)
         ∙ go d (suc m) (rooms_after pid held other) (omega (arith, e))
         ∙ sym (ap (λ recs. rooms_after pid (rooms_at_end pid held recs) rec) (between-more log m x other (omega (arith, e)) there))

@@ -8,12 +8,9 @@ use Rattle.std.proofs.lemmas.Bool.{le-leb, lt-leb, and_right, le-ltb, lt-ltb, or
 use Rattle.std.proofs.lemmas.List.Folds.{list_any-append}
 use Rattle.std.proofs.lemmas.List.{drop_all, take-append-drop}
 use Rattle.std.proofs.lemmas.Option.{slice_get_within, slice_get-get_or}
+use Rattle.aud_base.proofs.Truth.{and_true, or_none}
 use Rattle.aud_rooms.specs.declared.interval.Interval.{Interval}
 use Rattle.aud_rooms.specs.Private.Times.{Times, is_in_interval, is_past_start, is_held_at, is_held_now, AreApart, ContinuesTimes}
-
-pub or_none : (a : Bool) → (a || false) ≡ a
-or_none true = refl
-or_none false = refl
 
 pub before : (p : ℕ) (i : Interval) → p ≤ i.after → is_in_interval p i ≡ false
 before p i h = ap (λ b. b && nat_le p i.last) (le-ltb i.after p h)
@@ -76,10 +73,6 @@ resumed low covered is old i parts ends apart =
           ∙ ap (λ b. list_any (is_in_interval p) is || b) (or_none (is_in_interval p i) ∙ at)
           );
     }
-  where
-    and_true : (a : Bool) → (a && true) ≡ a
-    and_true true = refl
-    and_true false = refl
 
 -- a new one begins after them
 apart_begun : (from covered : ℕ) (is : List Interval) (i : Interval) → i.last < covered → AreApart from (is ++ i ∷ []) None covered → AreApart from (is ++ i ∷ []) (Some covered) covered
@@ -124,10 +117,6 @@ ended low covered after is h apart =
           ∙ list_any-append (is_in_interval p) is (record { after = after; last = covered } ∷ [])
           ∙ ap (λ b. list_any (is_in_interval p) is || b) (or_none (nat_lt after p && nat_le p covered) ∙ ap (λ b. nat_lt after p && b) (le-leb p covered to) ∙ and_true (nat_lt after p));
     }
-  where
-    and_true : (a : Bool) → (a && true) ≡ a
-    and_true true = refl
-    and_true false = refl
 
 pub unused : (low covered after : ℕ) (is : List Interval) → covered ≤ after → AreApart low is (Some after) covered
     → ContinuesTimes low covered (record { ended = is; since = Some after }) (record { ended = is; since = None })

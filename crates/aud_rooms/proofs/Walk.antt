@@ -22,7 +22,8 @@ use Rattle.aud_rooms.specs.Private.Walk.{at_cursor, walked_record, walked_record
 use Rattle.aud_rooms.proofs.Positions.{spans_alike}
 use Rattle.aud_rooms.proofs.OwnNumbers.{own_between-is}
 use Rattle.aud_rooms.proofs.Records.{own_cursor_at, other_rooms, rooms_at_take-is, rooms_at_end-more}
-use Rattle.aud_node.proofs.RecordLemmas.{slice_get_below, between-none, cursor_at-rises}
+use Rattle.aud_node.proofs.RecordLemmas.{cursor_at-rises}
+use Rattle.aud_base.proofs.Lists.{element_at, between-none}
 
 get-front : {X : Type 0} (xs ys : List X) (i : ℕ) → i < length xs → slice_get (xs ++ ys) i ≡ slice_get xs i
 get-front [] ys i h = absurd (omega arith)
@@ -167,7 +168,7 @@ module _ (c : Cluster) (pid : Text) (t : Turn) (in_order : IsInOrder c t) (a : A
   all : (count x : ℕ) (b : Assigned) → t.from ≤ x → x + count ≡ t.to → Before x b → Before t.to (walked_records c t.node pid (filter own (numbers_from x count)) b)
   all zero x b h e before = subst (λ n. Before n b) (omega (arith, e)) before
   all (suc count) x b h e before =
-      let (rec, at) = slice_get_below log x (omega (arith, e, within)) in
+      let (rec, at) = element_at log x (omega (arith, e, within)) in
       let some_left : x < t.to = omega (arith, e) in
       go (own x)
       (λ is. all count (suc x) (walked_record c t.node pid x b) (omega (arith, h)) (omega (arith, e)) (its_own x rec b h some_left at (ap (λ o. record_names o pid) (sym at) ∙ is) before))
