@@ -1,5 +1,5 @@
--- Consecutive numbers, and lists that ascend.
-use Rattle.std.proofs.Common.{◌≡◌, ◌<◌, ◌+◌, ℕ, zero, suc, Bool, List, [], ◌∷◌, ◌++◌, filter, length, get_or, Some, slice_get, refl, sym, ap, ◌∙◌, arith, nat_eq, ◌||◌}
+-- Consecutive numbers and positions, and lists that ascend.
+use Rattle.std.proofs.Common.{◌≡◌, ◌<◌, ◌+◌, ℕ, zero, suc, Bool, List, [], ◌∷◌, ◌++◌, filter, length, get_or, Some, slice_get, refl, sym, ap, ◌∙◌, arith, nat_eq, ◌||◌, ◌≤◌, map, replicate}
 use Rattle.std.specs.List.{list_any}
 use Rattle.std.specs.List.Sorted.{IsNonDecreasing, IsStrictlyIncreasing}
 use Rattle.std.specs.Ordering.{nat_cmp, eq_by_cmp}
@@ -9,6 +9,8 @@ use Rattle.std.proofs.lemmas.Map.Keys.{sorted_from_strictly_increasing, non_decr
 use Rattle.std.proofs.lemmas.Map.Lookups.{btree_set_from_contains, exact_unsigned}
 use Rattle.std.proofs.lemmas.Option.{get_or_from_slice_get}
 use Rattle.aud_node.specs.Lists.{numbers_from}
+use Rattle.std.proofs.lemmas.List.{map-append}
+use Rattle.aud_node.specs.Stream.{positions_after}
 
 pub number_at : (first count k : ℕ) → k < count → slice_get (numbers_from first count) k ≡ Some (first + k)
 number_at first zero k h = absurd (omega arith)
@@ -51,3 +53,16 @@ same_ascending xs ys a b same =
     tied : (n : ℕ) (zs : List ℕ) → list_any (nat_eq n) zs ≡ list_any (eq_by_cmp nat_cmp n) zs
     tied n [] = refl
     tied n (z ∷ zs) = ap (λ b. b || list_any (nat_eq n) zs) (unsigned_ties n z) ∙ ap (λ b. eq_by_cmp nat_cmp n z || b) (tied n zs)
+
+pub map_positions : {X : Type 0} (f g : ℕ → X) (low count : ℕ) → ((p : ℕ) → low < p → p ≤ low + count → f p ≡ g p) → map f (positions_after low count) ≡ map g (positions_after low count)
+map_positions f g low zero same = refl
+map_positions f g low (suc count) same = grind (arith, map_positions f g (suc low) count)
+
+pub map_more : {X : Type 0} (f : ℕ → X) (low one more : ℕ) → map f (positions_after low (one + more)) ≡ map f (positions_after low one) ++ map f (positions_after (low + one) more)
+map_more f low one more =
+    let e : suc low + one ≡ suc (low + one) = omega arith in
+    ap (map f) (numbers_more (suc low) one more) ∙ map-append f (positions_after low one) _ ∙ ap (λ n. map f (positions_after low one) ++ map f (numbers_from n more)) e
+
+pub map_same : {X : Type 0} (x : X) (low count : ℕ) → map (λ _. x) (positions_after low count) ≡ replicate count x
+map_same x low zero = refl
+map_same x low (suc count) = ap (λ xs. x ∷ xs) (map_same x (suc low) count)

@@ -88,10 +88,7 @@ module _ (all : List RoomSpan) (stream : List StreamRec) (nsp : Text) (found : L
           past = all_zip (HaveBegun begun) (λ p. s.first ≤ p) (HaveBegun (begun ++ s ∷ [])) (λ p h k. all_more (λ (x : RoomSpan). x.first ≤ p) begun s h k) later pasts.1 above;
           ascending = ascending;
           so_far =
-              ap (λ ps. ps ++ filter P later) (is ∙ ap (λ ps. due ++ ps) (due_all before pasts.0 below))
-              ∙ append_assoc due (filter P before) (filter P later)
-              ∙ ap (λ ps. due ++ ps) (sym (filter-append P before later) ∙ ap (filter P) (sym cut))
-              ∙ was.so_far;
+              grind (arith, is, due_all before pasts.0 below, append_assoc due (filter P before) (filter P later), filter-append P before later, cut, was.so_far);
         }
 
 -- ---- the sweep's steps, over lent spans
@@ -140,7 +137,4 @@ pub for_permuted : (spans others : List RoomSpan) (stream : List StreamRec) (nsp
 for_permuted spans others stream nsp found permuted = filter_agree _ _ (λ p. ap (is_for (entry stream p) nsp) (rooms p)) found
   where
     rooms : (p : ℕ) → rooms_by_spans others p ≡ rooms_by_spans spans p
-    rooms p = same_rooms _ _ (λ room.
-        contains-rooms_by_spans others p room
-        ∙ sym (list_any-IsPermutation (λ s. is_within p s && is_eq (slice_cmp nat_cmp room s.room)) spans others permuted)
-        ∙ sym (contains-rooms_by_spans spans p room))
+    rooms p = same_rooms _ _ (λ room. grind (arith, contains-rooms_by_spans others p room, contains-rooms_by_spans spans p room, list_any-IsPermutation (λ s. is_within p s && is_eq (slice_cmp nat_cmp room s.room)) spans others permuted))

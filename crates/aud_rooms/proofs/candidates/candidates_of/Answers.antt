@@ -4,9 +4,8 @@ use Rattle.std.proofs.lemmas.List.Filters.{dedup_is}
 use Rattle.std.proofs.lemmas.List.Sorted.{list_any-IsPermutation}
 use Rattle.std.proofs.lemmas.Map.Keys.{IsStrictlyIncreasing-dedup}
 use Rattle.aud_rooms.specs.Private.Candidates.{is_among, candidates, is_candidate}
-use Rattle.aud_rooms.proofs.Among.{among-dedup, among-stream}
+use Rattle.aud_rooms.proofs.Candidate.{among-dedup, among-stream, none_candidate}
 use Rattle.aud_rooms.proofs.Ascending.{filter-ascends, same_ascending}
-use Rattle.aud_rooms.proofs.Candidate.{none_candidate}
 use Rattle.aud_rooms.proofs.candidates.candidates_of.Goals as goal
 
 pub returns : goal.returns

@@ -2,7 +2,7 @@ use Rattle.std.proofs.Common.{◌++◌, ◌-◌, List, ℕ, filter, length, max,
 use Rattle.std.specs.Cow.{cow_str_bytes}
 use Rattle.std.specs.List.Sorted.{IsNonDecreasing}
 use Rattle.aud_node.specs.Stream.{entry}
-use Rattle.aud_node.specs.Addressees.{is_to_all, is_to_room, positions_to_all, positions_to_room}
+use Rattle.aud_node.specs.Addressees.{is_to_all, is_to_room, positions_to_room}
 use Rattle.aud_rooms.specs.Spans.{RoomSpan}
 use Rattle.aud_rooms.specs.Private.Candidates.{is_past_upto}
 use Rattle.aud_rooms.proofs.Ascending.{non_decreasing}

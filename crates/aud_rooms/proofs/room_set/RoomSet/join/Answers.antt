@@ -1,6 +1,6 @@
 use Rattle.std.proofs.Common.{ap, ◌∙◌}
 use Rattle.std.specs.FinSet as set
-use Rattle.aud_rooms.proofs.Sets.{texts-insert}
+use Rattle.aud_rooms.proofs.RoomMaps.{texts-insert}
 use Rattle.aud_rooms.proofs.room_set.RoomSet.join.Goals as goal
 
 pub returns-clause-joined : goal.returns-clause-joined
