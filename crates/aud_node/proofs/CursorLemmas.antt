@@ -1,5 +1,5 @@
 -- Cursors and their order, record after record.
-use Rattle.std.proofs.Common.{◌≡◌, ℕ, ◌+◌, suc, Bool, true, false, List, [], ◌∷◌, ◌++◌, length, map, refl, sym, ap, ◌∙◌, arith, ◌&&◌, ◌==◌, not, Option, Some, None, option_map, slice_get}
+use Rattle.std.proofs.Common.{◌≡◌, ℕ, ◌+◌, suc, Bool, false, List, [], ◌∷◌, ◌++◌, length, map, refl, sym, ap, ◌∙◌, arith, ◌&&◌, ◌==◌, not, Option, Some, None, option_map, slice_get}
 use Rattle.std.specs.List.{list_all}
 use Rattle.std.proofs.lemmas.List.{map-append}
 use Rattle.std.proofs.lemmas.List.Folds.{list_all-append}
@@ -7,6 +7,7 @@ use Rattle.std.proofs.lemmas.Option.{slice_get-map}
 use Rattle.std.proofs.lemmas.Bool.Decides.{nat_tests}
 use Rattle.aud_tap.specs.declared.records.StreamRec.{StreamRec}
 use Rattle.aud_tap.specs.declared.records.NodeRec.{NodeRec}
+use Rattle.aud_base.proofs.Truth.{and_true}
 use Rattle.aud_base.proofs.Numbers.{numbers_from-more, slice_get-numbers}
 use Rattle.aud_node.specs.Lists.{numbers_from}
 use Rattle.aud_node.specs.Cursors.{cursor_at, next_cursor, cursor_past}
@@ -53,13 +54,4 @@ cursors-more f i c kept is last =
 
 -- whether all numbers pass, with one number more
 pub all-more : (p : ℕ → Bool) (i : ℕ) (some kept : Bool) → kept ≡ (some && list_all p (numbers_from 0 i)) → (kept && p i) ≡ (some && list_all p (numbers_from 0 (i + 1)))
-all-more p i some kept is =
-    ap (λ k. k && p i) is
-    ∙ go some (list_all p (numbers_from 0 i)) (p i)
-    ∙ sym (ap (λ n. some && n) (ap (list_all p) (numbers_from-more i) ∙ list_all-append p (numbers_from 0 i) (i ∷ [])))
-  where
-    go : (s a n : Bool) → ((s && a) && n) ≡ (s && (a && (n && true)))
-    go false a n = refl
-    go true false n = refl
-    go true true false = refl
-    go true true true = refl
+all-more p i some kept is = grind (arith, is, numbers_from-more i, list_all-append p (numbers_from 0 i) (i ∷ []), and_true (p i))
