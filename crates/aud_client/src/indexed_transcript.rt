@@ -9,7 +9,8 @@ use crate::client_tap::ClientTap;
 use crate::stay::Stay;
 use crate::tap::read_transcript;
 use crate::transcript::Transcript;
-use aud_node::{Naming, Stream};
+use aud_base::Places;
+use aud_node::Stream;
 use aud_tap::Memory;
 use std::alloc::Global;
 use std::marker::Model;
@@ -20,7 +21,7 @@ use std::marker::Model;
 pub struct IndexedTranscript<'a> {
     transcript: Transcript<'a>,
     /// Of each pid, the numbers of the stays whose reply names it.
-    by_session: Naming,
+    by_session: Places,
 }
 
 impl<'a> Model for IndexedTranscript<'a> {

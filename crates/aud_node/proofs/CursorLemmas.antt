@@ -1,13 +1,14 @@
 -- Cursors and their order, record after record.
-use Rattle.std.proofs.Common.{◌≡◌, ℕ, ◌+◌, zero, suc, Bool, true, false, cond, List, [], ◌∷◌, ◌++◌, length, map, refl, sym, ap, ◌∙◌, arith, ◌&&◌, ◌==◌, not, append-nil, Option, Some, None, option_map, slice_get}
-use Rattle.std.specs.List.{list_all, filter}
+use Rattle.std.proofs.Common.{◌≡◌, ℕ, ◌+◌, suc, Bool, false, List, [], ◌∷◌, ◌++◌, length, map, refl, sym, ap, ◌∙◌, arith, ◌&&◌, ◌==◌, not, Option, Some, None, option_map, slice_get}
+use Rattle.std.specs.List.{list_all}
 use Rattle.std.proofs.lemmas.List.{map-append}
 use Rattle.std.proofs.lemmas.List.Folds.{list_all-append}
-use Rattle.std.proofs.lemmas.List.Elements.{filter-append}
 use Rattle.std.proofs.lemmas.Option.{slice_get-map}
 use Rattle.std.proofs.lemmas.Bool.Decides.{nat_tests}
 use Rattle.aud_tap.specs.declared.records.StreamRec.{StreamRec}
 use Rattle.aud_tap.specs.declared.records.NodeRec.{NodeRec}
+use Rattle.aud_base.proofs.Truth.{and_true}
+use Rattle.aud_base.proofs.Numbers.{numbers_from-more, slice_get-numbers}
 use Rattle.aud_node.specs.Lists.{numbers_from}
 use Rattle.aud_node.specs.Cursors.{cursor_at, next_cursor, cursor_past}
 use Rattle.aud_node.specs.Private.CursorIndex.{cursors_after}
@@ -17,26 +18,6 @@ use Rattle.aud_node.specs.Ordered.{is_in_order, is_some_in_order, is_ordered}
 -- the record with this number is in order
 abbrev pub is_in_order_at : List StreamRec → List NodeRec → ℕ → Bool
 is_in_order_at stream log number = is_some_in_order stream number (cursor_at stream log number) (slice_get log number)
-
--- one number more at the end
-pub numbers_from-suc : (first count : ℕ) → numbers_from first (suc count) ≡ numbers_from first count ++ (first + count) ∷ []
-numbers_from-suc first zero = let e : first + 0 ≡ first = omega arith in ap (λ n. n ∷ []) (sym e)
-numbers_from-suc first (suc count) =
-    let e : suc first + count ≡ first + suc count = omega arith in
-    ap (λ ns. first ∷ ns) (numbers_from-suc (suc first) count ∙ ap (λ n. numbers_from (suc first) count ++ n ∷ []) e)
-
-pub numbers_from-more : (count : ℕ) → numbers_from 0 (count + 1) ≡ numbers_from 0 count ++ count ∷ []
-numbers_from-more count =
-    let e : count + 1 ≡ suc count = omega arith in
-    let f : 0 + count ≡ count = omega arith in
-    ap (numbers_from 0) e ∙ numbers_from-suc 0 count ∙ ap (λ n. numbers_from 0 count ++ n ∷ []) f
-
--- the numbers of a list's elements, as they are read
-pub slice_get-numbers : {X : Type 0} (first : ℕ) (xs : List X) (k : ℕ) → slice_get (numbers_from first (length xs)) k ≡ option_map (λ _. first + k) (slice_get xs k)
-slice_get-numbers first [] k = refl
-slice_get-numbers first (x ∷ xs) zero = let e : first ≡ first + 0 = omega arith in ap Some e
-slice_get-numbers first (x ∷ xs) (suc k) =
-    let e : suc first + k ≡ first + suc k = omega arith in slice_get-numbers (suc first) xs k ∙ ap (λ n. option_map (λ _. n) (slice_get xs k)) e
 
 -- the cursor that is kept after the record with this number
 pub cursors_after-read : (stream : List StreamRec) (log : List NodeRec) (k : ℕ) → slice_get (cursors_after stream log) k ≡ cursor_after (record { stream = stream; recs = log }) k
@@ -65,14 +46,6 @@ is_ordered-all stream (first ∷ others) =
     let e : (suc (length others) == 0) ≡ false = grind (arith, nat_tests) in
     ap (λ b. not b && is_ordered stream (first ∷ others)) (sym e)
 
--- the numbers that pass, with one number more
-pub filter-more : (p : ℕ → Bool) (i : ℕ) (kept : List ℕ) → kept ≡ filter p (numbers_from 0 i) → cond (p i) (kept ++ i ∷ []) kept ≡ filter p (numbers_from 0 (i + 1))
-filter-more p i kept is = go (p i) refl ∙ sym (ap (filter p) (numbers_from-more i) ∙ filter-append p (numbers_from 0 i) (i ∷ []))
-  where
-    go : (b : Bool) → b ≡ b → cond b (kept ++ i ∷ []) kept ≡ filter p (numbers_from 0 i) ++ cond b (i ∷ []) []
-    go true _ = ap (λ ns. ns ++ i ∷ []) is
-    go false _ = is ∙ sym (append-nil (filter p (numbers_from 0 i)))
-
 -- the cursors after the first records, with one record more
 pub cursors-more : (f : ℕ → ℕ) (i c : ℕ) (kept : List ℕ) → kept ≡ map f (numbers_from 0 i) → c ≡ f i → kept ++ c ∷ [] ≡ map f (numbers_from 0 (i + 1))
 cursors-more f i c kept is last =
@@ -81,22 +54,4 @@ cursors-more f i c kept is last =
 
 -- whether all numbers pass, with one number more
 pub all-more : (p : ℕ → Bool) (i : ℕ) (some kept : Bool) → kept ≡ (some && list_all p (numbers_from 0 i)) → (kept && p i) ≡ (some && list_all p (numbers_from 0 (i + 1)))
-all-more p i some kept is =
-    ap (λ k. k && p i) is
-    ∙ go some (list_all p (numbers_from 0 i)) (p i)
-    ∙ sym (ap (λ n. some && n) (ap (list_all p) (numbers_from-more i) ∙ list_all-append p (numbers_from 0 i) (i ∷ [])))
-  where
-    go : (s a n : Bool) → ((s && a) && n) ≡ (s && (a && (n && true)))
-    go false a n = refl
-    go true false n = refl
-    go true true false = refl
-    go true true true = refl
-
--- a test beside one that was made
-pub and-false : (a b : Bool) → b ≡ false → false ≡ (a && b)
-and-false false b h = refl
-and-false true b h = sym h
-
-pub and-true : (a b : Bool) → b ≡ true → a ≡ (a && b)
-and-true false b h = refl
-and-true true b h = sym h
+all-more p i some kept is = grind (arith, is, numbers_from-more i, list_all-append p (numbers_from 0 i) (i ∷ []), and_true (p i))

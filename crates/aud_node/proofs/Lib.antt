@@ -1,10 +1,9 @@
 pub mod ListLemmas
 pub mod RecordLemmas
 pub mod MapLemmas
-pub mod PlaceLemmas
 pub mod PositionLemmas
 pub mod CursorLemmas
 pub mod TurnLemmas
 pub mod NodeLemmas
-pub mod NamingLemmas
+pub mod NameLemmas
 pub mod AddresseeLemmas

@@ -1,5 +1,5 @@
 -- Positions in the stream from an entry on.
-use Rattle.std.proofs.Common.{◌≡◌, ℕ, ◌+◌, ◌-◌, ◌<◌, zero, suc, Bool, true, false, cond, List, [], ◌∷◌, length, get_or, drop, refl, sym, ap, ◌∙◌, arith, Option, Some, None, option_map, unwrap_or, map, slice_get, subst, nat_eq, ◌⊎◌, inl, inr}
+use Rattle.std.proofs.Common.{◌≡◌, ℕ, ◌+◌, ◌-◌, ◌<◌, zero, suc, Bool, true, false, cond, List, [], ◌∷◌, length, get_or, drop, refl, sym, ap, ◌∙◌, arith, Option, Some, None, option_map, unwrap_or, map, slice_get, subst, nat_eq}
 use Rattle.std.specs.Str.{bytes_eq}
 use Rattle.std.proofs.lemmas.List.{at_drop_more}
 use Rattle.std.proofs.lemmas.Slice.Eq.{bytes_eq-Decides}
@@ -12,25 +12,23 @@ use Rattle.aud_node.specs.Stream.{Text, position, offset_of}
 use Rattle.aud_node.specs.Private.OffsetIndex.{kept_position, AreFirst, HoldsOffsets}
 use Rattle.aud_node.specs.Cursors.{is_position}
 use Rattle.aud_node.proofs.ListLemmas.{drop-read}
-use Rattle.std.proofs.lemmas.Bool.{eq-eqb}
-use Rattle.std.proofs.lemmas.Bool.Decides.{eqb_tells}
+use Rattle.std.proofs.lemmas.Bool.{eq-eqb, eqb-true, false_from_ne_true}
 use Rattle.aud_node.specs.declared.offsets.Offsets.{Offsets}
 
 -- the position of an offset that stands after so many entries
 abbrev pub position_after : List StreamRec → ℕ → Text → Option ℕ
 position_after stream i off = option_map (λ p. i + p) (position (drop i stream) off)
 
-shifted : (i : ℕ) (b : Bool) (o : Option ℕ) → option_map (λ p. i + p) (cond b (Some 1) (option_map suc o)) ≡ cond b (Some (i + 1)) (option_map (λ p. i + 1 + p) o)
-shifted i true o = refl
-shifted i false None = refl
-shifted i false (Some p) = let e : i + suc p ≡ i + 1 + p = omega arith in ap Some e
-
 -- one entry more in front
 pub position_after-step : (stream : List StreamRec) (i : ℕ) (d : StreamRec) (off : Text) → i < length stream
     → position_after stream i off ≡ cond (bytes_eq (offset_of (get_or stream i d)) off) (Some (i + 1)) (position_after stream (i + 1) off)
 position_after-step stream i d off h =
     at_drop_more (λ es. option_map (λ p. i + p) (position es off)) stream i d h
-    ∙ shifted i (bytes_eq (offset_of (get_or stream i d)) off) (position (drop (i + 1) stream) off)
+    ∙ go (bytes_eq (offset_of (get_or stream i d)) off) (position (drop (i + 1) stream) off)
+  where
+    go : (b : Bool) (o : Option ℕ) → option_map (λ p. i + p) (cond b (Some 1) (option_map suc o)) ≡ cond b (Some (i + 1)) (option_map (λ p. i + 1 + p) o)
+    go b None = grind arith
+    go b (Some p) = grind arith
 
 -- an offset that no entry has isn't that of any
 not_there : (stream : List StreamRec) (off other : Text) (i : ℕ) → position stream off ≡ None → bytes_eq off other ≡ true → position stream other ≡ Some (suc i) → ⊥
@@ -41,14 +39,8 @@ not_there stream off other i none same there =
 
 -- one entry more in front, whose offset no later one has
 pub AreFirst-cons : (e : StreamRec) (stream : List StreamRec) → position stream (offset_of e) ≡ None → AreFirst stream → AreFirst (e ∷ stream)
-AreFirst-cons e stream none first zero x is =
-    let same : bytes_eq (offset_of e) (offset_of x) ≡ true = (bytes_eq-Decides (offset_of e) (offset_of x)).1 (ap (λ o. offset_of (unwrap_or o e)) is) in
-    ap (λ b. cond b (Some 1) (option_map suc (position stream (offset_of x)))) same
-AreFirst-cons e stream none first (suc i) x is = go (bytes_eq (offset_of e) (offset_of x)) refl
-  where
-    go : (b : Bool) → bytes_eq (offset_of e) (offset_of x) ≡ b → cond b (Some 1) (option_map suc (position stream (offset_of x))) ≡ Some (suc (suc i))
-    go true same = absurd (not_there stream (offset_of e) (offset_of x) i none same (first i x is))
-    go false _ = ap (option_map suc) (first i x is)
+AreFirst-cons e stream none first zero x is = grind (arith, (bytes_eq-Decides (offset_of e) (offset_of x)).1)
+AreFirst-cons e stream none first (suc i) x is = grind (arith, not_there stream (offset_of e) (offset_of x) i none, first i x is)
 
 -- the positions of the entries after so many
 pub record HoldsAfter (stream : List StreamRec) (i : ℕ) (offsets : Offsets) : Type 0 where
@@ -92,41 +84,19 @@ abbrev pub has_offset : Option StreamRec → Text → Bool
 has_offset None off = false
 has_offset (Some e) off = bytes_eq (offset_of e) off
 
-same_some : (a b : ℕ) → Some a ≡ Some b → a ≡ b
-same_some a b h = cc
-
 positive : (stream : List StreamRec) (off : Text) → position stream off ≡ Some 0 → ⊥
 positive [] off h = cc
-positive (e ∷ es) off h = go (bytes_eq (offset_of e) off) (position es off) h
-  where
-    go : (b : Bool) (o : Option ℕ) → cond b (Some 1) (option_map suc o) ≡ Some 0 → ⊥
-    go true o h = absurd (omega (arith, same_some 1 0 h))
-    go false None h = cc
-    go false (Some p) h = absurd (omega (arith, same_some (suc p) 0 h))
+positive (e ∷ es) off h = grind (arith, h)
 
 -- the entry at the position of an offset has it
 there : (stream : List StreamRec) (off : Text) (i : ℕ) → position stream off ≡ Some (suc i) → has_offset (slice_get stream i) off ≡ true
 there [] off i h = cc
-there (e ∷ es) off zero h = go (bytes_eq (offset_of e) off) (position es off) (positive es off) h
-  where
-    go : (b : Bool) (o : Option ℕ) → (o ≡ Some 0 → ⊥) → cond b (Some 1) (option_map suc o) ≡ Some 1 → b ≡ true
-    go true o some h = refl
-    go false None some h = cc
-    go false (Some p) some h = let y : p ≡ 0 = omega (arith, same_some (suc p) 1 h) in absurd (some (ap Some y))
-there (e ∷ es) off (suc i) h = there es off i (go (bytes_eq (offset_of e) off) (position es off) h)
-  where
-    go : (b : Bool) (o : Option ℕ) → cond b (Some 1) (option_map suc o) ≡ Some (suc (suc i)) → o ≡ Some (suc i)
-    go true o h = absurd (omega (arith, same_some 1 (suc (suc i)) h))
-    go false None h = cc
-    go false (Some p) h = let y : p ≡ suc i = omega (arith, same_some (suc p) (suc (suc i)) h) in ap Some y
+there (e ∷ es) off zero h = grind (arith, h, positive es off)
+there (e ∷ es) off (suc i) h = grind (arith, h, there es off i)
 
 is_position-false : (o : Option ℕ) (p : ℕ) → (o ≡ Some p → ⊥) → is_position o p ≡ false
 is_position-false None p h = refl
-is_position-false (Some q) p h = go (eqb_tells q p)
-  where
-    go : ((nat_eq q p ≡ true) × (q ≡ p)) ⊎ ((nat_eq q p ≡ false) × (q ≡ p → ⊥)) → nat_eq q p ≡ false
-    go (inl t) = absurd (h (ap Some t.1))
-    go (inr f) = f.0
+is_position-false (Some q) p h = false_from_ne_true (nat_eq q p) (λ e. h (ap Some (eqb-true q p e)))
 
 -- an offset that the entry after the cursor hasn't
 pub next-other : (stream : List StreamRec) (off : Text) (cursor : ℕ) → has_offset (slice_get stream cursor) off ≡ false → None ≡ next_position stream off cursor

@@ -1,44 +1,18 @@
 -- Consecutive records of a log: one by its number, those between two numbers, and the cursor along them.
-use Rattle.std.proofs.Common.{◌≡◌, ◌<◌, ◌≤◌, ◌+◌, ◌-◌, ℕ, zero, suc, List, [], ◌∷◌, ◌++◌, length, take, drop, drop-cons, Option, Some, None, slice_get, refl, ap, ◌∙◌, arith}
+use Rattle.std.proofs.Common.{◌≡◌, ◌<◌, ◌≤◌, ◌+◌, ◌-◌, ℕ, zero, suc, List, [], ◌∷◌, ◌++◌, length, drop, Option, Some, None, slice_get, refl, ap, ◌∙◌, arith}
 use Rattle.std.proofs.lemmas.Bool.{cond_both}
-use Rattle.std.proofs.lemmas.Grind.{common_steps}
 use Rattle.std.proofs.lemmas.List.{length-take, length-drop}
-use Rattle.std.proofs.lemmas.Option.{gets, slice_get_within, get_or_from_slice_get}
+use Rattle.std.proofs.lemmas.Option.{slice_get_within}
 use Rattle.aud_tap.specs.declared.records.StreamRec.{StreamRec}
 use Rattle.aud_tap.specs.declared.records.NodeRec.{NodeRec}
 use Rattle.aud_tap.specs.declared.records.NodeRec.TheVariants.{Start, Take}
+pub use Rattle.aud_base.proofs.Lists.{between-more, between-none}
+use Rattle.aud_base.proofs.Lists.{element_at, slice_get-take, slice_get-drop}
 use Rattle.aud_node.specs.Lists.{between}
 use Rattle.aud_node.specs.Stream.{position}
 use Rattle.aud_node.specs.Cursors.{is_position, next_cursor, cursor_past, cursor_at}
 
 module _ {X : Type 0} where
-  -- each number below the length has an element
-  pub slice_get_below : (xs : List X) (i : ℕ) → i < length xs → (x : X) × (slice_get xs i ≡ Some x)
-  slice_get_below [] i h = absurd (omega arith)
-  slice_get_below (x ∷ xs) zero h = (x, refl)
-  slice_get_below (x ∷ xs) (suc i) h = slice_get_below xs i (omega arith)
-
-  -- the numbers among the first elements, and past them
-  pub slice_get-take : (n : ℕ) (xs : List X) (i : ℕ) → i < n → slice_get (take n xs) i ≡ slice_get xs i
-  slice_get-take n xs i h = grind (arith, common_steps, gets)
-
-  pub slice_get-drop : (n : ℕ) (xs : List X) (i j : ℕ) → j ≡ n + i → slice_get (drop n xs) i ≡ slice_get xs j
-  slice_get-drop n xs i j e = grind (arith, common_steps, gets)
-
-  -- the element of a number stands in front of those past it
-  pub drop_at : (xs : List X) (i : ℕ) (x : X) → slice_get xs i ≡ Some x → drop i xs ≡ x ∷ drop (suc i) xs
-  drop_at xs i x at = rw (drop-cons xs i x (slice_get_within xs i x at), get_or_from_slice_get xs i x x at)
-
-  -- one element more in front of those between two numbers
-  pub between-more : (xs : List X) (i to : ℕ) (x : X) → i < to → slice_get xs i ≡ Some x → between xs i to ≡ x ∷ between xs (suc i) to
-  between-more xs i to x h at =
-      let more : to - i ≡ suc (to - suc i) = omega arith in
-      ap (λ n. take n (drop i xs)) more ∙ ap (take (suc (to - suc i))) (drop_at xs i x at)
-
-  -- between two numbers that have none between them
-  pub between-none : (xs : List X) (i to : ℕ) → to ≤ i → between xs i to ≡ []
-  between-none xs i to h = let none : to - i ≡ 0 = omega arith in ap (λ n. take n (drop i xs)) none
-
   -- where there is none, no number is between
   pub between-nil : (xs : List X) (i to : ℕ) → to ≤ length xs → between xs i to ≡ [] → to ≤ i
   between-nil xs i to h e = omega (arith, simp (length-take, length-drop) at (ap length e))
@@ -54,7 +28,7 @@ module _ {X : Type 0} where
       go : (d m : ℕ) → m + d ≡ at → between xs m (suc at) ≡ between xs m at ++ x ∷ []
       go zero m e = grind (arith, between-more xs m (suc at) x, between-none xs (suc m) (suc at), between-none xs m at)
       go (suc d) m e =
-          let (y, there) = slice_get_below xs m (omega (arith, e, slice_get_within xs at x here)) in
+          let (y, there) = element_at xs m (omega (arith, e, slice_get_within xs at x here)) in
           grind (arith, go d (suc m), between-more xs m (suc at) y, between-more xs m at y)
 
 -- the cursor never goes down

@@ -24,12 +24,7 @@ pub record HoldsFrom (log : List NodeRec) (i : ℕ) (turns : Turns) : Type 0 whe
 -- the rest of a turn is the front of what follows
 pub rest-taken : (pid : Text) (log : List NodeRec) → take (length (rest_of_turn pid log)) log ≡ rest_of_turn pid log
 rest-taken pid [] = refl
-rest-taken pid (rec ∷ recs) = go (begins_any_turn pid rec) (ends_any_turn pid rec) (rest-taken pid recs)
-  where
-    go : (b e : Bool) → take (length (rest_of_turn pid recs)) recs ≡ rest_of_turn pid recs → take (length (cond b [] (cond e (rec ∷ []) (rec ∷ rest_of_turn pid recs)))) (rec ∷ recs) ≡ cond b [] (cond e (rec ∷ []) (rec ∷ rest_of_turn pid recs))
-    go true e h = refl
-    go false true h = refl
-    go false false h = ap (λ rs. rec ∷ rs) h
+rest-taken pid (rec ∷ recs) = grind (arith, rest-taken pid recs)
 
 -- one record more in front
 pub turn_range-cons : (rec : NodeRec) (recs : List NodeRec) (pid : Text) (k : ℕ)
@@ -47,12 +42,7 @@ turn_range-cons rec recs pid k = go (begins_turn pid k rec) (first_index (begins
 module _ (log : List NodeRec) (i n : ℕ) (next : n ≡ i + 1) (rec : NodeRec) (front : drop i log ≡ rec ∷ drop n log) where
   -- how many records the rest of a turn has, with one record more in front
   rest-step : (pid : Text) → i + length (rest_of_turn pid (rec ∷ drop n log)) ≡ cond (begins_any_turn pid rec) i (cond (ends_any_turn pid rec) (i + 1) (n + length (rest_of_turn pid (drop n log))))
-  rest-step pid = go (begins_any_turn pid rec) (ends_any_turn pid rec)
-    where
-      go : (b e : Bool) → i + length (cond b [] (cond e (rec ∷ []) (rec ∷ rest_of_turn pid (drop n log)))) ≡ cond b i (cond e (i + 1) (n + length (rest_of_turn pid (drop n log))))
-      go true e = omega arith
-      go false true = refl
-      go false false = omega arith
+  rest-step pid = grind arith
 
   -- the numbers of a turn that begins here
   begun : (pid : Text) → ◌≡◌ {A = Option (ℕ × ℕ)} (Some (i, n + length (rest_of_turn pid (drop n log)))) (Some (i + 0, i + suc (length (rest_of_turn pid (drop n log)))))
@@ -124,12 +114,7 @@ turn_of-kept log turns pid k held =
 
 length-rest : (pid : Text) (log : List NodeRec) → length (rest_of_turn pid log) ≤ length log
 length-rest pid [] = omega arith
-length-rest pid (rec ∷ recs) = go (begins_any_turn pid rec) (ends_any_turn pid rec) (length-rest pid recs)
-  where
-    go : (b e : Bool) → length (rest_of_turn pid recs) ≤ length recs → length (cond b [] (cond e (rec ∷ []) (rec ∷ rest_of_turn pid recs))) ≤ suc (length recs)
-    go true e h = omega arith
-    go false true h = omega arith
-    go false false h = omega arith
+length-rest pid (rec ∷ recs) = grind (arith, length-rest pid recs)
 
 -- a turn has a record, and its records are of the log
 abbrev pub IsWithin : ℕ → Option (ℕ × ℕ) → Type 0

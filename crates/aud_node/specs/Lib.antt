@@ -11,6 +11,5 @@ pub mod Names
 pub mod AtPosition
 pub mod OwnRecords
 pub mod OwnPlaces
-pub mod Naming
 pub mod Addressees
 pub mod Private

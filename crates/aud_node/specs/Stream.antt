@@ -2,6 +2,7 @@
 use Rattle.std.specs.Prelude.{ℕ, zero, suc, List, [], ◌∷◌, Option, Some, None, if◌then◌else◌, slice_get}
 use Rattle.std.specs.Option.{option_map}
 use Rattle.std.specs.Str.{bytes_eq}
+use Rattle.aud_base.specs.Lists.{numbers_from}
 use Rattle.aud_tap.specs.declared.records.StreamRec.{StreamRec}
 use Rattle.aud_tap.specs.declared.records.StreamRec.TheVariants.{Ev, Other}
 
@@ -26,5 +27,4 @@ entry stream (suc i) = slice_get stream i
 
 -- the positions of so many entries, from the one after this position on
 abbrev pub positions_after : ℕ → ℕ → List ℕ
-positions_after p zero = []
-positions_after p (suc count) = suc p ∷ positions_after (suc p) count
+positions_after p count = numbers_from (suc p) count

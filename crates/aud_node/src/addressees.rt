@@ -3,11 +3,11 @@ ghost use Rattle.std.specs.Prelude.{◌≡◌, IfOk, OnOk, ℕ, List, map, ◌&&
 ghost use Rattle.std.specs.List.{list_any};
 ghost use Rattle.std.specs.Str.{bytes_eq};
 ghost use Rattle.aud_node.specs.Recoverable.{is_recoverable};
-ghost use Rattle.aud_node.specs.Naming.{noted};
+ghost use Rattle.aud_base.specs.Places.{noted, places_of};
 ghost use Rattle.aud_node.specs.Addressees.{names_no_room, names_room};
-ghost use Rattle.aud_node.specs.Private.AddresseeIndex.{HoldsAddressees, kept_for, kept_to_room};
+ghost use Rattle.aud_node.specs.Private.AddresseeIndex.{HoldsAddressees, kept_to_room};
 
-use crate::positions::Positions;
+use aud_base::Places;
 use aud_tap::{StreamRec, Text};
 use std::alloc::{AllocError, Global};
 use std::collections::BTreeMap;
@@ -17,8 +17,8 @@ use std::collections::BTreeMap;
 #[derive(Drop)]
 pub struct Addressees<'a> {
     alloc: Global,
-    everyone: Positions<'a>,
-    rooms: BTreeMap<&'a str, Positions<'a>>,
+    everyone: Places,
+    rooms: BTreeMap<&'a str, Places>,
 }
 
 impl<'a> Addressees<'a> {
@@ -33,19 +33,17 @@ impl<'a> Addressees<'a> {
     {
         let mut addressees = Addressees {
             alloc,
-            everyone: Positions::new(alloc),
+            everyone: Places::new(alloc),
             rooms: BTreeMap::new(alloc),
         };
         for (i, entry) in entries.iter().enumerate() {
-            if recoverable[i] {
-                addressees.note(entry, i as u64 + 1)?;
-            }
+            addressees.note(entry, recoverable[i], i + 1)?;
         }
         Ok(addressees)
     }
 
     /// The positions, ascending, of the entries of the namespace that name the room.
-    pub fn to_room(&self, nsp: &str, room: &str) -> &[u64]
+    pub fn to_room(&self, nsp: &str, room: &str) -> &[usize]
         ensures { result.now ≡ kept_to_room self.now nsp.now room.now }
     {
         match self.rooms.get(nsp) {
@@ -55,24 +53,32 @@ impl<'a> Addressees<'a> {
     }
 
     /// The positions, ascending, of the entries for the whole namespace.
-    pub fn to_all(&self, nsp: &str) -> &[u64]
-        ensures { result.now ≡ kept_for self.now.everyone nsp.now }
+    pub fn to_all(&self, nsp: &str) -> &[usize]
+        ensures { result.now ≡ places_of self.now.everyone nsp.now }
     {
         self.everyone.of(nsp)
     }
 
-    /// The entry stands at this position, after all those noted so far.
-    fn note(&mut self, entry: &'a StreamRec, position: u64) -> Result<(), AllocError>
-        ensures rooms { OnOk result ((nsp room : List ℕ) → kept_to_room self.new nsp room ≡ noted position (names_room entry.now nsp room) (kept_to_room self.old nsp room)) }
-        ensures everyone { OnOk result ((nsp : List ℕ) → kept_for self.new.everyone nsp ≡ noted position (names_no_room entry.now nsp) (kept_for self.old.everyone nsp)) }
+    /// The entry stands at this position, after all those noted so far; it is noted where it is recoverable.
+    fn note(
+        &mut self,
+        entry: &'a StreamRec,
+        recoverable: bool,
+        position: usize,
+    ) -> Result<(), AllocError>
+        ensures rooms { OnOk result ((nsp room : List ℕ) → kept_to_room self.new nsp room ≡ noted position (recoverable && names_room entry.now nsp room) (kept_to_room self.old nsp room)) }
+        ensures everyone { OnOk result ((nsp : List ℕ) → places_of self.new.everyone nsp ≡ noted position (recoverable && names_no_room entry.now nsp) (places_of self.old.everyone nsp)) }
     {
         let StreamRec::Ev(event) = entry else {
             return Ok(());
         };
+        if !recoverable {
+            return Ok(());
+        }
         let nsp = event.nsp.as_str();
         let rooms = event.rooms.as_slice();
         if rooms.is_empty() {
-            self.everyone.note(nsp, position)
+            self.everyone.note(position, nsp)
         } else {
             self.note_rooms(nsp, rooms, position)
         }
@@ -83,13 +89,23 @@ impl<'a> Addressees<'a> {
         &mut self,
         nsp: &'a str,
         rooms: &'a [Text],
-        position: u64,
+        position: usize,
     ) -> Result<(), AllocError>
         ensures rooms { OnOk result ((q room : List ℕ) → kept_to_room self.new q room ≡ noted position (bytes_eq nsp.now q && list_any (λ other. bytes_eq other room) rooms.now) (kept_to_room self.old q room)) }
         ensures everyone { self.new.everyone ≡ self.old.everyone }
     {
-        let positions = self.rooms.entry(nsp)?.or_insert(Positions::new(self.alloc));
-        positions.note_each(rooms, position)?;
+        let positions = self.rooms.entry(nsp)?.or_insert(Places::new(self.alloc));
+        note_each(positions, rooms, position)?;
         Ok(())
     }
+}
+
+/// The position is one of each of these rooms.
+fn note_each(positions: &mut Places, rooms: &[Text], position: usize) -> Result<(), AllocError>
+    ensures { OnOk result ((q : List ℕ) → places_of positions.new q ≡ noted position (list_any (λ room. bytes_eq room q) rooms.now) (places_of positions.old q)) }
+{
+    for room in rooms {
+        positions.note(position, room.as_str())?;
+    }
+    Ok(())
 }

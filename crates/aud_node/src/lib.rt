@@ -19,15 +19,12 @@
 #![tactic(auto)]
 
 mod addressees;
+mod by_name;
 mod cursors;
 mod fields;
 mod logs;
-mod names;
-mod naming;
 mod node_log;
 mod offsets;
-mod own_records;
-mod positions;
 mod recoverable;
 mod recs;
 mod stream;
@@ -35,7 +32,6 @@ mod turns;
 
 pub use fields::{offset, pid};
 pub use logs::Logs;
-pub use naming::Naming;
 pub use node_log::NodeLog;
 pub use recoverable::is_event;
 pub use recs::Recs;

@@ -6,11 +6,11 @@ ghost use Rattle.aud_node.specs.NodeTaps.{node_at, node_tap, client_at, client_r
 ghost use Rattle.aud_node.specs.Names.{place_of};
 ghost use Rattle.aud_node.specs.OwnPlaces.{own_places};
 
-use crate::names::Names;
-use crate::naming::Naming;
+use crate::by_name::{nodes_by_pid, taps_by_name};
 use crate::node_log::NodeLog;
 use crate::stream::Stream;
-use aud_tap::{ClientRec, Memory, Records, StreamRec, Tap, Taps};
+use aud_base::Places;
+use aud_tap::{ClientRec, Records, StreamRec, Tap, Taps};
 use std::alloc::{AllocError, Global};
 use std::marker::Model;
 
@@ -19,12 +19,12 @@ use std::marker::Model;
 #[derive(Drop)]
 pub struct Logs<'a> {
     taps: &'a [Tap],
-    names: Names<'a>,
+    names: Places,
     stream_place: Option<usize>,
     stream: Stream<'a>,
     /// The node's log of each tap that is a node's.
     nodes: Vec<Option<NodeLog<'a>>>,
-    own: Naming,
+    own: Places,
 }
 
 impl<'a> Model for Logs<'a> {
@@ -41,14 +41,14 @@ impl<'a> Model for Logs<'a> {
 
 impl<'a> Logs<'a> {
     /// The logs of the taps.
-    pub fn build(alloc: Global, taps: &'a Taps) -> Result<Logs<'a>, Memory>
+    pub fn build(alloc: Global, taps: &'a Taps) -> Result<Logs<'a>, AllocError>
         ensures { IfOk result (λ logs. logs ≡ cluster_of taps.now) }
     {
         let taps = taps.as_slice();
-        let names = Names::build(alloc, taps)?;
+        let names = taps_by_name(alloc, taps)?;
         let stream = Stream::build(alloc, entries_of(taps))?;
         let nodes = nodes_of(alloc, &stream, taps)?;
-        let own = Naming::build_nodes(alloc, taps)?;
+        let own = nodes_by_pid(alloc, taps)?;
         Ok(Logs {
             taps,
             names,
@@ -84,7 +84,7 @@ impl<'a> Logs<'a> {
     pub fn place_of(&self, name: &str) -> Option<usize>
         ensures { result ≡ place_of self.now.taps name.now }
     {
-        self.names.get(name)
+        self.names.of(name).first().copied()
     }
 
     /// The log of the node whose tap is at this place; none where that tap is no node's.

@@ -1,16 +1,17 @@
 //! A node's log.
 ghost use Rattle.std.specs.Prelude.{◌≡◌, ◌<◌, ◌≤◌, IfOk, IfSome, length, option_map};
-ghost use Rattle.aud_node.specs.Lists.{between};
+ghost use Rattle.aud_base.specs.Lists.{between};
 ghost use Rattle.aud_node.specs.TurnRecords.{turn_records, turn_range};
 ghost use Rattle.aud_node.specs.Ordered.{is_ordered};
 ghost use Rattle.aud_node.specs.OwnRecords.{own_numbers};
 ghost use Rattle.aud_node.specs.NodeTap.{cursor_after};
 
+use crate::by_name::records_by_pid;
 use crate::cursors::Cursors;
-use crate::own_records::OwnRecords;
 use crate::recs::Recs;
 use crate::stream::Stream;
 use crate::turns::Turns;
+use aud_base::Places;
 use aud_tap::{NodeRec, StreamRec};
 use std::alloc::{AllocError, Global};
 use std::marker::Model;
@@ -22,7 +23,7 @@ pub struct NodeLog<'a> {
     stream: &'a [StreamRec],
     recs: &'a [NodeRec],
     cursors: Cursors,
-    own: OwnRecords<'a>,
+    own: Places,
     turns: Turns<'a>,
 }
 
@@ -50,7 +51,7 @@ impl<'a> NodeLog<'a> {
         ensures recs { IfOk result (λ log. log.recs ≡ recs.now) }
     {
         let cursors = Cursors::build(alloc, stream, recs)?;
-        let own = OwnRecords::build(alloc, recs)?;
+        let own = records_by_pid(alloc, recs)?;
         let turns = Turns::build(alloc, recs)?;
         Ok(NodeLog {
             stream: stream.entries(),

@@ -1,7 +1,7 @@
 //! Consecutive records of a node's log.
 ghost use Rattle.std.specs.Prelude.{◌≡◌, ◌==◌, length, slice_get};
 ghost use Rattle.std.specs.Option.{option_copied};
-ghost use Rattle.aud_node.specs.Lists.{between};
+ghost use Rattle.aud_base.specs.Lists.{between};
 
 use aud_tap::NodeRec;
 use std::marker::Model;

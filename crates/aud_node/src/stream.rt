@@ -89,14 +89,14 @@ impl<'a> Stream<'a> {
     }
 
     /// The positions, ascending, of the recoverable entries of the namespace that name the room.
-    pub fn positions(&self, nsp: &str, room: &str) -> &[u64]
+    pub fn positions(&self, nsp: &str, room: &str) -> &[usize]
         ensures { result.now ≡ positions_to_room self.now nsp.now room.now }
     {
         self.addressees.to_room(nsp, room)
     }
 
     /// The positions, ascending, of the recoverable entries for the whole namespace.
-    pub fn to_all(&self, nsp: &str) -> &[u64]
+    pub fn to_all(&self, nsp: &str) -> &[usize]
         ensures { result.now ≡ positions_to_all self.now nsp.now }
     {
         self.addressees.to_all(nsp)

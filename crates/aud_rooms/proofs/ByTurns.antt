@@ -1,23 +1,23 @@
 -- What is due by the spans of the turns.
 use Rattle.std.proofs.lemmas.Grind.{common_steps}
 use Rattle.std.proofs.lemmas.Bool.Decides.{nat_tests}
-use Rattle.std.proofs.Common.{◌≡◌, ◌<◌, ◌≤◌, ◌-◌, ℕ, suc, Bool, true, false, cond, ◌&&◌, List, [], ◌∷◌, length, map, filter, Some, None, refl, sym, ap, ◌∙◌, ◌⊎◌, inl, inr, nat_le, nat_lt, arith}
+use Rattle.std.proofs.Common.{◌≡◌, ◌<◌, ◌≤◌, ◌-◌, ℕ, suc, Bool, true, cond, ◌&&◌, List, [], ◌∷◌, length, Some, None, refl, ap, ◌∙◌, inl, inr, nat_le, nat_lt, arith}
 use Rattle.std.specs.List.{list_any}
-use Rattle.std.specs.Ordering.{nat_cmp, eq_by_cmp}
-use Rattle.std.specs.Cmp.Lexicographic.{slice_cmp, texts_ties, nat_list_cmp_total, bytes_decides}
+use Rattle.std.specs.Ordering.{nat_cmp, is_eq}
+use Rattle.std.specs.Cmp.Lexicographic.{slice_cmp}
 use Rattle.std.specs.FinSet as set
-use Rattle.std.proofs.lemmas.Bool.{cases_lt, le-leb, lt-leb, leb-true, leb-false, and_from, and_right, and_parts}
+use Rattle.std.proofs.lemmas.Bool.{cases_lt, cond_both, le-leb, lt-leb, leb-true, leb-false, and_from, and_right, and_parts}
 use Rattle.std.proofs.lemmas.List.Elements.{filter_agree}
+use Rattle.std.proofs.lemmas.List.Folds.{Any-from_list_any, list_any-from_Any}
 use Rattle.aud_tap.specs.declared.records.StreamRec.{StreamRec}
 use Rattle.aud_node.specs.Stream.{Text, entry, positions_after}
-use Rattle.aud_rooms.specs.Rooms.{Rooms, own_room}
-use Rattle.aud_rooms.specs.Rooms.{is_for}
+use Rattle.aud_rooms.specs.Rooms.{Rooms, own_room, is_for}
 use Rattle.aud_rooms.specs.Turns.{Who, Slice}
 use Rattle.aud_rooms.specs.TurnsDue.{rooms_at_take, rooms_at_end, rooms_for, is_past_first, is_for_rooms, is_turn_due, turns_due, greatest_high}
-use Rattle.aud_rooms.specs.Spans.{RoomSpan}
-use Rattle.aud_rooms.specs.Spans.{IsMaximal, AreSpans, AreSpansOfTurns, first_low, rooms_by_turns, is_within, rooms_by_spans, is_due_by_spans, due_by_spans}
+use Rattle.aud_rooms.specs.Spans.{RoomSpan, IsMaximal, AreSpans, AreSpansOfTurns, first_low, rooms_by_turns, is_within, rooms_by_spans, is_due_by_spans, due_by_spans}
 use Rattle.aud_rooms.proofs.Intervals.{start_of, stop_of}
-use Rattle.aud_rooms.proofs.Members.{any_kept, kept_any}
+use Rattle.aud_rooms.proofs.Reach.{contains-rooms_by_spans}
+use Rattle.aud_rooms.proofs.RoomMaps.{same_text, itself, same_rooms}
 
 same_bools : (a b : Bool) → (a ≡ true → b ≡ true) → (b ≡ true → a ≡ true) → a ≡ b
 same_bools a b f g = grind arith
@@ -43,46 +43,36 @@ maximal_around rooms_at low high p room past within held =
       b.reaches,
     )
 
+abbrev holds : ℕ → Text → RoomSpan → Bool
+holds p room s = is_within p s && is_eq (slice_cmp nat_cmp room s.room)
+
 -- between low and high the spans give the rooms
 pub rooms_by_spans-are : (rooms_at : ℕ → Rooms) (low high : ℕ) (spans : List RoomSpan) → AreSpans rooms_at low high spans
     → (p : ℕ) → low < p → p ≤ high → rooms_by_spans spans p ≡ rooms_at p
 rooms_by_spans-are rooms_at low high spans are p past within =
-    set.same_set nat_list_cmp_total (set.slice_cmp-IsAntisymmetric set.nat_cmp-IsAntisymmetric) _ _ at
+    same_rooms _ _ (λ room. contains-rooms_by_spans spans p room ∙ same_bools _ _ (there room) (back room))
   where
-    same_text : (a b : Text) → eq_by_cmp (slice_cmp nat_cmp) a b ≡ true → a ≡ b
-    same_text a b e = (bytes_decides a b).0 (texts_ties a b ∙ e)
-
-    itself : (a : Text) → eq_by_cmp (slice_cmp nat_cmp) a a ≡ true
-    itself a = sym (texts_ties a a) ∙ (bytes_decides a a).1 refl
-
-    there : (room : Text) → list_any (eq_by_cmp (slice_cmp nat_cmp) room) (map (λ (s : RoomSpan). s.room) (filter (is_within p) spans)) ≡ true → set.contains (rooms_at p) room ≡ true
+    there : (room : Text) → list_any (holds p room) spans ≡ true → set.contains (rooms_at p) room ≡ true
     there room e =
-        let (s, among, at, tie) = any_kept (λ (s : RoomSpan). s.room) (eq_by_cmp (slice_cmp nat_cmp) room) (is_within p) spans e in
-        let from = leb-true s.first p (and_parts (nat_le s.first p) (nat_le p s.last) at).0 in
-        let to = leb-true p s.last (and_parts (nat_le s.first p) (nat_le p s.last) at).1 in
-        ap (set.contains (rooms_at p)) (same_text room s.room tie) ∙ (are.each s among).held p from to
+        let (k, s, h, is, passes) = Any-from_list_any (holds p room) spans e in
+        let (at, tie) = and_parts (is_within p s) (is_eq (slice_cmp nat_cmp room s.room)) passes in
+        let (from, to) = and_parts (nat_le s.first p) (nat_le p s.last) at in
+        ap (set.contains (rooms_at p)) (same_text room s.room tie) ∙ (are.each s (k, h, is)).held p (leb-true s.first p from) (leb-true p s.last to)
 
-    back : (room : Text) → set.contains (rooms_at p) room ≡ true → list_any (eq_by_cmp (slice_cmp nat_cmp) room) (map (λ (s : RoomSpan). s.room) (filter (is_within p) spans)) ≡ true
+    back : (room : Text) → set.contains (rooms_at p) room ≡ true → list_any (holds p room) spans ≡ true
     back room e =
         let (s, same, maximal, from, to) = maximal_around rooms_at low high p room past within e in
-        kept_any (λ (s : RoomSpan). s.room) (eq_by_cmp (slice_cmp nat_cmp) room) (is_within p) spans s (are.all s maximal)
-        (and_from (nat_le s.first p) (nat_le p s.last) (le-leb s.first p from) (le-leb p s.last to))
-        (ap (eq_by_cmp (slice_cmp nat_cmp) room) same ∙ itself room)
-
-    at : (room : Text) → set.contains (rooms_by_spans spans p) room ≡ set.contains (rooms_at p) room
-    at room = set.contains-from_list nat_list_cmp_total (map (λ (s : RoomSpan). s.room) (filter (is_within p) spans)) room ∙ same_bools _ _ (there room) (back room)
+        let (k, h, is) = are.all s maximal in
+        list_any-from_Any (holds p room) spans
+        (k, s, h, is, and_from (is_within p s) _ (and_from (nat_le s.first p) (nat_le p s.last) (le-leb s.first p from) (le-leb p s.last to)) (ap (λ r. is_eq (slice_cmp nat_cmp room r)) same ∙ itself room))
 
 module _ (stream : List StreamRec) (pid : Text) (p : ℕ) where
   -- a position up to the greatest high has rooms
   pub rooms_for-up_to : (held : Rooms) (slices : List Slice) → 0 < p → p ≤ greatest_high slices → (rooms : Rooms) × (rooms_for stream pid held slices p ≡ Some rooms)
   rooms_for-up_to held [] some h = absurd (omega arith)
-  rooms_for-up_to held (slice ∷ later) some h = go (nat_le p slice.high) refl (λ rooms below. rooms_for-up_to rooms later some below)
-    where
-      go : (b : Bool) → nat_le p slice.high ≡ b
-          → ((rooms : Rooms) → p ≤ greatest_high later → (found : Rooms) × (rooms_for stream pid rooms later p ≡ Some found))
-          → (rooms : Rooms) × (cond b (Some (cond (nat_le p slice.low) held (rooms_at_take stream pid p held slice.recs))) (rooms_for stream pid (rooms_at_end pid held slice.recs) later p) ≡ Some rooms)
-      go true e ih = (cond (nat_le p slice.low) held (rooms_at_take stream pid p held slice.recs), refl)
-      go false e ih = (let above : slice.high < p = leb-false p slice.high e in ih (rooms_at_end pid held slice.recs) (omega arith))
+  rooms_for-up_to held (slice ∷ later) some h =
+      cond_both (nat_le p slice.high) _ _ (λ o. (rooms : Rooms) × (o ≡ Some rooms)) (λ e. (cond (nat_le p slice.low) held (rooms_at_take stream pid p held slice.recs), refl))
+      (λ e. let above : slice.high < p = leb-false p slice.high e in rooms_for-up_to (rooms_at_end pid held slice.recs) later some (omega arith))
 
   -- one past it has none
   pub rooms_for-past : (held : Rooms) (slices : List Slice) → greatest_high slices < p → rooms_for stream pid held slices p ≡ None
@@ -104,16 +94,7 @@ module _ (stream : List StreamRec) (who : Who) (slices : List Slice) (spans : Li
   between p some below past = grind (arith, rooms_for-up_to stream who.pid p (own_room who.sid) slices some below, rooms_by_spans-are (rooms_by_turns stream who slices) (first_low slices) (greatest_high slices) spans are p past below, le-leb p (greatest_high slices) below)
 
   within : (p : ℕ) → 0 < p → p ≤ greatest_high slices → 0 < length slices → is_due_by_spans spans stream who.nsp (first_low slices) (greatest_high slices) p ≡ is_turn_due stream who slices p
-  within p some below any = go (cases_lt (first_low slices) p)
-    where
-      go : (first_low slices < p) ⊎ (p ≤ first_low slices) → is_due_by_spans spans stream who.nsp (first_low slices) (greatest_high slices) p ≡ is_turn_due stream who slices p
-      go (inl past) =
-          ap (λ b. nat_lt (first_low slices) p && b) (between p some below past)
-          ∙ ap (λ b. b && is_for_rooms (entry stream p) who.nsp (rooms_for stream who.pid (own_room who.sid) slices p)) (sym (past_low slices p any))
-      go (inr upto) =
-          let not_past : nat_lt (first_low slices) p ≡ false = lt-leb (suc (first_low slices)) p (omega arith) in
-          ap (λ b. b && (nat_le p (greatest_high slices) && is_for (entry stream p) who.nsp (rooms_by_spans spans p))) not_past
-          ∙ sym (ap (λ b. b && is_for_rooms (entry stream p) who.nsp (rooms_for stream who.pid (own_room who.sid) slices p)) (past_low slices p any ∙ not_past))
+  within p some below any = grind (arith, between p some below, past_low slices p any, lt-leb (suc (first_low slices)) p)
 
   due_at : (p : ℕ) → is_due_by_spans spans stream who.nsp (first_low slices) (greatest_high slices) p ≡ is_turn_due stream who slices p
   due_at p = grind (arith, beyond p, within)

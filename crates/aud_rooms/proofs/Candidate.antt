@@ -1,15 +1,13 @@
--- The positions that may be due by spans, and those that are.
+-- Which positions a list has; the positions that may be due by spans, and those that are.
 use Rattle.std.proofs.lemmas.Grind.{common_steps}
 use Rattle.std.proofs.lemmas.Bool.Decides.{nat_tests}
-use Rattle.std.proofs.Common.{◌≡◌, ◌<◌, ◌-◌, ℕ, Bool, true, false, ◌&&◌, ◌||◌, List, [], ◌∷◌, ◌++◌, filter, length, take, get_or, min, max, ◌+◌, Option, Some, None, refl, sym, ap, ◌∙◌, arith, nat_le, nat_lt, ◌==◌, true≢false}
-use Rattle.std.specs.List.{list_any}
+use Rattle.std.proofs.Common.{◌≡◌, ◌<◌, ◌-◌, ℕ, Bool, true, false, ◌&&◌, ◌||◌, List, [], ◌∷◌, ◌++◌, filter, length, take, get_or, min, max, ◌+◌, Option, Some, None, refl, sym, ap, ◌∙◌, arith, ◌==◌, true≢false, ◌≤◌, zero, suc, ◌⊎◌, inr, nat_eq}
+use Rattle.std.specs.List.{list_any, dedup, dedup_from}
 use Rattle.std.specs.Ordering.{nat_cmp, is_eq}
 use Rattle.std.specs.Cmp.Lexicographic.{slice_cmp}
-use Rattle.std.specs.FinSet as set
 use Rattle.std.specs.Str.{bytes_eq}
-use Rattle.std.proofs.lemmas.Bool.{le-leb, lt-leb, and_parts, and_right, le-ltb, lt-ltb, or_from}
-use Rattle.std.proofs.lemmas.List.Elements.{filter_agree}
-use Rattle.std.proofs.lemmas.List.Folds.{list_any_more}
+use Rattle.std.proofs.lemmas.Bool.{le-leb, lt-leb, and_right, le-ltb, lt-ltb, or_from, eq-eqb, eqb-true, or_right}
+use Rattle.std.proofs.lemmas.List.Folds.{list_any_more, list_any-append}
 use Rattle.std.proofs.lemmas.Map.Text.{is_eq-slice_cmp}
 use Rattle.aud_tap.specs.declared.records.Event.{Event}
 use Rattle.aud_tap.specs.declared.records.StreamRec.{StreamRec}
@@ -20,15 +18,43 @@ use Rattle.aud_node.specs.Addressees.{is_to_all, is_to_room, positions_to_all, p
 use Rattle.aud_rooms.specs.Rooms.{is_empty, is_for}
 use Rattle.aud_rooms.specs.Spans.{RoomSpan, is_within, rooms_by_spans, is_due_by_spans, due_by_spans}
 use Rattle.aud_rooms.specs.Private.Candidates.{is_among, is_past_upto, is_to_span, is_candidate, candidates, is_for_spans}
-use Rattle.aud_rooms.proofs.Times.{or_none}
-use Rattle.aud_rooms.proofs.Among.{among-append, among-filter, among-stream}
+use Rattle.aud_base.proofs.Truth.{and_true, or_none}
+use Rattle.aud_rooms.proofs.Parts.{filter_twice}
 use Rattle.aud_rooms.proofs.Reach.{contains-rooms_by_spans}
+use Rattle.std.proofs.lemmas.Option.{slice_get_past}
+
+pub among-append : (xs ys : List ℕ) (p : ℕ) → is_among (xs ++ ys) p ≡ (is_among xs p || is_among ys p)
+among-append xs ys p = list_any-append (nat_eq p) xs ys
+
+pub among-filter : (test : ℕ → Bool) (xs : List ℕ) (p : ℕ) → is_among (filter test xs) p ≡ (test p && is_among xs p)
+among-filter test [] p = sym (and_right (test p) false refl)
+among-filter test (x ∷ xs) p = grind (arith, among-filter test xs p, eqb-true p x)
+
+-- ---- the positions of the stream
+
+among-positions : (low count p : ℕ) → low < p → p ≤ low + count → is_among (positions_after low count) p ≡ true
+among-positions low zero p a b = absurd (omega arith)
+among-positions low (suc count) p a b = grind (arith, common_steps, nat_tests, among-positions (suc low) count p, or_right, eq-eqb)
+
+in_stream : (stream : List StreamRec) (p : ℕ) → (is_among (positions_after 0 (length stream)) p ≡ true) ⊎ (entry stream p ≡ None)
+in_stream stream zero = inr refl
+in_stream stream (suc i) = grind (arith, among-positions 0 (length stream) (suc i), slice_get_past stream i)
+
+-- those that pass a test that no position without an entry passes
+pub among-stream : (stream : List StreamRec) (test : ℕ → Bool) → ((p : ℕ) → entry stream p ≡ None → test p ≡ false) → (p : ℕ) → is_among (filter test (positions_after 0 (length stream))) p ≡ test p
+among-stream stream test none p = grind (arith, among-filter test (positions_after 0 (length stream)) p, in_stream stream p, and_true (test p))
+
+-- ---- without doubles
+
+among-dedup_from : (k : ℕ) (xs : List ℕ) (p : ℕ) → is_among (dedup_from nat_eq k xs) p ≡ (nat_eq p k || is_among xs p)
+among-dedup_from k [] p = refl
+among-dedup_from k (x ∷ xs) p = grind (arith, among-dedup_from k xs p, among-dedup_from x xs p)
+
+pub among-dedup : (xs : List ℕ) (p : ℕ) → is_among (dedup nat_eq xs) p ≡ is_among xs p
+among-dedup [] p = refl
+among-dedup (x ∷ xs) p = among-dedup_from x xs p
 
 -- ---- gathering
-
-and_true : (a : Bool) → (a && true) ≡ a
-and_true true = refl
-and_true false = refl
 
 -- the positions that are cut out of a room's are those past birth up to high that the span holds
 within_both : (birth high p : ℕ) (s : RoomSpan) → is_past_upto (max birth (s.first - 1)) (min high s.last) p ≡ (is_past_upto birth high p && is_within p s)
@@ -78,10 +104,7 @@ module _ (spans : List RoomSpan) (p : ℕ) where
   held_any [] rooms = any_none rooms
   held_any (s ∷ some) rooms =
       any_or (λ room. is_within p s && is_eq (slice_cmp nat_cmp room s.room)) (λ room. list_any (λ s. is_within p s && is_eq (slice_cmp nat_cmp room s.room)) some) rooms
-      ∙ ap (λ b. b || list_any (λ room. list_any (λ s. is_within p s && is_eq (slice_cmp nat_cmp room s.room)) some) rooms)
-      (any_and (is_within p s) (λ room. is_eq (slice_cmp nat_cmp room s.room)) rooms
-      ∙ ap (λ b. is_within p s && b) (any_agree _ _ (λ room. is_eq-slice_cmp room s.room) rooms))
-      ∙ ap (λ b. (is_within p s && list_any (λ room. bytes_eq room s.room) rooms) || b) (held_any some rooms)
+      ∙ grind (arith, held_any some rooms, any_and (is_within p s) (λ room. is_eq (slice_cmp nat_cmp room s.room)) rooms, any_agree _ _ (λ room. is_eq-slice_cmp room s.room) rooms)
 
   none_empty : (rooms : List Text) → is_empty rooms ≡ (length rooms == 0)
   none_empty [] = refl
@@ -90,16 +113,7 @@ module _ (spans : List RoomSpan) (p : ℕ) where
   for_event : (event : Event) (nsp : Text) → is_for (Some (Ev event)) nsp (rooms_by_spans spans p) ≡ true
       → (is_to_all (Some (Ev event)) nsp || list_any (λ s. is_within p s && is_to_room (Some (Ev event)) nsp s.room) spans) ≡ true
   for_event event nsp due =
-      let sent = and_parts (is_recoverable (Ev event)) _ due in
-      let named = and_parts (bytes_eq event.nsp nsp) _ sent.1 in
-      let rooms = and_parts (is_empty event.rooms || list_any (set.contains (rooms_by_spans spans p)) event.rooms) _ named.1 in
-      ap (λ r. (r && (bytes_eq event.nsp nsp && (length event.rooms == 0)))
-      || list_any (λ s. is_within p s && (r && (bytes_eq event.nsp nsp && list_any (λ room. bytes_eq room s.room) event.rooms))) spans) sent.0
-      ∙ ap (λ n. (n && (length event.rooms == 0)) || list_any (λ s. is_within p s && (n && list_any (λ room. bytes_eq room s.room) event.rooms)) spans) named.0
-      ∙ ap (λ b. b || list_any (λ s. is_within p s && list_any (λ room. bytes_eq room s.room) event.rooms) spans) (sym (none_empty event.rooms))
-      ∙ ap (λ b. is_empty event.rooms || b)
-      (sym (any_agree _ _ (λ room. contains-rooms_by_spans spans p room) event.rooms ∙ held_any spans event.rooms))
-      ∙ rooms.0
+      grind (arith, none_empty event.rooms, any_agree _ _ (λ room. contains-rooms_by_spans spans p room) event.rooms, held_any spans event.rooms)
 
   -- an entry that is addressed to the rooms of the spans is for the whole namespace, or for the room of a span
   for_some : (o : Option StreamRec) (nsp : Text) → is_for o nsp (rooms_by_spans spans p) ≡ true
@@ -107,10 +121,6 @@ module _ (spans : List RoomSpan) (p : ℕ) where
   for_some None nsp due = absurd (true≢false (sym due))
   for_some (Some (Other off)) nsp due = absurd (true≢false (sym due ∙ and_right (is_recoverable (Other off)) false refl))
   for_some (Some (Ev event)) nsp due = for_event event nsp due
-
-filter_both : (p q : ℕ → Bool) (xs : List ℕ) → filter p (filter q xs) ≡ filter (λ x. q x && p x) xs
-filter_both p q [] = refl
-filter_both p q (x ∷ xs) = grind (arith, filter_both p q xs)
 
 module _ (spans : List RoomSpan) (stream : List StreamRec) (nsp : Text) (birth high : ℕ) where
   pub none_candidate : (p : ℕ) → entry stream p ≡ None → is_candidate spans stream nsp birth high p ≡ false
@@ -123,23 +133,9 @@ module _ (spans : List RoomSpan) (stream : List StreamRec) (nsp : Text) (birth h
       go (s ∷ some) = or_from (is_to_span stream nsp p s) _ (and_right (is_within p s) _ (ap (λ o. is_to_room o nsp s.room) none)) (go some)
 
   due_alike : (p : ℕ) → (is_candidate spans stream nsp birth high p && is_for_spans spans stream nsp p) ≡ is_due_by_spans spans stream nsp birth high p
-  due_alike p = go (is_for_spans spans stream nsp p) refl
-    where
-      apart : (a b c : Bool) → ((a && b) && c) ≡ (a && (b && c))
-      apart true b c = refl
-      apart false b c = refl
-
-      go : (b : Bool) → is_for_spans spans stream nsp p ≡ b → (is_candidate spans stream nsp birth high p && is_for_spans spans stream nsp p) ≡ is_due_by_spans spans stream nsp birth high p
-      go true due =
-          ap (λ b. (is_past_upto birth high p && b) && is_for_spans spans stream nsp p) (for_some spans p (entry stream p) nsp due)
-          ∙ ap (λ b. b && is_for_spans spans stream nsp p) (and_true (is_past_upto birth high p))
-          ∙ apart (nat_lt birth p) (nat_le p high) (is_for_spans spans stream nsp p)
-      go false other =
-          and_right (is_candidate spans stream nsp birth high p) _ other
-          ∙ sym (and_right (nat_lt birth p) _ (and_right (nat_le p high) _ other))
+  due_alike p = grind (arith, for_some spans p (entry stream p) nsp)
 
   -- of them, those that are addressed to the rooms whose spans hold them
   pub candidates_due : filter (is_for_spans spans stream nsp) (candidates spans stream nsp birth high) ≡ due_by_spans spans stream nsp birth high
   candidates_due =
-      filter_both (is_for_spans spans stream nsp) (is_candidate spans stream nsp birth high) (positions_after 0 (length stream))
-      ∙ filter_agree _ _ due_alike (positions_after 0 (length stream))
+      filter_twice (is_for_spans spans stream nsp) (is_candidate spans stream nsp birth high) (is_due_by_spans spans stream nsp birth high) due_alike (positions_after 0 (length stream))

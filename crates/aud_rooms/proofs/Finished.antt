@@ -1,15 +1,15 @@
 -- The spans of what the builder kept are the spans of the rooms that it gave to positions.
-use Rattle.std.proofs.Common.{◌≡◌, ◌<◌, ◌≤◌, ◌+◌, ◌-◌, ℕ, zero, suc, Bool, true, false, cond, List, [], ◌∷◌, ◌++◌, map, Option, Some, None, refl, sym, ap, subst, ◌∙◌, ◌⊎◌, inl, inr, arith, true≢false}
-use Rattle.std.specs.List.{Contains, AllByRecursion, slice_get, list_any}
+use Rattle.std.proofs.Common.{◌≡◌, ◌<◌, ◌≤◌, ◌-◌, ℕ, suc, true, List, [], ◌∷◌, ◌++◌, map, Option, Some, None, refl, sym, ap, subst, ◌∙◌, inl, inr, arith, true≢false}
+use Rattle.std.specs.List.{Contains, AllByRecursion, list_any}
 use Rattle.std.specs.List.Sorted.{IsStrictlySortedBy}
-use Rattle.std.specs.Ordering.{nat_cmp, is_eq, ordering_reverse}
+use Rattle.std.specs.Ordering.{nat_cmp}
 use Rattle.std.specs.declared.cmp.Ordering.TheVariants.{Less}
-use Rattle.std.specs.Cmp.{IsTotalOrder}
-use Rattle.std.specs.Cmp.Lexicographic.{slice_cmp, nat_list_cmp_total, texts_ties, bytes_decides}
+use Rattle.std.specs.Cmp.{IsTotalOrder, eq_by_cmp_equiv}
+use Rattle.std.specs.Cmp.Lexicographic.{slice_cmp, nat_list_cmp_total}
 use Rattle.std.proofs.lemmas.Option.{slice_get-map}
 use Rattle.std.specs.FinSet as set
 use denote.Ref.{Bor}
-use Rattle.aud_node.specs.Stream.{Text, positions_after}
+use Rattle.aud_node.specs.Stream.{Text}
 use Rattle.aud_rooms.specs.declared.interval.Interval.{Interval}
 use Rattle.aud_rooms.specs.Spans.{RoomSpan, IsMaximalInterval, IsMaximal, ComesBefore, ComesBeforeAll, AreInOrder, AreSpans}
 use Rattle.aud_rooms.specs.Assigned.{assigned_rooms, AreSpansOf}
@@ -17,12 +17,15 @@ use Rattle.aud_rooms.specs.Private.Times.{Times, is_in_interval, is_held_at, Are
 use Rattle.aud_rooms.specs.Private.RoomMap.{RoomMap, at_room, do_pass, rooms_with, by_room, AreOrdered}
 use Rattle.aud_rooms.specs.Private.Building.{assigned_of, AreKept, spans_upto}
 use Rattle.aud_rooms.proofs.Members.{contains-none, contains-parts, contains-first, contains-later}
-use Rattle.aud_rooms.proofs.Positions.{interval_alike, spans_alike}
-use Rattle.aud_rooms.proofs.Times.{or_none}
+use Rattle.aud_rooms.proofs.Ascending.{number_at}
+use Rattle.aud_rooms.proofs.Intervals.{interval_alike, spans_alike}
+use Rattle.aud_base.proofs.Truth.{or_none}
 use Rattle.aud_rooms.proofs.Maximal.{place, place_maximal, interval_of, maximal_same, closed}
 use Rattle.aud_rooms.proofs.RoomMaps.{same_text, contains-rooms_with}
 use Rattle.aud_rooms.proofs.Kept.{covered_is}
-use Rattle.std.proofs.lemmas.List.Elements.{Contains-append_cases, Contains-append_left, Contains-append_right}
+use Rattle.std.proofs.lemmas.List.Elements.{Contains-append_cases, Contains-append_left, Contains-append_right, All-contains, All-from_recursion}
+use Rattle.std.proofs.lemmas.Map.Keys.{IsDistinct-from_sorted}
+use Rattle.std.proofs.lemmas.Map.Views.{lookup-from_Contains}
 
 -- ---- lists
 
@@ -59,10 +62,8 @@ module _ (low cov : ℕ) (room : Text) (t : Times) (apart : AreApart low t.ended
       let to = m.to_high in
       let held : list_any (is_in_interval first) (intervals_upto cov t) ≡ true = same_at first (omega arith) ∙ m.held first (omega arith) (omega arith) in
       let (i, among, after, upto) = interval_of first (intervals_upto cov t) held in
-      let (same_first, same_last) = maximal_same (λ p. is_held_at p t) low cov (suc i.after) i.last first last first (interval_maximal i among) m (omega arith) upto (omega arith) (omega arith) in
-      subst (λ n. Contains (spans_of room cov t) (record { room = room; first = first; last = n })) same_last
-      (subst (λ n. Contains (spans_of room cov t) (record { room = room; first = n; last = i.last })) same_first
-      (map-contains (span_of room) (intervals_upto cov t) i among))
+      let same = maximal_same (λ p. is_held_at p t) low cov (suc i.after) i.last first last first (interval_maximal i among) m (omega arith) upto (omega arith) (omega arith) in
+      grind (arith, same, map-contains (span_of room) (intervals_upto cov t) i among)
 
   in_order : (from : ℕ) (is : List Interval) → AreApart from is None cov → AreInOrder (map (span_of room) is)
   in_order from [] apart = tt
@@ -80,28 +81,17 @@ module _ (low cov : ℕ) (room : Text) (t : Times) (apart : AreApart low t.ended
 -- the entry of a room that has times
 entry_of : (es : RoomMap Times) (room : Text) (t : Times) → at_room es room ≡ Some t → (k : Bor Text) × Contains es (k, t) × (k.now ≡ room)
 entry_of [] room t found = absurd cc
-entry_of (e ∷ es) room t found = go (λ later. entry_of es room t later) (is_eq (slice_cmp nat_cmp room e.0.now)) refl found
-  where
-    go : (at_room es room ≡ Some t → (k : Bor Text) × Contains es (k, t) × (k.now ≡ room)) → (b : Bool) → is_eq (slice_cmp nat_cmp room e.0.now) ≡ b
-        → cond b (Some e.1) (at_room es room) ≡ Some t → (k : Bor Text) × Contains (e ∷ es) (k, t) × (k.now ≡ room)
-    go ih true same found =
-        let at : e.1 ≡ t = cc in
-        (e.0, subst (λ u. Contains (e ∷ es) (e.0, u)) at (contains-first e es), sym (same_text room e.0.now same))
-    go ih false other found = (let (k, among, same) = ih found in (k, contains-later e es (k, t) among, same))
+entry_of (e ∷ es) room t found = grind (arith, entry_of es room t, same_text room e.0.now, contains-first e es, contains-later e es)
 
 among_entries : (cov : ℕ) (es : RoomMap Times) (s : RoomSpan) → Contains (spans_upto cov es) s → (e : (Bor Text) × Times) × Contains es e × Contains (spans_of e.0.now cov e.1) s
 among_entries cov [] s among = absurd (contains-none s among)
-among_entries cov (e ∷ es) s among = elim (Contains-append_cases (spans_of e.0.now cov e.1) (spans_upto cov es) s among) as (λ _. (x : (Bor Text) × Times) × Contains (e ∷ es) x × Contains (spans_of x.0.now cov x.1) s) [
-  | inl here ↦ (e, contains-first e es, here)
-  | inr later ↦ (let (x, there, at) = among_entries cov es s later in (x, contains-later e es x there, at))
-]
+among_entries cov (e ∷ es) s among =
+    grind (arith, among_entries cov es s, Contains-append_cases (spans_of e.0.now cov e.1) (spans_upto cov es) s among, contains-first e es, contains-later e es)
 
 entries_among : (cov : ℕ) (es : RoomMap Times) (e : (Bor Text) × Times) (s : RoomSpan) → Contains es e → Contains (spans_of e.0.now cov e.1) s → Contains (spans_upto cov es) s
 entries_among cov [] e s among at = absurd (contains-none e among)
-entries_among cov (x ∷ es) e s among at = elim (contains-parts x es e among) as (λ _. Contains (spans_upto cov (x ∷ es)) s) [
-  | inl same ↦ Contains-append_left (spans_of x.0.now cov x.1) (spans_upto cov es) s (subst (λ (y : (Bor Text) × Times). Contains (spans_of y.0.now cov y.1) s) (sym same) at)
-  | inr later ↦ Contains-append_right (spans_of x.0.now cov x.1) (spans_upto cov es) s (entries_among cov es e s later at)
-]
+entries_among cov (x ∷ es) e s among at =
+    grind (arith, entries_among cov es e s, contains-parts x es e among, Contains-append_left (spans_of x.0.now cov x.1) (spans_upto cov es) s, Contains-append_right (spans_of x.0.now cov x.1) (spans_upto cov es) s)
 
 order-append : (xs ys : List RoomSpan) → AreInOrder xs → AreInOrder ys → ((x y : RoomSpan) → Contains xs x → Contains ys y → ComesBefore x y) → AreInOrder (xs ++ ys)
 order-append [] ys a b before = b
@@ -117,8 +107,7 @@ order-append (x ∷ xs) ys a b before =
     all (z ∷ zs) (first, rest) each = (first, all zs rest each)
 
 below_each : (k : Bor Text) (es : RoomMap Times) (e : (Bor Text) × Times) → AllByRecursion (λ y. by_room k y ≡ Less) (map (λ x. x.0) es) → Contains es e → by_room k e.0 ≡ Less
-below_each k [] e all among = absurd (contains-none e among)
-below_each k (x ∷ es) e (first, rest) among = grind (arith, below_each k es e rest, contains-parts x es e among)
+below_each k es e all among = All-contains (λ y. by_room k y ≡ Less) (map (λ x. x.0) es) e.0 (All-from_recursion _ _ all) (map-contains (λ x. x.0) es e among)
 
 module _ (low cov : ℕ) where
   room_of : (e : (Bor Text) × Times) → AreApart low e.1.ended e.1.since cov → (s : RoomSpan) → Contains (spans_of e.0.now cov e.1) s → s.room ≡ e.0.now
@@ -138,11 +127,6 @@ module _ (low cov : ℕ) where
       let second : y.room ≡ other.0.now = room_of other (apart other (contains-later e es other among)) y at in
       inl (ap (λ a. slice_cmp nat_cmp a y.room) first ∙ ap (slice_cmp nat_cmp e.0.now) second ∙ below_each e.0 es other below among))
 
-position_at : (low count k : ℕ) → k < count → slice_get (positions_after low count) k ≡ Some (suc low + k)
-position_at low zero k h = absurd (omega arith)
-position_at low (suc count) zero h = ap Some (let e : suc low ≡ suc low + 0 = omega arith in e)
-position_at low (suc count) (suc k) h = position_at (suc low) count k (omega arith) ∙ ap Some (let e : suc (suc low) + k ≡ suc low + suc k = omega arith in e)
-
 pub by_room_total : IsTotalOrder by_room
 by_room_total =
     record {
@@ -153,17 +137,7 @@ by_room_total =
 
 -- each entry is the one that is found under its room
 found_in : (es : RoomMap Times) → AreOrdered es → (e : (Bor Text) × Times) → Contains es e → at_room es e.0.now ≡ Some e.1
-unfolding IsStrictlySortedBy
-found_in [] ordered e among = absurd (contains-none e among)
-found_in (x ∷ es) (below, rest) e among = go (λ later. found_in es rest e later) (contains-parts x es e among)
-  where
-    go : (Contains es e → at_room es e.0.now ≡ Some e.1) → (x ≡ e) ⊎ Contains es e → at_room (x ∷ es) e.0.now ≡ Some e.1
-    go ih (inl same) =
-        subst (λ (z : (Bor Text) × Times). at_room (x ∷ es) z.0.now ≡ Some z.1) same
-        (ap (λ b. cond b (Some x.1) (at_room es x.0.now)) (sym (texts_ties x.0.now x.0.now) ∙ (bytes_decides x.0.now x.0.now).1 refl))
-    go ih (inr later) =
-        ap (λ o. cond (is_eq o) (Some x.1) (at_room es e.0.now)) (by_room_total.antisymm e.0 x.0 ∙ ap ordering_reverse (below_each x.0 es e below later))
-        ∙ ih later
+found_in es ordered e among = lookup-from_Contains (eq_by_cmp_equiv by_room_total) e.0 e.1 es (IsDistinct-from_sorted by_room (map (λ x. x.0) es) ordered) among
 
 module _ (low cov : ℕ) (es : RoomMap Times) (kept : AreKept low cov es) (ordered : AreOrdered es) where
   apart_of : (e : (Bor Text) × Times) → Contains es e → AreApart low e.1.ended e.1.since cov
@@ -197,7 +171,7 @@ module _ (low cov : ℕ) (es : RoomMap Times) (kept : AreKept low cov es) (order
   by_entries = record { each = each; all = all; in_order = all_in_order low cov es ordered apart_of }
 
   given_at : (p : ℕ) → low < p → p ≤ cov → rooms_with (is_held_at p) es ≡ assigned_rooms (assigned_of low cov es) p
-  given_at p past upto = grind (arith, slice_get-map, position_at low (cov - low) (p - suc low))
+  given_at p past upto = grind (arith, slice_get-map, number_at (suc low) (cov - low) (p - suc low))
 
   pub finished : AreSpansOf (assigned_of low cov es) (spans_upto cov es)
   finished =

@@ -1,9 +1,9 @@
 -- What a builder of spans keeps of each room, seen as the rooms of each position.
 use Rattle.std.proofs.lemmas.Grind.{common_steps}
 use Rattle.std.proofs.lemmas.Bool.Decides.{nat_tests}
-use Rattle.std.proofs.Common.{◌≡◌, ◌<◌, ◌≤◌, ◌+◌, ◌-◌, ℕ, Bool, true, false, cond, ◌||◌, ◌&&◌, not, [], ◌++◌, map, replicate, Option, Some, None, refl, sym, ap, subst, ◌∙◌, arith}
+use Rattle.std.proofs.Common.{◌≡◌, ◌<◌, ◌≤◌, ◌+◌, ◌-◌, ℕ, Bool, true, false, cond, [], map, replicate, Option, Some, None, refl, sym, ap, ◌∙◌, arith}
 use Rattle.std.proofs.lemmas.List.{append-nil, length-map}
-use Rattle.std.specs.Ordering.{nat_cmp, is_eq, eq_by_cmp}
+use Rattle.std.specs.Ordering.{nat_cmp, is_eq}
 use Rattle.std.specs.Cmp.{eq_by_cmp_equiv}
 use Rattle.std.specs.Cmp.Lexicographic.{slice_cmp, nat_list_cmp_total}
 use Rattle.std.specs.FinSet as set
@@ -15,7 +15,7 @@ use Rattle.aud_rooms.specs.Private.RoomMap.{RoomMap, at_room, do_pass, rooms_wit
 use Rattle.aud_rooms.specs.Private.Building.{assigned_of, AreKept}
 use Rattle.aud_rooms.proofs.Times.{held_beyond, apart_longer}
 use Rattle.aud_rooms.proofs.RoomMaps.{same_text, contains-rooms_with, same_rooms}
-use Rattle.aud_rooms.proofs.Ranges.{map_positions, length-positions, map_more, map_same}
+use Rattle.aud_rooms.proofs.Ascending.{length-numbers, map_positions, map_more, map_same}
 use Rattle.std.proofs.lemmas.Bool.{le-ltb}
 
 -- ---- more positions are covered
@@ -36,7 +36,7 @@ module _ (low cov position : ℕ) (es : RoomMap Times) (kept : AreKept low cov e
       }
 
   pub covered_is : covered (assigned_of low cov es) ≡ cov
-  covered_is = grind (arith, common_steps, length-map, length-positions)
+  covered_is = grind (arith, common_steps, length-map, length-numbers)
 
   later : map (λ p. rooms_with (is_held_at p) es) (positions_after (low + (cov - low)) (position - cov)) ≡ replicate (position - cov) (rooms_with is_held_now es)
   later = grind (arith, map_positions, now_beyond, map_same (rooms_with is_held_now es) cov (position - cov))
@@ -45,12 +45,7 @@ module _ (low cov position : ℕ) (es : RoomMap Times) (kept : AreKept low cov e
   covers_more h =
       let above = kept.above in
       let parts : position - low ≡ (cov - low) + (position - cov) = omega arith in
-      ap (λ xs. record { low = low; sets = xs; held = rooms_with is_held_now es }) (
-      ap (λ n. map (λ p. rooms_with (is_held_at p) es) (positions_after low n)) parts
-      ∙ map_more (λ p. rooms_with (is_held_at p) es) low (cov - low) (position - cov)
-      ∙ ap (λ xs. map (λ p. rooms_with (is_held_at p) es) (positions_after low (cov - low)) ++ xs)
-      (later ∙ ap (λ n. replicate (position - n) (rooms_with is_held_now es)) (sym covered_is))
-      )
+      grind (arith, above, parts, map_more (λ p. rooms_with (is_held_at p) es) low (cov - low) (position - cov), later, covered_is)
 
   pub covers_no_more : position ≤ cov → assigned_of low cov es ≡ covered_upto position (assigned_of low cov es)
   covers_no_more h = grind (arith, append-nil, covered_is)
@@ -63,42 +58,20 @@ module _ (low cov : ℕ) (olds news : RoomMap Times) (room : Text) (t : Times)
   at q = updates (record { ref_ptr = (0, 0); now = q })
 
   pub kept_put : AreKept low cov olds → AreApart low t.ended t.since cov → AreKept low cov news
-  kept_put kept apart = record { above = kept.above; apart = λ q u is. go q u (is_eq (slice_cmp nat_cmp room q)) (sym (at q) ∙ is) }
-    where
-      go : (q : Text) (u : Times) (b : Bool) → cond b (Some t) (at_room olds q) ≡ Some u → AreApart low u.ended u.since cov
-      go q u true is = (let same : t ≡ u = cc in subst (λ (v : Times). AreApart low v.ended v.since cov) same apart)
-      go q u false is = kept.apart q u is
+  kept_put kept apart = record { above = kept.above; apart = λ room q is. grind (arith, at room, is, kept.apart room q, apart) }
 
   -- the rooms of a test that takes the old and the new times alike
   unchanged : (test : Times → Bool) → do_pass test (at_room olds room) ≡ test t → rooms_with test news ≡ rooms_with test olds
   unchanged test alike =
-      same_rooms _ _ (λ q. contains-rooms_with test news q ∙ ap (do_pass test) (at q) ∙ go q (is_eq (slice_cmp nat_cmp room q)) refl ∙ sym (contains-rooms_with test olds q))
-    where
-      go : (q : Text) (b : Bool) → is_eq (slice_cmp nat_cmp room q) ≡ b → do_pass test (cond b (Some t) (at_room olds q)) ≡ do_pass test (at_room olds q)
-      go q true same = sym alike ∙ ap (λ x. do_pass test (at_room olds x)) (same_text room q same)
-      go q false other = refl
+      same_rooms _ _ (λ q. grind (arith, contains-rooms_with test news q, contains-rooms_with test olds q, at q, same_text room q, alike))
 
   gained : (test : Times → Bool) → test t ≡ true → rooms_with test news ≡ set.insert (rooms_with test olds) room
   gained test passes =
-      same_rooms _ _ (λ q. contains-rooms_with test news q ∙ ap (do_pass test) (at q) ∙ go q (is_eq (slice_cmp nat_cmp room q))
-      ∙ ap (λ b. b || do_pass test (at_room olds q)) ((eq_by_cmp_equiv nat_list_cmp_total).symm room q)
-      ∙ ap (λ b. eq_by_cmp (slice_cmp nat_cmp) q room || b) (sym (contains-rooms_with test olds q))
-      ∙ sym (set.contains-insert nat_list_cmp_total (rooms_with test olds) room q))
-    where
-      go : (q : Text) (b : Bool) → do_pass test (cond b (Some t) (at_room olds q)) ≡ (b || do_pass test (at_room olds q))
-      go q true = passes
-      go q false = refl
+      same_rooms _ _ (λ q. grind (arith, contains-rooms_with test news q, contains-rooms_with test olds q, at q, passes, set.contains-insert nat_list_cmp_total (rooms_with test olds) room q, (eq_by_cmp_equiv nat_list_cmp_total).symm room q))
 
   lost : (test : Times → Bool) → test t ≡ false → rooms_with test news ≡ set.remove (rooms_with test olds) room
   lost test fails =
-      same_rooms _ _ (λ q. contains-rooms_with test news q ∙ ap (do_pass test) (at q) ∙ go q (is_eq (slice_cmp nat_cmp room q))
-      ∙ ap (λ b. not b && do_pass test (at_room olds q)) ((eq_by_cmp_equiv nat_list_cmp_total).symm room q)
-      ∙ ap (λ b. not (eq_by_cmp (slice_cmp nat_cmp) q room) && b) (sym (contains-rooms_with test olds q))
-      ∙ sym (set.contains-remove nat_list_cmp_total (rooms_with test olds) room q))
-    where
-      go : (q : Text) (b : Bool) → do_pass test (cond b (Some t) (at_room olds q)) ≡ (not b && do_pass test (at_room olds q))
-      go q true = fails
-      go q false = refl
+      same_rooms _ _ (λ q. grind (arith, contains-rooms_with test news q, contains-rooms_with test olds q, at q, fails, set.contains-remove nat_list_cmp_total (rooms_with test olds) room q, (eq_by_cmp_equiv nat_list_cmp_total).symm room q))
 
   -- the covered positions keep their rooms
   module _ (above : low ≤ cov) (same : (p : ℕ) → p ≤ cov → do_pass (is_held_at p) (at_room olds room) ≡ is_held_at p t) where
@@ -166,12 +139,8 @@ module _ (low cov : ℕ) (olds : RoomMap Times) (room : Text) (absent : at_room 
         (λ p h. ap (do_pass (is_held_at p)) absent ∙ sym (le-ltb cov p h)) refl
 
   without : set.remove (rooms_with is_held_now olds) room ≡ rooms_with is_held_now olds
-  without = same_rooms _ _ (λ q. set.contains-remove nat_list_cmp_total (rooms_with is_held_now olds) room q ∙ go q (eq_by_cmp (slice_cmp nat_cmp) q room) refl)
-    where
-      go : (q : Text) (b : Bool) → eq_by_cmp (slice_cmp nat_cmp) q room ≡ b → (not b && set.contains (rooms_with is_held_now olds) q) ≡ set.contains (rooms_with is_held_now olds) q
-      go q true same =
-          sym (contains-rooms_with is_held_now olds q ∙ ap (λ x. do_pass is_held_now (at_room olds x)) (same_text q room same) ∙ ap (do_pass is_held_now) absent)
-      go q false other = refl
+  without =
+      same_rooms _ _ (λ q. grind (arith, set.contains-remove nat_list_cmp_total (rooms_with is_held_now olds) room q, contains-rooms_with is_held_now olds q, same_text q room, absent))
 
   pub assigned_absent : assigned_of low cov olds ≡ with_left room (assigned_of low cov olds)
   assigned_absent = ap (λ rooms. record { low = low; sets = map (λ p. rooms_with (is_held_at p) olds) (positions_after low (cov - low)); held = rooms }) (sym without)

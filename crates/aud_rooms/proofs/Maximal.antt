@@ -1,7 +1,7 @@
 -- Intervals apart from one another are the maximal intervals of the positions in them.
-use Rattle.std.proofs.Common.{◌≡◌, ◌<◌, ◌≤◌, ◌-◌, ℕ, suc, Bool, true, false, ◌||◌, List, [], ◌∷◌, ◌++◌, Option, Some, None, cond, refl, sym, ap, subst, ◌∙◌, ◌⊎◌, inl, inr, nat_lt, arith, true≢false}
+use Rattle.std.proofs.Common.{◌≡◌, ◌<◌, ◌≤◌, ◌-◌, ℕ, suc, Bool, true, false, ◌||◌, List, [], ◌∷◌, ◌++◌, Option, Some, None, refl, sym, ap, subst, ◌∙◌, ◌⊎◌, inl, inr, nat_lt, arith, true≢false}
 use Rattle.std.specs.List.{Contains, list_any}
-use Rattle.std.proofs.lemmas.Bool.{leb-true, leb-false, or_from, or_right}
+use Rattle.std.proofs.lemmas.Bool.{leb-true, ltb-true, ltb-false, cond_both, or_from, or_right}
 use Rattle.std.proofs.lemmas.List.{append-nil}
 use Rattle.aud_rooms.specs.declared.interval.Interval.{Interval}
 use Rattle.aud_rooms.specs.Spans.{IsMaximalInterval}
@@ -17,14 +17,11 @@ closed_parts low covered is None apart =
       apart = subst (λ l. AreApart low l None covered) (sym (append-nil is)) apart;
       same = λ p h. ap (λ l. list_any (is_in_interval p) l || false) (append-nil is);
     }
-closed_parts low covered is (Some after) apart = go (nat_lt after covered) refl
-  where
-    go : (b : Bool) → nat_lt after covered ≡ b
-        → ContinuesTimes low covered (record { ended = is; since = Some after }) (record { ended = is ++ cond b (record { after = after; last = covered } ∷ []) []; since = None })
-    go true e = ended low covered after is (let h = leb-true (suc after) covered e in omega arith) apart
-    go false e =
-        subst (λ l. ContinuesTimes low covered (record { ended = is; since = Some after }) (record { ended = l; since = None })) (sym (append-nil is))
-        (unused low covered after is (let h = leb-false (suc after) covered e in omega arith) apart)
+closed_parts low covered is (Some after) apart =
+    cond_both (nat_lt after covered) (record { after = after; last = covered } ∷ []) []
+    (λ last. ContinuesTimes low covered (record { ended = is; since = Some after }) (record { ended = is ++ last; since = None }))
+    (λ e. ended low covered after is (ltb-true after covered e) apart)
+    (λ e. rw append-nil (unused low covered after is (ltb-false after covered e) apart))
 
 pub closed : (low covered : ℕ) (t : Times) → AreApart low t.ended t.since covered → ContinuesTimes low covered t (record { ended = intervals_upto covered t; since = None })
 closed low covered t apart = closed_parts low covered t.ended t.since apart

@@ -1,7 +1,7 @@
 -- The rooms at a position, by the spans that have begun.
 use Rattle.std.proofs.lemmas.Grind.{common_steps}
 use Rattle.std.proofs.lemmas.Bool.Decides.{nat_tests}
-use Rattle.std.proofs.Common.{◌≡◌, ◌<◌, ◌≤◌, ℕ, suc, Bool, true, false, cond, ◌||◌, ◌&&◌, List, [], ◌∷◌, ◌++◌, map, filter, length, max, get_or, Option, Some, None, refl, sym, ap, ◌∙◌, nat_le, arith}
+use Rattle.std.proofs.Common.{◌≡◌, ◌<◌, ◌≤◌, ℕ, suc, false, cond, ◌||◌, ◌&&◌, List, [], ◌∷◌, ◌++◌, map, filter, length, max, get_or, Option, Some, None, refl, sym, ap, ◌∙◌, nat_le, arith}
 use Rattle.std.specs.List.{AllByRecursion, list_any}
 use Rattle.std.specs.List.Sorted.{IsNonDecreasingBy}
 use Rattle.std.specs.Ordering.{nat_cmp, is_eq, eq_by_cmp}
@@ -15,7 +15,7 @@ use Rattle.aud_node.specs.Stream.{Text}
 use Rattle.aud_rooms.specs.Spans.{RoomSpan, is_within, rooms_by_spans}
 use Rattle.aud_rooms.specs.Private.RoomMap.{RoomMap, at_room, do_pass, rooms_with}
 use Rattle.aud_rooms.specs.Private.Reached.{reaches, HasReached, AreByFirst}
-use Rattle.aud_rooms.proofs.Times.{or_none}
+use Rattle.aud_base.proofs.Truth.{or_none}
 use Rattle.aud_rooms.proofs.RoomMaps.{same_text, contains-rooms_with, same_rooms}
 
 -- one more span begins
@@ -23,21 +23,11 @@ module _ (olds news : RoomMap ℕ) (begun : List RoomSpan) (s : RoomSpan) (was :
     (updates : (q : Bor Text) → at_room news q.now ≡ cond (is_eq (slice_cmp nat_cmp room_is q.now)) (Some last) (at_room olds q.now))
     (greatest : (p : ℕ) → nat_le p last ≡ (do_pass (nat_le p) (at_room olds room_is) || nat_le p s.last)) where
   pub reached_more : HasReached news (begun ++ s ∷ [])
-  reached_more = record { same = λ room p. at room p }
-    where
-      one : (room : Text) (p : ℕ) (b : Bool) → is_eq (slice_cmp nat_cmp room_is room) ≡ b → do_pass (nat_le p) (cond b (Some last) (at_room olds room)) ≡ (list_any (reaches room p) begun || (b && nat_le p s.last))
-      one room p true same =
-          greatest p ∙ ap (λ b. b || nat_le p s.last) (ap (λ r. do_pass (nat_le p) (at_room olds r)) (same_text room_is room same) ∙ was.same room p)
-      one room p false other = was.same room p ∙ sym (or_none (list_any (reaches room p) begun))
-
-      at : (room : Text) (p : ℕ) → do_pass (nat_le p) (at_room news room) ≡ list_any (reaches room p) (begun ++ s ∷ [])
-      at room p =
-          ap (do_pass (nat_le p)) (updates (record { ref_ptr = (0, 0); now = room }))
-          ∙ one room p (is_eq (slice_cmp nat_cmp room_is room)) refl
-          ∙ ap (λ r. list_any (reaches room p) begun || (is_eq (slice_cmp nat_cmp r room) && nat_le p s.last)) is
-          ∙ ap (λ b. list_any (reaches room p) begun || (b && nat_le p s.last)) ((eq_by_cmp_equiv nat_list_cmp_total).symm s.room room)
-          ∙ ap (λ b. list_any (reaches room p) begun || b) (sym (or_none (reaches room p s)))
-          ∙ sym (list_any-append (reaches room p) begun (s ∷ []))
+  reached_more =
+      record {
+        same = λ room p.
+            grind (arith, updates (record { ref_ptr = (0, 0); now = room }), is, same_text room_is room, was.same room p, greatest p, (eq_by_cmp_equiv nat_list_cmp_total).symm s.room room, or_none (reaches room p s), list_any-append (reaches room p) begun (s ∷ []));
+      }
 
 pub greatest_first : (p last : ℕ) (o : Option ℕ) → o ≡ None → nat_le p last ≡ (do_pass (nat_le p) o || nat_le p last)
 greatest_first p last o none = ap (λ o. do_pass (nat_le p) o || nat_le p last) (sym none)

@@ -7,7 +7,7 @@ use Rattle.std.proofs.lemmas.Bool.{ne_eqb, false≢true, eqb-true}
 use Rattle.std.proofs.lemmas.Option.{none-some}
 use Rattle.aud_tap.specs.declared.records.StreamRec.{StreamRec}
 use Rattle.aud_tap.specs.declared.records.NodeRec.{NodeRec}
-use Rattle.aud_tap.specs.declared.records.NodeRec.TheVariants.{Start, Take, Opened, Join, Leave, Broke, Back, Gone}
+use Rattle.aud_tap.specs.declared.records.NodeRec.TheVariants.{Start, Take, Join, Leave}
 use Rattle.aud_node.specs.Cursors.{takes, is_position, next_cursor, cursor_past, cursor_at}
 use Rattle.aud_node.specs.Lists.{between, numbers_from}
 use Rattle.aud_node.specs.Ordered.{is_in_order, is_some_in_order, is_ordered}
@@ -15,7 +15,8 @@ use Rattle.aud_node.specs.OwnRecords.{record_names}
 use Rattle.aud_node.specs.Stream.{Text, position}
 use Rattle.aud_rooms.specs.Rooms.{Rooms, rooms_after}
 use Rattle.aud_rooms.specs.TurnsDue.{rooms_at_end, rooms_at_take}
-use Rattle.aud_node.proofs.RecordLemmas.{slice_get_below, between-more, between-none, cursor_at-rises}
+use Rattle.aud_node.proofs.RecordLemmas.{cursor_at-rises}
+use Rattle.aud_base.proofs.Lists.{element_at, between-more, between-none}
 
 -- a session's record leaves the cursor
 own_cursor : (stream : List StreamRec) (i : ℕ) (rec : NodeRec) (pid : Text) (cursor : ℕ) → record_names (Some rec) pid ≡ true → next_cursor stream i rec cursor ≡ cursor
@@ -54,12 +55,7 @@ position_is (Some q) p e = ap Some (eqb-true q p e)
 reaching_takes : (stream : List StreamRec) (i : ℕ) (rec : NodeRec) (cursor p : ℕ) → is_in_order stream (suc i) cursor rec ≡ true → cursor < p → p ≤ next_cursor stream (suc i) rec cursor → takes stream p rec ≡ true
 reaching_takes stream i (Start off) cursor p e a b = absurd (false≢true e)
 reaching_takes stream i (Take off) cursor p e a b = grind arith
-reaching_takes stream i (Opened pid sid nsp) cursor p e a b = absurd (omega arith)
-reaching_takes stream i (Join pid room) cursor p e a b = absurd (omega arith)
-reaching_takes stream i (Leave pid room) cursor p e a b = absurd (omega arith)
-reaching_takes stream i (Broke pid turn) cursor p e a b = absurd (omega arith)
-reaching_takes stream i (Back pid turn) cursor p e a b = absurd (omega arith)
-reaching_takes stream i (Gone pid) cursor p e a b = absurd (omega arith)
+reaching_takes stream i _ cursor p e a b = absurd (omega arith)
 
 -- a record that leaves the cursor before a position doesn't take it
 passing_takes : (stream : List StreamRec) (i : ℕ) (rec : NodeRec) (cursor p : ℕ) → is_in_order stream i cursor rec ≡ true → next_cursor stream i rec cursor < p → takes stream p rec ≡ false
@@ -93,17 +89,10 @@ module _ (stream : List StreamRec) (log : List NodeRec) (ordered : is_ordered st
           (omega (arith, next, cursor_at-rises stream log (suc m) x (omega arith), before))
 
       go : (d m : ℕ) (held : Rooms) → m + d ≡ x → rooms_at_take stream pid p held (between log m to) ≡ rooms_at_end pid held (between log m x)
-      go zero m held e =
-          let same : m ≡ x = omega (arith, e) in
-          ap (rooms_at_take stream pid p held) (ap (λ n. between log n to) same ∙ between-more log x to rec b at)
-          ∙ ap (λ v. cond v held (rooms_at_take stream pid p (rooms_after pid held rec) (between log (suc x) to))) taken
-          ∙ sym (ap (rooms_at_end pid held) (between-none log m x (omega (arith, same))))
+      go zero m held e = grind (arith, taken, between-more log x to rec b at, between-none log m x)
       go (suc d) m held e =
-          let (other, there) = slice_get_below log m (omega (arith, e, b, within)) in
-          ap (rooms_at_take stream pid p held) (between-more log m to other (omega (arith, e, b)) there)
-          ∙ ap (λ v. cond v held (rooms_at_take stream pid p (rooms_after pid held other) (between log (suc m) to))) (passed m other (omega (arith, e)) there)
-          ∙ go d (suc m) (rooms_after pid held other) (omega (arith, e))
-          ∙ sym (ap (rooms_at_end pid held) (between-more log m x other (omega (arith, e)) there))
+          let (other, there) = element_at log m (omega (arith, e, b, within)) in
+          grind (arith, passed m other (omega (arith, e)) there, go d (suc m) (rooms_after pid held other), between-more log m to other (omega (arith, e, b)) there, between-more log m x other (omega (arith, e)) there)
 
 -- the rooms at the end, with one record more
 pub rooms_at_end-more : (log : List NodeRec) (pid : Text) (from x : ℕ) (rec : NodeRec) (held : Rooms) → from ≤ x → slice_get log x ≡ Some rec → x < length log
@@ -111,14 +100,7 @@ pub rooms_at_end-more : (log : List NodeRec) (pid : Text) (from x : ℕ) (rec : 
 rooms_at_end-more log pid from x rec held a at within = go (x - from) from held (omega arith)
   where
     go : (d m : ℕ) (held : Rooms) → m + d ≡ x → rooms_at_end pid held (between log m (suc x)) ≡ rooms_after pid (rooms_at_end pid held (between log m x)) rec
-    go zero m held e =
-        let same : m ≡ x = omega (arith, e) in
-        ap (λ n. rooms_at_end pid held (between log n (suc x))) same
-        ∙ ap (rooms_at_end pid held) (between-more log x (suc x) rec (omega arith) at)
-        ∙ ap (rooms_at_end pid (rooms_after pid held rec)) (between-none log (suc x) (suc x) (omega arith))
-        ∙ sym (ap (λ recs. rooms_after pid (rooms_at_end pid held recs) rec) (between-none log m x (omega (arith, same))))
+    go zero m held e = grind (arith, between-more log x (suc x) rec (omega arith) at, between-none log (suc x) (suc x), between-none log m x)
     go (suc d) m held e =
-        let (other, there) = slice_get_below log m (omega (arith, e, within)) in
-        ap (rooms_at_end pid held) (between-more log m (suc x) other (omega (arith, e)) there)
-        ∙ go d (suc m) (rooms_after pid held other) (omega (arith, e))
-        ∙ sym (ap (λ recs. rooms_after pid (rooms_at_end pid held recs) rec) (between-more log m x other (omega (arith, e)) there))
+        let (other, there) = element_at log m (omega (arith, e, within)) in
+        grind (arith, go d (suc m) (rooms_after pid held other), between-more log m (suc x) other (omega (arith, e)) there, between-more log m x other (omega (arith, e)) there)

@@ -1,5 +1,5 @@
--- The rooms of which something is kept that passes a test.
-use Rattle.std.proofs.Common.{◌≡◌, Bool, true, false, cond, ◌||◌, ◌&&◌, List, [], ◌∷◌, map, filter, Option, Some, None, refl, sym, ap, ◌∙◌}
+-- The rooms of which something is kept that passes a test; a `BTreeSet` of lent texts, seen as a set.
+use Rattle.std.proofs.Common.{◌≡◌, Bool, true, false, cond, ◌||◌, ◌&&◌, List, [], ◌∷◌, map, filter, Option, Some, None, refl, sym, ap, ◌∙◌, arith, ℕ, Bor}
 use Rattle.std.specs.List.{list_any}
 use Rattle.std.specs.Option.{is_some}
 use Rattle.std.specs.Ordering.{nat_cmp, is_eq, eq_by_cmp}
@@ -8,33 +8,21 @@ use Rattle.std.specs.FinSet as set
 use Rattle.aud_node.specs.Stream.{Text}
 use Rattle.aud_rooms.specs.Rooms.{Rooms}
 use Rattle.aud_rooms.specs.Private.RoomMap.{RoomMap, at_room, do_pass, rooms_with}
+use Rattle.std.specs.Cmp.{eq_by_cmp_equiv}
 
 pub same_text : (a b : Text) → eq_by_cmp (slice_cmp nat_cmp) a b ≡ true → a ≡ b
 same_text a b e = (bytes_decides a b).0 (texts_ties a b ∙ e)
 
+pub itself : (a : Text) → eq_by_cmp (slice_cmp nat_cmp) a a ≡ true
+itself a = sym (texts_ties a a) ∙ (bytes_decides a a).1 refl
+
 any_kept : (q : Text) (keep : Text → Bool) (keys : List Text) → list_any (eq_by_cmp (slice_cmp nat_cmp) q) (filter keep keys) ≡ (list_any (eq_by_cmp (slice_cmp nat_cmp) q) keys && keep q)
 any_kept q keep [] = refl
-any_kept q keep (k ∷ keys) = go (any_kept q keep keys) (eq_by_cmp (slice_cmp nat_cmp) q k) refl (keep k) refl
-  where
-    go : list_any (eq_by_cmp (slice_cmp nat_cmp) q) (filter keep keys) ≡ (list_any (eq_by_cmp (slice_cmp nat_cmp) q) keys && keep q)
-        → (b : Bool) → eq_by_cmp (slice_cmp nat_cmp) q k ≡ b → (kept : Bool) → keep k ≡ kept
-        → list_any (eq_by_cmp (slice_cmp nat_cmp) q) (cond kept (k ∷ filter keep keys) (filter keep keys)) ≡ ((b || list_any (eq_by_cmp (slice_cmp nat_cmp) q) keys) && keep q)
-    go ih true same true kept = ap (λ b. b || list_any (eq_by_cmp (slice_cmp nat_cmp) q) (filter keep keys)) same ∙ sym (ap keep (same_text q k same) ∙ kept)
-    go ih true same false lost = ih ∙ ap (λ b. list_any (eq_by_cmp (slice_cmp nat_cmp) q) keys && b) (ap keep (same_text q k same) ∙ lost) ∙ none (list_any (eq_by_cmp (slice_cmp nat_cmp) q) keys) ∙ sym (ap keep (same_text q k same) ∙ lost)
-      where
-        none : (a : Bool) → (a && false) ≡ false
-        none true = refl
-        none false = refl
-    go ih false other true kept = ap (λ b. b || list_any (eq_by_cmp (slice_cmp nat_cmp) q) (filter keep keys)) other ∙ ih
-    go ih false other false lost = ih
+any_kept q keep (k ∷ keys) = grind (arith, any_kept q keep keys, same_text q k)
 
 any_key : {X : Type 0} (es : RoomMap X) (q : Text) → list_any (eq_by_cmp (slice_cmp nat_cmp) q) (map (λ e. e.0.now) es) ≡ is_some (at_room es q)
 any_key [] q = refl
-any_key (e ∷ es) q = ap (λ b. is_eq (slice_cmp nat_cmp q e.0.now) || b) (any_key es q) ∙ either (is_eq (slice_cmp nat_cmp q e.0.now))
-  where
-    either : (b : Bool) → (b || is_some (at_room es q)) ≡ is_some (cond b (Some e.1) (at_room es q))
-    either true = refl
-    either false = refl
+any_key (e ∷ es) q = grind (arith, any_key es q)
 
 pub contains-rooms_with : {X : Type 0} (test : X → Bool) (es : RoomMap X) (q : Text) → set.contains (rooms_with test es) q ≡ do_pass test (at_room es q)
 unfolding rooms_with
@@ -50,3 +38,25 @@ contains-rooms_with {X} test es q =
 
 pub same_rooms : (a b : Rooms) → ((q : Text) → set.contains a q ≡ set.contains b q) → a ≡ b
 same_rooms a b same = set.same_set nat_list_cmp_total (set.slice_cmp-IsAntisymmetric set.nat_cmp-IsAntisymmetric) a b same
+
+abbrev pub texts : List (Bor (List ℕ)) → Rooms
+texts keys = set.from_list (map (λ k. k.now) keys)
+
+abbrev pub has_text : List (Bor (List ℕ)) → List ℕ → Bool
+has_text keys text = list_any (λ k. is_eq (slice_cmp nat_cmp text k.now)) keys
+
+list_any-now : (keys : List (Bor (List ℕ))) (text : List ℕ) → list_any (eq_by_cmp (slice_cmp nat_cmp) text) (map (λ k. k.now) keys) ≡ has_text keys text
+list_any-now [] text = refl
+list_any-now (k ∷ keys) text = ap (λ b. is_eq (slice_cmp nat_cmp text k.now) || b) (list_any-now keys text)
+
+pub contains-texts : (keys : List (Bor (List ℕ))) (text : List ℕ) → set.contains (texts keys) text ≡ has_text keys text
+contains-texts keys text = set.contains-from_list nat_list_cmp_total (map (λ k. k.now) keys) text ∙ list_any-now keys text
+
+module _ (keys news : List (Bor (List ℕ))) (text : List ℕ) where
+  pub texts-insert : ((q : Bor (List ℕ)) → has_text news q.now ≡ cond (is_eq (slice_cmp nat_cmp text q.now)) true (has_text keys q.now)) → texts news ≡ set.insert (texts keys) text
+  texts-insert updates = same_rooms _ _ (λ q.
+      grind (arith, contains-texts news q, contains-texts keys q, updates (record { ref_ptr = (0, 0); now = q }), (eq_by_cmp_equiv nat_list_cmp_total).symm text q, set.contains-insert nat_list_cmp_total (texts keys) text q))
+
+  pub texts-remove : ((q : Bor (List ℕ)) → has_text news q.now ≡ cond (is_eq (slice_cmp nat_cmp text q.now)) false (has_text keys q.now)) → texts news ≡ set.remove (texts keys) text
+  texts-remove updates = same_rooms _ _ (λ q.
+      grind (arith, contains-texts news q, contains-texts keys q, updates (record { ref_ptr = (0, 0); now = q }), (eq_by_cmp_equiv nat_list_cmp_total).symm text q, set.contains-remove nat_list_cmp_total (texts keys) text q))

@@ -1,13 +1,15 @@
 -- The sweep over the spans in the order of their first positions.
 use Rattle.std.proofs.lemmas.Grind.{common_steps}
-use Rattle.std.proofs.Common.{◌≡◌, ◌<◌, ◌≤◌, ℕ, suc, ◌&&◌, List, [], ◌∷◌, ◌++◌, append_assoc, map, filter, length, take, drop, get_or, drop-cons, refl, sym, ap, subst, ◌∙◌, ◌+◌, arith}
-use Rattle.std.specs.List.{AllByRecursion}
+use Rattle.std.proofs.Common.{◌≡◌, ◌<◌, ◌≤◌, ℕ, suc, true, not, nat_lt, ◌&&◌, List, [], ◌∷◌, ◌++◌, append_assoc, map, filter, length, take, drop, get_or, drop-cons, refl, sym, ap, subst, ◌∙◌, ◌+◌, arith}
+use Rattle.std.specs.List.{All, AllByRecursion}
 use Rattle.std.specs.List.Sorted.{IsPermutation, IsNonDecreasing}
 use Rattle.std.specs.Ordering.{nat_cmp, is_eq}
 use Rattle.std.specs.Cmp.Lexicographic.{slice_cmp}
 use Rattle.std.proofs.Math.Seq.{take-suc}
 use Rattle.std.proofs.lemmas.List.{map-append, take-append-drop, drop_all}
-use Rattle.std.proofs.lemmas.List.Elements.{filter-append, filter_agree}
+use Rattle.std.proofs.lemmas.Bool.{ltb-true, ltb-false, not-true}
+use Rattle.std.proofs.lemmas.List.Kept.{IsNonDecreasingBy-filter}
+use Rattle.std.proofs.lemmas.List.Elements.{filter-append, filter_agree, filter_passes, recursion_from_All}
 use Rattle.std.proofs.lemmas.List.Sorted.{list_any-IsPermutation}
 use denote.Ref.{Bor}
 use Rattle.aud_tap.specs.declared.records.StreamRec.{StreamRec}
@@ -86,10 +88,7 @@ module _ (all : List RoomSpan) (stream : List StreamRec) (nsp : Text) (found : L
           past = all_zip (HaveBegun begun) (λ p. s.first ≤ p) (HaveBegun (begun ++ s ∷ [])) (λ p h k. all_more (λ (x : RoomSpan). x.first ≤ p) begun s h k) later pasts.1 above;
           ascending = ascending;
           so_far =
-              ap (λ ps. ps ++ filter P later) (is ∙ ap (λ ps. due ++ ps) (due_all before pasts.0 below))
-              ∙ append_assoc due (filter P before) (filter P later)
-              ∙ ap (λ ps. due ++ ps) (sym (filter-append P before later) ∙ ap (filter P) (sym cut))
-              ∙ was.so_far;
+              grind (arith, is, due_all before pasts.0 below, append_assoc due (filter P before) (filter P later), filter-append P before later, cut, was.so_far);
         }
 
 -- ---- the sweep's steps, over lent spans
@@ -103,7 +102,7 @@ seen_parts xs i = ap seen (sym (take-append-drop i xs)) ∙ map-append (λ (s : 
 module _ (xs : List (Bor RoomSpan)) (stream : List StreamRec) (nsp : Text) (found : List ℕ) (i : ℕ) (es : RoomMap ℕ) (due rest more : List ℕ)
     (was : Swept (seen xs) stream nsp found (seen (take i xs)) es due rest) where
   module _ (d : Bor RoomSpan) (within : i < length xs) (is : d ≡ get_or xs i d) (sorted : AreByFirst (seen xs)) (news : RoomMap ℕ) (before later : List ℕ)
-      (cut : rest ≡ before ++ later) (below : AllByRecursion (λ p. p < d.now.first) before) (above : AllByRecursion (λ p. d.now.first ≤ p) later) (ascending : IsNonDecreasing later)
+      (cut : rest ≡ before ++ later) (below : before ≡ filter (λ p. nat_lt p d.now.first) rest) (above : later ≡ filter (λ p. not (nat_lt p d.now.first)) rest)
       (adds : more ≡ due ++ filter (is_due_at es stream nsp) before)
       (reached : HasReached news (seen (take i xs) ++ d.now ∷ [])) where
     parts : seen xs ≡ seen (take i xs) ++ d.now ∷ seen (drop (suc i) xs)
@@ -122,7 +121,11 @@ module _ (xs : List (Bor RoomSpan)) (stream : List StreamRec) (nsp : Text) (foun
         subst (λ begun. Swept (seen xs) stream nsp found begun news more later) begun_more
         (swept_begun (seen xs) stream nsp found (seen (take i xs)) es due rest was (d.now ∷ seen (drop (suc i) xs)) parts
         d.now news before later more reached cut
-        (all_map (λ p. p < d.now.first) (AreAhead (d.now ∷ seen (drop (suc i) xs))) ahead before below) above ascending adds)
+        (recursion_from_All (AreAhead (d.now ∷ seen (drop (suc i) xs))) before
+        (λ k z h. ahead _ (ltb-true _ d.now.first (subst (All (λ p. nat_lt p d.now.first ≡ true)) (sym below) (filter_passes (λ p. nat_lt p d.now.first) rest) k z h))))
+        (recursion_from_All (λ p. d.now.first ≤ p) later
+        (λ k z h. ltb-false _ d.now.first (not-true _ (subst (All (λ p. not (nat_lt p d.now.first) ≡ true)) (sym above) (filter_passes (λ p. not (nat_lt p d.now.first)) rest) k z h))))
+        (subst IsNonDecreasing (sym above) (IsNonDecreasingBy-filter (λ p. p) (λ p. not (nat_lt p d.now.first)) rest was.ascending)) adds)
 
   pub swept_end : length xs ≤ i → more ≡ due ++ filter (is_due_at es stream nsp) rest → more ≡ filter (is_for_spans (seen xs) stream nsp) found
   swept_end none adds = grind (arith, drop_all, due_all, seen_parts, all_each, drop_all i xs none, due_all (seen xs) stream nsp found (seen (take i xs)) es due rest was (seen (drop i xs)) (seen_parts xs i) rest was.past, seen_parts xs i, all_each (AreAhead (seen (drop i xs))))
@@ -134,7 +137,4 @@ pub for_permuted : (spans others : List RoomSpan) (stream : List StreamRec) (nsp
 for_permuted spans others stream nsp found permuted = filter_agree _ _ (λ p. ap (is_for (entry stream p) nsp) (rooms p)) found
   where
     rooms : (p : ℕ) → rooms_by_spans others p ≡ rooms_by_spans spans p
-    rooms p = same_rooms _ _ (λ room.
-        contains-rooms_by_spans others p room
-        ∙ sym (list_any-IsPermutation (λ s. is_within p s && is_eq (slice_cmp nat_cmp room s.room)) spans others permuted)
-        ∙ sym (contains-rooms_by_spans spans p room))
+    rooms p = same_rooms _ _ (λ room. grind (arith, contains-rooms_by_spans others p room, contains-rooms_by_spans spans p room, list_any-IsPermutation (λ s. is_within p s && is_eq (slice_cmp nat_cmp room s.room)) spans others permuted))

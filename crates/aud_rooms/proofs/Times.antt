@@ -1,19 +1,16 @@
 -- When one room is held: intervals in order, apart from one another.
 use Rattle.std.proofs.lemmas.Grind.{common_steps}
 use Rattle.std.proofs.lemmas.Option.{gets}
-use Rattle.std.proofs.Common.{◌≡◌, ◌<◌, ◌≤◌, ◌-◌, ℕ, zero, suc, Bool, true, false, ◌||◌, ◌&&◌, List, [], ◌∷◌, ◌++◌, length, take, Option, Some, None, get_or, refl, sym, ap, subst, ◌∙◌, nat_lt, nat_le, arith}
+use Rattle.std.proofs.Common.{◌≡◌, ◌<◌, ◌≤◌, ◌-◌, ℕ, zero, suc, true, false, ◌||◌, ◌&&◌, List, [], ◌∷◌, ◌++◌, length, take, Option, Some, None, get_or, refl, sym, ap, subst, ◌∙◌, nat_lt, nat_le, arith}
 use Rattle.std.specs.List.{list_any, slice_get}
 use Rattle.std.specs.Option.{is_some}
 use Rattle.std.proofs.lemmas.Bool.{le-leb, lt-leb, and_right, le-ltb, lt-ltb, or_from}
 use Rattle.std.proofs.lemmas.List.Folds.{list_any-append}
 use Rattle.std.proofs.lemmas.List.{drop_all, take-append-drop}
 use Rattle.std.proofs.lemmas.Option.{slice_get_within, slice_get-get_or}
+use Rattle.aud_base.proofs.Truth.{and_true, or_none}
 use Rattle.aud_rooms.specs.declared.interval.Interval.{Interval}
 use Rattle.aud_rooms.specs.Private.Times.{Times, is_in_interval, is_past_start, is_held_at, is_held_now, AreApart, ContinuesTimes}
-
-pub or_none : (a : Bool) → (a || false) ≡ a
-or_none true = refl
-or_none false = refl
 
 pub before : (p : ℕ) (i : Interval) → p ≤ i.after → is_in_interval p i ≡ false
 before p i h = ap (λ b. b && nat_le p i.last) (le-ltb i.after p h)
@@ -70,16 +67,8 @@ resumed low covered is old i parts ends apart =
     record {
       apart = apart_resumed low covered is i ends (subst (λ o. AreApart low o None covered) parts apart);
       same = λ p h.
-          let at : is_in_interval p i ≡ nat_lt i.after p = ap (λ b. nat_lt i.after p && b) (le-leb p i.last (omega arith)) ∙ and_true (nat_lt i.after p) in
-          sym (
-          or_none (list_any (is_in_interval p) old) ∙ ap (list_any (is_in_interval p)) parts ∙ list_any-append (is_in_interval p) is (i ∷ [])
-          ∙ ap (λ b. list_any (is_in_interval p) is || b) (or_none (is_in_interval p i) ∙ at)
-          );
+          grind (arith, parts, list_any-append (is_in_interval p) is (i ∷ []), le-leb p i.last, or_none (is_in_interval p i), and_true (nat_lt i.after p), or_none (list_any (is_in_interval p) old));
     }
-  where
-    and_true : (a : Bool) → (a && true) ≡ a
-    and_true true = refl
-    and_true false = refl
 
 -- a new one begins after them
 apart_begun : (from covered : ℕ) (is : List Interval) (i : Interval) → i.last < covered → AreApart from (is ++ i ∷ []) None covered → AreApart from (is ++ i ∷ []) (Some covered) covered
@@ -120,14 +109,8 @@ ended low covered after is h apart =
     record {
       apart = apart_ended low covered after is h apart;
       same = λ p to.
-          or_none (list_any (is_in_interval p) (is ++ record { after = after; last = covered } ∷ []))
-          ∙ list_any-append (is_in_interval p) is (record { after = after; last = covered } ∷ [])
-          ∙ ap (λ b. list_any (is_in_interval p) is || b) (or_none (nat_lt after p && nat_le p covered) ∙ ap (λ b. nat_lt after p && b) (le-leb p covered to) ∙ and_true (nat_lt after p));
+          grind (arith, list_any-append (is_in_interval p) is (record { after = after; last = covered } ∷ []), or_none (nat_lt after p && nat_le p covered), le-leb p covered to, and_true (nat_lt after p), or_none (list_any (is_in_interval p) (is ++ record { after = after; last = covered } ∷ [])));
     }
-  where
-    and_true : (a : Bool) → (a && true) ≡ a
-    and_true true = refl
-    and_true false = refl
 
 pub unused : (low covered after : ℕ) (is : List Interval) → covered ≤ after → AreApart low is (Some after) covered
     → ContinuesTimes low covered (record { ended = is; since = Some after }) (record { ended = is; since = None })

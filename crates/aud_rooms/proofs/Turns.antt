@@ -1,6 +1,5 @@
 -- The records of a session's turns: how one begins and ends, and where a record of the session stands.
-use Rattle.std.proofs.Common.{◌≡◌, ◌<◌, ◌≤◌, ◌+◌, ◌-◌, ℕ, zero, suc, true, cond, ◌&&◌, List, [], ◌∷◌, Option, Some, slice_get, refl, sym, ap, ◌∙◌, subst, ◌⊎◌, inl, inr, nat_eq, arith, bytes_eq}
-use Rattle.std.specs.Cmp.Lexicographic.{bytes_decides}
+use Rattle.std.proofs.Common.{◌≡◌, ◌<◌, ◌≤◌, ◌+◌, ◌-◌, ℕ, zero, suc, true, cond, ◌&&◌, List, [], ◌∷◌, Option, Some, slice_get, refl, sym, ap, ◌∙◌, subst, ◌⊎◌, inl, inr, nat_eq, arith}
 use Rattle.std.proofs.lemmas.Bool.{cases_eq, eq-eqb, eqb-true, false≢true, and_parts}
 use Rattle.std.proofs.lemmas.Option.{same_Some, none-some}
 use Rattle.aud_tap.specs.declared.records.NodeRec.{NodeRec}
@@ -9,15 +8,9 @@ use Rattle.aud_node.specs.Cluster.{Cluster, node_log}
 use Rattle.aud_node.specs.Lists.{between}
 use Rattle.aud_node.specs.Stream.{Text}
 use Rattle.aud_node.specs.TurnRecords.{pid_of, begins_turn}
+pub use Rattle.aud_base.proofs.SameText.{same_text, itself_text}
 use Rattle.aud_node.proofs.RecordLemmas.{slice_get-between}
 use Rattle.aud_rooms.specs.Turns.{Who, Turn, beginning, Part, Inner, Last, Foreign, End, part_of, end_past, turn_end, IsTurn, AreTurns, StandsIn}
-
--- equal texts, by the test
-pub same_text : (a b : Text) → bytes_eq a b ≡ true → a ≡ b
-same_text a b = (bytes_decides a b).0
-
-pub itself_text : (a : Text) → bytes_eq a a ≡ true
-itself_text a = (bytes_decides a a).1 refl
 
 -- a record that begins a turn of the session names it
 pub begins-names : (pid : Text) (k : ℕ) (rec : NodeRec) → begins_turn pid k rec ≡ true → pid_of rec ≡ Some pid

@@ -1,10 +1,11 @@
 -- What is told to the builder of spans gives the positions the rooms of the turns.
 use Rattle.std.proofs.lemmas.Grind.{common_steps}
-use Rattle.std.proofs.Common.{◌≡◌, ◌<◌, ◌≤◌, ◌+◌, ◌-◌, ℕ, zero, suc, Bool, true, false, cond, List, [], ◌∷◌, ◌++◌, length, map, filter, replicate, max, Option, Some, None, slice_get, unwrap_or, option_map, refl, sym, ap, subst, ◌∙◌, inl, inr, nat_le, arith}
+use Rattle.std.proofs.Common.{◌≡◌, ◌<◌, ◌≤◌, ◌+◌, ◌-◌, ℕ, zero, suc, Bool, true, false, cond, List, [], ◌∷◌, ◌++◌, length, map, filter, replicate, max, Option, Some, None, slice_get, unwrap_or, option_map, refl, sym, ap, subst, ◌∙◌, nat_le, arith}
 use Rattle.std.specs.List.{All}
 use Rattle.std.specs.FinSet as set
-use Rattle.std.proofs.lemmas.Bool.{cases_lt, le-leb, lt-leb}
-use Rattle.std.proofs.lemmas.List.{length-replicate}
+use Rattle.std.proofs.lemmas.Bool.{cond_both, le-leb, lt-leb}
+use Rattle.std.proofs.lemmas.List.{length-replicate, get_or-replicate}
+use Rattle.std.proofs.lemmas.Option.{gets}
 use Rattle.std.proofs.lemmas.List.Elements.{All-head, All-tail}
 use Rattle.aud_tap.specs.declared.records.NodeRec.{NodeRec}
 use Rattle.aud_node.specs.Cluster.{Cluster, node_log}
@@ -19,22 +20,17 @@ use Rattle.aud_rooms.specs.Spans.{RoomSpan, AreSpans, AreSpansOfTurns, first_low
 use Rattle.aud_rooms.specs.Assigned.{Assigned, starting, covered, assigned_rooms, covered_upto, AreSpansOf}
 use Rattle.aud_rooms.specs.TurnPlaces.{IsInOrder, own_between}
 use Rattle.aud_rooms.specs.Private.Walk.{at_cursor, walked_record, walked_records, walked_turn, walked_turns}
-use Rattle.aud_rooms.proofs.Positions.{spans_alike}
+use Rattle.aud_rooms.proofs.Intervals.{spans_alike}
 use Rattle.aud_rooms.proofs.OwnNumbers.{own_between-is}
 use Rattle.aud_rooms.proofs.Records.{own_cursor_at, other_rooms, rooms_at_take-is, rooms_at_end-more}
-use Rattle.aud_node.proofs.RecordLemmas.{slice_get_below, between-none, cursor_at-rises}
+use Rattle.aud_node.proofs.RecordLemmas.{cursor_at-rises}
+use Rattle.aud_base.proofs.Lists.{element_at, between-none}
 
 get-front : {X : Type 0} (xs ys : List X) (i : ℕ) → i < length xs → slice_get (xs ++ ys) i ≡ slice_get xs i
-get-front [] ys i h = absurd (omega arith)
-get-front (x ∷ xs) ys zero h = refl
-get-front (x ∷ xs) ys (suc i) h = get-front xs ys i (omega arith)
+get-front xs ys i h = grind (arith, common_steps, gets)
 
 get-back : {X : Type 0} (xs : List X) (count : ℕ) (y : X) (i : ℕ) → length xs ≤ i → i < length xs + count → slice_get (xs ++ replicate count y) i ≡ Some y
-get-back [] zero y i h g = absurd (omega arith)
-get-back [] (suc count) y zero h g = refl
-get-back [] (suc count) y (suc i) h g = get-back [] count y i (omega arith) (omega arith)
-get-back (x ∷ xs) count y zero h g = absurd (omega arith)
-get-back (x ∷ xs) count y (suc i) h g = get-back xs count y i (omega arith) (omega arith)
+get-back xs count y i h g = grind (arith, common_steps, gets, get_or-replicate, length-replicate)
 
 module _ (a : Assigned) (q : ℕ) where
   pub covered-upto : covered (covered_upto q a) ≡ max (covered a) q
@@ -68,10 +64,7 @@ gives-covered want cursor a b g =
       from = omega (arith, all, from);
       to = omega (arith, all, to);
       kept = λ p x y. given_before b cursor p (omega (arith, x, low)) (omega (arith, y, from)) ∙ g.kept p x y;
-      inside = λ p x y. elim (cases_lt (covered b) p) as (λ _. assigned_rooms (covered_upto cursor b) p ≡ want p) [
-        | inl past ↦ given_now b cursor p past (omega (arith, y, all, past)) ∙ g.now p past (omega (arith, y, all, past))
-        | inr within ↦ given_before b cursor p (omega (arith, x, low)) within ∙ g.inside p x within
-      ];
+      inside = λ p x y. grind (arith, all, low, from, given_now b cursor p, given_before b cursor p, g.now p, g.inside p);
       now = λ p x y. absurd (omega (arith, x, y, all));
     }
 
@@ -129,15 +122,7 @@ module _ (c : Cluster) (pid : Text) (t : Turn) (in_order : IsInOrder c t) (a : A
           to = omega (arith, to, rises);
           kept = before.gives.kept;
           inside = before.gives.inside;
-          now = λ p past upto. elim (cases_lt (cur x) p) as (λ _. b.held ≡ want p) [
-            | inl next ↦
-                let after_first : t.from < x = elim (cases_lt t.from x) as (λ _. t.from < x) [
-                  | inl later ↦ later
-                  | inr upto_it ↦ (let same : suc x ≡ suc t.from = omega (arith, upto_it, h) in absurd (omega (arith, ap cur same, reached, from, past, upto)))
-                ] in
-                before.held ∙ sym (rooms_at_take-is c.stream log in_order.ordered pid t.from t.to x rec p a.held h g within (omega (arith, after_first)) at next upto)
-            | inr earlier ↦ before.gives.now p past earlier
-          ];
+          now = λ p past upto. grind (arith, before.held, rooms_at_take-is c.stream log in_order.ordered pid t.from t.to x rec p a.held h g within, reached, before.gives.now p past, from, at);
         };
         held =
             before.held
@@ -167,20 +152,11 @@ module _ (c : Cluster) (pid : Text) (t : Turn) (in_order : IsInOrder c t) (a : A
   all : (count x : ℕ) (b : Assigned) → t.from ≤ x → x + count ≡ t.to → Before x b → Before t.to (walked_records c t.node pid (filter own (numbers_from x count)) b)
   all zero x b h e before = subst (λ n. Before n b) (omega (arith, e)) before
   all (suc count) x b h e before =
-      let (rec, at) = slice_get_below log x (omega (arith, e, within)) in
+      let (rec, at) = element_at log x (omega (arith, e, within)) in
       let some_left : x < t.to = omega (arith, e) in
-      go (own x)
+      cond_both (own x) (x ∷ filter own (numbers_from (suc x) count)) (filter own (numbers_from (suc x) count)) (λ ns. Before t.to (walked_records c t.node pid ns b))
       (λ is. all count (suc x) (walked_record c t.node pid x b) (omega (arith, h)) (omega (arith, e)) (its_own x rec b h some_left at (ap (λ o. record_names o pid) (sym at) ∙ is) before))
       (λ is. all count (suc x) b (omega (arith, h)) (omega (arith, e)) (other x rec b h some_left at (ap (λ o. record_names o pid) (sym at) ∙ is) before))
-      refl
-    where
-      go : (v : Bool)
-          → (own x ≡ true → Before t.to (walked_records c t.node pid (x ∷ filter own (numbers_from (suc x) count)) b))
-          → (own x ≡ false → Before t.to (walked_records c t.node pid (filter own (numbers_from (suc x) count)) b))
-          → own x ≡ v
-          → Before t.to (walked_records c t.node pid (cond v (x ∷ filter own (numbers_from (suc x) count)) (filter own (numbers_from (suc x) count))) b)
-      go true its others is = its is
-      go false its others is = others is
 
   pub records_give : Before t.to (walked_records c t.node pid (own_between log pid t.from t.to) a)
   records_give = grind (arith, own_between-is log pid t.from t.to, some, within, all (t.to - t.from) t.from a, first)
@@ -212,15 +188,7 @@ turn_walked c pid t in_order a =
       low = before.gives.low;
       upto = omega (arith, begun, all, from, to, rises);
       kept = λ p x y. ends.kept p x (omega (arith, begun, y)) ∙ given_before a low p x y;
-      inside = λ p x y. elim (cases_lt low p) as (λ _. assigned_rooms (covered_upto high last) p ≡ cond (nat_le p low) a.held (rooms_at_take c.stream pid p a.held (slice_of c t).recs)) [
-        | inl past ↦
-            ends.inside p (omega (arith, begun, x, past)) (omega (arith, all, y))
-            ∙ ap (λ v. cond v a.held (rooms_at_take c.stream pid p a.held (slice_of c t).recs)) (sym (lt-leb p low past))
-        | inr reached ↦
-            ends.kept p (omega (arith, x)) (omega (arith, begun, reached))
-            ∙ given_now a low p x reached
-            ∙ ap (λ v. cond v a.held (rooms_at_take c.stream pid p a.held (slice_of c t).recs)) (sym (le-leb p low reached))
-      ];
+      inside = λ p x y. grind (arith, begun, all, ends.inside p, ends.kept p, given_now a low p, lt-leb p low, le-leb p low);
       held = before.held;
     }
 
@@ -247,15 +215,7 @@ turns_walked c pid (t ∷ turns) in_order a = go (turn_walked c pid t (All-head 
           low = rest.low ∙ one.low;
           upto = omega (arith, upto, all);
           kept = λ p x y. rest.kept p (omega (arith, x, low)) (omega (arith, y, upto)) ∙ one.kept p x y;
-          inside = λ p x y. elim (cases_lt (slice_of c t).high p) as (λ _. rooms_for c.stream pid a.held (map (slice_of c) (t ∷ turns)) p ≡ Some (assigned_rooms (walked_turns c pid turns (walked_turn c pid t a)) p)) [
-            | inl past ↦
-                ap (λ v. cond v (Some (cond (nat_le p (slice_of c t).low) a.held (rooms_at_take c.stream pid p a.held (slice_of c t).recs))) (rooms_for c.stream pid (rooms_at_end pid a.held (slice_of c t).recs) (map (slice_of c) turns) p)) (lt-leb p (slice_of c t).high past)
-                ∙ ap (λ held. rooms_for c.stream pid held (map (slice_of c) turns) p) (sym one.held)
-                ∙ rest.inside p (omega (arith, upto, x, past)) (omega (arith, past, y))
-            | inr reached ↦
-                ap (λ v. cond v (Some (cond (nat_le p (slice_of c t).low) a.held (rooms_at_take c.stream pid p a.held (slice_of c t).recs))) (rooms_for c.stream pid (rooms_at_end pid a.held (slice_of c t).recs) (map (slice_of c) turns) p)) (le-leb p (slice_of c t).high reached)
-                ∙ ap Some (sym (rest.kept p (omega (arith, x, low)) (omega (arith, upto, reached)) ∙ one.inside p x reached))
-          ];
+          inside = λ p x y. grind (arith, low, upto, rest.inside p, rest.kept p, one.inside p, one.held, lt-leb p (slice_of c t).high, le-leb p (slice_of c t).high);
         }
 
 lowest : (c : Cluster) (turns : List Turn) → All (IsInOrder c) turns → first_low (map (slice_of c) turns) ≤ greatest_high (map (slice_of c) turns)

@@ -6,8 +6,7 @@ ghost use Rattle.aud_rooms.specs.Assigned.{Assigned, starting, with_joined, with
 
 use crate::building::Building;
 use crate::span::Span;
-use aud_tap::Memory;
-use std::alloc::Global;
+use std::alloc::{AllocError, Global};
 use std::marker::Model;
 
 /// Builds the spans of a session from its joins, its leaves and the positions in between. It is seen as the rooms that
@@ -32,7 +31,7 @@ impl<'a> Model for SpanBuilder<'a> {
 impl<'a> SpanBuilder<'a> {
     /// A session whose node's cursor is `birth` when it opens, in the one room named by its sid. Positions past
     /// `birth` are to be covered.
-    pub fn new(alloc: Global, sid: &'a str, birth: u64) -> Result<SpanBuilder<'a>, Memory>
+    pub fn new(alloc: Global, sid: &'a str, birth: u64) -> Result<SpanBuilder<'a>, AllocError>
         ensures { IfOk result (λ b. b ≡ Some (starting sid.now birth)) }
     {
         let building = Building::start(alloc, sid, birth)?;
@@ -42,13 +41,13 @@ impl<'a> SpanBuilder<'a> {
     }
 
     /// The room is held from now on; one that is held already changes nothing.
-    pub fn join(&mut self, room: &'a str) -> Result<(), Memory>
+    pub fn join(&mut self, room: &'a str) -> Result<(), AllocError>
         ensures joined { OnOk result (self.new ≡ option_map (with_joined room.now) self.old) }
         ensures out_of_memory { OnErr result (self.new ≡ None) }
         ensures stays_out { self.old ≡ None → IsErr result }
     {
         let Some(mut building) = self.building.take() else {
-            return Err(Memory);
+            return Err(AllocError);
         };
         building.join(room)?;
         self.building = Some(building);
@@ -56,13 +55,13 @@ impl<'a> SpanBuilder<'a> {
     }
 
     /// The room is held no longer; one that isn't held changes nothing.
-    pub fn leave(&mut self, room: &str) -> Result<(), Memory>
+    pub fn leave(&mut self, room: &str) -> Result<(), AllocError>
         ensures left { OnOk result (self.new ≡ option_map (with_left room.now) self.old) }
         ensures out_of_memory { OnErr result (self.new ≡ None) }
         ensures stays_out { self.old ≡ None → IsErr result }
     {
         let Some(mut building) = self.building.take() else {
-            return Err(Memory);
+            return Err(AllocError);
         };
         building.leave(room)?;
         self.building = Some(building);
@@ -70,7 +69,7 @@ impl<'a> SpanBuilder<'a> {
     }
 
     /// The positions that aren't covered yet, up to this one, take the rooms held now. This takes no memory.
-    pub fn upto(&mut self, position: u64) -> Result<(), Memory>
+    pub fn upto(&mut self, position: u64) -> Result<(), AllocError>
         ensures covered { self.new ≡ option_map (covered_upto position) self.old }
         ensures ok { is_ok result ≡ is_some self.old }
     {
@@ -79,19 +78,19 @@ impl<'a> SpanBuilder<'a> {
                 building.cover(position);
                 Ok(())
             }
-            None => Err(Memory),
+            None => Err(AllocError),
         }
     }
 
     /// The spans of the positions past `birth` that are covered: all maximal intervals of positions at which a room is
     /// held, by the bytes of the room, then by the first position.
-    pub fn finish(self) -> Result<Vec<Span<'a>>, Memory>
+    pub fn finish(self) -> Result<Vec<Span<'a>>, AllocError>
         ensures spans { IfOk result (λ spans. MatchOption self.entry ⊥ (λ given. AreSpansOf given spans.items)) }
         ensures stays_out { self.entry ≡ None → IsErr result }
     {
         match self.building {
             Some(building) => building.finish(),
-            None => Err(Memory),
+            None => Err(AllocError),
         }
     }
 }

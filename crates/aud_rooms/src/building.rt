@@ -5,8 +5,7 @@ ghost use Rattle.aud_rooms.specs.Assigned.{Assigned, starting, with_joined, with
 use crate::holding::Holding;
 use crate::room_spans::spans_of_rooms;
 use crate::span::Span;
-use aud_tap::Memory;
-use std::alloc::Global;
+use std::alloc::{AllocError, Global};
 use std::collections::BTreeMap;
 use std::marker::Model;
 
@@ -35,13 +34,11 @@ impl<'a> Model for Building<'a> {
 
 impl<'a> Building<'a> {
     /// Nothing is covered, and the room named by the sid is held.
-    pub fn start(alloc: Global, sid: &'a str, birth: u64) -> Result<Building<'a>, Memory>
+    pub fn start(alloc: Global, sid: &'a str, birth: u64) -> Result<Building<'a>, AllocError>
         ensures { IfOk result (λ b. b ≡ starting sid.now birth) }
     {
         let mut rooms = BTreeMap::new(alloc);
-        let Ok(_) = rooms.insert(sid, Holding::new(alloc, birth)) else {
-            return Err(Memory);
-        };
+        rooms.insert(sid, Holding::new(alloc, birth))?;
         Ok(Building {
             alloc,
             low: birth,
@@ -60,24 +57,20 @@ impl<'a> Building<'a> {
     }
 
     /// The room is held from now on.
-    pub fn join(&mut self, room: &'a str) -> Result<(), Memory>
+    pub fn join(&mut self, room: &'a str) -> Result<(), AllocError>
         ensures { OnOk result (self.new ≡ with_joined room.now self.old) }
     {
         if let Some(holding) = self.rooms.get_mut(room) {
             holding.open(self.covered);
             return Ok(());
         }
-        let Ok(_) = self
-            .rooms
-            .insert(room, Holding::new(self.alloc, self.covered))
-        else {
-            return Err(Memory);
-        };
+        self.rooms
+            .insert(room, Holding::new(self.alloc, self.covered))?;
         Ok(())
     }
 
     /// The room is held no longer.
-    pub fn leave(&mut self, room: &str) -> Result<(), Memory>
+    pub fn leave(&mut self, room: &str) -> Result<(), AllocError>
         ensures { OnOk result (self.new ≡ with_left room.now self.old) }
     {
         let Some(holding) = self.rooms.get_mut(room) else {
@@ -87,7 +80,7 @@ impl<'a> Building<'a> {
     }
 
     /// The spans of the covered positions.
-    pub fn finish(self) -> Result<Vec<Span<'a>>, Memory>
+    pub fn finish(self) -> Result<Vec<Span<'a>>, AllocError>
         ensures { IfOk result (λ spans. AreSpansOf self.entry spans.items) }
     {
         spans_of_rooms(self.alloc, &self.rooms, self.covered)

@@ -9,12 +9,12 @@ ghost use Rattle.aud_rooms.specs.Private.Candidates.{is_for_spans};
 ghost use Rattle.aud_rooms.specs.Private.Reached.{AreByFirst, is_due_at};
 
 use crate::addressee::{Holds, is_for_holder};
-use crate::candidates::{candidates_of, cut_before};
+use crate::candidates::candidates_of;
+use crate::cut::cut_before;
 use crate::reached::Reached;
 use crate::span::Span;
 use aud_node::Stream;
-use aud_tap::Memory;
-use std::alloc::Global;
+use std::alloc::{AllocError, Global};
 
 /// The recoverable positions past `birth` up to `high` that are addressed to the namespace and to the rooms whose spans
 /// hold them, ascending; positions count from 1. The spans may stand in any order and overlap. The entries that are for
@@ -27,7 +27,7 @@ pub fn due_of(
     nsp: &str,
     birth: u64,
     high: u64,
-) -> Result<Vec<u64>, Memory>
+) -> Result<Vec<u64>, AllocError>
     ensures { IfOk result (λ due. due.items ≡ due_by_spans spans.now stream.now nsp.now birth high) }
 {
     let found = candidates_of(alloc, spans, stream, nsp, birth, high)?;
@@ -36,19 +36,17 @@ pub fn due_of(
 }
 
 /// The spans in the order of their first positions.
-fn by_first<'s, 'a>(alloc: Global, spans: &'s [Span<'a>]) -> Result<Vec<&'s Span<'a>>, Memory>
+fn by_first<'s, 'a>(alloc: Global, spans: &'s [Span<'a>]) -> Result<Vec<&'s Span<'a>>, AllocError>
     ensures permutation { IfOk result (λ begins. IsPermutation spans.now (map (λ s. s.now) begins.items)) }
     ensures sorted { IfOk result (λ begins. AreByFirst (map (λ s. s.now) begins.items)) }
 {
     let mut begins = lent(alloc, spans)?;
-    let Ok(()) = begins.sort_by_key(|span| span.first) else {
-        return Err(Memory);
-    };
+    begins.sort_by_key(|span| span.first)?;
     Ok(begins)
 }
 
 /// The spans, lent.
-fn lent<'s, 'a>(alloc: Global, spans: &'s [Span<'a>]) -> Result<Vec<&'s Span<'a>>, Memory>
+fn lent<'s, 'a>(alloc: Global, spans: &'s [Span<'a>]) -> Result<Vec<&'s Span<'a>>, AllocError>
     ensures { IfOk result (λ lent. map (λ s. s.now) lent.items ≡ spans.now) }
 {
     let lent = spans.iter().collect(alloc)?;
@@ -60,10 +58,10 @@ fn lent<'s, 'a>(alloc: Global, spans: &'s [Span<'a>]) -> Result<Vec<&'s Span<'a>
 fn due_by_first(
     alloc: Global,
     begins: &[&Span],
-    found: &[u64],
+    found: &[usize],
     stream: &Stream,
     nsp: &str,
-) -> Result<Vec<u64>, Memory>
+) -> Result<Vec<u64>, AllocError>
     requires by_first { AreByFirst (map (λ s. s.now) begins.now) }
     requires ascending { IsNonDecreasing found.now }
     ensures { IfOk result (λ due. due.items ≡ filter (is_for_spans (map (λ s. s.now) begins.now) stream.now nsp.now) found.now) }
@@ -73,7 +71,7 @@ fn due_by_first(
     let mut rest = found;
     for span in begins {
         let span: &Span = *span;
-        let (before, later) = cut_before(rest, span.first);
+        let (before, later) = cut_before(rest, span.first as usize);
         push_due(&mut due, &mut reached, stream, nsp, before)?;
         reached.reach(span)?;
         rest = later;
@@ -88,17 +86,16 @@ fn push_due(
     reached: &mut Reached,
     stream: &Stream,
     nsp: &str,
-    positions: &[u64],
-) -> Result<(), Memory>
+    positions: &[usize],
+) -> Result<(), AllocError>
     ensures due { OnOk result (due.new.items ≡ due.old.items ++ filter (is_due_at reached.old.last_of.entries stream.now nsp.now) positions.now) }
     ensures reached { reached.new.last_of ≡ reached.old.last_of }
 {
     for position in positions {
-        reached.position = *position;
-        if is_due(stream, nsp, *position, reached) {
-            let Ok(()) = due.push(*position) else {
-                return Err(Memory);
-            };
+        let position = *position as u64;
+        reached.position = position;
+        if is_due(stream, nsp, position, reached) {
+            due.push(position)?;
         }
     }
     Ok(())

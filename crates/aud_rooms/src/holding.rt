@@ -4,8 +4,7 @@ ghost use Rattle.aud_rooms.specs.Private.Times.{Times, AreApart, ContinuesTimes,
 
 use crate::interval::Interval;
 use crate::span::Span;
-use aud_tap::Memory;
-use std::alloc::Global;
+use std::alloc::{AllocError, Global};
 use std::borrow::CowStr;
 use std::marker::Model;
 
@@ -47,7 +46,7 @@ impl Holding {
     }
 
     /// The room is held no longer.
-    pub fn shut(&mut self, covered: u64) -> Result<(), Memory>
+    pub fn shut(&mut self, covered: u64) -> Result<(), AllocError>
         ensures continues { (low : ℕ) → AreApart low self.old.ended self.old.since covered
             → ContinuesTimes low covered self.old self.new }
         ensures left { OnOk result (is_held_now self.new ≡ false) }
@@ -57,13 +56,10 @@ impl Holding {
             return Ok(());
         };
         if after < covered {
-            let Ok(()) = self.ended.push(Interval {
+            self.ended.push(Interval {
                 after,
                 last: covered,
-            })
-            else {
-                return Err(Memory);
-            };
+            })?;
         }
         self.since = None;
         Ok(())
@@ -75,7 +71,7 @@ impl Holding {
         room: &'a str,
         covered: u64,
         spans: &mut Vec<Span<'a>>,
-    ) -> Result<(), Memory>
+    ) -> Result<(), AllocError>
         requires { AreApart 0 self.now.ended self.now.since covered }
         ensures { OnOk result (spans.new.items ≡ spans.old.items ++ spans_of room.now covered self.now) }
     {
@@ -96,7 +92,11 @@ impl Holding {
     }
 }
 
-fn push_span<'a>(spans: &mut Vec<Span<'a>>, room: &'a str, interval: Interval) -> Result<(), Memory>
+fn push_span<'a>(
+    spans: &mut Vec<Span<'a>>,
+    room: &'a str,
+    interval: Interval,
+) -> Result<(), AllocError>
     requires { interval.after < interval.last }
     ensures { OnOk result (spans.new.items ≡ spans.old.items ++ span_of room.now interval ∷ []) }
 {
@@ -105,9 +105,7 @@ fn push_span<'a>(spans: &mut Vec<Span<'a>>, room: &'a str, interval: Interval) -
         first: interval.after + 1,
         last: interval.last,
     };
-    let Ok(()) = spans.push(span) else {
-        return Err(Memory);
-    };
+    spans.push(span)?;
     Ok(())
 }
 

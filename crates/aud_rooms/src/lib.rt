@@ -23,6 +23,7 @@ mod addressee;
 mod builder;
 mod building;
 mod candidates;
+mod cut;
 mod due;
 mod holding;
 mod interval;

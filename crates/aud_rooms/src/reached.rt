@@ -7,8 +7,7 @@ ghost use Rattle.aud_rooms.specs.Private.Reached.{HasReached};
 
 use crate::addressee::Holds;
 use crate::span::Span;
-use aud_tap::Memory;
-use std::alloc::Global;
+use std::alloc::{AllocError, Global};
 use std::collections::BTreeMap;
 
 /// The rooms at a position: of each room it keeps the greatest last position of its spans that have begun.
@@ -41,7 +40,7 @@ impl<'s> Reached<'s> {
     }
 
     /// The span begins.
-    pub fn reach(&mut self, span: &'s Span<'_>) -> Result<(), Memory>
+    pub fn reach(&mut self, span: &'s Span<'_>) -> Result<(), AllocError>
         ensures reached { (begun : List RoomSpan) → HasReached self.old.last_of.entries begun
             → OnOk result (HasReached self.new.last_of.entries (begun ++ span.now ∷ [])) }
         ensures position { self.new.position ≡ self.old.position }
@@ -51,9 +50,7 @@ impl<'s> Reached<'s> {
             Some(last) => span.last.max(*last),
             None => span.last,
         };
-        let Ok(_) = self.last_of.insert(room, last) else {
-            return Err(Memory);
-        };
+        self.last_of.insert(room, last)?;
         Ok(())
     }
 }

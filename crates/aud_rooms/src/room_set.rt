@@ -4,8 +4,7 @@ ghost use Rattle.std.specs.FinSet as set;
 ghost use Rattle.aud_rooms.specs.Rooms.{Rooms};
 
 use crate::addressee::Holds;
-use aud_tap::Memory;
-use std::alloc::Global;
+use std::alloc::{AllocError, Global};
 use std::collections::BTreeSet;
 use std::marker::Model;
 
@@ -47,13 +46,11 @@ impl<'a> RoomSet<'a> {
 
     /// The room is held from now on; one that is held already changes nothing. Where memory is wanted, the rooms are as
     /// they were.
-    pub fn join(&mut self, room: &'a str) -> Result<(), Memory>
+    pub fn join(&mut self, room: &'a str) -> Result<(), AllocError>
         ensures joined { OnOk result (self.new ≡ set.insert self.old room.now) }
         ensures unchanged { OnErr result (self.new ≡ self.old) }
     {
-        let Ok(_) = self.rooms.insert(room) else {
-            return Err(Memory);
-        };
+        self.rooms.insert(room)?;
         Ok(())
     }
 

@@ -6,8 +6,7 @@ ghost use Rattle.aud_rooms.specs.Private.Building.{spans_upto};
 
 use crate::holding::Holding;
 use crate::span::Span;
-use aud_tap::Memory;
-use std::alloc::Global;
+use std::alloc::{AllocError, Global};
 use std::collections::BTreeMap;
 
 /// The spans of all rooms, where positions are covered up to this one.
@@ -15,7 +14,7 @@ pub fn spans_of_rooms<'a>(
     alloc: Global,
     rooms: &BTreeMap<&'a str, Holding>,
     covered: u64,
-) -> Result<Vec<Span<'a>>, Memory>
+) -> Result<Vec<Span<'a>>, AllocError>
     requires { (room : List ℕ) (t : Times) → at_room rooms.now.entries room ≡ Some t → AreApart 0 t.ended t.since covered }
     ensures spans { IfOk result (λ spans. spans.items ≡ spans_upto covered rooms.now.entries) }
     ensures ordered { AreOrdered rooms.now.entries }

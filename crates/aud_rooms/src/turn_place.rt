@@ -1,12 +1,11 @@
 //! Where a turn stands in a node's log.
 ghost use Rattle.std.specs.Prelude.{◌≡◌, ◌<◌, length, suc};
-ghost use Rattle.std.specs.List.{filter};
-ghost use Rattle.std.specs.List.Sorted.{IsNonDecreasing};
 ghost use Rattle.aud_node.specs.Cluster.{node_log};
 ghost use Rattle.aud_node.specs.Cursors.{cursor_at};
 ghost use Rattle.aud_rooms.specs.Turns.{slice_of};
-ghost use Rattle.aud_rooms.specs.TurnPlaces.{IsWithin, is_between, own_between};
+ghost use Rattle.aud_rooms.specs.TurnPlaces.{IsWithin, own_between};
 
+use crate::cut::between;
 use aud_node::Logs;
 use std::marker::Model;
 
@@ -52,7 +51,7 @@ impl TurnPlace {
         ensures { result.now ≡ own_between (node_log logs.now self.now.node) pid.now self.now.from self.now.to }
     {
         match logs.node(self.node) {
-            Some(log) => numbers_between(log.own(pid), self.from, self.to),
+            Some(log) => between(log.own(pid), self.from, self.to),
             None => &[],
         }
     }
@@ -67,16 +66,4 @@ fn cursor_after(logs: &Logs<'_>, node: usize, number: usize) -> u64
         Some(log) => log.cursor_after(number).unwrap_or(0),
         None => 0,
     }
-}
-
-/// Of ascending numbers, those from the first on and before the second.
-fn numbers_between(numbers: &[usize], from: usize, to: usize) -> &[usize]
-    requires { IsNonDecreasing numbers.now }
-    ensures { result.now ≡ filter (is_between from to) numbers.now }
-{
-    let before = numbers.partition_point(|number| *number < from);
-    let (_, rest) = numbers.split_at(before);
-    let count = rest.partition_point(|number| *number < to);
-    let (inside, _) = rest.split_at(count);
-    inside
 }

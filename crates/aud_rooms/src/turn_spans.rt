@@ -12,8 +12,8 @@ use crate::builder::SpanBuilder;
 use crate::span::Span;
 use crate::turn_place::TurnPlace;
 use aud_node::Logs;
-use aud_tap::{Memory, NodeRec};
-use std::alloc::Global;
+use aud_tap::NodeRec;
+use std::alloc::{AllocError, Global};
 
 /// The spans of the turns of the session with this pid and sid: past the first turn's low, up to the greatest high,
 /// by the bytes of the room, then by the first position. Each turn stands in the log of a node that took the stream in
@@ -25,7 +25,7 @@ pub fn spans_of_turns<'a>(
     pid: &str,
     sid: &'a str,
     turns: &[TurnPlace],
-) -> Result<Vec<Span<'a>>, Memory>
+) -> Result<Vec<Span<'a>>, AllocError>
     requires { All (IsInOrder logs.now) turns.now }
     ensures { IfOk result (λ spans. (nsp : Text) → AreSpansOfTurns logs.now.stream
         (record { pid = pid.now; sid = sid.now; nsp = nsp }) (map (slice_of logs.now) turns.now) spans.items) }
@@ -53,7 +53,7 @@ fn walk_turn<'a>(
     logs: &Logs<'a>,
     pid: &str,
     turn: &TurnPlace,
-) -> Result<(), Memory>
+) -> Result<(), AllocError>
     requires { IsWithin logs.now turn.now }
     ensures { OnOk result (builder.new ≡ option_map (walked_turn logs.now pid.now turn.now) builder.old) }
 {
@@ -71,7 +71,7 @@ fn walk_record<'a>(
     node: usize,
     pid: &str,
     number: usize,
-) -> Result<(), Memory>
+) -> Result<(), AllocError>
     ensures { OnOk result (builder.new ≡ option_map (walked_record logs.now node pid.now number) builder.old) }
 {
     let Some(log) = logs.node(node) else {
@@ -92,7 +92,7 @@ fn change_rooms<'a>(
     builder: &mut SpanBuilder<'a>,
     pid: &str,
     rec: &'a NodeRec,
-) -> Result<(), Memory>
+) -> Result<(), AllocError>
     ensures { OnOk result (builder.new ≡ option_map (held_after_record pid.now rec.now) builder.old) }
 {
     match rec {

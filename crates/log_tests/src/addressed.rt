@@ -2,8 +2,7 @@
 use crate::question::{Question, assert_answers};
 use aud_node::Logs;
 use aud_rooms::{RoomSet, addressed};
-use aud_tap::Memory;
-use std::alloc::Global;
+use std::alloc::{AllocError, Global};
 use std::test::Fail;
 
 const ENTRIES: &str = r#"
@@ -22,7 +21,7 @@ struct Asked {
 }
 
 impl Asked {
-    fn rooms(&self, alloc: Global) -> Result<RoomSet<'static>, Memory> {
+    fn rooms(&self, alloc: Global) -> Result<RoomSet<'static>, AllocError> {
         let mut rooms = RoomSet::new(alloc);
         rooms.join("s1")?;
         rooms.join("r")?;

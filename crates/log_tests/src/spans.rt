@@ -1,7 +1,6 @@
 //! The spans of a session, from its joins and leaves.
 use aud_rooms::{Span, SpanBuilder};
-use aud_tap::Memory;
-use std::alloc::Global;
+use std::alloc::{AllocError, Global};
 use std::test::Fail;
 
 /// What comes next.
@@ -12,7 +11,7 @@ enum Next {
     Leave(&'static str),
 }
 
-fn walk(builder: &mut SpanBuilder<'static>, next: Next) -> Result<(), Memory> {
+fn walk(builder: &mut SpanBuilder<'static>, next: Next) -> Result<(), AllocError> {
     match next {
         Next::Upto(position) => builder.upto(position),
         Next::Join(room) => builder.join(room),
@@ -20,7 +19,7 @@ fn walk(builder: &mut SpanBuilder<'static>, next: Next) -> Result<(), Memory> {
     }
 }
 
-fn spans(alloc: Global, steps: &[Next]) -> Result<Vec<Span<'static>>, Memory> {
+fn spans(alloc: Global, steps: &[Next]) -> Result<Vec<Span<'static>>, AllocError> {
     let mut builder = SpanBuilder::new(alloc, "s1", 0)?;
     for next in steps {
         walk(&mut builder, *next)?;

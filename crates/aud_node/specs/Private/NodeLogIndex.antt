@@ -1,8 +1,8 @@
 -- What a node's log keeps beside its records.
 use Rattle.std.specs.Prelude.{◌≡◌}
+use Rattle.aud_base.specs.Places.{places_of}
 use Rattle.aud_node.specs.Stream.{Text}
 use Rattle.aud_node.specs.OwnRecords.{own_numbers}
-use Rattle.aud_node.specs.Private.OwnIndex.{kept_numbers}
 use Rattle.aud_node.specs.Private.CursorIndex.{HoldsCursors}
 use Rattle.aud_node.specs.Private.TurnIndex.{HoldsTurns}
 use Rattle.aud_node.specs.declared.node_log.NodeLog.TheInside.{Inside}
@@ -10,5 +10,5 @@ use Rattle.aud_node.specs.declared.node_log.NodeLog.TheInside.{Inside}
 -- the cursors, the numbers and the turns are those of the records
 pub record HoldsNodeLog (n : Inside) : Type 0 where
   pub cursors_are : HoldsCursors n.stream.now n.recs.now n.cursors
-  pub own_are : (pid : Text) → kept_numbers n.own pid ≡ own_numbers n.recs.now pid
+  pub own_are : (pid : Text) → places_of n.own pid ≡ own_numbers n.recs.now pid
   pub turns_are : HoldsTurns n.recs.now n.turns

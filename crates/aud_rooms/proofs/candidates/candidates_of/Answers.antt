@@ -1,11 +1,11 @@
-use Rattle.std.proofs.Common.{length, nat_eq, sym, ap, ◌∙◌}
+use Rattle.std.proofs.Common.{length, nat_eq, sym, subst, ap, ◌∙◌}
+use Rattle.std.specs.List.Sorted.{IsStrictlyIncreasing}
 use Rattle.std.proofs.lemmas.List.Filters.{dedup_is}
-use Rattle.std.proofs.lemmas.List.Kept.{AllPairs-from_increasing}
 use Rattle.std.proofs.lemmas.List.Sorted.{list_any-IsPermutation}
 use Rattle.std.proofs.lemmas.Map.Keys.{IsStrictlyIncreasing-dedup}
 use Rattle.aud_rooms.specs.Private.Candidates.{is_among, candidates, is_candidate}
-use Rattle.aud_rooms.proofs.Among.{among-dedup, among-stream, ascends-pairs, ascends-positions, same_ascending}
-use Rattle.aud_rooms.proofs.Candidate.{none_candidate}
+use Rattle.aud_rooms.proofs.Candidate.{among-dedup, among-stream, none_candidate}
+use Rattle.aud_rooms.proofs.Ascending.{filter-ascends, same_ascending}
 use Rattle.aud_rooms.proofs.candidates.candidates_of.Goals as goal
 
 pub returns : goal.returns
@@ -15,8 +15,8 @@ returns c =
     let sorted = c.sort_unstable.new.self.items in
     let is = dedup_is _ _ _ c.dedup.ensures.filtered in
     same_ascending c.dedup.new.self.items (candidates c.args.spans.now stream c.args.nsp.now c.args.birth c.args.high)
-    (rw is (ascends-pairs _ (AllPairs-from_increasing _ (IsStrictlyIncreasing-dedup sorted c.sort_unstable.ensures.sorted))))
-    (ascends-positions test 0 (length stream))
+    (subst IsStrictlyIncreasing (sym is) (IsStrictlyIncreasing-dedup sorted c.sort_unstable.ensures.sorted))
+    (filter-ascends test 1 (length stream))
     (λ p.
     ap (λ ps. is_among ps p) is ∙ among-dedup sorted p
     ∙ sym (list_any-IsPermutation (nat_eq p) c.in_ok-found.found.items sorted c.sort_unstable.ensures.permutation)

@@ -14,4 +14,4 @@ returns-clause-permutation c =
 pub returns-clause-sorted : goal.returns-clause-sorted
 returns-clause-sorted c =
     sorted_by_first c.sort_by_key.new.self.items
-    (IsNonDecreasingBy-from_sort_by_key (λ (s : Bor RoomSpan). s.now.first) c.sort_by_key.new.self.items c.in-Ok.ensures.sorted (λ a r q k. search rules))
+    (IsNonDecreasingBy-from_sort_by_key (λ (s : Bor RoomSpan). s.now.first) c.sort_by_key.new.self.items c.in_ok-sort_by_key.ensures.sorted (λ a r q k. search rules))

@@ -1,7 +1,5 @@
-use Rattle.std.proofs.Common.{map, take, sym, subst}
+use Rattle.std.proofs.Common.{◌≡◌, map, take, filter, nat_lt, not, sym, subst}
 use denote.Ref.{Bor}
-use Rattle.std.specs.List.{AllByRecursion}
-use Rattle.std.proofs.Common.{◌<◌, ◌≤◌}
 use Rattle.aud_rooms.specs.Spans.{RoomSpan}
 use Rattle.aud_rooms.specs.Private.Reached.{HasReached}
 use Rattle.aud_rooms.proofs.Sweep.{swept_step, swept_end}
@@ -16,9 +14,9 @@ loop-span-preserved c =
     swept_step xs c.args.stream.now c.args.nsp.now c.args.found.now i c.loop-span.reached.last_of.entries c.loop-span.due.items c.loop-span.rest.now c.push_due.new.due.items
     c.loop-span.invariant c.span-item.result c.loop-span-test.true c.span-item.is c.requires.by_first c.reach.new.self.last_of.entries
     c.cut_before.result.0.now c.cut_before.result.1.now c.cut_before.ensures.parts
-    (subst (λ (s : RoomSpan). AllByRecursion (λ p. p < s.first) c.cut_before.result.0.now) c.span.view_is c.cut_before.ensures.below)
-    (subst (λ (s : RoomSpan). AllByRecursion (λ p. s.first ≤ p) c.cut_before.result.1.now) c.span.view_is c.cut_before.ensures.above)
-    c.cut_before.ensures.ascending c.in_ok-push_due.ensures.due reached
+    (subst (λ (s : RoomSpan). c.cut_before.result.0.now ≡ filter (λ n. nat_lt n s.first) c.loop-span.rest.now) c.span.view_is c.cut_before.ensures.below)
+    (subst (λ (s : RoomSpan). c.cut_before.result.1.now ≡ filter (λ n. not (nat_lt n s.first)) c.loop-span.rest.now) c.span.view_is c.cut_before.ensures.above)
+    c.in_ok-push_due.ensures.due reached
 
 pub returns : goal.returns
 returns c =

@@ -4,7 +4,7 @@ use Rattle.std.proofs.lemmas.Result.{IfOk-weaker}
 use denote.Ref.{Bor}
 use Rattle.aud_rooms.specs.Spans.{RoomSpan}
 use Rattle.aud_rooms.specs.Private.Candidates.{candidates, is_candidate, is_for_spans}
-use Rattle.aud_rooms.proofs.Among.{ascends-positions, non_decreasing}
+use Rattle.aud_rooms.proofs.Ascending.{non_decreasing}
 use Rattle.aud_rooms.proofs.Candidate.{candidates_due}
 use Rattle.aud_rooms.proofs.Sweep.{for_permuted}
 use Rattle.aud_rooms.proofs.due.due_of.Goals as goal
@@ -12,9 +12,8 @@ use Rattle.aud_rooms.proofs.due.due_of.Goals as goal
 pub due_by_first-requires-clause-ascending : goal.due_by_first-requires-clause-ascending
 due_by_first-requires-clause-ascending c =
     let stream = c.args.stream.now in
-    let found = candidates c.args.spans.now stream c.args.nsp.now c.args.birth c.args.high in
     subst IsNonDecreasing (sym (c.deref-2.ensures.value ∙ c.in_ok-found.ensures))
-    (non_decreasing found (ascends-positions (is_candidate c.args.spans.now stream c.args.nsp.now c.args.birth c.args.high) 0 (length stream)))
+    (non_decreasing (is_candidate c.args.spans.now stream c.args.nsp.now c.args.birth c.args.high) 1 (length stream))
 
 pub returns : goal.returns
 returns c =

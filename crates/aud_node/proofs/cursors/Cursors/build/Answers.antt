@@ -4,8 +4,9 @@ use Rattle.std.proofs.lemmas.Option.{slice_get_read}
 use Rattle.aud_node.specs.Lists.{numbers_from}
 use Rattle.aud_node.specs.Cursors.{cursor_at, next_cursor}
 use Rattle.aud_node.specs.Ordered.{is_in_order}
-use Rattle.aud_node.proofs.ListLemmas.{false_from_not, true_from_not}
-use Rattle.aud_node.proofs.CursorLemmas.{is_in_order_at, cursor_at-more, is_in_order_at-here, cursors-more, all-more, is_ordered-all, and-false, and-true}
+use Rattle.std.proofs.lemmas.Bool.{not-true, not-false, and_right}
+use Rattle.aud_base.proofs.Truth.{and_true}
+use Rattle.aud_node.proofs.CursorLemmas.{is_in_order_at, cursor_at-more, is_in_order_at-here, cursors-more, all-more, is_ordered-all}
 use Rattle.aud_node.proofs.cursors.Cursors.build.Goals as goal
 use Rattle.aud_node.proofs.cursors.Cursors.build.Goals.{then-not-advance, else-not-advance}
 
@@ -25,8 +26,8 @@ loop-number-preserved c =
     let here_is : c.by-advance.result.in_order ≡ is_in_order_at stream log i = c.by-advance.ensures.order ∙ order in
     let kept : c.if-not-advance.ordered ≡ (c.loop-number.ordered && is_in_order_at stream log i) =
     elim c.if-not-advance.branch [
-      | then-not-advance w ↦ w.ordered-is ∙ and-false _ _ (sym here_is ∙ false_from_not c.by-advance.result.in_order w.if-not-advance.true)
-      | else-not-advance w ↦ w.ordered-is ∙ and-true _ _ (sym here_is ∙ true_from_not c.by-advance.result.in_order w.if-not-advance.false)
+      | then-not-advance w ↦ w.ordered-is ∙ sym (and_right c.loop-number.ordered _ (sym here_is ∙ not-true c.by-advance.result.in_order w.if-not-advance.true))
+      | else-not-advance w ↦ w.ordered-is ∙ sym (ap (λ b. c.loop-number.ordered && b) (sym here_is ∙ not-false c.by-advance.result.in_order w.if-not-advance.false) ∙ and_true c.loop-number.ordered)
     ] in
     record {
       after_are = c.in_ok-push.ensures.items ∙ cursors-more (λ number. cursor_at stream log (suc number)) i c.by-advance.result.cursor c.loop-number.after.items before.after_are (cursor ∙ ap (cursor_at stream log) next);

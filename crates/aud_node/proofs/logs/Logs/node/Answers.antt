@@ -1,6 +1,6 @@
 use Rattle.std.proofs.Common.{ap, ◌∙◌, map, Some, None, slice_get}
 use Rattle.aud_node.specs.NodeTaps.{node_at, node_tap}
-use Rattle.aud_node.proofs.ListLemmas.{got}
+use Rattle.aud_base.proofs.Lists.{got}
 use Rattle.aud_node.proofs.NodeLemmas.{flat, node_at-kept}
 use Rattle.aud_node.proofs.logs.Logs.node.Goals as goal
 

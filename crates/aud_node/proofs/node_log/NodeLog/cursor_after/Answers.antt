@@ -1,5 +1,5 @@
 use Rattle.std.proofs.Common.{slice_get, ap, ◌∙◌}
-use Rattle.aud_node.proofs.ListLemmas.{got}
+use Rattle.aud_base.proofs.Lists.{got}
 use Rattle.aud_node.proofs.CursorLemmas.{cursors_after-read}
 use Rattle.aud_node.specs.NodeTap.{cursor_after}
 use Rattle.aud_node.proofs.node_log.NodeLog.cursor_after.Goals as goal

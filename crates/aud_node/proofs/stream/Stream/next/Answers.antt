@@ -1,7 +1,8 @@
 use Rattle.std.proofs.Common.{◌≡◌, ◌+◌, suc, sym, ap, ◌∙◌, arith, Some, None}
 use Rattle.std.specs.Str.{bytes_eq}
 use Rattle.aud_node.specs.Private.NextPosition.{next_position}
-use Rattle.aud_node.proofs.ListLemmas.{got, false_from_not, true_from_not}
+use Rattle.std.proofs.lemmas.Bool.{not-true, not-false}
+use Rattle.aud_base.proofs.Lists.{got}
 use Rattle.aud_node.proofs.PositionLemmas.{has_offset, next-other, next-first}
 use Rattle.aud_node.proofs.stream.Stream.next.Goals as goal
 
@@ -16,7 +17,7 @@ pub returns-then-ne : goal.returns-then-ne
 returns-then-ne c =
     let stream = c.self.inside.entries.now in
     let off = c.args.off.now in
-    let differs = false_from_not (bytes_eq c.offset.result.now off) (sym c.ne.ensures ∙ c.if-ne.true) in
+    let differs = not-true (bytes_eq c.offset.result.now off) (sym c.ne.ensures ∙ c.if-ne.true) in
     next-other stream off c.args.cursor
     (ap (λ o. has_offset o off) (sym (got stream c.args.cursor (Some c.in-Some.entry) c.in-Some.ensures.lookup.3)) ∙ ap (λ o. bytes_eq o off) (sym c.offset.ensures) ∙ differs)
     ∙ ap (λ s. next_position s off c.args.cursor) c.self.view_is
@@ -26,7 +27,7 @@ returns-then-distinct c =
     let stream = c.self.inside.entries.now in
     let off = c.args.off.now in
     let next : c.args.cursor + 1 ≡ suc c.args.cursor = omega arith in
-    let same = true_from_not (bytes_eq c.offset.result.now off) (sym c.ne.ensures ∙ c.if-ne.false) in
+    let same = not-false (bytes_eq c.offset.result.now off) (sym c.ne.ensures ∙ c.if-ne.false) in
     ap Some next
     ∙ next-first stream c.in-Some.entry.now off c.args.cursor (c.self.invariant.offsets_are.are_first (sym c.distinct.ensures ∙ c.if-distinct.true))
     (sym (got stream c.args.cursor (Some c.in-Some.entry) c.in-Some.ensures.lookup.3)) (ap (λ o. bytes_eq o off) (sym c.offset.ensures) ∙ same)

@@ -1,6 +1,6 @@
 use Rattle.std.proofs.Common.{◌-◌, slice_get, ap, ◌∙◌, unwrap_or, false, arith}
 use Rattle.aud_node.specs.AtPosition.{is_recoverable_at}
-use Rattle.aud_node.proofs.ListLemmas.{got}
+use Rattle.aud_base.proofs.Lists.{got}
 use Rattle.aud_node.proofs.PositionLemmas.{recoverable-flag}
 use Rattle.aud_node.proofs.stream.Stream.recoverable.Goals as goal
 

@@ -31,12 +31,12 @@ invariant_of-self-2 c =
     let at = c.self.inside in
     kept_first at.low at.covered at.rooms.entries c.args.room.now (sym c.in_default.ensures.value) c.self.invariant
     c.get_mut.follows.lender-at-none.entries c.insert.new.self.entries (ap (λ m. m.entries) c.get_mut.follows.holds-at-none) c.new.result c.new.ensures
-    c.in-Ok.ensures.updates.0
+    c.in_ok-insert.ensures.updates.0
 
 pub returns : goal.returns
 returns c =
     let at = c.self.inside in
     assigned_first at.low at.covered at.rooms.entries c.args.room.now (sym c.in_default.ensures.value) c.self.invariant
     c.get_mut.follows.lender-at-none.entries c.insert.new.self.entries (ap (λ m. m.entries) c.get_mut.follows.holds-at-none) c.new.result c.new.ensures
-    c.in-Ok.ensures.updates.0
+    c.in_ok-insert.ensures.updates.0
     ∙ ap (with_joined c.args.room.now) c.self.view_is

@@ -20,4 +20,4 @@ returns-clause-reached c =
     ] in
     subst (λ (x : RoomSpan). HasReached c.insert.new.self.entries (begun ++ x ∷ [])) c.span.view_is
     (reached_more olds c.insert.new.self.entries begun (record { room = cow_str_bytes s.room; first = s.first; last = s.last }) was room c.as_str-room.ensures.value c.match-get.last
-    c.in-Ok.ensures.updates.0 greatest)
+    c.in_ok-insert.ensures.updates.0 greatest)

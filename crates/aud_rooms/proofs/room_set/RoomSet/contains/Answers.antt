@@ -1,6 +1,6 @@
 use Rattle.std.proofs.Common.{sym, ap, ◌∙◌}
 use Rattle.std.specs.FinSet as set
-use Rattle.aud_rooms.proofs.Sets.{contains-texts}
+use Rattle.aud_rooms.proofs.RoomMaps.{contains-texts}
 use Rattle.aud_rooms.proofs.room_set.RoomSet.contains.Goals as goal
 
 pub returns : goal.returns

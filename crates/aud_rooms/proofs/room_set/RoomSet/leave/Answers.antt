@@ -1,6 +1,6 @@
 use Rattle.std.proofs.Common.{ap, ◌∙◌}
 use Rattle.std.specs.FinSet as set
-use Rattle.aud_rooms.proofs.Sets.{texts-remove}
+use Rattle.aud_rooms.proofs.RoomMaps.{texts-remove}
 use Rattle.aud_rooms.proofs.room_set.RoomSet.leave.Goals as goal
 
 pub returns : goal.returns

@@ -3,5 +3,5 @@ use Rattle.std.specs.List.Sorted.{IsNonDecreasing}
 use Rattle.aud_rooms.proofs.OwnNumbers.{own_ascend}
 use Rattle.aud_rooms.proofs.turn_place.TurnPlace.own.Goals as goal
 
-pub numbers_between-requires : goal.numbers_between-requires
-numbers_between-requires c = subst IsNonDecreasing (sym c.own.ensures) (own_ascend c.in-Some.log.now.recs c.args.pid.now)
+pub between-requires : goal.between-requires
+between-requires c = subst IsNonDecreasing (sym c.own.ensures) (own_ascend c.in-Some.log.now.recs c.args.pid.now)

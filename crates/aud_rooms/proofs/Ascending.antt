@@ -1,0 +1,68 @@
+-- Consecutive numbers and positions, and lists that ascend.
+use Rattle.std.proofs.Common.{◌≡◌, ◌<◌, ◌+◌, ℕ, zero, suc, Bool, List, [], ◌∷◌, ◌++◌, filter, length, get_or, Some, slice_get, refl, sym, ap, ◌∙◌, arith, nat_eq, ◌||◌, ◌≤◌, map, replicate}
+use Rattle.std.specs.List.{list_any}
+use Rattle.std.specs.List.Sorted.{IsNonDecreasing, IsStrictlyIncreasing}
+use Rattle.std.specs.Ordering.{nat_cmp, eq_by_cmp}
+use Rattle.std.specs.Cmp.{nat_cmp_total, unsigned_ties}
+use Rattle.std.proofs.lemmas.List.Kept.{IsStrictlyIncreasing-filter}
+use Rattle.std.proofs.lemmas.Map.Keys.{sorted_from_strictly_increasing, non_decreasing_from_sorted}
+use Rattle.std.proofs.lemmas.Map.Lookups.{btree_set_from_contains, exact_unsigned}
+use Rattle.std.proofs.lemmas.Option.{get_or_from_slice_get}
+use Rattle.aud_node.specs.Lists.{numbers_from}
+use Rattle.std.proofs.lemmas.List.{map-append}
+use Rattle.aud_node.specs.Stream.{positions_after}
+
+pub number_at : (first count k : ℕ) → k < count → slice_get (numbers_from first count) k ≡ Some (first + k)
+number_at first zero k h = absurd (omega arith)
+number_at first (suc count) zero h = let e : first ≡ first + 0 = omega arith in ap Some e
+number_at first (suc count) (suc k) h = let e : suc first + k ≡ first + suc k = omega arith in number_at (suc first) count k (omega arith) ∙ ap Some e
+
+pub length-numbers : (first count : ℕ) → length (numbers_from first count) ≡ count
+length-numbers first zero = refl
+length-numbers first (suc count) = ap suc (length-numbers (suc first) count)
+
+-- those after so many others
+pub numbers_more : (first one more : ℕ) → numbers_from first (one + more) ≡ numbers_from first one ++ numbers_from (first + one) more
+numbers_more first zero more = (let e : 0 + more ≡ more = omega arith in let f : first ≡ first + 0 = omega arith in ap (numbers_from first) e ∙ ap (λ n. numbers_from n more) f)
+numbers_more first (suc one) more =
+    let e : suc one + more ≡ suc (one + more) = omega arith in
+    let f : suc first + one ≡ first + suc one = omega arith in
+    ap (numbers_from first) e ∙ ap (λ ns. first ∷ ns) (numbers_more (suc first) one more ∙ ap (λ n. numbers_from (suc first) one ++ numbers_from n more) f)
+
+-- those that pass ascend
+pub filter-ascends : (p : ℕ → Bool) (first count : ℕ) → IsStrictlyIncreasing (filter p (numbers_from first count))
+filter-ascends p first count =
+    IsStrictlyIncreasing-filter p (numbers_from first count) (λ k h.
+    let all = length-numbers first count in
+    let here = at k (omega (arith, all, h)) in
+    let next = at (k + 1) (omega (arith, all, h)) in
+    omega (arith, here, next))
+  where
+    at : (k : ℕ) → k < count → get_or (numbers_from first count) k 0 ≡ first + k
+    at k h = get_or_from_slice_get (numbers_from first count) k (first + k) 0 (number_at first count k h)
+
+pub non_decreasing : (p : ℕ → Bool) (first count : ℕ) → IsNonDecreasing (filter p (numbers_from first count))
+non_decreasing p first count = non_decreasing_from_sorted _ (sorted_from_strictly_increasing _ (filter-ascends p first count))
+
+-- there is one ascending list of given numbers
+pub same_ascending : (xs ys : List ℕ) → IsStrictlyIncreasing xs → IsStrictlyIncreasing ys → ((n : ℕ) → list_any (nat_eq n) xs ≡ list_any (nat_eq n) ys) → xs ≡ ys
+same_ascending xs ys a b same =
+    btree_set_from_contains nat_cmp_total (record { keys = xs }) (record { keys = ys }) (sorted_from_strictly_increasing xs a) (sorted_from_strictly_increasing ys b)
+    (λ n. sym (tied n xs) ∙ same n ∙ tied n ys) exact_unsigned
+  where
+    tied : (n : ℕ) (zs : List ℕ) → list_any (nat_eq n) zs ≡ list_any (eq_by_cmp nat_cmp n) zs
+    tied n [] = refl
+    tied n (z ∷ zs) = ap (λ b. b || list_any (nat_eq n) zs) (unsigned_ties n z) ∙ ap (λ b. eq_by_cmp nat_cmp n z || b) (tied n zs)
+
+pub map_positions : {X : Type 0} (f g : ℕ → X) (low count : ℕ) → ((p : ℕ) → low < p → p ≤ low + count → f p ≡ g p) → map f (positions_after low count) ≡ map g (positions_after low count)
+map_positions f g low zero same = refl
+map_positions f g low (suc count) same = grind (arith, map_positions f g (suc low) count)
+
+pub map_more : {X : Type 0} (f : ℕ → X) (low one more : ℕ) → map f (positions_after low (one + more)) ≡ map f (positions_after low one) ++ map f (positions_after (low + one) more)
+map_more f low one more =
+    let e : suc low + one ≡ suc (low + one) = omega arith in
+    ap (map f) (numbers_more (suc low) one more) ∙ map-append f (positions_after low one) _ ∙ ap (λ n. map f (positions_after low one) ++ map f (numbers_from n more)) e
+
+pub map_same : {X : Type 0} (x : X) (low count : ℕ) → map (λ _. x) (positions_after low count) ≡ replicate count x
+map_same x low zero = refl
+map_same x low (suc count) = ap (λ xs. x ∷ xs) (map_same x (suc low) count)
