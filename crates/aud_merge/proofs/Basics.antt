@@ -1,17 +1,11 @@
--- Texts, look-ups, and options.
-use Rattle.std.proofs.Common.{◌≡◌, ℕ, zero, suc, Bool, true, false, cond, List, [], ◌∷◌, set, Option, Some, None, slice_get, refl, sym, ap, ◌∙◌, ◌⊎◌, bytes_eq, arith, option_map, option_and_then}
+-- Look-ups, and options.
+use Rattle.std.proofs.Common.{◌≡◌, ℕ, zero, suc, Bool, true, false, cond, List, [], ◌∷◌, set, Option, Some, None, slice_get, refl, sym, ap, ◌∙◌, option_map, option_and_then}
 use Rattle.std.specs.Ordering.{nat_cmp}
 use Rattle.std.specs.Cmp.Lexicographic.{slice_cmp, texts_ties, nat_list_cmp_total}
 use Rattle.std.specs.FinMap as fin
 use Rattle.std.proofs.lemmas.Option.{same_Some, none-some}
 use Rattle.aud_node.specs.Stream.{Text}
-use Rattle.aud_rooms.proofs.Turns.{same_text, itself_text}
-
-pub other_text : (a b : Text) → (a ≡ b → ⊥) → bytes_eq a b ≡ false
-other_text a b n = elim (bytes_eq a b) as (λ v. bytes_eq a b ≡ v → v ≡ false) [ true ↦ λ e. absurd (n (same_text a b e)) | false ↦ λ e. refl ] refl
-
-pub cases_text : (a b : Text) → (a ≡ b) ⊎ (a ≡ b → ⊥)
-cases_text a b = grind (arith, same_text a b, itself_text b)
+use Rattle.aud_base.proofs.SameText.{itself_text, other_text}
 
 module _ {X : Type 0} where
   pub get_insert_same : (m : fin.FinMap (slice_cmp nat_cmp) X) (k : Text) (v : X) → fin.get (fin.insert m k v) k ≡ Some v

@@ -21,7 +21,8 @@ use Rattle.aud_merge.specs.Machine.{State, start, after, after_next, after_recor
 use Rattle.aud_merge.specs.Runs.{record_count, IsRun, AreAllowed, IsBlocked, state_after, front}
 use Rattle.aud_merge.specs.Private.RunsOn.{RunsOn}
 use Rattle.aud_merge.specs.Sessions.{SessionState, Absent, Here, Away, Ended, session_after}
-use Rattle.aud_merge.proofs.Basics.{and_then_parts, map_parts, cond_parts, cases_text, slice_get-set_other, get_insert_same, get_insert_other}
+use Rattle.aud_base.proofs.SameText.{cases_text}
+use Rattle.aud_merge.proofs.Basics.{and_then_parts, map_parts, cond_parts, slice_get-set_other, get_insert_same, get_insert_other}
 use Rattle.aud_merge.proofs.Steps.{Stepped, stepped, appended-grows}
 use Rattle.aud_merge.proofs.Moves.{Named, next_position-at, RunsOn-run}
 use Rattle.aud_merge.proofs.Records.{IsBeyond, here-node, ended-after, waiting-after}

@@ -1,6 +1,6 @@
 -- The session at the moment when it first reaches a position, in a run and by its turns.
-use Rattle.std.proofs.Common.{◌≡◌, ℕ, suc, Bool, true, false, cond, List, [], ◌∷◌, map, find, Option, Some, None, slice_get, refl, sym, ap, subst, ◌∙◌, arith, option_map, option_and_then, unwrap_or}
-use Rattle.std.proofs.lemmas.Bool.{false≢true}
+use Rattle.std.proofs.Common.{◌≡◌, ℕ, suc, Bool, true, false, cond, List, [], ◌∷◌, map, find, Option, Some, None, slice_get, refl, sym, ap, subst, ◌∙◌, inl, inr, arith, option_map, option_and_then, unwrap_or}
+use Rattle.std.proofs.lemmas.Bool.{false≢true, cases_Bool, cond_both}
 use Rattle.aud_node.specs.Cluster.{Cluster, node_log}
 use Rattle.aud_node.specs.Lists.{first_index}
 use Rattle.aud_node.specs.Stream.{Text}
@@ -14,10 +14,10 @@ use Rattle.aud_merge.specs.Sessions.{SessionState}
 use Rattle.aud_merge.proofs.Steps.{stepped}
 use Rattle.aud_merge.proofs.Moves.{Synced, Synced-step}
 use Rattle.aud_merge.proofs.Slices.{part_from, rooms_for-at_low}
-use Rattle.aud_merge.proofs.Phases.{length-count, In, Spot, Waiting, Within, Over, Beyond, Holds}
-use Rattle.aud_merge.proofs.PhaseSteps.{moves_on}
+use Rattle.aud_merge.proofs.Phases.{length-count, In, Spot, Waiting, Within, Over, Beyond, Holds, moves_on}
 use Rattle.aud_merge.proofs.Spots.{rooms_left, spot_reached, Settled, reached-spot, Moves-rooms, step_left, Moves-step}
-use Rattle.aud_node.proofs.RecordLemmas.{between-none, cursor_at-rises}
+use Rattle.aud_base.proofs.Lists.{between-none}
+use Rattle.aud_node.proofs.RecordLemmas.{cursor_at-rises}
 
 -- the session when it first reaches the position, from this state on
 abbrev pub judged : Cluster → Text → ℕ → State → List Step → Option SessionState
@@ -42,7 +42,7 @@ module _ (c : Cluster) (who : Who) (last : ℕ) (p : ℕ) where
   -- where the session is reached, the turns say so
   now : (st : State) (spot : Spot) → Holds c who last st spot → spot_reached c spot p ≡ true → HasRooms who (Some (session_of st who.pid)) (rooms_left c who spot p)
   now st (Waiting k held rest) holds reached = absurd (false≢true reached)
-  now st (Within k t at held later) holds reached = grind (arith, rooms_for-at_low c.stream who.pid held (part_from c t at) (map (slice_of c) later) p reached (cursor_at-rises c.stream (node_log c t.node) at t.to holds.1.within), part_from c t at, cursor_at-rises c.stream (node_log c t.node) at t.to holds.1.within)
+  now st (Within k t at held later) holds reached = grind (arith, rooms_for-at_low c.stream who.pid held (part_from c t at) (map (slice_of c) later) p reached (cursor_at-rises c.stream (node_log c t.node) at t.to holds.1.rest.within), part_from c t at, cursor_at-rises c.stream (node_log c t.node) at t.to holds.1.rest.within)
   now st Over holds reached = absurd (false≢true reached)
   now st Beyond holds reached = absurd (false≢true reached)
 
@@ -58,31 +58,23 @@ module _ (c : Cluster) (who : Who) (last : ℕ) (p : ℕ) where
   -- THE ROOMS at the moment that reaches p are those by which the turns judge it
   pub agrees : (steps : List Step) (st : State) (spot : Spot) → Holds c who last st spot → RunsOn c st steps → Synced c st → Settled c who last (rooms_left c who spot p)
       → HasRooms who (judged c who.pid p st steps) (rooms_left c who spot p)
-  agrees [] st spot holds finished synced settled = go (spot_reached c spot p) refl (reached-spot c who last p st spot holds synced settled)
-    where
-      go : (b : Bool) → spot_reached c spot p ≡ b → is_reached who.pid p st ≡ spot_reached c spot p → HasRooms who (judged c who.pid p st []) (rooms_left c who spot p)
-      go true e same =
-          subst (λ b. HasRooms who (option_map (λ s. session_of s who.pid) (cond b (Some st) None)) (rooms_left c who spot p)) (sym (same ∙ e)) (now st spot holds e)
-      go false e same =
-          subst (λ b. HasRooms who (option_map (λ s. session_of s who.pid) (cond b (Some st) None)) (rooms_left c who spot p)) (sym (same ∙ e))
-          (subst (HasRooms who None) (sym (never st spot holds e finished).0) refl)
+  agrees [] st spot holds finished synced settled =
+      let same = reached-spot c who last p st spot holds synced settled in
+      cond_both (is_reached who.pid p st) (Some st) None (λ o. HasRooms who (option_map (λ s. session_of s who.pid) o) (rooms_left c who spot p))
+      (λ e. now st spot holds (sym same ∙ e))
+      (λ e. subst (HasRooms who None) (sym (never st spot holds (sym same ∙ e) finished).0) refl)
   agrees (s ∷ steps) st spot holds runs synced settled =
-      go (spot_reached c spot p) refl (reached-spot c who last p st spot holds synced settled) (λ next spot' holds' later synced' settled'. agrees steps next spot' holds' later synced' settled')
-    where
-      go : (b : Bool) → spot_reached c spot p ≡ b → is_reached who.pid p st ≡ spot_reached c spot p
-          → ((next : State) (spot' : Spot) → Holds c who last next spot' → RunsOn c next steps → Synced c next → Settled c who last (rooms_left c who spot' p) → HasRooms who (judged c who.pid p next steps) (rooms_left c who spot' p))
-          → HasRooms who (judged c who.pid p st (s ∷ steps)) (rooms_left c who spot p)
-      go true e same ih =
-          subst (λ b. HasRooms who (option_map (λ s. session_of s who.pid) (cond b (Some st) (find (is_reached who.pid p) (states_from c (unwrap_or (after c st s) st) steps)))) (rooms_left c who spot p)) (sym (same ∙ e)) (now st spot holds e)
-      go false e same ih =
-          let (next, allowed, later) = runs in
-          let step = stepped c st next s allowed in
-          let went = moves_on c who last st next s steps spot holds step later synced in
-          let kept = Moves-rooms c who s.log s.index spot went.spot went.moves p e in
-          let here = ih next went.spot went.holds later (Synced-step c st next s.log s.index step synced) (subst (Settled c who last) kept settled) in
-          subst (λ b. HasRooms who (option_map (λ s. session_of s who.pid) (cond b (Some st) (find (is_reached who.pid p) (states_from c (unwrap_or (after c st s) st) steps)))) (rooms_left c who spot p)) (sym (same ∙ e))
-          (subst (λ o. HasRooms who (option_map (λ s. session_of s who.pid) (find (is_reached who.pid p) (states_from c (unwrap_or o st) steps))) (rooms_left c who spot p)) (sym allowed)
-          (subst (HasRooms who (judged c who.pid p next steps)) (sym kept) here))
+      let same = reached-spot c who last p st spot holds synced settled in
+      let (next, allowed, later) = runs in
+      let step = stepped c st next s allowed in
+      let went = moves_on c who last st next s steps spot holds step later synced in
+      cond_both (is_reached who.pid p st) (Some st) (find (is_reached who.pid p) (states_from c (unwrap_or (after c st s) st) steps)) (λ o. HasRooms who (option_map (λ s. session_of s who.pid) o) (rooms_left c who spot p))
+      (λ e. now st spot holds (sym same ∙ e))
+      (λ e.
+      (let kept = Moves-rooms c who s.log s.index spot went.spot went.moves p (sym same ∙ e) in
+      subst (λ o. HasRooms who (judged c who.pid p (unwrap_or o st) steps) (rooms_left c who spot p)) (sym allowed)
+      (subst (HasRooms who (judged c who.pid p next steps)) (sym kept)
+      (agrees steps next went.spot went.holds later (Synced-step c st next s.log s.index step synced) (subst (Settled c who last) kept settled)))))
 
   shifted : (s : Step) (steps : List Step) (moment : Option ℕ) (step : Option Step) → FallsAfter steps moment step → FallsAfter (s ∷ steps) (option_map suc moment) step
   shifted s steps moment None falls = ap (option_map suc) falls
@@ -104,22 +96,14 @@ module _ (c : Cluster) (who : Who) (last : ℕ) (p : ℕ) where
       let went = moves_on c who last st next s steps spot holds step later synced in
       let settled' = subst (Settled c who last) (Moves-rooms c who s.log s.index spot went.spot went.moves p unreached) settled in
       let synced' = Synced-step c st next s.log s.index step synced in
-      go next allowed went.spot (Moves-step c who s.log s.index spot went.spot went.moves p unreached) (reached-spot c who last p next went.spot went.holds synced' settled') (spot_reached c went.spot p) refl
-      (λ e. falls steps next went.spot went.holds later synced' settled' e)
-    where
-      onward : (next : State) → after c st s ≡ Some next → first_index (is_reached who.pid p) (states_from c st (s ∷ steps)) ≡ option_map suc (first_index (is_reached who.pid p) (states_from c next steps))
-      onward next allowed =
+      let moves = Moves-step c who s.log s.index spot went.spot went.moves p unreached in
+      let onward : first_index (is_reached who.pid p) (states_from c st (s ∷ steps)) ≡ option_map suc (first_index (is_reached who.pid p) (states_from c next steps)) =
           ap (λ b. cond b (Some 0) (option_map suc (first_index (is_reached who.pid p) (states_from c (unwrap_or (after c st s) st) steps)))) (reached-spot c who last p st spot holds synced settled ∙ unreached)
-          ∙ ap (λ o. option_map suc (first_index (is_reached who.pid p) (states_from c (unwrap_or o st) steps))) allowed
-
-      go : (next : State) → after c st s ≡ Some next → (spot' : Spot) → (spot_reached c spot' p ≡ true → step_left c spot p ≡ Some (record { log = s.log; index = s.index })) × (spot_reached c spot' p ≡ false → step_left c spot p ≡ step_left c spot' p)
-          → is_reached who.pid p next ≡ spot_reached c spot' p → (b : Bool) → spot_reached c spot' p ≡ b
-          → (spot_reached c spot' p ≡ false → FallsAfter steps (first_index (is_reached who.pid p) (states_from c next steps)) (step_left c spot' p))
-          → FallsAfter (s ∷ steps) (first_index (is_reached who.pid p) (states_from c st (s ∷ steps))) (step_left c spot p)
-      go next allowed spot' moves same true e ih =
-          subst (FallsAfter (s ∷ steps) (first_index (is_reached who.pid p) (states_from c st (s ∷ steps)))) (sym (moves.0 e))
-          (0, refl, onward next allowed ∙ ap (option_map suc) (first-now next steps (same ∙ e)))
-      go next allowed spot' moves same false e ih =
-          subst (FallsAfter (s ∷ steps) (first_index (is_reached who.pid p) (states_from c st (s ∷ steps)))) (sym (moves.1 e))
-          (subst (λ m. FallsAfter (s ∷ steps) m (step_left c spot' p)) (sym (onward next allowed))
-          (shifted s steps (first_index (is_reached who.pid p) (states_from c next steps)) (step_left c spot' p) (ih e)))
+          ∙ ap (λ o. option_map suc (first_index (is_reached who.pid p) (states_from c (unwrap_or o st) steps))) allowed in
+      subst (λ m. FallsAfter (s ∷ steps) m (step_left c spot p)) (sym onward)
+      (elim (cases_Bool (spot_reached c went.spot p)) as (λ _. FallsAfter (s ∷ steps) (option_map suc (first_index (is_reached who.pid p) (states_from c next steps))) (step_left c spot p)) [
+        | inl e ↦ subst (FallsAfter (s ∷ steps) (option_map suc (first_index (is_reached who.pid p) (states_from c next steps)))) (sym (moves.0 e))
+        (0, refl, ap (option_map suc) (first-now next steps (reached-spot c who last p next went.spot went.holds synced' settled' ∙ e)))
+        | inr e ↦ subst (FallsAfter (s ∷ steps) (option_map suc (first_index (is_reached who.pid p) (states_from c next steps)))) (sym (moves.1 e))
+        (shifted s steps (first_index (is_reached who.pid p) (states_from c next steps)) (step_left c went.spot p) (falls steps next went.spot went.holds later synced' settled' e))
+      ])

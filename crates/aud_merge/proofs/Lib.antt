@@ -4,13 +4,10 @@ pub mod Moves
 pub mod Records
 pub mod Slices
 pub mod Phases
-pub mod PhaseSteps
 pub mod Spots
 pub mod Judged
 pub mod DueLaws
 pub mod Told
-pub mod Chain
-pub mod WholeChain
 pub mod Exchange
 pub mod Blocked
 pub mod Least

@@ -7,7 +7,7 @@ use Rattle.std.proofs.lemmas.Bool.{eqb-true, cases_eq, eq-eqb, ne_eqb}
 use Rattle.std.proofs.lemmas.Option.{same_Some, none-some, slice_get-map}
 use Rattle.aud_tap.specs.declared.records.StreamRec.{StreamRec}
 use Rattle.aud_tap.specs.declared.records.NodeRec.{NodeRec}
-use Rattle.aud_tap.specs.declared.records.NodeRec.TheVariants.{Start, Take, Opened, Join, Leave, Broke, Back, Gone}
+use Rattle.aud_tap.specs.declared.records.NodeRec.TheVariants.{Start, Take}
 use Rattle.aud_node.specs.Cluster.{Cluster, node_log}
 use Rattle.aud_node.specs.Cursors.{is_position, next_cursor, cursor_past, cursor_at, position_or}
 use Rattle.aud_node.specs.Lists.{numbers_from}
@@ -19,7 +19,8 @@ use Rattle.aud_merge.specs.Machine.{State, start, allowed_cursor, position_if_ne
 use Rattle.aud_merge.specs.Runs.{record_count, AreAllowed, IsRun}
 use Rattle.aud_merge.specs.Private.RunsOn.{RunsOn}
 use Rattle.aud_merge.specs.Sessions.{SessionState, Absent, session_after}
-use Rattle.aud_merge.proofs.Basics.{map_parts, cond_parts, cases_text, get_insert_same, get_insert_other}
+use Rattle.aud_base.proofs.SameText.{cases_text}
+use Rattle.aud_merge.proofs.Basics.{map_parts, cond_parts, get_insert_same, get_insert_other}
 use Rattle.aud_merge.proofs.Steps.{EntryStep, RecordStep, Stepped, stepped}
 
 -- the step's record names the session
@@ -95,18 +96,8 @@ next_cursor-allowed a stream zero (Start (Some off)) cursor next e = ap (λ o. p
 next_cursor-allowed a stream (suc i) (Start off) cursor next e = absurd (none-some next e)
 next_cursor-allowed a stream zero (Take off) cursor next e = taken-allowed a stream off cursor next e
 next_cursor-allowed a stream (suc i) (Take off) cursor next e = taken-allowed a stream off cursor next e
-next_cursor-allowed a stream zero (Opened pid sid nsp) cursor next e = same_Some cursor next e
-next_cursor-allowed a stream zero (Join pid room) cursor next e = same_Some cursor next e
-next_cursor-allowed a stream zero (Leave pid room) cursor next e = same_Some cursor next e
-next_cursor-allowed a stream zero (Broke pid turn) cursor next e = same_Some cursor next e
-next_cursor-allowed a stream zero (Back pid turn) cursor next e = same_Some cursor next e
-next_cursor-allowed a stream zero (Gone pid) cursor next e = same_Some cursor next e
-next_cursor-allowed a stream (suc i) (Opened pid sid nsp) cursor next e = same_Some cursor next e
-next_cursor-allowed a stream (suc i) (Join pid room) cursor next e = same_Some cursor next e
-next_cursor-allowed a stream (suc i) (Leave pid room) cursor next e = same_Some cursor next e
-next_cursor-allowed a stream (suc i) (Broke pid turn) cursor next e = same_Some cursor next e
-next_cursor-allowed a stream (suc i) (Back pid turn) cursor next e = same_Some cursor next e
-next_cursor-allowed a stream (suc i) (Gone pid) cursor next e = same_Some cursor next e
+next_cursor-allowed a stream zero _ cursor next e = same_Some cursor next e
+next_cursor-allowed a stream (suc i) _ cursor next e = same_Some cursor next e
 
 -- the state's cursors are those that the logs give
 abbrev pub Synced : Cluster → State → Type 0

@@ -29,7 +29,7 @@ use Rattle.aud_merge.specs.ByTurns.{FallsAfter, IsPrefixOf}
 use Rattle.aud_merge.specs.Due.{due, reach}
 use Rattle.aud_merge.specs.Recovery.{who, event, logs, turns, step, live_take, back, run, received_positions}
 use Rattle.aud_merge.proofs.Basics.{get_insert_same}
-use Rattle.aud_merge.proofs.WholeChain.{reach-chain, due-chain}
+use Rattle.aud_merge.proofs.DueLaws.{reach-turns, chain-none, due-chain}
 
 -- ---- the run
 
@@ -156,11 +156,11 @@ both_are_due = due-chain logs run who turns is_run chain ∙ due_by_turns
 
 -- the session is on the first node as that takes the first event
 pub first_is_live : FallsAfter run (reach logs run who.pid 1) (Some live_take)
-first_is_live = reach-chain logs run who turns is_run chain 1
+first_is_live = reach-turns logs run who turns is_run are 1 (inr (chain-none logs who turns chain))
 
 -- the second one waits for the session to come back
 pub second_is_replayed : FallsAfter run (reach logs run who.pid 2) (Some back)
-second_is_replayed = reach-chain logs run who turns is_run chain 2
+second_is_replayed = reach-turns logs run who turns is_run are 2 (inr (chain-none logs who turns chain))
 
 pub received_is_front : IsPrefixOf received_positions (due logs run who.pid)
 received_is_front = ([], sym both_are_due)

@@ -4,7 +4,7 @@ use Rattle.std.proofs.lemmas.Bool.{eq-eqb, ne_eqb, false≢true, leb-true, leb-f
 use Rattle.std.proofs.lemmas.Option.{same_Some, none-some}
 use Rattle.aud_tap.specs.declared.records.StreamRec.{StreamRec}
 use Rattle.aud_tap.specs.declared.records.NodeRec.{NodeRec}
-use Rattle.aud_tap.specs.declared.records.NodeRec.TheVariants.{Start, Take, Opened, Join, Leave, Broke, Back, Gone}
+use Rattle.aud_tap.specs.declared.records.NodeRec.TheVariants.{Start, Take}
 use Rattle.aud_node.specs.Cluster.{Cluster, node_log}
 use Rattle.aud_node.specs.Cursors.{takes, is_position, cursor_at}
 use Rattle.aud_node.specs.Lists.{between}
@@ -32,12 +32,7 @@ pub reaches-takes : (a : ℕ) (stream : List StreamRec) (i : ℕ) (rec : NodeRec
     → allowed_cursor (take a stream) (suc i) rec cursor ≡ Some next → nat_le p cursor ≡ false → nat_le p next ≡ takes stream p rec
 reaches-takes a stream i (Start off) cursor next p e before = absurd (none-some next e)
 reaches-takes a stream i (Take off) cursor next p e before = grind (arith, next_position-at (position (take a stream) off) cursor next e, taken-reaches stream (position stream off) cursor next p, position-take a stream off (suc cursor))
-reaches-takes a stream i (Opened pid sid nsp) cursor next p e before = ap (nat_le p) (sym (same_Some cursor next e)) ∙ before
-reaches-takes a stream i (Join pid room) cursor next p e before = ap (nat_le p) (sym (same_Some cursor next e)) ∙ before
-reaches-takes a stream i (Leave pid room) cursor next p e before = ap (nat_le p) (sym (same_Some cursor next e)) ∙ before
-reaches-takes a stream i (Broke pid turn) cursor next p e before = ap (nat_le p) (sym (same_Some cursor next e)) ∙ before
-reaches-takes a stream i (Back pid turn) cursor next p e before = ap (nat_le p) (sym (same_Some cursor next e)) ∙ before
-reaches-takes a stream i (Gone pid) cursor next p e before = ap (nat_le p) (sym (same_Some cursor next e)) ∙ before
+reaches-takes a stream i _ cursor next p e before = ap (nat_le p) (sym (same_Some cursor next e)) ∙ before
 
 taken-rooms : (stream : List StreamRec) (pid : Text) (p : ℕ) (held : Rooms) (rec : NodeRec) → takes stream p rec ≡ true → rooms_after pid held rec ≡ held
 taken-rooms stream pid p held (Take off) e = refl

@@ -16,9 +16,9 @@ use Rattle.aud_merge.specs.Machine.{State}
 use Rattle.aud_merge.proofs.Moves.{Synced}
 use Rattle.aud_merge.proofs.Slices.{part_from, rooms_for-step, rooms_for-after, rooms_for-beginning, last-takes}
 use Rattle.aud_merge.proofs.Records.{last-rooms, waiting}
-use Rattle.aud_merge.proofs.Phases.{Spot, Waiting, Within, Over, Beyond, Holds, OnSlice, Moves, waits, begins, elsewhere, goes, breaks, leaves, stays_over, passes, stays_beyond}
-use Rattle.aud_merge.proofs.PhaseSteps.{reached-in}
-use Rattle.aud_node.proofs.RecordLemmas.{between-more, between-none, cursor_at-rises}
+use Rattle.aud_merge.proofs.Phases.{Spot, Waiting, Within, Over, Beyond, Holds, OnSlice, Moves, waits, begins, elsewhere, goes, breaks, leaves, stays_over, passes, stays_beyond, reached-in}
+use Rattle.aud_base.proofs.Lists.{between-more, between-none}
+use Rattle.aud_node.proofs.RecordLemmas.{cursor_at-rises}
 
 -- the rooms by which what is left of the turns judges a position
 abbrev pub rooms_left : Cluster → Who → Spot → ℕ → Option Rooms

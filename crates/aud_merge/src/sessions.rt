@@ -9,8 +9,8 @@ ghost use Rattle.aud_merge.specs.SessionSeen.{seen_or_absent, session_seen};
 
 use crate::session::{OpenedSession, allows};
 use aud_node::pid;
-use aud_tap::{Memory, NodeRec};
-use std::alloc::Global;
+use aud_tap::NodeRec;
+use std::alloc::{AllocError, Global};
 use std::collections::BTreeMap;
 use std::marker::Model;
 
@@ -65,7 +65,7 @@ impl<'a> Sessions<'a> {
     }
 
     /// What an allowed record of the node does to the session that it names, if it names one.
-    pub(crate) fn change(&mut self, node: usize, rec: &'a NodeRec) -> Result<(), Memory>
+    pub(crate) fn change(&mut self, node: usize, rec: &'a NodeRec) -> Result<(), AllocError>
         requires { IsSome (sessions_after node rec.now (pid_of rec.now) self.old) }
         ensures changed { OnOk result (sessions_after node rec.now (pid_of rec.now) self.old ≡ Some self.new) }
         ensures unchanged { OnErr result (self.new ≡ self.old) }
@@ -79,13 +79,11 @@ impl<'a> Sessions<'a> {
         }
     }
 
-    fn insert(&mut self, pid: &'a str, session: OpenedSession<'a>) -> Result<(), Memory>
+    fn insert(&mut self, pid: &'a str, session: OpenedSession<'a>) -> Result<(), AllocError>
         ensures inserted { OnOk result (self.new ≡ fin.insert self.old pid.now (session_seen session.entry)) }
         ensures unchanged { OnErr result (self.new ≡ self.old) }
     {
-        match self.map.insert(pid, session) {
-            Ok(_) => Ok(()),
-            Err(_) => Err(Memory),
-        }
+        self.map.insert(pid, session)?;
+        Ok(())
     }
 }
