@@ -1,34 +1,124 @@
--- What is due in a run is what is due by the turns.
-use Rattle.std.proofs.Common.{◌≡◌, ◌<◌, ◌≤◌, ℕ, zero, suc, Bool, true, false, cond, ◌&&◌, List, [], ◌∷◌, ◌++◌, length, map, find, filter, Option, Some, None, refl, sym, ap, subst, ◌∙◌, ◌⊎◌, inl, inr, nat_le, arith, option_and_then, unwrap_or}
+-- In a run, the session reaches each position when, and with the rooms that, its turns tell; so what is due is due by them.
+use Rattle.std.proofs.Common.{◌≡◌, ℕ, suc, Bool, true, false, cond, List, [], ◌∷◌, map, find, Option, Some, None, slice_get, refl, sym, ap, subst, ◌∙◌, inl, inr, arith, option_map, option_and_then, unwrap_or, ◌<◌, ◌≤◌, zero, ◌&&◌, ◌++◌, length, filter, ◌⊎◌, nat_le}
+use Rattle.std.proofs.lemmas.Bool.{false≢true, cases_Bool, cond_both, cases_lt, le-leb, lt-leb, and_left, and_right}
 use Rattle.std.specs.Ordering.{nat_cmp}
 use Rattle.std.specs.Cmp.Lexicographic.{slice_cmp}
 use Rattle.std.specs.FinMap as fin
-use Rattle.std.proofs.lemmas.Bool.{cases_lt, le-leb, lt-leb, and_left, and_right}
 use Rattle.std.proofs.lemmas.Option.{slice_get_within}
-use Rattle.aud_base.proofs.Numbers.{lt_false}
-use Rattle.aud_base.proofs.Truth.{and_true}
 use Rattle.std.proofs.lemmas.List.Elements.{filter_agree}
 use Rattle.aud_tap.specs.declared.records.StreamRec.{StreamRec}
+use Rattle.aud_base.proofs.Lists.{between-none}
+use Rattle.aud_base.proofs.Numbers.{lt_false}
+use Rattle.aud_base.proofs.Truth.{and_true}
 use Rattle.aud_node.specs.Cluster.{Cluster, node_log}
+use Rattle.aud_node.specs.Lists.{first_index}
+use Rattle.aud_node.specs.Stream.{Text, entry, positions_after}
+use Rattle.aud_node.proofs.RecordLemmas.{cursor_at-rises}
 use Rattle.aud_node.specs.Cursors.{cursor_at}
-use Rattle.aud_node.specs.Stream.{entry, positions_after}
+use Rattle.aud_rooms.specs.Turns.{Who, slice_of, Turn, Slice, AreTurns, HasNoTurn, IsChain}
 use Rattle.aud_rooms.specs.Rooms.{Rooms, own_room}
-use Rattle.aud_rooms.specs.Turns.{Who, Turn, Slice, slice_of, AreTurns, HasNoTurn, IsChain}
 use Rattle.aud_rooms.specs.TurnsDue.{is_past_first, is_for_rooms, is_turn_due, turns_due, greatest_high}
-use Rattle.aud_merge.specs.ByTurns.{IsPrefixOf, reaching_step, FallsAfter, rooms_of_turns, HasRooms}
-use Rattle.aud_merge.specs.Due.{cursor_of, node_cursor, is_at_least, is_reached, states_from, states, reach, session_at_reach, birth, is_past_birth, is_for_session, is_due, due}
-use Rattle.aud_merge.specs.declared.step.Step.{Step}
-use Rattle.aud_merge.specs.Machine.{State, start, after, session_of}
-use Rattle.aud_merge.specs.Runs.{IsRun}
-use Rattle.aud_merge.specs.Private.RunsOn.{RunsOn}
-use Rattle.aud_merge.specs.Sessions.{SessionState, Absent}
-use Rattle.aud_merge.proofs.Steps.{stepped}
-use Rattle.aud_merge.proofs.Moves.{moved, Synced, Synced-step, Synced-start, RunsOn-run, taken-start}
-use Rattle.aud_merge.proofs.Phases.{Unstarted, length-count, Out, Waiting, begun_at, out_stays, reached-here}
-use Rattle.aud_merge.proofs.Spots.{Settled}
-use Rattle.aud_merge.proofs.Judged.{first_index-find, first_index-find-map, agrees, falls}
 use Rattle.aud_rooms.proofs.ByTurns.{rooms_for-up_to, rooms_for-past}
 use Rattle.aud_rooms.proofs.Turns.{begins-names, stands, begins_there}
+use Rattle.aud_merge.specs.ByTurns.{FallsAfter, HasRooms, IsPrefixOf, reaching_step, rooms_of_turns}
+use Rattle.aud_merge.specs.Due.{is_reached, states_from, cursor_of, node_cursor, is_at_least, states, reach, session_at_reach, birth, is_past_birth, is_for_session, is_due, due}
+use Rattle.aud_merge.specs.declared.step.Step.{Step}
+use Rattle.aud_merge.specs.Machine.{State, after, session_of, start}
+use Rattle.aud_merge.specs.Private.RunsOn.{IsFinished, RunsOn}
+use Rattle.aud_merge.specs.Sessions.{SessionState, Absent}
+use Rattle.aud_merge.specs.Runs.{IsRun}
+use Rattle.aud_merge.proofs.Steps.{stepped, Synced, Synced-step, moved, Synced-start, RunsOn-run, taken-start}
+use Rattle.aud_merge.proofs.Spots.{part_from, rooms_for-at_low, rooms_left, spot_reached, Settled, reached-spot, Moves-rooms, step_left, Moves-step}
+use Rattle.aud_merge.proofs.Phases.{length-count, In, Spot, Waiting, Within, Over, Beyond, Holds, moves_on, Unstarted, Out, begun_at, out_stays, reached-here}
+
+-- the session when it first reaches the position, from this state on
+abbrev pub judged : Cluster → Text → ℕ → State → List Step → Option SessionState
+judged c pid p st steps = option_map (λ s. session_of s pid) (find (is_reached pid p) (states_from c st steps))
+
+and_then-map : {A B C : Type 0} (f : B → Option C) (g : A → B) (o : Option A) → option_and_then f (option_map g o) ≡ option_and_then (λ x. f (g x)) o
+and_then-map f g None = refl
+and_then-map f g (Some x) = refl
+
+-- what stands at the first index is what is found
+pub first_index-find : {X Y : Type 0} (test : X → Bool) (f : X → Option Y) (xs : List X)
+    → option_and_then (λ t. option_and_then f (slice_get xs t)) (first_index test xs) ≡ option_and_then f (find test xs)
+first_index-find test f [] = refl
+first_index-find test f (x ∷ xs) = grind (arith, first_index-find test f xs, and_then-map)
+
+pub first_index-find-map : {X Y : Type 0} (test : X → Bool) (f : X → Y) (xs : List X)
+    → option_and_then (λ t. option_map f (slice_get xs t)) (first_index test xs) ≡ option_map f (find test xs)
+first_index-find-map test f [] = refl
+first_index-find-map test f (x ∷ xs) = grind (arith, first_index-find-map test f xs, and_then-map)
+
+module _ (c : Cluster) (who : Who) (last : ℕ) (p : ℕ) where
+  -- where the session is reached, the turns say so
+  now : (st : State) (spot : Spot) → Holds c who last st spot → spot_reached c spot p ≡ true → HasRooms who (Some (session_of st who.pid)) (rooms_left c who spot p)
+  now st (Waiting k held rest) holds reached = absurd (false≢true reached)
+  now st (Within k t at held later) holds reached = grind (arith, rooms_for-at_low c.stream who.pid held (part_from c t at) (map (slice_of c) later) p reached (cursor_at-rises c.stream (node_log c t.node) at t.to holds.1.rest.within), part_from c t at, cursor_at-rises c.stream (node_log c t.node) at t.to holds.1.rest.within)
+  now st Over holds reached = absurd (false≢true reached)
+  now st Beyond holds reached = absurd (false≢true reached)
+
+  -- at the end of the run, what isn't reached is never reached
+  never : (st : State) (spot : Spot) → Holds c who last st spot → spot_reached c spot p ≡ false
+      → IsFinished c st → (rooms_left c who spot p ≡ None) × (step_left c spot p ≡ None)
+  never st (Waiting k held []) holds unreached finished = (refl, refl)
+  never st (Waiting k held (t ∷ later)) holds unreached finished = grind (arith, length-count c t.node)
+  never st (Within k t at held later) holds unreached finished = grind (arith, In, rooms_left, Within k t at held later, step_left, length-count, between-none)
+  never st Over holds unreached finished = (refl, refl)
+  never st Beyond holds unreached finished = (refl, refl)
+
+  -- THE ROOMS at the moment that reaches p are those by which the turns judge it
+  pub agrees : (steps : List Step) (st : State) (spot : Spot) → Holds c who last st spot → RunsOn c st steps → Synced c st → Settled c who last (rooms_left c who spot p)
+      → HasRooms who (judged c who.pid p st steps) (rooms_left c who spot p)
+  agrees [] st spot holds finished synced settled =
+      let same = reached-spot c who last p st spot holds synced settled in
+      cond_both (is_reached who.pid p st) (Some st) None (λ o. HasRooms who (option_map (λ s. session_of s who.pid) o) (rooms_left c who spot p))
+      (λ e. now st spot holds (sym same ∙ e))
+      (λ e. subst (HasRooms who None) (sym (never st spot holds (sym same ∙ e) finished).0) refl)
+  agrees (s ∷ steps) st spot holds runs synced settled =
+      let same = reached-spot c who last p st spot holds synced settled in
+      let (next, allowed, later) = runs in
+      let step = stepped c st next s allowed in
+      let went = moves_on c who last st next s steps spot holds step later synced in
+      cond_both (is_reached who.pid p st) (Some st) (find (is_reached who.pid p) (states_from c (unwrap_or (after c st s) st) steps)) (λ o. HasRooms who (option_map (λ s. session_of s who.pid) o) (rooms_left c who spot p))
+      (λ e. now st spot holds (sym same ∙ e))
+      (λ e.
+      (let kept = Moves-rooms c who s.log s.index spot went.spot went.moves p (sym same ∙ e) in
+      subst (λ o. HasRooms who (judged c who.pid p (unwrap_or o st) steps) (rooms_left c who spot p)) (sym allowed)
+      (subst (HasRooms who (judged c who.pid p next steps)) (sym kept)
+      (agrees steps next went.spot went.holds later (Synced-step c st next s.log s.index step synced) (subst (Settled c who last) kept settled)))))
+
+  shifted : (s : Step) (steps : List Step) (moment : Option ℕ) (step : Option Step) → FallsAfter steps moment step → FallsAfter (s ∷ steps) (option_map suc moment) step
+  shifted s steps moment None falls = ap (option_map suc) falls
+  shifted s steps moment (Some step) falls = (suc falls.0, falls.1, ap (option_map suc) falls.2)
+
+  first-now : (st : State) (steps : List Step) → is_reached who.pid p st ≡ true → first_index (is_reached who.pid p) (states_from c st steps) ≡ Some 0
+  first-now st [] e = ap (λ b. cond b (Some 0) None) e
+  first-now st (s ∷ steps) e = ap (λ b. cond b (Some 0) (option_map suc (first_index (is_reached who.pid p) (states_from c (unwrap_or (after c st s) st) steps)))) e
+
+  -- THE MOMENT that reaches p falls after the step that the turns tell
+  pub falls : (steps : List Step) (st : State) (spot : Spot) → Holds c who last st spot → RunsOn c st steps → Synced c st → Settled c who last (rooms_left c who spot p) → spot_reached c spot p ≡ false
+      → FallsAfter steps (first_index (is_reached who.pid p) (states_from c st steps)) (step_left c spot p)
+  falls [] st spot holds finished synced settled unreached =
+      subst (FallsAfter [] (first_index (is_reached who.pid p) (states_from c st []))) (sym (never st spot holds unreached finished).1)
+      (ap (λ b. cond b (Some 0) None) (reached-spot c who last p st spot holds synced settled ∙ unreached))
+  falls (s ∷ steps) st spot holds runs synced settled unreached =
+      let (next, allowed, later) = runs in
+      let step = stepped c st next s allowed in
+      let went = moves_on c who last st next s steps spot holds step later synced in
+      let settled' = subst (Settled c who last) (Moves-rooms c who s.log s.index spot went.spot went.moves p unreached) settled in
+      let synced' = Synced-step c st next s.log s.index step synced in
+      let moves = Moves-step c who s.log s.index spot went.spot went.moves p unreached in
+      let onward : first_index (is_reached who.pid p) (states_from c st (s ∷ steps)) ≡ option_map suc (first_index (is_reached who.pid p) (states_from c next steps)) =
+          ap (λ b. cond b (Some 0) (option_map suc (first_index (is_reached who.pid p) (states_from c (unwrap_or (after c st s) st) steps)))) (reached-spot c who last p st spot holds synced settled ∙ unreached)
+          ∙ ap (λ o. option_map suc (first_index (is_reached who.pid p) (states_from c (unwrap_or o st) steps))) allowed in
+      subst (λ m. FallsAfter (s ∷ steps) m (step_left c spot p)) (sym onward)
+      (elim (cases_Bool (spot_reached c went.spot p)) as (λ _. FallsAfter (s ∷ steps) (option_map suc (first_index (is_reached who.pid p) (states_from c next steps))) (step_left c spot p)) [
+        | inl e ↦ subst (FallsAfter (s ∷ steps) (option_map suc (first_index (is_reached who.pid p) (states_from c next steps)))) (sym (moves.0 e))
+        (0, refl, ap (option_map suc) (first-now next steps (reached-spot c who last p next went.spot went.holds synced' settled' ∙ e)))
+        | inr e ↦ subst (FallsAfter (s ∷ steps) (option_map suc (first_index (is_reached who.pid p) (states_from c next steps)))) (sym (moves.1 e))
+        (shifted s steps (first_index (is_reached who.pid p) (states_from c next steps)) (step_left c went.spot p) (falls steps next went.spot went.holds later synced' settled' e))
+      ])
 
 find-first : (c : Cluster) (test : State → Bool) (st : State) (steps : List Step) → test st ≡ true → find test (states_from c st steps) ≡ Some st
 find-first c test st [] e = ap (λ b. cond b (Some st) None) e

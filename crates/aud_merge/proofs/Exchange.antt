@@ -1,16 +1,17 @@
--- An allowed step stays allowed until it is taken, where a run exists.
-use Rattle.std.proofs.Common.{◌≡◌, ◌<◌, ◌≤◌, ℕ, zero, suc, Bool, true, false, cond, List, [], ◌∷◌, set, take, Option, Some, None, slice_get, refl, sym, ap, subst, ◌∙◌, ◌⊎◌, inl, inr, nat_eq, unwrap_or, arith, option_map, option_and_then, bytes_eq}
+-- Where a run exists, an allowed step stays allowed until it is taken; so where the machine blocks, there is none.
+use Rattle.std.proofs.Common.{◌≡◌, ◌<◌, ◌≤◌, ℕ, zero, suc, Bool, true, false, cond, List, [], ◌∷◌, set, take, Option, Some, None, slice_get, refl, sym, ap, subst, ◌∙◌, ◌⊎◌, inl, inr, nat_eq, unwrap_or, arith, option_map, option_and_then, bytes_eq, ◌≢◌, ◌+◌, length, is_some}
 use Rattle.std.specs.Ordering.{nat_cmp}
 use Rattle.std.specs.Cmp.Lexicographic.{slice_cmp, nat_list_cmp_total}
 use Rattle.std.specs.FinMap as fin
-use Rattle.std.proofs.lemmas.Bool.{eqb-true, eq-eqb, cases_eq, and_parts, false≢true}
-use Rattle.std.proofs.lemmas.Option.{same_Some, none-some}
+use Rattle.std.proofs.lemmas.Bool.{eqb-true, eq-eqb, cases_eq, and_parts, false≢true, cases_lt, ltb-true}
+use Rattle.std.proofs.lemmas.Option.{same_Some, none-some, slice_get_past}
 use Rattle.std.proofs.lemmas.List.{set_comm}
 use Rattle.aud_tap.specs.declared.records.StreamRec.{StreamRec}
 use Rattle.aud_tap.specs.declared.records.NodeRec.{NodeRec}
 use Rattle.aud_tap.specs.declared.records.NodeRec.TheVariants.{Start, Take, Opened, Back}
 use Rattle.aud_tap.specs.declared.taps.Records.{Records}
 use Rattle.aud_tap.specs.declared.taps.Records.TheVariants.{Stream, Node, Client}
+use Rattle.aud_base.proofs.SameText.{same_text}
 use Rattle.aud_node.specs.Cluster.{Cluster, node_log, node_recs, log_at}
 use Rattle.aud_node.specs.Stream.{Text, position, offset_of}
 use Rattle.aud_node.specs.TurnRecords.{pid_of, begins_turn}
@@ -21,10 +22,10 @@ use Rattle.aud_merge.specs.Machine.{State, start, after, after_next, after_recor
 use Rattle.aud_merge.specs.Runs.{record_count, IsRun, AreAllowed, IsBlocked, state_after, front}
 use Rattle.aud_merge.specs.Private.RunsOn.{RunsOn}
 use Rattle.aud_merge.specs.Sessions.{SessionState, Absent, Here, Away, Ended, session_after}
-use Rattle.aud_base.proofs.SameText.{cases_text}
-use Rattle.aud_merge.proofs.Basics.{and_then_parts, map_parts, cond_parts, slice_get-set_other, get_insert_same, get_insert_other}
-use Rattle.aud_merge.proofs.Steps.{Stepped, stepped, appended-grows}
-use Rattle.aud_merge.proofs.Moves.{Named, next_position-at, RunsOn-run}
+use Rattle.aud_merge.specs.Order.{first_allowed, IsGreedy, unfinished_fronts, IsBlockedAt}
+use Rattle.aud_merge.proofs.Positions.{position-more}
+use Rattle.aud_merge.proofs.Basics.{and_then_parts, map_parts, cond_parts, slice_get-set_other, get_insert, get_insert_same, get_insert_other}
+use Rattle.aud_merge.proofs.Steps.{Stepped, stepped, appended-grows, Named, next_position-at, RunsOn-run}
 use Rattle.aud_merge.proofs.Records.{IsBeyond, here-node, ended-after, waiting-after}
 use Rattle.aud_merge.proofs.Phases.{never_again}
 
@@ -54,16 +55,6 @@ pub record Does (c : Cluster) (st st' : State) (s : Step) : Type 0 where
   is : st' ≡ done_to st s.log p put
   pub named : NamedPut c st st' s.log s.index put
   again : (u : State) → slice_get u.logs s.log ≡ slice_get st.logs s.log → appended c st ≤ appended c u → SameAt put st.sessions u.sessions → after c u s ≡ Some (done_to u s.log p put)
-
-position-more : (a b : ℕ) (stream : List StreamRec) (off : Text) (q : ℕ) → a ≤ b → position (take a stream) off ≡ Some q → position (take b stream) off ≡ Some q
-position-more zero b stream off q h e = absurd (none-some q e)
-position-more (suc a) zero stream off q h e = absurd (omega arith)
-position-more (suc a) (suc b) [] off q h e = absurd (none-some q e)
-position-more (suc a) (suc b) (x ∷ xs) off q h e = found (bytes_eq (offset_of x) off) (λ p. position-more a b xs off p (omega arith)) e
-  where
-    found : (t : Bool) → ((p : ℕ) → position (take a xs) off ≡ Some p → position (take b xs) off ≡ Some p) → cond t (Some 1) (option_map suc (position (take a xs) off)) ≡ Some q → cond t (Some 1) (option_map suc (position (take b xs) off)) ≡ Some q
-    found true ih e = e
-    found false ih e = let (p, at, is) = map_parts suc (position (take a xs) off) q e in ap (option_map suc) (ih p at) ∙ ap Some is
 
 taken-more : (a b : ℕ) (stream : List StreamRec) (off : Text) (cursor next : ℕ) → a ≤ b → position_if_next (position (take a stream) off) cursor ≡ Some next → position_if_next (position (take b stream) off) cursor ≡ Some next
 taken-more a b stream off cursor next h e = grind (arith, next_position-at (position (take a stream) off) cursor next e, position-more a b stream off (suc cursor) h)
@@ -145,19 +136,12 @@ does c st st' s e =
     does_log c st st' s done log at (eqb-true _ _ was) is became
 
 insert_comm : (m : Sessions) (x y : Text × SessionState) → (x.0 ≡ y.0 → ⊥) → fin.insert (fin.insert m x.0 x.1) y.0 y.1 ≡ fin.insert (fin.insert m y.0 y.1) x.0 x.1
-insert_comm m x y n = fin.same_map nat_list_cmp_total (fin.slice_cmp-IsAntisymmetric fin.nat_cmp-IsAntisymmetric) _ _ (λ q. at q (cases_text q x.0) (cases_text q y.0))
+insert_comm m x y n = fin.same_map nat_list_cmp_total (fin.slice_cmp-IsAntisymmetric fin.nat_cmp-IsAntisymmetric) _ _ (λ q. simp get_insert (swap (bytes_eq q x.0) (bytes_eq q y.0) (λ a b. n (sym (same_text q x.0 a) ∙ same_text q y.0 b)) x.1 y.1 (fin.get m q)))
   where
-    at : (q : Text) → (q ≡ x.0) ⊎ (q ≡ x.0 → ⊥) → (q ≡ y.0) ⊎ (q ≡ y.0 → ⊥) → fin.get (fin.insert (fin.insert m x.0 x.1) y.0 y.1) q ≡ fin.get (fin.insert (fin.insert m y.0 y.1) x.0 x.1) q
-    at q (inl a) (inl b) = absurd (n (sym a ∙ b))
-    at q (inl a) (inr b) =
-        get_insert_other (fin.insert m x.0 x.1) y.0 y.1 q b ∙ ap (fin.get (fin.insert m x.0 x.1)) a ∙ get_insert_same m x.0 x.1
-        ∙ sym (ap (fin.get (fin.insert (fin.insert m y.0 y.1) x.0 x.1)) a ∙ get_insert_same (fin.insert m y.0 y.1) x.0 x.1)
-    at q (inr a) (inl b) =
-        ap (fin.get (fin.insert (fin.insert m x.0 x.1) y.0 y.1)) b ∙ get_insert_same (fin.insert m x.0 x.1) y.0 y.1
-        ∙ sym (get_insert_other (fin.insert m y.0 y.1) x.0 x.1 q a ∙ ap (fin.get (fin.insert m y.0 y.1)) b ∙ get_insert_same m y.0 y.1)
-    at q (inr a) (inr b) =
-        get_insert_other (fin.insert m x.0 x.1) y.0 y.1 q b ∙ get_insert_other m x.0 x.1 q a
-        ∙ sym (get_insert_other (fin.insert m y.0 y.1) x.0 x.1 q a ∙ get_insert_other m y.0 y.1 q b)
+    swap : (a b : Bool) → (a ≡ true → b ≡ true → ⊥) → (s t : SessionState) (o : Option SessionState) → cond b (Some t) (cond a (Some s) o) ≡ cond a (Some s) (cond b (Some t) o)
+    swap true true n s t o = absurd (n refl refl)
+    swap true false n s t o = refl
+    swap false b n s t o = refl
 
 -- the sessions of two steps differ
 abbrev Apart : Option (Text × SessionState) → Option (Text × SessionState) → Type 0
@@ -305,3 +289,45 @@ stays_allowed c steps run is allowed x s st1 st2 ex es n =
     let dx = does c st st1 x ex in
     let ds = does c st st2 s es in
     (_, allowed-after c st st1 st2 x s dx ds es n (apart c st st1 st2 x s dx ds n (stepped c st st1 x ex) (stepped c st st2 s es) later goes))
+
+some-is : {A : Type 0} (o : Option A) → is_some o ≡ true → (x : A) × (o ≡ Some x)
+some-is None e = absurd (false≢true e)
+some-is (Some x) e = (x, refl)
+
+-- what is chosen is allowed
+chosen : (c : Cluster) (st : State) (count place : ℕ) (step : Step) → first_allowed c st place count ≡ Some step → (next : State) × (after c st step ≡ Some next)
+chosen c st zero place step e = absurd (none-some step e)
+chosen c st (suc count) place step e = go (is_some (after c st (front st place))) refl e (λ e'. chosen c st count (suc place) step e')
+  where
+    go : (b : Bool) → is_some (after c st (front st place)) ≡ b → cond b (Some (front st place)) (first_allowed c st (suc place) count) ≡ Some step
+        → (first_allowed c st (suc place) count ≡ Some step → (next : State) × (after c st step ≡ Some next)) → (next : State) × (after c st step ≡ Some next)
+    go true b e ih = let (next, at) = some-is (after c st (front st place)) b in (next, ap (after c st) (sym (same_Some (front st place) step e)) ∙ at)
+    go false b e ih = ih e
+
+greedy-allowed : (c : Cluster) (steps : List Step) (st : State) → IsGreedy c st steps → AreAllowed c st steps
+greedy-allowed c [] st g = tt
+greedy-allowed c (s ∷ steps) st g =
+    let (next, at) = chosen c st (length c.taps) 0 s g.0 in
+    (next, at, greedy-allowed c steps next (subst (λ o. IsGreedy c (unwrap_or o st) steps) at g.1))
+
+-- where none is chosen, none is allowed
+none_chosen : (c : Cluster) (st : State) (count place : ℕ) → first_allowed c st place count ≡ None → (q : ℕ) → place ≤ q → q < place + count → after c st (front st q) ≡ None
+none_chosen c st zero place e q low high = absurd (omega arith)
+none_chosen c st (suc count) place e q low high = go (after c st (front st place)) refl e (cases_lt place q) (λ e' low'. none_chosen c st count (suc place) e' q low' (omega arith))
+  where
+    go : (o : Option State) → after c st (front st place) ≡ o → cond (is_some o) (Some (front st place)) (first_allowed c st (suc place) count) ≡ None → (place < q) ⊎ (q ≤ place)
+        → (first_allowed c st (suc place) count ≡ None → suc place ≤ q → after c st (front st q) ≡ None) → after c st (front st q) ≡ None
+    go (Some next) at e x ih = absurd (none-some (front st place) (sym e))
+    go None at e (inl l) ih = ih e l
+    go None at e (inr l) ih = let same : place ≡ q = omega (arith, low) in subst (λ n. after c st (front st n) ≡ None) same at
+
+-- nor at a place that has no log
+no_log : (c : Cluster) (st : State) (q : ℕ) → length c.taps ≤ q → after c st (front st q) ≡ None
+no_log c st q h = grind (arith, stepped c st, slice_get_past c.taps q h)
+
+has_unfinished : (c : Cluster) (st : State) (count place : ℕ) → unfinished_fronts c st place count ≢ [] → (q : ℕ) × (taken_of st q < record_count c q)
+has_unfinished c st zero place n = absurd (n refl)
+has_unfinished c st (suc count) place n = grind (arith, has_unfinished c st count (suc place), ltb-true (taken_of st place) (record_count c place))
+
+pub greedily_blocked-no_run : (c : Cluster) (fronts : List Step) → IsBlockedAt c fronts → (run : List Step) → IsRun c run → ⊥
+greedily_blocked-no_run c fronts b run is = grind (arith, has_unfinished c, blocked-no_run c b.steps, greedy-allowed c b.steps (start c) b.greedy, none_chosen c (state_after c (start c) b.steps) (length c.taps) 0 b.none_left, no_log c (state_after c (start c) b.steps))

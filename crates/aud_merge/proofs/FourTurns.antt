@@ -1,5 +1,5 @@
 -- A session that went A, B, A, B, as a check of the definitions.
-use Rattle.std.proofs.Common.{◌≡◌, List, [], ◌∷◌, Some, None, map, refl, arith}
+use Rattle.std.proofs.Common.{◌≡◌, ℕ, ◌⊎◌, inl, inr, List, [], ◌∷◌, Some, None, map, refl, arith}
 use Rattle.std.specs.FinSet as set
 use Rattle.aud_tap.specs.declared.records.StreamRec.TheVariants.{Other}
 use Rattle.aud_tap.specs.declared.records.NodeRec.TheVariants.{Start, Take, Opened, Join, Leave, Broke, Back}
@@ -50,24 +50,17 @@ are = (
   ),
 )
 
-lows : map (λ (s : Slice). s.low) (map (slice_of row) turns) ≡ 0 ∷ 2 ∷ 3 ∷ 4 ∷ []
-lows = refl
-
-highs : map (λ (s : Slice). s.high) (map (slice_of row) turns) ≡ 1 ∷ 2 ∷ 3 ∷ 4 ∷ []
-highs = refl
+-- their cursors
+cursors : map (λ (s : Slice). (s.low, s.high)) (map (slice_of row) turns) ≡ (0, 1) ∷ (2, 2) ∷ (3, 3) ∷ (4, 4) ∷ []
+cursors = refl
 
 -- the last position is judged by the rooms before the `leave`
-rooms_4 : rooms_for row.stream P (own_room sid) (map (slice_of row) turns) 4 ≡ Some (set.insert (own_room sid) room)
-rooms_4 = refl
+rooms : (p : ℕ) → (p ≡ 1) ⊎ (p ≡ 4) → rooms_for row.stream P (own_room sid) (map (slice_of row) turns) p ≡ Some (set.insert (own_room sid) room)
+rooms p (inl e) = rw e refl
+rooms p (inr e) = rw e refl
 
-rooms_1 : rooms_for row.stream P (own_room sid) (map (slice_of row) turns) 1 ≡ Some (set.insert (own_room sid) room)
-rooms_1 = refl
-
-reached_1 : reaching_step row turns 1 ≡ Some (record { log = 1; index = 3 })
-reached_1 = refl
-
-reached_4 : reaching_step row turns 4 ≡ Some (record { log = 2; index = 7 })
-reached_4 = refl
+reached : (reaching_step row turns 1 ≡ Some (record { log = 1; index = 3 })) × (reaching_step row turns 4 ≡ Some (record { log = 2; index = 7 }))
+reached = (refl, refl)
 
 -- without its `break`, a turn's records go on to the `back`, and this is none of it
 no_break : turn_end P 1 (Back P 3 ∷ []) ≡ None

@@ -1,15 +1,11 @@
 pub mod Basics
 pub mod Steps
-pub mod Moves
 pub mod Records
-pub mod Slices
 pub mod Phases
 pub mod Spots
-pub mod Judged
 pub mod DueLaws
 pub mod Told
 pub mod Exchange
-pub mod Blocked
 pub mod Least
 pub mod FourTurns
 pub mod Recovery

@@ -10,8 +10,7 @@ use Rattle.aud_merge.specs.declared.step.Step.{Step}
 use Rattle.aud_merge.specs.Machine.{State, start, after, taken_of, taken_in}
 use Rattle.aud_merge.specs.Runs.{record_count, AreAllowed, IsRun}
 use Rattle.aud_merge.specs.Private.RunsOn.{IsFinished, RunsOn}
-use Rattle.aud_merge.proofs.Steps.{Stepped, stepped}
-use Rattle.aud_merge.proofs.Moves.{steps_of, taken-start, RunsOn-run}
+use Rattle.aud_merge.proofs.Steps.{Stepped, stepped, steps_of, taken-start, RunsOn-run}
 
 allowed_on : (c : Cluster) (st : State) (steps : List Step) → RunsOn c st steps → AreAllowed c st steps
 allowed_on c st [] runs = tt

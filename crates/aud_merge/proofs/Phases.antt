@@ -22,9 +22,7 @@ use Rattle.aud_merge.specs.Machine.{State, session_of, taken_in, taken_of, appen
 use Rattle.aud_merge.specs.Runs.{record_count, log_length}
 use Rattle.aud_merge.specs.Private.RunsOn.{RunsOn}
 use Rattle.aud_merge.specs.Sessions.{Here, Ended, session_after}
-use Rattle.aud_merge.proofs.Steps.{EntryStep, RecordStep, Stepped, stepped}
-use Rattle.aud_merge.proofs.Moves.{Named, Quiet, moved, Synced, Synced-step}
-use Rattle.aud_merge.proofs.Slices.{reaches-takes-after}
+use Rattle.aud_merge.proofs.Steps.{EntryStep, RecordStep, Stepped, stepped, Named, Quiet, moved, Synced, Synced-step, reaches-takes-after}
 use Rattle.aud_merge.proofs.Records.{IsBeyond, IsBeyond-after, beginning-allowed, here-node, beginning-here, ended-after, past-named, past-other, past-inner, past-last, ended, waiting, waiting-after, begun-beyond}
 
 pub within-count : (c : Cluster) (l i : ℕ) (rec : NodeRec) → slice_get (node_log c l) i ≡ Some rec → i < record_count c l

@@ -17,8 +17,7 @@ use Rattle.aud_merge.specs.Machine.{State, start, after, session_of, taken_of}
 use Rattle.aud_merge.specs.Runs.{IsRun}
 use Rattle.aud_merge.specs.Private.RunsOn.{RunsOn}
 use Rattle.aud_merge.specs.Sessions.{SessionState, Absent, Here, Ended}
-use Rattle.aud_merge.proofs.Steps.{Stepped, stepped, taken-grows}
-use Rattle.aud_merge.proofs.Moves.{Synced, Synced-step, Synced-start, RunsOn-run}
+use Rattle.aud_merge.proofs.Steps.{Stepped, stepped, taken-grows, Synced, Synced-step, Synced-start, RunsOn-run}
 use Rattle.aud_merge.proofs.Records.{waiting, ended, past-inner, past-last, past-beginning}
 use Rattle.aud_merge.proofs.Phases.{Unstarted, Spot, Waiting, Within, Over, Beyond, Holds, OnSlice, Moves, waits, begins, elsewhere, goes, breaks, leaves, stays_over, passes, stays_beyond, moves_on}
 use Rattle.aud_merge.proofs.DueLaws.{at_start, chain-none}
