@@ -29,7 +29,7 @@ use Rattle.aud_merge.specs.Sessions.{SessionState, Absent}
 use Rattle.aud_merge.specs.Runs.{IsRun}
 use Rattle.aud_merge.proofs.Steps.{stepped, Synced, Synced-step, moved, Synced-start, RunsOn-run, taken-start}
 use Rattle.aud_merge.proofs.Spots.{part_from, rooms_for-at_low, rooms_left, spot_reached, Settled, reached-spot, Moves-rooms, step_left, Moves-step}
-use Rattle.aud_merge.proofs.Phases.{length-count, In, Spot, Waiting, Within, Over, Beyond, Holds, moves_on, Unstarted, Out, begun_at, out_stays, reached-here}
+use Rattle.aud_merge.proofs.Phases.{length-count, In, Spot, Waiting, Within, Holds, moves_on, Unstarted, Out, begun_at, out_stays, reached-here}
 
 -- the session when it first reaches the position, from this state on
 abbrev pub judged : Cluster → Text → ℕ → State → List Step → Option SessionState
@@ -53,19 +53,15 @@ first_index-find-map test f (x ∷ xs) = grind (arith, first_index-find-map test
 module _ (c : Cluster) (who : Who) (last : ℕ) (p : ℕ) where
   -- where the session is reached, the turns say so
   now : (st : State) (spot : Spot) → Holds c who last st spot → spot_reached c spot p ≡ true → HasRooms who (Some (session_of st who.pid)) (rooms_left c who spot p)
-  now st (Waiting k held rest) holds reached = absurd (false≢true reached)
   now st (Within k t at held later) holds reached = grind (arith, rooms_for-at_low c.stream who.pid held (part_from c t at) (map (slice_of c) later) p reached (cursor_at-rises c.stream (node_log c t.node) at t.to holds.1.rest.within), part_from c t at, cursor_at-rises c.stream (node_log c t.node) at t.to holds.1.rest.within)
-  now st Over holds reached = absurd (false≢true reached)
-  now st Beyond holds reached = absurd (false≢true reached)
+  now st _ holds reached = absurd (false≢true reached)
 
   -- at the end of the run, what isn't reached is never reached
   never : (st : State) (spot : Spot) → Holds c who last st spot → spot_reached c spot p ≡ false
       → IsFinished c st → (rooms_left c who spot p ≡ None) × (step_left c spot p ≡ None)
-  never st (Waiting k held []) holds unreached finished = (refl, refl)
   never st (Waiting k held (t ∷ later)) holds unreached finished = grind (arith, length-count c t.node)
   never st (Within k t at held later) holds unreached finished = grind (arith, In, rooms_left, Within k t at held later, step_left, length-count, between-none)
-  never st Over holds unreached finished = (refl, refl)
-  never st Beyond holds unreached finished = (refl, refl)
+  never st _ holds unreached finished = (refl, refl)
 
   -- THE ROOMS at the moment that reaches p are those by which the turns judge it
   pub agrees : (steps : List Step) (st : State) (spot : Spot) → Holds c who last st spot → RunsOn c st steps → Synced c st → Settled c who last (rooms_left c who spot p)

@@ -51,7 +51,7 @@ are = (
 )
 
 -- their cursors
-cursors : map (λ (s : Slice). (s.low, s.high)) (map (slice_of row) turns) ≡ (0, 1) ∷ (2, 2) ∷ (3, 3) ∷ (4, 4) ∷ []
+cursors : map {B = ℕ × ℕ} (λ (s : Slice). (s.low, s.high)) (map (slice_of row) turns) ≡ (0, 1) ∷ (2, 2) ∷ (3, 3) ∷ (4, 4) ∷ []
 cursors = refl
 
 -- the last position is judged by the rooms before the `leave`

@@ -51,15 +51,7 @@ never_again c pid k l i rec at begins (s ∷ steps) st runs beyond left =
     never_again c pid k l i rec at begins steps next later beyond' left'
   where
     still : (next : State) (m : Stepped c st next s.log s.index) → (s.log ≡ l → s.index ≡ i → ⊥) → taken_of next l ≤ i
-    still next m n = by_log (cases_eq s.log l)
-      where
-        by_log : (s.log ≡ l) ⊎ (s.log ≡ l → ⊥) → taken_of next l ≤ i
-        by_log (inl e) =
-            let was : taken_of st l ≡ s.index = subst (λ n. taken_of st n ≡ s.index) e m.was in
-            let now : taken_of next l ≡ suc s.index = subst (λ n. taken_of next n ≡ suc s.index) e m.now in
-            let different : s.index ≡ i → ⊥ = n e in
-            omega (arith, was, now, different, left)
-        by_log (inr o) = let kept : taken_of next l ≡ taken_of st l = ap taken_in (m.others l (λ e. o (sym e))) in omega (arith, kept, left)
+    still next m n = grind arith
 
     go : (next : State) (m : Stepped c st next s.log s.index) → Named c st next s.log s.index pid ⊎ Quiet c st next s.log s.index pid → IsBeyond k (session_of next pid) × (taken_of next l ≤ i)
     go next m (inl named) = (

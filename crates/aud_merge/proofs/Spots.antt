@@ -20,7 +20,7 @@ use Rattle.aud_merge.specs.Due.{node_cursor, is_at_least, is_reached}
 use Rattle.aud_merge.specs.declared.step.Step.{Step}
 use Rattle.aud_merge.proofs.Steps.{Synced}
 use Rattle.aud_merge.proofs.Records.{last-rooms, waiting}
-use Rattle.aud_merge.proofs.Phases.{Spot, Waiting, Within, Over, Beyond, Holds, OnSlice, Moves, waits, begins, elsewhere, goes, breaks, leaves, stays_over, passes, stays_beyond, reached-in}
+use Rattle.aud_merge.proofs.Phases.{Spot, Waiting, Within, Over, Beyond, Holds, OnSlice, Moves, begins, elsewhere, goes, breaks, leaves, reached-in}
 
 -- the part of a slice from the record with this number on
 abbrev pub part_from : Cluster → Turn → ℕ → Slice
@@ -114,18 +114,14 @@ module _ (c : Cluster) (who : Who) (k : ℕ) (t : Turn) (l i at : ℕ) (held : R
 
 -- a move leaves the rooms of each position that isn't reached
 pub Moves-rooms : (c : Cluster) (who : Who) (l i : ℕ) (a b : Spot) → Moves c who l i a b → (p : ℕ) → spot_reached c a p ≡ false → rooms_left c who a p ≡ rooms_left c who b p
-Moves-rooms c who l i a b (waits k held rest) p before = refl
 Moves-rooms c who l i a b (begins k held t later same_log same_index turn) p before =
     ap (λ recs. rooms_for c.stream who.pid held (record { low = cursor_at c.stream (node_log c t.node) (suc t.from); high = cursor_at c.stream (node_log c t.node) t.to; recs = recs } ∷ map (slice_of c) later) p) (between-more (node_log c t.node) t.from t.to (beginning who k) turn.some turn.begins)
     ∙ rooms_for-beginning c.stream who k held _ _ (between (node_log c t.node) (suc t.from) t.to) (map (slice_of c) later) p
-Moves-rooms c who l i a b (elsewhere k t at held later) p before = refl
 Moves-rooms c who l i a b (goes k t at held later rec on part) p before = rooms-goes c who k t l i at held later rec on p before
 Moves-rooms c who l i a b (breaks k t at held later rec on part is_end) p before = rooms-ends c who k t l i at held later rec on p before ByBreak part is_end
 Moves-rooms c who l i a b (leaves k t at held later rec e on part is_end none is) p before =
     rooms-ends c who k t l i at held later rec on p before e part is_end ∙ ap (λ ts. rooms_for c.stream who.pid held (map (slice_of c) ts) p) none
-Moves-rooms c who l i a b stays_over p before = refl
-Moves-rooms c who l i a b (passes k held) p before = refl
-Moves-rooms c who l i a b stays_beyond p before = refl
+Moves-rooms c who l i a b _ p before = refl
 
 -- the record by which what is left of the turns first reaches a position
 abbrev pub left_of : Cluster → Turn → ℕ → List Turn → ℕ → Option Step
@@ -169,7 +165,6 @@ by_more : (c : Cluster) (t : Turn) (l i at : ℕ) (later : List Turn) (p : ℕ) 
 by_more c t l i at later p h log index = grind (arith, left_of-more c t at later p h)
 
 pub Moves-step : (c : Cluster) (who : Who) (l i : ℕ) (a b : Spot) → Moves c who l i a b → (p : ℕ) → spot_reached c a p ≡ false → MovesStep c l i a b p
-Moves-step c who l i a b (waits k held rest) p before = (λ e. absurd (false≢true e), λ _. refl)
 Moves-step c who l i a b (begins k held t later same_log same_index turn) p before = by_more c t l i t.from later p turn.some (sym same_log) same_index
 Moves-step c who l i a b (elsewhere k t at held later) p before = (λ e. absurd (false≢true (sym before ∙ e)), λ _. refl)
 Moves-step c who l i a b (goes k t at held later rec on part) p before = by_more c t l i at later p on.some on.log on.index
@@ -178,6 +173,4 @@ Moves-step c who l i a b (leaves k t at held later rec e on part is_end none is)
   λ e. absurd (false≢true e),
   λ _. ap (λ b. cond b (option_map (λ number. record { log = t.node; index = number }) (first_reaching c.stream (node_log c t.node) p at (t.to - at))) (reaching_step c later p)) (past-high c who k t l i at held later rec on p before e part is_end) ∙ ap (λ ts. reaching_step c ts p) none,
 )
-Moves-step c who l i a b stays_over p before = (λ e. absurd (false≢true e), λ _. refl)
-Moves-step c who l i a b (passes k held) p before = (λ e. absurd (false≢true e), λ _. refl)
-Moves-step c who l i a b stays_beyond p before = (λ e. absurd (false≢true e), λ _. refl)
+Moves-step c who l i a b _ p before = (λ e. absurd (false≢true e), λ _. refl)

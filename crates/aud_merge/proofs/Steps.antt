@@ -1,5 +1,5 @@
 -- What a step that is allowed does, and what one session sees of it; the cursor that a log gives.
-use Rattle.std.proofs.Common.{◌≡◌, ◌<◌, ◌≤◌, ℕ, suc, [], take, Some, slice_get, arith, sym, ap, subst, ◌∙◌, ◌⊎◌, inl, inr, nat_eq, ◌+◌, zero, true, false, cond, List, ◌∷◌, length, map, Option, None, refl, unwrap_or, filter, nat_le}
+use Rattle.std.proofs.Common.{◌≡◌, ◌<◌, ◌≤◌, ℕ, suc, [], take, Some, slice_get, arith, sym, ap, subst, ◌∙◌, ◌⊎◌, inl, inr, nat_eq, ◌+◌, zero, true, false, cond, List, ◌∷◌, length, map, Option, None, refl, unwrap_or, filter, nat_le, set}
 use Rattle.std.proofs.lemmas.Bool.{eqb-true, cases_eq, eq-eqb, ne_eqb, leb-false, le-leb, lt-leb}
 use Rattle.std.proofs.lemmas.Option.{same_Some, none-some, slice_get_within, slice_get-map}
 use Rattle.std.specs.Ordering.{nat_cmp}
@@ -46,43 +46,41 @@ pub record Stepped (c : Cluster) (st st' : State) (l i : ℕ) : Type 0 where
   pub others : (m : ℕ) → (m ≡ l → ⊥) → slice_get st'.logs m ≡ slice_get st.logs m
   pub kind : EntryStep c st st' l i ⊎ RecordStep c st st' l i
 
+-- a step that leaves its log so far, with this cursor
+stepped_to : (c : Cluster) (st st' : State) (l i : ℕ) (done : Progress) (log : Records) (cursor : ℕ) → slice_get st.logs l ≡ Some done → done.taken ≡ i → log_at c l ≡ Some log
+    → st'.logs ≡ set st.logs l (record { taken = suc done.taken; cursor = cursor }) → done.taken < log_length (Some log)
+    → (cursor_of st l ≡ done.cursor → cursor_of st' l ≡ cursor → EntryStep c st st' l i ⊎ RecordStep c st st' l i) → Stepped c st st' l i
+stepped_to c st st' l i done log cursor at was is_log logs within kind =
+    let here : slice_get st'.logs l ≡ Some (record { taken = suc done.taken; cursor = cursor }) = ap (λ ps. slice_get ps l) logs ∙ slice_get-set_same st.logs l _ done at in
+    record {
+      was = ap taken_in at ∙ was;
+      now = ap taken_in here ∙ ap suc was;
+      counted = subst (λ n. n < record_count c l) was (subst (λ o. done.taken < log_length o) (sym is_log) within);
+      others = λ m n. ap (λ ps. slice_get ps m) logs ∙ slice_get-set_other st.logs l m _ n;
+      kind = kind (ap cursor_in at) (ap cursor_in here);
+    }
+
 stepped_log : (c : Cluster) (st st' : State) (l i : ℕ) (done : Progress) (log : Records)
     → slice_get st.logs l ≡ Some done → done.taken ≡ i → log_at c l ≡ Some log → after_next c st l done log ≡ Some st'
     → Stepped c st st' l i
 stepped_log c st st' l i done (Stream recs) at was log e =
     let (entry, found, became) = and_then_parts (after_entry st l done) (slice_get recs done.taken) st' e in
-    let here : slice_get st'.logs l ≡ Some (record { taken = suc done.taken; cursor = done.cursor }) =
-    ap (λ (s : State). slice_get s.logs l) (sym (same_Some _ _ became)) ∙ slice_get-set_same st.logs l _ done at in
-    record {
-      was = ap taken_in at ∙ was;
-      now = ap taken_in here ∙ ap suc was;
-      counted = subst (λ n. n < record_count c l) was (subst (λ o. done.taken < log_length o) (sym log) (slice_get_within recs done.taken entry found));
-      others = λ m n. ap (λ (s : State). slice_get s.logs m) (sym (same_Some _ _ became)) ∙ slice_get-set_other st.logs l m _ n;
-      kind = inl (record {
-        no_log = ap node_recs log;
-        sessions = ap (λ (s : State). s.sessions) (sym (same_Some _ _ became));
-        cursor = ap cursor_in here ∙ sym (ap cursor_in at);
-      });
-    }
+    let is = sym (same_Some _ st' became) in
+    stepped_to c st st' l i done (Stream recs) done.cursor at was log (ap (λ (s : State). s.logs) is) (slice_get_within recs done.taken entry found)
+    (λ old new. inl (record { no_log = ap node_recs log; sessions = ap (λ (s : State). s.sessions) is; cursor = new ∙ sym old }))
 stepped_log c st st' l i done (Client recs) at was log e = absurd (none-some st' e)
 stepped_log c st st' l i done (Node recs) at was log e =
     let (rec, found, became) = and_then_parts (after_record c st l done) (slice_get recs done.taken) st' e in
     let (cursor, moved, rest) = and_then_parts _ (allowed_cursor (take (appended c st) c.stream) done.taken rec done.cursor) st' became in
     let (sessions, kept, is) = map_parts _ (sessions_after l rec (pid_of rec) st.sessions) st' rest in
-    let here : slice_get st'.logs l ≡ Some (record { taken = suc done.taken; cursor = cursor }) =
-    ap (λ (s : State). slice_get s.logs l) (sym is) ∙ slice_get-set_same st.logs l _ done at in
-    record {
-      was = ap taken_in at ∙ was;
-      now = ap taken_in here ∙ ap suc was;
-      counted = subst (λ n. n < record_count c l) was (subst (λ o. done.taken < log_length o) (sym log) (slice_get_within recs done.taken rec found));
-      others = λ m n. ap (λ (s : State). slice_get s.logs m) (sym is) ∙ slice_get-set_other st.logs l m _ n;
-      kind = inr (record {
-        rec = rec;
-        at = ap (λ o. slice_get (node_recs o) i) log ∙ ap (λ n. slice_get recs n) (sym was) ∙ found;
-        cursor = ap (λ n. allowed_cursor (take (appended c st) c.stream) n rec (cursor_of st l)) (sym was) ∙ ap (λ n. allowed_cursor (take (appended c st) c.stream) done.taken rec n) (ap cursor_in at) ∙ moved ∙ ap Some (sym (ap cursor_in here));
-        sessions = kept ∙ ap (λ (s : State). Some s.sessions) is;
-      });
-    }
+    stepped_to c st st' l i done (Node recs) cursor at was log (ap (λ (s : State). s.logs) (sym is)) (slice_get_within recs done.taken rec found)
+    (λ old new.
+    inr (record {
+      rec = rec;
+      at = ap (λ o. slice_get (node_recs o) i) log ∙ ap (λ n. slice_get recs n) (sym was) ∙ found;
+      cursor = ap (λ n. allowed_cursor (take (appended c st) c.stream) n rec (cursor_of st l)) (sym was) ∙ ap (allowed_cursor (take (appended c st) c.stream) done.taken rec) old ∙ moved ∙ ap Some (sym new);
+      sessions = kept ∙ ap (λ (s : State). Some s.sessions) is;
+    }))
 
 pub stepped : (c : Cluster) (st st' : State) (s : Step) → after c st s ≡ Some st' → Stepped c st st' s.log s.index
 stepped c st st' s e =

@@ -19,7 +19,7 @@ use Rattle.aud_merge.specs.Private.RunsOn.{RunsOn}
 use Rattle.aud_merge.specs.Sessions.{SessionState, Absent, Here, Ended}
 use Rattle.aud_merge.proofs.Steps.{Stepped, stepped, taken-grows, Synced, Synced-step, Synced-start, RunsOn-run}
 use Rattle.aud_merge.proofs.Records.{waiting, ended, past-inner, past-last, past-beginning}
-use Rattle.aud_merge.proofs.Phases.{Unstarted, Spot, Waiting, Within, Over, Beyond, Holds, OnSlice, Moves, waits, begins, elsewhere, goes, breaks, leaves, stays_over, passes, stays_beyond, moves_on}
+use Rattle.aud_merge.proofs.Phases.{Unstarted, Spot, Waiting, Within, Over, Beyond, Holds, OnSlice, Moves, begins, goes, breaks, leaves, passes, stays_beyond, moves_on}
 use Rattle.aud_merge.proofs.DueLaws.{at_start, chain-none}
 
 after_records-push : (node : ℕ) (pid : Text) (s : SessionState) (xs : List NodeRec) (rec : NodeRec) → after_records node pid s (xs ++ rec ∷ []) ≡ session_past node pid (after_records node pid s xs) rec
@@ -89,7 +89,6 @@ module _ (c : Cluster) (who : Who) (last : ℕ) (turns : List Turn) (none : HasN
 
     -- a move keeps it
     Moves-kept : (a b : Spot) → Moves c who l i a b → Holds c who last st a → Holds c who last st' b → Kept c who turns st a → Kept c who turns st' b
-    Moves-kept a b (waits k held rest) before after kept = record { base = kept.base; same = λ u more. kept.same u (grows u more); at = kept.at }
     Moves-kept a b (begins k held t later same_log same_index turn) before after kept =
         record {
           base = kept.base;
@@ -100,7 +99,6 @@ module _ (c : Cluster) (who : Who) (last : ℕ) (turns : List Turn) (none : HasN
                 ∙ past-beginning t.node who k held before.1.first,
           );
         }
-    Moves-kept a b (elsewhere k t at held later) before after kept = record { base = kept.base; same = λ u more. kept.same u (grows u more); at = kept.at }
     Moves-kept a b (goes k t at held later rec on part) before after kept =
         let begun = before.1.rest.begun in
         record {
@@ -114,9 +112,9 @@ module _ (c : Cluster) (who : Who) (last : ℕ) (turns : List Turn) (none : HasN
     Moves-kept a b (leaves k t at held later rec e on part is_end no_more over) before after kept =
         let (base, is, same) = turn_kept k t at held later rec e on part is_end before.1.rest.begun kept in
         record { base = base; same = λ u more. same u more ∙ ap (by_turns c who.pid u base) no_more; at = is ∙ over }
-    Moves-kept a b stays_over before after kept = record { base = kept.base; same = λ u more. kept.same u (grows u more); at = kept.at }
     Moves-kept a b (passes k held) before after kept = absurd (none after.node after.at after.rec after.stands after.begins)
     Moves-kept a b stays_beyond before after kept = absurd kept.at
+    Moves-kept a b _ before after kept = record { base = kept.base; same = λ u more. kept.same u (grows u more); at = kept.at }
 
   told : (st : State) (spot : Spot) → Holds c who last st spot → Kept c who turns st spot → session_of st who.pid ≡ by_turns c who.pid st Absent turns
   told st spot holds kept = ahead_told spot holds kept.base kept.at ∙ sym (kept.same st (λ m. omega arith))
