@@ -145,10 +145,8 @@ Apart (Some x) None = Unit {0}
 Apart (Some x) (Some y) = x.0 ≡ y.0 → ⊥
 
 put_comm : (m : Sessions) (x y : Option (Text × SessionState)) → Apart x y → put_in y (put_in x m) ≡ put_in x (put_in y m)
-put_comm m None None apart = refl
-put_comm m None (Some y) apart = refl
-put_comm m (Some x) None apart = refl
 put_comm m (Some x) (Some y) apart = insert_comm m x y apart
+put_comm m _ _ apart = refl
 
 same_after : (m : Sessions) (x y : Option (Text × SessionState)) → Apart x y → SameAt x m (put_in y m)
 same_after m None y apart = tt

@@ -3,8 +3,6 @@ use Rattle.std.proofs.Common.{◌≡◌, ℕ, ◌⊎◌, inl, inr, List, [], ◌
 use Rattle.std.specs.FinSet as set
 use Rattle.aud_tap.specs.declared.records.StreamRec.TheVariants.{Other}
 use Rattle.aud_tap.specs.declared.records.NodeRec.TheVariants.{Start, Take, Opened, Join, Leave, Broke, Back}
-use Rattle.aud_tap.specs.declared.taps.Tap.{Tap}
-use Rattle.aud_tap.specs.declared.taps.Records.{Records}
 use Rattle.aud_tap.specs.declared.taps.Records.TheVariants.{Stream, Node}
 use Rattle.aud_node.specs.Cluster.{Cluster, cluster_of}
 use Rattle.aud_node.specs.Stream.{Text}
@@ -12,6 +10,7 @@ use Rattle.aud_rooms.specs.Rooms.{own_room}
 use Rattle.aud_rooms.specs.Turns.{Who, Turn, Slice, AreTurns, slice_of, turn_end, ByBreak, ByLog}
 use Rattle.aud_rooms.specs.TurnsDue.{rooms_for}
 use Rattle.aud_merge.specs.ByTurns.{reaching_step}
+use Rattle.aud_merge.specs.Recovery.{tap}
 
 abbrev P : Text
 P = 80 ∷ []
@@ -22,15 +21,12 @@ sid = 1 ∷ []
 abbrev room : Text
 room = 2 ∷ []
 
-abbrev tap : Records → Tap
-tap records = record { name = []; records = records }
-
 abbrev row : Cluster
 row =
     cluster_of
-    (tap (Stream (Other (10 ∷ []) ∷ Other (20 ∷ []) ∷ Other (30 ∷ []) ∷ Other (40 ∷ []) ∷ []))
-    ∷ tap (Node (Start None ∷ Opened P sid [] ∷ Join P room ∷ Take (10 ∷ []) ∷ Broke P 0 ∷ Take (20 ∷ []) ∷ Take (30 ∷ []) ∷ Back P 2 ∷ Broke P 2 ∷ Take (40 ∷ []) ∷ []))
-    ∷ tap (Node (Start None ∷ Take (10 ∷ []) ∷ Take (20 ∷ []) ∷ Back P 1 ∷ Broke P 1 ∷ Take (30 ∷ []) ∷ Take (40 ∷ []) ∷ Back P 3 ∷ Leave P room ∷ [])) ∷ [])
+    (tap [] (Stream (Other (10 ∷ []) ∷ Other (20 ∷ []) ∷ Other (30 ∷ []) ∷ Other (40 ∷ []) ∷ []))
+    ∷ tap [] (Node (Start None ∷ Opened P sid [] ∷ Join P room ∷ Take (10 ∷ []) ∷ Broke P 0 ∷ Take (20 ∷ []) ∷ Take (30 ∷ []) ∷ Back P 2 ∷ Broke P 2 ∷ Take (40 ∷ []) ∷ []))
+    ∷ tap [] (Node (Start None ∷ Take (10 ∷ []) ∷ Take (20 ∷ []) ∷ Back P 1 ∷ Broke P 1 ∷ Take (30 ∷ []) ∷ Take (40 ∷ []) ∷ Back P 3 ∷ Leave P room ∷ [])) ∷ [])
 
 abbrev who : Who
 who = record { pid = P; sid = sid; nsp = [] }

@@ -1,12 +1,10 @@
 -- Where a session is among its turns, in a state of a run; and how each step leads on.
-use Rattle.std.proofs.Common.{◌≡◌, ◌<◌, ◌≤◌, ◌+◌, ℕ, suc, true, false, List, [], ◌∷◌, length, Option, Some, None, slice_get, refl, sym, ap, subst, ◌∙◌, ◌⊎◌, inl, inr, nat_le, arith}
+use Rattle.std.proofs.Common.{◌≡◌, ◌<◌, ◌≤◌, ◌+◌, ℕ, suc, true, false, List, [], ◌∷◌, length, Some, slice_get, refl, sym, ap, subst, ◌∙◌, ◌⊎◌, inl, inr, nat_le, arith}
 use Rattle.std.proofs.lemmas.Bool.{cases_eq}
-use Rattle.std.proofs.lemmas.Option.{same_Some, none-some, slice_get_within}
+use Rattle.std.proofs.lemmas.Option.{same_Some, slice_get_within}
 use Rattle.aud_tap.specs.declared.records.NodeRec.{NodeRec}
-use Rattle.aud_tap.specs.declared.taps.Records.{Records}
-use Rattle.aud_tap.specs.declared.taps.Records.TheVariants.{Stream, Node, Client}
 use Rattle.aud_base.proofs.Lists.{between-more, between-none}
-use Rattle.aud_node.specs.Cluster.{Cluster, node_log, node_recs, log_at}
+use Rattle.aud_node.specs.Cluster.{Cluster, node_log}
 use Rattle.aud_node.specs.Cursors.{takes, cursor_at}
 use Rattle.aud_node.specs.Lists.{between}
 use Rattle.aud_node.specs.Stream.{Text}
@@ -19,20 +17,11 @@ use Rattle.aud_merge.specs.ByTurns.{session_past}
 use Rattle.aud_merge.specs.Due.{cursor_of, node_cursor, is_at_least, is_reached}
 use Rattle.aud_merge.specs.declared.step.Step.{Step}
 use Rattle.aud_merge.specs.Machine.{State, session_of, taken_in, taken_of, appended}
-use Rattle.aud_merge.specs.Runs.{record_count, log_length}
+use Rattle.aud_merge.specs.Runs.{record_count}
 use Rattle.aud_merge.specs.Private.RunsOn.{RunsOn}
 use Rattle.aud_merge.specs.Sessions.{Here, Ended, session_after}
 use Rattle.aud_merge.proofs.Steps.{EntryStep, RecordStep, Stepped, stepped, Named, Quiet, moved, Synced, Synced-step, reaches-takes-after}
 use Rattle.aud_merge.proofs.Records.{IsBeyond, IsBeyond-after, beginning-allowed, here-node, beginning-here, ended-after, past-named, past-other, past-inner, past-last, ended, waiting, waiting-after, begun-beyond}
-
-pub within-count : (c : Cluster) (l i : ℕ) (rec : NodeRec) → slice_get (node_log c l) i ≡ Some rec → i < record_count c l
-within-count c l i rec at = go (log_at c l) at
-  where
-    go : (o : Option Records) → slice_get (node_recs o) i ≡ Some rec → i < log_length o
-    go None at = absurd (none-some rec at)
-    go (Some (Stream recs)) at = absurd (none-some rec at)
-    go (Some (Client recs)) at = absurd (none-some rec at)
-    go (Some (Node recs)) at = slice_get_within recs i rec at
 
 pub length-count : (c : Cluster) (l : ℕ) → length (node_log c l) ≤ record_count c l
 length-count c l = grind arith
@@ -41,9 +30,7 @@ length-count c l = grind arith
 pub never_again : (c : Cluster) (pid : Text) (k l i : ℕ) (rec : NodeRec) → slice_get (node_log c l) i ≡ Some rec → begins_turn pid k rec ≡ true
     → (steps : List Step) (st : State) → RunsOn c st steps → IsBeyond k (session_of st pid) → taken_of st l ≤ i → ⊥
 never_again c pid k l i rec at begins [] st finished beyond left =
-    let counted = within-count c l i rec at in
-    let done = finished l in
-    omega (arith, counted, done, left)
+    omega (arith, slice_get_within (node_log c l) i rec at, length-count c l, finished l, left)
 never_again c pid k l i rec at begins (s ∷ steps) st runs beyond left =
     let (next, allowed, later) = runs in
     let st_ = stepped c st next s allowed in

@@ -116,13 +116,10 @@ sessions_step : (l : ℕ) (rec : NodeRec) (named : Option Text) (m m' : fin.FinM
 sessions_step l rec None m m' pid e = inr (λ n. none-some pid n, ap (λ x. unwrap_or (fin.get x pid) Absent) (sym (same_Some m m' e)))
 sessions_step l rec (Some q) m m' pid e =
     let (session, is, put) = map_parts _ (session_after l rec (unwrap_or (fin.get m q) Absent)) m' e in
-    ⊎_cases (cases_text q pid)
-    (λ same. inl (ap Some same, ap (λ x. session_after l rec (unwrap_or (fin.get m x) Absent)) (sym same) ∙ is ∙ ap Some (sym (ap (λ o. unwrap_or o Absent) (ap (λ x. fin.get x pid) (sym put) ∙ ap (λ x. fin.get (fin.insert m x session) pid) same ∙ get_insert_same m pid session)))))
-    (λ n. inr (λ named. n (same_Some q pid named), ap (λ o. unwrap_or o Absent) (ap (λ x. fin.get x pid) (sym put) ∙ get_insert_other m q session pid (λ back. n (sym back)))))
-  where
-    ⊎_cases : {A B C : Type 0} → A ⊎ B → (A → C) → (B → C) → C
-    ⊎_cases (inl a) f g = f a
-    ⊎_cases (inr b) f g = g b
+    elim (cases_text q pid) as (λ _. ((Some q ≡ Some pid) × (session_after l rec (unwrap_or (fin.get m pid) Absent) ≡ Some (unwrap_or (fin.get m' pid) Absent))) ⊎ ((Some q ≡ Some pid → ⊥) × (unwrap_or (fin.get m' pid) Absent ≡ unwrap_or (fin.get m pid) Absent))) [
+      | inl same ↦ inl (ap Some same, ap (λ x. session_after l rec (unwrap_or (fin.get m x) Absent)) (sym same) ∙ is ∙ ap Some (sym (ap (λ o. unwrap_or o Absent) (ap (λ x. fin.get x pid) (sym put) ∙ ap (λ x. fin.get (fin.insert m x session) pid) same ∙ get_insert_same m pid session))))
+      | inr n ↦ inr (λ named. n (same_Some q pid named), ap (λ o. unwrap_or o Absent) (ap (λ x. fin.get x pid) (sym put) ∙ get_insert_other m q session pid (λ back. n (sym back))))
+    ]
 
 pub moved : (c : Cluster) (st st' : State) (l i : ℕ) (pid : Text) → EntryStep c st st' l i ⊎ RecordStep c st st' l i → Named c st st' l i pid ⊎ Quiet c st st' l i pid
 moved c st st' l i pid (inl e) =
@@ -130,11 +127,10 @@ moved c st st' l i pid (inl e) =
       session = ap (λ x. unwrap_or (fin.get x pid) Absent) e.sessions;
       other = λ rec at. absurd (none-some rec (ap (λ log. slice_get log i) (sym e.no_log) ∙ at));
     })
-moved c st st' l i pid (inr r) = choose (sessions_step l r.rec (pid_of r.rec) st.sessions st'.sessions pid r.sessions)
-  where
-    choose : ((pid_of r.rec ≡ Some pid) × (session_after l r.rec (session_of st pid) ≡ Some (session_of st' pid))) ⊎ ((pid_of r.rec ≡ Some pid → ⊥) × (session_of st' pid ≡ session_of st pid)) → Named c st st' l i pid ⊎ Quiet c st st' l i pid
-    choose (inl named) = inl (record { rec = r.rec; at = r.at; names = named.0; becomes = named.1 })
-    choose (inr quiet) = inr (record { session = quiet.1; other = λ rec at names. quiet.0 (ap pid_of (same_Some _ _ (sym r.at ∙ at)) ∙ names) })
+moved c st st' l i pid (inr r) = elim (sessions_step l r.rec (pid_of r.rec) st.sessions st'.sessions pid r.sessions) as (λ _. Named c st st' l i pid ⊎ Quiet c st st' l i pid) [
+  | inl named ↦ inl (record { rec = r.rec; at = r.at; names = named.0; becomes = named.1 })
+  | inr quiet ↦ inr (record { session = quiet.1; other = λ rec at names. quiet.0 (ap pid_of (same_Some _ _ (sym r.at ∙ at)) ∙ names) })
+]
 
 pub is_position-at : (o : Option ℕ) (p : ℕ) → o ≡ Some p → is_position o p ≡ true
 is_position-at None p e = absurd (none-some p e)
