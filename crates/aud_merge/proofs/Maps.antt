@@ -27,6 +27,8 @@ pub or_absent : (o : Option OpenedSession) → seen_or_absent o ≡ unwrap_or (o
 or_absent None = refl
 or_absent (Some s) = refl
 
+pub ruleset seen_sessions = (get-sessions_of, or_absent)
+
 pub sessions_of-insert : (olds news : List ((Bor (List ℕ)) × OpenedSession)) (pid : List ℕ) (s : OpenedSession)
     → ((q : Bor (List ℕ)) → lookup (λ k. is_eq (slice_cmp nat_cmp q.now k.now)) news ≡ cond (is_eq (slice_cmp nat_cmp pid q.now)) (Some s) (lookup (λ k. is_eq (slice_cmp nat_cmp q.now k.now)) olds))
     → sessions_seen news ≡ fin.insert (sessions_seen olds) pid (session_seen s)
@@ -43,6 +45,8 @@ sessions_of-insert olds news pid s updates = fin.same_map nat_list_cmp_total (fi
         ∙ ap (λ o. cond (is_eq (slice_cmp nat_cmp pid q)) (Some (session_seen s)) o) (sym (get-sessions_of olds q))
         ∙ ap (λ b. cond b (Some (session_seen s)) (fin.get (sessions_seen olds) q)) ((eq_by_cmp_equiv nat_list_cmp_total).symm pid q)
         ∙ sym (fin.get-insert nat_list_cmp_total (sessions_seen olds) pid (session_seen s) q)
+
+pub ruleset put_session = (sessions_of-insert)
 
 -- what a look-up of the pid in the entries found
 module _ (entries : List ((Bor (List ℕ)) × OpenedSession)) (old : Sessions) (same : sessions_seen entries ≡ old) (pid : List ℕ) where

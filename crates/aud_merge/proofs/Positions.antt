@@ -1,6 +1,7 @@
 -- Positions among the entries that were appended.
-use Rattle.std.proofs.Common.{◌≡◌, ◌<◌, ◌≤◌, ℕ, zero, suc, cond, List, [], ◌∷◌, take, Option, Some, None, option_map, refl, sym, ap, ◌∙◌, nat_le, arith}
+use Rattle.std.proofs.Common.{◌≡◌, ◌≤◌, ℕ, zero, suc, cond, List, [], ◌∷◌, take, Option, Some, None, option_map, refl, sym, ap, ◌∙◌, nat_le, arith}
 use Rattle.std.proofs.lemmas.Bool.{le-leb, lt-leb, leb-true}
+use Rattle.std.proofs.lemmas.Bool.Decides.{nat_tests}
 use Rattle.std.proofs.lemmas.Option.{none-some, cond_some}
 use Rattle.aud_tap.specs.declared.records.StreamRec.{StreamRec}
 use Rattle.aud_node.specs.Stream.{Text, position}
@@ -40,12 +41,4 @@ position-more a b stream off q h e =
     let (is, within) = up_to-is a (position stream off) q (sym (position-taken a stream off) ∙ e) in
     position-taken b stream off ∙ ap (up_to b) is ∙ ap (λ t. cond t (Some q) None) (le-leb q b (omega (arith, within)))
 
-module _ (a : ℕ) (stream : List StreamRec) (off : Text) where
-  pub taken-some : (p : ℕ) → Some p ≡ position stream off → p ≤ a → Some p ≡ position (take a stream) off
-  taken-some p is h = sym (position-taken a stream off ∙ ap (up_to a) (sym is) ∙ ap (λ b. cond b (Some p) None) (le-leb p a h))
-
-  pub taken-past : (p : ℕ) → Some p ≡ position stream off → a < p → None ≡ position (take a stream) off
-  taken-past p is h = sym (position-taken a stream off ∙ ap (up_to a) (sym is) ∙ ap (λ b. cond b (Some p) None) (lt-leb p a h))
-
-  pub taken-none : None ≡ position stream off → None ≡ position (take a stream) off
-  taken-none is = sym (position-taken a stream off ∙ ap (up_to a) (sym is))
+pub ruleset appended_positions = (position-taken, nat_tests)

@@ -67,6 +67,7 @@ fn allowed_cursor(stream: &Stream, appended: usize, rec: &NodeRec, done: Progres
 }
 
 /// The position of the offset, if its entry is among the appended ones.
+#[tactic(auto, using(crate::proofs::Positions::appended_positions))]
 fn appended_position(stream: &Stream, appended: usize, off: &str) -> Option<u64>
     ensures { result ≡ position (take appended stream.now) off.now }
 {

@@ -48,6 +48,7 @@ impl<'a> Sessions<'a> {
     }
 
     /// The session of a pid; none where it wasn't opened.
+    #[tactic(auto, using(crate::proofs::Maps::seen_sessions))]
     pub(crate) fn get(&self, pid: &str) -> Option<&OpenedSession<'a>>
         ensures { seen_or_absent (option_copied result) ≡ unwrap_or (fin.get self.now pid.now) Absent }
     {
@@ -79,6 +80,8 @@ impl<'a> Sessions<'a> {
         }
     }
 
+    /// Puts the session of the pid.
+    #[tactic(auto, using(crate::proofs::Maps::put_session))]
     fn insert(&mut self, pid: &'a str, session: OpenedSession<'a>) -> Result<(), AllocError>
         ensures inserted { OnOk result (self.new ≡ fin.insert self.old pid.now (session_seen session.entry)) }
         ensures unchanged { OnErr result (self.new ≡ self.old) }
