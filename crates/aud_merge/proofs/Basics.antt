@@ -1,24 +1,21 @@
--- Texts, look-ups, and options.
-use Rattle.std.proofs.Common.{◌≡◌, ℕ, zero, suc, Bool, true, false, cond, List, [], ◌∷◌, set, Option, Some, None, slice_get, refl, sym, ap, ◌∙◌, ◌⊎◌, bytes_eq, arith, option_map, option_and_then}
+-- Look-ups, and options.
+use Rattle.std.proofs.Common.{◌≡◌, ℕ, zero, suc, Bool, true, false, cond, List, [], ◌∷◌, set, Option, Some, None, slice_get, refl, sym, ap, ◌∙◌, option_map, option_and_then, bytes_eq}
 use Rattle.std.specs.Ordering.{nat_cmp}
 use Rattle.std.specs.Cmp.Lexicographic.{slice_cmp, texts_ties, nat_list_cmp_total}
 use Rattle.std.specs.FinMap as fin
 use Rattle.std.proofs.lemmas.Option.{same_Some, none-some}
 use Rattle.aud_node.specs.Stream.{Text}
-use Rattle.aud_rooms.proofs.Turns.{same_text, itself_text}
-
-pub other_text : (a b : Text) → (a ≡ b → ⊥) → bytes_eq a b ≡ false
-other_text a b n = elim (bytes_eq a b) as (λ v. bytes_eq a b ≡ v → v ≡ false) [ true ↦ λ e. absurd (n (same_text a b e)) | false ↦ λ e. refl ] refl
-
-pub cases_text : (a b : Text) → (a ≡ b) ⊎ (a ≡ b → ⊥)
-cases_text a b = grind (arith, same_text a b, itself_text b)
+use Rattle.aud_base.proofs.SameText.{itself_text, other_text}
 
 module _ {X : Type 0} where
+  pub get_insert : (m : fin.FinMap (slice_cmp nat_cmp) X) (k : Text) (v : X) (q : Text) → fin.get (fin.insert m k v) q ≡ cond (bytes_eq q k) (Some v) (fin.get m q)
+  get_insert m k v q = fin.get-insert nat_list_cmp_total m k v q ∙ ap (λ b. cond b (Some v) (fin.get m q)) (sym (texts_ties q k))
+
   pub get_insert_same : (m : fin.FinMap (slice_cmp nat_cmp) X) (k : Text) (v : X) → fin.get (fin.insert m k v) k ≡ Some v
-  get_insert_same m k v = fin.get-insert nat_list_cmp_total m k v k ∙ ap (λ b. cond b (Some v) (fin.get m k)) (sym (texts_ties k k) ∙ itself_text k)
+  get_insert_same m k v = get_insert m k v k ∙ ap (λ b. cond b (Some v) (fin.get m k)) (itself_text k)
 
   pub get_insert_other : (m : fin.FinMap (slice_cmp nat_cmp) X) (k : Text) (v : X) (q : Text) → (q ≡ k → ⊥) → fin.get (fin.insert m k v) q ≡ fin.get m q
-  get_insert_other m k v q n = fin.get-insert nat_list_cmp_total m k v q ∙ ap (λ b. cond b (Some v) (fin.get m q)) (sym (texts_ties q k) ∙ other_text q k n)
+  get_insert_other m k v q n = get_insert m k v q ∙ ap (λ b. cond b (Some v) (fin.get m q)) (other_text q k n)
 
   pub slice_get-set_same : (xs : List X) (i : ℕ) (v d : X) → slice_get xs i ≡ Some d → slice_get (set xs i v) i ≡ Some v
   slice_get-set_same [] i v d e = absurd (none-some d e)

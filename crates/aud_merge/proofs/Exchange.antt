@@ -1,18 +1,19 @@
--- An allowed step stays allowed until it is taken, where a run exists.
-use Rattle.std.proofs.Common.{◌≡◌, ◌<◌, ◌≤◌, ℕ, zero, suc, Bool, true, false, cond, List, [], ◌∷◌, set, take, Option, Some, None, slice_get, refl, sym, ap, subst, ◌∙◌, ◌⊎◌, inl, inr, nat_eq, unwrap_or, arith, option_map, option_and_then, bytes_eq}
+-- Where a run exists, an allowed step stays allowed until it is taken; so where the machine blocks, there is none.
+use Rattle.std.proofs.Common.{◌≡◌, ◌<◌, ◌≤◌, ℕ, zero, suc, Bool, true, false, cond, List, [], ◌∷◌, set, take, Option, Some, None, slice_get, refl, sym, ap, subst, ◌∙◌, ◌⊎◌, inl, inr, nat_eq, unwrap_or, arith, option_map, option_and_then, bytes_eq, ◌≢◌, ◌+◌, length, is_some}
 use Rattle.std.specs.Ordering.{nat_cmp}
 use Rattle.std.specs.Cmp.Lexicographic.{slice_cmp, nat_list_cmp_total}
 use Rattle.std.specs.FinMap as fin
-use Rattle.std.proofs.lemmas.Bool.{eqb-true, eq-eqb, cases_eq, and_parts, false≢true}
-use Rattle.std.proofs.lemmas.Option.{same_Some, none-some}
+use Rattle.std.proofs.lemmas.Bool.{eqb-true, eq-eqb, cases_eq, and_parts, false≢true, cases_lt, ltb-true, cases_Bool}
+use Rattle.std.proofs.lemmas.Option.{same_Some, none-some, slice_get_past}
 use Rattle.std.proofs.lemmas.List.{set_comm}
 use Rattle.aud_tap.specs.declared.records.StreamRec.{StreamRec}
 use Rattle.aud_tap.specs.declared.records.NodeRec.{NodeRec}
 use Rattle.aud_tap.specs.declared.records.NodeRec.TheVariants.{Start, Take, Opened, Back}
 use Rattle.aud_tap.specs.declared.taps.Records.{Records}
 use Rattle.aud_tap.specs.declared.taps.Records.TheVariants.{Stream, Node, Client}
+use Rattle.aud_base.proofs.SameText.{same_text}
 use Rattle.aud_node.specs.Cluster.{Cluster, node_log, node_recs, log_at}
-use Rattle.aud_node.specs.Stream.{Text, position, offset_of}
+use Rattle.aud_node.specs.Stream.{Text, position}
 use Rattle.aud_node.specs.TurnRecords.{pid_of, begins_turn}
 use Rattle.aud_rooms.specs.Turns.{Who}
 use Rattle.aud_merge.specs.declared.step.Step.{Step}
@@ -21,9 +22,10 @@ use Rattle.aud_merge.specs.Machine.{State, start, after, after_next, after_recor
 use Rattle.aud_merge.specs.Runs.{record_count, IsRun, AreAllowed, IsBlocked, state_after, front}
 use Rattle.aud_merge.specs.Private.RunsOn.{RunsOn}
 use Rattle.aud_merge.specs.Sessions.{SessionState, Absent, Here, Away, Ended, session_after}
-use Rattle.aud_merge.proofs.Basics.{and_then_parts, map_parts, cond_parts, cases_text, slice_get-set_other, get_insert_same, get_insert_other}
-use Rattle.aud_merge.proofs.Steps.{Stepped, stepped, appended-grows}
-use Rattle.aud_merge.proofs.Moves.{Named, next_position-at, RunsOn-run}
+use Rattle.aud_merge.specs.Order.{first_allowed, IsGreedy, unfinished_fronts, IsBlockedAt}
+use Rattle.aud_merge.proofs.Positions.{position-more}
+use Rattle.aud_merge.proofs.Basics.{and_then_parts, map_parts, cond_parts, slice_get-set_other, get_insert, get_insert_other}
+use Rattle.aud_merge.proofs.Steps.{Stepped, stepped, appended-grows, Named, next_position-at, RunsOn-run, moved}
 use Rattle.aud_merge.proofs.Records.{IsBeyond, here-node, ended-after, waiting-after}
 use Rattle.aud_merge.proofs.Phases.{never_again}
 
@@ -54,16 +56,6 @@ pub record Does (c : Cluster) (st st' : State) (s : Step) : Type 0 where
   pub named : NamedPut c st st' s.log s.index put
   again : (u : State) → slice_get u.logs s.log ≡ slice_get st.logs s.log → appended c st ≤ appended c u → SameAt put st.sessions u.sessions → after c u s ≡ Some (done_to u s.log p put)
 
-position-more : (a b : ℕ) (stream : List StreamRec) (off : Text) (q : ℕ) → a ≤ b → position (take a stream) off ≡ Some q → position (take b stream) off ≡ Some q
-position-more zero b stream off q h e = absurd (none-some q e)
-position-more (suc a) zero stream off q h e = absurd (omega arith)
-position-more (suc a) (suc b) [] off q h e = absurd (none-some q e)
-position-more (suc a) (suc b) (x ∷ xs) off q h e = found (bytes_eq (offset_of x) off) (λ p. position-more a b xs off p (omega arith)) e
-  where
-    found : (t : Bool) → ((p : ℕ) → position (take a xs) off ≡ Some p → position (take b xs) off ≡ Some p) → cond t (Some 1) (option_map suc (position (take a xs) off)) ≡ Some q → cond t (Some 1) (option_map suc (position (take b xs) off)) ≡ Some q
-    found true ih e = e
-    found false ih e = let (p, at, is) = map_parts suc (position (take a xs) off) q e in ap (option_map suc) (ih p at) ∙ ap Some is
-
 taken-more : (a b : ℕ) (stream : List StreamRec) (off : Text) (cursor next : ℕ) → a ≤ b → position_if_next (position (take a stream) off) cursor ≡ Some next → position_if_next (position (take b stream) off) cursor ≡ Some next
 taken-more a b stream off cursor next h e = grind (arith, next_position-at (position (take a stream) off) cursor next e, position-more a b stream off (suc cursor) h)
 
@@ -81,28 +73,31 @@ record Puts (l : ℕ) (rec : NodeRec) (named : Option Text) (m m' : Sessions) : 
   pub put : Option (Text × SessionState)
   is : m' ≡ put_in put m
   again : (u : Sessions) → SameAt put m u → sessions_after l rec named u ≡ Some (put_in put u)
-  of : (x : Text × SessionState) → put ≡ Some x → (named ≡ Some x.0) × (session_after l rec (unwrap_or (fin.get m x.0) Absent) ≡ Some (unwrap_or (fin.get m' x.0) Absent))
+  names : option_map (λ (x : Text × SessionState). x.0) put ≡ named
 
 puts : (l : ℕ) (rec : NodeRec) (named : Option Text) (m m' : Sessions) → sessions_after l rec named m ≡ Some m' → Puts l rec named m m'
-puts l rec None m m' e = record { put = None; is = sym (same_Some m m' e); again = λ u _. refl; of = λ x is. absurd (none-some x is) }
+puts l rec None m m' e = record { put = None; is = sym (same_Some m m' e); again = λ u _. refl; names = refl }
 puts l rec (Some pid) m m' e =
     let (session, allowed, put) = map_parts _ (session_after l rec (unwrap_or (fin.get m pid) Absent)) m' e in
-    let at : fin.get m' pid ≡ Some session = ap (λ (x : Sessions). fin.get x pid) (sym put) ∙ get_insert_same m pid session in
     record {
       put = Some (pid, session);
       is = sym put;
       again = λ u same. ap (λ o. option_map (λ s. fin.insert u pid s) (session_after l rec (unwrap_or o Absent))) same ∙ ap (option_map (λ s. fin.insert u pid s)) allowed;
-      of = λ x is.
-          (let key : pid ≡ x.0 = ap (λ (y : Text × SessionState). y.0) (same_Some _ _ is) in
-          (ap Some key, ap (λ q. session_after l rec (unwrap_or (fin.get m q) Absent)) (sym key) ∙ allowed ∙ ap (λ o. Some (unwrap_or o Absent)) (sym at ∙ ap (fin.get m') key)));
+      names = refl;
     }
+
+-- the session that is put is the one that the record names
+named_put : (c : Cluster) (st st' : State) (l i : ℕ) (rec : NodeRec) → Stepped c st st' l i → slice_get (node_log c l) i ≡ Some rec
+    → (put : Option (Text × SessionState)) → option_map (λ (x : Text × SessionState). x.0) put ≡ pid_of rec → NamedPut c st st' l i put
+named_put c st st' l i rec step at None names = tt
+named_put c st st' l i rec step at (Some x) names = elim (moved c st st' l i x.0 step.kind) as (λ _. Named c st st' l i x.0) [ inl named ↦ named | inr quiet ↦ absurd (quiet.other rec at (sym names)) ]
 
 after-at : (c : Cluster) (u : State) (s : Step) (done : Progress) (log : Records) → slice_get u.logs s.log ≡ Some done → done.taken ≡ s.index → log_at c s.log ≡ Some log → after c u s ≡ after_next c u s.log done log
 after-at c u s done log at was is = grind (arith, eq-eqb done.taken s.index was, is)
 
-does_log : (c : Cluster) (st st' : State) (s : Step) (done : Progress) (log : Records) → slice_get st.logs s.log ≡ Some done → done.taken ≡ s.index → log_at c s.log ≡ Some log → after_next c st s.log done log ≡ Some st' → Does c st st' s
-does_log c st st' s done (Client recs) at was log e = absurd (none-some st' e)
-does_log c st st' s done (Stream recs) at was log e =
+does_log : (c : Cluster) (st st' : State) (s : Step) (done : Progress) (log : Records) → Stepped c st st' s.log s.index → slice_get st.logs s.log ≡ Some done → done.taken ≡ s.index → log_at c s.log ≡ Some log → after_next c st s.log done log ≡ Some st' → Does c st st' s
+does_log c st st' s done (Client recs) step at was log e = absurd (none-some st' e)
+does_log c st st' s done (Stream recs) step at was log e =
     let (entry, found, became) = and_then_parts (after_entry st s.log done) (slice_get recs done.taken) st' e in
     record {
       p = record { taken = suc done.taken; cursor = done.cursor };
@@ -111,7 +106,7 @@ does_log c st st' s done (Stream recs) at was log e =
       named = tt;
       again = λ u same _ _. after-at c u s done (Stream recs) (same ∙ at) was log ∙ ap (option_and_then (after_entry u s.log done)) found;
     }
-does_log c st st' s done (Node recs) at was log e =
+does_log c st st' s done (Node recs) step at was log e =
     let (rec, found, became) = and_then_parts (after_record c st s.log done) (slice_get recs done.taken) st' e in
     let (cursor, moved, rest) = and_then_parts _ (allowed_cursor (take (appended c st) c.stream) done.taken rec done.cursor) st' became in
     let (sessions, kept, is) = map_parts _ (sessions_after s.log rec (pid_of rec) st.sessions) st' rest in
@@ -120,43 +115,28 @@ does_log c st st' s done (Node recs) at was log e =
       p = record { taken = suc done.taken; cursor = cursor };
       put = ps.put;
       is = sym is ∙ ap (λ (m : Sessions). record { logs = set st.logs s.log (record { taken = suc done.taken; cursor = cursor }); sessions = m }) ps.is;
-      named = of_put rec (ap (λ o. slice_get (node_recs o) s.index) log ∙ ap (slice_get recs) (sym was) ∙ found) sessions (ap (λ (x : State). x.sessions) is) ps.put ps.of;
+      named = named_put c st st' s.log s.index rec step (ap (λ o. slice_get (node_recs o) s.index) log ∙ ap (slice_get recs) (sym was) ∙ found) ps.put ps.names;
       again = λ u same more at_session.
           after-at c u s done (Node recs) (same ∙ at) was log
           ∙ ap (option_and_then (after_record c u s.log done)) found
           ∙ ap (option_and_then (λ cursor. option_map (λ (sessions : Sessions). record { logs = set u.logs s.log (record { taken = suc done.taken; cursor = cursor }); sessions = sessions }) (sessions_after s.log rec (pid_of rec) u.sessions))) (cursor_after-more (appended c st) (appended c u) c.stream done.taken rec done.cursor cursor more moved)
           ∙ ap (option_map (λ (sessions : Sessions). record { logs = set u.logs s.log (record { taken = suc done.taken; cursor = cursor }); sessions = sessions })) (ps.again u.sessions at_session);
     }
-  where
-    of_put : (rec : NodeRec) → slice_get (node_log c s.log) s.index ≡ Some rec → (sessions : Sessions) → sessions ≡ st'.sessions → (put : Option (Text × SessionState))
-        → ((x : Text × SessionState) → put ≡ Some x → (pid_of rec ≡ Some x.0) × (session_after s.log rec (unwrap_or (fin.get st.sessions x.0) Absent) ≡ Some (unwrap_or (fin.get sessions x.0) Absent)))
-        → NamedPut c st st' s.log s.index put
-    of_put rec at sessions same None of = tt
-    of_put rec at sessions same (Some x) of =
-        let (names, becomes) = of x refl in
-        record { rec = rec; at = at; names = names; becomes = becomes ∙ ap (λ (m : Sessions). Some (unwrap_or (fin.get m x.0) Absent)) same }
 
 pub does : (c : Cluster) (st st' : State) (s : Step) → after c st s ≡ Some st' → Does c st st' s
 does c st st' s e =
     let (done, at, rest) = and_then_parts _ (slice_get st.logs s.log) st' e in
     let (was, next) = cond_parts (nat_eq done.taken s.index) _ st' rest in
     let (log, is, became) = and_then_parts (after_next c st s.log done) (log_at c s.log) st' next in
-    does_log c st st' s done log at (eqb-true _ _ was) is became
+    does_log c st st' s done log (stepped c st st' s e) at (eqb-true _ _ was) is became
 
 insert_comm : (m : Sessions) (x y : Text × SessionState) → (x.0 ≡ y.0 → ⊥) → fin.insert (fin.insert m x.0 x.1) y.0 y.1 ≡ fin.insert (fin.insert m y.0 y.1) x.0 x.1
-insert_comm m x y n = fin.same_map nat_list_cmp_total (fin.slice_cmp-IsAntisymmetric fin.nat_cmp-IsAntisymmetric) _ _ (λ q. at q (cases_text q x.0) (cases_text q y.0))
+insert_comm m x y n = fin.same_map nat_list_cmp_total (fin.slice_cmp-IsAntisymmetric fin.nat_cmp-IsAntisymmetric) _ _ (λ q. simp get_insert (swap (bytes_eq q x.0) (bytes_eq q y.0) (λ a b. n (sym (same_text q x.0 a) ∙ same_text q y.0 b)) x.1 y.1 (fin.get m q)))
   where
-    at : (q : Text) → (q ≡ x.0) ⊎ (q ≡ x.0 → ⊥) → (q ≡ y.0) ⊎ (q ≡ y.0 → ⊥) → fin.get (fin.insert (fin.insert m x.0 x.1) y.0 y.1) q ≡ fin.get (fin.insert (fin.insert m y.0 y.1) x.0 x.1) q
-    at q (inl a) (inl b) = absurd (n (sym a ∙ b))
-    at q (inl a) (inr b) =
-        get_insert_other (fin.insert m x.0 x.1) y.0 y.1 q b ∙ ap (fin.get (fin.insert m x.0 x.1)) a ∙ get_insert_same m x.0 x.1
-        ∙ sym (ap (fin.get (fin.insert (fin.insert m y.0 y.1) x.0 x.1)) a ∙ get_insert_same (fin.insert m y.0 y.1) x.0 x.1)
-    at q (inr a) (inl b) =
-        ap (fin.get (fin.insert (fin.insert m x.0 x.1) y.0 y.1)) b ∙ get_insert_same (fin.insert m x.0 x.1) y.0 y.1
-        ∙ sym (get_insert_other (fin.insert m y.0 y.1) x.0 x.1 q a ∙ ap (fin.get (fin.insert m y.0 y.1)) b ∙ get_insert_same m y.0 y.1)
-    at q (inr a) (inr b) =
-        get_insert_other (fin.insert m x.0 x.1) y.0 y.1 q b ∙ get_insert_other m x.0 x.1 q a
-        ∙ sym (get_insert_other (fin.insert m y.0 y.1) x.0 x.1 q a ∙ get_insert_other m y.0 y.1 q b)
+    swap : (a b : Bool) → (a ≡ true → b ≡ true → ⊥) → (s t : SessionState) (o : Option SessionState) → cond b (Some t) (cond a (Some s) o) ≡ cond a (Some s) (cond b (Some t) o)
+    swap true true n s t o = absurd (n refl refl)
+    swap true false n s t o = refl
+    swap false b n s t o = refl
 
 -- the sessions of two steps differ
 abbrev Apart : Option (Text × SessionState) → Option (Text × SessionState) → Type 0
@@ -165,10 +145,8 @@ Apart (Some x) None = Unit {0}
 Apart (Some x) (Some y) = x.0 ≡ y.0 → ⊥
 
 put_comm : (m : Sessions) (x y : Option (Text × SessionState)) → Apart x y → put_in y (put_in x m) ≡ put_in x (put_in y m)
-put_comm m None None apart = refl
-put_comm m None (Some y) apart = refl
-put_comm m (Some x) None apart = refl
 put_comm m (Some x) (Some y) apart = insert_comm m x y apart
+put_comm m _ _ apart = refl
 
 same_after : (m : Sessions) (x y : Option (Text × SessionState)) → Apart x y → SameAt x m (put_in y m)
 same_after m None y apart = tt
@@ -252,17 +230,8 @@ exchange c (s ∷ steps) st runs x st1 e = go (cases_eq x.log s.log) (λ st2 st3
   where
     same_step : (st2 : State) → after c st s ≡ Some st2 → x.log ≡ s.log → st2 ≡ st1
     same_step st2 allowed same =
-        let one = stepped c st st1 x e in
-        let other = stepped c st st2 s allowed in
-        let index : x.index ≡ s.index = sym one.was ∙ ap (taken_of st) same ∙ other.was in
-        let step : s ≡ x = (λ i. record { log = same' i; index = index' i }) in
-        same_Some st2 st1 (sym allowed ∙ ap (after c st) step ∙ e)
-      where
-        same' : s.log ≡ x.log
-        same' = sym same
-
-        index' : s.index ≡ x.index
-        index' = sym (sym (stepped c st st1 x e).was ∙ ap (taken_of st) same ∙ (stepped c st st2 s allowed).was)
+        let index : s.index ≡ x.index = sym (stepped c st st2 s allowed).was ∙ ap (taken_of st) (sym same) ∙ (stepped c st st1 x e).was in
+        same_Some st2 st1 (sym allowed ∙ ap (λ l. after c st (record { log = l; index = s.index })) (sym same) ∙ ap (λ i. after c st (record { log = x.log; index = i })) index ∙ e)
 
     go : (x.log ≡ s.log) ⊎ (x.log ≡ s.log → ⊥) → ((st2 st3 : State) → RunsOn c st2 steps → after c st2 x ≡ Some st3 → (rest : List Step) × RunsOn c st3 rest) → (rest : List Step) × RunsOn c st1 rest
     go (inl same) ih =
@@ -304,3 +273,46 @@ stays_allowed c steps run is allowed x s st1 st2 ex es n =
     let dx = does c st st1 x ex in
     let ds = does c st st2 s es in
     (_, allowed-after c st st1 st2 x s dx ds es n (apart c st st1 st2 x s dx ds n (stepped c st st1 x ex) (stepped c st st2 s es) later goes))
+
+some-is : {A : Type 0} (o : Option A) → is_some o ≡ true → (x : A) × (o ≡ Some x)
+some-is None e = absurd (false≢true e)
+some-is (Some x) e = (x, refl)
+
+-- what is chosen is allowed
+chosen : (c : Cluster) (st : State) (count place : ℕ) (step : Step) → first_allowed c st place count ≡ Some step → (next : State) × (after c st step ≡ Some next)
+chosen c st zero place step e = absurd (none-some step e)
+chosen c st (suc count) place step e = elim (cases_Bool (is_some (after c st (front st place)))) as (λ _. (next : State) × (after c st step ≡ Some next)) [
+  | inl b ↦
+      let (next, at) = some-is (after c st (front st place)) b in
+      let is : front st place ≡ step = same_Some _ step (sym (ap (λ t. cond t (Some (front st place)) (first_allowed c st (suc place) count)) b) ∙ e) in
+      (next, ap (after c st) (sym is) ∙ at)
+  | inr b ↦ chosen c st count (suc place) step (sym (ap (λ t. cond t (Some (front st place)) (first_allowed c st (suc place) count)) b) ∙ e)
+]
+
+greedy-allowed : (c : Cluster) (steps : List Step) (st : State) → IsGreedy c st steps → AreAllowed c st steps
+greedy-allowed c [] st g = tt
+greedy-allowed c (s ∷ steps) st g =
+    let (next, at) = chosen c st (length c.taps) 0 s g.0 in
+    (next, at, greedy-allowed c steps next (subst (λ o. IsGreedy c (unwrap_or o st) steps) at g.1))
+
+-- where none is chosen, none is allowed
+none_chosen : (c : Cluster) (st : State) (count place : ℕ) → first_allowed c st place count ≡ None → (q : ℕ) → place ≤ q → q < place + count → after c st (front st q) ≡ None
+none_chosen c st zero place e q low high = absurd (omega arith)
+none_chosen c st (suc count) place e q low high = go (after c st (front st place)) refl e (cases_lt place q) (λ e' low'. none_chosen c st count (suc place) e' q low' (omega arith))
+  where
+    go : (o : Option State) → after c st (front st place) ≡ o → cond (is_some o) (Some (front st place)) (first_allowed c st (suc place) count) ≡ None → (place < q) ⊎ (q ≤ place)
+        → (first_allowed c st (suc place) count ≡ None → suc place ≤ q → after c st (front st q) ≡ None) → after c st (front st q) ≡ None
+    go (Some next) at e x ih = absurd (none-some (front st place) (sym e))
+    go None at e (inl l) ih = ih e l
+    go None at e (inr l) ih = let same : place ≡ q = omega (arith, low) in subst (λ n. after c st (front st n) ≡ None) same at
+
+-- nor at a place that has no log
+no_log : (c : Cluster) (st : State) (q : ℕ) → length c.taps ≤ q → after c st (front st q) ≡ None
+no_log c st q h = grind (arith, stepped c st, slice_get_past c.taps q h)
+
+has_unfinished : (c : Cluster) (st : State) (count place : ℕ) → unfinished_fronts c st place count ≢ [] → (q : ℕ) × (taken_of st q < record_count c q)
+has_unfinished c st zero place n = absurd (n refl)
+has_unfinished c st (suc count) place n = grind (arith, has_unfinished c st count (suc place), ltb-true (taken_of st place) (record_count c place))
+
+pub greedily_blocked-no_run : (c : Cluster) (fronts : List Step) → IsBlockedAt c fronts → (run : List Step) → IsRun c run → ⊥
+greedily_blocked-no_run c fronts b run is = grind (arith, has_unfinished c, blocked-no_run c b.steps, greedy-allowed c b.steps (start c) b.greedy, none_chosen c (state_after c (start c) b.steps) (length c.taps) 0 b.none_left, no_log c (state_after c (start c) b.steps))

@@ -1,10 +1,8 @@
 -- A session that went A, B, A, B, as a check of the definitions.
-use Rattle.std.proofs.Common.{◌≡◌, List, [], ◌∷◌, Some, None, map, refl, arith}
+use Rattle.std.proofs.Common.{◌≡◌, ℕ, ◌⊎◌, inl, inr, List, [], ◌∷◌, Some, None, map, refl, arith}
 use Rattle.std.specs.FinSet as set
 use Rattle.aud_tap.specs.declared.records.StreamRec.TheVariants.{Other}
 use Rattle.aud_tap.specs.declared.records.NodeRec.TheVariants.{Start, Take, Opened, Join, Leave, Broke, Back}
-use Rattle.aud_tap.specs.declared.taps.Tap.{Tap}
-use Rattle.aud_tap.specs.declared.taps.Records.{Records}
 use Rattle.aud_tap.specs.declared.taps.Records.TheVariants.{Stream, Node}
 use Rattle.aud_node.specs.Cluster.{Cluster, cluster_of}
 use Rattle.aud_node.specs.Stream.{Text}
@@ -12,6 +10,7 @@ use Rattle.aud_rooms.specs.Rooms.{own_room}
 use Rattle.aud_rooms.specs.Turns.{Who, Turn, Slice, AreTurns, slice_of, turn_end, ByBreak, ByLog}
 use Rattle.aud_rooms.specs.TurnsDue.{rooms_for}
 use Rattle.aud_merge.specs.ByTurns.{reaching_step}
+use Rattle.aud_merge.specs.Recovery.{tap}
 
 abbrev P : Text
 P = 80 ∷ []
@@ -22,15 +21,12 @@ sid = 1 ∷ []
 abbrev room : Text
 room = 2 ∷ []
 
-abbrev tap : Records → Tap
-tap records = record { name = []; records = records }
-
 abbrev row : Cluster
 row =
     cluster_of
-    (tap (Stream (Other (10 ∷ []) ∷ Other (20 ∷ []) ∷ Other (30 ∷ []) ∷ Other (40 ∷ []) ∷ []))
-    ∷ tap (Node (Start None ∷ Opened P sid [] ∷ Join P room ∷ Take (10 ∷ []) ∷ Broke P 0 ∷ Take (20 ∷ []) ∷ Take (30 ∷ []) ∷ Back P 2 ∷ Broke P 2 ∷ Take (40 ∷ []) ∷ []))
-    ∷ tap (Node (Start None ∷ Take (10 ∷ []) ∷ Take (20 ∷ []) ∷ Back P 1 ∷ Broke P 1 ∷ Take (30 ∷ []) ∷ Take (40 ∷ []) ∷ Back P 3 ∷ Leave P room ∷ [])) ∷ [])
+    (tap [] (Stream (Other (10 ∷ []) ∷ Other (20 ∷ []) ∷ Other (30 ∷ []) ∷ Other (40 ∷ []) ∷ []))
+    ∷ tap [] (Node (Start None ∷ Opened P sid [] ∷ Join P room ∷ Take (10 ∷ []) ∷ Broke P 0 ∷ Take (20 ∷ []) ∷ Take (30 ∷ []) ∷ Back P 2 ∷ Broke P 2 ∷ Take (40 ∷ []) ∷ []))
+    ∷ tap [] (Node (Start None ∷ Take (10 ∷ []) ∷ Take (20 ∷ []) ∷ Back P 1 ∷ Broke P 1 ∷ Take (30 ∷ []) ∷ Take (40 ∷ []) ∷ Back P 3 ∷ Leave P room ∷ [])) ∷ [])
 
 abbrev who : Who
 who = record { pid = P; sid = sid; nsp = [] }
@@ -50,24 +46,17 @@ are = (
   ),
 )
 
-lows : map (λ (s : Slice). s.low) (map (slice_of row) turns) ≡ 0 ∷ 2 ∷ 3 ∷ 4 ∷ []
-lows = refl
-
-highs : map (λ (s : Slice). s.high) (map (slice_of row) turns) ≡ 1 ∷ 2 ∷ 3 ∷ 4 ∷ []
-highs = refl
+-- their cursors
+cursors : map {B = ℕ × ℕ} (λ (s : Slice). (s.low, s.high)) (map (slice_of row) turns) ≡ (0, 1) ∷ (2, 2) ∷ (3, 3) ∷ (4, 4) ∷ []
+cursors = refl
 
 -- the last position is judged by the rooms before the `leave`
-rooms_4 : rooms_for row.stream P (own_room sid) (map (slice_of row) turns) 4 ≡ Some (set.insert (own_room sid) room)
-rooms_4 = refl
+rooms : (p : ℕ) → (p ≡ 1) ⊎ (p ≡ 4) → rooms_for row.stream P (own_room sid) (map (slice_of row) turns) p ≡ Some (set.insert (own_room sid) room)
+rooms p (inl e) = rw e refl
+rooms p (inr e) = rw e refl
 
-rooms_1 : rooms_for row.stream P (own_room sid) (map (slice_of row) turns) 1 ≡ Some (set.insert (own_room sid) room)
-rooms_1 = refl
-
-reached_1 : reaching_step row turns 1 ≡ Some (record { log = 1; index = 3 })
-reached_1 = refl
-
-reached_4 : reaching_step row turns 4 ≡ Some (record { log = 2; index = 7 })
-reached_4 = refl
+reached : (reaching_step row turns 1 ≡ Some (record { log = 1; index = 3 })) × (reaching_step row turns 4 ≡ Some (record { log = 2; index = 7 }))
+reached = (refl, refl)
 
 -- without its `break`, a turn's records go on to the `back`, and this is none of it
 no_break : turn_end P 1 (Back P 3 ∷ []) ≡ None

@@ -1,5 +1,5 @@
 -- A `BTreeMap` from lent texts to sessions, seen as a map.
-use Rattle.std.proofs.Common.{◌≡◌, ℕ, Bool, true, false, cond, List, [], ◌∷◌, map, refl, sym, ap, ◌∙◌, Bor, Option, Some, None, option_map, unwrap_or, subst, IsSome}
+use Rattle.std.proofs.Common.{◌≡◌, arith, ℕ, Bool, true, false, cond, List, [], ◌∷◌, map, refl, sym, ap, ◌∙◌, Bor, Option, Some, None, option_map, unwrap_or, subst, IsSome}
 use Rattle.std.specs.Ordering.{nat_cmp, is_eq}
 use Rattle.std.specs.Cmp.Lexicographic.{slice_cmp, nat_list_cmp_total}
 use Rattle.std.specs.Cmp.{eq_by_cmp_equiv}
@@ -19,17 +19,15 @@ Sessions = fin.FinMap (slice_cmp nat_cmp) seen.SessionState
 pub get-sessions_of : (entries : List ((Bor (List ℕ)) × OpenedSession)) (pid : List ℕ) → fin.get (sessions_seen entries) pid ≡ option_map session_seen (lookup (λ k. is_eq (slice_cmp nat_cmp pid k.now)) entries)
 get-sessions_of entries pid = fin.get-from_entries nat_list_cmp_total (map (λ e. (e.0.now, session_seen e.1)) entries) pid ∙ same entries
   where
-    either : (b : Bool) (s : OpenedSession) (o : Option OpenedSession) → cond b (Some (session_seen s)) (option_map session_seen o) ≡ option_map session_seen (cond b (Some s) o)
-    either true s o = refl
-    either false s o = refl
-
     same : (es : List ((Bor (List ℕ)) × OpenedSession)) → fin.find (slice_cmp nat_cmp) pid (map (λ e. (e.0.now, session_seen e.1)) es) ≡ option_map session_seen (lookup (λ k. is_eq (slice_cmp nat_cmp pid k.now)) es)
     same [] = refl
-    same (e ∷ es) = ap (cond (is_eq (slice_cmp nat_cmp pid e.0.now)) (Some (session_seen e.1))) (same es) ∙ either (is_eq (slice_cmp nat_cmp pid e.0.now)) e.1 (lookup (λ k. is_eq (slice_cmp nat_cmp pid k.now)) es)
+    same (e ∷ es) = grind (arith, same es)
 
 pub or_absent : (o : Option OpenedSession) → seen_or_absent o ≡ unwrap_or (option_map session_seen o) seen.Absent
 or_absent None = refl
 or_absent (Some s) = refl
+
+pub ruleset seen_sessions = (get-sessions_of, or_absent)
 
 pub sessions_of-insert : (olds news : List ((Bor (List ℕ)) × OpenedSession)) (pid : List ℕ) (s : OpenedSession)
     → ((q : Bor (List ℕ)) → lookup (λ k. is_eq (slice_cmp nat_cmp q.now k.now)) news ≡ cond (is_eq (slice_cmp nat_cmp pid q.now)) (Some s) (lookup (λ k. is_eq (slice_cmp nat_cmp q.now k.now)) olds))
@@ -47,6 +45,8 @@ sessions_of-insert olds news pid s updates = fin.same_map nat_list_cmp_total (fi
         ∙ ap (λ o. cond (is_eq (slice_cmp nat_cmp pid q)) (Some (session_seen s)) o) (sym (get-sessions_of olds q))
         ∙ ap (λ b. cond b (Some (session_seen s)) (fin.get (sessions_seen olds) q)) ((eq_by_cmp_equiv nat_list_cmp_total).symm pid q)
         ∙ sym (fin.get-insert nat_list_cmp_total (sessions_seen olds) pid (session_seen s) q)
+
+pub ruleset put_session = (sessions_of-insert)
 
 -- what a look-up of the pid in the entries found
 module _ (entries : List ((Bor (List ℕ)) × OpenedSession)) (old : Sessions) (same : sessions_seen entries ≡ old) (pid : List ℕ) where

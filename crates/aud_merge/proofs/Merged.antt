@@ -7,11 +7,10 @@ use Rattle.std.proofs.Math.Seq.{drop-cons}
 use Rattle.aud_node.specs.Cluster.{Cluster}
 use Rattle.aud_node.specs.Lists.{numbers_from}
 use Rattle.aud_merge.specs.declared.step.Step.{Step}
-use Rattle.aud_merge.specs.Machine.{State, start, after, taken_of, taken_in}
+use Rattle.aud_merge.specs.Machine.{State, start, after, taken_of}
 use Rattle.aud_merge.specs.Runs.{record_count, AreAllowed, IsRun}
 use Rattle.aud_merge.specs.Private.RunsOn.{IsFinished, RunsOn}
-use Rattle.aud_merge.proofs.Steps.{Stepped, stepped}
-use Rattle.aud_merge.proofs.Moves.{steps_of, taken-start, RunsOn-run}
+use Rattle.aud_merge.proofs.Steps.{Stepped, stepped, steps_of, taken-start, RunsOn-run}
 
 allowed_on : (c : Cluster) (st : State) (steps : List Step) → RunsOn c st steps → AreAllowed c st steps
 allowed_on c st [] runs = tt
@@ -33,20 +32,9 @@ left_of c l (s ∷ steps) st rest runs all =
     go : (next : State) → Stepped c st next s.log s.index → (s.log ≡ l) ⊎ (s.log ≡ l → ⊥) → (rest : ℕ) → taken_of st l + rest ≡ record_count c l
         → ((rest' : ℕ) → taken_of next l + rest' ≡ record_count c l → steps_of l steps ≡ numbers_from (taken_of next l) rest')
         → steps_of l (s ∷ steps) ≡ numbers_from (taken_of st l) rest
-    go next moved (inl e) zero all ih =
-        let was : taken_of st l ≡ s.index = subst (λ n. taken_of st n ≡ s.index) e moved.was in
-        let more = subst (λ n. s.index < record_count c n) e moved.counted in
-        absurd (omega (arith, all, was, more))
-    go next moved (inl e) (suc rest) all ih =
-        let was : taken_of st l ≡ s.index = subst (λ n. taken_of st n ≡ s.index) e moved.was in
-        let now : taken_of next l ≡ suc s.index = subst (λ n. taken_of next n ≡ suc s.index) e moved.now in
-        let later = ih rest (omega (arith, all, was, now)) in
-        ap step_of (eq-eqb s.log l e)
-        ∙ ap (λ xs. s.index ∷ xs) (later ∙ ap (λ n. numbers_from n rest) now)
-        ∙ ap (λ n. n ∷ numbers_from (suc n) rest) (sym was)
-    go next moved (inr n) rest all ih =
-        let kept : taken_of next l ≡ taken_of st l = ap taken_in (moved.others l (λ e. n (sym e))) in
-        ap step_of (ne_eqb s.log l n) ∙ ih rest (omega (arith, all, kept)) ∙ ap (λ k. numbers_from k rest) kept
+    go next moved (inl e) zero all ih = grind arith
+    go next moved (inl e) (suc rest) all ih = grind (arith, eq-eqb s.log l e, ih rest)
+    go next moved (inr n) rest all ih = grind (arith, ne_eqb s.log l n, ih rest)
 
 pub run-RunsOn : (c : Cluster) (run : List Step) → RunsOn c (start c) run → IsRun c run
 run-RunsOn c run runs =

@@ -1,6 +1,8 @@
 -- Positions among the entries that were appended.
-use Rattle.std.proofs.Common.{◌≡◌, ◌<◌, ◌≤◌, ℕ, zero, suc, cond, List, [], ◌∷◌, take, Option, Some, None, option_map, refl, sym, ap, ◌∙◌, nat_le, arith}
-use Rattle.std.proofs.lemmas.Bool.{le-leb, lt-leb}
+use Rattle.std.proofs.Common.{◌≡◌, ◌≤◌, ℕ, zero, suc, cond, List, [], ◌∷◌, take, Option, Some, None, option_map, refl, sym, ap, ◌∙◌, nat_le, arith}
+use Rattle.std.proofs.lemmas.Bool.{le-leb, lt-leb, leb-true}
+use Rattle.std.proofs.lemmas.Bool.Decides.{nat_tests}
+use Rattle.std.proofs.lemmas.Option.{none-some, cond_some}
 use Rattle.aud_tap.specs.declared.records.StreamRec.{StreamRec}
 use Rattle.aud_node.specs.Stream.{Text, position}
 
@@ -22,12 +24,21 @@ position-taken (suc a) [] off = refl
 position-taken zero (x ∷ xs) off = grind (arith, lt-leb 1 0, up_to-zero (position xs off))
 position-taken (suc a) (x ∷ xs) off = grind (arith, position-taken a xs off, le-leb, up_to-suc a)
 
-module _ (a : ℕ) (stream : List StreamRec) (off : Text) where
-  pub taken-some : (p : ℕ) → Some p ≡ position stream off → p ≤ a → Some p ≡ position (take a stream) off
-  taken-some p is h = sym (position-taken a stream off ∙ ap (up_to a) (sym is) ∙ ap (λ b. cond b (Some p) None) (le-leb p a h))
+up_to-is : (a : ℕ) (o : Option ℕ) (q : ℕ) → up_to a o ≡ Some q → (o ≡ Some q) × (q ≤ a)
+up_to-is a None q e = absurd (none-some q e)
+up_to-is a (Some p) q e =
+    let (below, same) = cond_some (nat_le p a) p q e in
+    let within = leb-true p a below in
+    (ap Some same, omega (arith, within, same))
 
-  pub taken-past : (p : ℕ) → Some p ≡ position stream off → a < p → None ≡ position (take a stream) off
-  taken-past p is h = sym (position-taken a stream off ∙ ap (up_to a) (sym is) ∙ ap (λ b. cond b (Some p) None) (lt-leb p a h))
+-- an offset of an appended entry has its position in the whole stream
+pub position-take : (a : ℕ) (stream : List StreamRec) (off : Text) (q : ℕ) → position (take a stream) off ≡ Some q → position stream off ≡ Some q
+position-take a stream off q e = (up_to-is a (position stream off) q (sym (position-taken a stream off) ∙ e)).0
 
-  pub taken-none : None ≡ position stream off → None ≡ position (take a stream) off
-  taken-none is = sym (position-taken a stream off ∙ ap (up_to a) (sym is))
+-- and where more entries are appended
+pub position-more : (a b : ℕ) (stream : List StreamRec) (off : Text) (q : ℕ) → a ≤ b → position (take a stream) off ≡ Some q → position (take b stream) off ≡ Some q
+position-more a b stream off q h e =
+    let (is, within) = up_to-is a (position stream off) q (sym (position-taken a stream off) ∙ e) in
+    position-taken b stream off ∙ ap (up_to b) is ∙ ap (λ t. cond t (Some q) None) (le-leb q b (omega (arith, within)))
+
+pub ruleset appended_positions = (position-taken, nat_tests)

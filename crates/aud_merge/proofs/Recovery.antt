@@ -1,7 +1,7 @@
 -- The cluster in which a session is recovered: its run is one, and two events are due in it.
 use Rattle.std.proofs.Common.{◌≡◌, ℕ, zero, suc, true, [], ◌∷◌, map, Some, None, Option, slice_get, refl, sym, ap, ◌∙◌, inl, inr, unwrap_or, option_map, codes, arith}
 use Rattle.std.proofs.lemmas.Bool.{ne_eqb}
-use Rattle.std.proofs.lemmas.Option.{same_Some, none-some}
+use Rattle.std.proofs.lemmas.Option.{same_Some, none-some, slice_get_within}
 use Rattle.std.specs.Ordering.{nat_cmp}
 use Rattle.std.specs.Cmp.Lexicographic.{slice_cmp, nat_list_cmp_total}
 use Rattle.std.specs.FinMap as fin
@@ -29,7 +29,7 @@ use Rattle.aud_merge.specs.ByTurns.{FallsAfter, IsPrefixOf}
 use Rattle.aud_merge.specs.Due.{due, reach}
 use Rattle.aud_merge.specs.Recovery.{who, event, logs, turns, step, live_take, back, run, received_positions}
 use Rattle.aud_merge.proofs.Basics.{get_insert_same}
-use Rattle.aud_merge.proofs.WholeChain.{reach-chain, due-chain}
+use Rattle.aud_merge.proofs.DueLaws.{reach-turns, chain-none, due-chain}
 
 -- ---- the run
 
@@ -115,16 +115,11 @@ nobody rec found at none names = none-some who.pid (sym none ∙ ap pid_of (same
 covers : (node number : ℕ) (rec : NodeRec) → slice_get (node_log logs node) number ≡ Some rec → pid_of rec ≡ Some who.pid → StandsIn node number turns
 covers zero number rec at names = absurd (none-some rec at)
 covers (suc zero) zero rec at names = absurd (nobody _ rec at refl names)
-covers (suc zero) (suc zero) rec at names = inl (refl, omega arith, omega arith)
-covers (suc zero) (suc (suc zero)) rec at names = inl (refl, omega arith, omega arith)
-covers (suc zero) (suc (suc (suc zero))) rec at names = inl (refl, omega arith, omega arith)
-covers (suc zero) (suc (suc (suc (suc zero)))) rec at names = inl (refl, omega arith, omega arith)
-covers (suc zero) (suc (suc (suc (suc (suc number))))) rec at names = absurd (none-some rec at)
+covers (suc zero) (suc number) rec at names = inl (refl, omega arith, slice_get_within (node_log logs 1) (suc number) rec at)
 covers (suc (suc zero)) zero rec at names = absurd (nobody _ rec at refl names)
 covers (suc (suc zero)) (suc zero) rec at names = absurd (nobody _ rec at refl names)
 covers (suc (suc zero)) (suc (suc zero)) rec at names = absurd (nobody _ rec at refl names)
-covers (suc (suc zero)) (suc (suc (suc zero))) rec at names = inr (inl (refl, omega arith, omega arith))
-covers (suc (suc zero)) (suc (suc (suc (suc number)))) rec at names = absurd (none-some rec at)
+covers (suc (suc zero)) (suc (suc (suc number))) rec at names = inr (inl (refl, omega arith, slice_get_within (node_log logs 2) (suc (suc (suc number))) rec at))
 covers (suc (suc (suc zero))) number rec at names = absurd (none-some rec at)
 covers (suc (suc (suc (suc node)))) number rec at names = absurd (none-some rec at)
 
@@ -156,11 +151,11 @@ both_are_due = due-chain logs run who turns is_run chain ∙ due_by_turns
 
 -- the session is on the first node as that takes the first event
 pub first_is_live : FallsAfter run (reach logs run who.pid 1) (Some live_take)
-first_is_live = reach-chain logs run who turns is_run chain 1
+first_is_live = reach-turns logs run who turns is_run are 1 (inr (chain-none logs who turns chain))
 
 -- the second one waits for the session to come back
 pub second_is_replayed : FallsAfter run (reach logs run who.pid 2) (Some back)
-second_is_replayed = reach-chain logs run who turns is_run chain 2
+second_is_replayed = reach-turns logs run who turns is_run are 2 (inr (chain-none logs who turns chain))
 
 pub received_is_front : IsPrefixOf received_positions (due logs run who.pid)
 received_is_front = ([], sym both_are_due)

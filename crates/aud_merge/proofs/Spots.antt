@@ -1,24 +1,68 @@
--- What is left of the turns, and how a move leaves it.
-use Rattle.std.proofs.Common.{◌≡◌, ◌<◌, ◌-◌, ℕ, zero, suc, Bool, true, false, cond, List, ◌∷◌, map, Option, Some, None, refl, sym, ap, ◌∙◌, ◌⊎◌, inl, inr, nat_le, arith, option_map}
+-- What is left of the turns, and how a record, and a move, leaves it.
+use Rattle.std.proofs.Common.{◌≡◌, ◌<◌, ◌≤◌, ℕ, zero, suc, true, false, cond, List, [], ◌∷◌, Option, Some, refl, sym, ap, ◌∙◌, nat_le, arith, ◌-◌, Bool, map, None, ◌⊎◌, inl, inr, option_map}
 use Rattle.std.proofs.lemmas.Bool.{false≢true, leb-true, le-leb}
 use Rattle.std.proofs.lemmas.Option.{none-some}
+use Rattle.aud_tap.specs.declared.records.StreamRec.{StreamRec}
 use Rattle.aud_tap.specs.declared.records.NodeRec.{NodeRec}
+use Rattle.aud_tap.specs.declared.records.NodeRec.TheVariants.{Take}
+use Rattle.aud_base.proofs.Lists.{between-more, between-none}
 use Rattle.aud_node.specs.Cluster.{Cluster, node_log}
-use Rattle.aud_node.specs.Cursors.{cursor_at}
+use Rattle.aud_node.specs.Cursors.{takes, cursor_at}
 use Rattle.aud_node.specs.Lists.{between}
+use Rattle.aud_node.specs.Stream.{Text}
+use Rattle.aud_node.proofs.RecordLemmas.{cursor_at-rises}
 use Rattle.aud_rooms.specs.Rooms.{Rooms, rooms_after}
-use Rattle.aud_rooms.specs.Turns.{Who, Turn, slice_of, beginning, Last, End, ByBreak, part_of, HasNoTurn}
+use Rattle.aud_rooms.specs.Turns.{Who, Turn, Slice, beginning, Last, End, part_of, slice_of, ByBreak, HasNoTurn}
 use Rattle.aud_rooms.specs.TurnsDue.{rooms_for}
+use Rattle.aud_merge.specs.Machine.{State}
 use Rattle.aud_merge.specs.ByTurns.{first_reaching, reaching_step}
 use Rattle.aud_merge.specs.Due.{node_cursor, is_at_least, is_reached}
 use Rattle.aud_merge.specs.declared.step.Step.{Step}
-use Rattle.aud_merge.specs.Machine.{State}
-use Rattle.aud_merge.proofs.Moves.{Synced}
-use Rattle.aud_merge.proofs.Slices.{part_from, rooms_for-step, rooms_for-after, rooms_for-beginning, last-takes}
+use Rattle.aud_merge.proofs.Steps.{Synced}
 use Rattle.aud_merge.proofs.Records.{last-rooms, waiting}
-use Rattle.aud_merge.proofs.Phases.{Spot, Waiting, Within, Over, Beyond, Holds, OnSlice, Moves, waits, begins, elsewhere, goes, breaks, leaves, stays_over, passes, stays_beyond}
-use Rattle.aud_merge.proofs.PhaseSteps.{reached-in}
-use Rattle.aud_node.proofs.RecordLemmas.{between-more, between-none, cursor_at-rises}
+use Rattle.aud_merge.proofs.Phases.{Spot, Waiting, Within, Over, Beyond, Holds, OnSlice, Moves, begins, elsewhere, goes, breaks, leaves, reached-in}
+
+-- the part of a slice from the record with this number on
+abbrev pub part_from : Cluster → Turn → ℕ → Slice
+part_from c t i =
+    record {
+      low = cursor_at c.stream (node_log c t.node) i;
+      high = cursor_at c.stream (node_log c t.node) t.to;
+      recs = between (node_log c t.node) i t.to;
+    }
+
+taken-rooms : (stream : List StreamRec) (pid : Text) (p : ℕ) (held : Rooms) (rec : NodeRec) → takes stream p rec ≡ true → rooms_after pid held rec ≡ held
+taken-rooms stream pid p held (Take off) e = refl
+taken-rooms stream pid p held _ e = absurd (false≢true e)
+
+-- what is left of a slice gives the rooms that the slice gives, as long as the position isn't reached
+pub rooms_for-step : (stream : List StreamRec) (pid : Text) (held : Rooms) (low next high : ℕ) (rec : NodeRec) (recs : List NodeRec) (later : List Slice) (p : ℕ)
+    → nat_le p low ≡ false → nat_le p next ≡ takes stream p rec
+    → rooms_for stream pid held (record { low = low; high = high; recs = rec ∷ recs } ∷ later) p
+    ≡ rooms_for stream pid (rooms_after pid held rec) (record { low = next; high = high; recs = recs } ∷ later) p
+rooms_for-step stream pid held low next high rec recs later p before reaches = grind (arith, taken-rooms stream pid p held rec)
+
+-- a slice whose records are all passed gives no rooms
+pub rooms_for-after : (stream : List StreamRec) (pid : Text) (held : Rooms) (low high : ℕ) (later : List Slice) (p : ℕ)
+    → nat_le p high ≡ false → rooms_for stream pid held (record { low = low; high = high; recs = [] } ∷ later) p ≡ rooms_for stream pid held later p
+rooms_for-after stream pid held low high later p e = ap (λ b. cond b (Some (cond (nat_le p low) held held)) (rooms_for stream pid held later p)) e
+
+-- a slice whose low reaches the position gives its first rooms
+pub rooms_for-at_low : (stream : List StreamRec) (pid : Text) (held : Rooms) (slice : Slice) (later : List Slice) (p : ℕ)
+    → nat_le p slice.low ≡ true → slice.low ≤ slice.high → rooms_for stream pid held (slice ∷ later) p ≡ Some held
+rooms_for-at_low stream pid held slice later p e h = grind (arith, le-leb p slice.high, leb-true p slice.low e)
+
+-- a record that ends a turn takes no entry
+pub last-takes : (stream : List StreamRec) (pid : Text) (k p : ℕ) (rec : NodeRec) (e : End) → part_of pid k rec ≡ Last e → takes stream p rec ≡ false
+last-takes stream pid k p (Take off) e part = grind arith
+last-takes stream pid k p _ e part = refl
+
+-- the record that begins a turn takes nothing and moves no room
+pub rooms_for-beginning : (stream : List StreamRec) (who : Who) (k : ℕ) (held : Rooms) (low high : ℕ) (recs : List NodeRec) (later : List Slice) (p : ℕ)
+    → rooms_for stream who.pid held (record { low = low; high = high; recs = beginning who k ∷ recs } ∷ later) p
+    ≡ rooms_for stream who.pid held (record { low = low; high = high; recs = recs } ∷ later) p
+rooms_for-beginning stream who zero held low high recs later p = refl
+rooms_for-beginning stream who (suc k) held low high recs later p = refl
 
 -- the rooms by which what is left of the turns judges a position
 abbrev pub rooms_left : Cluster → Who → Spot → ℕ → Option Rooms
@@ -70,18 +114,14 @@ module _ (c : Cluster) (who : Who) (k : ℕ) (t : Turn) (l i at : ℕ) (held : R
 
 -- a move leaves the rooms of each position that isn't reached
 pub Moves-rooms : (c : Cluster) (who : Who) (l i : ℕ) (a b : Spot) → Moves c who l i a b → (p : ℕ) → spot_reached c a p ≡ false → rooms_left c who a p ≡ rooms_left c who b p
-Moves-rooms c who l i a b (waits k held rest) p before = refl
 Moves-rooms c who l i a b (begins k held t later same_log same_index turn) p before =
     ap (λ recs. rooms_for c.stream who.pid held (record { low = cursor_at c.stream (node_log c t.node) (suc t.from); high = cursor_at c.stream (node_log c t.node) t.to; recs = recs } ∷ map (slice_of c) later) p) (between-more (node_log c t.node) t.from t.to (beginning who k) turn.some turn.begins)
     ∙ rooms_for-beginning c.stream who k held _ _ (between (node_log c t.node) (suc t.from) t.to) (map (slice_of c) later) p
-Moves-rooms c who l i a b (elsewhere k t at held later) p before = refl
 Moves-rooms c who l i a b (goes k t at held later rec on part) p before = rooms-goes c who k t l i at held later rec on p before
 Moves-rooms c who l i a b (breaks k t at held later rec on part is_end) p before = rooms-ends c who k t l i at held later rec on p before ByBreak part is_end
 Moves-rooms c who l i a b (leaves k t at held later rec e on part is_end none is) p before =
     rooms-ends c who k t l i at held later rec on p before e part is_end ∙ ap (λ ts. rooms_for c.stream who.pid held (map (slice_of c) ts) p) none
-Moves-rooms c who l i a b stays_over p before = refl
-Moves-rooms c who l i a b (passes k held) p before = refl
-Moves-rooms c who l i a b stays_beyond p before = refl
+Moves-rooms c who l i a b _ p before = refl
 
 -- the record by which what is left of the turns first reaches a position
 abbrev pub left_of : Cluster → Turn → ℕ → List Turn → ℕ → Option Step
@@ -125,7 +165,6 @@ by_more : (c : Cluster) (t : Turn) (l i at : ℕ) (later : List Turn) (p : ℕ) 
 by_more c t l i at later p h log index = grind (arith, left_of-more c t at later p h)
 
 pub Moves-step : (c : Cluster) (who : Who) (l i : ℕ) (a b : Spot) → Moves c who l i a b → (p : ℕ) → spot_reached c a p ≡ false → MovesStep c l i a b p
-Moves-step c who l i a b (waits k held rest) p before = (λ e. absurd (false≢true e), λ _. refl)
 Moves-step c who l i a b (begins k held t later same_log same_index turn) p before = by_more c t l i t.from later p turn.some (sym same_log) same_index
 Moves-step c who l i a b (elsewhere k t at held later) p before = (λ e. absurd (false≢true (sym before ∙ e)), λ _. refl)
 Moves-step c who l i a b (goes k t at held later rec on part) p before = by_more c t l i at later p on.some on.log on.index
@@ -134,6 +173,4 @@ Moves-step c who l i a b (leaves k t at held later rec e on part is_end none is)
   λ e. absurd (false≢true e),
   λ _. ap (λ b. cond b (option_map (λ number. record { log = t.node; index = number }) (first_reaching c.stream (node_log c t.node) p at (t.to - at))) (reaching_step c later p)) (past-high c who k t l i at held later rec on p before e part is_end) ∙ ap (λ ts. reaching_step c ts p) none,
 )
-Moves-step c who l i a b stays_over p before = (λ e. absurd (false≢true e), λ _. refl)
-Moves-step c who l i a b (passes k held) p before = (λ e. absurd (false≢true e), λ _. refl)
-Moves-step c who l i a b stays_beyond p before = (λ e. absurd (false≢true e), λ _. refl)
+Moves-step c who l i a b _ p before = (λ e. absurd (false≢true e), λ _. refl)

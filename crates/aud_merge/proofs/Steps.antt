@@ -1,18 +1,30 @@
--- What a step that is allowed does.
-use Rattle.std.proofs.Common.{◌≡◌, ◌<◌, ◌≤◌, ℕ, suc, [], take, Some, slice_get, arith, sym, ap, subst, ◌∙◌, ◌⊎◌, inl, inr, nat_eq}
-use Rattle.std.proofs.lemmas.Bool.{eqb-true}
-use Rattle.std.proofs.lemmas.Option.{same_Some, none-some, slice_get_within}
+-- What a step that is allowed does, and what one session sees of it; the cursor that a log gives.
+use Rattle.std.proofs.Common.{◌≡◌, ◌<◌, ◌≤◌, ℕ, suc, [], take, Some, slice_get, arith, sym, ap, subst, ◌∙◌, ◌⊎◌, inl, inr, nat_eq, ◌+◌, zero, true, false, cond, List, ◌∷◌, length, map, Option, None, refl, unwrap_or, filter, nat_le, set}
+use Rattle.std.proofs.lemmas.Bool.{eqb-true, cases_eq, eq-eqb, ne_eqb, leb-false, le-leb, lt-leb}
+use Rattle.std.proofs.lemmas.Option.{same_Some, none-some, slice_get_within, slice_get-map}
+use Rattle.std.specs.Ordering.{nat_cmp}
+use Rattle.std.specs.Cmp.Lexicographic.{slice_cmp}
+use Rattle.std.specs.FinMap as fin
 use Rattle.aud_tap.specs.declared.records.NodeRec.{NodeRec}
 use Rattle.aud_tap.specs.declared.taps.Records.{Records}
 use Rattle.aud_tap.specs.declared.taps.Records.TheVariants.{Stream, Node, Client}
+use Rattle.aud_tap.specs.declared.records.StreamRec.{StreamRec}
+use Rattle.aud_tap.specs.declared.records.NodeRec.TheVariants.{Start, Take}
+use Rattle.aud_base.proofs.SameText.{cases_text}
 use Rattle.aud_node.specs.Cluster.{Cluster, node_log, node_recs, log_at}
 use Rattle.aud_node.specs.TurnRecords.{pid_of}
+use Rattle.aud_node.specs.Cursors.{is_position, next_cursor, cursor_past, cursor_at, position_or, takes}
+use Rattle.aud_node.specs.Lists.{numbers_from}
+use Rattle.aud_node.specs.Stream.{Text, position}
 use Rattle.aud_merge.specs.Due.{cursor_of, cursor_in}
 use Rattle.aud_merge.specs.declared.step.Step.{Step}
 use Rattle.aud_merge.specs.declared.progress.Progress.{Progress}
-use Rattle.aud_merge.specs.Machine.{State, after, after_next, after_record, after_entry, allowed_cursor, sessions_after, taken_in, taken_of, appended}
-use Rattle.aud_merge.specs.Runs.{record_count, log_length}
-use Rattle.aud_merge.proofs.Basics.{and_then_parts, map_parts, cond_parts, slice_get-set_same, slice_get-set_other}
+use Rattle.aud_merge.specs.Machine.{State, after, after_next, after_record, after_entry, allowed_cursor, sessions_after, taken_in, taken_of, appended, start, position_if_next, session_of}
+use Rattle.aud_merge.specs.Runs.{record_count, log_length, AreAllowed, IsRun}
+use Rattle.aud_merge.specs.Private.RunsOn.{RunsOn}
+use Rattle.aud_merge.specs.Sessions.{SessionState, Absent, session_after}
+use Rattle.aud_merge.proofs.Positions.{position-take}
+use Rattle.aud_merge.proofs.Basics.{and_then_parts, map_parts, cond_parts, slice_get-set_same, slice_get-set_other, get_insert_same, get_insert_other}
 
 -- a step of the stream
 pub record EntryStep (c : Cluster) (st st' : State) (l i : ℕ) : Type 0 where
@@ -34,43 +46,41 @@ pub record Stepped (c : Cluster) (st st' : State) (l i : ℕ) : Type 0 where
   pub others : (m : ℕ) → (m ≡ l → ⊥) → slice_get st'.logs m ≡ slice_get st.logs m
   pub kind : EntryStep c st st' l i ⊎ RecordStep c st st' l i
 
+-- a step that leaves its log so far, with this cursor
+stepped_to : (c : Cluster) (st st' : State) (l i : ℕ) (done : Progress) (log : Records) (cursor : ℕ) → slice_get st.logs l ≡ Some done → done.taken ≡ i → log_at c l ≡ Some log
+    → st'.logs ≡ set st.logs l (record { taken = suc done.taken; cursor = cursor }) → done.taken < log_length (Some log)
+    → (cursor_of st l ≡ done.cursor → cursor_of st' l ≡ cursor → EntryStep c st st' l i ⊎ RecordStep c st st' l i) → Stepped c st st' l i
+stepped_to c st st' l i done log cursor at was is_log logs within kind =
+    let here : slice_get st'.logs l ≡ Some (record { taken = suc done.taken; cursor = cursor }) = ap (λ ps. slice_get ps l) logs ∙ slice_get-set_same st.logs l _ done at in
+    record {
+      was = ap taken_in at ∙ was;
+      now = ap taken_in here ∙ ap suc was;
+      counted = subst (λ n. n < record_count c l) was (subst (λ o. done.taken < log_length o) (sym is_log) within);
+      others = λ m n. ap (λ ps. slice_get ps m) logs ∙ slice_get-set_other st.logs l m _ n;
+      kind = kind (ap cursor_in at) (ap cursor_in here);
+    }
+
 stepped_log : (c : Cluster) (st st' : State) (l i : ℕ) (done : Progress) (log : Records)
     → slice_get st.logs l ≡ Some done → done.taken ≡ i → log_at c l ≡ Some log → after_next c st l done log ≡ Some st'
     → Stepped c st st' l i
 stepped_log c st st' l i done (Stream recs) at was log e =
     let (entry, found, became) = and_then_parts (after_entry st l done) (slice_get recs done.taken) st' e in
-    let here : slice_get st'.logs l ≡ Some (record { taken = suc done.taken; cursor = done.cursor }) =
-    ap (λ (s : State). slice_get s.logs l) (sym (same_Some _ _ became)) ∙ slice_get-set_same st.logs l _ done at in
-    record {
-      was = ap taken_in at ∙ was;
-      now = ap taken_in here ∙ ap suc was;
-      counted = subst (λ n. n < record_count c l) was (subst (λ o. done.taken < log_length o) (sym log) (slice_get_within recs done.taken entry found));
-      others = λ m n. ap (λ (s : State). slice_get s.logs m) (sym (same_Some _ _ became)) ∙ slice_get-set_other st.logs l m _ n;
-      kind = inl (record {
-        no_log = ap node_recs log;
-        sessions = ap (λ (s : State). s.sessions) (sym (same_Some _ _ became));
-        cursor = ap cursor_in here ∙ sym (ap cursor_in at);
-      });
-    }
+    let is = sym (same_Some _ st' became) in
+    stepped_to c st st' l i done (Stream recs) done.cursor at was log (ap (λ (s : State). s.logs) is) (slice_get_within recs done.taken entry found)
+    (λ old new. inl (record { no_log = ap node_recs log; sessions = ap (λ (s : State). s.sessions) is; cursor = new ∙ sym old }))
 stepped_log c st st' l i done (Client recs) at was log e = absurd (none-some st' e)
 stepped_log c st st' l i done (Node recs) at was log e =
     let (rec, found, became) = and_then_parts (after_record c st l done) (slice_get recs done.taken) st' e in
     let (cursor, moved, rest) = and_then_parts _ (allowed_cursor (take (appended c st) c.stream) done.taken rec done.cursor) st' became in
     let (sessions, kept, is) = map_parts _ (sessions_after l rec (pid_of rec) st.sessions) st' rest in
-    let here : slice_get st'.logs l ≡ Some (record { taken = suc done.taken; cursor = cursor }) =
-    ap (λ (s : State). slice_get s.logs l) (sym is) ∙ slice_get-set_same st.logs l _ done at in
-    record {
-      was = ap taken_in at ∙ was;
-      now = ap taken_in here ∙ ap suc was;
-      counted = subst (λ n. n < record_count c l) was (subst (λ o. done.taken < log_length o) (sym log) (slice_get_within recs done.taken rec found));
-      others = λ m n. ap (λ (s : State). slice_get s.logs m) (sym is) ∙ slice_get-set_other st.logs l m _ n;
-      kind = inr (record {
-        rec = rec;
-        at = ap (λ o. slice_get (node_recs o) i) log ∙ ap (λ n. slice_get recs n) (sym was) ∙ found;
-        cursor = ap (λ n. allowed_cursor (take (appended c st) c.stream) n rec (cursor_of st l)) (sym was) ∙ ap (λ n. allowed_cursor (take (appended c st) c.stream) done.taken rec n) (ap cursor_in at) ∙ moved ∙ ap Some (sym (ap cursor_in here));
-        sessions = kept ∙ ap (λ (s : State). Some s.sessions) is;
-      });
-    }
+    stepped_to c st st' l i done (Node recs) cursor at was log (ap (λ (s : State). s.logs) (sym is)) (slice_get_within recs done.taken rec found)
+    (λ old new.
+    inr (record {
+      rec = rec;
+      at = ap (λ o. slice_get (node_recs o) i) log ∙ ap (λ n. slice_get recs n) (sym was) ∙ found;
+      cursor = ap (λ n. allowed_cursor (take (appended c st) c.stream) n rec (cursor_of st l)) (sym was) ∙ ap (allowed_cursor (take (appended c st) c.stream) done.taken rec) old ∙ moved ∙ ap Some (sym new);
+      sessions = kept ∙ ap (λ (s : State). Some s.sessions) is;
+    }))
 
 pub stepped : (c : Cluster) (st st' : State) (s : Step) → after c st s ≡ Some st' → Stepped c st st' s.log s.index
 stepped c st st' s e =
@@ -86,3 +96,128 @@ taken-grows c st st' l i m s = grind arith
 -- nor an entry that was appended
 pub appended-grows : (c : Cluster) (st st' : State) (l i : ℕ) → Stepped c st st' l i → appended c st ≤ appended c st'
 appended-grows c st st' l i s = grind (arith, taken-grows c st st' l i)
+
+-- the step's record names the session
+pub record Named (c : Cluster) (st st' : State) (l i : ℕ) (pid : Text) : Type 0 where
+  pub rec : NodeRec
+  pub at : slice_get (node_log c l) i ≡ Some rec
+  pub names : pid_of rec ≡ Some pid
+  pub becomes : session_after l rec (session_of st pid) ≡ Some (session_of st' pid)
+
+-- it doesn't
+pub record Quiet (c : Cluster) (st st' : State) (l i : ℕ) (pid : Text) : Type 0 where
+  pub session : session_of st' pid ≡ session_of st pid
+  pub other : (rec : NodeRec) → slice_get (node_log c l) i ≡ Some rec → pid_of rec ≡ Some pid → ⊥
+
+sessions_step : (l : ℕ) (rec : NodeRec) (named : Option Text) (m m' : fin.FinMap (slice_cmp nat_cmp) SessionState) (pid : Text)
+    → sessions_after l rec named m ≡ Some m'
+    → ((named ≡ Some pid) × (session_after l rec (unwrap_or (fin.get m pid) Absent) ≡ Some (unwrap_or (fin.get m' pid) Absent)))
+    ⊎ ((named ≡ Some pid → ⊥) × (unwrap_or (fin.get m' pid) Absent ≡ unwrap_or (fin.get m pid) Absent))
+sessions_step l rec None m m' pid e = inr (λ n. none-some pid n, ap (λ x. unwrap_or (fin.get x pid) Absent) (sym (same_Some m m' e)))
+sessions_step l rec (Some q) m m' pid e =
+    let (session, is, put) = map_parts _ (session_after l rec (unwrap_or (fin.get m q) Absent)) m' e in
+    elim (cases_text q pid) as (λ _. ((Some q ≡ Some pid) × (session_after l rec (unwrap_or (fin.get m pid) Absent) ≡ Some (unwrap_or (fin.get m' pid) Absent))) ⊎ ((Some q ≡ Some pid → ⊥) × (unwrap_or (fin.get m' pid) Absent ≡ unwrap_or (fin.get m pid) Absent))) [
+      | inl same ↦ inl (ap Some same, ap (λ x. session_after l rec (unwrap_or (fin.get m x) Absent)) (sym same) ∙ is ∙ ap Some (sym (ap (λ o. unwrap_or o Absent) (ap (λ x. fin.get x pid) (sym put) ∙ ap (λ x. fin.get (fin.insert m x session) pid) same ∙ get_insert_same m pid session))))
+      | inr n ↦ inr (λ named. n (same_Some q pid named), ap (λ o. unwrap_or o Absent) (ap (λ x. fin.get x pid) (sym put) ∙ get_insert_other m q session pid (λ back. n (sym back))))
+    ]
+
+pub moved : (c : Cluster) (st st' : State) (l i : ℕ) (pid : Text) → EntryStep c st st' l i ⊎ RecordStep c st st' l i → Named c st st' l i pid ⊎ Quiet c st st' l i pid
+moved c st st' l i pid (inl e) =
+    inr (record {
+      session = ap (λ x. unwrap_or (fin.get x pid) Absent) e.sessions;
+      other = λ rec at. absurd (none-some rec (ap (λ log. slice_get log i) (sym e.no_log) ∙ at));
+    })
+moved c st st' l i pid (inr r) = elim (sessions_step l r.rec (pid_of r.rec) st.sessions st'.sessions pid r.sessions) as (λ _. Named c st st' l i pid ⊎ Quiet c st st' l i pid) [
+  | inl named ↦ inl (record { rec = r.rec; at = r.at; names = named.0; becomes = named.1 })
+  | inr quiet ↦ inr (record { session = quiet.1; other = λ rec at names. quiet.0 (ap pid_of (same_Some _ _ (sym r.at ∙ at)) ∙ names) })
+]
+
+pub is_position-at : (o : Option ℕ) (p : ℕ) → o ≡ Some p → is_position o p ≡ true
+is_position-at None p e = absurd (none-some p e)
+is_position-at (Some q) p e = eq-eqb q p (same_Some q p e)
+
+pub next_position-at : (o : Option ℕ) (cursor next : ℕ) → position_if_next o cursor ≡ Some next → (o ≡ Some (suc cursor)) × (suc cursor ≡ next)
+next_position-at None cursor next e = absurd (none-some next e)
+next_position-at (Some p) cursor next e =
+    let (at, is) = cond_parts (nat_eq p (suc cursor)) (Some p) next e in
+    let same : p ≡ suc cursor = eqb-true _ _ at in
+    (ap Some same, sym same ∙ same_Some p next is)
+
+taken-allowed : (a : ℕ) (stream : List StreamRec) (off : Text) (cursor next : ℕ)
+    → position_if_next (position (take a stream) off) cursor ≡ Some next
+    → cond (is_position (position stream off) (suc cursor)) (suc cursor) cursor ≡ next
+taken-allowed a stream off cursor next e = grind (arith, next_position-at (position (take a stream) off) cursor next e, is_position-at (position stream off) (suc cursor), position-take a stream off (suc cursor))
+
+-- the cursor that an allowed record leaves is the one that the log alone gives
+pub next_cursor-allowed : (a : ℕ) (stream : List StreamRec) (i : ℕ) (rec : NodeRec) (cursor next : ℕ)
+    → allowed_cursor (take a stream) i rec cursor ≡ Some next → next_cursor stream i rec cursor ≡ next
+next_cursor-allowed a stream zero (Start None) cursor next e = same_Some 0 next e
+next_cursor-allowed a stream zero (Start (Some off)) cursor next e = ap (λ o. position_or o cursor) (position-take a stream off next e)
+next_cursor-allowed a stream (suc i) (Start off) cursor next e = absurd (none-some next e)
+next_cursor-allowed a stream zero (Take off) cursor next e = taken-allowed a stream off cursor next e
+next_cursor-allowed a stream (suc i) (Take off) cursor next e = taken-allowed a stream off cursor next e
+next_cursor-allowed a stream zero _ cursor next e = same_Some cursor next e
+next_cursor-allowed a stream (suc i) _ cursor next e = same_Some cursor next e
+
+-- the state's cursors are those that the logs give
+abbrev pub Synced : Cluster → State → Type 0
+Synced c st = (l : ℕ) → cursor_of st l ≡ cursor_at c.stream (node_log c l) (taken_of st l)
+
+pub Synced-start : (c : Cluster) → Synced c (start c)
+Synced-start c l = grind (arith, slice_get-map)
+
+pub Synced-step : (c : Cluster) (st st' : State) (l i : ℕ) → Stepped c st st' l i → Synced c st → Synced c st'
+Synced-step c st st' l i s synced m = go (cases_eq m l)
+  where
+    before : cursor_of st l ≡ cursor_at c.stream (node_log c l) i
+    before = synced l ∙ ap (λ n. cursor_at c.stream (node_log c l) n) s.was
+
+    by_kind : EntryStep c st st' l i ⊎ RecordStep c st st' l i → cursor_of st' l ≡ cursor_at c.stream (node_log c l) (suc i)
+    by_kind (inl e) = e.cursor ∙ before ∙ ap (λ o. cursor_past c.stream i o (cursor_at c.stream (node_log c l) i)) (sym (ap (λ log. slice_get log i) e.no_log))
+    by_kind (inr r) =
+        sym (next_cursor-allowed (appended c st) c.stream i r.rec (cursor_of st l) (cursor_of st' l) r.cursor)
+        ∙ ap (λ n. next_cursor c.stream i r.rec n) before
+        ∙ ap (λ o. cursor_past c.stream i o (cursor_at c.stream (node_log c l) i)) (sym r.at)
+
+    go : (m ≡ l) ⊎ (m ≡ l → ⊥) → cursor_of st' m ≡ cursor_at c.stream (node_log c m) (taken_of st' m)
+    go (inl e) = subst (λ (n : ℕ). cursor_of st' n ≡ cursor_at c.stream (node_log c n) (taken_of st' n)) (sym e) (by_kind s.kind ∙ ap (λ n. cursor_at c.stream (node_log c l) n) (sym s.now))
+    go (inr n) = ap cursor_in (s.others m n) ∙ synced m ∙ ap (λ o. cursor_at c.stream (node_log c m) (taken_in o)) (sym (s.others m n))
+
+taken-reaches : (stream : List StreamRec) (o : Option ℕ) (cursor next p : ℕ) → o ≡ Some (suc cursor) → suc cursor ≡ next → nat_le p cursor ≡ false → nat_le p next ≡ is_position o p
+taken-reaches stream o cursor next p at is before = grind (arith, leb-false p cursor before, le-leb p (suc cursor), eq-eqb (suc cursor) p, lt-leb p (suc cursor), ne_eqb (suc cursor) p)
+
+-- after the first record, the cursor comes to reach a position by that position's `take` alone
+pub reaches-takes : (a : ℕ) (stream : List StreamRec) (i : ℕ) (rec : NodeRec) (cursor next p : ℕ)
+    → allowed_cursor (take a stream) (suc i) rec cursor ≡ Some next → nat_le p cursor ≡ false → nat_le p next ≡ takes stream p rec
+reaches-takes a stream i (Start off) cursor next p e before = absurd (none-some next e)
+reaches-takes a stream i (Take off) cursor next p e before = grind (arith, next_position-at (position (take a stream) off) cursor next e, taken-reaches stream (position stream off) cursor next p, position-take a stream off (suc cursor))
+reaches-takes a stream i _ cursor next p e before = ap (nat_le p) (sym (same_Some cursor next e)) ∙ before
+
+pub reaches-takes-after : (a : ℕ) (stream : List StreamRec) (i : ℕ) (rec : NodeRec) (cursor next p : ℕ)
+    → 0 < i → allowed_cursor (take a stream) i rec cursor ≡ Some next → nat_le p cursor ≡ false → nat_le p next ≡ takes stream p rec
+reaches-takes-after a stream zero rec cursor next p h e before = absurd (omega arith)
+reaches-takes-after a stream (suc i) rec cursor next p h e before = reaches-takes a stream i rec cursor next p e before
+
+-- the numbers of the steps of one log
+abbrev pub steps_of : ℕ → List Step → List ℕ
+steps_of l steps = map (λ (s : Step). s.index) (filter (λ (s : Step). nat_eq s.log l) steps)
+
+length-numbers_from : (a n : ℕ) → length (numbers_from a n) ≡ n
+length-numbers_from a zero = refl
+length-numbers_from a (suc n) = ap suc (length-numbers_from (suc a) n)
+
+counted : (c : Cluster) (st next : State) (s : Step) (steps : List Step) → Stepped c st next s.log s.index → (l : ℕ)
+    → length (steps_of l (s ∷ steps)) + taken_of st l ≡ record_count c l → length (steps_of l steps) + taken_of next l ≡ record_count c l
+counted c st next s steps moved l h = grind (arith, eq-eqb s.log l, ne_eqb s.log l)
+
+runs_on : (c : Cluster) (st : State) (steps : List Step) → AreAllowed c st steps → ((l : ℕ) → length (steps_of l steps) + taken_of st l ≡ record_count c l) → RunsOn c st steps
+runs_on c st [] allowed left = λ l. omega (arith, left l)
+runs_on c st (s ∷ steps) allowed left =
+    let (next, at, later) = allowed in
+    (next, at, runs_on c next steps later (λ l. counted c st next s steps (stepped c st next s at) l (left l)))
+
+pub taken-start : (c : Cluster) (l : ℕ) → taken_of (start c) l ≡ 0
+taken-start c l = grind (arith, slice_get-map)
+
+pub RunsOn-run : (c : Cluster) (run : List Step) → IsRun c run → RunsOn c (start c) run
+RunsOn-run c run is = runs_on c (start c) run is.allowed (λ l. let merged = ap length (is.merges l) ∙ length-numbers_from 0 (record_count c l) in omega (arith, merged, taken-start c l))

@@ -7,7 +7,8 @@ use crate::progress::Progress;
 use crate::state::State;
 use crate::step::Step;
 use aud_node::{Logs, Stream};
-use aud_tap::{Memory, NodeRec, Records};
+use aud_tap::{NodeRec, Records};
+use std::alloc::AllocError;
 
 /// Whether the step is allowed in the state.
 pub fn allowed(state: &State, logs: &Logs, step: &Step) -> bool
@@ -66,6 +67,7 @@ fn allowed_cursor(stream: &Stream, appended: usize, rec: &NodeRec, done: Progres
 }
 
 /// The position of the offset, if its entry is among the appended ones.
+#[tactic(auto, using(crate::proofs::Positions::appended_positions))]
 fn appended_position(stream: &Stream, appended: usize, off: &str) -> Option<u64>
     ensures { result ≡ position (take appended stream.now) off.now }
 {
@@ -76,7 +78,7 @@ fn appended_position(stream: &Stream, appended: usize, off: &str) -> Option<u64>
 }
 
 /// Takes the step, which is allowed. Where memory is wanted, the state is as it was.
-pub fn apply<'a>(state: &mut State<'a>, logs: &Logs<'a>, step: &Step) -> Result<(), Memory>
+pub fn apply<'a>(state: &mut State<'a>, logs: &Logs<'a>, step: &Step) -> Result<(), AllocError>
     requires { IsSome (after logs.now state.old step.now) }
     ensures taken { OnOk result (after logs.now state.old step.now ≡ Some state.new) }
     ensures unchanged { OnErr result (state.new ≡ state.old) }
@@ -94,7 +96,7 @@ fn take_next<'a>(
     place: usize,
     done: Progress,
     log: &'a Records,
-) -> Result<(), Memory>
+) -> Result<(), AllocError>
     requires progress { slice_get state.old.logs place ≡ Some done }
     requires allowed { IsSome (after_next logs.now state.old place done log.now) }
     ensures taken { OnOk result (after_next logs.now state.old place done log.now ≡ Some state.new) }
@@ -123,7 +125,7 @@ fn take_record<'a>(
     node: usize,
     done: Progress,
     rec: &'a NodeRec,
-) -> Result<(), Memory>
+) -> Result<(), AllocError>
     requires progress { slice_get state.old.logs node ≡ Some done }
     requires counted { done.taken + 1 < 2 ^ 64 }
     requires allowed { IsSome (after_record logs.now state.old node done rec.now) }

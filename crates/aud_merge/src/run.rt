@@ -7,11 +7,11 @@ use crate::machine::{allowed, apply};
 use crate::state::State;
 use crate::step::Step;
 use aud_node::Logs;
-use aud_tap::{Memory, Records};
-use std::alloc::Global;
+use aud_tap::Records;
+use std::alloc::{AllocError, Global};
 
 /// Whether the steps are all records of the stream and of the nodes, in an order in which each of them is allowed.
-pub fn is_run(alloc: Global, logs: &Logs, steps: &[Step]) -> Result<bool, Memory>
+pub fn is_run(alloc: Global, logs: &Logs, steps: &[Step]) -> Result<bool, AllocError>
     ensures { IfOk result (λ answer. answer ≡ true ↔ IsRun logs.now steps.now) }
 {
     let mut state = State::new(alloc, logs)?;

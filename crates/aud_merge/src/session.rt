@@ -5,8 +5,8 @@ ghost use Rattle.aud_merge.specs.Sessions.{Absent, session_after};
 ghost use Rattle.aud_merge.specs.SessionSeen.{session_seen, seen_or_absent};
 
 use aud_rooms::RoomSet;
-use aud_tap::{Memory, NodeRec};
-use std::alloc::Global;
+use aud_tap::NodeRec;
+use std::alloc::{AllocError, Global};
 
 /// Where a session is.
 #[derive(Clone, Copy, Debug, PartialEq, Eq, Drop)]
@@ -36,7 +36,7 @@ impl<'a> OpenedSession<'a> {
         alloc: Global,
         node: usize,
         rec: &'a NodeRec,
-    ) -> Result<OpenedSession<'a>, Memory>
+    ) -> Result<OpenedSession<'a>, AllocError>
         requires { IsSome (session_after node rec.now Absent) }
         ensures { IfOk result (λ session. session_after node rec.now Absent ≡ Some (session_seen session)) }
     {
@@ -55,7 +55,7 @@ impl<'a> OpenedSession<'a> {
     }
 
     /// What the node's record, which names this session and is allowed, does to it.
-    pub(crate) fn change(&mut self, node: usize, rec: &'a NodeRec) -> Result<(), Memory>
+    pub(crate) fn change(&mut self, node: usize, rec: &'a NodeRec) -> Result<(), AllocError>
         requires { IsSome (session_after node rec.now (session_seen self.old)) }
         ensures changed { OnOk result (session_after node rec.now (session_seen self.old) ≡ Some (session_seen self.new)) }
         ensures unchanged { OnErr result (self.new ≡ self.old) }

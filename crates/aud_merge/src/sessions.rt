@@ -9,8 +9,8 @@ ghost use Rattle.aud_merge.specs.SessionSeen.{seen_or_absent, session_seen};
 
 use crate::session::{OpenedSession, allows};
 use aud_node::pid;
-use aud_tap::{Memory, NodeRec};
-use std::alloc::Global;
+use aud_tap::NodeRec;
+use std::alloc::{AllocError, Global};
 use std::collections::BTreeMap;
 use std::marker::Model;
 
@@ -48,6 +48,7 @@ impl<'a> Sessions<'a> {
     }
 
     /// The session of a pid; none where it wasn't opened.
+    #[tactic(auto, using(crate::proofs::Maps::seen_sessions))]
     pub(crate) fn get(&self, pid: &str) -> Option<&OpenedSession<'a>>
         ensures { seen_or_absent (option_copied result) ≡ unwrap_or (fin.get self.now pid.now) Absent }
     {
@@ -65,7 +66,7 @@ impl<'a> Sessions<'a> {
     }
 
     /// What an allowed record of the node does to the session that it names, if it names one.
-    pub(crate) fn change(&mut self, node: usize, rec: &'a NodeRec) -> Result<(), Memory>
+    pub(crate) fn change(&mut self, node: usize, rec: &'a NodeRec) -> Result<(), AllocError>
         requires { IsSome (sessions_after node rec.now (pid_of rec.now) self.old) }
         ensures changed { OnOk result (sessions_after node rec.now (pid_of rec.now) self.old ≡ Some self.new) }
         ensures unchanged { OnErr result (self.new ≡ self.old) }
@@ -79,13 +80,13 @@ impl<'a> Sessions<'a> {
         }
     }
 
-    fn insert(&mut self, pid: &'a str, session: OpenedSession<'a>) -> Result<(), Memory>
+    /// Puts the session of the pid.
+    #[tactic(auto, using(crate::proofs::Maps::put_session))]
+    fn insert(&mut self, pid: &'a str, session: OpenedSession<'a>) -> Result<(), AllocError>
         ensures inserted { OnOk result (self.new ≡ fin.insert self.old pid.now (session_seen session.entry)) }
         ensures unchanged { OnErr result (self.new ≡ self.old) }
     {
-        match self.map.insert(pid, session) {
-            Ok(_) => Ok(()),
-            Err(_) => Err(Memory),
-        }
+        self.map.insert(pid, session)?;
+        Ok(())
     }
 }

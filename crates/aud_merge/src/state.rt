@@ -9,7 +9,7 @@ use crate::progress::Progress;
 use crate::session::OpenedSession;
 use crate::sessions::Sessions;
 use aud_node::Logs;
-use aud_tap::{Memory, NodeRec, Tap};
+use aud_tap::{NodeRec, Tap};
 use std::alloc::{AllocError, Global};
 use std::marker::Model;
 
@@ -33,7 +33,7 @@ impl<'a> Model for State<'a> {
 
 impl<'a> State<'a> {
     /// Nothing was taken.
-    pub fn new(alloc: Global, logs: &Logs<'a>) -> Result<State<'a>, Memory>
+    pub fn new(alloc: Global, logs: &Logs<'a>) -> Result<State<'a>, AllocError>
         ensures { IfOk result (λ state. state ≡ start logs.now) }
     {
         Ok(State {
@@ -84,7 +84,7 @@ impl<'a> State<'a> {
     }
 
     /// What an allowed record of the node does to the session that it names, if it names one.
-    pub(crate) fn change(&mut self, node: usize, rec: &'a NodeRec) -> Result<(), Memory>
+    pub(crate) fn change(&mut self, node: usize, rec: &'a NodeRec) -> Result<(), AllocError>
         requires { IsSome (sessions_after node rec.now (pid_of rec.now) self.old.sessions) }
         ensures changed { OnOk result (sessions_after node rec.now (pid_of rec.now) self.old.sessions ≡ Some self.new.sessions) }
         ensures logs { self.new.logs ≡ self.old.logs }

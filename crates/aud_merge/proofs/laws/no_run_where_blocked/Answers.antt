@@ -1,5 +1,4 @@
-use Rattle.aud_merge.proofs.Exchange.{blocked-no_run}
-use Rattle.aud_merge.proofs.Blocked.{greedily_blocked-no_run}
+use Rattle.aud_merge.proofs.Exchange.{blocked-no_run, greedily_blocked-no_run}
 use Rattle.aud_merge.proofs.laws.no_run_where_blocked.Goals as goal
 
 pub returns : goal.returns

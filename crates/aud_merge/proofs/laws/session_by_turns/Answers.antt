@@ -1,5 +1,5 @@
-use Rattle.aud_merge.proofs.WholeChain.{session-chain}
+use Rattle.aud_merge.proofs.Told.{session-turns}
 use Rattle.aud_merge.proofs.laws.session_by_turns.Goals as goal
 
 pub returns : goal.returns
-returns c = session-chain
+returns c = session-turns
