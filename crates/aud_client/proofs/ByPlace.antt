@@ -15,7 +15,8 @@ use Rattle.aud_client.specs.Stays.{namespace, in_namespace, goes_on, whole_stay,
 use Rattle.aud_client.specs.Private.Open.{of_namespace}
 use Rattle.aud_client.specs.StaySeen.{FrameSeen, StaySeen, stay_of, frame_of, frames_of, namespace_of}
 use Rattle.aud_client.specs.Received.{connection_packets, stays_of, stay_names_pid, stays_naming, frames_by_stay, received_from, received_list, transcript_of, are_in_namespace}
-use Rattle.aud_client.proofs.Places.{same_text, itself_text, stay_after-same, stay_after-other, begins-in, of_stay_at}
+use Rattle.aud_base.proofs.SameText.{same_text, itself_text}
+use Rattle.aud_client.proofs.Places.{ stay_after-same, stay_after-other, begins-in, of_stay_at}
 use Rattle.aud_client.proofs.OnePass.{whole_stay-nil}
 use Rattle.aud_client.proofs.Named.{stay_names}
 

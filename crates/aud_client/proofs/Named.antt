@@ -7,6 +7,8 @@ use Rattle.std.proofs.lemmas.List.Folds.{list_any-append}
 use Rattle.aud_tap.specs.declared.records.StreamRec.{StreamRec}
 use Rattle.aud_tap.specs.declared.records.ClientRec.{ClientRec}
 use Rattle.aud_node.specs.Stream.{Text}
+use Rattle.aud_base.proofs.Truth.{or_none}
+use Rattle.aud_base.proofs.Lists.{any-map}
 use Rattle.aud_client.specs.TapPackets.{TapPacket, FromServer, FromClient, Connection, tap_packets}
 use Rattle.aud_client.specs.Replies.{reply_names, packet_names, connection_names, tap_names}
 use Rattle.aud_client.specs.Stays.{namespace, is_reply, is_from_server, goes_on, stay_after, begins_stay, stays}
@@ -32,15 +34,6 @@ or_swap false true false = refl
 or_swap false false true = refl
 or_swap false false false = refl
 
-or_false : (a : Bool) → (a || false) ≡ a
-or_false true = refl
-or_false false = refl
-
--- any of what is made of the elements
-any_map : {X Y : Type 0} (test : Y → Bool) (f : X → Y) (xs : List X) → list_any test (map f xs) ≡ list_any (λ x. test (f x)) xs
-any_map test f [] = refl
-any_map test f (x ∷ xs) = ap (λ b. test (f x) || b) (any_map test f xs)
-
 -- ---- one packet more
 
 -- a packet names the session where its reply does
@@ -57,7 +50,7 @@ names-more : (pid : Text) (s : List TapPacket) (p : TapPacket) → goes_on s p �
 names-more pid s p e = elim (cases_Bool (list_any is_reply s)) [
   | inl some ↦
       ap (reply_names pid) (replied s (p ∷ []) some).0
-      ∙ sym (or_false (stay_names pid s))
+      ∙ sym (or_none (stay_names pid s))
       ∙ ap (λ b. stay_names pid s || b)
       (sym (sym (at_packet pid p) ∙ ap (reply_names pid) (no_reply_at p (ap (λ b. b && is_from_server p) (no_connect s p e some)))))
   | inr none ↦
@@ -103,14 +96,14 @@ one_more : (pid : Text) (l : List TapPacket) (p : TapPacket) → NamedAlike pid 
 one_more pid l p ih = stay_side ∙ ap (λ b. b || packet_names pid p) ih ∙ sym packet_side
   where
     packet_side : list_any (packet_names pid) (l ++ p ∷ []) ≡ (list_any (packet_names pid) l || packet_names pid p)
-    packet_side = list_any-append (packet_names pid) l (p ∷ []) ∙ ap (λ b. list_any (packet_names pid) l || b) (or_false (packet_names pid p))
+    packet_side = list_any-append (packet_names pid) l (p ∷ []) ∙ ap (λ b. list_any (packet_names pid) l || b) (or_none (packet_names pid p))
 
     stay_side : list_any (stay_names pid) (stays (l ++ p ∷ [])) ≡ (list_any (stay_names pid) (stays l) || packet_names pid p)
     stay_side = elim (cases_Bool (begins_stay l p)) [
       | inl starts ↦
           ap (list_any (stay_names pid)) (stays-begins [] l p starts)
           ∙ list_any-append (stay_names pid) (stays l) ((p ∷ []) ∷ [])
-          ∙ ap (λ b. list_any (stay_names pid) (stays l) || b) (or_false (stay_names pid (p ∷ [])) ∙ alone pid p)
+          ∙ ap (λ b. list_any (stay_names pid) (stays l) || b) (or_none (stay_names pid (p ∷ [])) ∙ alone pid p)
       | inr goes ↦
           ap (list_any (stay_names pid)) (stays-goes_on [] l p goes)
           ∙ any-grow (stay_names pid) (packet_names pid p) (namespace p) p (stays l) (has-goes_on l p goes)
@@ -133,9 +126,9 @@ named_alike pid l = all_more pid [] l refl
 -- a connection, as contracts see it
 in_connection : (stream : List StreamRec) (pid : Text) (connection : Connection) → list_any (stay_names_pid pid) (stays_of stream connection) ≡ connection_names pid connection
 in_connection stream pid connection =
-    any_map (stay_names_pid pid) (stay_of stream connection.c) (stays (connection_packets connection))
+    any-map (stay_names_pid pid) (stay_of stream connection.c) (stays (connection_packets connection))
     ∙ named_alike pid (connection_packets connection)
-    ∙ any_map (packet_names pid) (λ (placed : ℕ × TapPacket). placed.1) connection.packets
+    ∙ any-map (packet_names pid) (λ (placed : ℕ × TapPacket). placed.1) connection.packets
 
 -- connection after connection
 in_connections : (stream : List StreamRec) (pid : Text) (connections : List Connection)

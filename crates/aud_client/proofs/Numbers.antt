@@ -5,9 +5,9 @@ use Rattle.std.specs.Option.{option_map_or}
 use Rattle.std.proofs.lemmas.List.{take_more, map-append}
 use Rattle.std.proofs.lemmas.List.Elements.{filter_map-append}
 use Rattle.std.proofs.lemmas.Option.{slice_get_read}
-use Rattle.aud_node.specs.Lists.{numbers_from}
-use Rattle.aud_node.specs.Naming.{noted}
-use Rattle.aud_node.proofs.NamingLemmas.{noted-next}
+use Rattle.aud_base.specs.Lists.{numbers_from}
+use Rattle.aud_base.specs.Places.{noted}
+use Rattle.aud_base.proofs.NotedPlaces.{noted-next}
 
 module _ {X : Type 0} where
   -- the numbers of the first elements that pass, so many looked at

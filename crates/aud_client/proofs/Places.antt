@@ -1,23 +1,17 @@
 -- The stays of packets, and one packet more.
 use Rattle.std.proofs.Common.{◌≡◌, ℕ, Bool, true, false, not, ◌||◌, cond, List, [], ◌∷◌, ◌++◌, refl, sym, ap, ◌∙◌, inl, inr, subst}
 use Rattle.std.specs.Str.{bytes_eq}
-use Rattle.std.specs.Cmp.Lexicographic.{bytes_decides}
 use Rattle.std.proofs.lemmas.Bool.{true≢false, false≢true, cases_Bool, not-true}
 use Rattle.std.proofs.lemmas.List.{append_assoc, append-nil}
 use Rattle.std.proofs.lemmas.List.Elements.{filter-append}
+use Rattle.aud_base.proofs.SameText.{same_text, itself_text, other_text}
 use Rattle.aud_client.specs.TapPackets.{TapPacket}
 use Rattle.aud_client.specs.Private.Open.{of_namespace, has_stay}
 use Rattle.aud_client.specs.Stays.{namespace, in_namespace, goes_on, whole_stay, last_stay, stay_after, stay_at, begins_stay, stays_from}
 
--- equal texts
-pub same_text : (a b : List ℕ) → bytes_eq a b ≡ true → a ≡ b
-same_text a b = (bytes_decides a b).0
-
-pub itself_text : (a : List ℕ) → bytes_eq a a ≡ true
-itself_text a = (bytes_decides a a).1 refl
-
+-- texts that differ, the other way round
 pub swap_text : (a b : List ℕ) → bytes_eq a b ≡ false → bytes_eq b a ≡ false
-swap_text a b e = elim (cases_Bool (bytes_eq b a)) [ inl same ↦ absurd (true≢false (sym (itself_text a) ∙ ap (bytes_eq a) (sym (same_text b a same)) ∙ e)) | inr other ↦ other ]
+swap_text a b e = other_text b a (λ same. true≢false (sym (itself_text a) ∙ ap (bytes_eq a) (sym same) ∙ e))
 
 -- the last stay, after one packet more
 abbrev pub joined : List TapPacket → TapPacket → List TapPacket

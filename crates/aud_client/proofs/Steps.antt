@@ -8,7 +8,8 @@ use Rattle.std.proofs.lemmas.Option.{none-some}
 use Rattle.aud_client.specs.TapPackets.{TapPacket}
 use Rattle.aud_client.specs.Stays.{namespace, is_connect, is_disconnect, is_reply, goes_on, stay_after, begins_stay, stays}
 use Rattle.aud_client.specs.Private.Open.{of_namespace, has_stay, place, open_place}
-use Rattle.aud_client.proofs.Places.{same_text, stay_after-same, stay_after-other}
+use Rattle.aud_base.proofs.SameText.{same_text}
+use Rattle.aud_client.proofs.Places.{ stay_after-same, stay_after-other}
 use Rattle.aud_client.proofs.OnePass.{grow, last_in-none, last_in-stays, stays-begins, stays-goes_on, place-grow, place-push, grow-set}
 
 -- no place, no stay

@@ -7,6 +7,7 @@ use Rattle.std.proofs.lemmas.List.{append-nil}
 use Rattle.std.proofs.lemmas.List.Elements.{filter_map-append}
 use Rattle.aud_tap.specs.declared.records.StreamRec.{StreamRec}
 use Rattle.aud_node.specs.Stream.{Text}
+use Rattle.aud_base.proofs.Truth.{and_true, and_none}
 use Rattle.aud_client.specs.TapPackets.{TapPacket, FromServer, FromClient}
 use Rattle.aud_client.specs.Replies.{ReplySeen, reply_in_value, value_of, is_connect_kind}
 use Rattle.aud_client.specs.Stays.{namespace, is_connect, is_disconnect, is_reply, is_from_server, goes_on}
@@ -15,31 +16,22 @@ use Rattle.aud_client.specs.Private.Kept.{empty_stay, grown}
 
 -- ---- one packet
 
--- tests with a constant
-bare : (b : Bool) → (b && true) ≡ b
-bare true = refl
-bare false = refl
-
-never : (b : Bool) → (b && false) ≡ false
-never true = refl
-never false = refl
-
 -- a packet that is no reply tells none
 pub no_reply_at : (p : TapPacket) → is_reply p ≡ false → reply_at p ≡ None
 no_reply_at (FromClient packet) e = refl
 no_reply_at (FromServer whole) e =
-    ap (λ b. cond b (Some (reply_in_value (value_of whole.packet.payload))) None) (sym (bare (is_connect_kind whole.packet.kind)) ∙ e)
+    ap (λ b. cond b (Some (reply_in_value (value_of whole.packet.payload))) None) (sym (and_true (is_connect_kind whole.packet.kind)) ∙ e)
 
 -- a reply tells one
 pub reply_at-some : (p : TapPacket) → is_reply p ≡ true → is_some (reply_at p) ≡ true
-reply_at-some (FromClient packet) e = absurd (false≢true (sym (never (is_connect_kind packet.kind)) ∙ e))
+reply_at-some (FromClient packet) e = absurd (false≢true (sym (and_none (is_connect_kind packet.kind)) ∙ e))
 reply_at-some (FromServer whole) e =
-    ap (λ b. is_some (cond b (Some (reply_in_value (value_of whole.packet.payload))) None)) (sym (bare (is_connect_kind whole.packet.kind)) ∙ e)
+    ap (λ b. is_some (cond b (Some (reply_in_value (value_of whole.packet.payload))) None)) (sym (and_true (is_connect_kind whole.packet.kind)) ∙ e)
 
 -- a reply asks for nothing, nor does what is no CONNECT
 no_ask-reply : (p : TapPacket) → is_reply p ≡ true → ask_of p ≡ None
 no_ask-reply (FromServer whole) e = refl
-no_ask-reply (FromClient packet) e = absurd (false≢true (sym (never (is_connect_kind packet.kind)) ∙ e))
+no_ask-reply (FromClient packet) e = absurd (false≢true (sym (and_none (is_connect_kind packet.kind)) ∙ e))
 
 no_ask : (p : TapPacket) → is_connect p ≡ false → ask_of p ≡ None
 no_ask (FromServer whole) e = refl
@@ -127,7 +119,7 @@ transcript-first stream c p =
 pub no_connect : (s : List TapPacket) (p : TapPacket) → goes_on s p ≡ true → list_any is_reply s ≡ true → is_connect p ≡ false
 no_connect [] p e some = absurd (false≢true e)
 no_connect (x ∷ xs) p e some =
-    sym (bare (is_connect p))
+    sym (and_true (is_connect p))
     ∙ ap (λ b. is_connect p && b) (sym some)
     ∙ not-true (is_connect p && list_any is_reply (x ∷ xs)) ((and_parts (not (list_any is_disconnect (x ∷ xs))) (not (is_connect p && list_any is_reply (x ∷ xs))) e).1)
 

@@ -1,21 +1,20 @@
 //! Stays by the sessions that their replies name.
 ghost use Rattle.std.specs.Prelude.{◌≡◌, IfOk, OnOk};
 ghost use Rattle.std.specs.List.{list_any};
-ghost use Rattle.aud_node.specs.Naming.{kept_places, noted};
+ghost use Rattle.aud_base.specs.Places.{noted, places_of};
 ghost use Rattle.aud_node.specs.Stream.{Text};
 ghost use Rattle.aud_client.specs.Received.{stay_names_pid, stays_naming};
 ghost use Rattle.aud_client.specs.Private.BySession.{stays_numbered};
 
 use crate::stay::Stay;
-use aud_node::Naming;
-use aud_tap::Memory;
-use std::alloc::Global;
+use aud_base::Places;
+use std::alloc::{AllocError, Global};
 
 /// Of each pid, the numbers of the stays whose reply names it. Stays count from 0; each is looked at once.
-pub fn by_session(alloc: Global, stays: &[Stay<'_>]) -> Result<Naming, Memory>
-    ensures { IfOk result (λ kept. (pid : Text) → stays_numbered stays.now (kept_places kept pid) ≡ stays_naming pid stays.now) }
+pub fn by_session(alloc: Global, stays: &[Stay<'_>]) -> Result<Places, AllocError>
+    ensures { IfOk result (λ kept. (pid : Text) → stays_numbered stays.now (places_of kept pid) ≡ stays_naming pid stays.now) }
 {
-    let mut kept = Naming::new(alloc);
+    let mut kept = Places::new(alloc);
     for (number, stay) in stays.iter().enumerate() {
         note_stay(&mut kept, number, stay)?;
     }
@@ -23,8 +22,8 @@ pub fn by_session(alloc: Global, stays: &[Stay<'_>]) -> Result<Naming, Memory>
 }
 
 /// Notes at the place the sessions that the replies of these stays name.
-pub fn note_stays(naming: &mut Naming, place: usize, stays: &[Stay<'_>]) -> Result<(), Memory>
-    ensures { OnOk result ((q : Text) → kept_places naming.new q ≡ noted place (list_any (stay_names_pid q) stays.now) (kept_places naming.old q)) }
+pub fn note_stays(naming: &mut Places, place: usize, stays: &[Stay<'_>]) -> Result<(), AllocError>
+    ensures { OnOk result ((q : Text) → places_of naming.new q ≡ noted place (list_any (stay_names_pid q) stays.now) (places_of naming.old q)) }
 {
     for stay in stays {
         note_stay(naming, place, stay)?;
@@ -33,8 +32,8 @@ pub fn note_stays(naming: &mut Naming, place: usize, stays: &[Stay<'_>]) -> Resu
 }
 
 /// Notes at the place the session that the stay's reply names, if it names one.
-fn note_stay(naming: &mut Naming, place: usize, stay: &Stay<'_>) -> Result<(), Memory>
-    ensures { OnOk result ((q : Text) → kept_places naming.new q ≡ noted place (stay_names_pid q stay.now) (kept_places naming.old q)) }
+fn note_stay(naming: &mut Places, place: usize, stay: &Stay<'_>) -> Result<(), AllocError>
+    ensures { OnOk result ((q : Text) → places_of naming.new q ≡ noted place (stay_names_pid q stay.now) (places_of naming.old q)) }
 {
     let Some(reply) = &stay.reply else {
         return Ok(());

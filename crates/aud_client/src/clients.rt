@@ -1,16 +1,17 @@
 //! What the clients' taps tell, and which of them name which session.
 ghost use Rattle.std.specs.Prelude.{◌≡◌, IfOk, OnOk, map};
 ghost use Rattle.std.specs.Option.{option_copied};
-ghost use Rattle.aud_node.specs.Naming.{kept_places, noted};
+ghost use Rattle.aud_base.specs.Places.{noted, places_of};
 ghost use Rattle.aud_node.specs.Stream.{Text};
 ghost use Rattle.aud_client.specs.Private.Clients.{AreRead, has_naming_stay, naming_transcripts, transcript_in};
 
 use crate::by_session::note_stays;
 use crate::client_tap::ClientTap;
 use crate::indexed_transcript::IndexedTranscript;
-use aud_node::{Logs, Naming, Stream};
-use aud_tap::{Memory, Records, Tap};
-use std::alloc::Global;
+use aud_base::Places;
+use aud_node::{Logs, Stream};
+use aud_tap::{Records, Tap};
+use std::alloc::{AllocError, Global};
 
 /// What the clients' taps tell, each read once.
 #[derive(Drop)]
@@ -18,12 +19,12 @@ pub struct Clients<'a> {
     /// What each tap tells, where it is a client's.
     pub transcript: Vec<Option<IndexedTranscript<'a>>>,
     /// Of each pid, the places of the clients' taps with a reply that names it.
-    pub naming: Naming,
+    pub naming: Places,
 }
 
 impl<'a> Clients<'a> {
     /// Reads the clients' taps. Their packets are let go, one tap after another.
-    pub fn read(alloc: Global, logs: &Logs<'a>) -> Result<Clients<'a>, Memory>
+    pub fn read(alloc: Global, logs: &Logs<'a>) -> Result<Clients<'a>, AllocError>
         ensures { IfOk result (AreRead logs.now) }
     {
         let transcript = told_of(alloc, logs.stream(), logs.taps())?;
@@ -37,14 +38,12 @@ fn told_of<'a>(
     alloc: Global,
     stream: &Stream<'_>,
     taps: &'a [Tap],
-) -> Result<Vec<Option<IndexedTranscript<'a>>>, Memory>
+) -> Result<Vec<Option<IndexedTranscript<'a>>>, AllocError>
     ensures { IfOk result (λ transcript. transcript.items ≡ map (transcript_in stream.now) taps.now) }
 {
     let mut transcript = Vec::new(alloc);
     for tap in taps {
-        let Ok(()) = transcript.push(transcript_in(alloc, stream, tap)?) else {
-            return Err(Memory);
-        };
+        transcript.push(transcript_in(alloc, stream, tap)?)?;
     }
     Ok(transcript)
 }
@@ -54,7 +53,7 @@ fn transcript_in<'a>(
     alloc: Global,
     stream: &Stream<'_>,
     tap: &'a Tap,
-) -> Result<Option<IndexedTranscript<'a>>, Memory>
+) -> Result<Option<IndexedTranscript<'a>>, AllocError>
     ensures { IfOk result (λ transcript. transcript ≡ transcript_in stream.now tap.now) }
 {
     match &tap.records {
@@ -68,10 +67,10 @@ fn transcript_in<'a>(
 }
 
 /// Of each pid, the places of those that tell of a stay whose reply names it.
-fn naming_of(alloc: Global, clients: &[Option<IndexedTranscript<'_>>]) -> Result<Naming, Memory>
-    ensures { IfOk result (λ naming. (pid : Text) → kept_places naming pid ≡ naming_transcripts clients.now pid) }
+fn naming_of(alloc: Global, clients: &[Option<IndexedTranscript<'_>>]) -> Result<Places, AllocError>
+    ensures { IfOk result (λ naming. (pid : Text) → places_of naming pid ≡ naming_transcripts clients.now pid) }
 {
-    let mut naming = Naming::new(alloc);
+    let mut naming = Places::new(alloc);
     for (place, client) in clients.iter().enumerate() {
         note_client(&mut naming, place, client.as_ref())?;
     }
@@ -80,11 +79,11 @@ fn naming_of(alloc: Global, clients: &[Option<IndexedTranscript<'_>>]) -> Result
 
 /// Notes what the tap at this place tells, after all those noted so far.
 fn note_client(
-    naming: &mut Naming,
+    naming: &mut Places,
     place: usize,
     transcript: Option<&IndexedTranscript<'_>>,
-) -> Result<(), Memory>
-    ensures { OnOk result ((q : Text) → kept_places naming.new q ≡ noted place (has_naming_stay q (option_copied transcript.entry)) (kept_places naming.old q)) }
+) -> Result<(), AllocError>
+    ensures { OnOk result ((q : Text) → places_of naming.new q ≡ noted place (has_naming_stay q (option_copied transcript.entry)) (places_of naming.old q)) }
 {
     match transcript {
         Some(transcript) => note_stays(naming, place, transcript.transcript().stays.as_slice()),

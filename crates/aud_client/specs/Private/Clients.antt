@@ -6,8 +6,8 @@ use Rattle.aud_tap.specs.Names.{AreNamedOnce}
 use Rattle.aud_tap.specs.declared.taps.Tap.{Tap}
 use Rattle.aud_tap.specs.declared.records.StreamRec.{StreamRec}
 use Rattle.aud_node.specs.Cluster.{Cluster}
-use Rattle.aud_node.specs.Lists.{numbers_from}
-use Rattle.aud_node.specs.Naming.{kept_places}
+use Rattle.aud_base.specs.Lists.{numbers_from}
+use Rattle.aud_base.specs.Places.{places_of}
 use Rattle.aud_node.specs.NodeTaps.{client_recs}
 use Rattle.aud_node.specs.Stream.{Text}
 use Rattle.aud_client.specs.Received.{TranscriptSeen, transcript_of, stay_names_pid}
@@ -31,7 +31,7 @@ naming_transcripts clients pid = filter (λ place. has_naming_stay pid (option_a
 -- the clients' taps are read, and of each pid the places are those that name it
 pub record AreRead (c : Cluster) (clients : Clients) : Type 0 where
   pub transcripts_are : clients.transcript.items ≡ map (transcript_in c.stream) c.taps
-  pub naming_are : (pid : Text) → kept_places clients.naming pid ≡ naming_places c.taps pid
+  pub naming_are : (pid : Text) → places_of clients.naming pid ≡ naming_places c.taps pid
 
 -- the clients' taps are read; no two taps have one name
 pub record HoldsRecording (r : Inside) : Type 0 where

@@ -1,6 +1,6 @@
 -- What is kept of a client's tap that was read.
 use Rattle.std.specs.Prelude.{◌≡◌}
-use Rattle.aud_node.specs.Naming.{kept_places}
+use Rattle.aud_base.specs.Places.{places_of}
 use Rattle.aud_node.specs.Stream.{Text}
 use Rattle.aud_client.specs.Received.{stays_naming}
 use Rattle.aud_client.specs.Private.BySession.{stays_numbered}
@@ -8,4 +8,4 @@ use Rattle.aud_client.specs.declared.indexed_transcript.IndexedTranscript.TheIns
 
 -- of each pid, the numbers of the stays whose reply names it
 abbrev pub HoldsStaysByPid : Inside → Type 0
-HoldsStaysByPid t = (pid : Text) → stays_numbered t.transcript.stays (kept_places t.by_session pid) ≡ stays_naming pid t.transcript.stays
+HoldsStaysByPid t = (pid : Text) → stays_numbered t.transcript.stays (places_of t.by_session pid) ≡ stays_naming pid t.transcript.stays

@@ -1,6 +1,6 @@
 use Rattle.std.proofs.Common.{◌≡◌, false, length, ap, ◌∙◌, arith}
 use Rattle.std.specs.Option.{option_map_or}
-use Rattle.aud_node.specs.Naming.{kept_places}
+use Rattle.aud_base.specs.Places.{places_of}
 use Rattle.aud_client.specs.Private.BySession.{stays_numbered}
 use Rattle.aud_client.specs.Received.{stay_names_pid}
 use Rattle.aud_client.proofs.Numbers.{passing_numbers, noted-at, numbered_all}
@@ -9,7 +9,7 @@ use Rattle.aud_client.proofs.by_session.by_session.Goals as goal
 pub loop-number-preserved : goal.loop-number-preserved
 loop-number-preserved c = λ q.
     noted-at (λ stay. option_map_or (stay_names_pid q) stay false) c.args.stays.now c.loop-number.number c.index-stays-number.result
-    (kept_places c.loop-number.kept q) (kept_places c.note_stay.new.naming q)
+    (places_of c.loop-number.kept q) (places_of c.note_stay.new.naming q)
     (omega arith) c.index-stays-number.is (c.loop-number.invariant q) (c.in_ok-note_stay.ensures q)
 
 pub returns : goal.returns
