@@ -1,5 +1,5 @@
 -- Where a packet is a reply that names a session, the reply of a stay does, and the other way round.
-use Rattle.std.proofs.Common.{◌≡◌, ℕ, Bool, true, false, not, ◌&&◌, ◌||◌, cond, List, [], ◌∷◌, ◌++◌, map, flat_map, refl, sym, ap, ◌∙◌, inl, inr}
+use Rattle.std.proofs.Common.{◌≡◌, ℕ, Bool, true, false, not, ◌&&◌, ◌||◌, cond, List, [], ◌∷◌, ◌++◌, map, flat_map, refl, sym, ap, ◌∙◌, arith, inl, inr}
 use Rattle.std.specs.List.{list_any}
 use Rattle.std.proofs.lemmas.Bool.{true≢false, false≢true, cases_Bool, not-false}
 use Rattle.std.proofs.lemmas.List.{append_assoc, append-nil}
@@ -47,43 +47,18 @@ alone pid p = ap (reply_names pid) (reply_of-one p) ∙ at_packet pid p
 
 -- a stay with one packet more
 names-more : (pid : Text) (s : List TapPacket) (p : TapPacket) → goes_on s p ≡ true → stay_names pid (s ++ p ∷ []) ≡ (stay_names pid s || packet_names pid p)
-names-more pid s p e = elim (cases_Bool (list_any is_reply s)) [
-  | inl some ↦
-      ap (reply_names pid) (replied s (p ∷ []) some).0
-      ∙ sym (or_none (stay_names pid s))
-      ∙ ap (λ b. stay_names pid s || b)
-      (sym (sym (at_packet pid p) ∙ ap (reply_names pid) (no_reply_at p (ap (λ b. b && is_from_server p) (no_connect s p e some)))))
-  | inr none ↦
-      ap (reply_names pid) (unreplied s (p ∷ []) none).0
-      ∙ alone pid p
-      ∙ ap (λ o. reply_names pid o || packet_names pid p) (sym (none_yet s none))
-]
+names-more pid s p e =
+    grind (arith, replied s (p ∷ []), unreplied s (p ∷ []), none_yet s, at_packet pid p, alone pid p, no_reply_at p, no_connect s p e)
 
 -- any of the stays, where the last one of the namespace grows
 any-grow : (test : List TapPacket → Bool) (b : Bool) (n : Text) (p : TapPacket) (ss : List (List TapPacket)) → has_stay n ss ≡ true
     → test (last_in n ss ++ p ∷ []) ≡ (test (last_in n ss) || b) → list_any test (grow n p ss) ≡ (list_any test ss || b)
 any-grow test b n p [] some e = absurd (false≢true some)
-any-grow test b n p (s ∷ ss) some e = go (any-grow test b n p ss) (of_namespace n s) (has_stay n ss) refl some e
-  where
-    either : (a : Bool) → list_any test (cond (a && false) ((s ++ p ∷ []) ∷ ss) (s ∷ grow n p ss)) ≡ (test s || list_any test (grow n p ss))
-    either true = refl
-    either false = refl
-
-    go : (has_stay n ss ≡ true → test (last_in n ss ++ p ∷ []) ≡ (test (last_in n ss) || b) → list_any test (grow n p ss) ≡ (list_any test ss || b))
-        → (a h : Bool) → has_stay n ss ≡ h → (a || h) ≡ true
-        → test (cond h (last_in n ss) (cond a s []) ++ p ∷ []) ≡ (test (cond h (last_in n ss) (cond a s [])) || b)
-        → list_any test (cond (a && not h) ((s ++ p ∷ []) ∷ ss) (s ∷ grow n p ss)) ≡ ((test s || list_any test ss) || b)
-    go ih a true is some e = either a ∙ ap (λ x. test s || x) (ih is e) ∙ or_assoc (test s) (list_any test ss) b
-    go ih true false is some e = ap (λ x. x || list_any test ss) e ∙ or_swap (test s) b (list_any test ss)
-    go ih false false is some e = absurd (false≢true some)
+any-grow test b n p (s ∷ ss) some e = grind (arith, any-grow test b n p ss)
 
 -- where a packet goes on with a stay, there is one
 has-goes_on : (l : List TapPacket) (p : TapPacket) → begins_stay l p ≡ false → has_stay (namespace p) (stays l) ≡ true
-has-goes_on l p e = elim (cases_Bool (has_stay (namespace p) (stays l))) [
-  | inl some ↦ some
-  | inr none ↦
-      absurd (true≢false (ap (λ s. not (goes_on s p)) (sym (sym (last_in-stays (namespace p) l) ∙ last_in-none (namespace p) (stays l) none)) ∙ e))
-]
+has-goes_on l p e = grind (arith, last_in-stays (namespace p) l, last_in-none (namespace p) (stays l))
 
 -- ---- a connection, and a tap
 
@@ -93,24 +68,8 @@ NamedAlike pid l = list_any (stay_names pid) (stays l) ≡ list_any (packet_name
 
 -- one packet more
 one_more : (pid : Text) (l : List TapPacket) (p : TapPacket) → NamedAlike pid l → NamedAlike pid (l ++ p ∷ [])
-one_more pid l p ih = stay_side ∙ ap (λ b. b || packet_names pid p) ih ∙ sym packet_side
-  where
-    packet_side : list_any (packet_names pid) (l ++ p ∷ []) ≡ (list_any (packet_names pid) l || packet_names pid p)
-    packet_side = list_any-append (packet_names pid) l (p ∷ []) ∙ ap (λ b. list_any (packet_names pid) l || b) (or_none (packet_names pid p))
-
-    stay_side : list_any (stay_names pid) (stays (l ++ p ∷ [])) ≡ (list_any (stay_names pid) (stays l) || packet_names pid p)
-    stay_side = elim (cases_Bool (begins_stay l p)) [
-      | inl starts ↦
-          ap (list_any (stay_names pid)) (stays-begins [] l p starts)
-          ∙ list_any-append (stay_names pid) (stays l) ((p ∷ []) ∷ [])
-          ∙ ap (λ b. list_any (stay_names pid) (stays l) || b) (or_none (stay_names pid (p ∷ [])) ∙ alone pid p)
-      | inr goes ↦
-          ap (list_any (stay_names pid)) (stays-goes_on [] l p goes)
-          ∙ any-grow (stay_names pid) (packet_names pid p) (namespace p) p (stays l) (has-goes_on l p goes)
-          (ap (λ s. stay_names pid (s ++ p ∷ [])) (last_in-stays (namespace p) l)
-          ∙ names-more pid (stay_after (namespace p) l) p (not-false _ goes)
-          ∙ ap (λ s. stay_names pid s || packet_names pid p) (sym (last_in-stays (namespace p) l)))
-    ]
+one_more pid l p ih =
+    grind (arith, ih, list_any-append (packet_names pid) l (p ∷ []), stays-begins [] l p, list_any-append (stay_names pid) (stays l) ((p ∷ []) ∷ []), alone pid p, stays-goes_on [] l p, any-grow (stay_names pid) (packet_names pid p) (namespace p) p (stays l), has-goes_on l p, last_in-stays (namespace p) l, names-more pid (stay_after (namespace p) l) p)
 
 all_more : (pid : Text) (done after : List TapPacket) → NamedAlike pid done → NamedAlike pid (done ++ after)
 all_more pid done [] ih = ap (λ l. list_any (stay_names pid) (stays l)) (append-nil done) ∙ ih ∙ ap (list_any (packet_names pid)) (sym (append-nil done))
