@@ -12,11 +12,12 @@ use Rattle.aud_node.specs.Stream.{Text}
 use Rattle.aud_node.specs.TurnRecords.{begins_turn, begins_any_turn, ends_any_turn, rest_of_turn}
 use Rattle.aud_node.proofs.TurnLemmas.{rest-taken}
 use Rattle.aud_rooms.specs.Turns.{Who, Turn, beginning, End, ByBreak, ByGone, ByLog, part_of, turn_end, MayEnd, AreTurns}
-use Rattle.aud_client.proofs.Places.{same_text}
+use Rattle.aud_base.proofs.Lists.{slice_get-drop}
+use Rattle.aud_base.proofs.SameText.{same_text}
 use Rattle.aud_maker.specs.Private.Begun.{AreBegun}
 use Rattle.aud_maker.specs.Private.Opening.{names_opened, opening_of}
 use Rattle.aud_maker.specs.Private.Ended.{end_by, may_end, is_ended, is_empty, are_ended}
-use Rattle.aud_maker.proofs.Turns.{Kind, kind, slice_get-drop}
+use Rattle.aud_maker.proofs.Turns.{Kind, kind}
 use Rattle.aud_maker.proofs.BegunLemmas.{IsIndexed, begun-is}
 
 -- ---- the end of a turn that a log begins

@@ -5,6 +5,7 @@ use Rattle.std.specs.Option.{is_some}
 use Rattle.std.proofs.lemmas.Bool.{false≢true, and_parts}
 use Rattle.std.proofs.lemmas.List.Elements.{All-nil, All-cons, All-contains}
 use Rattle.std.proofs.lemmas.List.Sums.{AllPass-from_list_all}
+pub use Rattle.aud_base.proofs.Lists.{one_fails}
 use Rattle.aud_node.specs.Cluster.{Cluster}
 use Rattle.aud_node.specs.OwnPlaces.{own_places}
 use Rattle.aud_node.specs.Stream.{Text}
@@ -32,15 +33,6 @@ is_opened c pid = go (begun c pid 0)
     go (inr (t, is, r)) = subst (Says c pid) (sym is) (λ no_turn. no_turn t.node t.from r.first r.there r.begins)
 
 -- ---- whether the nodes are ordered
-
--- where not all pass, one of them fails
-pub one_fails : {X : Type 0} (p : X → Bool) (xs : List X) → list_all p xs ≡ false → (x : X) × Contains xs x × (p x ≡ false)
-one_fails p [] e = absurd (false≢true (sym e))
-one_fails {X} p (x ∷ xs) e = go (p x) refl e (λ rest. one_fails p xs rest)
-  where
-    go : (b : Bool) → p x ≡ b → (b && list_all p xs) ≡ false → (list_all p xs ≡ false → (y : X) × Contains xs y × (p y ≡ false)) → (y : X) × Contains (x ∷ xs) y × (p y ≡ false)
-    go false fails e ih = (x, (0, omega arith, refl), fails)
-    go true passes e ih = let (y, (k, h, at), fails) = ih e in (y, (suc k, omega arith, at), fails)
 
 pub unordered : (c : Cluster) (who : Who) (pid : Text) (turns : List Turn) → who.pid ≡ pid → IsChain c who turns → list_all (is_turn_ordered c) turns ≡ false → HasUnordered c pid
 unordered c who pid turns same chain e =

@@ -7,13 +7,10 @@ use Rattle.std.proofs.lemmas.List.Folds.{list_any-append}
 use Rattle.aud_tap.specs.Forms.{passing}
 use Rattle.aud_node.specs.Lists.{numbers_from}
 use Rattle.aud_node.specs.Stream.{Text}
-use Rattle.aud_client.proofs.Places.{same_text}
+use Rattle.aud_base.proofs.SameText.{same_text}
+use Rattle.aud_base.proofs.Truth.{or_none}
 use Rattle.aud_maker.specs.Sessions.{first_mention, first_mentions}
 use Rattle.aud_maker.specs.Private.Mentioned.{with_mention, with_mentions}
-
-or-false : (b : Bool) → b || false ≡ b
-or-false true = refl
-or-false false = refl
 
 -- what stands in the list after a mention: what stood there, and the text
 any-mention : (pid t : Text) (pids : List Text) → list_any (bytes_eq pid) (with_mention pids t) ≡ list_any (bytes_eq pid) pids || bytes_eq pid t
@@ -21,8 +18,8 @@ any-mention pid t pids = go (list_any (bytes_eq t) pids) refl (bytes_eq pid t) r
   where
     go : (b : Bool) → list_any (bytes_eq t) pids ≡ b → (v : Bool) → bytes_eq pid t ≡ v → list_any (bytes_eq pid) (cond b pids (pids ++ t ∷ [])) ≡ list_any (bytes_eq pid) pids || v
     go true known true is = ap (λ s. list_any (bytes_eq s) pids) (same_text pid t is) ∙ known ∙ sym (or_right (list_any (bytes_eq pid) pids) true refl)
-    go true known false is = sym (or-false (list_any (bytes_eq pid) pids))
-    go false known v is = list_any-append (bytes_eq pid) pids (t ∷ []) ∙ ap (λ b. list_any (bytes_eq pid) pids || b) (or-false (bytes_eq pid t) ∙ is)
+    go true known false is = sym (or_none (list_any (bytes_eq pid) pids))
+    go false known v is = list_any-append (bytes_eq pid) pids (t ∷ []) ∙ ap (λ b. list_any (bytes_eq pid) pids || b) (or_none (bytes_eq pid t) ∙ is)
 
 take-front : (before after : List Text) → take (length before) (before ++ after) ≡ before
 take-front [] after = refl
@@ -55,7 +52,7 @@ gained pids before (t ∷ after) same =
     later = filter_map (first_mention all) (numbers_from (suc (length before)) (length after))
 
     more : (q : Text) → list_any (bytes_eq q) (with_mention pids t) ≡ list_any (bytes_eq q) (before ++ t ∷ [])
-    more q = any-mention q t pids ∙ ap (λ b. b || bytes_eq q t) (same q) ∙ sym (list_any-append (bytes_eq q) before (t ∷ []) ∙ ap (λ b. list_any (bytes_eq q) before || b) (or-false (bytes_eq q t)))
+    more q = any-mention q t pids ∙ ap (λ b. b || bytes_eq q t) (same q) ∙ sym (list_any-append (bytes_eq q) before (t ∷ []) ∙ ap (λ b. list_any (bytes_eq q) before || b) (or_none (bytes_eq q t)))
 
     put : (b : Bool) → cond b pids (pids ++ t ∷ []) ++ later ≡ pids ++ cons_option (passing (λ _. not b) t) later
     put true = refl

@@ -6,12 +6,9 @@ use Rattle.std.specs.declared.string.String.{String}
 use Rattle.std.proofs.lemmas.List.{map-append, take_more, flat_map_more}
 use Rattle.aud_tap.specs.declared.taps.Tap.{Tap}
 use Rattle.indexmap.specs.IndexSet.{insert_key}
+use Rattle.aud_base.proofs.Lists.{any-map}
 use Rattle.aud_node.specs.Stream.{Text}
 use Rattle.aud_maker.specs.Private.Mentioned.{with_mention, with_mentions}
-
-any-map : {A B : Type 0} (test : B → Bool) (f : A → B) (xs : List A) → list_any test (map f xs) ≡ list_any (λ x. test (f x)) xs
-any-map test f [] = refl
-any-map test f (x ∷ xs) = ap (λ b. test (f x) || b) (any-map test f xs)
 
 -- a text that is there
 pub mention-known : {Y : Type 0} (keys : List (String Y)) (pid : Text) → true ≡ list_any (λ k. bytes_eq pid (string_bytes k)) keys → map string_bytes keys ≡ with_mention (map string_bytes keys) pid
@@ -41,8 +38,3 @@ mentions-more of pids taps i tap h is =
     (flat_map_more of [] (take i taps) tap
     ∙ ap (λ t. flat_map of (take i taps ++ t ∷ [])) is
     ∙ ap (flat_map of) (sym (take_more taps i tap h)))
-
-pub tap_there : (taps : List Tap) (place : ℕ) → place < length taps → (tap : Tap) × (slice_get taps place ≡ Some tap)
-tap_there [] place h = absurd (omega arith)
-tap_there (tap ∷ taps) zero h = (tap, refl)
-tap_there (tap ∷ taps) (suc place) h = tap_there taps place (omega arith)

@@ -8,7 +8,8 @@ use Rattle.aud_node.specs.Cluster.{Cluster, node_log}
 use Rattle.aud_node.specs.Stream.{Text}
 use Rattle.aud_node.specs.TurnRecords.{pid_of, begins_turn, begins_any_turn, ends_any_turn, rest_of_turn}
 use Rattle.aud_rooms.specs.Turns.{Who, Turn, beginning, Part, Inner, Last, Foreign, End, ByBreak, ByGone, ByLog, part_of, end_past, turn_end, MayEnd, IsTurn, AreTurns, StandsIn, IsChain}
-use Rattle.aud_client.proofs.Places.{same_text, itself_text}
+use Rattle.aud_base.proofs.Lists.{slice_get-drop}
+use Rattle.aud_base.proofs.SameText.{same_text, itself_text}
 use Rattle.aud_maker.specs.Private.Ended.{end_by}
 
 -- ---- records that begin a turn
@@ -86,20 +87,9 @@ rest-count pid k (x ∷ xs) (suc count) e h ends with_log =
 -- none of them begins a turn
 rest-begins : (pid : Text) (recs : List NodeRec) (j : ℕ) (rec : NodeRec) → slice_get recs j ≡ Some rec → j < length (rest_of_turn pid recs) → begins_any_turn pid rec ≡ true → ⊥
 rest-begins pid [] j rec at h begins = none-some rec at
-rest-begins pid (x ∷ xs) j rec at h begins = go (begins_any_turn pid x) (ends_any_turn pid x) refl j at h (λ i there less. rest-begins pid xs i rec there less begins)
-  where
-    go : (b e : Bool) → begins_any_turn pid x ≡ b → (j : ℕ) → slice_get (x ∷ xs) j ≡ Some rec → j < length (cond b [] (cond e (x ∷ []) (x ∷ rest_of_turn pid xs)))
-        → ((i : ℕ) → slice_get xs i ≡ Some rec → i < length (rest_of_turn pid xs) → ⊥) → ⊥
-    go true e is j at h ih = omega arith
-    go false e is zero at h ih = false≢true (sym is ∙ ap (begins_any_turn pid) (same_Some x rec at) ∙ begins)
-    go false true is (suc j) at h ih = omega arith
-    go false false is (suc j) at h ih = ih j at (omega arith)
+rest-begins pid (x ∷ xs) zero rec at h begins = grind arith
+rest-begins pid (x ∷ xs) (suc j) rec at h begins = grind (arith, rest-begins pid xs j rec at)
 
-pub slice_get-drop : (n : ℕ) (xs : List NodeRec) (j i : ℕ) → i ≡ n + j → slice_get (drop n xs) j ≡ slice_get xs i
-slice_get-drop zero xs j i e = let same : j ≡ i = omega arith in ap (slice_get xs) same
-slice_get-drop (suc n) [] j i e = refl
-slice_get-drop (suc n) (x ∷ xs) j zero e = absurd (omega arith)
-slice_get-drop (suc n) (x ∷ xs) j (suc i) e = slice_get-drop n xs j i (omega arith)
 
 by_log : (c : Cluster) (t : Turn) (later : List Turn) (e : End) → MayEnd c t later e → e ≡ ByLog → t.to ≡ length (node_log c t.node)
 by_log c t later ByBreak may is = cc

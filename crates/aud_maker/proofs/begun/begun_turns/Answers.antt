@@ -16,8 +16,8 @@ loop-number-preserved c =
     let here : 0 + length turns ≡ c.loop-number.number = omega (arith, count) in
     let next : turn_begun logs nodes pid (0 + length turns) ≡ Some turn = ap (turn_begun logs nodes pid) here ∙ sym c.in-Some.ensures in
     record {
-      begun = subst (λ (ts : List Turn). AreBegun logs nodes pid 0 ts) (sym c.in-Ok.ensures.items) (begun-more logs nodes pid 0 turns turn c.loop-number.invariant.begun next);
-      count = ap (λ (ts : List Turn). length ts) c.in-Ok.ensures.items ∙ length_push turns turn ∙ ap (λ n. n + 1) count;
+      begun = subst (λ (ts : List Turn). AreBegun logs nodes pid 0 ts) (sym c.in_ok-push.ensures.items) (begun-more logs nodes pid 0 turns turn c.loop-number.invariant.begun next);
+      count = ap (λ (ts : List Turn). length ts) c.in_ok-push.ensures.items ∙ length_push turns turn ∙ ap (λ n. n + 1) count;
     }
 
 pub returns : goal.returns

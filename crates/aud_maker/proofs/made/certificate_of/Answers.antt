@@ -8,7 +8,7 @@ pub returns : goal.returns
 returns c =
     let logs = c.args.logs.now in
     record {
-      pid_is = c.in-Ok.ensures.ok;
+      pid_is = c.in_ok-from_str.ensures.ok;
       client_is = refl;
       turns_are = c.in_ok-turns.ensures ∙ ap (map (turn_seen logs)) c.deref.ensures.value;
       spans_are = λ nsp.

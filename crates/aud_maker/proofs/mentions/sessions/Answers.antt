@@ -11,7 +11,8 @@ use Rattle.aud_node.specs.NodeTaps.{client_recs}
 use Rattle.aud_node.specs.Stream.{Text}
 use Rattle.aud_maker.specs.Sessions.{node_pids, reply_pids, mentions, sessions_of}
 use Rattle.aud_maker.specs.Private.Mentioned.{with_mentions}
-use Rattle.aud_maker.proofs.MentionLemmas.{with_mentions-append, mentions-more, tap_there}
+use Rattle.aud_maker.proofs.MentionLemmas.{with_mentions-append, mentions-more}
+use Rattle.aud_base.proofs.Lists.{element_at}
 use Rattle.aud_maker.proofs.FirstMentions.{first-mentions}
 use Rattle.aud_maker.proofs.mentions.sessions.Goals as goal
 
@@ -33,7 +34,7 @@ loop-place-preserved c =
     let place = c.loop-place.place in
     let replies : Tap → List Text = λ tap. reply_pids stream (client_recs tap) in
     let h : place < length taps = subst (λ (ts : List Tap). place < length ts) (c.taps-taps.ensures ∙ ap (λ (l : Cluster). l.taps) c.logs.ensures) c.loop-place-test.true in
-    let (tap, at) = tap_there taps place h in
+    let (tap, at) = element_at taps place h in
     c.in_ok-mention_client.ensures
     ∙ ap (λ o. with_mentions c.loop-place.mentioned (reply_pids stream (option_and_then client_recs o))) at
     ∙ ap (λ pids. with_mentions pids (replies tap)) c.loop-place.invariant
