@@ -31,14 +31,7 @@ begin-plain pid k _ e = absurd (false≢true e)
 rest-end : (pid : Text) (k : ℕ) (rec : NodeRec) (recs : List NodeRec) → end_by pid k (Some rec) ≡ Some ByLog
     → turn_end pid k (rest_of_turn pid recs) ≡ end_by pid k (slice_get (rec ∷ recs) (length (rest_of_turn pid recs)))
 rest-end pid k rec [] plain = sym plain
-rest-end pid k rec (x ∷ xs) plain = go (kind pid k x) (λ e. rest-end pid k x xs e)
-  where
-    go : Kind (begins_any_turn pid x) (ends_any_turn pid x) (part_of pid k x) (end_by pid k (Some x))
-        → (end_by pid k (Some x) ≡ Some ByLog → turn_end pid k (rest_of_turn pid xs) ≡ end_by pid k (slice_get (x ∷ xs) (length (rest_of_turn pid xs))))
-        → turn_end pid k (rest_of_turn pid (x ∷ xs)) ≡ end_by pid k (slice_get (rec ∷ x ∷ xs) (length (rest_of_turn pid (x ∷ xs))))
-    go (inl (begins, ends, part, by)) ih = rw (begins, ends, part) (ih by)
-    go (inr (inl (begins, part))) ih = rw begins (sym plain)
-    go (inr (inr (begins, ends, last, by))) ih = rw (begins, ends) by
+rest-end pid k rec (x ∷ xs) plain = grind (arith, kind pid k x, rest-end pid k x xs)
 
 indexed-ends : (log : List NodeRec) (pid : Text) (k from to : ℕ) → IsIndexed log pid k from to → turn_end pid k (between log (suc from) to) ≡ end_by pid k (slice_get log (to - 1))
 indexed-ends log pid k from to is =

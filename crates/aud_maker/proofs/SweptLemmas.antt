@@ -89,11 +89,7 @@ module _ (c : Cluster) (who : Who) (turns : List Turn) (chain : IsChain c who tu
 
   -- after a record that isn't the session's
   go_other : (x : ℕ) (current : Option Turn) → own x ≡ false → GoesOn x current → GoesOn (suc x) current
-  go_other x current not_own on j t at same from below =
-      elim (cases_eq t.from x) as (λ _. current ≡ Some t) [
-        | inl here ↦ absurd (false≢true (sym not_own ∙ ap own (sym here) ∙ own_first j t at same))
-        | inr before ↦ on j t at same (omega arith) (omega arith)
-      ]
+  go_other x current not_own on j t at same from below = grind (arith, own_first j t at same, on j t at same)
 
   -- after one of the session
   go_own : (x : ℕ) (rec : NodeRec) (current : Option Turn) → slice_get log x ≡ Some rec → record_names (Some rec) who.pid ≡ true → GoesOn x current
