@@ -1,5 +1,5 @@
 -- Turns that end as they may are turns.
-use Rattle.std.proofs.Common.{◌≡◌, ◌<◌, ◌≤◌, ◌+◌, ◌-◌, ℕ, zero, suc, true, ◌&&◌, List, [], ◌∷◌, length, take, drop, get_or, Option, Some, None, slice_get, refl, sym, ap, ◌∙◌, inl, inr, nat_eq, arith, bytes_eq}
+use Rattle.std.proofs.Common.{◌≡◌, ◌<◌, ◌≤◌, ◌+◌, ◌-◌, ℕ, zero, suc, true, ◌&&◌, List, [], ◌∷◌, length, take, drop, get_or, Option, Some, None, slice_get, refl, sym, ap, ◌∙◌, add-one, inl, inr, nat_eq, arith, bytes_eq}
 use Rattle.std.proofs.lemmas.Bool.{eq-eqb, eqb-true, false≢true, and_parts, and_from}
 use Rattle.std.proofs.lemmas.List.{at_drop_more}
 use Rattle.std.proofs.lemmas.Option.{same_Some}
@@ -35,15 +35,10 @@ rest-end pid k rec (x ∷ xs) plain = grind (arith, kind pid k x, rest-end pid k
 
 indexed-ends : (log : List NodeRec) (pid : Text) (k from to : ℕ) → IsIndexed log pid k from to → turn_end pid k (between log (suc from) to) ≡ end_by pid k (slice_get log (to - 1))
 indexed-ends log pid k from to is =
-    let to_is = is.to_is in
     let rest = rest_of_turn pid (drop (suc from) log) in
-    let count : to - suc from ≡ length rest = omega arith in
-    let last : to - 1 ≡ from + length rest = omega arith in
-    ap (λ n. turn_end pid k (take n (drop (suc from) log))) count
-    ∙ ap (turn_end pid k) (rest-taken pid (drop (suc from) log))
-    ∙ rest-end pid k is.first (drop (suc from) log) (begin-plain pid k is.first is.begins)
-    ∙ ap (λ recs. end_by pid k (slice_get recs (length rest))) (sym is.parts)
-    ∙ ap (end_by pid k) (slice_get-drop from log (length rest) (to - 1) last)
+    let count : to - suc from ≡ length rest = omega (arith, is.to_is) in
+    let last : to - 1 ≡ from + length rest = omega (arith, is.to_is) in
+    grind (arith, count, last, rest-taken pid (drop (suc from) log), rest-end pid k is.first (drop (suc from) log), begin-plain pid k is.first is.begins, is.parts, slice_get-drop from log (length rest) (to - 1) last)
 
 -- ---- how turns may end
 
@@ -105,17 +100,9 @@ left-empty : (turns : List Turn) (n : ℕ) → n ≤ length turns → is_empty (
 left-empty [] zero h = refl
 left-empty [] (suc n) h = absurd (omega arith)
 left-empty (t ∷ ts) zero h = grind arith
-left-empty (t ∷ ts) (suc n) h = left-empty ts n (omega arith) ∙ grind arith
+left-empty (t ∷ ts) (suc n) h = grind (arith, left-empty ts n)
 
 -- one turn more that ends as it may
 pub ended-step : (c : Cluster) (pid : Text) (turns : List Turn) (n : ℕ) (t : Turn) → n < length turns → t ≡ get_or turns n t → true ≡ is_ended c pid n t (nat_eq (n + 1) (length turns))
     → are_ended c pid (n + 1) (drop (n + 1) turns) ≡ are_ended c pid n (drop n turns)
-ended-step c pid turns n t h is ended =
-    let next : suc n ≡ n + 1 = omega arith in
-    let rest = drop (n + 1) turns in
-    sym
-    (at_drop_more (are_ended c pid n) turns n t h
-    ∙ ap (λ u. are_ended c pid n (u ∷ rest)) (sym is)
-    ∙ ap (λ b. is_ended c pid n t b && are_ended c pid (suc n) rest) (left-empty turns (n + 1) (omega arith))
-    ∙ ap (λ b. b && are_ended c pid (suc n) rest) (sym ended)
-    ∙ ap (λ m. are_ended c pid m rest) next)
+ended-step c pid turns n t h is ended = grind (arith, at_drop_more (are_ended c pid n) turns n t h, left-empty turns (n + 1), add-one n)

@@ -26,11 +26,10 @@ Says c pid o = MatchBool (is_some o) (HasNoTurn c pid 0 → ⊥) (HasNoTurn c pi
 
 -- whether the session was opened
 pub is_opened : (c : Cluster) (pid : Text) → MatchBool (is_some (turn_begun c (own_places c pid) pid 0)) (HasNoTurn c pid 0 → ⊥) (HasNoTurn c pid 0)
-is_opened c pid = go (begun c pid 0)
-  where
-    go : ((turn_begun c (own_places c pid) pid 0 ≡ None) × HasNoTurn c pid 0) ⊎ ((t : Turn) × (turn_begun c (own_places c pid) pid 0 ≡ Some t) × IsBegun c pid 0 t) → Says c pid (turn_begun c (own_places c pid) pid 0)
-    go (inl (none, nowhere)) = subst (Says c pid) (sym none) nowhere
-    go (inr (t, is, r)) = subst (Says c pid) (sym is) (λ no_turn. no_turn t.node t.from r.first r.there r.begins)
+is_opened c pid = elim (begun c pid 0) as (λ _. Says c pid (turn_begun c (own_places c pid) pid 0)) [
+  | inl none ↦ subst (Says c pid) (sym none.0) none.1
+  | inr found ↦ subst (Says c pid) (sym found.1) (λ no_turn. no_turn found.0.node found.0.from found.2.first found.2.there found.2.begins)
+]
 
 -- ---- whether the nodes are ordered
 

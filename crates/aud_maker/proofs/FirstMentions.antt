@@ -28,23 +28,13 @@ gained pids before [] same = sym (append-nil pids)
 gained pids before (t ∷ after) same =
     gained (with_mention pids t) (before ++ t ∷ []) after more
     ∙ ap (λ ts. with_mention pids t ++ filter_map (first_mention ts) (numbers_from (length (before ++ t ∷ [])) (length after))) (append_assoc before (t ∷ []) after)
-    ∙ ap (λ n. with_mention pids t ++ filter_map (first_mention all) (numbers_from n (length after))) (length_push before t ∙ add-one (length before))
-    ∙ put (list_any (bytes_eq t) pids)
-    ∙ ap (λ b. pids ++ cons_option (passing (λ _. not b) t) later) (same t ∙ ap (list_any (bytes_eq t)) (sym (take-append_seam before (t ∷ after))))
-    ∙ ap (λ o. pids ++ cons_option (option_and_then (passing (λ pid. not (list_any (bytes_eq pid) (take (length before) all)))) o) later) (sym (at-front before after t))
+    ∙ grind (arith, length_push before t, add-one (length before), same t, take-append_seam before (t ∷ after), at-front before after t, append_assoc pids (t ∷ []) later)
   where
-    all : List Text
-    all = before ++ t ∷ after
-
     later : List Text
-    later = filter_map (first_mention all) (numbers_from (suc (length before)) (length after))
+    later = filter_map (first_mention (before ++ t ∷ after)) (numbers_from (suc (length before)) (length after))
 
     more : (q : Text) → list_any (bytes_eq q) (with_mention pids t) ≡ list_any (bytes_eq q) (before ++ t ∷ [])
-    more q = any-mention q t pids ∙ ap (λ b. b || bytes_eq q t) (same q) ∙ sym (list_any-append (bytes_eq q) before (t ∷ []) ∙ ap (λ b. list_any (bytes_eq q) before || b) (or_none (bytes_eq q t)))
-
-    put : (b : Bool) → cond b pids (pids ++ t ∷ []) ++ later ≡ pids ++ cons_option (passing (λ _. not b) t) later
-    put true = refl
-    put false = append_assoc pids (t ∷ []) later
+    more q = grind (arith, any-mention q t pids, same q, list_any-append (bytes_eq q) before (t ∷ []), or_none (bytes_eq q t))
 
 -- the code's list is that of the first mentions
 pub first-mentions : (texts : List Text) → with_mentions [] texts ≡ first_mentions texts

@@ -12,18 +12,12 @@ use Rattle.aud_maker.specs.Private.Mentioned.{with_mention, with_mentions}
 
 -- a text that is there
 pub mention-known : {Y : Type 0} (keys : List (String Y)) (pid : Text) → true ≡ list_any (λ k. bytes_eq pid (string_bytes k)) keys → map string_bytes keys ≡ with_mention (map string_bytes keys) pid
-mention-known keys pid known =
-    sym (ap (λ b. cond b (map string_bytes keys) (map string_bytes keys ++ pid ∷ [])) (any-map (bytes_eq pid) string_bytes keys ∙ sym known))
+mention-known keys pid known = grind (arith, any-map (bytes_eq pid) string_bytes keys)
 
 -- one that isn't
 pub mention-new : {Y : Type 0} (keys new : List (String Y)) (owned : String Y) (pid : Text) → string_bytes owned ≡ pid → false ≡ list_any (λ k. bytes_eq pid (string_bytes k)) keys
     → new ≡ insert_key string_eq keys owned → map string_bytes new ≡ with_mention (map string_bytes keys) pid
-mention-new keys new owned pid is unknown inserted =
-    ap (map string_bytes) inserted
-    ∙ ap (λ b. map string_bytes (cond b keys (keys ++ owned ∷ []))) (ap (λ t. list_any (λ k. bytes_eq t (string_bytes k)) keys) is ∙ sym unknown)
-    ∙ map-append string_bytes keys (owned ∷ [])
-    ∙ ap (λ t. map string_bytes keys ++ t ∷ []) is
-    ∙ sym (ap (λ b. cond b (map string_bytes keys) (map string_bytes keys ++ pid ∷ [])) (any-map (bytes_eq pid) string_bytes keys ∙ sym unknown))
+mention-new keys new owned pid is unknown inserted = grind (arith, any-map (bytes_eq pid) string_bytes keys, map-append string_bytes keys (owned ∷ []))
 
 pub with_mentions-append : (pids xs ys : List Text) → with_mentions pids (xs ++ ys) ≡ with_mentions (with_mentions pids xs) ys
 with_mentions-append pids [] ys = refl
@@ -32,9 +26,4 @@ with_mentions-append pids (x ∷ xs) ys = with_mentions-append (with_mention pid
 -- the mentions in one tap more
 pub mentions-more : (of : Tap → List Text) (pids : List Text) (taps : List Tap) (i : ℕ) (tap : Tap) → i < length taps → tap ≡ get_or taps i tap
     → with_mentions (with_mentions pids (flat_map of (take i taps))) (of tap) ≡ with_mentions pids (flat_map of (take (i + 1) taps))
-mentions-more of pids taps i tap h is =
-    sym (with_mentions-append pids (flat_map of (take i taps)) (of tap))
-    ∙ ap (with_mentions pids)
-    (flat_map_more of [] (take i taps) tap
-    ∙ ap (λ t. flat_map of (take i taps ++ t ∷ [])) is
-    ∙ ap (flat_map of) (sym (take_more taps i tap h)))
+mentions-more of pids taps i tap h is = grind (arith, with_mentions-append pids (flat_map of (take i taps)) (of tap), flat_map_more of [] (take i taps) tap, take_more taps i tap h)

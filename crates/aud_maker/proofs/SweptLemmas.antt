@@ -27,19 +27,13 @@ IsAmong turns node current = (number : ℕ) → is_in_turn node number current �
 
 in-one : (turns : List Turn) (node j : ℕ) → IsAmong turns node (slice_get turns j)
 in-one [] node j number e = absurd (false≢true e)
-in-one (t ∷ turns) node zero number e =
-    let both = and_parts (nat_eq t.node node) (nat_le t.from number && nat_lt number t.to) e in
-    let bounds = and_parts (nat_le t.from number) (nat_lt number t.to) both.1 in
-    inl (eqb-true t.node node both.0, leb-true t.from number bounds.0, leb-true (suc number) t.to bounds.1)
+in-one (t ∷ turns) node zero number e = grind arith
 in-one (t ∷ turns) node (suc j) number e = inr (in-one turns node j number e)
 
 among-past : (turns : List Turn) (node : ℕ) (o : Option NodeRec) (current : Option Turn) → IsAmong turns node current → IsAmong turns node (turn_past turns o current)
 among-past turns node None current is = is
-among-past turns node (Some rec) current is = go (number_begun rec)
-  where
-    go : (n : Option ℕ) → IsAmong turns node (turn_or turns n current)
-    go None = is
-    go (Some k) = in-one turns node k
+among-past turns node (Some rec) current is =
+    elim (number_begun rec) as (λ n. IsAmong turns node (turn_or turns n current)) [ None ↦ is | Some k ↦ in-one turns node k ]
 
 in-all : (log : List NodeRec) (turns : List Turn) (node : ℕ) (ns : List ℕ) (current : Option Turn) → IsAmong turns node current → are_in_turns log turns node ns current ≡ true → (n : ℕ) → Contains ns n → StandsIn node n turns
 in-all log turns node [] current is all n here = absurd (contains-none n here)

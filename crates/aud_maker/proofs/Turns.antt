@@ -74,15 +74,7 @@ rest-count pid k [] zero e h ends with_log = refl
 rest-count pid k [] (suc count) e h ends with_log = absurd (omega arith)
 rest-count pid k (x ∷ xs) zero e h ends with_log = let all = with_log (sym (same_Some ByLog e ends)) in absurd (omega (arith, all))
 rest-count pid k (x ∷ xs) (suc count) e h ends with_log =
-    go (kind pid k x) (λ rest. rest-count pid k xs count e (omega arith) rest (λ is. (let all = with_log is in omega (arith, all))))
-  where
-    go : Kind (begins_any_turn pid x) (ends_any_turn pid x) (part_of pid k x) (end_by pid k (Some x)) → (turn_end pid k (take count xs) ≡ Some e → length (rest_of_turn pid xs) ≡ count) → length (rest_of_turn pid (x ∷ xs)) ≡ suc count
-    go (inl (begins, ends_one, part, by)) ih = rw (begins, ends_one) (ap suc (ih (rw part at ends)))
-    go (inr (inl (begins, part))) ih = absurd (none-some e (rw part at ends))
-    go (inr (inr (begins, ends_one, last, by))) ih =
-        let none : min count (length xs) ≡ 0 = sym (length-take count xs) ∙ ap length (last (take count xs) (turn_end pid k (take count xs)) e ends) in
-        let one : 1 ≡ suc count = omega (arith, none, h) in
-        rw (begins, ends_one) one
+    grind (arith, kind pid k x, rest-count pid k xs count e, length-take count xs, with_log, λ (is : e ≡ ByLog). with_log is)
 
 -- none of them begins a turn
 rest-begins : (pid : Text) (recs : List NodeRec) (j : ℕ) (rec : NodeRec) → slice_get recs j ≡ Some rec → j < length (rest_of_turn pid recs) → begins_any_turn pid rec ≡ true → ⊥
