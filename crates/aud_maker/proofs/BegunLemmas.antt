@@ -172,7 +172,7 @@ chain-begun c who turns chain k = go (begun c who.pid k) (slice_get turns k) ref
     go (inr (t, is, r)) o at =
         let (u, there, node, from) = found c who turns chain t.node t.from k r.first r.there r.begins in
         let (later, turn) = first_there c who turns k u chain.are_turns there in
-        let to : u.to ≡ t.to = turn-to c who k u later turn ∙ ap (λ (n : ℕ). suc (n + length (rest_of_turn who.pid (drop (suc n) (node_log c u.node))))) (sym from) ∙ ap (λ n. suc (t.from + length (rest_of_turn who.pid (drop (suc t.from) (node_log c n))))) node ∙ sym r.to_is in
+        let to : u.to ≡ t.to = grind (arith, turn-to c who k u later turn, r.to_is, from, node) in
         is ∙ ap (λ n. Some (turn_with n t.from t.to)) (sym node) ∙ ap (λ n. Some (turn_with u.node n t.to)) from ∙ ap (λ n. Some (turn_with u.node u.from n)) (sym to) ∙ sym there ∙ at
 
 -- two lists that say the same of each place are one
@@ -206,5 +206,5 @@ one_chain c who one turns other same chain more =
 -- one turn more
 pub begun-more : (c : Cluster) (nodes : List ℕ) (pid : Text) (k : ℕ) (turns : List Turn) (t : Turn) → AreBegun c nodes pid k turns → turn_begun c nodes pid (k + length turns) ≡ Some t
     → AreBegun c nodes pid k (turns ++ t ∷ [])
-begun-more c nodes pid k [] t are next = (let e : k + 0 ≡ k = omega arith in (ap (turn_begun c nodes pid) (sym e) ∙ next, tt))
+begun-more c nodes pid k [] t are next = (grind (arith, next), tt)
 begun-more c nodes pid k (u ∷ us) t are next = (let e : suc k + length us ≡ k + suc (length us) = omega arith in (are.0, begun-more c nodes pid (suc k) us t are.1 (ap (turn_begun c nodes pid) e ∙ next)))

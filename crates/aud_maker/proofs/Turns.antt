@@ -47,24 +47,16 @@ alone : (last : End) (recs : List NodeRec) (rest : Option End) (e : End) → end
 alone last [] rest e is = refl
 alone last (rec ∷ recs) rest e is = absurd (none-some e is)
 
-kind-begin : (own : Bool) → Kind own false (cond own Foreign Inner) (Some ByLog)
-kind-begin true = inr (inl (refl, refl))
-kind-begin false = inl (refl, refl, refl, refl)
-
-kind-break : (own same : Bool) → Kind false own (cond own (cond same (Last ByBreak) Foreign) Inner) (cond own (cond same (Some ByBreak) None) (Some ByLog))
-kind-break true true = inr (inr (refl, refl, alone ByBreak, refl))
-kind-break true false = inr (inr (refl, refl, (λ recs rest e is. absurd (none-some e is)), refl))
-kind-break false same = inl (refl, refl, refl, refl)
-
-kind-gone : (own : Bool) → Kind false own (cond own (Last ByGone) Inner) (cond own (Some ByGone) (Some ByLog))
-kind-gone true = inr (inr (refl, refl, alone ByGone, refl))
-kind-gone false = inl (refl, refl, refl, refl)
-
 pub kind : (pid : Text) (k : ℕ) (rec : NodeRec) → Kind (begins_any_turn pid rec) (ends_any_turn pid rec) (part_of pid k rec) (end_by pid k (Some rec))
-kind pid k (Opened other sid nsp) = kind-begin (bytes_eq other pid)
-kind pid k (Back other number) = kind-begin (bytes_eq other pid)
-kind pid k (Broke other number) = kind-break (bytes_eq other pid) (nat_eq number k)
-kind pid k (Gone other) = kind-gone (bytes_eq other pid)
+kind pid k (Opened other sid nsp) = elim (bytes_eq other pid) as (λ own. Kind own false (cond own Foreign Inner) (Some ByLog)) [ true ↦ inr (inl (refl, refl)) | false ↦ inl (refl, refl, refl, refl) ]
+kind pid k (Back other number) = elim (bytes_eq other pid) as (λ own. Kind own false (cond own Foreign Inner) (Some ByLog)) [ true ↦ inr (inl (refl, refl)) | false ↦ inl (refl, refl, refl, refl) ]
+kind pid k (Broke other number) = go (bytes_eq other pid) (nat_eq number k)
+  where
+    go : (own same : Bool) → Kind false own (cond own (cond same (Last ByBreak) Foreign) Inner) (cond own (cond same (Some ByBreak) None) (Some ByLog))
+    go true true = inr (inr (refl, refl, alone ByBreak, refl))
+    go true false = inr (inr (refl, refl, (λ recs rest e is. absurd (none-some e is)), refl))
+    go false same = inl (refl, refl, refl, refl)
+kind pid k (Gone other) = elim (bytes_eq other pid) as (λ own. Kind false own (cond own (Last ByGone) Inner) (cond own (Some ByGone) (Some ByLog))) [ true ↦ inr (inr (refl, refl, alone ByGone, refl)) | false ↦ inl (refl, refl, refl, refl) ]
 kind pid k _ = inl (refl, refl, refl, refl)
 
 -- how many records the rest of a turn has, which ends within these or with the log
