@@ -1,8 +1,8 @@
 -- The received list by place, and the frames of the naming stays, stay after stay.
-use Rattle.std.proofs.Common.{◌≡◌, ℕ, Bool, true, false, not, ◌&&◌, cond, List, [], ◌∷◌, ◌++◌, map, flat_map, refl, sym, ap, ◌∙◌, arith, inl, inr}
+use Rattle.std.proofs.Common.{◌≡◌, ℕ, Bool, true, false, cond, List, [], ◌∷◌, ◌++◌, map, flat_map, refl, sym, ap, ◌∙◌, arith, inl, inr}
 use Rattle.std.specs.List.{list_all}
 use Rattle.std.specs.Str.{bytes_eq}
-use Rattle.std.proofs.lemmas.Bool.{false≢true, cases_Bool, not-false, and_from, and_parts}
+use Rattle.std.proofs.lemmas.Bool.{false≢true, cases_Bool, not-false, and_parts}
 use Rattle.std.proofs.lemmas.List.{append_assoc, append-nil}
 use Rattle.std.proofs.lemmas.List.Elements.{filter-append, filter_map-append}
 use Rattle.std.proofs.lemmas.List.Folds.{list_all-append}
@@ -13,10 +13,10 @@ use Rattle.aud_node.specs.Stream.{Text}
 use Rattle.aud_client.specs.TapPackets.{TapPacket, Connection, tap_packets}
 use Rattle.aud_client.specs.Stays.{namespace, in_namespace, goes_on, whole_stay, stay_after, stay_at, begins_stay, stays_from, stays}
 use Rattle.aud_client.specs.Private.Open.{of_namespace}
-use Rattle.aud_client.specs.StaySeen.{FrameSeen, StaySeen, stay_of, frame_of, frames_of, namespace_of}
+use Rattle.aud_client.specs.StaySeen.{FrameSeen, StaySeen, stay_of, frame_of, frames_of}
 use Rattle.aud_client.specs.Received.{connection_packets, stays_of, stay_names_pid, stays_naming, frames_by_stay, received_from, received_list, transcript_of, are_in_namespace}
 use Rattle.aud_base.proofs.SameText.{same_text, itself_text}
-use Rattle.aud_client.proofs.Places.{ stay_after-same, stay_after-other, begins-in, of_stay_at}
+use Rattle.aud_client.proofs.Places.{stay_after-same, stay_after-other, begins-in, of_stay_at}
 use Rattle.aud_client.proofs.OnePass.{whole_stay-nil}
 use Rattle.aud_client.proofs.Named.{stay_names}
 
@@ -133,15 +133,28 @@ module _ (stream : List StreamRec) (pid n : Text) where
   goes-on : (before : List TapPacket) (q : TapPacket) (r : List TapPacket) → bytes_eq (namespace q) n ≡ true → goes_on (stay_after n before) q ≡ true
       → Goes (before ++ q ∷ []) r → Goes before (q ∷ r)
   goes-on before q r same on ih =
-      grind (arith, stay_after-same n before q, same_text (namespace q) n, here n q r, begins-in n before q same,
-      one_and_rest (stay_names pid (whole_stay (stay_after n before ++ q ∷ []) (in_namespace n r))) q (rest_of (stay_after n before ++ q ∷ []) (in_namespace n r)) (flat_map of_stay (stays_from (before ++ q ∷ []) r)))
+      grind (
+        arith,
+        stay_after-same n before q,
+        same_text (namespace q) n,
+        here n q r,
+        begins-in n before q same,
+        one_and_rest (stay_names pid (whole_stay (stay_after n before ++ q ∷ []) (in_namespace n r))) q (rest_of (stay_after n before ++ q ∷ []) (in_namespace n r)) (flat_map of_stay (stays_from (before ++ q ∷ []) r)),
+      )
 
   -- a packet that begins a stay gives its frame in that stay
   goes-begins : (before : List TapPacket) (q : TapPacket) (r : List TapPacket) → bytes_eq (namespace q) n ≡ true → goes_on (stay_after n before) q ≡ false
       → Goes (before ++ q ∷ []) r → Goes before (q ∷ r)
   goes-begins before q r same starts ih =
-      grind (arith, stay_after-same n before q, same_text (namespace q) n, here n q r, begins-in n before q same, front_and_rest (q ∷ []) (in_namespace n r),
-      one_and_rest (stay_names pid (whole_stay (q ∷ []) (in_namespace n r))) q (rest_of (q ∷ []) (in_namespace n r)) (flat_map of_stay (stays_from (before ++ q ∷ []) r)))
+      grind (
+        arith,
+        stay_after-same n before q,
+        same_text (namespace q) n,
+        here n q r,
+        begins-in n before q same,
+        front_and_rest (q ∷ []) (in_namespace n r),
+        one_and_rest (stay_names pid (whole_stay (q ∷ []) (in_namespace n r))) q (rest_of (q ∷ []) (in_namespace n r)) (flat_map of_stay (stays_from (before ++ q ∷ []) r)),
+      )
 
   -- packet after packet
   goes : (before after : List TapPacket) → list_all fits (stays_from before after) ≡ true → OthersDont before after → Goes before after

@@ -1,17 +1,16 @@
 -- What is kept, through one packet more.
-use Rattle.std.proofs.Common.{◌≡◌, ℕ, ◌+◌, ◌<◌, zero, suc, Bool, true, false, not, ◌&&◌, cond, List, [], ◌∷◌, ◌++◌, length, set, map, get_or, refl, sym, ap, ◌∙◌, arith, length-append, Option, Some, None, option_map, option_and_then, slice_get, is_some, Result, Ok, Err, OnOk}
-use Rattle.std.specs.List.{list_any}
+use Rattle.std.proofs.Common.{◌≡◌, ℕ, ◌+◌, ◌<◌, Bool, true, false, not, cond, List, [], ◌∷◌, ◌++◌, length, set, map, get_or, refl, sym, ap, ◌∙◌, arith, length-append, Option, Some, None, option_map, slice_get, Result, Ok, Err, OnOk}
 use Rattle.std.specs.Str.{bytes_eq}
 use Rattle.std.proofs.lemmas.Bool.{true≢false}
 use Rattle.std.proofs.lemmas.List.{append_assoc, length-map, map-append, map-set}
-use Rattle.std.proofs.lemmas.Option.{same_Some, none-some, slice_get-map, slice_get_read}
+use Rattle.std.proofs.lemmas.Option.{same_Some, slice_get-map, slice_get_read}
 use Rattle.aud_tap.specs.declared.records.StreamRec.{StreamRec}
 use Rattle.aud_client.specs.TapPackets.{TapPacket}
 use Rattle.aud_client.specs.declared.stays.Stays.{Stays}
-use Rattle.aud_client.specs.Stays.{namespace, is_connect, is_disconnect, is_reply, goes_on, stay_after, begins_stay, stays}
+use Rattle.aud_client.specs.Stays.{namespace, is_disconnect, goes_on, stay_after, begins_stay, stays}
 use Rattle.aud_client.specs.Private.Open.{open_place}
 use Rattle.aud_client.specs.StaySeen.{StaySeen, stay_of}
-use Rattle.aud_client.specs.Private.Kept.{KeepsStays, open_at, place_for, unless_replied, empty_stay, grown}
+use Rattle.aud_client.specs.Private.Kept.{KeepsStays, open_at, place_for, empty_stay, grown}
 use Rattle.aud_client.proofs.OnePass.{stays-begins, stays-goes_on}
 use Rattle.aud_client.proofs.Steps.{open-none, open-some, open-begins, open-goes_on}
 use Rattle.aud_client.proofs.Telling.{has_reply, transcript-first, transcript-more}

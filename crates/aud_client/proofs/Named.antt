@@ -1,18 +1,17 @@
 -- Where a packet is a reply that names a session, the reply of a stay does, and the other way round.
-use Rattle.std.proofs.Common.{◌≡◌, ℕ, Bool, true, false, not, ◌&&◌, ◌||◌, cond, List, [], ◌∷◌, ◌++◌, map, flat_map, refl, sym, ap, ◌∙◌, arith, inl, inr}
+use Rattle.std.proofs.Common.{◌≡◌, ℕ, Bool, true, false, ◌||◌, List, [], ◌∷◌, ◌++◌, flat_map, refl, sym, ap, ◌∙◌, arith}
 use Rattle.std.specs.List.{list_any}
-use Rattle.std.proofs.lemmas.Bool.{true≢false, false≢true, cases_Bool, not-false}
+use Rattle.std.proofs.lemmas.Bool.{false≢true}
 use Rattle.std.proofs.lemmas.List.{append_assoc, append-nil}
 use Rattle.std.proofs.lemmas.List.Folds.{list_any-append}
 use Rattle.aud_tap.specs.declared.records.StreamRec.{StreamRec}
 use Rattle.aud_tap.specs.declared.records.ClientRec.{ClientRec}
 use Rattle.aud_node.specs.Stream.{Text}
-use Rattle.aud_base.proofs.Truth.{or_none}
 use Rattle.aud_base.proofs.Lists.{any-map}
 use Rattle.aud_client.specs.TapPackets.{TapPacket, FromServer, FromClient, Connection, tap_packets}
 use Rattle.aud_client.specs.Replies.{reply_names, packet_names, connection_names, tap_names}
-use Rattle.aud_client.specs.Stays.{namespace, is_reply, is_from_server, goes_on, stay_after, begins_stay, stays}
-use Rattle.aud_client.specs.Private.Open.{of_namespace, has_stay}
+use Rattle.aud_client.specs.Stays.{namespace, goes_on, stay_after, begins_stay, stays}
+use Rattle.aud_client.specs.Private.Open.{has_stay}
 use Rattle.aud_client.specs.StaySeen.{reply_at, reply_of, stay_of}
 use Rattle.aud_client.specs.Received.{connection_packets, stays_of, stay_names_pid, transcript_of}
 use Rattle.aud_client.proofs.OnePass.{grow, last_in, last_in-none, last_in-stays, stays-begins, stays-goes_on}

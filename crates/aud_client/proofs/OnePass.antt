@@ -1,10 +1,10 @@
 -- One packet more: it begins a stay at the end of the list, or it goes on with the last one of its namespace.
-use Rattle.std.proofs.Common.{◌≡◌, ℕ, suc, Bool, true, false, not, ◌&&◌, ◌||◌, cond, List, [], ◌∷◌, ◌++◌, length, set, refl, sym, ap, ◌∙◌, arith, inl, inr, Option, Some, None, option_map, slice_get}
+use Rattle.std.proofs.Common.{◌≡◌, ℕ, Bool, true, false, not, ◌&&◌, cond, List, [], ◌∷◌, ◌++◌, length, set, refl, sym, ap, ◌∙◌, arith, inl, inr, Option, Some, None, slice_get}
 use Rattle.std.specs.Str.{bytes_eq}
-use Rattle.std.proofs.lemmas.Bool.{true≢false, false≢true, cases_Bool, not-true, not-false, or_parts}
+use Rattle.std.proofs.lemmas.Bool.{false≢true, cases_Bool, not-true, not-false}
 use Rattle.std.proofs.lemmas.List.{append_assoc, append-nil}
 use Rattle.std.proofs.lemmas.List.Folds.{list_any-append}
-use Rattle.std.proofs.lemmas.Option.{same_Some, none-some}
+use Rattle.std.proofs.lemmas.Option.{none-some}
 use Rattle.aud_client.specs.TapPackets.{TapPacket}
 use Rattle.aud_client.specs.Stays.{namespace, in_namespace, goes_on, whole_stay, stay_after, stay_at, begins_stay, stays_from, stays}
 use Rattle.aud_client.specs.Private.Open.{of_namespace, has_stay, place}
@@ -95,7 +95,6 @@ stays-begins before (q ∷ r) p e = grind (arith, stays-begins (before ++ q ∷ 
       ]
     ]
 
-
 -- a packet that goes on with a stay adds itself to the last one of its namespace
 pub stays-goes_on : (before after : List TapPacket) (p : TapPacket) → begins_stay (before ++ after) p ≡ false → stays_from before (after ++ p ∷ []) ≡ grow (namespace p) p (stays_from before after)
 stays-goes_on before [] p e =
@@ -118,7 +117,6 @@ stays-goes_on before (q ∷ r) p e =
         (stay_at-more before q r p (ap (bytes_eq (namespace p)) same ∙ itself_text (namespace p)) (ap (λ m. has_stay m (stays_from (before ++ q ∷ []) r)) same ∙ none)
         ∙ ap (λ b. cond b (stay_at before q r ++ p ∷ []) (stay_at before q r)) (ap (λ m. goes_on (stay_after m (before ++ q ∷ r)) p) same ∙ not-false _ e))
         ∙ ap (λ ss. (stay_at before q r ++ p ∷ []) ∷ ss) (grow-none (namespace p) p (stays_from (before ++ q ∷ []) r) none)
-
 
 -- ---- the places of the last stays
 

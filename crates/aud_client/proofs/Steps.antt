@@ -1,15 +1,13 @@
 -- What the code keeps, through one packet more.
-use Rattle.std.proofs.Common.{◌≡◌, ℕ, suc, Bool, true, false, not, ◌&&◌, ◌||◌, cond, List, [], ◌∷◌, ◌++◌, length, set, refl, sym, ap, ◌∙◌, arith, Option, Some, None, option_map, slice_get}
+use Rattle.std.proofs.Common.{◌≡◌, ℕ, true, false, ◌&&◌, cond, List, [], ◌∷◌, ◌++◌, length, set, refl, arith, Some, None, slice_get}
 use Rattle.std.specs.List.{list_any}
 use Rattle.std.specs.Str.{bytes_eq}
-use Rattle.std.proofs.lemmas.Bool.{true≢false, false≢true, not-true, not-false}
 use Rattle.std.proofs.lemmas.List.Folds.{list_any-append}
-use Rattle.std.proofs.lemmas.Option.{none-some}
 use Rattle.aud_client.specs.TapPackets.{TapPacket}
-use Rattle.aud_client.specs.Stays.{namespace, is_connect, is_disconnect, is_reply, goes_on, stay_after, begins_stay, stays}
-use Rattle.aud_client.specs.Private.Open.{of_namespace, has_stay, place, open_place}
+use Rattle.aud_client.specs.Stays.{namespace, is_connect, is_disconnect, is_reply, stay_after, begins_stay, stays}
+use Rattle.aud_client.specs.Private.Open.{has_stay, place, open_place}
 use Rattle.aud_base.proofs.SameText.{same_text}
-use Rattle.aud_client.proofs.Places.{ stay_after-same, stay_after-other}
+use Rattle.aud_client.proofs.Places.{stay_after-same, stay_after-other}
 use Rattle.aud_client.proofs.OnePass.{grow, last_in-none, last_in-stays, stays-begins, stays-goes_on, place-grow, place-push, grow-set}
 
 -- no place, no stay

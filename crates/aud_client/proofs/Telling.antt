@@ -1,17 +1,16 @@
 -- What is known of a stay with one packet more.
-use Rattle.std.proofs.Common.{◌≡◌, ℕ, Bool, true, false, not, ◌&&◌, ◌||◌, cond, List, [], ◌∷◌, ◌++◌, refl, sym, ap, ◌∙◌, arith, ◌⊎◌, inl, inr, Option, Some, None, is_some}
+use Rattle.std.proofs.Common.{◌≡◌, ℕ, true, false, ◌&&◌, List, [], ◌∷◌, ◌++◌, refl, sym, ap, ◌∙◌, arith, ◌⊎◌, inl, inr, Option, Some, None, is_some}
 use Rattle.std.specs.List.{list_any, filter_map, cons_option}
-use Rattle.std.specs.Option.{option_or, option_and_then}
-use Rattle.std.proofs.lemmas.Bool.{true≢false, false≢true, cases_Bool, not-true, and_parts}
+use Rattle.std.specs.Option.{option_or}
+use Rattle.std.proofs.lemmas.Bool.{false≢true, cases_Bool}
 use Rattle.std.proofs.lemmas.List.{append-nil}
 use Rattle.std.proofs.lemmas.List.Elements.{filter_map-append}
 use Rattle.aud_tap.specs.declared.records.StreamRec.{StreamRec}
 use Rattle.aud_node.specs.Stream.{Text}
-use Rattle.aud_base.proofs.Truth.{and_true, and_none}
 use Rattle.aud_client.specs.TapPackets.{TapPacket, FromServer, FromClient}
-use Rattle.aud_client.specs.Replies.{ReplySeen, reply_in_value, value_of, is_connect_kind}
-use Rattle.aud_client.specs.Stays.{namespace, is_connect, is_disconnect, is_reply, is_from_server, goes_on}
-use Rattle.aud_client.specs.StaySeen.{AskedSeen, FrameSeen, StaySeen, stay_of, reply_at, reply_of, before_reply, asked_by, ask_of, last_of, asked_of, frame_of}
+use Rattle.aud_client.specs.Replies.{ReplySeen}
+use Rattle.aud_client.specs.Stays.{namespace, is_connect, is_reply, is_from_server, goes_on}
+use Rattle.aud_client.specs.StaySeen.{AskedSeen, FrameSeen, StaySeen, stay_of, reply_at, reply_of, before_reply, ask_of, last_of, asked_of, frame_of}
 use Rattle.aud_client.specs.Private.Kept.{empty_stay, grown}
 
 -- ---- one packet

@@ -100,7 +100,12 @@ impl<'a> Stays<'a> {
     }
 
     /// The packet begins a stay.
-    fn begin(&mut self, stream: &Stream<'_>, c: u64, packet: TapPacket<'a>) -> Result<(), AllocError>
+    fn begin(
+        &mut self,
+        stream: &Stream<'_>,
+        c: u64,
+        packet: TapPacket<'a>,
+    ) -> Result<(), AllocError>
         ensures stays { OnOk result (self.new.stays.items ≡ self.old.stays.items ++ grown stream.now (empty_stay c (namespace (packet_seen packet.entry))) (packet_seen packet.entry) ∷ []) }
         ensures open { OnOk result (BeginsAt (packet_seen packet.entry) (length self.old.stays.items) self.old self.new) }
     {
