@@ -1,5 +1,5 @@
 -- Turns that end as they may are turns.
-use Rattle.std.proofs.Common.{◌≡◌, ◌<◌, ◌≤◌, ◌+◌, ◌-◌, ℕ, zero, suc, true, ◌&&◌, List, [], ◌∷◌, length, take, drop, get_or, Option, Some, None, slice_get, refl, sym, ap, ◌∙◌, add-one, inl, inr, nat_eq, arith, bytes_eq}
+use Rattle.std.proofs.Common.{◌≡◌, ◌<◌, ◌≤◌, ◌+◌, ◌-◌, ℕ, zero, suc, true, List, [], ◌∷◌, length, drop, get_or, Option, Some, None, slice_get, refl, sym, ap, ◌∙◌, add-one, nat_eq, arith, bytes_eq}
 use Rattle.std.proofs.lemmas.Bool.{eq-eqb, eqb-true, false≢true, and_parts, and_from}
 use Rattle.std.proofs.lemmas.List.{at_drop_more}
 use Rattle.std.proofs.lemmas.Option.{same_Some}
@@ -9,15 +9,15 @@ use Rattle.aud_node.specs.Cluster.{Cluster, node_log}
 use Rattle.aud_node.specs.Lists.{between}
 use Rattle.aud_node.specs.OwnPlaces.{own_places}
 use Rattle.aud_node.specs.Stream.{Text}
-use Rattle.aud_node.specs.TurnRecords.{begins_turn, begins_any_turn, ends_any_turn, rest_of_turn}
+use Rattle.aud_node.specs.TurnRecords.{begins_turn, rest_of_turn}
 use Rattle.aud_node.proofs.TurnLemmas.{rest-taken}
-use Rattle.aud_rooms.specs.Turns.{Who, Turn, beginning, End, ByBreak, ByGone, ByLog, part_of, turn_end, MayEnd, AreTurns}
+use Rattle.aud_rooms.specs.Turns.{Who, Turn, beginning, End, ByBreak, ByGone, ByLog, turn_end, MayEnd, AreTurns}
 use Rattle.aud_base.proofs.Lists.{slice_get-drop}
 use Rattle.aud_base.proofs.SameText.{same_text}
 use Rattle.aud_maker.specs.Private.Begun.{AreBegun}
 use Rattle.aud_maker.specs.Private.Opening.{names_opened, opening_of}
 use Rattle.aud_maker.specs.Private.Ended.{end_by, may_end, is_ended, is_empty, are_ended}
-use Rattle.aud_maker.proofs.Turns.{Kind, kind}
+use Rattle.aud_maker.proofs.Turns.{kind}
 use Rattle.aud_maker.proofs.BegunLemmas.{IsIndexed, begun-is}
 
 -- ---- the end of a turn that a log begins

@@ -1,6 +1,6 @@
 -- Which of the faults holds first, and what is made where none does.
-use Rattle.std.proofs.Common.{◌≡◌, ◌<◌, ℕ, suc, Bool, true, false, ◌&&◌, MatchBool, List, [], ◌∷◌, length, Option, Some, None, refl, sym, ap, subst, ◌∙◌, ◌⊎◌, inl, inr, arith}
-use Rattle.std.specs.List.{list_all, Contains, All}
+use Rattle.std.proofs.Common.{◌≡◌, ◌<◌, ℕ, suc, true, false, MatchBool, List, [], ◌∷◌, length, Option, sym, ap, subst, ◌∙◌, inl, inr, arith}
+use Rattle.std.specs.List.{list_all, All}
 use Rattle.std.specs.Option.{is_some}
 use Rattle.std.proofs.lemmas.Bool.{false≢true, and_parts}
 use Rattle.std.proofs.lemmas.List.Elements.{All-nil, All-cons, All-contains}
@@ -18,7 +18,7 @@ use Rattle.aud_maker.specs.Private.Begun.{turn_begun}
 use Rattle.aud_maker.specs.Chain.{HasNoChain}
 use Rattle.aud_maker.specs.Faults.{HasUnordered, HasMakeFault, make_fault_rank, IsFirstMakeFault, HasNoMakeFault}
 use Rattle.aud_maker.specs.Made.{is_turn_ordered}
-use Rattle.aud_maker.proofs.BegunLemmas.{IsBegun, begun, one_chain}
+use Rattle.aud_maker.proofs.BegunLemmas.{begun, one_chain}
 
 -- there is such a turn exactly where a record begins turn 0
 abbrev Says : Cluster → Text → Option Turn → Type 0

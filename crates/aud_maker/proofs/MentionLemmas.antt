@@ -1,5 +1,5 @@
 -- A set of strings that gains a text.
-use Rattle.std.proofs.Common.{◌≡◌, ◌<◌, ◌+◌, ℕ, zero, suc, Bool, true, false, cond, ◌||◌, List, [], ◌∷◌, ◌++◌, length, take, get_or, map, Some, slice_get, refl, sym, ap, ◌∙◌, arith, bytes_eq}
+use Rattle.std.proofs.Common.{◌≡◌, ◌<◌, ◌+◌, ℕ, true, false, List, [], ◌∷◌, ◌++◌, length, take, get_or, map, refl, arith, bytes_eq}
 use Rattle.std.specs.List.{list_any, flat_map}
 use Rattle.std.specs.String.{string_bytes, string_eq}
 use Rattle.std.specs.declared.string.String.{String}

@@ -1,5 +1,5 @@
 -- The records of the turns of a chain.
-use Rattle.std.proofs.Common.{◌≡◌, ◌<◌, ◌≤◌, ◌+◌, ◌-◌, ℕ, zero, suc, Bool, true, false, cond, min, List, [], ◌∷◌, length, take, drop, Option, Some, None, slice_get, refl, sym, ap, subst, ◌∙◌, ◌⊎◌, inl, inr, nat_eq, arith, bytes_eq, length-take, length-drop}
+use Rattle.std.proofs.Common.{◌≡◌, ◌<◌, ◌≤◌, ◌+◌, ◌-◌, ℕ, zero, suc, Bool, true, false, cond, List, [], ◌∷◌, length, take, drop, Option, Some, None, slice_get, refl, sym, ap, subst, ◌∙◌, ◌⊎◌, inl, inr, nat_eq, arith, bytes_eq, length-take, length-drop}
 use Rattle.std.proofs.lemmas.Bool.{cases_eq, eq-eqb, eqb-true, false≢true, and_parts, and_from}
 use Rattle.std.proofs.lemmas.Option.{same_Some, none-some}
 use Rattle.aud_tap.specs.declared.records.NodeRec.{NodeRec}
@@ -73,7 +73,6 @@ rest-begins : (pid : Text) (recs : List NodeRec) (j : ℕ) (rec : NodeRec) → s
 rest-begins pid [] j rec at h begins = none-some rec at
 rest-begins pid (x ∷ xs) zero rec at h begins = grind arith
 rest-begins pid (x ∷ xs) (suc j) rec at h begins = grind (arith, rest-begins pid xs j rec at)
-
 
 by_log : (c : Cluster) (t : Turn) (later : List Turn) (e : End) → MayEnd c t later e → e ≡ ByLog → t.to ≡ length (node_log c t.node)
 by_log c t later ByBreak may is = cc
