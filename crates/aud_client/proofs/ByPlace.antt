@@ -1,8 +1,8 @@
 -- The received list by place, and the frames of the naming stays, stay after stay.
-use Rattle.std.proofs.Common.{◌≡◌, ℕ, Bool, true, false, not, ◌&&◌, cond, List, [], ◌∷◌, ◌++◌, map, flat_map, refl, sym, ap, ◌∙◌, inl, inr}
+use Rattle.std.proofs.Common.{◌≡◌, ℕ, Bool, true, false, cond, List, [], ◌∷◌, ◌++◌, map, flat_map, refl, sym, ap, ◌∙◌, arith, inl, inr}
 use Rattle.std.specs.List.{list_all}
 use Rattle.std.specs.Str.{bytes_eq}
-use Rattle.std.proofs.lemmas.Bool.{false≢true, cases_Bool, not-false, and_from, and_parts}
+use Rattle.std.proofs.lemmas.Bool.{false≢true, cases_Bool, not-false, and_parts}
 use Rattle.std.proofs.lemmas.List.{append_assoc, append-nil}
 use Rattle.std.proofs.lemmas.List.Elements.{filter-append, filter_map-append}
 use Rattle.std.proofs.lemmas.List.Folds.{list_all-append}
@@ -13,9 +13,10 @@ use Rattle.aud_node.specs.Stream.{Text}
 use Rattle.aud_client.specs.TapPackets.{TapPacket, Connection, tap_packets}
 use Rattle.aud_client.specs.Stays.{namespace, in_namespace, goes_on, whole_stay, stay_after, stay_at, begins_stay, stays_from, stays}
 use Rattle.aud_client.specs.Private.Open.{of_namespace}
-use Rattle.aud_client.specs.StaySeen.{FrameSeen, StaySeen, stay_of, frame_of, frames_of, namespace_of}
+use Rattle.aud_client.specs.StaySeen.{FrameSeen, StaySeen, stay_of, frame_of, frames_of}
 use Rattle.aud_client.specs.Received.{connection_packets, stays_of, stay_names_pid, stays_naming, frames_by_stay, received_from, received_list, transcript_of, are_in_namespace}
-use Rattle.aud_client.proofs.Places.{same_text, itself_text, stay_after-same, stay_after-other, begins-in, of_stay_at}
+use Rattle.aud_base.proofs.SameText.{same_text, itself_text}
+use Rattle.aud_client.proofs.Places.{stay_after-same, stay_after-other, begins-in, of_stay_at}
 use Rattle.aud_client.proofs.OnePass.{whole_stay-nil}
 use Rattle.aud_client.proofs.Named.{stay_names}
 
@@ -27,12 +28,7 @@ rest_of stay (q ∷ after) = cond (goes_on stay q) (q ∷ rest_of (stay ++ q ∷
 -- a stay is its front and what follows of it
 front_and_rest : (stay after : List TapPacket) → whole_stay stay after ≡ stay ++ rest_of stay after
 front_and_rest stay [] = sym (append-nil stay)
-front_and_rest stay (q ∷ after) = go (front_and_rest (stay ++ q ∷ []) after) (goes_on stay q)
-  where
-    go : whole_stay (stay ++ q ∷ []) after ≡ (stay ++ q ∷ []) ++ rest_of (stay ++ q ∷ []) after → (b : Bool)
-        → cond b (whole_stay (stay ++ q ∷ []) after) stay ≡ stay ++ cond b (q ∷ rest_of (stay ++ q ∷ []) after) []
-    go ih true = ih ∙ append_assoc stay (q ∷ []) (rest_of (stay ++ q ∷ []) after)
-    go ih false = sym (append-nil stay)
+front_and_rest stay (q ∷ after) = grind (arith, front_and_rest (stay ++ q ∷ []) after, append_assoc stay (q ∷ []) (rest_of (stay ++ q ∷ []) after), append-nil stay)
 
 module _ (stream : List StreamRec) (pid n : Text) where
   -- the frames, if they are of a stay that names the session
@@ -105,34 +101,22 @@ module _ (stream : List StreamRec) (pid n : Text) where
       → bytes_eq (namespace q) n ≡ false → stay_names pid (stay_at before q r) ≡ false
   other_dont before q r fit others other = elim (cases_Bool (begins_stay before q)) [
     | inl starts ↦
-        let first : fits (stay_at before q r) ≡ true =
-        (and_parts _ _ (sym (ap (λ b. list_all fits (begin_at b before q r)) starts) ∙ fit)).0 in
-        unfit _ (sym (ap (λ b. cond (stay_names pid (stay_at before q r)) b true) (of_stay_at n before q r starts ∙ other)) ∙ first)
+        unfit _ (sym (ap (λ b. cond (stay_names pid (stay_at before q r)) b true) (of_stay_at n before q r starts ∙ other))
+        ∙ (and_parts _ _ (sym (ap (λ b. list_all fits (begin_at b before q r)) starts) ∙ fit)).0)
     | inr goes ↦ ap (stay_names pid) (sym (stands_open before q r goes)) ∙ others (namespace q) other
   ]
 
   -- the stays that begin later fit too
   fit_after : (before : List TapPacket) (q : TapPacket) (r : List TapPacket) → list_all fits (stays_from before (q ∷ r)) ≡ true
       → list_all fits (stays_from (before ++ q ∷ []) r) ≡ true
-  fit_after before q r fit = go (begins_stay before q) fit
-    where
-      go : (b : Bool) → list_all fits (begin_at b before q r) ≡ true → list_all fits (stays_from (before ++ q ∷ []) r) ≡ true
-      go true e = (and_parts _ _ e).1
-      go false e = e
+  fit_after before q r fit =
+      elim (begins_stay before q) as (λ b. list_all fits (begin_at b before q r) ≡ true → list_all fits (stays_from (before ++ q ∷ []) r) ≡ true) [ true ↦ λ e. (and_parts _ _ e).1 | false ↦ λ e. e ] fit
 
   -- after the packet, too, no stay open in another namespace names the session
   others_after : (before : List TapPacket) (q : TapPacket) (r : List TapPacket) → list_all fits (stays_from before (q ∷ r)) ≡ true → OthersDont before (q ∷ r)
       → OthersDont (before ++ q ∷ []) r
-  others_after before q r fit others m other = elim (cases_Bool (bytes_eq (namespace q) m)) [
-    | inl is ↦
-        let same = same_text (namespace q) m is in
-        ap (λ k. stay_names pid (whole_stay (stay_after k (before ++ q ∷ [])) (in_namespace k r))) (sym same)
-        ∙ other_dont before q r fit others (ap (λ k. bytes_eq k n) same ∙ other)
-    | inr not ↦
-        ap (λ s. stay_names pid (whole_stay s (in_namespace m r))) (stay_after-other m before q not)
-        ∙ ap (λ l. stay_names pid (whole_stay (stay_after m before) l)) (sym (elsewhere m q r not))
-        ∙ others m other
-  ]
+  others_after before q r fit others m other =
+      grind (arith, other_dont before q r fit others, same_text (namespace q) m, stay_after-other m before q, elsewhere m q r, others m other)
 
   -- ---- the packet in front of those after
 
@@ -143,76 +127,34 @@ module _ (stream : List StreamRec) (pid n : Text) where
   -- a packet of another namespace gives nothing
   goes-other : (before : List TapPacket) (q : TapPacket) (r : List TapPacket) → bytes_eq (namespace q) n ≡ false
       → stay_names pid (stay_at before q r) ≡ false → Goes (before ++ q ∷ []) r → Goes before (q ∷ r)
-  goes-other before q r other names_not ih =
-      ap (λ b. if_named b (q ∷ []) ++ received_from stream pid (before ++ q ∷ []) r) names_not
-      ∙ ih
-      ∙ ap (λ s. from_open s (in_namespace n r) ++ flat_map of_stay (stays_from (before ++ q ∷ []) r)) (stay_after-other n before q other)
-      ∙ ap (λ l. from_open (stay_after n before) l ++ flat_map of_stay (stays_from (before ++ q ∷ []) r)) (sym (elsewhere n q r other))
-      ∙ ap (λ l. from_open (stay_after n before) (in_namespace n (q ∷ r)) ++ l) (sym (dropped (begins_stay before q)))
-    where
-      dropped : (b : Bool) → flat_map of_stay (begin_at b before q r) ≡ flat_map of_stay (stays_from (before ++ q ∷ []) r)
-      dropped true = ap (λ b. if_named b (stay_at before q r) ++ flat_map of_stay (stays_from (before ++ q ∷ []) r)) names_not
-      dropped false = refl
+  goes-other before q r other names_not ih = grind (arith, stay_after-other n before q, elsewhere n q r)
 
   -- a packet that goes on with the open stay gives its frame there
   goes-on : (before : List TapPacket) (q : TapPacket) (r : List TapPacket) → bytes_eq (namespace q) n ≡ true → goes_on (stay_after n before) q ≡ true
       → Goes (before ++ q ∷ []) r → Goes before (q ∷ r)
   goes-on before q r same on ih =
-      ap (λ s. if_named (stay_names pid s) (q ∷ []) ++ received_from stream pid (before ++ q ∷ []) r) at
-      ∙ ap (λ l. if_named (stay_names pid (whole_stay longer (in_namespace n r))) (q ∷ []) ++ l)
-      (ih ∙ ap (λ s. from_open s (in_namespace n r) ++ later) grows)
-      ∙ one_and_rest (stay_names pid (whole_stay longer (in_namespace n r))) q (rest_of longer (in_namespace n r)) later
-      ∙ sym right
-    where
-      longer : List TapPacket
-      longer = stay_after n before ++ q ∷ []
-
-      later : List FrameSeen
-      later = flat_map of_stay (stays_from (before ++ q ∷ []) r)
-
-      grows : stay_after n (before ++ q ∷ []) ≡ longer
-      grows = stay_after-same n before q same ∙ ap (λ b. cond b longer (q ∷ [])) on
-
-      at : stay_at before q r ≡ whole_stay longer (in_namespace n r)
-      at = ap (λ k. whole_stay (stay_after k (before ++ q ∷ [])) (in_namespace k r)) (same_text (namespace q) n same) ∙ ap (λ s. whole_stay s (in_namespace n r)) grows
-
-      right : from_open (stay_after n before) (in_namespace n (q ∷ r)) ++ flat_map of_stay (stays_from before (q ∷ r))
-          ≡ if_named (stay_names pid (whole_stay longer (in_namespace n r))) (q ∷ rest_of longer (in_namespace n r)) ++ later
-      right =
-          ap (λ l. from_open (stay_after n before) l ++ flat_map of_stay (stays_from before (q ∷ r))) (here n q r same)
-          ∙ ap (λ b. if_named (stay_names pid (cond b (whole_stay longer (in_namespace n r)) (stay_after n before))) (cond b (q ∷ rest_of longer (in_namespace n r)) []) ++ flat_map of_stay (stays_from before (q ∷ r))) on
-          ∙ ap (λ b. if_named (stay_names pid (whole_stay longer (in_namespace n r))) (q ∷ rest_of longer (in_namespace n r)) ++ flat_map of_stay (begin_at b before q r))
-          (begins-in n before q same ∙ ap not on)
+      grind (
+        arith,
+        stay_after-same n before q,
+        same_text (namespace q) n,
+        here n q r,
+        begins-in n before q same,
+        one_and_rest (stay_names pid (whole_stay (stay_after n before ++ q ∷ []) (in_namespace n r))) q (rest_of (stay_after n before ++ q ∷ []) (in_namespace n r)) (flat_map of_stay (stays_from (before ++ q ∷ []) r)),
+      )
 
   -- a packet that begins a stay gives its frame in that stay
   goes-begins : (before : List TapPacket) (q : TapPacket) (r : List TapPacket) → bytes_eq (namespace q) n ≡ true → goes_on (stay_after n before) q ≡ false
       → Goes (before ++ q ∷ []) r → Goes before (q ∷ r)
   goes-begins before q r same starts ih =
-      ap (λ s. if_named (stay_names pid s) (q ∷ []) ++ received_from stream pid (before ++ q ∷ []) r) at
-      ∙ ap (λ l. if_named (stay_names pid stay) (q ∷ []) ++ l) (ih ∙ ap (λ s. from_open s (in_namespace n r) ++ later) alone)
-      ∙ one_and_rest (stay_names pid stay) q (rest_of (q ∷ []) (in_namespace n r)) later
-      ∙ ap (λ l. if_named (stay_names pid stay) l ++ later) (sym (front_and_rest (q ∷ []) (in_namespace n r)))
-      ∙ sym right
-    where
-      stay : List TapPacket
-      stay = whole_stay (q ∷ []) (in_namespace n r)
-
-      later : List FrameSeen
-      later = flat_map of_stay (stays_from (before ++ q ∷ []) r)
-
-      alone : stay_after n (before ++ q ∷ []) ≡ q ∷ []
-      alone = stay_after-same n before q same ∙ ap (λ b. cond b (stay_after n before ++ q ∷ []) (q ∷ [])) starts
-
-      at : stay_at before q r ≡ stay
-      at = ap (λ k. whole_stay (stay_after k (before ++ q ∷ [])) (in_namespace k r)) (same_text (namespace q) n same) ∙ ap (λ s. whole_stay s (in_namespace n r)) alone
-
-      right : from_open (stay_after n before) (in_namespace n (q ∷ r)) ++ flat_map of_stay (stays_from before (q ∷ r)) ≡ if_named (stay_names pid stay) stay ++ later
-      right =
-          ap (λ l. from_open (stay_after n before) l ++ flat_map of_stay (stays_from before (q ∷ r))) (here n q r same)
-          ∙ ap (λ b. if_named (stay_names pid (cond b (whole_stay (stay_after n before ++ q ∷ []) (in_namespace n r)) (stay_after n before))) (cond b (q ∷ rest_of (stay_after n before ++ q ∷ []) (in_namespace n r)) []) ++ flat_map of_stay (stays_from before (q ∷ r))) starts
-          ∙ ap (λ l. l ++ flat_map of_stay (stays_from before (q ∷ r))) (nothing (stay_names pid (stay_after n before)))
-          ∙ ap (λ b. flat_map of_stay (begin_at b before q r)) (begins-in n before q same ∙ ap not starts)
-          ∙ ap (λ s. of_stay s ++ later) at
+      grind (
+        arith,
+        stay_after-same n before q,
+        same_text (namespace q) n,
+        here n q r,
+        begins-in n before q same,
+        front_and_rest (q ∷ []) (in_namespace n r),
+        one_and_rest (stay_names pid (whole_stay (q ∷ []) (in_namespace n r))) q (rest_of (q ∷ []) (in_namespace n r)) (flat_map of_stay (stays_from (before ++ q ∷ []) r)),
+      )
 
   -- packet after packet
   goes : (before after : List TapPacket) → list_all fits (stays_from before after) ≡ true → OthersDont before after → Goes before after
@@ -243,31 +185,12 @@ module _ (stream : List StreamRec) (pid n : Text) where
   -- the frames by stay, over what the stays tell
   by_stay : (c : ℕ) (ss : List (List TapPacket)) → flat_map of_stay ss ≡ frames_by_stay pid (map (stay_of stream c) ss)
   by_stay c [] = refl
-  by_stay c (s ∷ ss) = go (stay_names pid s) (by_stay c ss)
-    where
-      go : (b : Bool) → flat_map of_stay ss ≡ frames_by_stay pid (map (stay_of stream c) ss)
-          → if_named b s ++ flat_map of_stay ss
-          ≡ flat_map (λ stay. stay.frames) (cond b (stay_of stream c s ∷ stays_naming pid (map (stay_of stream c) ss)) (stays_naming pid (map (stay_of stream c) ss)))
-      go true ih = ap (λ l. frames_of stream s ++ l) ih
-      go false ih = ih
+  by_stay c (s ∷ ss) = grind (arith, by_stay c ss)
 
   -- where the naming stays are in the namespace, all stays fit
   fit : (c : ℕ) (ss : List (List TapPacket)) → are_in_namespace n (stays_naming pid (map (stay_of stream c) ss)) ≡ true → list_all fits ss ≡ true
   fit c [] e = refl
-  fit c (s ∷ ss) e = go (stay_names pid s) refl e (fit c ss)
-    where
-      in_it : (s : List TapPacket) → stay_names pid s ≡ true → bytes_eq (namespace_of s) n ≡ true → of_namespace n s ≡ true
-      in_it [] names_it e = absurd (false≢true names_it)
-      in_it (p ∷ ps) names_it e = e
-
-      go : (b : Bool) → stay_names pid s ≡ b
-          → are_in_namespace n (cond b (stay_of stream c s ∷ stays_naming pid (map (stay_of stream c) ss)) (stays_naming pid (map (stay_of stream c) ss))) ≡ true
-          → (are_in_namespace n (stays_naming pid (map (stay_of stream c) ss)) ≡ true → list_all fits ss ≡ true)
-          → (cond b (of_namespace n s) true && list_all fits ss) ≡ true
-      go true is e ih =
-          let parts = and_parts (bytes_eq (namespace_of s) n) (are_in_namespace n (stays_naming pid (map (stay_of stream c) ss))) e in
-          and_from _ _ (in_it s is parts.0) (ih parts.1)
-      go false is e ih = ih e
+  fit c (s ∷ ss) e = grind (arith, fit c ss)
 
   -- ---- a tap
 

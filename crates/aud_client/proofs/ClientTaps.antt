@@ -1,13 +1,14 @@
 -- What is kept of the clients' taps, and what their places are.
-use Rattle.std.proofs.Common.{◌≡◌, ℕ, Bool, cond, List, [], ◌∷◌, length, map, refl, ap, ◌∙◌, Option, Some, None, option_map, slice_get}
+use Rattle.std.proofs.Common.{◌≡◌, ℕ, List, length, map, refl, ap, ◌∙◌, Option, Some, None, option_map, slice_get}
 use Rattle.std.specs.List.{filter}
 use Rattle.std.specs.Option.{option_and_then}
 use Rattle.std.proofs.lemmas.List.{length-map}
+use Rattle.std.proofs.lemmas.List.Elements.{filter_agree}
 use Rattle.std.proofs.lemmas.Option.{slice_get-map}
 use Rattle.aud_tap.specs.declared.records.StreamRec.{StreamRec}
 use Rattle.aud_tap.specs.declared.records.ClientRec.{ClientRec}
 use Rattle.aud_tap.specs.declared.taps.Tap.{Tap}
-use Rattle.aud_node.specs.Lists.{numbers_from}
+use Rattle.aud_base.specs.Lists.{numbers_from}
 use Rattle.aud_node.specs.NodeTaps.{client_recs, client_at}
 use Rattle.aud_node.specs.Cluster.{Cluster}
 use Rattle.aud_node.specs.Stream.{Text}
@@ -35,13 +36,9 @@ transcript-naming : (stream : List StreamRec) (pid : Text) (recs : Option (List 
 transcript-naming stream pid None = refl
 transcript-naming stream pid (Some recs) = named_by_replies stream recs pid
 
-filter-alike : (p q : ℕ → Bool) (xs : List ℕ) → ((x : ℕ) → p x ≡ q x) → filter p xs ≡ filter q xs
-filter-alike p q [] alike = refl
-filter-alike p q (x ∷ xs) alike = ap (λ b. cond b (x ∷ filter p xs) (filter p xs)) (alike x) ∙ ap (λ ys. cond (q x) (x ∷ ys) ys) (filter-alike p q xs alike)
-
 -- the places of those that tell of a stay of the session are those of the taps that name it
 pub places_naming : (c : Cluster) (clients : List (Option TranscriptSeen)) (pid : Text) → clients ≡ map (transcript_in c.stream) c.taps → naming_transcripts clients pid ≡ naming_places c.taps pid
 places_naming c clients pid kept =
-    filter-alike (λ place. has_naming_stay pid (flat (slice_get clients place))) (λ place. is_naming pid (client_at c place)) (numbers_from 0 (length clients))
-    (λ place. ap (has_naming_stay pid) (told_at-kept c clients place kept) ∙ transcript-naming c.stream pid (client_at c place))
+    filter_agree (λ place. has_naming_stay pid (flat (slice_get clients place))) (λ place. is_naming pid (client_at c place))
+    (λ place. ap (has_naming_stay pid) (told_at-kept c clients place kept) ∙ transcript-naming c.stream pid (client_at c place)) (numbers_from 0 (length clients))
     ∙ ap (λ n. filter (λ place. is_naming pid (client_at c place)) (numbers_from 0 n)) (ap length kept ∙ length-map c.taps (transcript_in c.stream))

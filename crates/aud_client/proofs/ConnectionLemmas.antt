@@ -1,5 +1,5 @@
 -- A connection's records, with one more at the end.
-use Rattle.std.proofs.Common.{◌≡◌, ◌+◌, ◌<◌, ◌≤◌, ℕ, suc, Bool, true, false, cond, List, [], ◌∷◌, ◌++◌, length, map, flat_map, refl, sym, ap, ◌∙◌, subst, Option, None, Ok, Err, ◌||◌, ◌&&◌, nat_eq, append-nil, append_assoc, length-append, arith}
+use Rattle.std.proofs.Common.{◌≡◌, ◌+◌, ◌<◌, ◌≤◌, ℕ, suc, Bool, false, cond, List, [], ◌∷◌, ◌++◌, length, map, flat_map, refl, sym, ap, ◌∙◌, subst, Option, None, Ok, Err, ◌||◌, ◌&&◌, nat_eq, append-nil, append_assoc, length-append, arith}
 use Rattle.std.specs.List.{list_any, filter}
 use Rattle.std.proofs.lemmas.Grind.{flat_map-append}
 use Rattle.std.proofs.lemmas.Bool.{ne_eqb}
@@ -26,20 +26,17 @@ refused_at number answers = list_any (λ (answer : ℕ × Answer). nat_eq answer
 -- of the record with this number, answers at lesser numbers tell nothing
 received-before : (n : ℕ) (xs ys : List (ℕ × Answer)) → AreBefore n xs → server_packets n (xs ++ ys) ≡ server_packets n ys
 received-before n [] ys h = refl
-received-before n ((place, Ok whole) ∷ xs) ys h =
-    ap (λ b. cond b (FromServer whole ∷ server_packets n (xs ++ ys)) (server_packets n (xs ++ ys))) (differ place n h.0) ∙ received-before n xs ys h.1
+received-before n ((place, Ok whole) ∷ xs) ys h = grind (arith, received-before n xs ys, h.0, h.1)
 received-before n ((place, Err fault) ∷ xs) ys h = received-before n xs ys h.1
 
 refused_at-before : (n : ℕ) (xs ys : List (ℕ × Answer)) → AreBefore n xs → refused_at n (xs ++ ys) ≡ refused_at n ys
 refused_at-before n [] ys h = refl
-refused_at-before n (x ∷ xs) ys h =
-    ap (λ b. (b && is_refused x.1) || refused_at n (xs ++ ys)) (differ x.0 n h.0) ∙ refused_at-before n xs ys h.1
+refused_at-before n (x ∷ xs) ys h = grind (arith, refused_at-before n xs ys, h.0, h.1)
 
 -- nor do those at greater ones
 received-elsewhere : (k n : ℕ) (xs : List Answer) → k < n → server_packets k (at n xs) ≡ []
 received-elsewhere k n [] h = refl
-received-elsewhere k n (Ok whole ∷ xs) h =
-    ap (λ b. cond b (FromServer whole ∷ server_packets k (at n xs)) (server_packets k (at n xs))) (differ_up k n h) ∙ received-elsewhere k n xs h
+received-elsewhere k n (Ok whole ∷ xs) h = grind (arith, received-elsewhere k n xs h)
 received-elsewhere k n (Err fault ∷ xs) h = received-elsewhere k n xs h
 
 refused_at-elsewhere : (k n : ℕ) (xs : List Answer) → k < n → refused_at k (at n xs) ≡ false
@@ -76,35 +73,20 @@ numbered-append first (x ∷ xs) ys =
 packets-other : (n first : ℕ) (xs : List (ℕ × Answer)) (ys : List Answer) (recs : List ClientRec) → first + length recs ≤ n
     → flat_map (packets_at (xs ++ at n ys)) (numbered_records first recs) ≡ flat_map (packets_at xs) (numbered_records first recs)
 packets-other n first xs ys [] h = refl
-packets-other n first xs ys (rec ∷ recs) h =
-    ap (λ r. r ++ flat_map (packets_at (xs ++ at n ys)) (numbered_records (suc first) recs)) (packets_at-same (xs ++ at n ys) xs first rec (received-other first n xs ys (omega arith)))
-    ∙ ap (λ r. packets_at xs (first, rec) ++ r) (packets-other n (suc first) xs ys recs (omega arith))
+packets-other n first xs ys (rec ∷ recs) h = grind (arith, packets_at-same (xs ++ at n ys) xs first rec, received-other first n xs ys, packets-other n (suc first) xs ys recs)
 
 bad-other : (n first : ℕ) (xs : List (ℕ × Answer)) (ys : List Answer) (recs : List ClientRec) → first + length recs ≤ n
     → filter (is_bad (xs ++ at n ys)) (numbered_records first recs) ≡ filter (is_bad xs) (numbered_records first recs)
 bad-other n first xs ys [] h = refl
-bad-other n first xs ys (rec ∷ recs) h =
-    ap (λ b. cond b ((first, rec) ∷ filter (is_bad (xs ++ at n ys)) (numbered_records (suc first) recs)) (filter (is_bad (xs ++ at n ys)) (numbered_records (suc first) recs)))
-    (ap (λ b. is_refused (engine_packets rec) || b) (refused_at-other first n xs ys (omega arith)))
-    ∙ ap (λ r. cond (is_bad xs (first, rec)) ((first, rec) ∷ r) r) (bad-other n (suc first) xs ys recs (omega arith))
+bad-other n first xs ys (rec ∷ recs) h = grind (arith, refused_at-other first n xs ys, bad-other n (suc first) xs ys recs)
 
 abbrev first_bad : (ℕ × ClientRec → Bool) → List (ℕ × ClientRec) → Option ℕ
 first_bad p recs = first_of (map (λ (rec : ℕ × ClientRec). rec.0) (filter p recs))
 
 -- the first bad record, with one record more
 first_bad-last : (p : ℕ × ClientRec → Bool) (recs : List (ℕ × ClientRec)) (last : ℕ × ClientRec) → first_bad p (recs ++ last ∷ []) ≡ bad_or (first_bad p recs) last.0 (p last)
-first_bad-last p [] last = go (p last)
-  where
-    go : (b : Bool) → first_of (map (λ (rec : ℕ × ClientRec). rec.0) (cond b (last ∷ []) [])) ≡ bad_or None last.0 b
-    go true = refl
-    go false = refl
-first_bad-last p (rec ∷ recs) last = go (p rec) (first_bad-last p recs last)
-  where
-    go : (b : Bool) → first_bad p (recs ++ last ∷ []) ≡ bad_or (first_bad p recs) last.0 (p last)
-        → first_of (map (λ (rec : ℕ × ClientRec). rec.0) (cond b (rec ∷ filter p (recs ++ last ∷ [])) (filter p (recs ++ last ∷ []))))
-        ≡ bad_or (first_of (map (λ (rec : ℕ × ClientRec). rec.0) (cond b (rec ∷ filter p recs) (filter p recs)))) last.0 (p last)
-    go true ih = refl
-    go false ih = ih
+first_bad-last p [] last = grind arith
+first_bad-last p (rec ∷ recs) last = grind (arith, first_bad-last p recs last)
 
 -- answers at the next number stand before the one after it
 AreBefore-more : (n m : ℕ) (xs : List (ℕ × Answer)) (ys : List Answer) → n < m → AreBefore n xs → AreBefore m (xs ++ at n ys)

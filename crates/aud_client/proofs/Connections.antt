@@ -1,10 +1,9 @@
 -- One packet more of a connection, and one connection more of a tap.
-use Rattle.std.proofs.Common.{◌≡◌, ℕ, List, [], ◌∷◌, ◌++◌, map, flat_map, refl, sym, ap, ◌∙◌, subst}
-use Rattle.std.proofs.lemmas.List.{append-nil, map-append}
-use Rattle.std.proofs.lemmas.List.Concat.{flat_map-append}
+use Rattle.std.proofs.Common.{◌≡◌, ℕ, List, [], ◌∷◌, ◌++◌, map, refl, sym, ap, ◌∙◌, subst}
+use Rattle.std.proofs.lemmas.List.{map-append}
 use Rattle.aud_tap.specs.declared.records.StreamRec.{StreamRec}
 use Rattle.aud_client.specs.TapPackets.{TapPacket}
-use Rattle.aud_client.specs.Seen.{packet_seen, placed_seen, connection_seen, connections_seen}
+use Rattle.aud_client.specs.Seen.{packet_seen, placed_seen, connection_seen}
 use Rattle.aud_client.specs.declared.connection.Placed.{Placed}
 use Rattle.aud_client.specs.declared.client_tap.Connection.{Connection}
 use Rattle.aud_client.specs.declared.stays.Stays.{Stays}

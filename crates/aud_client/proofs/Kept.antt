@@ -1,17 +1,16 @@
 -- What is kept, through one packet more.
-use Rattle.std.proofs.Common.{◌≡◌, ℕ, ◌+◌, ◌<◌, zero, suc, Bool, true, false, not, ◌&&◌, cond, List, [], ◌∷◌, ◌++◌, length, set, map, get_or, refl, sym, ap, ◌∙◌, arith, length-append, Option, Some, None, option_map, option_and_then, slice_get, is_some, Result, Ok, Err, OnOk}
-use Rattle.std.specs.List.{list_any}
+use Rattle.std.proofs.Common.{◌≡◌, ℕ, ◌+◌, ◌<◌, Bool, true, false, not, cond, List, [], ◌∷◌, ◌++◌, length, set, map, get_or, refl, sym, ap, ◌∙◌, arith, length-append, Option, Some, None, option_map, slice_get, Result, Ok, Err, OnOk}
 use Rattle.std.specs.Str.{bytes_eq}
 use Rattle.std.proofs.lemmas.Bool.{true≢false}
 use Rattle.std.proofs.lemmas.List.{append_assoc, length-map, map-append, map-set}
-use Rattle.std.proofs.lemmas.Option.{same_Some, none-some, slice_get-map, slice_get_read}
+use Rattle.std.proofs.lemmas.Option.{same_Some, slice_get-map, slice_get_read}
 use Rattle.aud_tap.specs.declared.records.StreamRec.{StreamRec}
 use Rattle.aud_client.specs.TapPackets.{TapPacket}
 use Rattle.aud_client.specs.declared.stays.Stays.{Stays}
-use Rattle.aud_client.specs.Stays.{namespace, is_connect, is_disconnect, is_reply, goes_on, stay_after, begins_stay, stays}
+use Rattle.aud_client.specs.Stays.{namespace, is_disconnect, goes_on, stay_after, begins_stay, stays}
 use Rattle.aud_client.specs.Private.Open.{open_place}
 use Rattle.aud_client.specs.StaySeen.{StaySeen, stay_of}
-use Rattle.aud_client.specs.Private.Kept.{KeepsStays, open_at, place_for, unless_replied, empty_stay, grown}
+use Rattle.aud_client.specs.Private.Kept.{KeepsStays, open_at, place_for, empty_stay, grown}
 use Rattle.aud_client.proofs.OnePass.{stays-begins, stays-goes_on}
 use Rattle.aud_client.proofs.Steps.{open-none, open-some, open-begins, open-goes_on}
 use Rattle.aud_client.proofs.Telling.{has_reply, transcript-first, transcript-more}
@@ -38,45 +37,18 @@ module _ (stream : List StreamRec) (c : ℕ) where
       → place_for st p ≡ cond (begins_stay l p) None (option_map (λ k. length done + k) (open_place (namespace p) l))
   place_for-is st done l p keeps = go (open_place (namespace p) l) refl
     where
-      either : (b : Bool) → None ≡ cond {A = Option ℕ} b None None
-      either true = refl
-      either false = refl
-
-      after : (k : ℕ) → open_place (namespace p) l ≡ Some k → (o : Option StaySeen) → o ≡ Some (stay_of stream c (stay_after (namespace p) l))
-          → option_and_then (unless_replied p (length done + k)) o ≡ cond (begins_stay l p) None (Some (length done + k))
-      after k at None e = absurd (none-some _ e)
-      after k at (Some s) e =
-          let same : s ≡ stay_of stream c (stay_after (namespace p) l) = same_Some s (stay_of stream c (stay_after (namespace p) l)) e in
-          let replied : is_some s.reply ≡ list_any is_reply (stay_after (namespace p) l) = ap (λ (t : StaySeen). is_some t.reply) same ∙ has_reply (stay_after (namespace p) l) in
-          ap (λ b. cond (is_connect p && b) None (Some (length done + k))) replied ∙ ap (λ b. cond b None (Some (length done + k))) (sym (open-some l p k at).1)
-
       go : (o : Option ℕ) → open_place (namespace p) l ≡ o → place_for st p ≡ cond (begins_stay l p) None (option_map (λ k. length done + k) o)
-      go None at =
-          ap (option_and_then (λ k. option_and_then (unless_replied p k) (slice_get st.stays.items k))) (keeps.open_are (namespace p) ∙ ap (option_map (λ k. length done + k)) at)
-          ∙ either (begins_stay l p)
-      go (Some k) at =
-          ap (option_and_then (λ k. option_and_then (unless_replied p k) (slice_get st.stays.items k))) (keeps.open_are (namespace p) ∙ ap (option_map (λ k. length done + k)) at)
-          ∙ after k at (slice_get st.stays.items (length done + k)) (told_at st done l p k keeps at)
+      go None at = grind (arith, keeps.open_are (namespace p), at)
+      go (Some k) at = grind (arith, keeps.open_are (namespace p), told_at st done l p k keeps at, open-some l p k at, has_reply (stay_after (namespace p) l))
 
   -- where it finds none, the packet begins a stay
   none-begins : (st : Stays) (done : List StaySeen) (l : List TapPacket) (p : TapPacket) → KeepsStays stream c st done l → place_for st p ≡ None → begins_stay l p ≡ true
-  none-begins st done l p keeps e = go (open_place (namespace p) l) refl (begins_stay l p) refl (sym (place_for-is st done l p keeps) ∙ e)
-    where
-      go : (o : Option ℕ) → open_place (namespace p) l ≡ o → (b : Bool) → begins_stay l p ≡ b → cond b None (option_map (λ k. length done + k) o) ≡ None → begins_stay l p ≡ true
-      go None at b is w = open-none l p at
-      go (Some k) at true is w = is
-      go (Some k) at false is w = absurd (none-some _ (sym w))
+  none-begins st done l p keeps e = grind (arith, place_for-is st done l p keeps, open-none l p)
 
   -- where it finds one, the packet goes on with the stay there
   some-goes_on : (st : Stays) (done : List StaySeen) (l : List TapPacket) (p : TapPacket) (place : ℕ) → KeepsStays stream c st done l → place_for st p ≡ Some place
       → (begins_stay l p ≡ false) × ((k : ℕ) × (open_place (namespace p) l ≡ Some k) × (length done + k ≡ place))
-  some-goes_on st done l p place keeps e = go (open_place (namespace p) l) refl (begins_stay l p) refl (sym (place_for-is st done l p keeps) ∙ e)
-    where
-      go : (o : Option ℕ) → open_place (namespace p) l ≡ o → (b : Bool) → begins_stay l p ≡ b → cond b None (option_map (λ k. length done + k) o) ≡ Some place
-          → (begins_stay l p ≡ false) × ((k : ℕ) × (open_place (namespace p) l ≡ Some k) × (length done + k ≡ place))
-      go o at true is w = absurd (none-some _ w)
-      go None at false is w = absurd (none-some _ w)
-      go (Some k) at false is w = (is, (k, at, same_Some (length done + k) place w))
+  some-goes_on st done l p place keeps e = grind (arith, place_for-is st done l p keeps)
 
   -- a packet that begins a stay
   pub kept-begin : {T E : Type 0} (r : Result T E) (st nw : Stays) (done : List StaySeen) (l : List TapPacket) (p : TapPacket) → place_for st p ≡ None

@@ -1,16 +1,17 @@
 -- Where a packet is a reply that names a session, the reply of a stay does, and the other way round.
-use Rattle.std.proofs.Common.{◌≡◌, ℕ, Bool, true, false, not, ◌&&◌, ◌||◌, cond, List, [], ◌∷◌, ◌++◌, map, flat_map, refl, sym, ap, ◌∙◌, inl, inr}
+use Rattle.std.proofs.Common.{◌≡◌, ℕ, Bool, true, false, ◌||◌, List, [], ◌∷◌, ◌++◌, flat_map, refl, sym, ap, ◌∙◌, arith}
 use Rattle.std.specs.List.{list_any}
-use Rattle.std.proofs.lemmas.Bool.{true≢false, false≢true, cases_Bool, not-false}
+use Rattle.std.proofs.lemmas.Bool.{false≢true}
 use Rattle.std.proofs.lemmas.List.{append_assoc, append-nil}
 use Rattle.std.proofs.lemmas.List.Folds.{list_any-append}
 use Rattle.aud_tap.specs.declared.records.StreamRec.{StreamRec}
 use Rattle.aud_tap.specs.declared.records.ClientRec.{ClientRec}
 use Rattle.aud_node.specs.Stream.{Text}
+use Rattle.aud_base.proofs.Lists.{any-map}
 use Rattle.aud_client.specs.TapPackets.{TapPacket, FromServer, FromClient, Connection, tap_packets}
 use Rattle.aud_client.specs.Replies.{reply_names, packet_names, connection_names, tap_names}
-use Rattle.aud_client.specs.Stays.{namespace, is_reply, is_from_server, goes_on, stay_after, begins_stay, stays}
-use Rattle.aud_client.specs.Private.Open.{of_namespace, has_stay}
+use Rattle.aud_client.specs.Stays.{namespace, goes_on, stay_after, begins_stay, stays}
+use Rattle.aud_client.specs.Private.Open.{has_stay}
 use Rattle.aud_client.specs.StaySeen.{reply_at, reply_of, stay_of}
 use Rattle.aud_client.specs.Received.{connection_packets, stays_of, stay_names_pid, transcript_of}
 use Rattle.aud_client.proofs.OnePass.{grow, last_in, last_in-none, last_in-stays, stays-begins, stays-goes_on}
@@ -32,15 +33,6 @@ or_swap false true false = refl
 or_swap false false true = refl
 or_swap false false false = refl
 
-or_false : (a : Bool) → (a || false) ≡ a
-or_false true = refl
-or_false false = refl
-
--- any of what is made of the elements
-any_map : {X Y : Type 0} (test : Y → Bool) (f : X → Y) (xs : List X) → list_any test (map f xs) ≡ list_any (λ x. test (f x)) xs
-any_map test f [] = refl
-any_map test f (x ∷ xs) = ap (λ b. test (f x) || b) (any_map test f xs)
-
 -- ---- one packet more
 
 -- a packet names the session where its reply does
@@ -54,43 +46,18 @@ alone pid p = ap (reply_names pid) (reply_of-one p) ∙ at_packet pid p
 
 -- a stay with one packet more
 names-more : (pid : Text) (s : List TapPacket) (p : TapPacket) → goes_on s p ≡ true → stay_names pid (s ++ p ∷ []) ≡ (stay_names pid s || packet_names pid p)
-names-more pid s p e = elim (cases_Bool (list_any is_reply s)) [
-  | inl some ↦
-      ap (reply_names pid) (replied s (p ∷ []) some).0
-      ∙ sym (or_false (stay_names pid s))
-      ∙ ap (λ b. stay_names pid s || b)
-      (sym (sym (at_packet pid p) ∙ ap (reply_names pid) (no_reply_at p (ap (λ b. b && is_from_server p) (no_connect s p e some)))))
-  | inr none ↦
-      ap (reply_names pid) (unreplied s (p ∷ []) none).0
-      ∙ alone pid p
-      ∙ ap (λ o. reply_names pid o || packet_names pid p) (sym (none_yet s none))
-]
+names-more pid s p e =
+    grind (arith, replied s (p ∷ []), unreplied s (p ∷ []), none_yet s, at_packet pid p, alone pid p, no_reply_at p, no_connect s p e)
 
 -- any of the stays, where the last one of the namespace grows
 any-grow : (test : List TapPacket → Bool) (b : Bool) (n : Text) (p : TapPacket) (ss : List (List TapPacket)) → has_stay n ss ≡ true
     → test (last_in n ss ++ p ∷ []) ≡ (test (last_in n ss) || b) → list_any test (grow n p ss) ≡ (list_any test ss || b)
 any-grow test b n p [] some e = absurd (false≢true some)
-any-grow test b n p (s ∷ ss) some e = go (any-grow test b n p ss) (of_namespace n s) (has_stay n ss) refl some e
-  where
-    either : (a : Bool) → list_any test (cond (a && false) ((s ++ p ∷ []) ∷ ss) (s ∷ grow n p ss)) ≡ (test s || list_any test (grow n p ss))
-    either true = refl
-    either false = refl
-
-    go : (has_stay n ss ≡ true → test (last_in n ss ++ p ∷ []) ≡ (test (last_in n ss) || b) → list_any test (grow n p ss) ≡ (list_any test ss || b))
-        → (a h : Bool) → has_stay n ss ≡ h → (a || h) ≡ true
-        → test (cond h (last_in n ss) (cond a s []) ++ p ∷ []) ≡ (test (cond h (last_in n ss) (cond a s [])) || b)
-        → list_any test (cond (a && not h) ((s ++ p ∷ []) ∷ ss) (s ∷ grow n p ss)) ≡ ((test s || list_any test ss) || b)
-    go ih a true is some e = either a ∙ ap (λ x. test s || x) (ih is e) ∙ or_assoc (test s) (list_any test ss) b
-    go ih true false is some e = ap (λ x. x || list_any test ss) e ∙ or_swap (test s) b (list_any test ss)
-    go ih false false is some e = absurd (false≢true some)
+any-grow test b n p (s ∷ ss) some e = grind (arith, any-grow test b n p ss)
 
 -- where a packet goes on with a stay, there is one
 has-goes_on : (l : List TapPacket) (p : TapPacket) → begins_stay l p ≡ false → has_stay (namespace p) (stays l) ≡ true
-has-goes_on l p e = elim (cases_Bool (has_stay (namespace p) (stays l))) [
-  | inl some ↦ some
-  | inr none ↦
-      absurd (true≢false (ap (λ s. not (goes_on s p)) (sym (sym (last_in-stays (namespace p) l) ∙ last_in-none (namespace p) (stays l) none)) ∙ e))
-]
+has-goes_on l p e = grind (arith, last_in-stays (namespace p) l, last_in-none (namespace p) (stays l))
 
 -- ---- a connection, and a tap
 
@@ -100,24 +67,8 @@ NamedAlike pid l = list_any (stay_names pid) (stays l) ≡ list_any (packet_name
 
 -- one packet more
 one_more : (pid : Text) (l : List TapPacket) (p : TapPacket) → NamedAlike pid l → NamedAlike pid (l ++ p ∷ [])
-one_more pid l p ih = stay_side ∙ ap (λ b. b || packet_names pid p) ih ∙ sym packet_side
-  where
-    packet_side : list_any (packet_names pid) (l ++ p ∷ []) ≡ (list_any (packet_names pid) l || packet_names pid p)
-    packet_side = list_any-append (packet_names pid) l (p ∷ []) ∙ ap (λ b. list_any (packet_names pid) l || b) (or_false (packet_names pid p))
-
-    stay_side : list_any (stay_names pid) (stays (l ++ p ∷ [])) ≡ (list_any (stay_names pid) (stays l) || packet_names pid p)
-    stay_side = elim (cases_Bool (begins_stay l p)) [
-      | inl starts ↦
-          ap (list_any (stay_names pid)) (stays-begins [] l p starts)
-          ∙ list_any-append (stay_names pid) (stays l) ((p ∷ []) ∷ [])
-          ∙ ap (λ b. list_any (stay_names pid) (stays l) || b) (or_false (stay_names pid (p ∷ [])) ∙ alone pid p)
-      | inr goes ↦
-          ap (list_any (stay_names pid)) (stays-goes_on [] l p goes)
-          ∙ any-grow (stay_names pid) (packet_names pid p) (namespace p) p (stays l) (has-goes_on l p goes)
-          (ap (λ s. stay_names pid (s ++ p ∷ [])) (last_in-stays (namespace p) l)
-          ∙ names-more pid (stay_after (namespace p) l) p (not-false _ goes)
-          ∙ ap (λ s. stay_names pid s || packet_names pid p) (sym (last_in-stays (namespace p) l)))
-    ]
+one_more pid l p ih =
+    grind (arith, ih, list_any-append (packet_names pid) l (p ∷ []), stays-begins [] l p, list_any-append (stay_names pid) (stays l) ((p ∷ []) ∷ []), alone pid p, stays-goes_on [] l p, any-grow (stay_names pid) (packet_names pid p) (namespace p) p (stays l), has-goes_on l p, last_in-stays (namespace p) l, names-more pid (stay_after (namespace p) l) p)
 
 all_more : (pid : Text) (done after : List TapPacket) → NamedAlike pid done → NamedAlike pid (done ++ after)
 all_more pid done [] ih = ap (λ l. list_any (stay_names pid) (stays l)) (append-nil done) ∙ ih ∙ ap (list_any (packet_names pid)) (sym (append-nil done))
@@ -133,9 +84,9 @@ named_alike pid l = all_more pid [] l refl
 -- a connection, as contracts see it
 in_connection : (stream : List StreamRec) (pid : Text) (connection : Connection) → list_any (stay_names_pid pid) (stays_of stream connection) ≡ connection_names pid connection
 in_connection stream pid connection =
-    any_map (stay_names_pid pid) (stay_of stream connection.c) (stays (connection_packets connection))
+    any-map (stay_names_pid pid) (stay_of stream connection.c) (stays (connection_packets connection))
     ∙ named_alike pid (connection_packets connection)
-    ∙ any_map (packet_names pid) (λ (placed : ℕ × TapPacket). placed.1) connection.packets
+    ∙ any-map (packet_names pid) (λ (placed : ℕ × TapPacket). placed.1) connection.packets
 
 -- connection after connection
 in_connections : (stream : List StreamRec) (pid : Text) (connections : List Connection)

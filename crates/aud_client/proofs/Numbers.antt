@@ -1,11 +1,11 @@
 -- What an index keeps of a list: the numbers, ascending, of the elements that pass a test.
-use Rattle.std.proofs.Common.{◌≡◌, ℕ, ◌+◌, ◌<◌, suc, Bool, true, false, cond, List, [], ◌∷◌, ◌++◌, length, map, take, get_or, refl, sym, ap, ◌∙◌, arith, append_assoc, length-append, Option, Some, slice_get}
+use Rattle.std.proofs.Common.{◌≡◌, ℕ, ◌+◌, ◌<◌, suc, Bool, false, List, [], ◌∷◌, ◌++◌, length, map, take, get_or, refl, sym, ap, ◌∙◌, arith, append_assoc, length-append, Option, Some, slice_get}
 use Rattle.std.specs.List.{filter, filter_map, cons_option}
 use Rattle.std.specs.Option.{option_map_or}
 use Rattle.std.proofs.lemmas.List.{take_more, map-append}
 use Rattle.std.proofs.lemmas.List.Elements.{filter_map-append}
 use Rattle.std.proofs.lemmas.Option.{slice_get_read}
-use Rattle.aud_node.specs.Lists.{numbers_from}
+use Rattle.aud_base.specs.Lists.{numbers_from}
 use Rattle.aud_base.specs.Places.{noted}
 use Rattle.aud_base.proofs.NotedPlaces.{noted-next}
 
@@ -21,7 +21,7 @@ module _ {X : Type 0} where
       after ∙ ap (λ o. noted i (p o) old) (sym (slice_get_read xs (length xs) i x refl within is)) ∙ noted-next (λ k. p (slice_get xs k)) i old before
 
   -- the element after the first ones
-  after_these : (xs ys : List X) (y : X) → slice_get (xs ++ y ∷ ys) (length xs) ≡ Some y
+  pub after_these : (xs ys : List X) (y : X) → slice_get (xs ++ y ∷ ys) (length xs) ≡ Some y
   after_these [] ys y = refl
   after_these (x ∷ xs) ys y = after_these xs ys y
 
@@ -30,18 +30,11 @@ module _ {X : Type 0} where
       → filter_map (slice_get all) (filter (λ k. option_map_or p (slice_get all k) false) (numbers_from n (length ys))) ≡ filter p ys
   numbered p all xs [] n e l = refl
   numbered p all xs (y ∷ ys) n e l =
-      ap (λ o. filter_map (slice_get all) (cond (option_map_or p o false) (n ∷ rest) rest)) here
-      ∙ go (numbered p all (xs ++ y ∷ []) ys (suc n) (append_assoc xs (y ∷ []) ys ∙ e) (omega (arith, length-append xs (y ∷ []), l))) (p y)
-    where
-      rest : List ℕ
-      rest = filter (λ k. option_map_or p (slice_get all k) false) (numbers_from (suc n) (length ys))
-
-      here : slice_get all n ≡ Some y
-      here = sym (ap (slice_get all) l) ∙ sym (ap (λ zs. slice_get zs (length xs)) e) ∙ after_these xs ys y
-
-      go : filter_map (slice_get all) rest ≡ filter p ys → (b : Bool) → filter_map (slice_get all) (cond b (n ∷ rest) rest) ≡ cond b (y ∷ filter p ys) (filter p ys)
-      go ih true = ap (λ o. cons_option o (filter_map (slice_get all) rest)) here ∙ ap (λ zs. y ∷ zs) ih
-      go ih false = ih
+      grind (
+        arith,
+        sym (ap (slice_get all) l) ∙ sym (ap (λ zs. slice_get zs (length xs)) e) ∙ after_these xs ys y,
+        numbered p all (xs ++ y ∷ []) ys (suc n) (append_assoc xs (y ∷ []) ys ∙ e) (omega (arith, length-append xs (y ∷ []), l)),
+      )
 
   -- all elements
   pub numbered_all : (p : X → Bool) (xs : List X) → filter_map (slice_get xs) (passing_numbers (λ o. option_map_or p o false) xs (length xs)) ≡ filter p xs

@@ -1,14 +1,15 @@
 -- One packet more: it begins a stay at the end of the list, or it goes on with the last one of its namespace.
-use Rattle.std.proofs.Common.{◌≡◌, ℕ, suc, Bool, true, false, not, ◌&&◌, ◌||◌, cond, List, [], ◌∷◌, ◌++◌, length, set, refl, sym, ap, ◌∙◌, inl, inr, Option, Some, None, option_map, slice_get}
+use Rattle.std.proofs.Common.{◌≡◌, ℕ, Bool, true, false, not, ◌&&◌, cond, List, [], ◌∷◌, ◌++◌, length, set, refl, sym, ap, ◌∙◌, arith, inl, inr, Option, Some, None, slice_get}
 use Rattle.std.specs.Str.{bytes_eq}
-use Rattle.std.proofs.lemmas.Bool.{true≢false, false≢true, cases_Bool, not-true, not-false, or_parts}
+use Rattle.std.proofs.lemmas.Bool.{false≢true, cases_Bool, not-true, not-false}
 use Rattle.std.proofs.lemmas.List.{append_assoc, append-nil}
 use Rattle.std.proofs.lemmas.List.Folds.{list_any-append}
-use Rattle.std.proofs.lemmas.Option.{same_Some, none-some}
+use Rattle.std.proofs.lemmas.Option.{none-some}
 use Rattle.aud_client.specs.TapPackets.{TapPacket}
 use Rattle.aud_client.specs.Stays.{namespace, in_namespace, goes_on, whole_stay, stay_after, stay_at, begins_stay, stays_from, stays}
 use Rattle.aud_client.specs.Private.Open.{of_namespace, has_stay, place}
-use Rattle.aud_client.proofs.Places.{same_text, itself_text, swap_text, in_namespace-same, in_namespace-other, begun, of_stay_at, passed}
+use Rattle.aud_base.proofs.SameText.{same_text, itself_text}
+use Rattle.aud_client.proofs.Places.{swap_text, in_namespace-same, in_namespace-other, begun, of_stay_at, passed}
 
 -- the last stay of the namespace, with the packet
 abbrev pub grow : List ℕ → TapPacket → List (List TapPacket) → List (List TapPacket)
@@ -23,15 +24,11 @@ last_in n (s ∷ ss) = cond (has_stay n ss) (last_in n ss) (cond (of_namespace n
 -- where no stay is in the namespace, none grows, and none is the last
 grow-none : (n : List ℕ) (p : TapPacket) (ss : List (List TapPacket)) → has_stay n ss ≡ false → grow n p ss ≡ ss
 grow-none n p [] e = refl
-grow-none n p (s ∷ ss) e =
-    let parts = or_parts (of_namespace n s) (has_stay n ss) e in
-    ap (λ b. cond (b && not (has_stay n ss)) ((s ++ p ∷ []) ∷ ss) (s ∷ grow n p ss)) parts.0 ∙ ap (λ l. s ∷ l) (grow-none n p ss parts.1)
+grow-none n p (s ∷ ss) e = grind (arith, grow-none n p ss)
 
 pub last_in-none : (n : List ℕ) (ss : List (List TapPacket)) → has_stay n ss ≡ false → last_in n ss ≡ []
 last_in-none n [] e = refl
-last_in-none n (s ∷ ss) e =
-    let parts = or_parts (of_namespace n s) (has_stay n ss) e in
-    ap (λ b. cond b (last_in n ss) (cond (of_namespace n s) s [])) parts.1 ∙ ap (λ b. cond b s []) parts.0
+last_in-none n (s ∷ ss) e = grind (arith, last_in-none n ss)
 
 -- no packet goes on with no stay
 pub whole_stay-nil : (m : List TapPacket) → whole_stay [] m ≡ []
@@ -50,22 +47,8 @@ stay_at-end n before q r e none =
 -- where there is one, it is the stay in which the packets end
 last_in-some : (n : List ℕ) (before after : List TapPacket) → has_stay n (stays_from before after) ≡ true → last_in n (stays_from before after) ≡ stay_after n (before ++ after)
 last_in-some n before [] some = absurd (false≢true some)
-last_in-some n before (q ∷ r) some = go (λ h. last_in-some n (before ++ q ∷ []) r h ∙ ap (stay_after n) (append_assoc before (q ∷ []) r)) (begins_stay before q) refl some
-  where
-    here : (has_stay n (stays_from (before ++ q ∷ []) r) ≡ true → last_in n (stays_from (before ++ q ∷ []) r) ≡ stay_after n (before ++ q ∷ r)) → begins_stay before q ≡ true → (b : Bool) → has_stay n (stays_from (before ++ q ∷ []) r) ≡ b → (of_namespace n (stay_at before q r) || b) ≡ true
-        → cond b (last_in n (stays_from (before ++ q ∷ []) r)) (cond (of_namespace n (stay_at before q r)) (stay_at before q r) []) ≡ stay_after n (before ++ q ∷ r)
-    here next starts true h w = next h
-    here next starts false h w = last (of_namespace n (stay_at before q r)) refl w
-      where
-        last : (b : Bool) → of_namespace n (stay_at before q r) ≡ b → (b || false) ≡ true → cond b (stay_at before q r) [] ≡ stay_after n (before ++ q ∷ r)
-        last true is w = stay_at-end n before q r (sym (of_stay_at n before q r starts) ∙ is) h
-        last false is w = absurd (false≢true w)
-
-    go : (has_stay n (stays_from (before ++ q ∷ []) r) ≡ true → last_in n (stays_from (before ++ q ∷ []) r) ≡ stay_after n (before ++ q ∷ r)) → (b : Bool) → begins_stay before q ≡ b
-        → has_stay n (cond b (stay_at before q r ∷ stays_from (before ++ q ∷ []) r) (stays_from (before ++ q ∷ []) r)) ≡ true
-        → last_in n (cond b (stay_at before q r ∷ stays_from (before ++ q ∷ []) r) (stays_from (before ++ q ∷ []) r)) ≡ stay_after n (before ++ q ∷ r)
-    go next true starts h = here next starts (has_stay n (stays_from (before ++ q ∷ []) r)) refl h
-    go next false starts h = next h
+last_in-some n before (q ∷ r) some =
+    grind (arith, last_in-some n (before ++ q ∷ []) r, append_assoc before (q ∷ []) r, of_stay_at n before q r, stay_at-end n before q r)
 
 -- the last stay of a namespace in the list is the one in which its packets end
 pub last_in-stays : (n : List ℕ) (l : List TapPacket) → last_in n (stays l) ≡ stay_after n l
@@ -99,7 +82,7 @@ pub stays-begins : (before after : List TapPacket) (p : TapPacket) → begins_st
 stays-begins before [] p e =
     let starts : begins_stay before p ≡ true = ap (λ l. begins_stay l p) (sym (append-nil before)) ∙ e in
     ap (λ b. cond b (stay_at before p [] ∷ []) []) starts ∙ ap (λ s. s ∷ []) (begun before p starts)
-stays-begins before (q ∷ r) p e = go (stays-begins (before ++ q ∷ []) r p (ap (λ l. begins_stay l p) (append_assoc before (q ∷ []) r) ∙ e)) (begins_stay before q) refl
+stays-begins before (q ∷ r) p e = grind (arith, stays-begins (before ++ q ∷ []) r p, append_assoc before (q ∷ []) r, same)
   where
     same : stay_at before q (r ++ p ∷ []) ≡ stay_at before q r
     same = elim (cases_Bool (bytes_eq (namespace p) (namespace q))) [
@@ -112,18 +95,13 @@ stays-begins before (q ∷ r) p e = go (stays-begins (before ++ q ∷ []) r p (a
       ]
     ]
 
-    go : stays_from (before ++ q ∷ []) (r ++ p ∷ []) ≡ stays_from (before ++ q ∷ []) r ++ (p ∷ []) ∷ [] → (b : Bool) → begins_stay before q ≡ b
-        → cond b (stay_at before q (r ++ p ∷ []) ∷ stays_from (before ++ q ∷ []) (r ++ p ∷ [])) (stays_from (before ++ q ∷ []) (r ++ p ∷ []))
-        ≡ cond b (stay_at before q r ∷ stays_from (before ++ q ∷ []) r) (stays_from (before ++ q ∷ []) r) ++ (p ∷ []) ∷ []
-    go next true starts = ap (λ s. s ∷ stays_from (before ++ q ∷ []) (r ++ p ∷ [])) same ∙ ap (λ ss. stay_at before q r ∷ ss) next
-    go next false starts = next
-
 -- a packet that goes on with a stay adds itself to the last one of its namespace
 pub stays-goes_on : (before after : List TapPacket) (p : TapPacket) → begins_stay (before ++ after) p ≡ false → stays_from before (after ++ p ∷ []) ≡ grow (namespace p) p (stays_from before after)
 stays-goes_on before [] p e =
     let goes : begins_stay before p ≡ false = ap (λ l. begins_stay l p) (sym (append-nil before)) ∙ e in
     ap (λ b. cond b (stay_at before p [] ∷ []) []) goes
-stays-goes_on before (q ∷ r) p e = go (stays-goes_on (before ++ q ∷ []) r p (ap (λ l. begins_stay l p) (append_assoc before (q ∷ []) r) ∙ e)) (begins_stay before q) refl
+stays-goes_on before (q ∷ r) p e =
+    grind (arith, stays-goes_on (before ++ q ∷ []) r p, append_assoc before (q ∷ []) r, of_stay_at (namespace p) before q r, here (bytes_eq (namespace q) (namespace p)) (has_stay (namespace p) (stays_from (before ++ q ∷ []) r)) refl refl)
   where
     here : (b h : Bool) → bytes_eq (namespace q) (namespace p) ≡ b → has_stay (namespace p) (stays_from (before ++ q ∷ []) r) ≡ h
         → stay_at before q (r ++ p ∷ []) ∷ grow (namespace p) p (stays_from (before ++ q ∷ []) r)
@@ -140,16 +118,6 @@ stays-goes_on before (q ∷ r) p e = go (stays-goes_on (before ++ q ∷ []) r p 
         ∙ ap (λ b. cond b (stay_at before q r ++ p ∷ []) (stay_at before q r)) (ap (λ m. goes_on (stay_after m (before ++ q ∷ r)) p) same ∙ not-false _ e))
         ∙ ap (λ ss. (stay_at before q r ++ p ∷ []) ∷ ss) (grow-none (namespace p) p (stays_from (before ++ q ∷ []) r) none)
 
-    go : stays_from (before ++ q ∷ []) (r ++ p ∷ []) ≡ grow (namespace p) p (stays_from (before ++ q ∷ []) r) → (b : Bool) → begins_stay before q ≡ b
-        → cond b (stay_at before q (r ++ p ∷ []) ∷ stays_from (before ++ q ∷ []) (r ++ p ∷ [])) (stays_from (before ++ q ∷ []) (r ++ p ∷ []))
-        ≡ grow (namespace p) p (cond b (stay_at before q r ∷ stays_from (before ++ q ∷ []) r) (stays_from (before ++ q ∷ []) r))
-    go next true starts =
-        ap (λ ss. stay_at before q (r ++ p ∷ []) ∷ ss) next
-        ∙ here (bytes_eq (namespace q) (namespace p)) (has_stay (namespace p) (stays_from (before ++ q ∷ []) r)) refl refl
-        ∙ ap (λ b. cond (b && not (has_stay (namespace p) (stays_from (before ++ q ∷ []) r))) ((stay_at before q r ++ p ∷ []) ∷ stays_from (before ++ q ∷ []) r) (stay_at before q r ∷ grow (namespace p) p (stays_from (before ++ q ∷ []) r)))
-        (sym (of_stay_at (namespace p) before q r starts))
-    go next false starts = next
-
 -- ---- the places of the last stays
 
 -- a stay that grows stays in its namespace
@@ -159,78 +127,27 @@ of_grown n m p (x ∷ xs) e = refl
 
 has-grow : (n m : List ℕ) (p : TapPacket) (ss : List (List TapPacket)) → has_stay m (grow n p ss) ≡ has_stay m ss
 has-grow n m p [] = refl
-has-grow n m p (s ∷ ss) = go (has-grow n m p ss) (of_namespace n s) (not (has_stay n ss)) refl
-  where
-    go : has_stay m (grow n p ss) ≡ has_stay m ss → (a b : Bool) → of_namespace n s ≡ a → has_stay m (cond (a && b) ((s ++ p ∷ []) ∷ ss) (s ∷ grow n p ss)) ≡ (of_namespace m s || has_stay m ss)
-    go ih true true e = ap (λ x. x || has_stay m ss) (of_grown n m p s e)
-    go ih true false e = ap (λ x. of_namespace m s || x) ih
-    go ih false b e = ap (λ x. of_namespace m s || x) ih
+has-grow n m p (s ∷ ss) = grind (arith, has-grow n m p ss, of_grown n m p s)
 
 -- growing moves no stay
 pub place-grow : (n m : List ℕ) (p : TapPacket) (ss : List (List TapPacket)) → place m (grow n p ss) ≡ place m ss
 place-grow n m p [] = refl
-place-grow n m p (s ∷ ss) = go (place-grow n m p ss) (of_namespace n s) (not (has_stay n ss)) refl
-  where
-    go : place m (grow n p ss) ≡ place m ss → (a b : Bool) → of_namespace n s ≡ a
-        → place m (cond (a && b) ((s ++ p ∷ []) ∷ ss) (s ∷ grow n p ss)) ≡ cond (has_stay m ss) (option_map suc (place m ss)) (cond (of_namespace m s) (Some 0) None)
-    go ih true true e = ap (λ x. cond (has_stay m ss) (option_map suc (place m ss)) (cond x (Some 0) None)) (of_grown n m p s e)
-    go ih true false e =
-        ap (λ x. cond x (option_map suc (place m (grow n p ss))) (cond (of_namespace m s) (Some 0) None)) (has-grow n m p ss)
-        ∙ ap (λ x. cond (has_stay m ss) (option_map suc x) (cond (of_namespace m s) (Some 0) None)) ih
-    go ih false b e =
-        ap (λ x. cond x (option_map suc (place m (grow n p ss))) (cond (of_namespace m s) (Some 0) None)) (has-grow n m p ss)
-        ∙ ap (λ x. cond (has_stay m ss) (option_map suc x) (cond (of_namespace m s) (Some 0) None)) ih
+place-grow n m p (s ∷ ss) = grind (arith, place-grow n m p ss, has-grow n m p ss, of_grown n m p s)
 
 -- a stay at the end is the last one of its namespace
 pub place-push : (m : List ℕ) (p : TapPacket) (ss : List (List TapPacket)) → place m (ss ++ (p ∷ []) ∷ []) ≡ cond (bytes_eq (namespace p) m) (Some (length ss)) (place m ss)
 place-push m p [] = refl
-place-push m p (s ∷ ss) = start ∙ go (bytes_eq (namespace p) m) (place-push m p ss)
-  where
-    start : place m (s ∷ (ss ++ (p ∷ []) ∷ []))
-        ≡ cond (has_stay m ss || (bytes_eq (namespace p) m || false)) (option_map suc (place m (ss ++ (p ∷ []) ∷ []))) (cond (of_namespace m s) (Some 0) None)
-    start = ap (λ x. cond x (option_map suc (place m (ss ++ (p ∷ []) ∷ []))) (cond (of_namespace m s) (Some 0) None)) (list_any-append (of_namespace m) ss ((p ∷ []) ∷ []))
+place-push m p (s ∷ ss) = grind (arith, place-push m p ss, list_any-append (of_namespace m) ss ((p ∷ []) ∷ []))
 
-    go : (b : Bool) → place m (ss ++ (p ∷ []) ∷ []) ≡ cond b (Some (length ss)) (place m ss)
-        → cond (has_stay m ss || (b || false)) (option_map suc (place m (ss ++ (p ∷ []) ∷ []))) (cond (of_namespace m s) (Some 0) None)
-        ≡ cond b (Some (suc (length ss))) (cond (has_stay m ss) (option_map suc (place m ss)) (cond (of_namespace m s) (Some 0) None))
-    go true ih = last (has_stay m ss)
-      where
-        last : (h : Bool) → cond (h || true) (option_map suc (place m (ss ++ (p ∷ []) ∷ []))) (cond (of_namespace m s) (Some 0) None) ≡ Some (suc (length ss))
-        last true = ap (option_map suc) ih
-        last false = ap (option_map suc) ih
-    go false ih = last (has_stay m ss)
-      where
-        last : (h : Bool) → cond (h || false) (option_map suc (place m (ss ++ (p ∷ []) ∷ []))) (cond (of_namespace m s) (Some 0) None)
-            ≡ cond h (option_map suc (place m ss)) (cond (of_namespace m s) (Some 0) None)
-        last true = ap (option_map suc) ih
-        last false = refl
+-- growing is a write at the place, where the last stay of the namespace is
+abbrev pub GrowsAt : List ℕ → TapPacket → List (List TapPacket) → ℕ → Type 0
+GrowsAt n p ss k =
+    (grow n p ss ≡ set ss k (last_in n ss ++ p ∷ [])) × (slice_get ss k ≡ Some (last_in n ss)) × (of_namespace n (last_in n ss) ≡ true)
 
--- growing is a write at the place
-pub grow-set : (n : List ℕ) (p : TapPacket) (ss : List (List TapPacket)) (k : ℕ) → place n ss ≡ Some k
-    → (grow n p ss ≡ set ss k (last_in n ss ++ p ∷ [])) × (slice_get ss k ≡ Some (last_in n ss)) × (of_namespace n (last_in n ss) ≡ true)
+pub grow-set : (n : List ℕ) (p : TapPacket) (ss : List (List TapPacket)) (k : ℕ) → place n ss ≡ Some k → GrowsAt n p ss k
 grow-set n p [] k e = absurd (none-some k e)
-grow-set n p (s ∷ ss) k e = go (grow-set n p ss) (of_namespace n s) (has_stay n ss) refl refl k e
+grow-set n p (s ∷ ss) k e = go (grow-set n p ss) (place n ss) refl
   where
-    go : ((j : ℕ) → place n ss ≡ Some j → (grow n p ss ≡ set ss j (last_in n ss ++ p ∷ [])) × (slice_get ss j ≡ Some (last_in n ss)) × (of_namespace n (last_in n ss) ≡ true))
-        → (a h : Bool) → of_namespace n s ≡ a → has_stay n ss ≡ h → (k : ℕ) → cond h (option_map suc (place n ss)) (cond a (Some 0) None) ≡ Some k
-        → (cond (a && not h) ((s ++ p ∷ []) ∷ ss) (s ∷ grow n p ss) ≡ set (s ∷ ss) k (cond h (last_in n ss) (cond a s []) ++ p ∷ []))
-        × (slice_get (s ∷ ss) k ≡ Some (cond h (last_in n ss) (cond a s [])))
-        × (of_namespace n (cond h (last_in n ss) (cond a s [])) ≡ true)
-    go ih a true is some k e = after (place n ss) refl e a
-      where
-        after : (o : Option ℕ) → place n ss ≡ o → option_map suc o ≡ Some k → (a : Bool)
-            → (cond (a && false) ((s ++ p ∷ []) ∷ ss) (s ∷ grow n p ss) ≡ set (s ∷ ss) k (last_in n ss ++ p ∷ []))
-            × (slice_get (s ∷ ss) k ≡ Some (last_in n ss)) × (of_namespace n (last_in n ss) ≡ true)
-        after None at e a = absurd (none-some k e)
-        after (Some j) at e a =
-            let (grown, here, of) = ih j at in
-            let which : suc j ≡ k = same_Some (suc j) k e in
-            (either a ∙ ap (λ l. s ∷ l) grown ∙ ap (λ i. set (s ∷ ss) i (last_in n ss ++ p ∷ [])) which, ap (slice_get (s ∷ ss)) (sym which) ∙ here, of)
-          where
-            either : (a : Bool) → cond (a && false) ((s ++ p ∷ []) ∷ ss) (s ∷ grow n p ss) ≡ s ∷ grow n p ss
-            either true = refl
-            either false = refl
-    go ih true false is none k e =
-        let which : 0 ≡ k = same_Some 0 k e in
-        (ap (λ i. set (s ∷ ss) i (s ++ p ∷ [])) which, ap (slice_get (s ∷ ss)) (sym which), is)
-    go ih false false is none k e = absurd (none-some k e)
+    go : ((j : ℕ) → place n ss ≡ Some j → GrowsAt n p ss j) → (o : Option ℕ) → place n ss ≡ o → GrowsAt n p (s ∷ ss) k
+    go ih None none = grind arith
+    go ih (Some j) at = grind (arith, ih j at)

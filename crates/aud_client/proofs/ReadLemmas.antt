@@ -15,11 +15,7 @@ use Rattle.aud_client.specs.TapPackets.{is_refused, FromServer, server_packets, 
 use Rattle.aud_client.specs.Private.ConnectionRead.{Reads, ReadsEngine, ReadsRecord, packets_read, wholes_in, bad_or}
 use Rattle.aud_client.specs.declared.connection.Reader.{Reader}
 
--- what follows from what a call gave
-pub OnOk-then : {A E : Type 0} (r : Result A E) (P Q : Type 0) → (P → Q) → OnOk r P → OnOk r Q
-OnOk-then (Ok x) P Q f h = f h
-OnOk-then (Err e) P Q f h = h
-
+-- what follows of two facts that a call gave
 pub OnOk-two : {A E : Type 0} (r : Result A E) (P Q R : Type 0) → (P → Q → R) → OnOk r P → OnOk r Q → OnOk r R
 OnOk-two (Ok x) P Q R f p q = f p q
 OnOk-two (Err e) P Q R f p q = p

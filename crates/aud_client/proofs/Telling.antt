@@ -1,53 +1,38 @@
 -- What is known of a stay with one packet more.
-use Rattle.std.proofs.Common.{◌≡◌, ℕ, Bool, true, false, not, ◌&&◌, ◌||◌, cond, List, [], ◌∷◌, ◌++◌, refl, sym, ap, ◌∙◌, ◌⊎◌, inl, inr, Option, Some, None, is_some}
+use Rattle.std.proofs.Common.{◌≡◌, ℕ, true, false, ◌&&◌, List, [], ◌∷◌, ◌++◌, refl, sym, ap, ◌∙◌, arith, ◌⊎◌, inl, inr, Option, Some, None, is_some}
 use Rattle.std.specs.List.{list_any, filter_map, cons_option}
-use Rattle.std.specs.Option.{option_or, option_and_then}
-use Rattle.std.proofs.lemmas.Bool.{true≢false, false≢true, cases_Bool, not-true, and_parts}
+use Rattle.std.specs.Option.{option_or}
+use Rattle.std.proofs.lemmas.Bool.{false≢true, cases_Bool}
 use Rattle.std.proofs.lemmas.List.{append-nil}
 use Rattle.std.proofs.lemmas.List.Elements.{filter_map-append}
 use Rattle.aud_tap.specs.declared.records.StreamRec.{StreamRec}
 use Rattle.aud_node.specs.Stream.{Text}
 use Rattle.aud_client.specs.TapPackets.{TapPacket, FromServer, FromClient}
-use Rattle.aud_client.specs.Replies.{ReplySeen, reply_in_value, value_of, is_connect_kind}
-use Rattle.aud_client.specs.Stays.{namespace, is_connect, is_disconnect, is_reply, is_from_server, goes_on}
-use Rattle.aud_client.specs.StaySeen.{AskedSeen, FrameSeen, StaySeen, stay_of, reply_at, reply_of, before_reply, asked_by, ask_of, last_of, asked_of, frame_of}
+use Rattle.aud_client.specs.Replies.{ReplySeen}
+use Rattle.aud_client.specs.Stays.{namespace, is_connect, is_reply, is_from_server, goes_on}
+use Rattle.aud_client.specs.StaySeen.{AskedSeen, FrameSeen, StaySeen, stay_of, reply_at, reply_of, before_reply, ask_of, last_of, asked_of, frame_of}
 use Rattle.aud_client.specs.Private.Kept.{empty_stay, grown}
 
 -- ---- one packet
 
--- tests with a constant
-bare : (b : Bool) → (b && true) ≡ b
-bare true = refl
-bare false = refl
-
-never : (b : Bool) → (b && false) ≡ false
-never true = refl
-never false = refl
-
 -- a packet that is no reply tells none
 pub no_reply_at : (p : TapPacket) → is_reply p ≡ false → reply_at p ≡ None
 no_reply_at (FromClient packet) e = refl
-no_reply_at (FromServer whole) e =
-    ap (λ b. cond b (Some (reply_in_value (value_of whole.packet.payload))) None) (sym (bare (is_connect_kind whole.packet.kind)) ∙ e)
+no_reply_at (FromServer whole) e = grind arith
 
 -- a reply tells one
 pub reply_at-some : (p : TapPacket) → is_reply p ≡ true → is_some (reply_at p) ≡ true
-reply_at-some (FromClient packet) e = absurd (false≢true (sym (never (is_connect_kind packet.kind)) ∙ e))
-reply_at-some (FromServer whole) e =
-    ap (λ b. is_some (cond b (Some (reply_in_value (value_of whole.packet.payload))) None)) (sym (bare (is_connect_kind whole.packet.kind)) ∙ e)
+reply_at-some (FromClient packet) e = grind arith
+reply_at-some (FromServer whole) e = grind arith
 
 -- a reply asks for nothing, nor does what is no CONNECT
 no_ask-reply : (p : TapPacket) → is_reply p ≡ true → ask_of p ≡ None
 no_ask-reply (FromServer whole) e = refl
-no_ask-reply (FromClient packet) e = absurd (false≢true (sym (never (is_connect_kind packet.kind)) ∙ e))
+no_ask-reply (FromClient packet) e = grind arith
 
 no_ask : (p : TapPacket) → is_connect p ≡ false → ask_of p ≡ None
 no_ask (FromServer whole) e = refl
-no_ask (FromClient packet) e = go (is_connect_kind packet.kind) e
-  where
-    go : (b : Bool) → b ≡ false → cond b (option_and_then asked_by (value_of packet.payload)) None ≡ None
-    go true e = absurd (true≢false e)
-    go false e = refl
+no_ask (FromClient packet) e = grind arith
 
 -- ---- a stay, and one packet more
 
@@ -68,40 +53,22 @@ last_of-more (x ∷ z ∷ zs) y = last_of-more (z ∷ zs) y
 
 -- of one packet alone
 pub reply_of-one : (p : TapPacket) → reply_of (p ∷ []) ≡ reply_at p
-reply_of-one p = go (is_reply p) refl
-  where
-    go : (b : Bool) → is_reply p ≡ b → cond b (reply_at p) None ≡ reply_at p
-    go true e = refl
-    go false e = sym (no_reply_at p e)
+reply_of-one p = grind (arith, no_reply_at p)
 
 -- a stay has a reply where a packet is one
 pub has_reply : (s : List TapPacket) → is_some (reply_of s) ≡ list_any is_reply s
 has_reply [] = refl
-has_reply (x ∷ xs) = go (has_reply xs) (is_reply x) refl
-  where
-    go : is_some (reply_of xs) ≡ list_any is_reply xs → (b : Bool) → is_reply x ≡ b → is_some (cond b (reply_at x) (reply_of xs)) ≡ (b || list_any is_reply xs)
-    go ih true e = reply_at-some x e
-    go ih false e = ih
+has_reply (x ∷ xs) = grind (arith, has_reply xs, reply_at-some x)
 
 -- after the reply, packets change neither it nor what is in front of it
 pub replied : (s x : List TapPacket) → list_any is_reply s ≡ true → (reply_of (s ++ x) ≡ reply_of s) × (before_reply (s ++ x) ≡ before_reply s)
 replied [] x e = absurd (false≢true e)
-replied (y ∷ ys) x e = go (is_reply y) (replied ys x) e
-  where
-    go : (b : Bool) → (list_any is_reply ys ≡ true → (reply_of (ys ++ x) ≡ reply_of ys) × (before_reply (ys ++ x) ≡ before_reply ys)) → (b || list_any is_reply ys) ≡ true
-        → (cond b (reply_at y) (reply_of (ys ++ x)) ≡ cond b (reply_at y) (reply_of ys)) × (cond b [] (y ∷ before_reply (ys ++ x)) ≡ cond b [] (y ∷ before_reply ys))
-    go true ih e = (refl, refl)
-    go false ih e = let both = ih e in (both.0, ap (λ l. y ∷ l) both.1)
+replied (y ∷ ys) x e = grind (arith, replied ys x)
 
 -- without a reply so far, those of the packets that follow count
 pub unreplied : (s x : List TapPacket) → list_any is_reply s ≡ false → (reply_of (s ++ x) ≡ reply_of x) × (before_reply (s ++ x) ≡ s ++ before_reply x)
 unreplied [] x e = (refl, refl)
-unreplied (y ∷ ys) x e = go (is_reply y) (unreplied ys x) e
-  where
-    go : (b : Bool) → (list_any is_reply ys ≡ false → (reply_of (ys ++ x) ≡ reply_of x) × (before_reply (ys ++ x) ≡ ys ++ before_reply x)) → (b || list_any is_reply ys) ≡ false
-        → (cond b (reply_at y) (reply_of (ys ++ x)) ≡ reply_of x) × (cond b [] (y ∷ before_reply (ys ++ x)) ≡ y ∷ (ys ++ before_reply x))
-    go true ih e = absurd (true≢false e)
-    go false ih e = let both = ih e in (both.0, ap (λ l. y ∷ l) both.1)
+unreplied (y ∷ ys) x e = grind (arith, unreplied ys x)
 
 pub none_yet : (s : List TapPacket) → list_any is_reply s ≡ false → reply_of s ≡ None
 none_yet s none = sym (ap reply_of (append-nil s)) ∙ (unreplied s [] none).0
@@ -112,11 +79,7 @@ asked-more s p (Some x) e = ap last_of (filter_map-append ask_of s (p ∷ []) �
 
 -- a packet after packets without a reply, itself in front of the reply or the reply
 asked-after : (s : List TapPacket) (p : TapPacket) → last_of (filter_map ask_of (s ++ before_reply (p ∷ []))) ≡ option_or (ask_of p) (last_of (filter_map ask_of s))
-asked-after s p = go (is_reply p) refl
-  where
-    go : (b : Bool) → is_reply p ≡ b → last_of (filter_map ask_of (s ++ cond b [] (p ∷ []))) ≡ option_or (ask_of p) (last_of (filter_map ask_of s))
-    go true e = ap (λ l. last_of (filter_map ask_of l)) (append-nil s) ∙ ap (λ o. option_or o (last_of (filter_map ask_of s))) (sym (no_ask-reply p e))
-    go false e = asked-more s p (ask_of p) refl
+asked-after s p = grind (arith, asked-more s p (ask_of p) refl, no_ask-reply p, append-nil s)
 
 -- a stay of one packet
 pub transcript-first : (stream : List StreamRec) (c : ℕ) (p : TapPacket) → stay_of stream c (p ∷ []) ≡ grown stream (empty_stay c (namespace p)) p
@@ -126,10 +89,7 @@ transcript-first stream c p =
 -- after a reply no CONNECT goes on
 pub no_connect : (s : List TapPacket) (p : TapPacket) → goes_on s p ≡ true → list_any is_reply s ≡ true → is_connect p ≡ false
 no_connect [] p e some = absurd (false≢true e)
-no_connect (x ∷ xs) p e some =
-    sym (bare (is_connect p))
-    ∙ ap (λ b. is_connect p && b) (sym some)
-    ∙ not-true (is_connect p && list_any is_reply (x ∷ xs)) ((and_parts (not (list_any is_disconnect (x ∷ xs))) (not (is_connect p && list_any is_reply (x ∷ xs))) e).1)
+no_connect (x ∷ xs) p e some = grind arith
 
 -- a stay with one packet more
 pub transcript-more : (stream : List StreamRec) (c : ℕ) (s : List TapPacket) (p : TapPacket) → goes_on s p ≡ true

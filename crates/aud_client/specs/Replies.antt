@@ -14,7 +14,7 @@ use Rattle.aud_tap.specs.declared.taps.Tap.{Tap}
 use Rattle.aud_sio.specs.declared.kind.PacketKind.{PacketKind}
 use Rattle.aud_sio.specs.declared.kind.PacketKind.TheVariants.{Connect}
 use Rattle.aud_sio.specs.Wholes.{WholeSeen}
-use Rattle.aud_node.specs.Lists.{numbers_from}
+use Rattle.aud_base.specs.Lists.{numbers_from}
 use Rattle.aud_node.specs.Stream.{Text}
 use Rattle.aud_node.specs.NodeTaps.{client_recs}
 use Rattle.aud_client.specs.TapPackets.{TapPacket, FromServer, FromClient, Connection, tap_packets}

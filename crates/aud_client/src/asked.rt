@@ -8,9 +8,8 @@ ghost use Rattle.aud_client.specs.StaySeen.{asked_in, asked_by};
 
 use crate::payload::{text_at, value_of};
 use aud_sio::{Packet, PacketKind};
-use aud_tap::Memory;
 use serde_json::Value;
-use std::alloc::Global;
+use std::alloc::{AllocError, Global};
 use std::marker::Model;
 
 /// The payload of a CONNECT by which a client asks for a session that it had (Socket.IO's documentation, "Connection
@@ -34,7 +33,7 @@ impl Model for Asked {
 }
 
 /// What a packet of the client asks for, if it is a CONNECT that does.
-pub(crate) fn asked_in(alloc: Global, packet: &Packet<'_>) -> Result<Option<Asked>, Memory>
+pub(crate) fn asked_in(alloc: Global, packet: &Packet<'_>) -> Result<Option<Asked>, AllocError>
     ensures { IfOk result (λ asked. asked ≡ asked_in (packet_view packet.now)) }
 {
     match packet.kind {
@@ -44,7 +43,7 @@ pub(crate) fn asked_in(alloc: Global, packet: &Packet<'_>) -> Result<Option<Aske
 }
 
 /// What the payload asks for.
-fn asked_by_payload(alloc: Global, payload: Option<&str>) -> Result<Option<Asked>, Memory>
+fn asked_by_payload(alloc: Global, payload: Option<&str>) -> Result<Option<Asked>, AllocError>
     ensures { IfOk result (λ asked. asked ≡ option_and_then asked_by (value_of (option_map (λ text. text.now) payload.entry))) }
 {
     match value_of(alloc, payload)? {
@@ -54,7 +53,7 @@ fn asked_by_payload(alloc: Global, payload: Option<&str>) -> Result<Option<Asked
 }
 
 /// What the value asks for: an object with a text `pid` does.
-fn asked_by(alloc: Global, json: &Value) -> Result<Option<Asked>, Memory>
+fn asked_by(alloc: Global, json: &Value) -> Result<Option<Asked>, AllocError>
     ensures { IfOk result (λ asked. asked ≡ asked_by (data_of json.now)) }
 {
     let Some(pid) = text_at(json, "pid") else {
@@ -67,7 +66,7 @@ fn asked_by(alloc: Global, json: &Value) -> Result<Option<Asked>, Memory>
 }
 
 /// The text, in memory of its own.
-fn owned(alloc: Global, text: Option<&str>) -> Result<Option<String>, Memory>
+fn owned(alloc: Global, text: Option<&str>) -> Result<Option<String>, AllocError>
     ensures { IfOk result (λ own. option_map string_bytes own ≡ option_copied text.entry) }
 {
     match text {

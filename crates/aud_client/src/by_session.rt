@@ -8,11 +8,10 @@ ghost use Rattle.aud_client.specs.Private.BySession.{stays_numbered};
 
 use crate::stay::Stay;
 use aud_base::Places;
-use aud_tap::Memory;
-use std::alloc::Global;
+use std::alloc::{AllocError, Global};
 
 /// Of each pid, the numbers of the stays whose reply names it. Stays count from 0; each is looked at once.
-pub fn by_session(alloc: Global, stays: &[Stay<'_>]) -> Result<Places, Memory>
+pub fn by_session(alloc: Global, stays: &[Stay<'_>]) -> Result<Places, AllocError>
     ensures { IfOk result (λ kept. (pid : Text) → stays_numbered stays.now (places_of kept pid) ≡ stays_naming pid stays.now) }
 {
     let mut kept = Places::new(alloc);
@@ -23,7 +22,7 @@ pub fn by_session(alloc: Global, stays: &[Stay<'_>]) -> Result<Places, Memory>
 }
 
 /// Notes at the place the sessions that the replies of these stays name.
-pub fn note_stays(naming: &mut Places, place: usize, stays: &[Stay<'_>]) -> Result<(), Memory>
+pub fn note_stays(naming: &mut Places, place: usize, stays: &[Stay<'_>]) -> Result<(), AllocError>
     ensures { OnOk result ((q : Text) → places_of naming.new q ≡ noted place (list_any (stay_names_pid q) stays.now) (places_of naming.old q)) }
 {
     for stay in stays {
@@ -33,7 +32,7 @@ pub fn note_stays(naming: &mut Places, place: usize, stays: &[Stay<'_>]) -> Resu
 }
 
 /// Notes at the place the session that the stay's reply names, if it names one.
-fn note_stay(naming: &mut Places, place: usize, stay: &Stay<'_>) -> Result<(), Memory>
+fn note_stay(naming: &mut Places, place: usize, stay: &Stay<'_>) -> Result<(), AllocError>
     ensures { OnOk result ((q : Text) → places_of naming.new q ≡ noted place (stay_names_pid q stay.now) (places_of naming.old q)) }
 {
     let Some(reply) = &stay.reply else {

@@ -130,10 +130,8 @@ impl<'a> Connections<'a> {
         let reader = read_connection(alloc, first, recs)?;
         self.bad = self.bad.or(reader.bad);
         let packets = reader.packets;
-        match self.list.push(Connection { c, packets }) {
-            Ok(()) => Ok(()),
-            Err(_) => Err(AllocError),
-        }
+        self.list.push(Connection { c, packets })?;
+        Ok(())
     }
 }
 

@@ -10,8 +10,8 @@ use crate::client_tap::ClientTap;
 use crate::indexed_transcript::IndexedTranscript;
 use aud_base::Places;
 use aud_node::{Logs, Stream};
-use aud_tap::{Memory, Records, Tap};
-use std::alloc::Global;
+use aud_tap::{Records, Tap};
+use std::alloc::{AllocError, Global};
 
 /// What the clients' taps tell, each read once.
 #[derive(Drop)]
@@ -24,7 +24,7 @@ pub struct Clients<'a> {
 
 impl<'a> Clients<'a> {
     /// Reads the clients' taps. Their packets are let go, one tap after another.
-    pub fn read(alloc: Global, logs: &Logs<'a>) -> Result<Clients<'a>, Memory>
+    pub fn read(alloc: Global, logs: &Logs<'a>) -> Result<Clients<'a>, AllocError>
         ensures { IfOk result (AreRead logs.now) }
     {
         let transcript = told_of(alloc, logs.stream(), logs.taps())?;
@@ -38,14 +38,12 @@ fn told_of<'a>(
     alloc: Global,
     stream: &Stream<'_>,
     taps: &'a [Tap],
-) -> Result<Vec<Option<IndexedTranscript<'a>>>, Memory>
+) -> Result<Vec<Option<IndexedTranscript<'a>>>, AllocError>
     ensures { IfOk result (λ transcript. transcript.items ≡ map (transcript_in stream.now) taps.now) }
 {
     let mut transcript = Vec::new(alloc);
     for tap in taps {
-        let Ok(()) = transcript.push(transcript_in(alloc, stream, tap)?) else {
-            return Err(Memory);
-        };
+        transcript.push(transcript_in(alloc, stream, tap)?)?;
     }
     Ok(transcript)
 }
@@ -55,7 +53,7 @@ fn transcript_in<'a>(
     alloc: Global,
     stream: &Stream<'_>,
     tap: &'a Tap,
-) -> Result<Option<IndexedTranscript<'a>>, Memory>
+) -> Result<Option<IndexedTranscript<'a>>, AllocError>
     ensures { IfOk result (λ transcript. transcript ≡ transcript_in stream.now tap.now) }
 {
     match &tap.records {
@@ -69,7 +67,7 @@ fn transcript_in<'a>(
 }
 
 /// Of each pid, the places of those that tell of a stay whose reply names it.
-fn naming_of(alloc: Global, clients: &[Option<IndexedTranscript<'_>>]) -> Result<Places, Memory>
+fn naming_of(alloc: Global, clients: &[Option<IndexedTranscript<'_>>]) -> Result<Places, AllocError>
     ensures { IfOk result (λ naming. (pid : Text) → places_of naming pid ≡ naming_transcripts clients.now pid) }
 {
     let mut naming = Places::new(alloc);
@@ -84,7 +82,7 @@ fn note_client(
     naming: &mut Places,
     place: usize,
     transcript: Option<&IndexedTranscript<'_>>,
-) -> Result<(), Memory>
+) -> Result<(), AllocError>
     ensures { OnOk result ((q : Text) → places_of naming.new q ≡ noted place (has_naming_stay q (option_copied transcript.entry)) (places_of naming.old q)) }
 {
     match transcript {

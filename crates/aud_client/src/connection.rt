@@ -151,10 +151,8 @@ impl<'a> Reader<'a> {
         ensures assembler { self.new.assembler ≡ self.old.assembler }
         ensures bad { self.new.bad ≡ self.old.bad }
     {
-        match self.packets.push(Placed { number, packet }) {
-            Ok(()) => Ok(()),
-            Err(_) => Err(AllocError),
-        }
+        self.packets.push(Placed { number, packet })?;
+        Ok(())
     }
 
     /// The record doesn't decode.

@@ -11,8 +11,7 @@ use crate::tap::read_transcript;
 use crate::transcript::Transcript;
 use aud_base::Places;
 use aud_node::Stream;
-use aud_tap::Memory;
-use std::alloc::Global;
+use std::alloc::{AllocError, Global};
 use std::marker::Model;
 
 /// What a client's tap tells, and which of its stays name which session: a session then costs its own stays. Seen as
@@ -41,7 +40,7 @@ impl<'a> IndexedTranscript<'a> {
         alloc: Global,
         tap: ClientTap<'a>,
         stream: &Stream<'_>,
-    ) -> Result<IndexedTranscript<'a>, Memory>
+    ) -> Result<IndexedTranscript<'a>, AllocError>
         ensures { IfOk result (λ transcript. transcript ≡ transcript_of stream.now tap.entry) }
     {
         let transcript = read_transcript(alloc, tap, stream)?;
@@ -60,7 +59,7 @@ impl<'a> IndexedTranscript<'a> {
     }
 
     /// The stays whose reply names the session, in the tap's order, lent. No other stay is looked at.
-    pub fn naming<'s>(&'s self, alloc: Global, pid: &str) -> Result<Vec<&'s Stay<'a>>, Memory>
+    pub fn naming<'s>(&'s self, alloc: Global, pid: &str) -> Result<Vec<&'s Stay<'a>>, AllocError>
         ensures { IfOk result (λ naming. map (λ stay. stay.now) naming.items ≡ stays_naming pid.now self.now.stays) }
     {
         stays_at(alloc, &self.transcript.stays, self.by_session.of(pid))
@@ -72,7 +71,7 @@ fn stays_at<'s, 'a>(
     alloc: Global,
     stays: &'s [Stay<'a>],
     numbers: &[usize],
-) -> Result<Vec<&'s Stay<'a>>, Memory>
+) -> Result<Vec<&'s Stay<'a>>, AllocError>
     ensures { IfOk result (λ at. map (λ stay. stay.now) at.items ≡ stays_numbered stays.now numbers.now) }
 {
     let mut at = Vec::new(alloc);
@@ -80,9 +79,7 @@ fn stays_at<'s, 'a>(
         let Some(stay) = stay_at(stays, *number) else {
             continue;
         };
-        let Ok(()) = at.push(stay) else {
-            return Err(Memory);
-        };
+        at.push(stay)?;
     }
     Ok(at)
 }

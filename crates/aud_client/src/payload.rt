@@ -5,12 +5,11 @@ ghost use Rattle.serde_json.specs.View.{view as data_of};
 ghost use Rattle.aud_tap.specs.Json.{text_at};
 ghost use Rattle.aud_client.specs.Replies.{value_of};
 
-use aud_tap::Memory;
 use serde_json::{Category, Value};
-use std::alloc::Global;
+use std::alloc::{AllocError, Global};
 
 /// The value of the payload; none where there is no payload, or it is no JSON text (RFC 8259).
-pub fn value_of(alloc: Global, payload: Option<&str>) -> Result<Option<Value>, Memory>
+pub fn value_of(alloc: Global, payload: Option<&str>) -> Result<Option<Value>, AllocError>
     ensures { IfOk result (λ json. option_map data_of json ≡ value_of (option_map (λ text. text.now) payload.entry)) }
 {
     let Some(text) = payload else {
@@ -19,7 +18,7 @@ pub fn value_of(alloc: Global, payload: Option<&str>) -> Result<Option<Value>, M
     match Value::from_str(alloc, text) {
         Ok(json) => Ok(Some(json)),
         Err(e) => match e.classify() {
-            Category::Memory => Err(Memory),
+            Category::Memory => Err(AllocError),
             _ => Ok(None),
         },
     }

@@ -9,8 +9,8 @@ ghost use Rattle.aud_client.specs.Replies.{naming_places};
 use crate::clients::Clients;
 use crate::indexed_transcript::IndexedTranscript;
 use aud_node::Logs;
-use aud_tap::{Memory, Taps};
-use std::alloc::Global;
+use aud_tap::Taps;
+use std::alloc::{AllocError, Global};
 use std::marker::Model;
 
 /// The taps, lent, with all that was made of them, each read once: the logs of the stream and of the nodes, and what
@@ -35,7 +35,7 @@ impl<'a> Model for Recording<'a> {
 
 impl<'a> Recording<'a> {
     /// Reads the taps. The packets of the clients' taps are let go, one tap after another.
-    pub fn read(alloc: Global, taps: &'a Taps) -> Result<Recording<'a>, Memory>
+    pub fn read(alloc: Global, taps: &'a Taps) -> Result<Recording<'a>, AllocError>
         requires { AreNamedOnce taps.now }
         ensures { IfOk result (λ recording. recording ≡ cluster_of taps.now) }
     {

@@ -6,9 +6,9 @@ ghost use Rattle.aud_client.specs.Replies.{is_connect_kind, pid_in, reply_in, si
 
 use crate::payload::{text_at, value_of};
 use aud_sio::{PacketKind, Whole};
-use aud_tap::{Memory, is_session_id};
+use aud_tap::is_session_id;
 use serde_json::Value;
-use std::alloc::Global;
+use std::alloc::{AllocError, Global};
 use std::marker::Model;
 
 /// What a CONNECT from the server tells.
@@ -32,7 +32,7 @@ impl Model for Reply {
 
 /// The reply that a packet of the server is (Socket.IO protocol 5, "Connection to a namespace"); none where it is no
 /// CONNECT.
-pub fn reply_of(alloc: Global, whole: &Whole<'_>) -> Result<Option<Reply>, Memory>
+pub fn reply_of(alloc: Global, whole: &Whole<'_>) -> Result<Option<Reply>, AllocError>
     ensures { IfOk result (λ reply. reply ≡ reply_in (whole_view whole.now)) }
 {
     if !is_connect_kind(whole.packet.kind) {
@@ -49,7 +49,7 @@ fn is_connect_kind(kind: PacketKind) -> bool
 }
 
 /// What the payload tells.
-fn reply_in_value(alloc: Global, payload: Option<&str>) -> Result<Reply, Memory>
+fn reply_in_value(alloc: Global, payload: Option<&str>) -> Result<Reply, AllocError>
     ensures { IfOk result (λ reply. reply ≡ reply_in_value (value_of (option_map (λ text. text.now) payload.entry))) }
 {
     let Some(json) = value_of(alloc, payload)? else {
@@ -64,7 +64,7 @@ fn reply_in_value(alloc: Global, payload: Option<&str>) -> Result<Reply, Memory>
 }
 
 /// The session that the value names.
-fn pid_in(alloc: Global, json: &Value) -> Result<Option<String>, Memory>
+fn pid_in(alloc: Global, json: &Value) -> Result<Option<String>, AllocError>
     ensures { IfOk result (λ pid. option_map string_bytes pid ≡ pid_in (data_of json.now)) }
 {
     match text_at(json, "pid") {
@@ -74,7 +74,7 @@ fn pid_in(alloc: Global, json: &Value) -> Result<Option<String>, Memory>
 }
 
 /// The `sid` of the value, empty where there is none.
-fn sid_in(alloc: Global, json: &Value) -> Result<String, Memory>
+fn sid_in(alloc: Global, json: &Value) -> Result<String, AllocError>
     ensures { IfOk result (λ sid. string_bytes sid ≡ sid_in (data_of json.now)) }
 {
     match text_at(json, "sid") {

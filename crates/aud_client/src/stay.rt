@@ -19,8 +19,7 @@ use crate::replies::{Reply, reply_of};
 use crate::stays::namespace;
 use aud_node::Stream;
 use aud_sio::{Packet, Whole};
-use aud_tap::Memory;
-use std::alloc::Global;
+use std::alloc::{AllocError, Global};
 use std::marker::Model;
 
 /// What the packets of one stay tell: one connection of a client to a namespace, from its first packet to a
@@ -73,7 +72,7 @@ impl<'a> Stay<'a> {
         stream: &Stream<'_>,
         c: u64,
         packet: TapPacket<'a>,
-    ) -> Result<Stay<'a>, Memory>
+    ) -> Result<Stay<'a>, AllocError>
         ensures { IfOk result (λ stay. stay ≡ grown stream.now (empty_stay c (namespace (packet_seen packet.entry))) (packet_seen packet.entry)) }
     {
         let mut stay = Stay {
@@ -83,10 +82,8 @@ impl<'a> Stay<'a> {
             asked: None,
             frames: Vec::new(alloc),
         };
-        match stay.add(alloc, stream, packet) {
-            Ok(()) => Ok(stay),
-            Err(fault) => Err(fault),
-        }
+        stay.add(alloc, stream, packet)?;
+        Ok(stay)
     }
 
     /// One packet more.
@@ -95,7 +92,7 @@ impl<'a> Stay<'a> {
         alloc: Global,
         stream: &Stream<'_>,
         packet: TapPacket<'a>,
-    ) -> Result<(), Memory>
+    ) -> Result<(), AllocError>
         ensures { OnOk result (self.new ≡ grown stream.now self.old (packet_seen packet.entry)) }
     {
         match packet {
@@ -110,7 +107,7 @@ impl<'a> Stay<'a> {
         alloc: Global,
         stream: &Stream<'_>,
         whole: Whole<'a>,
-    ) -> Result<(), Memory>
+    ) -> Result<(), AllocError>
         ensures { OnOk result (self.new ≡ grown stream.now self.old (FromServer (whole_view whole.entry))) }
     {
         if let Some(reply) = reply_of(alloc, &whole)? {
@@ -120,20 +117,17 @@ impl<'a> Stay<'a> {
     }
 
     /// The frame, if there is one, comes after the others.
-    fn keep(&mut self, frame: Option<Frame<'a>>) -> Result<(), Memory>
+    fn keep(&mut self, frame: Option<Frame<'a>>) -> Result<(), AllocError>
         ensures { OnOk result (self.new ≡ record self.old { frames = self.old.frames ++ cons_option frame.entry [] }) }
     {
-        let Some(frame) = frame else {
-            return Ok(());
-        };
-        match self.frames.push(frame) {
-            Ok(()) => Ok(()),
-            Err(_) => Err(Memory),
+        if let Some(frame) = frame {
+            self.frames.push(frame)?;
         }
+        Ok(())
     }
 
     /// A packet of the client.
-    fn ask(&mut self, alloc: Global, packet: &Packet<'_>) -> Result<(), Memory>
+    fn ask(&mut self, alloc: Global, packet: &Packet<'_>) -> Result<(), AllocError>
         ensures { (stream : List StreamRec) → OnOk result (self.new ≡ grown stream self.old (FromClient (packet_view packet.now))) }
     {
         if let Some(asked) = asked_in(alloc, packet)? {

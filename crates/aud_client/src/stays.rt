@@ -16,7 +16,6 @@ use crate::connection::TapPacket;
 use crate::stay::Stay;
 use aud_node::Stream;
 use aud_sio::{Packet, PacketKind};
-use aud_tap::Memory;
 use std::alloc::{AllocError, Global};
 use std::collections::BTreeMap;
 
@@ -46,7 +45,7 @@ impl<'a> Stays<'a> {
         &mut self,
         stream: &Stream<'_>,
         connection: Connection<'a>,
-    ) -> Result<(), Memory>
+    ) -> Result<(), AllocError>
         ensures { OnOk result (self.new.stays.items ≡ self.old.stays.items ++ stays_of stream.now (connection_seen connection.entry)) }
     {
         let Connection { c, packets } = connection;
@@ -65,7 +64,7 @@ impl<'a> Stays<'a> {
     }
 
     /// The next packet of the connection with this number.
-    fn take(&mut self, stream: &Stream<'_>, c: u64, packet: TapPacket<'a>) -> Result<(), Memory>
+    fn take(&mut self, stream: &Stream<'_>, c: u64, packet: TapPacket<'a>) -> Result<(), AllocError>
         ensures { (done : List StaySeen) (packets : List TapPacketSeen) → KeepsStays stream.now c self.old done packets → OnOk result (KeepsStays stream.now c self.new done (packets ++ packet_seen packet.entry ∷ [])) }
     {
         match self.place_for(&packet) {
@@ -101,27 +100,28 @@ impl<'a> Stays<'a> {
     }
 
     /// The packet begins a stay.
-    fn begin(&mut self, stream: &Stream<'_>, c: u64, packet: TapPacket<'a>) -> Result<(), Memory>
+    fn begin(
+        &mut self,
+        stream: &Stream<'_>,
+        c: u64,
+        packet: TapPacket<'a>,
+    ) -> Result<(), AllocError>
         ensures stays { OnOk result (self.new.stays.items ≡ self.old.stays.items ++ grown stream.now (empty_stay c (namespace (packet_seen packet.entry))) (packet_seen packet.entry) ∷ []) }
         ensures open { OnOk result (BeginsAt (packet_seen packet.entry) (length self.old.stays.items) self.old self.new) }
     {
         let place = self.stays.len();
         self.mark(&packet, place)?;
-        match Stay::begun(self.alloc, stream, c, packet) {
-            Ok(stay) => self.keep(stay),
-            Err(fault) => Err(fault),
-        }
+        let stay = Stay::begun(self.alloc, stream, c, packet)?;
+        self.keep(stay)
     }
 
     /// The stay comes after the others.
-    fn keep(&mut self, stay: Stay<'a>) -> Result<(), Memory>
+    fn keep(&mut self, stay: Stay<'a>) -> Result<(), AllocError>
         ensures stays { OnOk result (self.new.stays.items ≡ self.old.stays.items ++ stay.entry ∷ []) }
         ensures open { (n : Text) → open_at self.new n ≡ open_at self.old n }
     {
-        match self.stays.push(stay) {
-            Ok(()) => Ok(()),
-            Err(_) => Err(Memory),
-        }
+        self.stays.push(stay)?;
+        Ok(())
     }
 
     /// The stay at the place goes on in the packet's namespace, unless the packet ends it.
@@ -144,7 +144,7 @@ impl<'a> Stays<'a> {
         stream: &Stream<'_>,
         place: usize,
         packet: TapPacket<'a>,
-    ) -> Result<(), Memory>
+    ) -> Result<(), AllocError>
         ensures stays { (t : StaySeen) → slice_get self.old.stays.items place ≡ Some t → OnOk result (self.new.stays.items ≡ set self.old.stays.items place (grown stream.now t (packet_seen packet.entry))) }
         ensures open { OnOk result (GoesOn (packet_seen packet.entry) self.old self.new) }
     {
@@ -168,7 +168,7 @@ impl<'a> Stays<'a> {
         stream: &Stream<'_>,
         place: usize,
         packet: TapPacket<'a>,
-    ) -> Result<(), Memory>
+    ) -> Result<(), AllocError>
         ensures stays { (t : StaySeen) → slice_get self.old.stays.items place ≡ Some t → OnOk result (self.new.stays.items ≡ set self.old.stays.items place (grown stream.now t (packet_seen packet.entry))) }
         ensures open { (n : List ℕ) → open_at self.new n ≡ open_at self.old n }
     {

@@ -10,8 +10,7 @@ use crate::stay::Stay;
 use crate::stays::Stays;
 use crate::transcript::Transcript;
 use aud_node::Stream;
-use aud_tap::Memory;
-use std::alloc::Global;
+use std::alloc::{AllocError, Global};
 
 /// The stays of the tap, with the frames that are recoverable in this stream. The packets are let go: what the frames
 /// keep of them is moved out.
@@ -19,7 +18,7 @@ pub fn read_transcript<'a>(
     alloc: Global,
     tap: ClientTap<'a>,
     stream: &Stream<'_>,
-) -> Result<Transcript<'a>, Memory>
+) -> Result<Transcript<'a>, AllocError>
     ensures { IfOk result (λ r. r ≡ transcript_of stream.now tap.entry) }
 {
     let bad = tap.bad();
@@ -33,7 +32,7 @@ fn stays_of<'a>(
     alloc: Global,
     tap: ClientTap<'a>,
     stream: &Stream<'_>,
-) -> Result<Vec<Stay<'a>>, Memory>
+) -> Result<Vec<Stay<'a>>, AllocError>
     ensures { IfOk result (λ stays. stays.items ≡ tap_stays stream.now tap.entry) }
 {
     let mut stays = Stays::new(alloc);

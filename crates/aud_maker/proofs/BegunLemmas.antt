@@ -14,7 +14,7 @@ use Rattle.aud_node.specs.OwnPlaces.{is_none, has_own, own_places}
 use Rattle.aud_node.proofs.TurnLemmas.{after, turn_range-cons, IsWithin, turn_range-within}
 use Rattle.aud_rooms.specs.Turns.{Who, Turn, beginning, HasNoTurn, IsChain}
 use Rattle.aud_rooms.proofs.Members.{contains-none, contains-parts, contains-first, contains-later}
-use Rattle.aud_client.proofs.Places.{same_text, itself_text}
+use Rattle.aud_base.proofs.SameText.{same_text, itself_text}
 use Rattle.aud_maker.specs.Private.Begun.{placed_or, turn_begun, AreBegun, AreAllBegun, BeginsUpTo}
 use Rattle.aud_maker.proofs.Turns.{begins-names, beginning-begins, turn-to, first_there, found}
 
@@ -83,7 +83,12 @@ pub record IsIndexed (log : List NodeRec) (pid : Text) (k from to : ℕ) : Type 
 abbrev pub BeginsNone : List NodeRec → Text → ℕ → Type 0
 BeginsNone log pid k = (i : ℕ) (rec : NodeRec) → slice_get log i ≡ Some rec → begins_turn pid k rec ≡ true → ⊥
 
-indexed : (log : List NodeRec) (pid : Text) (k : ℕ) → ((turn_range log pid k ≡ None) × BeginsNone log pid k) ⊎ ((from : ℕ) × (to : ℕ) × (turn_range log pid k ≡ Some (from, to)) × IsIndexed log pid k from to)
+-- the log begins no such turn, or it begins one
+abbrev MayIndex : List NodeRec → Text → ℕ → Type 0
+MayIndex log pid k =
+    ((turn_range log pid k ≡ None) × BeginsNone log pid k) ⊎ ((from : ℕ) × (to : ℕ) × (turn_range log pid k ≡ Some (from, to)) × IsIndexed log pid k from to)
+
+indexed : (log : List NodeRec) (pid : Text) (k : ℕ) → MayIndex log pid k
 indexed [] pid k = inl (refl, λ i rec at begins. none-some rec at)
 indexed (x ∷ xs) pid k = go (begins_turn pid k x) refl (indexed xs pid k)
   where
@@ -97,9 +102,7 @@ indexed (x ∷ xs) pid k = go (begins_turn pid k x) refl (indexed xs pid k)
     later e none zero rec at begins = false≢true (sym e ∙ ap (begins_turn pid k) (same_Some x rec at) ∙ begins)
     later e none (suc i) rec at begins = none i rec at begins
 
-    go : (b : Bool) → begins_turn pid k x ≡ b
-        → ((turn_range xs pid k ≡ None) × BeginsNone xs pid k) ⊎ ((from : ℕ) × (to : ℕ) × (turn_range xs pid k ≡ Some (from, to)) × IsIndexed xs pid k from to)
-        → ((turn_range (x ∷ xs) pid k ≡ None) × BeginsNone (x ∷ xs) pid k) ⊎ ((from : ℕ) × (to : ℕ) × (turn_range (x ∷ xs) pid k ≡ Some (from, to)) × IsIndexed (x ∷ xs) pid k from to)
+    go : (b : Bool) → begins_turn pid k x ≡ b → MayIndex xs pid k → MayIndex (x ∷ xs) pid k
     go true e rest = inr (0, suc count, step true e, record { first = x; there = refl; parts = refl; begins = e; within = (subst (IsWithin (suc (length xs))) (step true e) (turn_range-within (x ∷ xs) pid k)).1; to_is = omega arith })
     go false e (inl (none, nowhere)) = inl (step false e ∙ ap (after 1) none, later e nowhere)
     go false e (inr (from, to, is, r)) =
@@ -113,18 +116,22 @@ indexed (x ∷ xs) pid k = go (begins_turn pid k x) refl (indexed xs pid k)
 abbrev pub IsBegun : Cluster → Text → ℕ → Turn → Type 0
 IsBegun c pid k t = IsIndexed (node_log c t.node) pid k t.from t.to
 
-begun-among : (c : Cluster) (pid : Text) (k : ℕ) (nodes : List ℕ)
-    → ((turn_begun c nodes pid k ≡ None) × ((node : ℕ) → Contains nodes node → BeginsNone (node_log c node) pid k)) ⊎ ((t : Turn) × (turn_begun c nodes pid k ≡ Some t) × IsBegun c pid k t)
+-- of some nodes none begins the turn, or the first that does begins this one
+abbrev MayBegin : Cluster → Text → ℕ → List ℕ → Type 0 → Type 0
+MayBegin c pid k nodes none = ((turn_begun c nodes pid k ≡ None) × none) ⊎ ((t : Turn) × (turn_begun c nodes pid k ≡ Some t) × IsBegun c pid k t)
+
+abbrev NoneOf : Cluster → Text → ℕ → List ℕ → Type 0
+NoneOf c pid k nodes = (node : ℕ) → Contains nodes node → BeginsNone (node_log c node) pid k
+
+begun-among : (c : Cluster) (pid : Text) (k : ℕ) (nodes : List ℕ) → MayBegin c pid k nodes (NoneOf c pid k nodes)
 begun-among c pid k [] = inl (refl, λ node here. absurd (contains-none node here))
 begun-among c pid k (node ∷ nodes) = go (indexed (node_log c node) pid k) (begun-among c pid k nodes)
   where
-    both : BeginsNone (node_log c node) pid k → ((other : ℕ) → Contains nodes other → BeginsNone (node_log c other) pid k) → (other : ℕ) → (node ≡ other) ⊎ Contains nodes other → BeginsNone (node_log c other) pid k
+    both : BeginsNone (node_log c node) pid k → NoneOf c pid k nodes → (other : ℕ) → (node ≡ other) ⊎ Contains nodes other → BeginsNone (node_log c other) pid k
     both here others other (inl same) = subst (λ n. BeginsNone (node_log c n) pid k) same here
     both here others other (inr is) = others other is
 
-    go : ((turn_range (node_log c node) pid k ≡ None) × BeginsNone (node_log c node) pid k) ⊎ ((from : ℕ) × (to : ℕ) × (turn_range (node_log c node) pid k ≡ Some (from, to)) × IsIndexed (node_log c node) pid k from to)
-        → ((turn_begun c nodes pid k ≡ None) × ((other : ℕ) → Contains nodes other → BeginsNone (node_log c other) pid k)) ⊎ ((t : Turn) × (turn_begun c nodes pid k ≡ Some t) × IsBegun c pid k t)
-        → ((turn_begun c (node ∷ nodes) pid k ≡ None) × ((other : ℕ) → Contains (node ∷ nodes) other → BeginsNone (node_log c other) pid k)) ⊎ ((t : Turn) × (turn_begun c (node ∷ nodes) pid k ≡ Some t) × IsBegun c pid k t)
+    go : MayIndex (node_log c node) pid k → MayBegin c pid k nodes (NoneOf c pid k nodes) → MayBegin c pid k (node ∷ nodes) (NoneOf c pid k (node ∷ nodes))
     go (inr (from, to, is, r)) others = inr (record { node = node; from = from; to = to }, ap (placed_or (turn_begun c nodes pid k) node) is, r)
     go (inl (none, nowhere)) (inr (t, is, r)) = inr (t, ap (placed_or (turn_begun c nodes pid k) node) none ∙ is, r)
     go (inl (none, nowhere)) (inl (no_other, others)) =
@@ -132,27 +139,23 @@ begun-among c pid k (node ∷ nodes) = go (indexed (node_log c node) pid k) (beg
 
 -- some node begins it, or none does
 pub begun : (c : Cluster) (pid : Text) (k : ℕ) → ((turn_begun c (own_places c pid) pid k ≡ None) × HasNoTurn c pid k) ⊎ ((t : Turn) × (turn_begun c (own_places c pid) pid k ≡ Some t) × IsBegun c pid k t)
-begun c pid k = go (begun-among c pid k (own_places c pid))
-  where
-    go : ((turn_begun c (own_places c pid) pid k ≡ None) × ((node : ℕ) → Contains (own_places c pid) node → BeginsNone (node_log c node) pid k)) ⊎ ((t : Turn) × (turn_begun c (own_places c pid) pid k ≡ Some t) × IsBegun c pid k t)
-        → ((turn_begun c (own_places c pid) pid k ≡ None) × HasNoTurn c pid k) ⊎ ((t : Turn) × (turn_begun c (own_places c pid) pid k ≡ Some t) × IsBegun c pid k t)
-    go (inl (none, nowhere)) = inl (none, λ node i rec at begins. nowhere node (own_place c pid node i rec at (begins-names pid k rec begins)) i rec at begins)
-    go (inr is) = inr is
+begun c pid k = elim (begun-among c pid k (own_places c pid)) as (λ _. MayBegin c pid k (own_places c pid) (HasNoTurn c pid k)) [
+  | inl none ↦ inl (none.0, λ node i rec at begins. none.1 node (own_place c pid node i rec at (begins-names pid k rec begins)) i rec at begins)
+  | inr is ↦ inr is
+]
 
 pub begun-is : (c : Cluster) (pid : Text) (k : ℕ) (t : Turn) → turn_begun c (own_places c pid) pid k ≡ Some t → IsBegun c pid k t
-begun-is c pid k t e = go (begun c pid k)
-  where
-    go : ((turn_begun c (own_places c pid) pid k ≡ None) × HasNoTurn c pid k) ⊎ ((u : Turn) × (turn_begun c (own_places c pid) pid k ≡ Some u) × IsBegun c pid k u) → IsBegun c pid k t
-    go (inl (none, nowhere)) = absurd (none-some t (sym none ∙ e))
-    go (inr (u, is, r)) = subst (IsBegun c pid k) (same_Some u t (sym is ∙ e)) r
+begun-is c pid k t e = elim (begun c pid k) as (λ _. IsBegun c pid k t) [
+  | inl none ↦ absurd (none-some t (sym none.0 ∙ e))
+  | inr found ↦ subst (IsBegun c pid k) (same_Some found.0 t (sym found.1 ∙ e)) found.2
+]
 
 -- no turn is begun past the last number
 pub none_past : (c : Cluster) (pid : Text) (last k : ℕ) → ((node : ℕ) → BeginsUpTo (node_log c node) pid last) → last < k → turn_begun c (own_places c pid) pid k ≡ None
-none_past c pid last k upto h = go (begun c pid k)
-  where
-    go : ((turn_begun c (own_places c pid) pid k ≡ None) × HasNoTurn c pid k) ⊎ ((t : Turn) × (turn_begun c (own_places c pid) pid k ≡ Some t) × IsBegun c pid k t) → turn_begun c (own_places c pid) pid k ≡ None
-    go (inl (none, nowhere)) = none
-    go (inr (t, is, r)) = let le = upto t.node t.from k r.first r.there r.begins in absurd (omega arith)
+none_past c pid last k upto h = elim (begun c pid k) as (λ _. turn_begun c (own_places c pid) pid k ≡ None) [
+  | inl none ↦ none.0
+  | inr found ↦ let r = found.2 in let le = upto found.0.node found.0.from k r.first r.there r.begins in absurd (omega arith)
+]
 
 -- ---- the turns of a chain
 
@@ -163,14 +166,13 @@ turn_with node from to = record { node = node; from = from; to = to }
 pub chain-begun : (c : Cluster) (who : Who) (turns : List Turn) → IsChain c who turns → (k : ℕ) → turn_begun c (own_places c who.pid) who.pid k ≡ slice_get turns k
 chain-begun c who turns chain k = go (begun c who.pid k) (slice_get turns k) refl
   where
-    go : ((turn_begun c (own_places c who.pid) who.pid k ≡ None) × HasNoTurn c who.pid k) ⊎ ((t : Turn) × (turn_begun c (own_places c who.pid) who.pid k ≡ Some t) × IsBegun c who.pid k t)
-        → (o : Option Turn) → slice_get turns k ≡ o → turn_begun c (own_places c who.pid) who.pid k ≡ o
+    go : MayBegin c who.pid k (own_places c who.pid) (HasNoTurn c who.pid k) → (o : Option Turn) → slice_get turns k ≡ o → turn_begun c (own_places c who.pid) who.pid k ≡ o
     go (inl (none, nowhere)) None at = none
     go (inl (none, nowhere)) (Some t) at = let (later, turn) = first_there c who turns k t chain.are_turns at in absurd (nowhere t.node t.from (beginning who k) turn.begins (beginning-begins who k))
     go (inr (t, is, r)) o at =
         let (u, there, node, from) = found c who turns chain t.node t.from k r.first r.there r.begins in
         let (later, turn) = first_there c who turns k u chain.are_turns there in
-        let to : u.to ≡ t.to = turn-to c who k u later turn ∙ ap (λ (n : ℕ). suc (n + length (rest_of_turn who.pid (drop (suc n) (node_log c u.node))))) (sym from) ∙ ap (λ n. suc (t.from + length (rest_of_turn who.pid (drop (suc t.from) (node_log c n))))) node ∙ sym r.to_is in
+        let to : u.to ≡ t.to = grind (arith, turn-to c who k u later turn, r.to_is, from, node) in
         is ∙ ap (λ n. Some (turn_with n t.from t.to)) (sym node) ∙ ap (λ n. Some (turn_with u.node n t.to)) from ∙ ap (λ n. Some (turn_with u.node u.from n)) (sym to) ∙ sym there ∙ at
 
 -- two lists that say the same of each place are one
@@ -204,5 +206,5 @@ one_chain c who one turns other same chain more =
 -- one turn more
 pub begun-more : (c : Cluster) (nodes : List ℕ) (pid : Text) (k : ℕ) (turns : List Turn) (t : Turn) → AreBegun c nodes pid k turns → turn_begun c nodes pid (k + length turns) ≡ Some t
     → AreBegun c nodes pid k (turns ++ t ∷ [])
-begun-more c nodes pid k [] t are next = (let e : k + 0 ≡ k = omega arith in (ap (turn_begun c nodes pid) (sym e) ∙ next, tt))
+begun-more c nodes pid k [] t are next = (grind (arith, next), tt)
 begun-more c nodes pid k (u ∷ us) t are next = (let e : suc k + length us ≡ k + suc (length us) = omega arith in (are.0, begun-more c nodes pid (suc k) us t are.1 (ap (turn_begun c nodes pid) e ∙ next)))

@@ -1,5 +1,5 @@
 -- Turns that end as they may are turns.
-use Rattle.std.proofs.Common.{◌≡◌, ◌<◌, ◌≤◌, ◌+◌, ◌-◌, ℕ, zero, suc, true, ◌&&◌, List, [], ◌∷◌, length, take, drop, get_or, Option, Some, None, slice_get, refl, sym, ap, ◌∙◌, inl, inr, nat_eq, arith, bytes_eq}
+use Rattle.std.proofs.Common.{◌≡◌, ◌<◌, ◌≤◌, ◌+◌, ◌-◌, ℕ, zero, suc, true, List, [], ◌∷◌, length, drop, get_or, Option, Some, None, slice_get, refl, sym, ap, ◌∙◌, add-one, nat_eq, arith, bytes_eq}
 use Rattle.std.proofs.lemmas.Bool.{eq-eqb, eqb-true, false≢true, and_parts, and_from}
 use Rattle.std.proofs.lemmas.List.{at_drop_more}
 use Rattle.std.proofs.lemmas.Option.{same_Some}
@@ -9,14 +9,15 @@ use Rattle.aud_node.specs.Cluster.{Cluster, node_log}
 use Rattle.aud_node.specs.Lists.{between}
 use Rattle.aud_node.specs.OwnPlaces.{own_places}
 use Rattle.aud_node.specs.Stream.{Text}
-use Rattle.aud_node.specs.TurnRecords.{begins_turn, begins_any_turn, ends_any_turn, rest_of_turn}
+use Rattle.aud_node.specs.TurnRecords.{begins_turn, rest_of_turn}
 use Rattle.aud_node.proofs.TurnLemmas.{rest-taken}
-use Rattle.aud_rooms.specs.Turns.{Who, Turn, beginning, End, ByBreak, ByGone, ByLog, part_of, turn_end, MayEnd, AreTurns}
-use Rattle.aud_client.proofs.Places.{same_text}
+use Rattle.aud_rooms.specs.Turns.{Who, Turn, beginning, End, ByBreak, ByGone, ByLog, turn_end, MayEnd, AreTurns}
+use Rattle.aud_base.proofs.Lists.{slice_get-drop}
+use Rattle.aud_base.proofs.SameText.{same_text}
 use Rattle.aud_maker.specs.Private.Begun.{AreBegun}
 use Rattle.aud_maker.specs.Private.Opening.{names_opened, opening_of}
 use Rattle.aud_maker.specs.Private.Ended.{end_by, may_end, is_ended, is_empty, are_ended}
-use Rattle.aud_maker.proofs.Turns.{Kind, kind, slice_get-drop}
+use Rattle.aud_maker.proofs.Turns.{kind}
 use Rattle.aud_maker.proofs.BegunLemmas.{IsIndexed, begun-is}
 
 -- ---- the end of a turn that a log begins
@@ -30,26 +31,14 @@ begin-plain pid k _ e = absurd (false≢true e)
 rest-end : (pid : Text) (k : ℕ) (rec : NodeRec) (recs : List NodeRec) → end_by pid k (Some rec) ≡ Some ByLog
     → turn_end pid k (rest_of_turn pid recs) ≡ end_by pid k (slice_get (rec ∷ recs) (length (rest_of_turn pid recs)))
 rest-end pid k rec [] plain = sym plain
-rest-end pid k rec (x ∷ xs) plain = go (kind pid k x) (λ e. rest-end pid k x xs e)
-  where
-    go : Kind (begins_any_turn pid x) (ends_any_turn pid x) (part_of pid k x) (end_by pid k (Some x))
-        → (end_by pid k (Some x) ≡ Some ByLog → turn_end pid k (rest_of_turn pid xs) ≡ end_by pid k (slice_get (x ∷ xs) (length (rest_of_turn pid xs))))
-        → turn_end pid k (rest_of_turn pid (x ∷ xs)) ≡ end_by pid k (slice_get (rec ∷ x ∷ xs) (length (rest_of_turn pid (x ∷ xs))))
-    go (inl (begins, ends, part, by)) ih = rw (begins, ends, part) (ih by)
-    go (inr (inl (begins, part))) ih = rw begins (sym plain)
-    go (inr (inr (begins, ends, last, by))) ih = rw (begins, ends) by
+rest-end pid k rec (x ∷ xs) plain = grind (arith, kind pid k x, rest-end pid k x xs)
 
 indexed-ends : (log : List NodeRec) (pid : Text) (k from to : ℕ) → IsIndexed log pid k from to → turn_end pid k (between log (suc from) to) ≡ end_by pid k (slice_get log (to - 1))
 indexed-ends log pid k from to is =
-    let to_is = is.to_is in
     let rest = rest_of_turn pid (drop (suc from) log) in
-    let count : to - suc from ≡ length rest = omega arith in
-    let last : to - 1 ≡ from + length rest = omega arith in
-    ap (λ n. turn_end pid k (take n (drop (suc from) log))) count
-    ∙ ap (turn_end pid k) (rest-taken pid (drop (suc from) log))
-    ∙ rest-end pid k is.first (drop (suc from) log) (begin-plain pid k is.first is.begins)
-    ∙ ap (λ recs. end_by pid k (slice_get recs (length rest))) (sym is.parts)
-    ∙ ap (end_by pid k) (slice_get-drop from log (length rest) (to - 1) last)
+    let count : to - suc from ≡ length rest = omega (arith, is.to_is) in
+    let last : to - 1 ≡ from + length rest = omega (arith, is.to_is) in
+    grind (arith, count, last, rest-taken pid (drop (suc from) log), rest-end pid k is.first (drop (suc from) log), begin-plain pid k is.first is.begins, is.parts, slice_get-drop from log (length rest) (to - 1) last)
 
 -- ---- how turns may end
 
@@ -111,17 +100,9 @@ left-empty : (turns : List Turn) (n : ℕ) → n ≤ length turns → is_empty (
 left-empty [] zero h = refl
 left-empty [] (suc n) h = absurd (omega arith)
 left-empty (t ∷ ts) zero h = grind arith
-left-empty (t ∷ ts) (suc n) h = left-empty ts n (omega arith) ∙ grind arith
+left-empty (t ∷ ts) (suc n) h = grind (arith, left-empty ts n)
 
 -- one turn more that ends as it may
 pub ended-step : (c : Cluster) (pid : Text) (turns : List Turn) (n : ℕ) (t : Turn) → n < length turns → t ≡ get_or turns n t → true ≡ is_ended c pid n t (nat_eq (n + 1) (length turns))
     → are_ended c pid (n + 1) (drop (n + 1) turns) ≡ are_ended c pid n (drop n turns)
-ended-step c pid turns n t h is ended =
-    let next : suc n ≡ n + 1 = omega arith in
-    let rest = drop (n + 1) turns in
-    sym
-    (at_drop_more (are_ended c pid n) turns n t h
-    ∙ ap (λ u. are_ended c pid n (u ∷ rest)) (sym is)
-    ∙ ap (λ b. is_ended c pid n t b && are_ended c pid (suc n) rest) (left-empty turns (n + 1) (omega arith))
-    ∙ ap (λ b. b && are_ended c pid (suc n) rest) (sym ended)
-    ∙ ap (λ m. are_ended c pid m rest) next)
+ended-step c pid turns n t h is ended = grind (arith, at_drop_more (are_ended c pid n) turns n t h, left-empty turns (n + 1), add-one n)

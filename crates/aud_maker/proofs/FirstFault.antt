@@ -1,10 +1,11 @@
 -- Which of the faults holds first, and what is made where none does.
-use Rattle.std.proofs.Common.{◌≡◌, ◌<◌, ℕ, suc, Bool, true, false, ◌&&◌, MatchBool, List, [], ◌∷◌, length, Option, Some, None, refl, sym, ap, subst, ◌∙◌, ◌⊎◌, inl, inr, arith}
-use Rattle.std.specs.List.{list_all, Contains, All}
+use Rattle.std.proofs.Common.{◌≡◌, ◌<◌, ℕ, suc, true, false, MatchBool, List, [], ◌∷◌, length, Option, sym, ap, subst, ◌∙◌, inl, inr, arith}
+use Rattle.std.specs.List.{list_all, All}
 use Rattle.std.specs.Option.{is_some}
 use Rattle.std.proofs.lemmas.Bool.{false≢true, and_parts}
 use Rattle.std.proofs.lemmas.List.Elements.{All-nil, All-cons, All-contains}
 use Rattle.std.proofs.lemmas.List.Sums.{AllPass-from_list_all}
+pub use Rattle.aud_base.proofs.Lists.{one_fails}
 use Rattle.aud_node.specs.Cluster.{Cluster}
 use Rattle.aud_node.specs.OwnPlaces.{own_places}
 use Rattle.aud_node.specs.Stream.{Text}
@@ -17,7 +18,7 @@ use Rattle.aud_maker.specs.Private.Begun.{turn_begun}
 use Rattle.aud_maker.specs.Chain.{HasNoChain}
 use Rattle.aud_maker.specs.Faults.{HasUnordered, HasMakeFault, make_fault_rank, IsFirstMakeFault, HasNoMakeFault}
 use Rattle.aud_maker.specs.Made.{is_turn_ordered}
-use Rattle.aud_maker.proofs.BegunLemmas.{IsBegun, begun, one_chain}
+use Rattle.aud_maker.proofs.BegunLemmas.{begun, one_chain}
 
 -- there is such a turn exactly where a record begins turn 0
 abbrev Says : Cluster → Text → Option Turn → Type 0
@@ -25,22 +26,12 @@ Says c pid o = MatchBool (is_some o) (HasNoTurn c pid 0 → ⊥) (HasNoTurn c pi
 
 -- whether the session was opened
 pub is_opened : (c : Cluster) (pid : Text) → MatchBool (is_some (turn_begun c (own_places c pid) pid 0)) (HasNoTurn c pid 0 → ⊥) (HasNoTurn c pid 0)
-is_opened c pid = go (begun c pid 0)
-  where
-    go : ((turn_begun c (own_places c pid) pid 0 ≡ None) × HasNoTurn c pid 0) ⊎ ((t : Turn) × (turn_begun c (own_places c pid) pid 0 ≡ Some t) × IsBegun c pid 0 t) → Says c pid (turn_begun c (own_places c pid) pid 0)
-    go (inl (none, nowhere)) = subst (Says c pid) (sym none) nowhere
-    go (inr (t, is, r)) = subst (Says c pid) (sym is) (λ no_turn. no_turn t.node t.from r.first r.there r.begins)
+is_opened c pid = elim (begun c pid 0) as (λ _. Says c pid (turn_begun c (own_places c pid) pid 0)) [
+  | inl none ↦ subst (Says c pid) (sym none.0) none.1
+  | inr found ↦ subst (Says c pid) (sym found.1) (λ no_turn. no_turn found.0.node found.0.from found.2.first found.2.there found.2.begins)
+]
 
 -- ---- whether the nodes are ordered
-
--- where not all pass, one of them fails
-pub one_fails : {X : Type 0} (p : X → Bool) (xs : List X) → list_all p xs ≡ false → (x : X) × Contains xs x × (p x ≡ false)
-one_fails p [] e = absurd (false≢true (sym e))
-one_fails {X} p (x ∷ xs) e = go (p x) refl e (λ rest. one_fails p xs rest)
-  where
-    go : (b : Bool) → p x ≡ b → (b && list_all p xs) ≡ false → (list_all p xs ≡ false → (y : X) × Contains xs y × (p y ≡ false)) → (y : X) × Contains (x ∷ xs) y × (p y ≡ false)
-    go false fails e ih = (x, (0, omega arith, refl), fails)
-    go true passes e ih = let (y, (k, h, at), fails) = ih e in (y, (suc k, omega arith, at), fails)
 
 pub unordered : (c : Cluster) (who : Who) (pid : Text) (turns : List Turn) → who.pid ≡ pid → IsChain c who turns → list_all (is_turn_ordered c) turns ≡ false → HasUnordered c pid
 unordered c who pid turns same chain e =

@@ -1,40 +1,20 @@
 -- Texts that go in one after another are the first mentions.
-use Rattle.std.proofs.Common.{◌≡◌, suc, Bool, true, false, cond, not, ◌||◌, List, [], ◌∷◌, ◌++◌, length, take, refl, sym, ap, ◌∙◌, Some, slice_get, append-nil, append_assoc, bytes_eq}
-use Rattle.std.specs.List.{list_any, filter_map, cons_option}
-use Rattle.std.specs.Option.{option_and_then}
-use Rattle.std.proofs.lemmas.Bool.{or_right}
+use Rattle.std.proofs.Common.{◌≡◌, suc, ◌||◌, List, [], ◌∷◌, ◌++◌, length, refl, sym, ap, ◌∙◌, add-one, arith, append-nil, append_assoc, bytes_eq}
+use Rattle.std.specs.List.{list_any, filter_map}
+use Rattle.std.proofs.Math.Seq.{take-append_seam}
+use Rattle.std.proofs.lemmas.List.{length_push}
 use Rattle.std.proofs.lemmas.List.Folds.{list_any-append}
-use Rattle.aud_tap.specs.Forms.{passing}
 use Rattle.aud_node.specs.Lists.{numbers_from}
 use Rattle.aud_node.specs.Stream.{Text}
-use Rattle.aud_client.proofs.Places.{same_text}
+use Rattle.aud_base.proofs.SameText.{same_text}
+use Rattle.aud_base.proofs.Truth.{or_none}
+use Rattle.aud_client.proofs.Numbers.{after_these}
 use Rattle.aud_maker.specs.Sessions.{first_mention, first_mentions}
 use Rattle.aud_maker.specs.Private.Mentioned.{with_mention, with_mentions}
 
-or-false : (b : Bool) → b || false ≡ b
-or-false true = refl
-or-false false = refl
-
 -- what stands in the list after a mention: what stood there, and the text
 any-mention : (pid t : Text) (pids : List Text) → list_any (bytes_eq pid) (with_mention pids t) ≡ list_any (bytes_eq pid) pids || bytes_eq pid t
-any-mention pid t pids = go (list_any (bytes_eq t) pids) refl (bytes_eq pid t) refl
-  where
-    go : (b : Bool) → list_any (bytes_eq t) pids ≡ b → (v : Bool) → bytes_eq pid t ≡ v → list_any (bytes_eq pid) (cond b pids (pids ++ t ∷ [])) ≡ list_any (bytes_eq pid) pids || v
-    go true known true is = ap (λ s. list_any (bytes_eq s) pids) (same_text pid t is) ∙ known ∙ sym (or_right (list_any (bytes_eq pid) pids) true refl)
-    go true known false is = sym (or-false (list_any (bytes_eq pid) pids))
-    go false known v is = list_any-append (bytes_eq pid) pids (t ∷ []) ∙ ap (λ b. list_any (bytes_eq pid) pids || b) (or-false (bytes_eq pid t) ∙ is)
-
-take-front : (before after : List Text) → take (length before) (before ++ after) ≡ before
-take-front [] after = refl
-take-front (x ∷ before) after = ap (λ ts. x ∷ ts) (take-front before after)
-
-at-front : (before after : List Text) (t : Text) → slice_get (before ++ t ∷ after) (length before) ≡ Some t
-at-front [] after t = refl
-at-front (x ∷ before) after t = at-front before after t
-
-length-put : (before : List Text) (t : Text) → length (before ++ t ∷ []) ≡ suc (length before)
-length-put [] t = refl
-length-put (x ∷ before) t = ap suc (length-put before t)
+any-mention pid t pids = grind (arith, same_text pid t, or_none (list_any (bytes_eq pid) pids), list_any-append (bytes_eq pid) pids (t ∷ []))
 
 -- where the list has what stands before, it gains the first mentions after that
 gained : (pids before after : List Text) → ((q : Text) → list_any (bytes_eq q) pids ≡ list_any (bytes_eq q) before)
@@ -43,23 +23,13 @@ gained pids before [] same = sym (append-nil pids)
 gained pids before (t ∷ after) same =
     gained (with_mention pids t) (before ++ t ∷ []) after more
     ∙ ap (λ ts. with_mention pids t ++ filter_map (first_mention ts) (numbers_from (length (before ++ t ∷ [])) (length after))) (append_assoc before (t ∷ []) after)
-    ∙ ap (λ n. with_mention pids t ++ filter_map (first_mention all) (numbers_from n (length after))) (length-put before t)
-    ∙ put (list_any (bytes_eq t) pids)
-    ∙ ap (λ b. pids ++ cons_option (passing (λ _. not b) t) later) (same t ∙ ap (list_any (bytes_eq t)) (sym (take-front before (t ∷ after))))
-    ∙ ap (λ o. pids ++ cons_option (option_and_then (passing (λ pid. not (list_any (bytes_eq pid) (take (length before) all)))) o) later) (sym (at-front before after t))
+    ∙ grind (arith, length_push before t, add-one (length before), same t, take-append_seam before (t ∷ after), after_these before after t, append_assoc pids (t ∷ []) later)
   where
-    all : List Text
-    all = before ++ t ∷ after
-
     later : List Text
-    later = filter_map (first_mention all) (numbers_from (suc (length before)) (length after))
+    later = filter_map (first_mention (before ++ t ∷ after)) (numbers_from (suc (length before)) (length after))
 
     more : (q : Text) → list_any (bytes_eq q) (with_mention pids t) ≡ list_any (bytes_eq q) (before ++ t ∷ [])
-    more q = any-mention q t pids ∙ ap (λ b. b || bytes_eq q t) (same q) ∙ sym (list_any-append (bytes_eq q) before (t ∷ []) ∙ ap (λ b. list_any (bytes_eq q) before || b) (or-false (bytes_eq q t)))
-
-    put : (b : Bool) → cond b pids (pids ++ t ∷ []) ++ later ≡ pids ++ cons_option (passing (λ _. not b) t) later
-    put true = refl
-    put false = append_assoc pids (t ∷ []) later
+    more q = grind (arith, any-mention q t pids, same q, list_any-append (bytes_eq q) before (t ∷ []), or_none (bytes_eq q t))
 
 -- the code's list is that of the first mentions
 pub first-mentions : (texts : List Text) → with_mentions [] texts ≡ first_mentions texts

@@ -1,32 +1,23 @@
 -- A set of strings that gains a text.
-use Rattle.std.proofs.Common.{◌≡◌, ◌<◌, ◌+◌, ℕ, zero, suc, Bool, true, false, cond, ◌||◌, List, [], ◌∷◌, ◌++◌, length, take, get_or, map, Some, slice_get, refl, sym, ap, ◌∙◌, arith, bytes_eq}
+use Rattle.std.proofs.Common.{◌≡◌, ◌<◌, ◌+◌, ℕ, true, false, List, [], ◌∷◌, ◌++◌, length, take, get_or, map, refl, arith, bytes_eq}
 use Rattle.std.specs.List.{list_any, flat_map}
 use Rattle.std.specs.String.{string_bytes, string_eq}
 use Rattle.std.specs.declared.string.String.{String}
 use Rattle.std.proofs.lemmas.List.{map-append, take_more, flat_map_more}
 use Rattle.aud_tap.specs.declared.taps.Tap.{Tap}
 use Rattle.indexmap.specs.IndexSet.{insert_key}
+use Rattle.aud_base.proofs.Lists.{any-map}
 use Rattle.aud_node.specs.Stream.{Text}
 use Rattle.aud_maker.specs.Private.Mentioned.{with_mention, with_mentions}
 
-any-map : {A B : Type 0} (test : B → Bool) (f : A → B) (xs : List A) → list_any test (map f xs) ≡ list_any (λ x. test (f x)) xs
-any-map test f [] = refl
-any-map test f (x ∷ xs) = ap (λ b. test (f x) || b) (any-map test f xs)
-
 -- a text that is there
 pub mention-known : {Y : Type 0} (keys : List (String Y)) (pid : Text) → true ≡ list_any (λ k. bytes_eq pid (string_bytes k)) keys → map string_bytes keys ≡ with_mention (map string_bytes keys) pid
-mention-known keys pid known =
-    sym (ap (λ b. cond b (map string_bytes keys) (map string_bytes keys ++ pid ∷ [])) (any-map (bytes_eq pid) string_bytes keys ∙ sym known))
+mention-known keys pid known = grind (arith, any-map (bytes_eq pid) string_bytes keys)
 
 -- one that isn't
 pub mention-new : {Y : Type 0} (keys new : List (String Y)) (owned : String Y) (pid : Text) → string_bytes owned ≡ pid → false ≡ list_any (λ k. bytes_eq pid (string_bytes k)) keys
     → new ≡ insert_key string_eq keys owned → map string_bytes new ≡ with_mention (map string_bytes keys) pid
-mention-new keys new owned pid is unknown inserted =
-    ap (map string_bytes) inserted
-    ∙ ap (λ b. map string_bytes (cond b keys (keys ++ owned ∷ []))) (ap (λ t. list_any (λ k. bytes_eq t (string_bytes k)) keys) is ∙ sym unknown)
-    ∙ map-append string_bytes keys (owned ∷ [])
-    ∙ ap (λ t. map string_bytes keys ++ t ∷ []) is
-    ∙ sym (ap (λ b. cond b (map string_bytes keys) (map string_bytes keys ++ pid ∷ [])) (any-map (bytes_eq pid) string_bytes keys ∙ sym unknown))
+mention-new keys new owned pid is unknown inserted = grind (arith, any-map (bytes_eq pid) string_bytes keys, map-append string_bytes keys (owned ∷ []))
 
 pub with_mentions-append : (pids xs ys : List Text) → with_mentions pids (xs ++ ys) ≡ with_mentions (with_mentions pids xs) ys
 with_mentions-append pids [] ys = refl
@@ -35,14 +26,4 @@ with_mentions-append pids (x ∷ xs) ys = with_mentions-append (with_mention pid
 -- the mentions in one tap more
 pub mentions-more : (of : Tap → List Text) (pids : List Text) (taps : List Tap) (i : ℕ) (tap : Tap) → i < length taps → tap ≡ get_or taps i tap
     → with_mentions (with_mentions pids (flat_map of (take i taps))) (of tap) ≡ with_mentions pids (flat_map of (take (i + 1) taps))
-mentions-more of pids taps i tap h is =
-    sym (with_mentions-append pids (flat_map of (take i taps)) (of tap))
-    ∙ ap (with_mentions pids)
-    (flat_map_more of [] (take i taps) tap
-    ∙ ap (λ t. flat_map of (take i taps ++ t ∷ [])) is
-    ∙ ap (flat_map of) (sym (take_more taps i tap h)))
-
-pub tap_there : (taps : List Tap) (place : ℕ) → place < length taps → (tap : Tap) × (slice_get taps place ≡ Some tap)
-tap_there [] place h = absurd (omega arith)
-tap_there (tap ∷ taps) zero h = (tap, refl)
-tap_there (tap ∷ taps) (suc place) h = tap_there taps place (omega arith)
+mentions-more of pids taps i tap h is = grind (arith, with_mentions-append pids (flat_map of (take i taps)) (of tap), flat_map_more of [] (take i taps) tap, take_more taps i tap h)

@@ -1,7 +1,7 @@
 -- The sweep over a session's records finds whether all stand in the turns.
-use Rattle.std.proofs.Common.{◌≡◌, ◌<◌, ◌≤◌, ℕ, zero, suc, Bool, true, false, cond, ◌&&◌, List, [], ◌∷◌, length, filter, Option, Some, None, slice_get, get_or, refl, sym, ap, subst, ◌∙◌, ◌⊎◌, inl, inr, nat_eq, nat_le, nat_lt, arith}
+use Rattle.std.proofs.Common.{◌≡◌, ◌<◌, ◌≤◌, ℕ, zero, suc, Bool, true, false, cond, List, [], ◌∷◌, length, filter, Option, Some, None, slice_get, get_or, refl, sym, ap, subst, ◌∙◌, ◌⊎◌, inl, inr, arith}
 use Rattle.std.specs.List.{Contains, list_all}
-use Rattle.std.proofs.lemmas.Bool.{cases_eq, eq-eqb, eqb-true, false≢true, and_parts, and_from, le-leb, leb-true}
+use Rattle.std.proofs.lemmas.Bool.{cases_eq, eq-eqb, false≢true, and_parts, and_from, le-leb}
 use Rattle.std.proofs.lemmas.Option.{same_Some, none-some}
 use Rattle.std.proofs.lemmas.List.Elements.{All-contains}
 use Rattle.std.proofs.lemmas.List.Sums.{AllPass-from_list_all, list_all-from_AllPass}
@@ -27,19 +27,13 @@ IsAmong turns node current = (number : ℕ) → is_in_turn node number current �
 
 in-one : (turns : List Turn) (node j : ℕ) → IsAmong turns node (slice_get turns j)
 in-one [] node j number e = absurd (false≢true e)
-in-one (t ∷ turns) node zero number e =
-    let both = and_parts (nat_eq t.node node) (nat_le t.from number && nat_lt number t.to) e in
-    let bounds = and_parts (nat_le t.from number) (nat_lt number t.to) both.1 in
-    inl (eqb-true t.node node both.0, leb-true t.from number bounds.0, leb-true (suc number) t.to bounds.1)
+in-one (t ∷ turns) node zero number e = grind arith
 in-one (t ∷ turns) node (suc j) number e = inr (in-one turns node j number e)
 
 among-past : (turns : List Turn) (node : ℕ) (o : Option NodeRec) (current : Option Turn) → IsAmong turns node current → IsAmong turns node (turn_past turns o current)
 among-past turns node None current is = is
-among-past turns node (Some rec) current is = go (number_begun rec)
-  where
-    go : (n : Option ℕ) → IsAmong turns node (turn_or turns n current)
-    go None = is
-    go (Some k) = in-one turns node k
+among-past turns node (Some rec) current is =
+    elim (number_begun rec) as (λ n. IsAmong turns node (turn_or turns n current)) [ None ↦ is | Some k ↦ in-one turns node k ]
 
 in-all : (log : List NodeRec) (turns : List Turn) (node : ℕ) (ns : List ℕ) (current : Option Turn) → IsAmong turns node current → are_in_turns log turns node ns current ≡ true → (n : ℕ) → Contains ns n → StandsIn node n turns
 in-all log turns node [] current is all n here = absurd (contains-none n here)
@@ -89,11 +83,7 @@ module _ (c : Cluster) (who : Who) (turns : List Turn) (chain : IsChain c who tu
 
   -- after a record that isn't the session's
   go_other : (x : ℕ) (current : Option Turn) → own x ≡ false → GoesOn x current → GoesOn (suc x) current
-  go_other x current not_own on j t at same from below =
-      elim (cases_eq t.from x) as (λ _. current ≡ Some t) [
-        | inl here ↦ absurd (false≢true (sym not_own ∙ ap own (sym here) ∙ own_first j t at same))
-        | inr before ↦ on j t at same (omega arith) (omega arith)
-      ]
+  go_other x current not_own on j t at same from below = grind (arith, own_first j t at same, on j t at same)
 
   -- after one of the session
   go_own : (x : ℕ) (rec : NodeRec) (current : Option Turn) → slice_get log x ≡ Some rec → record_names (Some rec) who.pid ≡ true → GoesOn x current

@@ -1,5 +1,5 @@
 -- The records of the turns of a chain.
-use Rattle.std.proofs.Common.{◌≡◌, ◌<◌, ◌≤◌, ◌+◌, ◌-◌, ℕ, zero, suc, Bool, true, false, cond, min, List, [], ◌∷◌, length, take, drop, Option, Some, None, slice_get, refl, sym, ap, subst, ◌∙◌, ◌⊎◌, inl, inr, nat_eq, arith, bytes_eq, length-take, length-drop}
+use Rattle.std.proofs.Common.{◌≡◌, ◌<◌, ◌≤◌, ◌+◌, ◌-◌, ℕ, zero, suc, Bool, true, false, cond, List, [], ◌∷◌, length, take, drop, Option, Some, None, slice_get, refl, sym, ap, subst, ◌∙◌, ◌⊎◌, inl, inr, nat_eq, arith, bytes_eq, length-take, length-drop}
 use Rattle.std.proofs.lemmas.Bool.{cases_eq, eq-eqb, eqb-true, false≢true, and_parts, and_from}
 use Rattle.std.proofs.lemmas.Option.{same_Some, none-some}
 use Rattle.aud_tap.specs.declared.records.NodeRec.{NodeRec}
@@ -8,7 +8,8 @@ use Rattle.aud_node.specs.Cluster.{Cluster, node_log}
 use Rattle.aud_node.specs.Stream.{Text}
 use Rattle.aud_node.specs.TurnRecords.{pid_of, begins_turn, begins_any_turn, ends_any_turn, rest_of_turn}
 use Rattle.aud_rooms.specs.Turns.{Who, Turn, beginning, Part, Inner, Last, Foreign, End, ByBreak, ByGone, ByLog, part_of, end_past, turn_end, MayEnd, IsTurn, AreTurns, StandsIn, IsChain}
-use Rattle.aud_client.proofs.Places.{same_text, itself_text}
+use Rattle.aud_base.proofs.Lists.{slice_get-drop}
+use Rattle.aud_base.proofs.SameText.{same_text, itself_text}
 use Rattle.aud_maker.specs.Private.Ended.{end_by}
 
 -- ---- records that begin a turn
@@ -46,24 +47,16 @@ alone : (last : End) (recs : List NodeRec) (rest : Option End) (e : End) → end
 alone last [] rest e is = refl
 alone last (rec ∷ recs) rest e is = absurd (none-some e is)
 
-kind-begin : (own : Bool) → Kind own false (cond own Foreign Inner) (Some ByLog)
-kind-begin true = inr (inl (refl, refl))
-kind-begin false = inl (refl, refl, refl, refl)
-
-kind-break : (own same : Bool) → Kind false own (cond own (cond same (Last ByBreak) Foreign) Inner) (cond own (cond same (Some ByBreak) None) (Some ByLog))
-kind-break true true = inr (inr (refl, refl, alone ByBreak, refl))
-kind-break true false = inr (inr (refl, refl, (λ recs rest e is. absurd (none-some e is)), refl))
-kind-break false same = inl (refl, refl, refl, refl)
-
-kind-gone : (own : Bool) → Kind false own (cond own (Last ByGone) Inner) (cond own (Some ByGone) (Some ByLog))
-kind-gone true = inr (inr (refl, refl, alone ByGone, refl))
-kind-gone false = inl (refl, refl, refl, refl)
-
 pub kind : (pid : Text) (k : ℕ) (rec : NodeRec) → Kind (begins_any_turn pid rec) (ends_any_turn pid rec) (part_of pid k rec) (end_by pid k (Some rec))
-kind pid k (Opened other sid nsp) = kind-begin (bytes_eq other pid)
-kind pid k (Back other number) = kind-begin (bytes_eq other pid)
-kind pid k (Broke other number) = kind-break (bytes_eq other pid) (nat_eq number k)
-kind pid k (Gone other) = kind-gone (bytes_eq other pid)
+kind pid k (Opened other sid nsp) = elim (bytes_eq other pid) as (λ own. Kind own false (cond own Foreign Inner) (Some ByLog)) [ true ↦ inr (inl (refl, refl)) | false ↦ inl (refl, refl, refl, refl) ]
+kind pid k (Back other number) = elim (bytes_eq other pid) as (λ own. Kind own false (cond own Foreign Inner) (Some ByLog)) [ true ↦ inr (inl (refl, refl)) | false ↦ inl (refl, refl, refl, refl) ]
+kind pid k (Broke other number) = go (bytes_eq other pid) (nat_eq number k)
+  where
+    go : (own same : Bool) → Kind false own (cond own (cond same (Last ByBreak) Foreign) Inner) (cond own (cond same (Some ByBreak) None) (Some ByLog))
+    go true true = inr (inr (refl, refl, alone ByBreak, refl))
+    go true false = inr (inr (refl, refl, (λ recs rest e is. absurd (none-some e is)), refl))
+    go false same = inl (refl, refl, refl, refl)
+kind pid k (Gone other) = elim (bytes_eq other pid) as (λ own. Kind false own (cond own (Last ByGone) Inner) (cond own (Some ByGone) (Some ByLog))) [ true ↦ inr (inr (refl, refl, alone ByGone, refl)) | false ↦ inl (refl, refl, refl, refl) ]
 kind pid k _ = inl (refl, refl, refl, refl)
 
 -- how many records the rest of a turn has, which ends within these or with the log
@@ -73,33 +66,13 @@ rest-count pid k [] zero e h ends with_log = refl
 rest-count pid k [] (suc count) e h ends with_log = absurd (omega arith)
 rest-count pid k (x ∷ xs) zero e h ends with_log = let all = with_log (sym (same_Some ByLog e ends)) in absurd (omega (arith, all))
 rest-count pid k (x ∷ xs) (suc count) e h ends with_log =
-    go (kind pid k x) (λ rest. rest-count pid k xs count e (omega arith) rest (λ is. (let all = with_log is in omega (arith, all))))
-  where
-    go : Kind (begins_any_turn pid x) (ends_any_turn pid x) (part_of pid k x) (end_by pid k (Some x)) → (turn_end pid k (take count xs) ≡ Some e → length (rest_of_turn pid xs) ≡ count) → length (rest_of_turn pid (x ∷ xs)) ≡ suc count
-    go (inl (begins, ends_one, part, by)) ih = rw (begins, ends_one) (ap suc (ih (rw part at ends)))
-    go (inr (inl (begins, part))) ih = absurd (none-some e (rw part at ends))
-    go (inr (inr (begins, ends_one, last, by))) ih =
-        let none : min count (length xs) ≡ 0 = sym (length-take count xs) ∙ ap length (last (take count xs) (turn_end pid k (take count xs)) e ends) in
-        let one : 1 ≡ suc count = omega (arith, none, h) in
-        rw (begins, ends_one) one
+    grind (arith, kind pid k x, rest-count pid k xs count e, length-take count xs, with_log, λ (is : e ≡ ByLog). with_log is)
 
 -- none of them begins a turn
 rest-begins : (pid : Text) (recs : List NodeRec) (j : ℕ) (rec : NodeRec) → slice_get recs j ≡ Some rec → j < length (rest_of_turn pid recs) → begins_any_turn pid rec ≡ true → ⊥
 rest-begins pid [] j rec at h begins = none-some rec at
-rest-begins pid (x ∷ xs) j rec at h begins = go (begins_any_turn pid x) (ends_any_turn pid x) refl j at h (λ i there less. rest-begins pid xs i rec there less begins)
-  where
-    go : (b e : Bool) → begins_any_turn pid x ≡ b → (j : ℕ) → slice_get (x ∷ xs) j ≡ Some rec → j < length (cond b [] (cond e (x ∷ []) (x ∷ rest_of_turn pid xs)))
-        → ((i : ℕ) → slice_get xs i ≡ Some rec → i < length (rest_of_turn pid xs) → ⊥) → ⊥
-    go true e is j at h ih = omega arith
-    go false e is zero at h ih = false≢true (sym is ∙ ap (begins_any_turn pid) (same_Some x rec at) ∙ begins)
-    go false true is (suc j) at h ih = omega arith
-    go false false is (suc j) at h ih = ih j at (omega arith)
-
-pub slice_get-drop : (n : ℕ) (xs : List NodeRec) (j i : ℕ) → i ≡ n + j → slice_get (drop n xs) j ≡ slice_get xs i
-slice_get-drop zero xs j i e = let same : j ≡ i = omega arith in ap (slice_get xs) same
-slice_get-drop (suc n) [] j i e = refl
-slice_get-drop (suc n) (x ∷ xs) j zero e = absurd (omega arith)
-slice_get-drop (suc n) (x ∷ xs) j (suc i) e = slice_get-drop n xs j i (omega arith)
+rest-begins pid (x ∷ xs) zero rec at h begins = grind arith
+rest-begins pid (x ∷ xs) (suc j) rec at h begins = grind (arith, rest-begins pid xs j rec at)
 
 by_log : (c : Cluster) (t : Turn) (later : List Turn) (e : End) → MayEnd c t later e → e ≡ ByLog → t.to ≡ length (node_log c t.node)
 by_log c t later ByBreak may is = cc

@@ -8,8 +8,8 @@ ghost use Rattle.aud_maker.specs.Private.Begun.{placed_or, turn_begun, AreAllBeg
 
 use aud_node::{Logs, NodeLog};
 use aud_rooms::TurnPlace;
-use aud_tap::{Memory, NodeRec};
-use std::alloc::Global;
+use aud_tap::NodeRec;
+use std::alloc::{AllocError, Global};
 
 /// The turns from turn 0 on, up to the first that none of the nodes begins.
 pub(crate) fn begun_turns(
@@ -17,7 +17,7 @@ pub(crate) fn begun_turns(
     logs: &Logs<'_>,
     nodes: &[usize],
     pid: &str,
-) -> Result<Vec<TurnPlace>, Memory>
+) -> Result<Vec<TurnPlace>, AllocError>
     requires { nodes.now ≡ own_places logs.now pid.now }
     ensures { IfOk result (λ turns. AreAllBegun logs.now pid.now turns.items) }
 {
@@ -27,9 +27,7 @@ pub(crate) fn begun_turns(
         let Some(turn) = turn_at(logs, nodes, pid, number as u16) else {
             return Ok(turns);
         };
-        let Ok(()) = turns.push(turn) else {
-            return Err(Memory);
-        };
+        turns.push(turn)?;
     }
     Ok(turns)
 }

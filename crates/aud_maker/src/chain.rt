@@ -10,8 +10,8 @@ use crate::ended::are_turns_ended;
 use crate::swept::are_swept;
 use aud_node::Logs;
 use aud_rooms::TurnPlace;
-use aud_tap::{Memory, NodeRec};
-use std::alloc::Global;
+use aud_tap::NodeRec;
+use std::alloc::{AllocError, Global};
 
 /// All turns of a session, and the sid and the namespace of its `open`, lent by the logs.
 #[derive(Drop)]
@@ -28,7 +28,7 @@ pub(crate) fn chain_of<'a>(
     logs: &Logs<'a>,
     nodes: &[usize],
     pid: &str,
-) -> Result<Option<Chain<'a>>, Memory>
+) -> Result<Option<Chain<'a>>, AllocError>
     requires { nodes.now ≡ own_places logs.now pid.now }
     ensures { IfOk result (λ found. MatchOption found (HasNoChain logs.now pid.now) (λ chain. IsChain logs.now
         (record { pid = pid.now; sid = chain.sid.now; nsp = chain.nsp.now }) chain.turns.items)) }

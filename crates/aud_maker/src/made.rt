@@ -11,8 +11,7 @@ use crate::client::tap_name;
 use aud_cert::{Certificate, Turn};
 use aud_node::Logs;
 use aud_rooms::{TurnPlace, spans_of_turns};
-use aud_tap::Memory;
-use std::alloc::Global;
+use std::alloc::{AllocError, Global};
 
 /// The certificate of these turns.
 pub(crate) fn certificate_of<'a>(
@@ -21,17 +20,14 @@ pub(crate) fn certificate_of<'a>(
     pid: &str,
     chain: &Chain<'a>,
     client: &'a str,
-) -> Result<Certificate<'a>, Memory>
+) -> Result<Certificate<'a>, AllocError>
     requires { All (IsInOrder logs.now) chain.now.turns.items }
     ensures { IfOk result (λ cert. IsCertificateOf logs.now pid.now chain.now.sid.now client.now chain.now.turns.items cert) }
 {
     let turns = turns_seen(alloc, logs, &chain.turns)?;
     let spans = spans_of_turns(alloc, logs, pid, chain.sid, &chain.turns)?;
-    let Ok(pid) = String::from_str(alloc, pid) else {
-        return Err(Memory);
-    };
     Ok(Certificate {
-        pid,
+        pid: String::from_str(alloc, pid)?,
         client,
         turns,
         spans,
@@ -43,15 +39,13 @@ fn turns_seen<'a>(
     alloc: Global,
     logs: &Logs<'a>,
     turns: &[TurnPlace],
-) -> Result<Vec<Turn<'a>>, Memory>
+) -> Result<Vec<Turn<'a>>, AllocError>
     requires { All (IsInOrder logs.now) turns.now }
     ensures { IfOk result (λ seen. seen.items ≡ map (turn_seen logs.now) turns.now) }
 {
     let mut seen = Vec::new(alloc);
     for turn in turns {
-        let Ok(()) = seen.push(turn_seen(logs, turn)) else {
-            return Err(Memory);
-        };
+        seen.push(turn_seen(logs, turn))?;
     }
     Ok(seen)
 }

@@ -13,15 +13,36 @@ use crate::made::certificate_of;
 use crate::order::are_ordered;
 use aud_cert::{Certificate, Fault};
 use aud_client::Recording;
-use std::alloc::Global;
+use std::alloc::{AllocError, Global};
+use std::fmt;
+use thiserror::Error;
 
 /// Why no certificate was made.
-#[derive(Drop)]
+#[derive(Drop, Error)]
 pub enum MakeFault {
     /// The session has this fault: `NoLog`, `Chain`, `Order` or `Client`.
+    #[error("{0}")]
     Fault(Fault),
     /// Memory for the certificate could not be had.
+    #[error("out of memory")]
     Memory,
+}
+
+impl fmt::Debug for MakeFault {
+    fn fmt<W: fmt::Write>(&self, f: &mut fmt::Formatter<W>) -> fmt::Result {
+        write!(f, "{self}")
+    }
+}
+
+impl From<AllocError> for MakeFault {
+    ghost use Rattle.std.specs.Prelude.{◌≡◌};
+    ghost use Rattle.aud_maker.specs.declared.maker.MakeFault.TheVariants.{Memory};
+
+    ghost from_gives = { λ _ e. e ≡ Memory };
+
+    fn from(_: AllocError) -> MakeFault {
+        MakeFault::Memory
+    }
 }
 
 /// The certificate of all turns of the session, with the spans of its rooms and the name of the one client tap with a
@@ -41,9 +62,7 @@ pub fn make<'a>(
     if !is_opened(logs, nodes, pid) {
         return Err(MakeFault::Fault(Fault::NoLog));
     }
-    let Ok(found) = chain_of(alloc, logs, nodes, pid) else {
-        return Err(MakeFault::Memory);
-    };
+    let found = chain_of(alloc, logs, nodes, pid)?;
     let Some(chain) = found else {
         return Err(MakeFault::Fault(Fault::Chain));
     };
@@ -53,8 +72,5 @@ pub fn make<'a>(
     let Some(client) = only_client(recording, pid) else {
         return Err(MakeFault::Fault(Fault::Client));
     };
-    match certificate_of(alloc, logs, pid, &chain, client) {
-        Ok(certificate) => Ok(certificate),
-        Err(_) => Err(MakeFault::Memory),
-    }
+    Ok(certificate_of(alloc, logs, pid, &chain, client)?)
 }

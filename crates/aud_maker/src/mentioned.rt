@@ -2,9 +2,8 @@
 ghost use Rattle.std.specs.Prelude.{◌≡◌, IfOk, OnOk, [], map, string_bytes};
 ghost use Rattle.aud_maker.specs.Private.Mentioned.{with_mention};
 
-use aud_tap::Memory;
 use indexmap::IndexSet;
-use std::alloc::Global;
+use std::alloc::{AllocError, Global};
 use std::marker::Model;
 
 /// The pids of sessions, each once, in the order of their first mentions; seen as their list.
@@ -34,28 +33,21 @@ impl Mentioned {
     }
 
     /// The session is mentioned; one that was before keeps its place.
-    pub(crate) fn mention(&mut self, pid: &str) -> Result<(), Memory>
+    pub(crate) fn mention(&mut self, pid: &str) -> Result<(), AllocError>
         ensures { OnOk result (self.new ≡ with_mention self.old pid.now) }
     {
         if self.pids.contains(pid) {
             return Ok(());
         }
-        let Ok(owned) = String::from_str(self.alloc, pid) else {
-            return Err(Memory);
-        };
-        let Ok(_) = self.pids.insert(owned) else {
-            return Err(Memory);
-        };
+        let owned = String::from_str(self.alloc, pid)?;
+        self.pids.insert(owned)?;
         Ok(())
     }
 
     /// The pids.
-    pub(crate) fn into_pids(self) -> Result<Vec<String>, Memory>
+    pub(crate) fn into_pids(self) -> Result<Vec<String>, AllocError>
         ensures { IfOk result (λ pids. map string_bytes pids.items ≡ self) }
     {
-        match self.pids.into_iter().collect(self.alloc) {
-            Ok(pids) => Ok(pids),
-            Err(_) => Err(Memory),
-        }
+        Ok(self.pids.into_iter().collect(self.alloc)?)
     }
 }

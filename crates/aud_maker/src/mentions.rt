@@ -9,13 +9,13 @@ ghost use Rattle.aud_maker.specs.Private.Mentioned.{with_mentions};
 use crate::mentioned::Mentioned;
 use aud_client::{Recording, Stay};
 use aud_node::pid;
-use aud_tap::{Memory, NodeRec, Records, Tap};
-use std::alloc::Global;
+use aud_tap::{NodeRec, Records, Tap};
+use std::alloc::{AllocError, Global};
 
 /// The pids of the sessions, each once, by first mention: in the nodes' taps, in the order of their headers and then of
 /// their records, and then in the clients' taps, in the order of their headers and then of the stays whose replies
 /// name them. Each node's record is looked at once, and each stay: no client's tap is read again.
-pub fn sessions(alloc: Global, recording: &Recording<'_>) -> Result<Vec<String>, Memory>
+pub fn sessions(alloc: Global, recording: &Recording<'_>) -> Result<Vec<String>, AllocError>
     ensures { IfOk result (λ pids. map string_bytes pids.items ≡ sessions_of recording.now) }
 {
     let mut mentioned = Mentioned::new(alloc);
@@ -30,7 +30,7 @@ pub fn sessions(alloc: Global, recording: &Recording<'_>) -> Result<Vec<String>,
 }
 
 /// The pids that the tap's records name, if it is a node's.
-fn mention_node(mentioned: &mut Mentioned, tap: &Tap) -> Result<(), Memory>
+fn mention_node(mentioned: &mut Mentioned, tap: &Tap) -> Result<(), AllocError>
     ensures { OnOk result (mentioned.new ≡ with_mentions mentioned.old (node_pids tap.now)) }
 {
     match &tap.records {
@@ -39,7 +39,7 @@ fn mention_node(mentioned: &mut Mentioned, tap: &Tap) -> Result<(), Memory>
     }
 }
 
-fn mention_records(mentioned: &mut Mentioned, recs: &[NodeRec]) -> Result<(), Memory>
+fn mention_records(mentioned: &mut Mentioned, recs: &[NodeRec]) -> Result<(), AllocError>
     ensures { OnOk result (mentioned.new ≡ with_mentions mentioned.old (filter_map pid_of recs.now)) }
 {
     for rec in recs {
@@ -55,7 +55,7 @@ fn mention_client(
     mentioned: &mut Mentioned,
     recording: &Recording<'_>,
     place: usize,
-) -> Result<(), Memory>
+) -> Result<(), AllocError>
     ensures { OnOk result (mentioned.new ≡ with_mentions mentioned.old (reply_pids recording.now.stream (client_at recording.now place))) }
 {
     match recording.client(place) {
@@ -64,7 +64,7 @@ fn mention_client(
     }
 }
 
-fn mention_replies(mentioned: &mut Mentioned, stays: &[Stay<'_>]) -> Result<(), Memory>
+fn mention_replies(mentioned: &mut Mentioned, stays: &[Stay<'_>]) -> Result<(), AllocError>
     ensures { OnOk result (mentioned.new ≡ with_mentions mentioned.old (filter_map stay_pid stays.now)) }
 {
     for stay in stays {

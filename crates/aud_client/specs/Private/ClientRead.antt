@@ -1,5 +1,5 @@
 -- What was read of a client's tap.
-use Rattle.std.specs.Prelude.{◌≡◌, ℕ, suc, List, [], ◌∷◌, map, flat_map, Option}
+use Rattle.std.specs.Prelude.{◌≡◌, ℕ, suc, List, [], ◌∷◌, flat_map, Option}
 use Rattle.aud_tap.specs.declared.records.ClientRec.{ClientRec}
 use Rattle.aud_tap.specs.declared.records.ClientRec.TheVariants.{Conn}
 use Rattle.aud_client.specs.TapPackets.{Connection, numbered_records, packets_in, bad_in, first_of, tap_packets}

@@ -6,7 +6,7 @@ use Rattle.aud_tap.specs.Names.{AreNamedOnce}
 use Rattle.aud_tap.specs.declared.taps.Tap.{Tap}
 use Rattle.aud_tap.specs.declared.records.StreamRec.{StreamRec}
 use Rattle.aud_node.specs.Cluster.{Cluster}
-use Rattle.aud_node.specs.Lists.{numbers_from}
+use Rattle.aud_base.specs.Lists.{numbers_from}
 use Rattle.aud_base.specs.Places.{places_of}
 use Rattle.aud_node.specs.NodeTaps.{client_recs}
 use Rattle.aud_node.specs.Stream.{Text}

@@ -8,7 +8,7 @@ pub loop-number-preserved : goal.loop-number-preserved
 loop-number-preserved c =
     numbered-next c.args.stays.now c.args.numbers.now c.loop-number.number-index (Some c.in-Some.stay.now) _ _
     c.loop-number-test.true (sym (ap option_copied c.in-Some.is) ∙ c.stay_at.ensures) c.loop-number.invariant
-    (ap (map (λ stay. stay.now)) c.in-Ok.ensures.items ∙ map-append (λ stay. stay.now) c.loop-number.at.items (c.in-Some.stay ∷ []))
+    (ap (map (λ stay. stay.now)) c.in_ok-push.ensures.items ∙ map-append (λ stay. stay.now) c.loop-number.at.items (c.in-Some.stay ∷ []))
 
 pub loop-number-preserved-in_default : goal.loop-number-preserved-in_default
 loop-number-preserved-in_default c =

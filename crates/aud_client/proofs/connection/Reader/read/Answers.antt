@@ -4,7 +4,8 @@ use Rattle.aud_eio.specs.Packet.{engine_packet_of, engine_view}
 use Rattle.aud_eio.specs.Body.{engine_packets_of}
 use Rattle.aud_tap.specs.declared.records.ClientRec.TheVariants.{TextIn, BytesIn, Poll}
 use Rattle.aud_client.specs.TapPackets.{one_of}
-use Rattle.aud_client.proofs.ReadLemmas.{OnOk-then, OnOk-server, Reads-one}
+use Rattle.std.proofs.lemmas.Result.{on_ok_weaker}
+use Rattle.aud_client.proofs.ReadLemmas.{OnOk-server, Reads-one}
 use Rattle.aud_client.proofs.connection.Reader.read.Goals as goal
 
 pub returns-in-TextIn : goal.returns-in-TextIn
@@ -17,7 +18,7 @@ returns-in-BytesIn c =
     let packet = engine_view c.decode_binary.result in
     OnOk-server c.receive.result c.args.number c.args.rec.now (BytesIn c.in-BytesIn.b) (Ok (packet ∷ [])) c.args.self.now c.receive.new.self
     c.in-BytesIn.is (ap (λ p. Ok (p ∷ [])) (sym (c.decode_binary.ensures ∙ ap eio.Lent c.as_slice.ensures))) (λ _. refl)
-    (OnOk-then c.receive.result _ _ (Reads-one c.args.number packet c.args.self.now c.receive.new.self) c.receive.ensures)
+    (on_ok_weaker c.receive.result (Reads-one c.args.number packet c.args.self.now c.receive.new.self) c.receive.ensures)
 
 pub returns-in-Poll : goal.returns-in-Poll
 returns-in-Poll c =

@@ -4,7 +4,8 @@ use Rattle.aud_sio.specs.Message.{messages_of}
 use Rattle.aud_sio.specs.Assembly.{Continues, answer_of, whole_view}
 use Rattle.aud_sio.specs.declared.whole.Whole.{Whole}
 use Rattle.aud_client.specs.Private.ConnectionRead.{Reads, packets_read}
-use Rattle.aud_client.proofs.ReadLemmas.{OnOk-then, OnOk-two, Reads-by, bad_or-false}
+use Rattle.std.proofs.lemmas.Result.{on_ok_weaker}
+use Rattle.aud_client.proofs.ReadLemmas.{OnOk-two, Reads-by, bad_or-false}
 use Rattle.aud_client.proofs.connection.Reader.receive.Goals as goal
 
 pub returns-in-Ok-Some : goal.returns-in-Ok-Some
@@ -13,7 +14,7 @@ returns-in-Ok-Some c =
     let messages = messages_of (engine_view c.args.packet) in
     let given : Continues c.args.self.now.assembler messages (answer_of (Some c.in-Ok-Some.whole)) held =
     subst (λ (o : Option Whole). Continues c.args.self.now.assembler messages (answer_of o) held) c.in-Ok-Some.field-0-is c.in-Ok-Some.ensures.answers in
-    OnOk-then c.place.result _ (Reads c.args.number messages c.args.self.now c.place.new.self)
+    on_ok_weaker c.place.result
     (λ packets. Reads-by c.args.number messages c.args.self.now c.place.new.self held (Ok (whole_view c.in-Ok-Some.whole) ∷ []) given c.place.ensures.assembler packets
     (c.place.ensures.bad ∙ sym (bad_or-false c.args.self.now.bad c.args.number)) c.in-Ok-Some.ensures.waits)
     c.place.ensures.packets

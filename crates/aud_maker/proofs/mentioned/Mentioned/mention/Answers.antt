@@ -11,5 +11,5 @@ returns-then-contains c =
 
 pub returns : goal.returns
 returns c =
-    mention-new c.self.inside.pids.keys c.insert.new.self.keys c.in-Ok.owned c.args.pid.now c.in-Ok.ensures.ok c.if-contains.ensures c.in-Ok-insert.ensures.keys
+    mention-new c.self.inside.pids.keys c.insert.new.self.keys c.in_ok-owned.owned c.args.pid.now c.in_ok-owned.ensures.ok c.if-contains.ensures c.in_ok-insert.ensures.keys
     ∙ ap (λ pids. with_mention pids c.args.pid.now) c.self.view_is
