@@ -11,7 +11,8 @@ use Rattle.aud_node.specs.Stream.{Text}
 use Rattle.aud_node.specs.OwnRecords.{record_names, own_numbers}
 use Rattle.aud_rooms.specs.TurnPlaces.{is_between, own_between}
 use Rattle.aud_rooms.specs.Turns.{Part, Inner, Last, Foreign, End, ByBreak, ByGone, ByLog, part_of, end_past, turn_end}
-use Rattle.aud_check.proofs.Slices.{within_at, between-more, between-past}
+use Rattle.aud_base.proofs.Lists.{element_at, between-more}
+use Rattle.aud_check.proofs.Slices.{between-past}
 
 abbrev pub part_at : Text → ℕ → Option NodeRec → Part
 part_at pid k None = Foreign
@@ -74,7 +75,7 @@ module _ (pid : Text) (k : ℕ) (log : List NodeRec) (from to : ℕ) where
           ap (λ b. numbered_end (Last e) b rest) (eq-eqb (i + 1) last same)
           ∙ sym (ap (λ recs. end_past (Last e) recs rest) (between-past log (suc i) to (omega arith)))
       go (inr more) =
-          let (next, at) = within_at log (suc i) (omega (arith, more)) in
+          let (next, at) = element_at log (suc i) (omega (arith, more)) in
           ap (λ b. numbered_end (Last e) b rest) (ne_eqb (i + 1) last more)
           ∙ sym (ap (λ recs. end_past (Last e) recs rest) (between-more log (suc i) to next (omega (arith, more)) at))
 
@@ -116,7 +117,7 @@ module _ (pid : Text) (k : ℕ) (log : List NodeRec) (from to : ℕ) where
   own_end-from : (count a : ℕ) → a + count ≡ length log → EndsFrom a (filter own (numbers_from a count))
   own_end-from zero a e = sym (ap (turn_end pid k) (between-past log (max from a) to (omega arith)))
   own_end-from (suc count) a e =
-      let (rec, at) = within_at log a (omega arith) in
+      let (rec, at) = element_at log a (omega arith) in
       let rest : List ℕ = filter own (numbers_from (suc a) count) in
       let ih : EndsFrom (suc a) rest = own_end-from count (suc a) (omega arith) in
       subst (λ b. EndsFrom a (cond b (a ∷ rest) rest)) (sym (ap (λ o. record_names o pid) at))

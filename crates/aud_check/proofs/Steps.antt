@@ -12,7 +12,7 @@ use Rattle.aud_rooms.specs.Turns.{Who}
 use Rattle.aud_client.specs.StaySeen.{StaySeen, FrameSeen}
 use Rattle.aud_check.specs.Frames.{AreEntries, IsEntry, IsFirstAltered, frames_in}
 use Rattle.aud_check.specs.NamedStays.{are_of_session, is_of_session}
-use Rattle.aud_check.proofs.Slices.{drop_at}
+use Rattle.aud_base.proofs.Lists.{drop_at}
 
 pub at_map : {X Y : Type 0} (f : X → Y) (xs : List X) (i : ℕ) (x : X) → i < length xs → x ≡ get_or xs i x → slice_get (map f xs) i ≡ Some (f x)
 at_map {X} {Y} f xs i x h is =
