@@ -1,9 +1,10 @@
 //! Why a session is not answered yes.
 use aud_tap::Text;
 use std::fmt;
+use thiserror::Error;
 
 /// Why a session is not answered yes: the first of these that holds. docs/MODEL.md says when each does.
-#[derive(Drop)]
+#[derive(Drop, Error)]
 pub enum Fault {
     /// No node opened the session.
     NoLog,
@@ -59,5 +60,12 @@ impl fmt::Display for Fault {
             Fault::Lost(off) => ("LOST", off.as_str()),
         };
         write!(f, "{word} {off}")
+    }
+}
+
+/// The same words.
+impl fmt::Debug for Fault {
+    fn fmt<W: fmt::Write>(&self, f: &mut fmt::Formatter<W>) -> fmt::Result {
+        fmt::Display::fmt(self, f)
     }
 }

@@ -1,4 +1,3 @@
-pub mod Json
 pub mod Lists
 pub mod Named
 pub mod Over

@@ -1,27 +1,37 @@
--- Certificates over the logs that they were read from.
-use Rattle.std.proofs.Common.{◌≡◌, suc, Bool, true, false, List, [], ◌∷◌, length, map, Result, Ok, Err, refl, ap, ◌∙◌, arith}
+-- Certificates that were read over the logs.
+use Rattle.std.proofs.Common.{◌≡◌, ◌<◌, ◌&&◌, suc, true, List, [], ◌∷◌, length, map, Result, Ok, Err, refl, sym, ap, subst, ◌∙◌, arith, true≢false}
 use Rattle.std.specs.List.{All, list_all}
+use Rattle.std.specs.Result.{IfOk}
+use Rattle.std.proofs.lemmas.Bool.{and_parts}
 use Rattle.std.proofs.lemmas.List.Elements.{All-cons}
+use Rattle.serde_json.specs.Data.{Data}
+use Rattle.aud_base.proofs.StepLemmas.{same-ok, part-of, guard-ok}
 use Rattle.aud_node.specs.Cluster.{Cluster}
 use Rattle.aud_cert_text.specs.declared.fault.CertFault.{CertFault}
-use Rattle.aud_cert_text.specs.declared.fault.CertFault.TheVariants.{UnknownTap}
-use Rattle.aud_cert_text.specs.Steps.{◌>>=◌, guard, each}
-use Rattle.aud_cert_text.specs.Parsed.{ParsedTurn, ParsedCertificate}
-use Rattle.aud_cert.specs.Certificate.{TurnSeen, CertificateSeen, IsTurnOver, recs_named}
-use Rattle.aud_cert_text.specs.Reading.{is_node, is_client, turn_over, certificate_over}
-use Rattle.aud_cert_text.specs.Sound.{turn_without_records, without_records, names_taps}
+use Rattle.aud_cert_text.specs.declared.fault.CertFault.TheVariants.{Syntax, UnknownTap, Range}
+use Rattle.aud_cert_text.specs.Steps.{◌>>=◌, guard, each, Gives}
+use Rattle.aud_cert_text.specs.Parsed.{ParsedTurn, ParsedCertificate, parsed_certificate}
+use Rattle.aud_cert.specs.Certificate.{TurnSeen, CertificateSeen, IsTurnOver, IsOver, recs_named}
+use Rattle.aud_cert_text.specs.Reading.{has_turns, is_formed, is_node, is_client, is_certificate_within, turn_over, certificate_over, certificate_in}
+use Rattle.aud_cert_text.specs.Sound.{turn_without_records, without_records, names_taps, IsSound}
+
+-- what holds of a value that the reading gives
+pub if-read : {X : Type 0} (r : Result X CertFault) (reading : Result X CertFault) (P : X → Type 0) → ((x : X) → reading ≡ Ok x → P x) → Gives (λ x. x) r reading → IfOk r P
+if-read (Ok x) reading P holds gives = holds x gives
+if-read (Err e) reading P holds gives = tt
+
+-- ---- turns
 
 -- the turn with the records that it names
 abbrev over : Cluster → ParsedTurn → TurnSeen
 over c t = record { node = t.node; from = t.from; to = t.to; low = t.low; high = t.high; recs = recs_named c t.node t.from t.to }
 
-of-guard : {A : Type 0} (b : Bool) (x y : A) → (guard UnknownTap b >>= (λ u. Ok x)) ≡ Ok y → x ≡ y
-of-guard true x y h = cc
-of-guard false x y h = cc
-
-turn-over : (c : Cluster) (parsed : ParsedTurn) (t : TurnSeen) → turn_over c parsed ≡ Ok t → IsTurnOver c t
+-- its records are those that it names, the rest is what was told, and its node is a node's
+turn-read : (c : Cluster) (parsed : ParsedTurn) (t : TurnSeen) → turn_over c parsed ≡ Ok t → IsTurnOver c t × (turn_without_records t ≡ parsed) × (is_node c t.node ≡ true)
 unfolding turn_over
-turn-over c parsed t h = rw (← of-guard (is_node c parsed.node) (over c parsed) t h) refl
+turn-read c parsed t h =
+    let (known, is) = guard-ok UnknownTap (is_node c parsed.node) (Ok (over c parsed)) t h in
+    rw (← same-ok (over c parsed) t is) (refl, refl, known)
 
 -- what each step gave
 split : {B : Type 0} (first : Result B CertFault) (rest : Result (List B) CertFault) (ys : List B) → (first >>= (λ y. rest >>= (λ zs. Ok (y ∷ zs)))) ≡ Ok ys
@@ -36,41 +46,58 @@ each-length step (x ∷ xs) ys h =
     let parts = split (step x) (each step xs) ys h in
     ap length parts.4 ∙ ap suc (each-length step xs parts.1 parts.3)
 
+turns-read : (c : Cluster) (parsed : List ParsedTurn) (turns : List TurnSeen) → each (turn_over c) parsed ≡ Ok turns
+    → All (IsTurnOver c) turns × (map turn_without_records turns ≡ parsed) × (list_all (λ (t : TurnSeen). is_node c t.node) turns ≡ true)
+turns-read c [] turns h = let e : turns ≡ [] = cc in rw e ((λ k d within. absurd (omega arith)), refl, refl)
+turns-read c (t ∷ ts) turns h =
+    let (turn, others, is, are, all) = split (turn_over c t) (each (turn_over c) ts) turns h in
+    let (named, told, known) = turn-read c t turn is in
+    let (rest_named, rest_told, rest_known) = turns-read c ts others are in
+    rw (all, told, known, rest_told, rest_known) (All-cons (IsTurnOver c) turn others named rest_named, refl, refl)
+
 pub turns-over : (c : Cluster) (parsed : List ParsedTurn) (turns : List TurnSeen) → each (turn_over c) parsed ≡ Ok turns → All (IsTurnOver c) turns
-turns-over c [] turns h = let e : turns ≡ [] = cc in rw e (λ k d within. absurd (omega arith))
-turns-over c (t ∷ ts) turns h =
-    let parts = split (turn_over c t) (each (turn_over c) ts) turns h in
-    rw parts.4 (All-cons (IsTurnOver c) parts.0 parts.1 (turn-over c t parts.0 parts.2) (turns-over c ts parts.1 parts.3))
+turns-over c parsed turns h = (turns-read c parsed turns h).0
 
--- the turn that was told, and whose node is a node's
-was-parsed : (c : Cluster) (parsed : ParsedTurn) (t : TurnSeen) → turn_over c parsed ≡ Ok t → (turn_without_records t ≡ parsed) × (is_node c t.node ≡ true)
-unfolding turn_over
-was-parsed c parsed t h = go (is_node c parsed.node) refl h
-  where
-    go : (b : Bool) → is_node c parsed.node ≡ b → (guard UnknownTap b >>= (λ u. Ok (over c parsed))) ≡ Ok t → (turn_without_records t ≡ parsed) × (is_node c t.node ≡ true)
-    go true known is = let e : over c parsed ≡ t = of-guard true (over c parsed) t is in rw (← e) (refl, known)
-    go false known is = cc
+-- ---- certificates
 
-were-parsed : (c : Cluster) (parsed : List ParsedTurn) (turns : List TurnSeen) → each (turn_over c) parsed ≡ Ok turns
-    → (map turn_without_records turns ≡ parsed) × (list_all (λ (t : TurnSeen). is_node c t.node) turns ≡ true)
-were-parsed c [] turns h = let e : turns ≡ [] = cc in rw e (refl, refl)
-were-parsed c (t ∷ ts) turns h =
-    let parts = split (turn_over c t) (each (turn_over c) ts) turns h in
-    let first = was-parsed c t parts.0 parts.2 in
-    let others = were-parsed c ts parts.1 parts.3 in
-    rw (parts.4, first.0, first.1, others.0, others.1) (refl, refl)
+-- what was told, with these turns
+abbrev with_turns : ParsedCertificate → List TurnSeen → CertificateSeen
+with_turns parsed turns = record { pid = parsed.pid; client = parsed.client; turns = turns; spans = parsed.spans }
 
--- a certificate with its records, beside what was told
-pub over-parsed : (c : Cluster) (parsed : ParsedCertificate) (cert : CertificateSeen) → certificate_over c parsed ≡ Ok cert → (without_records cert ≡ parsed) × (names_taps c cert ≡ true)
+abbrev told_with : ParsedCertificate → List ParsedTurn → ParsedCertificate
+told_with parsed turns = record { pid = parsed.pid; client = parsed.client; turns = turns; spans = parsed.spans }
+
+certificate-read : (c : Cluster) (parsed : ParsedCertificate) (cert : CertificateSeen) → certificate_over c parsed ≡ Ok cert
+    → IsOver c cert × (without_records cert ≡ parsed) × (names_taps c cert ≡ true)
 unfolding certificate_over
-over-parsed c parsed cert h = go (is_client c parsed.client) refl (each (turn_over c) parsed.turns) refl h
+certificate-read c parsed cert h =
+    let (known, rest) = guard-ok UnknownTap (is_client c parsed.client) (each (turn_over c) parsed.turns >>= (λ turns. Ok (with_turns parsed turns))) cert h in
+    let (turns, are, is) = part-of (each (turn_over c) parsed.turns) (λ turns. Ok (with_turns parsed turns)) cert rest in
+    let (named, told, nodes) = turns-read c parsed.turns turns are in
+    subst (λ made. IsOver c made × (without_records made ≡ parsed) × (names_taps c made ≡ true)) (same-ok (with_turns parsed turns) cert is)
+    (named, ap (told_with parsed) told, ap (λ b. b && list_all (λ (t : TurnSeen). is_node c t.node) turns) known ∙ nodes)
+
+-- the last step, and the last two
+abbrev within : Cluster → CertificateSeen → Result CertificateSeen CertFault
+within c cert = guard Range (is_certificate_within c cert) >>= (λ _. Ok cert)
+
+abbrev formed : Cluster → ParsedCertificate → Result CertificateSeen CertFault
+formed c parsed = guard Syntax (is_formed parsed) >>= (λ _. certificate_over c parsed >>= within c)
+
+-- nothing refuses a certificate that was read
+pub read-sound : (c : Cluster) (d : Data) (cert : CertificateSeen) → certificate_in c d ≡ Ok cert → IsSound c cert
+read-sound c d cert h =
+    let (parsed, told, rest) = part-of (parsed_certificate d) (formed c) cert h in
+    let (form, rest) = guard-ok Syntax (is_formed parsed) (certificate_over c parsed >>= within c) cert rest in
+    let (made, is, last) = part-of (certificate_over c parsed) (within c) cert rest in
+    let (is_within, same) = guard-ok Range (is_certificate_within c made) (Ok made) cert last in
+    let (named, parts, taps) = certificate-read c parsed made is in
+    subst (IsSound c) (same-ok made cert same) (record { formed = ap is_formed parts ∙ form; taps = taps; within = is_within; over = named })
+
+-- it has a turn
+pub sound-some : (c : Cluster) (cert : CertificateSeen) → IsSound c cert → 0 < length cert.turns
+sound-some c cert is = go cert.turns (and_parts _ _ (and_parts _ _ (and_parts _ _ is.formed).0).0).0
   where
-    go : (b : Bool) → is_client c parsed.client ≡ b → (turns : Result (List TurnSeen) CertFault) → each (turn_over c) parsed.turns ≡ turns
-        → (guard UnknownTap b >>= (λ u. turns >>= (λ ts. Ok (record { pid = parsed.pid; client = parsed.client; turns = ts; spans = parsed.spans })))) ≡ Ok cert
-        → (without_records cert ≡ parsed) × (names_taps c cert ≡ true)
-    go true known (Ok turns) are is =
-        let e : record { pid = parsed.pid; client = parsed.client; turns = turns; spans = parsed.spans } ≡ cert = of-guard true (record { pid = parsed.pid; client = parsed.client; turns = turns; spans = parsed.spans }) cert is in
-        let parts = were-parsed c parsed.turns turns are in
-        rw (← e, parts.0, parts.1, known) (refl, refl)
-    go true known (Err fault) are is = cc
-    go false known turns are is = cc
+    go : (turns : List TurnSeen) → has_turns (map turn_without_records turns) ≡ true → 0 < length turns
+    go [] h = absurd (true≢false (sym h))
+    go (t ∷ turns) h = omega arith

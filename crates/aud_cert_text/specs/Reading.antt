@@ -1,9 +1,8 @@
 -- The certificate that a text names over the logs.
-use Rattle.std.specs.Prelude.{nat_le, nat_lt, ◌&&◌, List, [], ◌∷◌, length, Bool, true, false, is_some, option_and_then, Result, Ok, Err, if◌then◌else◌}
+use Rattle.std.specs.Prelude.{nat_le, nat_lt, ◌&&◌, List, [], ◌∷◌, length, Bool, true, false, is_some, option_and_then, Result, Ok}
 use Rattle.std.specs.List.{list_all}
-use Rattle.std.specs.Str.{is_utf8}
 use Rattle.serde_json.specs.Data.{Data}
-use Rattle.serde_json.specs.Read.{read}
+use Rattle.aud_tap.specs.Json.{json_or}
 use Rattle.aud_tap.specs.TapName.{is_tap_name}
 use Rattle.aud_tap.specs.WellFormed.{is_session_id}
 use Rattle.aud_node.specs.Stream.{Text}
@@ -14,14 +13,14 @@ use Rattle.aud_rooms.specs.Spans.{RoomSpan}
 use Rattle.aud_cert_text.specs.declared.fault.CertFault.{CertFault}
 use Rattle.aud_cert_text.specs.declared.fault.CertFault.TheVariants.{Syntax, UnknownTap, Range}
 use Rattle.aud_cert.specs.Certificate.{TurnSeen, CertificateSeen, log_named, recs_named}
-use Rattle.aud_cert_text.specs.Steps.{◌>>=◌, need, guard, each}
+use Rattle.aud_cert_text.specs.Steps.{◌>>=◌, guard, each}
 use Rattle.aud_cert_text.specs.Parsed.{ParsedTurn, ParsedCertificate, parsed_certificate}
 
 -- ---- K1: the text
 
 -- the value of JSON text in UTF-8 (RFC 8259)
-unfoldable pub json_of : Text → Result Data CertFault
-json_of text = if is_utf8 text then need Syntax (read text) else Err Syntax
+abbrev pub json_of : Text → Result Data CertFault
+json_of = json_or Syntax
 
 -- there is a turn
 abbrev pub has_turns : List ParsedTurn → Bool

@@ -1,8 +1,7 @@
 //! Names of taps, looked up in the logs, and what is lent from there.
-ghost use Rattle.std.specs.Prelude.{◌≡◌, length, Ok, IfOk, IfSome, is_some, MatchResult};
-ghost use Rattle.std.specs.List.{All};
-ghost use Rattle.aud_cert_text.specs.Steps.{Gives, Fails, each};
-ghost use Rattle.aud_cert.specs.Certificate.{log_named, IsTurnOver, IsOver};
+ghost use Rattle.std.specs.Prelude.{◌≡◌, IfSome, is_some};
+ghost use Rattle.aud_cert_text.specs.Steps.{Gives, each};
+ghost use Rattle.aud_cert.specs.Certificate.{log_named};
 ghost use Rattle.aud_cert_text.specs.Reading.{is_node, is_client, turn_over, certificate_over};
 
 use crate::fault::CertFault;
@@ -47,7 +46,7 @@ fn client_named<'a>(logs: &'a Logs<'_>, name: &str) -> Option<&'a str>
 /// The turn with its records.
 #[tactic(auto, unfolding(crate::specs::Reading::turn_over))]
 fn turn<'a>(logs: &'a Logs<'_>, parsed: &ParsedTurn<'_>) -> Result<Turn<'a>, CertFault>
-    ensures { Gives result (turn_over logs.now parsed.now) }
+    ensures { Gives (λ turn. turn) result (turn_over logs.now parsed.now) }
 {
     let node = node_named(logs, parsed.node).ok_or(CertFault::UnknownTap)?;
     Ok(Turn {
@@ -65,18 +64,12 @@ fn turns<'a>(
     logs: &'a Logs<'_>,
     parsed: &[ParsedTurn<'_>],
 ) -> Result<Vec<Turn<'a>>, CertFault>
-    ensures reads { MatchResult result
-        (λ turns. each (turn_over logs.now) parsed.now ≡ Ok turns.items)
-        (λ e. Fails e (each (turn_over logs.now) parsed.now)) }
-    ensures over { IfOk result (λ turns. All (IsTurnOver logs.now) turns.items) }
-    ensures count { IfOk result (λ turns. length turns.items ≡ length parsed.now) }
+    ensures { Gives (λ turns. turns.items) result (each (turn_over logs.now) parsed.now) }
 {
     let mut turns = Vec::new(alloc);
     for parsed in parsed {
         let turn = turn(logs, parsed)?;
-        if turns.push(turn).is_err() {
-            return Err(CertFault::Memory);
-        }
+        turns.push(turn)?;
     }
     Ok(turns)
 }
@@ -88,9 +81,7 @@ pub fn certificate<'a>(
     logs: &'a Logs<'_>,
     parsed: ParsedCertificate<'_, 'a>,
 ) -> Result<Certificate<'a>, CertFault>
-    ensures reads { Gives result (certificate_over logs.now parsed.entry) }
-    ensures over { IfOk result (λ cert. IsOver logs.now cert) }
-    ensures count { IfOk result (λ cert. length cert.turns ≡ length parsed.entry.turns) }
+    ensures { Gives (λ cert. cert) result (certificate_over logs.now parsed.entry) }
 {
     let client = client_named(logs, parsed.client).ok_or(CertFault::UnknownTap)?;
     let turns = turns(alloc, logs, parsed.turns.as_slice())?;

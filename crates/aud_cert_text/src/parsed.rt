@@ -1,16 +1,16 @@
 //! What the text of a certificate tells, before it is looked up in the logs.
-ghost use Rattle.std.specs.Prelude.{◌≡◌, Ok, MatchResult};
+ghost use Rattle.std.specs.Prelude.{◌≡◌, IfOk};
 ghost use Rattle.serde_json.specs.View.{view, items_view};
 ghost use Rattle.aud_tap.specs.Json.{text_at};
-ghost use Rattle.aud_cert_text.specs.declared.fault.CertFault.TheVariants.{Syntax, Memory};
+ghost use Rattle.aud_cert_text.specs.declared.fault.CertFault.TheVariants.{Syntax};
 ghost use Rattle.std.specs.Cow.{cow_str_bytes};
-ghost use Rattle.aud_cert_text.specs.Steps.{need, Gives, Fails};
+ghost use Rattle.aud_cert_text.specs.Steps.{need, Gives};
 ghost use Rattle.aud_cert_text.specs.Parsed.{text_in, number_in, nothing_in, parsed_span, parsed_turn, each_item, items_at, parsed_certificate};
 
 use crate::fault::CertFault;
 use aud_rooms::Span;
 use serde_json::Value;
-use std::alloc::Global;
+use std::alloc::{AllocError, Global};
 use std::borrow::CowStr;
 use std::marker::Model;
 
@@ -50,9 +50,7 @@ impl<'v, 'a> Model for ParsedCertificate<'v, 'a> {
 }
 
 fn text_in(place: usize, d: &Value) -> Result<&str, CertFault>
-    ensures { MatchResult result
-        (λ s. text_in place (view d.now) ≡ Ok s.now)
-        (λ e. Fails e (text_in place (view d.now))) }
+    ensures { Gives (λ s. s.now) result (text_in place (view d.now)) }
 {
     d.get(place)
         .and_then(Value::as_str)
@@ -60,7 +58,7 @@ fn text_in(place: usize, d: &Value) -> Result<&str, CertFault>
 }
 
 fn number_in(place: usize, d: &Value) -> Result<u64, CertFault>
-    ensures { Gives result (number_in place (view d.now)) }
+    ensures { Gives (λ n. n) result (number_in place (view d.now)) }
 {
     d.get(place)
         .and_then(Value::as_u64)
@@ -68,7 +66,7 @@ fn number_in(place: usize, d: &Value) -> Result<u64, CertFault>
 }
 
 fn nothing_in(place: usize, d: &Value) -> Result<(), CertFault>
-    ensures { Gives result (nothing_in place (view d.now)) }
+    ensures { Gives (λ none. none) result (nothing_in place (view d.now)) }
 {
     match d.get(place) {
         Some(_) => Err(CertFault::Syntax),
@@ -77,19 +75,16 @@ fn nothing_in(place: usize, d: &Value) -> Result<(), CertFault>
 }
 
 /// A copy of a text.
-fn copied<'a>(alloc: Global, text: &str) -> Result<CowStr<'a>, CertFault>
-    ensures { MatchResult result (λ copy. cow_str_bytes copy ≡ text.now) (λ e. e ≡ Memory) }
+fn copied<'a>(alloc: Global, text: &str) -> Result<CowStr<'a>, AllocError>
+    ensures { IfOk result (λ copy. cow_str_bytes copy ≡ text.now) }
 {
-    match String::from_str(alloc, text) {
-        Ok(copy) => Ok(CowStr::Owned(copy)),
-        Err(_) => Err(CertFault::Memory),
-    }
+    Ok(CowStr::Owned(String::from_str(alloc, text)?))
 }
 
 /// The room is copied.
 #[tactic(auto, unfolding(crate::specs::Parsed::parsed_span))]
 fn span<'a>(alloc: Global, d: &Value) -> Result<Span<'a>, CertFault>
-    ensures { Gives result (parsed_span (view d.now)) }
+    ensures { Gives (λ span. span) result (parsed_span (view d.now)) }
 {
     let room = text_in(0, d)?;
     let first = number_in(1, d)?;
@@ -101,7 +96,7 @@ fn span<'a>(alloc: Global, d: &Value) -> Result<Span<'a>, CertFault>
 
 #[tactic(auto, unfolding(crate::specs::Parsed::parsed_turn))]
 fn turn<'v>(d: &'v Value) -> Result<ParsedTurn<'v>, CertFault>
-    ensures { Gives result (parsed_turn (view d.now)) }
+    ensures { Gives (λ turn. turn) result (parsed_turn (view d.now)) }
 {
     let node = text_in(0, d)?;
     let from = number_in(1, d)?;
@@ -119,9 +114,7 @@ fn turn<'v>(d: &'v Value) -> Result<ParsedTurn<'v>, CertFault>
 }
 
 fn items_at<'v>(key: &str, d: &'v Value) -> Result<&'v [Value], CertFault>
-    ensures { MatchResult result
-        (λ vs. items_at key.now (view d.now) ≡ Ok (items_view vs.now))
-        (λ e. Fails e (items_at key.now (view d.now))) }
+    ensures { Gives (λ vs. items_view vs.now) result (items_at key.now (view d.now)) }
 {
     let Some(list) = d.get(key).and_then(Value::as_array) else {
         return Err(CertFault::Syntax);
@@ -130,39 +123,29 @@ fn items_at<'v>(key: &str, d: &'v Value) -> Result<&'v [Value], CertFault>
 }
 
 fn text_at<'v>(key: &str, d: &'v Value) -> Result<&'v str, CertFault>
-    ensures { MatchResult result
-        (λ s. need Syntax (text_at key.now (view d.now)) ≡ Ok s.now)
-        (λ e. Fails e (need Syntax (text_at key.now (view d.now)))) }
+    ensures { Gives (λ s. s.now) result (need Syntax (text_at key.now (view d.now))) }
 {
     d.get(key).and_then(Value::as_str).ok_or(CertFault::Syntax)
 }
 
 fn spans<'a>(alloc: Global, items: &[Value]) -> Result<Vec<Span<'a>>, CertFault>
-    ensures { MatchResult result
-        (λ spans. each_item parsed_span (items_view items.now) ≡ Ok spans.items)
-        (λ e. Fails e (each_item parsed_span (items_view items.now))) }
+    ensures { Gives (λ spans. spans.items) result (each_item parsed_span (items_view items.now)) }
 {
     let mut spans = Vec::new(alloc);
     for d in items {
         let span = span(alloc, d)?;
-        if spans.push(span).is_err() {
-            return Err(CertFault::Memory);
-        }
+        spans.push(span)?;
     }
     Ok(spans)
 }
 
 fn turns<'v>(alloc: Global, items: &'v [Value]) -> Result<Vec<ParsedTurn<'v>>, CertFault>
-    ensures { MatchResult result
-        (λ turns. each_item parsed_turn (items_view items.now) ≡ Ok turns.items)
-        (λ e. Fails e (each_item parsed_turn (items_view items.now))) }
+    ensures { Gives (λ turns. turns.items) result (each_item parsed_turn (items_view items.now)) }
 {
     let mut turns = Vec::new(alloc);
     for d in items {
         let turn = turn(d)?;
-        if turns.push(turn).is_err() {
-            return Err(CertFault::Memory);
-        }
+        turns.push(turn)?;
     }
     Ok(turns)
 }
@@ -170,7 +153,7 @@ fn turns<'v>(alloc: Global, items: &'v [Value]) -> Result<Vec<ParsedTurn<'v>>, C
 /// What the JSON tells; unknown keys are passed over.
 #[tactic(auto, unfolding(crate::specs::Parsed::parsed_certificate))]
 pub fn parsed<'v, 'a>(alloc: Global, d: &'v Value) -> Result<ParsedCertificate<'v, 'a>, CertFault>
-    ensures { Gives result (parsed_certificate (view d.now)) }
+    ensures { Gives (λ parsed. parsed) result (parsed_certificate (view d.now)) }
 {
     let client = text_at("client", d)?;
     let pid = text_at("pid", d)?;

@@ -1,9 +1,9 @@
 //! The reading of a certificate.
-ghost use Rattle.std.specs.Prelude.{◌≡◌, ◌<◌, length, Ok, IfOk, MatchResult};
+ghost use Rattle.std.specs.Prelude.{◌≡◌, ◌<◌, length, IfOk};
 ghost use Rattle.std.specs.List.{list_all};
 ghost use Rattle.serde_json.specs.View.{view};
 ghost use Rattle.aud_tap.specs.TapName.{is_tap_name};
-ghost use Rattle.aud_cert_text.specs.Steps.{Gives, Fails};
+ghost use Rattle.aud_cert_text.specs.Steps.{Gives};
 ghost use Rattle.aud_cert_text.specs.Parsed.{ParsedTurn};
 ghost use Rattle.aud_cert.specs.Certificate.{IsOver};
 ghost use Rattle.aud_cert_text.specs.Sound.{IsSound};
@@ -21,9 +21,7 @@ use std::alloc::Global;
 
 /// The value of JSON text.
 fn json(alloc: Global, text: &[u8]) -> Result<Value, CertFault>
-    ensures { MatchResult result
-        (λ value. json_of text.now ≡ Ok (view value))
-        (λ e. Fails e (json_of text.now)) }
+    ensures { Gives view result (json_of text.now) }
 {
     match Value::from_slice(alloc, text) {
         Ok(value) => Ok(value),
@@ -63,7 +61,7 @@ pub fn read_cert<'a>(
     text: &[u8],
     logs: &'a Logs<'_>,
 ) -> Result<Certificate<'a>, CertFault>
-    ensures reads { Gives result (certificate_of logs.now text.now) }
+    ensures reads { Gives (λ cert. cert) result (certificate_of logs.now text.now) }
     ensures over { IfOk result (λ cert. IsOver logs.now cert) }
     ensures some { IfOk result (λ cert. 0 < length cert.turns) }
     ensures sound { IfOk result (λ cert. IsSound logs.now cert) }
@@ -78,10 +76,7 @@ fn certificate_in<'a>(
     d: &Value,
     logs: &'a Logs<'_>,
 ) -> Result<Certificate<'a>, CertFault>
-    ensures reads { Gives result (certificate_in logs.now (view d.now)) }
-    ensures over { IfOk result (λ cert. IsOver logs.now cert) }
-    ensures some { IfOk result (λ cert. 0 < length cert.turns) }
-    ensures sound { IfOk result (λ cert. IsSound logs.now cert) }
+    ensures { Gives (λ cert. cert) result (certificate_in logs.now (view d.now)) }
 {
     let parsed = parsed(alloc, d)?;
     if !is_formed(&parsed) {

@@ -1,13 +1,11 @@
 //! The text of a certificate.
-ghost use Rattle.std.specs.Prelude.{◌≡◌, Ok, IfOk, IfErr, string_bytes};
+ghost use Rattle.std.specs.Prelude.{◌≡◌, Ok, IfOk, string_bytes};
 ghost use Rattle.serde_json.specs.View.{view, items_view};
 ghost use Rattle.aud_node.specs.Cluster.{Cluster};
-ghost use Rattle.aud_cert_text.specs.declared.fault.CertFault.TheVariants.{Memory};
-ghost use Rattle.aud_cert_text.specs.Reading.{json_of, certificate_of};
+ghost use Rattle.aud_cert_text.specs.Reading.{certificate_of};
 ghost use Rattle.aud_cert_text.specs.Sound.{IsSound};
 ghost use Rattle.aud_cert_text.specs.Text.{items, span_data, turn_data, certificate_data, certificate_text};
 
-use crate::fault::CertFault;
 use aud_cert::{Certificate, Turn};
 use aud_rooms::Span;
 use serde_json::{Value, json};
@@ -56,23 +54,12 @@ fn certificate_value(alloc: Global, cert: &Certificate<'_>) -> Result<Value, All
     json!(in alloc; {"client": cert.client, "pid": pid, "spans": span_values(alloc, spans)?, "turns": turn_values(alloc, turns)?})
 }
 
-fn certificate_json(alloc: Global, cert: &Certificate<'_>) -> Result<String, AllocError>
-    ensures text { IfOk result (λ text. string_bytes text ≡ certificate_text cert.now) }
-    ensures reads { IfOk result (λ text. json_of (string_bytes text) ≡ Ok (certificate_data cert.now)) }
+/// The text of a certificate: one line of JSON without blanks and without a newline, its keys in byte order. Its records
+/// are not written.
+pub fn write_cert(alloc: Global, cert: &Certificate<'_>) -> Result<String, AllocError>
+    ensures written { IfOk result (λ text. string_bytes text ≡ certificate_text cert.now) }
+    ensures reads_back { IfOk result (λ text. (c : Cluster) → IsSound c cert.now → certificate_of c (string_bytes text) ≡ Ok cert.now) }
 {
     let value = certificate_value(alloc, cert)?;
     value.to_string(alloc)
-}
-
-/// The text of a certificate: one line of JSON without blanks and without a newline, its keys in byte order. Its records
-/// are not written. The one error is `Memory`.
-pub fn write_cert(alloc: Global, cert: &Certificate<'_>) -> Result<String, CertFault>
-    ensures written { IfOk result (λ text. string_bytes text ≡ certificate_text cert.now) }
-    ensures refused { IfErr result (λ e. e ≡ Memory) }
-    ensures reads_back { IfOk result (λ text. (c : Cluster) → IsSound c cert.now → certificate_of c (string_bytes text) ≡ Ok cert.now) }
-{
-    match certificate_json(alloc, cert) {
-        Ok(text) => Ok(text),
-        Err(_) => Err(CertFault::Memory),
-    }
 }

@@ -19,7 +19,7 @@ use Rattle.aud_rooms.specs.Spans.{first_low}
 use Rattle.aud_check.specs.Shown.{opened_sid, opened_nsp, who_in, who_of, slices_at}
 use Rattle.aud_check.specs.Private.ShownBounds.{first_shown_low, greatest_shown_high}
 use Rattle.aud_check.specs.TurnRefusals.{is_begun_by, IsTurnAccepted, AreTurnsAccepted}
-use Rattle.aud_check.proofs.Slices.{within_at, between-more}
+use Rattle.aud_base.proofs.Lists.{element_at, between-more}
 use Rattle.aud_check.proofs.TurnRefusals.{begun-some, from_within, from_to}
 
 -- the session's `open` as the turn's first record
@@ -45,7 +45,7 @@ module _ (c : Cluster) (pid : Text) (k : ℕ) (t : TurnSeen) (later : List TurnS
   inside = from_within (log_named c t.node) t.from t.to t.recs over some_recs
 
   pub first : (rec : NodeRec) × (slice_get (log_named c t.node) t.from ≡ Some rec)
-  first = within_at (log_named c t.node) t.from inside
+  first = element_at (log_named c t.node) t.from inside
 
   recs_are : t.recs ≡ first.0 ∷ between (log_named c t.node) (suc t.from) t.to
   recs_are = over ∙ between-more (log_named c t.node) t.from t.to first.0 below first.1

@@ -1,32 +1,24 @@
 -- Due positions ascend, and so do those that they begin with.
-use Rattle.std.proofs.Common.{◌≡◌, ◌<◌, ◌+◌, ℕ, zero, suc, Bool, List, length, get_or, refl, sym, ap, ◌∙◌, arith, length-append}
-use Rattle.std.specs.List.{filter}
-use Rattle.std.specs.List.Sorted.{IsStrictlyIncreasing}
+use Rattle.std.proofs.Common.{◌≡◌, ◌<◌, ◌≤◌, ◌+◌, ℕ, zero, suc, Bool, List, length, get_or, sym, ap, ◌∙◌, arith, length-append}
+use Rattle.std.specs.List.{All, filter}
 use Rattle.std.proofs.lemmas.List.{get_or_append_left}
-use Rattle.std.proofs.lemmas.List.Kept.{AllPairs-from_increasing, IsStrictlyIncreasing-filter}
+use Rattle.std.proofs.lemmas.List.Elements.{All-nil, All-cons}
+use Rattle.std.proofs.lemmas.List.Kept.{AllPairs-cons, AllPairs-filter}
 use Rattle.aud_node.specs.Stream.{positions_after}
 use Rattle.aud_merge.specs.ByTurns.{IsPrefixOf}
 use Rattle.aud_check.specs.Private.Ascending.{IsAscending}
 
-get_or-positions : (p count k d : ℕ) → k < count → get_or (positions_after p count) k d ≡ p + k + 1
-get_or-positions p zero k d h = absurd (omega arith)
-get_or-positions p (suc count) zero d h = omega arith
-get_or-positions p (suc count) (suc k) d h = get_or-positions (suc p) count k d (omega arith) ∙ omega arith
+above : (q p count : ℕ) → q ≤ p → All (λ x. q < x) (positions_after p count)
+above q p zero h = All-nil (λ x. q < x)
+above q p (suc count) h = All-cons (λ x. q < x) (suc p) (positions_after (suc p) count) (omega arith) (above q (suc p) count (omega arith))
 
-length-positions : (p count : ℕ) → length (positions_after p count) ≡ count
-length-positions p zero = refl
-length-positions p (suc count) = ap suc (length-positions (suc p) count)
-
-increasing : (p count : ℕ) → IsStrictlyIncreasing (positions_after p count)
-increasing p count k h =
-    let long = length-positions p count in
-    let one = get_or-positions p count k 0 (omega (arith, long)) in
-    let other = get_or-positions p count (k + 1) 0 (omega (arith, long)) in
-    omega (arith, one, other)
+all_ascend : (p count : ℕ) → IsAscending (positions_after p count)
+all_ascend p zero = λ i j d less within. absurd (omega arith)
+all_ascend p (suc count) = AllPairs-cons (λ x y. x < y) (suc p) (positions_after (suc p) count) (above (suc p) (suc p) count (omega arith)) (all_ascend (suc p) count)
 
 -- positions that pass a test ascend
 pub ascending : (test : ℕ → Bool) (p count : ℕ) → IsAscending (filter test (positions_after p count))
-ascending test p count = AllPairs-from_increasing (filter test (positions_after p count)) (IsStrictlyIncreasing-filter test (positions_after p count) (increasing p count))
+ascending test p count = AllPairs-filter (λ x y. x < y) test (positions_after p count) (all_ascend p count)
 
 -- the front of ascending ones ascends
 pub front_ascends : (xs ys : List ℕ) → IsPrefixOf xs ys → IsAscending ys → IsAscending xs

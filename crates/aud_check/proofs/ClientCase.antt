@@ -15,11 +15,13 @@ use Rattle.aud_cert.specs.Certificate.{place_named}
 use Rattle.aud_client.specs.StaySeen.{StaySeen, FrameSeen}
 use Rattle.aud_client.specs.Received.{TranscriptSeen, transcript_of, received_list, stays_naming, frames_by_stay, are_in_namespace}
 use Rattle.aud_check.specs.Client.{case_for}
-use Rattle.aud_check.specs.Private.ClientCheck.{transcript_named}
+use Rattle.aud_check.specs.Private.ClientCheck.{IsClientRefusal, transcript_named}
 use Rattle.aud_check.specs.Faults.{Case}
 use Rattle.aud_check.specs.NamedStays.{are_of_session, is_of_session, is_empty, has_sid}
 use Rattle.aud_check.specs.Shown.{recs_or_none}
-use Rattle.aud_check.specs.Private.Wrong.{by_stays}
+use Rattle.aud_check.specs.Private.ReceivedCheck.{by_stays, IsReceivedRefusal}
+use Rattle.aud_check.specs.declared.refusal.Refusal.{Refusal}
+use Rattle.aud_check.specs.declared.refusal.Refusal.TheVariants.{Received, Memory}
 
 all_in : (who : Who) (stays : List StaySeen) → list_all (is_of_session who) stays ≡ true → are_in_namespace who.nsp stays ≡ true
 all_in who [] all = refl
@@ -41,6 +43,12 @@ told_recs c client t is = go (client_at c (place_named c client)) refl is
 -- the stays of one session are in one namespace
 pub one_namespace : (who : Who) (stays : List StaySeen) → are_of_session who stays ≡ true → are_in_namespace who.nsp stays ≡ true
 one_namespace who stays is = all_in who stays (and_parts (not (is_empty stays)) (list_all (is_of_session who) stays) is).1
+
+-- where the tap tells of the session, the refusal of what was received is the tap's
+pub client_refused : (who : Who) (case : Case) → are_of_session who case.stays ≡ true → (refusal : Refusal) → IsReceivedRefusal case refusal → IsClientRefusal who case refusal
+client_refused who case named (Received fault) first = (named, first)
+client_refused who case named Memory first = tt
+client_refused who case named _ first = absurd first
 
 module _ (c : Cluster) (client : Text) (who : Who) (due : List ℕ) where
   -- the case of a tap with these records, where these are the frames

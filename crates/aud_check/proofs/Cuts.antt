@@ -1,67 +1,73 @@
 -- Ascending positions, cut at a place.
-use Rattle.std.proofs.Common.{◌≡◌, ◌<◌, ◌≤◌, ◌-◌, ℕ, zero, suc, Bool, true, false, ◌&&◌, List, [], ◌∷◌, ◌++◌, length, map, take, drop, get_or, Option, Some, None, nat_le, nat_lt, refl, sym, ap, ◌∙◌, ◌⊎◌, inl, inr, arith}
+use Rattle.std.proofs.Common.{◌≡◌, ◌<◌, ◌≤◌, ◌-◌, ℕ, zero, suc, Bool, true, ◌&&◌, List, [], ◌∷◌, ◌++◌, length, map, take, drop, get_or, Option, Some, None, slice_get, nat_le, nat_lt, refl, sym, ap, ◌∙◌, ◌⊎◌, inl, inr, arith}
 use Rattle.std.specs.List.{list_all}
-use Rattle.std.proofs.lemmas.Bool.{cases_lt, le-leb, lt-leb, lt-ltb, le-ltb}
-use Rattle.std.proofs.Math.Bool.{and-false}
+use Rattle.std.proofs.lemmas.Bool.{cases_lt, le-leb, lt-leb}
+use Rattle.std.proofs.lemmas.Option.{get_or_from_slice_get, none-some, same_Some}
+use Rattle.aud_base.proofs.Lists.{element_at}
+use Rattle.aud_base.proofs.Numbers.{lt_true, lt_false}
+use Rattle.aud_base.proofs.Truth.{and_true, and_none}
 use Rattle.aud_client.specs.StaySeen.{FrameSeen}
-use Rattle.aud_check.specs.Private.Ascending.{IsAscending, is_cut, is_cut_or_not}
+use Rattle.aud_check.specs.Private.Ascending.{IsAscending, is_cut_or_not}
 use Rattle.aud_check.specs.Frames.{is_cut_at}
 
-front_all : (q : ℕ) (xs : List ℕ) (count : ℕ) → ((i : ℕ) → i < count → i < length xs → get_or xs i 0 ≤ q) → list_all (λ p. nat_le p q) (take count xs) ≡ true
-front_all q [] zero all = refl
-front_all q [] (suc count) all = refl
-front_all q (x ∷ xs) zero all = refl
-front_all q (x ∷ xs) (suc count) all =
-    ap (λ b. b && list_all (λ p. nat_le p q) (take count xs)) (le-leb x q (all 0 (omega arith) (omega arith)))
-    ∙ front_all q xs count (λ i a b. all (suc i) (omega arith) (omega arith))
+tail : (x : ℕ) (xs : List ℕ) → IsAscending (x ∷ xs) → IsAscending xs
+tail x xs up i j d less within = up (suc i) (suc j) d (omega arith) (omega arith)
 
-front_some : (q : ℕ) (xs : List ℕ) (count i : ℕ) → i < count → i < length xs → q < get_or xs i 0 → list_all (λ p. nat_le p q) (take count xs) ≡ false
-front_some q [] count i a b h = absurd (omega arith)
-front_some q (x ∷ xs) zero i a b h = absurd (omega arith)
-front_some q (x ∷ xs) (suc count) zero a b h = ap (λ b. b && list_all (λ p. nat_le p q) (take count xs)) (lt-leb x q h)
-front_some q (x ∷ xs) (suc count) (suc i) a b h = ap (λ b. nat_le x q && b) (front_some q xs count i (omega arith) (omega arith) h) ∙ and-false (nat_le x q)
+-- the positions after so many first ones ascend
+pub drop_ascends : (xs : List ℕ) (count : ℕ) → IsAscending xs → IsAscending (drop count xs)
+drop_ascends [] zero up = up
+drop_ascends [] (suc count) up = up
+drop_ascends (x ∷ xs) zero up = up
+drop_ascends (x ∷ xs) (suc count) up = drop_ascends xs count (tail x xs up)
 
-back_all : (q : ℕ) (xs : List ℕ) (count : ℕ) → ((i : ℕ) → count ≤ i → i < length xs → q < get_or xs i 0) → list_all (λ p. nat_lt q p) (drop count xs) ≡ true
-back_all q [] zero all = refl
-back_all q [] (suc count) all = refl
-back_all q (x ∷ xs) zero all =
-    ap (λ b. b && list_all (λ p. nat_lt q p) xs) (lt-ltb q x (all 0 (omega arith) (omega arith)))
-    ∙ back_all q xs zero (λ i a b. all (suc i) (omega arith) (omega arith))
-back_all q (x ∷ xs) (suc count) all = back_all q xs count (λ i a b. all (suc i) (omega arith) (omega arith))
+-- of two positions, the greater one tells whether neither passes a third, and the lesser one whether both do
+greater_tells : (x z q : ℕ) → x < z → (nat_le x q && nat_le z q) ≡ nat_le z q
+greater_tells x z q h = go (cases_lt q z)
+  where
+    go : (q < z) ⊎ (z ≤ q) → (nat_le x q && nat_le z q) ≡ nat_le z q
+    go (inl past) = ap (λ b. nat_le x q && b) (lt-leb z q past) ∙ and_none (nat_le x q) ∙ sym (lt-leb z q past)
+    go (inr upto) = ap (λ b. b && nat_le z q) (le-leb x q (omega arith))
 
-back_some : (q : ℕ) (xs : List ℕ) (count : ℕ) → count < length xs → get_or xs count 0 ≤ q → list_all (λ p. nat_lt q p) (drop count xs) ≡ false
-back_some q [] count b h = absurd (omega arith)
-back_some q (x ∷ xs) zero b h = ap (λ b. b && list_all (λ p. nat_lt q p) xs) (le-ltb q x h)
-back_some q (x ∷ xs) (suc count) b h = back_some q xs count (omega arith) h
+lesser_tells : (x y q : ℕ) → x < y → (nat_lt q x && nat_lt q y) ≡ nat_lt q x
+lesser_tells x y q h = go (cases_lt q x)
+  where
+    go : (q < x) ⊎ (x ≤ q) → (nat_lt q x && nat_lt q y) ≡ nat_lt q x
+    go (inl past) = ap (λ b. nat_lt q x && b) (lt_true q y (omega arith)) ∙ and_true (nat_lt q x)
+    go (inr upto) = ap (λ b. b && nat_lt q y) (lt_false q x upto) ∙ sym (lt_false q x upto)
 
-module _ (xs : List ℕ) (count q : ℕ) (ascending : IsAscending xs) (within : count ≤ length xs) where
-  front_holds : (count ≡ 0) ⊎ (get_or xs (count - 1) 0 ≤ q) → list_all (λ p. nat_le p q) (take count xs) ≡ true
-  front_holds (inl none) = front_all q xs count (λ i a b. absurd (omega arith))
-  front_holds (inr last) = front_all q xs count (λ i a b. below i a (cases_lt i (count - 1)))
-    where
-      below : (i : ℕ) → i < count → (i < count - 1) ⊎ (count - 1 ≤ i) → get_or xs i 0 ≤ q
-      below i a (inl before) = let x = ascending i (count - 1) 0 before (omega arith) in omega (arith, x, last)
-      below i a (inr at) = let same : i ≡ count - 1 = omega arith in let x = ap (λ k. get_or xs k 0) same in omega (arith, x, last)
+-- so the last of ascending ones tells for all
+upto_at : (q z : ℕ) (xs : List ℕ) (k : ℕ) → IsAscending xs → suc k ≡ length xs → slice_get xs k ≡ Some z → list_all (λ p. nat_le p q) xs ≡ nat_le z q
+upto_at q z [] k up e at = absurd (omega (arith, e))
+upto_at q z (x ∷ []) zero up e at = and_true (nat_le x q) ∙ ap (λ n. nat_le n q) (same_Some x z at)
+upto_at q z (x ∷ []) (suc k) up e at = absurd (omega (arith, e))
+upto_at q z (x ∷ y ∷ ys) zero up e at = absurd (omega (arith, e))
+upto_at q z (x ∷ y ∷ ys) (suc k) up e at =
+    let below : x < get_or (y ∷ ys) k 0 = up 0 (suc k) 0 (omega arith) (omega (arith, e)) in
+    let last = get_or_from_slice_get (y ∷ ys) k z 0 at in
+    ap (λ b. nat_le x q && b) (upto_at q z (y ∷ ys) k (tail x (y ∷ ys) up) (omega (arith, e)) at) ∙ greater_tells x z q (omega (arith, below, last))
 
-  -- it isn't, and another one comes next
-  pub cut_next : (count ≡ 0) ⊎ (get_or xs (count - 1) 0 ≤ q) → count < length xs → nat_lt q (get_or xs count 0) ≡ is_cut xs count q
-  cut_next front more = go (cases_lt q (get_or xs count 0)) ∙ sym (ap (λ b. b && list_all (λ p. nat_lt q p) (drop count xs)) (front_holds front))
-    where
-      go : (q < get_or xs count 0) ⊎ (get_or xs count 0 ≤ q) → nat_lt q (get_or xs count 0) ≡ list_all (λ p. nat_lt q p) (drop count xs)
-      go (inl past) = lt-ltb q (get_or xs count 0) past ∙ sym (back_all q xs count (λ i a b. above i a b (cases_lt count i)))
-        where
-          above : (i : ℕ) → count ≤ i → i < length xs → (count < i) ⊎ (i ≤ count) → q < get_or xs i 0
-          above i a b (inl after) = let x = ascending count i 0 after b in omega (arith, x, past)
-          above i a b (inr at) = let same : count ≡ i = omega arith in let x = ap (λ k. get_or xs k 0) same in omega (arith, x, past)
-      go (inr upto) = le-ltb q (get_or xs count 0) upto ∙ sym (back_some q xs count more upto)
+pub upto_last : (q z : ℕ) (xs : List ℕ) → IsAscending xs → Some z ≡ slice_get xs (length xs - 1) → nat_le z q ≡ list_all (λ p. nat_le p q) xs
+upto_last q z [] up at = absurd (none-some z (sym at))
+upto_last q z (x ∷ xs) up at = sym (upto_at q z (x ∷ xs) (length (x ∷ xs) - 1) up (omega arith) (sym at))
 
-  -- it isn't, and none comes next
-  pub cut_end : (count ≡ 0) ⊎ (get_or xs (count - 1) 0 ≤ q) → length xs ≤ count → true ≡ is_cut xs count q
-  cut_end front none =
-      sym (
-      ap (λ b. b && list_all (λ p. nat_lt q p) (drop count xs)) (front_holds front)
-      ∙ back_all q xs count (λ i a b. absurd (omega arith))
-      )
+pub upto_none : (q : ℕ) (xs : List ℕ) → None ≡ slice_get xs (length xs - 1) → true ≡ list_all (λ p. nat_le p q) xs
+upto_none q [] e = refl
+upto_none q (x ∷ xs) e = let (z, at) = element_at (x ∷ xs) (length (x ∷ xs) - 1) (omega arith) in absurd (none-some z (e ∙ at))
+
+-- and the first of them
+past_at : (q x : ℕ) (xs : List ℕ) → IsAscending (x ∷ xs) → list_all (λ p. nat_lt q p) (x ∷ xs) ≡ nat_lt q x
+past_at q x [] up = and_true (nat_lt q x)
+past_at q x (y ∷ ys) up =
+    let below : x < y = up 0 1 0 (omega arith) (omega arith) in
+    ap (λ b. nat_lt q x && b) (past_at q y ys (tail x (y ∷ ys) up)) ∙ lesser_tells x y q below
+
+pub past_first : (q z : ℕ) (xs : List ℕ) → IsAscending xs → Some z ≡ slice_get xs 0 → nat_lt q z ≡ list_all (λ p. nat_lt q p) xs
+past_first q z [] up at = absurd (none-some z (sym at))
+past_first q z (x ∷ xs) up at = ap (nat_lt q) (same_Some z x at) ∙ sym (past_at q x xs up)
+
+pub past_none : (q : ℕ) (xs : List ℕ) → None ≡ slice_get xs 0 → true ≡ list_all (λ p. nat_lt q p) xs
+past_none q [] e = refl
+past_none q (x ∷ xs) e = absurd (none-some x e)
 
 -- ---- frames by their positions
 

@@ -1,44 +1,54 @@
 -- The first fault, by what was found before it.
-use Rattle.std.proofs.Common.{◌≡◌, ◌<◌, ℕ, false, [], Some, None, sym, ap, subst, inl, inr, arith}
-use Rattle.std.specs.Option.{option_map}
+use Rattle.std.proofs.Common.{◌≡◌, ◌<◌, ℕ, false, List, [], Some, None, map, refl, sym, ap, subst, ◌∙◌, inl, inr, arith}
+use Rattle.aud_tap.specs.declared.records.StreamRec.{StreamRec}
+use Rattle.aud_node.specs.Stream.{Text}
+use Rattle.aud_client.specs.StaySeen.{StaySeen, FrameSeen}
+use Rattle.aud_client.specs.Received.{TranscriptSeen}
 use Rattle.aud_cert.specs.declared.fault.Fault.{Fault}
 use Rattle.aud_cert.specs.declared.fault.Fault.TheVariants.{Window}
 use Rattle.aud_check.specs.declared.compare.Mismatch.{Mismatch}
 use Rattle.aud_check.specs.declared.compare.Mismatch.TheVariants as wrong
-use Rattle.aud_check.specs.declared.received.Wrong.{Wrong}
-use Rattle.aud_check.specs.declared.received.Wrong.TheVariants as found
 use Rattle.aud_merge.specs.ByTurns.{IsPrefixOf}
 use Rattle.aud_check.specs.Compare.{mismatch}
-use Rattle.aud_check.specs.Frames.{AreEntries, wrong_window}
-use Rattle.aud_check.specs.Faults.{Case, HasFault, fault_of, fault_rank, positions_in}
+use Rattle.aud_check.specs.Frames.{AreEntries, frames_in, offset_at, wrong_window}
+use Rattle.aud_check.specs.Faults.{Case, HasFault, fault_of, fault_rank, named, position_in, positions_in}
 use Rattle.aud_check.specs.Private.FirstFault.{IsFirstFault}
-use Rattle.aud_check.specs.Private.Wrong.{IsFault, IsFirstWrong}
+use Rattle.aud_check.specs.Private.ReceivedCheck.{by_stays}
 use Rattle.aud_check.proofs.Agreed.{mismatch-none}
+use Rattle.aud_check.proofs.Cuts.{position_of}
+use Rattle.aud_check.proofs.Mismatched.{is_fault}
 use Rattle.aud_check.proofs.Ranks.{no_mismatch, what_is_left}
 
-module _ (case : Case) (decodes : case.transcript.bad ≡ None) (has_no_orphan : case.transcript.orphan ≡ false) (are_entries : AreEntries case.stream case.frames) where
-  -- none of the faults in front of a mismatch
-  none_in_front : (other : Fault) → fault_rank other < 3 → HasFault case other → ⊥
-  none_in_front other before h =
-      elim (what_is_left case decodes has_no_orphan are_entries other h) [
-        | inl found ↦ let rank = found.1 in omega (arith, before, rank)
-        | inr found ↦ let rank = found.1 in omega (arith, before, rank)
+module _ (stream : List StreamRec) (tap : TranscriptSeen) (stays : List StaySeen) (due : List ℕ) (frames : List FrameSeen) (positions : List ℕ) (of_stays : frames ≡ frames_in stays)
+    (of_frames : positions ≡ map position_of frames) (decodes : tap.bad ≡ None) (has_no_orphan : tap.orphan ≡ false) (are_entries : AreEntries stream frames) where
+  abbrev case : Case
+  case = by_stays stream tap stays due
+
+  own : positions ≡ positions_in case
+  own = of_frames ∙ ap (map position_of) of_stays
+
+  -- what holds is a mismatch or a window
+  left : (other : Fault) → fault_rank other < 4 → HasFault case other → (mismatch (positions_in case) due ≡ None → ⊥) × (fault_rank other ≡ 3)
+  left other before h =
+      elim (what_is_left case decodes has_no_orphan (subst (AreEntries stream) of_stays are_entries) other h) [
+        | inl found ↦ ((λ none. no_mismatch case none other found.0), found.1)
+        | inr found ↦ let rank = found.1 in absurd (omega (arith, before, rank))
       ]
 
-  of_mismatch : (m : Mismatch) → mismatch (positions_in case) case.due ≡ Some m → IsFirstFault case (fault_of case.stream m)
-  of_mismatch (wrong.Extra p) e = record { holds = ap (option_map (fault_of case.stream)) e; none_before = none_in_front }
-  of_mismatch _ e = record { holds = ap (option_map (fault_of case.stream)) e; none_before = none_in_front }
+  rank_of : (m : Mismatch) → fault_rank (fault_of stream m) ≡ 3
+  rank_of (wrong.Extra p) = refl
+  rank_of _ = refl
 
-  pub mismatch_first : (m : Mismatch) → mismatch (positions_in case) case.due ≡ Some m → (w : Wrong) → IsFault (fault_of case.stream m) w → IsFirstWrong case w
-  mismatch_first m e (found.Fault f) is = subst (IsFirstFault case) (sym is) (of_mismatch m e)
-  mismatch_first m e found.Memory is = tt
+  of_mismatch : (m : Mismatch) → mismatch (positions_in case) due ≡ Some m → IsFirstFault case (fault_of stream m)
+  of_mismatch m e = record { holds = is_fault case m e; none_before = λ other before h. let rank = (left other (omega (arith, before, rank_of m)) h).1 in omega (arith, before, rank, rank_of m) }
 
-  pub window_first : IsPrefixOf (positions_in case) case.due → (c : ℕ) → wrong_window case.stream [] case.stays ≡ Some c → IsFirstFault case (Window c)
-  window_first prefix c e = record { holds = e; none_before = go }
-    where
-      go : (other : Fault) → fault_rank other < 4 → HasFault case other → ⊥
-      go other before h =
-          elim (what_is_left case decodes has_no_orphan are_entries other h) [
-            | inl found ↦ no_mismatch case ((mismatch-none (positions_in case) case.due).1 prefix) other found.0
-            | inr found ↦ let rank = found.1 in omega (arith, before, rank)
-          ]
+  pub mismatch_first : (m : Mismatch) → Some m ≡ mismatch positions due → (p : ℕ) → p ≡ position_in m → (off : Text) → off ≡ offset_at stream p → (f : Fault) → f ≡ named m off → IsFirstFault case f
+  mismatch_first m found p at off is f called =
+      subst (IsFirstFault case) (sym (called ∙ ap (named m) (is ∙ ap (offset_at stream) at))) (of_mismatch m (sym (found ∙ ap (λ ps. mismatch ps due) own)))
+
+  pub window_first : IsPrefixOf positions due → (n : ℕ) → Some n ≡ wrong_window stream [] stays → IsFirstFault case (Window n)
+  window_first prefix n found =
+      record {
+        holds = sym found;
+        none_before = λ other before h. (left other before h).0 ((mismatch-none (positions_in case) due).1 (subst (λ ps. IsPrefixOf ps due) own prefix));
+      }

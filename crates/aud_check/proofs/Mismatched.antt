@@ -6,7 +6,8 @@ use Rattle.aud_check.specs.declared.compare.Mismatch.TheVariants.{Extra}
 use Rattle.aud_check.specs.Compare.{mismatch}
 use Rattle.aud_check.specs.Faults.{Case, HasFault, fault_of, positions_in}
 
-is_fault : (case : Case) (m : Mismatch) → mismatch (positions_in case) case.due ≡ Some m → HasFault case (fault_of case.stream m)
+-- a mismatch is its fault
+pub is_fault : (case : Case) (m : Mismatch) → mismatch (positions_in case) case.due ≡ Some m → HasFault case (fault_of case.stream m)
 is_fault case (Extra p) e = ap (option_map (fault_of case.stream)) e
 is_fault case _ e = ap (option_map (fault_of case.stream)) e
 

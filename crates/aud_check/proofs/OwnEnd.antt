@@ -1,7 +1,7 @@
 -- How a turn ends, by the session's own records alone.
-use Rattle.std.proofs.Common.{◌≡◌, ◌<◌, ◌≤◌, ◌+◌, ℕ, zero, suc, Bool, true, false, cond, ◌&&◌, List, [], ◌∷◌, length, min, max, Option, Some, None, slice_get, get_or, refl, sym, ap, subst, ◌∙◌, ◌⊎◌, inl, inr, nat_eq, nat_lt, arith, true≢false}
+use Rattle.std.proofs.Common.{◌≡◌, ◌<◌, ◌≤◌, ◌+◌, ℕ, zero, suc, Bool, true, false, cond, ◌&&◌, List, [], ◌∷◌, length, min, max, Option, Some, None, slice_get, get_or, refl, sym, ap, subst, ◌∙◌, ◌⊎◌, inl, inr, nat_eq, nat_le, nat_lt, arith}
 use Rattle.std.specs.List.{filter}
-use Rattle.std.proofs.lemmas.Bool.{cases_eq, cases_lt, eq-eqb, ne_eqb, le-leb, lt-leb}
+use Rattle.std.proofs.lemmas.Bool.{and_parts, cases_eq, cases_lt, eq-eqb, ne_eqb, le-leb, leb-true, lt-leb}
 use Rattle.std.proofs.lemmas.Option.{slice_get_within}
 use Rattle.std.proofs.lemmas.List.Elements.{All-get_or, filter_passes}
 use Rattle.aud_tap.specs.declared.records.NodeRec.{NodeRec}
@@ -11,7 +11,8 @@ use Rattle.aud_node.specs.Stream.{Text}
 use Rattle.aud_node.specs.OwnRecords.{record_names, own_numbers}
 use Rattle.aud_rooms.specs.TurnPlaces.{is_between, own_between}
 use Rattle.aud_rooms.specs.Turns.{Part, Inner, Last, Foreign, End, ByBreak, ByGone, ByLog, part_of, end_past, turn_end}
-use Rattle.aud_check.proofs.Slices.{within_at, between-more, between-past}
+use Rattle.aud_base.proofs.Lists.{element_at, between-more}
+use Rattle.aud_check.proofs.Slices.{between-past}
 
 abbrev pub part_at : Text → ℕ → Option NodeRec → Part
 part_at pid k None = Foreign
@@ -74,7 +75,7 @@ module _ (pid : Text) (k : ℕ) (log : List NodeRec) (from to : ℕ) where
           ap (λ b. numbered_end (Last e) b rest) (eq-eqb (i + 1) last same)
           ∙ sym (ap (λ recs. end_past (Last e) recs rest) (between-past log (suc i) to (omega arith)))
       go (inr more) =
-          let (next, at) = within_at log (suc i) (omega (arith, more)) in
+          let (next, at) = element_at log (suc i) (omega (arith, more)) in
           ap (λ b. numbered_end (Last e) b rest) (ne_eqb (i + 1) last more)
           ∙ sym (ap (λ recs. end_past (Last e) recs rest) (between-more log (suc i) to next (omega (arith, more)) at))
 
@@ -116,7 +117,7 @@ module _ (pid : Text) (k : ℕ) (log : List NodeRec) (from to : ℕ) where
   own_end-from : (count a : ℕ) → a + count ≡ length log → EndsFrom a (filter own (numbers_from a count))
   own_end-from zero a e = sym (ap (turn_end pid k) (between-past log (max from a) to (omega arith)))
   own_end-from (suc count) a e =
-      let (rec, at) = within_at log a (omega arith) in
+      let (rec, at) = element_at log a (omega arith) in
       let rest : List ℕ = filter own (numbers_from (suc a) count) in
       let ih : EndsFrom (suc a) rest = own_end-from count (suc a) (omega arith) in
       subst (λ b. EndsFrom a (cond b (a ∷ rest) rest)) (sym (ap (λ o. record_names o pid) at))
@@ -128,17 +129,10 @@ module _ (pid : Text) (k : ℕ) (log : List NodeRec) (from to : ℕ) where
       let same : from ≡ max from 0 = omega arith in
       ap (λ n. turn_end pid k (between log n to)) same ∙ sym (own_end-from (length log) 0 (omega arith))
 
-  not_high : (number : ℕ) → to ≤ number → (number < from) ⊎ (from ≤ number) → is_between from to number ≡ false
-  not_high number high (inl low) = too_low from to number low
-  not_high number high (inr above) = too_high from to number above high
-
-  below_to : (number : ℕ) → is_between from to number ≡ true → (number < to) ⊎ (to ≤ number) → number < to
-  below_to number e (inl below) = below
-  below_to number e (inr high) = absurd (true≢false (sym e ∙ not_high number high (cases_lt number from)))
-
   -- those numbers are below the end
   pub below_end : (i : ℕ) → i < length (own_between log pid from to) → get_or (own_between log pid from to) i 0 < to
   below_end i h =
       let number = get_or (own_between log pid from to) i 0 in
       let passes = All-get_or (λ n. is_between from to n ≡ true) (own_between log pid from to) i 0 h (filter_passes (is_between from to) (own_numbers log pid)) in
-      below_to number passes (cases_lt number to)
+      let below = leb-true (suc number) to (and_parts (nat_le from number) (nat_lt number to) passes).1 in
+      omega (arith, below)

@@ -1,5 +1,5 @@
 -- One element more of a list, as a loop reads it.
-use Rattle.std.proofs.Common.{add-one, ◌≡◌, ◌<◌, ◌+◌, ◌==◌, ℕ, Bool, false, List, [], ◌∷◌, ◌++◌, length, map, take, drop, get_or, Option, Some, slice_get, refl, sym, ap, subst, ◌∙◌, arith, append-nil, true≢false}
+use Rattle.std.proofs.Common.{add-one, ◌≡◌, ◌<◌, ◌+◌, ◌==◌, ℕ, Bool, false, List, [], ◌∷◌, ◌++◌, length, map, take, drop, get_or, Some, slice_get, refl, sym, ap, subst, ◌∙◌, arith, append-nil, true≢false}
 use Rattle.std.specs.List.{list_all}
 use Rattle.std.specs.Option.{option_map}
 use Rattle.std.proofs.lemmas.Grind.{flat_map-append}
@@ -12,14 +12,10 @@ use Rattle.aud_rooms.specs.Turns.{Who}
 use Rattle.aud_client.specs.StaySeen.{StaySeen, FrameSeen}
 use Rattle.aud_check.specs.Frames.{AreEntries, IsEntry, IsFirstAltered, frames_in}
 use Rattle.aud_check.specs.NamedStays.{are_of_session, is_of_session}
-use Rattle.aud_check.proofs.Slices.{drop_at}
+use Rattle.aud_base.proofs.Lists.{drop_at}
 
 pub at_map : {X Y : Type 0} (f : X → Y) (xs : List X) (i : ℕ) (x : X) → i < length xs → x ≡ get_or xs i x → slice_get (map f xs) i ≡ Some (f x)
-at_map {X} {Y} f xs i x h is =
-    slice_get-map f xs i ∙ go (slice_get xs i) (slice_get_read xs (length xs) i x refl h is)
-  where
-    go : (o : Option X) → o ≡ Some x → option_map f o ≡ Some (f x)
-    go o e = ap (option_map f) e
+at_map f xs i x h is = slice_get-map f xs i ∙ ap (option_map f) (slice_get_read xs (length xs) i x refl h is)
 
 pub take_at : {Y : Type 0} (ys : List Y) (i : ℕ) (y : Y) → slice_get ys i ≡ Some y → take (i + 1) ys ≡ take i ys ++ y ∷ []
 take_at ys i y at = rw add-one (take-suc ys i y (slice_get_within ys i y at) ∙ ap (λ z. take i ys ++ z ∷ []) (get_or_from_slice_get ys i y y at))
@@ -66,13 +62,9 @@ mapped_more f g xs i x old new h is was more =
 
 -- ---- attachments
 
-same_map : {X Y Z : Type 0} (f : X → Y) (g : Y → Z) (xs : List X) → map g (map f xs) ≡ map (λ x. g (f x)) xs
-same_map f g [] = refl
-same_map f g (x ∷ xs) = ap (λ zs. g (f x) ∷ zs) (same_map f g xs)
-
 module _ {X Y Z : Type 0} (f : X → Y) (g : Y → Z) (xs : List X) (zs : List Z) (i : ℕ) (x : X) (z : Z) (h : i < length xs) (is : x ≡ get_or xs i x) (k : i < length zs) (at : z ≡ get_or zs i z) where
   left_at : slice_get (map g (map f xs)) i ≡ Some (g (f x))
-  left_at = ap (λ ys. slice_get ys i) (same_map f g xs) ∙ at_map (λ y. g (f y)) xs i x h is
+  left_at = slice_get-map g (map f xs) i ∙ ap (option_map g) (at_map f xs i x h is)
 
   right_at : slice_get zs i ≡ Some z
   right_at = slice_get_read zs (length zs) i z refl k at

@@ -1,5 +1,5 @@
 -- What the stays asked for, one after another.
-use Rattle.std.proofs.Common.{◌≡◌, ◌≤◌, ◌+◌, ◌-◌, ◌<◌, ℕ, Bool, true, false, cond, not, ◌&&◌, List, [], ◌∷◌, ◌++◌, length, map, take, drop, get_or, Some, slice_get, sym, ap, ◌∙◌, arith, append-nil, length-append}
+use Rattle.std.proofs.Common.{◌≡◌, ◌≤◌, ◌+◌, ◌-◌, ◌<◌, ℕ, Bool, cond, not, ◌&&◌, List, [], ◌∷◌, ◌++◌, length, map, take, drop, get_or, Some, slice_get, sym, ap, ◌∙◌, arith, append-nil, length-append}
 use Rattle.std.proofs.lemmas.Grind.{flat_map-append}
 use Rattle.std.proofs.lemmas.List.{length-map, take-append-drop}
 use Rattle.aud_tap.specs.declared.records.StreamRec.{StreamRec}
@@ -47,19 +47,13 @@ module _ {X : Type 0} (f : X → StaySeen) (stream : List StreamRec) (xs : List 
       ∙ ap (λ n. is_recovered stay && not (is_cut_or_not (map position_of (frames_in (take i stays) ++ frames_in (stay ∷ drop (i + 1) stays))) n (asked_position stream stay.asked))) counted
       ∙ sym (ap (λ b. is_recovered stay && not b) (is_between-cut (frames_in (take i stays)) (frames_in (stay ∷ drop (i + 1) stays)) (asked_position stream stay.asked)))
 
-  judged : (b : Bool) → b ≡ (is_recovered stay && not (is_cut_or_not positions count (asked_position stream stay.asked)))
+  -- whether the stay was asked wrongly says whether the next ones are looked at
+  pub judged : (b : Bool) → b ≡ (is_recovered stay && not (is_cut_or_not positions count (asked_position stream stay.asked)))
       → wrong_window stream (take i stays) (drop i stays) ≡ cond b (Some stay.c) (wrong_window stream (take (i + 1) stays) (drop (i + 1) stays))
   judged b is =
       ap (wrong_window stream (take i stays)) (drop_from stays i stay at)
       ∙ ap (λ z. cond z (Some stay.c) (wrong_window stream (take i stays ++ stay ∷ []) (drop (i + 1) stays))) (sym (is ∙ wrongly))
       ∙ ap (λ ss. cond b (Some stay.c) (wrong_window stream ss (drop (i + 1) stays))) (sym (take_at stays i stay at))
-
-  pub asked_wrongly : (b : Bool) → b ≡ (is_recovered stay && not (is_cut_or_not positions count (asked_position stream stay.asked))) → b ≡ true → Some stay.c ≡ wrong_window stream (take i stays) (drop i stays)
-  asked_wrongly b is e = sym (judged b is ∙ ap (λ z. cond z (Some stay.c) (wrong_window stream (take (i + 1) stays) (drop (i + 1) stays))) e)
-
-  pub asked_rightly : (b : Bool) → b ≡ (is_recovered stay && not (is_cut_or_not positions count (asked_position stream stay.asked))) → b ≡ false
-      → wrong_window stream (take (i + 1) stays) (drop (i + 1) stays) ≡ wrong_window stream (take i stays) (drop i stays)
-  asked_rightly b is e = sym (judged b is ∙ ap (λ z. cond z (Some stay.c) (wrong_window stream (take (i + 1) stays) (drop (i + 1) stays))) e)
 
   -- the positions from the next stay on
   pub left_more : (length stay.frames ≤ left) × (length (frames_in (take (i + 1) stays)) + (left - length stay.frames) ≡ length positions)

@@ -6,4 +6,4 @@ pub mod ShownBounds
 pub mod TurnCheck
 pub mod Ascending
 pub mod TurnEnd
-pub mod Wrong
+pub mod ReceivedCheck

@@ -106,24 +106,16 @@ fn judge<'a>(
     ensures tail { IfOk result (λ a. a.got + a.tail ≡ length (shown_due logs.now (seen_as session.now.pid client.now turns.now spans.now))) }
     ensures turns { IfOk result (λ a. a.turns ≡ length turns.now) }
 {
-    match check_turns(logs, session.pid, turns) {
-        Ok(()) => {}
-        Err(refusal) => return Err(refusal),
+    check_turns(logs, session.pid, turns)?;
+    let are_theirs = are_spans(alloc, logs, session, turns, spans)?;
+    if !are_theirs {
+        return Err(Refusal::Span);
     }
-    match are_spans(alloc, logs, session, turns, spans) {
-        Ok(true) => {}
-        Ok(false) => return Err(Refusal::Span),
-        Err(_) => return Err(Refusal::Memory),
-    }
-    let Ok(due) = shown_due(alloc, logs, session, turns, spans) else {
-        return Err(Refusal::Memory);
-    };
-    match check_client(alloc, logs, session, client, transcript, due.as_slice()) {
-        Ok(got) => Ok(Accepted {
-            got,
-            tail: due.len() - got,
-            turns: turns.len(),
-        }),
-        Err(refusal) => Err(refusal),
-    }
+    let due = shown_due(alloc, logs, session, turns, spans)?;
+    let got = check_client(alloc, logs, session, client, transcript, due.as_slice())?;
+    Ok(Accepted {
+        got,
+        tail: due.len() - got,
+        turns: turns.len(),
+    })
 }

@@ -7,7 +7,7 @@ ghost use Rattle.aud_check.specs.Private.ClientCheck.{IsClientRefusal, transcrip
 ghost use Rattle.aud_check.specs.Faults.{IsReceived};
 ghost use Rattle.aud_check.specs.NamedStays.{are_of_session};
 
-use crate::received::{Wrong, check_received};
+use crate::received::check_received;
 use crate::refusal::Refusal;
 use crate::session::ShownSession;
 use crate::stays::are_of_session;
@@ -55,18 +55,12 @@ fn check_transcript(
     ensures refused { IfErr result (IsClientRefusal session.now (case_for logs.now client.now session.now.pid due.now)) }
 {
     received_by_stays();
-    let Ok(named) = transcript.naming(alloc, session.pid) else {
-        return Err(Refusal::Memory);
-    };
+    let named = transcript.naming(alloc, session.pid)?;
     let stays = named.as_slice();
     if !are_of_session(session, stays) {
         return Err(Refusal::Names);
     }
-    match check_received(alloc, logs.stream(), transcript.transcript(), stays, due) {
-        Ok(got) => Ok(got),
-        Err(Wrong::Fault(fault)) => Err(Refusal::Received(fault)),
-        Err(Wrong::Memory) => Err(Refusal::Memory),
-    }
+    check_received(alloc, logs.stream(), transcript.transcript(), stays, due)
 }
 
 /// What the client's tap with this name tells.

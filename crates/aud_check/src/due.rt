@@ -10,8 +10,7 @@ use crate::session::ShownSession;
 use aud_cert::Turn;
 use aud_node::Logs;
 use aud_rooms::{Span, due_by_spans_of_turns, due_of};
-use aud_tap::Memory;
-use std::alloc::Global;
+use std::alloc::{AllocError, Global};
 
 /// What is due to the session by the turns, which were accepted, and whose spans these are.
 pub(crate) fn shown_due(
@@ -20,7 +19,7 @@ pub(crate) fn shown_due(
     session: &ShownSession<'_, '_>,
     turns: &[Turn<'_>],
     spans: &[Span<'_>],
-) -> Result<Vec<u64>, Memory>
+) -> Result<Vec<u64>, AllocError>
     requires accepted { AreTurnsAccepted logs.now session.now.pid turns.now }
     requires spans { AreSpansOfTurns logs.now.stream session.now (slices_at logs.now turns.now) spans.now }
     ensures { IfOk result (λ due. due.items ≡ turns_due logs.now.stream session.now (slices_at logs.now turns.now)) }
@@ -28,8 +27,7 @@ pub(crate) fn shown_due(
     due_by_spans_of_turns();
     let birth = first_shown_low(turns);
     let high = greatest_shown_high(turns);
-    let due = due_of(alloc, spans, logs.stream(), session.nsp, birth, high)?;
-    Ok(due)
+    due_of(alloc, spans, logs.stream(), session.nsp, birth, high)
 }
 
 /// The position that the first turn starts from.

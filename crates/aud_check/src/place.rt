@@ -6,22 +6,19 @@ ghost use Rattle.aud_cert.specs.Certificate.{turn_at};
 use aud_cert::Turn;
 use aud_node::{Logs, Recs};
 use aud_rooms::TurnPlace;
-use aud_tap::Memory;
-use std::alloc::Global;
+use std::alloc::{AllocError, Global};
 
 /// Where the turns stand, turn after turn.
 pub(crate) fn places_of(
     alloc: Global,
     logs: &Logs<'_>,
     turns: &[Turn<'_>],
-) -> Result<Vec<TurnPlace>, Memory>
+) -> Result<Vec<TurnPlace>, AllocError>
     ensures { IfOk result (λ places. places.items ≡ map (turn_at logs.now) turns.now) }
 {
     let mut places = Vec::new(alloc);
     for turn in turns {
-        let Ok(()) = places.push(turn_place(logs, turn)) else {
-            return Err(Memory);
-        };
+        places.push(turn_place(logs, turn))?;
     }
     Ok(places)
 }

@@ -1,28 +1,21 @@
 //! What a client received of a session against what was due to it.
 ghost use Rattle.std.specs.Prelude.{◌≡◌, IfErr, IfOk, OnOk, length, map};
 ghost use Rattle.aud_client.specs.StaySeen.{FrameSeen};
-ghost use Rattle.aud_cert.specs.declared.fault.Fault.TheVariants.{Content};
 ghost use Rattle.aud_check.specs.Private.Ascending.{IsAscending};
-ghost use Rattle.aud_check.specs.Faults.{IsReceived, fault_of, named, position_in};
+ghost use Rattle.aud_check.specs.Faults.{IsReceived, named, position_in};
 ghost use Rattle.aud_check.specs.Frames.{frames_in, offset_at};
-ghost use Rattle.aud_check.specs.Private.Wrong.{IsFault, IsFirstWrong, by_stays};
+ghost use Rattle.aud_check.specs.Private.ReceivedCheck.{IsReceivedRefusal, by_stays};
 
 use crate::compare::{Mismatch, first_mismatch};
 use crate::content::first_altered;
+use crate::refusal::Refusal;
 use crate::stays::frames_in;
 use crate::window::wrong_window;
 use aud_cert::Fault;
 use aud_client::{Frame, Stay, Transcript};
 use aud_node::{Stream, offset};
-use aud_tap::{Memory, Text};
-use std::alloc::Global;
-
-/// What is wrong with what a client received, or want of memory.
-#[derive(Drop)]
-pub(crate) enum Wrong {
-    Fault(Fault),
-    Memory,
-}
+use aud_tap::Text;
+use std::alloc::{AllocError, Global};
 
 /// How many of the due positions were received, where nothing is wrong; else the first fault that holds. The stays are
 /// those that name the session.
@@ -32,45 +25,43 @@ pub(crate) fn check_received(
     received: &Transcript<'_>,
     stays: &[&Stay<'_>],
     due: &[u64],
-) -> Result<usize, Wrong>
+) -> Result<usize, Refusal>
     requires { IsAscending due.now }
     ensures received { OnOk result (IsReceived (by_stays stream.now received.now (map (λ stay. stay.now) stays.now) due.now)) }
     ensures got { IfOk result (λ got. got ≡ length (frames_in (map (λ stay. stay.now) stays.now))) }
-    ensures wrong { IfErr result (IsFirstWrong (by_stays stream.now received.now (map (λ stay. stay.now) stays.now) due.now)) }
+    ensures refused { IfErr result (IsReceivedRefusal (by_stays stream.now received.now (map (λ stay. stay.now) stays.now) due.now)) }
 {
     if received.bad.is_some() {
-        return Err(Wrong::Fault(Fault::Frame));
+        return Err(Refusal::Received(Fault::Frame));
     }
     if received.orphan {
-        return Err(Wrong::Fault(Fault::Orphan));
+        return Err(Refusal::Received(Fault::Orphan));
     }
-    let Ok(frames) = frames_in(alloc, stays) else {
-        return Err(Wrong::Memory);
-    };
-    if let Some(frame) = first_altered(stream, frames.as_slice()) {
-        return Err(content(alloc, stream, frame.position));
+    let frames = frames_in(alloc, stays)?;
+    let frames = frames.as_slice();
+    if let Some(frame) = first_altered(stream, frames) {
+        let altered = offset_at(alloc, stream, frame.position)?;
+        return Err(Refusal::Received(Fault::Content(altered)));
     }
-    let Ok(positions) = positions_of(alloc, frames.as_slice()) else {
-        return Err(Wrong::Memory);
-    };
-    if let Some(mismatch) = first_mismatch(positions.as_slice(), due) {
-        return Err(fault_of(alloc, stream, mismatch));
+    let positions = positions_of(alloc, frames)?;
+    let positions = positions.as_slice();
+    if let Some(mismatch) = first_mismatch(positions, due) {
+        let wrong = offset_at(alloc, stream, position_in(mismatch))?;
+        return Err(Refusal::Received(named(mismatch, wrong)));
     }
-    match wrong_window(stream, stays, positions.as_slice()) {
-        Some(c) => Err(Wrong::Fault(Fault::Window(c))),
+    match wrong_window(stream, stays, positions) {
+        Some(c) => Err(Refusal::Received(Fault::Window(c))),
         None => Ok(positions.len()),
     }
 }
 
 /// The positions of the frames.
-fn positions_of(alloc: Global, frames: &[&Frame<'_>]) -> Result<Vec<u64>, Memory>
+fn positions_of(alloc: Global, frames: &[&Frame<'_>]) -> Result<Vec<u64>, AllocError>
     ensures { IfOk result (λ positions. positions.items ≡ map (λ (frame : FrameSeen). frame.position) (map (λ frame. frame.now) frames.now)) }
 {
     let mut positions = Vec::new(alloc);
     for frame in frames {
-        let Ok(()) = positions.push(position_of(*frame)) else {
-            return Err(Memory);
-        };
+        positions.push(position_of(*frame))?;
     }
     Ok(positions)
 }
@@ -79,26 +70,6 @@ fn position_of(frame: &Frame<'_>) -> u64
     ensures { result ≡ frame.now.position }
 {
     frame.position
-}
-
-/// The fault that the frame at the position isn't its entry.
-fn content(alloc: Global, stream: &Stream<'_>, position: u64) -> Wrong
-    ensures { IsFault (Content (offset_at stream.now position)) result }
-{
-    match offset_at(alloc, stream, position) {
-        Ok(off) => Wrong::Fault(Fault::Content(off)),
-        Err(Memory) => Wrong::Memory,
-    }
-}
-
-/// The mismatch as a fault.
-fn fault_of(alloc: Global, stream: &Stream<'_>, mismatch: Mismatch) -> Wrong
-    ensures { IsFault (fault_of stream.now mismatch) result }
-{
-    match offset_at(alloc, stream, position_in(mismatch)) {
-        Ok(off) => Wrong::Fault(named(mismatch, off)),
-        Err(Memory) => Wrong::Memory,
-    }
 }
 
 /// The position that the mismatch is about.
@@ -126,15 +97,12 @@ fn named(mismatch: Mismatch, off: Text) -> Fault
 }
 
 /// The offset of the entry at the position, in memory of its own; the empty text where there is none.
-fn offset_at(alloc: Global, stream: &Stream<'_>, position: u64) -> Result<Text, Memory>
+fn offset_at(alloc: Global, stream: &Stream<'_>, position: u64) -> Result<Text, AllocError>
     ensures { IfOk result (λ off. off ≡ offset_at stream.now position) }
 {
     let off = match stream.entry(position) {
         Some(entry) => offset(entry),
         None => "",
     };
-    match String::from_str(alloc, off) {
-        Ok(off) => Ok(Text::new(off)),
-        Err(_) => Err(Memory),
-    }
+    Ok(Text::new(String::from_str(alloc, off)?))
 }

@@ -1,9 +1,11 @@
 //! Why a certificate is refused.
 use aud_cert::Fault;
+use std::alloc::AllocError;
+use thiserror::Error;
 
 /// Why a certificate is refused, in the order in which it is looked for: the first four for each turn, turn after
 /// turn, and then the others.
-#[derive(Drop)]
+#[derive(Debug, Drop, Error)]
 pub enum Refusal {
     /// K5: the turn's first record is not the session's `open`, or, after turn 0, its `back` with the turn's number.
     NotItsTurn,
@@ -23,4 +25,15 @@ pub enum Refusal {
     Received(Fault),
     /// K12: memory for the check could not be had.
     Memory,
+}
+
+impl From<AllocError> for Refusal {
+    ghost use Rattle.std.specs.Prelude.{◌≡◌};
+    ghost use Rattle.aud_check.specs.declared.refusal.Refusal.TheVariants.{Memory};
+
+    ghost from_gives = { λ _ e. e ≡ Memory };
+
+    fn from(_: AllocError) -> Refusal {
+        Refusal::Memory
+    }
 }

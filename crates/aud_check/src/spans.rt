@@ -11,8 +11,7 @@ use crate::session::ShownSession;
 use aud_cert::Turn;
 use aud_node::Logs;
 use aud_rooms::{Span, spans_are_unique, spans_of_turns};
-use aud_tap::Memory;
-use std::alloc::Global;
+use std::alloc::{AllocError, Global};
 
 /// Whether the spans are those of the session's turns, which were accepted.
 pub(crate) fn are_spans<'a>(
@@ -21,7 +20,7 @@ pub(crate) fn are_spans<'a>(
     session: &ShownSession<'_, 'a>,
     turns: &[Turn<'_>],
     spans: &[Span<'_>],
-) -> Result<bool, Memory>
+) -> Result<bool, AllocError>
     requires over { All (IsTurnOver logs.now) turns.now }
     requires accepted { AreTurnsAccepted logs.now session.now.pid turns.now }
     ensures { IfOk result (λ answer. IsTrue answer ↔ AreSpansOfTurns logs.now.stream session.now (slices_at logs.now turns.now) spans.now) }

@@ -6,8 +6,7 @@ ghost use Rattle.aud_check.specs.Frames.{frames_in};
 
 use crate::session::ShownSession;
 use aud_client::{Frame, Reply, Stay};
-use aud_tap::Memory;
-use std::alloc::Global;
+use std::alloc::{AllocError, Global};
 
 /// Whether there are stays, and each is of the session's namespace and has a reply with the session's sid.
 pub(crate) fn are_of_session(session: &ShownSession<'_, '_>, stays: &[&Stay<'_>]) -> bool
@@ -46,7 +45,7 @@ fn has_sid(sid: &str, reply: &Option<Reply>) -> bool
 pub(crate) fn frames_in<'s>(
     alloc: Global,
     stays: &[&'s Stay<'s>],
-) -> Result<Vec<&'s Frame<'s>>, Memory>
+) -> Result<Vec<&'s Frame<'s>>, AllocError>
     ensures { IfOk result (λ frames. map (λ frame. frame.now) frames.items ≡ frames_in (map (λ stay. stay.now) stays.now)) }
 {
     let mut frames = Vec::new(alloc);
@@ -57,13 +56,11 @@ pub(crate) fn frames_in<'s>(
 }
 
 /// Adds the frames of the stay.
-fn push_frames<'s>(frames: &mut Vec<&'s Frame<'s>>, stay: &'s Stay<'s>) -> Result<(), Memory>
+fn push_frames<'s>(frames: &mut Vec<&'s Frame<'s>>, stay: &'s Stay<'s>) -> Result<(), AllocError>
     ensures { OnOk result (map (λ frame. frame.now) frames.new.items ≡ map (λ frame. frame.now) frames.old.items ++ stay.now.frames) }
 {
     for frame in &stay.frames {
-        let Ok(()) = frames.push(frame) else {
-            return Err(Memory);
-        };
+        frames.push(frame)?;
     }
     Ok(())
 }

@@ -28,10 +28,7 @@ pub(crate) fn check_turns(logs: &Logs<'_>, pid: &str, turns: &[Turn<'_>]) -> Res
 {
     for (number, turn) in turns.iter().enumerate() {
         let (_, later) = turns.split_at(number + 1);
-        match check_turn(logs, pid, number, turn, later) {
-            Ok(()) => {}
-            Err(refusal) => return Err(refusal),
-        }
+        check_turn(logs, pid, number, turn, later)?;
     }
     Ok(())
 }

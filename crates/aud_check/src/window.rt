@@ -1,5 +1,6 @@
 //! What a client asked for when it came back.
-ghost use Rattle.std.specs.Prelude.{◌≡◌, ◌≤◌, ◌&&◌, [], length, map, not};
+ghost use Rattle.std.specs.Prelude.{◌≡◌, ◌≤◌, ◌&&◌, [], length, map, nat_le, nat_lt, not};
+ghost use Rattle.std.specs.List.{list_all};
 ghost use Rattle.aud_client.specs.StaySeen.{FrameSeen};
 ghost use Rattle.aud_client.specs.Received.{is_recovered};
 ghost use Rattle.aud_check.specs.Private.Ascending.{IsAscending, is_cut, is_cut_or_not};
@@ -79,10 +80,30 @@ fn is_cut(positions: &[u64], count: usize, position: u64) -> bool
     requires ascending { IsAscending positions.now }
     ensures { result ≡ is_cut positions.now count position }
 {
-    if count > 0 && positions[count - 1] > position {
+    let (before, onward) = positions.split_at(count);
+    if !is_upto(before, position) {
         return false;
     }
-    match positions.get(count) {
+    is_past(onward, position)
+}
+
+/// Whether none of the positions passes this one. They ascend, so the last tells.
+fn is_upto(ascending: &[u64], position: u64) -> bool
+    requires { IsAscending ascending.now }
+    ensures { result ≡ list_all (λ p. nat_le p position) ascending.now }
+{
+    match ascending.last() {
+        Some(last) => *last <= position,
+        None => true,
+    }
+}
+
+/// Whether each of the positions passes this one. They ascend, so the first tells.
+fn is_past(ascending: &[u64], position: u64) -> bool
+    requires { IsAscending ascending.now }
+    ensures { result ≡ list_all (λ p. nat_lt position p) ascending.now }
+{
+    match ascending.first() {
         Some(next) => position < *next,
         None => true,
     }

@@ -1,9 +1,8 @@
 use Rattle.std.proofs.lemmas.Grind.{common_steps}
 use Rattle.std.proofs.Common.{arith}
 use Rattle.std.proofs.lemmas.Result.{err_from_is_err_and}
-use Rattle.aud_cert_text.proofs.Over.{each-length, turns-over}
 use Rattle.aud_cert_text.specs.Reading.{turn_over}
-use Rattle.aud_cert_text.proofs.Lists.{each-ok, each-fails, each-done}
+use Rattle.aud_cert_text.proofs.Lists.{each-ok, each-fails}
 use Rattle.aud_cert_text.proofs.lend.turns.Goals as goal
 
 pub loop-parsed-preserved : goal.loop-parsed-preserved
@@ -14,16 +13,4 @@ loop-parsed-preserved c =
 pub returns-in_err-turn : goal.returns-in_err-turn
 returns-in_err-turn c =
     let p = err_from_is_err_and c.from_residual.result c.from_residual.ensures.1 in
-    rw p.1 (record {
-      reads = rw (p.2, ← c.loop-parsed.invariant) (each-fails (turn_over c.args.logs.now) _ _ _ _ c.loop-parsed.turns.items c.loop-parsed-test.true c.parsed-item.is c.in_err-turn.ensures);
-      over = tt;
-      count = tt;
-    })
-
-pub returns-clause-over : goal.returns-clause-over
-returns-clause-over c =
-    turns-over c.args.logs.now c.args.parsed.now c.loop-parsed.turns.items (each-done (turn_over c.args.logs.now) c.args.parsed.now c.loop-parsed.parsed-index c.loop-parsed.turns.items (omega arith) c.loop-parsed.invariant)
-
-pub returns-clause-count : goal.returns-clause-count
-returns-clause-count c =
-    each-length (turn_over c.args.logs.now) c.args.parsed.now c.loop-parsed.turns.items (each-done (turn_over c.args.logs.now) c.args.parsed.now c.loop-parsed.parsed-index c.loop-parsed.turns.items (omega arith) c.loop-parsed.invariant)
+    rw (p.1, p.2, ← c.loop-parsed.invariant) (λ other. each-fails (turn_over c.args.logs.now) _ _ _ _ c.loop-parsed.turns.items c.loop-parsed-test.true c.parsed-item.is (c.in_err-turn.ensures other))

@@ -13,4 +13,4 @@ loop-d-preserved c =
 pub returns-in_err-span : goal.returns-in_err-span
 returns-in_err-span c =
     let p = err_from_is_err_and c.from_residual.result c.from_residual.ensures.1 in
-    rw (p.1, p.2, ← c.loop-d.invariant) (each_item-fails parsed_span _ _ _ _ c.loop-d.spans.items c.loop-d-test.true c.d-item.is c.in_err-span.ensures)
+    rw (p.1, p.2, ← c.loop-d.invariant) (λ other. each_item-fails parsed_span _ _ _ _ c.loop-d.spans.items c.loop-d-test.true c.d-item.is (c.in_err-span.ensures other))

@@ -1,30 +1,25 @@
+use Rattle.std.specs.Result.{IfErr}
 use Rattle.std.proofs.Common.{◌≡◌, true, map, length, sym, ap, subst, ◌∙◌}
+use Rattle.std.proofs.lemmas.Result.{on_ok_weaker, IfOk-weaker, IfErr-weaker}
 use Rattle.aud_rooms.specs.Turns.{Who}
 use Rattle.aud_client.specs.Received.{stays_naming}
 use Rattle.aud_check.specs.Faults.{Case, IsReceived}
-use Rattle.aud_check.specs.Private.FirstFault.{IsFirstFault}
+use Rattle.aud_check.specs.Private.ReceivedCheck.{IsReceivedRefusal}
 use Rattle.aud_check.specs.NamedStays.{are_of_session}
-use Rattle.aud_check.proofs.ClientCase.{case_by_stays}
+use Rattle.aud_check.proofs.ClientCase.{case_by_stays, client_refused}
 use Rattle.aud_check.proofs.client.check_transcript.Goals as goal
 
-pub returns-in-Ok-check_received : goal.returns-in-Ok-check_received
-returns-in-Ok-check_received c =
+pub returns : goal.returns
+returns c =
     let who = c.args.session.now in
-    let own = ap (map (λ stay. stay.now)) c.as_slice-stays.ensures.value ∙ c.in-Ok.ensures ∙ ap (λ (w : Who). stays_naming w.pid c.args.transcript.now.stays) c.session.view_is in
+    let answer = c.check_received.result in
+    let own = ap (map (λ stay. stay.now)) c.as_slice-stays.ensures.value ∙ c.in_ok-named.ensures ∙ ap (λ (w : Who). stays_naming w.pid c.args.transcript.now.stays) c.session.view_is in
     let named = sym c.are_of_session.ensures ∙ c.if-not-are_of_session.false in
     let by = case_by_stays c.args.logs.now c.args.client.now who c.args.due.now c.received_by_stays.ensures c.args.transcript.now c.requires.transcript _ _ _ c.stream.ensures c.transcript.ensures own named in
+    let is = subst (λ (case : Case). are_of_session who case.stays ≡ true) by named in
     record {
-      named = subst (λ (case : Case). are_of_session who case.stays ≡ true) by named;
-      received = subst IsReceived by c.in-Ok-check_received.ensures.received;
-      got = c.in-Ok-check_received.ensures.got ∙ ap (λ (case : Case). length case.frames) by;
-      refused = tt;
+      named = on_ok_weaker answer (λ _. is) c.check_received.ensures.received;
+      received = on_ok_weaker answer (subst IsReceived by) c.check_received.ensures.received;
+      got = IfOk-weaker answer _ _ (λ got counted. counted ∙ ap (λ (case : Case). length case.frames) by) c.check_received.ensures.got;
+      refused = IfErr-weaker answer _ _ (client_refused who _ is) (subst (λ (case : Case). IfErr answer (IsReceivedRefusal case)) by c.check_received.ensures.refused);
     }
-
-pub returns-in-Err-Fault-clause-refused : goal.returns-in-Err-Fault-clause-refused
-returns-in-Err-Fault-clause-refused c =
-    let who = c.args.session.now in
-    let own = ap (map (λ stay. stay.now)) c.as_slice-stays.ensures.value ∙ c.in-Ok.ensures ∙ ap (λ (w : Who). stays_naming w.pid c.args.transcript.now.stays) c.session.view_is in
-    let named = sym c.are_of_session.ensures ∙ c.if-not-are_of_session.false in
-    let by = case_by_stays c.args.logs.now c.args.client.now who c.args.due.now c.received_by_stays.ensures c.args.transcript.now c.requires.transcript _ _ _ c.stream.ensures c.transcript.ensures own named in
-    let first = rw c.in-Err-Fault.field-0-is at c.in-Err-Fault.ensures.wrong in
-    (subst (λ (case : Case). are_of_session who case.stays ≡ true) by named, subst (λ (case : Case). IsFirstFault case c.in-Err-Fault.fault) by first)

@@ -1,4 +1,5 @@
 use Rattle.std.proofs.Common.{◌≡◌, ap, ◌∙◌}
+use Rattle.std.proofs.lemmas.Result.{IfOk-weaker}
 use Rattle.aud_rooms.specs.Turns.{Who}
 use Rattle.aud_rooms.specs.Spans.{due_by_spans, first_low}
 use Rattle.aud_check.specs.Shown.{slices_at}
@@ -15,9 +16,11 @@ returns c =
     let low = c.first_shown_low-birth.ensures ∙ lows C who.pid 0 turns accepted in
     let high = c.greatest_shown_high-high.ensures ∙ highs C who.pid 0 turns accepted in
     let nsp : c.session.inside.nsp.now ≡ who.nsp = ap (λ (w : Who). w.nsp) c.session.view_is in
-    c.in_ok-due.ensures
-    ∙ ap (λ stream. due_by_spans spans stream c.session.inside.nsp.now c.first_shown_low-birth.result c.greatest_shown_high-high.result) c.stream.ensures
+    let is =
+    ap (λ stream. due_by_spans spans stream c.session.inside.nsp.now c.first_shown_low-birth.result c.greatest_shown_high-high.result) c.stream.ensures
     ∙ ap (λ n. due_by_spans spans C.stream n c.first_shown_low-birth.result c.greatest_shown_high-high.result) nsp
     ∙ ap (λ n. due_by_spans spans C.stream who.nsp n c.greatest_shown_high-high.result) low
     ∙ ap (due_by_spans spans C.stream who.nsp (first_low (slices_at C turns))) high
     ∙ c.due_by_spans_of_turns.ensures C.stream who (slices_at C turns) spans c.requires.spans
+    in
+    IfOk-weaker c.due_of.result _ _ (λ due found. found ∙ is) c.due_of.ensures

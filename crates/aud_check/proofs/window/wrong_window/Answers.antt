@@ -1,14 +1,14 @@
-use Rattle.std.proofs.Common.{◌≡◌, Some, length, ap, ◌∙◌, arith}
+use Rattle.std.proofs.Common.{◌≡◌, true, false, Some, length, sym, ap, ◌∙◌, arith}
 use Rattle.std.proofs.lemmas.Grind.{common_steps}
 use Rattle.aud_client.specs.StaySeen.{StaySeen}
-use Rattle.aud_check.proofs.Windows.{left_more, asked_wrongly, asked_rightly}
+use Rattle.aud_check.proofs.Windows.{left_more, judged}
 use Rattle.aud_check.proofs.window.wrong_window.Goals as goal
 
 pub returns-then-is_asked_wrongly : goal.returns-then-is_asked_wrongly
 returns-then-is_asked_wrongly c =
     ap (λ (s : StaySeen). Some s.c) c.stay.view_is
-    ∙ asked_wrongly (λ stay. stay.now) c.args.stream.now c.args.stays.now c.args.positions.now c.requires.positions c.loop-stay.stay-index c.loop-stay.left c.stay-item.result c.loop-stay-test.true c.stay-item.is c.loop-stay.invariant.counted
-    c.is_asked_wrongly.result c.is_asked_wrongly.ensures c.if-is_asked_wrongly.true
+    ∙ sym (judged (λ stay. stay.now) c.args.stream.now c.args.stays.now c.args.positions.now c.requires.positions c.loop-stay.stay-index c.loop-stay.left c.stay-item.result c.loop-stay-test.true c.stay-item.is c.loop-stay.invariant.counted
+    true (sym c.if-is_asked_wrongly.true ∙ c.is_asked_wrongly.ensures))
     ∙ c.loop-stay.invariant.passed
 
 pub overflow_sub-left : goal.overflow_sub-left
@@ -27,7 +27,7 @@ loop-stay-preserved c =
     record {
       counted = omega (arith, long, within, rest);
       passed =
-          asked_rightly (λ stay. stay.now) c.args.stream.now c.args.stays.now c.args.positions.now c.requires.positions c.loop-stay.stay-index c.loop-stay.left c.stay-item.result c.loop-stay-test.true c.stay-item.is c.loop-stay.invariant.counted
-          c.is_asked_wrongly.result c.is_asked_wrongly.ensures c.if-is_asked_wrongly.false
+          sym (judged (λ stay. stay.now) c.args.stream.now c.args.stays.now c.args.positions.now c.requires.positions c.loop-stay.stay-index c.loop-stay.left c.stay-item.result c.loop-stay-test.true c.stay-item.is c.loop-stay.invariant.counted
+          false (sym c.if-is_asked_wrongly.false ∙ c.is_asked_wrongly.ensures))
           ∙ c.loop-stay.invariant.passed;
     }
