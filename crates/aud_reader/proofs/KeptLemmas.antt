@@ -5,10 +5,11 @@ use Rattle.std.specs.Str.{bytes_eq}
 use Rattle.std.specs.String.{string_bytes, string_eq}
 use Rattle.std.specs.declared.string.String.{String}
 use Rattle.std.proofs.lemmas.Cmp.{nat_list_eq_equiv}
-use Rattle.std.proofs.lemmas.Slice.Eq.{bytes_eq-Decides}
 use Rattle.std.proofs.lemmas.Grind.{flat_map-append}
 use Rattle.std.proofs.lemmas.List.Sums.{sum_by-set}
 use Rattle.std.proofs.lemmas.Map.Text.{hash_map_updates_text}
+use Rattle.aud_base.proofs.Lists.{index_is_first}
+use Rattle.aud_base.proofs.SameText.{same_text}
 use Rattle.serde_json.specs.Data.{Data}
 use Rattle.aud_reader.specs.declared.fault.InputCode.{InputCode}
 use Rattle.aud_reader.specs.declared.fault.InputCode.TheVariants.{HeaderTwice}
@@ -18,7 +19,8 @@ use Rattle.aud_tap.specs.declared.records.TapKind.{TapKind}
 use Rattle.aud_tap.specs.declared.records.TapKind.TheVariants as kind
 use Rattle.aud_tap.specs.declared.taps.Records.{Records}
 use Rattle.aud_tap.specs.declared.taps.Tap.{Tap}
-use Rattle.aud_reader.specs.Steps.{◌>>=◌, Fails}
+use Rattle.aud_base.specs.Steps.{◌>>=◌}
+use Rattle.aud_reader.specs.Steps.{Fails}
 use Rattle.aud_tap.specs.Forms.{is_text}
 use Rattle.aud_reader.specs.Header.{header_of}
 use Rattle.aud_reader.specs.Record.{opened_line, kind_named}
@@ -33,11 +35,6 @@ use Rattle.aud_reader.proofs.LineSteps.{one_more}
 
 -- ---- the place of a tap
 
-at_first : (b : Bool) (o : Option ℕ) → cond b (Some 0) (option_map suc o) ≡ Some 0 → b ≡ true
-at_first true o e = refl
-at_first false None e = cc
-at_first false (Some i) e = let is : suc i ≡ 0 = cc in absurd (omega arith)
-
 at_later : (b : Bool) (o : Option ℕ) (i : ℕ) → cond b (Some 0) (option_map suc o) ≡ Some (suc i) → (b ≡ false) × (o ≡ Some i)
 at_later true o i e = let is : 0 ≡ suc i = cc in absurd (omega arith)
 at_later false None i e = cc
@@ -47,7 +44,7 @@ at_later false (Some j) i e = let is : suc j ≡ suc i = cc in let same : j ≡ 
 named-at : (name : List ℕ) (ts : List Tap) (i : ℕ) (t : Tap) → place_of name ts ≡ Some i → get_or ts i t ≡ t → tap_named name ts ≡ Some t
 named-at name [] i t place at = cc
 named-at name (u ∷ us) zero t place at =
-    let first = at_first (is_text name u.name) (place_of name us) place in
+    let first = index_is_first (is_text name u.name) (place_of name us) place in
     rw first (ap Some at)
 named-at name (u ∷ us) (suc i) t place at =
     let later = at_later (is_text name u.name) (place_of name us) i place in
@@ -58,7 +55,7 @@ with_records-at : (name : List ℕ) (records : Records) (ts : List Tap) (i : ℕ
     → with_records name records ts ≡ set ts i (record t { records = records })
 with_records-at name records [] i t place at = cc
 with_records-at name records (u ∷ us) zero t place at =
-    let first = at_first (is_text name u.name) (place_of name us) place in
+    let first = index_is_first (is_text name u.name) (place_of name us) place in
     rw first (ap (λ (x : Tap). record x { records = records } ∷ us) at)
 with_records-at name records (u ∷ us) (suc i) t place at =
     let later = at_later (is_text name u.name) (place_of name us) i place in
@@ -217,7 +214,7 @@ places-put m n ts t key size spells sized updates places first text =
 
     found : (b : Bool) → is_text text t.name ≡ b → cond (bytes_eq t.name text) (Some (length ts)) (place_of text ts) ≡ or_after (place_of text ts) (is_text text t.name) (length ts)
     found true e =
-        let same : text ≡ t.name = (bytes_eq-Decides text t.name).0 e in
+        let same : text ≡ t.name = same_text text t.name e in
         let none : place_of text ts ≡ None = rw same first in
         rw (nat_list_eq_equiv.symm t.name text, e, none) refl
     found false e = rw (nat_list_eq_equiv.symm t.name text, e) (other (place_of text ts))
@@ -236,27 +233,17 @@ pids-empty kind.Stream = refl
 pids-empty kind.Node = refl
 pids-empty kind.Client = refl
 
-pub begin-keeps : (s s' : OpenTaps) (name : List ℕ) (of : TapKind) (r : Result (Unit {0}) LineFault) → KeepsTaps s → s'.pids ≡ s.pids
-    → Becomes r (taps_so_far s') (Ok (taps_so_far s ++ record { name = name; records = no_records of } ∷ []))
-    → OnOk r ((text : List ℕ) → get_by_text s'.places text ≡ place_of text (taps_so_far s'))
-    → Counted s'.counts (taps_so_far s ++ record { name = name; records = no_records of } ∷ [])
-    → OnOk r (KeepsTaps s')
-begin-keeps s s' name of (Err e) keeps same is places counts = tt
-begin-keeps s s' name of (Ok u) keeps same is places counts =
-    let ts = taps_so_far s in
-    let taps : taps_so_far s' ≡ ts ++ record { name = name; records = no_records of } ∷ [] = cc in
+pub begin-keeps : (s s' : OpenTaps) (name : List ℕ) (of : TapKind) → KeepsTaps s → s'.pids ≡ s.pids → taps_so_far s' ≡ taps_so_far s ++ record { name = name; records = no_records of } ∷ []
+    → ((text : List ℕ) → get_by_text s'.places text ≡ place_of text (taps_so_far s')) → Counted s'.counts (taps_so_far s ++ record { name = name; records = no_records of } ∷ []) → KeepsTaps s'
+begin-keeps s s' name of keeps same taps places counts =
     record {
       places = places;
-      pids = rw (taps, flat_map-append (λ (t : Tap). pids_in t.records) ts (record { name = name; records = no_records of } ∷ []), pids-empty of, append-nil, same) keeps.pids;
+      pids = rw (taps, flat_map-append (λ (t : Tap). pids_in t.records) (taps_so_far s) (record { name = name; records = no_records of } ∷ []), pids-empty of, append-nil, same) keeps.pids;
       counts = rw taps counts;
     }
 
 pub named-first : (ts : List Tap) (name word : List ℕ) (d : Data) → place_of name ts ≡ None → with_named ts name word d ≡ with_header ts name word d
 named-first ts name word d place = ap (λ o. with_kind ts name o word d) (named-none name ts place)
-
-pub not-is : (b r : Bool) → r ≡ not b → r ≡ false → b ≡ true
-not-is true r e f = refl
-not-is false r e f = cc
 
 pub with_line-goes : (ts : List Tap) (line name word : List ℕ) (d : Data) → opened_line line ≡ Ok (name, d) → kind_named d ≡ Ok word → with_line ts line ≡ with_named ts name word d
 unfolding with_line

@@ -1,6 +1,6 @@
 -- What a newline and the end of a piece do to the lines of a text.
 use Rattle.std.proofs.Common.{◌≡◌, ℕ, zero, suc, ◌+◌, ◌-◌, ◌<◌, ◌≤◌, ◌==◌, ◌&&◌, ◌||◌, nat_lt, List, [], ◌∷◌, ◌++◌, length, take, drop, Bool, true, false, cond, Option, Some, None, refl, sym, ap, ◌∙◌, arith, append_assoc, append-nil, length-append, drop-cons, add-one, slice_index, ◌⊎◌, inl, inr, Ok, Err}
-use Rattle.std.proofs.lemmas.Bool.{eqb-true, ltb-true, lt-ltb}
+use Rattle.std.proofs.lemmas.Bool.{cases_Bool, eqb-true, ltb-true, lt-ltb}
 use Rattle.std.proofs.lemmas.List.{take-append-drop, take_rest}
 use Rattle.std.proofs.lemmas.List.Folds.{list_any-append}
 use Rattle.std.proofs.Math.ListN.{length-take}
@@ -13,16 +13,12 @@ use Rattle.aud_reader.specs.declared.fault.InputCode.TheVariants.{LineTooLong}
 use Rattle.aud_reader.specs.Lines.{Split, IsPartial, line_pieces, onto_first, without_return, is_too_long, lines_from, lines_to_come, line_at, result_of, after_lines, has_newline}
 use Rattle.aud_reader.specs.Private.SplitterSteps.{line_ended, line_begun, splitter_with_line}
 
-decide : (b : Bool) → (b ≡ true) ⊎ (b ≡ false)
-decide true = inl refl
-decide false = inr refl
-
 -- a search that finds no newline before a place
 pub none_before : (text : List ℕ) (n : ℕ) → Nowhere (Passes (is_byte 10) text) 0 n → has_newline (take n text) ≡ false
 none_before text zero h = refl
 none_before [] (suc n) h = refl
 none_before (x ∷ text) (suc n) h =
-    elim (decide (x == 10)) [
+    elim (cases_Bool (x == 10)) [
       | inl e ↦ absurd (h 0 (omega arith) (omega arith) e)
       | inr e ↦ rw e (none_before text n (λ k low high. h (suc k) (omega arith) (omega arith)))
     ]
@@ -112,7 +108,7 @@ to_come-line_ended : (s : Split) (front more : List ℕ) → s.fault ≡ None �
     → lines_to_come (line_ended s front) more ≡ lines_to_come s (front ++ 10 ∷ more)
 to_come-line_ended s front more none whole front_whole =
     let ended = pieces_of-ended s.rest front more whole front_whole in
-    elim (decide (is_too_long (s.rest ++ front))) [
+    elim (cases_Bool (is_too_long (s.rest ++ front))) [
       | inl long ↦ rw (none, ended, numbered-long s.number (s.rest ++ front) (line_pieces more) long, long, append-nil) refl
       | inr short ↦ rw (none, ended, numbered-short s.number (s.rest ++ front) (line_pieces more) short, short, append_assoc) refl
     ]
@@ -122,7 +118,7 @@ to_come-last : (s : Split) → s.fault ≡ None → has_newline s.rest ≡ false
     → lines_to_come (line_ended s []) [] ≡ lines_to_come s []
 to_come-last s none whole some =
     let last = pieces_of-last s.rest whole some in
-    elim (decide (is_too_long s.rest)) [
+    elim (cases_Bool (is_too_long s.rest)) [
       | inl long ↦ rw (append-nil, none, last, numbered-long s.number s.rest [] long, long, append-nil) refl
       | inr short ↦ rw (append-nil, none, last, numbered-short s.number s.rest [] short, short, append-nil) refl
     ]
@@ -143,7 +139,7 @@ to_come-long s more whole long =
 pub to_come-line_begun : (s : Split) (front more : List ℕ) → s.fault ≡ None → has_newline s.rest ≡ false → has_newline front ≡ false
     → lines_to_come (line_begun s front) more ≡ lines_to_come s (front ++ more)
 to_come-line_begun s front more none whole front_whole =
-    elim (decide (is_too_long (s.rest ++ front))) [
+    elim (cases_Bool (is_too_long (s.rest ++ front))) [
       | inl long ↦
           let refused = to_come-long (record s { rest = s.rest ++ front }) more (has_newline-append s.rest front whole front_whole) long in
           rw (none, long, ← append_assoc, refused) refl

@@ -5,7 +5,7 @@ use Rattle.serde_json.specs.View.{view, items_view}
 use Rattle.serde_json.specs.declared.value.Value.{Value}
 use Rattle.aud_reader.specs.declared.fault.InputCode.{InputCode}
 use Rattle.aud_reader.specs.Fields.{all_items}
-use Rattle.aud_reader.specs.Steps.{need}
+use Rattle.aud_base.specs.Steps.{need}
 
 -- what was read so far, and then what is left
 abbrev pub with_front : {A : Type 0} → List A → Option (List A) → Option (List A)

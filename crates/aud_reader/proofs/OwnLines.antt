@@ -9,6 +9,7 @@ use Rattle.std.proofs.lemmas.Map.Made.{IsDistinct-from_AllPairs}
 use Rattle.aud_reader.specs.Record.{line_record, opened_line}
 use Rattle.std.proofs.lemmas.List.Folds.{find-append}
 use Rattle.std.proofs.lemmas.Slice.Eq.{bytes_eq-Decides}
+use Rattle.aud_base.proofs.SameText.{same_text, itself_text}
 use Rattle.aud_reader.specs.declared.line.Line.{Line}
 use Rattle.aud_tap.specs.declared.records.TapKind.{TapKind}
 use Rattle.aud_tap.specs.declared.records.TapKind.TheVariants as kind
@@ -30,12 +31,9 @@ AddsFor name ts line more = recs_by_name name more ≡ recs_by_name name ts ++ o
 by_name : {P : Type 0} (name n : List ℕ) → (name ≡ n → P) → (is_text name n ≡ false → P) → P
 by_name {P} name n same other =
     elim (is_text name n) as (λ b. is_text name n ≡ b → P) [
-      | true ↦ λ is. same ((bytes_eq-Decides name n).0 is)
+      | true ↦ λ is. same (same_text name n is)
       | false ↦ λ is. other is
     ] refl
-
-is_itself : (n : List ℕ) → is_text n n ≡ true
-is_itself n = (bytes_eq-Decides n n).1 refl
 
 -- ---- a header
 
@@ -57,7 +55,7 @@ begins-adds name ts more line b =
     let t : Tap = record { name = b.name; records = no_records b.of } in
     rw (b.is, find-append (λ (u : Tap). is_text name u.name) ts (t ∷ []), record-read name line b.name (rec.Header b.of 1) b.reads 0)
     (by_name name b.name
-    (λ same. let new : tap_named name ts ≡ None = rw same b.new in rw (new, same, is_itself b.name, kind-new b.of b.name) refl)
+    (λ same. let new : tap_named name ts ≡ None = rw same b.new in rw (new, same, itself_text b.name, kind-new b.of b.name) refl)
     (λ other. rw (other, or_none (tap_named name ts), append-nil) refl))
 
 -- ---- a later line
@@ -75,7 +73,7 @@ named-other : (name n : List ℕ) (records : Records) (ts : List Tap) → is_tex
 named-other name n records [] other = refl
 named-other name n records (u ∷ us) other =
     elim (is_text n u.name) as (λ b. is_text n u.name ≡ b → tap_named name (cond b (record u { records = records } ∷ us) (u ∷ with_records n records us)) ≡ tap_named name (u ∷ us)) [
-      | true ↦ λ is. let same : n ≡ u.name = (bytes_eq-Decides n u.name).0 is in rw (← same, other) refl
+      | true ↦ λ is. let same : n ≡ u.name = same_text n u.name is in rw (← same, other) refl
       | false ↦ λ is. ap (λ o. cond (is_text name u.name) (Some u) o) (named-other name n records us other)
     ] refl
 
@@ -84,7 +82,7 @@ adds-adds name ts more line a =
     rw (a.is, record-read name line a.name a.grown.rec a.reads 0)
     (by_name name a.name
     (λ same.
-    rw (same, is_itself a.name, named-same a.name a.records ts a.found a.is_found, a.is_found)
+    rw (same, itself_text a.name, named-same a.name a.records ts a.found a.is_found, a.is_found)
     (ap (λ k. rec.Header k 1 ∷ recs_in a.records) a.grown.same ∙ ap (λ rs. rec.Header (kind_of_tap (a.found).records) 1 ∷ rs) a.grown.recs))
     (λ other. rw (other, named-other name a.name a.records ts other, append-nil) refl))
 
@@ -135,7 +133,7 @@ still_named name ts more lines named e = go (tap_named name more) refl (rw named
 named-begins : (ts more : List Tap) (line : List ℕ) (b : Begins ts line more) → Named b.name more
 named-begins ts more line b =
     let t : Tap = record { name = b.name; records = no_records b.of } in
-    record { tap = t; is = rw (b.is, find-append (λ (u : Tap). is_text b.name u.name) ts (t ∷ []), b.new, is_itself b.name) refl }
+    record { tap = t; is = rw (b.is, find-append (λ (u : Tap). is_text b.name u.name) ts (t ∷ []), b.new, itself_text b.name) refl }
 
 named-adds : (ts more : List Tap) (line : List ℕ) (a : Adds ts line more) → Named a.name more
 named-adds ts more line a = record { tap = record a.found { records = a.records }; is = rw a.is (named-same a.name a.records ts a.found a.is_found) }
@@ -153,7 +151,7 @@ count-one name [] t different e = cc
 count-one name (u ∷ us) t different e =
     elim (is_text name u.name) as (λ b. is_text name u.name ≡ b → cond b (Some u) (tap_named name us) ≡ Some t → count_by (λ (x : Tap). is_text name x.name) (u ∷ us) ≡ 1) [
       | true ↦ λ is h.
-          let same : name ≡ u.name = (bytes_eq-Decides name u.name).0 is in
+          let same : name ≡ u.name = same_text name u.name is in
           rw (count-first name u us, is, same, count-none u.name us different.0) refl
       | false ↦ λ is h. rw (count-first name u us, is, count-one name us t different.1 h) refl
     ] refl e

@@ -2,15 +2,17 @@
 use Rattle.std.proofs.Common.{◌≡◌, ℕ, zero, suc, ◌+◌, ◌<◌, ◌≤◌, List, [], ◌∷◌, ◌++◌, length, map, true, false, cond, not, inl, inr, Some, None, Ok, refl, sym, ap, ◌∙◌, arith, nat_lt, get_or, option_map}
 use Rattle.std.specs.List.{All, list_any}
 use Rattle.std.specs.Str.{bytes_eq}
-use Rattle.std.proofs.lemmas.Bool.{ltb-true}
+use Rattle.std.proofs.lemmas.Bool.{ltb-true, not-true}
 use Rattle.std.proofs.lemmas.Cmp.{nat_list_eq_equiv}
 use Rattle.std.proofs.lemmas.Slice.Eq.{bytes_eq-Decides}
 use Rattle.std.proofs.lemmas.List.{map-append}
 use Rattle.std.proofs.lemmas.Option.{slice_get-map, slice_get_within, get_or_from_slice_get}
-use Rattle.std.proofs.lemmas.List.Elements.{All-nil, All-cons, All-tail, All-push}
+use Rattle.std.proofs.lemmas.List.Elements.{All-nil, All-cons, All-head, All-tail, All-push}
 use Rattle.std.proofs.lemmas.List.Sums.{sum_by-append}
 use Rattle.std.proofs.lemmas.Map.Keys.{IsDistinct-push}
 use Rattle.std.proofs.lemmas.Map.Made.{AllPairs-from_IsDistinct, IsDistinct-from_AllPairs}
+use Rattle.aud_base.proofs.SameText.{itself_text, other_text}
+use Rattle.aud_base.proofs.StepLemmas.{part-of, guard-ok}
 use Rattle.serde_json.specs.Data.{Data}
 use Rattle.aud_reader.specs.declared.fault.InputCode.TheVariants.{OffsetTwice, SecondStream}
 use Rattle.aud_reader.specs.declared.line.Line.{Line}
@@ -21,11 +23,11 @@ use Rattle.aud_tap.specs.declared.taps.Records.TheVariants.{Stream, Node, Client
 use Rattle.aud_tap.specs.declared.taps.Tap.{Tap}
 use Rattle.aud_tap.specs.Forms.{is_text}
 use Rattle.aud_tap.specs.Names.{AreNamedOnce}
-use Rattle.aud_reader.specs.Steps.{guard}
+use Rattle.aud_base.specs.Steps.{guard}
 use Rattle.aud_reader.specs.Bundle.{offset_of, with_entry, with_tap_record, tap_named, with_records, kind_of_tap, same_kind, taps_on, no_records, another_tap, with_line, taps_from, taps_of}
 use Rattle.aud_reader.specs.TapLaws.{AreDifferent, offsets_in, HasEachOffsetOnce}
 use Rattle.aud_reader.specs.Private.Sound.{names_of, AreSoundTaps}
-use Rattle.aud_reader.proofs.LineSteps.{steps, guarded, guarded-not, new_entry, one_more, first_of_lines, Begins, Adds, line_step}
+use Rattle.aud_reader.proofs.LineSteps.{guarded, new_entry, one_more, first_of_lines, Begins, Adds, line_step}
 
 -- ---- different texts
 
@@ -58,7 +60,7 @@ streams-new of name ts few room =
     rw (sum_by-append (λ (t : Tap). cond (same_kind tap.Stream (kind_of_tap t.records)) 1 0) ts (record { name = name; records = no_records of } ∷ [])) (go of room)
   where
     go : (of : TapKind) → another_tap of ts ≡ Ok tt → taps_on tap.Stream ts + taps_on tap.Stream (record { name = name; records = no_records of } ∷ []) ≤ 1
-    go tap.Stream room = let none : taps_on tap.Stream ts < 1 = ltb-true _ _ (guarded SecondStream (nat_lt (taps_on tap.Stream ts) 1) tt room) in omega arith
+    go tap.Stream room = let none : taps_on tap.Stream ts < 1 = ltb-true _ _ (guarded SecondStream (nat_lt (taps_on tap.Stream ts) 1) room) in omega arith
     go tap.Node room = omega arith
     go tap.Client room = omega arith
 
@@ -95,17 +97,13 @@ offsets-none tap.Client = λ i j d l m. absurd (omega arith)
 
 offsets-more : (pids : List (List ℕ)) (old new : Records) (kind : List ℕ) (d : Data) → with_tap_record pids old kind d ≡ Ok new → AreDifferent (offsets_in old) → AreDifferent (offsets_in new)
 offsets-more pids (Stream entries) new kind d e different =
-    let more = steps (with_entry entries kind d) _ new e in
-    let entry = new_entry entries more.value kind d more.first in
-    let test = steps (guard OffsetTwice (not (list_any (is_text (offset_of entry.value)) (map offset_of entries)))) _ more.value entry.next in
-    let is : new ≡ Stream (entries ++ entry.value ∷ []) = cc in
-    rw (is, map-append offset_of entries (entry.value ∷ []))
-    (different-push (map offset_of entries) (offset_of entry.value) different (guarded-not OffsetTwice (list_any (is_text (offset_of entry.value)) (map offset_of entries)) test.value test.first))
+    let more = part-of (with_entry entries kind d) _ new e in
+    let entry = new_entry entries more.0 kind d more.1 in
+    let test = guard-ok OffsetTwice (not (list_any (is_text (offset_of entry.0)) (map offset_of entries))) _ more.0 entry.2 in
+    let is : new ≡ Stream (entries ++ entry.0 ∷ []) = cc in
+    rw (is, map-append offset_of entries (entry.0 ∷ [])) (different-push (map offset_of entries) (offset_of entry.0) different (not-true (list_any (is_text (offset_of entry.0)) (map offset_of entries)) test.0))
 offsets-more pids (Node records) new kind d e different = offsets-absent new (λ is. let same = (one_more pids (Node records) new kind d e).same in cc)
 offsets-more pids (Client records) new kind d e different = offsets-absent new (λ is. let same = (one_more pids (Client records) new kind d e).same in cc)
-
-All-head : {X : Type 0} (P : X → Type 0) (x : X) (xs : List X) → All P (x ∷ xs) → P x
-All-head P x xs h = h 0 x (omega arith)
 
 offsets-put : (name : List ℕ) (records : Records) (ts : List Tap) (t : Tap) → tap_named name ts ≡ Some t → (AreDifferent (offsets_in t.records) → AreDifferent (offsets_in records)) → HasEachOffsetOnce ts → HasEachOffsetOnce (with_records name records ts)
 offsets-put name records [] t e more all = cc
@@ -162,18 +160,14 @@ pub first_with_name : (ts : List Tap) → AreDifferent (names_of ts) → AreName
 first_with_name [] different place tap at = cc
 first_with_name (t ∷ ts) different zero tap at =
     let is : t ≡ tap = cc in
-    let same : bytes_eq t.name tap.name ≡ true = (bytes_eq-Decides t.name tap.name).1 (ap (λ (x : Tap). x.name) is) in
-    rw same refl
+    rw (is, itself_text tap.name) refl
 first_with_name (t ∷ ts) different (suc place) tap at =
     let names = names_of ts in
     let within : place < length names = slice_get_within names place tap.name (slice_get-map (λ (x : Tap). x.name) ts place ∙ ap (option_map (λ (x : Tap). x.name)) at) in
     let here : get_or names place tap.name ≡ tap.name = get_or_from_slice_get names place tap.name tap.name (slice_get-map (λ (x : Tap). x.name) ts place ∙ ap (option_map (λ (x : Tap). x.name)) at) in
-    let other : bytes_eq t.name tap.name ≡ false = no_text t.name tap.name (λ same. different 0 (suc place) tap.name (omega arith) (omega arith) (same ∙ sym here)) in
+    let other : bytes_eq t.name tap.name ≡ false = other_text t.name tap.name (λ same. different 0 (suc place) tap.name (omega arith) (omega arith) (same ∙ sym here)) in
     let rest : AreDifferent names = λ i j d l m. different (suc i) (suc j) d (omega arith) (omega arith) in
     rw (other, first_with_name ts rest place tap at) refl
-  where
-    no_text : (a b : List ℕ) → (a ≡ b → ⊥) → bytes_eq a b ≡ false
-    no_text a b ne = elim (bytes_eq a b) as (λ r. bytes_eq a b ≡ r → r ≡ false) [ true ↦ λ h. absurd (ne ((bytes_eq-Decides a b).0 h)) | false ↦ λ h. refl ] refl
 
 pub named_once : (lines : List Line) (taps : List Tap) → taps_of lines ≡ Ok taps → AreNamedOnce taps
 named_once lines taps e = first_with_name taps (sound-lines [] taps lines sound-none e).names

@@ -29,10 +29,7 @@ fn lists(alloc: Global, d: &Value) -> Result<(Texts, Texts, Blobs), LineFault>
 {
     let rooms = texts_at(alloc, "rooms", d)?;
     let except = texts_at(alloc, "except", d)?;
-    match blobs_at(alloc, "bin", d) {
-        Ok(bin) => Ok((rooms, except, bin)),
-        Err(e) => Err(e),
-    }
+    Ok((rooms, except, blobs_at(alloc, "bin", d)?))
 }
 
 #[tactic(auto, unfolding(crate::specs::StreamRecord::event_of))]
@@ -47,17 +44,15 @@ fn event(alloc: Global, d: &Value) -> Result<StreamRec, LineFault>
     if !fits(MAX_OFFSET, off) || !fits(MAX_NAMESPACE, nsp) || !lists_fit(&rooms, &except, &bin) {
         return Err(LIMIT);
     }
-    match copies(alloc, off, nsp, text) {
-        Ok((off, nsp, text)) => Ok(StreamRec::Ev(Event {
-            off,
-            nsp,
-            rooms,
-            except,
-            text,
-            bin,
-        })),
-        Err(e) => Err(e),
-    }
+    let (off, nsp, text) = copies(alloc, off, nsp, text)?;
+    Ok(StreamRec::Ev(Event {
+        off,
+        nsp,
+        rooms,
+        except,
+        text,
+        bin,
+    }))
 }
 
 #[tactic(auto, unfolding(crate::specs::StreamRecord::other_of))]
