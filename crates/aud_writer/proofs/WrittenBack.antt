@@ -1,7 +1,7 @@
 -- What is written for a record reads as that record.
 use Rattle.std.proofs.Common.{◌≡◌, ◌==◌, ℕ, List, [], ◌∷◌, length, map, Option, Some, None, Bool, true, false, ◌&&◌, codes, nat_le, Ok, refl, ap, ◌∙◌}
 use Rattle.std.specs.Result.{result_ok}
-use Rattle.std.proofs.lemmas.Bool.{eqb-true}
+use Rattle.std.proofs.lemmas.Bool.{and_parts, eqb-true}
 use Rattle.base64.proofs.EngineFacts.{decode_of-encode_of}
 use Rattle.base64.specs.Engines.{standard}
 use Rattle.base64.specs.GeneralPurpose.{IsBytes}
@@ -30,18 +30,14 @@ use Rattle.aud_tap.specs.WellFormed.{is_well_formed, event_is_well_formed, strea
 use Rattle.aud_writer.specs.Written.{record_data, stream_data, header_data, event_data, offset_data, node_data, client_data, encoded, text_member, list_member, text_items}
 use Rattle.aud_writer.specs.Private.BytesBack.{DecodeBack, stream_bytes, client_bytes, blobs_of, put_unless_empty}
 
-both : (a b : Bool) → a && b ≡ true → (a ≡ true) × (b ≡ true)
-both true b h = (refl, h)
-both false b h = cc
-
 offset-parts : (t : List ℕ) → is_offset t ≡ true → (is_id t ≡ true) × (fits max_offset t ≡ true)
-offset-parts t h = both (is_id t) (fits max_offset t) h
+offset-parts t h = and_parts (is_id t) (fits max_offset t) h
 
 id-parts : (t : List ℕ) → is_session_id t ≡ true → (is_id t ≡ true) × (fits max_id t ≡ true)
-id-parts t h = both (is_id t) (fits max_id t) h
+id-parts t h = and_parts (is_id t) (fits max_id t) h
 
 namespace-parts : (t : List ℕ) → is_full_namespace t ≡ true → (is_namespace t ≡ true) × (fits max_namespace t ≡ true)
-namespace-parts t h = both (is_namespace t) (fits max_namespace t) h
+namespace-parts t h = and_parts (is_namespace t) (fits max_namespace t) h
 
 pub header-back : (of : TapKind) → value_record (header_data of 1) ≡ Ok (Header of 1)
 unfolding value_record record_of header_of
@@ -50,10 +46,10 @@ header-back tap.Node = refl
 header-back tap.Client = refl
 
 member-parts : (pid room : List ℕ) → is_session_id pid && is_room room ≡ true → (is_id pid ≡ true) × (fits max_id pid ≡ true) × (is_room room ≡ true)
-member-parts pid room h = let ps = both (is_session_id pid) (is_room room) h in let p = id-parts pid ps.0 in (p.0, p.1, ps.1)
+member-parts pid room h = let ps = and_parts (is_session_id pid) (is_room room) h in let p = id-parts pid ps.0 in (p.0, p.1, ps.1)
 
 turn-parts : (pid : List ℕ) (turn : ℕ) → is_session_id pid && nat_le turn max_turn ≡ true → (is_id pid ≡ true) × (fits max_id pid ≡ true) × (nat_le turn max_turn ≡ true)
-turn-parts pid turn h = let ps = both (is_session_id pid) (nat_le turn max_turn) h in let p = id-parts pid ps.0 in (p.0, p.1, ps.1)
+turn-parts pid turn h = let ps = and_parts (is_session_id pid) (nat_le turn max_turn) h in let p = id-parts pid ps.0 in (p.0, p.1, ps.1)
 
 pub node-back : (r : NodeRec) → node_is_well_formed r ≡ true → value_record (node_data r) ≡ Ok (Node r)
 unfolding value_record record_of record_in node_record_of start_of take_of open_of member_of pid_and_turn gone_of
@@ -61,8 +57,8 @@ node-back (Start None) h = refl
 node-back (Start (Some off)) h = let o = offset-parts off h in rw (o.0, o.1) refl
 node-back (Take off) h = let o = offset-parts off h in rw (o.0, o.1) refl
 node-back (Opened pid sid nsp) h =
-    let ps = both (is_session_id pid && is_session_id sid) (is_full_namespace nsp) h in
-    let ids = both (is_session_id pid) (is_session_id sid) ps.0 in
+    let ps = and_parts (is_session_id pid && is_session_id sid) (is_full_namespace nsp) h in
+    let ids = and_parts (is_session_id pid) (is_session_id sid) ps.0 in
     let p = id-parts pid ids.0 in
     let s = id-parts sid ids.1 in
     let n = namespace-parts nsp ps.1 in
@@ -198,10 +194,10 @@ blobs-or-empty (b ∷ bs) h = blobs-back (b ∷ bs) h
 event-back : (e : Event) → event_is_well_formed e ≡ true → DecodeBack e.bin → event_of (event_data e) ≡ Ok (Ev e)
 unfolding event_of lists_of
 event-back e h bytes =
-    let e4 = both (is_offset e.off && is_full_namespace e.nsp && fit_rooms e.rooms && fit_rooms e.except) (nat_le (length e.bin) max_attachments) h in
-    let e3 = both (is_offset e.off && is_full_namespace e.nsp && fit_rooms e.rooms) (fit_rooms e.except) e4.0 in
-    let e2 = both (is_offset e.off && is_full_namespace e.nsp) (fit_rooms e.rooms) e3.0 in
-    let e1 = both (is_offset e.off) (is_full_namespace e.nsp) e2.0 in
+    let e4 = and_parts (is_offset e.off && is_full_namespace e.nsp && fit_rooms e.rooms && fit_rooms e.except) (nat_le (length e.bin) max_attachments) h in
+    let e3 = and_parts (is_offset e.off && is_full_namespace e.nsp && fit_rooms e.rooms) (fit_rooms e.except) e4.0 in
+    let e2 = and_parts (is_offset e.off && is_full_namespace e.nsp) (fit_rooms e.rooms) e3.0 in
+    let e1 = and_parts (is_offset e.off) (is_full_namespace e.nsp) e2.0 in
     let o = offset-parts e.off e1.0 in
     let n = namespace-parts e.nsp e1.1 in
     let bin = map encoded e.bin in
