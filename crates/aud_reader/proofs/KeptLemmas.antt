@@ -6,6 +6,7 @@ use Rattle.std.specs.String.{string_bytes, string_eq}
 use Rattle.std.specs.declared.string.String.{String}
 use Rattle.std.proofs.lemmas.Cmp.{nat_list_eq_equiv}
 use Rattle.std.proofs.lemmas.Grind.{flat_map-append}
+use Rattle.std.proofs.lemmas.Option.{same_Some}
 use Rattle.std.proofs.lemmas.List.Sums.{sum_by-set}
 use Rattle.std.proofs.lemmas.Map.Text.{hash_map_updates_text}
 use Rattle.aud_base.proofs.Lists.{index_is_first}
@@ -90,7 +91,7 @@ place_of-set name (u ∷ us) zero t t' short at same =
 place_of-set name (u ∷ us) (suc i) t t' short at same =
     ap (λ o. cond (is_text name u.name) (Some 0) (option_map suc o)) (place_of-set name us i t t' (omega arith) at same)
 
-taps_on-set : (of : TapKind) (ts : List Tap) (i : ℕ) (t t' : Tap) → i < length ts → get_or ts i t ≡ t → kind_of_tap t'.records ≡ kind_of_tap t.records → taps_on of (set ts i t') ≡ taps_on of ts
+pub taps_on-set : (of : TapKind) (ts : List Tap) (i : ℕ) (t t' : Tap) → i < length ts → get_or ts i t ≡ t → kind_of_tap t'.records ≡ kind_of_tap t.records → taps_on of (set ts i t') ≡ taps_on of ts
 taps_on-set of ts i t t' short at same =
     let counts : Tap → ℕ = λ x. cond (same_kind of (kind_of_tap x.records)) 1 0 in
     let counted = sum_by-set counts ts i t' t short in
@@ -119,6 +120,20 @@ around (u ∷ us) (suc i) t short at =
       is = ap (λ x. pids_in u.records ++ x) rest.is ∙ regroup (pids_in u.records) rest.before (pids_in t.records) rest.after;
       put = λ t'. ap (λ x. pids_in u.records ++ x) (rest.put t') ∙ regroup (pids_in u.records) rest.before (pids_in t'.records) rest.after;
     }
+
+-- a tap that is found stands at the place of its name
+placed : (name : List ℕ) (ts : List Tap) (t : Tap) → tap_named name ts ≡ Some t → (i : ℕ) × (place_of name ts ≡ Some i) × (get_or ts i t ≡ t)
+placed name [] t e = cc
+placed name (u ∷ us) t e =
+    elim (is_text name u.name) as (λ b. cond b (Some u) (tap_named name us) ≡ Some t → (i : ℕ) × (cond b (Some 0) (option_map suc (place_of name us)) ≡ Some i) × (get_or (u ∷ us) i t ≡ t)) [
+      | true ↦ λ h. (0, refl, same_Some u t h)
+      | false ↦ λ h. let (i, place, at) = placed name us t h in (suc i, ap (option_map suc) place, at)
+    ] e
+
+-- and other records for it are one tap in another's place
+pub replaced : (name : List ℕ) (records : Records) (ts : List Tap) (t : Tap) → tap_named name ts ≡ Some t
+    → (i : ℕ) × (i < length ts) × (get_or ts i t ≡ t) × (with_records name records ts ≡ set ts i (record t { records = records }))
+replaced name records ts t e = let (i, place, at) = placed name ts t e in (i, place-bound name ts i place, at, with_records-at name records ts i t place at)
 
 -- ---- a later line of a tap
 

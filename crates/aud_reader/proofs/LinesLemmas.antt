@@ -181,10 +181,6 @@ to_come-ended s t ls none whole some ended going e =
     let t_rest : t.rest ≡ [] = rw ended (rest-is s []) in
     sym (to_come-last s none whole some) ∙ rw (← ended, e) (to_come-empty t (none_of t.fault going) t_rest)
 
--- a last line within the limit isn't refused
-pub last-within : (s : Split) → is_too_long s.rest ≡ false → (line_ended s []).fault ≡ None
-last-within s short = rw (append-nil, short) refl
-
 pub above_zero : (n : ℕ) → false ≡ (n == 0) → 0 < n
 above_zero zero e = cc
 above_zero (suc n) e = omega arith

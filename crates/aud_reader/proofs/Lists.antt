@@ -20,10 +20,6 @@ pub each-some : {A : Type 0} (as_item : Data → Option A) (vs : List Value) (i 
     → with_front (front ++ x ∷ []) (all_items as_item (items_view (drop (i + 1) vs))) ≡ with_front front (all_items as_item (items_view (drop i vs)))
 each-some as_item vs i v x front h is some = rw (add-one, drop-cons vs i v h, ← is, some) (with_front-item front x (all_items as_item (items_view (drop (suc i) vs))))
 
--- an item that is nothing
-pub each-none : {A : Type 0} (as_item : Data → Option A) (vs : List Value) (i : ℕ) (v : Value) → i < length vs → v ≡ get_or vs i v → as_item (view v) ≡ None → all_items as_item (items_view (drop i vs)) ≡ None
-each-none as_item vs i v h is none = rw (drop-cons vs i v h, ← is, none) refl
-
 -- what was needed was there
 pub need-ok : {A : Type 0} (code : InputCode) (x : A) (o : Option A) → need code o ≡ Ok x → o ≡ Some x
 need-ok code x None h = cc

@@ -4,7 +4,7 @@ use Rattle.std.specs.List.{cons_option}
 use Rattle.std.specs.List.{AllByRecursion, IsDistinct}
 use Rattle.std.specs.Option.{option_or, option_map_or}
 use Rattle.std.proofs.lemmas.List.Elements.{All-nil, All-cons}
-use Rattle.std.proofs.lemmas.List.Sums.{sum_by-append}
+use Rattle.std.proofs.lemmas.List.Sums.{sum_by-cons}
 use Rattle.std.proofs.lemmas.Map.Made.{IsDistinct-from_AllPairs}
 use Rattle.aud_reader.specs.Record.{line_record, opened_line}
 use Rattle.std.proofs.lemmas.List.Folds.{find-append}
@@ -138,12 +138,9 @@ named-begins ts more line b =
 named-adds : (ts more : List Tap) (line : List ℕ) (a : Adds ts line more) → Named a.name more
 named-adds ts more line a = record { tap = record a.found { records = a.records }; is = rw a.is (named-same a.name a.records ts a.found a.is_found) }
 
-count-first : (name : List ℕ) (t : Tap) (ts : List Tap) → count_by (λ (u : Tap). is_text name u.name) (t ∷ ts) ≡ count_by (λ (u : Tap). is_text name u.name) (t ∷ []) + count_by (λ (u : Tap). is_text name u.name) ts
-count-first name t ts = sum_by-append (λ (u : Tap). cond (is_text name u.name) 1 0) (t ∷ []) ts
-
 count-none : (name : List ℕ) (ts : List Tap) → AllByRecursion (λ other. is_text name other ≡ false) (names_of ts) → count_by (λ (u : Tap). is_text name u.name) ts ≡ 0
 count-none name [] h = refl
-count-none name (t ∷ ts) h = rw (count-first name t ts, h.0, count-none name ts h.1) refl
+count-none name (t ∷ ts) h = rw (sum_by-cons (λ (x : Tap). cond (is_text name x.name) 1 0) t ts, h.0, count-none name ts h.1) refl
 
 count-one : (name : List ℕ) (ts : List Tap) (t : Tap) → IsDistinct is_text (names_of ts) → tap_named name ts ≡ Some t → count_by (λ (u : Tap). is_text name u.name) ts ≡ 1
 unfolding IsDistinct
@@ -152,8 +149,8 @@ count-one name (u ∷ us) t different e =
     elim (is_text name u.name) as (λ b. is_text name u.name ≡ b → cond b (Some u) (tap_named name us) ≡ Some t → count_by (λ (x : Tap). is_text name x.name) (u ∷ us) ≡ 1) [
       | true ↦ λ is h.
           let same : name ≡ u.name = same_text name u.name is in
-          rw (count-first name u us, is, same, count-none u.name us different.0) refl
-      | false ↦ λ is h. rw (count-first name u us, is, count-one name us t different.1 h) refl
+          rw (sum_by-cons (λ (x : Tap). cond (is_text name x.name) 1 0) u us, is, same, count-none u.name us different.0) refl
+      | false ↦ λ is h. rw (sum_by-cons (λ (x : Tap). cond (is_text name x.name) 1 0) u us, is, count-one name us t different.1 h) refl
     ] refl e
 
 of_one : (taps : List Tap) (line : Line) (name : List ℕ) (r : Rec) → AreDifferent (names_of taps) → line_record line.bytes ≡ Ok (name, r) → Named name taps → IsOfOneTap taps line

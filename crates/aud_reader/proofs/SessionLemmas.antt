@@ -1,10 +1,11 @@
 -- Calls of a splitter one after another.
 use Rattle.std.proofs.Common.{◌≡◌, ℕ, List, [], ◌∷◌, ◌++◌, Option, Some, None, Result, Ok, Err, IfSome, refl, sym, ap, subst, ◌∙◌, append_assoc, append-nil}
+use Rattle.std.proofs.lemmas.Grind.{flat_map-append}
 use Rattle.aud_reader.specs.declared.line.Line.{Line}
 use Rattle.aud_reader.specs.declared.fault.ReadFault.{ReadFault}
 use Rattle.aud_reader.specs.declared.fault.ReadFault.TheVariants.{Input, Memory}
 use Rattle.aud_reader.specs.Lines.{Lines, Split, IsFront, lines_of, lines_to_come, result_of, after_lines}
-use Rattle.aud_reader.specs.Session.{FeedsPiece, Takes, Finishes, SplitterCall, Feed, Take, SplitterCallsFollow, fed, taken, new_splitter, TakenAndLastAreLines, TakenAreLinesBefore, TakenAreFront}
+use Rattle.aud_reader.specs.Session.{FeedsPiece, Takes, Finishes, SplitterCall, Feed, Take, SplitterCallsFollow, bytes_fed, lines_taken, fed, taken, new_splitter, TakenAndLastAreLines, TakenAreLinesBefore, TakenAreFront}
 use Rattle.aud_reader.proofs.LinesLemmas.{some_of}
 use Rattle.aud_reader.proofs.Fronts.{front-of-front, front-after}
 
@@ -101,23 +102,10 @@ pub record Came (text : List ℕ) (given : List Line) (s : Split) : Type 0 where
   pub feeds : fed calls ≡ text
   pub takes : taken calls ≡ given
 
-pub came-fresh : Came [] [] new_splitter
-came-fresh = record { calls = []; follow = refl; feeds = refl; takes = refl }
-
 follow-append : (s t u : Split) (xs ys : List SplitterCall) → SplitterCallsFollow s xs t → SplitterCallsFollow t ys u → SplitterCallsFollow s (xs ++ ys) u
 follow-append s t u [] ys first second = subst (λ start. SplitterCallsFollow start ys u) first second
 follow-append s t u (Feed piece result new ∷ xs) ys first second = (first.0, follow-append new t u xs ys first.1 second)
 follow-append s t u (Take given new ∷ xs) ys first second = (first.0, follow-append new t u xs ys first.1 second)
-
-fed-append : (xs ys : List SplitterCall) → fed (xs ++ ys) ≡ fed xs ++ fed ys
-fed-append [] ys = refl
-fed-append (Feed piece result new ∷ xs) ys = rw (fed-append xs ys) (sym (append_assoc piece (fed xs) (fed ys)))
-fed-append (Take given new ∷ xs) ys = fed-append xs ys
-
-taken-append : (xs ys : List SplitterCall) → taken (xs ++ ys) ≡ taken xs ++ taken ys
-taken-append [] ys = refl
-taken-append (Feed piece result new ∷ xs) ys = taken-append xs ys
-taken-append (Take given new ∷ xs) ys = rw (taken-append xs ys) (sym (append_assoc given (taken xs) (taken ys)))
 
 -- one more piece
 pub came-feed : (text : List ℕ) (given : List Line) (s t : Split) (piece : List ℕ) (result : Result (Unit {0}) ReadFault)
@@ -127,8 +115,8 @@ came-feed text given s t piece result came feeds =
     record {
       calls = came.calls ++ call;
       follow = follow-append new_splitter s t came.calls call came.follow (feeds, refl);
-      feeds = fed-append came.calls call ∙ rw (came.feeds, append-nil piece) refl;
-      takes = taken-append came.calls call ∙ rw (came.takes, append-nil given) refl;
+      feeds = flat_map-append bytes_fed came.calls call ∙ rw (came.feeds, append-nil piece) refl;
+      takes = flat_map-append lines_taken came.calls call ∙ rw (came.takes, append-nil given) refl;
     }
 
 -- one more take
@@ -138,8 +126,8 @@ came-take text given ls s t came takes =
     record {
       calls = came.calls ++ call;
       follow = follow-append new_splitter s t came.calls call came.follow (takes, refl);
-      feeds = fed-append came.calls call ∙ rw (came.feeds, append-nil text) refl;
-      takes = taken-append came.calls call ∙ rw (came.takes, append-nil ls) refl;
+      feeds = flat_map-append bytes_fed came.calls call ∙ rw (came.feeds, append-nil text) refl;
+      takes = flat_map-append lines_taken came.calls call ∙ rw (came.takes, append-nil ls) refl;
     }
 
 -- the end of the input

@@ -1,13 +1,14 @@
 -- What the taps of a bundle keep to, line after line.
-use Rattle.std.proofs.Common.{◌≡◌, ℕ, zero, suc, ◌+◌, ◌<◌, ◌≤◌, List, [], ◌∷◌, ◌++◌, length, map, true, false, cond, not, inl, inr, Some, None, Ok, refl, sym, ap, ◌∙◌, arith, nat_lt, get_or, option_map}
+use Rattle.std.proofs.Common.{◌≡◌, ℕ, zero, suc, ◌+◌, ◌<◌, ◌≤◌, List, [], ◌∷◌, ◌++◌, length, map, true, false, cond, not, inl, inr, Some, None, Ok, refl, sym, ap, ◌∙◌, arith, nat_lt, get_or, set, option_map}
 use Rattle.std.specs.List.{All, list_any}
 use Rattle.std.specs.Str.{bytes_eq}
 use Rattle.std.proofs.lemmas.Bool.{ltb-true, not-true}
 use Rattle.std.proofs.lemmas.Cmp.{nat_list_eq_equiv}
 use Rattle.std.proofs.lemmas.Slice.Eq.{bytes_eq-Decides}
-use Rattle.std.proofs.lemmas.List.{map-append}
+use Rattle.std.proofs.Math.ListN.{get_or-map}
+use Rattle.std.proofs.lemmas.List.{map-append, map-set, set-get_or}
 use Rattle.std.proofs.lemmas.Option.{slice_get-map, slice_get_within, get_or_from_slice_get}
-use Rattle.std.proofs.lemmas.List.Elements.{All-nil, All-cons, All-head, All-tail, All-push}
+use Rattle.std.proofs.lemmas.List.Elements.{All-nil, All-set, All-push}
 use Rattle.std.proofs.lemmas.List.Sums.{sum_by-append}
 use Rattle.std.proofs.lemmas.Map.Keys.{IsDistinct-push}
 use Rattle.std.proofs.lemmas.Map.Made.{AllPairs-from_IsDistinct, IsDistinct-from_AllPairs}
@@ -24,9 +25,10 @@ use Rattle.aud_tap.specs.declared.taps.Tap.{Tap}
 use Rattle.aud_tap.specs.Forms.{is_text}
 use Rattle.aud_tap.specs.Names.{AreNamedOnce}
 use Rattle.aud_base.specs.Steps.{guard}
-use Rattle.aud_reader.specs.Bundle.{offset_of, with_entry, with_tap_record, tap_named, with_records, kind_of_tap, same_kind, taps_on, no_records, another_tap, with_line, taps_from, taps_of}
+use Rattle.aud_reader.specs.Bundle.{offset_of, with_entry, with_tap_record, tap_named, kind_of_tap, same_kind, taps_on, no_records, another_tap, with_line, taps_from, taps_of}
 use Rattle.aud_reader.specs.TapLaws.{AreDifferent, offsets_in, HasEachOffsetOnce}
 use Rattle.aud_reader.specs.Private.Sound.{names_of, AreSoundTaps}
+use Rattle.aud_reader.proofs.KeptLemmas.{replaced, taps_on-set}
 use Rattle.aud_reader.proofs.LineSteps.{guarded, new_entry, one_more, first_of_lines, Begins, Adds, line_step}
 
 -- ---- different texts
@@ -45,14 +47,6 @@ none-of name (t ∷ ts) e =
       | false ↦ λ is h. rw is (none-of name ts h)
     ] refl e
 
-names-same : (name : List ℕ) (records : Records) (ts : List Tap) → names_of (with_records name records ts) ≡ names_of ts
-names-same name records [] = refl
-names-same name records (t ∷ ts) =
-    elim (is_text name t.name) as (λ b. names_of (cond b (record t { records = records } ∷ ts) (t ∷ with_records name records ts)) ≡ names_of (t ∷ ts)) [
-      | true ↦ refl
-      | false ↦ ap (λ names. t.name ∷ names) (names-same name records ts)
-    ]
-
 -- ---- the streams
 
 streams-new : (of : TapKind) (name : List ℕ) (ts : List Tap) → taps_on tap.Stream ts ≤ 1 → another_tap of ts ≡ Ok tt → taps_on tap.Stream (ts ++ record { name = name; records = no_records of } ∷ []) ≤ 1
@@ -63,25 +57,6 @@ streams-new of name ts few room =
     go tap.Stream room = let none : taps_on tap.Stream ts < 1 = ltb-true _ _ (guarded SecondStream (nat_lt (taps_on tap.Stream ts) 1) room) in omega arith
     go tap.Node room = omega arith
     go tap.Client room = omega arith
-
-streams-first : (t : Tap) (ts : List Tap) → taps_on tap.Stream (t ∷ ts) ≡ taps_on tap.Stream (t ∷ []) + taps_on tap.Stream ts
-streams-first t ts = sum_by-append (λ (x : Tap). cond (same_kind tap.Stream (kind_of_tap x.records)) 1 0) (t ∷ []) ts
-
-streams-same : (name : List ℕ) (records : Records) (ts : List Tap) (t : Tap) → tap_named name ts ≡ Some t → kind_of_tap records ≡ kind_of_tap t.records → taps_on tap.Stream (with_records name records ts) ≡ taps_on tap.Stream ts
-streams-same name records [] t e same = cc
-streams-same name records (u ∷ us) t e same =
-    elim (is_text name u.name) as (λ b. cond b (Some u) (tap_named name us) ≡ Some t
-    → taps_on tap.Stream (cond b (record u { records = records } ∷ us) (u ∷ with_records name records us)) ≡ taps_on tap.Stream (u ∷ us)) [
-      | true ↦ λ h.
-          let is : u ≡ t = cc in
-          streams-first (record u { records = records }) us
-          ∙ ap (λ k. (0 + cond (same_kind tap.Stream k) 1 0) + taps_on tap.Stream us) (same ∙ ap (λ (x : Tap). kind_of_tap x.records) (sym is))
-          ∙ sym (streams-first u us)
-      | false ↦ λ h.
-          streams-first u (with_records name records us)
-          ∙ ap (λ n. taps_on tap.Stream (u ∷ []) + n) (streams-same name records us t h same)
-          ∙ sym (streams-first u us)
-    ] e
 
 -- ---- the offsets
 
@@ -105,17 +80,6 @@ offsets-more pids (Stream entries) new kind d e different =
 offsets-more pids (Node records) new kind d e different = offsets-absent new (λ is. let same = (one_more pids (Node records) new kind d e).same in cc)
 offsets-more pids (Client records) new kind d e different = offsets-absent new (λ is. let same = (one_more pids (Client records) new kind d e).same in cc)
 
-offsets-put : (name : List ℕ) (records : Records) (ts : List Tap) (t : Tap) → tap_named name ts ≡ Some t → (AreDifferent (offsets_in t.records) → AreDifferent (offsets_in records)) → HasEachOffsetOnce ts → HasEachOffsetOnce (with_records name records ts)
-offsets-put name records [] t e more all = cc
-offsets-put name records (u ∷ us) t e more all =
-    let P : Tap → Type 0 = λ (x : Tap). AreDifferent (offsets_in x.records) in
-    let first : P u = All-head P u us all in
-    let others : All P us = All-tail P u us all in
-    elim (is_text name u.name) as (λ b. cond b (Some u) (tap_named name us) ≡ Some t → HasEachOffsetOnce (cond b (record u { records = records } ∷ us) (u ∷ with_records name records us))) [
-      | true ↦ λ h. let is : u ≡ t = cc in All-cons P (record u { records = records }) us (more (rw is at first)) others
-      | false ↦ λ h. All-cons P u (with_records name records us) first (offsets-put name records us t h more others)
-    ] e
-
 -- ---- one more line
 
 sound-begins : (ts more : List Tap) (line : List ℕ) → AreSoundTaps ts → Begins ts line more → AreSoundTaps more
@@ -129,10 +93,14 @@ sound-begins ts more line sound b =
 
 sound-adds : (ts more : List Tap) (line : List ℕ) → AreSoundTaps ts → Adds ts line more → AreSoundTaps more
 sound-adds ts more line sound a =
-    rw a.is (record {
-      names = rw (names-same a.name a.records ts) sound.names;
-      stream = rw (streams-same a.name a.records ts a.found a.is_found a.grown.same) sound.stream;
-      offsets = offsets-put a.name a.records ts a.found a.is_found (offsets-more _ (a.found).records a.records a.kind a.d a.added) sound.offsets;
+    let (i, within, at, put) = replaced a.name a.records ts a.found a.is_found in
+    let name_of : Tap → List ℕ = λ t. t.name in
+    let named : (a.found).name ≡ get_or (names_of ts) i (a.found).name = sym (get_or-map name_of ts i a.found ∙ ap name_of at) in
+    rw (a.is, put) (record {
+      names = rw (map-set name_of ts i (record a.found { records = a.records }), ap (set (names_of ts) i) named ∙ set-get_or (names_of ts) i (a.found).name) sound.names;
+      stream = rw (taps_on-set tap.Stream ts i a.found (record a.found { records = a.records }) within at a.grown.same) sound.stream;
+      offsets = All-set (λ (t : Tap). AreDifferent (offsets_in t.records)) ts i (record a.found { records = a.records })
+          (offsets-more _ (a.found).records a.records a.kind a.d a.added (rw at at (sound.offsets i a.found within))) sound.offsets;
     })
 
 pub sound-none : AreSoundTaps []

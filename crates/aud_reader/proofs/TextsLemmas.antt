@@ -27,7 +27,7 @@ any-push : (q text : List ℕ) (texts : List (List ℕ)) → list_any (is_text q
 any-push q text texts = list_any-append (is_text q) texts (text ∷ []) ∙ ap (λ b. list_any (is_text q) texts || b) (or-false (is_text q text))
 
 -- a text that is put in
-pub texts-new : {Y S : Type 0} (s n : HashSet (String Y) S) (texts : List (List ℕ)) (text : List ℕ)
+texts-new : {Y S : Type 0} (s n : HashSet (String Y) S) (texts : List (List ℕ)) (text : List ℕ)
     → UpdatesBy string_eq (λ k. bytes_eq text (string_bytes k)) s n true → HasTexts s texts → HasTexts n (texts ++ text ∷ [])
 texts-new s n texts text updates has q =
     hash_set_updates_text text s n true updates q
@@ -39,6 +39,11 @@ texts-new s n texts text updates has q =
     either : (b a : Bool) → cond b true a ≡ (a || b)
     either true a = sym (or-true a)
     either false a = sym (or-false a)
+
+-- a key that spells the text
+pub texts-put : {Y S : Type 0} (s n : HashSet (String Y) S) (texts : List (List ℕ)) (text : List ℕ) (key : String Y) → string_bytes key ≡ text
+    → UpdatesBy string_eq (string_eq key) s n true → HasTexts s texts → HasTexts n (texts ++ text ∷ [])
+texts-put s n texts text key spells updates has = rw (← spells) (texts-new s n texts (string_bytes key) updates has)
 
 -- a text that is in already
 texts-known : {Y S : Type 0} (s : HashSet (String Y) S) (texts : List (List ℕ)) (text : List ℕ) → contains_text s text ≡ true → HasTexts s texts → HasTexts s (texts ++ text ∷ [])
@@ -86,11 +91,12 @@ pids-known s all pid unique has known =
     let after = count-texts s (all ++ pid ∷ []) unique texts in
     record { texts = texts; few = rw (after, ← before) has.few }
 
-pub pids-new : {Y S : Type 0} (s n : HashSet (String Y) S) (all : List (List ℕ)) (pid : List ℕ) → IsDistinct string_eq s.keys → HasPids s all → contains_text s pid ≡ false → length s.keys < max_pids
-    → UpdatesBy string_eq (λ k. bytes_eq pid (string_bytes k)) s n true → HasPids n (all ++ pid ∷ [])
-pids-new s n all pid unique has absent room updates =
+-- a key that spells a pid is put in
+pub pids-put : {Y S : Type 0} (s n : HashSet (String Y) S) (all : List (List ℕ)) (pid : List ℕ) (key : String Y) → string_bytes key ≡ pid → IsDistinct string_eq s.keys → HasPids s all → contains_text s pid ≡ false
+    → length s.keys < max_pids → UpdatesBy string_eq (string_eq key) s n true → HasPids n (all ++ pid ∷ [])
+pids-put s n all pid key spells unique has absent room updates =
     let count = count-absent s all pid unique has.texts absent in
-    record { texts = texts-new s n all pid updates has.texts; few = rw count (omega arith) }
+    record { texts = texts-put s n all pid key spells updates has.texts; few = rw count (omega arith) }
 
 pub pids-full : {Y S : Type 0} (s : HashSet (String Y) S) (all : List (List ℕ)) (pid : List ℕ) → IsDistinct string_eq s.keys → HasPids s all → contains_text s pid ≡ false → max_pids ≤ length s.keys
     → pids_fit (all ++ pid ∷ []) ≡ Err Limit
@@ -98,9 +104,6 @@ pids-full s all pid unique has absent full =
     let count = count-absent s all pid unique has.texts absent in
     let above : max_pids < distinct_count is_text (all ++ pid ∷ []) = rw count (omega arith) in
     rw (lt-leb _ _ above) refl
-
-pub pids-none : {Y S : Type 0} (s : HashSet (String Y) S) (all : List (List ℕ)) → HasPids s all → HasPids s (all ++ [])
-pids-none s all has = rw (append-nil) has
 
 -- a text that is none of a list's differs from each
 all-absent : (x : List ℕ) (texts : List (List ℕ)) → list_any (is_text x) texts ≡ false → AllByRecursion (λ y. is_text x y ≡ false) texts
@@ -145,16 +148,6 @@ pids-moved s before own after more has =
 
     moved : (q : List ℕ) → list_any (is_text q) ((before ++ own ++ after) ++ more) ≡ list_any (is_text q) (before ++ (own ++ more) ++ after)
     moved q = simp (list_any-append) (swap (list_any (is_text q) before) (list_any (is_text q) own) (list_any (is_text q) after) (list_any (is_text q) more))
-
--- a key that spells the pid
-pub pids-put : {Y S : Type 0} (s n : HashSet (String Y) S) (all : List (List ℕ)) (pid : List ℕ) (key : String Y) → string_bytes key ≡ pid → IsDistinct string_eq s.keys → HasPids s all → contains_text s pid ≡ false
-    → length s.keys < max_pids → UpdatesBy string_eq (string_eq key) s n true → HasPids n (all ++ pid ∷ [])
-pids-put s n all pid key spells unique has absent room updates =
-    rw (← spells) (pids-new s n all (string_bytes key) unique has (rw spells absent) room updates)
-
-pub texts-put : {Y S : Type 0} (s n : HashSet (String Y) S) (texts : List (List ℕ)) (text : List ℕ) (key : String Y) → string_bytes key ≡ text
-    → UpdatesBy string_eq (string_eq key) s n true → HasTexts s texts → HasTexts n (texts ++ text ∷ [])
-texts-put s n texts text key spells updates has = rw (← spells) (texts-new s n texts (string_bytes key) updates has)
 
 -- one more record of one tap among all
 pub pids-more : {Y S : Type 0} (s : HashSet (String Y) S) (before : List (List ℕ)) (recs : List NodeRec) (rec : NodeRec) (after : List (List ℕ))

@@ -94,6 +94,14 @@ impl OpenTaps {
         tap.add(self.alloc, &mut self.pids, kind, d)
     }
 
+    /// The place of the tap of this name.
+    fn place(&self, name: &str) -> Option<usize>
+        requires { KeepsTaps self.now }
+        ensures { result ≡ place_of name.now (taps_so_far self.now) }
+    {
+        self.places.get(name).copied()
+    }
+
     /// Reads a line.
     #[tactic(auto, unfolding(crate::specs::Bundle::with_line))]
     pub fn read_line(&mut self, line: &[u8]) -> Result<(), LineFault>
@@ -103,7 +111,7 @@ impl OpenTaps {
     {
         let (name, d) = opened_line(self.alloc, line)?;
         let kind = kind_of(&d)?;
-        match self.places.get(name).copied() {
+        match self.place(name) {
             Some(place) => self.go_on(place, kind, &d),
             None => self.begin(name, kind, &d),
         }
