@@ -41,26 +41,27 @@ at_later true o i e = let is : 0 ≡ suc i = cc in absurd (omega arith)
 at_later false None i e = cc
 at_later false (Some j) i e = let is : suc j ≡ suc i = cc in let same : j ≡ i = omega arith in (refl, ap Some same)
 
--- the tap at the place of a name is the tap of that name
-named-at : (name : List ℕ) (ts : List Tap) (i : ℕ) (t : Tap) → place_of name ts ≡ Some i → get_or ts i t ≡ t → tap_named name ts ≡ Some t
-named-at name [] i t place at = cc
-named-at name (u ∷ us) zero t place at =
+-- the tap at the place of a name is the tap of that name, within the list, and its records are replaced there
+at-place : (name : List ℕ) (records : Records) (ts : List Tap) (i : ℕ) (t : Tap) → place_of name ts ≡ Some i → get_or ts i t ≡ t
+    → (i < length ts) × (tap_named name ts ≡ Some t) × (with_records name records ts ≡ set ts i (record t { records = records }))
+at-place name records [] i t place at = cc
+at-place name records (u ∷ us) zero t place at =
     let first = index_is_first (is_text name u.name) (place_of name us) place in
-    rw first (ap Some at)
-named-at name (u ∷ us) (suc i) t place at =
+    (omega arith, rw first (ap Some at), rw first (ap (λ (x : Tap). record x { records = records } ∷ us) at))
+at-place name records (u ∷ us) (suc i) t place at =
     let later = at_later (is_text name u.name) (place_of name us) i place in
-    rw later.0 (named-at name us i t later.1 at)
+    let (within, named, put) = at-place name records us i t later.1 at in
+    (omega arith, rw later.0 named, rw later.0 (ap (λ rest. u ∷ rest) put))
 
--- and its records are replaced there
-with_records-at : (name : List ℕ) (records : Records) (ts : List Tap) (i : ℕ) (t : Tap) → place_of name ts ≡ Some i → get_or ts i t ≡ t
-    → with_records name records ts ≡ set ts i (record t { records = records })
-with_records-at name records [] i t place at = cc
-with_records-at name records (u ∷ us) zero t place at =
-    let first = index_is_first (is_text name u.name) (place_of name us) place in
-    rw first (ap (λ (x : Tap). record x { records = records } ∷ us) at)
-with_records-at name records (u ∷ us) (suc i) t place at =
-    let later = at_later (is_text name u.name) (place_of name us) i place in
-    rw later.0 (ap (λ rest. u ∷ rest) (with_records-at name records us i t later.1 at))
+-- some tap stands at the place
+tap-at : (name : List ℕ) (ts : List Tap) (i : ℕ) → place_of name ts ≡ Some i → (t : Tap) × (get_or ts i t ≡ t)
+tap-at name [] i place = cc
+tap-at name (u ∷ us) zero place = (u, refl)
+tap-at name (u ∷ us) (suc i) place = tap-at name us i (at_later (is_text name u.name) (place_of name us) i place).1
+
+-- a place is within the list
+pub place-bound : (name : List ℕ) (ts : List Tap) (i : ℕ) → place_of name ts ≡ Some i → i < length ts
+place-bound name ts i place = let (t, at) = tap-at name ts i place in (at-place name t.records ts i t place at).0
 
 pub named-none : (name : List ℕ) (ts : List Tap) → place_of name ts ≡ None → tap_named name ts ≡ None
 named-none name [] place = refl
@@ -72,15 +73,6 @@ named-none name (u ∷ us) place =
     none_of true o e = cc
     none_of false None e = (refl, refl)
     none_of false (Some i) e = cc
-
--- a place is within the list
-pub place-bound : (name : List ℕ) (ts : List Tap) (i : ℕ) → place_of name ts ≡ Some i → i < length ts
-place-bound name [] i place = cc
-place-bound name (u ∷ us) zero place = omega arith
-place-bound name (u ∷ us) (suc i) place =
-    let later = at_later (is_text name u.name) (place_of name us) i place in
-    let below = place-bound name us i later.1 in
-    omega arith
 
 -- ---- one tap in another's place
 
@@ -133,7 +125,7 @@ placed name (u ∷ us) t e =
 -- and other records for it are one tap in another's place
 pub replaced : (name : List ℕ) (records : Records) (ts : List Tap) (t : Tap) → tap_named name ts ≡ Some t
     → (i : ℕ) × (i < length ts) × (get_or ts i t ≡ t) × (with_records name records ts ≡ set ts i (record t { records = records }))
-replaced name records ts t e = let (i, place, at) = placed name ts t e in (i, place-bound name ts i place, at, with_records-at name records ts i t place at)
+replaced name records ts t e = let (i, place, at) = placed name ts t e in let here = at-place name records ts i t place at in (i, here.0, at, here.2)
 
 -- ---- a later line of a tap
 
@@ -151,13 +143,7 @@ unfolding with_later
 header_twice ts name records word d e = rw e refl
 
 named-later : (ts : List Tap) (i : ℕ) (t : Tap) (name word : List ℕ) (d : Data) → place_of name ts ≡ Some i → get_or ts i t ≡ t → with_named ts name word d ≡ with_later ts name t.records word d
-named-later ts i t name word d place at = ap (λ o. with_kind ts name o word d) (named-at name ts i t place at)
-
--- some tap stands at the place
-tap-at : (name : List ℕ) (ts : List Tap) (i : ℕ) → place_of name ts ≡ Some i → (t : Tap) × (get_or ts i t ≡ t)
-tap-at name [] i place = cc
-tap-at name (u ∷ us) zero place = (u, refl)
-tap-at name (u ∷ us) (suc i) place = tap-at name us i (at_later (is_text name u.name) (place_of name us) i place).1
+named-later ts i t name word d place at = ap (λ o. with_kind ts name o word d) (at-place name t.records ts i t place at).1
 
 pub header-twice : (ts : List Tap) (i : ℕ) (name word : List ℕ) (d : Data) → place_of name ts ≡ Some i → is_text word (codes "tap") ≡ true → with_named ts name word d ≡ Err HeaderTwice
 header-twice ts i name word d place e =
@@ -176,7 +162,7 @@ go_on-taps ts i t t' name word d r place at e same is =
     let renamed : record t { records = t'.records } ≡ t' = ap named (sym same) in
     rw (named-later ts i t name word d place at, with_later-goes ts name t.records word d e)
     (becomes-then r t'.records (set ts i t') (with_tap_record (pids_of ts) t.records word d) (λ more. Ok (with_records name more ts))
-    (ap Ok (with_records-at name t'.records ts i t place at ∙ ap (set ts i) renamed)) is)
+    (ap Ok ((at-place name t'.records ts i t place at).2 ∙ ap (set ts i) renamed)) is)
 
 pub go_on-keeps : (s s' : OpenTaps) (i : ℕ) (t t' : Tap) (word : List ℕ) (d : Data) (r : Result (Unit {0}) LineFault) → taps_so_far s' ≡ set (taps_so_far s) i t' → s'.places ≡ s.places → s'.counts ≡ s.counts
     → KeepsTaps s → (short : i < length (taps_so_far s)) → (at : get_or (taps_so_far s) i t ≡ t) → t'.name ≡ t.name → Becomes r t'.records (with_tap_record (pids_of (taps_so_far s)) t.records word d)

@@ -43,9 +43,9 @@ to_come-follow s t (Take given new ∷ calls) more follow memory =
     ∙ ap (λ n. after_lines given (lines_to_come n (fed calls ++ more))) follow.0.left
     ∙ taken-then given s (fed calls ++ more) follow.0.lines
 
--- what a splitter gives after want of memory is what waits
-to_come-memory : (t : Split) (text : List ℕ) (fault : ReadFault) → t.fault ≡ Some fault → (lines_to_come t text).lines ≡ t.waiting
-to_come-memory t text fault e = rw e (append-nil t.waiting)
+-- after a refusal a splitter gives what waits, and the refusal
+refused-gives : (t : Split) (text : List ℕ) (fault : ReadFault) → t.fault ≡ Some fault → lines_to_come t text ≡ record { lines = t.waiting; fault = Some fault }
+refused-gives t text fault e = rw (e, append-nil) refl
 
 -- what one call of `feed` does to a front of what comes after it
 front-fed : (s t : Split) (piece : List ℕ) (result : Result (Unit {0}) ReadFault) (front : List Line) (text : List ℕ) → FeedsPiece s piece result t
@@ -55,7 +55,7 @@ front-fed s t piece result front text feeds first =
     elim t.fault as (λ o. t.fault ≡ o → IsFront front (lines_to_come s (piece ++ text)).lines) [
       | None ↦ λ e. going (λ m. let is : Err Memory ≡ result_of None = sym m ∙ feeds.value ∙ ap result_of e in cc)
       | Some (Input n code) ↦ λ e. going (λ m. let is : Err Memory ≡ result_of (Some (Input n code)) = sym m ∙ feeds.value ∙ ap result_of e in cc)
-      | Some Memory ↦ λ e. front-of-front front t.waiting _ (rw (to_come-memory t text Memory e) at first) (feeds.front text)
+      | Some Memory ↦ λ e. front-of-front front t.waiting _ (subst (λ ls. IsFront front ls.lines) (refused-gives t text Memory e) first) (feeds.front text)
     ] refl
 
 front-follow : (s t : Split) (calls : List SplitterCall) (more : List ℕ) → SplitterCallsFollow s calls t
@@ -73,19 +73,13 @@ front-follow s t (Take given new ∷ calls) more follow =
 -- a splitter that ends without a refusal has none
 going-at_end : (t : Split) (ls : List Line) → lines_to_come t [] ≡ record { lines = ls; fault = None } → ¬ (t.fault ≡ Some Memory)
 going-at_end t ls ends e =
-    let none : (lines_to_come t []).fault ≡ None = ap (λ l. l.fault) ends in
-    let some : (lines_to_come t []).fault ≡ Some Memory = rw e refl in
-    let both : Some Memory ≡ None = sym some ∙ none in
-    cc
+    let both : Some Memory ≡ None = ap (λ l. l.fault) (sym (refused-gives t [] Memory e) ∙ ends) in cc
 
 pub taken_and_last : TakenAndLastAreLines
 taken_and_last = λ calls last ls follow finish.
     ap lines_of (sym (append-nil (fed calls)))
     ∙ sym (to_come-follow new_splitter last calls [] follow (going-at_end last ls finish.ok))
     ∙ ap (after_lines (taken calls)) finish.ok
-
-refused-gives : (t : Split) (text : List ℕ) (fault : ReadFault) → t.fault ≡ Some fault → lines_to_come t text ≡ record { lines = t.waiting; fault = Some fault }
-refused-gives t text fault e = rw (e, append-nil) refl
 
 pub taken_before : TakenAreLinesBefore
 taken_before = λ calls last fault follow e other more.
