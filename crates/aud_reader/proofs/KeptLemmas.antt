@@ -129,26 +129,12 @@ replaced name records ts t e = let (i, place, at) = placed name ts t e in let he
 
 -- ---- a later line of a tap
 
--- one more record leaves the kind of a tap
-kind-stays : (pids : List (List ℕ)) (old new : Records) (word : List ℕ) (d : Data) → with_tap_record pids old word d ≡ Ok new → kind_of_tap new ≡ kind_of_tap old
-kind-stays pids old new word d e = (one_more pids old new word d e).same
-
-with_later-goes : (ts : List Tap) (name : List ℕ) (records : Records) (word : List ℕ) (d : Data) → is_text word (codes "tap") ≡ false
-    → with_later ts name records word d ≡ (with_tap_record (pids_of ts) records word d >>= (λ more. Ok (with_records name more ts)))
-unfolding with_later
-with_later-goes ts name records word d e = rw e refl
-
-header_twice : (ts : List Tap) (name : List ℕ) (records : Records) (word : List ℕ) (d : Data) → is_text word (codes "tap") ≡ true → with_later ts name records word d ≡ Err HeaderTwice
-unfolding with_later
-header_twice ts name records word d e = rw e refl
-
 named-later : (ts : List Tap) (i : ℕ) (t : Tap) (name word : List ℕ) (d : Data) → place_of name ts ≡ Some i → get_or ts i t ≡ t → with_named ts name word d ≡ with_later ts name t.records word d
 named-later ts i t name word d place at = ap (λ o. with_kind ts name o word d) (at-place name t.records ts i t place at).1
 
 pub header-twice : (ts : List Tap) (i : ℕ) (name word : List ℕ) (d : Data) → place_of name ts ≡ Some i → is_text word (codes "tap") ≡ true → with_named ts name word d ≡ Err HeaderTwice
-header-twice ts i name word d place e =
-    let found = tap-at name ts i place in
-    named-later ts i found.0 name word d place found.1 ∙ header_twice ts name (found.0).records word d e
+unfolding with_later
+header-twice ts i name word d place e = let found = tap-at name ts i place in rw (named-later ts i found.0 name word d place found.1, e) refl
 
 becomes-then : {X Y : Type 0} (r : Result (Unit {0}) LineFault) (x : X) (y : Y) (reading : Result X InputCode) (f : X → Result Y InputCode) → f x ≡ Ok y → Becomes r x reading → Becomes r y (reading >>= f)
 becomes-then (Ok u) x y reading f e is = rw is e
@@ -157,10 +143,11 @@ becomes-then (Err (fault.Code code)) x y reading f e is = rw is refl
 
 pub go_on-taps : (ts : List Tap) (i : ℕ) (t t' : Tap) (name word : List ℕ) (d : Data) (r : Result (Unit {0}) LineFault) → place_of name ts ≡ Some i → get_or ts i t ≡ t → is_text word (codes "tap") ≡ false
     → t'.name ≡ t.name → Becomes r t'.records (with_tap_record (pids_of ts) t.records word d) → Becomes r (set ts i t') (with_named ts name word d)
+unfolding with_later
 go_on-taps ts i t t' name word d r place at e same is =
     let named : List ℕ → Tap = λ n. record { name = n; records = t'.records } in
     let renamed : record t { records = t'.records } ≡ t' = ap named (sym same) in
-    rw (named-later ts i t name word d place at, with_later-goes ts name t.records word d e)
+    rw (named-later ts i t name word d place at, e)
     (becomes-then r t'.records (set ts i t') (with_tap_record (pids_of ts) t.records word d) (λ more. Ok (with_records name more ts))
     (ap Ok ((at-place name t'.records ts i t place at).2 ∙ ap (set ts i) renamed)) is)
 
@@ -171,7 +158,7 @@ pub go_on-keeps : (s s' : OpenTaps) (i : ℕ) (t t' : Tap) (word : List ℕ) (d 
 go_on-keeps s s' i t t' word d (Err e) taps places counts keeps short at same is pids = tt
 go_on-keeps s s' i t t' word d (Ok u) taps places counts keeps short at same is pids =
     let ts = taps_so_far s in
-    let stays = kind-stays (pids_of ts) t.records t'.records word d is in
+    let stays = (one_more (pids_of ts) t.records t'.records word d is).same in
     record {
       places = λ name. rw (places, taps) (keeps.places name ∙ sym (place_of-set name ts i t t' short at same));
       pids = rw (taps, (around ts i t short at).put t') pids;
@@ -219,11 +206,6 @@ places-put m n ts t key size spells sized updates places first text =
         let none : place_of text ts ≡ None = rw same first in
         rw (nat_list_eq_equiv.symm t.name text, e, none) refl
     found false e = rw (nat_list_eq_equiv.symm t.name text, e) (other (place_of text ts))
-
-pub with_header-goes : (ts : List Tap) (name word : List ℕ) (d : Data) (of : TapKind) → is_text word (codes "tap") ≡ true → header_of d ≡ Ok of
-    → with_header ts name word d ≡ (another_tap of ts >>= (λ room. Ok (ts ++ record { name = name; records = no_records of } ∷ [])))
-unfolding with_header
-with_header-goes ts name word d of e is = rw (e, is) refl
 
 pub fails-then : {X Y : Type 0} (e : LineFault) (reading : Result X InputCode) (f : X → Result Y InputCode) → Fails e reading → Fails e (reading >>= f)
 fails-then fault.Memory reading f is = tt

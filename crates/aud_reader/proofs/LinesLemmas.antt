@@ -77,19 +77,17 @@ without_return-bounds : (b : Bool) (l : List ℕ) → (length (cond b (take (len
 without_return-bounds true l = (omega (arith, length-take (length l - 1) l), omega (arith, length-take (length l - 1) l))
 without_return-bounds false l = (omega arith, omega arith)
 
-without_return_le : (l : List ℕ) → length (without_return l) ≤ length l
-without_return_le l = (without_return-bounds (nat_lt 0 (length l) && (slice_index l (length l - 1) == 13)) l).0
-
-le_without_return : (l : List ℕ) → length l ≤ length (without_return l) + 1
-le_without_return l = (without_return-bounds (nat_lt 0 (length l) && (slice_index l (length l - 1) == 13)) l).1
+-- a carriage return is one byte
+bounds : (l : List ℕ) → (length (without_return l) ≤ length l) × (length l ≤ length (without_return l) + 1)
+bounds l = without_return-bounds (nat_lt 0 (length l) && (slice_index l (length l - 1) == 13)) l
 
 -- a line that is too long stays too long
 is_too_long-append : (l more : List ℕ) → is_too_long l ≡ true → is_too_long (l ++ more) ≡ true
 is_too_long-append l [] p = rw (append-nil l) p
 is_too_long-append l (x ∷ more) p =
     let long = ltb-true _ _ p in
-    let lower = le_without_return (l ++ x ∷ more) in
-    let upper = without_return_le l in
+    let lower = (bounds (l ++ x ∷ more)).1 in
+    let upper = (bounds l).0 in
     let e = length-append l (x ∷ more) in
     lt-ltb _ _ (omega arith)
 
@@ -100,14 +98,11 @@ numbered-short : (n : ℕ) (l : List ℕ) (ls : List (List ℕ)) → is_too_long
     → lines_from n (l ∷ ls) ≡ after_lines (record { number = n; bytes = without_return l } ∷ []) (lines_from (n + 1) ls)
 numbered-short n l ls p = rw p refl
 
-pieces_of-ended : (rest front more : List ℕ) → has_newline rest ≡ false → has_newline front ≡ false → line_pieces (rest ++ (front ++ 10 ∷ more)) ≡ (rest ++ front) ∷ line_pieces more
-pieces_of-ended rest front more p q = ap line_pieces (sym (append_assoc rest front (10 ∷ more))) ∙ pieces_of-line (rest ++ front) more (has_newline-append rest front p q)
-
 -- a line that ends
 to_come-line_ended : (s : Split) (front more : List ℕ) → s.fault ≡ None → has_newline s.rest ≡ false → has_newline front ≡ false
     → lines_to_come (line_ended s front) more ≡ lines_to_come s (front ++ 10 ∷ more)
 to_come-line_ended s front more none whole front_whole =
-    let ended = pieces_of-ended s.rest front more whole front_whole in
+    let ended = ap line_pieces (sym (append_assoc s.rest front (10 ∷ more))) ∙ pieces_of-line (s.rest ++ front) more (has_newline-append s.rest front whole front_whole) in
     elim (cases_Bool (is_too_long (s.rest ++ front))) [
       | inl long ↦ rw (none, ended, numbered-long s.number (s.rest ++ front) (line_pieces more) long, long, append-nil) refl
       | inr short ↦ rw (none, ended, numbered-short s.number (s.rest ++ front) (line_pieces more) short, short, append_assoc) refl

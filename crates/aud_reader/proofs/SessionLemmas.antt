@@ -101,28 +101,24 @@ follow-append s t u [] ys first second = subst (λ start. SplitterCallsFollow st
 follow-append s t u (Feed piece result new ∷ xs) ys first second = (first.0, follow-append new t u xs ys first.1 second)
 follow-append s t u (Take given new ∷ xs) ys first second = (first.0, follow-append new t u xs ys first.1 second)
 
+-- one more call
+came-call : (text : List ℕ) (given : List Line) (s t : Split) (call : SplitterCall) → Came text given s → SplitterCallsFollow s (call ∷ []) t → Came (text ++ bytes_fed call) (given ++ lines_taken call) t
+came-call text given s t call came follow =
+    record {
+      calls = came.calls ++ call ∷ [];
+      follow = follow-append new_splitter s t came.calls (call ∷ []) came.follow follow;
+      feeds = flat_map-append bytes_fed came.calls (call ∷ []) ∙ rw (came.feeds, append-nil (bytes_fed call)) refl;
+      takes = flat_map-append lines_taken came.calls (call ∷ []) ∙ rw (came.takes, append-nil (lines_taken call)) refl;
+    }
+
 -- one more piece
 pub came-feed : (text : List ℕ) (given : List Line) (s t : Split) (piece : List ℕ) (result : Result (Unit {0}) ReadFault)
     → Came text given s → FeedsPiece s piece result t → Came (text ++ piece) given t
-came-feed text given s t piece result came feeds =
-    let call = Feed piece result t ∷ [] in
-    record {
-      calls = came.calls ++ call;
-      follow = follow-append new_splitter s t came.calls call came.follow (feeds, refl);
-      feeds = flat_map-append bytes_fed came.calls call ∙ rw (came.feeds, append-nil piece) refl;
-      takes = flat_map-append lines_taken came.calls call ∙ rw (came.takes, append-nil given) refl;
-    }
+came-feed text given s t piece result came feeds = subst (λ lines. Came (text ++ piece) lines t) (append-nil given) (came-call text given s t (Feed piece result t) came (feeds, refl))
 
 -- one more take
 pub came-take : (text : List ℕ) (given ls : List Line) (s t : Split) → Came text given s → Takes s ls t → Came text (given ++ ls) t
-came-take text given ls s t came takes =
-    let call = Take ls t ∷ [] in
-    record {
-      calls = came.calls ++ call;
-      follow = follow-append new_splitter s t came.calls call came.follow (takes, refl);
-      feeds = flat_map-append bytes_fed came.calls call ∙ rw (came.feeds, append-nil text) refl;
-      takes = flat_map-append lines_taken came.calls call ∙ rw (came.takes, append-nil ls) refl;
-    }
+came-take text given ls s t came takes = subst (λ bytes. Came bytes (given ++ ls) t) (append-nil text) (came-call text given s t (Take ls t) came (takes, refl))
 
 -- the end of the input
 pub came-finish : (text : List ℕ) (given ls : List Line) (s : Split) → Came text given s → Finishes s (Ok ls)
