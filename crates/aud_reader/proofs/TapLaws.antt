@@ -1,6 +1,6 @@
 -- What the taps of a bundle keep to, line after line.
 use Rattle.std.proofs.Common.{◌≡◌, ℕ, zero, suc, ◌+◌, ◌<◌, ◌≤◌, List, [], ◌∷◌, ◌++◌, length, map, true, false, cond, not, inl, inr, Some, None, Ok, refl, sym, ap, ◌∙◌, arith, nat_lt, get_or, set, option_map}
-use Rattle.std.specs.List.{All, list_any}
+use Rattle.std.specs.List.{list_any}
 use Rattle.std.specs.Str.{bytes_eq}
 use Rattle.std.proofs.lemmas.Bool.{ltb-true, not-true}
 use Rattle.std.proofs.lemmas.Cmp.{nat_list_eq_equiv}
@@ -24,9 +24,8 @@ use Rattle.aud_tap.specs.declared.taps.Records.TheVariants.{Stream, Node, Client
 use Rattle.aud_tap.specs.declared.taps.Tap.{Tap}
 use Rattle.aud_tap.specs.Forms.{is_text}
 use Rattle.aud_tap.specs.Names.{AreNamedOnce}
-use Rattle.aud_base.specs.Steps.{guard}
 use Rattle.aud_reader.specs.Bundle.{offset_of, with_entry, with_tap_record, tap_named, kind_of_tap, same_kind, taps_on, no_records, another_tap, with_line, taps_from, taps_of}
-use Rattle.aud_reader.specs.TapLaws.{AreDifferent, offsets_in, HasEachOffsetOnce}
+use Rattle.aud_reader.specs.TapLaws.{AreDifferent, offsets_in}
 use Rattle.aud_reader.specs.Private.Sound.{names_of, AreSoundTaps}
 use Rattle.aud_reader.proofs.KeptLemmas.{replaced, taps_on-set}
 use Rattle.aud_reader.proofs.LineSteps.{guarded, new_entry, one_more, first_of_lines, Begins, Adds, line_step}

@@ -2,7 +2,6 @@ use Rattle.std.proofs.Common.{◌≡◌, ◌∙◌, true, codes, sym, ap, Ok}
 use Rattle.std.proofs.lemmas.Bool.{not-false}
 use Rattle.std.proofs.lemmas.Result.{err_from_is_err_and}
 use Rattle.aud_reader.specs.declared.bundle.open_taps.OpenTaps.{OpenTaps}
-use Rattle.serde_json.specs.View.{view}
 use Rattle.aud_tap.specs.Forms.{is_text}
 use Rattle.aud_reader.specs.Bundle.{another_tap, with_header}
 use Rattle.aud_reader.specs.SoFar.{taps_so_far}
