@@ -1,9 +1,8 @@
 -- The connection after one more record of a client tap.
-use Rattle.std.proofs.Common.{◌≡◌, ℕ, List, [], ◌∷◌, ◌++◌, Bool, true, false, Option, Some, None, unwrap_or, refl, append-nil}
+use Rattle.std.proofs.Common.{◌≡◌, ℕ, List, [], ◌∷◌, ◌++◌, Bool, false, Option, Some, None, unwrap_or, refl, append-nil}
 use Rattle.std.specs.List.{filter_map, last_or}
 use Rattle.std.proofs.lemmas.List.Elements.{filter_map-append}
 use Rattle.aud_tap.specs.declared.records.ClientRec.{ClientRec}
-use Rattle.aud_tap.specs.declared.records.ClientRec.TheVariants.{Conn, TextIn, BytesIn, Poll, TextOut, Lost}
 use Rattle.aud_reader.specs.Connections.{connection_begun, opens}
 use Rattle.aud_reader.specs.Private.Connected.{Connected}
 
@@ -34,21 +33,3 @@ connected-more recs rec last is_open old =
     unwrap_or-later : (old new : Option Bool) → unwrap_or new (unwrap_or old false) ≡ unwrap_or (later old new) false
     unwrap_or-later old None = refl
     unwrap_or-later old (Some x) = refl
-
-pub connected-conn : (recs : List ClientRec) (c : ℕ) (last : Option ℕ) (is_open : Bool) → Connected recs last is_open → Connected (recs ++ Conn c ∷ []) (Some c) true
-connected-conn recs c = connected-more recs (Conn c)
-
-pub connected-lost : (recs : List ClientRec) (last : Option ℕ) (is_open : Bool) → Connected recs last is_open → Connected (recs ++ Lost ∷ []) last false
-connected-lost recs = connected-more recs Lost
-
-pub connected-text_in : (recs : List ClientRec) (t : List ℕ) (last : Option ℕ) (is_open : Bool) → Connected recs last is_open → Connected (recs ++ TextIn t ∷ []) last is_open
-connected-text_in recs t = connected-more recs (TextIn t)
-
-pub connected-bytes_in : (recs : List ClientRec) (b : List ℕ) (last : Option ℕ) (is_open : Bool) → Connected recs last is_open → Connected (recs ++ BytesIn b ∷ []) last is_open
-connected-bytes_in recs b = connected-more recs (BytesIn b)
-
-pub connected-poll : (recs : List ClientRec) (t : List ℕ) (last : Option ℕ) (is_open : Bool) → Connected recs last is_open → Connected (recs ++ Poll t ∷ []) last is_open
-connected-poll recs t = connected-more recs (Poll t)
-
-pub connected-text_out : (recs : List ClientRec) (t : List ℕ) (last : Option ℕ) (is_open : Bool) → Connected recs last is_open → Connected (recs ++ TextOut t ∷ []) last is_open
-connected-text_out recs t = connected-more recs (TextOut t)

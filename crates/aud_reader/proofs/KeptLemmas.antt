@@ -1,14 +1,16 @@
 -- What the reader of a bundle keeps, as taps and records are added.
-use Rattle.std.proofs.Common.{◌≡◌, ℕ, zero, suc, ◌<◌, List, [], ◌∷◌, ◌++◌, length, get_or, set, Bool, true, false, cond, Option, Some, None, option_map, Result, Ok, Err, refl, sym, ap, ◌∙◌, arith, append_assoc, append-nil, codes, not}
+use Rattle.std.proofs.Common.{◌≡◌, ℕ, zero, suc, ◌<◌, List, [], ◌∷◌, ◌++◌, length, get_or, set, Bool, true, false, cond, Option, Some, None, option_map, Result, Ok, Err, refl, sym, ap, ◌∙◌, arith, append_assoc, append-nil, codes}
 use Rattle.std.specs.HashMap.{HashMap, get_by_text, UpdatesBy}
 use Rattle.std.specs.Str.{bytes_eq}
 use Rattle.std.specs.String.{string_bytes, string_eq}
 use Rattle.std.specs.declared.string.String.{String}
 use Rattle.std.proofs.lemmas.Cmp.{nat_list_eq_equiv}
-use Rattle.std.proofs.lemmas.Slice.Eq.{bytes_eq-Decides}
 use Rattle.std.proofs.lemmas.Grind.{flat_map-append}
+use Rattle.std.proofs.lemmas.Option.{same_Some}
 use Rattle.std.proofs.lemmas.List.Sums.{sum_by-set}
 use Rattle.std.proofs.lemmas.Map.Text.{hash_map_updates_text}
+use Rattle.aud_base.proofs.Lists.{index_is_first}
+use Rattle.aud_base.proofs.SameText.{same_text}
 use Rattle.serde_json.specs.Data.{Data}
 use Rattle.aud_reader.specs.declared.fault.InputCode.{InputCode}
 use Rattle.aud_reader.specs.declared.fault.InputCode.TheVariants.{HeaderTwice}
@@ -18,11 +20,11 @@ use Rattle.aud_tap.specs.declared.records.TapKind.{TapKind}
 use Rattle.aud_tap.specs.declared.records.TapKind.TheVariants as kind
 use Rattle.aud_tap.specs.declared.taps.Records.{Records}
 use Rattle.aud_tap.specs.declared.taps.Tap.{Tap}
-use Rattle.aud_reader.specs.Steps.{◌>>=◌, Fails}
+use Rattle.aud_base.specs.Steps.{◌>>=◌}
+use Rattle.aud_reader.specs.Steps.{Fails}
 use Rattle.aud_tap.specs.Forms.{is_text}
-use Rattle.aud_reader.specs.Header.{header_of}
 use Rattle.aud_reader.specs.Record.{opened_line, kind_named}
-use Rattle.aud_reader.specs.Bundle.{with_tap_record, tap_named, with_records, kind_of_tap, taps_on, same_kind, pids_in, pids_of, no_records, another_tap, with_header, with_later, with_kind, with_named, with_line}
+use Rattle.aud_reader.specs.Bundle.{with_tap_record, tap_named, with_records, kind_of_tap, taps_on, same_kind, pids_in, pids_of, no_records, with_header, with_later, with_kind, with_named, with_line}
 use Rattle.aud_reader.specs.Private.Kept.{place_of, Counted, KeepsTaps}
 use Rattle.aud_reader.specs.SoFar.{taps_so_far}
 use Rattle.aud_reader.specs.Private.Changes.{Becomes}
@@ -33,36 +35,32 @@ use Rattle.aud_reader.proofs.LineSteps.{one_more}
 
 -- ---- the place of a tap
 
-at_first : (b : Bool) (o : Option ℕ) → cond b (Some 0) (option_map suc o) ≡ Some 0 → b ≡ true
-at_first true o e = refl
-at_first false None e = cc
-at_first false (Some i) e = let is : suc i ≡ 0 = cc in absurd (omega arith)
-
 at_later : (b : Bool) (o : Option ℕ) (i : ℕ) → cond b (Some 0) (option_map suc o) ≡ Some (suc i) → (b ≡ false) × (o ≡ Some i)
 at_later true o i e = let is : 0 ≡ suc i = cc in absurd (omega arith)
 at_later false None i e = cc
 at_later false (Some j) i e = let is : suc j ≡ suc i = cc in let same : j ≡ i = omega arith in (refl, ap Some same)
 
--- the tap at the place of a name is the tap of that name
-named-at : (name : List ℕ) (ts : List Tap) (i : ℕ) (t : Tap) → place_of name ts ≡ Some i → get_or ts i t ≡ t → tap_named name ts ≡ Some t
-named-at name [] i t place at = cc
-named-at name (u ∷ us) zero t place at =
-    let first = at_first (is_text name u.name) (place_of name us) place in
-    rw first (ap Some at)
-named-at name (u ∷ us) (suc i) t place at =
+-- the tap at the place of a name is the tap of that name, within the list, and its records are replaced there
+at-place : (name : List ℕ) (records : Records) (ts : List Tap) (i : ℕ) (t : Tap) → place_of name ts ≡ Some i → get_or ts i t ≡ t
+    → (i < length ts) × (tap_named name ts ≡ Some t) × (with_records name records ts ≡ set ts i (record t { records = records }))
+at-place name records [] i t place at = cc
+at-place name records (u ∷ us) zero t place at =
+    let first = index_is_first (is_text name u.name) (place_of name us) place in
+    (omega arith, rw first (ap Some at), rw first (ap (λ (x : Tap). record x { records = records } ∷ us) at))
+at-place name records (u ∷ us) (suc i) t place at =
     let later = at_later (is_text name u.name) (place_of name us) i place in
-    rw later.0 (named-at name us i t later.1 at)
+    let (within, named, put) = at-place name records us i t later.1 at in
+    (omega arith, rw later.0 named, rw later.0 (ap (λ rest. u ∷ rest) put))
 
--- and its records are replaced there
-with_records-at : (name : List ℕ) (records : Records) (ts : List Tap) (i : ℕ) (t : Tap) → place_of name ts ≡ Some i → get_or ts i t ≡ t
-    → with_records name records ts ≡ set ts i (record t { records = records })
-with_records-at name records [] i t place at = cc
-with_records-at name records (u ∷ us) zero t place at =
-    let first = at_first (is_text name u.name) (place_of name us) place in
-    rw first (ap (λ (x : Tap). record x { records = records } ∷ us) at)
-with_records-at name records (u ∷ us) (suc i) t place at =
-    let later = at_later (is_text name u.name) (place_of name us) i place in
-    rw later.0 (ap (λ rest. u ∷ rest) (with_records-at name records us i t later.1 at))
+-- some tap stands at the place
+tap-at : (name : List ℕ) (ts : List Tap) (i : ℕ) → place_of name ts ≡ Some i → (t : Tap) × (get_or ts i t ≡ t)
+tap-at name [] i place = cc
+tap-at name (u ∷ us) zero place = (u, refl)
+tap-at name (u ∷ us) (suc i) place = tap-at name us i (at_later (is_text name u.name) (place_of name us) i place).1
+
+-- a place is within the list
+pub place-bound : (name : List ℕ) (ts : List Tap) (i : ℕ) → place_of name ts ≡ Some i → i < length ts
+place-bound name ts i place = let (t, at) = tap-at name ts i place in (at-place name t.records ts i t place at).0
 
 pub named-none : (name : List ℕ) (ts : List Tap) → place_of name ts ≡ None → tap_named name ts ≡ None
 named-none name [] place = refl
@@ -75,15 +73,6 @@ named-none name (u ∷ us) place =
     none_of false None e = (refl, refl)
     none_of false (Some i) e = cc
 
--- a place is within the list
-pub place-bound : (name : List ℕ) (ts : List Tap) (i : ℕ) → place_of name ts ≡ Some i → i < length ts
-place-bound name [] i place = cc
-place-bound name (u ∷ us) zero place = omega arith
-place-bound name (u ∷ us) (suc i) place =
-    let later = at_later (is_text name u.name) (place_of name us) i place in
-    let below = place-bound name us i later.1 in
-    omega arith
-
 -- ---- one tap in another's place
 
 place_of-set : (name : List ℕ) (ts : List Tap) (i : ℕ) (t t' : Tap) → i < length ts → get_or ts i t ≡ t → t'.name ≡ t.name → place_of name (set ts i t') ≡ place_of name ts
@@ -93,7 +82,7 @@ place_of-set name (u ∷ us) zero t t' short at same =
 place_of-set name (u ∷ us) (suc i) t t' short at same =
     ap (λ o. cond (is_text name u.name) (Some 0) (option_map suc o)) (place_of-set name us i t t' (omega arith) at same)
 
-taps_on-set : (of : TapKind) (ts : List Tap) (i : ℕ) (t t' : Tap) → i < length ts → get_or ts i t ≡ t → kind_of_tap t'.records ≡ kind_of_tap t.records → taps_on of (set ts i t') ≡ taps_on of ts
+pub taps_on-set : (of : TapKind) (ts : List Tap) (i : ℕ) (t t' : Tap) → i < length ts → get_or ts i t ≡ t → kind_of_tap t'.records ≡ kind_of_tap t.records → taps_on of (set ts i t') ≡ taps_on of ts
 taps_on-set of ts i t t' short at same =
     let counts : Tap → ℕ = λ x. cond (same_kind of (kind_of_tap x.records)) 1 0 in
     let counted = sum_by-set counts ts i t' t short in
@@ -123,34 +112,28 @@ around (u ∷ us) (suc i) t short at =
       put = λ t'. ap (λ x. pids_in u.records ++ x) (rest.put t') ∙ regroup (pids_in u.records) rest.before (pids_in t'.records) rest.after;
     }
 
+-- a tap that is found stands at the place of its name
+placed : (name : List ℕ) (ts : List Tap) (t : Tap) → tap_named name ts ≡ Some t → (i : ℕ) × (place_of name ts ≡ Some i) × (get_or ts i t ≡ t)
+placed name [] t e = cc
+placed name (u ∷ us) t e =
+    elim (is_text name u.name) as (λ b. cond b (Some u) (tap_named name us) ≡ Some t → (i : ℕ) × (cond b (Some 0) (option_map suc (place_of name us)) ≡ Some i) × (get_or (u ∷ us) i t ≡ t)) [
+      | true ↦ λ h. (0, refl, same_Some u t h)
+      | false ↦ λ h. let (i, place, at) = placed name us t h in (suc i, ap (option_map suc) place, at)
+    ] e
+
+-- and other records for it are one tap in another's place
+pub replaced : (name : List ℕ) (records : Records) (ts : List Tap) (t : Tap) → tap_named name ts ≡ Some t
+    → (i : ℕ) × (i < length ts) × (get_or ts i t ≡ t) × (with_records name records ts ≡ set ts i (record t { records = records }))
+replaced name records ts t e = let (i, place, at) = placed name ts t e in let here = at-place name records ts i t place at in (i, here.0, at, here.2)
+
 -- ---- a later line of a tap
 
--- one more record leaves the kind of a tap
-kind-stays : (pids : List (List ℕ)) (old new : Records) (word : List ℕ) (d : Data) → with_tap_record pids old word d ≡ Ok new → kind_of_tap new ≡ kind_of_tap old
-kind-stays pids old new word d e = (one_more pids old new word d e).same
-
-with_later-goes : (ts : List Tap) (name : List ℕ) (records : Records) (word : List ℕ) (d : Data) → is_text word (codes "tap") ≡ false
-    → with_later ts name records word d ≡ (with_tap_record (pids_of ts) records word d >>= (λ more. Ok (with_records name more ts)))
-unfolding with_later
-with_later-goes ts name records word d e = rw e refl
-
-header_twice : (ts : List Tap) (name : List ℕ) (records : Records) (word : List ℕ) (d : Data) → is_text word (codes "tap") ≡ true → with_later ts name records word d ≡ Err HeaderTwice
-unfolding with_later
-header_twice ts name records word d e = rw e refl
-
 named-later : (ts : List Tap) (i : ℕ) (t : Tap) (name word : List ℕ) (d : Data) → place_of name ts ≡ Some i → get_or ts i t ≡ t → with_named ts name word d ≡ with_later ts name t.records word d
-named-later ts i t name word d place at = ap (λ o. with_kind ts name o word d) (named-at name ts i t place at)
-
--- some tap stands at the place
-tap-at : (name : List ℕ) (ts : List Tap) (i : ℕ) → place_of name ts ≡ Some i → (t : Tap) × (get_or ts i t ≡ t)
-tap-at name [] i place = cc
-tap-at name (u ∷ us) zero place = (u, refl)
-tap-at name (u ∷ us) (suc i) place = tap-at name us i (at_later (is_text name u.name) (place_of name us) i place).1
+named-later ts i t name word d place at = ap (λ o. with_kind ts name o word d) (at-place name t.records ts i t place at).1
 
 pub header-twice : (ts : List Tap) (i : ℕ) (name word : List ℕ) (d : Data) → place_of name ts ≡ Some i → is_text word (codes "tap") ≡ true → with_named ts name word d ≡ Err HeaderTwice
-header-twice ts i name word d place e =
-    let found = tap-at name ts i place in
-    named-later ts i found.0 name word d place found.1 ∙ header_twice ts name (found.0).records word d e
+unfolding with_later
+header-twice ts i name word d place e = let found = tap-at name ts i place in rw (named-later ts i found.0 name word d place found.1, e) refl
 
 becomes-then : {X Y : Type 0} (r : Result (Unit {0}) LineFault) (x : X) (y : Y) (reading : Result X InputCode) (f : X → Result Y InputCode) → f x ≡ Ok y → Becomes r x reading → Becomes r y (reading >>= f)
 becomes-then (Ok u) x y reading f e is = rw is e
@@ -159,12 +142,13 @@ becomes-then (Err (fault.Code code)) x y reading f e is = rw is refl
 
 pub go_on-taps : (ts : List Tap) (i : ℕ) (t t' : Tap) (name word : List ℕ) (d : Data) (r : Result (Unit {0}) LineFault) → place_of name ts ≡ Some i → get_or ts i t ≡ t → is_text word (codes "tap") ≡ false
     → t'.name ≡ t.name → Becomes r t'.records (with_tap_record (pids_of ts) t.records word d) → Becomes r (set ts i t') (with_named ts name word d)
+unfolding with_later
 go_on-taps ts i t t' name word d r place at e same is =
     let named : List ℕ → Tap = λ n. record { name = n; records = t'.records } in
     let renamed : record t { records = t'.records } ≡ t' = ap named (sym same) in
-    rw (named-later ts i t name word d place at, with_later-goes ts name t.records word d e)
+    rw (named-later ts i t name word d place at, e)
     (becomes-then r t'.records (set ts i t') (with_tap_record (pids_of ts) t.records word d) (λ more. Ok (with_records name more ts))
-    (ap Ok (with_records-at name t'.records ts i t place at ∙ ap (set ts i) renamed)) is)
+    (ap Ok ((at-place name t'.records ts i t place at).2 ∙ ap (set ts i) renamed)) is)
 
 pub go_on-keeps : (s s' : OpenTaps) (i : ℕ) (t t' : Tap) (word : List ℕ) (d : Data) (r : Result (Unit {0}) LineFault) → taps_so_far s' ≡ set (taps_so_far s) i t' → s'.places ≡ s.places → s'.counts ≡ s.counts
     → KeepsTaps s → (short : i < length (taps_so_far s)) → (at : get_or (taps_so_far s) i t ≡ t) → t'.name ≡ t.name → Becomes r t'.records (with_tap_record (pids_of (taps_so_far s)) t.records word d)
@@ -173,7 +157,7 @@ pub go_on-keeps : (s s' : OpenTaps) (i : ℕ) (t t' : Tap) (word : List ℕ) (d 
 go_on-keeps s s' i t t' word d (Err e) taps places counts keeps short at same is pids = tt
 go_on-keeps s s' i t t' word d (Ok u) taps places counts keeps short at same is pids =
     let ts = taps_so_far s in
-    let stays = kind-stays (pids_of ts) t.records t'.records word d is in
+    let stays = (one_more (pids_of ts) t.records t'.records word d is).same in
     record {
       places = λ name. rw (places, taps) (keeps.places name ∙ sym (place_of-set name ts i t t' short at same));
       pids = rw (taps, (around ts i t short at).put t') pids;
@@ -217,15 +201,10 @@ places-put m n ts t key size spells sized updates places first text =
 
     found : (b : Bool) → is_text text t.name ≡ b → cond (bytes_eq t.name text) (Some (length ts)) (place_of text ts) ≡ or_after (place_of text ts) (is_text text t.name) (length ts)
     found true e =
-        let same : text ≡ t.name = (bytes_eq-Decides text t.name).0 e in
+        let same : text ≡ t.name = same_text text t.name e in
         let none : place_of text ts ≡ None = rw same first in
         rw (nat_list_eq_equiv.symm t.name text, e, none) refl
     found false e = rw (nat_list_eq_equiv.symm t.name text, e) (other (place_of text ts))
-
-pub with_header-goes : (ts : List Tap) (name word : List ℕ) (d : Data) (of : TapKind) → is_text word (codes "tap") ≡ true → header_of d ≡ Ok of
-    → with_header ts name word d ≡ (another_tap of ts >>= (λ room. Ok (ts ++ record { name = name; records = no_records of } ∷ [])))
-unfolding with_header
-with_header-goes ts name word d of e is = rw (e, is) refl
 
 pub fails-then : {X Y : Type 0} (e : LineFault) (reading : Result X InputCode) (f : X → Result Y InputCode) → Fails e reading → Fails e (reading >>= f)
 fails-then fault.Memory reading f is = tt
@@ -236,27 +215,17 @@ pids-empty kind.Stream = refl
 pids-empty kind.Node = refl
 pids-empty kind.Client = refl
 
-pub begin-keeps : (s s' : OpenTaps) (name : List ℕ) (of : TapKind) (r : Result (Unit {0}) LineFault) → KeepsTaps s → s'.pids ≡ s.pids
-    → Becomes r (taps_so_far s') (Ok (taps_so_far s ++ record { name = name; records = no_records of } ∷ []))
-    → OnOk r ((text : List ℕ) → get_by_text s'.places text ≡ place_of text (taps_so_far s'))
-    → Counted s'.counts (taps_so_far s ++ record { name = name; records = no_records of } ∷ [])
-    → OnOk r (KeepsTaps s')
-begin-keeps s s' name of (Err e) keeps same is places counts = tt
-begin-keeps s s' name of (Ok u) keeps same is places counts =
-    let ts = taps_so_far s in
-    let taps : taps_so_far s' ≡ ts ++ record { name = name; records = no_records of } ∷ [] = cc in
+pub begin-keeps : (s s' : OpenTaps) (name : List ℕ) (of : TapKind) → KeepsTaps s → s'.pids ≡ s.pids → taps_so_far s' ≡ taps_so_far s ++ record { name = name; records = no_records of } ∷ []
+    → ((text : List ℕ) → get_by_text s'.places text ≡ place_of text (taps_so_far s')) → Counted s'.counts (taps_so_far s ++ record { name = name; records = no_records of } ∷ []) → KeepsTaps s'
+begin-keeps s s' name of keeps same taps places counts =
     record {
       places = places;
-      pids = rw (taps, flat_map-append (λ (t : Tap). pids_in t.records) ts (record { name = name; records = no_records of } ∷ []), pids-empty of, append-nil, same) keeps.pids;
+      pids = rw (taps, flat_map-append (λ (t : Tap). pids_in t.records) (taps_so_far s) (record { name = name; records = no_records of } ∷ []), pids-empty of, append-nil, same) keeps.pids;
       counts = rw taps counts;
     }
 
 pub named-first : (ts : List Tap) (name word : List ℕ) (d : Data) → place_of name ts ≡ None → with_named ts name word d ≡ with_header ts name word d
 named-first ts name word d place = ap (λ o. with_kind ts name o word d) (named-none name ts place)
-
-pub not-is : (b r : Bool) → r ≡ not b → r ≡ false → b ≡ true
-not-is true r e f = refl
-not-is false r e f = cc
 
 pub with_line-goes : (ts : List Tap) (line name word : List ℕ) (d : Data) → opened_line line ≡ Ok (name, d) → kind_named d ≡ Ok word → with_line ts line ≡ with_named ts name word d
 unfolding with_line

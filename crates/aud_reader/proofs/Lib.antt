@@ -1,7 +1,6 @@
 pub mod LinesLemmas
 pub mod Fronts
 pub mod SessionLemmas
-pub mod Json
 pub mod Lists
 pub mod TapNames
 pub mod ConnectionsLemmas
@@ -10,5 +9,4 @@ pub mod KeptLemmas
 pub mod LineSteps
 pub mod OwnLines
 pub mod TapLaws
-pub mod Grown
 pub mod NameLemmas

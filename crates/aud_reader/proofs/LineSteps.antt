@@ -1,8 +1,10 @@
 -- What a line that is read does to the taps: its header begins one, and any other line adds a record to one.
 use Rattle.std.proofs.Common.{◌≡◌, ℕ, List, [], ◌∷◌, ◌++◌, map, Bool, true, false, cond, ◌⊎◌, inl, inr, Option, Some, None, Result, Ok, Err, refl, sym, ap, ◌∙◌, codes, not, nat_lt, length, option_to_list}
 use Rattle.std.specs.List.{list_any}
-use Rattle.std.proofs.lemmas.Slice.Eq.{bytes_eq-Decides}
+use Rattle.std.proofs.lemmas.Bool.{not-true}
 use Rattle.std.proofs.lemmas.List.{map-append}
+use Rattle.aud_base.proofs.SameText.{same_text}
+use Rattle.aud_base.proofs.StepLemmas.{same-ok, part-of, guard-ok}
 use Rattle.serde_json.specs.Data.{Data}
 use Rattle.aud_reader.specs.declared.fault.InputCode.{InputCode}
 use Rattle.aud_reader.specs.declared.fault.InputCode.TheVariants.{NoHeader, UnknownKind, HeaderTwice, OffsetTwice, Field, Limit}
@@ -19,35 +21,20 @@ use Rattle.aud_tap.specs.declared.taps.Records.{Records}
 use Rattle.aud_tap.specs.declared.taps.Records.TheVariants.{Stream, Node, Client}
 use Rattle.aud_tap.specs.declared.taps.Tap.{Tap}
 use Rattle.aud_tap.specs.Forms.{is_text}
-use Rattle.aud_reader.specs.Steps.{◌>>=◌, need, guard}
+use Rattle.aud_base.specs.Steps.{◌>>=◌, need, guard}
 use Rattle.aud_reader.specs.Header.{header_of}
 use Rattle.aud_reader.specs.StreamRecord.{stream_record_of}
 use Rattle.aud_reader.specs.NodeRecord.{node_record_of}
 use Rattle.aud_reader.specs.ClientRecord.{client_record_of}
 use Rattle.aud_reader.specs.Record.{opened_line, kind_named, tap_of_kind, record_in, record_of, value_record, line_record}
-use Rattle.aud_reader.specs.Bundle.{offset_of, max_entries, max_records, pid_of, node_room, with_new_offset, with_entry, with_node_record, with_client_record, with_tap_record, tap_named, with_records, kind_of_tap, pids_of, another_tap, no_records, with_header, with_later, with_kind, with_line, at_line, passing_empty, taps_after, then_on, taps_from, taps_of, Reading, taps_to_come}
+use Rattle.aud_reader.specs.Bundle.{offset_of, max_entries, max_records, pid_of, node_room, with_new_offset, with_entry, with_node_record, with_client_record, with_tap_record, tap_named, with_records, kind_of_tap, pids_of, another_tap, no_records, with_header, with_later, with_kind, with_line, at_line, passing_empty, taps_after, taps_from, taps_of, Reading, taps_to_come}
 use Rattle.aud_reader.specs.Connections.{may_follow}
 use Rattle.aud_reader.specs.OwnLines.{recs_in}
 
--- ---- steps that went well
-
--- the first step's value, of which the second gave the result
-pub record Steps {A B : Type 0} (r : Result A InputCode) (f : A → Result B InputCode) (y : B) : Type 0 where
-  pub value : A
-  pub first : r ≡ Ok value
-  pub next : f value ≡ Ok y
-
-pub steps : {A B : Type 0} (r : Result A InputCode) (f : A → Result B InputCode) (y : B) → (r >>= f) ≡ Ok y → Steps r f y
-steps (Ok x) f y e = record { value = x; first = refl; next = e }
-steps (Err code) f y e = cc
-
-pub guarded : (code : InputCode) (b : Bool) (u : Unit {0}) → guard code b ≡ Ok u → b ≡ true
-guarded code true u e = refl
-guarded code false u e = cc
-
-pub guarded-not : (code : InputCode) (b : Bool) (u : Unit {0}) → guard code (not b) ≡ Ok u → b ≡ false
-guarded-not code true u e = cc
-guarded-not code false u e = refl
+-- a test that held
+pub guarded : (code : InputCode) (b : Bool) → guard code b ≡ Ok tt → b ≡ true
+guarded code true e = refl
+guarded code false e = cc
 
 -- ---- the kinds of record
 
@@ -56,7 +43,7 @@ or_kind : {A : Type 0} (known word : List ℕ) (of : TapKind) (x y : Result A In
     → (y ≡ Ok r → tap_of_kind word ≡ Some of) → tap_of_kind word ≡ Some of
 or_kind known word of x y r is_known e later =
     elim (is_text word known) as (λ b. is_text word known ≡ b → cond b x y ≡ Ok r → tap_of_kind word ≡ Some of) [
-      | true ↦ λ is h. let same : word ≡ known = (bytes_eq-Decides word known).0 is in rw same is_known
+      | true ↦ λ is h. rw (same_text word known is) is_known
       | false ↦ λ is h. later h
     ] refl e
 
@@ -103,69 +90,59 @@ pub record Put {R : Type 0} (read : Result R InputCode) (old new : List R) : Typ
   pub reads : read ≡ Ok value
   pub is : new ≡ old ++ value ∷ []
 
-pub new_entry : (entries new : List StreamRec) (kind : List ℕ) (d : Data) → with_entry entries kind d ≡ Ok new → Steps (stream_record_of kind d) (with_new_offset entries) new
+-- the entry of a line, which fits and is put with the others
+pub new_entry : (entries new : List StreamRec) (kind : List ℕ) (d : Data) → with_entry entries kind d ≡ Ok new
+    → (entry : StreamRec) × (stream_record_of kind d ≡ Ok entry) × (with_new_offset entries entry ≡ Ok new)
 unfolding with_entry
 new_entry entries new kind d e =
-    let read = steps (stream_record_of kind d) _ new e in
-    let room = steps (guard Limit (nat_lt (length entries) max_entries)) _ new read.next in
-    record { value = read.value; first = read.first; next = room.next }
+    let read = part-of (stream_record_of kind d) _ new e in
+    (read.0, read.1, (guard-ok Limit (nat_lt (length entries) max_entries) (with_new_offset entries read.0) new read.2).1)
 
 put_entry : (entries new : List StreamRec) (kind : List ℕ) (d : Data) → with_entry entries kind d ≡ Ok new → Put (stream_record_of kind d) entries new
 put_entry entries new kind d e =
     let read = new_entry entries new kind d e in
-    let last = steps (guard OffsetTwice (not (list_any (is_text (offset_of read.value)) (map offset_of entries)))) _ new read.next in
-    record { value = read.value; reads = read.first; is = cc }
+    let last = part-of (guard OffsetTwice (not (list_any (is_text (offset_of read.0)) (map offset_of entries)))) _ new read.2 in
+    record { value = read.0; reads = read.1; is = cc }
 
 put_node : (pids : List (List ℕ)) (records new : List NodeRec) (kind : List ℕ) (d : Data) → with_node_record pids records kind d ≡ Ok new → Put (node_record_of kind d) records new
 unfolding with_node_record
 put_node pids records new kind d e =
-    let read = steps (node_record_of kind d) _ new e in
-    let room = steps (node_room (length records) (pids ++ option_to_list (pid_of read.value))) _ new read.next in
-    record { value = read.value; reads = read.first; is = cc }
+    let read = part-of (node_record_of kind d) _ new e in
+    let room = part-of (node_room (length records) (pids ++ option_to_list (pid_of read.0))) _ new read.2 in
+    record { value = read.0; reads = read.1; is = cc }
 
 put_client : (records new : List ClientRec) (kind : List ℕ) (d : Data) → with_client_record records kind d ≡ Ok new → Put (client_record_of kind d) records new
 unfolding with_client_record
 put_client records new kind d e =
-    let read = steps (client_record_of kind d) _ new e in
-    let follows = steps (guard Field (may_follow records read.value)) _ new read.next in
-    let room = steps (guard Limit (nat_lt (length records) max_records)) _ new follows.next in
-    record { value = read.value; reads = read.first; is = cc }
+    let read = part-of (client_record_of kind d) _ new e in
+    let follows = part-of (guard Field (may_follow records read.0)) _ new read.2 in
+    let room = part-of (guard Limit (nat_lt (length records) max_records)) _ new follows.2 in
+    record { value = read.0; reads = read.1; is = cc }
 
-read_in : (of : TapKind) (kind : List ℕ) (d : Data) (r : Rec) → tap_of_kind kind ≡ Some of → record_in of kind d ≡ Ok r → (need UnknownKind (tap_of_kind kind) >>= (λ of. record_in of kind d)) ≡ Ok r
-read_in of kind d r known read = rw known read
+-- a list that was put in, as a tap's records
+put_in : {R : Type 0} (of : TapKind) (as_rec : R → Rec) (as_records : List R → Records) (read : Result R InputCode) (list : List R) (put : Result (List R) InputCode) (new : Records) (kind : List ℕ) (d : Data)
+    → record_in of kind d ≡ (read >>= λ r. Ok (as_rec r)) → ((rs : List R) → recs_in (as_records rs) ≡ map as_rec rs) → ((rs : List R) → kind_of_tap (as_records rs) ≡ of)
+    → ((r : R) → read ≡ Ok r → tap_of_kind kind ≡ Some of) → ((more : List R) → put ≡ Ok more → Put read list more)
+    → (put >>= λ more. Ok (as_records more)) ≡ Ok new → OneMore (as_records list) kind d new
+put_in of as_rec as_records read list put new kind d reads recs same known one e =
+    let more = part-of put _ new e in
+    let last = one more.0 more.1 in
+    let is : new ≡ as_records (list ++ last.value ∷ []) = same-ok _ _ (sym more.2) ∙ ap as_records last.is in
+    record {
+      rec = as_rec last.value;
+      reads = rw (known last.value last.reads, reads, last.reads) refl;
+      recs = ap recs_in is ∙ recs (list ++ last.value ∷ []) ∙ map-append as_rec list (last.value ∷ []) ∙ ap (λ rs. rs ++ as_rec last.value ∷ []) (sym (recs list));
+      same = ap kind_of_tap is ∙ same (list ++ last.value ∷ []) ∙ sym (same list);
+    }
 
 pub one_more : (pids : List (List ℕ)) (old new : Records) (kind : List ℕ) (d : Data) → with_tap_record pids old kind d ≡ Ok new → OneMore old kind d new
 unfolding record_in
 one_more pids (Stream entries) new kind d e =
-    let more = steps (with_entry entries kind d) _ new e in
-    let put = put_entry entries more.value kind d more.first in
-    let is : new ≡ Stream (entries ++ put.value ∷ []) = cc in
-    record {
-      rec = rec.Stream put.value;
-      reads = read_in tap.Stream kind d (rec.Stream put.value) (stream-kind kind d put.value put.reads) (ap (λ r. r >>= (λ x. Ok (rec.Stream x))) put.reads);
-      recs = ap recs_in is ∙ map-append rec.Stream entries (put.value ∷ []);
-      same = ap kind_of_tap is;
-    }
+    put_in tap.Stream rec.Stream Stream (stream_record_of kind d) entries (with_entry entries kind d) new kind d refl (λ rs. refl) (λ rs. refl) (stream-kind kind d) (λ more. put_entry entries more kind d) e
 one_more pids (Node records) new kind d e =
-    let more = steps (with_node_record pids records kind d) _ new e in
-    let put = put_node pids records more.value kind d more.first in
-    let is : new ≡ Node (records ++ put.value ∷ []) = cc in
-    record {
-      rec = rec.Node put.value;
-      reads = read_in tap.Node kind d (rec.Node put.value) (node-kind kind d put.value put.reads) (ap (λ r. r >>= (λ x. Ok (rec.Node x))) put.reads);
-      recs = ap recs_in is ∙ map-append rec.Node records (put.value ∷ []);
-      same = ap kind_of_tap is;
-    }
+    put_in tap.Node rec.Node Node (node_record_of kind d) records (with_node_record pids records kind d) new kind d refl (λ rs. refl) (λ rs. refl) (node-kind kind d) (λ more. put_node pids records more kind d) e
 one_more pids (Client records) new kind d e =
-    let more = steps (with_client_record records kind d) _ new e in
-    let put = put_client records more.value kind d more.first in
-    let is : new ≡ Client (records ++ put.value ∷ []) = cc in
-    record {
-      rec = rec.Client put.value;
-      reads = read_in tap.Client kind d (rec.Client put.value) (client-kind kind d put.value put.reads) (ap (λ r. r >>= (λ x. Ok (rec.Client x))) put.reads);
-      recs = ap recs_in is ∙ map-append rec.Client records (put.value ∷ []);
-      same = ap kind_of_tap is;
-    }
+    put_in tap.Client rec.Client Client (client_record_of kind d) records (with_client_record records kind d) new kind d refl (λ rs. refl) (λ rs. refl) (client-kind kind d) (λ more. put_client records more kind d) e
 
 -- ---- one more line
 
@@ -204,36 +181,34 @@ later_reads line name kind d r opened word later read = rw (opened, word, later,
 begins : (ts more : List Tap) (line name kind : List ℕ) (d : Data) → opened_line line ≡ Ok (name, d) → kind_named d ≡ Ok kind → tap_named name ts ≡ None → with_header ts name kind d ≡ Ok more → Begins ts line more
 unfolding with_header
 begins ts more line name kind d opened word new e =
-    let header = steps (guard NoHeader (is_text kind (codes "tap"))) _ more e in
-    let read = steps (header_of d) _ more header.next in
-    let room = steps (another_tap read.value ts) _ more read.next in
-    let tap = guarded NoHeader (is_text kind (codes "tap")) header.value header.first in
+    let header = guard-ok NoHeader (is_text kind (codes "tap")) _ more e in
+    let read = part-of (header_of d) _ more header.1 in
+    let room = part-of (another_tap read.0 ts) _ more read.2 in
     record {
       name = name;
-      of = read.value;
-      reads = header_reads line name kind d read.value opened word tap read.first;
+      of = read.0;
+      reads = header_reads line name kind d read.0 opened word header.0 read.1;
       new = new;
-      room = room.first;
+      room = room.1;
       is = cc;
     }
 
 adds : (ts more : List Tap) (line name kind : List ℕ) (d : Data) (t : Tap) → opened_line line ≡ Ok (name, d) → kind_named d ≡ Ok kind → tap_named name ts ≡ Some t → with_later ts name t.records kind d ≡ Ok more → Adds ts line more
 unfolding with_later
 adds ts more line name kind d t opened word found e =
-    let later = steps (guard HeaderTwice (not (is_text kind (codes "tap")))) _ more e in
-    let added = steps (with_tap_record (pids_of ts) t.records kind d) _ more later.next in
-    let no_header = guarded-not HeaderTwice (is_text kind (codes "tap")) later.value later.first in
-    let grown = one_more (pids_of ts) t.records added.value kind d added.first in
+    let later = guard-ok HeaderTwice (not (is_text kind (codes "tap"))) _ more e in
+    let added = part-of (with_tap_record (pids_of ts) t.records kind d) _ more later.1 in
+    let grown = one_more (pids_of ts) t.records added.0 kind d added.1 in
     record {
       name = name;
       found = t;
-      records = added.value;
+      records = added.0;
       kind = kind;
       d = d;
       is_found = found;
-      added = added.first;
+      added = added.1;
       grown = grown;
-      reads = later_reads line name kind d grown.rec opened word no_header grown.reads;
+      reads = later_reads line name kind d grown.rec opened word (not-true (is_text kind (codes "tap")) later.0) grown.reads;
       is = cc;
     }
 
@@ -245,9 +220,9 @@ begins_or_adds ts more line name kind d (Some t) opened word is e = inr (adds ts
 pub line_step : (ts more : List Tap) (line : List ℕ) → with_line ts line ≡ Ok more → Begins ts line more ⊎ Adds ts line more
 unfolding with_line
 line_step ts more line e =
-    let opened = steps (opened_line line) _ more e in
-    let word = steps (kind_named opened.value.1) _ more opened.next in
-    begins_or_adds ts more line opened.value.0 word.value opened.value.1 (tap_named opened.value.0 ts) opened.first word.first refl word.next
+    let opened = part-of (opened_line line) _ more e in
+    let word = part-of (kind_named opened.0.1) _ more opened.2 in
+    begins_or_adds ts more line opened.0.0 word.0 opened.0.1 (tap_named opened.0.0 ts) opened.1 word.1 refl word.2
 
 -- ---- the lines
 
@@ -266,11 +241,9 @@ bytes_step ts next n [] e = let same : next ≡ ts = cc in inl (refl, same)
 bytes_step ts next n (b ∷ line) e = inr (line_step ts next (b ∷ line) (at_line-ok n (with_line ts (b ∷ line)) next e))
 
 pub first_of_lines : (ts more : List Tap) (line : Line) (lines : List Line) → taps_from ts (line ∷ lines) ≡ Ok more → First ts line lines more
-first_of_lines ts more line lines e = go (taps_after ts line) refl e
-  where
-    go : (r : Result (List Tap) ReadFault) → taps_after ts line ≡ r → then_on r (λ next. taps_from next lines) ≡ Ok more → First ts line lines more
-    go (Ok next) is h = record { next = next; step = bytes_step ts next line.number line.bytes is; rest = h }
-    go (Err fault) is h = cc
+first_of_lines ts more line lines e =
+    let first = part-of (taps_after ts line) _ more e in
+    record { next = first.0; step = bytes_step ts first.0 line.number line.bytes first.1; rest = first.2 }
 
 -- the taps at the end are those of the lines
 pub taps_at_end : (s : Reading) (ts : List Tap) (fault : Option ReadFault) (lines : List Line) → record { taps = ts; fault = fault } ≡ s → fault ≡ None → taps_to_come s [] ≡ taps_of lines → taps_of lines ≡ Ok ts

@@ -1,6 +1,6 @@
 -- What a newline and the end of a piece do to the lines of a text.
-use Rattle.std.proofs.Common.{◌≡◌, ℕ, zero, suc, ◌+◌, ◌-◌, ◌<◌, ◌≤◌, ◌==◌, ◌&&◌, ◌||◌, nat_lt, List, [], ◌∷◌, ◌++◌, length, take, drop, Bool, true, false, cond, Option, Some, None, refl, sym, ap, ◌∙◌, arith, append_assoc, append-nil, length-append, drop-cons, add-one, slice_index, ◌⊎◌, inl, inr, Ok, Err}
-use Rattle.std.proofs.lemmas.Bool.{eqb-true, ltb-true, lt-ltb}
+use Rattle.std.proofs.Common.{◌≡◌, ℕ, zero, suc, ◌+◌, ◌-◌, ◌<◌, ◌≤◌, ◌==◌, ◌&&◌, ◌||◌, nat_lt, List, [], ◌∷◌, ◌++◌, length, take, drop, Bool, true, false, cond, Option, Some, None, refl, sym, ap, ◌∙◌, arith, append_assoc, append-nil, length-append, drop-cons, add-one, slice_index, inl, inr, Ok, Err}
+use Rattle.std.proofs.lemmas.Bool.{cases_Bool, eqb-true, ltb-true, lt-ltb}
 use Rattle.std.proofs.lemmas.List.{take-append-drop, take_rest}
 use Rattle.std.proofs.lemmas.List.Folds.{list_any-append}
 use Rattle.std.proofs.Math.ListN.{length-take}
@@ -13,16 +13,12 @@ use Rattle.aud_reader.specs.declared.fault.InputCode.TheVariants.{LineTooLong}
 use Rattle.aud_reader.specs.Lines.{Split, IsPartial, line_pieces, onto_first, without_return, is_too_long, lines_from, lines_to_come, line_at, result_of, after_lines, has_newline}
 use Rattle.aud_reader.specs.Private.SplitterSteps.{line_ended, line_begun, splitter_with_line}
 
-decide : (b : Bool) → (b ≡ true) ⊎ (b ≡ false)
-decide true = inl refl
-decide false = inr refl
-
 -- a search that finds no newline before a place
 pub none_before : (text : List ℕ) (n : ℕ) → Nowhere (Passes (is_byte 10) text) 0 n → has_newline (take n text) ≡ false
 none_before text zero h = refl
 none_before [] (suc n) h = refl
 none_before (x ∷ text) (suc n) h =
-    elim (decide (x == 10)) [
+    elim (cases_Bool (x == 10)) [
       | inl e ↦ absurd (h 0 (omega arith) (omega arith) e)
       | inr e ↦ rw e (none_before text n (λ k low high. h (suc k) (omega arith) (omega arith)))
     ]
@@ -81,19 +77,17 @@ without_return-bounds : (b : Bool) (l : List ℕ) → (length (cond b (take (len
 without_return-bounds true l = (omega (arith, length-take (length l - 1) l), omega (arith, length-take (length l - 1) l))
 without_return-bounds false l = (omega arith, omega arith)
 
-without_return_le : (l : List ℕ) → length (without_return l) ≤ length l
-without_return_le l = (without_return-bounds (nat_lt 0 (length l) && (slice_index l (length l - 1) == 13)) l).0
-
-le_without_return : (l : List ℕ) → length l ≤ length (without_return l) + 1
-le_without_return l = (without_return-bounds (nat_lt 0 (length l) && (slice_index l (length l - 1) == 13)) l).1
+-- a carriage return is one byte
+bounds : (l : List ℕ) → (length (without_return l) ≤ length l) × (length l ≤ length (without_return l) + 1)
+bounds l = without_return-bounds (nat_lt 0 (length l) && (slice_index l (length l - 1) == 13)) l
 
 -- a line that is too long stays too long
 is_too_long-append : (l more : List ℕ) → is_too_long l ≡ true → is_too_long (l ++ more) ≡ true
 is_too_long-append l [] p = rw (append-nil l) p
 is_too_long-append l (x ∷ more) p =
     let long = ltb-true _ _ p in
-    let lower = le_without_return (l ++ x ∷ more) in
-    let upper = without_return_le l in
+    let lower = (bounds (l ++ x ∷ more)).1 in
+    let upper = (bounds l).0 in
     let e = length-append l (x ∷ more) in
     lt-ltb _ _ (omega arith)
 
@@ -104,15 +98,12 @@ numbered-short : (n : ℕ) (l : List ℕ) (ls : List (List ℕ)) → is_too_long
     → lines_from n (l ∷ ls) ≡ after_lines (record { number = n; bytes = without_return l } ∷ []) (lines_from (n + 1) ls)
 numbered-short n l ls p = rw p refl
 
-pieces_of-ended : (rest front more : List ℕ) → has_newline rest ≡ false → has_newline front ≡ false → line_pieces (rest ++ (front ++ 10 ∷ more)) ≡ (rest ++ front) ∷ line_pieces more
-pieces_of-ended rest front more p q = ap line_pieces (sym (append_assoc rest front (10 ∷ more))) ∙ pieces_of-line (rest ++ front) more (has_newline-append rest front p q)
-
 -- a line that ends
 to_come-line_ended : (s : Split) (front more : List ℕ) → s.fault ≡ None → has_newline s.rest ≡ false → has_newline front ≡ false
     → lines_to_come (line_ended s front) more ≡ lines_to_come s (front ++ 10 ∷ more)
 to_come-line_ended s front more none whole front_whole =
-    let ended = pieces_of-ended s.rest front more whole front_whole in
-    elim (decide (is_too_long (s.rest ++ front))) [
+    let ended = ap line_pieces (sym (append_assoc s.rest front (10 ∷ more))) ∙ pieces_of-line (s.rest ++ front) more (has_newline-append s.rest front whole front_whole) in
+    elim (cases_Bool (is_too_long (s.rest ++ front))) [
       | inl long ↦ rw (none, ended, numbered-long s.number (s.rest ++ front) (line_pieces more) long, long, append-nil) refl
       | inr short ↦ rw (none, ended, numbered-short s.number (s.rest ++ front) (line_pieces more) short, short, append_assoc) refl
     ]
@@ -122,7 +113,7 @@ to_come-last : (s : Split) → s.fault ≡ None → has_newline s.rest ≡ false
     → lines_to_come (line_ended s []) [] ≡ lines_to_come s []
 to_come-last s none whole some =
     let last = pieces_of-last s.rest whole some in
-    elim (decide (is_too_long s.rest)) [
+    elim (cases_Bool (is_too_long s.rest)) [
       | inl long ↦ rw (append-nil, none, last, numbered-long s.number s.rest [] long, long, append-nil) refl
       | inr short ↦ rw (append-nil, none, last, numbered-short s.number s.rest [] short, short, append-nil) refl
     ]
@@ -143,7 +134,7 @@ to_come-long s more whole long =
 pub to_come-line_begun : (s : Split) (front more : List ℕ) → s.fault ≡ None → has_newline s.rest ≡ false → has_newline front ≡ false
     → lines_to_come (line_begun s front) more ≡ lines_to_come s (front ++ more)
 to_come-line_begun s front more none whole front_whole =
-    elim (decide (is_too_long (s.rest ++ front))) [
+    elim (cases_Bool (is_too_long (s.rest ++ front))) [
       | inl long ↦
           let refused = to_come-long (record s { rest = s.rest ++ front }) more (has_newline-append s.rest front whole front_whole) long in
           rw (none, long, ← append_assoc, refused) refl
@@ -184,10 +175,6 @@ pub to_come-ended : (s t : Split) (ls : List Line) → s.fault ≡ None → has_
 to_come-ended s t ls none whole some ended going e =
     let t_rest : t.rest ≡ [] = rw ended (rest-is s []) in
     sym (to_come-last s none whole some) ∙ rw (← ended, e) (to_come-empty t (none_of t.fault going) t_rest)
-
--- a last line within the limit isn't refused
-pub last-within : (s : Split) → is_too_long s.rest ≡ false → (line_ended s []).fault ≡ None
-last-within s short = rw (append-nil, short) refl
 
 pub above_zero : (n : ℕ) → false ≡ (n == 0) → 0 < n
 above_zero zero e = cc

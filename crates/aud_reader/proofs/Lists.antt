@@ -5,7 +5,7 @@ use Rattle.serde_json.specs.View.{view, items_view}
 use Rattle.serde_json.specs.declared.value.Value.{Value}
 use Rattle.aud_reader.specs.declared.fault.InputCode.{InputCode}
 use Rattle.aud_reader.specs.Fields.{all_items}
-use Rattle.aud_reader.specs.Steps.{need}
+use Rattle.aud_base.specs.Steps.{need}
 
 -- what was read so far, and then what is left
 abbrev pub with_front : {A : Type 0} → List A → Option (List A) → Option (List A)
@@ -19,10 +19,6 @@ with_front-item front x (Some xs) = ap Some (append_assoc front (x ∷ []) xs)
 pub each-some : {A : Type 0} (as_item : Data → Option A) (vs : List Value) (i : ℕ) (v : Value) (x : A) (front : List A) → i < length vs → v ≡ get_or vs i v → as_item (view v) ≡ Some x
     → with_front (front ++ x ∷ []) (all_items as_item (items_view (drop (i + 1) vs))) ≡ with_front front (all_items as_item (items_view (drop i vs)))
 each-some as_item vs i v x front h is some = rw (add-one, drop-cons vs i v h, ← is, some) (with_front-item front x (all_items as_item (items_view (drop (suc i) vs))))
-
--- an item that is nothing
-pub each-none : {A : Type 0} (as_item : Data → Option A) (vs : List Value) (i : ℕ) (v : Value) → i < length vs → v ≡ get_or vs i v → as_item (view v) ≡ None → all_items as_item (items_view (drop i vs)) ≡ None
-each-none as_item vs i v h is none = rw (drop-cons vs i v h, ← is, none) refl
 
 -- what was needed was there
 pub need-ok : {A : Type 0} (code : InputCode) (x : A) (o : Option A) → need code o ≡ Ok x → o ≡ Some x

@@ -1,14 +1,14 @@
 -- A tap's records are those of its own lines.
-use Rattle.std.proofs.Common.{◌≡◌, ◌≢◌, ◌+◌, count_by, ℕ, List, [], ◌∷◌, ◌++◌, true, false, cond, ◌⊎◌, inl, inr, Option, Some, None, option_to_list, Ok, refl, sym, ap, ◌∙◌, append_assoc, append-nil}
-use Rattle.std.specs.List.{cons_option}
-use Rattle.std.specs.List.{AllByRecursion, IsDistinct}
+use Rattle.std.proofs.Common.{◌≡◌, ◌≢◌, count_by, ℕ, List, [], ◌∷◌, ◌++◌, true, false, cond, ◌⊎◌, inl, inr, Option, Some, None, option_to_list, Ok, refl, sym, ap, ◌∙◌, append_assoc, append-nil}
+use Rattle.std.specs.List.{cons_option, AllByRecursion, IsDistinct}
 use Rattle.std.specs.Option.{option_or, option_map_or}
 use Rattle.std.proofs.lemmas.List.Elements.{All-nil, All-cons}
-use Rattle.std.proofs.lemmas.List.Sums.{sum_by-append}
+use Rattle.std.proofs.lemmas.List.Sums.{sum_by-cons}
 use Rattle.std.proofs.lemmas.Map.Made.{IsDistinct-from_AllPairs}
 use Rattle.aud_reader.specs.Record.{line_record, opened_line}
 use Rattle.std.proofs.lemmas.List.Folds.{find-append}
 use Rattle.std.proofs.lemmas.Slice.Eq.{bytes_eq-Decides}
+use Rattle.aud_base.proofs.SameText.{same_text, itself_text}
 use Rattle.aud_reader.specs.declared.line.Line.{Line}
 use Rattle.aud_tap.specs.declared.records.TapKind.{TapKind}
 use Rattle.aud_tap.specs.declared.records.TapKind.TheVariants as kind
@@ -30,12 +30,9 @@ AddsFor name ts line more = recs_by_name name more ≡ recs_by_name name ts ++ o
 by_name : {P : Type 0} (name n : List ℕ) → (name ≡ n → P) → (is_text name n ≡ false → P) → P
 by_name {P} name n same other =
     elim (is_text name n) as (λ b. is_text name n ≡ b → P) [
-      | true ↦ λ is. same ((bytes_eq-Decides name n).0 is)
+      | true ↦ λ is. same (same_text name n is)
       | false ↦ λ is. other is
     ] refl
-
-is_itself : (n : List ℕ) → is_text n n ≡ true
-is_itself n = (bytes_eq-Decides n n).1 refl
 
 -- ---- a header
 
@@ -57,7 +54,7 @@ begins-adds name ts more line b =
     let t : Tap = record { name = b.name; records = no_records b.of } in
     rw (b.is, find-append (λ (u : Tap). is_text name u.name) ts (t ∷ []), record-read name line b.name (rec.Header b.of 1) b.reads 0)
     (by_name name b.name
-    (λ same. let new : tap_named name ts ≡ None = rw same b.new in rw (new, same, is_itself b.name, kind-new b.of b.name) refl)
+    (λ same. let new : tap_named name ts ≡ None = rw same b.new in rw (new, same, itself_text b.name, kind-new b.of b.name) refl)
     (λ other. rw (other, or_none (tap_named name ts), append-nil) refl))
 
 -- ---- a later line
@@ -75,7 +72,7 @@ named-other : (name n : List ℕ) (records : Records) (ts : List Tap) → is_tex
 named-other name n records [] other = refl
 named-other name n records (u ∷ us) other =
     elim (is_text n u.name) as (λ b. is_text n u.name ≡ b → tap_named name (cond b (record u { records = records } ∷ us) (u ∷ with_records n records us)) ≡ tap_named name (u ∷ us)) [
-      | true ↦ λ is. let same : n ≡ u.name = (bytes_eq-Decides n u.name).0 is in rw (← same, other) refl
+      | true ↦ λ is. let same : n ≡ u.name = same_text n u.name is in rw (← same, other) refl
       | false ↦ λ is. ap (λ o. cond (is_text name u.name) (Some u) o) (named-other name n records us other)
     ] refl
 
@@ -84,7 +81,7 @@ adds-adds name ts more line a =
     rw (a.is, record-read name line a.name a.grown.rec a.reads 0)
     (by_name name a.name
     (λ same.
-    rw (same, is_itself a.name, named-same a.name a.records ts a.found a.is_found, a.is_found)
+    rw (same, itself_text a.name, named-same a.name a.records ts a.found a.is_found, a.is_found)
     (ap (λ k. rec.Header k 1 ∷ recs_in a.records) a.grown.same ∙ ap (λ rs. rec.Header (kind_of_tap (a.found).records) 1 ∷ rs) a.grown.recs))
     (λ other. rw (other, named-other name a.name a.records ts other, append-nil) refl))
 
@@ -119,33 +116,25 @@ own_lines lines taps e name = sym (lines-add name [] taps lines e)
 
 -- ---- the tap of a line
 
--- the tap of this name, and no other, has it
-pub record Named (name : List ℕ) (taps : List Tap) : Type 0 where
-  pub tap : Tap
-  pub is : tap_named name taps ≡ Some tap
-
--- a tap that has begun stays
-still_named : (name : List ℕ) (ts more : List Tap) (lines : List Line) → Named name ts → taps_from ts lines ≡ Ok more → Named name more
-still_named name ts more lines named e = go (tap_named name more) refl (rw named.is at (lines-add name ts more lines e))
+-- a tap has the name of a line that is read
+some_tap : (name : List ℕ) (r : Rec) (ts more : List Tap) (line : Line) (lines : List Line) → taps_from ts (line ∷ lines) ≡ Ok more → line_record line.bytes ≡ Ok (name, r) → (t : Tap) × (tap_named name more ≡ Some t)
+some_tap name r ts more line lines e reads =
+    go (tap_named name more) refl (lines-add name ts more (line ∷ lines) e ∙ ap (λ o. recs_by_name name ts ++ cons_option o (records_for name lines)) records)
   where
-    go : (found : Option Tap) → tap_named name more ≡ found → recs_by_name name more ≡ recs_of named.tap ++ records_for name lines → Named name more
-    go None is h = let none : [] ≡ recs_of named.tap ++ records_for name lines = ap (λ o. option_map_or recs_of o []) (sym is) ∙ h in cc
-    go (Some t) is h = record { tap = t; is = is }
+    records : record_for name line ≡ Some r
+    records = rw (reads, itself_text name) refl
 
-named-begins : (ts more : List Tap) (line : List ℕ) (b : Begins ts line more) → Named b.name more
-named-begins ts more line b =
-    let t : Tap = record { name = b.name; records = no_records b.of } in
-    record { tap = t; is = rw (b.is, find-append (λ (u : Tap). is_text b.name u.name) ts (t ∷ []), b.new, is_itself b.name) refl }
+    never : (before after : List Rec) → [] ≡ before ++ r ∷ after → ⊥
+    never [] after h = cc
+    never (x ∷ before) after h = cc
 
-named-adds : (ts more : List Tap) (line : List ℕ) (a : Adds ts line more) → Named a.name more
-named-adds ts more line a = record { tap = record a.found { records = a.records }; is = rw a.is (named-same a.name a.records ts a.found a.is_found) }
-
-count-first : (name : List ℕ) (t : Tap) (ts : List Tap) → count_by (λ (u : Tap). is_text name u.name) (t ∷ ts) ≡ count_by (λ (u : Tap). is_text name u.name) (t ∷ []) + count_by (λ (u : Tap). is_text name u.name) ts
-count-first name t ts = sum_by-append (λ (u : Tap). cond (is_text name u.name) 1 0) (t ∷ []) ts
+    go : (found : Option Tap) → tap_named name more ≡ found → recs_by_name name more ≡ recs_by_name name ts ++ r ∷ records_for name lines → (t : Tap) × (tap_named name more ≡ Some t)
+    go (Some t) is h = (t, is)
+    go None is h = absurd (never (recs_by_name name ts) (records_for name lines) (sym (ap (λ o. option_map_or recs_of o []) is) ∙ h))
 
 count-none : (name : List ℕ) (ts : List Tap) → AllByRecursion (λ other. is_text name other ≡ false) (names_of ts) → count_by (λ (u : Tap). is_text name u.name) ts ≡ 0
 count-none name [] h = refl
-count-none name (t ∷ ts) h = rw (count-first name t ts, h.0, count-none name ts h.1) refl
+count-none name (t ∷ ts) h = rw (sum_by-cons (λ (x : Tap). cond (is_text name x.name) 1 0) t ts, h.0, count-none name ts h.1) refl
 
 count-one : (name : List ℕ) (ts : List Tap) (t : Tap) → IsDistinct is_text (names_of ts) → tap_named name ts ≡ Some t → count_by (λ (u : Tap). is_text name u.name) ts ≡ 1
 unfolding IsDistinct
@@ -153,14 +142,15 @@ count-one name [] t different e = cc
 count-one name (u ∷ us) t different e =
     elim (is_text name u.name) as (λ b. is_text name u.name ≡ b → cond b (Some u) (tap_named name us) ≡ Some t → count_by (λ (x : Tap). is_text name x.name) (u ∷ us) ≡ 1) [
       | true ↦ λ is h.
-          let same : name ≡ u.name = (bytes_eq-Decides name u.name).0 is in
-          rw (count-first name u us, is, same, count-none u.name us different.0) refl
-      | false ↦ λ is h. rw (count-first name u us, is, count-one name us t different.1 h) refl
+          let same : name ≡ u.name = same_text name u.name is in
+          rw (sum_by-cons (λ (x : Tap). cond (is_text name x.name) 1 0) u us, is, same, count-none u.name us different.0) refl
+      | false ↦ λ is h. rw (sum_by-cons (λ (x : Tap). cond (is_text name x.name) 1 0) u us, is, count-one name us t different.1 h) refl
     ] refl e
 
-of_one : (taps : List Tap) (line : Line) (name : List ℕ) (r : Rec) → AreDifferent (names_of taps) → line_record line.bytes ≡ Ok (name, r) → Named name taps → IsOfOneTap taps line
-of_one taps line name r different reads named =
-    record { name = name; rec = r; reads = reads; one = count-one name taps named.tap (IsDistinct-from_AllPairs bytes_eq-Decides (names_of taps) different) named.is }
+of_one : (name : List ℕ) (r : Rec) (ts more : List Tap) (line : Line) (lines : List Line) → AreDifferent (names_of more) → taps_from ts (line ∷ lines) ≡ Ok more → line_record line.bytes ≡ Ok (name, r) → IsOfOneTap more line
+of_one name r ts more line lines different e reads =
+    let (t, named) = some_tap name r ts more line lines e reads in
+    record { name = name; rec = r; reads = reads; one = count-one name more t (IsDistinct-from_AllPairs bytes_eq-Decides (names_of more) different) named }
 
 each-line : (ts more : List Tap) (lines : List Line) → AreDifferent (names_of more) → taps_from ts lines ≡ Ok more → EachLineIsOfOneTap lines more
 each-line ts more [] different e = All-nil _
@@ -170,8 +160,8 @@ each-line ts more (line ∷ lines) different e =
     (λ some. elim first.step [
       | inl passed ↦ absurd (some passed.0)
       | inr read ↦ elim read [
-        | inl b ↦ of_one more line b.name (rec.Header b.of 1) different b.reads (still_named b.name first.next more lines (named-begins ts first.next line.bytes b) first.rest)
-        | inr a ↦ of_one more line a.name a.grown.rec different a.reads (still_named a.name first.next more lines (named-adds ts first.next line.bytes a) first.rest)
+        | inl b ↦ of_one b.name (rec.Header b.of 1) ts more line lines different e b.reads
+        | inr a ↦ of_one a.name a.grown.rec ts more line lines different e a.reads
       ]
     ])
     (each-line first.next more lines different first.rest)

@@ -1,10 +1,11 @@
 -- Calls of a splitter one after another.
 use Rattle.std.proofs.Common.{◌≡◌, ℕ, List, [], ◌∷◌, ◌++◌, Option, Some, None, Result, Ok, Err, IfSome, refl, sym, ap, subst, ◌∙◌, append_assoc, append-nil}
+use Rattle.std.proofs.lemmas.Grind.{flat_map-append}
 use Rattle.aud_reader.specs.declared.line.Line.{Line}
 use Rattle.aud_reader.specs.declared.fault.ReadFault.{ReadFault}
 use Rattle.aud_reader.specs.declared.fault.ReadFault.TheVariants.{Input, Memory}
 use Rattle.aud_reader.specs.Lines.{Lines, Split, IsFront, lines_of, lines_to_come, result_of, after_lines}
-use Rattle.aud_reader.specs.Session.{FeedsPiece, Takes, Finishes, SplitterCall, Feed, Take, SplitterCallsFollow, fed, taken, new_splitter, TakenAndLastAreLines, TakenAreLinesBefore, TakenAreFront}
+use Rattle.aud_reader.specs.Session.{FeedsPiece, Takes, Finishes, SplitterCall, Feed, Take, SplitterCallsFollow, bytes_fed, lines_taken, fed, taken, new_splitter, TakenAndLastAreLines, TakenAreLinesBefore, TakenAreFront}
 use Rattle.aud_reader.proofs.LinesLemmas.{some_of}
 use Rattle.aud_reader.proofs.Fronts.{front-of-front, front-after}
 
@@ -42,9 +43,9 @@ to_come-follow s t (Take given new ∷ calls) more follow memory =
     ∙ ap (λ n. after_lines given (lines_to_come n (fed calls ++ more))) follow.0.left
     ∙ taken-then given s (fed calls ++ more) follow.0.lines
 
--- what a splitter gives after want of memory is what waits
-to_come-memory : (t : Split) (text : List ℕ) (fault : ReadFault) → t.fault ≡ Some fault → (lines_to_come t text).lines ≡ t.waiting
-to_come-memory t text fault e = rw e (append-nil t.waiting)
+-- after a refusal a splitter gives what waits, and the refusal
+refused-gives : (t : Split) (text : List ℕ) (fault : ReadFault) → t.fault ≡ Some fault → lines_to_come t text ≡ record { lines = t.waiting; fault = Some fault }
+refused-gives t text fault e = rw (e, append-nil) refl
 
 -- what one call of `feed` does to a front of what comes after it
 front-fed : (s t : Split) (piece : List ℕ) (result : Result (Unit {0}) ReadFault) (front : List Line) (text : List ℕ) → FeedsPiece s piece result t
@@ -54,7 +55,7 @@ front-fed s t piece result front text feeds first =
     elim t.fault as (λ o. t.fault ≡ o → IsFront front (lines_to_come s (piece ++ text)).lines) [
       | None ↦ λ e. going (λ m. let is : Err Memory ≡ result_of None = sym m ∙ feeds.value ∙ ap result_of e in cc)
       | Some (Input n code) ↦ λ e. going (λ m. let is : Err Memory ≡ result_of (Some (Input n code)) = sym m ∙ feeds.value ∙ ap result_of e in cc)
-      | Some Memory ↦ λ e. front-of-front front t.waiting _ (rw (to_come-memory t text Memory e) at first) (feeds.front text)
+      | Some Memory ↦ λ e. front-of-front front t.waiting _ (subst (λ ls. IsFront front ls.lines) (refused-gives t text Memory e) first) (feeds.front text)
     ] refl
 
 front-follow : (s t : Split) (calls : List SplitterCall) (more : List ℕ) → SplitterCallsFollow s calls t
@@ -72,19 +73,13 @@ front-follow s t (Take given new ∷ calls) more follow =
 -- a splitter that ends without a refusal has none
 going-at_end : (t : Split) (ls : List Line) → lines_to_come t [] ≡ record { lines = ls; fault = None } → ¬ (t.fault ≡ Some Memory)
 going-at_end t ls ends e =
-    let none : (lines_to_come t []).fault ≡ None = ap (λ l. l.fault) ends in
-    let some : (lines_to_come t []).fault ≡ Some Memory = rw e refl in
-    let both : Some Memory ≡ None = sym some ∙ none in
-    cc
+    let both : Some Memory ≡ None = ap (λ l. l.fault) (sym (refused-gives t [] Memory e) ∙ ends) in cc
 
 pub taken_and_last : TakenAndLastAreLines
 taken_and_last = λ calls last ls follow finish.
     ap lines_of (sym (append-nil (fed calls)))
     ∙ sym (to_come-follow new_splitter last calls [] follow (going-at_end last ls finish.ok))
     ∙ ap (after_lines (taken calls)) finish.ok
-
-refused-gives : (t : Split) (text : List ℕ) (fault : ReadFault) → t.fault ≡ Some fault → lines_to_come t text ≡ record { lines = t.waiting; fault = Some fault }
-refused-gives t text fault e = rw (e, append-nil) refl
 
 pub taken_before : TakenAreLinesBefore
 taken_before = λ calls last fault follow e other more.
@@ -101,46 +96,29 @@ pub record Came (text : List ℕ) (given : List Line) (s : Split) : Type 0 where
   pub feeds : fed calls ≡ text
   pub takes : taken calls ≡ given
 
-pub came-fresh : Came [] [] new_splitter
-came-fresh = record { calls = []; follow = refl; feeds = refl; takes = refl }
-
 follow-append : (s t u : Split) (xs ys : List SplitterCall) → SplitterCallsFollow s xs t → SplitterCallsFollow t ys u → SplitterCallsFollow s (xs ++ ys) u
 follow-append s t u [] ys first second = subst (λ start. SplitterCallsFollow start ys u) first second
 follow-append s t u (Feed piece result new ∷ xs) ys first second = (first.0, follow-append new t u xs ys first.1 second)
 follow-append s t u (Take given new ∷ xs) ys first second = (first.0, follow-append new t u xs ys first.1 second)
 
-fed-append : (xs ys : List SplitterCall) → fed (xs ++ ys) ≡ fed xs ++ fed ys
-fed-append [] ys = refl
-fed-append (Feed piece result new ∷ xs) ys = rw (fed-append xs ys) (sym (append_assoc piece (fed xs) (fed ys)))
-fed-append (Take given new ∷ xs) ys = fed-append xs ys
-
-taken-append : (xs ys : List SplitterCall) → taken (xs ++ ys) ≡ taken xs ++ taken ys
-taken-append [] ys = refl
-taken-append (Feed piece result new ∷ xs) ys = taken-append xs ys
-taken-append (Take given new ∷ xs) ys = rw (taken-append xs ys) (sym (append_assoc given (taken xs) (taken ys)))
+-- one more call
+came-call : (text : List ℕ) (given : List Line) (s t : Split) (call : SplitterCall) → Came text given s → SplitterCallsFollow s (call ∷ []) t → Came (text ++ bytes_fed call) (given ++ lines_taken call) t
+came-call text given s t call came follow =
+    record {
+      calls = came.calls ++ call ∷ [];
+      follow = follow-append new_splitter s t came.calls (call ∷ []) came.follow follow;
+      feeds = flat_map-append bytes_fed came.calls (call ∷ []) ∙ rw (came.feeds, append-nil (bytes_fed call)) refl;
+      takes = flat_map-append lines_taken came.calls (call ∷ []) ∙ rw (came.takes, append-nil (lines_taken call)) refl;
+    }
 
 -- one more piece
 pub came-feed : (text : List ℕ) (given : List Line) (s t : Split) (piece : List ℕ) (result : Result (Unit {0}) ReadFault)
     → Came text given s → FeedsPiece s piece result t → Came (text ++ piece) given t
-came-feed text given s t piece result came feeds =
-    let call = Feed piece result t ∷ [] in
-    record {
-      calls = came.calls ++ call;
-      follow = follow-append new_splitter s t came.calls call came.follow (feeds, refl);
-      feeds = fed-append came.calls call ∙ rw (came.feeds, append-nil piece) refl;
-      takes = taken-append came.calls call ∙ rw (came.takes, append-nil given) refl;
-    }
+came-feed text given s t piece result came feeds = subst (λ lines. Came (text ++ piece) lines t) (append-nil given) (came-call text given s t (Feed piece result t) came (feeds, refl))
 
 -- one more take
 pub came-take : (text : List ℕ) (given ls : List Line) (s t : Split) → Came text given s → Takes s ls t → Came text (given ++ ls) t
-came-take text given ls s t came takes =
-    let call = Take ls t ∷ [] in
-    record {
-      calls = came.calls ++ call;
-      follow = follow-append new_splitter s t came.calls call came.follow (takes, refl);
-      feeds = fed-append came.calls call ∙ rw (came.feeds, append-nil text) refl;
-      takes = taken-append came.calls call ∙ rw (came.takes, append-nil ls) refl;
-    }
+came-take text given ls s t came takes = subst (λ bytes. Came bytes (given ++ ls) t) (append-nil text) (came-call text given s t (Take ls t) came (takes, refl))
 
 -- the end of the input
 pub came-finish : (text : List ℕ) (given ls : List Line) (s : Split) → Came text given s → Finishes s (Ok ls)

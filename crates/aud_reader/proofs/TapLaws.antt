@@ -1,16 +1,19 @@
 -- What the taps of a bundle keep to, line after line.
-use Rattle.std.proofs.Common.{◌≡◌, ℕ, zero, suc, ◌+◌, ◌<◌, ◌≤◌, List, [], ◌∷◌, ◌++◌, length, map, true, false, cond, not, inl, inr, Some, None, Ok, refl, sym, ap, ◌∙◌, arith, nat_lt, get_or, option_map}
-use Rattle.std.specs.List.{All, list_any}
+use Rattle.std.proofs.Common.{◌≡◌, ℕ, zero, suc, ◌+◌, ◌<◌, ◌≤◌, List, [], ◌∷◌, ◌++◌, length, map, true, false, cond, not, inl, inr, Some, None, Ok, refl, sym, ap, ◌∙◌, arith, nat_lt, get_or, set, option_map}
+use Rattle.std.specs.List.{list_any}
 use Rattle.std.specs.Str.{bytes_eq}
-use Rattle.std.proofs.lemmas.Bool.{ltb-true}
+use Rattle.std.proofs.lemmas.Bool.{ltb-true, not-true}
 use Rattle.std.proofs.lemmas.Cmp.{nat_list_eq_equiv}
 use Rattle.std.proofs.lemmas.Slice.Eq.{bytes_eq-Decides}
-use Rattle.std.proofs.lemmas.List.{map-append}
+use Rattle.std.proofs.Math.ListN.{get_or-map}
+use Rattle.std.proofs.lemmas.List.{map-append, map-set, set-get_or}
 use Rattle.std.proofs.lemmas.Option.{slice_get-map, slice_get_within, get_or_from_slice_get}
-use Rattle.std.proofs.lemmas.List.Elements.{All-nil, All-cons, All-tail, All-push}
+use Rattle.std.proofs.lemmas.List.Elements.{All-nil, All-set, All-push}
 use Rattle.std.proofs.lemmas.List.Sums.{sum_by-append}
 use Rattle.std.proofs.lemmas.Map.Keys.{IsDistinct-push}
 use Rattle.std.proofs.lemmas.Map.Made.{AllPairs-from_IsDistinct, IsDistinct-from_AllPairs}
+use Rattle.aud_base.proofs.SameText.{itself_text, other_text}
+use Rattle.aud_base.proofs.StepLemmas.{part-of, guard-ok}
 use Rattle.serde_json.specs.Data.{Data}
 use Rattle.aud_reader.specs.declared.fault.InputCode.TheVariants.{OffsetTwice, SecondStream}
 use Rattle.aud_reader.specs.declared.line.Line.{Line}
@@ -21,11 +24,11 @@ use Rattle.aud_tap.specs.declared.taps.Records.TheVariants.{Stream, Node, Client
 use Rattle.aud_tap.specs.declared.taps.Tap.{Tap}
 use Rattle.aud_tap.specs.Forms.{is_text}
 use Rattle.aud_tap.specs.Names.{AreNamedOnce}
-use Rattle.aud_reader.specs.Steps.{guard}
-use Rattle.aud_reader.specs.Bundle.{offset_of, with_entry, with_tap_record, tap_named, with_records, kind_of_tap, same_kind, taps_on, no_records, another_tap, with_line, taps_from, taps_of}
-use Rattle.aud_reader.specs.TapLaws.{AreDifferent, offsets_in, HasEachOffsetOnce}
+use Rattle.aud_reader.specs.Bundle.{offset_of, with_entry, with_tap_record, tap_named, kind_of_tap, same_kind, taps_on, no_records, another_tap, with_line, taps_from, taps_of}
+use Rattle.aud_reader.specs.TapLaws.{AreDifferent, offsets_in}
 use Rattle.aud_reader.specs.Private.Sound.{names_of, AreSoundTaps}
-use Rattle.aud_reader.proofs.LineSteps.{steps, guarded, guarded-not, new_entry, one_more, first_of_lines, Begins, Adds, line_step}
+use Rattle.aud_reader.proofs.KeptLemmas.{replaced, taps_on-set}
+use Rattle.aud_reader.proofs.LineSteps.{guarded, new_entry, one_more, first_of_lines, Begins, Adds, line_step}
 
 -- ---- different texts
 
@@ -43,14 +46,6 @@ none-of name (t ∷ ts) e =
       | false ↦ λ is h. rw is (none-of name ts h)
     ] refl e
 
-names-same : (name : List ℕ) (records : Records) (ts : List Tap) → names_of (with_records name records ts) ≡ names_of ts
-names-same name records [] = refl
-names-same name records (t ∷ ts) =
-    elim (is_text name t.name) as (λ b. names_of (cond b (record t { records = records } ∷ ts) (t ∷ with_records name records ts)) ≡ names_of (t ∷ ts)) [
-      | true ↦ refl
-      | false ↦ ap (λ names. t.name ∷ names) (names-same name records ts)
-    ]
-
 -- ---- the streams
 
 streams-new : (of : TapKind) (name : List ℕ) (ts : List Tap) → taps_on tap.Stream ts ≤ 1 → another_tap of ts ≡ Ok tt → taps_on tap.Stream (ts ++ record { name = name; records = no_records of } ∷ []) ≤ 1
@@ -58,28 +53,9 @@ streams-new of name ts few room =
     rw (sum_by-append (λ (t : Tap). cond (same_kind tap.Stream (kind_of_tap t.records)) 1 0) ts (record { name = name; records = no_records of } ∷ [])) (go of room)
   where
     go : (of : TapKind) → another_tap of ts ≡ Ok tt → taps_on tap.Stream ts + taps_on tap.Stream (record { name = name; records = no_records of } ∷ []) ≤ 1
-    go tap.Stream room = let none : taps_on tap.Stream ts < 1 = ltb-true _ _ (guarded SecondStream (nat_lt (taps_on tap.Stream ts) 1) tt room) in omega arith
+    go tap.Stream room = let none : taps_on tap.Stream ts < 1 = ltb-true _ _ (guarded SecondStream (nat_lt (taps_on tap.Stream ts) 1) room) in omega arith
     go tap.Node room = omega arith
     go tap.Client room = omega arith
-
-streams-first : (t : Tap) (ts : List Tap) → taps_on tap.Stream (t ∷ ts) ≡ taps_on tap.Stream (t ∷ []) + taps_on tap.Stream ts
-streams-first t ts = sum_by-append (λ (x : Tap). cond (same_kind tap.Stream (kind_of_tap x.records)) 1 0) (t ∷ []) ts
-
-streams-same : (name : List ℕ) (records : Records) (ts : List Tap) (t : Tap) → tap_named name ts ≡ Some t → kind_of_tap records ≡ kind_of_tap t.records → taps_on tap.Stream (with_records name records ts) ≡ taps_on tap.Stream ts
-streams-same name records [] t e same = cc
-streams-same name records (u ∷ us) t e same =
-    elim (is_text name u.name) as (λ b. cond b (Some u) (tap_named name us) ≡ Some t
-    → taps_on tap.Stream (cond b (record u { records = records } ∷ us) (u ∷ with_records name records us)) ≡ taps_on tap.Stream (u ∷ us)) [
-      | true ↦ λ h.
-          let is : u ≡ t = cc in
-          streams-first (record u { records = records }) us
-          ∙ ap (λ k. (0 + cond (same_kind tap.Stream k) 1 0) + taps_on tap.Stream us) (same ∙ ap (λ (x : Tap). kind_of_tap x.records) (sym is))
-          ∙ sym (streams-first u us)
-      | false ↦ λ h.
-          streams-first u (with_records name records us)
-          ∙ ap (λ n. taps_on tap.Stream (u ∷ []) + n) (streams-same name records us t h same)
-          ∙ sym (streams-first u us)
-    ] e
 
 -- ---- the offsets
 
@@ -95,28 +71,13 @@ offsets-none tap.Client = λ i j d l m. absurd (omega arith)
 
 offsets-more : (pids : List (List ℕ)) (old new : Records) (kind : List ℕ) (d : Data) → with_tap_record pids old kind d ≡ Ok new → AreDifferent (offsets_in old) → AreDifferent (offsets_in new)
 offsets-more pids (Stream entries) new kind d e different =
-    let more = steps (with_entry entries kind d) _ new e in
-    let entry = new_entry entries more.value kind d more.first in
-    let test = steps (guard OffsetTwice (not (list_any (is_text (offset_of entry.value)) (map offset_of entries)))) _ more.value entry.next in
-    let is : new ≡ Stream (entries ++ entry.value ∷ []) = cc in
-    rw (is, map-append offset_of entries (entry.value ∷ []))
-    (different-push (map offset_of entries) (offset_of entry.value) different (guarded-not OffsetTwice (list_any (is_text (offset_of entry.value)) (map offset_of entries)) test.value test.first))
+    let more = part-of (with_entry entries kind d) _ new e in
+    let entry = new_entry entries more.0 kind d more.1 in
+    let test = guard-ok OffsetTwice (not (list_any (is_text (offset_of entry.0)) (map offset_of entries))) _ more.0 entry.2 in
+    let is : new ≡ Stream (entries ++ entry.0 ∷ []) = cc in
+    rw (is, map-append offset_of entries (entry.0 ∷ [])) (different-push (map offset_of entries) (offset_of entry.0) different (not-true (list_any (is_text (offset_of entry.0)) (map offset_of entries)) test.0))
 offsets-more pids (Node records) new kind d e different = offsets-absent new (λ is. let same = (one_more pids (Node records) new kind d e).same in cc)
 offsets-more pids (Client records) new kind d e different = offsets-absent new (λ is. let same = (one_more pids (Client records) new kind d e).same in cc)
-
-All-head : {X : Type 0} (P : X → Type 0) (x : X) (xs : List X) → All P (x ∷ xs) → P x
-All-head P x xs h = h 0 x (omega arith)
-
-offsets-put : (name : List ℕ) (records : Records) (ts : List Tap) (t : Tap) → tap_named name ts ≡ Some t → (AreDifferent (offsets_in t.records) → AreDifferent (offsets_in records)) → HasEachOffsetOnce ts → HasEachOffsetOnce (with_records name records ts)
-offsets-put name records [] t e more all = cc
-offsets-put name records (u ∷ us) t e more all =
-    let P : Tap → Type 0 = λ (x : Tap). AreDifferent (offsets_in x.records) in
-    let first : P u = All-head P u us all in
-    let others : All P us = All-tail P u us all in
-    elim (is_text name u.name) as (λ b. cond b (Some u) (tap_named name us) ≡ Some t → HasEachOffsetOnce (cond b (record u { records = records } ∷ us) (u ∷ with_records name records us))) [
-      | true ↦ λ h. let is : u ≡ t = cc in All-cons P (record u { records = records }) us (more (rw is at first)) others
-      | false ↦ λ h. All-cons P u (with_records name records us) first (offsets-put name records us t h more others)
-    ] e
 
 -- ---- one more line
 
@@ -131,10 +92,14 @@ sound-begins ts more line sound b =
 
 sound-adds : (ts more : List Tap) (line : List ℕ) → AreSoundTaps ts → Adds ts line more → AreSoundTaps more
 sound-adds ts more line sound a =
-    rw a.is (record {
-      names = rw (names-same a.name a.records ts) sound.names;
-      stream = rw (streams-same a.name a.records ts a.found a.is_found a.grown.same) sound.stream;
-      offsets = offsets-put a.name a.records ts a.found a.is_found (offsets-more _ (a.found).records a.records a.kind a.d a.added) sound.offsets;
+    let (i, within, at, put) = replaced a.name a.records ts a.found a.is_found in
+    let name_of : Tap → List ℕ = λ t. t.name in
+    let named : (a.found).name ≡ get_or (names_of ts) i (a.found).name = sym (get_or-map name_of ts i a.found ∙ ap name_of at) in
+    rw (a.is, put) (record {
+      names = rw (map-set name_of ts i (record a.found { records = a.records }), ap (set (names_of ts) i) named ∙ set-get_or (names_of ts) i (a.found).name) sound.names;
+      stream = rw (taps_on-set tap.Stream ts i a.found (record a.found { records = a.records }) within at a.grown.same) sound.stream;
+      offsets = All-set (λ (t : Tap). AreDifferent (offsets_in t.records)) ts i (record a.found { records = a.records })
+          (offsets-more _ (a.found).records a.records a.kind a.d a.added (rw at at (sound.offsets i a.found within))) sound.offsets;
     })
 
 pub sound-none : AreSoundTaps []
@@ -162,18 +127,14 @@ pub first_with_name : (ts : List Tap) → AreDifferent (names_of ts) → AreName
 first_with_name [] different place tap at = cc
 first_with_name (t ∷ ts) different zero tap at =
     let is : t ≡ tap = cc in
-    let same : bytes_eq t.name tap.name ≡ true = (bytes_eq-Decides t.name tap.name).1 (ap (λ (x : Tap). x.name) is) in
-    rw same refl
+    rw (is, itself_text tap.name) refl
 first_with_name (t ∷ ts) different (suc place) tap at =
     let names = names_of ts in
     let within : place < length names = slice_get_within names place tap.name (slice_get-map (λ (x : Tap). x.name) ts place ∙ ap (option_map (λ (x : Tap). x.name)) at) in
     let here : get_or names place tap.name ≡ tap.name = get_or_from_slice_get names place tap.name tap.name (slice_get-map (λ (x : Tap). x.name) ts place ∙ ap (option_map (λ (x : Tap). x.name)) at) in
-    let other : bytes_eq t.name tap.name ≡ false = no_text t.name tap.name (λ same. different 0 (suc place) tap.name (omega arith) (omega arith) (same ∙ sym here)) in
+    let other : bytes_eq t.name tap.name ≡ false = other_text t.name tap.name (λ same. different 0 (suc place) tap.name (omega arith) (omega arith) (same ∙ sym here)) in
     let rest : AreDifferent names = λ i j d l m. different (suc i) (suc j) d (omega arith) (omega arith) in
     rw (other, first_with_name ts rest place tap at) refl
-  where
-    no_text : (a b : List ℕ) → (a ≡ b → ⊥) → bytes_eq a b ≡ false
-    no_text a b ne = elim (bytes_eq a b) as (λ r. bytes_eq a b ≡ r → r ≡ false) [ true ↦ λ h. absurd (ne ((bytes_eq-Decides a b).0 h)) | false ↦ λ h. refl ] refl
 
 pub named_once : (lines : List Line) (taps : List Tap) → taps_of lines ≡ Ok taps → AreNamedOnce taps
 named_once lines taps e = first_with_name taps (sound-lines [] taps lines sound-none e).names

@@ -1,5 +1,6 @@
 -- A tap's name is text.
-use Rattle.std.proofs.Common.{◌≡◌, ℕ, zero, suc, ◌<◌, List, [], ◌∷◌, Bool, true, false, ◌&&◌, refl, arith}
+use Rattle.std.proofs.Common.{◌≡◌, ℕ, zero, suc, ◌<◌, List, [], ◌∷◌, true, false, refl, arith}
+use Rattle.std.proofs.lemmas.Bool.{and_parts}
 use Rattle.std.proofs.lemmas.Bool.Decides.{nat_tests}
 use Rattle.std.specs.List.{list_all}
 use Rattle.std.specs.Str.{IsAscii, IsUtf8}
@@ -10,17 +11,13 @@ use Rattle.aud_tap.specs.TapName.{is_name_byte, is_tap_name}
 name_byte-ascii : (b : ℕ) → is_name_byte b ≡ true → b < 128
 name_byte-ascii b h = grind (arith, nat_tests)
 
-both : (a b : Bool) → a && b ≡ true → (a ≡ true) × (b ≡ true)
-both true b h = (refl, h)
-both false b h = cc
-
 name-ascii : (t : List ℕ) → list_all is_name_byte t ≡ true → IsAscii t
 name-ascii [] h i = omega arith
-name-ascii (b ∷ t) h zero = name_byte-ascii b (both (is_name_byte b) (list_all is_name_byte t) h).0
-name-ascii (b ∷ t) h (suc i) = name-ascii t (both (is_name_byte b) (list_all is_name_byte t) h).1 i
+name-ascii (b ∷ t) h zero = name_byte-ascii b (and_parts (is_name_byte b) (list_all is_name_byte t) h).0
+name-ascii (b ∷ t) h (suc i) = name-ascii t (and_parts (is_name_byte b) (list_all is_name_byte t) h).1 i
 
 pub tap_name-utf8 : (t : List ℕ) → is_tap_name t ≡ true → IsUtf8 t
-tap_name-utf8 t h = IsUtf8-from_ascii t (name-ascii t (both (fits max_name t) (list_all is_name_byte t) h).1)
+tap_name-utf8 t h = IsUtf8-from_ascii t (name-ascii t (and_parts (fits max_name t) (list_all is_name_byte t) h).1)
 
 pub not_utf8-not_name : (t : List ℕ) → ¬ IsUtf8 t → is_tap_name t ≡ false
 not_utf8-not_name t h = elim (is_tap_name t) as (λ b. is_tap_name t ≡ b → b ≡ false) [

@@ -1,15 +1,15 @@
 -- Sets of texts, against lists.
-use Rattle.std.proofs.Common.{◌≡◌, ℕ, ◌+◌, ◌<◌, ◌≤◌, List, [], ◌∷◌, ◌++◌, length, map, Bool, true, false, cond, ◌||◌, Option, Some, None, option_to_list, Ok, Err, refl, sym, ap, ◌∙◌, arith, append-nil, length-append}
+use Rattle.std.proofs.Common.{◌≡◌, ℕ, ◌+◌, ◌<◌, ◌≤◌, List, [], ◌∷◌, ◌++◌, length, map, Bool, true, false, cond, ◌||◌, Option, Some, None, option_to_list, Ok, Err, refl, sym, ap, ◌∙◌, arith, length-append}
 use Rattle.std.specs.List.{list_any, filter_map, cons_option, IsDistinct, AllByRecursion}
 use Rattle.std.proofs.lemmas.List.Elements.{filter_map-append}
 use Rattle.aud_tap.specs.declared.records.NodeRec.{NodeRec}
-use Rattle.std.specs.Set.{distinct_count, unique_keys}
+use Rattle.std.specs.Set.{distinct_count}
 use Rattle.std.specs.HashSet.{HashSet, contains_text, UpdatesBy}
 use Rattle.std.specs.Str.{bytes_eq}
 use Rattle.std.specs.String.{string_bytes, string_eq}
 use Rattle.std.specs.declared.string.String.{String}
 use Rattle.std.proofs.Math.Bool.{or-true, or-false}
-use Rattle.std.proofs.lemmas.Bool.{le-leb, lt-leb}
+use Rattle.std.proofs.lemmas.Bool.{le-leb, lt-leb, or_parts}
 use Rattle.std.proofs.lemmas.Cmp.{nat_list_eq_equiv}
 use Rattle.std.proofs.lemmas.List.{length-map}
 use Rattle.std.proofs.lemmas.List.Folds.{list_any-append}
@@ -17,6 +17,7 @@ use Rattle.std.proofs.lemmas.Map.Keys.{IsDistinct-push}
 use Rattle.std.proofs.lemmas.Map.Made.{length-from_keys}
 use Rattle.std.proofs.lemmas.Map.Steps.{list_any_congr}
 use Rattle.std.proofs.lemmas.Map.Text.{hash_set_updates_text}
+use Rattle.aud_base.proofs.Lists.{any-map}
 use Rattle.aud_reader.specs.declared.fault.InputCode.TheVariants.{Limit}
 use Rattle.aud_tap.specs.Forms.{is_text}
 use Rattle.aud_reader.specs.Bundle.{max_pids, pid_of, pids_fit}
@@ -25,12 +26,8 @@ use Rattle.aud_reader.specs.Private.Texts.{HasTexts, HasPids}
 any-push : (q text : List ℕ) (texts : List (List ℕ)) → list_any (is_text q) (texts ++ text ∷ []) ≡ (list_any (is_text q) texts || is_text q text)
 any-push q text texts = list_any-append (is_text q) texts (text ∷ []) ∙ ap (λ b. list_any (is_text q) texts || b) (or-false (is_text q text))
 
-any-map : {A B : Type 0} (test : B → Bool) (f : A → B) (xs : List A) → list_any test (map f xs) ≡ list_any (λ x. test (f x)) xs
-any-map test f [] = refl
-any-map test f (x ∷ xs) = ap (λ b. test (f x) || b) (any-map test f xs)
-
 -- a text that is put in
-pub texts-new : {Y S : Type 0} (s n : HashSet (String Y) S) (texts : List (List ℕ)) (text : List ℕ)
+texts-new : {Y S : Type 0} (s n : HashSet (String Y) S) (texts : List (List ℕ)) (text : List ℕ)
     → UpdatesBy string_eq (λ k. bytes_eq text (string_bytes k)) s n true → HasTexts s texts → HasTexts n (texts ++ text ∷ [])
 texts-new s n texts text updates has q =
     hash_set_updates_text text s n true updates q
@@ -42,6 +39,11 @@ texts-new s n texts text updates has q =
     either : (b a : Bool) → cond b true a ≡ (a || b)
     either true a = sym (or-true a)
     either false a = sym (or-false a)
+
+-- a key that spells the text
+pub texts-put : {Y S : Type 0} (s n : HashSet (String Y) S) (texts : List (List ℕ)) (text : List ℕ) (key : String Y) → string_bytes key ≡ text
+    → UpdatesBy string_eq (string_eq key) s n true → HasTexts s texts → HasTexts n (texts ++ text ∷ [])
+texts-put s n texts text key spells updates has = rw (← spells) (texts-new s n texts (string_bytes key) updates has)
 
 -- a text that is in already
 texts-known : {Y S : Type 0} (s : HashSet (String Y) S) (texts : List (List ℕ)) (text : List ℕ) → contains_text s text ≡ true → HasTexts s texts → HasTexts s (texts ++ text ∷ [])
@@ -89,11 +91,12 @@ pids-known s all pid unique has known =
     let after = count-texts s (all ++ pid ∷ []) unique texts in
     record { texts = texts; few = rw (after, ← before) has.few }
 
-pub pids-new : {Y S : Type 0} (s n : HashSet (String Y) S) (all : List (List ℕ)) (pid : List ℕ) → IsDistinct string_eq s.keys → HasPids s all → contains_text s pid ≡ false → length s.keys < max_pids
-    → UpdatesBy string_eq (λ k. bytes_eq pid (string_bytes k)) s n true → HasPids n (all ++ pid ∷ [])
-pids-new s n all pid unique has absent room updates =
+-- a key that spells a pid is put in
+pub pids-put : {Y S : Type 0} (s n : HashSet (String Y) S) (all : List (List ℕ)) (pid : List ℕ) (key : String Y) → string_bytes key ≡ pid → IsDistinct string_eq s.keys → HasPids s all → contains_text s pid ≡ false
+    → length s.keys < max_pids → UpdatesBy string_eq (string_eq key) s n true → HasPids n (all ++ pid ∷ [])
+pids-put s n all pid key spells unique has absent room updates =
     let count = count-absent s all pid unique has.texts absent in
-    record { texts = texts-new s n all pid updates has.texts; few = rw count (omega arith) }
+    record { texts = texts-put s n all pid key spells updates has.texts; few = rw count (omega arith) }
 
 pub pids-full : {Y S : Type 0} (s : HashSet (String Y) S) (all : List (List ℕ)) (pid : List ℕ) → IsDistinct string_eq s.keys → HasPids s all → contains_text s pid ≡ false → max_pids ≤ length s.keys
     → pids_fit (all ++ pid ∷ []) ≡ Err Limit
@@ -102,41 +105,30 @@ pids-full s all pid unique has absent full =
     let above : max_pids < distinct_count is_text (all ++ pid ∷ []) = rw count (omega arith) in
     rw (lt-leb _ _ above) refl
 
-pub pids-none : {Y S : Type 0} (s : HashSet (String Y) S) (all : List (List ℕ)) → HasPids s all → HasPids s (all ++ [])
-pids-none s all has = rw (append-nil) has
-
--- each text once: the same texts, none of them twice
-unique-member : (texts : List (List ℕ)) (q : List ℕ) → list_any (is_text q) (unique_keys is_text texts) ≡ list_any (is_text q) texts
-unique-member [] q = refl
-unique-member (x ∷ texts) q = go (unique-member texts q) (list_any (is_text x) texts) refl
-  where
-    either : (b : Bool) → is_text q x ≡ b → list_any (is_text x) texts ≡ true → list_any (is_text q) texts ≡ (b || list_any (is_text q) texts)
-    either true e known = list_any_congr nat_list_eq_equiv q x texts e ∙ known
-    either false e known = refl
-
-    go : list_any (is_text q) (unique_keys is_text texts) ≡ list_any (is_text q) texts → (b : Bool) → list_any (is_text x) texts ≡ b → list_any (is_text q) (cond b (unique_keys is_text texts) (x ∷ unique_keys is_text texts)) ≡ (is_text q x || list_any (is_text q) texts)
-    go same true e = same ∙ either (is_text q x) refl e
-    go same false e = ap (λ b. is_text q x || b) same
-
+-- a text that is none of a list's differs from each
 all-absent : (x : List ℕ) (texts : List (List ℕ)) → list_any (is_text x) texts ≡ false → AllByRecursion (λ y. is_text x y ≡ false) texts
 all-absent x [] e = tt
-all-absent x (y ∷ texts) e = go (all-absent x texts) (is_text x y) refl e
-  where
-    go : (list_any (is_text x) texts ≡ false → AllByRecursion (λ z. is_text x z ≡ false) texts) → (b : Bool) → is_text x y ≡ b → (b || list_any (is_text x) texts) ≡ false → (is_text x y ≡ false) × AllByRecursion (λ z. is_text x z ≡ false) texts
-    go rest true is h = cc
-    go rest false is h = (is, rest h)
+all-absent x (y ∷ texts) e = let parts = or_parts (is_text x y) (list_any (is_text x) texts) e in (parts.0, all-absent x texts parts.1)
 
-unique-distinct : (texts : List (List ℕ)) → IsDistinct is_text (unique_keys is_text texts)
+-- lists with the same texts have as many different ones: as many as the one's texts, each once
+unique : (texts : List (List ℕ)) → (once : List (List ℕ)) × IsDistinct is_text once × ((q : List ℕ) → list_any (is_text q) once ≡ list_any (is_text q) texts)
 unfolding IsDistinct
-unique-distinct [] = tt
-unique-distinct (x ∷ texts) = go (unique-distinct texts) (list_any (is_text x) texts) refl
+unique [] = ([], tt, λ q. refl)
+unique (x ∷ texts) = go (unique texts) (list_any (is_text x) texts) refl
   where
-    go : IsDistinct is_text (unique_keys is_text texts) → (b : Bool) → list_any (is_text x) texts ≡ b → IsDistinct is_text (cond b (unique_keys is_text texts) (x ∷ unique_keys is_text texts))
-    go rest true e = rest
-    go rest false e = (all-absent x (unique_keys is_text texts) (unique-member texts x ∙ e), rest)
+    either : (q : List ℕ) (b : Bool) → is_text q x ≡ b → list_any (is_text x) texts ≡ true → list_any (is_text q) texts ≡ (b || list_any (is_text q) texts)
+    either q true e known = list_any_congr nat_list_eq_equiv q x texts e ∙ known
+    either q false e known = refl
+
+    go : (once : List (List ℕ)) × IsDistinct is_text once × ((q : List ℕ) → list_any (is_text q) once ≡ list_any (is_text q) texts) → (b : Bool) → list_any (is_text x) texts ≡ b
+        → (once : List (List ℕ)) × IsDistinct is_text once × ((q : List ℕ) → list_any (is_text q) once ≡ (is_text q x || list_any (is_text q) texts))
+    go (once, apart, same) true e = (once, apart, λ q. same q ∙ either q (is_text q x) refl e)
+    go (once, apart, same) false e = (x ∷ once, (all-absent x once (same x ∙ e), apart), λ q. ap (λ b. is_text q x || b) (same q))
 
 count-same : (texts others : List (List ℕ)) → ((q : List ℕ) → list_any (is_text q) texts ≡ list_any (is_text q) others) → distinct_count is_text others ≡ distinct_count is_text texts
-count-same texts others same = sym (length-from_keys nat_list_eq_equiv (unique_keys is_text texts) others (unique-distinct texts) (λ q. unique-member texts q ∙ same q))
+count-same texts others same =
+    let (once, apart, is) = unique texts in
+    sym (length-from_keys nat_list_eq_equiv once others apart (λ q. is q ∙ same q)) ∙ length-from_keys nat_list_eq_equiv once texts apart is
 
 -- one more pid of one tap among all
 pub pids-moved : {Y S : Type 0} (s : HashSet (String Y) S) (before own after more : List (List ℕ)) → HasPids s ((before ++ own ++ after) ++ more) → HasPids s (before ++ (own ++ more) ++ after)
@@ -156,16 +148,6 @@ pids-moved s before own after more has =
 
     moved : (q : List ℕ) → list_any (is_text q) ((before ++ own ++ after) ++ more) ≡ list_any (is_text q) (before ++ (own ++ more) ++ after)
     moved q = simp (list_any-append) (swap (list_any (is_text q) before) (list_any (is_text q) own) (list_any (is_text q) after) (list_any (is_text q) more))
-
--- a key that spells the pid
-pub pids-put : {Y S : Type 0} (s n : HashSet (String Y) S) (all : List (List ℕ)) (pid : List ℕ) (key : String Y) → string_bytes key ≡ pid → IsDistinct string_eq s.keys → HasPids s all → contains_text s pid ≡ false
-    → length s.keys < max_pids → UpdatesBy string_eq (string_eq key) s n true → HasPids n (all ++ pid ∷ [])
-pids-put s n all pid key spells unique has absent room updates =
-    rw (← spells) (pids-new s n all (string_bytes key) unique has (rw spells absent) room updates)
-
-pub texts-put : {Y S : Type 0} (s n : HashSet (String Y) S) (texts : List (List ℕ)) (text : List ℕ) (key : String Y) → string_bytes key ≡ text
-    → UpdatesBy string_eq (string_eq key) s n true → HasTexts s texts → HasTexts n (texts ++ text ∷ [])
-texts-put s n texts text key spells updates has = rw (← spells) (texts-new s n texts (string_bytes key) updates has)
 
 -- one more record of one tap among all
 pub pids-more : {Y S : Type 0} (s : HashSet (String Y) S) (before : List (List ℕ)) (recs : List NodeRec) (rec : NodeRec) (after : List (List ℕ))

@@ -18,7 +18,7 @@ use Rattle.aud_tap.specs.declared.records.ClientRec.{ClientRec}
 use Rattle.aud_tap.specs.declared.taps.Records.{Records}
 use Rattle.aud_tap.specs.declared.taps.Records.TheVariants.{Stream, Node, Client}
 use Rattle.aud_tap.specs.declared.taps.Tap.{Tap}
-use Rattle.aud_reader.specs.Steps.{◌>>=◌, guard}
+use Rattle.aud_base.specs.Steps.{◌>>=◌, guard}
 use Rattle.aud_tap.specs.Forms.{is_text}
 use Rattle.aud_reader.specs.Header.{header_of}
 use Rattle.aud_reader.specs.StreamRecord.{stream_record_of}
@@ -200,15 +200,10 @@ passing_empty taps n (b ∷ line) = at_line n (with_line taps (b ∷ line))
 abbrev pub taps_after : List Tap → Line → Result (List Tap) ReadFault
 taps_after taps line = passing_empty taps line.number line.bytes
 
--- one step, then the next with its value
-abbrev pub then_on : {A : Type 0} → Result A ReadFault → (A → Result A ReadFault) → Result A ReadFault
-then_on (Ok x) f = f x
-then_on (Err e) f = Err e
-
 -- the taps after these and more lines; the first refusal stands
 abbrev pub taps_from : List Tap → List Line → Result (List Tap) ReadFault
 taps_from taps [] = Ok taps
-taps_from taps (line ∷ lines) = then_on (taps_after taps line) (λ more. taps_from more lines)
+taps_from taps (line ∷ lines) = taps_after taps line >>= (λ more. taps_from more lines)
 
 -- the taps of the lines, or the first refused line
 abbrev pub taps_of : List Line → Result (List Tap) ReadFault

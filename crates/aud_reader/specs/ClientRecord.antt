@@ -5,7 +5,7 @@ use Rattle.aud_reader.specs.declared.fault.InputCode.{InputCode}
 use Rattle.aud_reader.specs.declared.fault.InputCode.TheVariants.{UnknownKind, Field}
 use Rattle.aud_tap.specs.declared.records.ClientRec.{ClientRec}
 use Rattle.aud_tap.specs.declared.records.ClientRec.TheVariants.{Conn, TextIn, BytesIn, Poll, TextOut, Lost}
-use Rattle.aud_reader.specs.Steps.{◌>>=◌, need}
+use Rattle.aud_base.specs.Steps.{◌>>=◌, need}
 use Rattle.aud_tap.specs.Forms.{is_text}
 use Rattle.aud_tap.specs.Json.{text_at}
 use Rattle.aud_reader.specs.Fields.{number_at, bytes_at}

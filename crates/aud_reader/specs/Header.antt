@@ -5,7 +5,7 @@ use Rattle.aud_reader.specs.declared.fault.InputCode.{InputCode}
 use Rattle.aud_reader.specs.declared.fault.InputCode.TheVariants.{Field, Version, UnknownKind}
 use Rattle.aud_tap.specs.declared.records.TapKind.{TapKind}
 use Rattle.aud_tap.specs.declared.records.TapKind.TheVariants.{Stream, Node, Client}
-use Rattle.aud_reader.specs.Steps.{◌>>=◌, need, guard}
+use Rattle.aud_base.specs.Steps.{◌>>=◌, need, guard}
 use Rattle.aud_tap.specs.Forms.{is_text}
 use Rattle.aud_tap.specs.Json.{text_at}
 use Rattle.aud_reader.specs.Fields.{number_at}

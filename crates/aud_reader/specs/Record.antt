@@ -1,19 +1,17 @@
 -- The record of a line.
-use Rattle.std.specs.Prelude.{ℕ, ◌+◌, ◌==◌, nat_le, List, [], ◌∷◌, length, drop, take, codes, Bool, Option, Some, None, option_map, position, Result, Ok, Err, if◌then◌else◌}
+use Rattle.std.specs.Prelude.{ℕ, ◌+◌, ◌==◌, nat_le, List, [], ◌∷◌, length, drop, take, codes, Bool, Option, Some, None, option_map, position, Result, Ok, if◌then◌else◌}
 use Rattle.std.specs.List.{list_any}
-use Rattle.std.specs.Str.{is_utf8}
 use Rattle.serde_json.specs.Data.{Data}
-use Rattle.serde_json.specs.Read.{read}
 use Rattle.aud_reader.specs.declared.fault.InputCode.{InputCode}
 use Rattle.aud_reader.specs.declared.fault.InputCode.TheVariants.{LineTooLong, NoTapName, NotJson, UnknownKind, Field}
 use Rattle.aud_tap.specs.declared.records.TapKind.{TapKind}
 use Rattle.aud_tap.specs.declared.records.TapKind.TheVariants as tap
 use Rattle.aud_tap.specs.declared.records.Rec.{Rec}
 use Rattle.aud_tap.specs.declared.records.Rec.TheVariants.{Header, Stream, Node, Client}
-use Rattle.aud_reader.specs.Steps.{◌>>=◌, need, guard}
+use Rattle.aud_base.specs.Steps.{◌>>=◌, need, guard}
 use Rattle.aud_tap.specs.Limits.{max_line}
 use Rattle.aud_tap.specs.Forms.{is_text}
-use Rattle.aud_tap.specs.Json.{text_at}
+use Rattle.aud_tap.specs.Json.{text_at, json_or}
 use Rattle.aud_tap.specs.TapName.{is_tap_name}
 use Rattle.aud_reader.specs.Header.{header_of}
 use Rattle.aud_reader.specs.StreamRecord.{stream_record_of}
@@ -22,7 +20,7 @@ use Rattle.aud_reader.specs.ClientRecord.{client_record_of}
 
 -- the value of JSON text in UTF-8 (RFC 8259)
 unfoldable pub json_of : List ℕ → Result Data InputCode
-json_of bytes = if is_utf8 bytes then need NotJson (read bytes) else Err NotJson
+json_of = json_or NotJson
 
 -- what stands before the first blank, and what stands after it
 abbrev pub cut_at_blank : List ℕ → Option (List ℕ × List ℕ)

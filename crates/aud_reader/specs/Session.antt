@@ -1,5 +1,6 @@
 -- Calls of a splitter one after another: pieces are fed, and lines taken, in any order.
 use Rattle.std.specs.Prelude.{◌≡◌, ℕ, List, [], ◌∷◌, ◌++◌, Some, None, Result, Ok, Err, IfOk, IfErr, IfSome}
+use Rattle.std.specs.List.{flat_map}
 use Rattle.aud_reader.specs.declared.line.Line.{Line}
 use Rattle.aud_reader.specs.declared.fault.ReadFault.{ReadFault}
 use Rattle.aud_reader.specs.declared.fault.ReadFault.TheVariants.{Memory}
@@ -33,17 +34,23 @@ SplitterCallsFollow old [] last = last ≡ old
 SplitterCallsFollow old (Feed piece result new ∷ calls) last = FeedsPiece old piece result new × SplitterCallsFollow new calls last
 SplitterCallsFollow old (Take given new ∷ calls) last = Takes old given new × SplitterCallsFollow new calls last
 
+-- the bytes that a call feeds
+abbrev pub bytes_fed : SplitterCall → List ℕ
+bytes_fed (Feed piece result new) = piece
+bytes_fed (Take given new) = []
+
+-- the lines that a call takes
+abbrev pub lines_taken : SplitterCall → List Line
+lines_taken (Feed piece result new) = []
+lines_taken (Take given new) = given
+
 -- the pieces that were fed, joined
 abbrev pub fed : List SplitterCall → List ℕ
-fed [] = []
-fed (Feed piece result new ∷ calls) = piece ++ fed calls
-fed (Take given new ∷ calls) = fed calls
+fed calls = flat_map bytes_fed calls
 
 -- the lines that were taken, joined
 abbrev pub taken : List SplitterCall → List Line
-taken [] = []
-taken (Feed piece result new ∷ calls) = taken calls
-taken (Take given new ∷ calls) = given ++ taken calls
+taken calls = flat_map lines_taken calls
 
 -- a splitter at the begin of an input
 abbrev pub new_splitter : Split

@@ -1,25 +1,10 @@
--- Reading in steps, each of which may refuse the line, and what a function answers for it.
-use Rattle.std.specs.Prelude.{◌≡◌, ℕ, Bool, Result, Ok, Err, Option, Some, None, if◌then◌else◌}
+-- What a function answers for a reading, which may refuse the line.
+use Rattle.std.specs.Prelude.{◌≡◌, ℕ, Result, Ok, Err}
 use Rattle.aud_reader.specs.declared.fault.InputCode.{InputCode}
 use Rattle.aud_reader.specs.declared.fault.LineFault.{LineFault}
 use Rattle.aud_reader.specs.declared.fault.LineFault.TheVariants as line
 use Rattle.aud_reader.specs.declared.fault.ReadFault.{ReadFault}
 use Rattle.aud_reader.specs.declared.fault.ReadFault.TheVariants as read
-
--- one step, then the next with its value; the first refusal stands
-infixl 10 ◌>>=◌
-abbrev pub ◌>>=◌ : {A B : Type 0} → Result A InputCode → (A → Result B InputCode) → Result B InputCode
-(Ok x) >>= f = f x
-(Err e) >>= f = Err e
-
--- a value that has to be there
-abbrev pub need : {A : Type 0} → InputCode → Option A → Result A InputCode
-need code None = Err code
-need code (Some x) = Ok x
-
--- a test that has to hold
-abbrev pub guard : InputCode → Bool → Result (Unit {0}) InputCode
-guard code b = if b then Ok tt else Err code
 
 -- the reading is refused for this reason; want of memory says nothing of it
 abbrev pub Fails : {X : Type 0} → LineFault → Result X InputCode → Type 0

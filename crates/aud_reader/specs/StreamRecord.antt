@@ -5,7 +5,7 @@ use Rattle.aud_reader.specs.declared.fault.InputCode.{InputCode}
 use Rattle.aud_reader.specs.declared.fault.InputCode.TheVariants.{UnknownKind, Field, Limit}
 use Rattle.aud_tap.specs.declared.records.StreamRec.{StreamRec}
 use Rattle.aud_tap.specs.declared.records.StreamRec.TheVariants.{Ev, Other}
-use Rattle.aud_reader.specs.Steps.{◌>>=◌, need, guard}
+use Rattle.aud_base.specs.Steps.{◌>>=◌, need, guard}
 use Rattle.aud_tap.specs.Limits.{fits, fit_rooms, max_offset, max_namespace, max_attachments}
 use Rattle.aud_tap.specs.Forms.{is_text}
 use Rattle.aud_tap.specs.Json.{text_at}

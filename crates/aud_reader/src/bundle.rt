@@ -97,10 +97,7 @@ impl BundleReader {
         if let Some(fault) = self.fault {
             return Err(fault);
         }
-        match self.taps.close() {
-            Ok(taps) => Ok(taps),
-            Err(_) => Err(ReadFault::Memory),
-        }
+        Ok(self.taps.close()?)
     }
 }
 
@@ -120,10 +117,7 @@ pub fn read_bundle(alloc: Global, lines: &[Line]) -> Result<Taps, ReadFault>
 {
     let mut reader = BundleReader::new(alloc);
     for line in lines {
-        match reader.line(line) {
-            Ok(()) => {}
-            Err(fault) => return Err(fault),
-        }
+        reader.line(line)?;
     }
     reader.finish()
 }

@@ -2,7 +2,6 @@
 pub mod client;
 mod fields;
 pub mod header;
-pub mod items;
 pub mod line;
 pub mod node;
 pub mod record;

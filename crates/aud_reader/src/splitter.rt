@@ -168,10 +168,8 @@ impl Splitter {
         }
         let mut left = piece;
         'lines: while let Some((front, others)) = next_line(left) {
-            match self.end_line(front) {
-                Ok(()) => left = others,
-                Err(fault) => return Err(fault),
-            }
+            self.end_line(front)?;
+            left = others;
         }
         self.begin_line(left)
     }
@@ -192,9 +190,7 @@ impl Splitter {
         if this.rest.is_empty() {
             return Ok(this.take());
         }
-        match this.end_line(&[]) {
-            Ok(()) => Ok(this.take()),
-            Err(fault) => Err(fault),
-        }
+        this.end_line(&[])?;
+        Ok(this.take())
     }
 }

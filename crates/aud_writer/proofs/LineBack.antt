@@ -2,7 +2,7 @@
 use Rattle.std.proofs.Common.{◌≡◌, ◌<◌, length-append, ◌==◌, ℕ, ◌+◌, List, [], ◌∷◌, ◌++◌, length, drop, nat_le, position, Some, Bool, true, false, ◌&&◌, Ok, refl, arith}
 use Rattle.std.proofs.lemmas.Bool.Decides.{nat_tests}
 use Rattle.std.proofs.Math.Seq.{take-append_seam, drop-append-add}
-use Rattle.std.proofs.lemmas.Bool.{lt-ltb}
+use Rattle.std.proofs.lemmas.Bool.{and_parts, lt-ltb}
 use Rattle.std.specs.List.{list_all, position_or_len}
 use Rattle.serde_json.specs.Written.{compact_text}
 use Rattle.aud_tap.specs.declared.records.Rec.{Rec}
@@ -14,17 +14,13 @@ use Rattle.aud_writer.specs.Written.{record_data, line_text}
 use Rattle.aud_writer.specs.Private.BytesBack.{DecodeBack, blobs_of}
 use Rattle.aud_writer.proofs.WrittenBack.{record-back}
 
-both : (a b : Bool) → a && b ≡ true → (a ≡ true) × (b ≡ true)
-both true b h = (refl, h)
-both false b h = cc
-
 no_blank : (b : ℕ) → is_name_byte b ≡ true → (b == 32) ≡ false
 no_blank b h = grind (arith, nat_tests)
 
 blank_index : (name text : List ℕ) → list_all is_name_byte name ≡ true → position_or_len (λ b. b == 32) (name ++ 32 ∷ text) ≡ length name
 blank_index [] text h = refl
 blank_index (b ∷ name) text h =
-    let parts = both (is_name_byte b) (list_all is_name_byte name) h in
+    let parts = and_parts (is_name_byte b) (list_all is_name_byte name) h in
     rw (no_blank b parts.0, blank_index name text parts.1) (omega arith)
 
 blank-at : (name text : List ℕ) → list_all is_name_byte name ≡ true → position (λ b. b == 32) (name ++ 32 ∷ text) ≡ Some (length name)
@@ -36,7 +32,7 @@ after-blank : (name text : List ℕ) → drop (length name + 1) (name ++ 32 ∷ 
 after-blank name text = drop-append-add name (32 ∷ text) 1
 
 cut-written : (name text : List ℕ) → is_tap_name name ≡ true → cut_at_blank (name ++ 32 ∷ text) ≡ Some (name, text)
-cut-written name text h = rw (blank-at name text (both (fits max_name name) (list_all is_name_byte name) h).1, take-append_seam name (32 ∷ text), after-blank name text) refl
+cut-written name text h = rw (blank-at name text (and_parts (fits max_name name) (list_all is_name_byte name) h).1, take-append_seam name (32 ∷ text), after-blank name text) refl
 
 pub line-back : (name : List ℕ) (rec : Rec) → is_tap_name name ≡ true → is_well_formed rec ≡ true → nat_le (length (line_text name rec)) max_line ≡ true
     → json_of (compact_text (record_data rec)) ≡ Ok (record_data rec) → DecodeBack (blobs_of rec) → line_record (line_text name rec) ≡ Ok (name, rec)

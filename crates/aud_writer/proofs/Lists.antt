@@ -5,17 +5,10 @@ use Rattle.std.proofs.lemmas.List.{map-append}
 use Rattle.serde_json.specs.Data.{Data, Members, put, array, string, Items, no_items, item}
 use Rattle.serde_json.specs.View.{view, items_view}
 use Rattle.serde_json.specs.declared.value.Value.{Value, the_lemmas}
+use Rattle.aud_tap.proofs.Json.{with_last, items_view-push}
 use Rattle.aud_reader.specs.Fields.{decoded}
 use Rattle.aud_writer.specs.Written.{encoded, text_items}
 use Rattle.aud_writer.specs.Private.BytesBack.{DecodeBack, put_unless_empty}
-
-abbrev with_last : Items → Data → Items
-with_last no_items last = item last no_items
-with_last (item d ds) last = item d (with_last ds last)
-
-items_view-push : (vs : List Value) (v : Value) → items_view (vs ++ v ∷ []) ≡ with_last (items_view vs) (view v)
-items_view-push [] v = refl
-items_view-push (w ∷ vs) v = ap (item (view w)) (items_view-push vs v)
 
 text_items-push : (ts : List (List ℕ)) (t : List ℕ) → text_items (ts ++ t ∷ []) ≡ with_last (text_items ts) (string t)
 text_items-push [] t = refl

@@ -1,7 +1,7 @@
 -- What is written for a record reads as that record.
 use Rattle.std.proofs.Common.{◌≡◌, ◌==◌, ℕ, List, [], ◌∷◌, length, map, Option, Some, None, Bool, true, false, ◌&&◌, codes, nat_le, Ok, refl, ap, ◌∙◌}
 use Rattle.std.specs.Result.{result_ok}
-use Rattle.std.proofs.lemmas.Bool.{eqb-true}
+use Rattle.std.proofs.lemmas.Bool.{and_parts, eqb-true}
 use Rattle.base64.proofs.EngineFacts.{decode_of-encode_of}
 use Rattle.base64.specs.Engines.{standard}
 use Rattle.base64.specs.GeneralPurpose.{IsBytes}
@@ -30,19 +30,6 @@ use Rattle.aud_tap.specs.WellFormed.{is_well_formed, event_is_well_formed, strea
 use Rattle.aud_writer.specs.Written.{record_data, stream_data, header_data, event_data, offset_data, node_data, client_data, encoded, text_member, list_member, text_items}
 use Rattle.aud_writer.specs.Private.BytesBack.{DecodeBack, stream_bytes, client_bytes, blobs_of, put_unless_empty}
 
-both : (a b : Bool) → a && b ≡ true → (a ≡ true) × (b ≡ true)
-both true b h = (refl, h)
-both false b h = cc
-
-offset-parts : (t : List ℕ) → is_offset t ≡ true → (is_id t ≡ true) × (fits max_offset t ≡ true)
-offset-parts t h = both (is_id t) (fits max_offset t) h
-
-id-parts : (t : List ℕ) → is_session_id t ≡ true → (is_id t ≡ true) × (fits max_id t ≡ true)
-id-parts t h = both (is_id t) (fits max_id t) h
-
-namespace-parts : (t : List ℕ) → is_full_namespace t ≡ true → (is_namespace t ≡ true) × (fits max_namespace t ≡ true)
-namespace-parts t h = both (is_namespace t) (fits max_namespace t) h
-
 pub header-back : (of : TapKind) → value_record (header_data of 1) ≡ Ok (Header of 1)
 unfolding value_record record_of header_of
 header-back tap.Stream = refl
@@ -50,28 +37,28 @@ header-back tap.Node = refl
 header-back tap.Client = refl
 
 member-parts : (pid room : List ℕ) → is_session_id pid && is_room room ≡ true → (is_id pid ≡ true) × (fits max_id pid ≡ true) × (is_room room ≡ true)
-member-parts pid room h = let ps = both (is_session_id pid) (is_room room) h in let p = id-parts pid ps.0 in (p.0, p.1, ps.1)
+member-parts pid room h = let ps = and_parts (is_session_id pid) (is_room room) h in let p = and_parts (is_id pid) (fits max_id pid) ps.0 in (p.0, p.1, ps.1)
 
 turn-parts : (pid : List ℕ) (turn : ℕ) → is_session_id pid && nat_le turn max_turn ≡ true → (is_id pid ≡ true) × (fits max_id pid ≡ true) × (nat_le turn max_turn ≡ true)
-turn-parts pid turn h = let ps = both (is_session_id pid) (nat_le turn max_turn) h in let p = id-parts pid ps.0 in (p.0, p.1, ps.1)
+turn-parts pid turn h = let ps = and_parts (is_session_id pid) (nat_le turn max_turn) h in let p = and_parts (is_id pid) (fits max_id pid) ps.0 in (p.0, p.1, ps.1)
 
 pub node-back : (r : NodeRec) → node_is_well_formed r ≡ true → value_record (node_data r) ≡ Ok (Node r)
 unfolding value_record record_of record_in node_record_of start_of take_of open_of member_of pid_and_turn gone_of
 node-back (Start None) h = refl
-node-back (Start (Some off)) h = let o = offset-parts off h in rw (o.0, o.1) refl
-node-back (Take off) h = let o = offset-parts off h in rw (o.0, o.1) refl
+node-back (Start (Some off)) h = let o = and_parts (is_id off) (fits max_offset off) h in rw (o.0, o.1) refl
+node-back (Take off) h = let o = and_parts (is_id off) (fits max_offset off) h in rw (o.0, o.1) refl
 node-back (Opened pid sid nsp) h =
-    let ps = both (is_session_id pid && is_session_id sid) (is_full_namespace nsp) h in
-    let ids = both (is_session_id pid) (is_session_id sid) ps.0 in
-    let p = id-parts pid ids.0 in
-    let s = id-parts sid ids.1 in
-    let n = namespace-parts nsp ps.1 in
+    let ps = and_parts (is_session_id pid && is_session_id sid) (is_full_namespace nsp) h in
+    let ids = and_parts (is_session_id pid) (is_session_id sid) ps.0 in
+    let p = and_parts (is_id pid) (fits max_id pid) ids.0 in
+    let s = and_parts (is_id sid) (fits max_id sid) ids.1 in
+    let n = and_parts (is_namespace nsp) (fits max_namespace nsp) ps.1 in
     rw (p.0, s.0, n.0, p.1, s.1, n.1) refl
 node-back (Join pid room) h = let m = member-parts pid room h in rw (m.0, m.1, m.2) refl
 node-back (Leave pid room) h = let m = member-parts pid room h in rw (m.0, m.1, m.2) refl
 node-back (Broke pid turn) h = let t = turn-parts pid turn h in rw (t.0, t.1, t.2) refl
 node-back (Back pid turn) h = let t = turn-parts pid turn h in rw (t.0, t.1, t.2) refl
-node-back (Gone pid) h = let p = id-parts pid h in rw (p.0, p.1) refl
+node-back (Gone pid) h = let p = and_parts (is_id pid) (fits max_id pid) h in rw (p.0, p.1) refl
 
 pub decoded-encoded : (b : List ℕ) → IsBytes b → decoded (encoded b) ≡ Some b
 decoded-encoded b bytes = ap result_ok (decode_of-encode_of standard b refl bytes)
@@ -198,12 +185,12 @@ blobs-or-empty (b ∷ bs) h = blobs-back (b ∷ bs) h
 event-back : (e : Event) → event_is_well_formed e ≡ true → DecodeBack e.bin → event_of (event_data e) ≡ Ok (Ev e)
 unfolding event_of lists_of
 event-back e h bytes =
-    let e4 = both (is_offset e.off && is_full_namespace e.nsp && fit_rooms e.rooms && fit_rooms e.except) (nat_le (length e.bin) max_attachments) h in
-    let e3 = both (is_offset e.off && is_full_namespace e.nsp && fit_rooms e.rooms) (fit_rooms e.except) e4.0 in
-    let e2 = both (is_offset e.off && is_full_namespace e.nsp) (fit_rooms e.rooms) e3.0 in
-    let e1 = both (is_offset e.off) (is_full_namespace e.nsp) e2.0 in
-    let o = offset-parts e.off e1.0 in
-    let n = namespace-parts e.nsp e1.1 in
+    let e4 = and_parts (is_offset e.off && is_full_namespace e.nsp && fit_rooms e.rooms && fit_rooms e.except) (nat_le (length e.bin) max_attachments) h in
+    let e3 = and_parts (is_offset e.off && is_full_namespace e.nsp && fit_rooms e.rooms) (fit_rooms e.except) e4.0 in
+    let e2 = and_parts (is_offset e.off && is_full_namespace e.nsp) (fit_rooms e.rooms) e3.0 in
+    let e1 = and_parts (is_offset e.off) (is_full_namespace e.nsp) e2.0 in
+    let o = and_parts (is_id e.off) (fits max_offset e.off) e1.0 in
+    let n = and_parts (is_namespace e.nsp) (fits max_namespace e.nsp) e1.1 in
     let bin = map encoded e.bin in
     rw (
       at_off bin e.except e.nsp e.off e.rooms e.text,
@@ -224,20 +211,13 @@ event-back e h bytes =
       e4.1,
     ) refl
 
-other-back : (off : List ℕ) → is_offset off ≡ true → other_of (offset_data (codes "other") off) ≡ Ok (Other off)
-unfolding other_of
-other-back off h = let o = offset-parts off h in rw (o.0, o.1) refl
-
 stream-back : (r : StreamRec) → stream_is_well_formed r ≡ true → DecodeBack (stream_bytes r) → value_record (stream_data r) ≡ Ok (Stream r)
-unfolding value_record record_of record_in stream_record_of
+unfolding value_record record_of record_in stream_record_of other_of
 stream-back (Ev e) h bytes = rw (at_kind (map encoded e.bin) e.except e.nsp e.off e.rooms e.text, event-back e h bytes) refl
-stream-back (Other off) h bytes = rw (other-back off h) refl
-
-header-of-version : (of : TapKind) (v : ℕ) → v == 1 ≡ true → value_record (header_data of v) ≡ Ok (Header of v)
-header-of-version of v h = rw (eqb-true v 1 h) (header-back of)
+stream-back (Other off) h bytes = let o = and_parts (is_id off) (fits max_offset off) h in rw (o.0, o.1) refl
 
 pub record-back : (r : Rec) → is_well_formed r ≡ true → DecodeBack (blobs_of r) → value_record (record_data r) ≡ Ok r
-record-back (Header of v) h bytes = header-of-version of v h
+record-back (Header of v) h bytes = rw (eqb-true v 1 h) (header-back of)
 record-back (Stream r) h bytes = stream-back r h bytes
 record-back (Node r) h bytes = node-back r h
 record-back (Client r) h bytes = client-back r bytes

@@ -17,7 +17,7 @@ use Rattle.aud_tap.specs.declared.records.ClientRec.{ClientRec}
 use Rattle.aud_tap.specs.declared.records.ClientRec.TheVariants.{Conn, TextIn, BytesIn, Poll, TextOut, Lost}
 use Rattle.aud_tap.specs.declared.records.Rec.{Rec}
 use Rattle.aud_tap.specs.declared.records.Rec.TheVariants.{Header, Stream, Node, Client}
-use Rattle.aud_reader.specs.Steps.{◌>>=◌, guard}
+use Rattle.aud_base.specs.Steps.{◌>>=◌, guard}
 use Rattle.aud_tap.specs.Limits.{max_line}
 
 -- ---- members of an object, each before those of greater keys

@@ -81,9 +81,7 @@ pub fn write_line(alloc: Global, name: &str, rec: &Rec) -> Result<Vec<u8>, ReadF
     ensures refused { IfErr result (λ e. IsRefusal 1 e (written_line name.now rec.now)) }
     ensures reads_back { IfOk result (λ line. line_record line.items ≡ Ok (name.now, rec.now)) }
 {
-    let Ok(line) = line_bytes(alloc, name, rec) else {
-        return Err(ReadFault::Memory);
-    };
+    let line = line_bytes(alloc, name, rec)?;
     if line.len() > MAX_LINE {
         return Err(ReadFault::Input(1, InputCode::LineTooLong));
     }

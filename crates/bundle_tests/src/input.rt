@@ -14,9 +14,7 @@ pub fn line_of(alloc: Global, number: u64, bytes: &[u8]) -> Result<Line, AllocEr
 
 /// The tap's name and the record of the line of this number with these bytes.
 pub fn read(alloc: Global, number: u64, bytes: &[u8]) -> Result<(String, Rec), ReadFault> {
-    let Ok(line) = line_of(alloc, number, bytes) else {
-        return Err(ReadFault::Memory);
-    };
+    let line = line_of(alloc, number, bytes)?;
     parse_line(alloc, &line)
 }
 

@@ -14,15 +14,11 @@ fn lines_of_bytes(alloc: Global, input: &[u8]) -> Result<Vec<Line>, ReadFault>
     let mut lines = Vec::new(alloc);
     for byte in input {
         splitter.feed(&[*byte])?;
-        let Ok(()) = lines.append(&mut splitter.take()) else {
-            return Err(ReadFault::Memory);
-        };
+        lines.append(&mut splitter.take())?;
     }
     let mut last = splitter.finish()?;
-    match lines.append(&mut last) {
-        Ok(()) => Ok(lines),
-        Err(_) => Err(ReadFault::Memory),
-    }
+    lines.append(&mut last)?;
+    Ok(lines)
 }
 
 /// Whether an input has these lines.

@@ -8,7 +8,6 @@ ghost use Rattle.aud_reader.specs.Bundle.{with_client_record};
 use super::node_log::MAX_RECORDS;
 use crate::fault::{FIELD, LIMIT, LineFault};
 use crate::read::client::client_record;
-use crate::read::items::push;
 use aud_tap::{ClientRec, ClientRecs};
 use serde_json::Value;
 use std::alloc::Global;
@@ -80,7 +79,7 @@ impl ClientLog {
         ensures { Becomes result self.new (Ok (self.old ++ rec ∷ [])) }
     {
         let (last, is_open) = self.connection_after(&rec);
-        push(&mut self.records, rec)?;
+        self.records.push(rec)?;
         self.last = last;
         self.is_open = is_open;
         Ok(())

@@ -9,7 +9,6 @@ ghost use Rattle.aud_reader.specs.Private.Texts.{HasPids};
 
 use super::pids::add_pid_of;
 use crate::fault::{LIMIT, LineFault};
-use crate::read::items::push;
 use crate::read::node::node_record;
 use aud_tap::NodeRec;
 use serde_json::Value;
@@ -50,8 +49,7 @@ pub fn add_node_record(
         → OnOk result (HasPids pids.new (before ++ filter_map pid_of records.new.items ++ after)) }
 {
     let rec = node_record(alloc, kind, d)?;
-    match admit(alloc, records.len(), pids, &rec) {
-        Ok(()) => push(records, rec),
-        Err(e) => Err(e),
-    }
+    admit(alloc, records.len(), pids, &rec)?;
+    records.push(rec)?;
+    Ok(())
 }

@@ -9,12 +9,11 @@ use super::counts::Counts;
 use super::open_tap::OpenTap;
 use crate::fault::{InputCode, LineFault};
 use crate::read::header::tap_header;
-use crate::read::items::push;
 use crate::read::line::opened_line;
 use crate::read::record::kind_of;
-use aud_tap::{Memory, TapKind, Taps, Text};
+use aud_tap::{TapKind, Taps, Text};
 use serde_json::Value;
-use std::alloc::Global;
+use std::alloc::{AllocError, Global};
 use std::collections::{HashMap, HashSet};
 
 const NO_HEADER: LineFault = LineFault::Code(InputCode::NoHeader);
@@ -50,23 +49,17 @@ impl OpenTaps {
     }
 
     /// Puts a tap without records at the end.
-    fn push(&mut self, name: &str, of: TapKind) -> Result<(), LineFault>
-        ensures taps { Becomes result (taps_so_far self.new) (Ok (taps_so_far self.old ++ record { name = name.now; records = no_records of } ∷ [])) }
+    fn push(&mut self, name: &str, of: TapKind) -> Result<(), AllocError>
+        ensures taps { OnOk result (taps_so_far self.new ≡ taps_so_far self.old ++ record { name = name.now; records = no_records of } ∷ []) }
         ensures places { ((text : List ℕ) → get_by_text self.old.places text ≡ place_of text (taps_so_far self.old)) → place_of name.now (taps_so_far self.old) ≡ None
             → OnOk result ((text : List ℕ) → get_by_text self.new.places text ≡ place_of text (taps_so_far self.new)) }
         ensures others { self.new ≡ record self.old { taps = self.new.taps; places = self.new.places } }
     {
-        let Ok(key) = String::from_str(self.alloc, name) else {
-            return Err(LineFault::Memory);
-        };
-        let Ok(_) = self.places.insert(key, self.taps.len()) else {
-            return Err(LineFault::Memory);
-        };
-        let Ok(name) = String::from_str(self.alloc, name) else {
-            return Err(LineFault::Memory);
-        };
-        let tap = OpenTap::new(self.alloc, Text::new(name), of);
-        push(&mut self.taps, tap)
+        let key = String::from_str(self.alloc, name)?;
+        self.places.insert(key, self.taps.len())?;
+        let name = Text::new(String::from_str(self.alloc, name)?);
+        self.taps.push(OpenTap::new(self.alloc, name, of))?;
+        Ok(())
     }
 
     /// Reads the first line of a tap, which is its header.
@@ -81,10 +74,9 @@ impl OpenTaps {
             return Err(NO_HEADER);
         }
         let of = tap_header(d)?;
-        match self.counts.add(of) {
-            Ok(()) => self.push(name, of),
-            Err(e) => Err(e),
-        }
+        self.counts.add(of)?;
+        self.push(name, of)?;
+        Ok(())
     }
 
     /// Reads a later line of the tap at a place.
@@ -102,6 +94,14 @@ impl OpenTaps {
         tap.add(self.alloc, &mut self.pids, kind, d)
     }
 
+    /// The place of the tap of this name.
+    fn place(&self, name: &str) -> Option<usize>
+        requires { KeepsTaps self.now }
+        ensures { result ≡ place_of name.now (taps_so_far self.now) }
+    {
+        self.places.get(name).copied()
+    }
+
     /// Reads a line.
     #[tactic(auto, unfolding(crate::specs::Bundle::with_line))]
     pub fn read_line(&mut self, line: &[u8]) -> Result<(), LineFault>
@@ -111,21 +111,19 @@ impl OpenTaps {
     {
         let (name, d) = opened_line(self.alloc, line)?;
         let kind = kind_of(&d)?;
-        match self.places.get(name).copied() {
+        match self.place(name) {
             Some(place) => self.go_on(place, kind, &d),
             None => self.begin(name, kind, &d),
         }
     }
 
     /// The taps, at the end.
-    pub fn close(self) -> Result<Taps, Memory>
+    pub fn close(self) -> Result<Taps, AllocError>
         ensures { IfOk result (λ taps. taps ≡ taps_so_far self) }
     {
         let mut taps = Vec::new(self.alloc);
         for tap in self.taps {
-            let Ok(()) = push(&mut taps, tap.close()) else {
-                return Err(Memory);
-            };
+            taps.push(tap.close())?;
         }
         Ok(Taps::new(taps))
     }

@@ -39,12 +39,7 @@ fn add_pid(alloc: Global, pids: &mut HashSet<String>, pid: &str) -> Result<(), L
     if count >= MAX_PIDS {
         return Err(LIMIT);
     }
-    let Ok(pid) = String::from_str(alloc, pid) else {
-        return Err(LineFault::Memory);
-    };
-    let Ok(_) = pids.insert(pid) else {
-        return Err(LineFault::Memory);
-    };
+    pids.insert(String::from_str(alloc, pid)?)?;
     Ok(())
 }
 

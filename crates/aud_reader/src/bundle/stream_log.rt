@@ -3,13 +3,13 @@ ghost use Rattle.std.specs.Prelude.{◌≡◌, ◌<◌, ◌∷◌, ◌++◌, [],
 ghost use Rattle.std.specs.List.{list_any};
 ghost use Rattle.serde_json.specs.View.{view};
 ghost use Rattle.aud_reader.specs.declared.fault.InputCode.TheVariants.{OffsetTwice};
-ghost use Rattle.aud_reader.specs.Steps.{Gives, guard};
+ghost use Rattle.aud_base.specs.Steps.{guard};
+ghost use Rattle.aud_reader.specs.Steps.{Gives};
 ghost use Rattle.aud_tap.specs.Forms.{is_text};
 ghost use Rattle.aud_reader.specs.Private.Texts.{HasTexts};
 ghost use Rattle.aud_reader.specs.Bundle.{offset_of, with_entry, with_new_offset};
 
 use crate::fault::{InputCode, LIMIT, LineFault};
-use crate::read::items::push;
 use crate::read::stream::stream_record;
 use aud_tap::{StreamRec, StreamRecs};
 use serde_json::Value;
@@ -36,12 +36,7 @@ fn add_offset(alloc: Global, offsets: &mut HashSet<String>, off: &str) -> Result
     ensures new { (all : List (List ℕ)) → HasTexts offsets.old all → Gives result (guard OffsetTwice (not (list_any (is_text off.now) all))) }
     ensures kept { (all : List (List ℕ)) → HasTexts offsets.old all → MatchResult result (λ _. HasTexts offsets.new (all ++ off.now ∷ [])) (λ _. HasTexts offsets.new all) }
 {
-    let Ok(off) = String::from_str(alloc, off) else {
-        return Err(LineFault::Memory);
-    };
-    let Ok(is_new) = offsets.insert(off) else {
-        return Err(LineFault::Memory);
-    };
+    let is_new = offsets.insert(String::from_str(alloc, off)?)?;
     if !is_new {
         return Err(OFFSET_TWICE);
     }
@@ -60,9 +55,7 @@ fn admit(
     ensures items { entries.new.items ≡ entries.old.items }
     ensures room { OnOk result (vec_len entries.new < vec_capacity entries.new) }
 {
-    let Ok(()) = entries.reserve(1) else {
-        return Err(LineFault::Memory);
-    };
+    entries.reserve(1)?;
     add_offset(alloc, offsets, offset_of(entry))
 }
 
@@ -104,10 +97,9 @@ impl StreamLog {
     fn push(&mut self, entry: StreamRec) -> Result<(), LineFault>
         ensures { Becomes result self.new (with_new_offset self.old entry) }
     {
-        match admit(self.alloc, &mut self.entries, &mut self.offsets, &entry) {
-            Ok(()) => push(&mut self.entries, entry),
-            Err(e) => Err(e),
-        }
+        admit(self.alloc, &mut self.entries, &mut self.offsets, &entry)?;
+        self.entries.push(entry)?;
+        Ok(())
     }
 
     /// Adds the entry of a line.

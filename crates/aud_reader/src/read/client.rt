@@ -13,7 +13,7 @@ fn message(alloc: Global, d: &Value) -> Result<Text, LineFault>
     ensures { Gives result (message_of (view d.now)) }
 {
     let t = text_at("t", d).ok_or(FIELD)?;
-    copied(alloc, t)
+    Ok(copied(alloc, t)?)
 }
 
 /// The client's record of this kind.

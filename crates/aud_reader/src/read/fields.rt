@@ -1,31 +1,28 @@
 //! The fields of a JSON object, by their types and forms.
-ghost use Rattle.std.specs.Prelude.{◌≡◌, Ok, IfSome, IsTrue, option_map};
+ghost use Rattle.std.specs.Prelude.{◌≡◌, IfOk, IfSome, IsTrue, option_map};
 ghost use Rattle.serde_json.specs.View.{view, items_view};
 ghost use Rattle.serde_json.specs.Find.{as_str};
 ghost use Rattle.aud_reader.specs.declared.fault.InputCode.TheVariants.{Field};
-ghost use Rattle.aud_reader.specs.Steps.{Gives, need};
+ghost use Rattle.aud_base.specs.Steps.{need};
+ghost use Rattle.aud_reader.specs.Steps.{Gives};
 ghost use Rattle.aud_tap.specs.Forms.{is_id, is_namespace};
 ghost use Rattle.aud_tap.specs.Json.{text_at};
 ghost use Rattle.aud_reader.specs.Fields.{number_at, id_at, namespace_at};
 ghost use Rattle.aud_reader.specs.Fields.{id_or_null, id_or_null_at, decoded, as_blob, bytes_at};
 ghost use Rattle.aud_reader.specs.Fields.{all_items, texts_at, blobs_at};
 
-use super::items::push;
 use crate::fault::{FIELD, LineFault};
 use aud_tap::{Blobs, Bytes, Text, Texts, is_id, is_namespace};
 use base64::DecodeAllocError;
 use base64::engine::general_purpose::STANDARD;
 use serde_json::Value;
-use std::alloc::Global;
+use std::alloc::{AllocError, Global};
 
 /// A copy of a text that is lent.
-pub fn copied(alloc: Global, text: &str) -> Result<Text, LineFault>
-    ensures { Gives result (Ok text.now) }
+pub fn copied(alloc: Global, text: &str) -> Result<Text, AllocError>
+    ensures { IfOk result (λ copy. copy ≡ text.now) }
 {
-    match String::from_str(alloc, text) {
-        Ok(text) => Ok(Text::new(text)),
-        Err(_) => Err(LineFault::Memory),
-    }
+    Ok(Text::new(String::from_str(alloc, text)?))
 }
 
 /// Copies of three texts that are lent.
@@ -34,8 +31,8 @@ pub fn copies(
     first: &str,
     second: &str,
     third: &str,
-) -> Result<(Text, Text, Text), LineFault>
-    ensures { Gives result (Ok (first.now, second.now, third.now)) }
+) -> Result<(Text, Text, Text), AllocError>
+    ensures { IfOk result (λ copies. copies ≡ (first.now, second.now, third.now)) }
 {
     Ok((
         copied(alloc, first)?,
@@ -128,7 +125,7 @@ fn as_text(alloc: Global, d: &Value) -> Result<Text, LineFault>
     ensures { Gives result (need Field (as_str (view d.now))) }
 {
     let text = d.as_str().ok_or(FIELD)?;
-    copied(alloc, text)
+    Ok(copied(alloc, text)?)
 }
 
 fn texts(alloc: Global, items: &[Value]) -> Result<Texts, LineFault>
@@ -137,7 +134,7 @@ fn texts(alloc: Global, items: &[Value]) -> Result<Texts, LineFault>
     let mut texts = Vec::new(alloc);
     for d in items {
         let text = as_text(alloc, d)?;
-        push(&mut texts, text)?;
+        texts.push(text)?;
     }
     Ok(Texts::new(texts))
 }
@@ -159,7 +156,7 @@ fn blobs(alloc: Global, items: &[Value]) -> Result<Blobs, LineFault>
     let mut blobs = Vec::new(alloc);
     for d in items {
         let bytes = as_blob(alloc, d)?;
-        push(&mut blobs, bytes)?;
+        blobs.push(bytes)?;
     }
     Ok(Blobs::new(blobs))
 }

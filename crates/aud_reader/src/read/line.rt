@@ -62,13 +62,8 @@ fn parse(alloc: Global, line: &[u8]) -> Result<(String, Rec), LineFault>
     ensures record { IfOk result (λ p. IsTrue (is_well_formed p.1)) }
 {
     let (name, d) = opened_line(alloc, line)?;
-    let Ok(name) = String::from_str(alloc, name) else {
-        return Err(LineFault::Memory);
-    };
-    match value_record(alloc, &d) {
-        Ok(rec) => Ok((name, rec)),
-        Err(fault) => Err(fault),
-    }
+    let name = String::from_str(alloc, name)?;
+    Ok((name, value_record(alloc, &d)?))
 }
 
 /// The tap's name and the record of a line, with the form and the fields of this line alone looked

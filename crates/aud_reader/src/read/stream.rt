@@ -11,12 +11,13 @@ use crate::fault::{FIELD, LIMIT, LineFault, UNKNOWN_KIND};
 use aud_tap::limits::{MAX_ATTACHMENTS, MAX_NAMESPACE, MAX_OFFSET, fit_rooms, fits};
 use aud_tap::{Blobs, Event, StreamRec, Texts};
 use serde_json::Value;
-use std::alloc::Global;
+use std::alloc::{AllocError, Global};
 
 /// The rooms and the attachments of an event are no more than may be, and no room is empty or too long.
-fn lists_fit(rooms: &Texts, except: &Texts, bin: &Blobs) -> bool
-    ensures { result ≡ (fit_rooms rooms.now && fit_rooms except.now && nat_le (length bin.now) max_attachments) }
+fn lists_fit(lists: &(Texts, Texts, Blobs)) -> bool
+    ensures { result ≡ (fit_rooms lists.now.0 && fit_rooms lists.now.1 && nat_le (length lists.now.2) max_attachments) }
 {
+    let (rooms, except, bin) = lists;
     fit_rooms(rooms.as_slice())
         && fit_rooms(except.as_slice())
         && bin.as_slice().len() <= MAX_ATTACHMENTS
@@ -29,10 +30,29 @@ fn lists(alloc: Global, d: &Value) -> Result<(Texts, Texts, Blobs), LineFault>
 {
     let rooms = texts_at(alloc, "rooms", d)?;
     let except = texts_at(alloc, "except", d)?;
-    match blobs_at(alloc, "bin", d) {
-        Ok(bin) => Ok((rooms, except, bin)),
-        Err(e) => Err(e),
-    }
+    Ok((rooms, except, blobs_at(alloc, "bin", d)?))
+}
+
+/// The event of texts, which are copied, and of its lists.
+fn event_with(
+    alloc: Global,
+    off: &str,
+    nsp: &str,
+    text: &str,
+    lists: (Texts, Texts, Blobs),
+) -> Result<Event, AllocError>
+    ensures { IfOk result (λ event. event ≡ record { off = off.now; nsp = nsp.now; rooms = lists.0; except = lists.1; text = text.now; bin = lists.2 }) }
+{
+    let (off, nsp, text) = copies(alloc, off, nsp, text)?;
+    let (rooms, except, bin) = lists;
+    Ok(Event {
+        off,
+        nsp,
+        rooms,
+        except,
+        text,
+        bin,
+    })
 }
 
 #[tactic(auto, unfolding(crate::specs::StreamRecord::event_of))]
@@ -43,21 +63,11 @@ fn event(alloc: Global, d: &Value) -> Result<StreamRec, LineFault>
     let off = id_at("off", d).ok_or(FIELD)?;
     let nsp = namespace_at("nsp", d).ok_or(FIELD)?;
     let text = text_at("text", d).ok_or(FIELD)?;
-    let (rooms, except, bin) = lists(alloc, d)?;
-    if !fits(MAX_OFFSET, off) || !fits(MAX_NAMESPACE, nsp) || !lists_fit(&rooms, &except, &bin) {
+    let lists = lists(alloc, d)?;
+    if !fits(MAX_OFFSET, off) || !fits(MAX_NAMESPACE, nsp) || !lists_fit(&lists) {
         return Err(LIMIT);
     }
-    match copies(alloc, off, nsp, text) {
-        Ok((off, nsp, text)) => Ok(StreamRec::Ev(Event {
-            off,
-            nsp,
-            rooms,
-            except,
-            text,
-            bin,
-        })),
-        Err(e) => Err(e),
-    }
+    Ok(StreamRec::Ev(event_with(alloc, off, nsp, text, lists)?))
 }
 
 #[tactic(auto, unfolding(crate::specs::StreamRecord::other_of))]

@@ -7,6 +7,6 @@ use Rattle.aud_writer.proofs.line.write_line.Goals as goal
 
 pub returns-clause-reads_back : goal.returns-clause-reads_back
 returns-clause-reads_back c =
-    let line = c.in-Ok.ensures in
-    let fit : nat_le (length c.in-Ok.line.items) max_line ≡ true = grind (arith, nat_tests, common_steps) in
+    let line = c.in_ok-line.ensures in
+    let fit : nat_le (length c.in_ok-line.line.items) max_line ≡ true = grind (arith, nat_tests, common_steps) in
     rw line.bytes (line-back c.args.name.now c.args.rec.now c.requires.name c.requires.record (rw line.bytes at fit) line.reads line.back)

@@ -17,13 +17,13 @@ loop-byte-preserved c =
     let next = came-take _ _ _ _ _ (came-feed _ _ _ _ _ _ inv.came feeds) takes in
     record {
       number = omega (arith, fed.number, inv.number, ap (λ s. s.number) left);
-      came = subst (λ given. Came (take (c.loop-byte.byte-index + 1) c.args.input.now) given c.take.new.self) (sym c.in-Ok.ensures.items)
+      came = subst (λ given. Came (take (c.loop-byte.byte-index + 1) c.args.input.now) given c.take.new.self) (sym c.in_ok-append.ensures.items)
           (subst (λ text. Came text (c.loop-byte.lines.items ++ c.take.result.items) c.take.new.self) (sym cut) next);
     }
 
-pub returns-in-Ok-append : goal.returns-in-Ok-append
-returns-in-Ok-append c =
+pub returns : goal.returns
+returns c =
     let inv = c.loop-byte.invariant in
     let ends : Finishes c.loop-byte.splitter (Ok c.in_ok-last.last.items) = record { ok = c.in_ok-last.ensures.ok; err = tt } in
     let all : take c.loop-byte.byte-index c.args.input.now ≡ c.args.input.now = take_all _ _ (omega (arith, c.loop-byte-test.false)) in
-    ap lines_of (sym all) ∙ came-finish _ _ _ _ inv.came ends ∙ rw c.in-Ok-append.ensures.items refl
+    ap lines_of (sym all) ∙ came-finish _ _ _ _ inv.came ends ∙ rw c.in_ok-append.ensures.items refl

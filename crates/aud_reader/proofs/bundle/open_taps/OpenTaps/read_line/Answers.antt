@@ -1,32 +1,21 @@
-use Rattle.std.proofs.Common.{◌≡◌, ◌∙◌, Some, None, sym}
+use Rattle.std.proofs.Common.{◌∙◌, sym}
 use Rattle.serde_json.specs.View.{view}
-use Rattle.aud_reader.specs.Private.Kept.{place_of}
 use Rattle.aud_reader.specs.SoFar.{taps_so_far}
 use Rattle.aud_reader.proofs.KeptLemmas.{place-bound, with_line-goes, named-first}
 use Rattle.aud_reader.proofs.bundle.open_taps.OpenTaps.read_line.Goals as goal
 
 pub go_on-requires-clause-place : goal.go_on-requires-clause-place
-go_on-requires-clause-place c =
-    let place : place_of c.in_ok-name.name.now (taps_so_far c.args.self.now) ≡ Some c.in-Some.place =
-    sym (c.requires.places c.in_ok-name.name.now) ∙ sym c.get.ensures.value ∙ sym c.copied.ensures ∙ c.in-Some.is in
-    place-bound c.in_ok-name.name.now (taps_so_far c.args.self.now) c.in-Some.place place
-
-pub begin-requires-clause-first : goal.begin-requires-clause-first
-begin-requires-clause-first c = sym (c.requires.places c.in_ok-name.name.now) ∙ sym c.get.ensures.value ∙ sym c.copied.ensures ∙ c.in-None.is
+go_on-requires-clause-place c = place-bound c.in_ok-name.name.now (taps_so_far c.args.self.now) c.in-Some.place (sym c.place.ensures ∙ c.in-Some.is)
 
 pub returns-in-Some-clause-taps : goal.returns-in-Some-clause-taps
 returns-in-Some-clause-taps c =
-    let place : place_of c.in_ok-name.name.now (taps_so_far c.args.self.now) ≡ Some c.in-Some.place =
-    sym (c.requires.places c.in_ok-name.name.now) ∙ sym c.get.ensures.value ∙ sym c.copied.ensures ∙ c.in-Some.is in
     rw (with_line-goes (taps_so_far c.args.self.now) c.args.line.now c.in_ok-name.name.now c.in_ok-kind.kind.now (view c.in_ok-name.d) c.in_ok-name.ensures.reads c.in_ok-kind.ensures)
-    (c.go_on.ensures.taps c.in_ok-name.name.now place)
+    (c.go_on.ensures.taps c.in_ok-name.name.now (sym c.place.ensures ∙ c.in-Some.is))
 
 pub returns-clause-taps : goal.returns-clause-taps
 returns-clause-taps c =
-    let first : place_of c.in_ok-name.name.now (taps_so_far c.args.self.now) ≡ None =
-    sym (c.requires.places c.in_ok-name.name.now) ∙ sym c.get.ensures.value ∙ sym c.copied.ensures ∙ c.in-None.is in
     rw (
       with_line-goes (taps_so_far c.args.self.now) c.args.line.now c.in_ok-name.name.now c.in_ok-kind.kind.now (view c.in_ok-name.d) c.in_ok-name.ensures.reads c.in_ok-kind.ensures,
-      named-first (taps_so_far c.args.self.now) c.in_ok-name.name.now c.in_ok-kind.kind.now (view c.in_ok-name.d) first,
+      named-first (taps_so_far c.args.self.now) c.in_ok-name.name.now c.in_ok-kind.kind.now (view c.in_ok-name.d) (sym c.place.ensures ∙ c.in-None.is),
     )
     c.begin.ensures.taps
