@@ -71,9 +71,7 @@ fn output_over(alloc: Global, mode: Mode, input: &Input) -> Result<Output, Alloc
     requires { AreNamedOnce input.now.taps }
     ensures { IfOk result (λ o. IsOutputOver mode (Ok input.now) o) }
 {
-    let Ok(recording) = Recording::read(alloc, &input.taps) else {
-        return Err(AllocError);
-    };
+    let recording = Recording::read(alloc, &input.taps)?;
     output_on(alloc, mode, &recording, &input.certificates)
 }
 

@@ -16,10 +16,8 @@ fn entry(alloc: Global, recording: &Recording<'_>, pid: &str) -> Result<SessionV
     ensures { IfOk result (λ entry. IsSessionVerdict recording.now pid.now entry) }
 {
     let name = Text::new(String::from_str(alloc, pid)?);
-    match decide(alloc, recording, pid) {
-        Ok(verdict) => Ok(SessionVerdict { pid: name, verdict }),
-        Err(_) => Err(AllocError),
-    }
+    let verdict = decide(alloc, recording, pid)?;
+    Ok(SessionVerdict { pid: name, verdict })
 }
 
 /// The verdicts on these sessions, one for each, in order.
@@ -41,9 +39,7 @@ fn verdicts(
 pub fn audit(alloc: Global, recording: &Recording<'_>) -> Result<Vec<SessionVerdict>, AllocError>
     ensures { IfOk result (λ all. AreVerdicts recording.now (sessions_of recording.now) all.items) }
 {
-    let Ok(pids) = sessions(alloc, recording) else {
-        return Err(AllocError);
-    };
+    let pids = sessions(alloc, recording)?;
     verdicts(alloc, recording, &pids)
 }
 
@@ -51,13 +47,14 @@ pub fn audit(alloc: Global, recording: &Recording<'_>) -> Result<Vec<SessionVerd
 fn proof(alloc: Global, recording: &Recording<'_>, pid: &str) -> Result<Option<Text>, AllocError>
     ensures { IfOk result (λ proof. IsProof recording.now pid.now proof) }
 {
-    match judge(alloc, recording, pid) {
-        Ok(Judged::Shown(cert, _)) => match write_cert(alloc, &cert) {
-            Ok(text) => Ok(Some(Text::new(text))),
-            Err(_) => Err(AllocError),
-        },
-        Ok(Judged::Faulty(_)) => Ok(None),
-        Err(_) => Err(AllocError),
+    match judge(alloc, recording, pid)? {
+        Judged::Shown(cert, _) => {
+            let Ok(text) = write_cert(alloc, &cert) else {
+                return Err(AllocError);
+            };
+            Ok(Some(Text::new(text)))
+        }
+        Judged::Faulty(_) => Ok(None),
     }
 }
 
@@ -81,8 +78,6 @@ fn proofs(
 pub fn prove(alloc: Global, recording: &Recording<'_>) -> Result<Vec<Option<Text>>, AllocError>
     ensures { IfOk result (λ all. AreProofs recording.now (sessions_of recording.now) all.items) }
 {
-    let Ok(pids) = sessions(alloc, recording) else {
-        return Err(AllocError);
-    };
+    let pids = sessions(alloc, recording)?;
     proofs(alloc, recording, &pids)
 }

@@ -1,7 +1,7 @@
 //! The words of the command line: [`options`] reads them, and the parser has the help and the
 //! errors.
 ghost use Rattle.std.specs.Prelude.{◌≡◌, ◌≤◌, None, Some, IfErr, IfOk, IfSome};
-ghost use Rattle.aud_options.specs.Words.{asked, is_end_of_words, mode_named, mode_of, workers_asked, workers_given, workers_joined, workers_named};
+ghost use Rattle.aud_options.specs.Words.{asked, is_end_of_words, mode_named, mode_of, workers_apart, workers_asked, workers_given, workers_joined, workers_named};
 
 use crate::choice::{Mode, Options};
 use clap::error::ErrorKind;
@@ -63,15 +63,21 @@ fn audit<'a>(alloc: Global) -> Result<Command<'a>, AllocError> {
     described(alloc, "audit", AUDIT_ABOUT, AUDIT_LINES).arg(workers)
 }
 
-/// The parser of the words.
-fn command<'a>(alloc: Global) -> Result<Command<'a>, AllocError> {
+/// The parser of the words, with the first of its commands.
+fn with_audit<'a>(alloc: Global) -> Result<Command<'a>, AllocError> {
+    let audit = audit(alloc)?;
     described(alloc, "sioaudit", ABOUT, STATUSES)
         .no_binary_name(true)
         .subcommand_required(true)
-        .bin_name("sioaudit")?
-        .subcommand(audit(alloc)?)?
+        .subcommand(audit)
+}
+
+/// The parser of the words.
+fn command<'a>(alloc: Global) -> Result<Command<'a>, AllocError> {
+    with_audit(alloc)?
         .subcommand(described(alloc, "prove", PROVE_ABOUT, PROVE_LINES))?
-        .subcommand(described(alloc, "verify", VERIFY_ABOUT, VERIFY_LINES))
+        .subcommand(described(alloc, "verify", VERIFY_ABOUT, VERIFY_LINES))?
+        .bin_name("sioaudit")
 }
 
 /// The mode of this name.
@@ -123,17 +129,29 @@ fn is_end(words: &[&str]) -> bool
     }
 }
 
+/// The number of workers of this option, which is the first of these words.
+fn workers_apart(option: &str, words: &[&str]) -> Option<u8>
+    ensures number { result ≡ workers_apart option.now words.now }
+    ensures within { IfSome result (λ n. (1 ≤ n) × (n ≤ 64)) }
+{
+    let (number, rest) = words.split_first()?;
+    if option == "--workers" && is_end(rest) {
+        workers_named(number)
+    } else {
+        None
+    }
+}
+
 /// The number of workers that the words after `audit` give.
 fn workers_given(words: &[&str]) -> Option<u8>
     ensures number { result ≡ workers_given words.now }
     ensures within { IfSome result (λ n. (1 ≤ n) × (n ≤ 64)) }
 {
-    match words {
-        [word, rest @ ..] if is_end(rest) => workers_joined(word),
-        [option, number, rest @ ..] if *option == "--workers" && is_end(rest) => {
-            workers_named(number)
-        }
-        _ => None,
+    let (word, rest) = words.split_first()?;
+    if is_end(rest) {
+        workers_joined(word)
+    } else {
+        workers_apart(word, rest)
     }
 }
 
@@ -156,14 +174,10 @@ fn asked(words: &[&str]) -> Option<Options>
     ensures options { result ≡ asked words.now }
     ensures within { IfSome result (λ o. (1 ≤ o.workers) × (o.workers ≤ 64)) }
 {
-    match words {
-        [] => None,
-        [name, rest @ ..] => {
-            let mode = mode_named(name)?;
-            let workers = workers_asked(mode, rest)?;
-            Some(Options { mode, workers })
-        }
-    }
+    let (name, rest) = words.split_first()?;
+    let mode = mode_named(name)?;
+    let workers = workers_asked(mode, rest)?;
+    Some(Options { mode, workers })
 }
 
 /// The error on words that the parser lets pass, and that [`asked`] does not understand.

@@ -4,12 +4,12 @@
 //! written where a line of the input is refused.
 //!
 //! ```
-//! use aud_report::{Entry, Status, Verdict, report_on};
+//! use aud_report::{SessionVerdict, Status, Verdict, report_on};
 //! use aud_tap::Text;
 //!
 //! let pid = Text::new(String::from_str(alloc, "P")?);
 //! let verdict = Verdict::Yes { got: 1, tail: 0, turns: 1 };
-//! let output = report_on(alloc, &[Entry { pid, verdict }])?;
+//! let output = report_on(alloc, &[SessionVerdict { pid, verdict }])?;
 //! assert_eq!(rt; output.status, Status::AllYes);
 //! assert_eq!(rt; output.text.as_str(), "yes P got=1 tail=0 turns=1\nsessions=1 yes=1 no=0\n");
 //! ```

@@ -1,15 +1,21 @@
 //! Why a run has no report.
 use std::alloc::AllocError;
+use thiserror::Error;
 
-/// Why a run has no report.
-#[derive(Clone, Copy, Debug, PartialEq, Eq, Drop)]
+/// Why a run has no report; the words are those of the program's line on standard error.
+#[derive(Clone, Copy, Debug, PartialEq, Eq, Drop, Error)]
 pub enum RunFault {
+    /// Memory could not be had.
+    #[error("memory")]
     Memory,
     /// A read failed, or the input took too many reads.
+    #[error("read")]
     Read,
     /// A write failed or took nothing.
+    #[error("write")]
     Write,
-    /// A thread could not be started.
+    /// A thread could not be started; not made yet, since one thread runs all.
+    #[error("thread")]
     Spawn,
 }
 

@@ -10,8 +10,7 @@ use aud_check::{Accepted, Refusal, check};
 use aud_client::Recording;
 use aud_maker::{MakeFault, made_is_over, make};
 use aud_report::Verdict;
-use aud_tap::Memory;
-use std::alloc::Global;
+use std::alloc::{AllocError, Global};
 
 /// What is found of a session.
 #[derive(Drop)]
@@ -23,14 +22,14 @@ pub enum Judged<'a> {
 }
 
 /// The fault of the session whose certificate, of all its turns, is refused so.
-fn fault_found(refusal: Refusal) -> Result<Fault, Memory>
+fn fault_found(refusal: Refusal) -> Result<Fault, AllocError>
     requires { IsOfSession refusal }
     ensures { IfOk result (λ fault. fault_found refusal ≡ Some fault) }
 {
     match refusal {
         Refusal::Names => Ok(Fault::Names),
         Refusal::Received(fault) => Ok(fault),
-        Refusal::Memory => Err(Memory),
+        Refusal::Memory => Err(AllocError),
         // The turns and the spans of a certificate that was made are the session's.
         _ => unreachable!(),
     }
@@ -38,28 +37,32 @@ fn fault_found(refusal: Refusal) -> Result<Fault, Memory>
 
 /// What is found of the session with this pid: the verdict on it, and where that is yes its certificate. It costs the
 /// session's own records and stays, and what is due to it.
-pub fn judge<'a>(alloc: Global, recording: &Recording<'a>, pid: &str) -> Result<Judged<'a>, Memory>
+pub fn judge<'a>(
+    alloc: Global,
+    recording: &Recording<'a>,
+    pid: &str,
+) -> Result<Judged<'a>, AllocError>
     ensures { IfOk result (IsJudged recording.now pid.now) }
 {
     verdict_by_certificate();
     let cert = match make(alloc, recording, pid) {
         Ok(cert) => cert,
         Err(MakeFault::Fault(fault)) => return Ok(Judged::Faulty(fault)),
-        Err(MakeFault::Memory) => return Err(Memory),
+        Err(MakeFault::Memory) => return Err(AllocError),
     };
     recording.named_once();
     made_is_over();
     match check(alloc, recording, &cert) {
         Ok(counts) => Ok(Judged::Shown(cert, counts)),
-        Err(refusal) => match fault_found(refusal) {
-            Ok(fault) => Ok(Judged::Faulty(fault)),
-            Err(_) => Err(Memory),
-        },
+        Err(refusal) => {
+            let fault = fault_found(refusal)?;
+            Ok(Judged::Faulty(fault))
+        }
     }
 }
 
 /// The verdict on the session with this pid, at the cost of [`judge`].
-pub fn decide(alloc: Global, recording: &Recording<'_>, pid: &str) -> Result<Verdict, Memory>
+pub fn decide(alloc: Global, recording: &Recording<'_>, pid: &str) -> Result<Verdict, AllocError>
     ensures verdict { IfOk result (IsVerdict recording.now pid.now) }
     ensures certificate { IfOk result (HasCertificate recording.now pid.now) }
 {

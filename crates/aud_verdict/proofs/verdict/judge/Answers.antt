@@ -15,10 +15,10 @@ fault_found-requires c =
     of_session c.args.recording.now c.in-Ok.cert c.in-Err.refusal c.in-Err.ensures.refused
     (λ place. c.verdict_by_certificate.ensures.refused_so c.args.recording.now c.args.pid.now c.in-Ok.cert place c.in-Err.refusal c.named_once.ensures c.in-Ok.ensures.made)
 
-pub returns-in-Ok-fault_found : goal.returns-in-Ok-fault_found
-returns-in-Ok-fault_found c =
+pub returns : goal.returns
+returns c =
     let cert = c.in-Ok.cert in
     let refusal = c.in-Err.refusal in
-    let found = c.in-Ok-fault_found.ensures in
-    let first = first_refusal c.args.recording.now cert refusal c.in-Ok-fault_found.fault c.in-Err.ensures.refused found in
-    c.verdict_by_certificate.ensures.refused c.args.recording.now c.args.pid.now cert refusal c.in-Ok-fault_found.fault c.named_once.ensures c.in-Ok.ensures.made first found
+    let found = c.in_ok-fault-in-Err.ensures in
+    let first = first_refusal c.args.recording.now cert refusal c.in_ok-fault-in-Err.fault c.in-Err.ensures.refused found in
+    c.verdict_by_certificate.ensures.refused c.args.recording.now c.args.pid.now cert refusal c.in_ok-fault-in-Err.fault c.named_once.ensures c.in-Ok.ensures.made first found
