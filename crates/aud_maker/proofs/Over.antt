@@ -9,7 +9,7 @@ use Rattle.aud_node.specs.Lists.{between}
 use Rattle.aud_node.specs.Names.{AreNamedOnce}
 use Rattle.aud_node.specs.Stream.{Text}
 use Rattle.aud_rooms.specs.Turns.{Who, Turn, beginning, AreTurns}
-use Rattle.aud_cert.specs.Certificate.{TurnSeen, CertificateSeen, place_named, turn_at, IsTurnOver, IsOver}
+use Rattle.aud_cert.specs.Certificate.{CertificateSeen, place_named, turn_at, IsTurnOver, IsOver}
 use Rattle.aud_maker.specs.Made.{tap_name, name_at, turn_seen, IsMade}
 use Rattle.aud_maker.proofs.BegunLemmas.{tap_of}
 
