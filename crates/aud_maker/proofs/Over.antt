@@ -9,7 +9,7 @@ use Rattle.aud_node.specs.Lists.{between}
 use Rattle.aud_node.specs.Names.{AreNamedOnce}
 use Rattle.aud_node.specs.Stream.{Text}
 use Rattle.aud_rooms.specs.Turns.{Who, Turn, beginning, AreTurns}
-use Rattle.aud_cert.specs.Certificate.{TurnSeen, CertificateSeen, place_named, turn_at, IsTurnOver, IsOver}
+use Rattle.aud_cert.specs.Certificate.{CertificateSeen, place_named, turn_at, IsTurnOver, IsOver}
 use Rattle.aud_maker.specs.Made.{tap_name, name_at, turn_seen, IsMade}
 use Rattle.aud_maker.proofs.BegunLemmas.{tap_of}
 
@@ -42,7 +42,4 @@ pub turns-there : (c : Cluster) (pid : Text) (cert : CertificateSeen) → AreNam
 turns-there c pid cert once made = ap (map (turn_at c)) made.is.turns_are ∙ there-all c once made.who 0 made.turns made.chain.are_turns
 
 pub some-turns : (c : Cluster) (pid : Text) (cert : CertificateSeen) → IsMade c pid cert → 0 < length cert.turns
-some-turns c pid cert made =
-    let same : length cert.turns ≡ length made.turns = ap (λ (ts : List TurnSeen). length ts) made.is.turns_are ∙ length-map made.turns (turn_seen c) in
-    let some = made.chain.some in
-    omega (arith, same, some)
+some-turns c pid cert made = grind (arith, made.is.turns_are, made.chain.some, length-map made.turns (turn_seen c))

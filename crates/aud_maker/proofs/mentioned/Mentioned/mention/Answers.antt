@@ -1,15 +1,10 @@
-use Rattle.std.proofs.Common.{◌∙◌, sym, ap}
-use Rattle.aud_maker.specs.Private.Mentioned.{with_mention}
 use Rattle.aud_maker.proofs.MentionLemmas.{mention-known, mention-new}
 use Rattle.aud_maker.proofs.mentioned.Mentioned.mention.Goals as goal
 
 pub returns-then-contains : goal.returns-then-contains
-returns-then-contains c =
-    sym c.self.view_is
-    ∙ mention-known c.self.inside.pids.keys c.args.pid.now c.if-contains.ensures
-    ∙ ap (λ pids. with_mention pids c.args.pid.now) c.self.view_is
+returns-then-contains c = rw (← c.self.view_is) (mention-known c.self.inside.pids.keys c.args.pid.now c.if-contains.ensures)
 
 pub returns : goal.returns
 returns c =
-    mention-new c.self.inside.pids.keys c.insert.new.self.keys c.in_ok-owned.owned c.args.pid.now c.in_ok-owned.ensures.ok c.if-contains.ensures c.in_ok-insert.ensures.keys
-    ∙ ap (λ pids. with_mention pids c.args.pid.now) c.self.view_is
+    rw (← c.self.view_is)
+    (mention-new c.self.inside.pids.keys c.insert.new.self.keys c.in_ok-owned.owned c.args.pid.now c.in_ok-owned.ensures.ok c.if-contains.ensures c.in_ok-insert.ensures.keys)
