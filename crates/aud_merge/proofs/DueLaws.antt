@@ -106,14 +106,14 @@ module _ (c : Cluster) (who : Who) (last : ℕ) (p : ℕ) where
       let synced' = Synced-step c st next s.log s.index step synced in
       let moves = Moves-step c who s.log s.index spot went.spot went.moves p unreached in
       let onward : first_index (is_reached who.pid p) (states_from c st (s ∷ steps)) ≡ option_map suc (first_index (is_reached who.pid p) (states_from c next steps)) =
-          ap (λ b. cond b (Some 0) (option_map suc (first_index (is_reached who.pid p) (states_from c (unwrap_or (after c st s) st) steps)))) (reached-spot c who last p st spot holds synced settled ∙ unreached)
-          ∙ ap (λ o. option_map suc (first_index (is_reached who.pid p) (states_from c (unwrap_or o st) steps))) allowed in
+      ap (λ b. cond b (Some 0) (option_map suc (first_index (is_reached who.pid p) (states_from c (unwrap_or (after c st s) st) steps)))) (reached-spot c who last p st spot holds synced settled ∙ unreached)
+      ∙ ap (λ o. option_map suc (first_index (is_reached who.pid p) (states_from c (unwrap_or o st) steps))) allowed in
       subst (λ m. FallsAfter (s ∷ steps) m (step_left c spot p)) (sym onward)
       (elim (cases_Bool (spot_reached c went.spot p)) as (λ _. FallsAfter (s ∷ steps) (option_map suc (first_index (is_reached who.pid p) (states_from c next steps))) (step_left c spot p)) [
         | inl e ↦ subst (FallsAfter (s ∷ steps) (option_map suc (first_index (is_reached who.pid p) (states_from c next steps)))) (sym (moves.0 e))
-        (0, refl, ap (option_map suc) (first-now next steps (reached-spot c who last p next went.spot went.holds synced' settled' ∙ e)))
+            (0, refl, ap (option_map suc) (first-now next steps (reached-spot c who last p next went.spot went.holds synced' settled' ∙ e)))
         | inr e ↦ subst (FallsAfter (s ∷ steps) (option_map suc (first_index (is_reached who.pid p) (states_from c next steps)))) (sym (moves.1 e))
-        (shifted s steps (first_index (is_reached who.pid p) (states_from c next steps)) (step_left c went.spot p) (falls steps next went.spot went.holds later synced' settled' e))
+            (shifted s steps (first_index (is_reached who.pid p) (states_from c next steps)) (step_left c went.spot p) (falls steps next went.spot went.holds later synced' settled' e))
       ])
 
 find-first : (c : Cluster) (test : State → Bool) (st : State) (steps : List Step) → test st ≡ true → find test (states_from c st steps) ≡ Some st
@@ -129,8 +129,8 @@ born_from c who held t later (s ∷ steps) st o runs synced =
     let step = stepped c st next s allowed in
     let synced' = Synced-step c st next s.log s.index step synced in
     let onward : find (is_reached who.pid 0) (states_from c st (s ∷ steps)) ≡ find (is_reached who.pid 0) (states_from c next steps) =
-        ap (λ b. cond b (Some st) (find (is_reached who.pid 0) (states_from c (unwrap_or (after c st s) st) steps))) (ap (λ x. is_at_least (node_cursor st x) 0) o.session)
-        ∙ ap (λ x. find (is_reached who.pid 0) (states_from c (unwrap_or x st) steps)) allowed in
+    ap (λ b. cond b (Some st) (find (is_reached who.pid 0) (states_from c (unwrap_or (after c st s) st) steps))) (ap (λ x. is_at_least (node_cursor st x) 0) o.session)
+    ∙ ap (λ x. find (is_reached who.pid 0) (states_from c (unwrap_or x st) steps)) allowed in
     ap (option_and_then (λ s. node_cursor s (session_of s who.pid))) onward
     ∙ (elim (moved c st next s.log s.index who.pid step.kind) as (λ _. option_and_then (λ s. node_cursor s (session_of s who.pid)) (find (is_reached who.pid 0) (states_from c next steps)) ≡ Some (cursor_at c.stream (node_log c t.node) (suc t.from))) [
       | inr quiet ↦ born_from c who held t later steps next (out_stays c who st next s.log s.index 0 held (t ∷ later) o step quiet) goes_on synced'

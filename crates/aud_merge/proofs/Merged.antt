@@ -45,10 +45,9 @@ run-RunsOn c run runs =
       allowed = allowed_on c (start c) run runs;
     }
 
--- how it is told, step after step, whether a list is a run
-pub run-at_start : (c : Cluster) (st : State) (steps : List Step) → st ≡ start c → IsRun c steps ↔ RunsOn c st steps
-run-at_start c st steps e = grind (arith, RunsOn-run c steps, run-RunsOn c steps)
+pub ruleset whole_runs = (RunsOn-run, run-RunsOn)
 
+-- how it is told, step after step, whether a list is a run
 pub run-goes_on : (c : Cluster) (steps run : List Step) (st next : State) (i : ℕ) (d : Step) → IsRun c run ↔ RunsOn c st (drop i steps) → i < length steps
     → after c st (get_or steps i d) ≡ Some next → IsRun c run ↔ RunsOn c next (drop (i + 1) steps)
 run-goes_on c steps run st next i d told inside at = (

@@ -11,6 +11,7 @@ use aud_tap::Records;
 use std::alloc::{AllocError, Global};
 
 /// Whether the steps are all records of the stream and of the nodes, in an order in which each of them is allowed.
+#[tactic(auto, using(crate::proofs::Merged::whole_runs))]
 pub fn is_run(alloc: Global, logs: &Logs, steps: &[Step]) -> Result<bool, AllocError>
     ensures { IfOk result (λ answer. answer ≡ true ↔ IsRun logs.now steps.now) }
 {

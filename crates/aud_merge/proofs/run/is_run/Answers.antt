@@ -1,8 +1,5 @@
-use Rattle.aud_merge.proofs.Merged.{run-at_start, run-goes_on, run-is_over}
+use Rattle.aud_merge.proofs.Merged.{run-goes_on, run-is_over}
 use Rattle.aud_merge.proofs.run.is_run.Goals as goal
-
-pub loop-step-init : goal.loop-step-init
-loop-step-init c = run-at_start c.args.logs.now c.in_ok-state.state c.args.steps.now c.in_ok-state.ensures
 
 pub loop-step-preserved : goal.loop-step-preserved
 loop-step-preserved c =
