@@ -62,16 +62,17 @@ tap-at name (u ∷ us) (suc i) place = tap-at name us i (at_later (is_text name 
 pub place-bound : (name : List ℕ) (ts : List Tap) (i : ℕ) → place_of name ts ≡ Some i → i < length ts
 place-bound name ts i place = let (t, at) = tap-at name ts i place in (at-place name t.records ts i t place at).0
 
+-- where no name has a place, the first hasn't either
+none_of : (b : Bool) (o : Option ℕ) → cond b (Some 0) (option_map suc o) ≡ None → (b ≡ false) × (o ≡ None)
+none_of true o e = cc
+none_of false None e = (refl, refl)
+none_of false (Some i) e = cc
+
 pub named-none : (name : List ℕ) (ts : List Tap) → place_of name ts ≡ None → tap_named name ts ≡ None
 named-none name [] place = refl
 named-none name (u ∷ us) place =
     let absent = none_of (is_text name u.name) (place_of name us) place in
     rw absent.0 (named-none name us absent.1)
-  where
-    none_of : (b : Bool) (o : Option ℕ) → cond b (Some 0) (option_map suc o) ≡ None → (b ≡ false) × (o ≡ None)
-    none_of true o e = cc
-    none_of false None e = (refl, refl)
-    none_of false (Some i) e = cc
 
 -- ---- one tap in another's place
 
@@ -170,21 +171,17 @@ go_on-keeps s s' i t t' word d (Ok u) taps places counts keeps short at same is 
 
 -- ---- a new tap
 
-abbrev or_after : Option ℕ → Bool → ℕ → Option ℕ
-or_after (Some i) b n = Some i
-or_after None b n = cond b (Some n) None
-
-place_of-push : (text : List ℕ) (ts : List Tap) (t : Tap) → place_of text (ts ++ t ∷ []) ≡ or_after (place_of text ts) (is_text text t.name) (length ts)
-place_of-push text [] t = refl
-place_of-push text (u ∷ us) t =
-    ap (λ o. cond (is_text text u.name) (Some 0) (option_map suc o)) (place_of-push text us t)
-    ∙ step (is_text text u.name) (place_of text us) (is_text text t.name) (length us)
+-- a tap with a new name stands after the others
+place_of-push : (text : List ℕ) (ts : List Tap) (t : Tap) → place_of t.name ts ≡ None → place_of text (ts ++ t ∷ []) ≡ cond (bytes_eq t.name text) (Some (length ts)) (place_of text ts)
+place_of-push text [] t first = ap (λ b. cond b (Some 0) None) (nat_list_eq_equiv.symm text t.name)
+place_of-push text (u ∷ us) t first =
+    let absent = none_of (is_text t.name u.name) (place_of t.name us) first in
+    ap (λ o. cond (is_text text u.name) (Some 0) (option_map suc o)) (place_of-push text us t absent.1) ∙ go (bytes_eq t.name text) refl absent.0
   where
-    step : (b : Bool) (o : Option ℕ) (last : Bool) (n : ℕ) → cond b (Some 0) (option_map suc (or_after o last n)) ≡ or_after (cond b (Some 0) (option_map suc o)) last (suc n)
-    step true o last n = refl
-    step false (Some i) last n = refl
-    step false None true n = refl
-    step false None false n = refl
+    go : (b : Bool) → bytes_eq t.name text ≡ b → is_text t.name u.name ≡ false
+        → cond (is_text text u.name) (Some 0) (option_map suc (cond b (Some (length us)) (place_of text us))) ≡ cond b (Some (suc (length us))) (cond (is_text text u.name) (Some 0) (option_map suc (place_of text us)))
+    go true e other = rw (← same_text t.name text e, other) refl
+    go false e other = refl
 
 pub places-put : {Y S : Type 0} (m n : HashMap (String Y) ℕ S) (ts : List Tap) (t : Tap) (key : String Y) (size : ℕ) → string_bytes key ≡ t.name → size ≡ length ts
     → UpdatesBy string_eq (string_eq key) m n (Some size) → ((text : List ℕ) → get_by_text m text ≡ place_of text ts) → place_of t.name ts ≡ None
@@ -192,19 +189,8 @@ pub places-put : {Y S : Type 0} (m n : HashMap (String Y) ℕ S) (ts : List Tap)
 places-put m n ts t key size spells sized updates places first text =
     hash_map_updates_text (string_bytes key) m n (Some size) updates text
     ∙ ap (cond (bytes_eq (string_bytes key) text) (Some size)) (places text)
-    ∙ rw (spells, sized) (found (is_text text t.name) refl)
-    ∙ sym (place_of-push text ts t)
-  where
-    other : (o : Option ℕ) → o ≡ or_after o false (length ts)
-    other (Some i) = refl
-    other None = refl
-
-    found : (b : Bool) → is_text text t.name ≡ b → cond (bytes_eq t.name text) (Some (length ts)) (place_of text ts) ≡ or_after (place_of text ts) (is_text text t.name) (length ts)
-    found true e =
-        let same : text ≡ t.name = same_text text t.name e in
-        let none : place_of text ts ≡ None = rw same first in
-        rw (nat_list_eq_equiv.symm t.name text, e, none) refl
-    found false e = rw (nat_list_eq_equiv.symm t.name text, e) (other (place_of text ts))
+    ∙ rw (spells, sized) refl
+    ∙ sym (place_of-push text ts t first)
 
 pub fails-then : {X Y : Type 0} (e : LineFault) (reading : Result X InputCode) (f : X → Result Y InputCode) → Fails e reading → Fails e (reading >>= f)
 fails-then fault.Memory reading f is = tt

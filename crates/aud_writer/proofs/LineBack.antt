@@ -1,5 +1,5 @@
 -- A written line is cut at the blank that was written.
-use Rattle.std.proofs.Common.{◌≡◌, ◌<◌, length-append, ◌==◌, ℕ, ◌+◌, List, [], ◌∷◌, ◌++◌, length, drop, nat_le, position, Some, Bool, true, false, ◌&&◌, Ok, refl, arith}
+use Rattle.std.proofs.Common.{◌≡◌, ◌<◌, length-append, ◌==◌, ℕ, ◌+◌, List, [], ◌∷◌, ◌++◌, length, drop, nat_le, position, Some, true, false, Ok, refl, arith}
 use Rattle.std.proofs.lemmas.Bool.Decides.{nat_tests}
 use Rattle.std.proofs.Math.Seq.{take-append_seam, drop-append-add}
 use Rattle.std.proofs.lemmas.Bool.{and_parts, lt-ltb}

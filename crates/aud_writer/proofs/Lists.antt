@@ -2,7 +2,7 @@
 use Rattle.std.proofs.Common.{◌≡◌, ◌==◌, false, String, Global, string_bytes, rules, ℕ, ◌+◌, ◌<◌, map, take, sym, ◌∙◌, List, [], ◌∷◌, ◌++◌, length, get_or, Some, refl, ap, add-one}
 use Rattle.std.proofs.Math.Seq.{take-suc}
 use Rattle.std.proofs.lemmas.List.{map-append}
-use Rattle.serde_json.specs.Data.{Data, Members, put, array, string, Items, no_items, item}
+use Rattle.serde_json.specs.Data.{Members, put, array, string, item}
 use Rattle.serde_json.specs.View.{view, items_view}
 use Rattle.serde_json.specs.declared.value.Value.{Value, the_lemmas}
 use Rattle.aud_tap.proofs.Json.{with_last, items_view-push}

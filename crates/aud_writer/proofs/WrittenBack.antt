@@ -1,5 +1,5 @@
 -- What is written for a record reads as that record.
-use Rattle.std.proofs.Common.{◌≡◌, ◌==◌, ℕ, List, [], ◌∷◌, length, map, Option, Some, None, Bool, true, false, ◌&&◌, codes, nat_le, Ok, refl, ap, ◌∙◌}
+use Rattle.std.proofs.Common.{◌≡◌, ℕ, List, [], ◌∷◌, length, map, Option, Some, None, true, ◌&&◌, codes, nat_le, Ok, refl, ap, ◌∙◌}
 use Rattle.std.specs.Result.{result_ok}
 use Rattle.std.proofs.lemmas.Bool.{and_parts, eqb-true}
 use Rattle.base64.proofs.EngineFacts.{decode_of-encode_of}
@@ -27,7 +27,7 @@ use Rattle.aud_reader.specs.NodeRecord.{node_record_of, start_of, take_of, open_
 use Rattle.aud_reader.specs.ClientRecord.{client_record_of}
 use Rattle.aud_reader.specs.Record.{record_in, record_of, value_record}
 use Rattle.aud_tap.specs.WellFormed.{is_well_formed, event_is_well_formed, stream_is_well_formed, is_offset, is_session_id, is_room, is_full_namespace, node_is_well_formed}
-use Rattle.aud_writer.specs.Written.{record_data, stream_data, header_data, event_data, offset_data, node_data, client_data, encoded, text_member, list_member, text_items}
+use Rattle.aud_writer.specs.Written.{record_data, stream_data, header_data, event_data, node_data, client_data, encoded, text_member, list_member, text_items}
 use Rattle.aud_writer.specs.Private.BytesBack.{DecodeBack, stream_bytes, client_bytes, blobs_of, put_unless_empty}
 
 pub header-back : (of : TapKind) → value_record (header_data of 1) ≡ Ok (Header of 1)
