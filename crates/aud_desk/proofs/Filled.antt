@@ -1,8 +1,7 @@
 -- Verdicts put at their places.
-use Rattle.std.proofs.Common.{◌≡◌, ◌≢◌, ℕ, zero, suc, ◌<◌, ◌≤◌, ◌⊎◌, Bool, true, false, List, [], ◌∷◌, ◌++◌, map, length, set, All, Contains, Some, None, Option, sym, refl, ap, ◌∙◌, subst, inl, inr, ⊎_elim, arith, eq-eqb, ne_eqb, nat_lt, ltb-false, ltb-true}
+use Rattle.std.proofs.Common.{◌≡◌, ◌≢◌, ℕ, zero, suc, ◌<◌, ◌≤◌, ◌⊎◌, Bool, true, false, List, [], ◌∷◌, ◌++◌, length, set, All, Contains, Some, None, Option, sym, refl, ap, ◌∙◌, subst, inl, inr, ⊎_elim, arith, eq-eqb, ne_eqb, nat_lt, ltb-false, ltb-true}
 use Rattle.std.specs.Prelude.{slice_get}
 use mathlib.Core.Logic.{dite}
-use Rattle.std.proofs.lemmas.List.{length-map}
 use native.Mathlib.Decide.{ℕ_discrete}
 use Rattle.aud_report.specs.declared.verdict.Verdict.{Verdict}
 use Rattle.aud_desk.specs.declared.entry.Entry.{Entry}

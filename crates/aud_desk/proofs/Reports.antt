@@ -1,13 +1,12 @@
 -- The verdicts of a report.
-use Rattle.std.proofs.Common.{◌≡◌, ◌≤◌, ℕ, zero, suc, List, [], ◌∷◌, length, map, zip, Some, String, sym, subst, refl, arith}
+use Rattle.std.proofs.Common.{◌≡◌, ◌≤◌, ℕ, suc, List, [], ◌∷◌, length, map, zip, Some, String, sym, subst, refl, arith}
 use Rattle.std.proofs.lemmas.List.Sums.{count_by-le-length}
 use Rattle.std.specs.Prelude.{count_by, slice_get, string_bytes}
 use Rattle.aud_node.specs.Cluster.{Cluster}
 use Rattle.aud_report.specs.declared.verdict.Verdict.{Verdict}
 use Rattle.aud_report.specs.declared.verdict.SessionVerdict.{SessionVerdict}
 use Rattle.aud_report.specs.Verdict.{is_yes}
-use Rattle.aud_report.specs.OneForEach.{OneForEach}
-use Rattle.aud_desk.specs.Verdicts.{IsVerdictOn, IsVerdictAt, IsSessionVerdict, AreVerdicts, session_verdict}
+use Rattle.aud_desk.specs.Verdicts.{IsVerdictOn, IsVerdictAt, AreVerdicts, session_verdict}
 
 -- no more are yes than there are
 pub yes_at_most : (entries : List SessionVerdict) → count_by is_yes entries ≤ length entries

@@ -1,5 +1,5 @@
 use Rattle.std.proofs.Common.{arith, ◌≡◌, ℕ, zero, suc, ap, ◌∙◌, sym, subst, ◌<◌, ◌+◌, ◌⊎◌, inl, inr, All, Contains, List, [], ◌∷◌, ◌++◌, vec_len, ⊎_elim, Some, refl, map, Vec, Global, option_map}
-use Rattle.std.specs.Prelude.{IsSome, IfOk, slice_get}
+use Rattle.std.specs.Prelude.{IsSome, slice_get}
 use Rattle.std.proofs.lemmas.Option.{get_or_from_slice_get, slice_get-map}
 use Rattle.std.proofs.lemmas.Result.{IfOk-weaker}
 use Rattle.std.proofs.lemmas.List.Elements.{Contains-append_left, Contains-push}

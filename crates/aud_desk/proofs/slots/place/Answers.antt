@@ -4,7 +4,7 @@ use Rattle.aud_desk.specs.declared.entry.Entry.{Entry}
 use Rattle.aud_report.specs.declared.verdict.Verdict.{Verdict}
 use Rattle.aud_desk.specs.Draws.{times}
 use Rattle.aud_desk.specs.Slots.{HasVerdict, IsFull}
-use Rattle.aud_desk.specs.Workers.{indices, entry_of}
+use Rattle.aud_desk.specs.Workers.{indices}
 use Rattle.aud_desk.proofs.Lists.{all-init, all-last}
 use Rattle.aud_desk.proofs.Filled.{put-found, put-full, times-last}
 use Rattle.aud_desk.proofs.slots.place.Goals as goal

@@ -1,4 +1,4 @@
-use Rattle.std.proofs.Common.{arith, rules, subst, sym, List, Option}
+use Rattle.std.proofs.Common.{rules, subst, List, Option}
 use Rattle.aud_report.specs.declared.verdict.Verdict.{Verdict}
 use Rattle.aud_desk.specs.Slots.{HasVerdict}
 use Rattle.aud_desk.proofs.Filled.{none-push}
