@@ -1,0 +1,5 @@
+pub mod Lists
+pub mod Steps
+pub mod Closing
+pub mod Filled
+pub mod Reports

@@ -1,0 +1,7 @@
+pub mod Draws
+pub mod Tickets
+pub mod Views
+pub mod Verdicts
+pub mod Workers
+pub mod Slots
+pub mod Faults

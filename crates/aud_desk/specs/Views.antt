@@ -1,0 +1,23 @@
+-- What clients see of tickets and their seats.
+use Rattle.std.specs.Prelude.{◌≡◌, ℕ, List}
+use Rattle.atomic_table.specs.Seated.{TableId}
+use Rattle.aud_desk.specs.declared.tickets.TicketSeat.{TicketSeat}
+use Rattle.aud_desk.specs.declared.tickets.Tickets.{Tickets}
+use Rattle.aud_desk.specs.declared.tickets.Gathered.{Gathered}
+
+-- the numbers that the seat drew, in order
+abbrev pub drawn : TicketSeat → List ℕ
+drawn s = s.seat.me.0.drawn
+
+abbrev pub SeatOf : TableId → ℕ → ℕ → TicketSeat → Type 0
+SeatOf table n seats s = (s.seat.table_id ≡ table) × (s.seat.me.0.n ≡ n) × (s.seat.me.0.seats ≡ seats)
+
+-- a seat of these tickets
+abbrev pub IsOf : Tickets → TicketSeat → Type 0
+IsOf t s = SeatOf t.table.shared.table_id t.n t.seats s
+
+abbrev pub all_drawn : Gathered → List ℕ
+all_drawn s = s.seat.me.0.drawn
+
+abbrev pub IsAllOf : Tickets → Gathered → Type 0
+IsAllOf t s = (s.seat.table_id ≡ t.table.shared.table_id) × (s.seat.me.0.n ≡ t.n) × (s.seat.me.0.seats ≡ t.seats)
