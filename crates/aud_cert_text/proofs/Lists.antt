@@ -14,6 +14,7 @@ use Rattle.aud_cert_text.specs.Text.{items}
 abbrev pub with_front : {A : Type 0} → List A → Result (List A) CertFault → Result (List A) CertFault
 with_front front rest = rest >>= (λ xs. Ok (front ++ xs))
 
+-- an item put to those read is the first of those left
 with_front-item : {A : Type 0} (front : List A) (x : A) (rest : Result (List A) CertFault) → with_front (front ++ x ∷ []) rest ≡ with_front front (rest >>= (λ xs. Ok (x ∷ xs)))
 with_front-item front x (Err e) = refl
 with_front-item front x (Ok xs) = ap Ok (append_assoc front (x ∷ []) xs)
@@ -40,10 +41,12 @@ each-fails step xs i x e front h is fails = rw (drop-cons xs i x h, ← is, fail
 
 -- ---- items of an array, as they are written
 
+-- one more element is written as one more item
 items-push : {A : Type 0} (data_of : A → Data) (xs : List A) (x : A) → items data_of (xs ++ x ∷ []) ≡ with_last (items data_of xs) (data_of x)
 items-push data_of [] x = refl
 items-push data_of (y ∷ xs) x = ap (item (data_of y)) (items-push data_of xs x)
 
+-- the items written so far, and one more
 pub items-more : {A : Type 0} (data_of : A → Data) (vs : List Value) (xs : List A) (i : ℕ) (v : Value) (x : A) → i < length xs → x ≡ get_or xs i x → view v ≡ data_of x
     → items_view vs ≡ items data_of (take i xs) → items_view (vs ++ v ∷ []) ≡ items data_of (take (i + 1) xs)
 items-more data_of vs xs i v x h at is same =

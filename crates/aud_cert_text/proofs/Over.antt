@@ -40,6 +40,7 @@ split (Err e) rest ys h = cc
 split (Ok y) (Err e) ys h = cc
 split (Ok y) (Ok zs) ys h = (y, zs, refl, refl, cc)
 
+-- as many are read as were told
 pub each-length : {A B : Type 0} (step : A → Result B CertFault) (xs : List A) (ys : List B) → each step xs ≡ Ok ys → length ys ≡ length xs
 each-length step [] ys h = cc
 each-length step (x ∷ xs) ys h =
@@ -55,6 +56,7 @@ turns-read c (t ∷ ts) turns h =
     let (rest_named, rest_told, rest_known) = turns-read c ts others are in
     rw (all, told, known, rest_told, rest_known) (All-cons (IsTurnOver c) turn others named rest_named, refl, refl)
 
+-- turns that were read have the records of their nodes' logs
 pub turns-over : (c : Cluster) (parsed : List ParsedTurn) (turns : List TurnSeen) → each (turn_over c) parsed ≡ Ok turns → All (IsTurnOver c) turns
 turns-over c parsed turns h = (turns-read c parsed turns h).0
 

@@ -79,6 +79,7 @@ abbrev pub AcceptedFrom : Cluster → Text → ℕ → List TurnSeen → Type 0
 AcceptedFrom c pid k [] = Unit {0}
 AcceptedFrom c pid k (t ∷ later) = IsTurnAccepted c pid k t later × AcceptedFrom c pid (suc k) later
 
+-- turns that are each accepted are accepted one after the other
 pub accepted_from : (c : Cluster) (pid : Text) (turns : List TurnSeen) (k : ℕ)
     → ((i : ℕ) (t : TurnSeen) → slice_get turns i ≡ Some t → IsTurnAccepted c pid (k + i) t (drop (suc i) turns)) → AcceptedFrom c pid k turns
 accepted_from c pid [] k all = tt
@@ -88,6 +89,7 @@ accepted_from c pid (t ∷ later) k all =
       accepted_from c pid later (suc k) (λ i s at. let next : k + suc i ≡ suc k + i = omega arith in subst (λ n. IsTurnAccepted c pid n s (drop (suc i) later)) next (all (suc i) s at)),
     )
 
+-- the same, from turn 0 on
 pub all_accepted : (c : Cluster) (pid : Text) (turns : List TurnSeen) → AreTurnsAccepted c pid turns → AcceptedFrom c pid 0 turns
 all_accepted c pid turns all =
     accepted_from c pid turns 0 (λ i t at. let same : i ≡ 0 + i = omega arith in subst (λ n. IsTurnAccepted c pid n t (drop (suc i) turns)) same (all i t at))
@@ -109,6 +111,7 @@ later_turns c who k (t ∷ later) over (is, others) =
       later_turns c who (suc k) later (All-tail (IsTurnOver c) t later over) others,
     )
 
+-- accepted turns are turns of the session that their `open` names
 turns_named : (c : Cluster) (pid : Text) (turns : List TurnSeen) → All (IsTurnOver c) turns → AcceptedFrom c pid 0 turns → AreTurns c (who_in pid turns) 0 (map (turn_at c) turns)
 turns_named c pid [] over all = tt
 turns_named c pid (t ∷ later) over (is, others) =
@@ -129,6 +132,7 @@ pub lows : (c : Cluster) (pid : Text) (k : ℕ) (turns : List TurnSeen) → Acce
 lows c pid k [] all = refl
 lows c pid k (t ∷ later) (is, others) = is.cursors.low_is
 
+-- the greatest high that accepted turns show is that of their slices
 pub highs : (c : Cluster) (pid : Text) (k : ℕ) (turns : List TurnSeen) → AcceptedFrom c pid k turns → greatest_shown_high turns ≡ greatest_high (slices_at c turns)
 highs c pid k [] all = refl
 highs c pid k (t ∷ later) (is, others) =

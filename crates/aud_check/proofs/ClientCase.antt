@@ -23,6 +23,7 @@ use Rattle.aud_check.specs.Private.ReceivedCheck.{by_stays, IsReceivedRefusal}
 use Rattle.aud_check.specs.declared.refusal.Refusal.{Refusal}
 use Rattle.aud_check.specs.declared.refusal.Refusal.TheVariants.{Received, Memory}
 
+-- stays that are all of the session are all in its namespace
 all_in : (who : Who) (stays : List StaySeen) → list_all (is_of_session who) stays ≡ true → are_in_namespace who.nsp stays ≡ true
 all_in who [] all = refl
 all_in who (stay ∷ stays) all =

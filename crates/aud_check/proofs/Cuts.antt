@@ -71,19 +71,23 @@ past_none q (x ∷ xs) e = absurd (none-some x e)
 
 -- ---- frames by their positions
 
+-- the position of a frame
 abbrev pub position_of : FrameSeen → ℕ
 position_of frame = frame.position
 
+-- a test of the first positions is a test of the first frames
 in_front : (f : ℕ → Bool) (before onward : List FrameSeen) → list_all f (take (length before) (map position_of (before ++ onward))) ≡ list_all (λ frame. f (position_of frame)) before
 in_front f [] [] = refl
 in_front f [] (y ∷ onward) = refl
 in_front f (x ∷ before) onward = ap (λ b. f (position_of x) && b) (in_front f before onward)
 
+-- a test of the positions from a place on is a test of the frames from there on
 from_there : (f : ℕ → Bool) (before onward : List FrameSeen) → list_all f (drop (length before) (map position_of (before ++ onward))) ≡ list_all (λ frame. f (position_of frame)) onward
 from_there f [] [] = refl
 from_there f [] (y ∷ onward) = ap (λ b. f (position_of y) && b) (from_there f [] onward)
 from_there f (x ∷ before) onward = from_there f before onward
 
+-- a recovery cuts the frames where its position cuts theirs
 pub is_between-cut : (before onward : List FrameSeen) (o : Option ℕ) → is_cut_at before onward o ≡ is_cut_or_not (map position_of (before ++ onward)) (length before) o
 is_between-cut before onward None = refl
 is_between-cut before onward (Some q) =

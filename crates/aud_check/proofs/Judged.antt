@@ -19,10 +19,12 @@ use Rattle.aud_check.specs.Refusals.{RefusesFirst, IsFirstRefusal, IsAccepted, c
 use Rattle.aud_check.specs.Private.Parts.{seen_as}
 use Rattle.aud_check.proofs.Ranks.{first_of_turns, first_span, first_names, first_fault}
 
+-- a refusal that comes before all others is the first
 pub first_refusal : (c : Cluster) (cert : CertificateSeen) (refusal : Refusal) → RefusesFirst c cert refusal → IsFirstRefusal c cert refusal
 first_refusal c cert Memory is = tt
 first_refusal c cert _ is = is
 
+-- the first refusal of the turns is the first of the certificate
 pub turns_first : (c : Cluster) (cert : CertificateSeen) (refusal : Refusal) → IsFirstOfTurns c cert.pid cert.turns refusal → IsFirstRefusal c cert refusal
 turns_first c cert refusal is = first_refusal c cert refusal (first_of_turns c cert refusal is)
 

@@ -11,6 +11,7 @@ pub is_fault : (case : Case) (m : Mismatch) → mismatch (positions_in case) cas
 is_fault case (Extra p) e = ap (option_map (fault_of case.stream)) e
 is_fault case _ e = ap (option_map (fault_of case.stream)) e
 
+-- where no fault holds of what was received, it begins what was due
 pub none_mismatched : (case : Case) → ((fault : Fault) → HasFault case fault → ⊥) → mismatch (positions_in case) case.due ≡ None
 none_mismatched case no_fault = go (mismatch (positions_in case) case.due) refl
   where

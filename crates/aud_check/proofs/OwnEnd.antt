@@ -14,10 +14,12 @@ use Rattle.aud_rooms.specs.Turns.{Part, Inner, Last, Foreign, End, ByBreak, ByGo
 use Rattle.aud_base.proofs.Lists.{element_at, between-more}
 use Rattle.aud_check.proofs.Slices.{between-past}
 
+-- what the record with a number is to the turn
 abbrev pub part_at : Text → ℕ → Option NodeRec → Part
 part_at pid k None = Foreign
 part_at pid k (Some rec) = part_of pid k rec
 
+-- what a record of the session makes of the end, by whether it stands last
 abbrev pub numbered_end : Part → Bool → Option End → Option End
 numbered_end Inner last rest = rest
 numbered_end (Last end) true rest = Some end
@@ -47,12 +49,15 @@ left_in : (test : ℕ → Bool) (a : ℕ) (rest : List ℕ) (b : Bool) → test 
 left_in test a rest true e = ap (λ c. cond c (a ∷ filter test rest) (filter test rest)) e
 left_in test a rest false e = refl
 
+-- a number before the first one isn't between the two
 too_low : (from to n : ℕ) → n < from → is_between from to n ≡ false
 too_low from to n h = ap (λ b. b && nat_lt n to) (lt-leb from n h)
 
+-- a number from the second one on isn't between the two
 too_high : (from to n : ℕ) → from ≤ n → to ≤ n → is_between from to n ≡ false
 too_high from to n h g = ap (λ b. b && nat_lt n to) (le-leb from n h) ∙ lt-leb (suc n) to (omega arith)
 
+-- a number from the first one on and before the second is between the two
 inside : (from to n : ℕ) → from ≤ n → n < to → is_between from to n ≡ true
 inside from to n h g = ap (λ b. b && nat_lt n to) (le-leb from n h) ∙ le-leb (suc n) to (omega arith)
 

@@ -67,16 +67,20 @@ module _ (c : Cluster) (cert : CertificateSeen) where
 
 -- ---- faults
 
+-- a frame among frames that are all their entries is its entry
 entry_of : (stream : List StreamRec) (before : List FrameSeen) (altered : FrameSeen) (after : List FrameSeen) → AreEntries stream (before ++ altered ∷ after) → IsEntry stream altered
 entry_of stream [] altered after (is, rest) = is
 entry_of stream (frame ∷ before) altered after (is, rest) = entry_of stream before altered after rest
 
+-- where all frames are their entries there is no first one that isn't
 pub no_altered : (stream : List StreamRec) (frames : List FrameSeen) (altered : FrameSeen) → AreEntries stream frames → IsFirstAltered stream frames altered → ⊥
 no_altered stream frames altered are is = is.is_altered (entry_of stream is.before altered is.after (subst (AreEntries stream) is.parts are))
 
+-- where what was received begins what was due, there is no fault of a mismatch
 pub no_mismatch : (case : Case) → mismatch (positions_in case) case.due ≡ None → (f : Fault) → mismatch_fault case ≡ Some f → ⊥
 no_mismatch case none f h = none-some f (sym (ap (option_map (fault_of case.stream)) none) ∙ h)
 
+-- nothing is both there and missing
 pub some_or_none : {A : Type 0} (o : Option A) → o ≡ None → IsSome o → ⊥
 some_or_none None e h = true≢false (sym h)
 some_or_none (Some x) e h = none-some x (sym e)

@@ -36,16 +36,19 @@ is_over zero none within = refl
 is_over (suc zero) none within = refl
 is_over (suc (suc k)) none within = absurd (omega (arith, within))
 
+-- the turn on the first node is accepted
 first_accepted : (t : TurnSeen) → slice_get certificate.turns 0 ≡ Some t → IsTurnAccepted logs certificate.pid 0 t (drop 1 certificate.turns)
 first_accepted t at =
     subst (λ t. IsTurnAccepted logs certificate.pid 0 t (drop 1 certificate.turns)) (same_Some _ t at)
     (record { begins = refl; ends = record { within = omega arith; end = ByBreak; is_end = refl; may_end = tt }; cursors = record { ordered = refl; low_is = refl; high_is = refl } })
 
+-- the turn on the second node is accepted
 second_accepted : (t : TurnSeen) → slice_get certificate.turns 1 ≡ Some t → IsTurnAccepted logs certificate.pid 1 t []
 second_accepted t at =
     subst (λ t. IsTurnAccepted logs certificate.pid 1 t []) (same_Some _ t at)
     (record { begins = refl; ends = record { within = omega arith; end = ByLog; is_end = refl; may_end = (refl, refl) }; cursors = record { ordered = refl; low_is = refl; high_is = refl } })
 
+-- both turns are accepted
 are_turns : AreTurnsAccepted logs certificate.pid certificate.turns
 are_turns zero t at = first_accepted t at
 are_turns (suc zero) t at = second_accepted t at
@@ -60,6 +63,7 @@ held_at_both room is (suc zero) low high = is
 held_at_both room is (suc (suc zero)) low high = is
 held_at_both room is (suc (suc (suc p))) low high = absurd (omega (arith, high))
 
+-- a room that the session holds after its `join` is held at both positions, and at no others
 maximal : (room : Text) → set.contains held room ≡ true → IsMaximal (rooms_by_turns logs.stream (who_of certificate) (slices_of logs certificate)) 0 2 (record { room = room; first = 1; last = 2 })
 maximal room is =
     record {
@@ -71,6 +75,7 @@ maximal room is =
       not_after = λ p upto e. absurd (omega (arith, upto, e));
     }
 
+-- the session is in its own room
 in_own_room : set.contains held (codes "s1") ≡ true
 in_own_room =
     set.contains-insert nat_list_cmp_total (own_room who.sid) (codes "r") (codes "s1")
@@ -95,10 +100,12 @@ its_rooms room is =
     go false true is_r is_s one = inr (same (codes "s1") is_s)
     go false false is_r is_s one = absurd (false≢true (sym (ap (λ b. b || (eq_by_cmp (slice_cmp nat_cmp) room (codes "s1") || false)) is_r ∙ ap (λ b. b || false) is_s) ∙ one))
 
+-- both rooms have their span in the certificate
 among : (room : Text) → (room ≡ codes "r") ⊎ (room ≡ codes "s1") → Contains certificate.spans (record { room = room; first = 1; last = 2 })
 among room (inl is) = (0, omega arith, ap (λ room. record { room = room; first = 1; last = 2 }) (sym is))
 among room (inr is) = (1, omega arith, ap (λ room. record { room = room; first = 1; last = 2 }) (sym is))
 
+-- each maximal interval of a room is one of the certificate's spans
 all : (room : Text) (first last : ℕ) → IsMaximal (rooms_by_turns logs.stream (who_of certificate) (slices_of logs certificate)) 0 2 (record { room = room; first = first; last = last })
     → Contains certificate.spans (record { room = room; first = first; last = last })
 all room zero last m = let past = m.past_low in absurd (omega (arith, past))
@@ -116,24 +123,29 @@ all room (suc (suc (suc first))) last m =
     let high = m.to_high in
     absurd (omega (arith, some, high))
 
+-- each of the certificate's spans is a maximal interval of its room
 each : (s : RoomSpan) → Contains certificate.spans s → IsMaximal (rooms_by_turns logs.stream (who_of certificate) (slices_of logs certificate)) 0 2 s
 each s (zero, within, is) = subst (IsMaximal (rooms_by_turns logs.stream (who_of certificate) (slices_of logs certificate)) 0 2) is (maximal (codes "r") in_room)
 each s (suc zero, within, is) = subst (IsMaximal (rooms_by_turns logs.stream (who_of certificate) (slices_of logs certificate)) 0 2) is (maximal (codes "s1") in_own_room)
 each s (suc (suc k), within, is) = absurd (omega (arith, within))
 
+-- the certificate's spans are those of the turns
 are_spans : AreSpansOfTurns logs.stream (who_of certificate) (slices_of logs certificate) certificate.spans
 are_spans = record { each = each; all = λ s m. all s.room s.first s.last m; in_order = ((inl refl, tt), (tt, tt)) }
 
 -- ---- the client
 
+-- the client's stays have the session's sid and namespace
 are_named : are_of_session (who_of certificate) (certificate_case logs certificate).stays ≡ true
 unfolding is_recoverable packet_of kind_at attachments_at leading_namespace ack_id_at payload_at last_of_payload serde_json_on_literals
 are_named = refl
 
+-- the client received both events, in order
 pub received : positions_in (certificate_case logs certificate) ≡ 1 ∷ 2 ∷ []
 unfolding is_recoverable packet_of kind_at attachments_at leading_namespace ack_id_at payload_at last_of_payload serde_json_on_literals
 received = refl
 
+-- nothing is wrong with what the client received
 is_received : IsReceived (certificate_case logs certificate)
 unfolding is_recoverable packet_of kind_at attachments_at leading_namespace ack_id_at payload_at last_of_payload serde_json_on_literals
 is_received =
@@ -145,5 +157,6 @@ is_received =
       has_no_window = refl;
     }
 
+-- the certificate is accepted
 pub is_accepted : IsAccepted logs certificate
 is_accepted = record { are_turns = are_turns; are_spans = are_spans; are_named = are_named; is_received = is_received }

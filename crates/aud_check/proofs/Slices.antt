@@ -5,9 +5,11 @@ use Rattle.aud_base.proofs.Lists.{element_at, between-more}
 use Rattle.aud_tap.specs.declared.records.NodeRec.{NodeRec}
 use Rattle.aud_node.specs.Lists.{between}
 
+-- between two numbers stand as many records as the log has there
 pub length-between : (log : List NodeRec) (i to : ℕ) → length (between log i to) ≡ min (to - i) (length log - i)
 length-between log i to = length-take (to - i) (drop i log) ∙ ap (min (to - i)) (length-drop i log)
 
+-- a list of no length has nothing
 none_of : {X : Type 0} (xs : List X) → length xs ≡ 0 → xs ≡ []
 none_of [] e = refl
 none_of (x ∷ xs) e = absurd (omega arith)

@@ -14,17 +14,21 @@ use Rattle.aud_check.specs.Frames.{AreEntries, IsEntry, IsFirstAltered, frames_i
 use Rattle.aud_check.specs.NamedStays.{are_of_session, is_of_session}
 use Rattle.aud_base.proofs.Lists.{drop_at}
 
+-- what is made of the element at a place stands at that place
 pub at_map : {X Y : Type 0} (f : X → Y) (xs : List X) (i : ℕ) (x : X) → i < length xs → x ≡ get_or xs i x → slice_get (map f xs) i ≡ Some (f x)
 at_map f xs i x h is = slice_get-map f xs i ∙ ap (option_map f) (slice_get_read xs (length xs) i x refl h is)
 
+-- the first elements with one more are those before and the one at the place
 pub take_at : {Y : Type 0} (ys : List Y) (i : ℕ) (y : Y) → slice_get ys i ≡ Some y → take (i + 1) ys ≡ take i ys ++ y ∷ []
 take_at ys i y at = rw add-one (take-suc ys i y (slice_get_within ys i y at) ∙ ap (λ z. take i ys ++ z ∷ []) (get_or_from_slice_get ys i y y at))
 
+-- the elements from a place on are the one there and those after it
 pub drop_from : {Y : Type 0} (ys : List Y) (i : ℕ) (y : Y) → slice_get ys i ≡ Some y → drop i ys ≡ y ∷ drop (i + 1) ys
 drop_from ys i y at = rw add-one (drop_at ys i y at)
 
 -- ---- frames and entries
 
+-- frames that are their entries, and one more that is its own
 entries_both : (stream : List StreamRec) (before : List FrameSeen) (frame : FrameSeen) → AreEntries stream before → IsEntry stream frame → AreEntries stream (before ++ frame ∷ [])
 entries_both stream [] frame all is = (is, tt)
 entries_both stream (x ∷ before) frame (first, rest) is = (first, entries_both stream before frame rest is)
@@ -45,6 +49,7 @@ module _ {X : Type 0} (f : X → FrameSeen) (stream : List StreamRec) (xs : List
 
 -- ---- frames of stays
 
+-- the frames of the stays so far, and of one more stay
 pub frames_more : {X : Type 0} (f : X → StaySeen) (xs : List X) (i : ℕ) (x : X) (old new : List FrameSeen) → i < length xs → x ≡ get_or xs i x
     → old ≡ frames_in (take i (map f xs)) → new ≡ old ++ (f x).frames → new ≡ frames_in (take (i + 1) (map f xs))
 frames_more f xs i x old new h is was more =
@@ -53,6 +58,7 @@ frames_more f xs i x old new h is was more =
     ∙ sym (flat_map-append (λ (stay : StaySeen). stay.frames) (take i (map f xs)) (f x ∷ []))
     ∙ sym (ap frames_in (take_at (map f xs) i (f x) (at_map f xs i x h is)))
 
+-- what is made of the elements so far, and of one more
 pub mapped_more : {X Y Z : Type 0} (f : X → Y) (g : Y → Z) (xs : List X) (i : ℕ) (x : X) (old new : List Z) → i < length xs → x ≡ get_or xs i x
     → old ≡ map g (take i (map f xs)) → new ≡ old ++ g (f x) ∷ [] → new ≡ map g (take (i + 1) (map f xs))
 mapped_more f g xs i x old new h is was more =
@@ -81,10 +87,12 @@ module _ {X Y Z : Type 0} (f : X → Y) (g : Y → Z) (xs : List X) (zs : List Z
 
 -- ---- stays of a session
 
+-- where each of some stays is of the session, the stays are
 pub all_of_session : {X : Type 0} (f : X → StaySeen) (who : Who) (xs : List X) (r : Bool) → 0 < length xs → r ≡ list_all (λ x. is_of_session who (f x)) xs → r ≡ are_of_session who (map f xs)
 all_of_session f who [] r some is = absurd (omega arith)
 all_of_session f who (x ∷ xs) r some is = is ∙ sym (list_all-map (is_of_session who) f (x ∷ xs))
 
+-- a list that isn't empty has an element
 pub some_where_not : {X : Type 0} (xs : List X) → (length xs == 0) ≡ false → 0 < length xs
 some_where_not [] e = absurd (true≢false e)
 some_where_not (x ∷ xs) e = omega arith

@@ -42,9 +42,11 @@ tap_of c node i rec at = go (slice_get c.taps node) at
     go None at = absurd (none-some rec at)
     go (Some tap) at = (tap, refl)
 
+-- a record with the session's pid names it
 pub named : (pid : Text) (rec : NodeRec) → pid_of rec ≡ Some pid → record_names (Some rec) pid ≡ true
 named pid rec e = ap (λ o. is_pid o pid) e ∙ itself_text pid
 
+-- a record that names the session has its pid
 pub unnamed : (rec : NodeRec) (pid : Text) → record_names (Some rec) pid ≡ true → pid_of rec ≡ Some pid
 unnamed rec pid e = go (pid_of rec) e
   where
@@ -80,6 +82,7 @@ pub record IsIndexed (log : List NodeRec) (pid : Text) (k from to : ℕ) : Type 
   pub within : to ≤ length log
   pub to_is : to ≡ suc (from + length (rest_of_turn pid (drop (suc from) log)))
 
+-- no record of the log begins turn k
 abbrev pub BeginsNone : List NodeRec → Text → ℕ → Type 0
 BeginsNone log pid k = (i : ℕ) (rec : NodeRec) → slice_get log i ≡ Some rec → begins_turn pid k rec ≡ true → ⊥
 
@@ -88,6 +91,7 @@ abbrev MayIndex : List NodeRec → Text → ℕ → Type 0
 MayIndex log pid k =
     ((turn_range log pid k ≡ None) × BeginsNone log pid k) ⊎ ((from : ℕ) × (to : ℕ) × (turn_range log pid k ≡ Some (from, to)) × IsIndexed log pid k from to)
 
+-- a log has no record that begins turn k, or the first one and the rest of the turn are found
 indexed : (log : List NodeRec) (pid : Text) (k : ℕ) → MayIndex log pid k
 indexed [] pid k = inl (refl, λ i rec at begins. none-some rec at)
 indexed (x ∷ xs) pid k = go (begins_turn pid k x) refl (indexed xs pid k)
@@ -123,6 +127,7 @@ MayBegin c pid k nodes none = ((turn_begun c nodes pid k ≡ None) × none) ⊎ 
 abbrev NoneOf : Cluster → Text → ℕ → List ℕ → Type 0
 NoneOf c pid k nodes = (node : ℕ) → Contains nodes node → BeginsNone (node_log c node) pid k
 
+-- none of these nodes begins turn k, or the first that does is found
 begun-among : (c : Cluster) (pid : Text) (k : ℕ) (nodes : List ℕ) → MayBegin c pid k nodes (NoneOf c pid k nodes)
 begun-among c pid k [] = inl (refl, λ node here. absurd (contains-none node here))
 begun-among c pid k (node ∷ nodes) = go (indexed (node_log c node) pid k) (begun-among c pid k nodes)
@@ -144,6 +149,7 @@ begun c pid k = elim (begun-among c pid k (own_places c pid)) as (λ _. MayBegin
   | inr is ↦ inr is
 ]
 
+-- a turn that is found begun is one that its node's log begins
 pub begun-is : (c : Cluster) (pid : Text) (k : ℕ) (t : Turn) → turn_begun c (own_places c pid) pid k ≡ Some t → IsBegun c pid k t
 begun-is c pid k t e = elim (begun c pid k) as (λ _. IsBegun c pid k t) [
   | inl none ↦ absurd (none-some t (sym none.0 ∙ e))
@@ -159,6 +165,7 @@ none_past c pid last k upto h = elim (begun c pid k) as (λ _. turn_begun c (own
 
 -- ---- the turns of a chain
 
+-- a turn by its node, the number of its first record and that after its last
 abbrev turn_with : ℕ → ℕ → ℕ → Turn
 turn_with node from to = record { node = node; from = from; to = to }
 

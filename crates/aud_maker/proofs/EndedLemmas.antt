@@ -22,6 +22,7 @@ use Rattle.aud_maker.proofs.BegunLemmas.{IsIndexed, begun-is}
 
 -- ---- the end of a turn that a log begins
 
+-- a record that begins a turn doesn't end it
 begin-plain : (pid : Text) (k : ℕ) (rec : NodeRec) → begins_turn pid k rec ≡ true → end_by pid k (Some rec) ≡ Some ByLog
 begin-plain pid zero (Opened other sid nsp) e = refl
 begin-plain pid (suc k) (Back other number) e = refl
@@ -33,6 +34,7 @@ rest-end : (pid : Text) (k : ℕ) (rec : NodeRec) (recs : List NodeRec) → end_
 rest-end pid k rec [] plain = sym plain
 rest-end pid k rec (x ∷ xs) plain = grind (arith, kind pid k x, rest-end pid k x xs)
 
+-- a turn that a log begins ends as its last record says
 indexed-ends : (log : List NodeRec) (pid : Text) (k from to : ℕ) → IsIndexed log pid k from to → turn_end pid k (between log (suc from) to) ≡ end_by pid k (slice_get log (to - 1))
 indexed-ends log pid k from to is =
     let rest = rest_of_turn pid (drop (suc from) log) in
@@ -42,6 +44,7 @@ indexed-ends log pid k from to is =
 
 -- ---- how turns may end
 
+-- where the test of an end passes, the turn may end so
 may-true : (c : Cluster) (t : Turn) (later : List Turn) (o : Option End) → may_end (is_empty later) (nat_eq t.to (length (node_log c t.node))) o ≡ true → (e : End) × (o ≡ Some e) × MayEnd c t later e
 may-true c t later None e = absurd (false≢true e)
 may-true c t later (Some ByBreak) e = (ByBreak, refl, tt)
@@ -49,11 +52,13 @@ may-true c t [] (Some ByGone) e = (ByGone, refl, refl)
 may-true c t [] (Some ByLog) e = (ByLog, refl, (refl, eqb-true t.to (length (node_log c t.node)) e))
 may-true c t (u ∷ us) (Some _) e = absurd (false≢true e)
 
+-- where a turn may end so, the test of its end passes
 true-may : (c : Cluster) (t : Turn) (later : List Turn) (e : End) → MayEnd c t later e → may_end (is_empty later) (nat_eq t.to (length (node_log c t.node))) (Some e) ≡ true
 true-may c t later ByBreak may = refl
 true-may c t later ByGone may = ap is_empty may
 true-may c t later ByLog may = and_from _ _ (ap is_empty may.0) (eq-eqb t.to (length (node_log c t.node)) may.1)
 
+-- a record that begins turn k is the one that begins it, where its names are the session's
 begun-beginning : (who : Who) (k : ℕ) (rec : NodeRec) → begins_turn who.pid k rec ≡ true → (k ≡ 0 → names_opened (Some rec) ≡ Some (who.sid, who.nsp)) → rec ≡ beginning who k
 begun-beginning who zero (Opened other sid nsp) e opened =
     ap (λ p. Opened p sid nsp) (same_text other who.pid e) ∙ ap (λ (o : Text × Text). Opened who.pid o.0 o.1) (same_Some (sid, nsp) (who.sid, who.nsp) (opened refl))

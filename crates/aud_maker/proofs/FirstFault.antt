@@ -33,11 +33,13 @@ is_opened c pid = elim (begun c pid 0) as (λ _. Says c pid (turn_begun c (own_p
 
 -- ---- whether the nodes are ordered
 
+-- a chain with a turn whose node isn't in order makes the fault hold
 pub unordered : (c : Cluster) (who : Who) (pid : Text) (turns : List Turn) → who.pid ≡ pid → IsChain c who turns → list_all (is_turn_ordered c) turns ≡ false → HasUnordered c pid
 unordered c who pid turns same chain e =
     let (t, among, fails) = one_fails (is_turn_ordered c) turns e in
     record { who = who; turns = turns; names = same; chain = chain; turn = t; among = among; unordered = fails }
 
+-- a chain on nodes that are in order makes the fault fail, as a session has one chain
 pub not_unordered : (c : Cluster) (who : Who) (pid : Text) (turns : List Turn) → who.pid ≡ pid → IsChain c who turns → list_all (is_turn_ordered c) turns ≡ true → HasUnordered c pid → ⊥
 not_unordered c who pid turns same chain e u =
     let all : list_all (is_turn_ordered c) u.turns ≡ true = ap (list_all (is_turn_ordered c)) (one_chain c who u.who turns u.turns (u.names ∙ sym same) chain u.chain) ∙ e in

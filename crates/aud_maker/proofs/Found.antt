@@ -16,6 +16,7 @@ use Rattle.aud_maker.proofs.BegunLemmas.{chain-same}
 use Rattle.aud_maker.proofs.EndedLemmas.{ended-turns, turns-ended, opening-names}
 use Rattle.aud_maker.proofs.SweptLemmas.{swept-covers, covers-swept}
 
+-- turns that open a session are not none
 some_turns : (c : Cluster) (turns : List Turn) (o : Text × Text) → opening_of c turns ≡ Some o → 0 < length turns
 some_turns c [] o e = absurd (none-some o e)
 some_turns c (t ∷ later) o e = omega arith

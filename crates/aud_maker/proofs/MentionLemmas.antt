@@ -19,6 +19,7 @@ pub mention-new : {Y : Type 0} (keys new : List (String Y)) (owned : String Y) (
     → new ≡ insert_key string_eq keys owned → map string_bytes new ≡ with_mention (map string_bytes keys) pid
 mention-new keys new owned pid is unknown inserted = grind (arith, any-map (bytes_eq pid) string_bytes keys, map-append string_bytes keys (owned ∷ []))
 
+-- mentions of some texts, and then of others, are those of both in order
 pub with_mentions-append : (pids xs ys : List Text) → with_mentions pids (xs ++ ys) ≡ with_mentions (with_mentions pids xs) ys
 with_mentions-append pids [] ys = refl
 with_mentions-append pids (x ∷ xs) ys = with_mentions-append (with_mention pids x) xs ys

@@ -35,11 +35,14 @@ module _ (c : Cluster) (once : AreNamedOnce c.taps) where
       ap (λ (place : ℕ). (let there : Turn = record { node = place; from = t.from; to = t.to } in there ∷ map (turn_at c) (map (turn_seen c) turns))) same
       ∙ ap (λ (ts : List Turn). t ∷ ts) (there-all who (suc k) turns are.1)
 
+-- a made certificate has the records of the logs that it was made of
 pub over : (c : Cluster) (pid : Text) (cert : CertificateSeen) → AreNamedOnce c.taps → IsMade c pid cert → IsOver c cert
 over c pid cert once made = All-same (IsTurnOver c) cert.turns (map (turn_seen c) made.turns) made.is.turns_are (over-all c once made.who 0 made.turns made.chain.are_turns)
 
+-- the turns of a made certificate stand in the logs where the session's turns stand
 pub turns-there : (c : Cluster) (pid : Text) (cert : CertificateSeen) → AreNamedOnce c.taps → (made : IsMade c pid cert) → map (turn_at c) cert.turns ≡ made.turns
 turns-there c pid cert once made = ap (map (turn_at c)) made.is.turns_are ∙ there-all c once made.who 0 made.turns made.chain.are_turns
 
+-- a made certificate has a turn
 pub some-turns : (c : Cluster) (pid : Text) (cert : CertificateSeen) → IsMade c pid cert → 0 < length cert.turns
 some-turns c pid cert made = grind (arith, made.is.turns_are, made.chain.some, length-map made.turns (turn_seen c))

@@ -25,16 +25,19 @@ use Rattle.aud_maker.proofs.BegunLemmas.{named, unnamed, own_number, own_place}
 abbrev IsAmong : List Turn → ℕ → Option Turn → Type 0
 IsAmong turns node current = (number : ℕ) → is_in_turn node number current ≡ true → StandsIn node number turns
 
+-- what stands in one of the turns stands in the turns
 in-one : (turns : List Turn) (node j : ℕ) → IsAmong turns node (slice_get turns j)
 in-one [] node j number e = absurd (false≢true e)
 in-one (t ∷ turns) node zero number e = grind arith
 in-one (t ∷ turns) node (suc j) number e = inr (in-one turns node j number e)
 
+-- after a record the turn that goes on is still one of the turns
 among-past : (turns : List Turn) (node : ℕ) (o : Option NodeRec) (current : Option Turn) → IsAmong turns node current → IsAmong turns node (turn_past turns o current)
 among-past turns node None current is = is
 among-past turns node (Some rec) current is =
     elim (number_begun rec) as (λ n. IsAmong turns node (turn_or turns n current)) [ None ↦ is | Some k ↦ in-one turns node k ]
 
+-- where the sweep passes a node's records, all of them stand in the turns
 in-all : (log : List NodeRec) (turns : List Turn) (node : ℕ) (ns : List ℕ) (current : Option Turn) → IsAmong turns node current → are_in_turns log turns node ns current ≡ true → (n : ℕ) → Contains ns n → StandsIn node n turns
 in-all log turns node [] current is all n here = absurd (contains-none n here)
 in-all log turns node (x ∷ ns) current is all n here =
@@ -60,6 +63,7 @@ begun-begins pid (Back other zero) k own e = absurd (none-some k e)
 begun-begins pid (Back other (suc n)) k own e = subst (λ m. begins_turn pid m (Back other (suc n)) ≡ true) (same_Some (suc n) k e) (and_from _ _ own (eq-eqb (suc n) (suc n) refl))
 begun-begins pid _ k own e = absurd (none-some k e)
 
+-- the record that begins turn k has the number k
 begun-some : (who : Who) (k : ℕ) → number_begun (beginning who k) ≡ Some k
 begun-some who zero = refl
 begun-some who (suc k) = refl

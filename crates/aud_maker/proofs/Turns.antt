@@ -14,21 +14,25 @@ use Rattle.aud_maker.specs.Private.Ended.{end_by}
 
 -- ---- records that begin a turn
 
+-- a record that begins a turn of the session names it
 pub begins-names : (pid : Text) (k : ℕ) (rec : NodeRec) → begins_turn pid k rec ≡ true → pid_of rec ≡ Some pid
 begins-names pid zero (Opened other sid nsp) e = ap Some (same_text other pid e)
 begins-names pid (suc k) (Back other number) e = ap Some (same_text other pid (and_parts _ _ e).0)
 begins-names pid k _ e = absurd (false≢true e)
 
+-- the record that begins turn n begins no other
 begins-same : (who : Who) (k n : ℕ) → begins_turn who.pid k (beginning who n) ≡ true → k ≡ n
 begins-same who zero zero e = refl
 begins-same who zero (suc n) e = absurd (false≢true e)
 begins-same who (suc k) zero e = absurd (false≢true e)
 begins-same who (suc k) (suc n) e = sym (eqb-true (suc n) (suc k) (and_parts _ _ e).1)
 
+-- the record that begins turn k begins it
 pub beginning-begins : (who : Who) (k : ℕ) → begins_turn who.pid k (beginning who k) ≡ true
 beginning-begins who zero = itself_text who.pid
 beginning-begins who (suc k) = and_from _ _ (itself_text who.pid) (eq-eqb (suc k) (suc k) refl)
 
+-- a record that begins turn k begins some turn
 begins-some : (pid : Text) (k : ℕ) (rec : NodeRec) → begins_turn pid k rec ≡ true → begins_any_turn pid rec ≡ true
 begins-some pid zero (Opened other sid nsp) e = e
 begins-some pid (suc k) (Back other number) e = (and_parts _ _ e).0
@@ -43,10 +47,12 @@ Kind begins ends part by =
     ⊎ (((begins ≡ true) × (part ≡ Foreign))
     ⊎ ((begins ≡ false) × (ends ≡ true) × ((recs : List NodeRec) (rest : Option End) (e : End) → end_past part recs rest ≡ Some e → recs ≡ []) × (end_past part [] (Some ByLog) ≡ by)))
 
+-- a record that ends a turn is its last one
 alone : (last : End) (recs : List NodeRec) (rest : Option End) (e : End) → end_past (Last last) recs rest ≡ Some e → recs ≡ []
 alone last [] rest e is = refl
 alone last (rec ∷ recs) rest e is = absurd (none-some e is)
 
+-- each record after a turn's first stands inside it, begins another turn, or ends this one
 pub kind : (pid : Text) (k : ℕ) (rec : NodeRec) → Kind (begins_any_turn pid rec) (ends_any_turn pid rec) (part_of pid k rec) (end_by pid k (Some rec))
 kind pid k (Opened other sid nsp) = elim (bytes_eq other pid) as (λ own. Kind own false (cond own Foreign Inner) (Some ByLog)) [ true ↦ inr (inl (refl, refl)) | false ↦ inl (refl, refl, refl, refl) ]
 kind pid k (Back other number) = elim (bytes_eq other pid) as (λ own. Kind own false (cond own Foreign Inner) (Some ByLog)) [ true ↦ inr (inl (refl, refl)) | false ↦ inl (refl, refl, refl, refl) ]
@@ -74,6 +80,7 @@ rest-begins pid [] j rec at h begins = none-some rec at
 rest-begins pid (x ∷ xs) zero rec at h begins = grind arith
 rest-begins pid (x ∷ xs) (suc j) rec at h begins = grind (arith, rest-begins pid xs j rec at)
 
+-- a turn that nothing ends goes on to the end of its node's log
 by_log : (c : Cluster) (t : Turn) (later : List Turn) (e : End) → MayEnd c t later e → e ≡ ByLog → t.to ≡ length (node_log c t.node)
 by_log c t later ByBreak may is = cc
 by_log c t later ByGone may is = cc
@@ -108,6 +115,7 @@ turn_there c who k (x ∷ later) (suc j) t are at =
     let (rest, is) = turn_there c who (suc k) later j t are.1 at in
     (rest, subst (λ n. IsTurn c who n t rest) next is)
 
+-- the turn at a place of the list is the turn of that number
 pub first_there : (c : Cluster) (who : Who) (turns : List Turn) (j : ℕ) (t : Turn) → AreTurns c who 0 turns → slice_get turns j ≡ Some t → (later : List Turn) × IsTurn c who j t later
 first_there c who turns j t are at =
     let same : 0 + j ≡ j = omega arith in

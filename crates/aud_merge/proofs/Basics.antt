@@ -39,6 +39,7 @@ module _ {A B : Type 0} where
   map_parts f None y e = absurd (none-some y e)
   map_parts f (Some x) y e = (x, refl, same_Some (f x) y e)
 
+-- what a test let through: the test holds, and it was there before
 pub cond_parts : {A : Type 0} (b : Bool) (o : Option A) (y : A) → cond b o None ≡ Some y → (b ≡ true) × (o ≡ Some y)
 cond_parts true o y e = (refl, e)
 cond_parts false o y e = absurd (none-some y e)

@@ -116,6 +116,7 @@ module _ (c : Cluster) (who : Who) (last : ℕ) (p : ℕ) where
             (shifted s steps (first_index (is_reached who.pid p) (states_from c next steps)) (step_left c went.spot p) (falls steps next went.spot went.holds later synced' settled' e))
       ])
 
+-- a first state that passes is the one that is found
 find-first : (c : Cluster) (test : State → Bool) (st : State) (steps : List Step) → test st ≡ true → find test (states_from c st steps) ≡ Some st
 find-first c test st [] e = ap (λ b. cond b (Some st) None) e
 find-first c test st (s ∷ steps) e = ap (λ b. cond b (Some st) (find test (states_from c (unwrap_or (after c st s) st) steps))) e
@@ -142,6 +143,7 @@ born_from c who held t later (s ∷ steps) st o runs synced =
           ∙ ap Some (synced' s.log ∙ ap (cursor_at c.stream (node_log c s.log)) (step.now ∙ ap suc same_index) ∙ ap (λ n. cursor_at c.stream (node_log c n) (suc t.from)) same_log)
     ])
 
+-- at the start no turn has begun
 Unstarted-start : (c : Cluster) (turns : List Turn) → Unstarted (start c) turns
 Unstarted-start c [] = tt
 Unstarted-start c (t ∷ later) = (let none = taken-start c t.node in omega (arith, none), Unstarted-start c later)
@@ -169,6 +171,7 @@ for_rooms : (who : Who) (at : Option StreamRec) (session : Option SessionState) 
 for_rooms who at session None none = ap (is_for_session at) none
 for_rooms who at session (Some held) here = ap (is_for_session at) here.2
 
+-- an entry is for the session when it reaches the position where it is for the rooms that the turns give
 for_given : (c : Cluster) (run : List Step) (who : Who) (turns : List Turn) → IsRun c run → AreTurns c who 0 turns
     → (p : ℕ) → Settled c who (length turns) (rooms_of_turns c who turns p)
     → is_for_session (entry c.stream p) (session_at_reach c run who.pid p) ≡ is_for_rooms (entry c.stream p) who.nsp (rooms_of_turns c who turns p)

@@ -29,13 +29,16 @@ use Rattle.aud_merge.proofs.Steps.{Stepped, stepped, appended-grows, Named, next
 use Rattle.aud_merge.proofs.Records.{IsBeyond, here-node, ended-after, waiting-after}
 use Rattle.aud_merge.proofs.Phases.{never_again}
 
+-- the sessions by pid
 abbrev pub Sessions : Type 0
 Sessions = fin.FinMap (slice_cmp nat_cmp) SessionState
 
+-- the sessions after a step, which changes one of them or none
 abbrev pub put_in : Option (Text × SessionState) → Sessions → Sessions
 put_in None m = m
 put_in (Some x) m = fin.insert m x.0 x.1
 
+-- the session that a step changes is the same in both
 abbrev pub SameAt : Option (Text × SessionState) → Sessions → Sessions → Type 0
 SameAt None m u = Unit {0}
 SameAt (Some x) m u = fin.get u x.0 ≡ fin.get m x.0
@@ -44,6 +47,7 @@ SameAt (Some x) m u = fin.get u x.0 ≡ fin.get m x.0
 abbrev pub done_to : State → ℕ → Progress → Option (Text × SessionState) → State
 done_to u l p put = record { logs = set u.logs l p; sessions = put_in put u.sessions }
 
+-- the session that a step changes is named by the step's record
 abbrev pub NamedPut : Cluster → State → State → ℕ → ℕ → Option (Text × SessionState) → Type 0
 NamedPut c st st' l i None = Unit {0}
 NamedPut c st st' l i (Some x) = Named c st st' l i x.0
@@ -56,9 +60,11 @@ pub record Does (c : Cluster) (st st' : State) (s : Step) : Type 0 where
   pub named : NamedPut c st st' s.log s.index put
   again : (u : State) → slice_get u.logs s.log ≡ slice_get st.logs s.log → appended c st ≤ appended c u → SameAt put st.sessions u.sessions → after c u s ≡ Some (done_to u s.log p put)
 
+-- with more entries appended, a `take` that was allowed still is, and leaves the same cursor
 taken-more : (a b : ℕ) (stream : List StreamRec) (off : Text) (cursor next : ℕ) → a ≤ b → position_if_next (position (take a stream) off) cursor ≡ Some next → position_if_next (position (take b stream) off) cursor ≡ Some next
 taken-more a b stream off cursor next h e = grind (arith, next_position-at (position (take a stream) off) cursor next e, position-more a b stream off (suc cursor) h)
 
+-- with more entries appended, any record that was allowed still is, and leaves the same cursor
 cursor_after-more : (a b : ℕ) (stream : List StreamRec) (i : ℕ) (rec : NodeRec) (cursor next : ℕ) → a ≤ b → allowed_cursor (take a stream) i rec cursor ≡ Some next → allowed_cursor (take b stream) i rec cursor ≡ Some next
 cursor_after-more a b stream zero (Start None) cursor next h e = e
 cursor_after-more a b stream zero (Start (Some off)) cursor next h e = position-more a b stream off next h e
@@ -75,6 +81,7 @@ record Puts (l : ℕ) (rec : NodeRec) (named : Option Text) (m m' : Sessions) : 
   again : (u : Sessions) → SameAt put m u → sessions_after l rec named u ≡ Some (put_in put u)
   names : option_map (λ (x : Text × SessionState). x.0) put ≡ named
 
+-- an allowed record changes one session or none, and does so wherever that session is the same
 puts : (l : ℕ) (rec : NodeRec) (named : Option Text) (m m' : Sessions) → sessions_after l rec named m ≡ Some m' → Puts l rec named m m'
 puts l rec None m m' e = record { put = None; is = sym (same_Some m m' e); again = λ u _. refl; names = refl }
 puts l rec (Some pid) m m' e =
@@ -92,9 +99,11 @@ named_put : (c : Cluster) (st st' : State) (l i : ℕ) (rec : NodeRec) → Stepp
 named_put c st st' l i rec step at None names = tt
 named_put c st st' l i rec step at (Some x) names = elim (moved c st st' l i x.0 step.kind) as (λ _. Named c st st' l i x.0) [ inl named ↦ named | inr quiet ↦ absurd (quiet.other rec at (sym names)) ]
 
+-- a step on a log of which as many records were taken does that log's next record
 after-at : (c : Cluster) (u : State) (s : Step) (done : Progress) (log : Records) → slice_get u.logs s.log ≡ Some done → done.taken ≡ s.index → log_at c s.log ≡ Some log → after c u s ≡ after_next c u s.log done log
 after-at c u s done log at was is = grind (arith, eq-eqb done.taken s.index was, is)
 
+-- an allowed step of a log does the same in any later state in which its log and session are the same
 does_log : (c : Cluster) (st st' : State) (s : Step) (done : Progress) (log : Records) → Stepped c st st' s.log s.index → slice_get st.logs s.log ≡ Some done → done.taken ≡ s.index → log_at c s.log ≡ Some log → after_next c st s.log done log ≡ Some st' → Does c st st' s
 does_log c st st' s done (Client recs) step at was log e = absurd (none-some st' e)
 does_log c st st' s done (Stream recs) step at was log e =
@@ -123,6 +132,7 @@ does_log c st st' s done (Node recs) step at was log e =
           ∙ ap (option_map (λ (sessions : Sessions). record { logs = set u.logs s.log (record { taken = suc done.taken; cursor = cursor }); sessions = sessions })) (ps.again u.sessions at_session);
     }
 
+-- an allowed step does the same in any later state in which its log and session are the same
 pub does : (c : Cluster) (st st' : State) (s : Step) → after c st s ≡ Some st' → Does c st st' s
 does c st st' s e =
     let (done, at, rest) = and_then_parts _ (slice_get st.logs s.log) st' e in
@@ -130,6 +140,7 @@ does c st st' s e =
     let (log, is, became) = and_then_parts (after_next c st s.log done) (log_at c s.log) st' next in
     does_log c st st' s done log (stepped c st st' s e) at (eqb-true _ _ was) is became
 
+-- two different sessions can be put in in either order
 insert_comm : (m : Sessions) (x y : Text × SessionState) → (x.0 ≡ y.0 → ⊥) → fin.insert (fin.insert m x.0 x.1) y.0 y.1 ≡ fin.insert (fin.insert m y.0 y.1) x.0 x.1
 insert_comm m x y n = fin.same_map nat_list_cmp_total (fin.slice_cmp-IsAntisymmetric fin.nat_cmp-IsAntisymmetric) _ _ (λ q. simp get_insert (swap (bytes_eq q x.0) (bytes_eq q y.0) (λ a b. n (sym (same_text q x.0 a) ∙ same_text q y.0 b)) x.1 y.1 (fin.get m q)))
   where
@@ -144,15 +155,18 @@ Apart None y = Unit {0}
 Apart (Some x) None = Unit {0}
 Apart (Some x) (Some y) = x.0 ≡ y.0 → ⊥
 
+-- the changes of two steps of different sessions can be made in either order
 put_comm : (m : Sessions) (x y : Option (Text × SessionState)) → Apart x y → put_in y (put_in x m) ≡ put_in x (put_in y m)
 put_comm m (Some x) (Some y) apart = insert_comm m x y apart
 put_comm m _ _ apart = refl
 
+-- a change of another session leaves this one
 same_after : (m : Sessions) (x y : Option (Text × SessionState)) → Apart x y → SameAt x m (put_in y m)
 same_after m None y apart = tt
 same_after m (Some x) None apart = refl
 same_after m (Some x) (Some y) apart = get_insert_other m y.0 y.1 x.0 apart
 
+-- where one step's session differs from another's, the other's differs from it
 apart_turned : (x y : Option (Text × SessionState)) → Apart x y → Apart y x
 apart_turned None None apart = tt
 apart_turned None (Some y) apart = tt
@@ -191,6 +205,7 @@ both_begin pid l m one other (Away turn sid nsp rooms) s1 s2 n names names' e e'
     record { k = suc turn; one_begins = waiting-after l who (suc turn) rooms one s1 names e; other_begins = waiting-after m who (suc turn) rooms other s2 names' e' }
 both_begin pid l m one other Ended s1 s2 n names names' e e' = absurd (ended-after l one s1 e)
 
+-- a record that begins turn k leaves the session in that turn
 begins-beyond : (l : ℕ) (pid : Text) (k : ℕ) (rec : NodeRec) (s s' : SessionState) → begins_turn pid k rec ≡ true → session_after l rec s ≡ Some s' → IsBeyond k s'
 begins-beyond l pid zero (Opened other sid nsp) Absent s' begins e = subst (IsBeyond 0) (same_Some _ _ e) (omega arith)
 begins-beyond l pid (suc k) (Back other number) (Away turn sid nsp rooms) s' begins e =
@@ -254,6 +269,7 @@ goes_on : (c : Cluster) (steps : List Step) (st : State) → AreAllowed c st ste
 goes_on c [] st allowed run runs = (run, runs)
 goes_on c (s ∷ steps) st allowed run runs = grind (arith, goes_on c steps, exchange c run st runs s)
 
+-- where no log's next record is allowed and some log has more, nothing is the rest of a run
 no_first : (c : Cluster) (st : State) (l : ℕ) → taken_of st l < record_count c l → ((place : ℕ) → after c st (front st place) ≡ None) → (rest : List Step) → RunsOn c st rest → ⊥
 no_first c st l more blocked [] finished = let all = finished l in omega (arith, all, more)
 no_first c st l more blocked (s ∷ rest) runs = grind (arith, stepped c st)

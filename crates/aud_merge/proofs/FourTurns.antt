@@ -12,15 +12,18 @@ use Rattle.aud_rooms.specs.TurnsDue.{rooms_for}
 use Rattle.aud_merge.specs.ByTurns.{reaching_step}
 use Rattle.aud_merge.specs.Recovery.{tap}
 
+-- the session's pid
 abbrev P : Text
 P = 80 ∷ []
 
 abbrev sid : Text
 sid = 1 ∷ []
 
+-- the room that it joins in turn 0 and leaves in turn 3
 abbrev room : Text
 room = 2 ∷ []
 
+-- the stream and the two nodes
 abbrev row : Cluster
 row =
     cluster_of
@@ -28,12 +31,15 @@ row =
     ∷ tap [] (Node (Start None ∷ Opened P sid [] ∷ Join P room ∷ Take (10 ∷ []) ∷ Broke P 0 ∷ Take (20 ∷ []) ∷ Take (30 ∷ []) ∷ Back P 2 ∷ Broke P 2 ∷ Take (40 ∷ []) ∷ []))
     ∷ tap [] (Node (Start None ∷ Take (10 ∷ []) ∷ Take (20 ∷ []) ∷ Back P 1 ∷ Broke P 1 ∷ Take (30 ∷ []) ∷ Take (40 ∷ []) ∷ Back P 3 ∷ Leave P room ∷ [])) ∷ [])
 
+-- the session, as its `open` names it
 abbrev who : Who
 who = record { pid = P; sid = sid; nsp = [] }
 
+-- four turns, on the first node, the second, the first and the second
 abbrev turns : List Turn
 turns = record { node = 1; from = 1; to = 5 } ∷ record { node = 2; from = 3; to = 5 } ∷ record { node = 1; from = 7; to = 9 } ∷ record { node = 2; from = 7; to = 9 } ∷ []
 
+-- the four turns are turns of the session
 are : AreTurns row who 0 turns
 are = (
   record { within = omega arith; some = omega arith; begins = refl; end = ByBreak; ends = refl; may_end = tt },

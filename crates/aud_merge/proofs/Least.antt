@@ -15,6 +15,7 @@ index_is_later true o t e = (let no = same_Some 0 (suc t) e in absurd (omega (ar
 index_is_later false None t e = absurd (none-some (suc t) e)
 index_is_later false (Some u) t e = (let is = same_Some (suc u) (suc t) e in (refl, ap Some (omega (arith, is))))
 
+-- the first index is that of an element that passes, and none before it does
 pub first_index-IsLeast : {X : Type 0} (test : X → Bool) (xs : List X) (t : ℕ) → first_index test xs ≡ Some t → IsLeast test xs t
 first_index-IsLeast test [] t e = absurd (none-some t e)
 first_index-IsLeast test (x ∷ xs) zero e = record { element = x; stands = refl; passes = index_is_first (test x) (first_index test xs) e; before = λ u y h at. absurd (omega arith) }

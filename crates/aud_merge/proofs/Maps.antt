@@ -13,9 +13,11 @@ use Rattle.aud_merge.specs.declared.session.OpenedSession.{OpenedSession}
 use Rattle.aud_merge.specs.SessionSeen.{session_seen, seen_or_absent}
 use Rattle.aud_merge.specs.Private.SessionsSeen.{sessions_seen}
 
+-- the sessions by pid, as the machine has them
 abbrev Sessions : Type 0
 Sessions = fin.FinMap (slice_cmp nat_cmp) seen.SessionState
 
+-- a session looked up in what is seen is the entry of that pid
 pub get-sessions_of : (entries : List ((Bor (List ℕ)) × OpenedSession)) (pid : List ℕ) → fin.get (sessions_seen entries) pid ≡ option_map session_seen (lookup (λ k. is_eq (slice_cmp nat_cmp pid k.now)) entries)
 get-sessions_of entries pid = fin.get-from_entries nat_list_cmp_total (map (λ e. (e.0.now, session_seen e.1)) entries) pid ∙ same entries
   where
@@ -23,12 +25,14 @@ get-sessions_of entries pid = fin.get-from_entries nat_list_cmp_total (map (λ e
     same [] = refl
     same (e ∷ es) = grind (arith, same es)
 
+-- a session that isn't in the map was never opened
 pub or_absent : (o : Option OpenedSession) → seen_or_absent o ≡ unwrap_or (option_map session_seen o) seen.Absent
 or_absent None = refl
 or_absent (Some s) = refl
 
 pub ruleset seen_sessions = (get-sessions_of, or_absent)
 
+-- where each look-up finds the new session or what it found before, the session was put in
 pub sessions_of-insert : (olds news : List ((Bor (List ℕ)) × OpenedSession)) (pid : List ℕ) (s : OpenedSession)
     → ((q : Bor (List ℕ)) → lookup (λ k. is_eq (slice_cmp nat_cmp q.now k.now)) news ≡ cond (is_eq (slice_cmp nat_cmp pid q.now)) (Some s) (lookup (λ k. is_eq (slice_cmp nat_cmp q.now k.now)) olds))
     → sessions_seen news ≡ fin.insert (sessions_seen olds) pid (session_seen s)

@@ -12,6 +12,7 @@ use Rattle.aud_merge.specs.Runs.{record_count, AreAllowed, IsRun}
 use Rattle.aud_merge.specs.Private.RunsOn.{IsFinished, RunsOn}
 use Rattle.aud_merge.proofs.Steps.{Stepped, stepped, steps_of, taken-start, RunsOn-run}
 
+-- the steps of the rest of a run are allowed
 allowed_on : (c : Cluster) (st : State) (steps : List Step) → RunsOn c st steps → AreAllowed c st steps
 allowed_on c st [] runs = tt
 allowed_on c st (s ∷ steps) runs =
@@ -36,6 +37,7 @@ left_of c l (s ∷ steps) st rest runs all =
     go next moved (inl e) (suc rest) all ih = grind (arith, eq-eqb s.log l e, ih rest)
     go next moved (inr n) rest all ih = grind (arith, ne_eqb s.log l n, ih rest)
 
+-- steps that are the rest of a run from the start on are a run
 pub run-RunsOn : (c : Cluster) (run : List Step) → RunsOn c (start c) run → IsRun c run
 run-RunsOn c run runs =
     record {
@@ -63,6 +65,7 @@ run-goes_on c steps run st next i d told inside at = (
     cut : drop i steps ≡ get_or steps i d ∷ drop (i + 1) steps
     cut = drop-cons steps i d inside ∙ ap (λ n. get_or steps i d ∷ drop n steps) one
 
+-- after the last step, the list is a run where every log is finished
 pub run-is_over : (c : Cluster) (steps run : List Step) (st : State) (i : ℕ) (finished : Bool) → IsRun c run ↔ RunsOn c st (drop i steps) → length steps ≤ i
     → finished ≡ true ↔ IsFinished c st → finished ≡ true ↔ IsRun c run
 run-is_over c steps run st i finished told past over = grind (arith, drop_all i steps past)

@@ -23,6 +23,7 @@ use Rattle.aud_merge.specs.Sessions.{Here, Ended, session_after}
 use Rattle.aud_merge.proofs.Steps.{EntryStep, RecordStep, Stepped, stepped, Named, Quiet, moved, Synced, Synced-step, reaches-takes-after}
 use Rattle.aud_merge.proofs.Records.{IsBeyond, IsBeyond-after, beginning-allowed, here-node, beginning-here, ended-after, past-named, past-other, past-inner, past-last, ended, waiting, waiting-after, begun-beyond}
 
+-- a node's log has no more records than steps
 pub length-count : (c : Cluster) (l : ℕ) → length (node_log c l) ≤ record_count c l
 length-count c l = grind arith
 
@@ -91,6 +92,7 @@ pub data Spot : Type 0 where
   -- there is a turn after those that are known
   Beyond : Spot
 
+-- some log has a record that begins turn k of the session
 pub record HasTurn (c : Cluster) (pid : Text) (k : ℕ) : Type 0 where
   pub node : ℕ
   pub at : ℕ

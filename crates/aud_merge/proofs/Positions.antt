@@ -6,18 +6,22 @@ use Rattle.std.proofs.lemmas.Option.{none-some, cond_some}
 use Rattle.aud_tap.specs.declared.records.StreamRec.{StreamRec}
 use Rattle.aud_node.specs.Stream.{Text, position}
 
+-- a position, where it is no more than this number
 abbrev pub up_to : ℕ → Option ℕ → Option ℕ
 up_to a None = None
 up_to a (Some p) = cond (nat_le p a) (Some p) None
 
+-- no position is 0, so up to 0 there is none
 up_to-zero : (o : Option ℕ) → None ≡ up_to 0 (option_map suc o)
 up_to-zero None = refl
 up_to-zero (Some p) = sym (ap (λ b. cond b (Some (suc p)) None) (lt-leb (suc p) 0 (omega arith)))
 
+-- a position up to a number, and the next one up to the next number
 up_to-suc : (a : ℕ) (o : Option ℕ) → option_map suc (up_to a o) ≡ up_to (suc a) (option_map suc o)
 up_to-suc a None = refl
 up_to-suc a (Some p) = grind (arith, lt-leb p a, lt-leb (suc p) (suc a), le-leb p a, le-leb (suc p) (suc a))
 
+-- among the first entries an offset has its position in the whole stream, where that is among them
 pub position-taken : (a : ℕ) (stream : List StreamRec) (off : Text) → position (take a stream) off ≡ up_to a (position stream off)
 position-taken zero [] off = refl
 position-taken (suc a) [] off = refl

@@ -19,6 +19,7 @@ IsBeyond k (Here node turn sid nsp rooms) = k ≤ turn
 IsBeyond k (Away turn sid nsp rooms) = k ≤ turn
 IsBeyond k Ended = Unit {0}
 
+-- a session that has come to a turn doesn't go back before it
 pub IsBeyond-after : (l k : ℕ) (rec : NodeRec) (s s' : SessionState) → session_after l rec s ≡ Some s' → IsBeyond k s → IsBeyond k s'
 IsBeyond-after l k (Opened pid sid nsp) Absent s' e b = absurd b
 IsBeyond-after l k (Join pid room) (Here at turn sid nsp rooms) s' e b = subst (IsBeyond k) (cond_some (nat_eq at l) _ s' e).1 b
@@ -77,6 +78,7 @@ pub beginning-here : (l : ℕ) (who : Who) (n : ℕ) (at k : ℕ) (sid nsp : Tex
 beginning-here l who zero at k sid nsp held s' e = none-some s' e
 beginning-here l who (suc n) at k sid nsp held s' e = none-some s' e
 
+-- nothing is allowed of a session that is over
 pub ended-after : (l : ℕ) (rec : NodeRec) (s' : SessionState) → session_after l rec Ended ≡ Some s' → ⊥
 ended-after l (Start off) s' e = none-some s' e
 ended-after l _ s' e = none-some s' e

@@ -33,6 +33,7 @@ use Rattle.aud_merge.proofs.DueLaws.{reach-turns, chain-none, due-chain}
 
 -- ---- the run
 
+-- the run has all steps of each log, in order
 merges : IsMerging logs run
 merges zero = refl
 merges (suc zero) = refl
@@ -40,6 +41,7 @@ merges (suc (suc zero)) = refl
 merges (suc (suc (suc zero))) = refl
 merges (suc (suc (suc (suc place)))) = grind (arith, ne_eqb 0 (suc (suc (suc (suc place)))), ne_eqb 1 (suc (suc (suc (suc place)))), ne_eqb 2 (suc (suc (suc (suc place)))))
 
+-- the sessions by pid
 abbrev Sessions : Type 0
 Sessions = fin.FinMap (slice_cmp nat_cmp) SessionState
 
@@ -47,15 +49,19 @@ Sessions = fin.FinMap (slice_cmp nat_cmp) SessionState
 abbrev pub held : Rooms
 held = set.insert (own_room who.sid) (codes "r")
 
+-- the sessions after the `open`
 abbrev opened : Sessions
 opened = fin.insert fin.empty who.pid (Here 1 0 who.sid who.nsp (own_room who.sid))
 
+-- the sessions after the `join`
 abbrev joined : Sessions
 joined = fin.insert opened who.pid (Here 1 0 who.sid who.nsp held)
 
+-- the sessions after the break
 abbrev broken : Sessions
 broken = fin.insert joined who.pid (Away 0 who.sid who.nsp held)
 
+-- the sessions after the recovery
 abbrev returned : Sessions
 returned = fin.insert broken who.pid (Here 2 1 who.sid who.nsp held)
 
@@ -73,15 +79,19 @@ does : (node : ℕ) (rec : NodeRec) (old : Sessions) (was : Option SessionState)
     → option_map next (option_map (λ s. fin.insert old who.pid s) (session_after node rec (unwrap_or (fin.get old who.pid) Absent))) ≡ Some (next (fin.insert old who.pid session))
 does node rec old was session next is becomes = grind arith
 
+-- the `open` is allowed, and the session is on the first node
 opens : after logs (at 0 1 0 0 0 fin.empty) (step 1 1) ≡ Some (at 0 2 0 0 0 opened)
 opens = does 1 (Opened who.pid who.sid who.nsp) fin.empty None _ (at 0 2 0 0 0) (fin.get-empty (slice_cmp nat_cmp) who.pid) refl
 
+-- the `join` is allowed, and the session holds the room
 joins : after logs (at 0 2 0 0 0 opened) (step 1 2) ≡ Some (at 0 3 0 0 0 joined)
 joins = does 1 (Join who.pid (codes "r")) opened _ _ (at 0 3 0 0 0) (get_insert_same fin.empty who.pid _) refl
 
+-- the break is allowed, and the session waits to be recovered
 breaks : after logs (at 1 4 1 0 0 joined) (step 1 4) ≡ Some (at 1 5 1 0 0 broken)
 breaks = does 1 (Broke who.pid 0) joined _ _ (at 1 5 1 0 0) (get_insert_same opened who.pid _) refl
 
+-- the recovery on the second node is allowed, with the rooms from before the break
 recovers : after logs (at 2 5 1 3 2 broken) back ≡ Some (at 2 5 1 4 2 returned)
 recovers = does 2 (Back who.pid 1) broken _ _ (at 2 5 1 4 2) (get_insert_same joined who.pid _) refl
 
@@ -93,14 +103,17 @@ allowed_on = (
   (at 1 4 1 0 0 joined, refl, (at 1 5 1 0 0 broken, breaks, (at 1 5 1 1 0 broken, refl, (at 2 5 1 1 0 broken, refl, (at 2 5 1 2 1 broken, refl, (at 2 5 1 3 2 broken, refl, (at 2 5 1 4 2 returned, recovers, tt))))))),
 )
 
+-- all steps of the run are allowed, from the start on
 allowed : AreAllowed logs (start logs) run
 allowed = (at 0 1 0 0 0 fin.empty, refl, (at 0 2 0 0 0 opened, opens, (at 0 3 0 0 0 joined, joins, allowed_on)))
 
+-- the order shown is a run
 pub is_run : IsRun logs run
 is_run = record { merges = merges; allowed = allowed }
 
 -- ---- the turns
 
+-- the two turns stand in the logs
 are : AreTurns logs who 0 turns
 are = (
   record { within = omega arith; some = omega arith; begins = refl; end = ByBreak; ends = refl; may_end = tt },
@@ -123,15 +136,18 @@ covers (suc (suc zero)) (suc (suc (suc number))) rec at names = inr (inl (refl, 
 covers (suc (suc (suc zero))) number rec at names = absurd (none-some rec at)
 covers (suc (suc (suc (suc node)))) number rec at names = absurd (none-some rec at)
 
+-- the two turns are all of the session's
 pub chain : IsChain logs who turns
 chain = record { some = omega arith; are_turns = are; covers = covers }
 
 -- ---- what is due
 
+-- the first event is recoverable
 first_is_recoverable : is_recoverable (event (codes "1-0") (codes "2[\"hi\",\"1-0\"]")) ≡ true
 unfolding is_recoverable packet_of kind_at attachments_at leading_namespace ack_id_at payload_at last_of_payload serde_json_on_literals
 first_is_recoverable = refl
 
+-- the second event is recoverable
 second_is_recoverable : is_recoverable (event (codes "2-0") (codes "2[\"hi\",\"2-0\"]")) ≡ true
 unfolding is_recoverable packet_of kind_at attachments_at leading_namespace ack_id_at payload_at last_of_payload serde_json_on_literals
 second_is_recoverable = refl
@@ -140,12 +156,15 @@ second_is_recoverable = refl
 pub in_room : set.contains held (codes "r") ≡ true
 in_room = set.contains-insert nat_list_cmp_total (own_room who.sid) (codes "r") (codes "r")
 
+-- a recoverable event for the room is for the session
 is_for_it : (off text : Text) → is_recoverable (event off text) ≡ true → is_for (Some (event off text)) who.nsp held ≡ true
 is_for_it off text recoverable = rw (recoverable, in_room) refl
 
+-- by the turns both events are due
 pub due_by_turns : turns_due logs.stream who (map (slice_of logs) turns) ≡ 1 ∷ 2 ∷ []
 due_by_turns = grind (arith, is_for_it _ _ first_is_recoverable, first_is_recoverable, is_for_it _ _ second_is_recoverable, second_is_recoverable)
 
+-- in the run both events are due
 pub both_are_due : due logs run who.pid ≡ 1 ∷ 2 ∷ []
 both_are_due = due-chain logs run who turns is_run chain ∙ due_by_turns
 
@@ -157,5 +176,6 @@ first_is_live = reach-turns logs run who turns is_run are 1 (inr (chain-none log
 pub second_is_replayed : FallsAfter run (reach logs run who.pid 2) (Some back)
 second_is_replayed = reach-turns logs run who turns is_run are 2 (inr (chain-none logs who turns chain))
 
+-- what the client received is a front of what is due, here all of it
 pub received_is_front : IsPrefixOf received_positions (due logs run who.pid)
 received_is_front = ([], sym both_are_due)

@@ -78,6 +78,7 @@ spot_reached c (Within k t at held later) p = nat_le p (cursor_at c.stream (node
 spot_reached c Over p = false
 spot_reached c Beyond p = false
 
+-- a session that waits for a turn is on no node, and reaches nothing
 waiting-unreached : (who : Who) (st : State) (k : ℕ) (held : Rooms) (p : ℕ) → is_at_least (node_cursor st (waiting who k held)) p ≡ false
 waiting-unreached who st zero held p = refl
 waiting-unreached who st (suc k) held p = refl
@@ -86,6 +87,7 @@ waiting-unreached who st (suc k) held p = refl
 abbrev pub Settled : Cluster → Who → ℕ → Option Rooms → Type 0
 Settled c who last rooms = ((held : Rooms) × (rooms ≡ Some held)) ⊎ HasNoTurn c who.pid last
 
+-- the session reaches a position in a state where its place among its turns says so
 pub reached-spot : (c : Cluster) (who : Who) (last : ℕ) (p : ℕ) (st : State) (spot : Spot) → Holds c who last st spot → Synced c st → Settled c who last (rooms_left c who spot p)
     → is_reached who.pid p st ≡ spot_reached c spot p
 reached-spot c who last p st (Waiting k held rest) holds synced settled = ap (λ s. is_at_least (node_cursor st s) p) holds.1.session ∙ waiting-unreached who st k held p
@@ -130,12 +132,14 @@ left_of c t at later p =
     (option_map (λ number. record { log = t.node; index = number }) (first_reaching c.stream (node_log c t.node) p at (t.to - at)))
     (reaching_step c later p)
 
+-- the record by which what is left of the turns first reaches a position, wherever the session is
 abbrev pub step_left : Cluster → Spot → ℕ → Option Step
 step_left c (Waiting k held rest) p = reaching_step c rest p
 step_left c (Within k t at held later) p = left_of c t at later p
 step_left c Over p = None
 step_left c Beyond p = None
 
+-- that record is the next one where the cursor after it reaches the position, and else a later one
 left_of-more : (c : Cluster) (t : Turn) (at : ℕ) (later : List Turn) (p : ℕ) → at < t.to
     → left_of c t at later p ≡ cond (nat_le p (cursor_at c.stream (node_log c t.node) (suc at))) (Some (record { log = t.node; index = at })) (left_of c t (suc at) later p)
 left_of-more c t at later p h =
@@ -159,11 +163,13 @@ abbrev pub MovesStep : Cluster → ℕ → ℕ → Spot → Spot → ℕ → Typ
 MovesStep c l i a b p =
     (spot_reached c b p ≡ true → step_left c a p ≡ Some (record { log = l; index = i })) × (spot_reached c b p ≡ false → step_left c a p ≡ step_left c b p)
 
+-- so a record of the turn either is the one that reaches the position, or leaves that one as it was
 by_more : (c : Cluster) (t : Turn) (l i at : ℕ) (later : List Turn) (p : ℕ) → at < t.to → t.node ≡ l → i ≡ at
     → ((nat_le p (cursor_at c.stream (node_log c t.node) (suc at)) ≡ true → left_of c t at later p ≡ Some (record { log = l; index = i }))
     × (nat_le p (cursor_at c.stream (node_log c t.node) (suc at)) ≡ false → left_of c t at later p ≡ left_of c t (suc at) later p))
 by_more c t l i at later p h log index = grind (arith, left_of-more c t at later p h)
 
+-- the step that reaches the position is the one that the turns tell; any other leaves that one told
 pub Moves-step : (c : Cluster) (who : Who) (l i : ℕ) (a b : Spot) → Moves c who l i a b → (p : ℕ) → spot_reached c a p ≡ false → MovesStep c l i a b p
 Moves-step c who l i a b (begins k held t later same_log same_index turn) p before = by_more c t l i t.from later p turn.some (sym same_log) same_index
 Moves-step c who l i a b (elsewhere k t at held later) p before = (λ e. absurd (false≢true (sym before ∙ e)), λ _. refl)

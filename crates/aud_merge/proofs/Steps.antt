@@ -39,6 +39,7 @@ pub record RecordStep (c : Cluster) (st st' : State) (l i : ℕ) : Type 0 where
   pub cursor : allowed_cursor (take (appended c st) c.stream) i rec (cursor_of st l) ≡ Some (cursor_of st' l)
   pub sessions : sessions_after l rec (pid_of rec) st.sessions ≡ Some st'.sessions
 
+-- what an allowed step does: it takes its log's next record, and leaves the other logs
 pub record Stepped (c : Cluster) (st st' : State) (l i : ℕ) : Type 0 where
   pub was : taken_of st l ≡ i
   pub now : taken_of st' l ≡ suc i
@@ -60,6 +61,7 @@ stepped_to c st st' l i done log cursor at was is_log logs within kind =
       kind = kind (ap cursor_in at) (ap cursor_in here);
     }
 
+-- the next record of a log, where it is allowed, is taken, and the other logs stay
 stepped_log : (c : Cluster) (st st' : State) (l i : ℕ) (done : Progress) (log : Records)
     → slice_get st.logs l ≡ Some done → done.taken ≡ i → log_at c l ≡ Some log → after_next c st l done log ≡ Some st'
     → Stepped c st st' l i
@@ -82,6 +84,7 @@ stepped_log c st st' l i done (Node recs) at was log e =
       sessions = kept ∙ ap (λ (s : State). Some s.sessions) is;
     }))
 
+-- an allowed step takes its log's next record, and leaves the other logs
 pub stepped : (c : Cluster) (st st' : State) (s : Step) → after c st s ≡ Some st' → Stepped c st st' s.log s.index
 stepped c st st' s e =
     let (done, at, rest) = and_then_parts _ (slice_get st.logs s.log) st' e in

@@ -22,6 +22,7 @@ use Rattle.aud_merge.proofs.Records.{waiting, ended, past-inner, past-last, past
 use Rattle.aud_merge.proofs.Phases.{Unstarted, Spot, Waiting, Within, Over, Beyond, Holds, OnSlice, Moves, begins, goes, breaks, leaves, passes, stays_beyond, moves_on}
 use Rattle.aud_merge.proofs.DueLaws.{at_start, chain-none}
 
+-- records and then one more: the last is applied to what the others made
 after_records-push : (node : ℕ) (pid : Text) (s : SessionState) (xs : List NodeRec) (rec : NodeRec) → after_records node pid s (xs ++ rec ∷ []) ≡ session_past node pid (after_records node pid s xs) rec
 after_records-push node pid s [] rec = refl
 after_records-push node pid s (x ∷ xs) rec = after_records-push node pid (session_past node pid s x) xs rec
@@ -43,11 +44,13 @@ by_turns-whole c pid st s t later some taken =
     ap (λ b. cond b s (by_turns c pid st (after_records t.node pid s (between (node_log c t.node) t.from (min (taken_of st t.node) t.to))) later)) (lt-leb (taken_of st t.node) t.from (omega (arith, some, taken)))
     ∙ ap (λ n. by_turns c pid st (after_records t.node pid s (between (node_log c t.node) t.from n)) later) all
 
+-- turns of which nothing was taken leave the session as it is
 by_turns-unstarted : (c : Cluster) (pid : Text) (st : State) (s : SessionState) (rest : List Turn) → Unstarted st rest → by_turns c pid st s rest ≡ s
 by_turns-unstarted c pid st s [] none = refl
 by_turns-unstarted c pid st s (t ∷ rest) none =
     ap (λ b. cond b s (by_turns c pid st (after_records t.node pid s (between (node_log c t.node) t.from (min (taken_of st t.node) t.to))) rest)) (le-leb (taken_of st t.node) t.from none.0)
 
+-- the turns that aren't over: the one that the session is in, and the later ones
 abbrev ahead : Spot → List Turn
 ahead (Waiting k held rest) = rest
 ahead (Within k t at held later) = t ∷ later
@@ -116,6 +119,7 @@ module _ (c : Cluster) (who : Who) (last : ℕ) (turns : List Turn) (none : HasN
     Moves-kept a b stays_beyond before after kept = absurd kept.at
     Moves-kept a b _ before after kept = record { base = kept.base; same = λ u more. kept.same u (grows u more); at = kept.at }
 
+  -- in a state of a run the session is as the taken records of its turns make it
   told : (st : State) (spot : Spot) → Holds c who last st spot → Kept c who turns st spot → session_of st who.pid ≡ by_turns c who.pid st Absent turns
   told st spot holds kept = ahead_told spot holds kept.base kept.at ∙ sym (kept.same st (λ m. omega arith))
     where
@@ -132,6 +136,7 @@ module _ (c : Cluster) (who : Who) (last : ℕ) (turns : List Turn) (none : HasN
       ahead_told Over holds base at = holds ∙ sym at
       ahead_told Beyond holds base at = absurd at
 
+  -- so in each later state, step after step
   told_along : (steps : List Step) (st : State) (spot : Spot) → Holds c who last st spot → RunsOn c st steps → Synced c st → Kept c who turns st spot
       → (t : ℕ) (then : State) → slice_get (states_from c st steps) t ≡ Some then → session_of then who.pid ≡ by_turns c who.pid then Absent turns
   told_along [] st spot holds runs synced kept zero then at = subst (λ s. session_of s who.pid ≡ by_turns c who.pid s Absent turns) (same_Some st then at) (told st spot holds kept)

@@ -40,6 +40,7 @@ module _ (stream : List StreamRec) (log : List NodeRec) (i : ℕ) (rec : NodeRec
   pub is_in_order_at-here : is_in_order_at stream log i ≡ is_in_order stream i (cursor_at stream log i) rec
   is_in_order_at-here = ap (is_some_in_order stream i (cursor_at stream log i)) here
 
+-- a log is ordered where it isn't empty and each of its records is in order
 pub is_ordered-all : (stream : List StreamRec) (log : List NodeRec) → is_ordered stream log ≡ (not (length log == 0) && list_all (is_in_order_at stream log) (numbers_from 0 (length log)))
 is_ordered-all stream [] = refl
 is_ordered-all stream (first ∷ others) =

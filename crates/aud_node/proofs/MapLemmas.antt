@@ -13,6 +13,7 @@ pub get-updated : {X : Type 0} (old new : BTreeMap (Bor (List ℕ)) X) (key : Li
     → tree.get_by (λ k. slice_cmp nat_cmp text k.now) new ≡ cond (bytes_eq key text) w (tree.get_by (λ k. slice_cmp nat_cmp text k.now) old)
 get-updated old new key w updates text = btree_map_updates_str key old new w updates text
 
+-- what a changed map has for a text: the new value, or what it had
 pub unwrap_or-updated : {X : Type 0} (b : Bool) (v : X) (o : Option X) (d : X) → unwrap_or (cond b (Some v) o) d ≡ cond b v (unwrap_or o d)
 unwrap_or-updated true v o d = refl
 unwrap_or-updated false v o d = refl

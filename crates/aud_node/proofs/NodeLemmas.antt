@@ -7,9 +7,11 @@ use Rattle.aud_node.specs.Cluster.{cluster_of, stream_of}
 use Rattle.aud_node.specs.NodeTap.{NodeTap}
 use Rattle.aud_node.specs.NodeTaps.{node_tap, node_at}
 
+-- what is there, where it may be missing in two ways
 abbrev pub flat : {Y : Type 0} → Option (Option Y) → Option Y
 flat o = option_and_then (λ y. y) o
 
+-- a look-up of what may be missing in two ways is one look-up
 flat-map : {X Y : Type 0} (f : X → Option Y) (o : Option X) → flat (option_map f o) ≡ option_and_then f o
 flat-map f None = refl
 flat-map f (Some x) = refl

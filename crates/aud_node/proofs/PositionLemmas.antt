@@ -84,6 +84,7 @@ abbrev pub has_offset : Option StreamRec → Text → Bool
 has_offset None off = false
 has_offset (Some e) off = bytes_eq (offset_of e) off
 
+-- no offset has position 0
 positive : (stream : List StreamRec) (off : Text) → position stream off ≡ Some 0 → ⊥
 positive [] off h = cc
 positive (e ∷ es) off h = grind (arith, h)
@@ -94,6 +95,7 @@ there [] off i h = cc
 there (e ∷ es) off zero h = grind (arith, h, positive es off)
 there (e ∷ es) off (suc i) h = grind (arith, h, there es off i)
 
+-- an offset that has no such position isn't of it
 is_position-false : (o : Option ℕ) (p : ℕ) → (o ≡ Some p → ⊥) → is_position o p ≡ false
 is_position-false None p h = refl
 is_position-false (Some q) p h = false_from_ne_true (nat_eq q p) (λ e. h (ap Some (eqb-true q p e)))

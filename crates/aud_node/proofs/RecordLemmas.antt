@@ -40,6 +40,7 @@ next_cursor-rises stream (suc i) (Take off) cursor first = cond_both (is_positio
 next_cursor-rises stream zero _ cursor first = omega arith
 next_cursor-rises stream (suc i) _ cursor first = omega arith
 
+-- a record leaves the cursor no lower than it was
 cursor_at-next : (stream : List StreamRec) (log : List NodeRec) (i : ℕ) → cursor_at stream log i ≤ cursor_at stream log (suc i)
 cursor_at-next stream log i = go (slice_get log i)
   where
@@ -51,6 +52,7 @@ cursor_at-next stream log i = go (slice_get log i)
     go None = omega arith
     go (Some rec) = next_cursor-rises stream i rec (cursor_at stream log i) (start i)
 
+-- what doesn't fall from one number to the next doesn't fall at all
 rises : (f : ℕ → ℕ) → ((n : ℕ) → f n ≤ f (suc n)) → (i j : ℕ) → i ≤ j → f i ≤ f j
 rises f up i zero h = grind arith
 rises f up i (suc j) h = grind (arith, rises f up i j, up j)

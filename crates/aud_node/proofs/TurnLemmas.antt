@@ -81,6 +81,7 @@ module _ (log : List NodeRec) (i n : ℕ) (next : n ≡ i + 1) (rec : NodeRec) (
 
 -- ---- the records with these numbers
 
+-- numbers from the first record on are the numbers
 after-none : (o : Option (ℕ × ℕ)) → after 0 o ≡ o
 after-none None = refl
 after-none (Some (from, to)) = range (0 + from) (0 + to) from to (omega arith) (omega arith)
@@ -89,6 +90,7 @@ after-none (Some (from, to)) = range (0 + from) (0 + to) from to (omega arith) (
 pub HoldsFrom-first : (log : List NodeRec) (turns : Turns) → HoldsFrom log 0 turns → HoldsTurns log turns
 HoldsFrom-first log turns held pid k = held.spans_are pid k ∙ after-none (turn_range log pid k)
 
+-- a turn's records are the front of the log from its first record on
 turn-taken : (pid : Text) (log : List NodeRec) → take (length (turn_in pid log)) log ≡ turn_in pid log
 turn-taken pid [] = refl
 turn-taken pid (rec ∷ recs) = ap (λ rs. rec ∷ rs) (rest-taken pid recs)
@@ -112,6 +114,7 @@ turn_of-kept log turns pid k held =
     go None = refl
     go (Some span) = refl
 
+-- the rest of a turn has no more records than the log
 length-rest : (pid : Text) (log : List NodeRec) → length (rest_of_turn pid log) ≤ length log
 length-rest pid [] = omega arith
 length-rest pid (rec ∷ recs) = grind (arith, length-rest pid recs)
@@ -120,6 +123,7 @@ length-rest pid (rec ∷ recs) = grind (arith, length-rest pid recs)
 abbrev pub IsWithin : ℕ → Option (ℕ × ℕ) → Type 0
 IsWithin len range = IfSome range (λ (r : ℕ × ℕ). (r.0 < r.1) × (r.1 ≤ len))
 
+-- a turn that begins in a log has a record, and ends within the log
 pub turn_range-within : (log : List NodeRec) (pid : Text) (k : ℕ) → IsWithin (length log) (turn_range log pid k)
 turn_range-within [] pid k = tt
 turn_range-within (rec ∷ recs) pid k =

@@ -11,6 +11,7 @@ abbrev pub later : {A : Type 0} → Option A → Option A → Option A
 later old None = old
 later old (Some x) = Some x
 
+-- the last of a list is what was put last
 last_or-later : {A : Type 0} (o : Option A) (xs : List A) (x : A) → last_or o (xs ++ x ∷ []) ≡ Some x
 last_or-later o [] x = refl
 last_or-later o (y ∷ xs) x = last_or-later (Some y) xs x

@@ -68,6 +68,7 @@ none_of true o e = cc
 none_of false None e = (refl, refl)
 none_of false (Some i) e = cc
 
+-- a name that has no place names no tap
 pub named-none : (name : List ℕ) (ts : List Tap) → place_of name ts ≡ None → tap_named name ts ≡ None
 named-none name [] place = refl
 named-none name (u ∷ us) place =
@@ -76,6 +77,7 @@ named-none name (u ∷ us) place =
 
 -- ---- one tap in another's place
 
+-- another tap of the same name, in its place, leaves the places of all names
 place_of-set : (name : List ℕ) (ts : List Tap) (i : ℕ) (t t' : Tap) → i < length ts → get_or ts i t ≡ t → t'.name ≡ t.name → place_of name (set ts i t') ≡ place_of name ts
 place_of-set name [] i t t' short at same = absurd (omega arith)
 place_of-set name (u ∷ us) zero t t' short at same =
@@ -83,6 +85,7 @@ place_of-set name (u ∷ us) zero t t' short at same =
 place_of-set name (u ∷ us) (suc i) t t' short at same =
     ap (λ o. cond (is_text name u.name) (Some 0) (option_map suc o)) (place_of-set name us i t t' (omega arith) at same)
 
+-- a tap of the same kind, in its place, leaves as many of each kind
 pub taps_on-set : (of : TapKind) (ts : List Tap) (i : ℕ) (t t' : Tap) → i < length ts → get_or ts i t ≡ t → kind_of_tap t'.records ≡ kind_of_tap t.records → taps_on of (set ts i t') ≡ taps_on of ts
 taps_on-set of ts i t t' short at same =
     let counts : Tap → ℕ = λ x. cond (same_kind of (kind_of_tap x.records)) 1 0 in
@@ -100,6 +103,7 @@ pub record Around (ts : List Tap) (i : ℕ) (t : Tap) : Type 0 where
 regroup : (p b o a : List (List ℕ)) → p ++ (b ++ o ++ a) ≡ (p ++ b) ++ o ++ a
 regroup p b o a = simp append_assoc
 
+-- a tap's pids stand between those of the taps before it and those of the taps after it
 pub around : (ts : List Tap) (i : ℕ) (t : Tap) → i < length ts → get_or ts i t ≡ t → Around ts i t
 around [] i t short at = absurd (omega arith)
 around (u ∷ us) zero t short at =
@@ -129,9 +133,11 @@ replaced name records ts t e = let (i, place, at) = placed name ts t e in let he
 
 -- ---- a later line of a tap
 
+-- a line whose name has a place is a later line of the tap there
 named-later : (ts : List Tap) (i : ℕ) (t : Tap) (name word : List ℕ) (d : Data) → place_of name ts ≡ Some i → get_or ts i t ≡ t → with_named ts name word d ≡ with_later ts name t.records word d
 named-later ts i t name word d place at = ap (λ o. with_kind ts name o word d) (at-place name t.records ts i t place at).1
 
+-- a header whose name has a place is refused
 pub header-twice : (ts : List Tap) (i : ℕ) (name word : List ℕ) (d : Data) → place_of name ts ≡ Some i → is_text word (codes "tap") ≡ true → with_named ts name word d ≡ Err HeaderTwice
 unfolding with_later
 header-twice ts i name word d place e = let found = tap-at name ts i place in rw (named-later ts i found.0 name word d place found.1, e) refl
@@ -141,6 +147,7 @@ becomes-then (Ok u) x y reading f e is = rw is e
 becomes-then (Err fault.Memory) x y reading f e is = tt
 becomes-then (Err (fault.Code code)) x y reading f e is = rw is refl
 
+-- where the reader changed a tap's records as the line says, all taps are as the line says
 pub go_on-taps : (ts : List Tap) (i : ℕ) (t t' : Tap) (name word : List ℕ) (d : Data) (r : Result (Unit {0}) LineFault) → place_of name ts ≡ Some i → get_or ts i t ≡ t → is_text word (codes "tap") ≡ false
     → t'.name ≡ t.name → Becomes r t'.records (with_tap_record (pids_of ts) t.records word d) → Becomes r (set ts i t') (with_named ts name word d)
 unfolding with_later
@@ -151,6 +158,7 @@ go_on-taps ts i t t' name word d r place at e same is =
     (becomes-then r t'.records (set ts i t') (with_tap_record (pids_of ts) t.records word d) (λ more. Ok (with_records name more ts))
     (ap Ok ((at-place name t'.records ts i t place at).2 ∙ ap (set ts i) renamed)) is)
 
+-- and the reader's places, pids and counts stay those of the taps
 pub go_on-keeps : (s s' : OpenTaps) (i : ℕ) (t t' : Tap) (word : List ℕ) (d : Data) (r : Result (Unit {0}) LineFault) → taps_so_far s' ≡ set (taps_so_far s) i t' → s'.places ≡ s.places → s'.counts ≡ s.counts
     → KeepsTaps s → (short : i < length (taps_so_far s)) → (at : get_or (taps_so_far s) i t ≡ t) → t'.name ≡ t.name → Becomes r t'.records (with_tap_record (pids_of (taps_so_far s)) t.records word d)
     → OnOk r (HasPids s'.pids ((around (taps_so_far s) i t short at).before ++ pids_in t'.records ++ (around (taps_so_far s) i t short at).after))
@@ -183,6 +191,7 @@ place_of-push text (u ∷ us) t first =
     go true e other = rw (← same_text t.name text e, other) refl
     go false e other = refl
 
+-- the map of places, with the new name put in, is that of the taps with the new one
 pub places-put : {Y S : Type 0} (m n : HashMap (String Y) ℕ S) (ts : List Tap) (t : Tap) (key : String Y) (size : ℕ) → string_bytes key ≡ t.name → size ≡ length ts
     → UpdatesBy string_eq (string_eq key) m n (Some size) → ((text : List ℕ) → get_by_text m text ≡ place_of text ts) → place_of t.name ts ≡ None
     → (text : List ℕ) → get_by_text n text ≡ place_of text (ts ++ t ∷ [])
@@ -196,11 +205,13 @@ pub fails-then : {X Y : Type 0} (e : LineFault) (reading : Result X InputCode) (
 fails-then fault.Memory reading f is = tt
 fails-then (fault.Code code) reading f is = rw is refl
 
+-- a new tap has no pids
 pids-empty : (of : TapKind) → pids_in (no_records of) ≡ []
 pids-empty kind.Stream = refl
 pids-empty kind.Node = refl
 pids-empty kind.Client = refl
 
+-- after a header the reader's places, pids and counts are those of the taps
 pub begin-keeps : (s s' : OpenTaps) (name : List ℕ) (of : TapKind) → KeepsTaps s → s'.pids ≡ s.pids → taps_so_far s' ≡ taps_so_far s ++ record { name = name; records = no_records of } ∷ []
     → ((text : List ℕ) → get_by_text s'.places text ≡ place_of text (taps_so_far s')) → Counted s'.counts (taps_so_far s ++ record { name = name; records = no_records of } ∷ []) → KeepsTaps s'
 begin-keeps s s' name of keeps same taps places counts =
@@ -210,9 +221,11 @@ begin-keeps s s' name of keeps same taps places counts =
       counts = rw taps counts;
     }
 
+-- a line whose name has no place has to be a header
 pub named-first : (ts : List Tap) (name word : List ℕ) (d : Data) → place_of name ts ≡ None → with_named ts name word d ≡ with_header ts name word d
 named-first ts name word d place = ap (λ o. with_kind ts name o word d) (named-none name ts place)
 
+-- a line that opens goes to the tap of its name
 pub with_line-goes : (ts : List Tap) (line name word : List ℕ) (d : Data) → opened_line line ≡ Ok (name, d) → kind_named d ≡ Ok word → with_line ts line ≡ with_named ts name word d
 unfolding with_line
 with_line-goes ts line name word d opened kind = rw (opened, kind) refl

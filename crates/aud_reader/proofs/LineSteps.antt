@@ -47,12 +47,14 @@ or_kind known word of x y r is_known e later =
       | false ↦ λ is h. later h
     ] refl e
 
+-- a word that is read as a record of the stream is one of the stream's kinds
 stream-kind : (word : List ℕ) (d : Data) (r : StreamRec) → stream_record_of word d ≡ Ok r → tap_of_kind word ≡ Some tap.Stream
 unfolding stream_record_of
 stream-kind word d r e =
     or_kind (codes "ev") word tap.Stream _ _ r refl e (λ e1.
     or_kind (codes "other") word tap.Stream _ _ r refl e1 (λ e2. cc))
 
+-- a word that is read as a record of a node is one of a node's kinds
 node-kind : (word : List ℕ) (d : Data) (r : NodeRec) → node_record_of word d ≡ Ok r → tap_of_kind word ≡ Some tap.Node
 unfolding node_record_of
 node-kind word d r e =
@@ -65,6 +67,7 @@ node-kind word d r e =
     or_kind (codes "back") word tap.Node _ _ r refl e6 (λ e7.
     or_kind (codes "gone") word tap.Node _ _ r refl e7 (λ e8. cc))))))))
 
+-- a word that is read as a record of a client is one of a client's kinds
 client-kind : (word : List ℕ) (d : Data) (r : ClientRec) → client_record_of word d ≡ Ok r → tap_of_kind word ≡ Some tap.Client
 unfolding client_record_of
 client-kind word d r e =
@@ -98,12 +101,14 @@ new_entry entries new kind d e =
     let read = part-of (stream_record_of kind d) _ new e in
     (read.0, read.1, (guard-ok Limit (nat_lt (length entries) max_entries) (with_new_offset entries read.0) new read.2).1)
 
+-- an entry that was added stands last, after those from before
 put_entry : (entries new : List StreamRec) (kind : List ℕ) (d : Data) → with_entry entries kind d ≡ Ok new → Put (stream_record_of kind d) entries new
 put_entry entries new kind d e =
     let read = new_entry entries new kind d e in
     let last = part-of (guard OffsetTwice (not (list_any (is_text (offset_of read.0)) (map offset_of entries)))) _ new read.2 in
     record { value = read.0; reads = read.1; is = cc }
 
+-- a node's record that was added stands last, after those from before
 put_node : (pids : List (List ℕ)) (records new : List NodeRec) (kind : List ℕ) (d : Data) → with_node_record pids records kind d ≡ Ok new → Put (node_record_of kind d) records new
 unfolding with_node_record
 put_node pids records new kind d e =
@@ -111,6 +116,7 @@ put_node pids records new kind d e =
     let room = part-of (node_room (length records) (pids ++ option_to_list (pid_of read.0))) _ new read.2 in
     record { value = read.0; reads = read.1; is = cc }
 
+-- a client's record that was added stands last, after those from before
 put_client : (records new : List ClientRec) (kind : List ℕ) (d : Data) → with_client_record records kind d ≡ Ok new → Put (client_record_of kind d) records new
 unfolding with_client_record
 put_client records new kind d e =
@@ -135,6 +141,7 @@ put_in of as_rec as_records read list put new kind d reads recs same known one e
       same = ap kind_of_tap is ∙ same (list ++ last.value ∷ []) ∙ sym (same list);
     }
 
+-- a tap that took a line has one record more, and the kind that it had
 pub one_more : (pids : List (List ℕ)) (old new : Records) (kind : List ℕ) (d : Data) → with_tap_record pids old kind d ≡ Ok new → OneMore old kind d new
 unfolding record_in
 one_more pids (Stream entries) new kind d e =
@@ -168,16 +175,19 @@ pub record Adds (ts : List Tap) (line : List ℕ) (more : List Tap) : Type 0 whe
   pub reads : line_record line ≡ Ok (name, grown.rec)
   pub is : more ≡ with_records name records ts
 
+-- a line that is read as a header has a header for its record
 header_reads : (line name kind : List ℕ) (d : Data) (of : TapKind) → opened_line line ≡ Ok (name, d) → kind_named d ≡ Ok kind → is_text kind (codes "tap") ≡ true → header_of d ≡ Ok of
     → line_record line ≡ Ok (name, rec.Header of 1)
 unfolding line_record value_record record_of
 header_reads line name kind d of opened word tap header = rw (opened, word, tap, header) refl
 
+-- a line that is no header has the record of its kind
 later_reads : (line name kind : List ℕ) (d : Data) (r : Rec) → opened_line line ≡ Ok (name, d) → kind_named d ≡ Ok kind → is_text kind (codes "tap") ≡ false
     → (need UnknownKind (tap_of_kind kind) >>= (λ of. record_in of kind d)) ≡ Ok r → line_record line ≡ Ok (name, r)
 unfolding line_record value_record record_of
 later_reads line name kind d r opened word later read = rw (opened, word, later, read) refl
 
+-- a line for which no tap is there, read without a fault, begins its tap
 begins : (ts more : List Tap) (line name kind : List ℕ) (d : Data) → opened_line line ≡ Ok (name, d) → kind_named d ≡ Ok kind → tap_named name ts ≡ None → with_header ts name kind d ≡ Ok more → Begins ts line more
 unfolding with_header
 begins ts more line name kind d opened word new e =
@@ -193,6 +203,7 @@ begins ts more line name kind d opened word new e =
       is = cc;
     }
 
+-- a line for which a tap is there, read without a fault, adds a record to it
 adds : (ts more : List Tap) (line name kind : List ℕ) (d : Data) (t : Tap) → opened_line line ≡ Ok (name, d) → kind_named d ≡ Ok kind → tap_named name ts ≡ Some t → with_later ts name t.records kind d ≡ Ok more → Adds ts line more
 unfolding with_later
 adds ts more line name kind d t opened word found e =
@@ -212,11 +223,13 @@ adds ts more line name kind d t opened word found e =
       is = cc;
     }
 
+-- a line begins its tap or adds to it, by whether the tap is there
 begins_or_adds : (ts more : List Tap) (line name kind : List ℕ) (d : Data) (found : Option Tap) → opened_line line ≡ Ok (name, d) → kind_named d ≡ Ok kind → tap_named name ts ≡ found
     → with_kind ts name found kind d ≡ Ok more → Begins ts line more ⊎ Adds ts line more
 begins_or_adds ts more line name kind d None opened word is e = inl (begins ts more line name kind d opened word is e)
 begins_or_adds ts more line name kind d (Some t) opened word is e = inr (adds ts more line name kind d t opened word is e)
 
+-- a line that isn't empty and was read begins a tap or adds to one
 pub line_step : (ts more : List Tap) (line : List ℕ) → with_line ts line ≡ Ok more → Begins ts line more ⊎ Adds ts line more
 unfolding with_line
 line_step ts more line e =
@@ -232,14 +245,17 @@ pub record First (ts : List Tap) (line : Line) (lines : List Line) (more : List 
   pub step : ((line.bytes ≡ []) × (next ≡ ts)) ⊎ (Begins ts line.bytes next ⊎ Adds ts line.bytes next)
   pub rest : taps_from next lines ≡ Ok more
 
+-- a line's number is put to faults alone: what went well is as it was
 at_line-ok : (n : ℕ) (r : Result (List Tap) InputCode) (more : List Tap) → at_line n r ≡ Ok more → r ≡ Ok more
 at_line-ok n (Ok x) more e = let same : x ≡ more = cc in ap Ok same
 at_line-ok n (Err code) more e = cc
 
+-- a line is passed over where it is empty, and else begins a tap or adds to one
 bytes_step : (ts next : List Tap) (n : ℕ) (line : List ℕ) → passing_empty ts n line ≡ Ok next → ((line ≡ []) × (next ≡ ts)) ⊎ (Begins ts line next ⊎ Adds ts line next)
 bytes_step ts next n [] e = let same : next ≡ ts = cc in inl (refl, same)
 bytes_step ts next n (b ∷ line) e = inr (line_step ts next (b ∷ line) (at_line-ok n (with_line ts (b ∷ line)) next e))
 
+-- lines that were read: what the first did, and then the others
 pub first_of_lines : (ts more : List Tap) (line : Line) (lines : List Line) → taps_from ts (line ∷ lines) ≡ Ok more → First ts line lines more
 first_of_lines ts more line lines e =
     let first = part-of (taps_after ts line) _ more e in

@@ -23,9 +23,11 @@ none_before (x ∷ text) (suc n) h =
       | inr e ↦ rw e (none_before text n (λ k low high. h (suc k) (omega arith) (omega arith)))
     ]
 
+-- a search that finds no newline up to the end: the text has none
 pub none_within : (text : List ℕ) → Nowhere (Passes (is_byte 10) text) 0 (length text) → has_newline text ≡ false
 none_within text h = rw take-length at (none_before text (length text) h)
 
+-- two texts without a newline, one after the other, have none
 pub has_newline-append : (a b : List ℕ) → has_newline a ≡ false → has_newline b ≡ false → has_newline (a ++ b) ≡ false
 has_newline-append a b p q = rw (list_any-append (λ x. x == 10) a b, p) q
 
@@ -91,9 +93,11 @@ is_too_long-append l (x ∷ more) p =
     let e = length-append l (x ∷ more) in
     lt-ltb _ _ (omega arith)
 
+-- a line that is too long ends the lines with a refusal that has its number
 numbered-long : (n : ℕ) (l : List ℕ) (ls : List (List ℕ)) → is_too_long l ≡ true → lines_from n (l ∷ ls) ≡ record { lines = []; fault = Some (Input n LineTooLong) }
 numbered-long n l ls p = rw p refl
 
+-- a line within the limit is the next one, and those after it count on
 numbered-short : (n : ℕ) (l : List ℕ) (ls : List (List ℕ)) → is_too_long l ≡ false
     → lines_from n (l ∷ ls) ≡ after_lines (record { number = n; bytes = without_return l } ∷ []) (lines_from (n + 1) ls)
 numbered-short n l ls p = rw p refl
@@ -147,6 +151,7 @@ pub to_come-next : (s t : Split) (left front others more : List ℕ) → s.fault
 to_come-next s t left front others more none whole front_whole cut ended =
     rw (cut, ended, append_assoc) (to_come-line_ended s front (others ++ more) none whole front_whole)
 
+-- once a line has ended, or was refused, no part of a line is kept
 rest-is : (s : Split) (front : List ℕ) → (line_ended s front).rest ≡ []
 rest-is s front = elim (line_at s.number (s.rest ++ front)) as (λ r. (splitter_with_line s r).rest ≡ []) [ Ok line ↦ refl | Err f ↦ refl ]
 
@@ -154,10 +159,12 @@ rest-is s front = elim (line_at s.number (s.rest ++ front)) as (λ r. (splitter_
 pub rest-line_ended : (s : Split) (front : List ℕ) → IsPartial (line_ended s front).rest
 rest-line_ended s front = rw (rest-is s front) (record { unended = refl; within = refl })
 
+-- a result that is fine comes from a splitter that has refused nothing
 pub none_of : (o : Option ReadFault) → Ok tt ≡ result_of o → o ≡ None
 none_of None e = refl
 none_of (Some f) e = cc
 
+-- a fault that is given is the one that the splitter has
 pub some_of : (o : Option ReadFault) (f : ReadFault) → Err f ≡ result_of o → o ≡ Some f
 some_of None f e = cc
 some_of (Some g) f e = cc
@@ -166,6 +173,7 @@ some_of (Some g) f e = cc
 pub to_come-refused : (t : Split) (f : ReadFault) (a b : List ℕ) → t.fault ≡ Some f → lines_to_come t a ≡ lines_to_come t b
 to_come-refused t f a b e = rw e refl
 
+-- at the end of the input, with no line begun, the lines that wait are all
 to_come-empty : (t : Split) → t.fault ≡ None → t.rest ≡ [] → lines_to_come t [] ≡ record { lines = t.waiting; fault = None }
 to_come-empty t none empty = rw (none, empty, append-nil) refl
 

@@ -11,6 +11,7 @@ use Rattle.aud_base.specs.Steps.{need}
 abbrev pub with_front : {A : Type 0} → List A → Option (List A) → Option (List A)
 with_front front rest = option_map (λ xs. front ++ xs) rest
 
+-- an item put to those read is the first of those left
 with_front-item : {A : Type 0} (front : List A) (x : A) (rest : Option (List A)) → with_front (front ++ x ∷ []) rest ≡ with_front front (option_map (λ xs. x ∷ xs) rest)
 with_front-item front x None = refl
 with_front-item front x (Some xs) = ap Some (append_assoc front (x ∷ []) xs)

@@ -27,6 +27,7 @@ use Rattle.aud_reader.proofs.LineSteps.{Begins, Adds, first_of_lines}
 abbrev AddsFor : List ℕ → List Tap → List ℕ → List Tap → Type 0
 AddsFor name ts line more = recs_by_name name more ≡ recs_by_name name ts ++ option_to_list (record_for name (record { number = 0; bytes = line }))
 
+-- two names are one, or the test says that they differ
 by_name : {P : Type 0} (name n : List ℕ) → (name ≡ n → P) → (is_text name n ≡ false → P) → P
 by_name {P} name n same other =
     elim (is_text name n) as (λ b. is_text name n ≡ b → P) [
@@ -36,6 +37,7 @@ by_name {P} name n same other =
 
 -- ---- a header
 
+-- the records of a new tap are its header alone
 kind-new : (of : TapKind) (name : List ℕ) → recs_of (record { name = name; records = no_records of }) ≡ rec.Header of 1 ∷ []
 kind-new kind.Stream name = refl
 kind-new kind.Node name = refl
@@ -49,6 +51,7 @@ or_none (Some x) = refl
 record-read : (name line n : List ℕ) (r : Rec) → line_record line ≡ Ok (n, r) → (number : ℕ) → record_for name (record { number = number; bytes = line }) ≡ cond (is_text name n) (Some r) None
 record-read name line n r reads number = rw reads refl
 
+-- a header adds a record to the tap that it names, and to no other
 begins-adds : (name : List ℕ) (ts more : List Tap) (line : List ℕ) → Begins ts line more → AddsFor name ts line more
 begins-adds name ts more line b =
     let t : Tap = record { name = b.name; records = no_records b.of } in
@@ -59,6 +62,7 @@ begins-adds name ts more line b =
 
 -- ---- a later line
 
+-- the tap whose records are replaced is found by its name, with the new records
 named-same : (name : List ℕ) (records : Records) (ts : List Tap) (t : Tap) → tap_named name ts ≡ Some t → tap_named name (with_records name records ts) ≡ Some (record t { records = records })
 named-same name records [] t e = cc
 named-same name records (u ∷ us) t e =
@@ -68,6 +72,7 @@ named-same name records (u ∷ us) t e =
       | false ↦ λ is h. rw is (named-same name records us t h)
     ] refl e
 
+-- a tap of another name is found as before
 named-other : (name n : List ℕ) (records : Records) (ts : List Tap) → is_text name n ≡ false → tap_named name (with_records n records ts) ≡ tap_named name ts
 named-other name n records [] other = refl
 named-other name n records (u ∷ us) other =
@@ -76,6 +81,7 @@ named-other name n records (u ∷ us) other =
       | false ↦ λ is. ap (λ o. cond (is_text name u.name) (Some u) o) (named-other name n records us other)
     ] refl
 
+-- a later line adds its record to its own tap, and to no other
 adds-adds : (name : List ℕ) (ts more : List Tap) (line : List ℕ) → Adds ts line more → AddsFor name ts line more
 adds-adds name ts more line a =
     rw (a.is, record-read name line a.name a.grown.rec a.reads 0)
@@ -87,10 +93,12 @@ adds-adds name ts more line a =
 
 -- ---- the lines
 
+-- a record at the end of those before is the first of those after
 add_first : (o : Option Rec) (before after : List Rec) → (before ++ option_to_list o) ++ after ≡ before ++ cons_option o after
 add_first None before after = rw append-nil refl
 add_first (Some r) before after = append_assoc before (r ∷ []) after
 
+-- whatever a line is, a tap gets from it the records that the line has for the tap's name
 line-adds : (name : List ℕ) (ts next : List Tap) (line : Line) → ((line.bytes ≡ []) × (next ≡ ts)) ⊎ (Begins ts line.bytes next ⊎ Adds ts line.bytes next)
     → recs_by_name name next ≡ recs_by_name name ts ++ option_to_list (record_for name line)
 unfolding line_record opened_line
@@ -103,6 +111,7 @@ line-adds name ts next line step =
       ]
     ]
 
+-- after any lines a tap's records are those from before, and then those of its own lines
 pub lines-add : (name : List ℕ) (ts more : List Tap) (lines : List Line) → taps_from ts lines ≡ Ok more → recs_by_name name more ≡ recs_by_name name ts ++ records_for name lines
 lines-add name ts more [] e = let same : ts ≡ more = cc in rw (same, append-nil) refl
 lines-add name ts more (line ∷ lines) e =
@@ -111,6 +120,7 @@ lines-add name ts more (line ∷ lines) e =
     ∙ ap (λ rs. rs ++ records_for name lines) (line-adds name ts first.next line first.step)
     ∙ add_first (record_for name line) (recs_by_name name ts) (records_for name lines)
 
+-- the taps that a bundle is read as have the records of their own lines, in order
 pub own_lines : (lines : List Line) (taps : List Tap) → taps_of lines ≡ Ok taps → HaveTheirOwnLines lines taps
 own_lines lines taps e name = sym (lines-add name [] taps lines e)
 
@@ -132,10 +142,12 @@ some_tap name r ts more line lines e reads =
     go (Some t) is h = (t, is)
     go None is h = absurd (never (recs_by_name name ts) (records_for name lines) (sym (ap (λ o. option_map_or recs_of o []) is) ∙ h))
 
+-- where no tap has the name, none is counted
 count-none : (name : List ℕ) (ts : List Tap) → AllByRecursion (λ other. is_text name other ≡ false) (names_of ts) → count_by (λ (u : Tap). is_text name u.name) ts ≡ 0
 count-none name [] h = refl
 count-none name (t ∷ ts) h = rw (sum_by-cons (λ (x : Tap). cond (is_text name x.name) 1 0) t ts, h.0, count-none name ts h.1) refl
 
+-- names that differ leave one tap that has the name
 count-one : (name : List ℕ) (ts : List Tap) (t : Tap) → IsDistinct is_text (names_of ts) → tap_named name ts ≡ Some t → count_by (λ (u : Tap). is_text name u.name) ts ≡ 1
 unfolding IsDistinct
 count-one name [] t different e = cc
@@ -147,11 +159,13 @@ count-one name (u ∷ us) t different e =
       | false ↦ λ is h. rw (sum_by-cons (λ (x : Tap). cond (is_text name x.name) 1 0) u us, is, count-one name us t different.1 h) refl
     ] refl e
 
+-- a line whose tap is there belongs to that tap alone, as no two have one name
 of_one : (name : List ℕ) (r : Rec) (ts more : List Tap) (line : Line) (lines : List Line) → AreDifferent (names_of more) → taps_from ts (line ∷ lines) ≡ Ok more → line_record line.bytes ≡ Ok (name, r) → IsOfOneTap more line
 of_one name r ts more line lines different e reads =
     let (t, named) = some_tap name r ts more line lines e reads in
     record { name = name; rec = r; reads = reads; one = count-one name more t (IsDistinct-from_AllPairs bytes_eq-Decides (names_of more) different) named }
 
+-- after any lines, each that isn't empty belongs to one tap
 each-line : (ts more : List Tap) (lines : List Line) → AreDifferent (names_of more) → taps_from ts lines ≡ Ok more → EachLineIsOfOneTap lines more
 each-line ts more [] different e = All-nil _
 each-line ts more (line ∷ lines) different e =
@@ -166,5 +180,6 @@ each-line ts more (line ∷ lines) different e =
     ])
     (each-line first.next more lines different first.rest)
 
+-- in a bundle that was read, each line that isn't empty belongs to one tap
 pub each_line : (lines : List Line) (taps : List Tap) → AreDifferent (names_of taps) → taps_of lines ≡ Ok taps → EachLineIsOfOneTap lines taps
 each_line lines taps different e = each-line [] taps lines different e

@@ -22,10 +22,12 @@ refusal_stays s t (Feed piece result new ∷ calls) fault follow e =
     refusal_stays new t calls fault follow.1 (rw (same-if_some s new result s.fault fault follow.0.refused e) e)
 refusal_stays s t (Take given new ∷ calls) fault follow e = refusal_stays new t calls fault follow.1 (rw follow.0.left e)
 
+-- lines taken, and then those to come, are what was to come before the take
 taken-then : (given : List Line) (s : Split) (text : List ℕ) → given ≡ s.waiting
     → after_lines given (lines_to_come (record s { waiting = [] }) text) ≡ lines_to_come s text
 taken-then given s text e = rw e refl
 
+-- lines given in two parts are given in one
 after_lines-append : (a b : List Line) (ls : Lines) → after_lines (a ++ b) ls ≡ after_lines a (after_lines b ls)
 after_lines-append a b ls = rw append_assoc refl
 
@@ -58,6 +60,7 @@ front-fed s t piece result front text feeds first =
       | Some Memory ↦ λ e. front-of-front front t.waiting _ (subst (λ ls. IsFront front ls.lines) (refused-gives t text Memory e) first) (feeds.front text)
     ] refl
 
+-- what calls have taken, and what waits, is a front of the lines of any text that goes on
 front-follow : (s t : Split) (calls : List SplitterCall) (more : List ℕ) → SplitterCallsFollow s calls t
     → IsFront (taken calls ++ t.waiting) (lines_to_come s (fed calls ++ more)).lines
 front-follow s t [] more follow = rw follow (record { rest = _; is = refl })
@@ -75,17 +78,20 @@ going-at_end : (t : Split) (ls : List Line) → lines_to_come t [] ≡ record { 
 going-at_end t ls ends e =
     let both : Some Memory ≡ None = ap (λ l. l.fault) (sym (refused-gives t [] Memory e) ∙ ends) in cc
 
+-- where the end is no refusal, the lines taken and the last ones are those of the whole input
 pub taken_and_last : TakenAndLastAreLines
 taken_and_last = λ calls last ls follow finish.
     ap lines_of (sym (append-nil (fed calls)))
     ∙ sym (to_come-follow new_splitter last calls [] follow (going-at_end last ls finish.ok))
     ∙ ap (after_lines (taken calls)) finish.ok
 
+-- after a line was refused, those taken and those that wait are all the lines before it
 pub taken_before : TakenAreLinesBefore
 taken_before = λ calls last fault follow e other more.
     let going : ¬ (last.fault ≡ Some Memory) = λ m. let is : Some fault ≡ Some Memory = sym e ∙ m in other (cc) in
     sym (to_come-follow new_splitter last calls more follow going) ∙ ap (after_lines (taken calls)) (refused-gives last more fault e)
 
+-- lines taken are a front of those of the input, whatever follows
 pub taken_front : TakenAreFront
 taken_front = λ calls last follow more. front-follow new_splitter last calls more follow
 
@@ -96,6 +102,7 @@ pub record Came (text : List ℕ) (given : List Line) (s : Split) : Type 0 where
   pub feeds : fed calls ≡ text
   pub takes : taken calls ≡ given
 
+-- calls that follow one another, and then others, follow as one list
 follow-append : (s t u : Split) (xs ys : List SplitterCall) → SplitterCallsFollow s xs t → SplitterCallsFollow t ys u → SplitterCallsFollow s (xs ++ ys) u
 follow-append s t u [] ys first second = subst (λ start. SplitterCallsFollow start ys u) first second
 follow-append s t u (Feed piece result new ∷ xs) ys first second = (first.0, follow-append new t u xs ys first.1 second)

@@ -32,12 +32,14 @@ use Rattle.aud_reader.proofs.LineSteps.{guarded, new_entry, one_more, first_of_l
 
 -- ---- different texts
 
+-- a text that is in none of the places leaves the texts different when it is put last
 different-push : (texts : List (List ℕ)) (text : List ℕ) → AreDifferent texts → list_any (is_text text) texts ≡ false → AreDifferent (texts ++ text ∷ [])
 different-push texts text different new =
     AllPairs-from_IsDistinct bytes_eq-Decides _ (IsDistinct-push nat_list_eq_equiv texts text (IsDistinct-from_AllPairs bytes_eq-Decides texts different) new)
 
 -- ---- the names
 
+-- where no tap is found by a name, none of the names is that one
 none-of : (name : List ℕ) (ts : List Tap) → tap_named name ts ≡ None → list_any (is_text name) (names_of ts) ≡ false
 none-of name [] e = refl
 none-of name (t ∷ ts) e =
@@ -48,6 +50,7 @@ none-of name (t ∷ ts) e =
 
 -- ---- the streams
 
+-- a new tap leaves at most one stream, as a second one is refused
 streams-new : (of : TapKind) (name : List ℕ) (ts : List Tap) → taps_on tap.Stream ts ≤ 1 → another_tap of ts ≡ Ok tt → taps_on tap.Stream (ts ++ record { name = name; records = no_records of } ∷ []) ≤ 1
 streams-new of name ts few room =
     rw (sum_by-append (λ (t : Tap). cond (same_kind tap.Stream (kind_of_tap t.records)) 1 0) ts (record { name = name; records = no_records of } ∷ [])) (go of room)
@@ -59,16 +62,19 @@ streams-new of name ts few room =
 
 -- ---- the offsets
 
+-- records of a node or a client have no offsets
 offsets-absent : (records : Records) → (kind_of_tap records ≡ tap.Stream → ⊥) → AreDifferent (offsets_in records)
 offsets-absent (Stream entries) other = absurd (other refl)
 offsets-absent (Node records) other = λ i j d l m. absurd (omega arith)
 offsets-absent (Client records) other = λ i j d l m. absurd (omega arith)
 
+-- a new tap has no offsets yet
 offsets-none : (of : TapKind) → AreDifferent (offsets_in (no_records of))
 offsets-none tap.Stream = λ i j d l m. absurd (omega arith)
 offsets-none tap.Node = λ i j d l m. absurd (omega arith)
 offsets-none tap.Client = λ i j d l m. absurd (omega arith)
 
+-- one more record leaves a tap's offsets different, as one that is there is refused
 offsets-more : (pids : List (List ℕ)) (old new : Records) (kind : List ℕ) (d : Data) → with_tap_record pids old kind d ≡ Ok new → AreDifferent (offsets_in old) → AreDifferent (offsets_in new)
 offsets-more pids (Stream entries) new kind d e different =
     let more = part-of (with_entry entries kind d) _ new e in
@@ -81,6 +87,7 @@ offsets-more pids (Client records) new kind d e different = offsets-absent new (
 
 -- ---- one more line
 
+-- a header leaves the names different, one stream at most, and each offset once
 sound-begins : (ts more : List Tap) (line : List ℕ) → AreSoundTaps ts → Begins ts line more → AreSoundTaps more
 sound-begins ts more line sound b =
     let t : Tap = record { name = b.name; records = no_records b.of } in
@@ -90,6 +97,7 @@ sound-begins ts more line sound b =
       offsets = All-push (λ (x : Tap). AreDifferent (offsets_in x.records)) ts t sound.offsets (offsets-none b.of);
     })
 
+-- a later line leaves the names different, one stream at most, and each offset once
 sound-adds : (ts more : List Tap) (line : List ℕ) → AreSoundTaps ts → Adds ts line more → AreSoundTaps more
 sound-adds ts more line sound a =
     let (i, within, at, put) = replaced a.name a.records ts a.found a.is_found in
@@ -102,15 +110,18 @@ sound-adds ts more line sound a =
           (offsets-more _ (a.found).records a.records a.kind a.d a.added (rw at at (sound.offsets i a.found within))) sound.offsets;
     })
 
+-- before the first line nothing is there that could break what the taps keep to
 pub sound-none : AreSoundTaps []
 sound-none = record { names = λ i j d l m. absurd (omega arith); stream = omega arith; offsets = All-nil _ }
 
+-- a line that isn't empty leaves the taps as they are to be
 pub sound-line : (ts more : List Tap) (line : List ℕ) → AreSoundTaps ts → with_line ts line ≡ Ok more → AreSoundTaps more
 sound-line ts more line sound e = elim (line_step ts more line e) [
   | inl b ↦ sound-begins ts more line sound b
   | inr a ↦ sound-adds ts more line sound a
 ]
 
+-- any lines leave the taps as they are to be
 sound-lines : (ts more : List Tap) (lines : List Line) → AreSoundTaps ts → taps_from ts lines ≡ Ok more → AreSoundTaps more
 sound-lines ts more [] sound e = let same : ts ≡ more = cc in rw (← same) sound
 sound-lines ts more (line ∷ lines) sound e =
@@ -136,5 +147,6 @@ first_with_name (t ∷ ts) different (suc place) tap at =
     let rest : AreDifferent names = λ i j d l m. different (suc i) (suc j) d (omega arith) (omega arith) in
     rw (other, first_with_name ts rest place tap at) refl
 
+-- in a bundle that was read each tap is the first with its name
 pub named_once : (lines : List Line) (taps : List Tap) → taps_of lines ≡ Ok taps → AreNamedOnce taps
 named_once lines taps e = first_with_name taps (sound-lines [] taps lines sound-none e).names

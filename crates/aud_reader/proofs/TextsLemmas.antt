@@ -23,6 +23,7 @@ use Rattle.aud_tap.specs.Forms.{is_text}
 use Rattle.aud_reader.specs.Bundle.{max_pids, pid_of, pids_fit}
 use Rattle.aud_reader.specs.Private.Texts.{HasTexts, HasPids}
 
+-- a text is among others and one more where it is among them or is that one
 any-push : (q text : List ℕ) (texts : List (List ℕ)) → list_any (is_text q) (texts ++ text ∷ []) ≡ (list_any (is_text q) texts || is_text q text)
 any-push q text texts = list_any-append (is_text q) texts (text ∷ []) ∙ ap (λ b. list_any (is_text q) texts || b) (or-false (is_text q text))
 
@@ -53,15 +54,18 @@ texts-known s texts text known has q = has q ∙ sym (any-push q text texts ∙ 
     known-or false e = or-false (list_any (is_text q) texts)
     known-or true e = or-true (list_any (is_text q) texts) ∙ sym (list_any_congr nat_list_eq_equiv q text texts e ∙ sym (has text) ∙ known)
 
+-- a key that no other equals spells a text that no other spells
 apart-bytes : {Y : Type 0} (k : String Y) (ks : List (String Y)) → AllByRecursion (λ y. string_eq k y ≡ false) ks → AllByRecursion (λ y. is_text (string_bytes k) y ≡ false) (map string_bytes ks)
 apart-bytes k [] h = h
 apart-bytes k (y ∷ ks) h = (h.0, apart-bytes k ks h.1)
 
+-- keys that differ spell texts that differ
 distinct-bytes : {Y : Type 0} (ks : List (String Y)) → IsDistinct string_eq ks → IsDistinct is_text (map string_bytes ks)
 unfolding IsDistinct
 distinct-bytes [] h = h
 distinct-bytes (k ∷ ks) h = (apart-bytes k ks h.0, distinct-bytes ks h.1)
 
+-- the keys of a set spell the texts that it has
 members : {Y S : Type 0} (s : HashSet (String Y) S) (texts : List (List ℕ)) → HasTexts s texts → (q : List ℕ) → list_any (is_text q) (map string_bytes s.keys) ≡ list_any (is_text q) texts
 members s texts has q = any-map (is_text q) string_bytes s.keys ∙ has q
 
@@ -81,9 +85,11 @@ count-absent s texts text unique has absent =
     (λ q. any-push q text keys ∙ ap (λ b. b || is_text q text) (members s texts has q) ∙ sym (any-push q text texts)))
     ∙ length-append keys (text ∷ []) ∙ ap (λ n. n + 1) (length-map s.keys string_bytes)
 
+-- pids that are few enough fit
 pub fit-ok : (pids : List (List ℕ)) → distinct_count is_text pids ≤ max_pids → pids_fit pids ≡ Ok tt
 fit-ok pids h = rw (le-leb _ _ h) refl
 
+-- a pid that is in the set already leaves the set that of the pids
 pub pids-known : {Y S : Type 0} (s : HashSet (String Y) S) (all : List (List ℕ)) (pid : List ℕ) → IsDistinct string_eq s.keys → HasPids s all → contains_text s pid ≡ true → HasPids s (all ++ pid ∷ [])
 pids-known s all pid unique has known =
     let texts : HasTexts s (all ++ pid ∷ []) = texts-known s all pid known has.texts in
@@ -98,6 +104,7 @@ pids-put s n all pid key spells unique has absent room updates =
     let count = count-absent s all pid unique has.texts absent in
     record { texts = texts-put s n all pid key spells updates has.texts; few = rw count (omega arith) }
 
+-- a pid that isn't in a full set is one too many, so the line is refused
 pub pids-full : {Y S : Type 0} (s : HashSet (String Y) S) (all : List (List ℕ)) (pid : List ℕ) → IsDistinct string_eq s.keys → HasPids s all → contains_text s pid ≡ false → max_pids ≤ length s.keys
     → pids_fit (all ++ pid ∷ []) ≡ Err Limit
 pids-full s all pid unique has absent full =
@@ -125,6 +132,7 @@ unique (x ∷ texts) = go (unique texts) (list_any (is_text x) texts) refl
     go (once, apart, same) true e = (once, apart, λ q. same q ∙ either q (is_text q x) refl e)
     go (once, apart, same) false e = (x ∷ once, (all-absent x once (same x ∙ e), apart), λ q. ap (λ b. is_text q x || b) (same q))
 
+-- lists that have the same texts have as many different ones
 count-same : (texts others : List (List ℕ)) → ((q : List ℕ) → list_any (is_text q) texts ≡ list_any (is_text q) others) → distinct_count is_text others ≡ distinct_count is_text texts
 count-same texts others same =
     let (once, apart, is) = unique texts in

@@ -3,6 +3,7 @@ use Rattle.std.proofs.Common.{List, [], ◌∷◌, ◌++◌, map}
 use Rattle.std.proofs.lemmas.List.{map-append}
 use Rattle.aud_report.specs.OneForEach.{OneForEach}
 
+-- one more of each, where the one stands for the other
 pub one_more : {A B : Type 0} (Is : A → B → Type 0) (xs : List A) (ys : List B) (x : A) (y : B)
     → OneForEach Is xs ys → Is x y → OneForEach Is (xs ++ x ∷ []) (ys ++ y ∷ [])
 one_more Is [] [] x y so_far next = (next, tt)

@@ -19,6 +19,7 @@ use Rattle.aud_rooms.proofs.Intervals.{start_of, stop_of}
 use Rattle.aud_rooms.proofs.Reach.{contains-rooms_by_spans}
 use Rattle.aud_rooms.proofs.RoomMaps.{same_text, itself, same_rooms}
 
+-- two tests that follow from each other say the same
 same_bools : (a b : Bool) → (a ≡ true → b ≡ true) → (b ≡ true → a ≡ true) → a ≡ b
 same_bools a b f g = grind arith
 
@@ -79,6 +80,7 @@ module _ (stream : List StreamRec) (pid : Text) (p : ℕ) where
   rooms_for-past held [] h = refl
   rooms_for-past held (slice ∷ later) h = grind (arith, rooms_for-past (rooms_at_end pid held slice.recs) later, lt-leb p slice.high)
 
+-- past the first slice's low is past where the spans begin
 past_low : (slices : List Slice) (p : ℕ) → 0 < length slices → is_past_first slices p ≡ nat_lt (first_low slices) p
 past_low [] p some = absurd (omega arith)
 past_low (slice ∷ later) p some = refl
@@ -99,6 +101,7 @@ module _ (stream : List StreamRec) (who : Who) (slices : List Slice) (spans : Li
   due_at : (p : ℕ) → is_due_by_spans spans stream who.nsp (first_low slices) (greatest_high slices) p ≡ is_turn_due stream who slices p
   due_at p = grind (arith, beyond p, within)
 
+-- what is due by the spans of the turns is what is due by the turns
 pub due_by_spans-turns : (stream : List StreamRec) (who : Who) (slices : List Slice) (spans : List RoomSpan) → AreSpansOfTurns stream who slices spans
     → due_by_spans spans stream who.nsp (first_low slices) (greatest_high slices) ≡ turns_due stream who slices
 due_by_spans-turns stream who slices spans are = filter_agree _ _ (due_at stream who slices spans are) (positions_after 0 (length stream))

@@ -29,10 +29,12 @@ use Rattle.std.proofs.lemmas.Map.Views.{lookup-from_Contains}
 
 -- ---- lists
 
+-- what a list made of another contains is made of one of that other's elements
 contains-map : {X Y : Type 0} (f : X → Y) (xs : List X) (y : Y) → Contains (map f xs) y → (x : X) × Contains xs x × (f x ≡ y)
 contains-map f [] y among = absurd (contains-none y among)
 contains-map f (x ∷ xs) y among = grind (arith, contains-map f xs y, contains-parts (f x) (map f xs) y among, contains-first x xs, contains-later x xs)
 
+-- what is made of an element of a list is in the list made of it
 map-contains : {X Y : Type 0} (f : X → Y) (xs : List X) (x : X) → Contains xs x → Contains (map f xs) (f x)
 map-contains f [] x among = absurd (contains-none x among)
 map-contains f (y ∷ ys) x among = grind (arith, map-contains f ys x, contains-parts y ys x among, contains-first (f y) (map f ys), contains-later (f y) (map f ys) (f x))
@@ -83,16 +85,19 @@ entry_of : (es : RoomMap Times) (room : Text) (t : Times) → at_room es room �
 entry_of [] room t found = absurd cc
 entry_of (e ∷ es) room t found = grind (arith, entry_of es room t, same_text room e.0.now, contains-first e es, contains-later e es)
 
+-- a span of all rooms is one of some room's times
 among_entries : (cov : ℕ) (es : RoomMap Times) (s : RoomSpan) → Contains (spans_upto cov es) s → (e : (Bor Text) × Times) × Contains es e × Contains (spans_of e.0.now cov e.1) s
 among_entries cov [] s among = absurd (contains-none s among)
 among_entries cov (e ∷ es) s among =
     grind (arith, among_entries cov es s, Contains-append_cases (spans_of e.0.now cov e.1) (spans_upto cov es) s among, contains-first e es, contains-later e es)
 
+-- the spans of a room's times are among those of all rooms
 entries_among : (cov : ℕ) (es : RoomMap Times) (e : (Bor Text) × Times) (s : RoomSpan) → Contains es e → Contains (spans_of e.0.now cov e.1) s → Contains (spans_upto cov es) s
 entries_among cov [] e s among at = absurd (contains-none e among)
 entries_among cov (x ∷ es) e s among at =
     grind (arith, entries_among cov es e s, contains-parts x es e among, Contains-append_left (spans_of x.0.now cov x.1) (spans_upto cov es) s, Contains-append_right (spans_of x.0.now cov x.1) (spans_upto cov es) s)
 
+-- two lists of spans in order, the first all before the second, are in order one after the other
 order-append : (xs ys : List RoomSpan) → AreInOrder xs → AreInOrder ys → ((x y : RoomSpan) → Contains xs x → Contains ys y → ComesBefore x y) → AreInOrder (xs ++ ys)
 order-append [] ys a b before = b
 order-append (x ∷ xs) ys a b before =
@@ -106,6 +111,7 @@ order-append (x ∷ xs) ys a b before =
     all [] none each = later ys each
     all (z ∷ zs) (first, rest) each = (first, all zs rest each)
 
+-- a room that comes before all others in the map comes before each of them
 below_each : (k : Bor Text) (es : RoomMap Times) (e : (Bor Text) × Times) → AllByRecursion (λ y. by_room k y ≡ Less) (map (λ x. x.0) es) → Contains es e → by_room k e.0 ≡ Less
 below_each k es e all among = All-contains (λ y. by_room k y ≡ Less) (map (λ x. x.0) es) e.0 (All-from_recursion _ _ all) (map-contains (λ x. x.0) es e among)
 
@@ -127,6 +133,7 @@ module _ (low cov : ℕ) where
       let second : y.room ≡ other.0.now = room_of other (apart other (contains-later e es other among)) y at in
       inl (ap (λ a. slice_cmp nat_cmp a y.room) first ∙ ap (slice_cmp nat_cmp e.0.now) second ∙ below_each e.0 es other below among))
 
+-- rooms, by their bytes, stand in one order
 pub by_room_total : IsTotalOrder by_room
 by_room_total =
     record {

@@ -23,6 +23,7 @@ closed_parts low covered is (Some after) apart =
     (λ e. ended low covered after is (ltb-true after covered e) apart)
     (λ e. rw append-nil (unused low covered after is (ltb-false after covered e) apart))
 
+-- with the open interval ended, the room is held at the same covered positions
 pub closed : (low covered : ℕ) (t : Times) → AreApart low t.ended t.since covered → ContinuesTimes low covered t (record { ended = intervals_upto covered t; since = None })
 closed low covered t apart = closed_parts low covered t.ended t.since apart
 
@@ -35,6 +36,7 @@ pub record Place (from covered : ℕ) (is : List Interval) (i : Interval) : Type
   pub not_before : list_any (is_in_interval i.after) is ≡ false
   pub not_after : list_any (is_in_interval (suc i.last)) is ≡ false
 
+-- an interval of a list of them that are apart: the room is held in it, and not right before it or after it
 pub place : (from covered : ℕ) (is : List Interval) (i : Interval) → AreApart from is None covered → Contains is i → Place from covered is i
 place from covered [] i apart among = absurd (contains-none i among)
 place from covered (j ∷ js) i (a, b, c, rest) among = go (λ later. place (suc j.last) covered js i rest later) (contains-parts j js i among)
@@ -65,6 +67,7 @@ place from covered (j ∷ js) i (a, b, c, rest) among = go (λ later. place (suc
           not_after = or_from (is_in_interval (suc i.last) j) _ (beyond (suc i.last) j (omega arith)) at.not_after;
         }
 
+-- so it is a maximal interval of the positions at which the room is held
 pub place_maximal : (low covered : ℕ) (is : List Interval) (i : Interval) → Place low covered is i → IsMaximalInterval (λ p. list_any (is_in_interval p) is) low covered (suc i.after) i.last
 place_maximal low covered is i at =
     let above = at.above in
@@ -96,6 +99,7 @@ module _ (test : ℕ → Bool) (low high a b c d p : ℕ) (one : IsMaximalInterv
       let to = other.to_high in
       true≢false (sym (other.held (suc b) (omega arith) (omega arith)) ∙ one.not_after (suc b) (omega arith) refl)
 
+-- maximal intervals with a position in common have the same first and last positions
 pub maximal_same : (test : ℕ → Bool) (low high a b c d p : ℕ) → IsMaximalInterval test low high a b → IsMaximalInterval test low high c d
     → a ≤ p → p ≤ b → c ≤ p → p ≤ d → (a ≡ c) × (b ≡ d)
 maximal_same test low high a b c d p one other x y z w = grind (arith, not_earlier test low high a b c d p one other x y z w, not_earlier test low high c d a b p other one z w x y, not_shorter test low high a b c d p one other x y z w, not_shorter test low high c d a b p other one z w x y)

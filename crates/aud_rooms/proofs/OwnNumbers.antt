@@ -11,6 +11,7 @@ use Rattle.aud_node.specs.OwnRecords.{record_names, own_numbers}
 use Rattle.aud_rooms.specs.TurnPlaces.{is_between, own_between}
 use Rattle.aud_rooms.proofs.Ascending.{numbers_more, non_decreasing}
 
+-- the numbers of a session's records in a log ascend
 pub own_ascend : (log : List NodeRec) (pid : Text) → IsNonDecreasing (own_numbers log pid)
 own_ascend log pid = non_decreasing (λ number. record_names (slice_get log number) pid) 0 (length log)
 

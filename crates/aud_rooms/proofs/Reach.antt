@@ -29,19 +29,23 @@ module _ (olds news : RoomMap ℕ) (begun : List RoomSpan) (s : RoomSpan) (was :
             grind (arith, updates (record { ref_ptr = (0, 0); now = room }), is, same_text room_is room, was.same room p, greatest p, (eq_by_cmp_equiv nat_list_cmp_total).symm s.room room, or_none (reaches room p s), list_any-append (reaches room p) begun (s ∷ []));
       }
 
+-- of the first span of a room, its last position is the greatest
 pub greatest_first : (p last : ℕ) (o : Option ℕ) → o ≡ None → nat_le p last ≡ (do_pass (nat_le p) o || nat_le p last)
 greatest_first p last o none = ap (λ o. do_pass (nat_le p) o || nat_le p last) (sym none)
 
+-- of one more span of a room, the greater of the two last positions is kept
 pub greatest_of : (p one other : ℕ) (o : Option ℕ) → o ≡ Some other → nat_le p (max one other) ≡ (do_pass (nat_le p) o || nat_le p one)
 greatest_of p one other o some = grind (arith, le-leb p (max one other), leb-true p one, leb-true p other, lt-leb p (max one other), leb-false p one, leb-false p other, or_from (nat_le p other) (nat_le p one))
 
 -- ---- the rooms of the spans that hold a position
 
+-- a room is one of those whose spans hold the position where such a span of it is there
 any_within : (room : Text) (p : ℕ) (spans : List RoomSpan) → list_any (eq_by_cmp (slice_cmp nat_cmp) room) (map (λ (s : RoomSpan). s.room) (filter (is_within p) spans))
     ≡ list_any (λ s. is_within p s && is_eq (slice_cmp nat_cmp room s.room)) spans
 any_within room p [] = refl
 any_within room p (s ∷ spans) = grind (arith, any_within room p spans)
 
+-- the rooms by the spans contain a room where a span of it holds the position
 pub contains-rooms_by_spans : (spans : List RoomSpan) (p : ℕ) (room : Text) → set.contains (rooms_by_spans spans p) room ≡ list_any (λ s. is_within p s && is_eq (slice_cmp nat_cmp room s.room)) spans
 contains-rooms_by_spans spans p room =
     set.contains-from_list nat_list_cmp_total (map (λ (s : RoomSpan). s.room) (filter (is_within p) spans)) room ∙ any_within room p spans
@@ -55,12 +59,14 @@ module _ (p : ℕ) (room : Text) where
   any_ahead [] all = refl
   any_ahead (s ∷ ahead) (first, rest) = grind (arith, any_ahead ahead rest, lt-leb s.first p first)
 
+-- the rooms whose begun spans aren't over are those whose spans hold the position
 pub reached_rooms : (es : RoomMap ℕ) (begun ahead : List RoomSpan) (p : ℕ) → HasReached es begun → AllByRecursion (λ (s : RoomSpan). s.first ≤ p) begun → AllByRecursion (λ (s : RoomSpan). p < s.first) ahead
     → rooms_with (nat_le p) es ≡ rooms_by_spans (begun ++ ahead) p
 reached_rooms es begun ahead p reached past later = grind (arith, common_steps, nat_tests, same_rooms, contains-rooms_with, contains-rooms_by_spans, list_any-append, any_ahead, or_none, any_begun)
 
 -- ---- spans in the order of their first positions
 
+-- spans sorted by their first positions stand in the order of them
 pub sorted_by_first : (xs : List (Bor RoomSpan)) → IsNonDecreasingBy (λ (s : Bor RoomSpan). s.now.first) xs → AreByFirst (map (λ s. s.now) xs)
 sorted_by_first [] sorted = tt
 sorted_by_first (x ∷ xs) sorted = (each xs (λ k d h. sorted 0 (suc k) d (omega arith) (omega arith)), sorted_by_first xs (λ i j d a b. sorted (suc i) (suc j) d (omega arith) (omega arith)))

@@ -25,6 +25,7 @@ own_cursor stream i (Take off) pid cursor e = absurd (false≢true e)
 own_cursor stream zero _ pid cursor e = refl
 own_cursor stream (suc i) _ pid cursor e = refl
 
+-- the cursor after a session's own record is the one before it
 pub own_cursor_at : (stream : List StreamRec) (log : List NodeRec) (i : ℕ) (rec : NodeRec) (pid : Text) → slice_get log i ≡ Some rec → record_names (Some rec) pid ≡ true
     → cursor_at stream log (suc i) ≡ cursor_at stream log i
 own_cursor_at stream log i rec pid at e = ap (λ o. cursor_past stream i o (cursor_at stream log i)) at ∙ own_cursor stream i rec pid (cursor_at stream log i) e
@@ -35,6 +36,7 @@ other_rooms pid held (Join other room) e = ap (λ b. cond b (set.insert held roo
 other_rooms pid held (Leave other room) e = ap (λ b. cond b (set.remove held room) held) e
 other_rooms pid held _ e = refl
 
+-- what holds of all consecutive numbers holds of each of them
 all_at : (p : ℕ → Bool) (first count n : ℕ) → list_all p (numbers_from first count) ≡ true → first ≤ n → n < first + count → p n ≡ true
 all_at p first zero n all a b = absurd (omega arith)
 all_at p first (suc count) n all a b = grind (arith, common_steps, all_at p (suc first) count n, false≢true)
@@ -47,6 +49,7 @@ in_order_at stream (x ∷ xs) i rec ordered at h =
     ap (is_some_in_order stream i (cursor_at stream (x ∷ xs) i)) (sym at)
     ∙ all_at (λ number. is_some_in_order stream number (cursor_at stream (x ∷ xs) number) (slice_get (x ∷ xs) number)) 0 (length (x ∷ xs)) i ordered (omega arith) (omega arith)
 
+-- an offset that is of the position stands there
 position_is : (o : Option ℕ) (p : ℕ) → is_position o p ≡ true → o ≡ Some p
 position_is None p e = absurd (false≢true e)
 position_is (Some q) p e = ap Some (eqb-true q p e)

@@ -10,20 +10,24 @@ use Rattle.aud_rooms.specs.Rooms.{Rooms}
 use Rattle.aud_rooms.specs.Private.RoomMap.{RoomMap, at_room, do_pass, rooms_with}
 use Rattle.std.specs.Cmp.{eq_by_cmp_equiv}
 
+-- rooms that the order of bytes takes for equal are the same
 pub same_text : (a b : Text) → eq_by_cmp (slice_cmp nat_cmp) a b ≡ true → a ≡ b
 same_text a b e = (bytes_decides a b).0 (texts_ties a b ∙ e)
 
 pub itself : (a : Text) → eq_by_cmp (slice_cmp nat_cmp) a a ≡ true
 itself a = sym (texts_ties a a) ∙ (bytes_decides a a).1 refl
 
+-- a room is among those that a test keeps where it is there and passes
 any_kept : (q : Text) (keep : Text → Bool) (keys : List Text) → list_any (eq_by_cmp (slice_cmp nat_cmp) q) (filter keep keys) ≡ (list_any (eq_by_cmp (slice_cmp nat_cmp) q) keys && keep q)
 any_kept q keep [] = refl
 any_kept q keep (k ∷ keys) = grind (arith, any_kept q keep keys, same_text q k)
 
+-- a room is one of the map's where something is kept of it
 any_key : {X : Type 0} (es : RoomMap X) (q : Text) → list_any (eq_by_cmp (slice_cmp nat_cmp) q) (map (λ e. e.0.now) es) ≡ is_some (at_room es q)
 any_key [] q = refl
 any_key (e ∷ es) q = grind (arith, any_key es q)
 
+-- a room is among those with what passes the test where what is kept of it passes
 pub contains-rooms_with : {X : Type 0} (test : X → Bool) (es : RoomMap X) (q : Text) → set.contains (rooms_with test es) q ≡ do_pass test (at_room es q)
 unfolding rooms_with
 contains-rooms_with {X} test es q =
@@ -36,6 +40,7 @@ contains-rooms_with {X} test es q =
     either None = refl
     either (Some x) = refl
 
+-- sets that contain the same rooms are one
 pub same_rooms : (a b : Rooms) → ((q : Text) → set.contains a q ≡ set.contains b q) → a ≡ b
 same_rooms a b same = set.same_set nat_list_cmp_total (set.slice_cmp-IsAntisymmetric set.nat_cmp-IsAntisymmetric) a b same
 

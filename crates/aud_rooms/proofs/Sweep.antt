@@ -22,22 +22,27 @@ use Rattle.aud_rooms.specs.Private.Candidates.{is_for_spans}
 use Rattle.aud_rooms.proofs.RoomMaps.{same_rooms}
 use Rattle.aud_rooms.proofs.Reach.{reached_rooms, contains-rooms_by_spans}
 
+-- what holds of all elements carries over to what follows from it for each
 all_map : {X : Type 0} (P Q : X → Type 0) → ((x : X) → P x → Q x) → (xs : List X) → AllByRecursion P xs → AllByRecursion Q xs
 all_map P Q f [] all = tt
 all_map P Q f (x ∷ xs) (first, rest) = (f x first, all_map P Q f xs rest)
 
+-- of two things that hold of all elements, what follows from both for each
 all_zip : {X : Type 0} (P Q R : X → Type 0) → ((x : X) → P x → Q x → R x) → (xs : List X) → AllByRecursion P xs → AllByRecursion Q xs → AllByRecursion R xs
 all_zip P Q R f [] ps qs = tt
 all_zip P Q R f (x ∷ xs) (p, ps) (q, qs) = (f x p q, all_zip P Q R f xs ps qs)
 
+-- what holds of any element holds of all in a list
 all_each : {X : Type 0} (P : X → Type 0) → ((x : X) → P x) → (xs : List X) → AllByRecursion P xs
 all_each P f [] = tt
 all_each P f (x ∷ xs) = (f x, all_each P f xs)
 
+-- what holds of all elements holds of all in the front and of all in the rest
 all_parts : {X : Type 0} (P : X → Type 0) (xs ys : List X) → AllByRecursion P (xs ++ ys) → AllByRecursion P xs × AllByRecursion P ys
 all_parts P [] ys all = (tt, all)
 all_parts P (x ∷ xs) ys (first, rest) = (let parts = all_parts P xs ys rest in ((first, parts.0), parts.1))
 
+-- what holds of all elements, and of one more, holds of all with it
 all_more : {X : Type 0} (P : X → Type 0) (xs : List X) (x : X) → AllByRecursion P xs → P x → AllByRecursion P (xs ++ x ∷ [])
 all_more P [] x all is = (is, tt)
 all_more P (y ∷ xs) x (first, rest) is = (first, all_more P xs x rest is)
@@ -93,9 +98,11 @@ module _ (all : List RoomSpan) (stream : List StreamRec) (nsp : Text) (found : L
 
 -- ---- the sweep's steps, over lent spans
 
+-- the spans that the code lends
 abbrev seen : List (Bor RoomSpan) → List RoomSpan
 seen xs = map (λ (s : Bor RoomSpan). s.now) xs
 
+-- the spans that have begun, and then those ahead, are all of them
 seen_parts : (xs : List (Bor RoomSpan)) (i : ℕ) → seen xs ≡ seen (take i xs) ++ seen (drop i xs)
 seen_parts xs i = ap seen (sym (take-append-drop i xs)) ∙ map-append (λ (s : Bor RoomSpan). s.now) (take i xs) (drop i xs)
 
@@ -132,6 +139,7 @@ module _ (xs : List (Bor RoomSpan)) (stream : List StreamRec) (nsp : Text) (foun
 
 -- ---- spans in another order
 
+-- the order in which the spans stand doesn't matter to which positions are due
 pub for_permuted : (spans others : List RoomSpan) (stream : List StreamRec) (nsp : Text) (found : List ℕ) → IsPermutation spans others
     → filter (is_for_spans others stream nsp) found ≡ filter (is_for_spans spans stream nsp) found
 for_permuted spans others stream nsp found permuted = filter_agree _ _ (λ p. ap (is_for (entry stream p) nsp) (rooms p)) found

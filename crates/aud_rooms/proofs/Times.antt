@@ -12,12 +12,15 @@ use Rattle.aud_base.proofs.Truth.{and_true, or_none}
 use Rattle.aud_rooms.specs.declared.interval.Interval.{Interval}
 use Rattle.aud_rooms.specs.Private.Times.{Times, is_in_interval, is_past_start, is_held_at, is_held_now, AreApart, ContinuesTimes}
 
+-- a position no further than where an interval begins isn't in it
 pub before : (p : ℕ) (i : Interval) → p ≤ i.after → is_in_interval p i ≡ false
 before p i h = ap (λ b. b && nat_le p i.last) (le-ltb i.after p h)
 
+-- a position past the end of an interval isn't in it
 pub beyond : (p : ℕ) (i : Interval) → i.last < p → is_in_interval p i ≡ false
 beyond p i h = and_right (nat_lt i.after p) (nat_le p i.last) (lt-leb p i.last h)
 
+-- a position past where an interval begins, up to its last, is in it
 pub inside : (p : ℕ) (i : Interval) → i.after < p → p ≤ i.last → is_in_interval p i ≡ true
 inside p i a b = ap (λ x. x && nat_le p i.last) (lt-ltb i.after p a) ∙ le-leb p i.last b
 
@@ -61,6 +64,7 @@ apart_resumed : (from covered : ℕ) (is : List Interval) (i : Interval) → i.l
 apart_resumed from covered [] i ends (a, b, c, rest) = (a, omega arith)
 apart_resumed from covered (j ∷ js) i ends (a, b, c, rest) = (a, b, c, apart_resumed (suc j.last) covered js i ends rest)
 
+-- a room that is held again at the last position of its last interval: that interval is opened again
 pub resumed : (low covered : ℕ) (is old : List Interval) (i : Interval) → old ≡ is ++ i ∷ [] → i.last ≡ covered → AreApart low old None covered
     → ContinuesTimes low covered (record { ended = old; since = None }) (record { ended = is; since = Some i.after })
 resumed low covered is old i parts ends apart =
@@ -75,13 +79,16 @@ apart_begun : (from covered : ℕ) (is : List Interval) (i : Interval) → i.las
 apart_begun from covered [] i ends (a, b, c, rest) = (a, b, c, (omega arith, omega arith))
 apart_begun from covered (j ∷ js) i ends (a, b, c, rest) = (a, b, c, apart_begun (suc j.last) covered js i ends rest)
 
+-- the last of the intervals ends within the covered positions
 last_upto : (from covered : ℕ) (is : List Interval) (i : Interval) → AreApart from (is ++ i ∷ []) None covered → i.last ≤ covered
 last_upto from covered [] i (a, b, c, rest) = c
 last_upto from covered (j ∷ js) i (a, b, c, rest) = last_upto (suc j.last) covered js i rest
 
+-- what is held from the covered position on changes no covered position
 same_begun : (covered p : ℕ) (is : List Interval) → p ≤ covered → (list_any (is_in_interval p) is || nat_lt covered p) ≡ (list_any (is_in_interval p) is || false)
 same_begun covered p is h = ap (λ b. list_any (is_in_interval p) is || b) (le-ltb covered p h)
 
+-- a room that is held again past its last interval: a new one begins at the covered position
 pub begun : (low covered : ℕ) (is old : List Interval) (i : Interval) → old ≡ is ++ i ∷ [] → (i.last ≡ covered → ⊥) → AreApart low old None covered
     → ContinuesTimes low covered (record { ended = old; since = None }) (record { ended = old; since = Some covered })
 begun low covered is old i parts apart_from apart =
@@ -103,6 +110,7 @@ pub apart_unused : (from covered after : ℕ) (is : List Interval) → AreApart 
 apart_unused from covered after [] apart = tt
 apart_unused from covered after (i ∷ is) (a, b, c, rest) = (a, b, c, apart_unused (suc i.last) covered after is rest)
 
+-- a room that is left: its open interval ends with the covered position, where it has positions
 pub ended : (low covered after : ℕ) (is : List Interval) → after < covered → AreApart low is (Some after) covered
     → ContinuesTimes low covered (record { ended = is; since = Some after }) (record { ended = is ++ record { after = after; last = covered } ∷ []; since = None })
 ended low covered after is h apart =
@@ -112,6 +120,7 @@ ended low covered after is h apart =
           grind (arith, list_any-append (is_in_interval p) is (record { after = after; last = covered } ∷ []), or_none (nat_lt after p && nat_le p covered), le-leb p covered to, and_true (nat_lt after p), or_none (list_any (is_in_interval p) (is ++ record { after = after; last = covered } ∷ [])));
     }
 
+-- an open interval without positions is dropped, and the room was held at none for it
 pub unused : (low covered after : ℕ) (is : List Interval) → covered ≤ after → AreApart low is (Some after) covered
     → ContinuesTimes low covered (record { ended = is; since = Some after }) (record { ended = is; since = None })
 unused low covered after is h apart =
@@ -125,6 +134,7 @@ pub shut_used : (low covered after : ℕ) (t : Times) (old new : List Interval) 
     → new ≡ old ++ record { after = after; last = covered } ∷ [] → AreApart low t.ended t.since covered → ContinuesTimes low covered t (record { ended = new; since = None })
 shut_used low covered after t old new since seen held some is = grind (arith, ended, ended low covered after old some)
 
+-- the same, for times seen through the fields of what keeps them
 pub shut_unused : (low covered after : ℕ) (t : Times) (old : List Interval) (since : Option ℕ) → record { ended = old; since = since } ≡ t → since ≡ Some after → covered ≤ after
     → AreApart low t.ended t.since covered → ContinuesTimes low covered t (record { ended = old; since = None })
 shut_unused low covered after t old since seen held none = grind (arith, ended, unused low covered after old none)

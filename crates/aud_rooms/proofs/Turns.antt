@@ -25,10 +25,12 @@ begins-same who zero (suc n) e = absurd (false≢true e)
 begins-same who (suc k) zero e = absurd (false≢true e)
 begins-same who (suc k) (suc n) e = sym (eqb-true (suc n) (suc k) (and_parts _ _ e).1)
 
+-- the record that begins turn k begins it
 pub beginning-begins : (who : Who) (k : ℕ) → begins_turn who.pid k (beginning who k) ≡ true
 beginning-begins who zero = itself_text who.pid
 beginning-begins who (suc k) = ap (λ b. b && nat_eq (suc k) (suc k)) (itself_text who.pid) ∙ eq-eqb (suc k) (suc k) refl
 
+-- a record that begins some turn is foreign to each turn after its first record
 begins-foreign : (pid : Text) (n k : ℕ) (rec : NodeRec) → begins_turn pid n rec ≡ true → part_of pid k rec ≡ Foreign
 begins-foreign pid zero k (Opened other sid nsp) e = ap (λ b. cond b Foreign Inner) e
 begins-foreign pid (suc n) k (Back other number) e = ap (λ b. cond b Foreign Inner) (and_parts _ _ e).0
@@ -42,6 +44,7 @@ end_parts (Last last) [] rest e is = inr (ap Last (same_Some last e is), refl)
 end_parts (Last last) (rec ∷ recs) rest e is = absurd (none-some e is)
 end_parts Foreign recs rest e is = absurd (none-some e is)
 
+-- among the records of a turn that ends there is none that is foreign to it
 no_foreign : (pid : Text) (k : ℕ) (recs : List NodeRec) (e : End) (j : ℕ) (rec : NodeRec) → turn_end pid k recs ≡ Some e → slice_get recs j ≡ Some rec → part_of pid k rec ≡ Foreign → ⊥
 no_foreign pid k [] e j rec ends at foreign = none-some rec at
 no_foreign pid k (x ∷ xs) e zero rec ends at foreign =
@@ -70,6 +73,7 @@ pub record Stands (c : Cluster) (who : Who) (k : ℕ) (turns : List Turn) (node 
   pub from_le : turn.from ≤ number
   pub below : number < turn.to
 
+-- a record that stands in the turns stands in one of them, and that is a turn of the session
 pub stands : (c : Cluster) (who : Who) (k : ℕ) (turns : List Turn) (node number : ℕ) → AreTurns c who k turns → StandsIn node number turns → Stands c who k turns node number
 stands c who k [] node number are is = absurd is
 stands c who k (t ∷ later) node number are (inl here) =

@@ -13,18 +13,22 @@ use Rattle.aud_rooms.proofs.Members.{contains-none, contains-parts, contains-fir
 less≢greater : Less ≡ Greater → ⊥
 less≢greater e = subst (λ o. elim o as (λ _. Type 0) [ Less ↦ Unit {0} | Equal ↦ ⊥ | Greater ↦ ⊥ ]) e tt
 
+-- of two rooms only one comes before the other
 not_both : (a b : Text) → slice_cmp nat_cmp a b ≡ Less → slice_cmp nat_cmp b a ≡ Less → ⊥
 not_both a b x y = less≢greater (sym x ∙ nat_list_cmp_total.antisymm a b ∙ ap ordering_reverse y)
 
+-- no room comes before itself
 not_itself : (a : Text) → slice_cmp nat_cmp a a ≡ Less → ⊥
 not_itself a x = not_both a a x x
 
+-- of two spans only one comes before the other
 one_way : (a b : RoomSpan) → ComesBefore a b → ComesBefore b a → ⊥
 one_way a b (inl x) (inl y) = not_both a.room b.room x y
 one_way a b (inl x) (inr (same, later)) = not_itself a.room (ap (slice_cmp nat_cmp a.room) (sym same) ∙ x)
 one_way a b (inr (same, later)) (inl y) = not_itself b.room (ap (slice_cmp nat_cmp b.room) (sym same) ∙ y)
 one_way a b (inr (same, later)) (inr (other, earlier)) = omega arith
 
+-- a span that comes before all others comes before each of them
 before_each : (a : RoomSpan) (spans : List RoomSpan) (s : RoomSpan) → ComesBeforeAll a spans → Contains spans s → ComesBefore a s
 before_each a [] s all among = absurd (contains-none s among)
 before_each a (b ∷ spans) s (first, later) among = grind (arith, before_each a spans s later, contains-parts b spans s among)
@@ -40,12 +44,14 @@ module _ (x : RoomSpan) (xs : List RoomSpan) (y : RoomSpan) (ys : List RoomSpan)
   rest_back : (s : RoomSpan) → Contains ys s → Contains xs s
   rest_back s among = grind (arith, contains-parts x xs s (back s (contains-later y ys s among)), contains-later y ys s among, before_each y ys s b.0 among, same_first, one_way y y)
 
+-- two lists of spans in order that contain the same spans are one
 pub same_list : (xs ys : List RoomSpan) → AreInOrder xs → AreInOrder ys → ((s : RoomSpan) → Contains xs s → Contains ys s) → ((s : RoomSpan) → Contains ys s → Contains xs s) → xs ≡ ys
 same_list [] [] a b there back = refl
 same_list [] (y ∷ ys) a b there back = absurd (contains-none y (back y (contains-first y ys)))
 same_list (x ∷ xs) [] a b there back = absurd (contains-none x (there x (contains-first x xs)))
 same_list (x ∷ xs) (y ∷ ys) a b there back = grind (arith, same_list xs ys a.1 b.1 (rest_there x xs y ys a b there back) (rest_back x xs y ys a b there back), same_first x xs y ys a b there back, rest_there x xs y ys a b there back, rest_back x xs y ys a b there back)
 
+-- the spans of rooms are settled: there is one list of them
 pub unique : (rooms_at : ℕ → Rooms) (low high : ℕ) (one other : List RoomSpan) → AreSpans rooms_at low high one → AreSpans rooms_at low high other → one ≡ other
 unique rooms_at low high one other a b =
     same_list one other a.in_order b.in_order (λ s among. b.all s (a.each s among)) (λ s among. a.all s (b.each s among))

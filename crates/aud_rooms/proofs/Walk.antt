@@ -26,9 +26,11 @@ use Rattle.aud_rooms.proofs.Records.{own_cursor_at, other_rooms, rooms_at_take-i
 use Rattle.aud_node.proofs.RecordLemmas.{cursor_at-rises}
 use Rattle.aud_base.proofs.Lists.{element_at, between-none}
 
+-- the positions covered before keep their rooms as more are covered
 get-front : {X : Type 0} (xs ys : List X) (i : ℕ) → i < length xs → slice_get (xs ++ ys) i ≡ slice_get xs i
 get-front xs ys i h = grind (arith, common_steps, gets)
 
+-- the positions that are covered anew all have the rooms held now
 get-back : {X : Type 0} (xs : List X) (count : ℕ) (y : X) (i : ℕ) → length xs ≤ i → i < length xs + count → slice_get (xs ++ replicate count y) i ≡ Some y
 get-back xs count y i h g = grind (arith, common_steps, gets, get_or-replicate, length-replicate)
 
@@ -170,6 +172,7 @@ record Walked (c : Cluster) (pid : Text) (t : Turn) (a b : Assigned) : Type 0 wh
       → assigned_rooms b p ≡ cond (nat_le p (slice_of c t).low) a.held (rooms_at_take c.stream pid p a.held (slice_of c t).recs)
   held : b.held ≡ rooms_at_end pid a.held (slice_of c t).recs
 
+-- what is told of a turn gives its positions the rooms that the turn gives them
 turn_walked : (c : Cluster) (pid : Text) (t : Turn) (in_order : IsInOrder c t) (a : Assigned) → Walked c pid t a (walked_turn c pid t a)
 turn_walked c pid t in_order a =
     let low = (slice_of c t).low in
@@ -200,6 +203,7 @@ record AllWalked (c : Cluster) (pid : Text) (turns : List Turn) (a b : Assigned)
   inside : (p : ℕ) → covered a < p → p ≤ greatest_high (map (slice_of c) turns)
       → rooms_for c.stream pid a.held (map (slice_of c) turns) p ≡ Some (assigned_rooms b p)
 
+-- what is told of turns, one after the other, gives their positions the rooms that they give
 turns_walked : (c : Cluster) (pid : Text) (turns : List Turn) → All (IsInOrder c) turns → (a : Assigned) → AllWalked c pid turns a (walked_turns c pid turns a)
 turns_walked c pid [] in_order a =
     record { low = refl; upto = omega arith; kept = λ p x y. refl; inside = λ p x y. absurd (omega (arith, x, y)) }
@@ -218,6 +222,7 @@ turns_walked c pid (t ∷ turns) in_order a = go (turn_walked c pid t (All-head 
           inside = λ p x y. grind (arith, low, upto, rest.inside p, rest.kept p, one.inside p, one.held, lt-leb p (slice_of c t).high, le-leb p (slice_of c t).high);
         }
 
+-- the first low is no greater than the greatest high
 lowest : (c : Cluster) (turns : List Turn) → All (IsInOrder c) turns → first_low (map (slice_of c) turns) ≤ greatest_high (map (slice_of c) turns)
 lowest c [] in_order = omega arith
 lowest c (t ∷ turns) in_order = grind (arith, All-head (IsInOrder c) t turns in_order, cursor_at-rises c.stream (node_log c t.node) (suc t.from) t.to)

@@ -21,13 +21,16 @@ use Rattle.aud_verdict.proofs.Decided.{Decided, decided, both, stable, at_most}
 use Rattle.aud_verdict.proofs.Cases.{all_received}
 use Rattle.aud_verdict.proofs.SpansDecided.{are_spans}
 
+-- two numbers are equal or not
 equal : (m n : ℕ) → Decided (m ≡ n)
 equal m n = decided (nat_eq m n) (Decides-eqb m n)
 
+-- there are later turns, or none
 none_later : (later : List Turn) → Decided (later ≡ [])
 none_later [] = inl refl
 none_later (t ∷ later) = inr (λ (e : t ∷ later ≡ []). cc)
 
+-- a turn may end so before these later turns, or it may not
 may_end : (c : Cluster) (t : Turn) (later : List Turn) (end : End) → Decided (MayEnd c t later end)
 may_end c t later ByBreak = inl tt
 may_end c t later ByGone = none_later later

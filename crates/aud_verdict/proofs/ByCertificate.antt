@@ -37,6 +37,7 @@ use Rattle.aud_verdict.proofs.MadeLemmas.{there, who_is}
 
 -- ---- the four faults without a certificate
 
+-- what the making of a certificate finds is a fault of the verdict, in the same order
 found : (c : Cluster) (pid : Text) (fault : Fault) → maker.HasMakeFault c pid fault → (verdict_rank fault < 4) × (maker.make_fault_rank fault ≡ verdict_rank fault) × Holds c pid fault
 found c pid NoLog h = (omega arith, refl, h)
 found c pid Chain h = (omega arith, refl, h)
@@ -44,6 +45,7 @@ found c pid Order h = (omega arith, refl, h)
 found c pid Client h = (omega arith, refl, h)
 found c pid _ h = absurd h
 
+-- a fault of the verdict without a certificate is one that the making finds
 known : (c : Cluster) (pid : Text) (fault : Fault) → verdict_rank fault < 4 → Holds c pid fault → maker.HasMakeFault c pid fault × (maker.make_fault_rank fault ≡ verdict_rank fault)
 known c pid NoLog h holds = (holds, refl)
 known c pid Chain h holds = (holds, refl)
@@ -51,6 +53,7 @@ known c pid Order h holds = (holds, refl)
 known c pid Client h holds = (holds, refl)
 known c pid _ h holds = absurd (omega arith)
 
+-- where no certificate is made, the fault found is the verdict's first
 pub not_made : (c : Cluster) (pid : Text) (fault : Fault) → maker.IsFirstMakeFault c pid fault → HoldsFirst c pid fault
 not_made c pid fault is =
     let (front, own, holds) = found c pid fault is.holds in
@@ -58,6 +61,7 @@ not_made c pid fault is =
 
 -- ---- a made certificate
 
+-- what the client at a place received, against what was due
 abbrev case_with : Cluster → ℕ → Text → List ℕ → Case
 case_with c place pid due =
     record {
@@ -72,6 +76,7 @@ case_with c place pid due =
 abbrev Placed : Case → Fault → Type 0
 Placed case f = (fault_rank f ≡ min (verdict_rank f - 5) 3 + (verdict_rank f - 11)) × (5 ≤ verdict_rank f) × (verdict_rank f ≤ 12) × (8 ≤ verdict_rank f → verdict_rank f ≤ 11 → mismatch_fault case ≡ Some f)
 
+-- a fault of what was received comes in the verdict's order as in the check's
 placed : (case : Case) (f : Fault) → HasFault case f → Placed case f
 placed case Frame h = (omega arith, omega arith, omega arith, λ a b. absurd (omega arith))
 placed case Orphan h = (omega arith, omega arith, omega arith, λ a b. absurd (omega arith))
@@ -83,6 +88,7 @@ placed case (Lost off) h = (omega arith, omega arith, omega arith, λ a b. h)
 placed case (Window n) h = (omega arith, omega arith, omega arith, λ a b. absurd (omega arith))
 placed case _ h = absurd h
 
+-- so one that comes earlier in the verdict comes earlier in the check
 lower : (case : Case) (g f : Fault) → verdict_rank g < verdict_rank f → HasFault case g → HasFault case f → fault_rank g < fault_rank f
 lower case g f less h k =
     let (g_is, g_low, g_high, g_mismatch) = placed case g h in
@@ -92,9 +98,11 @@ lower case g f less h k =
       | inr after ↦ (let one : verdict_rank g ≡ verdict_rank f = ap verdict_rank (same_Some g f (sym (g_mismatch (omega arith) (omega arith)) ∙ f_mismatch (omega arith) (omega arith))) in absurd (omega arith))
     ]
 
+-- a fault of what was received comes after those that need no certificate
 pub late : (case : Case) (f : Fault) → HasFault case f → 4 ≤ verdict_rank f
 late case f h = let (is, low, high, mismatched) = placed case f h in omega arith
 
+-- a fault of what was received is one of the session
 pub as_held : (c : Cluster) (s : SessionLogs) (f : Fault) → HasFault (session_case c s) f → HoldsOf c s f
 as_held c s Names h = absurd h
 as_held c s f h = h

@@ -17,6 +17,7 @@ use Rattle.aud_check.proofs.Agreed.{mismatch-none}
 use Rattle.aud_check.proofs.Mismatched.{none_mismatched}
 use Rattle.aud_verdict.proofs.Decided.{Decided, decided, both}
 
+-- a frame is its entry, byte for byte, or it isn't
 is_of : (frame : FrameSeen) (at : Option StreamRec) → Decided (IsOf frame at)
 is_of frame None = inr (λ h. h)
 is_of frame (Some (Ev event)) =

@@ -21,6 +21,7 @@ use Rattle.aud_verdict.proofs.Sessions.{at_session, held}
 use Rattle.aud_verdict.proofs.ByCertificate.{late, as_held}
 use Rattle.aud_verdict.proofs.Cases.{all_received}
 
+-- what the merging law says: in every run what is due to a session is its due list by turns
 abbrev pub DueByTurns : Type 0
 DueByTurns = (c : Cluster) (run : List Step) (who : Who) (turns : List Turn) → IsRun c run → IsChain c who turns → due c run who.pid ≡ turns_due c.stream who (map (slice_of c) turns)
 

@@ -37,9 +37,11 @@ accepted-turn c who k t later is ordered there those =
       cursors = record { ordered = rw place ordered; low_is = ap (λ (node : ℕ). cursor_at c.stream (node_log c node) (suc t.from)) (sym place); high_is = ap (λ (node : ℕ). cursor_at c.stream (node_log c node) t.to) (sym place) };
     }
 
+-- two lists that are one have one first turn, and the same later ones
 first_is : (a b : Turn) (left right : List Turn) → a ∷ left ≡ b ∷ right → (a ≡ b) × (left ≡ right)
 first_is a b left right e = (cc, cc)
 
+-- each turn of a made certificate is accepted, in ordered logs
 accepted-from : (c : Cluster) (who : Who) (n : ℕ) (turns : List Turn) → AreTurns c who n turns → list_all (is_turn_ordered c) turns ≡ true
     → map (turn_at c) (map (turn_seen c) turns) ≡ turns → (k : ℕ) (t : TurnSeen) → slice_get (map (turn_seen c) turns) k ≡ Some t
     → IsTurnAccepted c who.pid (n + k) t (drop (suc k) (map (turn_seen c) turns))
@@ -54,6 +56,7 @@ accepted-from c who n (u ∷ us) are ordered there (suc k) t at =
     let parts = first_is (turn_at c (turn_seen c u)) u (map (turn_at c) (map (turn_seen c) us)) us there in
     rw same (accepted-from c who (suc n) us are.1 (and_parts (is_turn_ordered c u) (list_all (is_turn_ordered c) us) ordered).1 parts.1 k t at)
 
+-- the first record that a made certificate shows is the session's `open`
 first-opened : (c : Cluster) (who : Who) (turns : List Turn) → 0 < length turns → AreTurns c who 0 turns → first_record (map (turn_seen c) turns) ≡ Some (beginning who 0)
 first-opened c who [] some are = absurd (omega arith)
 first-opened c who (t ∷ turns) some are = rw (between-more (node_log c t.node) t.from t.to (beginning who 0) are.0.some are.0.begins) refl
@@ -105,6 +108,7 @@ pub of_session : (c : Cluster) (cert : CertificateSeen) (refusal : Refusal) → 
 of_session c cert Memory first so = tt
 of_session c cert refusal first so = so first.place first.refuses
 
+-- what refuses a made certificate is its names, what was received, or want of memory
 pub no_other : (refusal : Refusal) → IsOfSession refusal → (refusal ≡ Names → ⊥) → ((fault : Fault) → refusal ≡ Received fault → ⊥) → (refusal ≡ Memory → ⊥) → ⊥
 no_other Names is no_names no_received no_memory = no_names refl
 no_other (Received fault) is no_names no_received no_memory = no_received fault refl

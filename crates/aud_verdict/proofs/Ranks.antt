@@ -28,6 +28,7 @@ about (Swapped off) = off
 about (Lost off) = off
 about _ = []
 
+-- the number that a fault is about
 abbrev counted : Fault → ℕ
 counted (Window c) = c
 counted (Tail n) = n
@@ -38,6 +39,7 @@ abbrev by_rank : Text → ℕ → List Fault
 by_rank off n =
     NoLog ∷ Chain ∷ Order ∷ Client ∷ Names ∷ Frame ∷ Orphan ∷ Content off ∷ Extra off ∷ Doubled off ∷ Swapped off ∷ Lost off ∷ Window n ∷ Tail n ∷ []
 
+-- a fault stands at its rank, among those about its offset and number
 stands : (fault : Fault) → slice_get (by_rank (about fault) (counted fault)) (verdict_rank fault) ≡ Some fault
 stands NoLog = refl
 stands _ = refl
@@ -61,6 +63,7 @@ one_altered stream (frame ∷ before) (head ∷ first) altered other after rest 
     let later : before ++ altered ∷ after ≡ first ++ other ∷ rest = cc in
     one_altered stream before first altered other after rest later are.1 not too.1 nor
 
+-- one frame at most is the first that isn't its entry
 same_altered : (stream : List StreamRec) (frames : List FrameSeen) (altered other : FrameSeen) → IsFirstAltered stream frames altered → IsFirstAltered stream frames other → altered ≡ other
 same_altered stream frames altered other is too =
     one_altered stream is.before too.before altered other is.after too.after (sym is.parts ∙ too.parts) is.are_entries is.is_altered too.are_entries too.is_altered

@@ -16,6 +16,7 @@ step_ok : {A B : Type 0} (r : Result A CertFault) (f : A → Result B CertFault)
 step_ok (Ok x) f y e = (x, refl, e)
 step_ok (Err fault) f y e = cc
 
+-- what goes on after a guard: its condition holds
 guard_ok : {B : Type 0} (fault : CertFault) (b : Bool) (r : Result B CertFault) (y : B) → (guard fault b >>= (λ u. r)) ≡ Ok y → (b ≡ true) × (r ≡ Ok y)
 guard_ok fault true r y e = (refl, e)
 guard_ok fault false r y e = cc
@@ -28,12 +29,15 @@ of_turns transcript turns = record { pid = transcript.pid; client = transcript.c
 abbrev within : Cluster → CertificateSeen → Result CertificateSeen CertFault
 within c cert = guard Range (is_certificate_within c cert) >>= (λ u. Ok cert)
 
+-- the steps after the parsing: the form, the logs, and the limits
 abbrev formed : Cluster → ParsedCertificate → Result CertificateSeen CertFault
 formed c transcript = guard Syntax (is_formed transcript) >>= (λ u. certificate_over c transcript >>= within c)
 
+-- two results that are one have one value
 same_ok : {A : Type 0} (x y : A) → ◌≡◌ {A = Result A CertFault} (Ok x) (Ok y) → x ≡ y
 same_ok x y e = cc
 
+-- a certificate that was read has the pid, client and spans that were told, and its turns over the logs
 told_over : (c : Cluster) (transcript : ParsedCertificate) (cert : CertificateSeen) → certificate_over c transcript ≡ Ok cert
     → (turns : List TurnSeen) × (each (turn_over c) transcript.turns ≡ Ok turns) × (of_turns transcript turns ≡ cert)
 unfolding certificate_over
@@ -42,10 +46,12 @@ told_over c transcript cert e =
     let (turns, are, is) = step_ok (each (turn_over c) transcript.turns) (λ turns. Ok (of_turns transcript turns)) cert rest in
     (turns, are, same_ok (of_turns transcript turns) cert is)
 
+-- a certificate that is well formed has a turn
 some_told : (turns : List ParsedTurn) → has_turns turns ≡ true → 0 < length turns
 some_told [] e = absurd (false≢true e)
 some_told (t ∷ turns) e = omega arith
 
+-- a certificate that was parsed and read is over the logs, and has a turn
 of_told : (c : Cluster) (transcript : ParsedCertificate) (cert : CertificateSeen) → formed c transcript ≡ Ok cert → IsOver c cert × (0 < length cert.turns)
 of_told c transcript cert e =
     let (is_formed, rest) = guard_ok Syntax (is_formed transcript) (certificate_over c transcript >>= within c) cert e in
@@ -57,6 +63,7 @@ of_told c transcript cert e =
     let long = each-length (turn_over c) transcript.turns turns are in
     rw (← all) (turns-over c transcript.turns turns are, omega (arith, some, long))
 
+-- a certificate that a text names is over the logs, and has a turn
 pub read_over : (c : Cluster) (text : Text) (cert : CertificateSeen) → certificate_of c text ≡ Ok cert → IsOver c cert × (0 < length cert.turns)
 unfolding certificate_of
 read_over c text cert e =

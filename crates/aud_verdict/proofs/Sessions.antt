@@ -25,12 +25,15 @@ use Rattle.aud_check.specs.Shown.{recs_or_none}
 use Rattle.aud_verdict.specs.Session.{SessionLogs, IsSession, client_log, transcript, own_stays}
 use Rattle.aud_verdict.specs.Faults.{HasOtherNames, HoldsOf, Holds, verdict_rank}
 
+-- a session by its pid, sid and namespace
 abbrev pub who_with : Text → Text → Text → Who
 who_with pid sid nsp = record { pid = pid; sid = sid; nsp = nsp }
 
+-- a session by its names, its turns and the place of its client's tap
 abbrev session_with : Who → List Turn → ℕ → SessionLogs
 session_with who turns client = record { who = who; turns = turns; client = client }
 
+-- a chain has one `open`, so the names that go with its turns are settled
 one_who : (c : Cluster) (one other : Who) (turns : List Turn) → one.pid ≡ other.pid → IsChain c one turns → IsChain c other turns → one ≡ other
 one_who c one other turns same is too =
     let opened = opening-names c one turns is.some is.are_turns in
@@ -38,6 +41,7 @@ one_who c one other turns same is too =
     let parts = some_pair_parts one.sid other.sid one.nsp other.nsp (sym opened ∙ again) in
     ap (λ x. who_with x one.sid one.nsp) same ∙ ap (λ x. who_with other.pid x one.nsp) parts.0 ∙ ap (who_with other.pid other.sid) parts.1
 
+-- a pid has one session at most
 pub one_session : (c : Cluster) (pid : Text) (one other : SessionLogs) → IsSession c pid one → IsSession c pid other → one ≡ other
 one_session c pid one other is too =
     let named : other.who.pid ≡ one.who.pid = too.names ∙ sym is.names in

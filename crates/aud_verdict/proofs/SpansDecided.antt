@@ -18,12 +18,15 @@ use Rattle.aud_rooms.specs.Rooms.{Rooms}
 use Rattle.aud_rooms.specs.Spans.{RoomSpan, IsMaximalInterval, ComesBefore, ComesBeforeAll, AreInOrder, AreSpans}
 use Rattle.aud_verdict.proofs.Decided.{Decided, decided, both, either, stable, less, at_most}
 
+-- a room from a first position to a last one
 abbrev span_with : Text → ℕ → ℕ → RoomSpan
 span_with room first last = record { room = room; first = first; last = last }
 
+-- the test of whether two spans are one
 abbrev same_span : RoomSpan → RoomSpan → Bool
 same_span a b = bytes_eq a.room b.room && (nat_eq a.first b.first && nat_eq a.last b.last)
 
+-- that test passes where they are one, and only there
 same_span-Decides : (a b : RoomSpan) → Decides (same_span a b) (a ≡ b)
 same_span-Decides a b =
     Decides-like (same_span a b) there (λ e. (ap (λ (s : RoomSpan). s.room) e, (ap (λ (s : RoomSpan). s.first) e, ap (λ (s : RoomSpan). s.last) e)))
@@ -33,27 +36,33 @@ same_span-Decides a b =
     there : (a.room ≡ b.room) × ((a.first ≡ b.first) × (a.last ≡ b.last)) → a ≡ b
     there (room, (first, last)) = ap (λ x. span_with x a.first a.last) room ∙ ap (λ x. span_with b.room x a.last) first ∙ ap (span_with b.room b.first) last
 
+-- a list has a span, or it doesn't
 contains : (spans : List RoomSpan) (s : RoomSpan) → Decided (Contains spans s)
 contains spans s = decided (is_member same_span spans s) (is_member-Decides same_span-Decides spans s)
 
+-- an order says less, or it doesn't
 is_less : (o : Ordering) → Decided (o ≡ Less)
 is_less Less = inl refl
 is_less Equal = inr (λ (e : Equal ≡ Less). cc)
 is_less Greater = inr (λ (e : Greater ≡ Less). cc)
 
+-- a span comes before another, or it doesn't
 comes_before : (a b : RoomSpan) → Decided (ComesBefore a b)
 comes_before a b =
     either (is_less (slice_cmp nat_cmp a.room b.room))
     (both (decided (bytes_eq a.room b.room) (bytes_eq-Decides a.room b.room)) (less a.first b.first))
 
+-- a span comes before all of these, or it doesn't
 comes_before_all : (a : RoomSpan) (spans : List RoomSpan) → Decided (ComesBeforeAll a spans)
 comes_before_all a [] = inl tt
 comes_before_all a (b ∷ spans) = both (comes_before a b) (comes_before_all a spans)
 
+-- spans stand in order, or they don't
 in_order : (spans : List RoomSpan) → Decided (AreInOrder spans)
 in_order [] = inl tt
 in_order (a ∷ spans) = both (comes_before_all a spans) (in_order spans)
 
+-- an interval that can't fail to be maximal is
 maximal : (test : ℕ → Bool) (low high first last : ℕ) → ((IsMaximalInterval test low high first last → ⊥) → ⊥) → IsMaximalInterval test low high first last
 maximal test low high first last h =
     record {
@@ -65,6 +74,7 @@ maximal test low high first last h =
       not_after = λ p within next. false_from_ne_true (test p) (λ yes. h (λ is. false≢true (sym (is.not_after p within next) ∙ yes)));
     }
 
+-- spans that can't fail to be those of the rooms are
 pub are_spans : (rooms_at : ℕ → Rooms) (low high : ℕ) (spans : List RoomSpan) → ((AreSpans rooms_at low high spans → ⊥) → ⊥) → AreSpans rooms_at low high spans
 are_spans rooms_at low high spans h =
     record {

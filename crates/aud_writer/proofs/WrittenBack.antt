@@ -30,18 +30,22 @@ use Rattle.aud_tap.specs.WellFormed.{is_well_formed, event_is_well_formed, strea
 use Rattle.aud_writer.specs.Written.{record_data, stream_data, header_data, event_data, node_data, client_data, encoded, text_member, list_member, text_items}
 use Rattle.aud_writer.specs.Private.BytesBack.{DecodeBack, stream_bytes, client_bytes, blobs_of, put_unless_empty}
 
+-- a header that was written reads as that header
 pub header-back : (of : TapKind) → value_record (header_data of 1) ≡ Ok (Header of 1)
 unfolding value_record record_of header_of
 header-back tap.Stream = refl
 header-back tap.Node = refl
 header-back tap.Client = refl
 
+-- a `join` or `leave` that is well formed has a pid and a room that are
 member-parts : (pid room : List ℕ) → is_session_id pid && is_room room ≡ true → (is_id pid ≡ true) × (fits max_id pid ≡ true) × (is_room room ≡ true)
 member-parts pid room h = let ps = and_parts (is_session_id pid) (is_room room) h in let p = and_parts (is_id pid) (fits max_id pid) ps.0 in (p.0, p.1, ps.1)
 
+-- a `break` or `back` that is well formed has a pid that is, and a turn within the limit
 turn-parts : (pid : List ℕ) (turn : ℕ) → is_session_id pid && nat_le turn max_turn ≡ true → (is_id pid ≡ true) × (fits max_id pid ≡ true) × (nat_le turn max_turn ≡ true)
 turn-parts pid turn h = let ps = and_parts (is_session_id pid) (nat_le turn max_turn) h in let p = and_parts (is_id pid) (fits max_id pid) ps.0 in (p.0, p.1, ps.1)
 
+-- a node's record that was written reads as that record
 pub node-back : (r : NodeRec) → node_is_well_formed r ≡ true → value_record (node_data r) ≡ Ok (Node r)
 unfolding value_record record_of record_in node_record_of start_of take_of open_of member_of pid_and_turn gone_of
 node-back (Start None) h = refl
@@ -60,9 +64,11 @@ node-back (Broke pid turn) h = let t = turn-parts pid turn h in rw (t.0, t.1, t.
 node-back (Back pid turn) h = let t = turn-parts pid turn h in rw (t.0, t.1, t.2) refl
 node-back (Gone pid) h = let p = and_parts (is_id pid) (fits max_id pid) h in rw (p.0, p.1) refl
 
+-- bytes that were encoded decode to what they were
 pub decoded-encoded : (b : List ℕ) → IsBytes b → decoded (encoded b) ≡ Some b
 decoded-encoded b bytes = ap result_ok (decode_of-encode_of standard b refl bytes)
 
+-- a client's record that was written reads as that record
 pub client-back : (r : ClientRec) → DecodeBack (client_bytes r) → value_record (client_data r) ≡ Ok (Client r)
 unfolding value_record record_of record_in client_record_of
 client-back (Conn c) h = refl
@@ -74,6 +80,7 @@ client-back Lost h = refl
 
 -- ---- events
 
+-- the members of an event, in the order of their keys
 abbrev event_members : List (List ℕ) → List (List ℕ) → List ℕ → List ℕ → List (List ℕ) → List ℕ → Members
 event_members bin except nsp off rooms text =
     list_member (codes "bin") bin
@@ -84,10 +91,12 @@ event_members bin except nsp off rooms text =
     (list_member (codes "rooms") rooms
     (text_member (codes "text") text no_members))))))
 
+-- a list of texts that was written reads as those texts
 texts-back : (ts : List (List ℕ)) → all_items as_str (text_items ts) ≡ Some ts
 texts-back [] = refl
 texts-back (t ∷ ts) = rw (texts-back ts) refl
 
+-- a list of attachments that was written reads as those attachments
 blobs-back : (bs : List (List ℕ)) → DecodeBack bs → all_items as_blob (text_items (map encoded bs)) ≡ Some bs
 blobs-back [] h = refl
 blobs-back (b ∷ bs) h = rw (h.0, blobs-back bs h.1) refl
@@ -174,14 +183,17 @@ module _ (bin except : List (List ℕ)) (nsp off : List ℕ) (rooms : List (List
       let bin_put = put-first (codes "bin") bin (list_member (codes "except") except from_kind) (λ d. put-before (codes "bin") (codes "except") d except from_kind (λ e. refl) refl) in
       rw (rooms_put, off_put, except_put) bin_put
 
+-- texts read back, where an empty list is left out
 texts-or-empty : (ts : List (List ℕ)) → list_or_empty as_str (unless_empty ts) ≡ Some ts
 texts-or-empty [] = refl
 texts-or-empty (t ∷ ts) = texts-back (t ∷ ts)
 
+-- attachments read back, where an empty list is left out
 blobs-or-empty : (bs : List (List ℕ)) → DecodeBack bs → list_or_empty as_blob (unless_empty (map encoded bs)) ≡ Some bs
 blobs-or-empty [] h = refl
 blobs-or-empty (b ∷ bs) h = blobs-back (b ∷ bs) h
 
+-- an event that was written reads as that event
 event-back : (e : Event) → event_is_well_formed e ≡ true → DecodeBack e.bin → event_of (event_data e) ≡ Ok (Ev e)
 unfolding event_of lists_of
 event-back e h bytes =
@@ -211,11 +223,13 @@ event-back e h bytes =
       e4.1,
     ) refl
 
+-- a record of the stream that was written reads as that record
 stream-back : (r : StreamRec) → stream_is_well_formed r ≡ true → DecodeBack (stream_bytes r) → value_record (stream_data r) ≡ Ok (Stream r)
 unfolding value_record record_of record_in stream_record_of other_of
 stream-back (Ev e) h bytes = rw (at_kind (map encoded e.bin) e.except e.nsp e.off e.rooms e.text, event-back e h bytes) refl
 stream-back (Other off) h bytes = let o = and_parts (is_id off) (fits max_offset off) h in rw (o.0, o.1) refl
 
+-- what is written for a well-formed record reads as that record
 pub record-back : (r : Rec) → is_well_formed r ≡ true → DecodeBack (blobs_of r) → value_record (record_data r) ≡ Ok r
 record-back (Header of v) h bytes = rw (eqb-true v 1 h) (header-back of)
 record-back (Stream r) h bytes = stream-back r h bytes
