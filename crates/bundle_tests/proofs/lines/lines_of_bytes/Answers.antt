@@ -26,4 +26,4 @@ returns c =
     let inv = c.loop-byte.invariant in
     let ends : Finishes c.loop-byte.splitter (Ok c.in_ok-last.last.items) = record { ok = c.in_ok-last.ensures.ok; err = tt } in
     let all : take c.loop-byte.byte-index c.args.input.now ≡ c.args.input.now = take_all _ _ (omega (arith, c.loop-byte-test.false)) in
-    ap lines_of (sym all) ∙ came-finish _ _ _ _ inv.came ends ∙ rw c.in_ok-append.ensures.items refl
+    ap lines_of (sym all) ∙ came-finish _ _ _ _ inv.came ends ∙ rw c.in_ok-append-2.ensures.items refl
