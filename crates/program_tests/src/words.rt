@@ -3,30 +3,26 @@ use aud_app::{Mode, Options, options};
 use std::alloc::Global;
 use std::test::Fail;
 
-#[test]
-fn words_that_are_accepted(rt: HostRuntime) -> Result<(), Fail> {
-    for (words, workers) in [
-        (["audit"].as_slice(), 4),
-        (["audit", "--workers", "64"].as_slice(), 64),
-        (["audit", "--workers=1"].as_slice(), 1),
-    ] {
-        let expected = Options {
-            mode: Mode::Audit,
-            workers,
-        };
-        assert_eq!(rt; options(rt.alloc(), words)?, expected);
-    }
-    Ok(())
-}
+/// Words that are understood, and what they ask for.
+static ACCEPTED: [(&[&str], Mode, u8); 12] = [
+    (&["audit"], Mode::Audit, 4),
+    (&["audit", "--"], Mode::Audit, 4),
+    (&["audit", "--workers", "64"], Mode::Audit, 64),
+    (&["audit", "--workers=1"], Mode::Audit, 1),
+    (&["audit", "--workers", "+07"], Mode::Audit, 7),
+    (&["audit", "--workers=+064"], Mode::Audit, 64),
+    (&["audit", "--workers", "8", "--"], Mode::Audit, 8),
+    (&["audit", "--workers=8", "--"], Mode::Audit, 8),
+    (&["prove"], Mode::Prove, 4),
+    (&["prove", "--"], Mode::Prove, 4),
+    (&["verify"], Mode::Verify, 4),
+    (&["verify", "--"], Mode::Verify, 4),
+];
 
 #[test]
-fn modes_that_are_named(rt: HostRuntime) -> Result<(), Fail> {
-    for (words, mode) in [
-        (["audit"].as_slice(), Mode::Audit),
-        (["prove"].as_slice(), Mode::Prove),
-        (["verify"].as_slice(), Mode::Verify),
-    ] {
-        assert_eq!(rt; options(rt.alloc(), words)?.mode, mode);
+fn words_that_are_accepted(rt: HostRuntime) -> Result<(), Fail> {
+    for &(words, mode, workers) in &ACCEPTED {
+        assert_eq!(rt; options(rt.alloc(), words)?, Options { mode, workers });
     }
     Ok(())
 }
@@ -42,26 +38,58 @@ fn is_refused(alloc: Global, words: &[&str], text: &str, is_help: bool) -> Resul
     }
 }
 
-static NO_WORDS: [&str; 0] = [];
+/// Words that are refused, and a part of the text that says why.
+static REFUSED: [(&[&str], &str); 23] = [
+    (&[], "Usage"),
+    (&["judge"], "judge"),
+    (&["--", "audit"], "audit"),
+    (&["audit", "prove"], "prove"),
+    (&["audit", "--whole"], "--whole"),
+    (&["prove", "--whole"], "--whole"),
+    (&["verify", "--whole"], "--whole"),
+    (&["audit", "--workers"], "--workers"),
+    (&["audit", "--workers", "0"], "0"),
+    (&["audit", "--workers", "65"], "65"),
+    (&["audit", "--workers=256"], "256"),
+    (&["audit", "--workers", "7x"], "7x"),
+    (&["audit", "--workers", "+"], "'+'"),
+    (&["audit", "--workers=-1"], "-1"),
+    (&["audit", "--workers", "1", "--workers", "2"], "--workers"),
+    (&["audit", "--workers=1", "--workers=1"], "--workers"),
+    (&["audit", "--workers=1", "--workers", "1"], "--workers"),
+    (&["audit", "--", "--workers", "4"], "--workers"),
+    (&["--workers", "4", "audit"], "--workers"),
+    (&["--workers=4", "audit"], "--workers"),
+    (&["prove", "--workers", "4"], "--workers"),
+    (&["prove", "--workers=4"], "--workers"),
+    (&["verify", "--workers", "4"], "--workers"),
+];
 
 #[test]
 fn words_that_are_refused(rt: HostRuntime) -> Result<(), Fail> {
-    for (words, text, is_help) in [
-        (["audit", "--workers", "65"].as_slice(), "65", false),
-        (["audit", "--workers", "0"].as_slice(), "0", false),
-        (["judge"].as_slice(), "judge", false),
-        (["prove", "--workers", "4"].as_slice(), "--workers", false),
-        (["verify", "--workers", "4"].as_slice(), "--workers", false),
-        (["verify", "--whole"].as_slice(), "--whole", false),
-        (NO_WORDS.as_slice(), "Usage", false),
-        (["--help"].as_slice(), "Exit status", true),
-        (["--help"].as_slice(), "verify", true),
-        (["audit", "--help"].as_slice(), "--workers", true),
-        (["prove", "--help"].as_slice(), "certificate", true),
-        (["verify", "--help"].as_slice(), "bad <line>", true),
-    ] {
+    for &(words, text) in &REFUSED {
         assert!(rt;
-            is_refused(rt.alloc(), words, text, is_help)?,
+            is_refused(rt.alloc(), words, text, false)?,
+            "{words:?}: {text}"
+        );
+    }
+    Ok(())
+}
+
+/// Words that ask for help, and a part of it.
+static HELP: [(&[&str], &str); 5] = [
+    (&["--help"], "Exit status"),
+    (&["--help"], "verify"),
+    (&["audit", "--help"], "--workers"),
+    (&["prove", "--help"], "certificate"),
+    (&["verify", "--help"], "bad <line>"),
+];
+
+#[test]
+fn help_that_is_asked_for(rt: HostRuntime) -> Result<(), Fail> {
+    for &(words, text) in &HELP {
+        assert!(rt;
+            is_refused(rt.alloc(), words, text, true)?,
             "{words:?}: {text}"
         );
     }
