@@ -87,6 +87,7 @@ fn is_certificate(layout: Layout, line: &Line) -> bool
 /// The taps and the certificates of these lines, or the first refused line.
 fn read_lines(alloc: Global, layout: Layout, lines: Vec<Line>) -> Result<Input, ReadFault>
     ensures read { IfOk result (λ input. parts_of layout lines.items ≡ Ok input) }
+    ensures names { IfOk result (λ input. AreNamedOnce input.taps) }
     ensures refused { IfErr result (λ e. e ≢ ReadFault.Memory → parts_of layout lines.items ≡ Err e) }
 {
     let mut reader = BundleReader::new(alloc);

@@ -9,4 +9,3 @@ pub mod KeptLemmas
 pub mod LineSteps
 pub mod OwnLines
 pub mod TapLaws
-pub mod NameLemmas
