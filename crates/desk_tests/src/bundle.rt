@@ -23,7 +23,8 @@ c2 {"k":"in","t":"40{\"sid\":\"s2\",\"pid\":\"Q\"}"}
 c2 {"k":"in","t":"42[\"hi\",\"1-0\"]"}"#;
 
 /// What is written for the bundle.
-pub const REPORT: &str = "yes P got=0 tail=0 turns=1\nyes Q got=1 tail=0 turns=1\nsessions=2 yes=2 no=0\n";
+pub const REPORT: &str =
+    "yes P got=0 tail=0 turns=1\nyes Q got=1 tail=0 turns=1\nsessions=2 yes=2 no=0\n";
 
 /// The lines of the bundle.
 fn lines(alloc: Global) -> Result<Vec<Line>, AllocError> {

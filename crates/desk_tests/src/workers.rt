@@ -22,7 +22,15 @@ fn one_worker_decides_all(rt: HostRuntime) -> Result<(), Fail> {
     let pids = sessions(alloc, &recording)?;
     let (tickets, mut seats) = Tickets::new(alloc, pids.len(), 1)?;
     let seat = seats.pop().ok_or("a seat")?;
-    let worker = work(&rt, alloc, &tickets, seat, &recording, pids.as_slice(), &OpenGate)?;
+    let worker = work(
+        &rt,
+        alloc,
+        &tickets,
+        seat,
+        &recording,
+        pids.as_slice(),
+        &OpenGate,
+    )?;
     assert!(rt; matches!(worker.entries(), [one, other] if one.index() == 0 && other.index() == 1));
     let mut workers = Vec::new(alloc);
     workers.push(worker)?;
