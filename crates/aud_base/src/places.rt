@@ -1,5 +1,5 @@
 //! An index from a text to the places where it stands.
-ghost use Rattle.std.specs.Prelude.{◌≡◌, ◌-◌, List, ℕ, OnOk, [], length, slice_get, string_bytes};
+ghost use Rattle.std.specs.Prelude.{◌≡◌, ◌-◌, List, ℕ, OnOk, [], length, slice_get};
 ghost use Rattle.std.specs.Str.{bytes_eq};
 ghost use Rattle.aud_base.specs.Places.{is_place, noted, places_of, with_place};
 
@@ -39,21 +39,23 @@ impl Places {
     }
 
     /// The text stands at this place, the last so far; it is noted once, however often it stands there. The text is
-    /// copied, unless the place is its last one already.
+    /// copied where it stood nowhere before.
     pub fn note(&mut self, place: usize, text: &str) -> Result<(), AllocError>
         ensures { OnOk result ((other : List ℕ) → places_of self.new other ≡ noted place (bytes_eq text.now other) (places_of self.old other)) }
     {
-        if is_last(self.of(text), place) {
-            return Ok(());
+        match self.by_text.get_mut(text) {
+            Some(places) => push_last(places, place)?,
+            None => self.keep(place, text)?,
         }
-        let own = String::from_str(self.alloc, text)?;
-        self.keep(place, own)
+        Ok(())
     }
 
-    fn keep(&mut self, place: usize, text: String) -> Result<(), AllocError>
-        ensures { OnOk result ((other : List ℕ) → places_of self.new other ≡ noted place (bytes_eq (string_bytes text) other) (places_of self.old other)) }
+    /// Notes the place of a text that may stand nowhere so far: the text is copied.
+    fn keep(&mut self, place: usize, text: &str) -> Result<(), AllocError>
+        ensures { OnOk result ((other : List ℕ) → places_of self.new other ≡ noted place (bytes_eq text.now other) (places_of self.old other)) }
     {
-        push_last(self.by_text.entry(text)?.or_default(), place)?;
+        let own = String::from_str(self.alloc, text)?;
+        push_last(self.by_text.entry(own)?.or_default(), place)?;
         Ok(())
     }
 }
