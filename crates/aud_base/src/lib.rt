@@ -1,6 +1,7 @@
-//! What the other crates share: texts and bytes that contracts see as plain lists; reading in steps; lemmas on lists.
+//! What the other crates share: texts and lists that contracts see as plain lists; the places of texts; reading in
+//! steps; lemmas on lists.
 //!
-//! Begin at [`Text`].
+//! Begin at [`Text`] and [`Listed`].
 //!
 //! ```
 //! use aud_base::{Text, Texts};
@@ -12,8 +13,10 @@
 //! ```
 #![tactic(auto)]
 
+mod listed;
 mod places;
 mod text;
 
+pub use listed::{Blobs, Bytes, Listed, Texts};
 pub use places::Places;
-pub use text::{Blobs, Bytes, Text, Texts};
+pub use text::Text;

@@ -50,7 +50,7 @@ impl Places {
         Ok(())
     }
 
-    /// Notes the place of a text that may stand nowhere so far: the text is copied.
+    /// Notes the place under a copy of the text.
     fn keep(&mut self, place: usize, text: &str) -> Result<(), AllocError>
         ensures { OnOk result ((other : List ℕ) → places_of self.new other ≡ noted place (bytes_eq text.now other) (places_of self.old other)) }
     {
