@@ -27,7 +27,8 @@ use Rattle.aud_reader.specs.StreamRecord.{stream_record_of}
 use Rattle.aud_reader.specs.NodeRecord.{node_record_of}
 use Rattle.aud_reader.specs.ClientRecord.{client_record_of}
 use Rattle.aud_reader.specs.Record.{opened_line, kind_named, tap_of_kind, record_in, record_of, value_record, line_record}
-use Rattle.aud_reader.specs.Bundle.{offset_of, max_entries, max_records, pid_of, node_room, with_new_offset, with_entry, with_node_record, with_client_record, with_tap_record, tap_named, with_records, kind_of_tap, pids_of, another_tap, no_records, with_header, with_later, with_kind, with_line, at_line, passing_empty, taps_after, taps_from, taps_of, Reading, taps_to_come}
+use Rattle.aud_tap.specs.RecordFields.{offset_of, pid_of}
+use Rattle.aud_reader.specs.Bundle.{max_entries, max_records, node_room, with_new_offset, with_entry, with_node_record, with_client_record, with_tap_record, tap_named, with_records, kind_of_tap, pids_of, another_tap, no_records, with_header, with_later, with_kind, with_line, at_line, passing_empty, taps_after, taps_from, taps_of, Reading, taps_to_come}
 use Rattle.aud_reader.specs.Connections.{may_follow}
 use Rattle.aud_reader.specs.OwnLines.{recs_in}
 

@@ -11,15 +11,14 @@ use Rattle.aud_reader.specs.declared.line.Line.{Line}
 use Rattle.aud_tap.specs.declared.records.TapKind.{TapKind}
 use Rattle.aud_tap.specs.declared.records.TapKind.TheVariants as kind
 use Rattle.aud_tap.specs.declared.records.StreamRec.{StreamRec}
-use Rattle.aud_tap.specs.declared.records.StreamRec.TheVariants.{Ev, Other}
 use Rattle.aud_tap.specs.declared.records.NodeRec.{NodeRec}
-use Rattle.aud_tap.specs.declared.records.NodeRec.TheVariants.{Start, Take, Opened, Join, Leave, Broke, Back, Gone}
 use Rattle.aud_tap.specs.declared.records.ClientRec.{ClientRec}
 use Rattle.aud_tap.specs.declared.taps.Records.{Records}
 use Rattle.aud_tap.specs.declared.taps.Records.TheVariants.{Stream, Node, Client}
 use Rattle.aud_tap.specs.declared.taps.Tap.{Tap}
 use Rattle.aud_base.specs.Steps.{◌>>=◌, guard}
 use Rattle.aud_tap.specs.Forms.{is_text}
+use Rattle.aud_tap.specs.RecordFields.{offset_of, pid_of}
 use Rattle.aud_reader.specs.Header.{header_of}
 use Rattle.aud_reader.specs.StreamRecord.{stream_record_of}
 use Rattle.aud_reader.specs.NodeRecord.{node_record_of}
@@ -49,11 +48,6 @@ max_client_taps = 4096
 
 -- ---- one more record of a tap
 
--- the offset of an entry
-abbrev pub offset_of : StreamRec → List ℕ
-offset_of (Ev e) = e.off
-offset_of (Other off) = off
-
 -- the entries with another, whose offset no earlier one has
 abbrev pub with_new_offset : List StreamRec → StreamRec → Result (List StreamRec) InputCode
 with_new_offset entries entry = guard OffsetTwice (not (list_any (is_text (offset_of entry)) (map offset_of entries))) >>= (λ new. Ok (entries ++ entry ∷ []))
@@ -64,17 +58,6 @@ with_entry entries kind d = do
   entry ← stream_record_of kind d
   room ← guard Limit (nat_lt (length entries) max_entries)
   with_new_offset entries entry
-
--- the pid that a node's record speaks of
-abbrev pub pid_of : NodeRec → Option (List ℕ)
-pid_of (Start off) = None
-pid_of (Take off) = None
-pid_of (Opened pid sid nsp) = Some pid
-pid_of (Join pid room) = Some pid
-pid_of (Leave pid room) = Some pid
-pid_of (Broke pid turn) = Some pid
-pid_of (Back pid turn) = Some pid
-pid_of (Gone pid) = Some pid
 
 -- there are no more different pids than may be
 abbrev pub pids_fit : List (List ℕ) → Result (Unit {0}) InputCode

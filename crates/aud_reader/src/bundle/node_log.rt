@@ -3,7 +3,8 @@ ghost use Rattle.std.specs.Prelude.{◌≡◌, ◌++◌, List, ℕ, OnOk, option
 ghost use Rattle.std.specs.List.{filter_map};
 ghost use Rattle.serde_json.specs.View.{view};
 ghost use Rattle.aud_reader.specs.Private.Changes.{Becomes};
-ghost use Rattle.aud_reader.specs.Bundle.{node_room, pid_of, with_node_record};
+ghost use Rattle.aud_tap.specs.RecordFields.{pid_of};
+ghost use Rattle.aud_reader.specs.Bundle.{node_room, with_node_record};
 ghost use Rattle.aud_reader.specs.Steps.{Gives};
 ghost use Rattle.aud_reader.specs.Private.Texts.{HasPids};
 

@@ -7,7 +7,8 @@ ghost use Rattle.aud_base.specs.Steps.{guard};
 ghost use Rattle.aud_reader.specs.Steps.{Gives};
 ghost use Rattle.aud_tap.specs.Forms.{is_text};
 ghost use Rattle.aud_reader.specs.Private.Texts.{HasTexts};
-ghost use Rattle.aud_reader.specs.Bundle.{offset_of, with_entry, with_new_offset};
+ghost use Rattle.aud_tap.specs.RecordFields.{offset_of};
+ghost use Rattle.aud_reader.specs.Bundle.{with_entry, with_new_offset};
 
 use crate::fault::{InputCode, LIMIT, LineFault};
 use crate::read::stream::stream_record;
@@ -70,7 +71,7 @@ pub struct StreamLog {
 impl Model for StreamLog {
     ghost use Rattle.std.specs.Prelude.{List, map};
     ghost use Rattle.aud_tap.specs.declared.records.StreamRec.{StreamRec};
-    ghost use Rattle.aud_reader.specs.Bundle.{offset_of};
+    ghost use Rattle.aud_tap.specs.RecordFields.{offset_of};
     ghost use Rattle.aud_reader.specs.Private.Texts.{HasTexts};
 
     ghost Value = { List StreamRec };

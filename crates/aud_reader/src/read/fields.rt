@@ -1,17 +1,19 @@
 //! The fields of a JSON object, by their types and forms.
-ghost use Rattle.std.specs.Prelude.{◌≡◌, IfOk, IfSome, IsTrue, option_map};
+ghost use Rattle.std.specs.Prelude.{◌≡◌, ◌&&◌, IfOk, IfSome, IsTrue, option_map};
 ghost use Rattle.serde_json.specs.View.{view, items_view};
 ghost use Rattle.serde_json.specs.Find.{as_str};
 ghost use Rattle.aud_reader.specs.declared.fault.InputCode.TheVariants.{Field};
 ghost use Rattle.aud_base.specs.Steps.{need};
 ghost use Rattle.aud_reader.specs.Steps.{Gives};
+ghost use Rattle.aud_tap.specs.Limits.{fits};
 ghost use Rattle.aud_tap.specs.Forms.{is_id, is_namespace};
 ghost use Rattle.aud_tap.specs.Json.{text_at};
-ghost use Rattle.aud_reader.specs.Fields.{number_at, id_at, namespace_at};
+ghost use Rattle.aud_reader.specs.Fields.{number_at, id_at, bounded_id_at, namespace_at};
 ghost use Rattle.aud_reader.specs.Fields.{id_or_null, id_or_null_at, decoded, as_blob, bytes_at};
 ghost use Rattle.aud_reader.specs.Fields.{all_items, texts_at, blobs_at};
 
-use crate::fault::{FIELD, LineFault};
+use crate::fault::{FIELD, LIMIT, LineFault};
+use aud_tap::limits::fits;
 use aud_tap::{Blobs, Bytes, Text, Texts, is_id, is_namespace};
 use base64::DecodeAllocError;
 use base64::engine::general_purpose::STANDARD;
@@ -62,6 +64,19 @@ pub fn id_at<'v>(key: &str, d: &'v Value) -> Option<&'v str>
         Some(text) if is_id(text) => Some(text),
         _ => None,
     }
+}
+
+/// A copy of a pid, a sid or an offset of at most so many bytes.
+#[tactic(auto, unfolding(crate::specs::Fields::bounded_id_at))]
+pub fn bounded_id_at(alloc: Global, most: usize, key: &str, d: &Value) -> Result<Text, LineFault>
+    ensures reads { Gives result (bounded_id_at most key.now (view d.now)) }
+    ensures formed { IfOk result (λ id. IsTrue (is_id id && fits most id)) }
+{
+    let id = id_at(key, d).ok_or(FIELD)?;
+    if !fits(most, id) {
+        return Err(LIMIT);
+    }
+    Ok(copied(alloc, id)?)
 }
 
 pub fn namespace_at<'v>(key: &str, d: &'v Value) -> Option<&'v str>

@@ -1,6 +1,6 @@
 use Rattle.std.proofs.Common.{◌++◌}
 use Rattle.std.specs.List.{filter_map}
-use Rattle.aud_reader.specs.Bundle.{pid_of}
+use Rattle.aud_tap.specs.RecordFields.{pid_of}
 use Rattle.aud_reader.proofs.TextsLemmas.{pids-more}
 use Rattle.aud_reader.proofs.bundle.node_log.add_node_record.Goals as goal
 
