@@ -24,8 +24,7 @@ use Rattle.aud_base.specs.Steps.{◌>>=◌}
 use Rattle.aud_reader.specs.Steps.{Fails}
 use Rattle.aud_tap.specs.Forms.{is_text}
 use Rattle.aud_tap.specs.Names.{place_of}
-use Rattle.aud_reader.specs.Record.{opened_line, kind_named}
-use Rattle.aud_reader.specs.Bundle.{with_tap_record, tap_named, with_records, kind_of_tap, taps_on, same_kind, pids_in, pids_of, no_records, with_header, with_later, with_kind, with_named, with_line}
+use Rattle.aud_reader.specs.Bundle.{with_tap_record, tap_named, with_records, kind_of_tap, taps_on, same_kind, pids_in, pids_of, no_records, with_header, with_later, with_kind, with_named}
 use Rattle.aud_reader.specs.Private.Kept.{Counted, KeepsTaps}
 use Rattle.aud_reader.specs.SoFar.{taps_so_far}
 use Rattle.aud_reader.specs.Private.Changes.{Becomes}
@@ -226,8 +225,3 @@ begin-keeps s s' name of keeps same taps places counts =
 -- a line whose name has no place has to be a header
 pub named-first : (ts : List Tap) (name word : List ℕ) (d : Data) → place_of ts name ≡ None → with_named ts name word d ≡ with_header ts name word d
 named-first ts name word d place = ap (λ o. with_kind ts name o word d) (named-none name ts place)
-
--- a line that opens goes to the tap of its name
-pub with_line-goes : (ts : List Tap) (line name word : List ℕ) (d : Data) → opened_line line ≡ Ok (name, d) → kind_named d ≡ Ok word → with_line ts line ≡ with_named ts name word d
-unfolding with_line
-with_line-goes ts line name word d opened kind = rw (opened, kind) refl

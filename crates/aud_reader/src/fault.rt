@@ -89,13 +89,11 @@ impl<T: Drop> From<AllocFailed<T>> for ReadFault {
 }
 
 /// The refusal of a line whose number is known higher up; or want of memory.
-#[derive(Clone, Copy, Debug, PartialEq, Eq, Drop, Error)]
+#[derive(Clone, Copy, Drop)]
 pub enum LineFault {
     /// The line is refused for this reason.
-    #[error(transparent)]
     Code(InputCode),
     /// Memory could not be had.
-    #[error("out of memory")]
     Memory,
 }
 

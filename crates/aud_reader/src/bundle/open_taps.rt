@@ -3,7 +3,7 @@ ghost use Rattle.std.specs.Prelude.{◌≡◌, ◌<◌, ◌∷◌, ◌++◌, [],
 ghost use Rattle.std.specs.HashMap.{get_by_text};
 ghost use Rattle.serde_json.specs.View.{view};
 ghost use Rattle.aud_reader.specs.Private.Changes.{Becomes};
-ghost use Rattle.aud_reader.specs.Bundle.{no_records, with_header, with_line, with_named};
+ghost use Rattle.aud_reader.specs.Bundle.{no_records, with_header, with_line, with_named, with_value};
 
 use super::counts::Counts;
 use super::open_tap::OpenTap;
@@ -103,6 +103,19 @@ impl OpenTaps {
         self.places.get(name).copied()
     }
 
+    /// Reads the value of a line of the tap of this name.
+    fn read_value(&mut self, name: &str, d: &Value) -> Result<(), LineFault>
+        requires { KeepsTaps self.old }
+        ensures taps { Becomes result (taps_so_far self.new) (with_value (taps_so_far self.old) name.now (view d.now)) }
+        ensures keeps { OnOk result (KeepsTaps self.new) }
+    {
+        let kind = kind_of(d)?;
+        match self.place(name) {
+            Some(place) => self.go_on(place, kind, d),
+            None => self.begin(name, kind, d),
+        }
+    }
+
     /// Reads a line.
     #[tactic(auto, unfolding(crate::specs::Bundle::with_line))]
     pub fn read_line(&mut self, line: &[u8]) -> Result<(), LineFault>
@@ -111,11 +124,7 @@ impl OpenTaps {
         ensures keeps { OnOk result (KeepsTaps self.new) }
     {
         let (name, d) = opened_line(self.alloc, line)?;
-        let kind = kind_of(&d)?;
-        match self.place(name) {
-            Some(place) => self.go_on(place, kind, &d),
-            None => self.begin(name, kind, &d),
-        }
+        self.read_value(name, &d)
     }
 
     /// The taps, at the end.

@@ -37,9 +37,9 @@ fn open(alloc: Global, d: &Value) -> Result<NodeRec, LineFault>
     ensures reads { Gives result (open_of (view d.now)) }
     ensures formed { IfOk result (λ rec. IsTrue (node_is_well_formed rec)) }
 {
-    let pid = id_at("pid", d).ok_or(FIELD)?;
-    let sid = id_at("sid", d).ok_or(FIELD)?;
-    let nsp = namespace_at("nsp", d).ok_or(FIELD)?;
+    let pid = id_at("pid", d)?;
+    let sid = id_at("sid", d)?;
+    let nsp = namespace_at("nsp", d)?;
     if !fits(MAX_ID, pid) || !fits(MAX_ID, sid) || !fits(MAX_NAMESPACE, nsp) {
         return Err(LIMIT);
     }
@@ -53,8 +53,8 @@ fn member(alloc: Global, d: &Value) -> Result<(Text, Text), LineFault>
     ensures reads { Gives result (member_of (view d.now)) }
     ensures formed { IfOk result (λ m. IsTrue (is_session_id m.0 && is_room m.1)) }
 {
-    let pid = id_at("pid", d).ok_or(FIELD)?;
-    let room = text_at("room", d).ok_or(FIELD)?;
+    let pid = id_at("pid", d)?;
+    let room = text_at("room", d)?;
     if !fits(MAX_ID, pid) || !fits(MAX_ROOM, room) {
         return Err(LIMIT);
     }
@@ -67,8 +67,8 @@ fn turn(alloc: Global, d: &Value) -> Result<(Text, u16), LineFault>
     ensures reads { Gives result (pid_and_turn (view d.now)) }
     ensures formed { IfOk result (λ t. IsTrue (is_session_id t.0 && nat_le t.1 max_turn)) }
 {
-    let pid = id_at("pid", d).ok_or(FIELD)?;
-    let turn = number_at("turn", d).ok_or(FIELD)?;
+    let pid = id_at("pid", d)?;
+    let turn = number_at("turn", d)?;
     if !fits(MAX_ID, pid) {
         return Err(LIMIT);
     }

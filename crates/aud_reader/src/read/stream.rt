@@ -8,7 +8,7 @@ ghost use Rattle.aud_reader.specs.Steps.{Gives};
 ghost use Rattle.aud_reader.specs.StreamRecord.{bounded_event, event_of, lists_of, stream_record_of};
 
 use super::fields::{blobs_at, bounded_id_at, copies, id_at, namespace_at, text_at, texts_at};
-use crate::fault::{FIELD, LIMIT, LineFault, UNKNOWN_KIND};
+use crate::fault::{LIMIT, LineFault, UNKNOWN_KIND};
 use aud_tap::limits::{MAX_ATTACHMENTS, MAX_NAMESPACE, MAX_OFFSET, fit_rooms, fits};
 use aud_tap::{Blobs, Event, StreamRec, Texts};
 use serde_json::Value;
@@ -83,9 +83,9 @@ fn event(alloc: Global, d: &Value) -> Result<StreamRec, LineFault>
     ensures reads { Gives result (event_of (view d.now)) }
     ensures formed { IfOk result (λ rec. IsTrue (stream_is_well_formed rec)) }
 {
-    let off = id_at("off", d).ok_or(FIELD)?;
-    let nsp = namespace_at("nsp", d).ok_or(FIELD)?;
-    let text = text_at("text", d).ok_or(FIELD)?;
+    let off = id_at("off", d)?;
+    let nsp = namespace_at("nsp", d)?;
+    let text = text_at("text", d)?;
     let lists = lists(alloc, d)?;
     bounded_event(alloc, off, nsp, text, lists)
 }
