@@ -55,10 +55,10 @@ fn lines_of_input(alloc: Global, bytes: Vec<u8>) -> Result<InputLines, ReadFault
 {
     let mut splitter = Splitter::new(alloc);
     match splitter.feed(&bytes) {
-        Ok(()) => match splitter.finish() {
-            Ok(lines) => Ok(InputLines { lines, fault: None }),
-            Err(_) => Err(ReadFault::Memory),
-        },
+        Ok(()) => {
+            let lines = splitter.finish().map_err(|_| ReadFault::Memory)?;
+            Ok(InputLines { lines, fault: None })
+        }
         Err(ReadFault::Input(number, code)) => Ok(InputLines {
             lines: splitter.take(),
             fault: Some(ReadFault::Input(number, code)),
@@ -94,20 +94,13 @@ fn read_lines(alloc: Global, layout: Layout, lines: Vec<Line>) -> Result<Input, 
     let mut certificates = Vec::new(alloc);
     for line in lines {
         if is_certificate(layout, &line) {
-            let Ok(()) = certificates.push(line) else {
-                return Err(ReadFault::Memory);
-            };
+            certificates.push(line)?;
         } else {
-            match reader.line(&line) {
-                Ok(()) => {}
-                Err(fault) => return Err(fault),
-            }
+            reader.line(&line)?;
         }
     }
-    match reader.finish() {
-        Ok(taps) => Ok(Input { taps, certificates }),
-        Err(fault) => Err(fault),
-    }
+    let taps = reader.finish()?;
+    Ok(Input { taps, certificates })
 }
 
 /// The taps and the certificates of the input, or the first refused line: also where a later line
@@ -118,11 +111,9 @@ pub fn read_input(alloc: Global, layout: Layout, bytes: Vec<u8>) -> Result<Input
     ensures refused { IfErr result (λ e. e ≢ ReadFault.Memory → input_of layout bytes.items ≡ Err e) }
 {
     let InputLines { lines, fault } = lines_of_input(alloc, bytes)?;
-    match read_lines(alloc, layout, lines) {
-        Ok(input) => match fault {
-            None => Ok(input),
-            Some(fault) => Err(fault),
-        },
-        Err(earlier) => Err(earlier),
+    let input = read_lines(alloc, layout, lines)?;
+    match fault {
+        None => Ok(input),
+        Some(fault) => Err(fault),
     }
 }

@@ -3,17 +3,12 @@ use Rattle.std.specs.Prelude.{ℕ, zero, suc, List, [], ◌∷◌, Option, Some,
 use Rattle.std.specs.Option.{option_map}
 use Rattle.std.specs.Str.{bytes_eq}
 use Rattle.aud_base.specs.Lists.{numbers_from}
+pub use Rattle.aud_tap.specs.RecordFields.{offset_of}
 use Rattle.aud_tap.specs.declared.records.StreamRec.{StreamRec}
-use Rattle.aud_tap.specs.declared.records.StreamRec.TheVariants.{Ev, Other}
 
 -- a name, a pid, a sid, a room, a namespace or an offset: its bytes
 abbrev pub Text : Type 0
 Text = List ℕ
-
--- the offset of an entry
-abbrev pub offset_of : StreamRec → Text
-offset_of (Ev event) = event.off
-offset_of (Other off) = off
 
 -- the position of the first entry that has the offset
 abbrev pub position : List StreamRec → Text → Option ℕ

@@ -1,22 +1,12 @@
 -- The records of one turn of a session in a node's log.
-use Rattle.std.specs.Prelude.{ℕ, zero, suc, ◌+◌, Bool, false, List, [], ◌∷◌, length, drop, Option, Some, None, if◌then◌else◌, nat_eq, ◌&&◌}
+use Rattle.std.specs.Prelude.{ℕ, zero, suc, ◌+◌, Bool, false, List, [], ◌∷◌, length, drop, Option, if◌then◌else◌, nat_eq, ◌&&◌}
 use Rattle.std.specs.Option.{option_map}
 use Rattle.std.specs.Str.{bytes_eq}
 use Rattle.aud_tap.specs.declared.records.NodeRec.{NodeRec}
-use Rattle.aud_tap.specs.declared.records.NodeRec.TheVariants.{Start, Take, Opened, Join, Leave, Broke, Back, Gone}
+use Rattle.aud_tap.specs.declared.records.NodeRec.TheVariants.{Opened, Broke, Back, Gone}
 use Rattle.aud_node.specs.Lists.{first_index}
+pub use Rattle.aud_tap.specs.RecordFields.{pid_of}
 use Rattle.aud_node.specs.Stream.{Text}
-
--- the pid that the record names
-abbrev pub pid_of : NodeRec → Option Text
-pid_of (Start off) = None
-pid_of (Take off) = None
-pid_of (Opened pid sid nsp) = Some pid
-pid_of (Join pid room) = Some pid
-pid_of (Leave pid room) = Some pid
-pid_of (Broke pid turn) = Some pid
-pid_of (Back pid turn) = Some pid
-pid_of (Gone pid) = Some pid
 
 -- the record begins turn k of the session of this pid: its `open` begins turn 0, a `back` of number k turn k. A
 -- `back` of number 0 begins no turn

@@ -23,9 +23,9 @@ use Rattle.aud_tap.specs.declared.taps.Tap.{Tap}
 use Rattle.aud_base.specs.Steps.{◌>>=◌}
 use Rattle.aud_reader.specs.Steps.{Fails}
 use Rattle.aud_tap.specs.Forms.{is_text}
-use Rattle.aud_reader.specs.Record.{opened_line, kind_named}
-use Rattle.aud_reader.specs.Bundle.{with_tap_record, tap_named, with_records, kind_of_tap, taps_on, same_kind, pids_in, pids_of, no_records, with_header, with_later, with_kind, with_named, with_line}
-use Rattle.aud_reader.specs.Private.Kept.{place_of, Counted, KeepsTaps}
+use Rattle.aud_tap.specs.Names.{place_of}
+use Rattle.aud_reader.specs.Bundle.{with_tap_record, tap_named, with_records, kind_of_tap, taps_on, same_kind, pids_in, pids_of, no_records, with_header, with_later, with_kind, with_named}
+use Rattle.aud_reader.specs.Private.Kept.{Counted, KeepsTaps}
 use Rattle.aud_reader.specs.SoFar.{taps_so_far}
 use Rattle.aud_reader.specs.Private.Changes.{Becomes}
 use Rattle.aud_reader.specs.Private.Texts.{HasPids}
@@ -41,25 +41,26 @@ at_later false None i e = cc
 at_later false (Some j) i e = let is : suc j ≡ suc i = cc in let same : j ≡ i = omega arith in (refl, ap Some same)
 
 -- the tap at the place of a name is the tap of that name, within the list, and its records are replaced there
-at-place : (name : List ℕ) (records : Records) (ts : List Tap) (i : ℕ) (t : Tap) → place_of name ts ≡ Some i → get_or ts i t ≡ t
+at-place : (name : List ℕ) (records : Records) (ts : List Tap) (i : ℕ) (t : Tap) → place_of ts name ≡ Some i → get_or ts i t ≡ t
     → (i < length ts) × (tap_named name ts ≡ Some t) × (with_records name records ts ≡ set ts i (record t { records = records }))
 at-place name records [] i t place at = cc
 at-place name records (u ∷ us) zero t place at =
-    let first = index_is_first (is_text name u.name) (place_of name us) place in
+    let first = nat_list_eq_equiv.symm name u.name ∙ index_is_first (bytes_eq u.name name) (place_of us name) place in
     (omega arith, rw first (ap Some at), rw first (ap (λ (x : Tap). record x { records = records } ∷ us) at))
 at-place name records (u ∷ us) (suc i) t place at =
-    let later = at_later (is_text name u.name) (place_of name us) i place in
+    let later = at_later (bytes_eq u.name name) (place_of us name) i place in
+    let other = nat_list_eq_equiv.symm name u.name ∙ later.0 in
     let (within, named, put) = at-place name records us i t later.1 at in
-    (omega arith, rw later.0 named, rw later.0 (ap (λ rest. u ∷ rest) put))
+    (omega arith, rw other named, rw other (ap (λ rest. u ∷ rest) put))
 
 -- some tap stands at the place
-tap-at : (name : List ℕ) (ts : List Tap) (i : ℕ) → place_of name ts ≡ Some i → (t : Tap) × (get_or ts i t ≡ t)
+tap-at : (name : List ℕ) (ts : List Tap) (i : ℕ) → place_of ts name ≡ Some i → (t : Tap) × (get_or ts i t ≡ t)
 tap-at name [] i place = cc
 tap-at name (u ∷ us) zero place = (u, refl)
-tap-at name (u ∷ us) (suc i) place = tap-at name us i (at_later (is_text name u.name) (place_of name us) i place).1
+tap-at name (u ∷ us) (suc i) place = tap-at name us i (at_later (bytes_eq u.name name) (place_of us name) i place).1
 
 -- a place is within the list
-pub place-bound : (name : List ℕ) (ts : List Tap) (i : ℕ) → place_of name ts ≡ Some i → i < length ts
+pub place-bound : (name : List ℕ) (ts : List Tap) (i : ℕ) → place_of ts name ≡ Some i → i < length ts
 place-bound name ts i place = let (t, at) = tap-at name ts i place in (at-place name t.records ts i t place at).0
 
 -- where no name has a place, the first hasn't either
@@ -69,21 +70,21 @@ none_of false None e = (refl, refl)
 none_of false (Some i) e = cc
 
 -- a name that has no place names no tap
-pub named-none : (name : List ℕ) (ts : List Tap) → place_of name ts ≡ None → tap_named name ts ≡ None
+pub named-none : (name : List ℕ) (ts : List Tap) → place_of ts name ≡ None → tap_named name ts ≡ None
 named-none name [] place = refl
 named-none name (u ∷ us) place =
-    let absent = none_of (is_text name u.name) (place_of name us) place in
-    rw absent.0 (named-none name us absent.1)
+    let absent = none_of (bytes_eq u.name name) (place_of us name) place in
+    rw (nat_list_eq_equiv.symm name u.name, absent.0) (named-none name us absent.1)
 
 -- ---- one tap in another's place
 
 -- another tap of the same name, in its place, leaves the places of all names
-place_of-set : (name : List ℕ) (ts : List Tap) (i : ℕ) (t t' : Tap) → i < length ts → get_or ts i t ≡ t → t'.name ≡ t.name → place_of name (set ts i t') ≡ place_of name ts
+place_of-set : (name : List ℕ) (ts : List Tap) (i : ℕ) (t t' : Tap) → i < length ts → get_or ts i t ≡ t → t'.name ≡ t.name → place_of (set ts i t') name ≡ place_of ts name
 place_of-set name [] i t t' short at same = absurd (omega arith)
 place_of-set name (u ∷ us) zero t t' short at same =
-    ap (λ n. cond (is_text name n) (Some 0) (option_map suc (place_of name us))) (same ∙ ap (λ (x : Tap). x.name) (sym at))
+    ap (λ n. cond (bytes_eq n name) (Some 0) (option_map suc (place_of us name))) (same ∙ ap (λ (x : Tap). x.name) (sym at))
 place_of-set name (u ∷ us) (suc i) t t' short at same =
-    ap (λ o. cond (is_text name u.name) (Some 0) (option_map suc o)) (place_of-set name us i t t' (omega arith) at same)
+    ap (λ o. cond (bytes_eq u.name name) (Some 0) (option_map suc o)) (place_of-set name us i t t' (omega arith) at same)
 
 -- a tap of the same kind, in its place, leaves as many of each kind
 pub taps_on-set : (of : TapKind) (ts : List Tap) (i : ℕ) (t t' : Tap) → i < length ts → get_or ts i t ≡ t → kind_of_tap t'.records ≡ kind_of_tap t.records → taps_on of (set ts i t') ≡ taps_on of ts
@@ -118,13 +119,13 @@ around (u ∷ us) (suc i) t short at =
     }
 
 -- a tap that is found stands at the place of its name
-placed : (name : List ℕ) (ts : List Tap) (t : Tap) → tap_named name ts ≡ Some t → (i : ℕ) × (place_of name ts ≡ Some i) × (get_or ts i t ≡ t)
+placed : (name : List ℕ) (ts : List Tap) (t : Tap) → tap_named name ts ≡ Some t → (i : ℕ) × (place_of ts name ≡ Some i) × (get_or ts i t ≡ t)
 placed name [] t e = cc
 placed name (u ∷ us) t e =
-    elim (is_text name u.name) as (λ b. cond b (Some u) (tap_named name us) ≡ Some t → (i : ℕ) × (cond b (Some 0) (option_map suc (place_of name us)) ≡ Some i) × (get_or (u ∷ us) i t ≡ t)) [
+    elim (bytes_eq u.name name) as (λ b. cond b (Some u) (tap_named name us) ≡ Some t → (i : ℕ) × (cond b (Some 0) (option_map suc (place_of us name)) ≡ Some i) × (get_or (u ∷ us) i t ≡ t)) [
       | true ↦ λ h. (0, refl, same_Some u t h)
       | false ↦ λ h. let (i, place, at) = placed name us t h in (suc i, ap (option_map suc) place, at)
-    ] e
+    ] (ap (λ b. cond b (Some u) (tap_named name us)) (nat_list_eq_equiv.symm u.name name) ∙ e)
 
 -- and other records for it are one tap in another's place
 pub replaced : (name : List ℕ) (records : Records) (ts : List Tap) (t : Tap) → tap_named name ts ≡ Some t
@@ -134,11 +135,11 @@ replaced name records ts t e = let (i, place, at) = placed name ts t e in let he
 -- ---- a later line of a tap
 
 -- a line whose name has a place is a later line of the tap there
-named-later : (ts : List Tap) (i : ℕ) (t : Tap) (name word : List ℕ) (d : Data) → place_of name ts ≡ Some i → get_or ts i t ≡ t → with_named ts name word d ≡ with_later ts name t.records word d
+named-later : (ts : List Tap) (i : ℕ) (t : Tap) (name word : List ℕ) (d : Data) → place_of ts name ≡ Some i → get_or ts i t ≡ t → with_named ts name word d ≡ with_later ts name t.records word d
 named-later ts i t name word d place at = ap (λ o. with_kind ts name o word d) (at-place name t.records ts i t place at).1
 
 -- a header whose name has a place is refused
-pub header-twice : (ts : List Tap) (i : ℕ) (name word : List ℕ) (d : Data) → place_of name ts ≡ Some i → is_text word (codes "tap") ≡ true → with_named ts name word d ≡ Err HeaderTwice
+pub header-twice : (ts : List Tap) (i : ℕ) (name word : List ℕ) (d : Data) → place_of ts name ≡ Some i → is_text word (codes "tap") ≡ true → with_named ts name word d ≡ Err HeaderTwice
 unfolding with_later
 header-twice ts i name word d place e = let found = tap-at name ts i place in rw (named-later ts i found.0 name word d place found.1, e) refl
 
@@ -148,7 +149,7 @@ becomes-then (Err fault.Memory) x y reading f e is = tt
 becomes-then (Err (fault.Code code)) x y reading f e is = rw is refl
 
 -- where the reader changed a tap's records as the line says, all taps are as the line says
-pub go_on-taps : (ts : List Tap) (i : ℕ) (t t' : Tap) (name word : List ℕ) (d : Data) (r : Result (Unit {0}) LineFault) → place_of name ts ≡ Some i → get_or ts i t ≡ t → is_text word (codes "tap") ≡ false
+pub go_on-taps : (ts : List Tap) (i : ℕ) (t t' : Tap) (name word : List ℕ) (d : Data) (r : Result (Unit {0}) LineFault) → place_of ts name ≡ Some i → get_or ts i t ≡ t → is_text word (codes "tap") ≡ false
     → t'.name ≡ t.name → Becomes r t'.records (with_tap_record (pids_of ts) t.records word d) → Becomes r (set ts i t') (with_named ts name word d)
 unfolding with_later
 go_on-taps ts i t t' name word d r place at e same is =
@@ -180,21 +181,21 @@ go_on-keeps s s' i t t' word d (Ok u) taps places counts keeps short at same is 
 -- ---- a new tap
 
 -- a tap with a new name stands after the others
-place_of-push : (text : List ℕ) (ts : List Tap) (t : Tap) → place_of t.name ts ≡ None → place_of text (ts ++ t ∷ []) ≡ cond (bytes_eq t.name text) (Some (length ts)) (place_of text ts)
-place_of-push text [] t first = ap (λ b. cond b (Some 0) None) (nat_list_eq_equiv.symm text t.name)
+place_of-push : (text : List ℕ) (ts : List Tap) (t : Tap) → place_of ts t.name ≡ None → place_of (ts ++ t ∷ []) text ≡ cond (bytes_eq t.name text) (Some (length ts)) (place_of ts text)
+place_of-push text [] t first = refl
 place_of-push text (u ∷ us) t first =
-    let absent = none_of (is_text t.name u.name) (place_of t.name us) first in
-    ap (λ o. cond (is_text text u.name) (Some 0) (option_map suc o)) (place_of-push text us t absent.1) ∙ go (bytes_eq t.name text) refl absent.0
+    let absent = none_of (bytes_eq u.name t.name) (place_of us t.name) first in
+    ap (λ o. cond (bytes_eq u.name text) (Some 0) (option_map suc o)) (place_of-push text us t absent.1) ∙ go (bytes_eq t.name text) refl absent.0
   where
-    go : (b : Bool) → bytes_eq t.name text ≡ b → is_text t.name u.name ≡ false
-        → cond (is_text text u.name) (Some 0) (option_map suc (cond b (Some (length us)) (place_of text us))) ≡ cond b (Some (suc (length us))) (cond (is_text text u.name) (Some 0) (option_map suc (place_of text us)))
+    go : (b : Bool) → bytes_eq t.name text ≡ b → bytes_eq u.name t.name ≡ false
+        → cond (bytes_eq u.name text) (Some 0) (option_map suc (cond b (Some (length us)) (place_of us text))) ≡ cond b (Some (suc (length us))) (cond (bytes_eq u.name text) (Some 0) (option_map suc (place_of us text)))
     go true e other = rw (← same_text t.name text e, other) refl
     go false e other = refl
 
 -- the map of places, with the new name put in, is that of the taps with the new one
 pub places-put : {Y S : Type 0} (m n : HashMap (String Y) ℕ S) (ts : List Tap) (t : Tap) (key : String Y) (size : ℕ) → string_bytes key ≡ t.name → size ≡ length ts
-    → UpdatesBy string_eq (string_eq key) m n (Some size) → ((text : List ℕ) → get_by_text m text ≡ place_of text ts) → place_of t.name ts ≡ None
-    → (text : List ℕ) → get_by_text n text ≡ place_of text (ts ++ t ∷ [])
+    → UpdatesBy string_eq (string_eq key) m n (Some size) → ((text : List ℕ) → get_by_text m text ≡ place_of ts text) → place_of ts t.name ≡ None
+    → (text : List ℕ) → get_by_text n text ≡ place_of (ts ++ t ∷ []) text
 places-put m n ts t key size spells sized updates places first text =
     hash_map_updates_text (string_bytes key) m n (Some size) updates text
     ∙ ap (cond (bytes_eq (string_bytes key) text) (Some size)) (places text)
@@ -213,7 +214,7 @@ pids-empty kind.Client = refl
 
 -- after a header the reader's places, pids and counts are those of the taps
 pub begin-keeps : (s s' : OpenTaps) (name : List ℕ) (of : TapKind) → KeepsTaps s → s'.pids ≡ s.pids → taps_so_far s' ≡ taps_so_far s ++ record { name = name; records = no_records of } ∷ []
-    → ((text : List ℕ) → get_by_text s'.places text ≡ place_of text (taps_so_far s')) → Counted s'.counts (taps_so_far s ++ record { name = name; records = no_records of } ∷ []) → KeepsTaps s'
+    → ((text : List ℕ) → get_by_text s'.places text ≡ place_of (taps_so_far s') text) → Counted s'.counts (taps_so_far s ++ record { name = name; records = no_records of } ∷ []) → KeepsTaps s'
 begin-keeps s s' name of keeps same taps places counts =
     record {
       places = places;
@@ -222,10 +223,5 @@ begin-keeps s s' name of keeps same taps places counts =
     }
 
 -- a line whose name has no place has to be a header
-pub named-first : (ts : List Tap) (name word : List ℕ) (d : Data) → place_of name ts ≡ None → with_named ts name word d ≡ with_header ts name word d
+pub named-first : (ts : List Tap) (name word : List ℕ) (d : Data) → place_of ts name ≡ None → with_named ts name word d ≡ with_header ts name word d
 named-first ts name word d place = ap (λ o. with_kind ts name o word d) (named-none name ts place)
-
--- a line that opens goes to the tap of its name
-pub with_line-goes : (ts : List Tap) (line name word : List ℕ) (d : Data) → opened_line line ≡ Ok (name, d) → kind_named d ≡ Ok word → with_line ts line ≡ with_named ts name word d
-unfolding with_line
-with_line-goes ts line name word d opened kind = rw (opened, kind) refl

@@ -1,13 +1,12 @@
 -- What a line that is read does to the taps: its header begins one, and any other line adds a record to one.
-use Rattle.std.proofs.Common.{◌≡◌, ℕ, List, [], ◌∷◌, ◌++◌, map, Bool, true, false, cond, ◌⊎◌, inl, inr, Option, Some, None, Result, Ok, Err, refl, sym, ap, ◌∙◌, codes, not, nat_lt, length, option_to_list}
-use Rattle.std.specs.List.{list_any}
+use Rattle.std.proofs.Common.{◌≡◌, ℕ, List, [], ◌∷◌, ◌++◌, map, Bool, true, false, cond, ◌⊎◌, inl, inr, Option, Some, None, Result, Ok, Err, refl, sym, ap, ◌∙◌, codes, not, length, option_to_list}
 use Rattle.std.proofs.lemmas.Bool.{not-true}
 use Rattle.std.proofs.lemmas.List.{map-append}
 use Rattle.aud_base.proofs.SameText.{same_text}
 use Rattle.aud_base.proofs.StepLemmas.{same-ok, part-of, guard-ok}
 use Rattle.serde_json.specs.Data.{Data}
 use Rattle.aud_reader.specs.declared.fault.InputCode.{InputCode}
-use Rattle.aud_reader.specs.declared.fault.InputCode.TheVariants.{NoHeader, UnknownKind, HeaderTwice, OffsetTwice, Field, Limit}
+use Rattle.aud_reader.specs.declared.fault.InputCode.TheVariants.{NoHeader, UnknownKind, HeaderTwice}
 use Rattle.aud_reader.specs.declared.fault.ReadFault.{ReadFault}
 use Rattle.aud_reader.specs.declared.line.Line.{Line}
 use Rattle.aud_tap.specs.declared.records.TapKind.{TapKind}
@@ -27,8 +26,8 @@ use Rattle.aud_reader.specs.StreamRecord.{stream_record_of}
 use Rattle.aud_reader.specs.NodeRecord.{node_record_of}
 use Rattle.aud_reader.specs.ClientRecord.{client_record_of}
 use Rattle.aud_reader.specs.Record.{opened_line, kind_named, tap_of_kind, record_in, record_of, value_record, line_record}
-use Rattle.aud_reader.specs.Bundle.{offset_of, max_entries, max_records, pid_of, node_room, with_new_offset, with_entry, with_node_record, with_client_record, with_tap_record, tap_named, with_records, kind_of_tap, pids_of, another_tap, no_records, with_header, with_later, with_kind, with_line, at_line, passing_empty, taps_after, taps_from, taps_of, Reading, taps_to_come}
-use Rattle.aud_reader.specs.Connections.{may_follow}
+use Rattle.aud_tap.specs.RecordFields.{offset_of, pid_of}
+use Rattle.aud_reader.specs.Bundle.{entry_room, node_room, client_room, with_entry, with_node_record, with_client_record, with_tap_record, tap_named, with_records, kind_of_tap, pids_of, another_tap, no_records, with_header, with_later, with_kind, with_line, at_line, passing_empty, taps_after, taps_from, taps_of, Reading, taps_to_come}
 use Rattle.aud_reader.specs.OwnLines.{recs_in}
 
 -- a test that held
@@ -93,20 +92,14 @@ pub record Put {R : Type 0} (read : Result R InputCode) (old new : List R) : Typ
   pub reads : read ≡ Ok value
   pub is : new ≡ old ++ value ∷ []
 
--- the entry of a line, which fits and is put with the others
-pub new_entry : (entries new : List StreamRec) (kind : List ℕ) (d : Data) → with_entry entries kind d ≡ Ok new
-    → (entry : StreamRec) × (stream_record_of kind d ≡ Ok entry) × (with_new_offset entries entry ≡ Ok new)
+-- an entry that was added stands last, after those from before, and had room among them
+pub put_entry : (entries new : List StreamRec) (kind : List ℕ) (d : Data) → with_entry entries kind d ≡ Ok new
+    → (put : Put (stream_record_of kind d) entries new) × (entry_room (length entries) (map offset_of entries) put.value ≡ Ok tt)
 unfolding with_entry
-new_entry entries new kind d e =
-    let read = part-of (stream_record_of kind d) _ new e in
-    (read.0, read.1, (guard-ok Limit (nat_lt (length entries) max_entries) (with_new_offset entries read.0) new read.2).1)
-
--- an entry that was added stands last, after those from before
-put_entry : (entries new : List StreamRec) (kind : List ℕ) (d : Data) → with_entry entries kind d ≡ Ok new → Put (stream_record_of kind d) entries new
 put_entry entries new kind d e =
-    let read = new_entry entries new kind d e in
-    let last = part-of (guard OffsetTwice (not (list_any (is_text (offset_of read.0)) (map offset_of entries)))) _ new read.2 in
-    record { value = read.0; reads = read.1; is = cc }
+    let read = part-of (stream_record_of kind d) _ new e in
+    let room = part-of (entry_room (length entries) (map offset_of entries) read.0) _ new read.2 in
+    (record { value = read.0; reads = read.1; is = cc }, room.1)
 
 -- a node's record that was added stands last, after those from before
 put_node : (pids : List (List ℕ)) (records new : List NodeRec) (kind : List ℕ) (d : Data) → with_node_record pids records kind d ≡ Ok new → Put (node_record_of kind d) records new
@@ -121,8 +114,7 @@ put_client : (records new : List ClientRec) (kind : List ℕ) (d : Data) → wit
 unfolding with_client_record
 put_client records new kind d e =
     let read = part-of (client_record_of kind d) _ new e in
-    let follows = part-of (guard Field (may_follow records read.0)) _ new read.2 in
-    let room = part-of (guard Limit (nat_lt (length records) max_records)) _ new follows.2 in
+    let room = part-of (client_room records read.0) _ new read.2 in
     record { value = read.0; reads = read.1; is = cc }
 
 -- a list that was put in, as a tap's records
@@ -145,7 +137,7 @@ put_in of as_rec as_records read list put new kind d reads recs same known one e
 pub one_more : (pids : List (List ℕ)) (old new : Records) (kind : List ℕ) (d : Data) → with_tap_record pids old kind d ≡ Ok new → OneMore old kind d new
 unfolding record_in
 one_more pids (Stream entries) new kind d e =
-    put_in tap.Stream rec.Stream Stream (stream_record_of kind d) entries (with_entry entries kind d) new kind d refl (λ rs. refl) (λ rs. refl) (stream-kind kind d) (λ more. put_entry entries more kind d) e
+    put_in tap.Stream rec.Stream Stream (stream_record_of kind d) entries (with_entry entries kind d) new kind d refl (λ rs. refl) (λ rs. refl) (stream-kind kind d) (λ more put. (put_entry entries more kind d put).0) e
 one_more pids (Node records) new kind d e =
     put_in tap.Node rec.Node Node (node_record_of kind d) records (with_node_record pids records kind d) new kind d refl (λ rs. refl) (λ rs. refl) (node-kind kind d) (λ more. put_node pids records more kind d) e
 one_more pids (Client records) new kind d e =

@@ -15,7 +15,7 @@ use Rattle.std.proofs.lemmas.Map.Made.{AllPairs-from_IsDistinct, IsDistinct-from
 use Rattle.aud_base.proofs.SameText.{itself_text, other_text}
 use Rattle.aud_base.proofs.StepLemmas.{part-of, guard-ok}
 use Rattle.serde_json.specs.Data.{Data}
-use Rattle.aud_reader.specs.declared.fault.InputCode.TheVariants.{OffsetTwice, SecondStream}
+use Rattle.aud_reader.specs.declared.fault.InputCode.TheVariants.{Limit, OffsetTwice, SecondStream}
 use Rattle.aud_reader.specs.declared.line.Line.{Line}
 use Rattle.aud_tap.specs.declared.records.TapKind.{TapKind}
 use Rattle.aud_tap.specs.declared.records.TapKind.TheVariants as tap
@@ -24,11 +24,13 @@ use Rattle.aud_tap.specs.declared.taps.Records.TheVariants.{Stream, Node, Client
 use Rattle.aud_tap.specs.declared.taps.Tap.{Tap}
 use Rattle.aud_tap.specs.Forms.{is_text}
 use Rattle.aud_tap.specs.Names.{AreNamedOnce}
-use Rattle.aud_reader.specs.Bundle.{offset_of, with_entry, with_tap_record, tap_named, kind_of_tap, same_kind, taps_on, no_records, another_tap, with_line, taps_from, taps_of}
+use Rattle.aud_tap.specs.RecordFields.{offset_of}
+use Rattle.aud_base.specs.Steps.{guard}
+use Rattle.aud_reader.specs.Bundle.{max_entries, with_entry, with_tap_record, tap_named, kind_of_tap, same_kind, taps_on, no_records, another_tap, with_line, taps_from, taps_of}
 use Rattle.aud_reader.specs.TapLaws.{AreDifferent, offsets_in}
 use Rattle.aud_reader.specs.Private.Sound.{names_of, AreSoundTaps}
 use Rattle.aud_reader.proofs.KeptLemmas.{replaced, taps_on-set}
-use Rattle.aud_reader.proofs.LineSteps.{guarded, new_entry, one_more, first_of_lines, Begins, Adds, line_step}
+use Rattle.aud_reader.proofs.LineSteps.{guarded, put_entry, one_more, first_of_lines, Begins, Adds, line_step}
 
 -- ---- different texts
 
@@ -78,10 +80,11 @@ offsets-none tap.Client = λ i j d l m. absurd (omega arith)
 offsets-more : (pids : List (List ℕ)) (old new : Records) (kind : List ℕ) (d : Data) → with_tap_record pids old kind d ≡ Ok new → AreDifferent (offsets_in old) → AreDifferent (offsets_in new)
 offsets-more pids (Stream entries) new kind d e different =
     let more = part-of (with_entry entries kind d) _ new e in
-    let entry = new_entry entries more.0 kind d more.1 in
-    let test = guard-ok OffsetTwice (not (list_any (is_text (offset_of entry.0)) (map offset_of entries))) _ more.0 entry.2 in
-    let is : new ≡ Stream (entries ++ entry.0 ∷ []) = cc in
-    rw (is, map-append offset_of entries (entry.0 ∷ [])) (different-push (map offset_of entries) (offset_of entry.0) different (not-true (list_any (is_text (offset_of entry.0)) (map offset_of entries)) test.0))
+    let (put, room) = put_entry entries more.0 kind d more.1 in
+    let known = list_any (is_text (offset_of put.value)) (map offset_of entries) in
+    let test = guard-ok Limit (nat_lt (length entries) max_entries) (guard OffsetTwice (not known)) tt room in
+    let is : new ≡ Stream (entries ++ put.value ∷ []) = cc in
+    rw (is, map-append offset_of entries (put.value ∷ [])) (different-push (map offset_of entries) (offset_of put.value) different (not-true known (guarded OffsetTwice (not known) test.1)))
 offsets-more pids (Node records) new kind d e different = offsets-absent new (λ is. let same = (one_more pids (Node records) new kind d e).same in cc)
 offsets-more pids (Client records) new kind d e different = offsets-absent new (λ is. let same = (one_more pids (Client records) new kind d e).same in cc)
 

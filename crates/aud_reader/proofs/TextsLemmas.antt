@@ -20,7 +20,8 @@ use Rattle.std.proofs.lemmas.Map.Text.{hash_set_updates_text}
 use Rattle.aud_base.proofs.Lists.{any-map}
 use Rattle.aud_reader.specs.declared.fault.InputCode.TheVariants.{Limit}
 use Rattle.aud_tap.specs.Forms.{is_text}
-use Rattle.aud_reader.specs.Bundle.{max_pids, pid_of, pids_fit}
+use Rattle.aud_tap.specs.RecordFields.{pid_of}
+use Rattle.aud_reader.specs.Bundle.{max_pids, pids_fit}
 use Rattle.aud_reader.specs.Private.Texts.{HasTexts, HasPids}
 
 -- a text is among others and one more where it is among them or is that one

@@ -11,15 +11,14 @@ use Rattle.aud_reader.specs.declared.line.Line.{Line}
 use Rattle.aud_tap.specs.declared.records.TapKind.{TapKind}
 use Rattle.aud_tap.specs.declared.records.TapKind.TheVariants as kind
 use Rattle.aud_tap.specs.declared.records.StreamRec.{StreamRec}
-use Rattle.aud_tap.specs.declared.records.StreamRec.TheVariants.{Ev, Other}
 use Rattle.aud_tap.specs.declared.records.NodeRec.{NodeRec}
-use Rattle.aud_tap.specs.declared.records.NodeRec.TheVariants.{Start, Take, Opened, Join, Leave, Broke, Back, Gone}
 use Rattle.aud_tap.specs.declared.records.ClientRec.{ClientRec}
 use Rattle.aud_tap.specs.declared.taps.Records.{Records}
 use Rattle.aud_tap.specs.declared.taps.Records.TheVariants.{Stream, Node, Client}
 use Rattle.aud_tap.specs.declared.taps.Tap.{Tap}
 use Rattle.aud_base.specs.Steps.{◌>>=◌, guard}
 use Rattle.aud_tap.specs.Forms.{is_text}
+use Rattle.aud_tap.specs.RecordFields.{offset_of, pid_of}
 use Rattle.aud_reader.specs.Header.{header_of}
 use Rattle.aud_reader.specs.StreamRecord.{stream_record_of}
 use Rattle.aud_reader.specs.NodeRecord.{node_record_of}
@@ -49,32 +48,19 @@ max_client_taps = 4096
 
 -- ---- one more record of a tap
 
--- the offset of an entry
-abbrev pub offset_of : StreamRec → List ℕ
-offset_of (Ev e) = e.off
-offset_of (Other off) = off
+-- so many entries, with these offsets, have room for another, whose offset is new
+abbrev pub entry_room : ℕ → List (List ℕ) → StreamRec → Result (Unit {0}) InputCode
+entry_room count offsets entry = guard Limit (nat_lt count max_entries) >>= (λ room. guard OffsetTwice (not (list_any (is_text (offset_of entry)) offsets)))
 
--- the entries with another, whose offset no earlier one has
-abbrev pub with_new_offset : List StreamRec → StreamRec → Result (List StreamRec) InputCode
-with_new_offset entries entry = guard OffsetTwice (not (list_any (is_text (offset_of entry)) (map offset_of entries))) >>= (λ new. Ok (entries ++ entry ∷ []))
+-- the entries with another, if there is room for it
+abbrev pub with_new_entry : List StreamRec → StreamRec → Result (List StreamRec) InputCode
+with_new_entry entries entry = entry_room (length entries) (map offset_of entries) entry >>= (λ room. Ok (entries ++ entry ∷ []))
 
 -- the stream's entries with that of a line
 unfoldable pub with_entry : List StreamRec → List ℕ → Data → Result (List StreamRec) InputCode
 with_entry entries kind d = do
   entry ← stream_record_of kind d
-  room ← guard Limit (nat_lt (length entries) max_entries)
-  with_new_offset entries entry
-
--- the pid that a node's record speaks of
-abbrev pub pid_of : NodeRec → Option (List ℕ)
-pid_of (Start off) = None
-pid_of (Take off) = None
-pid_of (Opened pid sid nsp) = Some pid
-pid_of (Join pid room) = Some pid
-pid_of (Leave pid room) = Some pid
-pid_of (Broke pid turn) = Some pid
-pid_of (Back pid turn) = Some pid
-pid_of (Gone pid) = Some pid
+  with_new_entry entries entry
 
 -- there are no more different pids than may be
 abbrev pub pids_fit : List (List ℕ) → Result (Unit {0}) InputCode
@@ -91,12 +77,15 @@ with_node_record pids records kind d = do
   room ← node_room (length records) (pids ++ option_to_list (pid_of rec))
   Ok (records ++ rec ∷ [])
 
+-- a record may follow a client's others, and there is room for it
+abbrev pub client_room : List ClientRec → ClientRec → Result (Unit {0}) InputCode
+client_room records rec = guard Field (may_follow records rec) >>= (λ follows. guard Limit (nat_lt (length records) max_records))
+
 -- a client's records with that of a line
 unfoldable pub with_client_record : List ClientRec → List ℕ → Data → Result (List ClientRec) InputCode
 with_client_record records kind d = do
   rec ← client_record_of kind d
-  follows ← guard Field (may_follow records rec)
-  room ← guard Limit (nat_lt (length records) max_records)
+  room ← client_room records rec
   Ok (records ++ rec ∷ [])
 
 -- the records of a tap with that of a line
@@ -178,12 +167,15 @@ with_kind taps name (Some t) kind d = with_later taps name t.records kind d
 abbrev pub with_named : List Tap → List ℕ → List ℕ → Data → Result (List Tap) InputCode
 with_named taps name kind d = with_kind taps name (tap_named name taps) kind d
 
+-- the taps with what the value of a line brings to the tap of this name
+abbrev pub with_value : List Tap → List ℕ → Data → Result (List Tap) InputCode
+with_value taps name d = kind_named d >>= (λ kind. with_named taps name kind d)
+
 -- the taps with what a line brings
 unfoldable pub with_line : List Tap → List ℕ → Result (List Tap) InputCode
 with_line taps line = do
   parts ← opened_line line
-  kind ← kind_named parts.1
-  with_named taps parts.0 kind parts.1
+  with_value taps parts.0 parts.1
 
 -- ---- the lines
 

@@ -1,12 +1,16 @@
 -- The fields of a JSON object, by their types and forms.
-use Rattle.std.specs.Prelude.{ℕ, List, [], ◌∷◌, Option, Some, None, option_and_then, option_map, ⊤}
+use Rattle.std.specs.Prelude.{ℕ, List, [], ◌∷◌, Option, Some, None, option_and_then, option_map, ⊤, Result, Ok}
 use Rattle.std.specs.Result.{result_ok}
 use Rattle.base64.specs.GeneralPurpose.{decode_of}
 use Rattle.base64.specs.Engines.{standard}
 use Rattle.serde_json.specs.Data.{Data, Items, no_items, item}
 use Rattle.serde_json.specs.Find.{get, as_str, as_array, as_number, as_u64, as_null}
+use Rattle.aud_base.specs.Steps.{◌>>=◌, need, guard}
+use Rattle.aud_tap.specs.Limits.{fits}
 use Rattle.aud_tap.specs.Forms.{passing, is_id, is_namespace}
 use Rattle.aud_tap.specs.Json.{text_at}
+use Rattle.aud_reader.specs.declared.fault.InputCode.{InputCode}
+use Rattle.aud_reader.specs.declared.fault.InputCode.TheVariants.{Field, Limit}
 
 -- ---- a field alone, if it is there and is one
 
@@ -17,6 +21,13 @@ number_at key d = option_and_then as_u64 (option_and_then as_number (get key d))
 -- an offset, a pid or a sid
 abbrev pub id_at : List ℕ → Data → Option (List ℕ)
 id_at key d = option_and_then (passing is_id) (text_at key d)
+
+-- an offset, a pid or a sid, of at most so many bytes
+unfoldable pub bounded_id_at : ℕ → List ℕ → Data → Result (List ℕ) InputCode
+bounded_id_at most key d = do
+  id ← need Field (id_at key d)
+  id_fits ← guard Limit (fits most id)
+  Ok id
 
 -- a namespace
 abbrev pub namespace_at : List ℕ → Data → Option (List ℕ)

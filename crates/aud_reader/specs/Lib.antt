@@ -1,4 +1,5 @@
 pub use Rattle.aud_tap.specs.TapName
+pub use Rattle.aud_tap.specs.RecordFields
 pub use Rattle.aud_tap.specs.WellFormed
 pub use Rattle.aud_tap.specs.Names
 pub mod Lines

@@ -9,7 +9,7 @@ use Rattle.aud_base.specs.Steps.{◌>>=◌, need, guard}
 use Rattle.aud_tap.specs.Limits.{fits, max_offset, max_id, max_room, max_namespace, max_turn}
 use Rattle.aud_tap.specs.Forms.{is_text}
 use Rattle.aud_tap.specs.Json.{text_at}
-use Rattle.aud_reader.specs.Fields.{number_at, id_at, id_or_null_at, namespace_at}
+use Rattle.aud_reader.specs.Fields.{number_at, id_at, id_or_null_at, bounded_id_at, namespace_at}
 
 -- an offset that is there is within its limit
 abbrev pub fits_if_there : Option (List ℕ) → Bool
@@ -24,11 +24,8 @@ start_of d = do
   Ok (Start off)
 
 -- the node takes an entry
-unfoldable pub take_of : Data → Result NodeRec InputCode
-take_of d = do
-  off ← need Field (id_at (codes "off") d)
-  offset_fits ← guard Limit (fits max_offset off)
-  Ok (Take off)
+abbrev pub take_of : Data → Result NodeRec InputCode
+take_of d = bounded_id_at max_offset (codes "off") d >>= (λ off. Ok (Take off))
 
 -- a session opens
 unfoldable pub open_of : Data → Result NodeRec InputCode
@@ -76,11 +73,8 @@ abbrev pub back_of : Data → Result NodeRec InputCode
 back_of d = pid_and_turn d >>= (λ t. Ok (Back t.0 t.1))
 
 -- a session is over
-unfoldable pub gone_of : Data → Result NodeRec InputCode
-gone_of d = do
-  pid ← need Field (id_at (codes "pid") d)
-  pid_fits ← guard Limit (fits max_id pid)
-  Ok (Gone pid)
+abbrev pub gone_of : Data → Result NodeRec InputCode
+gone_of d = bounded_id_at max_id (codes "pid") d >>= (λ pid. Ok (Gone pid))
 
 -- the node's record of this kind
 unfoldable pub node_record_of : List ℕ → Data → Result NodeRec InputCode

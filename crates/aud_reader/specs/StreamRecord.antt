@@ -9,7 +9,7 @@ use Rattle.aud_base.specs.Steps.{◌>>=◌, need, guard}
 use Rattle.aud_tap.specs.Limits.{fits, fit_rooms, max_offset, max_namespace, max_attachments}
 use Rattle.aud_tap.specs.Forms.{is_text}
 use Rattle.aud_tap.specs.Json.{text_at}
-use Rattle.aud_reader.specs.Fields.{id_at, namespace_at, texts_at, blobs_at}
+use Rattle.aud_reader.specs.Fields.{id_at, bounded_id_at, namespace_at, texts_at, blobs_at}
 
 -- the rooms that an event is for, those that are excepted, and its attachments
 unfoldable pub lists_of : Data → Result (List (List ℕ) × List (List ℕ) × List (List ℕ)) InputCode
@@ -19,13 +19,9 @@ lists_of d = do
   bin ← need Field (blobs_at (codes "bin") d)
   Ok (rooms, except, bin)
 
--- an event
-unfoldable pub event_of : Data → Result StreamRec InputCode
-event_of d = do
-  off ← need Field (id_at (codes "off") d)
-  nsp ← need Field (namespace_at (codes "nsp") d)
-  text ← need Field (text_at (codes "text") d)
-  lists ← lists_of d
+-- the event of these fields, within their limits
+unfoldable pub bounded_event : List ℕ → List ℕ → List ℕ → List (List ℕ) × List (List ℕ) × List (List ℕ) → Result StreamRec InputCode
+bounded_event off nsp text lists = do
   offset_fits ← guard Limit (fits max_offset off)
   namespace_fits ← guard Limit (fits max_namespace nsp)
   rooms_fit ← guard Limit (fit_rooms lists.0)
@@ -33,12 +29,18 @@ event_of d = do
   attachments_fit ← guard Limit (nat_le (length lists.2) max_attachments)
   Ok (Ev (record { off = off; nsp = nsp; rooms = lists.0; except = lists.1; text = text; bin = lists.2 }))
 
--- an entry that is no event
-unfoldable pub other_of : Data → Result StreamRec InputCode
-other_of d = do
+-- an event
+unfoldable pub event_of : Data → Result StreamRec InputCode
+event_of d = do
   off ← need Field (id_at (codes "off") d)
-  offset_fits ← guard Limit (fits max_offset off)
-  Ok (Other off)
+  nsp ← need Field (namespace_at (codes "nsp") d)
+  text ← need Field (text_at (codes "text") d)
+  lists ← lists_of d
+  bounded_event off nsp text lists
+
+-- an entry that is no event
+abbrev pub other_of : Data → Result StreamRec InputCode
+other_of d = bounded_id_at max_offset (codes "off") d >>= (λ off. Ok (Other off))
 
 -- the stream's record of this kind
 unfoldable pub stream_record_of : List ℕ → Data → Result StreamRec InputCode

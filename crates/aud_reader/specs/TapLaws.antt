@@ -5,7 +5,8 @@ use Rattle.aud_tap.specs.declared.records.TapKind.TheVariants as kind
 use Rattle.aud_tap.specs.declared.taps.Records.{Records}
 use Rattle.aud_tap.specs.declared.taps.Records.TheVariants.{Stream, Node, Client}
 use Rattle.aud_tap.specs.declared.taps.Tap.{Tap}
-use Rattle.aud_reader.specs.Bundle.{offset_of, taps_on}
+use Rattle.aud_tap.specs.RecordFields.{offset_of}
+use Rattle.aud_reader.specs.Bundle.{taps_on}
 
 -- no two of these texts are the same
 abbrev pub AreDifferent : List (List ℕ) → Type 0

@@ -2,44 +2,59 @@
 ghost use Rattle.std.specs.Prelude.{◌≡◌, Some, Err};
 
 use std::alloc::{AllocError, AllocFailed};
+use std::fmt;
 use thiserror::Error;
 
 /// Why a line is refused. docs/FORMAT.md has the order in which these are looked for.
 #[derive(Clone, Copy, Debug, PartialEq, Eq, Drop, Error)]
 pub enum InputCode {
     /// The line has more than 4,194,304 bytes.
-    #[error("the line is too long")]
     LineTooLong,
     /// The line does not begin with a tap's name and a blank.
-    #[error("the line does not begin with a name and a blank")]
     NoTapName,
     /// What follows the blank is no JSON text in UTF-8.
-    #[error("the record is no JSON")]
     NotJson,
     /// The first line of a tap is not its header.
-    #[error("the first line of the tap is no header")]
     NoHeader,
     /// The tap, of its kind, has no such record.
-    #[error("the tap has no such record")]
     UnknownKind,
     /// A field is missing, or of another type or form.
-    #[error("a field is missing or of another form")]
     Field,
     /// A length, a number or a count is outside its limits.
-    #[error("a length, a number or a count is outside its limits")]
     Limit,
     /// There is a stream tap already.
-    #[error("there is a stream already")]
     SecondStream,
     /// An earlier entry of the stream has this offset.
-    #[error("an earlier entry has this offset")]
     OffsetTwice,
     /// The tap has a header already.
-    #[error("the tap has a header already")]
     HeaderTwice,
     /// The header is of another version of the format.
-    #[error("the header is of another version")]
     Version,
+}
+
+impl InputCode {
+    /// What is wrong with the line, in words.
+    fn words(self) -> &'static str {
+        match self {
+            InputCode::LineTooLong => "the line is too long",
+            InputCode::NoTapName => "the line does not begin with a name and a blank",
+            InputCode::NotJson => "the record is no JSON",
+            InputCode::NoHeader => "the first line of the tap is no header",
+            InputCode::UnknownKind => "the tap has no such record",
+            InputCode::Field => "a field is missing or of another form",
+            InputCode::Limit => "a length, a number or a count is outside its limits",
+            InputCode::SecondStream => "there is a stream already",
+            InputCode::OffsetTwice => "an earlier entry has this offset",
+            InputCode::HeaderTwice => "the tap has a header already",
+            InputCode::Version => "the header is of another version",
+        }
+    }
+}
+
+impl fmt::Display for InputCode {
+    fn fmt<W: fmt::Write>(&self, f: &mut fmt::Formatter<W>) -> fmt::Result {
+        f.write_str(self.words())
+    }
 }
 
 /// The refusal of a line by its number, which counts from 1; or want of memory.
@@ -63,14 +78,22 @@ impl From<AllocError> for ReadFault {
     }
 }
 
+impl<T: Drop> From<AllocFailed<T>> for ReadFault {
+    ghost use Rattle.aud_reader.specs.declared.fault.ReadFault.TheVariants.{Memory};
+
+    ghost from_gives = { λ _ e. e ≡ Memory };
+
+    fn from(_: AllocFailed<T>) -> ReadFault {
+        ReadFault::Memory
+    }
+}
+
 /// The refusal of a line whose number is known higher up; or want of memory.
-#[derive(Clone, Copy, Debug, PartialEq, Eq, Drop, Error)]
+#[derive(Clone, Copy, Drop)]
 pub enum LineFault {
     /// The line is refused for this reason.
-    #[error(transparent)]
     Code(InputCode),
     /// Memory could not be had.
-    #[error("out of memory")]
     Memory,
 }
 

@@ -20,10 +20,10 @@ use Rattle.aud_tap.specs.declared.records.Rec.{Rec}
 use Rattle.aud_tap.specs.declared.records.Rec.TheVariants.{Header, Stream, Node, Client}
 use Rattle.aud_tap.specs.Limits.{fits, fit_rooms, max_attachments, max_id, max_offset, max_namespace, max_turn}
 use Rattle.aud_tap.specs.Forms.{is_id, is_namespace}
-use Rattle.aud_reader.specs.Fields.{decoded, all_items, list_or_empty, as_blob}
+use Rattle.aud_reader.specs.Fields.{bounded_id_at, decoded, all_items, list_or_empty, as_blob}
 use Rattle.aud_reader.specs.Header.{header_of}
-use Rattle.aud_reader.specs.StreamRecord.{stream_record_of, event_of, lists_of, other_of}
-use Rattle.aud_reader.specs.NodeRecord.{node_record_of, start_of, take_of, open_of, member_of, pid_and_turn, gone_of}
+use Rattle.aud_reader.specs.StreamRecord.{stream_record_of, event_of, bounded_event, lists_of}
+use Rattle.aud_reader.specs.NodeRecord.{node_record_of, start_of, open_of, member_of, pid_and_turn}
 use Rattle.aud_reader.specs.ClientRecord.{client_record_of}
 use Rattle.aud_reader.specs.Record.{record_in, record_of, value_record}
 use Rattle.aud_tap.specs.WellFormed.{is_well_formed, event_is_well_formed, stream_is_well_formed, is_offset, is_session_id, is_room, is_full_namespace, node_is_well_formed}
@@ -47,7 +47,7 @@ turn-parts pid turn h = let ps = and_parts (is_session_id pid) (nat_le turn max_
 
 -- a node's record that was written reads as that record
 pub node-back : (r : NodeRec) → node_is_well_formed r ≡ true → value_record (node_data r) ≡ Ok (Node r)
-unfolding value_record record_of record_in node_record_of start_of take_of open_of member_of pid_and_turn gone_of
+unfolding value_record record_of record_in node_record_of start_of bounded_id_at open_of member_of pid_and_turn
 node-back (Start None) h = refl
 node-back (Start (Some off)) h = let o = and_parts (is_id off) (fits max_offset off) h in rw (o.0, o.1) refl
 node-back (Take off) h = let o = and_parts (is_id off) (fits max_offset off) h in rw (o.0, o.1) refl
@@ -195,7 +195,7 @@ blobs-or-empty (b ∷ bs) h = blobs-back (b ∷ bs) h
 
 -- an event that was written reads as that event
 event-back : (e : Event) → event_is_well_formed e ≡ true → DecodeBack e.bin → event_of (event_data e) ≡ Ok (Ev e)
-unfolding event_of lists_of
+unfolding event_of bounded_event lists_of
 event-back e h bytes =
     let e4 = and_parts (is_offset e.off && is_full_namespace e.nsp && fit_rooms e.rooms && fit_rooms e.except) (nat_le (length e.bin) max_attachments) h in
     let e3 = and_parts (is_offset e.off && is_full_namespace e.nsp && fit_rooms e.rooms) (fit_rooms e.except) e4.0 in
@@ -225,7 +225,7 @@ event-back e h bytes =
 
 -- a record of the stream that was written reads as that record
 stream-back : (r : StreamRec) → stream_is_well_formed r ≡ true → DecodeBack (stream_bytes r) → value_record (stream_data r) ≡ Ok (Stream r)
-unfolding value_record record_of record_in stream_record_of other_of
+unfolding value_record record_of record_in stream_record_of bounded_id_at
 stream-back (Ev e) h bytes = rw (at_kind (map encoded e.bin) e.except e.nsp e.off e.rooms e.text, event-back e h bytes) refl
 stream-back (Other off) h bytes = let o = and_parts (is_id off) (fits max_offset off) h in rw (o.0, o.1) refl
 

@@ -1,11 +1,11 @@
 -- What the reader of a bundle keeps beside the records, so that it looks for nothing among them.
-use Rattle.std.specs.Prelude.{◌≡◌, ℕ, suc, List, [], ◌∷◌, Option, Some, None, option_map, if◌then◌else◌}
+use Rattle.std.specs.Prelude.{◌≡◌, ℕ, List}
 use Rattle.std.specs.HashMap.{get_by_text}
 use Rattle.aud_tap.specs.declared.records.TapKind.TheVariants as kind
 use Rattle.aud_tap.specs.declared.taps.Tap.{Tap}
 use Rattle.aud_reader.specs.declared.bundle.counts.Counts.{Counts}
 use Rattle.aud_reader.specs.declared.bundle.open_taps.OpenTaps.{OpenTaps}
-use Rattle.aud_tap.specs.Forms.{is_text}
+use Rattle.aud_tap.specs.Names.{place_of}
 use Rattle.aud_reader.specs.Bundle.{taps_on, pids_of}
 use Rattle.aud_reader.specs.Private.Texts.{HasPids}
 use Rattle.aud_reader.specs.SoFar.{taps_so_far}
@@ -16,13 +16,8 @@ pub record Counted (counts : Counts) (taps : List Tap) : Type 0 where
   pub nodes : counts.nodes ≡ taps_on kind.Node taps
   pub clients : counts.clients ≡ taps_on kind.Client taps
 
--- the place of the tap of this name
-abbrev pub place_of : List ℕ → List Tap → Option ℕ
-place_of name [] = None
-place_of name (t ∷ ts) = if is_text name t.name then Some 0 else option_map suc (place_of name ts)
-
 -- each name has the place of its tap, and the counts and the pids are those of the taps
 pub record KeepsTaps (s : OpenTaps) : Type 0 where
-  pub places : (name : List ℕ) → get_by_text s.places name ≡ place_of name (taps_so_far s)
+  pub places : (name : List ℕ) → get_by_text s.places name ≡ place_of (taps_so_far s) name
   pub pids : HasPids s.pids (pids_of (taps_so_far s))
   pub counts : Counted s.counts (taps_so_far s)

@@ -3,7 +3,8 @@ ghost use Rattle.std.specs.Prelude.{◌≡◌, ◌∷◌, ◌++◌, [], Ok};
 ghost use Rattle.serde_json.specs.View.{view};
 ghost use Rattle.aud_reader.specs.Connections.{may_follow};
 ghost use Rattle.aud_reader.specs.Private.Connected.{Connected};
-ghost use Rattle.aud_reader.specs.Bundle.{with_client_record};
+ghost use Rattle.aud_reader.specs.Steps.{Gives};
+ghost use Rattle.aud_reader.specs.Bundle.{client_room, with_client_record};
 
 use super::node_log::MAX_RECORDS;
 use crate::fault::{FIELD, LIMIT, LineFault};
@@ -75,6 +76,19 @@ impl ClientLog {
         }
     }
 
+    /// Whether a record may follow, and there is room for it.
+    fn admit(&self, rec: &ClientRec) -> Result<(), LineFault>
+        ensures { Gives result (client_room self.now rec.now) }
+    {
+        if !self.may_follow(rec) {
+            return Err(FIELD);
+        }
+        if self.records.len() >= MAX_RECORDS {
+            return Err(LIMIT);
+        }
+        Ok(())
+    }
+
     fn push(&mut self, rec: ClientRec) -> Result<(), LineFault>
         ensures { Becomes result self.new (Ok (self.old ++ rec ∷ [])) }
     {
@@ -91,12 +105,7 @@ impl ClientLog {
         ensures { Becomes result self.new (with_client_record self.old kind.now (view d.now)) }
     {
         let rec = client_record(self.alloc, kind, d)?;
-        if !self.may_follow(&rec) {
-            return Err(FIELD);
-        }
-        if self.records.len() >= MAX_RECORDS {
-            return Err(LIMIT);
-        }
+        self.admit(&rec)?;
         self.push(rec)
     }
 

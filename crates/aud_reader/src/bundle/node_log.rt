@@ -3,7 +3,8 @@ ghost use Rattle.std.specs.Prelude.{◌≡◌, ◌++◌, List, ℕ, OnOk, option
 ghost use Rattle.std.specs.List.{filter_map};
 ghost use Rattle.serde_json.specs.View.{view};
 ghost use Rattle.aud_reader.specs.Private.Changes.{Becomes};
-ghost use Rattle.aud_reader.specs.Bundle.{node_room, pid_of, with_node_record};
+ghost use Rattle.aud_tap.specs.RecordFields.{pid_of};
+ghost use Rattle.aud_reader.specs.Bundle.{node_room, with_node_record};
 ghost use Rattle.aud_reader.specs.Steps.{Gives};
 ghost use Rattle.aud_reader.specs.Private.Texts.{HasPids};
 
@@ -48,8 +49,9 @@ pub fn add_node_record(
     ensures pids { (before after : List (List ℕ)) → HasPids pids.old (before ++ filter_map pid_of records.old.items ++ after)
         → OnOk result (HasPids pids.new (before ++ filter_map pid_of records.new.items ++ after)) }
 {
+    records.reserve(1)?;
     let rec = node_record(alloc, kind, d)?;
     admit(alloc, records.len(), pids, &rec)?;
-    records.push(rec)?;
+    records.push(rec).unwrap();
     Ok(())
 }

@@ -3,7 +3,8 @@ ghost use Rattle.std.specs.Prelude.{◌≡◌, ◌++◌, List, ℕ, OnOk};
 ghost use Rattle.std.specs.List.{filter_map};
 ghost use Rattle.serde_json.specs.View.{view};
 ghost use Rattle.aud_reader.specs.Private.Changes.{Becomes};
-ghost use Rattle.aud_reader.specs.Bundle.{no_records, pid_of, pids_in, with_node_record, with_tap_record};
+ghost use Rattle.aud_tap.specs.RecordFields.{pid_of};
+ghost use Rattle.aud_reader.specs.Bundle.{no_records, pids_in, with_node_record, with_tap_record};
 ghost use Rattle.aud_reader.specs.Private.Texts.{HasPids};
 
 use super::client_log::ClientLog;

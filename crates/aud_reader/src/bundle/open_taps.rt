@@ -3,7 +3,7 @@ ghost use Rattle.std.specs.Prelude.{◌≡◌, ◌<◌, ◌∷◌, ◌++◌, [],
 ghost use Rattle.std.specs.HashMap.{get_by_text};
 ghost use Rattle.serde_json.specs.View.{view};
 ghost use Rattle.aud_reader.specs.Private.Changes.{Becomes};
-ghost use Rattle.aud_reader.specs.Bundle.{no_records, with_header, with_line, with_named};
+ghost use Rattle.aud_reader.specs.Bundle.{no_records, with_header, with_line, with_named, with_value};
 
 use super::counts::Counts;
 use super::open_tap::OpenTap;
@@ -32,7 +32,8 @@ pub struct OpenTaps {
 }
 
 impl OpenTaps {
-    ghost use Rattle.aud_reader.specs.Private.Kept.{KeepsTaps, place_of};
+    ghost use Rattle.aud_tap.specs.Names.{place_of};
+    ghost use Rattle.aud_reader.specs.Private.Kept.{KeepsTaps};
     ghost use Rattle.aud_reader.specs.SoFar.{taps_so_far};
 
     pub fn new(alloc: Global) -> OpenTaps
@@ -51,8 +52,8 @@ impl OpenTaps {
     /// Puts a tap without records at the end.
     fn push(&mut self, name: &str, of: TapKind) -> Result<(), AllocError>
         ensures taps { OnOk result (taps_so_far self.new ≡ taps_so_far self.old ++ record { name = name.now; records = no_records of } ∷ []) }
-        ensures places { ((text : List ℕ) → get_by_text self.old.places text ≡ place_of text (taps_so_far self.old)) → place_of name.now (taps_so_far self.old) ≡ None
-            → OnOk result ((text : List ℕ) → get_by_text self.new.places text ≡ place_of text (taps_so_far self.new)) }
+        ensures places { ((text : List ℕ) → get_by_text self.old.places text ≡ place_of (taps_so_far self.old) text) → place_of (taps_so_far self.old) name.now ≡ None
+            → OnOk result ((text : List ℕ) → get_by_text self.new.places text ≡ place_of (taps_so_far self.new) text) }
         ensures others { self.new ≡ record self.old { taps = self.new.taps; places = self.new.places } }
     {
         let key = String::from_str(self.alloc, name)?;
@@ -66,7 +67,7 @@ impl OpenTaps {
     #[tactic(auto, unfolding(crate::specs::Bundle::with_header))]
     fn begin(&mut self, name: &str, kind: &str, d: &Value) -> Result<(), LineFault>
         requires keeps { KeepsTaps self.old }
-        requires first { place_of name.now (taps_so_far self.old) ≡ None }
+        requires first { place_of (taps_so_far self.old) name.now ≡ None }
         ensures taps { Becomes result (taps_so_far self.new) (with_header (taps_so_far self.old) name.now kind.now (view d.now)) }
         ensures keeps { OnOk result (KeepsTaps self.new) }
     {
@@ -84,7 +85,7 @@ impl OpenTaps {
     fn go_on(&mut self, place: usize, kind: &str, d: &Value) -> Result<(), LineFault>
         requires keeps { KeepsTaps self.old }
         requires place { place < length (taps_so_far self.old) }
-        ensures taps { (name : List ℕ) → place_of name (taps_so_far self.old) ≡ Some place → Becomes result (taps_so_far self.new) (with_named (taps_so_far self.old) name kind.now (view d.now)) }
+        ensures taps { (name : List ℕ) → place_of (taps_so_far self.old) name ≡ Some place → Becomes result (taps_so_far self.new) (with_named (taps_so_far self.old) name kind.now (view d.now)) }
         ensures keeps { OnOk result (KeepsTaps self.new) }
     {
         if kind == "tap" {
@@ -97,9 +98,22 @@ impl OpenTaps {
     /// The place of the tap of this name.
     fn place(&self, name: &str) -> Option<usize>
         requires { KeepsTaps self.now }
-        ensures { result ≡ place_of name.now (taps_so_far self.now) }
+        ensures { result ≡ place_of (taps_so_far self.now) name.now }
     {
         self.places.get(name).copied()
+    }
+
+    /// Reads the value of a line of the tap of this name.
+    fn read_value(&mut self, name: &str, d: &Value) -> Result<(), LineFault>
+        requires { KeepsTaps self.old }
+        ensures taps { Becomes result (taps_so_far self.new) (with_value (taps_so_far self.old) name.now (view d.now)) }
+        ensures keeps { OnOk result (KeepsTaps self.new) }
+    {
+        let kind = kind_of(d)?;
+        match self.place(name) {
+            Some(place) => self.go_on(place, kind, d),
+            None => self.begin(name, kind, d),
+        }
     }
 
     /// Reads a line.
@@ -110,11 +124,7 @@ impl OpenTaps {
         ensures keeps { OnOk result (KeepsTaps self.new) }
     {
         let (name, d) = opened_line(self.alloc, line)?;
-        let kind = kind_of(&d)?;
-        match self.place(name) {
-            Some(place) => self.go_on(place, kind, &d),
-            None => self.begin(name, kind, &d),
-        }
+        self.read_value(name, &d)
     }
 
     /// The taps, at the end.

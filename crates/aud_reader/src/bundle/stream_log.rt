@@ -1,5 +1,5 @@
 //! The entries of the stream, while they are read.
-ghost use Rattle.std.specs.Prelude.{◌≡◌, ◌<◌, ◌∷◌, ◌++◌, [], List, ℕ, not, vec_len, vec_capacity, OnOk, MatchResult};
+ghost use Rattle.std.specs.Prelude.{◌≡◌, ◌<◌, ◌∷◌, ◌++◌, [], List, ℕ, length, not, vec_len, vec_capacity, OnOk, MatchResult};
 ghost use Rattle.std.specs.List.{list_any};
 ghost use Rattle.serde_json.specs.View.{view};
 ghost use Rattle.aud_reader.specs.declared.fault.InputCode.TheVariants.{OffsetTwice};
@@ -7,7 +7,8 @@ ghost use Rattle.aud_base.specs.Steps.{guard};
 ghost use Rattle.aud_reader.specs.Steps.{Gives};
 ghost use Rattle.aud_tap.specs.Forms.{is_text};
 ghost use Rattle.aud_reader.specs.Private.Texts.{HasTexts};
-ghost use Rattle.aud_reader.specs.Bundle.{offset_of, with_entry, with_new_offset};
+ghost use Rattle.aud_tap.specs.RecordFields.{offset_of};
+ghost use Rattle.aud_reader.specs.Bundle.{entry_room, with_entry, with_new_entry};
 
 use crate::fault::{InputCode, LIMIT, LineFault};
 use crate::read::stream::stream_record;
@@ -43,18 +44,21 @@ fn add_offset(alloc: Global, offsets: &mut HashSet<String>, off: &str) -> Result
     Ok(())
 }
 
-/// Adds the offset of an entry, unless it is there already, and makes room for the entry.
+/// Adds the offset of an entry, unless it is there already, and makes room for the entry; unless there are too many.
 fn admit(
     alloc: Global,
     entries: &mut Vec<StreamRec>,
     offsets: &mut HashSet<String>,
     entry: &StreamRec,
 ) -> Result<(), LineFault>
-    ensures new { (all : List (List ℕ)) → HasTexts offsets.old all → Gives result (guard OffsetTwice (not (list_any (is_text (offset_of entry.now)) all))) }
+    ensures new { (all : List (List ℕ)) → HasTexts offsets.old all → Gives result (entry_room (length entries.old.items) all entry.now) }
     ensures kept { (all : List (List ℕ)) → HasTexts offsets.old all → MatchResult result (λ _. HasTexts offsets.new (all ++ offset_of entry.now ∷ [])) (λ _. HasTexts offsets.new all) }
     ensures items { entries.new.items ≡ entries.old.items }
     ensures room { OnOk result (vec_len entries.new < vec_capacity entries.new) }
 {
+    if entries.len() >= MAX_ENTRIES {
+        return Err(LIMIT);
+    }
     entries.reserve(1)?;
     add_offset(alloc, offsets, offset_of(entry))
 }
@@ -70,7 +74,7 @@ pub struct StreamLog {
 impl Model for StreamLog {
     ghost use Rattle.std.specs.Prelude.{List, map};
     ghost use Rattle.aud_tap.specs.declared.records.StreamRec.{StreamRec};
-    ghost use Rattle.aud_reader.specs.Bundle.{offset_of};
+    ghost use Rattle.aud_tap.specs.RecordFields.{offset_of};
     ghost use Rattle.aud_reader.specs.Private.Texts.{HasTexts};
 
     ghost Value = { List StreamRec };
@@ -93,12 +97,12 @@ impl StreamLog {
         }
     }
 
-    /// Adds an entry, unless an earlier one has its offset.
+    /// Adds an entry, unless there are too many or an earlier one has its offset.
     fn push(&mut self, entry: StreamRec) -> Result<(), LineFault>
-        ensures { Becomes result self.new (with_new_offset self.old entry) }
+        ensures { Becomes result self.new (with_new_entry self.old entry) }
     {
         admit(self.alloc, &mut self.entries, &mut self.offsets, &entry)?;
-        self.entries.push(entry)?;
+        self.entries.push(entry).unwrap();
         Ok(())
     }
 
@@ -108,9 +112,6 @@ impl StreamLog {
         ensures { Becomes result self.new (with_entry self.old kind.now (view d.now)) }
     {
         let entry = stream_record(self.alloc, kind, d)?;
-        if self.entries.len() >= MAX_ENTRIES {
-            return Err(LIMIT);
-        }
         self.push(entry)
     }
 

@@ -4,7 +4,7 @@ ghost use Rattle.aud_reader.specs.Steps.{Gives};
 ghost use Rattle.aud_reader.specs.ClientRecord.{message_of, client_record_of};
 
 use super::fields::{bytes_at, copied, number_at, text_at};
-use crate::fault::{FIELD, LineFault, UNKNOWN_KIND};
+use crate::fault::{LineFault, UNKNOWN_KIND};
 use aud_tap::{ClientRec, Text};
 use serde_json::Value;
 use std::alloc::Global;
@@ -12,7 +12,7 @@ use std::alloc::Global;
 fn message(alloc: Global, d: &Value) -> Result<Text, LineFault>
     ensures { Gives result (message_of (view d.now)) }
 {
-    let t = text_at("t", d).ok_or(FIELD)?;
+    let t = text_at("t", d)?;
     Ok(copied(alloc, t)?)
 }
 
@@ -23,7 +23,7 @@ pub fn client_record(alloc: Global, kind: &str, d: &Value) -> Result<ClientRec, 
 {
     match kind {
         "conn" => Ok(ClientRec::Conn {
-            c: number_at("c", d).ok_or(FIELD)?,
+            c: number_at("c", d)?,
         }),
         "in" => Ok(ClientRec::TextIn {
             t: message(alloc, d)?,

@@ -1,17 +1,19 @@
 //! The fields of a JSON object, by their types and forms.
-ghost use Rattle.std.specs.Prelude.{◌≡◌, IfOk, IfSome, IsTrue, option_map};
+ghost use Rattle.std.specs.Prelude.{◌≡◌, ◌&&◌, Ok, IfOk, IfSome, IsTrue, MatchResult, option_map};
 ghost use Rattle.serde_json.specs.View.{view, items_view};
 ghost use Rattle.serde_json.specs.Find.{as_str};
 ghost use Rattle.aud_reader.specs.declared.fault.InputCode.TheVariants.{Field};
 ghost use Rattle.aud_base.specs.Steps.{need};
-ghost use Rattle.aud_reader.specs.Steps.{Gives};
+ghost use Rattle.aud_reader.specs.Steps.{Fails, Gives};
+ghost use Rattle.aud_tap.specs.Limits.{fits};
 ghost use Rattle.aud_tap.specs.Forms.{is_id, is_namespace};
 ghost use Rattle.aud_tap.specs.Json.{text_at};
-ghost use Rattle.aud_reader.specs.Fields.{number_at, id_at, namespace_at};
+ghost use Rattle.aud_reader.specs.Fields.{number_at, id_at, bounded_id_at, namespace_at};
 ghost use Rattle.aud_reader.specs.Fields.{id_or_null, id_or_null_at, decoded, as_blob, bytes_at};
 ghost use Rattle.aud_reader.specs.Fields.{all_items, texts_at, blobs_at};
 
-use crate::fault::{FIELD, LineFault};
+use crate::fault::{FIELD, LIMIT, LineFault};
+use aud_tap::limits::fits;
 use aud_tap::{Blobs, Bytes, Text, Texts, is_id, is_namespace};
 use base64::DecodeAllocError;
 use base64::engine::general_purpose::STANDARD;
@@ -41,36 +43,64 @@ pub fn copies(
     ))
 }
 
-pub fn number_at(key: &str, d: &Value) -> Option<u64>
-    ensures { result ≡ number_at key.now (view d.now) }
+/// A whole number.
+pub fn number_at(key: &str, d: &Value) -> Result<u64, LineFault>
+    ensures { Gives result (need Field (number_at key.now (view d.now))) }
 {
-    d.get(key).and_then(Value::as_u64)
+    d.get(key).and_then(Value::as_u64).ok_or(FIELD)
 }
 
-pub fn text_at<'v>(key: &str, d: &'v Value) -> Option<&'v str>
+fn text_in<'v>(key: &str, d: &'v Value) -> Option<&'v str>
     ensures { option_map (λ s. s.now) result ≡ text_at key.now (view d.now) }
 {
     d.get(key).and_then(Value::as_str)
 }
 
-/// A pid, a sid or an offset.
-pub fn id_at<'v>(key: &str, d: &'v Value) -> Option<&'v str>
-    ensures value { option_map (λ s. s.now) result ≡ id_at key.now (view d.now) }
-    ensures form { IfSome result (λ s. IsTrue (is_id s.now)) }
+/// A text.
+pub fn text_at<'v>(key: &str, d: &'v Value) -> Result<&'v str, LineFault>
+    ensures { MatchResult result
+        (λ s. need Field (text_at key.now (view d.now)) ≡ Ok s.now)
+        (λ e. Fails e (need Field (text_at key.now (view d.now)))) }
 {
-    match text_at(key, d) {
-        Some(text) if is_id(text) => Some(text),
-        _ => None,
+    text_in(key, d).ok_or(FIELD)
+}
+
+/// A pid, a sid or an offset.
+pub fn id_at<'v>(key: &str, d: &'v Value) -> Result<&'v str, LineFault>
+    ensures value { MatchResult result
+        (λ s. need Field (id_at key.now (view d.now)) ≡ Ok s.now)
+        (λ e. Fails e (need Field (id_at key.now (view d.now)))) }
+    ensures form { IfOk result (λ s. IsTrue (is_id s.now)) }
+{
+    match text_in(key, d) {
+        Some(text) if is_id(text) => Ok(text),
+        _ => Err(FIELD),
     }
 }
 
-pub fn namespace_at<'v>(key: &str, d: &'v Value) -> Option<&'v str>
-    ensures value { option_map (λ s. s.now) result ≡ namespace_at key.now (view d.now) }
-    ensures form { IfSome result (λ s. IsTrue (is_namespace s.now)) }
+/// A copy of a pid, a sid or an offset of at most so many bytes.
+#[tactic(auto, unfolding(crate::specs::Fields::bounded_id_at))]
+pub fn bounded_id_at(alloc: Global, most: usize, key: &str, d: &Value) -> Result<Text, LineFault>
+    ensures reads { Gives result (bounded_id_at most key.now (view d.now)) }
+    ensures formed { IfOk result (λ id. IsTrue (is_id id && fits most id)) }
 {
-    match text_at(key, d) {
-        Some(text) if is_namespace(text) => Some(text),
-        _ => None,
+    let id = id_at(key, d)?;
+    if !fits(most, id) {
+        return Err(LIMIT);
+    }
+    Ok(copied(alloc, id)?)
+}
+
+/// A namespace.
+pub fn namespace_at<'v>(key: &str, d: &'v Value) -> Result<&'v str, LineFault>
+    ensures value { MatchResult result
+        (λ s. need Field (namespace_at key.now (view d.now)) ≡ Ok s.now)
+        (λ e. Fails e (need Field (namespace_at key.now (view d.now)))) }
+    ensures form { IfOk result (λ s. IsTrue (is_namespace s.now)) }
+{
+    match text_in(key, d) {
+        Some(text) if is_namespace(text) => Ok(text),
+        _ => Err(FIELD),
     }
 }
 
@@ -89,8 +119,7 @@ fn id_or_null(d: &Value) -> Option<Option<&str>>
 
 /// An offset, or null for none.
 pub fn id_or_null_at<'v>(key: &str, d: &'v Value) -> Option<Option<&'v str>>
-    ensures value { option_map (option_map (λ s. s.now)) result
-        ≡ id_or_null_at key.now (view d.now) }
+    ensures value { option_map (option_map (λ s. s.now)) result ≡ id_or_null_at key.now (view d.now) }
     ensures form { IfSome result (λ o. IfSome o (λ s. IsTrue (is_id s.now))) }
 {
     d.get(key).and_then(id_or_null)
@@ -114,6 +143,7 @@ fn as_blob(alloc: Global, d: &Value) -> Result<Bytes, LineFault>
     decoded(alloc, text)
 }
 
+/// Bytes, as a text in base64.
 pub fn bytes_at(alloc: Global, key: &str, d: &Value) -> Result<Bytes, LineFault>
     ensures { Gives result (need Field (bytes_at key.now (view d.now))) }
 {

@@ -5,7 +5,7 @@ ghost use Rattle.aud_reader.specs.Steps.{Gives};
 ghost use Rattle.aud_reader.specs.Header.{tap_kind, header_of};
 
 use super::fields::{number_at, text_at};
-use crate::fault::{FIELD, InputCode, LineFault, UNKNOWN_KIND};
+use crate::fault::{InputCode, LineFault, UNKNOWN_KIND};
 use aud_tap::TapKind;
 use serde_json::Value;
 
@@ -25,8 +25,8 @@ fn tap_kind(word: &str) -> Option<TapKind>
 pub fn tap_header(d: &Value) -> Result<TapKind, LineFault>
     ensures { Gives result (header_of (view d.now)) }
 {
-    let v = number_at("v", d).ok_or(FIELD)?;
-    let of = text_at("of", d).ok_or(FIELD)?;
+    let v = number_at("v", d)?;
+    let of = text_at("of", d)?;
     if v != 1 {
         return Err(LineFault::Code(InputCode::Version));
     }

@@ -4,7 +4,7 @@ ghost use Rattle.serde_json.specs.View.{view};
 ghost use Rattle.aud_reader.specs.Steps.{Fails, IsRefusal};
 ghost use Rattle.aud_tap.specs.WellFormed.{is_well_formed};
 ghost use Rattle.aud_tap.specs.TapName.{is_tap_name};
-ghost use Rattle.aud_reader.specs.Record.{json_of, opened_line, line_record};
+ghost use Rattle.aud_reader.specs.Record.{json_of, opened_line, line_record, value_record};
 
 use super::record::value_record;
 use super::tap_name::{cut_at_blank, tap_name};
@@ -53,6 +53,17 @@ pub fn opened_line(alloc: Global, line: &[u8]) -> Result<(&str, Value), LineFaul
     Ok((name, d))
 }
 
+/// The name, copied, and the record of the value after it.
+fn named_record(alloc: Global, name: &str, d: &Value) -> Result<(String, Rec), LineFault>
+    ensures reads { MatchResult result
+        (λ p. (string_bytes p.0 ≡ name.now) × (value_record (view d.now) ≡ Ok p.1))
+        (λ e. Fails e (value_record (view d.now))) }
+    ensures record { IfOk result (λ p. IsTrue (is_well_formed p.1)) }
+{
+    let name = String::from_str(alloc, name)?;
+    Ok((name, value_record(alloc, d)?))
+}
+
 #[tactic(auto, unfolding(crate::specs::Record::line_record))]
 fn parse(alloc: Global, line: &[u8]) -> Result<(String, Rec), LineFault>
     ensures reads { MatchResult result
@@ -62,8 +73,7 @@ fn parse(alloc: Global, line: &[u8]) -> Result<(String, Rec), LineFault>
     ensures record { IfOk result (λ p. IsTrue (is_well_formed p.1)) }
 {
     let (name, d) = opened_line(alloc, line)?;
-    let name = String::from_str(alloc, name)?;
-    Ok((name, value_record(alloc, &d)?))
+    named_record(alloc, name, &d)
 }
 
 /// The tap's name and the record of a line, with the form and the fields of this line alone looked

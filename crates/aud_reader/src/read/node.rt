@@ -4,11 +4,11 @@ ghost use Rattle.serde_json.specs.View.{view};
 ghost use Rattle.aud_tap.specs.Limits.{max_turn};
 ghost use Rattle.aud_tap.specs.WellFormed.{is_session_id, is_room, node_is_well_formed};
 ghost use Rattle.aud_reader.specs.Steps.{Gives};
-ghost use Rattle.aud_reader.specs.NodeRecord.{start_of, take_of, open_of, member_of, join_of};
-ghost use Rattle.aud_reader.specs.NodeRecord.{leave_of, pid_and_turn, break_of, back_of, gone_of};
-ghost use Rattle.aud_reader.specs.NodeRecord.{node_record_of};
+ghost use Rattle.aud_reader.specs.NodeRecord.{start_of, open_of, member_of, pid_and_turn, node_record_of};
 
-use super::fields::{copied, copies, id_at, id_or_null_at, namespace_at, number_at, text_at};
+use super::fields::{
+    bounded_id_at, copied, copies, id_at, id_or_null_at, namespace_at, number_at, text_at,
+};
 use crate::fault::{FIELD, LIMIT, LineFault, UNKNOWN_KIND};
 use aud_tap::limits::{MAX_ID, MAX_NAMESPACE, MAX_OFFSET, MAX_ROOM, fits};
 use aud_tap::{NodeRec, Text};
@@ -32,28 +32,14 @@ fn start(alloc: Global, d: &Value) -> Result<NodeRec, LineFault>
     })
 }
 
-#[tactic(auto, unfolding(crate::specs::NodeRecord::take_of))]
-fn take(alloc: Global, d: &Value) -> Result<NodeRec, LineFault>
-    ensures reads { Gives result (take_of (view d.now)) }
-    ensures formed { IfOk result (λ rec. IsTrue (node_is_well_formed rec)) }
-{
-    let off = id_at("off", d).ok_or(FIELD)?;
-    if !fits(MAX_OFFSET, off) {
-        return Err(LIMIT);
-    }
-    Ok(NodeRec::Take {
-        off: copied(alloc, off)?,
-    })
-}
-
 #[tactic(auto, unfolding(crate::specs::NodeRecord::open_of))]
 fn open(alloc: Global, d: &Value) -> Result<NodeRec, LineFault>
     ensures reads { Gives result (open_of (view d.now)) }
     ensures formed { IfOk result (λ rec. IsTrue (node_is_well_formed rec)) }
 {
-    let pid = id_at("pid", d).ok_or(FIELD)?;
-    let sid = id_at("sid", d).ok_or(FIELD)?;
-    let nsp = namespace_at("nsp", d).ok_or(FIELD)?;
+    let pid = id_at("pid", d)?;
+    let sid = id_at("sid", d)?;
+    let nsp = namespace_at("nsp", d)?;
     if !fits(MAX_ID, pid) || !fits(MAX_ID, sid) || !fits(MAX_NAMESPACE, nsp) {
         return Err(LIMIT);
     }
@@ -67,28 +53,12 @@ fn member(alloc: Global, d: &Value) -> Result<(Text, Text), LineFault>
     ensures reads { Gives result (member_of (view d.now)) }
     ensures formed { IfOk result (λ m. IsTrue (is_session_id m.0 && is_room m.1)) }
 {
-    let pid = id_at("pid", d).ok_or(FIELD)?;
-    let room = text_at("room", d).ok_or(FIELD)?;
+    let pid = id_at("pid", d)?;
+    let room = text_at("room", d)?;
     if !fits(MAX_ID, pid) || !fits(MAX_ROOM, room) {
         return Err(LIMIT);
     }
     Ok((copied(alloc, pid)?, copied(alloc, room)?))
-}
-
-fn join(alloc: Global, d: &Value) -> Result<NodeRec, LineFault>
-    ensures reads { Gives result (join_of (view d.now)) }
-    ensures formed { IfOk result (λ rec. IsTrue (node_is_well_formed rec)) }
-{
-    let (pid, room) = member(alloc, d)?;
-    Ok(NodeRec::Join { pid, room })
-}
-
-fn leave(alloc: Global, d: &Value) -> Result<NodeRec, LineFault>
-    ensures reads { Gives result (leave_of (view d.now)) }
-    ensures formed { IfOk result (λ rec. IsTrue (node_is_well_formed rec)) }
-{
-    let (pid, room) = member(alloc, d)?;
-    Ok(NodeRec::Leave { pid, room })
 }
 
 /// A pid and the number of a turn.
@@ -97,8 +67,8 @@ fn turn(alloc: Global, d: &Value) -> Result<(Text, u16), LineFault>
     ensures reads { Gives result (pid_and_turn (view d.now)) }
     ensures formed { IfOk result (λ t. IsTrue (is_session_id t.0 && nat_le t.1 max_turn)) }
 {
-    let pid = id_at("pid", d).ok_or(FIELD)?;
-    let turn = number_at("turn", d).ok_or(FIELD)?;
+    let pid = id_at("pid", d)?;
+    let turn = number_at("turn", d)?;
     if !fits(MAX_ID, pid) {
         return Err(LIMIT);
     }
@@ -106,36 +76,6 @@ fn turn(alloc: Global, d: &Value) -> Result<(Text, u16), LineFault>
         return Err(LIMIT);
     };
     Ok((copied(alloc, pid)?, turn))
-}
-
-fn broke(alloc: Global, d: &Value) -> Result<NodeRec, LineFault>
-    ensures reads { Gives result (break_of (view d.now)) }
-    ensures formed { IfOk result (λ rec. IsTrue (node_is_well_formed rec)) }
-{
-    let (pid, turn) = turn(alloc, d)?;
-    Ok(NodeRec::Broke { pid, turn })
-}
-
-fn back(alloc: Global, d: &Value) -> Result<NodeRec, LineFault>
-    ensures reads { Gives result (back_of (view d.now)) }
-    ensures formed { IfOk result (λ rec. IsTrue (node_is_well_formed rec)) }
-{
-    let (pid, turn) = turn(alloc, d)?;
-    Ok(NodeRec::Back { pid, turn })
-}
-
-#[tactic(auto, unfolding(crate::specs::NodeRecord::gone_of))]
-fn gone(alloc: Global, d: &Value) -> Result<NodeRec, LineFault>
-    ensures reads { Gives result (gone_of (view d.now)) }
-    ensures formed { IfOk result (λ rec. IsTrue (node_is_well_formed rec)) }
-{
-    let pid = id_at("pid", d).ok_or(FIELD)?;
-    if !fits(MAX_ID, pid) {
-        return Err(LIMIT);
-    }
-    Ok(NodeRec::Gone {
-        pid: copied(alloc, pid)?,
-    })
 }
 
 /// The node's record of this kind.
@@ -146,13 +86,29 @@ pub fn node_record(alloc: Global, kind: &str, d: &Value) -> Result<NodeRec, Line
 {
     match kind {
         "start" => start(alloc, d),
-        "take" => take(alloc, d),
+        "take" => Ok(NodeRec::Take {
+            off: bounded_id_at(alloc, MAX_OFFSET, "off", d)?,
+        }),
         "open" => open(alloc, d),
-        "join" => join(alloc, d),
-        "leave" => leave(alloc, d),
-        "break" => broke(alloc, d),
-        "back" => back(alloc, d),
-        "gone" => gone(alloc, d),
+        "join" => {
+            let (pid, room) = member(alloc, d)?;
+            Ok(NodeRec::Join { pid, room })
+        }
+        "leave" => {
+            let (pid, room) = member(alloc, d)?;
+            Ok(NodeRec::Leave { pid, room })
+        }
+        "break" => {
+            let (pid, turn) = turn(alloc, d)?;
+            Ok(NodeRec::Broke { pid, turn })
+        }
+        "back" => {
+            let (pid, turn) = turn(alloc, d)?;
+            Ok(NodeRec::Back { pid, turn })
+        }
+        "gone" => Ok(NodeRec::Gone {
+            pid: bounded_id_at(alloc, MAX_ID, "pid", d)?,
+        }),
         _ => Err(UNKNOWN_KIND),
     }
 }

@@ -3,6 +3,7 @@ ghost use Rattle.std.specs.Prelude.{◌≡◌, Ok, IfOk, IsTrue, MatchResult};
 ghost use Rattle.serde_json.specs.View.{view};
 ghost use Rattle.aud_reader.specs.Steps.{Gives, Fails};
 ghost use Rattle.aud_tap.specs.WellFormed.{is_well_formed};
+ghost use Rattle.aud_reader.specs.Record.{client_kinds, is_one_of, node_kinds, stream_kinds};
 ghost use Rattle.aud_reader.specs.Record.{kind_named, tap_of_kind, record_in, record_of, value_record};
 
 use super::client::client_record;
@@ -10,23 +11,46 @@ use super::fields::text_at;
 use super::header::tap_header;
 use super::node::node_record;
 use super::stream::stream_record;
-use crate::fault::{FIELD, LineFault, UNKNOWN_KIND};
+use crate::fault::{LineFault, UNKNOWN_KIND};
 use aud_tap::{Rec, TapKind};
 use serde_json::Value;
 use std::alloc::Global;
+
+fn is_stream_kind(kind: &str) -> bool
+    ensures { result ≡ is_one_of stream_kinds kind.now }
+{
+    matches!(kind, "ev" | "other")
+}
+
+fn is_node_kind(kind: &str) -> bool
+    ensures { result ≡ is_one_of node_kinds kind.now }
+{
+    matches!(
+        kind,
+        "start" | "take" | "open" | "join" | "leave" | "break" | "back" | "gone"
+    )
+}
+
+fn is_client_kind(kind: &str) -> bool
+    ensures { result ≡ is_one_of client_kinds kind.now }
+{
+    matches!(kind, "conn" | "in" | "inb" | "poll" | "out" | "lost")
+}
 
 /// The kind of tap that has records of this kind.
 fn tap_of_kind(kind: &str) -> Option<TapKind>
     ensures { result ≡ tap_of_kind kind.now }
 {
-    match kind {
-        "ev" | "other" => Some(TapKind::Stream),
-        "start" | "take" | "open" | "join" | "leave" | "break" | "back" | "gone" => {
-            Some(TapKind::Node)
-        }
-        "conn" | "in" | "inb" | "poll" | "out" | "lost" => Some(TapKind::Client),
-        _ => None,
+    if is_stream_kind(kind) {
+        return Some(TapKind::Stream);
     }
+    if is_node_kind(kind) {
+        return Some(TapKind::Node);
+    }
+    if is_client_kind(kind) {
+        return Some(TapKind::Client);
+    }
+    None
 }
 
 /// The record of this kind in a tap that was put on `of`.
@@ -62,7 +86,7 @@ pub fn kind_of(d: &Value) -> Result<&str, LineFault>
         (λ k. kind_named (view d.now) ≡ Ok k.now)
         (λ e. Fails e (kind_named (view d.now))) }
 {
-    text_at("k", d).ok_or(FIELD)
+    text_at("k", d)
 }
 
 /// The record of a value, by what it says that it is.

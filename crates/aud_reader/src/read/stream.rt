@@ -2,19 +2,23 @@
 ghost use Rattle.std.specs.Prelude.{◌≡◌, ◌&&◌, nat_le, length, IfOk, IsTrue};
 ghost use Rattle.serde_json.specs.View.{view};
 ghost use Rattle.aud_tap.specs.Limits.{fit_rooms, max_attachments};
+ghost use Rattle.aud_tap.specs.Forms.{is_id, is_namespace};
 ghost use Rattle.aud_tap.specs.WellFormed.{stream_is_well_formed};
 ghost use Rattle.aud_reader.specs.Steps.{Gives};
-ghost use Rattle.aud_reader.specs.StreamRecord.{event_of, lists_of, other_of, stream_record_of};
+ghost use Rattle.aud_reader.specs.StreamRecord.{bounded_event, event_of, lists_of, stream_record_of};
 
-use super::fields::{blobs_at, copied, copies, id_at, namespace_at, text_at, texts_at};
-use crate::fault::{FIELD, LIMIT, LineFault, UNKNOWN_KIND};
+use super::fields::{blobs_at, bounded_id_at, copies, id_at, namespace_at, text_at, texts_at};
+use crate::fault::{LIMIT, LineFault, UNKNOWN_KIND};
 use aud_tap::limits::{MAX_ATTACHMENTS, MAX_NAMESPACE, MAX_OFFSET, fit_rooms, fits};
 use aud_tap::{Blobs, Event, StreamRec, Texts};
 use serde_json::Value;
 use std::alloc::{AllocError, Global};
 
+/// The rooms that an event is for, those that are excepted, and its attachments.
+type Lists = (Texts, Texts, Blobs);
+
 /// The rooms and the attachments of an event are no more than may be, and no room is empty or too long.
-fn lists_fit(lists: &(Texts, Texts, Blobs)) -> bool
+fn lists_fit(lists: &Lists) -> bool
     ensures { result ≡ (fit_rooms lists.now.0 && fit_rooms lists.now.1 && nat_le (length lists.now.2) max_attachments) }
 {
     let (rooms, except, bin) = lists;
@@ -23,9 +27,9 @@ fn lists_fit(lists: &(Texts, Texts, Blobs)) -> bool
         && bin.as_slice().len() <= MAX_ATTACHMENTS
 }
 
-/// The rooms that an event is for, those that are excepted, and its attachments.
+/// The lists of an event.
 #[tactic(auto, unfolding(crate::specs::StreamRecord::lists_of))]
-fn lists(alloc: Global, d: &Value) -> Result<(Texts, Texts, Blobs), LineFault>
+fn lists(alloc: Global, d: &Value) -> Result<Lists, LineFault>
     ensures { Gives result (lists_of (view d.now)) }
 {
     let rooms = texts_at(alloc, "rooms", d)?;
@@ -39,7 +43,7 @@ fn event_with(
     off: &str,
     nsp: &str,
     text: &str,
-    lists: (Texts, Texts, Blobs),
+    lists: Lists,
 ) -> Result<Event, AllocError>
     ensures { IfOk result (λ event. event ≡ record { off = off.now; nsp = nsp.now; rooms = lists.0; except = lists.1; text = text.now; bin = lists.2 }) }
 {
@@ -55,33 +59,35 @@ fn event_with(
     })
 }
 
-#[tactic(auto, unfolding(crate::specs::StreamRecord::event_of))]
-fn event(alloc: Global, d: &Value) -> Result<StreamRec, LineFault>
-    ensures reads { Gives result (event_of (view d.now)) }
+/// The event of texts, which are copied, and of its lists, where all are within their limits.
+#[tactic(auto, unfolding(crate::specs::StreamRecord::bounded_event))]
+fn bounded_event(
+    alloc: Global,
+    off: &str,
+    nsp: &str,
+    text: &str,
+    lists: Lists,
+) -> Result<StreamRec, LineFault>
+    requires { IsTrue (is_id off.now && is_namespace nsp.now) }
+    ensures reads { Gives result (bounded_event off.now nsp.now text.now lists) }
     ensures formed { IfOk result (λ rec. IsTrue (stream_is_well_formed rec)) }
 {
-    let off = id_at("off", d).ok_or(FIELD)?;
-    let nsp = namespace_at("nsp", d).ok_or(FIELD)?;
-    let text = text_at("text", d).ok_or(FIELD)?;
-    let lists = lists(alloc, d)?;
     if !fits(MAX_OFFSET, off) || !fits(MAX_NAMESPACE, nsp) || !lists_fit(&lists) {
         return Err(LIMIT);
     }
     Ok(StreamRec::Ev(event_with(alloc, off, nsp, text, lists)?))
 }
 
-#[tactic(auto, unfolding(crate::specs::StreamRecord::other_of))]
-fn other(alloc: Global, d: &Value) -> Result<StreamRec, LineFault>
-    ensures reads { Gives result (other_of (view d.now)) }
+#[tactic(auto, unfolding(crate::specs::StreamRecord::event_of))]
+fn event(alloc: Global, d: &Value) -> Result<StreamRec, LineFault>
+    ensures reads { Gives result (event_of (view d.now)) }
     ensures formed { IfOk result (λ rec. IsTrue (stream_is_well_formed rec)) }
 {
-    let off = id_at("off", d).ok_or(FIELD)?;
-    if !fits(MAX_OFFSET, off) {
-        return Err(LIMIT);
-    }
-    Ok(StreamRec::Other {
-        off: copied(alloc, off)?,
-    })
+    let off = id_at("off", d)?;
+    let nsp = namespace_at("nsp", d)?;
+    let text = text_at("text", d)?;
+    let lists = lists(alloc, d)?;
+    bounded_event(alloc, off, nsp, text, lists)
 }
 
 /// The stream's record of this kind.
@@ -92,7 +98,9 @@ pub fn stream_record(alloc: Global, kind: &str, d: &Value) -> Result<StreamRec, 
 {
     match kind {
         "ev" => event(alloc, d),
-        "other" => other(alloc, d),
+        "other" => Ok(StreamRec::Other {
+            off: bounded_id_at(alloc, MAX_OFFSET, "off", d)?,
+        }),
         _ => Err(UNKNOWN_KIND),
     }
 }
