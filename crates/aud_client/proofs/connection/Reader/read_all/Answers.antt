@@ -2,11 +2,8 @@ use Rattle.std.proofs.Common.{◌≡◌, ◌+◌, ◌∷◌, ◌++◌, [], ℕ, 
 use Rattle.std.proofs.lemmas.List.{drop_more, take_more, length-take-le}
 use Rattle.aud_tap.specs.declared.records.ClientRec.{ClientRec}
 use Rattle.aud_client.specs.Private.ConnectionRead.{HasRead, ReadsRecord, inside}
-use Rattle.aud_client.proofs.ConnectionLemmas.{HasRead-none, HasRead-more}
-use Rattle.aud_client.proofs.client_tap.read_connection.Goals as goal
-
-pub loop-i-init : goal.loop-i-init
-loop-i-init c = record { inside_is = refl; read = HasRead-none c.args.first c.new-reader.result c.new-reader.ensures.assembler c.new-reader.ensures.packets c.new-reader.ensures.bad }
+use Rattle.aud_client.proofs.ConnectionLemmas.{HasRead-more}
+use Rattle.aud_client.proofs.connection.Reader.read_all.Goals as goal
 
 pub loop-i-preserved : goal.loop-i-preserved
 loop-i-preserved c =
@@ -24,8 +21,8 @@ loop-i-preserved c =
           ∙ ap (λ b. take i recs ++ cond b [] (rec ∷ inside (drop (i + 1) recs))) goes_on
           ∙ sym (append_assoc (take i recs) (rec ∷ []) (inside (drop (i + 1) recs)))
           ∙ ap (λ r. r ++ inside (drop (i + 1) recs)) (sym read);
-      read =
+      read = λ begun.
           subst (λ (r : List ClientRec). HasRead c.args.first r c.read.new.self) (sym read)
-          (HasRead-more c.args.first (take i recs) rec c.loop-i.reader c.read.new.self c.loop-i.invariant.read
-          (subst (λ (n : ℕ). ReadsRecord (c.args.first + n) rec c.loop-i.reader c.read.new.self) count c.in_ok-read.ensures));
+          (HasRead-more c.args.first (take i recs) rec c.loop-i.self c.read.new.self (c.loop-i.invariant.read begun)
+          (subst (λ (n : ℕ). ReadsRecord (c.args.first + n) rec c.loop-i.self c.read.new.self) count c.in_ok-read.ensures));
     }
