@@ -1,8 +1,9 @@
 -- Places that are noted one after another.
-use Rattle.std.proofs.Common.{◌≡◌, ℕ, ◌+◌, ◌-◌, ◌<◌, zero, suc, Bool, true, false, cond, List, [], ◌∷◌, ◌++◌, length, take, get_or, refl, sym, ap, ◌∙◌, arith, Some, slice_get, nat_eq, ◌||◌}
+use Rattle.std.proofs.Common.{◌≡◌, ℕ, ◌+◌, ◌-◌, ◌<◌, zero, suc, Bool, true, false, cond, List, [], ◌∷◌, ◌++◌, length, take, get_or, refl, sym, ap, ◌∙◌, arith, Option, Some, slice_get, nat_eq, ◌||◌}
 use Rattle.std.specs.List.{filter, list_any}
 use Rattle.std.proofs.lemmas.List.Folds.{list_any_more}
 use Rattle.std.proofs.lemmas.Bool.{eq-eqb}
+use Rattle.std.proofs.lemmas.Option.{slice_get_read}
 use Rattle.aud_base.specs.Places.{places_where, is_place, with_place, noted}
 use Rattle.aud_base.specs.Lists.{numbers_from}
 use Rattle.aud_base.proofs.Numbers.{filter-more}
@@ -75,6 +76,12 @@ noted-next p i kept is = ap (λ xs. cond (p i) xs kept) put ∙ filter-more p i 
 
     put : with_place i kept ≡ kept ++ i ∷ []
     put = ap (λ b. cond b kept (kept ++ i ∷ [])) below
+
+-- the same of a list's elements: one more, noted where it passes
+pub noted-at : {X : Type 0} (p : Option X → Bool) (xs : List X) (i : ℕ) (x : X) (old new : List ℕ) → i < length xs → x ≡ get_or xs i x
+    → old ≡ places_where (λ k. p (slice_get xs k)) i → new ≡ noted i (p (Some x)) old → new ≡ places_where (λ k. p (slice_get xs k)) (i + 1)
+noted-at p xs i x old new within is before after =
+    after ∙ ap (λ o. noted i (p o) old) (sym (slice_get_read xs (length xs) i x refl within is)) ∙ noted-next (λ k. p (slice_get xs k)) i old before
 
 -- ---- a loop over the texts of one place
 

@@ -27,9 +27,9 @@ flat-transcript stream None = refl
 flat-transcript stream (Some tap) = refl
 
 -- what is kept at the place is what the client's tap there tells
-pub told_at-kept : (c : Cluster) (clients : List (Option TranscriptSeen)) (place : ℕ) → clients ≡ map (transcript_in c.stream) c.taps → flat (slice_get clients place) ≡ transcript_at c place
-told_at-kept c clients place kept =
-    ap flat (ap (λ transcript. slice_get transcript place) kept ∙ slice_get-map (transcript_in c.stream) c.taps place) ∙ flat-transcript c.stream (slice_get c.taps place)
+pub transcript_at-kept : (c : Cluster) (transcripts : List (Option TranscriptSeen)) (place : ℕ) → transcripts ≡ map (transcript_in c.stream) c.taps → flat (slice_get transcripts place) ≡ transcript_at c place
+transcript_at-kept c transcripts place kept =
+    ap flat (ap (λ it. slice_get it place) kept ∙ slice_get-map (transcript_in c.stream) c.taps place) ∙ flat-transcript c.stream (slice_get c.taps place)
 
 -- a tap tells of a stay of the session where it names the session
 transcript-naming : (stream : List StreamRec) (pid : Text) (recs : Option (List ClientRec)) → has_naming_stay pid (option_map (transcript_of stream) recs) ≡ is_naming pid recs
@@ -37,8 +37,8 @@ transcript-naming stream pid None = refl
 transcript-naming stream pid (Some recs) = named_by_replies stream recs pid
 
 -- the places of those that tell of a stay of the session are those of the taps that name it
-pub places_naming : (c : Cluster) (clients : List (Option TranscriptSeen)) (pid : Text) → clients ≡ map (transcript_in c.stream) c.taps → naming_transcripts clients pid ≡ naming_places c.taps pid
-places_naming c clients pid kept =
-    filter_agree (λ place. has_naming_stay pid (flat (slice_get clients place))) (λ place. is_naming pid (client_at c place))
-    (λ place. ap (has_naming_stay pid) (told_at-kept c clients place kept) ∙ transcript-naming c.stream pid (client_at c place)) (numbers_from 0 (length clients))
+pub places_naming : (c : Cluster) (transcripts : List (Option TranscriptSeen)) (pid : Text) → transcripts ≡ map (transcript_in c.stream) c.taps → naming_transcripts transcripts pid ≡ naming_places c.taps pid
+places_naming c transcripts pid kept =
+    filter_agree (λ place. has_naming_stay pid (flat (slice_get transcripts place))) (λ place. is_naming pid (client_at c place))
+    (λ place. ap (has_naming_stay pid) (transcript_at-kept c transcripts place kept) ∙ transcript-naming c.stream pid (client_at c place)) (numbers_from 0 (length transcripts))
     ∙ ap (λ n. filter (λ place. is_naming pid (client_at c place)) (numbers_from 0 n)) (ap length kept ∙ length-map c.taps (transcript_in c.stream))

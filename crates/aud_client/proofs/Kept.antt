@@ -13,8 +13,9 @@ use Rattle.aud_client.specs.StaySeen.{StaySeen, stay_of}
 use Rattle.aud_client.specs.Private.Kept.{KeepsStays, open_at, place_for, empty_stay, grown}
 use Rattle.aud_client.proofs.OnePass.{stays-begins, stays-goes_on}
 use Rattle.aud_client.proofs.Steps.{open-none, open-some, open-begins, open-goes_on}
-use Rattle.aud_client.proofs.Telling.{has_reply, transcript-first, transcript-more}
-use Rattle.aud_client.proofs.Maps.{get_after, set_after}
+use Rattle.aud_client.proofs.Telling.{has_reply, stay_of-first, stay_of-more}
+use Rattle.aud_client.proofs.Maps.{get_after, set_after, set_last}
+use Rattle.aud_client.proofs.Numbers.{after_these}
 
 -- a stay that grows at its place
 pub grown_at : {T E : Type 0} (stream : List StreamRec) (r : Result T E) (items : List StaySeen) (place : ℕ) (s new : StaySeen) (p : TapPacket) (t : StaySeen)
@@ -25,11 +26,20 @@ grown_at stream (Ok x) items place s new p t h at is w =
     let here : s ≡ t = same_Some s t (sym (slice_get_read items (length items) place s refl h at) ∙ is) in
     ap (set items place) (w ∙ ap (λ u. grown stream u p) here)
 
+-- a stay that grows at the end
+pub grown_last : {T E : Type 0} (stream : List StreamRec) (r : Result T E) (items begun grew : List StaySeen) (place : ℕ) (t : StaySeen) (p : TapPacket)
+    → place ≡ length items → begun ≡ items ++ t ∷ []
+    → ((u : StaySeen) → slice_get begun place ≡ Some u → OnOk r (grew ≡ set begun place (grown stream u p))) → OnOk r (grew ≡ items ++ grown stream t p ∷ [])
+grown_last stream (Err e) items begun grew place t p at is w = tt
+grown_last stream (Ok x) items begun grew place t p at is w =
+    w t (ap (slice_get begun) at ∙ ap (λ l. slice_get l (length items)) is ∙ after_these items [] t)
+    ∙ ap (λ i. set begun i (grown stream t p)) at ∙ ap (λ l. set l (length items) (grown stream t p)) is ∙ set_last items t (grown stream t p)
+
 module _ (stream : List StreamRec) (c : ℕ) where
   -- the stay that stands open in the packet's namespace
-  told_at : (st : Stays) (done : List StaySeen) (l : List TapPacket) (p : TapPacket) (k : ℕ) → KeepsStays stream c st done l → open_place (namespace p) l ≡ Some k
+  open_stay : (st : Stays) (done : List StaySeen) (l : List TapPacket) (p : TapPacket) (k : ℕ) → KeepsStays stream c st done l → open_place (namespace p) l ≡ Some k
       → slice_get st.stays.items (length done + k) ≡ Some (stay_of stream c (stay_after (namespace p) l))
-  told_at st done l p k keeps at =
+  open_stay st done l p k keeps at =
       ap (λ ts. slice_get ts (length done + k)) keeps.stays_are ∙ get_after done (map (stay_of stream c) (stays l)) k ∙ slice_get-map (stay_of stream c) (stays l) k ∙ ap (option_map (stay_of stream c)) (open-some l p k at).0
 
   -- the place that the code finds, in the words of the definition
@@ -39,7 +49,7 @@ module _ (stream : List StreamRec) (c : ℕ) where
     where
       go : (o : Option ℕ) → open_place (namespace p) l ≡ o → place_for st p ≡ cond (begins_stay l p) None (option_map (λ k. length done + k) o)
       go None at = grind (arith, keeps.open_are (namespace p), at)
-      go (Some k) at = grind (arith, keeps.open_are (namespace p), told_at st done l p k keeps at, open-some l p k at, has_reply (stay_after (namespace p) l))
+      go (Some k) at = grind (arith, keeps.open_are (namespace p), open_stay st done l p k keeps at, open-some l p k at, has_reply (stay_after (namespace p) l))
 
   -- where it finds none, the packet begins a stay
   none-begins : (st : Stays) (done : List StaySeen) (l : List TapPacket) (p : TapPacket) → KeepsStays stream c st done l → place_for st p ≡ None → begins_stay l p ≡ true
@@ -61,7 +71,7 @@ module _ (stream : List StreamRec) (c : ℕ) where
         stays_are =
             list ∙ ap (λ ts. ts ++ grown stream (empty_stay c (namespace p)) p ∷ []) keeps.stays_are
             ∙ append_assoc done (map (stay_of stream c) (stays l)) (grown stream (empty_stay c (namespace p)) p ∷ [])
-            ∙ ap (λ t. done ++ (map (stay_of stream c) (stays l) ++ t ∷ [])) (sym (transcript-first stream c p))
+            ∙ ap (λ t. done ++ (map (stay_of stream c) (stays l) ++ t ∷ [])) (sym (stay_of-first stream c p))
             ∙ ap (λ ts. done ++ ts) (sym (map-append (stay_of stream c) (stays l) ((p ∷ []) ∷ [])))
             ∙ ap (λ ss. done ++ map (stay_of stream c) ss) (sym (stays-begins [] l p starts));
         open_are = λ n.
@@ -106,11 +116,11 @@ module _ (stream : List StreamRec) (c : ℕ) where
           let stay = stay_after (namespace p) l in
           record {
             stays_are =
-                list (stay_of stream c stay) (ap (slice_get st.stays.items) (sym is) ∙ told_at st done l p k keeps at)
+                list (stay_of stream c stay) (ap (slice_get st.stays.items) (sym is) ∙ open_stay st done l p k keeps at)
                 ∙ ap (λ i. set st.stays.items i (grown stream (stay_of stream c stay) p)) (sym is)
                 ∙ ap (λ ts. set ts (length done + k) (grown stream (stay_of stream c stay) p)) keeps.stays_are
                 ∙ set_after done (map (stay_of stream c) (stays l)) k (grown stream (stay_of stream c stay) p)
-                ∙ ap (λ t. done ++ set (map (stay_of stream c) (stays l)) k t) (sym (transcript-more stream c stay p (twice (goes_on stay p) goes)))
+                ∙ ap (λ t. done ++ set (map (stay_of stream c) (stays l)) k t) (sym (stay_of-more stream c stay p (twice (goes_on stay p) goes)))
                 ∙ ap (λ ts. done ++ ts) (sym (map-set (stay_of stream c) (stays l) k (stay ++ p ∷ [])))
                 ∙ ap (λ ss. done ++ map (stay_of stream c) ss) (sym (stays-goes_on [] l p goes ∙ (open-some l p k at).2));
             open_are = λ n.

@@ -4,22 +4,10 @@ use Rattle.std.specs.List.{filter, filter_map, cons_option}
 use Rattle.std.specs.Option.{option_map_or}
 use Rattle.std.proofs.lemmas.List.{take_more, map-append}
 use Rattle.std.proofs.lemmas.List.Elements.{filter_map-append}
-use Rattle.std.proofs.lemmas.Option.{slice_get_read}
 use Rattle.aud_base.specs.Lists.{numbers_from}
-use Rattle.aud_base.specs.Places.{noted}
-use Rattle.aud_base.proofs.NotedPlaces.{noted-next}
+use Rattle.aud_base.specs.Places.{places_where}
 
 module _ {X : Type 0} where
-  -- the numbers of the first elements that pass, so many looked at
-  abbrev pub passing_numbers : (Option X → Bool) → List X → ℕ → List ℕ
-  passing_numbers p xs count = filter (λ k. p (slice_get xs k)) (numbers_from 0 count)
-
-  -- one element more, noted where it passes
-  pub noted-at : (p : Option X → Bool) (xs : List X) (i : ℕ) (x : X) (old new : List ℕ) → i < length xs → x ≡ get_or xs i x
-      → old ≡ passing_numbers p xs i → new ≡ noted i (p (Some x)) old → new ≡ passing_numbers p xs (i + 1)
-  noted-at p xs i x old new within is before after =
-      after ∙ ap (λ o. noted i (p o) old) (sym (slice_get_read xs (length xs) i x refl within is)) ∙ noted-next (λ k. p (slice_get xs k)) i old before
-
   -- the element after the first ones
   pub after_these : (xs ys : List X) (y : X) → slice_get (xs ++ y ∷ ys) (length xs) ≡ Some y
   after_these [] ys y = refl
@@ -37,7 +25,7 @@ module _ {X : Type 0} where
       )
 
   -- all elements
-  pub numbered_all : (p : X → Bool) (xs : List X) → filter_map (slice_get xs) (passing_numbers (λ o. option_map_or p o false) xs (length xs)) ≡ filter p xs
+  pub numbered_all : (p : X → Bool) (xs : List X) → filter_map (slice_get xs) (places_where (λ k. option_map_or p (slice_get xs k) false) (length xs)) ≡ filter p xs
   numbered_all p xs = numbered p xs [] xs 0 refl refl
 
   -- the elements with the first of these numbers, with one number more

@@ -37,9 +37,9 @@ no_ask (FromClient packet) e = grind arith
 -- ---- a stay, and one packet more
 
 -- stays that tell the same
-same_told : (c : ℕ) (n : Text) (r u : Option ReplySeen) (a b : Option AskedSeen) (f g : List FrameSeen) → r ≡ u → a ≡ b → f ≡ g
+same_stays : (c : ℕ) (n : Text) (r u : Option ReplySeen) (a b : Option AskedSeen) (f g : List FrameSeen) → r ≡ u → a ≡ b → f ≡ g
     → ◌≡◌ {A = StaySeen} (record { c = c; nsp = n; reply = r; asked = a; frames = f }) (record { c = c; nsp = n; reply = u; asked = b; frames = g })
-same_told c n r u a b f g q v w = λ i. record { c = c; nsp = n; reply = q i; asked = v i; frames = w i }
+same_stays c n r u a b f g q v w = λ i. record { c = c; nsp = n; reply = q i; asked = v i; frames = w i }
 
 pub or_none : {X : Type 0} (o : Option X) → option_or o None ≡ o
 or_none None = refl
@@ -82,9 +82,9 @@ asked-after : (s : List TapPacket) (p : TapPacket) → last_of (filter_map ask_o
 asked-after s p = grind (arith, asked-more s p (ask_of p) refl, no_ask-reply p, append-nil s)
 
 -- a stay of one packet
-pub transcript-first : (stream : List StreamRec) (c : ℕ) (p : TapPacket) → stay_of stream c (p ∷ []) ≡ grown stream (empty_stay c (namespace p)) p
-transcript-first stream c p =
-    same_told c (namespace p) _ _ _ _ _ _ (reply_of-one p ∙ sym (or_none (reply_at p))) (asked-after [] p) (filter_map-append (frame_of stream) [] (p ∷ []))
+pub stay_of-first : (stream : List StreamRec) (c : ℕ) (p : TapPacket) → stay_of stream c (p ∷ []) ≡ grown stream (empty_stay c (namespace p)) p
+stay_of-first stream c p =
+    same_stays c (namespace p) _ _ _ _ _ _ (reply_of-one p ∙ sym (or_none (reply_at p))) (asked-after [] p) (filter_map-append (frame_of stream) [] (p ∷ []))
 
 -- after a reply no CONNECT goes on
 pub no_connect : (s : List TapPacket) (p : TapPacket) → goes_on s p ≡ true → list_any is_reply s ≡ true → is_connect p ≡ false
@@ -92,10 +92,10 @@ no_connect [] p e some = absurd (false≢true e)
 no_connect (x ∷ xs) p e some = grind arith
 
 -- a stay with one packet more
-pub transcript-more : (stream : List StreamRec) (c : ℕ) (s : List TapPacket) (p : TapPacket) → goes_on s p ≡ true
+pub stay_of-more : (stream : List StreamRec) (c : ℕ) (s : List TapPacket) (p : TapPacket) → goes_on s p ≡ true
     → stay_of stream c (s ++ p ∷ []) ≡ grown stream (stay_of stream c s) p
-transcript-more stream c [] p e = absurd (false≢true e)
-transcript-more stream c (x ∷ xs) p e = same_told c (namespace x) _ _ _ _ _ _ (both (cases_Bool (list_any is_reply (x ∷ xs)))).0 (both (cases_Bool (list_any is_reply (x ∷ xs)))).1 (filter_map-append (frame_of stream) (x ∷ xs) (p ∷ []))
+stay_of-more stream c [] p e = absurd (false≢true e)
+stay_of-more stream c (x ∷ xs) p e = same_stays c (namespace x) _ _ _ _ _ _ (both (cases_Bool (list_any is_reply (x ∷ xs)))).0 (both (cases_Bool (list_any is_reply (x ∷ xs)))).1 (filter_map-append (frame_of stream) (x ∷ xs) (p ∷ []))
   where
     not_reply : list_any is_reply (x ∷ xs) ≡ true → is_reply p ≡ false
     not_reply some = ap (λ b. b && is_from_server p) (no_connect (x ∷ xs) p e some)

@@ -2,7 +2,7 @@
 pub mod BySession
 pub mod Kept
 pub mod Open
-pub mod ReadTap
+pub mod IndexedTranscript
 pub mod ClientRead
 pub mod ConnectionRead
 pub mod Clients

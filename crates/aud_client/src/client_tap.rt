@@ -2,7 +2,7 @@
 ghost use Rattle.std.specs.Prelude.{◌≡◌, ◌+◌, ◌^◌, ◌<◌, ◌++◌, ◌∷◌, [], IfOk, OnOk, length, map};
 ghost use Rattle.std.specs.Option.{option_or};
 ghost use Rattle.aud_client.specs.TapPackets.{tap_packets, numbered_records, bad_in, first_of};
-ghost use Rattle.aud_client.specs.Private.ConnectionRead.{HasRead, inside, ends_connection};
+ghost use Rattle.aud_client.specs.Private.ConnectionRead.{HasRead, inside};
 
 use crate::connection::{Placed, Reader};
 use aud_tap::ClientRec;
@@ -129,7 +129,7 @@ impl<'a> Connections<'a> {
     {
         let reader = read_connection(alloc, first, recs)?;
         self.bad = self.bad.or(reader.bad);
-        let packets = reader.packets;
+        let packets = reader.into_packets();
         self.list.push(Connection { c, packets })?;
         Ok(())
     }
@@ -145,18 +145,6 @@ fn read_connection<'a>(
     ensures { IfOk result (HasRead first (inside recs.now)) }
 {
     let mut reader = Reader::new(alloc);
-    for (i, rec) in recs.iter().enumerate() {
-        if ends_connection(rec) {
-            return Ok(reader);
-        }
-        reader.read(first + i, rec)?;
-    }
+    reader.read_all(first, recs)?;
     Ok(reader)
-}
-
-/// Whether the record ends the connection before it.
-fn ends_connection(rec: &ClientRec) -> bool
-    ensures { result ≡ ends_connection rec.now }
-{
-    matches!(rec, ClientRec::Conn { .. } | ClientRec::Lost)
 }

@@ -17,7 +17,7 @@ use std::alloc::{AllocError, Global};
 #[derive(Drop)]
 pub struct Clients<'a> {
     /// What each tap tells, where it is a client's.
-    pub transcript: Vec<Option<IndexedTranscript<'a>>>,
+    pub transcripts: Vec<Option<IndexedTranscript<'a>>>,
     /// Of each pid, the places of the clients' taps with a reply that names it.
     pub naming: Places,
 }
@@ -27,25 +27,28 @@ impl<'a> Clients<'a> {
     pub fn read(alloc: Global, logs: &Logs<'a>) -> Result<Clients<'a>, AllocError>
         ensures { IfOk result (AreRead logs.now) }
     {
-        let transcript = told_of(alloc, logs.stream(), logs.taps())?;
-        let naming = naming_of(alloc, transcript.as_slice())?;
-        Ok(Clients { transcript, naming })
+        let transcripts = transcripts_of(alloc, logs.stream(), logs.taps())?;
+        let naming = naming_of(alloc, transcripts.as_slice())?;
+        Ok(Clients {
+            transcripts,
+            naming,
+        })
     }
 }
 
 /// What each of the taps tells, where it is a client's.
-fn told_of<'a>(
+fn transcripts_of<'a>(
     alloc: Global,
     stream: &Stream<'_>,
     taps: &'a [Tap],
 ) -> Result<Vec<Option<IndexedTranscript<'a>>>, AllocError>
-    ensures { IfOk result (λ transcript. transcript.items ≡ map (transcript_in stream.now) taps.now) }
+    ensures { IfOk result (λ transcripts. transcripts.items ≡ map (transcript_in stream.now) taps.now) }
 {
-    let mut transcript = Vec::new(alloc);
+    let mut transcripts = Vec::new(alloc);
     for tap in taps {
-        transcript.push(transcript_in(alloc, stream, tap)?)?;
+        transcripts.push(transcript_in(alloc, stream, tap)?)?;
     }
-    Ok(transcript)
+    Ok(transcripts)
 }
 
 /// What the tap tells, if it is a client's.
@@ -67,18 +70,21 @@ fn transcript_in<'a>(
 }
 
 /// Of each pid, the places of those that tell of a stay whose reply names it.
-fn naming_of(alloc: Global, clients: &[Option<IndexedTranscript<'_>>]) -> Result<Places, AllocError>
-    ensures { IfOk result (λ naming. (pid : Text) → places_of naming pid ≡ naming_transcripts clients.now pid) }
+fn naming_of(
+    alloc: Global,
+    transcripts: &[Option<IndexedTranscript<'_>>],
+) -> Result<Places, AllocError>
+    ensures { IfOk result (λ naming. (pid : Text) → places_of naming pid ≡ naming_transcripts transcripts.now pid) }
 {
     let mut naming = Places::new(alloc);
-    for (place, client) in clients.iter().enumerate() {
-        note_client(&mut naming, place, client.as_ref())?;
+    for (place, transcript) in transcripts.iter().enumerate() {
+        note_transcript(&mut naming, place, transcript.as_ref())?;
     }
     Ok(naming)
 }
 
 /// Notes what the tap at this place tells, after all those noted so far.
-fn note_client(
+fn note_transcript(
     naming: &mut Places,
     place: usize,
     transcript: Option<&IndexedTranscript<'_>>,

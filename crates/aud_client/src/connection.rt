@@ -1,11 +1,11 @@
 //! The packets of one connection of a client.
-ghost use Rattle.std.specs.Prelude.{◌≡◌, ◌++◌, ◌∷◌, [], IfOk, OnOk, Some, None, true, flat_map, map};
+ghost use Rattle.std.specs.Prelude.{◌≡◌, ◌+◌, ◌^◌, ◌<◌, ◌++◌, ◌∷◌, [], IfOk, OnOk, Some, None, true, flat_map, length, map};
 ghost use Rattle.aud_eio.specs.Packet.{engine_view, engine_packet_of};
 ghost use Rattle.aud_eio.specs.Body.{engine_packets_of};
 ghost use Rattle.aud_sio.specs.Message.{messages_of, at};
 ghost use Rattle.aud_sio.specs.Packet.{packet_of, packet_view};
 ghost use Rattle.aud_client.specs.TapPackets.{is_connection_kind, one_of, client_packet, client_packet_in};
-ghost use Rattle.aud_client.specs.Private.ConnectionRead.{ReadsRecord, ReadsEngine, Reads, sent_seen, packets_read, bad_or};
+ghost use Rattle.aud_client.specs.Private.ConnectionRead.{HasRead, ReadsRecord, ReadsEngine, Reads, ends_connection, inside, sent_seen, packets_read, bad_or};
 ghost use Rattle.aud_client.specs.Seen.{packet_seen};
 
 use aud_eio::{Eio, EioFault, decode_binary, decode_payload, decode_text};
@@ -55,8 +55,30 @@ impl<'a> Reader<'a> {
         }
     }
 
+    /// The packets that were read.
+    pub fn into_packets(self) -> Vec<Placed<'a>>
+        ensures { result.items ≡ self.entry.packets.items }
+    {
+        let Reader { packets, .. } = self;
+        packets
+    }
+
+    /// The connection's records, the first of which has this number: up to the next `conn` or `lost`.
+    pub fn read_all(&mut self, first: usize, recs: &'a [ClientRec]) -> Result<(), AllocError>
+        requires { first + length recs.now < 2 ^ 64 }
+        ensures { HasRead first [] self.old → OnOk result (HasRead first (inside recs.now) self.new) }
+    {
+        for (i, rec) in recs.iter().enumerate() {
+            if ends_connection(rec) {
+                return Ok(());
+            }
+            self.read(first + i, rec)?;
+        }
+        Ok(())
+    }
+
     /// The connection's next record, which has this number.
-    pub fn read(&mut self, number: usize, rec: &'a ClientRec) -> Result<(), AllocError>
+    fn read(&mut self, number: usize, rec: &'a ClientRec) -> Result<(), AllocError>
         ensures { OnOk result (ReadsRecord number rec.now self.old self.new) }
     {
         match rec {
@@ -165,6 +187,13 @@ impl<'a> Reader<'a> {
             self.bad = Some(number);
         }
     }
+}
+
+/// Whether the record ends the connection before it.
+fn ends_connection(rec: &ClientRec) -> bool
+    ensures { result ≡ ends_connection rec.now }
+{
+    matches!(rec, ClientRec::Conn { .. } | ClientRec::Lost)
 }
 
 /// The CONNECT or DISCONNECT that an Engine.IO packet of the client carries.

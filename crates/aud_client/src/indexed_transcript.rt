@@ -25,7 +25,7 @@ pub struct IndexedTranscript<'a> {
 
 impl<'a> Model for IndexedTranscript<'a> {
     ghost use Rattle.aud_client.specs.Received.{TranscriptSeen};
-    ghost use Rattle.aud_client.specs.Private.ReadTap.{HoldsStaysByPid};
+    ghost use Rattle.aud_client.specs.Private.IndexedTranscript.{HoldsStaysByPid};
 
     ghost Value = { TranscriptSeen };
 

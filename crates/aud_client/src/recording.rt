@@ -40,6 +40,14 @@ impl<'a> Recording<'a> {
         ensures { IfOk result (λ recording. recording ≡ cluster_of taps.now) }
     {
         let logs = Logs::build(alloc, taps)?;
+        Recording::of_logs(alloc, logs)
+    }
+
+    /// Reads the clients' taps beside these logs.
+    fn of_logs(alloc: Global, logs: Logs<'a>) -> Result<Recording<'a>, AllocError>
+        requires { AreNamedOnce logs.taps }
+        ensures { IfOk result (λ recording. recording ≡ logs.entry) }
+    {
         let clients = Clients::read(alloc, &logs)?;
         Ok(Recording { logs, clients })
     }
@@ -62,7 +70,7 @@ impl<'a> Recording<'a> {
     pub fn client(&self, place: usize) -> Option<&IndexedTranscript<'a>>
         ensures { option_copied result ≡ transcript_at self.now place }
     {
-        match self.clients.transcript.get(place) {
+        match self.clients.transcripts.get(place) {
             Some(transcript) => transcript.as_ref(),
             None => None,
         }

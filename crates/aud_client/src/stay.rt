@@ -1,22 +1,20 @@
 //! A stay of a client in a namespace.
-ghost use Rattle.std.specs.Prelude.{◌≡◌, ◌++◌, List, [], IfOk, OnOk};
+ghost use Rattle.std.specs.Prelude.{◌≡◌, ◌++◌, List, [], OnOk};
 ghost use Rattle.std.specs.List.{cons_option};
-ghost use Rattle.std.specs.Option.{option_copied};
+ghost use Rattle.std.specs.Option.{option_copied, option_or};
 ghost use Rattle.aud_tap.specs.declared.records.StreamRec.{StreamRec};
 ghost use Rattle.aud_sio.specs.Packet.{packet_view};
 ghost use Rattle.aud_sio.specs.Assembly.{whole_view};
 ghost use Rattle.aud_client.specs.TapPackets.{FromServer, FromClient};
 ghost use Rattle.aud_client.specs.Seen.{packet_seen};
-ghost use Rattle.aud_client.specs.Replies.{is_this};
+ghost use Rattle.aud_client.specs.Replies.{is_this, reply_in};
 ghost use Rattle.aud_client.specs.Received.{stay_names_pid, is_recovered};
 ghost use Rattle.aud_client.specs.Private.Kept.{empty_stay, grown};
-ghost use Rattle.aud_client.specs.Stays.{namespace};
 
 use crate::asked::{Asked, asked_in};
 use crate::connection::TapPacket;
 use crate::frame::{Frame, frame_of};
 use crate::replies::{Reply, reply_of};
-use crate::stays::namespace;
 use aud_node::Stream;
 use aud_sio::{Packet, Whole};
 use std::alloc::{AllocError, Global};
@@ -66,24 +64,17 @@ impl<'a> Stay<'a> {
         }
     }
 
-    /// A stay of one packet, in the connection with this number.
-    pub(crate) fn begun(
-        alloc: Global,
-        stream: &Stream<'_>,
-        c: u64,
-        packet: TapPacket<'a>,
-    ) -> Result<Stay<'a>, AllocError>
-        ensures { IfOk result (λ stay. stay ≡ grown stream.now (empty_stay c (namespace (packet_seen packet.entry))) (packet_seen packet.entry)) }
+    /// A stay without packets, in the connection with this number.
+    pub(crate) fn new(alloc: Global, c: u64, nsp: &'a str) -> Stay<'a>
+        ensures { result ≡ empty_stay c nsp.now }
     {
-        let mut stay = Stay {
+        Stay {
             c,
-            nsp: namespace(&packet),
+            nsp,
             reply: None,
             asked: None,
             frames: Vec::new(alloc),
-        };
-        stay.add(alloc, stream, packet)?;
-        Ok(stay)
+        }
     }
 
     /// One packet more.
@@ -110,10 +101,18 @@ impl<'a> Stay<'a> {
     ) -> Result<(), AllocError>
         ensures { OnOk result (self.new ≡ grown stream.now self.old (FromServer (whole_view whole.entry))) }
     {
-        if let Some(reply) = reply_of(alloc, &whole)? {
+        self.note_reply(alloc, &whole)?;
+        self.keep(frame_of(stream, whole))
+    }
+
+    /// What the packet of the server tells, if it is a reply.
+    fn note_reply(&mut self, alloc: Global, whole: &Whole<'_>) -> Result<(), AllocError>
+        ensures { OnOk result (self.new ≡ record self.old { reply = option_or (reply_in (whole_view whole.now)) self.old.reply }) }
+    {
+        if let Some(reply) = reply_of(alloc, whole)? {
             self.reply = Some(reply);
         }
-        self.keep(frame_of(stream, whole))
+        Ok(())
     }
 
     /// The frame, if there is one, comes after the others.

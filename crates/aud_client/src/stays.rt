@@ -1,9 +1,9 @@
 //! The stays of a tap, as its packets come.
-ghost use Rattle.std.specs.Prelude.{◌≡◌, ℕ, ◌++◌, ◌∷◌, List, [], OnOk, length, Some, slice_get, set};
+ghost use Rattle.std.specs.Prelude.{◌≡◌, ℕ, ◌++◌, ◌∷◌, List, [], OnOk, flat_map, length, Some, slice_get, set};
 ghost use Rattle.std.specs.Option.{option_and_then};
 ghost use Rattle.aud_tap.specs.declared.records.StreamRec.{StreamRec};
 ghost use Rattle.aud_client.specs.TapPackets.{TapPacket as TapPacketSeen};
-ghost use Rattle.aud_client.specs.Seen.{connection_seen, packet_seen};
+ghost use Rattle.aud_client.specs.Seen.{connection_seen, connections_seen, packet_seen};
 ghost use Rattle.aud_client.specs.Stays.{is_connect, is_disconnect, namespace, packet_in};
 ghost use Rattle.aud_sio.specs.Packet.{packet_view};
 ghost use Rattle.aud_client.specs.StaySeen.{StaySeen};
@@ -23,8 +23,7 @@ use std::collections::BTreeMap;
 #[derive(Drop)]
 pub struct Stays<'a> {
     alloc: Global,
-    /// The stays in the order of their first packets.
-    pub stays: Vec<Stay<'a>>,
+    stays: Vec<Stay<'a>>,
     open: BTreeMap<&'a str, usize>,
 }
 
@@ -40,8 +39,30 @@ impl<'a> Stays<'a> {
         }
     }
 
+    /// The stays, in the order of their first packets.
+    pub fn into_stays(self) -> Vec<Stay<'a>>
+        ensures { result.items ≡ self.entry.stays.items }
+    {
+        let Stays { stays, .. } = self;
+        stays
+    }
+
+    /// The tap's connections, each of them as a whole.
+    pub fn connections(
+        &mut self,
+        stream: &Stream<'_>,
+        connections: Vec<Connection<'a>>,
+    ) -> Result<(), AllocError>
+        ensures { OnOk result (self.new.stays.items ≡ self.old.stays.items ++ flat_map (stays_of stream.now) (connections_seen connections.entry.items)) }
+    {
+        for connection in connections {
+            self.connection(stream, connection)?;
+        }
+        Ok(())
+    }
+
     /// The tap's next connection, all of it.
-    pub fn connection(
+    fn connection(
         &mut self,
         stream: &Stream<'_>,
         connection: Connection<'a>,
@@ -77,25 +98,19 @@ impl<'a> Stays<'a> {
     fn place_for(&self, packet: &TapPacket<'_>) -> Option<usize>
         ensures { result ≡ place_for self.now (packet_seen packet.now) }
     {
-        match self.open.get(namespace(packet)) {
-            Some(place) => self.unless_replied(*place, packet),
-            None => None,
-        }
+        let place = self.open.get(namespace(packet))?;
+        self.unless_replied(*place, packet)
     }
 
     /// The place, unless the packet is a CONNECT and the stay there has a reply.
     fn unless_replied(&self, place: usize, packet: &TapPacket<'_>) -> Option<usize>
         ensures { result ≡ option_and_then (unless_replied (packet_seen packet.now) place) (slice_get self.now.stays.items place) }
     {
-        match self.stays.get(place) {
-            Some(stay) => {
-                if is_connect(packet) && stay.reply.is_some() {
-                    None
-                } else {
-                    Some(place)
-                }
-            }
-            None => None,
+        let stay = self.stays.get(place)?;
+        if is_connect(packet) && stay.reply.is_some() {
+            None
+        } else {
+            Some(place)
         }
     }
 
@@ -110,17 +125,19 @@ impl<'a> Stays<'a> {
         ensures open { OnOk result (BeginsAt (packet_seen packet.entry) (length self.old.stays.items) self.old self.new) }
     {
         let place = self.stays.len();
-        self.mark(&packet, place)?;
-        let stay = Stay::begun(self.alloc, stream, c, packet)?;
-        self.keep(stay)
+        self.open_stay(c, &packet)?;
+        self.grow(stream, place, packet)
     }
 
-    /// The stay comes after the others.
-    fn keep(&mut self, stay: Stay<'a>) -> Result<(), AllocError>
-        ensures stays { OnOk result (self.new.stays.items ≡ self.old.stays.items ++ stay.entry ∷ []) }
-        ensures open { (n : Text) → open_at self.new n ≡ open_at self.old n }
+    /// A stay in the packet's namespace comes after the others. It goes on, unless the packet ends it.
+    fn open_stay(&mut self, c: u64, packet: &TapPacket<'a>) -> Result<(), AllocError>
+        ensures stays { OnOk result (self.new.stays.items ≡ self.old.stays.items ++ empty_stay c (namespace (packet_seen packet.now)) ∷ []) }
+        ensures open { OnOk result (BeginsAt (packet_seen packet.now) (length self.old.stays.items) self.old self.new) }
     {
-        self.stays.push(stay)?;
+        let place = self.stays.len();
+        self.mark(packet, place)?;
+        self.stays
+            .push(Stay::new(self.alloc, c, namespace(packet)))?;
         Ok(())
     }
 

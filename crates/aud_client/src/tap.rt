@@ -36,11 +36,8 @@ fn stays_of<'a>(
     ensures { IfOk result (λ stays. stays.items ≡ tap_stays stream.now tap.entry) }
 {
     let mut stays = Stays::new(alloc);
-    for connection in tap.into_connections() {
-        stays.connection(stream, connection)?;
-    }
-    let Stays { stays, .. } = stays;
-    Ok(stays)
+    stays.connections(stream, tap.into_connections())?;
+    Ok(stays.into_stays())
 }
 
 /// Whether any of the stays is an orphan's.

@@ -1,20 +1,12 @@
 -- The places of taps and records by what they name.
-use Rattle.std.proofs.Common.{◌≡◌, ℕ, ◌+◌, ◌<◌, suc, Bool, true, false, cond, not, List, [], ◌∷◌, length, get_or, refl, sym, ap, ◌∙◌, arith, Option, Some, None, option_map, slice_get, ◌||◌}
+use Rattle.std.proofs.Common.{◌≡◌, ℕ, ◌+◌, suc, Bool, true, false, cond, not, List, [], ◌∷◌, length, refl, sym, ap, ◌∙◌, arith, Option, Some, None, option_map, slice_get, ◌||◌}
 use Rattle.std.specs.List.{filter, list_any}
 use Rattle.std.specs.Option.{is_some}
-use Rattle.std.proofs.lemmas.Option.{slice_get_read}
-use Rattle.aud_base.specs.Places.{noted, places_where}
-use Rattle.aud_base.proofs.NotedPlaces.{noted-next}
+use Rattle.aud_base.specs.Places.{places_where}
 use Rattle.aud_node.specs.Lists.{numbers_from, first_index}
 use Rattle.aud_node.specs.OwnPlaces.{is_none}
 
 module _ {X : Type 0} where
-  -- one element more, noted where it passes
-  pub noted-at : (p : Option X → Bool) (xs : List X) (i : ℕ) (x : X) (old new : List ℕ) → i < length xs → x ≡ get_or xs i x
-      → old ≡ places_where (λ k. p (slice_get xs k)) i → new ≡ noted i (p (Some x)) old → new ≡ places_where (λ k. p (slice_get xs k)) (i + 1)
-  noted-at p xs i x old new within is before after =
-      after ∙ ap (λ o. noted i (p o) old) (sym (slice_get_read xs (length xs) i x refl within is)) ∙ noted-next (λ k. p (slice_get xs k)) i old before
-
   -- the first place of an element that passes, of elements that stand after n others
   first-from : (p : X → Bool) (test : ℕ → Bool) (n : ℕ) (xs : List X) → ((k : ℕ) (x : X) → slice_get xs k ≡ Some x → test (n + k) ≡ p x)
       → slice_get (filter test (numbers_from n (length xs))) 0 ≡ option_map (λ k. n + k) (first_index p xs)

@@ -26,11 +26,11 @@ has_naming_stay pid (Some transcript) = list_any (stay_names_pid pid) transcript
 
 -- the places, ascending, of those that tell of a stay whose reply names the pid
 abbrev pub naming_transcripts : List (Option TranscriptSeen) → Text → List ℕ
-naming_transcripts clients pid = filter (λ place. has_naming_stay pid (option_and_then (λ transcript. transcript) (slice_get clients place))) (numbers_from 0 (length clients))
+naming_transcripts transcripts pid = filter (λ place. has_naming_stay pid (option_and_then (λ transcript. transcript) (slice_get transcripts place))) (numbers_from 0 (length transcripts))
 
 -- the clients' taps are read, and of each pid the places are those that name it
 pub record AreRead (c : Cluster) (clients : Clients) : Type 0 where
-  pub transcripts_are : clients.transcript.items ≡ map (transcript_in c.stream) c.taps
+  pub transcripts_are : clients.transcripts.items ≡ map (transcript_in c.stream) c.taps
   pub naming_are : (pid : Text) → places_of clients.naming pid ≡ naming_places c.taps pid
 
 -- the clients' taps are read; no two taps have one name

@@ -1,9 +1,10 @@
-use Rattle.std.proofs.Common.{◌≡◌, false, length, ap, ◌∙◌, arith}
+use Rattle.std.proofs.Common.{◌≡◌, false, length, slice_get, ap, ◌∙◌, arith}
 use Rattle.std.specs.Option.{option_map_or}
-use Rattle.aud_base.specs.Places.{places_of}
+use Rattle.aud_base.specs.Places.{places_of, places_where}
+use Rattle.aud_base.proofs.NotedPlaces.{noted-at}
 use Rattle.aud_client.specs.Private.BySession.{stays_numbered}
 use Rattle.aud_client.specs.Received.{stay_names_pid}
-use Rattle.aud_client.proofs.Numbers.{passing_numbers, noted-at, numbered_all}
+use Rattle.aud_client.proofs.Numbers.{numbered_all}
 use Rattle.aud_client.proofs.by_session.by_session.Goals as goal
 
 pub loop-number-preserved : goal.loop-number-preserved
@@ -16,4 +17,4 @@ pub returns : goal.returns
 returns c = λ q.
     let stays = c.args.stays.now in
     let all : c.loop-number.number ≡ length stays = omega arith in
-    ap (stays_numbered stays) (c.loop-number.invariant q ∙ ap (passing_numbers (λ stay. option_map_or (stay_names_pid q) stay false) stays) all) ∙ numbered_all (stay_names_pid q) stays
+    ap (stays_numbered stays) (c.loop-number.invariant q ∙ ap (places_where (λ k. option_map_or (stay_names_pid q) (slice_get stays k) false)) all) ∙ numbered_all (stay_names_pid q) stays

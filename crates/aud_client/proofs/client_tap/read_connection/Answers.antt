@@ -1,31 +1,6 @@
-use Rattle.std.proofs.Common.{◌≡◌, ◌+◌, ◌∷◌, ◌++◌, [], ℕ, List, cond, take, drop, length, refl, sym, ap, ◌∙◌, subst, arith, append_assoc}
-use Rattle.std.proofs.lemmas.List.{drop_more, take_more, length-take-le}
-use Rattle.aud_tap.specs.declared.records.ClientRec.{ClientRec}
-use Rattle.aud_client.specs.Private.ConnectionRead.{HasRead, ReadsRecord, inside}
-use Rattle.aud_client.proofs.ConnectionLemmas.{HasRead-none, HasRead-more}
+use Rattle.aud_client.proofs.ConnectionLemmas.{HasRead-none}
 use Rattle.aud_client.proofs.client_tap.read_connection.Goals as goal
 
-pub loop-i-init : goal.loop-i-init
-loop-i-init c = record { inside_is = refl; read = HasRead-none c.args.first c.new-reader.result c.new-reader.ensures.assembler c.new-reader.ensures.packets c.new-reader.ensures.bad }
-
-pub loop-i-preserved : goal.loop-i-preserved
-loop-i-preserved c =
-    let recs = c.args.recs.now in
-    let i = c.loop-i.i in
-    let rec = c.index-recs-i.result in
-    let goes_on = sym c.ends_connection.ensures ∙ c.if-ends_connection.false in
-    let front : drop i recs ≡ rec ∷ drop (i + 1) recs = drop_more recs i rec (omega arith) ∙ ap (λ r. r ∷ drop (i + 1) recs) (sym c.index-recs-i.is) in
-    let read : take (i + 1) recs ≡ take i recs ++ rec ∷ [] = take_more recs i rec (omega arith) ∙ ap (λ r. take i recs ++ r ∷ []) (sym c.index-recs-i.is) in
-    let count : i ≡ length (take i recs) = sym (length-take-le i recs (omega arith)) in
-    record {
-      inside_is =
-          c.loop-i.invariant.inside_is
-          ∙ ap (λ r. take i recs ++ inside r) front
-          ∙ ap (λ b. take i recs ++ cond b [] (rec ∷ inside (drop (i + 1) recs))) goes_on
-          ∙ sym (append_assoc (take i recs) (rec ∷ []) (inside (drop (i + 1) recs)))
-          ∙ ap (λ r. r ++ inside (drop (i + 1) recs)) (sym read);
-      read =
-          subst (λ (r : List ClientRec). HasRead c.args.first r c.read.new.self) (sym read)
-          (HasRead-more c.args.first (take i recs) rec c.loop-i.reader c.read.new.self c.loop-i.invariant.read
-          (subst (λ (n : ℕ). ReadsRecord (c.args.first + n) rec c.loop-i.reader c.read.new.self) count c.in_ok-read.ensures));
-    }
+pub returns : goal.returns
+returns c =
+    c.in_ok-read_all.ensures (HasRead-none c.args.first c.new-reader.result c.new-reader.ensures.assembler c.new-reader.ensures.packets c.new-reader.ensures.bad)

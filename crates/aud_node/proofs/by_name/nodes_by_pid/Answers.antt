@@ -4,7 +4,7 @@ use Rattle.aud_base.specs.Places.{places_of}
 use Rattle.aud_node.specs.Cluster.{node_recs}
 use Rattle.aud_node.specs.OwnPlaces.{is_none}
 use Rattle.aud_node.specs.OwnRecords.{own_numbers}
-use Rattle.aud_node.proofs.NameLemmas.{noted-at}
+use Rattle.aud_base.proofs.NotedPlaces.{noted-at}
 use Rattle.aud_node.proofs.by_name.nodes_by_pid.Goals as goal
 
 pub loop-place-preserved : goal.loop-place-preserved

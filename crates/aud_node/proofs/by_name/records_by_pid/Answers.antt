@@ -1,7 +1,7 @@
 use Rattle.std.proofs.Common.{arith}
 use Rattle.aud_base.specs.Places.{places_of}
 use Rattle.aud_node.specs.OwnRecords.{record_names}
-use Rattle.aud_node.proofs.NameLemmas.{noted-at}
+use Rattle.aud_base.proofs.NotedPlaces.{noted-at}
 use Rattle.aud_node.proofs.by_name.records_by_pid.Goals as goal
 
 pub loop-number-preserved : goal.loop-number-preserved

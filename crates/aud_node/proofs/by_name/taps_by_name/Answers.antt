@@ -4,7 +4,8 @@ use Rattle.std.specs.Str.{bytes_eq}
 use Rattle.aud_tap.specs.declared.taps.Tap.{Tap}
 use Rattle.aud_base.specs.Places.{noted, places_of, places_where}
 use Rattle.aud_node.specs.Stream.{Text}
-use Rattle.aud_node.proofs.NameLemmas.{noted-at, first-place}
+use Rattle.aud_base.proofs.NotedPlaces.{noted-at}
+use Rattle.aud_node.proofs.NameLemmas.{first-place}
 use Rattle.aud_node.proofs.by_name.taps_by_name.Goals as goal
 
 pub loop-place-preserved : goal.loop-place-preserved

@@ -1,4 +1,4 @@
--- What is kept of a client's tap that was read.
+-- What is kept beside what a client's tap tells.
 use Rattle.std.specs.Prelude.{◌≡◌}
 use Rattle.aud_base.specs.Places.{places_of}
 use Rattle.aud_node.specs.Stream.{Text}
