@@ -1,5 +1,5 @@
 -- Maps from lent texts.
-use Rattle.std.proofs.Common.{◌≡◌, ℕ, Bool, true, false, cond, List, refl, Bor, Option, Some, unwrap_or}
+use Rattle.std.proofs.Common.{◌≡◌, ℕ, Bool, cond, List, arith, Bor, Option, Some, unwrap_or}
 use Rattle.std.specs.Ordering.{nat_cmp}
 use Rattle.std.specs.Cmp.Lexicographic.{slice_cmp}
 use Rattle.std.specs.BTreeMap as tree
@@ -15,5 +15,4 @@ get-updated old new key w updates text = btree_map_updates_str key old new w upd
 
 -- what a changed map has for a text: the new value, or what it had
 pub unwrap_or-updated : {X : Type 0} (b : Bool) (v : X) (o : Option X) (d : X) → unwrap_or (cond b (Some v) o) d ≡ cond b v (unwrap_or o d)
-unwrap_or-updated true v o d = refl
-unwrap_or-updated false v o d = refl
+unwrap_or-updated b v o d = grind arith

@@ -1,18 +1,17 @@
 -- Positions in the stream from an entry on.
-use Rattle.std.proofs.Common.{◌≡◌, ℕ, ◌+◌, ◌-◌, ◌<◌, zero, suc, Bool, true, false, cond, List, [], ◌∷◌, length, get_or, drop, refl, sym, ap, ◌∙◌, arith, Option, Some, None, option_map, unwrap_or, map, slice_get, subst, nat_eq}
+use Rattle.std.proofs.Common.{◌≡◌, ℕ, ◌+◌, ◌-◌, ◌<◌, zero, suc, Bool, true, false, cond, List, [], ◌∷◌, length, get_or, drop, ap, ◌∙◌, arith, Option, Some, None, option_map, unwrap_or, map, slice_get}
 use Rattle.std.specs.Str.{bytes_eq}
 use Rattle.std.proofs.lemmas.List.{at_drop_more}
+use Rattle.std.proofs.lemmas.Bool.Decides.{nat_tests}
 use Rattle.std.proofs.lemmas.Slice.Eq.{bytes_eq-Decides}
 use Rattle.std.proofs.lemmas.Option.{slice_get-map}
 use Rattle.aud_tap.specs.declared.records.StreamRec.{StreamRec}
 use Rattle.aud_node.specs.Recoverable.{is_recoverable}
-use Rattle.aud_node.specs.AtPosition.{is_some_recoverable, is_recoverable_at}
+use Rattle.aud_node.specs.AtPosition.{is_recoverable_at}
 use Rattle.aud_node.specs.Private.NextPosition.{next_position}
 use Rattle.aud_node.specs.Stream.{Text, position, offset_of}
 use Rattle.aud_node.specs.Private.OffsetIndex.{kept_position, AreFirst, HoldsOffsets}
-use Rattle.aud_node.specs.Cursors.{is_position}
 use Rattle.aud_node.proofs.ListLemmas.{drop-read}
-use Rattle.std.proofs.lemmas.Bool.{eq-eqb, eqb-true, false_from_ne_true}
 use Rattle.aud_node.specs.declared.offsets.Offsets.{Offsets}
 
 -- the position of an offset that stands after so many entries
@@ -23,12 +22,7 @@ position_after stream i off = option_map (λ p. i + p) (position (drop i stream)
 pub position_after-step : (stream : List StreamRec) (i : ℕ) (d : StreamRec) (off : Text) → i < length stream
     → position_after stream i off ≡ cond (bytes_eq (offset_of (get_or stream i d)) off) (Some (i + 1)) (position_after stream (i + 1) off)
 position_after-step stream i d off h =
-    at_drop_more (λ es. option_map (λ p. i + p) (position es off)) stream i d h
-    ∙ go (bytes_eq (offset_of (get_or stream i d)) off) (position (drop (i + 1) stream) off)
-  where
-    go : (b : Bool) (o : Option ℕ) → option_map (λ p. i + p) (cond b (Some 1) (option_map suc o)) ≡ cond b (Some (i + 1)) (option_map (λ p. i + 1 + p) o)
-    go b None = grind arith
-    go b (Some p) = grind arith
+    grind (arith, at_drop_more (λ es. option_map (λ p. i + p) (position es off)) stream i d h)
 
 -- an offset that no entry has isn't that of any
 not_there : (stream : List StreamRec) (off other : Text) (i : ℕ) → position stream off ≡ None → bytes_eq off other ≡ true → position stream other ≡ Some (suc i) → ⊥
@@ -54,30 +48,15 @@ pub HoldsAfter-step : (stream : List StreamRec) (n : ℕ) (e : StreamRec) (old n
     → HoldsAfter stream (n - 1) new
 HoldsAfter-step stream n e old new some within read held marked was_distinct was_new =
     let next : n - 1 + 1 ≡ n = omega arith in
-    let front : drop (n - 1) stream ≡ e ∷ drop n stream = drop-read stream n e some within read in
+    let front = drop-read stream n e some within read in
     record {
-      positions_are = λ off.
-          marked off
-          ∙ ap (cond (bytes_eq (offset_of e) off) (Some (n - 1 + 1))) (held.positions_are off ∙ ap (λ k. position_after stream k off) (sym next))
-          ∙ ap (λ x. cond (bytes_eq (offset_of x) off) (Some (n - 1 + 1)) (position_after stream (n - 1 + 1) off)) read
-          ∙ sym (position_after-step stream (n - 1) e off within);
-      are_first = λ distinct.
-          let none : position (drop n stream) (offset_of e) ≡ None = unmapped n (position (drop n stream) (offset_of e)) (sym (held.positions_are (offset_of e)) ∙ was_new distinct) in
-          subst AreFirst (sym front) (AreFirst-cons e (drop n stream) none (held.are_first (was_distinct distinct)));
+      positions_are = λ off. grind (arith, marked off, held.positions_are off, position_after-step stream (n - 1) e off within, read, next);
+      are_first = λ distinct. grind (arith, front, held.positions_are (offset_of e), was_new distinct, AreFirst-cons e (drop n stream), held.are_first (was_distinct distinct));
     }
-  where
-    unmapped : (k : ℕ) (o : Option ℕ) → option_map (λ p. k + p) o ≡ None → o ≡ None
-    unmapped k None h = refl
-    unmapped k (Some p) h = cc
 
 -- the entries after none are all
 pub HoldsAfter-all : (stream : List StreamRec) (offsets : Offsets) → HoldsAfter stream 0 offsets → HoldsOffsets stream offsets
-HoldsAfter-all stream offsets held =
-    record { positions_are = λ off. held.positions_are off ∙ same (position stream off); are_first = held.are_first }
-  where
-    same : (o : Option ℕ) → option_map (λ p. 0 + p) o ≡ o
-    same None = refl
-    same (Some p) = let e : 0 + p ≡ p = omega arith in ap Some e
+HoldsAfter-all stream offsets held = record { positions_are = λ off. grind (arith, held.positions_are off); are_first = held.are_first }
 
 -- the offset is that of the entry, if there is one
 abbrev pub has_offset : Option StreamRec → Text → Bool
@@ -95,33 +74,16 @@ there [] off i h = cc
 there (e ∷ es) off zero h = grind (arith, h, positive es off)
 there (e ∷ es) off (suc i) h = grind (arith, h, there es off i)
 
--- an offset that has no such position isn't of it
-is_position-false : (o : Option ℕ) (p : ℕ) → (o ≡ Some p → ⊥) → is_position o p ≡ false
-is_position-false None p h = refl
-is_position-false (Some q) p h = false_from_ne_true (nat_eq q p) (λ e. h (ap Some (eqb-true q p e)))
-
 -- an offset that the entry after the cursor hasn't
 pub next-other : (stream : List StreamRec) (off : Text) (cursor : ℕ) → has_offset (slice_get stream cursor) off ≡ false → None ≡ next_position stream off cursor
-next-other stream off cursor other =
-    let none : position stream off ≡ Some (suc cursor) → ⊥ = λ h. (let t = there stream off cursor h in cc) in
-    ap (λ b. cond b (Some (suc cursor)) None) (sym (is_position-false (position stream off) (suc cursor) none))
+next-other stream off cursor other = grind (arith, nat_tests, there stream off cursor)
 
 -- the offset of the entry after the cursor, which is the first with it
 pub next-first : (stream : List StreamRec) (e : StreamRec) (off : Text) (cursor : ℕ) → AreFirst stream → slice_get stream cursor ≡ Some e → bytes_eq (offset_of e) off ≡ true → Some (suc cursor) ≡ next_position stream off cursor
 next-first stream e off cursor first here same =
-    let is : offset_of e ≡ off = (bytes_eq-Decides (offset_of e) off).0 same in
-    let at : position stream off ≡ Some (suc cursor) = ap (position stream) (sym is) ∙ first cursor e here in
-    sym (ap (λ o. cond (is_position o (suc cursor)) (Some (suc cursor)) None) at ∙ ap (λ b. cond b (Some (suc cursor)) None) (eq-eqb (suc cursor) (suc cursor) refl))
+    grind (arith, nat_tests, (bytes_eq-Decides (offset_of e) off).0 same, first cursor e here)
 
 -- the flag that is kept for the entry at a position
 pub recoverable-flag : (stream : List StreamRec) (p : ℕ) → 0 < p → unwrap_or (slice_get (map is_recoverable stream) (p - 1)) false ≡ is_recoverable_at stream p
 recoverable-flag stream zero h = absurd (omega arith)
-recoverable-flag stream (suc i) h =
-    let e : suc i - 1 ≡ i = omega arith in
-    ap (λ k. unwrap_or (slice_get (map is_recoverable stream) k) false) e
-    ∙ ap (λ o. unwrap_or o false) (slice_get-map is_recoverable stream i)
-    ∙ go (slice_get stream i)
-  where
-    go : (o : Option StreamRec) → unwrap_or (option_map is_recoverable o) false ≡ is_some_recoverable o
-    go None = refl
-    go (Some e) = refl
+recoverable-flag stream (suc i) h = grind (arith, slice_get-map is_recoverable stream i)

@@ -1,16 +1,13 @@
 -- Consecutive records of a log: one by its number, those between two numbers, and the cursor along them.
 use Rattle.std.proofs.Common.{◌≡◌, ◌<◌, ◌≤◌, ◌+◌, ◌-◌, ℕ, zero, suc, List, [], ◌∷◌, ◌++◌, length, drop, Option, Some, None, slice_get, refl, ap, ◌∙◌, arith}
-use Rattle.std.proofs.lemmas.Bool.{cond_both}
 use Rattle.std.proofs.lemmas.List.{length-take, length-drop}
 use Rattle.std.proofs.lemmas.Option.{slice_get_within}
 use Rattle.aud_tap.specs.declared.records.StreamRec.{StreamRec}
 use Rattle.aud_tap.specs.declared.records.NodeRec.{NodeRec}
-use Rattle.aud_tap.specs.declared.records.NodeRec.TheVariants.{Start, Take}
 pub use Rattle.aud_base.proofs.Lists.{between-more, between-none}
 use Rattle.aud_base.proofs.Lists.{element_at, slice_get-take, slice_get-drop}
 use Rattle.aud_node.specs.Lists.{between}
-use Rattle.aud_node.specs.Stream.{position}
-use Rattle.aud_node.specs.Cursors.{is_position, next_cursor, cursor_past, cursor_at}
+use Rattle.aud_node.specs.Cursors.{next_cursor, cursor_past, cursor_at}
 
 module _ {X : Type 0} where
   -- where there is none, no number is between
@@ -33,12 +30,7 @@ module _ {X : Type 0} where
 
 -- the cursor never goes down
 next_cursor-rises : (stream : List StreamRec) (i : ℕ) (rec : NodeRec) (cursor : ℕ) → (i ≡ 0 → cursor ≡ 0) → cursor ≤ next_cursor stream i rec cursor
-next_cursor-rises stream zero (Start None) cursor first = omega (arith, first refl)
-next_cursor-rises stream zero (Start (Some off)) cursor first = omega (arith, first refl)
-next_cursor-rises stream zero (Take off) cursor first = cond_both (is_position (position stream off) (suc cursor)) (suc cursor) cursor (λ n. cursor ≤ n) (λ _. omega arith) (λ _. omega arith)
-next_cursor-rises stream (suc i) (Take off) cursor first = cond_both (is_position (position stream off) (suc cursor)) (suc cursor) cursor (λ n. cursor ≤ n) (λ _. omega arith) (λ _. omega arith)
-next_cursor-rises stream zero _ cursor first = omega arith
-next_cursor-rises stream (suc i) _ cursor first = omega arith
+next_cursor-rises stream i rec cursor first = grind (arith, first)
 
 -- a record leaves the cursor no lower than it was
 cursor_at-next : (stream : List StreamRec) (log : List NodeRec) (i : ℕ) → cursor_at stream log i ≤ cursor_at stream log (suc i)

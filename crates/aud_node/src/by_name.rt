@@ -1,10 +1,11 @@
 //! The places of taps and records, by what they name.
-ghost use Rattle.std.specs.Prelude.{◌≡◌, IfOk, OnOk, Some, not, slice_get};
+ghost use Rattle.std.specs.Prelude.{◌≡◌, IfOk, OnOk, Some, slice_get};
+ghost use Rattle.std.specs.List.{list_any};
 ghost use Rattle.aud_base.specs.Places.{noted, places_of};
 ghost use Rattle.aud_node.specs.Stream.{Text};
 ghost use Rattle.aud_node.specs.Cluster.{cluster_of, node_recs};
 ghost use Rattle.aud_node.specs.OwnRecords.{record_names, own_numbers};
-ghost use Rattle.aud_node.specs.OwnPlaces.{is_none, own_places};
+ghost use Rattle.aud_node.specs.OwnPlaces.{own_places};
 ghost use Rattle.aud_node.specs.Names.{place_of};
 
 use crate::fields::pid;
@@ -46,7 +47,7 @@ pub fn nodes_by_pid(alloc: Global, taps: &[Tap]) -> Result<Places, AllocError>
 }
 
 fn note_node(places: &mut Places, place: usize, tap: &Tap) -> Result<(), AllocError>
-    ensures { OnOk result ((q : Text) → places_of places.new q ≡ noted place (not (is_none (own_numbers (node_recs (Some tap.now.records)) q))) (places_of places.old q)) }
+    ensures { OnOk result ((q : Text) → places_of places.new q ≡ noted place (list_any (λ rec. record_names (Some rec) q) (node_recs (Some tap.now.records))) (places_of places.old q)) }
 {
     match &tap.records {
         Records::Node(recs) => note_records(places, place, recs.as_slice()),
@@ -56,7 +57,7 @@ fn note_node(places: &mut Places, place: usize, tap: &Tap) -> Result<(), AllocEr
 }
 
 fn note_records(places: &mut Places, place: usize, recs: &[NodeRec]) -> Result<(), AllocError>
-    ensures { OnOk result ((q : Text) → places_of places.new q ≡ noted place (not (is_none (own_numbers recs.now q))) (places_of places.old q)) }
+    ensures { OnOk result ((q : Text) → places_of places.new q ≡ noted place (list_any (λ rec. record_names (Some rec) q) recs.now) (places_of places.old q)) }
 {
     for rec in recs {
         note_record(places, place, rec)?;

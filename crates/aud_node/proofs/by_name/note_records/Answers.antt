@@ -1,11 +1,8 @@
-use Rattle.std.proofs.Common.{Some, slice_get, ap, ◌∙◌}
-use Rattle.std.specs.List.{list_any}
-use Rattle.std.proofs.lemmas.List.{take_all}
-use Rattle.aud_base.specs.Places.{noted, places_of}
+use Rattle.std.proofs.Common.{Some}
+use Rattle.aud_base.specs.Places.{places_of}
 use Rattle.aud_base.proofs.NotedPlaces.{noted-item}
 use Rattle.aud_tap.specs.declared.records.NodeRec.{NodeRec}
 use Rattle.aud_node.specs.OwnRecords.{record_names}
-use Rattle.aud_node.proofs.NameLemmas.{any-place}
 use Rattle.aud_node.proofs.by_name.note_records.Goals as goal
 
 pub loop-rec-preserved : goal.loop-rec-preserved
@@ -13,11 +10,3 @@ loop-rec-preserved c = λ q.
     noted-item c.args.place (λ (rec : NodeRec). record_names (Some rec) q) c.args.recs.now c.loop-rec.rec-index c.rec-item.result
     (places_of c.args.places.now q) (places_of c.loop-rec.places q) (places_of c.note_record.new.places q)
     c.loop-rec-test.true c.rec-item.is (c.loop-rec.invariant q) (c.in_ok-note_record.ensures q)
-
-pub returns : goal.returns
-returns c = λ q.
-    let recs = c.args.recs.now in
-    c.loop-rec.invariant q
-    ∙ ap (λ b. noted c.args.place b (places_of c.args.places.now q))
-    (ap (list_any (λ (rec : NodeRec). record_names (Some rec) q)) (take_all c.loop-rec.rec-index recs c.loop-rec-test.false)
-    ∙ any-place (λ (rec : NodeRec). record_names (Some rec) q) (λ number. record_names (slice_get recs number) q) recs (λ k rec at. ap (λ o. record_names o q) at))

@@ -4,8 +4,7 @@ use Rattle.std.proofs.lemmas.Option.{slice_get_read}
 use Rattle.aud_node.specs.Lists.{numbers_from}
 use Rattle.aud_node.specs.Cursors.{cursor_at, next_cursor}
 use Rattle.aud_node.specs.Ordered.{is_in_order}
-use Rattle.std.proofs.lemmas.Bool.{not-true, not-false, and_right}
-use Rattle.aud_base.proofs.Truth.{and_true}
+use Rattle.aud_base.proofs.Truth.{and_true, and_none}
 use Rattle.aud_node.proofs.CursorLemmas.{is_in_order_at, cursor_at-more, is_in_order_at-here, cursors-more, all-more, is_ordered-all}
 use Rattle.aud_node.proofs.cursors.Cursors.build.Goals as goal
 use Rattle.aud_node.proofs.cursors.Cursors.build.Goals.{then-not-advance, else-not-advance}
@@ -21,13 +20,12 @@ loop-number-preserved c =
     let cursor : c.by-advance.result.cursor ≡ cursor_at stream log (i + 1) =
     c.by-advance.ensures.cursor ∙ ap (next_cursor stream i rec) before.cursor_is ∙ sym (cursor_at-more stream log i rec here) in
     let next : i + 1 ≡ suc i = omega arith in
-    let order : is_in_order stream i c.loop-number.cursor rec ≡ is_in_order_at stream log i =
-    ap (λ p. is_in_order stream i p rec) before.cursor_is ∙ sym (is_in_order_at-here stream log i rec here) in
-    let here_is : c.by-advance.result.in_order ≡ is_in_order_at stream log i = c.by-advance.ensures.order ∙ order in
+    let order : c.by-advance.result.in_order ≡ is_in_order_at stream log i =
+    c.by-advance.ensures.order ∙ ap (λ p. is_in_order stream i p rec) before.cursor_is ∙ sym (is_in_order_at-here stream log i rec here) in
     let kept : c.if-not-advance.ordered ≡ (c.loop-number.ordered && is_in_order_at stream log i) =
     elim c.if-not-advance.branch [
-      | then-not-advance w ↦ w.ordered-is ∙ sym (and_right c.loop-number.ordered _ (sym here_is ∙ not-true c.by-advance.result.in_order w.if-not-advance.true))
-      | else-not-advance w ↦ w.ordered-is ∙ sym (ap (λ b. c.loop-number.ordered && b) (sym here_is ∙ not-false c.by-advance.result.in_order w.if-not-advance.false) ∙ and_true c.loop-number.ordered)
+      | then-not-advance w ↦ grind (arith, w.ordered-is, order, w.if-not-advance.true, and_none c.loop-number.ordered)
+      | else-not-advance w ↦ grind (arith, w.ordered-is, order, w.if-not-advance.false, and_true c.loop-number.ordered)
     ] in
     record {
       after_are = c.in_ok-push.ensures.items ∙ cursors-more (λ number. cursor_at stream log (suc number)) i c.by-advance.result.cursor c.loop-number.after.items before.after_are (cursor ∙ ap (cursor_at stream log) next);
