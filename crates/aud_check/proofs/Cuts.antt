@@ -1,15 +1,27 @@
 -- Ascending positions, cut at a place.
-use Rattle.std.proofs.Common.{◌≡◌, ◌<◌, ◌≤◌, ◌-◌, ℕ, zero, suc, Bool, true, ◌&&◌, List, [], ◌∷◌, ◌++◌, length, map, take, drop, get_or, Option, Some, None, slice_get, nat_le, nat_lt, refl, sym, ap, ◌∙◌, ◌⊎◌, inl, inr, arith}
+use Rattle.std.proofs.Common.{◌≡◌, ◌<◌, ◌≤◌, ◌+◌, ◌-◌, ℕ, zero, suc, Bool, true, ◌&&◌, List, [], ◌∷◌, ◌++◌, length, map, take, drop, get_or, Option, Some, None, slice_get, nat_le, nat_lt, refl, sym, ap, ◌∙◌, ◌⊎◌, inl, inr, arith, length-append}
 use Rattle.std.specs.List.{list_all}
 use Rattle.std.proofs.lemmas.Bool.{cases_lt, le-leb, lt-leb}
+use Rattle.std.proofs.lemmas.List.{get_or_append_left}
 use Rattle.std.proofs.lemmas.Option.{get_or_from_slice_get, none-some, same_Some}
 use Rattle.aud_base.proofs.Lists.{element_at}
 use Rattle.aud_base.proofs.Numbers.{lt_true, lt_false}
 use Rattle.aud_base.proofs.Truth.{and_true, and_none}
 use Rattle.aud_client.specs.StaySeen.{FrameSeen}
+use Rattle.aud_merge.specs.ByTurns.{IsPrefixOf}
 use Rattle.aud_check.specs.Private.Ascending.{IsAscending, is_cut_or_not}
 use Rattle.aud_check.specs.Frames.{is_cut_at}
 
+-- the front of ascending positions ascends
+pub front_ascends : (xs ys : List ℕ) → IsPrefixOf xs ys → IsAscending ys → IsAscending xs
+front_ascends xs ys (rest, is) all i j d less within =
+    let long : length xs + length rest ≡ length ys = sym (length-append xs rest) ∙ ap length is in
+    let x = all i j d less (omega arith) in
+    let one : get_or ys i d ≡ get_or xs i d = ap (λ zs. get_or zs i d) (sym is) ∙ get_or_append_left xs rest d i (omega arith) in
+    let other : get_or ys j d ≡ get_or xs j d = ap (λ zs. get_or zs j d) (sym is) ∙ get_or_append_left xs rest d j within in
+    omega (arith, x, one, other)
+
+-- those after the first one ascend
 tail : (x : ℕ) (xs : List ℕ) → IsAscending (x ∷ xs) → IsAscending xs
 tail x xs up i j d less within = up (suc i) (suc j) d (omega arith) (omega arith)
 

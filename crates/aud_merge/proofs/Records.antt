@@ -9,7 +9,8 @@ use Rattle.aud_node.specs.Stream.{Text}
 use Rattle.aud_node.specs.TurnRecords.{pid_of, begins_turn}
 use Rattle.aud_rooms.specs.Rooms.{Rooms, own_room, rooms_after}
 use Rattle.aud_rooms.specs.Turns.{Who, beginning, Inner, Last, End, ByBreak, ByGone, ByLog, part_of}
-use Rattle.aud_merge.specs.ByTurns.{is_pid, session_past}
+use Rattle.aud_node.specs.OwnRecords.{is_pid}
+use Rattle.aud_merge.specs.ByTurns.{session_past}
 use Rattle.aud_merge.specs.Sessions.{SessionState, Absent, Here, Away, Ended, session_after}
 
 -- the session is in turn k or has passed it

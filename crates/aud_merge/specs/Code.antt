@@ -4,18 +4,15 @@ use Rattle.std.specs.Coded.{Coded, code_by, coded×, coded_ℕ, coded_list, code
 use Rattle.std.specs.Ordering.{nat_cmp}
 use Rattle.std.specs.Cmp.Lexicographic.{slice_cmp}
 use Rattle.std.specs.FinMap as fin
-use Rattle.std.specs.FinSet as set
 use Rattle.aud_node.specs.Stream.{Text}
 use Rattle.aud_rooms.specs.Rooms.{Rooms}
+use Rattle.aud_rooms.specs.Assigned.{rooms_code}
 use Rattle.aud_merge.specs.Sessions.{SessionState, Absent, Here, Away, Ended}
 use Rattle.aud_merge.specs.declared.progress.Progress.{Progress}
 use Rattle.aud_merge.specs.Machine.{State}
 
 abbrev pub text_code : Coded Text
 text_code = coded_list coded_ℕ
-
-abbrev pub rooms_code : Coded Rooms
-rooms_code = set.code text_code
 
 -- a session as numbers, texts and rooms: is it on a node, and which, and what it keeps
 abbrev pub Flat : Type 0
