@@ -40,6 +40,7 @@ greater_tells x z q h = go (cases_lt q z)
     go (inl past) = ap (λ b. nat_le x q && b) (lt-leb z q past) ∙ and_none (nat_le x q) ∙ sym (lt-leb z q past)
     go (inr upto) = ap (λ b. b && nat_le z q) (le-leb x q (omega arith))
 
+-- the lesser one tells whether both pass it
 lesser_tells : (x y q : ℕ) → x < y → (nat_lt q x && nat_lt q y) ≡ nat_lt q x
 lesser_tells x y q h = go (cases_lt q x)
   where
@@ -58,10 +59,12 @@ upto_at q z (x ∷ y ∷ ys) (suc k) up e at =
     let last = get_or_from_slice_get (y ∷ ys) k z 0 at in
     ap (λ b. nat_le x q && b) (upto_at q z (y ∷ ys) k (tail x (y ∷ ys) up) (omega (arith, e)) at) ∙ greater_tells x z q (omega (arith, below, last))
 
+-- the last of the positions tells whether none passes q
 pub upto_last : (q z : ℕ) (xs : List ℕ) → IsAscending xs → Some z ≡ slice_get xs (length xs - 1) → nat_le z q ≡ list_all (λ p. nat_le p q) xs
 upto_last q z [] up at = absurd (none-some z (sym at))
 upto_last q z (x ∷ xs) up at = sym (upto_at q z (x ∷ xs) (length (x ∷ xs) - 1) up (omega arith) (sym at))
 
+-- of no positions none does
 pub upto_none : (q : ℕ) (xs : List ℕ) → None ≡ slice_get xs (length xs - 1) → true ≡ list_all (λ p. nat_le p q) xs
 upto_none q [] e = refl
 upto_none q (x ∷ xs) e = let (z, at) = element_at (x ∷ xs) (length (x ∷ xs) - 1) (omega arith) in absurd (none-some z (e ∙ at))
@@ -73,10 +76,12 @@ past_at q x (y ∷ ys) up =
     let below : x < y = up 0 1 0 (omega arith) (omega arith) in
     ap (λ b. nat_lt q x && b) (past_at q y ys (tail x (y ∷ ys) up)) ∙ lesser_tells x y q below
 
+-- the first of the positions tells whether all pass q
 pub past_first : (q z : ℕ) (xs : List ℕ) → IsAscending xs → Some z ≡ slice_get xs 0 → nat_lt q z ≡ list_all (λ p. nat_lt q p) xs
 past_first q z [] up at = absurd (none-some z (sym at))
 past_first q z (x ∷ xs) up at = ap (nat_lt q) (same_Some z x at) ∙ sym (past_at q x xs up)
 
+-- of no positions all do
 pub past_none : (q : ℕ) (xs : List ℕ) → None ≡ slice_get xs 0 → true ≡ list_all (λ p. nat_lt q p) xs
 past_none q [] e = refl
 past_none q (x ∷ xs) e = absurd (none-some x e)

@@ -26,8 +26,10 @@ begun-some pid k (rec ∷ recs) h = omega arith
 
 -- records that there are stand in the log, and some number is between the two
 module _ (log : List NodeRec) (from to : ℕ) (recs : List NodeRec) (are : recs ≡ between log from to) (some : 0 < length recs) where
+  -- the first number is one of the log's
   pub from_within : from < length log
   from_within = omega (arith, simp (length-take, length-drop) at (ap length are))
 
+  -- and it is before the second
   pub from_to : from < to
   from_to = omega (arith, simp (length-take, length-drop) at (ap length are))

@@ -40,10 +40,12 @@ fn agreed_len(received: &[u64], due: &[u64]) -> usize
 fn wrong_at(received: &[u64], due: &[u64], place: usize) -> Option<Mismatch>
     ensures { result ≡ wrong_at received.now due.now place }
 {
-    let position = *received.get(place)?;
+    let Some(position) = received.get(place) else {
+        return None;
+    };
     match due.get(place) {
-        Some(other) => Some(wrong_there(received, due, place, position, *other)),
-        None => Some(wrong_after(due, position)),
+        Some(other) => Some(wrong_there(received, due, place, *position, *other)),
+        None => Some(wrong_after(due, *position)),
     }
 }
 

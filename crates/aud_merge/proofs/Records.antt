@@ -112,6 +112,7 @@ ended ByBreak k sid nsp held = Away k sid nsp held
 ended ByGone k sid nsp held = Ended
 ended ByLog k sid nsp held = Ended
 
+-- past it, the session is as it says
 pub past-last : (node : ℕ) (pid : Text) (k : ℕ) (sid nsp : Text) (held : Rooms) (rec : NodeRec) (e : End) → part_of pid k rec ≡ Last e
     → session_past node pid (Here node k sid nsp held) rec ≡ ended e k sid nsp held
 past-last node pid k sid nsp held (Broke other number) e part = grind (arith, eqb-true number k)
