@@ -35,27 +35,35 @@ comes_back pid k (Back other number) e =
 comes_back pid k _ e = absurd (true≢false (sym e))
 
 module _ (c : Cluster) (pid : Text) (k : ℕ) (t : TurnSeen) (later : List TurnSeen) (over : IsTurnOver c t) (is : IsTurnAccepted c pid k t later) where
+  -- it has records
   some_recs : 0 < length t.recs
   some_recs = begun-some pid k t.recs is.begins
 
+  -- its numbers are in order
   pub below : t.from < t.to
   below = from_to (log_named c t.node) t.from t.to t.recs over some_recs
 
+  -- its first record stands in the log
   pub inside : t.from < length (log_named c t.node)
   inside = from_within (log_named c t.node) t.from t.to t.recs over some_recs
 
+  -- this record
   pub first : (rec : NodeRec) × (slice_get (log_named c t.node) t.from ≡ Some rec)
   first = element_at (log_named c t.node) t.from inside
 
+  -- its records are this one and those after it
   recs_are : t.recs ≡ first.0 ∷ between (log_named c t.node) (suc t.from) t.to
   recs_are = over ∙ between-more (log_named c t.node) t.from t.to first.0 below first.1
 
+  -- the first record begins the turn
   pub begins : begins_turn pid k first.0 ≡ true
   begins = sym (ap (λ recs. is_begun_by pid k (slice_get recs 0)) recs_are) ∙ is.begins
 
+  -- it is the first of the turn's records
   pub first_of_recs : slice_get t.recs 0 ≡ Some first.0
   first_of_recs = ap (λ recs. slice_get recs 0) recs_are
 
+  -- the turn stands in an ordered log
   pub in_order : IsInOrder c (turn_at c t)
   in_order = record { is_within = record { some = below; within = is.ends.within }; ordered = is.cursors.ordered }
 

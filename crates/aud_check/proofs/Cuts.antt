@@ -1,15 +1,27 @@
 -- Ascending positions, cut at a place.
-use Rattle.std.proofs.Common.{◌≡◌, ◌<◌, ◌≤◌, ◌-◌, ℕ, zero, suc, Bool, true, ◌&&◌, List, [], ◌∷◌, ◌++◌, length, map, take, drop, get_or, Option, Some, None, slice_get, nat_le, nat_lt, refl, sym, ap, ◌∙◌, ◌⊎◌, inl, inr, arith}
+use Rattle.std.proofs.Common.{◌≡◌, ◌<◌, ◌≤◌, ◌+◌, ◌-◌, ℕ, zero, suc, Bool, true, ◌&&◌, List, [], ◌∷◌, ◌++◌, length, map, take, drop, get_or, Option, Some, None, slice_get, nat_le, nat_lt, refl, sym, ap, ◌∙◌, ◌⊎◌, inl, inr, arith, length-append}
 use Rattle.std.specs.List.{list_all}
 use Rattle.std.proofs.lemmas.Bool.{cases_lt, le-leb, lt-leb}
+use Rattle.std.proofs.lemmas.List.{get_or_append_left}
 use Rattle.std.proofs.lemmas.Option.{get_or_from_slice_get, none-some, same_Some}
 use Rattle.aud_base.proofs.Lists.{element_at}
 use Rattle.aud_base.proofs.Numbers.{lt_true, lt_false}
 use Rattle.aud_base.proofs.Truth.{and_true, and_none}
 use Rattle.aud_client.specs.StaySeen.{FrameSeen}
+use Rattle.aud_merge.specs.ByTurns.{IsPrefixOf}
 use Rattle.aud_check.specs.Private.Ascending.{IsAscending, is_cut_or_not}
 use Rattle.aud_check.specs.Frames.{is_cut_at}
 
+-- the front of ascending positions ascends
+pub front_ascends : (xs ys : List ℕ) → IsPrefixOf xs ys → IsAscending ys → IsAscending xs
+front_ascends xs ys (rest, is) all i j d less within =
+    let long : length xs + length rest ≡ length ys = sym (length-append xs rest) ∙ ap length is in
+    let x = all i j d less (omega arith) in
+    let one : get_or ys i d ≡ get_or xs i d = ap (λ zs. get_or zs i d) (sym is) ∙ get_or_append_left xs rest d i (omega arith) in
+    let other : get_or ys j d ≡ get_or xs j d = ap (λ zs. get_or zs j d) (sym is) ∙ get_or_append_left xs rest d j within in
+    omega (arith, x, one, other)
+
+-- those after the first one ascend
 tail : (x : ℕ) (xs : List ℕ) → IsAscending (x ∷ xs) → IsAscending xs
 tail x xs up i j d less within = up (suc i) (suc j) d (omega arith) (omega arith)
 
@@ -28,6 +40,7 @@ greater_tells x z q h = go (cases_lt q z)
     go (inl past) = ap (λ b. nat_le x q && b) (lt-leb z q past) ∙ and_none (nat_le x q) ∙ sym (lt-leb z q past)
     go (inr upto) = ap (λ b. b && nat_le z q) (le-leb x q (omega arith))
 
+-- the lesser one tells whether both pass it
 lesser_tells : (x y q : ℕ) → x < y → (nat_lt q x && nat_lt q y) ≡ nat_lt q x
 lesser_tells x y q h = go (cases_lt q x)
   where
@@ -46,10 +59,12 @@ upto_at q z (x ∷ y ∷ ys) (suc k) up e at =
     let last = get_or_from_slice_get (y ∷ ys) k z 0 at in
     ap (λ b. nat_le x q && b) (upto_at q z (y ∷ ys) k (tail x (y ∷ ys) up) (omega (arith, e)) at) ∙ greater_tells x z q (omega (arith, below, last))
 
+-- the last of the positions tells whether none passes q
 pub upto_last : (q z : ℕ) (xs : List ℕ) → IsAscending xs → Some z ≡ slice_get xs (length xs - 1) → nat_le z q ≡ list_all (λ p. nat_le p q) xs
 upto_last q z [] up at = absurd (none-some z (sym at))
 upto_last q z (x ∷ xs) up at = sym (upto_at q z (x ∷ xs) (length (x ∷ xs) - 1) up (omega arith) (sym at))
 
+-- of no positions none does
 pub upto_none : (q : ℕ) (xs : List ℕ) → None ≡ slice_get xs (length xs - 1) → true ≡ list_all (λ p. nat_le p q) xs
 upto_none q [] e = refl
 upto_none q (x ∷ xs) e = let (z, at) = element_at (x ∷ xs) (length (x ∷ xs) - 1) (omega arith) in absurd (none-some z (e ∙ at))
@@ -61,10 +76,12 @@ past_at q x (y ∷ ys) up =
     let below : x < y = up 0 1 0 (omega arith) (omega arith) in
     ap (λ b. nat_lt q x && b) (past_at q y ys (tail x (y ∷ ys) up)) ∙ lesser_tells x y q below
 
+-- the first of the positions tells whether all pass q
 pub past_first : (q z : ℕ) (xs : List ℕ) → IsAscending xs → Some z ≡ slice_get xs 0 → nat_lt q z ≡ list_all (λ p. nat_lt q p) xs
 past_first q z [] up at = absurd (none-some z (sym at))
 past_first q z (x ∷ xs) up at = ap (nat_lt q) (same_Some z x at) ∙ sym (past_at q x xs up)
 
+-- of no positions all do
 pub past_none : (q : ℕ) (xs : List ℕ) → None ≡ slice_get xs 0 → true ≡ list_all (λ p. nat_lt q p) xs
 past_none q [] e = refl
 past_none q (x ∷ xs) e = absurd (none-some x e)

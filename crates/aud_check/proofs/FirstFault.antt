@@ -21,9 +21,11 @@ use Rattle.aud_check.proofs.Ranks.{no_mismatch, what_is_left}
 
 module _ (stream : List StreamRec) (tap : TranscriptSeen) (stays : List StaySeen) (due : List ℕ) (frames : List FrameSeen) (positions : List ℕ) (of_stays : frames ≡ frames_in stays)
     (of_frames : positions ≡ map position_of frames) (decodes : tap.bad ≡ None) (has_no_orphan : tap.orphan ≡ false) (are_entries : AreEntries stream frames) where
+  -- what the stays received, against what was due
   abbrev case : Case
   case = by_stays stream tap stays due
 
+  -- the positions are those of the case
   own : positions ≡ positions_in case
   own = of_frames ∙ ap (map position_of) of_stays
 
@@ -35,17 +37,21 @@ module _ (stream : List StreamRec) (tap : TranscriptSeen) (stays : List StaySeen
         | inr found ↦ let rank = found.1 in absurd (omega (arith, before, rank))
       ]
 
+  -- each mismatch has the same rank
   rank_of : (m : Mismatch) → fault_rank (fault_of stream m) ≡ 3
   rank_of (wrong.Extra p) = refl
   rank_of _ = refl
 
+  -- a mismatch is the first fault
   of_mismatch : (m : Mismatch) → mismatch (positions_in case) due ≡ Some m → IsFirstFault case (fault_of stream m)
   of_mismatch m e = record { holds = is_fault case m e; none_before = λ other before h. let rank = (left other (omega (arith, before, rank_of m)) h).1 in omega (arith, before, rank, rank_of m) }
 
+  -- so is the fault that the code names for it
   pub mismatch_first : (m : Mismatch) → Some m ≡ mismatch positions due → (p : ℕ) → p ≡ position_in m → (off : Text) → off ≡ offset_at stream p → (f : Fault) → f ≡ named m off → IsFirstFault case f
   mismatch_first m found p at off is f called =
       subst (IsFirstFault case) (sym (called ∙ ap (named m) (is ∙ ap (offset_at stream) at))) (of_mismatch m (sym (found ∙ ap (λ ps. mismatch ps due) own)))
 
+  -- where there is no mismatch, a window is the first fault
   pub window_first : IsPrefixOf positions due → (n : ℕ) → Some n ≡ wrong_window stream [] stays → IsFirstFault case (Window n)
   window_first prefix n found =
       record {

@@ -37,6 +37,7 @@ client_first c cert turns spans Memory h = tt
 client_first c cert turns spans _ h = absurd h
 
 module _ (c : Cluster) (who : Who) (client : Text) (turns : List TurnSeen) (spans : List RoomSpan) (named : who ≡ who_in who.pid turns) where
+  -- the certificate with these parts
   abbrev cert : CertificateSeen
   cert = seen_as who.pid client turns spans
 
@@ -44,23 +45,28 @@ module _ (c : Cluster) (who : Who) (client : Text) (turns : List TurnSeen) (span
   spans_are : AreSpansOfTurns c.stream who (slices_at c turns) spans → AreSpansOfTurns c.stream (who_of cert) (slices_of c cert) spans
   spans_are = subst (λ (w : Who). AreSpansOfTurns c.stream w (slices_at c turns) spans) named
 
+  -- where the turns are right and the spans aren't, that is the first refusal
   pub span_first : AreTurnsAccepted c who.pid turns → (AreSpansOfTurns c.stream who (slices_at c turns) spans → ⊥) → IsFirstRefusal c cert Span
   span_first accepted not =
       first_span c cert accepted (λ are. not (subst (λ (w : Who). AreSpansOfTurns c.stream w (slices_at c turns) spans) (sym named) are))
 
   module _ (due : List ℕ) (is : due ≡ turns_due c.stream who (slices_at c turns)) where
+    -- the positions are those due by the shown turns
     due_is : due ≡ shown_due c cert
     due_is = is ∙ ap (λ (w : Who). turns_due c.stream w (slices_at c turns)) named
 
+    -- the client's case is that of the certificate
     case_same : case_for c client who.pid due ≡ certificate_case c cert
     case_same = ap (case_for c client who.pid) due_is
 
+    -- a refusal of the client's tap is the first of the certificate
     pub refused_first : AreTurnsAccepted c who.pid turns → AreSpansOfTurns c.stream who (slices_at c turns) spans
         → (refusal : Refusal) → IsClientRefusal who (case_for c client who.pid due) refusal → IsFirstRefusal c cert refusal
     refused_first accepted are refusal h =
         client_first c cert accepted (spans_are are) refusal
         (subst (λ (w : Who). IsClientRefusal w (certificate_case c cert) refusal) named (subst (λ (case : Case). IsClientRefusal who case refusal) case_same h))
 
+    -- where nothing was refused, the certificate is accepted
     pub judged : AreTurnsAccepted c who.pid turns → AreSpansOfTurns c.stream who (slices_at c turns) spans
         → are_of_session who (case_for c client who.pid due).stays ≡ true → IsReceived (case_for c client who.pid due) → IsAccepted c cert
     judged accepted are of_session received =

@@ -1,17 +1,14 @@
 pub mod Agreed
 pub mod Mismatched
 pub mod Prefixes
-pub mod Slices
 pub mod OwnEnd
 pub mod TurnRefusals
 pub mod AcceptedTurns
 pub mod Cuts
 pub mod Ranks
-pub mod Ascending
 pub mod Headline
 pub mod Steps
 pub mod Windows
 pub mod FirstFault
 pub mod ClientCase
 pub mod Judged
-pub mod Recovery

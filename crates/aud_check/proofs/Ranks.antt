@@ -107,9 +107,11 @@ no_fault case is f h =
     ]
 
 module _ (c : Cluster) (cert : CertificateSeen) where
+  -- where the turns are accepted, wrong spans come first
   pub first_span : AreTurnsAccepted c cert.pid cert.turns → RefusesWhole c cert Span → RefusesFirst c cert Span
   first_span turns h = first_of_whole c cert turns Span h (λ other before refuses. absurd (omega arith))
 
+  -- after the spans come the names
   pub first_names : AreTurnsAccepted c cert.pid cert.turns → (RefusesWhole c cert Span → ⊥) → RefusesWhole c cert Names → RefusesFirst c cert Names
   first_names turns spans h = first_of_whole c cert turns Names h go
     where
@@ -119,6 +121,7 @@ module _ (c : Cluster) (cert : CertificateSeen) where
       go (Received f) before refuses = absurd (omega arith)
       go _ before refuses = refuses
 
+  -- and after the names the first fault
   pub first_fault : AreTurnsAccepted c cert.pid cert.turns → (RefusesWhole c cert Span → ⊥) → (RefusesWhole c cert Names → ⊥) → (f : Fault) → IsFirstFault (certificate_case c cert) f → RefusesFirst c cert (Received f)
   first_fault turns spans names f is = first_of_whole c cert turns (Received f) is.holds go
     where

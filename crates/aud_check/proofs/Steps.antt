@@ -34,9 +34,11 @@ entries_both stream [] frame all is = (is, tt)
 entries_both stream (x ∷ before) frame (first, rest) is = (first, entries_both stream before frame rest is)
 
 module _ {X : Type 0} (f : X → FrameSeen) (stream : List StreamRec) (xs : List X) (i : ℕ) (x : X) (h : i < length xs) (is : x ≡ get_or xs i x) (all : AreEntries stream (take i (map f xs))) where
+  -- one frame more that is its entry
   pub entries_more : IsEntry stream (f x) → AreEntries stream (take (i + 1) (map f xs))
   entries_more entry = subst (AreEntries stream) (sym (take_at (map f xs) i (f x) (at_map f xs i x h is))) (entries_both stream (take i (map f xs)) (f x) all entry)
 
+  -- a frame that isn't its entry is the first such, after frames that are
   pub altered_at : (IsEntry stream (f x) → ⊥) → IsFirstAltered stream (map f xs) (f x)
   altered_at fails =
       record {
@@ -69,12 +71,15 @@ mapped_more f g xs i x old new h is was more =
 -- ---- attachments
 
 module _ {X Y Z : Type 0} (f : X → Y) (g : Y → Z) (xs : List X) (zs : List Z) (i : ℕ) (x : X) (z : Z) (h : i < length xs) (is : x ≡ get_or xs i x) (k : i < length zs) (at : z ≡ get_or zs i z) where
+  -- the element of the first list at the place
   left_at : slice_get (map g (map f xs)) i ≡ Some (g (f x))
   left_at = slice_get-map g (map f xs) i ∙ ap (option_map g) (at_map f xs i x h is)
 
+  -- that of the second list
   right_at : slice_get zs i ≡ Some z
   right_at = slice_get_read zs (length zs) i z refl k at
 
+  -- where these are the same too, the fronts with them are
   pub same_more : g (f x) ≡ z → take i (map g (map f xs)) ≡ take i zs → take (i + 1) (map g (map f xs)) ≡ take (i + 1) zs
   same_more e front =
       take_at (map g (map f xs)) i (g (f x)) left_at
@@ -82,6 +87,7 @@ module _ {X Y Z : Type 0} (f : X → Y) (g : Y → Z) (xs : List X) (zs : List Z
       ∙ ap (λ y. take i zs ++ y ∷ []) e
       ∙ sym (take_at zs i z right_at)
 
+  -- where they aren't, neither are the lists
   pub differ_at : (g (f x) ≡ z → ⊥) → map g (map f xs) ≡ zs → ⊥
   differ_at fails same = fails (same_Some (g (f x)) z (sym left_at ∙ ap (λ ys. slice_get ys i) same ∙ right_at))
 

@@ -12,9 +12,11 @@ use Rattle.aud_check.proofs.Steps.{at_map, take_at, drop_from}
 
 module _ {X : Type 0} (f : X → StaySeen) (stream : List StreamRec) (xs : List X) (positions : List ℕ) (are : positions ≡ map position_of (frames_in (map f xs)))
     (i left : ℕ) (x : X) (h : i < length xs) (is : x ≡ get_or xs i x) (rest : length (frames_in (take i (map f xs))) + left ≡ length positions) where
+  -- the stays as contracts see them
   abbrev stays : List StaySeen
   stays = map f xs
 
+  -- the one that is looked at
   abbrev stay : StaySeen
   stay = f x
 
@@ -22,9 +24,11 @@ module _ {X : Type 0} (f : X → StaySeen) (stream : List StreamRec) (xs : List 
   abbrev count : ℕ
   count = length positions - left
 
+  -- it stands at its place
   at : slice_get stays i ≡ Some stay
   at = at_map f xs i x h is
 
+  -- so many frames are in front of it
   counted : count ≡ length (frames_in (take i stays))
   counted = omega (arith, rest)
 
@@ -34,6 +38,7 @@ module _ {X : Type 0} (f : X → StaySeen) (stream : List StreamRec) (xs : List 
       ap frames_in (sym (take-append-drop i stays) ∙ ap (λ ss. take i stays ++ ss) (drop_from stays i stay at))
       ∙ flat_map-append (λ (s : StaySeen). s.frames) (take i stays) (stay ∷ drop (i + 1) stays)
 
+  -- the positions are those in front, its own and the later ones
   long : length positions ≡ count + (length stay.frames + length (frames_in (drop (i + 1) stays)))
   long =
       ap length are ∙ length-map (frames_in stays) position_of ∙ ap length parts
@@ -41,6 +46,7 @@ module _ {X : Type 0} (f : X → StaySeen) (stream : List StreamRec) (xs : List 
       ∙ ap (λ n. n + length (stay.frames ++ frames_in (drop (i + 1) stays))) (sym counted)
       ∙ ap (λ n. count + n) (length-append stay.frames (frames_in (drop (i + 1) stays)))
 
+  -- the test of the positions is the test of the frames
   wrongly : (is_recovered stay && not (is_cut_or_not positions count (asked_position stream stay.asked))) ≡ is_asked_wrongly stream (take i stays) stay (drop (i + 1) stays)
   wrongly =
       ap (λ ps. is_recovered stay && not (is_cut_or_not ps count (asked_position stream stay.asked))) (are ∙ ap (map position_of) parts)

@@ -13,6 +13,7 @@ abbrev pub offset_or_empty : Option StreamRec → Text
 offset_or_empty None = []
 offset_or_empty (Some entry) = offset_of entry
 
+-- the offset of the entry at a position of the stream
 abbrev pub offset_at : List StreamRec → ℕ → Text
 offset_at stream p = offset_or_empty (entry stream p)
 

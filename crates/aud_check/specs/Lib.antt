@@ -10,5 +10,4 @@ pub mod TurnRefusals
 pub mod Client
 pub mod Refusals
 pub mod Words
-pub mod Recovery
 pub mod Private

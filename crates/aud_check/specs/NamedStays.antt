@@ -16,6 +16,7 @@ has_sid sid (Some reply) = bytes_eq reply.sid sid
 abbrev pub is_of_session : Who → StaySeen → Bool
 is_of_session who stay = bytes_eq stay.nsp who.nsp && has_sid who.sid stay.reply
 
+-- there are no stays
 abbrev pub is_empty : List StaySeen → Bool
 is_empty [] = true
 is_empty (stay ∷ stays) = false

@@ -17,6 +17,7 @@ abbrev pub opened_sid : Option NodeRec → Text
 opened_sid (Some (Opened pid sid nsp)) = sid
 opened_sid _ = []
 
+-- the namespace that an `open` names; the empty text of any other record
 abbrev pub opened_nsp : Option NodeRec → Text
 opened_nsp (Some (Opened pid sid nsp)) = nsp
 opened_nsp _ = []

@@ -1,7 +1,7 @@
 //! The received positions against those due.
 ghost use Rattle.std.specs.Prelude.{◌≡◌, ◌↔◌, ◌<◌, length, IsNone};
 ghost use Rattle.aud_merge.specs.ByTurns.{IsPrefixOf};
-ghost use Rattle.aud_check.specs.Compare.{agreed, mismatch, wrong_there};
+ghost use Rattle.aud_check.specs.Compare.{agreed, mismatch, wrong_after, wrong_at, wrong_there};
 
 /// What is wrong with the received positions, at the first place where they aren't those due.
 #[derive(Clone, Copy, Debug, PartialEq, Eq)]
@@ -22,11 +22,7 @@ pub(crate) fn first_mismatch(received: &[u64], due: &[u64]) -> Option<Mismatch>
     ensures first { result ≡ mismatch received.now due.now }
     ensures none_where_prefix { IsNone result ↔ IsPrefixOf received.now due.now }
 {
-    let place = agreed_len(received, due);
-    match received.get(place) {
-        Some(position) => Some(wrong_at(received, due, place, *position)),
-        None => None,
-    }
+    wrong_at(received, due, agreed_len(received, due))
 }
 
 /// How far the lists agree.
@@ -40,10 +36,29 @@ fn agreed_len(received: &[u64], due: &[u64]) -> usize
     i
 }
 
-/// What is wrong at this place, where this position was received and another one is due, or none.
-fn wrong_at(received: &[u64], due: &[u64], place: usize, position: u64) -> Mismatch
+/// What is wrong at this place; nothing where the received positions have ended.
+fn wrong_at(received: &[u64], due: &[u64], place: usize) -> Option<Mismatch>
+    ensures { result ≡ wrong_at received.now due.now place }
+{
+    let Some(position) = received.get(place) else {
+        return None;
+    };
+    match due.get(place) {
+        Some(other) => Some(wrong_there(received, due, place, *position, *other)),
+        None => Some(wrong_after(due, *position)),
+    }
+}
+
+/// What is wrong at this place, where the position was received and the other one was due.
+fn wrong_there(
+    received: &[u64],
+    due: &[u64],
+    place: usize,
+    position: u64,
+    other: u64,
+) -> Mismatch
     requires { place < length received.now }
-    ensures { result ≡ wrong_there received.now due.now place position }
+    ensures { result ≡ wrong_there received.now due.now place position other }
 {
     if !due.contains(&position) {
         return Mismatch::Extra(position);
@@ -53,9 +68,18 @@ fn wrong_at(received: &[u64], due: &[u64], place: usize, position: u64) -> Misma
         return Mismatch::Doubled(position);
     }
     let (_, later) = received.split_at(place + 1);
-    match due.get(place) {
-        Some(other) if later.contains(other) => Mismatch::Swapped(*other),
-        Some(other) => Mismatch::Lost(*other),
-        None => Mismatch::Doubled(position),
+    if later.contains(&other) {
+        return Mismatch::Swapped(other);
     }
+    Mismatch::Lost(other)
+}
+
+/// What is wrong where the position was received after all that was due.
+fn wrong_after(due: &[u64], position: u64) -> Mismatch
+    ensures { result ≡ wrong_after due.now position }
+{
+    if due.contains(&position) {
+        return Mismatch::Doubled(position);
+    }
+    Mismatch::Extra(position)
 }

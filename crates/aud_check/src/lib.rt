@@ -23,7 +23,6 @@ mod client;
 mod compare;
 mod content;
 mod due;
-mod law;
 mod place;
 mod received;
 mod refusal;
@@ -36,5 +35,4 @@ mod window;
 mod words;
 
 pub use certificate::{Accepted, check};
-pub use law::recovery_is_accepted;
 pub use refusal::Refusal;

@@ -1,5 +1,5 @@
 //! How the records of a turn end.
-ghost use Rattle.std.specs.Prelude.{◌≡◌, ◌<◌, suc, if◌then◌else◌};
+ghost use Rattle.std.specs.Prelude.{◌≡◌, ◌<◌, length, suc, if◌then◌else◌};
 ghost use Rattle.std.specs.Option.{option_map};
 ghost use Rattle.aud_node.specs.Cluster.{node_log};
 ghost use Rattle.aud_rooms.specs.TurnPlaces.{own_between};
@@ -34,14 +34,15 @@ enum Part {
 /// How the session's turn with this number ends, whose records stand at this place; none where those after the first
 /// one aren't records of it. Only the session's own records are looked at.
 pub(crate) fn turn_end(logs: &Logs<'_>, place: &TurnPlace, pid: &str, turn: usize) -> Option<End>
-    requires { place.now.from < place.now.to }
+    requires some { place.now.from < place.now.to }
+    requires inside { place.now.from < length (node_log logs.now place.now.node) }
     ensures { option_map end_seen result ≡ end_of pid.now turn (slice_of logs.now place.now).recs }
 {
     let Some(recs) = records_at(logs, place.node) else {
         return Some(End::Log);
     };
     let last = place.to.min(recs.len());
-    for number in own_after_first(logs, place, pid) {
+    for number in own_after_first(logs, place, last, pid) {
         let Some(rec) = recs.get(*number) else {
             return None;
         };
@@ -55,15 +56,20 @@ pub(crate) fn turn_end(logs: &Logs<'_>, place: &TurnPlace, pid: &str, turn: usiz
     Some(End::Log)
 }
 
-/// The numbers, ascending, of the records at this place after the first one that name the pid.
-fn own_after_first<'l>(logs: &'l Logs<'_>, place: &TurnPlace, pid: &str) -> &'l [usize]
+/// The numbers, ascending, of the records at this place after the first one and before `last` that name the pid.
+fn own_after_first<'l>(
+    logs: &'l Logs<'_>,
+    place: &TurnPlace,
+    last: usize,
+    pid: &str,
+) -> &'l [usize]
     requires { place.now.from < place.now.to }
-    ensures { result.now ≡ own_between (node_log logs.now place.now.node) pid.now (suc place.now.from) place.now.to }
+    ensures { result.now ≡ own_between (node_log logs.now place.now.node) pid.now (suc place.now.from) last }
 {
     let after_first = TurnPlace {
         node: place.node,
         from: place.from + 1,
-        to: place.to,
+        to: last,
     };
     after_first.own(logs, pid)
 }

@@ -8,20 +8,25 @@ use Rattle.aud_node.specs.Stream.{Text}
 use Rattle.aud_base.proofs.SameText.{itself_text, other_text}
 
 module _ {X : Type 0} where
+  -- what a map has after an insertion: the new value at its key, else what it had
   pub get_insert : (m : fin.FinMap (slice_cmp nat_cmp) X) (k : Text) (v : X) (q : Text) → fin.get (fin.insert m k v) q ≡ cond (bytes_eq q k) (Some v) (fin.get m q)
   get_insert m k v q = fin.get-insert nat_list_cmp_total m k v q ∙ ap (λ b. cond b (Some v) (fin.get m q)) (sym (texts_ties q k))
 
+  -- at the key itself
   pub get_insert_same : (m : fin.FinMap (slice_cmp nat_cmp) X) (k : Text) (v : X) → fin.get (fin.insert m k v) k ≡ Some v
   get_insert_same m k v = get_insert m k v k ∙ ap (λ b. cond b (Some v) (fin.get m k)) (itself_text k)
 
+  -- at another key
   pub get_insert_other : (m : fin.FinMap (slice_cmp nat_cmp) X) (k : Text) (v : X) (q : Text) → (q ≡ k → ⊥) → fin.get (fin.insert m k v) q ≡ fin.get m q
   get_insert_other m k v q n = get_insert m k v q ∙ ap (λ b. cond b (Some v) (fin.get m q)) (other_text q k n)
 
+  -- an element that was set is the new one
   pub slice_get-set_same : (xs : List X) (i : ℕ) (v d : X) → slice_get xs i ≡ Some d → slice_get (set xs i v) i ≡ Some v
   slice_get-set_same [] i v d e = absurd (none-some d e)
   slice_get-set_same (x ∷ xs) zero v d e = refl
   slice_get-set_same (x ∷ xs) (suc i) v d e = slice_get-set_same xs i v d e
 
+  -- the others are as they were
   pub slice_get-set_other : (xs : List X) (i j : ℕ) (v : X) → (j ≡ i → ⊥) → slice_get (set xs i v) j ≡ slice_get xs j
   slice_get-set_other [] i j v n = refl
   slice_get-set_other (x ∷ xs) zero zero v n = absurd (n refl)
@@ -31,10 +36,12 @@ module _ {X : Type 0} where
 
 -- what an option that is there says of its parts
 module _ {A B : Type 0} where
+  -- both steps gave something
   pub and_then_parts : (f : A → Option B) (o : Option A) (y : B) → option_and_then f o ≡ Some y → (x : A) × (o ≡ Some x) × (f x ≡ Some y)
   and_then_parts f None y e = absurd (none-some y e)
   and_then_parts f (Some x) y e = (x, refl, e)
 
+  -- there was something to map
   pub map_parts : (f : A → B) (o : Option A) (y : B) → option_map f o ≡ Some y → (x : A) × (o ≡ Some x) × (f x ≡ y)
   map_parts f None y e = absurd (none-some y e)
   map_parts f (Some x) y e = (x, refl, same_Some (f x) y e)

@@ -35,6 +35,7 @@ use Rattle.aud_merge.proofs.Phases.{length-count, In, Spot, Waiting, Within, Hol
 abbrev pub judged : Cluster → Text → ℕ → State → List Step → Option SessionState
 judged c pid p st steps = option_map (λ s. session_of s pid) (find (is_reached pid p) (states_from c st steps))
 
+-- a step after a map is one step
 and_then-map : {A B C : Type 0} (f : B → Option C) (g : A → B) (o : Option A) → option_and_then f (option_map g o) ≡ option_and_then (λ x. f (g x)) o
 and_then-map f g None = refl
 and_then-map f g (Some x) = refl
@@ -45,6 +46,7 @@ pub first_index-find : {X Y : Type 0} (test : X → Bool) (f : X → Option Y) (
 first_index-find test f [] = refl
 first_index-find test f (x ∷ xs) = grind (arith, first_index-find test f xs, and_then-map)
 
+-- the same where a function without an option is applied
 pub first_index-find-map : {X Y : Type 0} (test : X → Bool) (f : X → Y) (xs : List X)
     → option_and_then (λ t. option_map f (slice_get xs t)) (first_index test xs) ≡ option_map f (find test xs)
 first_index-find-map test f [] = refl
@@ -84,10 +86,12 @@ module _ (c : Cluster) (who : Who) (last : ℕ) (p : ℕ) where
       (subst (HasRooms who (judged c who.pid p next steps)) (sym kept)
       (agrees steps next went.spot went.holds later (Synced-step c st next s.log s.index step synced) (subst (Settled c who last) kept settled)))))
 
+  -- a moment of the steps is one later where a step stands in front
   shifted : (s : Step) (steps : List Step) (moment : Option ℕ) (step : Option Step) → FallsAfter steps moment step → FallsAfter (s ∷ steps) (option_map suc moment) step
   shifted s steps moment None falls = ap (option_map suc) falls
   shifted s steps moment (Some step) falls = (suc falls.0, falls.1, ap (option_map suc) falls.2)
 
+  -- where the first state reaches p, the moment is 0
   first-now : (st : State) (steps : List Step) → is_reached who.pid p st ≡ true → first_index (is_reached who.pid p) (states_from c st steps) ≡ Some 0
   first-now st [] e = ap (λ b. cond b (Some 0) None) e
   first-now st (s ∷ steps) e = ap (λ b. cond b (Some 0) (option_map suc (first_index (is_reached who.pid p) (states_from c (unwrap_or (after c st s) st) steps)))) e
@@ -218,10 +222,12 @@ none_first : (slices : List Slice) → is_past_first slices 0 ≡ false
 none_first [] = refl
 none_first (slice ∷ later) = lt_false slice.low 0 (omega arith)
 
+-- nor is it past a birth
 none_born : (birth : Option ℕ) → is_past_birth birth 0 ≡ false
 none_born None = refl
 none_born (Some low) = lt_false low 0 (omega arith)
 
+-- a position is due by the turns where it is due in the run and they reach it
 due-shown_at : (c : Cluster) (run : List Step) (who : Who) (turns : List Turn) → IsRun c run → AreTurns c who 0 turns
     → (p : ℕ) → is_turn_due c.stream who (map (slice_of c) turns) p ≡ (is_due c run who.pid p && nat_le p (greatest_high (map (slice_of c) turns)))
 due-shown_at c run who turns is are zero = and_left _ _ (none_first (map (slice_of c) turns)) ∙ sym (and_left _ _ (and_left _ _ (none_born (birth c run who.pid))))
@@ -234,10 +240,12 @@ due-shown_at c run who turns is are (suc p) = elim (cases_lt (greatest_high (map
       ∙ sym (ap (λ b. is_due c run who.pid (suc p) && b) (le-leb (suc p) _ within) ∙ and_true (is_due c run who.pid (suc p)))
 ]
 
+-- two filters are one
 filter_both : (p q : ℕ → Bool) (xs : List ℕ) → filter p (filter q xs) ≡ filter (λ x. q x && p x) xs
 filter_both p q [] = refl
 filter_both p q (x ∷ xs) = grind (arith, filter_both p q xs)
 
+-- so what is due by them is what is due up to there
 pub due-shown : (c : Cluster) (run : List Step) (who : Who) (turns : List Turn) → IsRun c run → AreTurns c who 0 turns
     → turns_due c.stream who (map (slice_of c) turns) ≡ filter (λ p. nat_le p (greatest_high (map (slice_of c) turns))) (due c run who.pid)
 due-shown c run who turns is are =
@@ -248,6 +256,7 @@ none_kept : (h : ℕ) (test : ℕ → Bool) (n a : ℕ) → h ≤ a → filter (
 none_kept h test zero a past = refl
 none_kept h test (suc n) a past = grind (arith, none_kept h test n (suc a), lt-leb (suc a) h)
 
+-- what is kept of ascending positions up to h stands at their front
 front : (h : ℕ) (test : ℕ → Bool) (n a : ℕ) → IsPrefixOf (filter (λ p. nat_le p h) (filter test (positions_after a n))) (filter test (positions_after a n))
 front h test zero a = ([], refl)
 front h test (suc n) a = go (cases_lt h (suc a)) (test (suc a)) (front h test n (suc a))

@@ -290,6 +290,7 @@ stays_allowed c steps run is allowed x s st1 st2 ex es n =
     let ds = does c st st2 s es in
     (_, allowed-after c st st1 st2 x s dx ds es n (apart c st st1 st2 x s dx ds n (stepped c st st1 x ex) (stepped c st st2 s es) later goes))
 
+-- a test says that there is something: there is
 some-is : {A : Type 0} (o : Option A) → is_some o ≡ true → (x : A) × (o ≡ Some x)
 some-is None e = absurd (false≢true e)
 some-is (Some x) e = (x, refl)
@@ -305,6 +306,7 @@ chosen c st (suc count) place step e = elim (cases_Bool (is_some (after c st (fr
   | inr b ↦ chosen c st count (suc place) step (sym (ap (λ t. cond t (Some (front st place)) (first_allowed c st (suc place) count)) b) ∙ e)
 ]
 
+-- steps that are chosen so are allowed, one after the other
 greedy-allowed : (c : Cluster) (steps : List Step) (st : State) → IsGreedy c st steps → AreAllowed c st steps
 greedy-allowed c [] st g = tt
 greedy-allowed c (s ∷ steps) st g =
@@ -326,9 +328,11 @@ none_chosen c st (suc count) place e q low high = go (after c st (front st place
 no_log : (c : Cluster) (st : State) (q : ℕ) → length c.taps ≤ q → after c st (front st q) ≡ None
 no_log c st q h = grind (arith, stepped c st, slice_get_past c.taps q h)
 
+-- where there is a next record that is left, some log is unfinished
 has_unfinished : (c : Cluster) (st : State) (count place : ℕ) → unfinished_fronts c st place count ≢ [] → (q : ℕ) × (taken_of st q < record_count c q)
 has_unfinished c st zero place n = absurd (n refl)
 has_unfinished c st (suc count) place n = grind (arith, has_unfinished c st count (suc place), ltb-true (taken_of st place) (record_count c place))
 
+-- where the choice blocks, no run exists
 pub greedily_blocked-no_run : (c : Cluster) (fronts : List Step) → IsBlockedAt c fronts → (run : List Step) → IsRun c run → ⊥
 greedily_blocked-no_run c fronts b run is = grind (arith, has_unfinished c, blocked-no_run c b.steps, greedy-allowed c b.steps (start c) b.greedy, none_chosen c (state_after c (start c) b.steps) (length c.taps) 0 b.none_left, no_log c (state_after c (start c) b.steps))

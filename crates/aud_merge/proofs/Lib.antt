@@ -6,9 +6,6 @@ pub mod Spots
 pub mod DueLaws
 pub mod Told
 pub mod Exchange
-pub mod Least
-pub mod FourTurns
-pub mod Recovery
 pub mod Maps
 pub mod Merged
 pub mod Positions

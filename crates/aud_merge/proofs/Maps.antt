@@ -54,6 +54,7 @@ pub ruleset put_session = (sessions_of-insert)
 
 -- what a look-up of the pid in the entries found
 module _ (entries : List ((Bor (List ℕ)) × OpenedSession)) (old : Sessions) (same : sessions_seen entries ≡ old) (pid : List ℕ) where
+  -- the session of the pid is what the look-up found
   pub found : (o : Option OpenedSession) → o ≡ lookup (λ k. is_eq (slice_cmp nat_cmp pid k.now)) entries → unwrap_or (fin.get old pid) seen.Absent ≡ seen_or_absent o
   found o is =
       ap (λ (m : Sessions). unwrap_or (fin.get m pid) seen.Absent) (sym same)
@@ -62,6 +63,7 @@ module _ (entries : List ((Bor (List ℕ)) × OpenedSession)) (old : Sessions) (
 
 -- a record that names the pid, and the session that it finds
 module _ (node : ℕ) (rec : NodeRec) (named : Option (List ℕ)) (old : Sessions) (pid : List ℕ) (names : Some pid ≡ named) (session : seen.SessionState) (is : unwrap_or (fin.get old pid) seen.Absent ≡ session) where
+  -- where the record is allowed in the sessions, it is allowed of its session
   pub allowed_there : IsSome (sessions_after node rec named old) → IsSome (session_after node rec session)
   allowed_there allowed = mapped (session_after node rec session) (subst (λ s. IsSome (option_map (λ x. fin.insert old pid x) (session_after node rec s))) is (subst (λ n. IsSome (sessions_after node rec n old)) (sym names) allowed))
     where
@@ -69,6 +71,7 @@ module _ (node : ℕ) (rec : NodeRec) (named : Option (List ℕ)) (old : Session
       mapped None e = e
       mapped (Some x) e = refl
 
+  -- what the record makes of its session is put back in the sessions
   pub changed_there : (next : seen.SessionState) (new : Sessions) → session_after node rec session ≡ Some next → new ≡ fin.insert old pid next → sessions_after node rec named old ≡ Some new
   changed_there next new becomes put =
       ap (λ n. sessions_after node rec n old) (sym names)

@@ -143,6 +143,7 @@ pub record Went (c : Cluster) (who : Who) (last : ℕ) (st' : State) (l i : ℕ)
   pub moves : Moves c who l i before spot
   pub holds : Holds c who last st' spot
 
+-- a session that is over stays over
 over_step : (c : Cluster) (who : Who) (last : ℕ) (st st' : State) (l i : ℕ) → (e : session_of st who.pid ≡ Ended)
     → Named c st st' l i who.pid ⊎ Quiet c st st' l i who.pid → Went c who last st' l i Over
 over_step c who last st st' l i e (inl named) = absurd (ended-after l named.rec (session_of st' who.pid) (ap (session_after l named.rec) (sym e) ∙ named.becomes))
@@ -157,6 +158,7 @@ pub begun_at : (c : Cluster) (who : Who) (st st' : State) (l i : ℕ) (steps : L
     → Stepped c st st' l i → RunsOn c st' steps → Named c st st' l i who.pid → (l ≡ t.node) × (i ≡ t.from) × (session_of st' who.pid ≡ Here l k who.sid who.nsp held)
 begun_at c who st st' l i steps k held t later o s runs named = grind (arith, waiting-after l who k held named.rec, never_again c, beginning-begins who k, begun-beyond l who k held named.rec)
 
+-- where its record is named, a waiting session begins its turn, or one that is not known
 out_named : (c : Cluster) (who : Who) (last : ℕ) (st st' : State) (l i : ℕ) (steps : List Step) (k : ℕ) (held : Rooms) (rest : List Turn) (counted : k + length rest ≡ last) (o : Out c who st k held rest)
     → Stepped c st st' l i → RunsOn c st' steps → (named : Named c st st' l i who.pid) → begins_turn who.pid k named.rec ≡ true → Went c who last st' l i (Waiting k held rest)
 out_named c who last st st' l i steps k held [] counted o s runs named starts =
@@ -179,6 +181,7 @@ out_named c who last st st' l i steps k held (t ∷ later) counted o s runs name
       );
     }
 
+-- where it is not named, it goes on waiting
 pub out_stays : (c : Cluster) (who : Who) (st st' : State) (l i : ℕ) (k : ℕ) (held : Rooms) (rest : List Turn) → Out c who st k held rest
     → Stepped c st st' l i → Quiet c st st' l i who.pid → Out c who st' k held rest
 out_stays c who st st' l i k held rest o s quiet =
@@ -193,11 +196,13 @@ out_stays c who st st' l i k held rest o s quiet =
 pub reached-here : (pid : Text) (st : State) (p at k : ℕ) (sid nsp : Text) (held : Rooms) → session_of st pid ≡ Here at k sid nsp held → is_reached pid p st ≡ nat_le p (cursor_of st at)
 reached-here pid st p at k sid nsp held e = ap (λ s. is_at_least (node_cursor st s) p) e
 
+-- within a turn, a position is reached where the cursor at the next record is
 pub reached-in : (c : Cluster) (who : Who) (st : State) (k : ℕ) (t : Turn) (i : ℕ) (held : Rooms) (later : List Turn) → In c who st k t i held later → Synced c st
     → (p : ℕ) → is_reached who.pid p st ≡ nat_le p (cursor_at c.stream (node_log c t.node) i)
 reached-in c who st k t i held later o synced p = grind (arith, reached-here who.pid st p t.node k who.sid who.nsp held o.session)
 
 module _ (c : Cluster) (who : Who) (last : ℕ) (st st' : State) (l i' : ℕ) (k : ℕ) (t : Turn) (i : ℕ) (held : Rooms) (later : List Turn) (counted : suc k + length later ≡ last) (o : In c who st k t i held later) where
+  -- where neither session nor node moves, the session stays at its record
   stays : (session_of st' who.pid ≡ session_of st who.pid) → taken_of st' t.node ≡ taken_of st t.node → Unstarted st' later → Went c who last st' l i' (Within k t i held later)
   stays session taken unstarted =
       record {
@@ -210,6 +215,7 @@ module _ (c : Cluster) (who : Who) (last : ℕ) (st st' : State) (l i' : ℕ) (k
   more : (rec : NodeRec) → slice_get (node_log c t.node) i ≡ Some rec → i < t.to
   more rec at = grind (arith, between-none (node_log c t.node) i t.to, slice_get_within (node_log c t.node) i rec at)
 
+  -- the record that ends the turn leads to the next turn, or to the end
   ended_step : (rec : NodeRec) → OnSlice c t l i' i rec → suc i ≡ t.to → (e : End) → part_of who.pid k rec ≡ Last e → MayEnd c t later e → session_of st' who.pid ≡ ended e k who.sid who.nsp held → Unstarted st' later
       → Went c who last st' l i' (Within k t i held later)
   ended_step rec on is_end ByBreak part may session unstarted =
@@ -257,6 +263,7 @@ past c st st' l i pid rec at (inl named) =
     sym (past-named l pid rec (session_of st pid) (session_of st' pid) (ap pid_of is ∙ named.names) (ap (λ r. session_after l r (session_of st pid)) is ∙ named.becomes))
 past c st st' l i pid rec at (inr quiet) = quiet.session ∙ sym (past-other l pid rec (session_of st pid) (quiet.other rec at))
 
+-- within a turn, each step leads on in it, or out of it
 inside_step : (c : Cluster) (who : Who) (last : ℕ) (st st' : State) (l i' : ℕ) (k : ℕ) (t : Turn) (i : ℕ) (held : Rooms) (later : List Turn) (counted : suc k + length later ≡ last) (o : In c who st k t i held later)
     → Stepped c st st' l i' → Synced c st → Synced c st' → Named c st st' l i' who.pid ⊎ Quiet c st st' l i' who.pid
     → Went c who last st' l i' (Within k t i held later)

@@ -28,6 +28,7 @@ position-taken (suc a) [] off = refl
 position-taken zero (x ∷ xs) off = grind (arith, lt-leb 1 0, up_to-zero (position xs off))
 position-taken (suc a) (x ∷ xs) off = grind (arith, position-taken a xs off, le-leb, up_to-suc a)
 
+-- a position up to a number is that position, and no more than the number
 up_to-is : (a : ℕ) (o : Option ℕ) (q : ℕ) → up_to a o ≡ Some q → (o ≡ Some q) × (q ≤ a)
 up_to-is a None q e = absurd (none-some q e)
 up_to-is a (Some p) q e =

@@ -9,7 +9,8 @@ use Rattle.aud_node.specs.Stream.{Text}
 use Rattle.aud_node.specs.TurnRecords.{pid_of, begins_turn}
 use Rattle.aud_rooms.specs.Rooms.{Rooms, own_room, rooms_after}
 use Rattle.aud_rooms.specs.Turns.{Who, beginning, Inner, Last, End, ByBreak, ByGone, ByLog, part_of}
-use Rattle.aud_merge.specs.ByTurns.{is_pid, session_past}
+use Rattle.aud_node.specs.OwnRecords.{is_pid}
+use Rattle.aud_merge.specs.ByTurns.{session_past}
 use Rattle.aud_merge.specs.Sessions.{SessionState, Absent, Here, Away, Ended, session_after}
 
 -- the session is in turn k or has passed it
@@ -111,6 +112,7 @@ ended ByBreak k sid nsp held = Away k sid nsp held
 ended ByGone k sid nsp held = Ended
 ended ByLog k sid nsp held = Ended
 
+-- past it, the session is as it says
 pub past-last : (node : ℕ) (pid : Text) (k : ℕ) (sid nsp : Text) (held : Rooms) (rec : NodeRec) (e : End) → part_of pid k rec ≡ Last e
     → session_past node pid (Here node k sid nsp held) rec ≡ ended e k sid nsp held
 past-last node pid k sid nsp held (Broke other number) e part = grind (arith, eqb-true number k)

@@ -31,6 +31,7 @@ part_from c t i =
       recs = between (node_log c t.node) i t.to;
     }
 
+-- the record by which a position is taken moves no room
 taken-rooms : (stream : List StreamRec) (pid : Text) (p : ℕ) (held : Rooms) (rec : NodeRec) → takes stream p rec ≡ true → rooms_after pid held rec ≡ held
 taken-rooms stream pid p held (Take off) e = refl
 taken-rooms stream pid p held _ e = absurd (false≢true e)
@@ -107,6 +108,7 @@ module _ (c : Cluster) (who : Who) (k : ℕ) (t : Turn) (l i at : ℕ) (held : R
   past-high : (e : End) → part_of who.pid k rec ≡ Last e → suc at ≡ t.to → nat_le p (cursor_at c.stream (node_log c t.node) t.to) ≡ false
   past-high e part is_end = ap (λ n. nat_le p (cursor_at c.stream (node_log c t.node) n)) (sym is_end) ∙ on.reaches p before ∙ last-takes c.stream who.pid k p rec e part
 
+  -- after a record that ends the turn, the later turns give the rooms
   rooms-ends : (e : End) → part_of who.pid k rec ≡ Last e → suc at ≡ t.to → rooms_for c.stream who.pid held (part_from c t at ∷ map (slice_of c) later) p ≡ rooms_for c.stream who.pid held (map (slice_of c) later) p
   rooms-ends e part is_end =
       rooms-goes

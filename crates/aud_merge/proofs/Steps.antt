@@ -43,6 +43,7 @@ pub record RecordStep (c : Cluster) (st st' : State) (l i : ℕ) : Type 0 where
 pub record Stepped (c : Cluster) (st st' : State) (l i : ℕ) : Type 0 where
   pub was : taken_of st l ≡ i
   pub now : taken_of st' l ≡ suc i
+  -- each step takes one from what is left of its log
   pub counted : i < record_count c l
   pub others : (m : ℕ) → (m ≡ l → ⊥) → slice_get st'.logs m ≡ slice_get st.logs m
   pub kind : EntryStep c st st' l i ⊎ RecordStep c st st' l i
@@ -112,6 +113,7 @@ pub record Quiet (c : Cluster) (st st' : State) (l i : ℕ) (pid : Text) : Type 
   pub session : session_of st' pid ≡ session_of st pid
   pub other : (rec : NodeRec) → slice_get (node_log c l) i ≡ Some rec → pid_of rec ≡ Some pid → ⊥
 
+-- a session after a record: the one that it names becomes what the record makes of it, another stays
 sessions_step : (l : ℕ) (rec : NodeRec) (named : Option Text) (m m' : fin.FinMap (slice_cmp nat_cmp) SessionState) (pid : Text)
     → sessions_after l rec named m ≡ Some m'
     → ((named ≡ Some pid) × (session_after l rec (unwrap_or (fin.get m pid) Absent) ≡ Some (unwrap_or (fin.get m' pid) Absent)))
@@ -124,6 +126,7 @@ sessions_step l rec (Some q) m m' pid e =
       | inr n ↦ inr (λ named. n (same_Some q pid named), ap (λ o. unwrap_or o Absent) (ap (λ x. fin.get x pid) (sym put) ∙ get_insert_other m q session pid (λ back. n (sym back))))
     ]
 
+-- an allowed step names the session, or leaves it as it is
 pub moved : (c : Cluster) (st st' : State) (l i : ℕ) (pid : Text) → EntryStep c st st' l i ⊎ RecordStep c st st' l i → Named c st st' l i pid ⊎ Quiet c st st' l i pid
 moved c st st' l i pid (inl e) =
     inr (record {
@@ -135,10 +138,12 @@ moved c st st' l i pid (inr r) = elim (sessions_step l r.rec (pid_of r.rec) st.s
   | inr quiet ↦ inr (record { session = quiet.1; other = λ rec at names. quiet.0 (ap pid_of (same_Some _ _ (sym r.at ∙ at)) ∙ names) })
 ]
 
+-- a position passes the test for itself
 pub is_position-at : (o : Option ℕ) (p : ℕ) → o ≡ Some p → is_position o p ≡ true
 is_position-at None p e = absurd (none-some p e)
 is_position-at (Some q) p e = eq-eqb q p (same_Some q p e)
 
+-- where there is a next position, it is the one after the cursor
 pub next_position-at : (o : Option ℕ) (cursor next : ℕ) → position_if_next o cursor ≡ Some next → (o ≡ Some (suc cursor)) × (suc cursor ≡ next)
 next_position-at None cursor next e = absurd (none-some next e)
 next_position-at (Some p) cursor next e =
@@ -146,6 +151,7 @@ next_position-at (Some p) cursor next e =
     let same : p ≡ suc cursor = eqb-true _ _ at in
     (ap Some same, sym same ∙ same_Some p next is)
 
+-- the cursor after an allowed `take` is the one that the log alone gives
 taken-allowed : (a : ℕ) (stream : List StreamRec) (off : Text) (cursor next : ℕ)
     → position_if_next (position (take a stream) off) cursor ≡ Some next
     → cond (is_position (position stream off) (suc cursor)) (suc cursor) cursor ≡ next
@@ -166,9 +172,11 @@ next_cursor-allowed a stream (suc i) _ cursor next e = same_Some cursor next e
 abbrev pub Synced : Cluster → State → Type 0
 Synced c st = (l : ℕ) → cursor_of st l ≡ cursor_at c.stream (node_log c l) (taken_of st l)
 
+-- at the start the cursors are those of the logs
 pub Synced-start : (c : Cluster) → Synced c (start c)
 Synced-start c l = grind (arith, slice_get-map)
 
+-- and each step keeps them so
 pub Synced-step : (c : Cluster) (st st' : State) (l i : ℕ) → Stepped c st st' l i → Synced c st → Synced c st'
 Synced-step c st st' l i s synced m = go (cases_eq m l)
   where
@@ -186,6 +194,7 @@ Synced-step c st st' l i s synced m = go (cases_eq m l)
     go (inl e) = subst (λ (n : ℕ). cursor_of st' n ≡ cursor_at c.stream (node_log c n) (taken_of st' n)) (sym e) (by_kind s.kind ∙ ap (λ n. cursor_at c.stream (node_log c l) n) (sym s.now))
     go (inr n) = ap cursor_in (s.others m n) ∙ synced m ∙ ap (λ o. cursor_at c.stream (node_log c m) (taken_in o)) (sym (s.others m n))
 
+-- a cursor that moves on by one comes to reach a position where this is the one taken
 taken-reaches : (stream : List StreamRec) (o : Option ℕ) (cursor next p : ℕ) → o ≡ Some (suc cursor) → suc cursor ≡ next → nat_le p cursor ≡ false → nat_le p next ≡ is_position o p
 taken-reaches stream o cursor next p at is before = grind (arith, leb-false p cursor before, le-leb p (suc cursor), eq-eqb (suc cursor) p, lt-leb p (suc cursor), ne_eqb (suc cursor) p)
 
@@ -196,6 +205,7 @@ reaches-takes a stream i (Start off) cursor next p e before = absurd (none-some 
 reaches-takes a stream i (Take off) cursor next p e before = grind (arith, next_position-at (position (take a stream) off) cursor next e, taken-reaches stream (position stream off) cursor next p, position-take a stream off (suc cursor))
 reaches-takes a stream i _ cursor next p e before = ap (nat_le p) (sym (same_Some cursor next e)) ∙ before
 
+-- the same of any record but the first
 pub reaches-takes-after : (a : ℕ) (stream : List StreamRec) (i : ℕ) (rec : NodeRec) (cursor next p : ℕ)
     → 0 < i → allowed_cursor (take a stream) i rec cursor ≡ Some next → nat_le p cursor ≡ false → nat_le p next ≡ takes stream p rec
 reaches-takes-after a stream zero rec cursor next p h e before = absurd (omega arith)
@@ -205,6 +215,7 @@ reaches-takes-after a stream (suc i) rec cursor next p h e before = reaches-take
 abbrev pub steps_of : ℕ → List Step → List ℕ
 steps_of l steps = map (λ (s : Step). s.index) (filter (λ (s : Step). nat_eq s.log l) steps)
 
+-- there are so many numbers
 length-numbers_from : (a n : ℕ) → length (numbers_from a n) ≡ n
 length-numbers_from a zero = refl
 length-numbers_from a (suc n) = ap suc (length-numbers_from (suc a) n)
@@ -213,14 +224,17 @@ counted : (c : Cluster) (st next : State) (s : Step) (steps : List Step) → Ste
     → length (steps_of l (s ∷ steps)) + taken_of st l ≡ record_count c l → length (steps_of l steps) + taken_of next l ≡ record_count c l
 counted c st next s steps moved l h = grind (arith, eq-eqb s.log l, ne_eqb s.log l)
 
+-- so allowed steps that are all of the logs are the rest of a run
 runs_on : (c : Cluster) (st : State) (steps : List Step) → AreAllowed c st steps → ((l : ℕ) → length (steps_of l steps) + taken_of st l ≡ record_count c l) → RunsOn c st steps
 runs_on c st [] allowed left = λ l. omega (arith, left l)
 runs_on c st (s ∷ steps) allowed left =
     let (next, at, later) = allowed in
     (next, at, runs_on c next steps later (λ l. counted c st next s steps (stepped c st next s at) l (left l)))
 
+-- at the start nothing is taken
 pub taken-start : (c : Cluster) (l : ℕ) → taken_of (start c) l ≡ 0
 taken-start c l = grind (arith, slice_get-map)
 
+-- a run is the rest of a run from the start on
 pub RunsOn-run : (c : Cluster) (run : List Step) → IsRun c run → RunsOn c (start c) run
 RunsOn-run c run is = runs_on c (start c) run is.allowed (λ l. let merged = ap length (is.merges l) ∙ length-numbers_from 0 (record_count c l) in omega (arith, merged, taken-start c l))

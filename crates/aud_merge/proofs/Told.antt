@@ -72,6 +72,7 @@ record Kept (c : Cluster) (who : Who) (turns : List Turn) (st : State) (spot : S
 
 module _ (c : Cluster) (who : Who) (last : ℕ) (turns : List Turn) (none : HasNoTurn c who.pid last) where
   module _ (st st' : State) (l i : ℕ) (s : Stepped c st st' l i) where
+    -- what comes after the step comes after the state before it
     grows : (u : State) → ((m : ℕ) → taken_of st' m ≤ taken_of u m) → (m : ℕ) → taken_of st m ≤ taken_of u m
     grows u more m = let step = taken-grows c st st' l i m s in omega (arith, step, more m)
 

@@ -1,6 +1,5 @@
 -- What the turns of a session tell of every run.
-use Rattle.std.specs.Prelude.{◌≡◌, ◌-◌, ℕ, zero, suc, Bool, false, List, [], ◌∷◌, ◌++◌, map, Option, Some, None, if◌then◌else◌, nat_le, min, slice_get}
-use Rattle.std.specs.Str.{bytes_eq}
+use Rattle.std.specs.Prelude.{◌≡◌, ◌-◌, ℕ, zero, suc, List, [], ◌∷◌, ◌++◌, map, Option, Some, None, if◌then◌else◌, nat_le, min, slice_get}
 use Rattle.std.specs.Option.{option_map, unwrap_or}
 use Rattle.aud_tap.specs.declared.records.StreamRec.{StreamRec}
 use Rattle.aud_tap.specs.declared.records.NodeRec.{NodeRec}
@@ -9,6 +8,7 @@ use Rattle.aud_node.specs.Stream.{Text}
 use Rattle.aud_node.specs.Cursors.{cursor_at}
 use Rattle.aud_node.specs.Cluster.{Cluster, node_log}
 use Rattle.aud_node.specs.TurnRecords.{pid_of}
+use Rattle.aud_node.specs.OwnRecords.{is_pid}
 use Rattle.aud_rooms.specs.Rooms.{Rooms, own_room}
 use Rattle.aud_rooms.specs.Turns.{Who, Turn, slice_of}
 use Rattle.aud_rooms.specs.TurnsDue.{rooms_for}
@@ -51,10 +51,6 @@ HasRooms who session (Some held) = (node turn : ℕ) × (session ≡ Some (Here 
 -- the second list begins with the first
 abbrev pub IsPrefixOf : List ℕ → List ℕ → Type 0
 IsPrefixOf xs ys = (rest : List ℕ) × (xs ++ rest ≡ ys)
-
-abbrev pub is_pid : Option Text → Text → Bool
-is_pid None pid = false
-is_pid (Some other) pid = bytes_eq other pid
 
 -- what a record of the node makes of the session of this pid
 abbrev pub session_past : ℕ → Text → SessionState → NodeRec → SessionState

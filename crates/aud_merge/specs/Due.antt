@@ -21,6 +21,7 @@ states_from c st (step ∷ steps) = st ∷ states_from c (unwrap_or (after c st 
 abbrev pub states : Cluster → List Step → List State
 states c run = states_from c (start c) run
 
+-- the cursor of a log that has come so far; 0 where there is none
 abbrev pub cursor_in : Option Progress → ℕ
 cursor_in None = 0
 cursor_in (Some progress) = progress.cursor
@@ -36,6 +37,7 @@ node_cursor st (Here node turn sid nsp rooms) = Some (cursor_of st node)
 node_cursor st (Away turn sid nsp rooms) = None
 node_cursor st Ended = None
 
+-- there is a cursor, and it is at least p
 abbrev pub is_at_least : Option ℕ → ℕ → Bool
 is_at_least None p = false
 is_at_least (Some cursor) p = nat_le p cursor

@@ -11,5 +11,4 @@ pub mod Runs
 pub mod Due
 pub mod Order
 pub mod ByTurns
-pub mod Recovery
 pub mod Private

@@ -25,6 +25,7 @@ pub record State : Type 0 where
 abbrev pub start : Cluster → State
 start c = record { logs = map (λ _. record { taken = 0; cursor = 0 }) c.taps; sessions = fin.empty }
 
+-- how many records were taken of a log that has come so far; 0 where there is none
 abbrev pub taken_in : Option Progress → ℕ
 taken_in None = 0
 taken_in (Some progress) = progress.taken
@@ -33,6 +34,7 @@ taken_in (Some progress) = progress.taken
 abbrev pub taken_of : State → ℕ → ℕ
 taken_of st place = taken_in (slice_get st.logs place)
 
+-- how many records of the log at this place, if there is one, were taken
 abbrev pub taken_at : State → Option ℕ → ℕ
 taken_at st None = 0
 taken_at st (Some place) = taken_of st place

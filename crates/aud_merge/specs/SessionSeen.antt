@@ -13,9 +13,11 @@ seen_at (Node place) turn sid nsp rooms = seen.Here place turn sid nsp rooms
 seen_at Away turn sid nsp rooms = seen.Away turn sid nsp rooms
 seen_at Ended turn sid nsp rooms = seen.Ended
 
+-- the session that it is
 abbrev pub session_seen : OpenedSession → seen.SessionState
 session_seen s = seen_at s.at s.turn s.sid.now s.nsp.now s.rooms
 
+-- the same; no session is one that was never opened
 abbrev pub seen_or_absent : Option OpenedSession → seen.SessionState
 seen_or_absent None = seen.Absent
 seen_or_absent (Some session) = session_seen session

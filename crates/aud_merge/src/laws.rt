@@ -1,6 +1,6 @@
-//! What the turns of a session tell of every run, and why one choice of the next step is as good as another; and a run
-//! of which they speak. These functions do nothing: their contracts are the laws.
-ghost use Rattle.std.specs.Prelude.{◌≡◌, ◌<◌, ◌≤◌, ℕ, List, [], ◌∷◌, map, slice_get, nat_le};
+//! What the turns of a session tell of every run, and why one choice of the next step is as good as another. These
+//! functions do nothing: their contracts are the laws.
+ghost use Rattle.std.specs.Prelude.{◌≡◌, ◌<◌, ◌≤◌, ℕ, List, map, slice_get, nat_le};
 ghost use Rattle.std.specs.List.{filter};
 ghost use Rattle.aud_node.specs.Cluster.{Cluster};
 ghost use Rattle.aud_rooms.specs.Turns.{Who, Turn, AreTurns, IsChain, slice_of};
@@ -11,7 +11,6 @@ ghost use Rattle.aud_merge.specs.Machine.{State, start, after, session_of};
 ghost use Rattle.aud_merge.specs.Runs.{IsRun, IsBlocked, AreAllowed, state_after};
 ghost use Rattle.aud_merge.specs.Order.{IsBlockedAt};
 ghost use Rattle.aud_merge.specs.Due.{due, reach, session_at_reach, states};
-ghost use Rattle.aud_merge.specs.Recovery as recovery;
 ghost use Rattle.aud_merge.specs.ByTurns.{IsPrefixOf, FallsAfter, HasRooms, reaching_step, rooms_of_turns, by_turns};
 
 /// After each prefix of a run, a session is what the taken records of its turns make of it.
@@ -71,16 +70,4 @@ pub fn allowed_stays()
         → after c (state_after c (start c) steps) s ≡ Some after_s
         → (x.log ≡ s.log → ⊥)
         → (last : State) × (after c after_s x ≡ Some last) }
-{}
-
-/// What the laws tell of every run is said of something: this cluster, in which a session is recovered on another node,
-/// has this run. Two events are due to the session, one that its node takes while it is there, and one that was taken
-/// before it comes back; what its client received is a front of them.
-pub fn run_with_recovery()
-    ensures is_run { IsRun recovery.logs recovery.run }
-    ensures is_chain { IsChain recovery.logs recovery.who recovery.turns }
-    ensures both_are_due { due recovery.logs recovery.run recovery.who.pid ≡ 1 ∷ 2 ∷ [] }
-    ensures first_is_live { FallsAfter recovery.run (reach recovery.logs recovery.run recovery.who.pid 1) (Some recovery.live_take) }
-    ensures second_is_replayed { FallsAfter recovery.run (reach recovery.logs recovery.run recovery.who.pid 2) (Some recovery.back) }
-    ensures received_is_front { IsPrefixOf recovery.received_positions (due recovery.logs recovery.run recovery.who.pid) }
 {}

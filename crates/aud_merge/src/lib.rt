@@ -31,7 +31,7 @@ mod step;
 
 pub use laws::{
     allowed_stays, due_by_turns, no_run_where_blocked, reach_by_turns, rooms_by_turns,
-    run_with_recovery, session_by_turns,
+    session_by_turns,
 };
 pub use machine::{allowed, apply};
 pub use run::is_run;

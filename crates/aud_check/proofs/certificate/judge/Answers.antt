@@ -1,13 +1,14 @@
 use Rattle.std.proofs.Common.{length, sym, subst, ◌∙◌, true≢false}
+use Rattle.std.proofs.lemmas.List.Kept.{AllPairs-from_increasing}
 use Rattle.std.proofs.lemmas.Result.{err_from_is_err_and}
 use Rattle.aud_rooms.specs.Turns.{Who}
 use Rattle.aud_rooms.specs.TurnsDue.{is_turn_due}
+use Rattle.aud_rooms.proofs.Ascending.{filter-ascends}
 use Rattle.aud_check.specs.Private.Ascending.{IsAscending}
 use Rattle.aud_check.specs.Shown.{slices_at}
 use Rattle.aud_check.specs.Private.Parts.{seen_as}
 use Rattle.aud_check.specs.TurnRefusals.{AreTurnsAccepted}
 use Rattle.aud_check.specs.Private.TurnCheck.{IsFirstOfTurns}
-use Rattle.aud_check.proofs.Ascending.{ascending}
 use Rattle.aud_check.proofs.Judged.{turns_first, span_first, refused_first, judged}
 use Rattle.aud_check.proofs.certificate.judge.Goals as goal
 
@@ -41,7 +42,7 @@ shown_due-requires-clause-accepted c =
 pub check_client-requires-clause-ascending : goal.check_client-requires-clause-ascending
 check_client-requires-clause-ascending c =
     subst IsAscending (sym (c.as_slice.ensures.value ∙ c.in_ok-due.ensures))
-    (ascending (is_turn_due c.args.logs.now.stream c.args.session.now (slices_at c.args.logs.now c.args.turns.now)) 0 (length c.args.logs.now.stream))
+    (AllPairs-from_increasing _ (filter-ascends (is_turn_due c.args.logs.now.stream c.args.session.now (slices_at c.args.logs.now c.args.turns.now)) 1 (length c.args.logs.now.stream)))
 
 pub returns-in_err-got : goal.returns-in_err-got
 returns-in_err-got c =

@@ -1,6 +1,6 @@
 use Rattle.std.proofs.Common.{map, refl, ap, ◌∙◌, arith}
 use Rattle.std.proofs.lemmas.Grind.{common_steps}
-use Rattle.aud_check.proofs.Ascending.{front_ascends}
+use Rattle.aud_check.proofs.Cuts.{front_ascends}
 use Rattle.aud_check.proofs.FirstFault.{mismatch_first, window_first}
 use Rattle.aud_check.proofs.received.check_received.Goals as goal
 

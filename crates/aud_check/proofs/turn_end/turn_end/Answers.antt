@@ -1,8 +1,8 @@
 use Rattle.std.proofs.Common.{◌≡◌, ◌<◌, suc, min, length, get_or, sym, ap, subst, ◌∙◌, arith}
 use Rattle.aud_node.specs.Cluster.{node_log}
-use Rattle.aud_rooms.specs.Turns.{Turn, turn_end}
+use Rattle.aud_rooms.specs.Turns.{Turn}
+use Rattle.aud_rooms.specs.TurnPlaces.{own_between}
 use Rattle.aud_check.proofs.OwnEnd.{own_end, turn_end-own, below_end}
-use Rattle.aud_check.proofs.Slices.{between-after}
 use Rattle.aud_check.proofs.turn_end.turn_end.Goals as goal
 
 pub loop-number-init : goal.loop-number-init
@@ -16,10 +16,9 @@ loop-number-init c =
     let node = ap (λ (t : Turn). node_log c.args.logs.now t.node) c.place.view_is in
     let recs : c.in-Some.recs ≡ log = c.in-Some.ensures ∙ node in
     let last : c.min-last.result ≡ min place.to (length log) = c.min-last.ensures ∙ ap (λ n. min n c.len.result) to ∙ ap (min place.to) (c.len.ensures ∙ ap length recs) in
-    ap (turn_end pid k) (between-after log place.from place.to)
-    ∙ turn_end-own pid k log (suc place.from) place.to
-    ∙ ap (own_end pid k log (min place.to (length log))) (sym c.own_after_first-number-items.ensures)
-    ∙ ap (λ n. own_end pid k log n items) (sym last)
+    turn_end-own pid k log place.from place.to c.requires.some c.requires.inside
+    ∙ ap (λ n. own_end pid k log n (own_between log pid (suc place.from) n)) (sym last)
+    ∙ ap (own_end pid k log c.min-last.result) (sym c.own_after_first-number-items.ensures)
     ∙ ap (λ rs. own_end pid k rs c.min-last.result items) (sym recs)
 
 pub overflow_add-number : goal.overflow_add-number
@@ -28,6 +27,5 @@ overflow_add-number c =
     let i = c.loop-number.number-index in
     let own = c.own_after_first-number-items.ensures in
     let inside = subst (λ ns. i < length ns) own c.loop-number-test.true in
-    let below = subst (λ ns. get_or ns i 0 < place.to) (sym own) (below_end c.args.pid.now c.args.turn (node_log c.args.logs.now place.node) (suc place.from) place.to i inside) in
-    let to = ap (λ (t : Turn). t.to) c.place.view_is in
-    omega (arith, below, to)
+    let below = subst (λ ns. get_or ns i 0 < c.min-last.result) (sym own) (below_end (node_log c.args.logs.now place.node) c.args.pid.now (suc place.from) c.min-last.result i inside) in
+    omega (arith, below)

@@ -1,8 +1,7 @@
 use Rattle.std.proofs.Common.{drop, sym, subst}
 use Rattle.std.proofs.lemmas.List.{take-append-drop}
 use Rattle.aud_check.specs.Private.Ascending.{IsAscending}
-use Rattle.aud_check.proofs.Ascending.{front_ascends}
-use Rattle.aud_check.proofs.Cuts.{drop_ascends}
+use Rattle.aud_check.proofs.Cuts.{drop_ascends, front_ascends}
 use Rattle.aud_check.proofs.window.is_cut.Goals as goal
 
 pub is_upto-requires : goal.is_upto-requires

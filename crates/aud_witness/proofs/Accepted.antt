@@ -18,15 +18,15 @@ use Rattle.aud_node.specs.Stream.{Text}
 use Rattle.aud_rooms.specs.Rooms.{own_room}
 use Rattle.aud_rooms.specs.Turns.{ByBreak, ByLog}
 use Rattle.aud_rooms.specs.Spans.{RoomSpan, IsMaximal, AreSpansOfTurns, rooms_by_turns}
-use Rattle.aud_merge.specs.Recovery.{who, logs}
-use Rattle.aud_merge.proofs.Recovery.{held, in_room, due_by_turns}
+use Rattle.aud_witness.specs.Recovery.{who, logs}
+use Rattle.aud_witness.proofs.Run.{held, in_room, due_by_turns}
 use Rattle.aud_cert.specs.Certificate.{TurnSeen, IsOver}
 use Rattle.aud_check.specs.Faults.{IsReceived, positions_in}
 use Rattle.aud_check.specs.NamedStays.{are_of_session}
 use Rattle.aud_check.specs.Refusals.{IsAccepted, certificate_case}
 use Rattle.aud_check.specs.Shown.{who_of, slices_of}
 use Rattle.aud_check.specs.TurnRefusals.{IsTurnAccepted, AreTurnsAccepted}
-use Rattle.aud_check.specs.Recovery.{certificate}
+use Rattle.aud_witness.specs.Certificate.{certificate}
 
 -- ---- the turns
 

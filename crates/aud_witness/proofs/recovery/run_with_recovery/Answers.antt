@@ -1,5 +1,5 @@
-use Rattle.aud_merge.proofs.Recovery.{is_run, chain, both_are_due, first_is_live, second_is_replayed, received_is_front}
-use Rattle.aud_merge.proofs.laws.run_with_recovery.Goals as goal
+use Rattle.aud_witness.proofs.Run.{is_run, chain, both_are_due, first_is_live, second_is_replayed, received_is_front}
+use Rattle.aud_witness.proofs.recovery.run_with_recovery.Goals as goal
 
 pub returns : goal.returns
 returns c =

@@ -27,7 +27,7 @@ use Rattle.aud_merge.specs.Runs.{IsMerging, AreAllowed, IsRun}
 use Rattle.aud_merge.specs.Sessions.{SessionState, Absent, Here, Away, session_after}
 use Rattle.aud_merge.specs.ByTurns.{FallsAfter, IsPrefixOf}
 use Rattle.aud_merge.specs.Due.{due, reach}
-use Rattle.aud_merge.specs.Recovery.{who, event, logs, turns, step, live_take, back, run, received_positions}
+use Rattle.aud_witness.specs.Recovery.{who, event, logs, turns, step, live_take, back, run, received_positions}
 use Rattle.aud_merge.proofs.Basics.{get_insert_same}
 use Rattle.aud_merge.proofs.DueLaws.{reach-turns, chain-none, due-chain}
 

@@ -50,6 +50,7 @@ client =
 abbrev pub received_positions : List ℕ
 received_positions = 1 ∷ 2 ∷ []
 
+-- a tap by its name and its records
 abbrev pub tap : Text → Records → Tap
 tap name records = record { name = name; records = records }
 

@@ -1,7 +1,7 @@
--- A certificate of the session that `aud_merge` shows to be recovered.
+-- A certificate of the recovered session.
 use Rattle.std.specs.Prelude.{[], ◌∷◌, codes}
 use Rattle.aud_node.specs.Lists.{between}
-use Rattle.aud_merge.specs.Recovery.{who, first_node, second_node}
+use Rattle.aud_witness.specs.Recovery.{who, first_node, second_node}
 use Rattle.aud_cert.specs.Certificate.{CertificateSeen}
 
 -- both turns of the session, the tap of its client, and its two rooms, which it has at both positions
