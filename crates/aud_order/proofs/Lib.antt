@@ -4,3 +4,4 @@ pub mod Effects
 pub mod Swaps
 pub mod Fronts
 pub mod Readings
+pub mod InputReadings
