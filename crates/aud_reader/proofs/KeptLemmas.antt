@@ -207,7 +207,7 @@ fails-then fault.Memory reading f is = tt
 fails-then (fault.Code code) reading f is = rw is refl
 
 -- a new tap has no pids
-pids-empty : (of : TapKind) → pids_in (no_records of) ≡ []
+pub pids-empty : (of : TapKind) → pids_in (no_records of) ≡ []
 pids-empty kind.Stream = refl
 pids-empty kind.Node = refl
 pids-empty kind.Client = refl

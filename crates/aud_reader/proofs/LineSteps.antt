@@ -238,7 +238,7 @@ pub record First (ts : List Tap) (line : Line) (lines : List Line) (more : List 
   pub rest : taps_from next lines ≡ Ok more
 
 -- a line's number is put to faults alone: what went well is as it was
-at_line-ok : (n : ℕ) (r : Result (List Tap) InputCode) (more : List Tap) → at_line n r ≡ Ok more → r ≡ Ok more
+pub at_line-ok : (n : ℕ) (r : Result (List Tap) InputCode) (more : List Tap) → at_line n r ≡ Ok more → r ≡ Ok more
 at_line-ok n (Ok x) more e = let same : x ≡ more = cc in ap Ok same
 at_line-ok n (Err code) more e = cc
 

@@ -73,7 +73,7 @@ named-same name records (u ∷ us) t e =
     ] refl e
 
 -- a tap of another name is found as before
-named-other : (name n : List ℕ) (records : Records) (ts : List Tap) → is_text name n ≡ false → tap_named name (with_records n records ts) ≡ tap_named name ts
+pub named-other : (name n : List ℕ) (records : Records) (ts : List Tap) → is_text name n ≡ false → tap_named name (with_records n records ts) ≡ tap_named name ts
 named-other name n records [] other = refl
 named-other name n records (u ∷ us) other =
     elim (is_text n u.name) as (λ b. is_text n u.name ≡ b → tap_named name (cond b (record u { records = records } ∷ us) (u ∷ with_records n records us)) ≡ tap_named name (u ∷ us)) [

@@ -119,7 +119,7 @@ all-absent x [] e = tt
 all-absent x (y ∷ texts) e = let parts = or_parts (is_text x y) (list_any (is_text x) texts) e in (parts.0, all-absent x texts parts.1)
 
 -- lists with the same texts have as many different ones: as many as the one's texts, each once
-unique : (texts : List (List ℕ)) → (once : List (List ℕ)) × IsDistinct is_text once × ((q : List ℕ) → list_any (is_text q) once ≡ list_any (is_text q) texts)
+pub unique : (texts : List (List ℕ)) → (once : List (List ℕ)) × IsDistinct is_text once × ((q : List ℕ) → list_any (is_text q) once ≡ list_any (is_text q) texts)
 unfolding IsDistinct
 unique [] = ([], tt, λ q. refl)
 unique (x ∷ texts) = go (unique texts) (list_any (is_text x) texts) refl

@@ -1,0 +1,7 @@
+pub mod Words
+pub mod Taps
+pub mod Effects
+pub mod Swaps
+pub mod Fronts
+pub mod Readings
+pub mod InputReadings

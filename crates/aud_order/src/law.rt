@@ -1,0 +1,24 @@
+//! What the lines of a bundle are read as, in one order and in another.
+ghost use Rattle.std.specs.Prelude.{ℕ, List};
+ghost use Rattle.aud_reader.specs.declared.line.Line.{Line};
+ghost use Rattle.aud_reader.specs.Bundle.{taps_of};
+ghost use Rattle.aud_input.specs.declared.input.Layout.TheVariants.{Bundle};
+ghost use Rattle.aud_input.specs.Input.{input_of};
+ghost use Rattle.aud_order.specs.Order.{AreSameButForOrder, AreReadAlike, texts};
+ghost use Rattle.aud_order.specs.Inputs.{line_texts};
+
+/// Lines that are the same but for their order are read as the same taps, or both refused: a law of
+/// [`read_bundle`](aud_reader::read_bundle).
+///
+/// Each tap's lines have to stand in the same order among one another, and so have the first lines of the taps. Lines
+/// without bytes may stand anywhere. Which line is refused, and for what, may differ.
+pub fn lines_in_any_order()
+    ensures { (lines others : List Line) → AreSameButForOrder (texts lines) (texts others)
+        → AreReadAlike (taps_of lines) (taps_of others) }
+{}
+
+/// The same of the bytes of two inputs: a law of [`read_input`](aud_input::read_input), where all lines are of the bundle.
+pub fn inputs_in_any_order()
+    ensures { (bytes others : List ℕ) → AreSameButForOrder (line_texts bytes) (line_texts others)
+        → AreReadAlike (input_of Bundle bytes) (input_of Bundle others) }
+{}
