@@ -72,7 +72,7 @@ fn first_missed(alloc: Global, session: &[Exchange]) -> Result<Option<&'static s
 }
 
 /// Refusals in their order; after them the assembler is at rest.
-const REFUSALS: [Exchange; 6] = [
+static REFUSALS: [Exchange; 6] = [
     (Frame::Text(r#"451-["f","x"]"#), "waits"),
     (Frame::Text("2"), "waits"),
     (Frame::Text("42[]"), "TextWhileBinary"),
@@ -89,7 +89,7 @@ fn refusals(rt: HostRuntime) -> Result<(), Fail> {
 }
 
 /// The first attachment comes as base64, the other as bytes.
-const ATTACHMENTS: [Exchange; 3] = [
+static ATTACHMENTS: [Exchange; 3] = [
     (
         Frame::Text(r#"452-["baz",{"_placeholder":true,"num":0},{"_placeholder":true,"num":1}]"#),
         "waits",
@@ -108,7 +108,7 @@ fn attachments(rt: HostRuntime) -> Result<(), Fail> {
 }
 
 /// The frames of the document's sample session in namespace `/admin`: a packet whose attachment comes after a ping.
-const SAMPLE_SESSION: [Exchange; 4] = [
+static SAMPLE_SESSION: [Exchange; 4] = [
     (
         Frame::Text(r#"40/admin,{"sid":"-G5j-67EZFp-q59rADQM"}"#),
         r#"0/admin,{"sid":"-G5j-67EZFp-q59rADQM"} of /admin None"#,
@@ -158,7 +158,7 @@ fn answers_body<'a>(
 }
 
 /// The document's two events in one polling body, and a binary event in another.
-const POLLING_BODIES: [(&str, &str); 2] = [
+static POLLING_BODIES: [(&str, &str); 2] = [
     (
         "42[\"hello\"]\u{1e}42[\"world\"]",
         "2[\"hello\"] of / None\n2[\"world\"] of / None\n",

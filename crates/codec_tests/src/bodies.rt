@@ -11,7 +11,7 @@ fn is_read(alloc: Global, body: &str, words: &str) -> Result<bool, Fail> {
 }
 
 /// Bodies of the document, and refusals.
-const BODIES: [(&str, &str); 6] = [
+static BODIES: [(&str, &str); 6] = [
     (
         "4hello\u{1e}2\u{1e}4world",
         r#"Ok([Message("hello"), Control(Ping, ""), Message("world")])"#,

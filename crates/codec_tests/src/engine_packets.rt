@@ -18,7 +18,7 @@ fn comes_back(alloc: Global, text: &str) -> Result<bool, Fail> {
 }
 
 /// The packet types of the document, with the `open` packet of section "Handshake" and the probe of section "Upgrade".
-const PACKETS: [(&str, &str); 13] = [
+static PACKETS: [(&str, &str); 13] = [
     (
         r#"0{"sid":"lv_VI97HAXpY6yYWAAAC","upgrades":["websocket"],"pingInterval":25000,"pingTimeout":20000,"maxPayload":1000000}"#,
         r#"Ok(Control(Opening, "{\"sid\":\"lv_VI97HAXpY6yYWAAAC\",\"upgrades\":[\"websocket\"],\"pingInterval\":25000,\"pingTimeout\":20000,\"maxPayload\":1000000}"))"#,
@@ -47,7 +47,7 @@ fn packets(rt: HostRuntime) -> Result<(), Fail> {
 }
 
 /// Texts that are no packet.
-const REFUSALS: [(&str, &str); 11] = [
+static REFUSALS: [(&str, &str); 11] = [
     ("", "Err(Empty)"),
     ("7x", "Err(UnknownType)"),
     ("B", "Err(UnknownType)"),
@@ -85,7 +85,7 @@ fn is_own(packet: &Eio<'_>, bytes: &[u8]) -> bool {
 }
 
 /// RFC 4648, section 10; the last one has the two signs of its alphabet, section 4.
-const BASE64_VECTORS: [(&str, &str); 8] = [
+static BASE64_VECTORS: [(&str, &str); 8] = [
     ("b", ""),
     ("bZg==", "f"),
     ("bZm8=", "fo"),

@@ -1,4 +1,5 @@
-//! Examples of the packets of Engine.IO and Socket.IO, over the public calls of `aud_eio` and `aud_sio`.
+//! Examples of the packets of Engine.IO and Socket.IO, over the public calls of `aud_eio` and `aud_sio`; and of the
+//! texts, lists and places of `aud_base`.
 #![tactic(auto)]
 
 #[cfg(test)]
@@ -7,5 +8,7 @@ mod attachments;
 mod bodies;
 #[cfg(test)]
 mod engine_packets;
+#[cfg(test)]
+mod shared;
 #[cfg(test)]
 mod socket_packets;

@@ -35,7 +35,7 @@ fn is_written(alloc: Global, text: &str, expected: &str) -> Result<bool, Fail> {
 }
 
 /// Those of the document, which come back as they are.
-const PACKETS: [(&str, &str); 15] = [
+static PACKETS: [(&str, &str); 15] = [
     (r#"0{"token":"123"}"#, r#"Connect 0 / None {"token":"123"}"#),
     (
         r#"0{"sid":"CjdVH4TQvovi1VvgAC5Z"}"#,
@@ -84,7 +84,7 @@ fn packets(rt: HostRuntime) -> Result<(), Fail> {
 }
 
 /// The bounds of each part, and refusals in their order.
-const BOUNDS: [(&str, &str); 15] = [
+static BOUNDS: [(&str, &str); 15] = [
     ("1/admin", "Disconnect 0 /admin None None"),
     ("2/,[]", "Event 0 / None []"),
     (r#"2/n,7["a"]"#, r#"Event 0 /n Some(7) ["a"]"#),
@@ -114,7 +114,7 @@ fn bounds(rt: HostRuntime) -> Result<(), Fail> {
 }
 
 /// The first five lose what need not be written; the others come back as they are.
-const WRITTEN: [(&str, &str); 12] = [
+static WRITTEN: [(&str, &str); 12] = [
     ("0", "0"),
     ("1/admin", "1/admin,"),
     ("2/,[]", "2[]"),
@@ -156,7 +156,7 @@ fn ends_with(alloc: Global, text: &str, last: Option<&str>) -> Result<bool, Fail
 }
 
 /// The text at the end, decoded; none where something else stands there.
-const LAST_TEXTS: [(&str, Option<&str>); 8] = [
+static LAST_TEXTS: [(&str, Option<&str>); 8] = [
     (r#"2["hey","Jude"]"#, Some("Jude")),
     (r#"2["hi","1\u002d0"]"#, Some("1-0")),
     (r#"2["1-0",1]"#, None),

@@ -1,0 +1,82 @@
+//! Texts, lists of them, attachments and places, over the public calls of `aud_base`.
+use aud_base::{Blobs, Bytes, Places, Text, Texts};
+use std::alloc::{AllocError, Global};
+use std::test::Fail;
+
+static TEXTS: [&str; 3] = ["r", "", "\u{20ac}"];
+
+fn texts(alloc: Global) -> Result<Texts, AllocError> {
+    let mut texts = Vec::new(alloc);
+    for text in &TEXTS {
+        texts.push(Text::new(String::from_str(alloc, text)?))?;
+    }
+    Ok(Texts::new(texts))
+}
+
+/// The texts, each with a bar after it.
+fn texts_told(alloc: Global, texts: &[Text]) -> Result<String, AllocError> {
+    let mut told = String::new(alloc);
+    for text in texts {
+        told.push_str(text.as_str())?;
+        told.push('|')?;
+    }
+    Ok(told)
+}
+
+#[test]
+fn texts_in_their_order(rt: HostRuntime) -> Result<(), Fail> {
+    let texts = texts(rt.alloc())?;
+    let told = texts_told(rt.alloc(), texts.as_slice())?;
+    assert_eq!(rt; told.as_str(), "r||\u{20ac}|");
+    Ok(())
+}
+
+static BLOBS: [&[u8]; 3] = [&[1, 2], &[], &[255]];
+
+fn blobs(alloc: Global) -> Result<Blobs, AllocError> {
+    let mut blobs = Vec::new(alloc);
+    for bytes in &BLOBS {
+        blobs.push(Bytes::new(bytes.to_vec(alloc)?))?;
+    }
+    Ok(Blobs::new(blobs))
+}
+
+/// The bytes of each attachment.
+fn blobs_told(alloc: Global, blobs: &[Bytes]) -> Result<String, AllocError> {
+    let mut told = String::new(alloc);
+    for bytes in blobs {
+        write!(told, "{:?}", bytes.as_slice())?;
+    }
+    Ok(told)
+}
+
+#[test]
+fn attachments_in_their_order(rt: HostRuntime) -> Result<(), Fail> {
+    let blobs = blobs(rt.alloc())?;
+    let told = blobs_told(rt.alloc(), blobs.as_slice())?;
+    assert_eq!(rt; told.as_str(), "[1, 2][][255]");
+    Ok(())
+}
+
+/// Places that are noted one after another, and the texts that stand there: `r` stands at 0 twice.
+static NOTED: [(usize, &str); 6] = [(0, "r"), (0, "q"), (0, "r"), (2, "r"), (3, ""), (3, "q")];
+
+/// Each text with its places; `s` stands nowhere.
+static PLACES: [(&str, &[usize]); 4] = [("r", &[0, 2]), ("q", &[0, 3]), ("", &[3]), ("s", &[])];
+
+fn index(alloc: Global) -> Result<Places, AllocError> {
+    let mut index = Places::new(alloc);
+    for (place, text) in &NOTED {
+        index.note(*place, text)?;
+    }
+    Ok(index)
+}
+
+#[test]
+fn places_of_texts(rt: HostRuntime) -> Result<(), Fail> {
+    let index = index(rt.alloc())?;
+    for (text, places) in &PLACES {
+        assert_eq!(rt; index.of(text), *places, "{text}");
+    }
+    Ok(())
+}
