@@ -1,7 +1,9 @@
-//! Worked examples of bundles: their lines, the record of a line, the taps of the lines, and lines that are written,
-//! as a user of the crates below reads and writes them.
+//! Worked examples of bundles: their lines, the record of a line, the taps of the lines, certificates among them, and
+//! lines that are written, as a user of the crates below reads and writes them.
 #![tactic(auto)]
 
+#[cfg(test)]
+mod certificates;
 #[cfg(test)]
 mod input;
 #[cfg(test)]

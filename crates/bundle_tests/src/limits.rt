@@ -6,6 +6,23 @@ use std::alloc::{AllocError, Global};
 /// A line: its start, a part that stands a number of times, what closes the part as often, and its end.
 type Repeating = (&'static str, &'static str, &'static str, &'static str);
 
+/// Puts a part at the end so many times.
+fn repeat(text: &mut String, part: &str, times: u32) -> Result<(), AllocError> {
+    for _ in 0..times {
+        text.push_str(part)?;
+    }
+    Ok(())
+}
+
+/// Puts a line at the end, where its part stands so many times.
+fn write(text: &mut String, line: Repeating, times: u32) -> Result<(), AllocError> {
+    let (begin, part, closing, end) = line;
+    text.push_str(begin)?;
+    repeat(text, part, times)?;
+    repeat(text, closing, times)?;
+    text.push_str(end)
+}
+
 /// Whether the line is refused so, or is read, where its part stands so many times.
 fn is_refused_at(
     alloc: Global,
@@ -13,15 +30,8 @@ fn is_refused_at(
     times: u32,
     wanted: Option<InputCode>,
 ) -> Result<bool, AllocError> {
-    let (begin, part, closing, end) = line;
-    let mut text = String::from_str(alloc, begin)?;
-    for _ in 0..times {
-        text.push_str(part)?;
-    }
-    for _ in 0..times {
-        text.push_str(closing)?;
-    }
-    text.push_str(end)?;
+    let mut text = String::new(alloc);
+    write(&mut text, line, times)?;
     Ok(is_refused(alloc, text.as_bytes(), wanted))
 }
 

@@ -51,19 +51,17 @@ fn gives(alloc: Global, lines: &[Line], wanted: Outcome) -> bool {
     }
 }
 
-fn push(lines: &mut Vec<Line>, line: Line) -> Result<(), AllocError> {
-    match lines.push(line) {
-        Ok(()) => Ok(()),
-        Err(_) => Err(AllocError),
-    }
+/// Adds the line of this number with this text.
+fn add(alloc: Global, lines: &mut Vec<Line>, number: u64, text: &str) -> Result<(), AllocError> {
+    let line = line_of(alloc, number, text.as_bytes())?;
+    Ok(lines.push(line)?)
 }
 
 /// The lines with these texts.
 fn lines_of(alloc: Global, texts: &[&str]) -> Result<Vec<Line>, AllocError> {
     let mut lines = Vec::new(alloc);
     for (i, text) in texts.iter().enumerate() {
-        let line = line_of(alloc, i as u64 + 1, text.as_bytes())?;
-        push(&mut lines, line)?;
+        add(alloc, &mut lines, i as u64 + 1, text)?;
     }
     Ok(lines)
 }
@@ -71,8 +69,7 @@ fn lines_of(alloc: Global, texts: &[&str]) -> Result<Vec<Line>, AllocError> {
 /// Whether the session and a twelfth line give these taps, or are refused so.
 fn session_gives(alloc: Global, text: &str, wanted: Outcome) -> Result<bool, AllocError> {
     let mut lines = lines_of(alloc, &SESSION)?;
-    let line = line_of(alloc, 12, text.as_bytes())?;
-    push(&mut lines, line)?;
+    add(alloc, &mut lines, 12, text)?;
     Ok(gives(alloc, &lines, wanted))
 }
 
@@ -140,12 +137,17 @@ fn the_first_refusal_is_given(rt: HostRuntime) -> Result<(), AllocError> {
     Ok(())
 }
 
+/// Puts a line at the end, with a carriage return and a newline.
+fn end_line(input: &mut Vec<u8>, text: &str) -> Result<(), AllocError> {
+    input.extend_from_slice(text.as_bytes())?;
+    input.extend_from_slice(b"\r\n")
+}
+
 /// The session where each line ends in a carriage return and a newline, as an editor on Windows saves it.
 fn windows_session(alloc: Global) -> Result<Vec<u8>, AllocError> {
     let mut input = Vec::new(alloc);
     for text in &SESSION {
-        input.extend_from_slice(text.as_bytes())?;
-        input.extend_from_slice(b"\r\n")?;
+        end_line(&mut input, text)?;
     }
     Ok(input)
 }
@@ -174,14 +176,25 @@ fn lines_may_end_in_carriage_return_and_newline(rt: HostRuntime) -> Result<(), A
     Ok(())
 }
 
-/// Whether the stream's header alone, with blanks at its end up to a length, gives these taps, or is refused so.
-fn padded_header_gives(alloc: Global, length: usize, wanted: Outcome) -> Result<bool, AllocError> {
-    let mut text = String::from_str(alloc, SESSION[0])?;
+/// Puts blanks at the end of a text, up to a length.
+fn pad(text: &mut String, length: usize) -> Result<(), AllocError> {
     for _ in text.len()..length {
         text.push(' ')?;
     }
-    let lines = lines_of(alloc, &[text.as_str()])?;
+    Ok(())
+}
+
+/// Whether a text as the only line gives these taps, or is refused so.
+fn line_gives(alloc: Global, text: &str, wanted: Outcome) -> Result<bool, AllocError> {
+    let lines = lines_of(alloc, &[text])?;
     Ok(gives(alloc, &lines, wanted))
+}
+
+/// Whether the stream's header alone, with blanks at its end up to a length, gives these taps, or is refused so.
+fn padded_header_gives(alloc: Global, length: usize, wanted: Outcome) -> Result<bool, AllocError> {
+    let mut text = String::from_str(alloc, SESSION[0])?;
+    pad(&mut text, length)?;
+    line_gives(alloc, text.as_str(), wanted)
 }
 
 #[test]
