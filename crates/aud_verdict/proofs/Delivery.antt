@@ -20,8 +20,8 @@ use Rattle.aud_verdict.specs.Faults.{Holds, IsMisdelivery}
 use Rattle.aud_verdict.specs.Verdict.{IsYes, IsVerdict}
 use Rattle.aud_verdict.specs.EveryRun.{IsDelivered, IsMisdelivered, HoldsInEveryRun}
 use Rattle.aud_verdict.proofs.Sessions.{one_session, held}
-use Rattle.aud_verdict.proofs.ByCertificate.{late, as_held}
-use Rattle.aud_verdict.proofs.Cases.{all_received}
+use Rattle.aud_verdict.proofs.Made.{late, as_held}
+use Rattle.aud_verdict.proofs.Unrefused.{all_received}
 
 -- what the merging law says: in every run what is due to a session is its due list by turns
 abbrev pub DueByTurns : Type 0

@@ -46,6 +46,7 @@ pub fn judge<'a>(
     ensures { IfOk result (IsJudged recording.now pid.now) }
 {
     verdict_by_certificate();
+    verdict_in_every_run();
     let cert = match make(alloc, recording, pid) {
         Ok(cert) => cert,
         Err(MakeFault::Fault(fault)) => return Ok(Judged::Faulty(fault)),
