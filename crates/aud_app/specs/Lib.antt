@@ -7,3 +7,4 @@ pub use Rattle.aud_input.specs.Input
 pub use Rattle.aud_report.specs.Report
 pub use Rattle.aud_answers.specs.Verified
 pub use Rattle.aud_verdict.specs.Judged
+pub use Rattle.aud_verdict.specs.Verdicts

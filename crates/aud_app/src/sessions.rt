@@ -1,7 +1,8 @@
 //! The verdicts on the sessions, and their certificates.
 ghost use Rattle.std.specs.Prelude.{◌≡◌, IfOk, map, string_bytes};
 ghost use Rattle.aud_maker.specs.Sessions.{sessions_of};
-ghost use Rattle.aud_app.specs.Decided.{IsSessionVerdict, AreVerdicts, IsProof, AreProofs};
+ghost use Rattle.aud_verdict.specs.Verdicts.{IsSessionVerdict, AreVerdicts};
+ghost use Rattle.aud_app.specs.Decided.{IsProof, AreProofs};
 
 use aud_cert_text::write_cert;
 use aud_client::Recording;

@@ -1,10 +1,4 @@
 pub mod Sessions
-pub mod Ranks
-pub mod Decided
-pub mod Cases
-pub mod SpansDecided
-pub mod MadeLemmas
-pub mod ByCertificate
-pub mod AcceptanceLemmas
+pub mod Unrefused
+pub mod Made
 pub mod Delivery
-pub mod ReadLemmas

@@ -1,37 +1,34 @@
--- A pid has one session at most, and its client's tap names it.
-use Rattle.std.proofs.Common.{◌≡◌, ◌≤◌, ℕ, Bool, true, false, ◌&&◌, not, List, [], ◌∷◌, length, Option, Some, None, refl, inl, inr, sym, ap, subst, ◌∙◌, arith}
+-- A pid has one session at most, and that has one verdict.
+use Rattle.std.proofs.Common.{◌≡◌, ◌≤◌, Bool, true, false, ◌&&◌, not, List, [], ◌∷◌, length, Option, Some, None, refl, inl, inr, sym, ap, subst, ◌∙◌, arith, ◌<◌, ◌+◌, ◌++◌, ◌⊎◌}
 use Rattle.std.specs.List.{filter, list_any, list_all}
-use Rattle.std.proofs.lemmas.Bool.{false≢true, cases_Bool, and_right}
-use Rattle.std.proofs.lemmas.Option.{some_pair_parts}
+use Rattle.std.proofs.lemmas.Bool.{false≢true, cases_Bool, and_right, cases_lt}
+use Rattle.std.proofs.lemmas.Option.{some_pair_parts, same_Some}
 use Rattle.std.proofs.lemmas.List.Elements.{All-head, All-same, filter_passes}
 use Rattle.std.proofs.lemmas.List.Folds.{list_all_at}
 use Rattle.aud_tap.specs.declared.records.ClientRec.{ClientRec}
+use Rattle.aud_tap.specs.declared.records.StreamRec.{StreamRec}
 use Rattle.aud_node.specs.Lists.{numbers_from}
 use Rattle.aud_node.specs.Stream.{Text}
 use Rattle.aud_node.specs.Cluster.{Cluster}
 use Rattle.aud_node.specs.NodeTaps.{client_at}
-use Rattle.aud_client.specs.Replies.{is_naming, tap_names, naming_places}
 use Rattle.aud_rooms.specs.Turns.{Who, Turn, IsChain}
-use Rattle.aud_client.specs.StaySeen.{StaySeen}
+use Rattle.aud_client.specs.Replies.{is_naming, tap_names, naming_places}
+use Rattle.aud_client.specs.StaySeen.{StaySeen, FrameSeen}
 use Rattle.aud_client.specs.Received.{stay_names_pid}
 use Rattle.aud_client.proofs.Named.{named_by_replies}
 use Rattle.aud_cert.specs.declared.fault.Fault.{Fault}
-use Rattle.aud_cert.specs.declared.fault.Fault.TheVariants.{NoLog, Chain, Order, Client}
+use Rattle.aud_cert.specs.declared.fault.Fault.TheVariants.{NoLog, Chain, Order, Client, Names, Frame, Orphan, Content, Extra, Doubled, Swapped, Lost, Window, Tail}
 use Rattle.aud_maker.proofs.EndedLemmas.{opening-names}
 use Rattle.aud_maker.proofs.BegunLemmas.{one_chain}
 use Rattle.aud_maker.proofs.FirstFault.{one_fails}
 use Rattle.aud_check.specs.NamedStays.{is_of_session, is_empty, are_of_session}
 use Rattle.aud_check.specs.Shown.{recs_or_none}
-use Rattle.aud_verdict.specs.Session.{SessionLogs, IsSession, client_log, transcript, own_stays}
-use Rattle.aud_verdict.specs.Faults.{HasOtherNames, HoldsOf, Holds, verdict_rank}
-
--- a session by its pid, sid and namespace
-abbrev pub who_with : Text → Text → Text → Who
-who_with pid sid nsp = record { pid = pid; sid = sid; nsp = nsp }
-
--- a session by its names, its turns and the place of its client's tap
-abbrev session_with : Who → List Turn → ℕ → SessionLogs
-session_with who turns client = record { who = who; turns = turns; client = client }
+use Rattle.aud_check.specs.Frames.{AreEntries, IsEntry, IsFirstAltered, offset_at}
+use Rattle.aud_report.specs.declared.verdict.Verdict.{Verdict}
+use Rattle.aud_report.specs.declared.verdict.Verdict.TheVariants.{Yes, No}
+use Rattle.aud_verdict.specs.Session.{SessionLogs, IsSession, client_log, transcript, own_stays, received_by, due_to}
+use Rattle.aud_verdict.specs.Faults.{HasOtherNames, HoldsOf, Holds, verdict_rank, HoldsFirst}
+use Rattle.aud_verdict.specs.Verdict.{IsVerdict}
 
 -- a chain has one `open`, so the names that go with its turns are settled
 one_who : (c : Cluster) (one other : Who) (turns : List Turn) → one.pid ≡ other.pid → IsChain c one turns → IsChain c other turns → one ≡ other
@@ -39,17 +36,18 @@ one_who c one other turns same is too =
     let opened = opening-names c one turns is.some is.are_turns in
     let again = opening-names c other turns too.some too.are_turns in
     let parts = some_pair_parts one.sid other.sid one.nsp other.nsp (sym opened ∙ again) in
-    ap (λ x. who_with x one.sid one.nsp) same ∙ ap (λ x. who_with other.pid x one.nsp) parts.0 ∙ ap (who_with other.pid other.sid) parts.1
+    λ i. record { pid = same i; sid = parts.0 i; nsp = parts.1 i }
 
 -- a pid has one session at most
 pub one_session : (c : Cluster) (pid : Text) (one other : SessionLogs) → IsSession c pid one → IsSession c pid other → one ≡ other
 one_session c pid one other is too =
     let named : other.who.pid ≡ one.who.pid = too.names ∙ sym is.names in
     let turns : other.turns ≡ one.turns = one_chain c one.who other.who one.turns other.turns named is.chain too.chain in
+    let back : one.turns ≡ other.turns = sym turns in
     let who = one_who c one.who other.who one.turns (sym named) is.chain (subst (IsChain c other.who) turns too.chain) in
     let only : one.client ∷ [] ≡ other.client ∷ [] = sym is.only ∙ too.only in
     let client : one.client ≡ other.client = cc in
-    ap (λ (w : Who). session_with w one.turns one.client) who ∙ ap (λ (ts : List Turn). session_with other.who ts one.client) (sym turns) ∙ ap (session_with other.who other.turns) client
+    λ i. record { who = who i; turns = back i; client = client i }
 
 -- ---- faults of a session that is there
 
@@ -105,3 +103,65 @@ module _ (c : Cluster) (pid : Text) (s : SessionLogs) (is : IsSession c pid s) w
   pub not_of_session : HasOtherNames c s → are_of_session s.who (own_stays c s) ≡ false
   not_of_session (stay, (k, h, at), fails) =
       and_right _ _ (list_all_at (is_of_session s.who) (own_stays c s) k stay h (ap (is_of_session s.who) at ∙ fails))
+
+-- ---- one verdict
+
+-- of the frames one alone is the first that isn't its entry
+one_altered : (stream : List StreamRec) (before first : List FrameSeen) (altered other : FrameSeen) (after rest : List FrameSeen)
+    → before ++ altered ∷ after ≡ first ++ other ∷ rest → AreEntries stream before → (IsEntry stream altered → ⊥)
+    → AreEntries stream first → (IsEntry stream other → ⊥) → altered ≡ other
+one_altered stream [] [] altered other after rest e are not too nor = cc
+one_altered stream [] (frame ∷ first) altered other after rest e are not too nor =
+    let here : frame ≡ altered = cc in absurd (not (subst (IsEntry stream) here too.0))
+one_altered stream (frame ∷ before) [] altered other after rest e are not too nor =
+    let here : frame ≡ other = cc in absurd (nor (subst (IsEntry stream) here are.0))
+one_altered stream (frame ∷ before) (head ∷ first) altered other after rest e are not too nor =
+    let later : before ++ altered ∷ after ≡ first ++ other ∷ rest = cc in
+    one_altered stream before first altered other after rest later are.1 not too.1 nor
+
+-- one frame at most is the first that isn't its entry
+same_altered : (stream : List StreamRec) (frames : List FrameSeen) (altered other : FrameSeen) → IsFirstAltered stream frames altered → IsFirstAltered stream frames other → altered ≡ other
+same_altered stream frames altered other is too =
+    one_altered stream is.before too.before altered other is.after too.after (sym is.parts ∙ too.parts) is.are_entries is.is_altered too.are_entries too.is_altered
+
+module _ (c : Cluster) (pid : Text) where
+  -- one fault at most of each rank holds
+  same_fault : (fault other : Fault) → Holds c pid fault → Holds c pid other → verdict_rank fault ≡ verdict_rank other → fault ≡ other
+  same_fault NoLog NoLog h too e = refl
+  same_fault Chain Chain h too e = refl
+  same_fault Order Order h too e = refl
+  same_fault Client Client h too e = refl
+  same_fault Names Names h too e = refl
+  same_fault Frame Frame h too e = refl
+  same_fault Orphan Orphan h too e = refl
+  same_fault (Content off) (Content named) (s, is, (altered, first, called)) too e =
+      let (other, first_too, so_called) = moved c pid s is (Content named) too in
+      let one : altered ≡ other = same_altered c.stream (received_by c s) altered other first first_too in
+      ap Content (called ∙ ap (λ (frame : FrameSeen). offset_at c.stream frame.position) one ∙ sym so_called)
+  same_fault (Extra off) (Extra named) (s, is, h) too e = same_Some (Extra off) (Extra named) (sym h ∙ moved c pid s is (Extra named) too)
+  same_fault (Doubled off) (Doubled named) (s, is, h) too e = same_Some (Doubled off) (Doubled named) (sym h ∙ moved c pid s is (Doubled named) too)
+  same_fault (Swapped off) (Swapped named) (s, is, h) too e = same_Some (Swapped off) (Swapped named) (sym h ∙ moved c pid s is (Swapped named) too)
+  same_fault (Lost off) (Lost named) (s, is, h) too e = same_Some (Lost off) (Lost named) (sym h ∙ moved c pid s is (Lost named) too)
+  same_fault (Window n) (Window m) (s, is, h) too e = ap Window (same_Some n m (sym h ∙ moved c pid s is (Window m) too))
+  same_fault (Tail n) (Tail m) (s, is, h) too e = absurd h
+  same_fault fault other _ _ e = absurd (omega arith)
+
+  pub one_first : (fault other : Fault) → HoldsFirst c pid fault → HoldsFirst c pid other → fault ≡ other
+  one_first fault other is too = go (cases_lt (verdict_rank fault) (verdict_rank other)) (cases_lt (verdict_rank other) (verdict_rank fault))
+    where
+      go : (verdict_rank fault < verdict_rank other) ⊎ (verdict_rank other ≤ verdict_rank fault) → (verdict_rank other < verdict_rank fault) ⊎ (verdict_rank fault ≤ verdict_rank other) → fault ≡ other
+      go (inl less) h = absurd (too.none_before fault less is.holds)
+      go (inr more) (inl less) = absurd (is.none_before other less too.holds)
+      go (inr more) (inr less) = same_fault fault other is.holds too.holds (omega arith)
+
+  pub one_verdict : (one other : Verdict) → IsVerdict c pid one → IsVerdict c pid other → one ≡ other
+  one_verdict (Yes got tail turns) (Yes count rest number) is too =
+      let same : is.session ≡ too.session = one_session c pid is.session too.session is.is_session too.is_session in
+      let counts : got ≡ count = is.got_is ∙ ap (λ (s : SessionLogs). length (received_by c s)) same ∙ sym too.got_is in
+      let sums : got + tail ≡ count + rest = is.tail_is ∙ ap (λ (s : SessionLogs). length (due_to c s)) same ∙ sym too.tail_is in
+      let tails : tail ≡ rest = omega arith in
+      let numbers : turns ≡ number = is.turns_are ∙ ap (λ (s : SessionLogs). length s.turns) same ∙ sym too.turns_are in
+      cc
+  one_verdict (Yes got tail turns) (No fault) is too = absurd (is.none_holds fault too.holds)
+  one_verdict (No fault) (Yes got tail turns) is too = absurd (too.none_holds fault is.holds)
+  one_verdict (No fault) (No other) is too = ap No (one_first fault other is too)

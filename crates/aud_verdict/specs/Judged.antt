@@ -10,10 +10,13 @@ use Rattle.aud_report.specs.declared.verdict.Verdict.TheVariants.{Yes, No}
 use Rattle.aud_verdict.specs.declared.verdict.Judged.{Judged}
 use Rattle.aud_verdict.specs.declared.verdict.Judged.TheVariants.{Shown, Faulty}
 use Rattle.aud_verdict.specs.Verdict.{IsVerdict}
+use Rattle.aud_verdict.specs.EveryRun.{IsDelivered}
 
--- the certificate was made for the session and is accepted, and the verdict is yes with these numbers
+-- the certificate was made for the session and is accepted; the verdict is yes with these numbers; and in every run the
+-- client received what was due
 abbrev pub IsShown : Cluster → Text → CertificateSeen → Accepted → Type 0
-IsShown c pid cert counts = IsMade c pid cert × IsAccepted c cert × IsVerdict c pid (Yes counts.got counts.tail counts.turns)
+IsShown c pid cert counts =
+    IsMade c pid cert × IsAccepted c cert × IsVerdict c pid (Yes counts.got counts.tail counts.turns) × IsDelivered c pid counts.got counts.tail counts.turns
 
 -- a certificate that shows that the verdict is yes, or the fault with which it is no
 abbrev pub IsJudged : Cluster → Text → Judged → Type 0

@@ -1,6 +1,6 @@
 use Rattle.std.proofs.Common.{string_bytes}
 use Rattle.std.proofs.lemmas.List.{take_more}
-use Rattle.aud_app.specs.Decided.{IsSessionVerdict}
+use Rattle.aud_verdict.specs.Verdicts.{IsSessionVerdict}
 use Rattle.aud_report.proofs.EachLemmas.{one_more-map}
 use Rattle.aud_app.proofs.sessions.verdicts.Goals as goal
 

@@ -1,5 +1,5 @@
 use Rattle.std.proofs.Common.{take, map, string_bytes}
-use Rattle.aud_app.specs.Decided.{AreVerdicts}
+use Rattle.aud_verdict.specs.Verdicts.{AreVerdicts}
 use Rattle.aud_app.proofs.sessions.verdicts.Given as goal
 
 -- the verdicts on the sessions that were gone over

@@ -1,5 +1,5 @@
 use Rattle.aud_check.proofs.Ranks.{nothing_refuses}
-use Rattle.aud_verdict.proofs.AcceptanceLemmas.{accepted}
+use Rattle.aud_verdict.proofs.Unrefused.{accepted}
 use Rattle.aud_verdict.proofs.acceptance.accepted_exactly.Goals as goal
 
 pub returns : goal.returns

@@ -1,5 +1,5 @@
 use Rattle.aud_maker.specs.Made.{IsMade}
-use Rattle.aud_verdict.proofs.MadeLemmas.{whole}
+use Rattle.aud_verdict.proofs.Made.{whole}
 use Rattle.aud_verdict.proofs.acceptance.made_is_whole.Goals as goal
 
 pub returns : goal.returns

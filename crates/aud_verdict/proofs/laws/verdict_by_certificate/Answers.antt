@@ -1,5 +1,4 @@
-use Rattle.aud_verdict.proofs.ByCertificate.{not_made, accepted, first_found}
-use Rattle.aud_verdict.proofs.MadeLemmas.{refused_for}
+use Rattle.aud_verdict.proofs.Made.{not_made, accepted, first_found, refused_for}
 use Rattle.aud_verdict.proofs.laws.verdict_by_certificate.Goals as goal
 
 pub returns : goal.returns

@@ -1,4 +1,4 @@
-use Rattle.aud_verdict.proofs.MadeLemmas.{no_other}
+use Rattle.aud_verdict.proofs.Made.{no_other}
 use Rattle.aud_verdict.proofs.verdict.fault_found.Goals as goal
 
 pub unreachable-requires : goal.unreachable-requires

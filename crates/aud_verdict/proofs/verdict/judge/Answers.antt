@@ -1,4 +1,5 @@
-use Rattle.aud_verdict.proofs.MadeLemmas.{first_refusal, of_session}
+use Rattle.aud_report.specs.declared.verdict.Verdict.TheVariants.{Yes}
+use Rattle.aud_verdict.proofs.Made.{first_refusal, of_session}
 use Rattle.aud_verdict.proofs.verdict.judge.Goals as goal
 
 pub returns-in-Ok-check : goal.returns-in-Ok-check
@@ -8,7 +9,7 @@ returns-in-Ok-check c =
     let counts = c.in-Ok-check.counts in
     let yes = c.verdict_by_certificate.ensures.accepted c.args.recording.now c.args.pid.now c.in-Ok.cert counts.got counts.tail counts.turns c.named_once.ensures made
     answer.accepted answer.got answer.tail answer.turns in
-    (made, answer.accepted, yes)
+    (made, answer.accepted, yes, c.verdict_in_every_run.ensures.all c.args.recording.now c.args.pid.now (Yes counts.got counts.tail counts.turns) yes)
 
 pub fault_found-requires : goal.fault_found-requires
 fault_found-requires c =
