@@ -1,4 +1,4 @@
--- The verdict on each session, and its certificate.
+-- The certificate of each session that is answered yes.
 use Rattle.std.specs.Prelude.{◌≡◌, List, Option, Some, None}
 use Rattle.aud_node.specs.Stream.{Text}
 use Rattle.aud_node.specs.Cluster.{Cluster}
@@ -7,18 +7,9 @@ use Rattle.aud_cert.specs.Certificate.{CertificateSeen}
 use Rattle.aud_cert_text.specs.Text.{certificate_text}
 use Rattle.aud_check.specs.declared.certificate.Accepted.{Accepted}
 use Rattle.aud_report.specs.declared.verdict.Verdict.TheVariants.{No}
-use Rattle.aud_report.specs.declared.verdict.SessionVerdict.{SessionVerdict}
 use Rattle.aud_report.specs.OneForEach.{OneForEach}
 use Rattle.aud_verdict.specs.Verdict.{IsVerdict}
-use Rattle.aud_verdict.specs.Judged.{IsShown, HasCertificate}
-
--- the answer on a session: the verdict, and where that is yes an accepted certificate shows it
-abbrev pub IsSessionVerdict : Cluster → Text → SessionVerdict → Type 0
-IsSessionVerdict c pid entry = (entry.pid ≡ pid) × IsVerdict c pid entry.verdict × HasCertificate c pid entry.verdict
-
--- the answers on these sessions, one for each, in order
-abbrev pub AreVerdicts : Cluster → List Text → List SessionVerdict → Type 0
-AreVerdicts c = OneForEach (IsSessionVerdict c)
+use Rattle.aud_verdict.specs.Judged.{IsShown}
 
 -- the text of the session's certificate, where the verdict is yes; none where it is no
 abbrev pub IsProof : Cluster → Text → Option Text → Type 0
