@@ -6,7 +6,8 @@ use Rattle.aud_node.specs.Cluster.{Cluster}
 use Rattle.aud_report.specs.declared.verdict.Verdict.{Verdict}
 use Rattle.aud_report.specs.declared.verdict.SessionVerdict.{SessionVerdict}
 use Rattle.aud_report.specs.Verdict.{is_yes}
-use Rattle.aud_desk.specs.Verdicts.{IsVerdictOn, IsVerdictAt, AreVerdicts, session_verdict}
+use Rattle.aud_verdict.specs.Verdicts.{IsVerdictOn, IsVerdictAt, AreVerdicts}
+use Rattle.aud_desk.specs.Named.{session_verdict}
 
 -- no more are yes than there are
 pub yes_at_most : (entries : List SessionVerdict) → count_by is_yes entries ≤ length entries

@@ -1,7 +1,7 @@
 //! One worker: it draws until there is no index left, and decides each that it drew.
 ghost use Rattle.std.specs.Prelude.{◌≡◌, [], IfOk, IfErr, length, map, string_bytes};
 ghost use Rattle.aud_desk.specs.Faults.{IsMemory};
-ghost use Rattle.aud_desk.specs.Verdicts.{IsVerdictAt};
+ghost use Rattle.aud_verdict.specs.Verdicts.{IsVerdictAt};
 ghost use Rattle.aud_desk.specs.Views.{IsSeatOf, drawn};
 ghost use Rattle.aud_desk.specs.Workers.{IsWorkOf};
 

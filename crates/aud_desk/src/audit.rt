@@ -4,7 +4,8 @@ ghost use Rattle.aud_report.specs.declared.verdict.Verdict.{Verdict};
 ghost use Rattle.aud_report.specs.Verdict.{is_yes};
 ghost use Rattle.aud_maker.specs.Sessions.{sessions_of};
 ghost use Rattle.aud_desk.specs.Faults.{IsNotWorkers};
-ghost use Rattle.aud_desk.specs.Verdicts.{AreVerdicts, IsVerdictAt, session_verdict};
+ghost use Rattle.aud_verdict.specs.Verdicts.{AreVerdicts, IsVerdictAt};
+ghost use Rattle.aud_desk.specs.Named.{session_verdict};
 
 use crate::at_once::decide_all;
 use crate::decide::Sessions;

@@ -33,7 +33,7 @@ pub struct Sessions<'s, 'a> {
 
 impl<'s, 'a> Decide for Sessions<'s, 'a> {
     ghost use Rattle.std.specs.Prelude.{length, map, string_bytes};
-    ghost use Rattle.aud_desk.specs.Verdicts.{IsVerdictAt};
+    ghost use Rattle.aud_verdict.specs.Verdicts.{IsVerdictAt};
 
     ghost count = { λ s. length s.pids.now };
 

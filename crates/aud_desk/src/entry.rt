@@ -13,7 +13,7 @@ pub struct Entry {
 }
 
 impl Entry {
-    ghost use Rattle.aud_desk.specs.Verdicts.{IsVerdictAt};
+    ghost use Rattle.aud_verdict.specs.Verdicts.{IsVerdictAt};
 
     /// The verdict on the session with this index, which counts from 0.
     pub fn decide(

@@ -1,5 +1,5 @@
 -- What a verdict says of every run.
-use Rattle.std.proofs.Common.{◌≡◌, ◌+◌, ℕ, List, map, length, Some, sym, ap, subst, ◌∙◌, arith}
+use Rattle.std.proofs.Common.{◌≡◌, ℕ, List, map, length, Some, sym, ap, subst, ◌∙◌}
 use Rattle.aud_node.specs.Stream.{Text}
 use Rattle.aud_node.specs.Cluster.{Cluster}
 use Rattle.aud_rooms.specs.Turns.{Who, Turn, IsChain, slice_of}
@@ -10,14 +10,16 @@ use Rattle.aud_merge.specs.Due.{due}
 use Rattle.aud_merge.specs.ByTurns.{IsPrefixOf}
 use Rattle.aud_cert.specs.declared.fault.Fault.{Fault}
 use Rattle.aud_cert.specs.declared.fault.Fault.TheVariants.{Extra, Doubled, Swapped, Lost}
-use Rattle.aud_check.specs.Frames.{AreEntries}
 use Rattle.aud_check.specs.Faults.{IsReceived, mismatch_fault}
 use Rattle.aud_check.proofs.Agreed.{mismatch-none}
 use Rattle.aud_check.proofs.Ranks.{no_mismatch}
-use Rattle.aud_verdict.specs.Session.{SessionLogs, IsSession, session_case, received_by, due_to, positions}
-use Rattle.aud_verdict.specs.Faults.{Holds, NoneHolds, HoldsFirst, IsMisdelivery}
-use Rattle.aud_verdict.specs.Verdict.{IsYes}
-use Rattle.aud_verdict.proofs.Sessions.{at_session, held}
+use Rattle.aud_report.specs.declared.verdict.Verdict.{Verdict}
+use Rattle.aud_report.specs.declared.verdict.Verdict.TheVariants.{Yes, No}
+use Rattle.aud_verdict.specs.Session.{SessionLogs, IsSession, session_case, due_to, positions}
+use Rattle.aud_verdict.specs.Faults.{Holds, IsMisdelivery}
+use Rattle.aud_verdict.specs.Verdict.{IsYes, IsVerdict}
+use Rattle.aud_verdict.specs.EveryRun.{IsDelivered, IsMisdelivered, HoldsInEveryRun}
+use Rattle.aud_verdict.proofs.Sessions.{one_session, held}
 use Rattle.aud_verdict.proofs.ByCertificate.{late, as_held}
 use Rattle.aud_verdict.proofs.Cases.{all_received}
 
@@ -25,36 +27,48 @@ use Rattle.aud_verdict.proofs.Cases.{all_received}
 abbrev pub DueByTurns : Type 0
 DueByTurns = (c : Cluster) (run : List Step) (who : Who) (turns : List Turn) → IsRun c run → IsChain c who turns → due c run who.pid ≡ turns_due c.stream who (map (slice_of c) turns)
 
-module _ (c : Cluster) (pid : Text) (s : SessionLogs) (is : IsSession c pid s) where
-  -- nothing is wrong with what a session without faults received
-  pub is_received : NoneHolds c pid → IsReceived (session_case c s)
-  is_received none = all_received (session_case c s) (λ fault h. none fault (held c pid s is fault (late (session_case c s) fault h) (as_held c s fault h)))
-
-  -- what is due to it in a run
-  pub due_in : DueByTurns → (run : List Step) → IsRun c run → due c run pid ≡ due_to c s
-  due_in law run is_run = ap (due c run) (sym is.names) ∙ law c run s.who s.turns is_run is.chain
-
-  mismatched : (fault : Fault) → mismatch_fault (session_case c s) ≡ Some fault → IsPrefixOf (positions c s) (due_to c s) → ⊥
-  mismatched fault h prefix = no_mismatch (session_case c s) ((mismatch-none (positions c s) (due_to c s)).1 prefix) fault h
-
-  pub not_delivered : (fault : Fault) → IsMisdelivery fault → Holds c pid fault → IsPrefixOf (positions c s) (due_to c s) → ⊥
-  not_delivered (Extra off) about h = mismatched (Extra off) (at_session c pid s is (Extra off) (omega arith) h)
-  not_delivered (Doubled off) about h = mismatched (Doubled off) (at_session c pid s is (Doubled off) (omega arith) h)
-  not_delivered (Swapped off) about h = mismatched (Swapped off) (at_session c pid s is (Swapped off) (omega arith) h)
-  not_delivered (Lost off) about h = mismatched (Lost off) (at_session c pid s is (Lost off) (omega arith) h)
-  not_delivered _ about h = absurd about
-
 module _ (law : DueByTurns) (c : Cluster) (pid : Text) where
-  pub yes_in_run : (got tail turns : ℕ) (s : SessionLogs) (run : List Step) → IsYes c pid got tail turns → IsSession c pid s → IsRun c run → IsPrefixOf (positions c s) (due c run pid)
-  yes_in_run got tail turns s run it is is_run =
-      subst (IsPrefixOf (positions c s)) (sym (due_in c pid s is law run is_run)) (is_received c pid s is it.none_holds).is_prefix
+  -- what is due to a session in a run
+  due_in : (s : SessionLogs) → IsSession c pid s → (run : List Step) → IsRun c run → due c run pid ≡ due_to c s
+  due_in s is run is_run = ap (due c run) (sym is.names) ∙ law c run s.who s.turns is_run is.chain
 
-  pub counts_in_run : (got tail turns : ℕ) (run : List Step) → IsYes c pid got tail turns → IsRun c run → got + tail ≡ length (due c run pid)
-  counts_in_run got tail turns run it is_run = it.tail_is ∙ sym (ap (λ (ps : List ℕ). length ps) (due_in c pid it.session it.is_session law run is_run))
+  -- what a yes says of every run
+  delivered : (got tail turns : ℕ) → IsYes c pid got tail turns → IsDelivered c pid got tail turns
+  delivered got tail turns is =
+      let s = is.session in
+      let received : IsReceived (session_case c s) =
+      all_received (session_case c s) (λ fault h. is.none_holds fault (held c pid s is.is_session fault (late (session_case c s) fault h) (as_held c s fault h))) in
+      record {
+        session = s;
+        is_session = is.is_session;
+        is_only = λ other too. one_session c pid other s too is.is_session;
+        got_is = is.got_is;
+        turns_are = is.turns_are;
+        are_entries = received.are_entries;
+        is_front = λ run is_run. subst (IsPrefixOf (positions c s)) (sym (due_in s is.is_session run is_run)) received.is_prefix;
+        are_all = λ run is_run. is.tail_is ∙ sym (ap (λ (ps : List ℕ). length ps) (due_in s is.is_session run is_run));
+      }
 
-  pub entries : (got tail turns : ℕ) (s : SessionLogs) → IsYes c pid got tail turns → IsSession c pid s → AreEntries c.stream (received_by c s)
-  entries got tail turns s it is = (is_received c pid s is it.none_holds).are_entries
+  -- what is so in every run where what a session received and what is due to it by its turns part
+  parted : (fault : Fault) → (s : SessionLogs) × IsSession c pid s × (mismatch_fault (session_case c s) ≡ Some fault) → IsMisdelivered c pid
+  parted fault (s, is, h) =
+      record {
+        session = s;
+        is_session = is;
+        is_only = λ other too. one_session c pid other s too is;
+        is_no_front = λ run is_run prefix.
+            no_mismatch (session_case c s) ((mismatch-none (positions c s) (due_to c s)).1 (subst (IsPrefixOf (positions c s)) (due_in s is run is_run) prefix)) fault h;
+      }
 
-  pub no_in_run : (fault : Fault) (s : SessionLogs) (run : List Step) → HoldsFirst c pid fault → IsMisdelivery fault → IsSession c pid s → IsRun c run → IsPrefixOf (positions c s) (due c run pid) → ⊥
-  no_in_run fault s run first about is is_run prefix =
-      not_delivered c pid s is fault about first.holds (subst (IsPrefixOf (positions c s)) (due_in c pid s is law run is_run) prefix)
+  -- what a misdelivery says of every run
+  misdelivered : (fault : Fault) → Holds c pid fault → IsMisdelivery fault → IsMisdelivered c pid
+  misdelivered (Extra off) h about = parted (Extra off) h
+  misdelivered (Doubled off) h about = parted (Doubled off) h
+  misdelivered (Swapped off) h about = parted (Swapped off) h
+  misdelivered (Lost off) h about = parted (Lost off) h
+  misdelivered _ h about = absurd about
+
+  -- what a verdict says of every run
+  pub in_every_run : (verdict : Verdict) → IsVerdict c pid verdict → HoldsInEveryRun c pid verdict
+  in_every_run (Yes got tail turns) is = delivered got tail turns is
+  in_every_run (No fault) is = misdelivered fault is.holds

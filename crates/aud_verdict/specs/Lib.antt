@@ -11,3 +11,5 @@ pub mod Faults
 pub mod Verdict
 pub mod Refused
 pub mod Judged
+pub mod EveryRun
+pub mod Verdicts

@@ -22,6 +22,7 @@ ghost use Rattle.aud_verdict.specs.Session.{SessionLogs, IsSession, positions, r
 ghost use Rattle.aud_verdict.specs.Faults.{IsMisdelivery};
 ghost use Rattle.aud_verdict.specs.Verdict.{IsVerdict};
 ghost use Rattle.aud_verdict.specs.Refused.{fault_found};
+ghost use Rattle.aud_verdict.specs.EveryRun.{HoldsInEveryRun};
 
 use aud_merge::due_by_turns;
 
@@ -57,6 +58,7 @@ pub fn verdict_by_certificate()
 /// What a verdict says of every run: after a yes, what was received is a front of what is due, and each event is its
 /// entry; after `EXTRA`, `DOUBLED`, `SWAPPED` and `LOST` it is a front in none.
 pub fn verdict_in_every_run()
+    ensures all { (c : Cluster) (pid : Text) (verdict : Verdict) → IsVerdict c pid verdict → HoldsInEveryRun c pid verdict }
     ensures yes { (c : Cluster) (pid : Text) (got tail turns : ℕ) (s : SessionLogs) (run : List Step)
         → IsVerdict c pid (Yes got tail turns) → IsSession c pid s → IsRun c run
         → IsPrefixOf (positions c s) (due c run pid) }

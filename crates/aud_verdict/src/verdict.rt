@@ -1,10 +1,11 @@
 //! The verdict on a session: its certificate is made, and then checked.
 ghost use Rattle.std.specs.Prelude.{◌≡◌, IfOk, Some};
+ghost use Rattle.aud_verdict.specs.EveryRun.{HoldsInEveryRun};
 ghost use Rattle.aud_verdict.specs.Judged.{IsJudged, HasCertificate};
 ghost use Rattle.aud_verdict.specs.Refused.{fault_found, IsOfSession};
 ghost use Rattle.aud_verdict.specs.Verdict.{IsVerdict};
 
-use crate::laws::verdict_by_certificate;
+use crate::laws::{verdict_by_certificate, verdict_in_every_run};
 use aud_cert::{Certificate, Fault};
 use aud_check::{Accepted, Refusal, check};
 use aud_client::Recording;
@@ -65,7 +66,10 @@ pub fn judge<'a>(
 pub fn decide(alloc: Global, recording: &Recording<'_>, pid: &str) -> Result<Verdict, AllocError>
     ensures verdict { IfOk result (IsVerdict recording.now pid.now) }
     ensures certificate { IfOk result (HasCertificate recording.now pid.now) }
+    // Delivery in every run.
+    ensures every_run { IfOk result (HoldsInEveryRun recording.now pid.now) }
 {
+    verdict_in_every_run();
     match judge(alloc, recording, pid)? {
         Judged::Shown(_, counts) => {
             let Accepted { got, tail, turns } = counts;

@@ -4,7 +4,8 @@ use Rattle.aud_node.specs.Stream.{Text}
 use Rattle.aud_report.specs.declared.verdict.Verdict.{Verdict}
 use Rattle.aud_report.specs.declared.verdict.SessionVerdict.{SessionVerdict}
 use Rattle.aud_maker.specs.Sessions.{sessions_of}
-use Rattle.aud_desk.specs.Verdicts.{AreVerdicts, IsVerdictAt, session_verdict}
+use Rattle.aud_verdict.specs.Verdicts.{AreVerdicts, IsVerdictAt}
+use Rattle.aud_desk.specs.Named.{session_verdict}
 use Rattle.aud_desk.proofs.Reports.{named-each}
 use Rattle.aud_desk.proofs.audit.audit_with.Goals as goal
 

@@ -1,5 +1,5 @@
 use Rattle.std.proofs.Common.{◌≡◌, ◌++◌, length, map, zip}
-use Rattle.aud_desk.specs.Verdicts.{session_verdict}
+use Rattle.aud_desk.specs.Named.{session_verdict}
 use Rattle.aud_desk.proofs.audit.named.Given as goal
 
 abbrev pub invariant-loop-verdict : goal.invariant-loop-verdict

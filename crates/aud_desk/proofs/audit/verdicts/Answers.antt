@@ -1,6 +1,6 @@
 use Rattle.std.proofs.lemmas.List.Elements.{All-contains}
 use Rattle.aud_desk.specs.declared.entry.Entry.{Entry}
-use Rattle.aud_desk.specs.Verdicts.{IsVerdictAt}
+use Rattle.aud_verdict.specs.Verdicts.{IsVerdictAt}
 use Rattle.aud_desk.specs.Workers.{IsWorkOf, entry_of}
 use Rattle.std.specs.Prelude.{ℕ, map, string_bytes}
 use Rattle.aud_report.specs.declared.verdict.Verdict.{Verdict}

@@ -1,5 +1,5 @@
 -- The verdicts on the sessions of a recording.
-use Rattle.std.specs.Prelude.{◌≡◌, ℕ, List, Some, String, slice_get, string_bytes}
+use Rattle.std.specs.Prelude.{◌≡◌, ℕ, List, Some, slice_get}
 use Rattle.aud_node.specs.Stream.{Text}
 use Rattle.aud_node.specs.Cluster.{Cluster}
 use Rattle.aud_report.specs.declared.verdict.Verdict.{Verdict}
@@ -7,10 +7,12 @@ use Rattle.aud_report.specs.declared.verdict.SessionVerdict.{SessionVerdict}
 use Rattle.aud_report.specs.OneForEach.{OneForEach}
 use Rattle.aud_verdict.specs.Verdict.{IsVerdict}
 use Rattle.aud_verdict.specs.Judged.{HasCertificate}
+use Rattle.aud_verdict.specs.EveryRun.{HoldsInEveryRun}
 
--- this is the verdict on the session of this pid, and where it is yes an accepted certificate shows it
+-- this is the verdict on the session of this pid; where it is yes an accepted certificate shows it; and what it says
+-- holds in every run
 abbrev pub IsVerdictOn : Cluster → Text → Verdict → Type 0
-IsVerdictOn c pid verdict = IsVerdict c pid verdict × HasCertificate c pid verdict
+IsVerdictOn c pid verdict = IsVerdict c pid verdict × HasCertificate c pid verdict × HoldsInEveryRun c pid verdict
 
 -- this is the verdict on the session with this index
 abbrev pub IsVerdictAt : Cluster → List Text → ℕ → Verdict → Type 0
@@ -23,7 +25,3 @@ IsSessionVerdict c pid entry = (entry.pid ≡ pid) × IsVerdictOn c pid entry.ve
 -- the verdicts on these sessions, one for each, in order
 abbrev pub AreVerdicts : Cluster → List Text → List SessionVerdict → Type 0
 AreVerdicts c = OneForEach (IsSessionVerdict c)
-
--- a session's text and its verdict
-abbrev pub session_verdict : {Z : Type 0} → String Z × Verdict → SessionVerdict
-session_verdict p = record { pid = string_bytes p.0; verdict = p.1 }
