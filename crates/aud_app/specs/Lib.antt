@@ -1,5 +1,7 @@
-pub mod Decided
+pub mod Proofs
 pub mod Output
+pub mod Headline
+pub mod Private
 pub use Rattle.aud_options.specs.Words
 pub use Rattle.aud_streams.specs.Watched
 pub use Rattle.aud_streams.specs.Written
@@ -8,3 +10,4 @@ pub use Rattle.aud_report.specs.Report
 pub use Rattle.aud_answers.specs.Verified
 pub use Rattle.aud_verdict.specs.Judged
 pub use Rattle.aud_verdict.specs.Verdicts
+pub use Rattle.aud_verdict.specs.EveryRun

@@ -20,7 +20,7 @@ use Rattle.aud_answers.specs.Lines.{verification_of}
 use Rattle.aud_answers.specs.Verified.{AreAnswered}
 use Rattle.aud_streams.specs.Written.{AppendsFront}
 use Rattle.aud_verdict.specs.Verdicts.{AreVerdicts}
-use Rattle.aud_app.specs.Decided.{AreProofs}
+use Rattle.aud_app.specs.Proofs.{AreProofs}
 
 -- the output of an audit: the report of the verdicts on all sessions, in the order of their first mentions
 abbrev pub IsReport : Cluster → OutputSeen → Type 0

@@ -19,9 +19,10 @@
 //! ```
 #![tactic(auto)]
 
+mod audit;
+mod certificates;
 mod output;
 mod program;
-mod sessions;
 
 pub use aud_options::{Mode, Options, options};
 pub use aud_report::Status;

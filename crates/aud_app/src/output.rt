@@ -1,24 +1,22 @@
 //! What is written for an input.
-ghost use Rattle.std.specs.Prelude.{◌≡◌, IfOk, Ok};
+ghost use Rattle.std.specs.Prelude.{◌≡◌, ◌<◌, ◌≤◌, IfOk, IfErr, Ok};
 ghost use Rattle.aud_node.specs.Names.{AreNamedOnce};
-ghost use Rattle.aud_app.specs.Output.{IsReport, IsProving, IsVerification, IsOutputOn, IsOutputOver, IsOutput, layout_of};
+ghost use Rattle.aud_app.specs.Output.{IsProving, IsVerification, IsOutputOn, IsOutputOver, IsOutput, layout_of};
+ghost use Rattle.aud_app.specs.Private.Faults.{IsUndecided};
 
-use crate::sessions::{audit, prove};
+use crate::audit::audited;
+use crate::certificates::prove;
 use aud_answers::{answers, verification_on};
 use aud_client::Recording;
 use aud_input::{Input, Layout, read_input};
-use aud_options::Mode;
+use aud_options::{Mode, Options};
 use aud_reader::{Line, ReadFault};
-use aud_report::{Output, proving_on, refusal, report_on};
+use aud_report::{Output, proving_on, refusal};
+use aud_streams::RunFault;
 use std::alloc::{AllocError, Global};
-
-/// The report on the sessions of this recording.
-fn audited(alloc: Global, recording: &Recording<'_>) -> Result<Output, AllocError>
-    ensures { IfOk result (λ o. IsReport recording.now o) }
-{
-    let entries = audit(alloc, recording)?;
-    report_on(alloc, &entries)
-}
+use std::sync::Wait;
+use std::thread::Threads;
+use std::time::Clock;
 
 /// The certificates of the sessions of this recording.
 fn proved(alloc: Global, recording: &Recording<'_>) -> Result<Output, AllocError>
@@ -50,38 +48,55 @@ fn layout_of(mode: Mode) -> Layout
     }
 }
 
-/// What a mode writes over this recording and certificates.
-fn output_on(
+/// What is written over this recording and certificates.
+fn output_on<H: Threads + Wait + Clock + Sync>(
+    rt: &H,
     alloc: Global,
-    mode: Mode,
+    options: Options,
     recording: &Recording<'_>,
     certificates: &[Line],
-) -> Result<Output, AllocError>
-    ensures { IfOk result (λ o. IsOutputOn mode recording.now certificates.now o) }
+) -> Result<Output, RunFault>
+    requires { (0 < options.workers) × (options.workers ≤ 64) }
+    ensures output { IfOk result (λ o. IsOutputOn options.mode recording.now certificates.now o) }
+    ensures err { IfErr result IsUndecided }
 {
-    match mode {
-        Mode::Audit => audited(alloc, recording),
-        Mode::Prove => proved(alloc, recording),
-        Mode::Verify => verified(alloc, recording, certificates),
+    match options.mode {
+        Mode::Audit => audited(rt, alloc, options.workers, recording),
+        Mode::Prove => Ok(proved(alloc, recording)?),
+        Mode::Verify => Ok(verified(alloc, recording, certificates)?),
     }
 }
 
-/// What a mode writes for the taps and the certificates of its input.
-fn output_over(alloc: Global, mode: Mode, input: &Input) -> Result<Output, AllocError>
-    requires { AreNamedOnce input.now.taps }
-    ensures { IfOk result (λ o. IsOutputOver mode (Ok input.now) o) }
+/// What is written for the taps and the certificates of an input.
+fn output_over<H: Threads + Wait + Clock + Sync>(
+    rt: &H,
+    alloc: Global,
+    options: Options,
+    input: &Input,
+) -> Result<Output, RunFault>
+    requires names { AreNamedOnce input.now.taps }
+    requires workers { (0 < options.workers) × (options.workers ≤ 64) }
+    ensures output { IfOk result (λ o. IsOutputOver options.mode (Ok input.now) o) }
+    ensures err { IfErr result IsUndecided }
 {
     let recording = Recording::read(alloc, &input.taps)?;
-    output_on(alloc, mode, &recording, &input.certificates)
+    output_on(rt, alloc, options, &recording, &input.certificates)
 }
 
-/// What a mode writes for these bytes; nothing but these bytes is looked at. They are let go before the logs are made.
-pub fn output_of(alloc: Global, mode: Mode, bytes: Vec<u8>) -> Result<Output, AllocError>
-    ensures { IfOk result (λ o. IsOutput mode bytes.items o) }
+/// What is written for these bytes; nothing but these bytes is looked at. They are let go before the logs are made.
+pub fn output_of<H: Threads + Wait + Clock + Sync>(
+    rt: &H,
+    alloc: Global,
+    options: Options,
+    bytes: Vec<u8>,
+) -> Result<Output, RunFault>
+    requires { (0 < options.workers) × (options.workers ≤ 64) }
+    ensures output { IfOk result (λ o. IsOutput options.mode bytes.items o) }
+    ensures err { IfErr result IsUndecided }
 {
-    match read_input(alloc, layout_of(mode), bytes) {
-        Ok(input) => output_over(alloc, mode, &input),
-        Err(ReadFault::Input(line, code)) => refusal(alloc, line, code),
-        Err(ReadFault::Memory) => Err(AllocError),
+    match read_input(alloc, layout_of(options.mode), bytes) {
+        Ok(input) => output_over(rt, alloc, options, &input),
+        Err(ReadFault::Input(line, code)) => Ok(refusal(alloc, line, code)?),
+        Err(ReadFault::Memory) => Err(RunFault::Memory),
     }
 }

@@ -1,20 +1,23 @@
 //! A whole run: bytes in, the report on them out.
 ghost use Rattle.std.specs.Prelude.{◌≡◌, ◌≤◌, ◌<◌, ◌⊎◌, true, IfOk, OnOk, Err};
 ghost use Rattle.aud_streams.specs.Watched.{inner_of, calls_of, has_failed};
+ghost use Rattle.aud_app.specs.Headline.{ReportHoldsOf};
 ghost use Rattle.aud_app.specs.Output.{IsOutputOf, Writes, WritesFront};
 
 use crate::output::output_of;
-use aud_options::Options;
+use aud_options::{Mode, Options};
 use aud_report::{Output, Status};
 use aud_streams::{READ_LIMIT, RunFault, Watched, read_all, write_out};
 use std::alloc::Global;
 use std::io::{Read, Write};
 use std::sync::Wait;
 use std::thread::Threads;
+use std::time::Clock;
 
-/// Reads the input to its end, decides, and only then writes.
-pub fn run<H: Wait + Threads, R: Read, W: Write>(
-    _rt: &H,
+/// Reads the input to its end, decides, and only then writes. An audit starts so many workers, each in a thread of its
+/// own; how many they are changes nothing in what is written. The other modes start none.
+pub fn run<H: Threads + Wait + Clock + Sync, R: Read, W: Write>(
+    rt: &H,
     alloc: Global,
     input: &mut Watched<R>,
     output: &mut Watched<W>,
@@ -25,6 +28,9 @@ pub fn run<H: Wait + Threads, R: Read, W: Write>(
 
     // What was written is the mode's output over what the reader had left, whole, and the run ends as that output does.
     ensures ok { IfOk result (Writes (W.contents (inner_of output.old)) (W.contents (inner_of output.new)) (IsOutputOf options.mode (R.remaining (inner_of input.old)))) }
+    // Each line of an audit holds in every run: after a yes, the client received what was due to its session; after a no
+    // for an event that was extra, doubled, swapped or lost, it did not.
+    ensures every_run { options.mode ≡ Mode.Audit → IfOk result (Writes (W.contents (inner_of output.old)) (W.contents (inner_of output.new)) (ReportHoldsOf (R.remaining (inner_of input.old)))) }
     // No read or write that failed was tried again.
     ensures unfailed { OnOk result ((has_failed input.new ≡ has_failed input.old) × (has_failed output.new ≡ has_failed output.old)) }
     // After a failed write a front of that output was written.
@@ -36,7 +42,7 @@ pub fn run<H: Wait + Threads, R: Read, W: Write>(
     ensures write { result ≡ Err RunFault.Write → has_failed output.new ≡ true }
 {
     let bytes = read_all(alloc, input)?;
-    let Output { status, text } = output_of(alloc, options.mode, bytes)?;
+    let Output { status, text } = output_of(rt, alloc, options, bytes)?;
     write_out(output, text.as_bytes())?;
     Ok(status)
 }

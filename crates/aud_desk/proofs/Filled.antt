@@ -11,11 +11,13 @@ use Rattle.aud_desk.specs.Workers.{entry_of, indices, HasEntry}
 use Rattle.aud_desk.specs.declared.worker.Worker.{Worker}
 
 module _ {X : Type 0} where
+  -- what stands at a place after it was set
   pub get-set_same : (xs : List X) (j : ℕ) (x : X) → j < length xs → slice_get (set xs j x) j ≡ Some x
   get-set_same [] j x h = absurd (omega arith)
   get-set_same (y ∷ ys) zero x h = refl
   get-set_same (y ∷ ys) (suc j) x h = get-set_same ys j x (omega arith)
 
+  -- and at every other place
   pub get-set_other : (xs : List X) (j i : ℕ) (x : X) → i ≢ j → slice_get (set xs j x) i ≡ slice_get xs i
   get-set_other [] j i x h = refl
   get-set_other (y ∷ ys) zero zero x h = absurd (h refl)
@@ -34,6 +36,7 @@ put-found slots e i verdict room has = dite (ℕ_discrete i e.index)
     inr (λ k. record { index = index k; verdict = mine k }))
     (λ apart. inl (sym (get-set_other slots e.index i (Some e.verdict) apart) ∙ has))
 
+-- after an entry was put, its place is full, and each that was
 pub put-full : (slots : List (Option Verdict)) (e : Entry) (i : ℕ) → e.index < length slots → (i ≡ e.index) ⊎ IsFull slots i → IsFull (set slots e.index (Some e.verdict)) i
 put-full slots e i room was =
     let here : i ≡ e.index → IsFull (set slots e.index (Some e.verdict)) i = λ same. subst (IsFull (set slots e.index (Some e.verdict))) (sym same) (e.verdict, get-set_same slots e.index (Some e.verdict) room) in
@@ -57,6 +60,7 @@ times-below n i (x ∷ xs) h = by_test n i x xs h (times-below n i xs h) (nat_lt
     by_test n i x xs h ih true is = rw is (omega (arith, ih))
     by_test n i x xs h ih false is = let past : n ≤ x = ltb-false x n is in let apart : is_same i x ≡ 0 = rw (ne_eqb x i (λ e. absurd (omega arith))) refl in rw is (omega arith)
 
+-- those below n are below n
 all-below : (n : ℕ) (xs : List ℕ) → All (λ x. x < n) (below n xs)
 all-below n [] k d h = absurd (omega arith)
 all-below n (x ∷ xs) k d h = by_test n x xs (all-below n xs) (nat_lt x n) refl k d h

@@ -7,9 +7,10 @@ use Rattle.atomic_table.proofs.Lists.{at_set, at_snoc}
 use Rattle.aud_desk.specs.declared.seat_view.SeatView.{SeatView}
 use Rattle.aud_desk.specs.declared.seat_view.Bound.{Bound}
 use Rattle.aud_desk.specs.Draws.{weigh, is_late, late_count}
-use Rattle.aud_desk.specs.Tickets.{Fits, TicketLists, made, stays, starts, claimed, Claims, joined, ended}
-use Rattle.aud_desk.proofs.Lists.{total-set, total-push, total-at, weigh-append, late-below, cost, reach-le}
+use Rattle.aud_desk.specs.Tickets.{Fits, TicketLists, made, one_pass_fewer, starts, claimed, Claims, joined, ended}
+use Rattle.aud_desk.proofs.Lists.{total-set, total-push, total-at, weigh-append, late-below, cost, past_all-le}
 
+-- make: nothing is drawn, and the one seat has all passes
 pub makes : (k : Bound) → 0 < k.seats → k.n + k.seats < 2 ^ 64 → TicketLists k (opening (0 ∷ []) [] (made k))
 makes k some_seat room = record {
   room = room;
@@ -23,6 +24,7 @@ makes k some_seat room = record {
     at_snoc_fit zero v e = subst (Fits k) (some-injective (made k) v e) ((λ _. (refl, refl, λ none_left. absurd (omega arith))), λ dead. absurd (cc))
     at_snoc_fit (suc id) v e = absurd (some-ne-none v (sym e))
 
+-- claim: a live seat with a pass draws the next number
 pub claims : (k : Bound) (slots id : ℕ) (me : Me (Unit {0}) SeatView) → me.0.live ≡ true → 0 < me.0.passes
     → Allows (TicketLists k) slots id me 0 (λ x. (x + 1) % 2 ^ 64) (Claims (step slots 0 1 0 none) me)
 claims k slots id me live has s r _ at small =
@@ -58,12 +60,13 @@ claims k slots id me live has s r _ at small =
             (λ there. r.seats_fit j u there.1)
             (at_set s.views id j w u e);
       },
-      (refl, reach-le v.drawn x fresh),
+      (refl, past_all-le v.drawn x fresh),
     )
 
-pub splits : (k : Bound) (id : ℕ) (v : SeatView) → v.live ≡ true → 1 < v.passes → Splits (TicketLists k) id v (stays v) (starts v)
+-- split: a live seat with more than one pass hands one to a new seat
+pub splits : (k : Bound) (id : ℕ) (v : SeatView) → v.live ≡ true → 1 < v.passes → Splits (TicketLists k) id v (one_pass_fewer v) (starts v)
 splits k id v live more s r at =
-    let w : SeatView = stays v in
+    let w : SeatView = one_pass_fewer v in
     let n : SeatView = starts v in
     let fit = (r.seats_fit id v at).0 live in record {
       room = r.room;
@@ -85,6 +88,7 @@ splits k id v live more s r at =
           (at_snoc (set s.views id w) n u j e);
     }
 
+-- join: a live seat takes over what another drew, and its passes
 pub joins : (k : Bound) (id : ℕ) (v : SeatView) (other : ℕ) (w : SeatView) → v.live ≡ true → Joins (TicketLists k) id v other w (joined v w) ended
 joins k id v other w live s r at apart at' =
     let b : SeatView = joined v w in

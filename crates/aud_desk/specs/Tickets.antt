@@ -5,8 +5,9 @@ use lib.ListN.{get_elem?}
 use Rattle.atomic_table.specs.Table.{State, Me, Step}
 use Rattle.aud_desk.specs.declared.seat_view.SeatView.{SeatView}
 use Rattle.aud_desk.specs.declared.seat_view.Bound.{Bound}
-use Rattle.aud_desk.specs.Draws.{weigh, weigh_below, late_count, reach}
+use Rattle.aud_desk.specs.Draws.{weigh, weigh_below, late_count, past_all}
 
+-- a view with these parts
 abbrev pub seat_view : ℕ → ℕ → ℕ → List ℕ → Bool → SeatView
 seat_view n seats passes drawn live = record { n = n; seats = seats; passes = passes; drawn = drawn; live = live }
 
@@ -29,14 +30,23 @@ pub record TicketLists (k : Bound) (s : State (Unit {0}) SeatView) : Type 0 wher
   pub passes : total (λ v. v.passes) s.views + total (λ v. late_count k.n v.drawn) s.views ≡ k.seats
   pub seats_fit : (id : ℕ) (v : SeatView) → get_elem? s.views id ≡ some v → Fits k v
 
+-- the word: the next number to be drawn
+abbrev pub next_number : State (Unit {0}) SeatView → ℕ
+next_number s = slice_index s.words 0
+
+-- the seat at this place has this view
+abbrev pub IsSeatAt : State (Unit {0}) SeatView → ℕ → SeatView → Type 0
+IsSeatAt s id v = get_elem? s.views id ≡ some v
+
 -- make: the one seat has a pass for each seat asked for
 abbrev pub made : Bound → SeatView
 made k = seat_view k.n k.seats k.seats [] true
 
 -- split: the stepping seat hands one pass to the new seat
-abbrev pub stays : SeatView → SeatView
-stays v = seat_view v.n v.seats (v.passes - 1) v.drawn v.live
+abbrev pub one_pass_fewer : SeatView → SeatView
+one_pass_fewer v = seat_view v.n v.seats (v.passes - 1) v.drawn v.live
 
+-- and the new seat starts with that pass
 abbrev pub starts : SeatView → SeatView
 starts v = seat_view v.n v.seats 1 [] true
 
@@ -44,12 +54,14 @@ starts v = seat_view v.n v.seats 1 [] true
 abbrev pub claimed : SeatView → ℕ → SeatView
 claimed v x = seat_view v.n v.seats (if nat_lt x v.n then v.passes else (v.passes - 1)) (v.drawn ++ x ∷ []) v.live
 
+-- and the number is past all that the seat drew
 abbrev pub Claims : Step (Unit {0}) → Me (Unit {0}) SeatView → ℕ → Me (Unit {0}) SeatView → Type 0
-Claims st m x m' = (m' ≡ (claimed m.0 x, m.1)) × (reach m.0.drawn ≤ x)
+Claims st m x m' = (m' ≡ (claimed m.0 x, m.1)) × (past_all m.0.drawn ≤ x)
 
 -- join: the staying seat takes over list and passes
 abbrev pub joined : SeatView → SeatView → SeatView
 joined v w = seat_view v.n v.seats (v.passes + w.passes) (v.drawn ++ w.drawn) v.live
 
+-- and nothing is left of the other
 abbrev pub ended : SeatView
 ended = seat_view 0 0 0 [] false

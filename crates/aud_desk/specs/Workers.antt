@@ -4,15 +4,15 @@ use Rattle.aud_desk.specs.declared.entry.Entry.{Entry}
 use Rattle.aud_desk.specs.declared.tickets.Tickets.{Tickets}
 use Rattle.aud_desk.specs.declared.worker.Worker.{Worker}
 use Rattle.aud_report.specs.declared.verdict.Verdict.{Verdict}
-use Rattle.aud_desk.specs.Views.{IsOf}
+use Rattle.aud_desk.specs.Views.{IsSeatOf}
 
 -- each entry has what is so of its index
-abbrev pub AreEntries : (ℕ → Verdict → Type 0) → List Entry → Type 0
-AreEntries Is entries = All (λ e. Is e.index e.verdict) entries
+abbrev pub HaveVerdicts : (ℕ → Verdict → Type 0) → List Entry → Type 0
+HaveVerdicts Is entries = All (λ e. Is e.index e.verdict) entries
 
 -- a worker of these tickets, each of whose entries has what is so of its index
 abbrev pub IsWorkOf : Tickets → (ℕ → Verdict → Type 0) → Worker → Type 0
-IsWorkOf t Is w = IsOf t w.seat × AreEntries Is w.entries.items
+IsWorkOf t Is w = IsSeatOf t w.seat × HaveVerdicts Is w.entries.items
 
 -- the entry of this index with this verdict
 abbrev pub entry_of : ℕ → Verdict → Entry

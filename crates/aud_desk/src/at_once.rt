@@ -1,7 +1,7 @@
 //! All workers at once, each in a thread of its own.
 ghost use Rattle.std.specs.Prelude.{◌≡◌, [], IfOk, IfErr, All, vec_len};
 ghost use Rattle.aud_desk.specs.Faults.{IsMemory, IsNotWorkers};
-ghost use Rattle.aud_desk.specs.Views.{IsOf, drawn};
+ghost use Rattle.aud_desk.specs.Views.{IsSeatOf, drawn};
 ghost use Rattle.aud_desk.specs.Workers.{IsWorkOf};
 
 use crate::at_work::work_on;
@@ -13,7 +13,7 @@ use crate::worker::Worker;
 use std::alloc::Global;
 use std::sync::Wait;
 use std::thread;
-use std::thread::{Promise, Scope, Threads};
+use std::thread::{Promise, PromisedHandle, Scope, Threads};
 use std::time::Clock;
 
 /// What a thread was asked to do, and so what its result promises.
@@ -35,8 +35,37 @@ impl<'a, T: Decide> Promise<Result<Worker, AuditFault>> for Job<'a, T> {
     ghost kept_by = { λ job r. IfOk r (IsWorkOf job.tickets.now (T.is_verdict job.task.now)) × IfErr r IsMemory };
 }
 
-/// Starts a thread for each seat, and waits for all.
-fn run_all<'s, E, T: Decide + Sync, G: Gate + Sync, R: Threads + Wait + Clock + Sync>(
+/// Starts a worker for this seat.
+fn start<'s, E, T: Decide + Sync, G: Gate + Sync, R: Threads + Wait + Clock + Sync>(
+    scope: &Scope<'s, E>,
+    rt: &'s R,
+    alloc: Global,
+    tickets: &'s Tickets,
+    task: &'s T,
+    seat: TicketSeat,
+    gate: &'s G,
+) -> Result<PromisedHandle<Result<Worker, AuditFault>, Job<'s, T>>, AuditFault>
+    requires seat { IsSeatOf tickets.now seat × (drawn seat ≡ []) }
+    requires count { tickets.now.n ≡ T.count task.now }
+    ensures job { IfOk result (λ h. (h.promise.tickets.now ≡ tickets.now) × (h.promise.task.now ≡ task.now)) }
+    ensures err { IfErr result IsNotWorkers }
+{
+    match scope.spawn_with(
+        Job { tickets, task },
+        move || -> Result<Worker, AuditFault>
+            requires seat { IsSeatOf tickets.now seat × (drawn seat ≡ []) }
+            requires count { tickets.now.n ≡ T.count task.now }
+            ensures ok { IfOk result (IsWorkOf tickets.entry.now (T.is_verdict task.entry.now)) }
+            ensures err { IfErr result IsMemory }
+        { work_on(rt, alloc, tickets, seat, task, gate) },
+    ) {
+        Ok(handle) => Ok(handle),
+        Err(_) => Err(AuditFault::Spawn),
+    }
+}
+
+/// Starts a worker for each seat. No worker is started where there is no memory for all.
+fn start_all<'s, E, T: Decide + Sync, G: Gate + Sync, R: Threads + Wait + Clock + Sync>(
     scope: &Scope<'s, E>,
     rt: &'s R,
     alloc: Global,
@@ -44,31 +73,36 @@ fn run_all<'s, E, T: Decide + Sync, G: Gate + Sync, R: Threads + Wait + Clock + 
     task: &'s T,
     mut seats: Vec<TicketSeat>,
     gate: &'s G,
-) -> Result<Vec<Worker>, AuditFault>
-    requires seats { All (λ s. IsOf tickets.now s × (drawn s ≡ [])) seats.items }
+) -> Result<Vec<PromisedHandle<Result<Worker, AuditFault>, Job<'s, T>>>, AuditFault>
+    requires seats { All (λ s. IsSeatOf tickets.now s × (drawn s ≡ [])) seats.items }
     requires count { tickets.now.n ≡ T.count task.now }
-    ensures len { IfOk result (λ ws. vec_len ws ≡ vec_len seats) }
-    ensures work { IfOk result (λ ws. All (IsWorkOf tickets.now (T.is_verdict task.now)) ws.items) }
+    ensures len { IfOk result (λ all. vec_len all ≡ vec_len seats) }
+    ensures jobs { IfOk result (λ all. All (λ h. (h.promise.tickets.now ≡ tickets.now) × (h.promise.task.now ≡ task.now)) all.items) }
     ensures err { IfErr result IsNotWorkers }
 {
-    let count = seats.len();
-    let mut handles = Vec::new(alloc);
+    let Ok(mut handles) = Vec::with_capacity(alloc, seats.len()) else {
+        return Err(AuditFault::Memory(0));
+    };
     while let Some(seat) = seats.pop() {
-        let Ok(handle) = scope.spawn_with(
-            Job { tickets, task },
-            move || -> Result<Worker, AuditFault>
-                requires seat { IsOf tickets.now seat × (drawn seat ≡ []) }
-                requires count { tickets.now.n ≡ T.count task.now }
-                ensures ok { IfOk result (IsWorkOf tickets.entry.now (T.is_verdict task.entry.now)) }
-                ensures err { IfErr result IsMemory }
-            { work_on(rt, alloc, tickets, seat, task, gate) },
-        ) else {
-            return Err(AuditFault::Spawn);
-        };
-        let Ok(()) = handles.push(handle) else {
-            return Err(AuditFault::Memory(0));
-        };
+        let handle = start(scope, rt, alloc, tickets, task, seat, gate)?;
+        handles.push_reserved(handle);
     }
+    Ok(handles)
+}
+
+/// What these workers hand back. Where memory could not be had, all of them are waited for, and the fault has the number
+/// of entries that they had made.
+fn wait_for_all<'s, T: Decide, R: Threads>(
+    rt: &R,
+    alloc: Global,
+    mut handles: Vec<PromisedHandle<Result<Worker, AuditFault>, Job<'s, T>>>,
+) -> Result<Vec<Worker>, AuditFault>
+    ensures len { IfOk result (λ ws. vec_len ws ≡ vec_len handles) }
+    ensures work { (t : Tickets) (task : T)
+        → All (λ h. (h.promise.tickets.now ≡ t) × (h.promise.task.now ≡ task)) handles.items
+        → IfOk result (λ ws. All (IsWorkOf t (T.is_verdict task)) ws.items) }
+    ensures err { IfErr result IsNotWorkers }
+{
     let mut workers = Vec::new(alloc);
     let mut made = 0usize;
     let mut refused = false;
@@ -77,7 +111,8 @@ fn run_all<'s, E, T: Decide + Sync, G: Gate + Sync, R: Threads + Wait + Clock + 
             Ok(worker) => {
                 made = made.saturating_add(worker.entries.len());
                 let Ok(()) = workers.push(worker) else {
-                    return Err(AuditFault::Memory(made));
+                    refused = true;
+                    continue;
                 };
             }
             Err(AuditFault::Memory(k)) => {
@@ -93,6 +128,26 @@ fn run_all<'s, E, T: Decide + Sync, G: Gate + Sync, R: Threads + Wait + Clock + 
     Ok(workers)
 }
 
+/// Starts a worker for each seat, and waits for all.
+fn run_all<'s, E, T: Decide + Sync, G: Gate + Sync, R: Threads + Wait + Clock + Sync>(
+    scope: &Scope<'s, E>,
+    rt: &'s R,
+    alloc: Global,
+    tickets: &'s Tickets,
+    task: &'s T,
+    seats: Vec<TicketSeat>,
+    gate: &'s G,
+) -> Result<Vec<Worker>, AuditFault>
+    requires seats { All (λ s. IsSeatOf tickets.now s × (drawn s ≡ [])) seats.items }
+    requires count { tickets.now.n ≡ T.count task.now }
+    ensures len { IfOk result (λ ws. vec_len ws ≡ vec_len seats) }
+    ensures work { IfOk result (λ ws. All (IsWorkOf tickets.now (T.is_verdict task.now)) ws.items) }
+    ensures err { IfErr result IsNotWorkers }
+{
+    let handles = start_all(scope, rt, alloc, tickets, task, seats, gate)?;
+    wait_for_all(rt, alloc, handles)
+}
+
 /// What a worker for each seat hands back.
 pub fn decide_all<T: Decide + Sync, G: Gate + Sync, R: Threads + Wait + Clock + Sync>(
     rt: &R,
@@ -102,7 +157,7 @@ pub fn decide_all<T: Decide + Sync, G: Gate + Sync, R: Threads + Wait + Clock + 
     seats: Vec<TicketSeat>,
     gate: &G,
 ) -> Result<Vec<Worker>, AuditFault>
-    requires seats { All (λ s. IsOf tickets.now s × (drawn s ≡ [])) seats.items }
+    requires seats { All (λ s. IsSeatOf tickets.now s × (drawn s ≡ [])) seats.items }
     requires count { tickets.now.n ≡ T.count task.now }
     ensures len { IfOk result (λ ws. vec_len ws ≡ vec_len seats) }
     ensures work { IfOk result (λ ws. All (IsWorkOf tickets.now (T.is_verdict task.now)) ws.items) }
@@ -112,7 +167,7 @@ pub fn decide_all<T: Decide + Sync, G: Gate + Sync, R: Threads + Wait + Clock + 
         thread::scope_env(),
         rt,
         move |scope| -> Result<Vec<Worker>, AuditFault>
-            requires seats { All (λ s. IsOf tickets.now s × (drawn s ≡ [])) seats.items }
+            requires seats { All (λ s. IsSeatOf tickets.now s × (drawn s ≡ [])) seats.items }
             requires count { tickets.now.n ≡ T.count task.now }
             ensures len { IfOk result (λ ws. vec_len ws ≡ vec_len seats) }
             ensures work { IfOk result (λ ws. All (IsWorkOf tickets.entry.now (T.is_verdict task.entry.now)) ws.items) }

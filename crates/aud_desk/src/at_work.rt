@@ -2,7 +2,7 @@
 ghost use Rattle.std.specs.Prelude.{◌≡◌, [], IfOk, IfErr, length, map, string_bytes};
 ghost use Rattle.aud_desk.specs.Faults.{IsMemory};
 ghost use Rattle.aud_verdict.specs.Verdicts.{IsVerdictAt};
-ghost use Rattle.aud_desk.specs.Views.{IsOf, drawn};
+ghost use Rattle.aud_desk.specs.Views.{IsSeatOf, drawn};
 ghost use Rattle.aud_desk.specs.Workers.{IsWorkOf};
 
 use crate::decide::{Decide, Sessions};
@@ -26,7 +26,7 @@ pub fn work<G: Gate, R: Wait + Clock>(
     sessions: &[String],
     gate: &G,
 ) -> Result<Worker, AuditFault>
-    requires seat { IsOf tickets.now seat × (drawn seat ≡ []) }
+    requires seat { IsSeatOf tickets.now seat × (drawn seat ≡ []) }
     requires sessions { tickets.now.n ≡ length sessions.now }
     ensures worker { IfOk result (IsWorkOf tickets.now (IsVerdictAt recording.now (map string_bytes sessions.now))) }
     ensures err { IfErr result IsMemory }
@@ -47,7 +47,7 @@ pub fn work_on<T: Decide, G: Gate, R: Wait + Clock>(
     task: &T,
     gate: &G,
 ) -> Result<Worker, AuditFault>
-    requires seat { IsOf tickets.now seat × (drawn seat ≡ []) }
+    requires seat { IsSeatOf tickets.now seat × (drawn seat ≡ []) }
     requires count { tickets.now.n ≡ T.count task.now }
     ensures worker { IfOk result (IsWorkOf tickets.now (T.is_verdict task.now)) }
     ensures err { IfErr result IsMemory }

@@ -3,7 +3,7 @@ ghost use Rattle.std.specs.Prelude.{◌≡◌, ◌<◌, ◌⊎◌, ℕ, Some, If
 ghost use Rattle.aud_report.specs.declared.verdict.Verdict.{Verdict};
 ghost use Rattle.aud_desk.specs.Draws.{late_count, times};
 ghost use Rattle.aud_desk.specs.Slots.{HasVerdict, IsFull};
-ghost use Rattle.aud_desk.specs.Views.{IsOf, drawn};
+ghost use Rattle.aud_desk.specs.Views.{IsSeatOf, drawn};
 ghost use Rattle.aud_desk.specs.Workers.{HasEntry, entry_of, indices};
 
 use crate::entry::Entry;
@@ -79,7 +79,7 @@ pub fn gather(
     tickets: Tickets,
     mut workers: Vec<Worker>,
 ) -> Result<Vec<Verdict>, AllocError>
-    requires seats { All (λ w. IsOf tickets w.seat) workers.items }
+    requires seats { All (λ w. IsSeatOf tickets w.seat) workers.items }
     requires all { vec_len workers ≡ tickets.seats }
     ensures len { IfOk result (λ verdicts. vec_len verdicts ≡ tickets.n) }
     ensures each { IfOk result (λ verdicts. (i : ℕ) (verdict : Verdict) → slice_get verdicts.items i ≡ Some verdict → HasEntry workers.items i verdict) }

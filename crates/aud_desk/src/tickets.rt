@@ -1,6 +1,6 @@
-//! TicketRule that threads draw, each once and none left out.
+//! Tickets that threads draw, each once and none left out.
 ghost use Rattle.std.specs.Prelude.{◌≡◌, ℕ, ◌+◌, ◌^◌, ◌<◌, ◌≤◌, true, false, [], ◌∷◌, ◌++◌, IfOk, IfSome, IfNone, vec_len, EachIndex, slice_get};
-ghost use Rattle.aud_desk.specs.Draws.{late_count, below, reach};
+ghost use Rattle.aud_desk.specs.Draws.{late_count, below, past_all};
 
 use crate::seat_view::{Bound, SeatView};
 use atomic_table::{Join, Play, Seat, Split, Table, TableRule};
@@ -21,9 +21,9 @@ impl TableRule<(), SeatView, Bound> for TicketRule {
 struct NewSeat;
 
 impl Split<SeatView> for NewSeat {
-    ghost use Rattle.aud_desk.specs.Tickets.{stays, starts};
+    ghost use Rattle.aud_desk.specs.Tickets.{one_pass_fewer, starts};
 
-    ghost left = { stays };
+    ghost left = { one_pass_fewer };
 
     ghost right = { starts };
 }
@@ -88,7 +88,7 @@ fn seated(seat: Seat<(), SeatView>) -> TicketSeat
 }
 
 impl Tickets {
-    ghost use Rattle.aud_desk.specs.Views.{drawn, IsOf, all_drawn, IsAllOf};
+    ghost use Rattle.aud_desk.specs.Views.{drawn, IsSeatOf, all_drawn, IsAllOf};
     ghost use Rattle.aud_desk.specs.Draws.{times};
     ghost use Rattle.std.specs.Prelude.{All};
 
@@ -101,7 +101,7 @@ impl Tickets {
         requires seats { (0 < seats) × (seats ≤ 64) }
         requires room { n + 64 < 2 ^ 64 }
         ensures counts { IfOk result (λ r. (r.0.n ≡ n) × (r.0.seats ≡ seats) × (vec_len r.1 ≡ seats)) }
-        ensures fresh { IfOk result (λ r. All (λ s. IsOf r.0 s × (drawn s ≡ [])) r.1.items) }
+        ensures fresh { IfOk result (λ r. All (λ s. IsSeatOf r.0 s × (drawn s ≡ [])) r.1.items) }
     {
         let about = Bound {
             n: n as u64,
@@ -127,9 +127,9 @@ impl Tickets {
     /// The next number below `n`, which no seat has drawn; or none, where each of them was drawn. A seat that got none
     /// makes no further step and gets none again. It never waits.
     pub fn claim(&self, held: TicketSeat) -> (Option<usize>, TicketSeat)
-        requires { IsOf self.now held }
-        ensures same { IsOf self.now result.1 }
-        ensures some { IfSome result.0 (λ x. (x < self.now.n) × (drawn result.1 ≡ drawn held ++ x ∷ []) × (reach (drawn held) ≤ x)) }
+        requires { IsSeatOf self.now held }
+        ensures same { IsSeatOf self.now result.1 }
+        ensures some { IfSome result.0 (λ x. (x < self.now.n) × (drawn result.1 ≡ drawn held ++ x ∷ []) × (past_all (drawn held) ≤ x)) }
         ensures none { IfNone result.0 ((below self.now.n (drawn result.1) ≡ below self.now.n (drawn held)) × (0 < late_count self.now.n (drawn result.1))) }
         ensures over { IfNone result.0 (result.1.over ≡ true) }
         ensures again { held.over ≡ true → (result.0 ≡ None) × (result.1 ≡ held) }
@@ -157,7 +157,7 @@ impl Tickets {
     /// Takes in one seat more.
     pub(crate) fn gather_next(&self, all: &mut Gathered, held: TicketSeat)
         requires all { IsAllOf self.now all.old }
-        requires held { IsOf self.now held }
+        requires held { IsSeatOf self.now held }
         ensures all { IsAllOf self.now all.new }
         ensures drawn { all_drawn all.new ≡ all_drawn all.old ++ drawn held }
     {

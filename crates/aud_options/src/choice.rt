@@ -15,6 +15,6 @@ pub enum Mode {
 #[derive(Clone, Copy, Debug, PartialEq, Eq, Drop)]
 pub struct Options {
     pub mode: Mode,
-    /// Threads to audit with, 1 to 64. One audits, whatever this is.
+    /// How many workers an audit has, each in a thread of its own: 1 to 64. The output is the same for every number.
     pub workers: u8,
 }

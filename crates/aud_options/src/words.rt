@@ -19,7 +19,7 @@ Exit status:
   0  every session received what was due to it, or every certificate is ok
   1  some session did not, or some certificate is bad
   2  a line of the bundle is refused; the output names it
-  3  a read or a write failed, or there was no memory
+  3  a read or a write failed, a thread could not be started, or there was no memory
   4  these words are not understood";
 
 const PROVE_ABOUT: &str =
@@ -57,7 +57,7 @@ fn audit<'a>(alloc: Global) -> Result<Command<'a>, AllocError> {
     let workers = Arg::new(alloc, "workers")
         .long("workers")
         .value_name("N")
-        .help("Threads to audit with, 1 to 64; today one audits, whatever N is")
+        .help("Threads to audit with, 1 to 64; the report is the same for every N")
         .value_parser(value_parser!(u8).range(1..65))
         .default_value("4");
     described(alloc, "audit", AUDIT_ABOUT, AUDIT_LINES).arg(workers)

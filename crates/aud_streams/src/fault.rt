@@ -14,7 +14,7 @@ pub enum RunFault {
     /// A write failed or took nothing.
     #[error("write")]
     Write,
-    /// A thread could not be started; not made yet, since one thread runs all.
+    /// A thread could not be started.
     #[error("thread")]
     Spawn,
 }

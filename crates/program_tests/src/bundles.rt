@@ -17,6 +17,27 @@ c1 {"k":"in","t":"42[\"hi\",\"1-0\"]"}
 /// What an audit of `BUNDLE_A` writes.
 pub const REPORT_A: &str = "yes P got=1 tail=0 turns=1\nsessions=1 yes=1 no=0\n";
 
+/// Two sessions, of which the event leaves out the first.
+pub const TWO_SESSIONS: &str = r#"st {"k":"tap","v":1,"of":"stream"}
+st {"k":"ev","off":"1-0","nsp":"/","rooms":[],"except":["s1"],"text":"2[\"hi\",\"1-0\"]"}
+a {"k":"tap","v":1,"of":"node"}
+a {"k":"start","off":null}
+a {"k":"open","pid":"P","sid":"s1","nsp":"/"}
+a {"k":"open","pid":"Q","sid":"s2","nsp":"/"}
+a {"k":"take","off":"1-0"}
+c1 {"k":"tap","v":1,"of":"client"}
+c1 {"k":"conn","c":1}
+c1 {"k":"in","t":"40{\"sid\":\"s1\",\"pid\":\"P\"}"}
+c2 {"k":"tap","v":1,"of":"client"}
+c2 {"k":"conn","c":1}
+c2 {"k":"in","t":"40{\"sid\":\"s2\",\"pid\":\"Q\"}"}
+c2 {"k":"in","t":"42[\"hi\",\"1-0\"]"}
+"#;
+
+/// What an audit of `TWO_SESSIONS` writes.
+pub const REPORT_OF_TWO: &str =
+    "yes P got=0 tail=0 turns=1\nyes Q got=1 tail=0 turns=1\nsessions=2 yes=2 no=0\n";
+
 /// Lines 1 to 6 of `BUNDLE_A`, and a seventh that is cut.
 pub const CUT: &str = r#"st {"k":"tap","v":1,"of":"stream"}
 st {"k":"ev","off":"1-0","nsp":"/","rooms":["r"],"text":"2[\"hi\",\"1-0\"]"}

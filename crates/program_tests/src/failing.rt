@@ -5,6 +5,7 @@ use aud_app::{Mode, Options, RunFault, Status, Watched, run};
 use std::alloc::Global;
 use std::sync::Wait;
 use std::thread::Threads;
+use std::time::Clock;
 
 const AUDIT: Options = Options {
     mode: Mode::Audit,
@@ -25,7 +26,13 @@ struct Seen {
 }
 
 /// An audit whose reader gives a byte a call and whose writer takes so many, until their calls are used up.
-fn audited<H: Wait + Threads>(rt: &H, alloc: Global, reads: u64, writes: u64, most: usize) -> Seen {
+fn audited<H: Threads + Wait + Clock + Sync>(
+    rt: &H,
+    alloc: Global,
+    reads: u64,
+    writes: u64,
+    most: usize,
+) -> Seen {
     let mut input = Watched::new(TestReader::new(BUNDLE_A.as_bytes(), reads));
     let mut output = Watched::new(TestWriter::new(alloc, writes, most));
     let outcome = run(rt, alloc, &mut input, &mut output, AUDIT);

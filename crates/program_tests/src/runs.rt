@@ -1,24 +1,25 @@
 //! Runs over memory: what a word of the command line makes of a bundle, and of certificates after it.
 use crate::bundles::{
     B_WITHOUT_SECOND_EVENT, BUNDLE_A, BUNDLE_B, CUT, LATER_HEADER, NOT_DUE, PROOF_A, REPORT_A,
-    STREAM_HEADER,
+    REPORT_OF_TWO, STREAM_HEADER, TWO_SESSIONS,
 };
 use aud_app::{Status, Watched, options, run};
 use std::alloc::{AllocError, Global};
 use std::sync::Wait;
 use std::test::Fail;
 use std::thread::Threads;
+use std::time::Clock;
 
-/// Whether the run for this word over an input ends so, and writes this text.
-fn gives<H: Wait + Threads>(
+/// Whether the run for these words over an input ends so, and writes this text.
+fn gives<H: Threads + Wait + Clock + Sync>(
     rt: &H,
     alloc: Global,
-    word: &str,
+    words: &[&str],
     input: &[u8],
     text: &str,
     status: Status,
 ) -> Result<bool, Fail> {
-    let options = options(alloc, &[word])?;
+    let options = options(alloc, words)?;
     let mut input = Watched::new(input);
     let mut output = Watched::new(Vec::new(alloc));
     let outcome = run(rt, alloc, &mut input, &mut output, options);
@@ -37,7 +38,7 @@ fn with_certificates(
 }
 
 /// A word, a bundle and certificates after it, and the text and the status of its output.
-static OUTPUTS: [(&str, &str, &str, &str, Status); 14] = [
+static OUTPUTS: [(&str, &str, &str, &str, Status); 16] = [
     ("audit", "", "", "sessions=0 yes=0 no=0\n", Status::AllYes),
     ("audit", BUNDLE_A, "", REPORT_A, Status::AllYes),
     (
@@ -46,6 +47,14 @@ static OUTPUTS: [(&str, &str, &str, &str, Status); 14] = [
         "",
         "no P EXTRA 1-0\nsessions=1 yes=0 no=1\n",
         Status::SomeNo,
+    ),
+    ("audit", TWO_SESSIONS, "", REPORT_OF_TWO, Status::AllYes),
+    (
+        "audit",
+        BUNDLE_B,
+        "",
+        "yes P got=2 tail=0 turns=2\nsessions=1 yes=1 no=0\n",
+        Status::AllYes,
     ),
     ("audit", CUT, "", "line 7: NotJson\n", Status::Refused),
     ("audit", "{}\n", "", "line 1: NoTapName\n", Status::Refused),
@@ -100,8 +109,27 @@ static OUTPUTS: [(&str, &str, &str, &str, Status); 14] = [
 fn outputs(rt: HostRuntime) -> Result<(), Fail> {
     for &(word, bundle, certificates, text, status) in &OUTPUTS {
         let input = with_certificates(rt.alloc(), bundle, certificates)?;
-        let is_so = gives(&rt, rt.alloc(), word, &input, text, status)?;
+        let is_so = gives(&rt, rt.alloc(), &[word], &input, text, status)?;
         assert!(rt; is_so, "{word}: {text}");
+    }
+    Ok(())
+}
+
+/// The words of an audit by one worker, by two and by 64.
+static AUDITS: [&[&str]; 3] = [
+    &["audit", "--workers", "1"],
+    &["audit", "--workers", "2"],
+    &["audit", "--workers", "64"],
+];
+
+#[test]
+fn any_number_of_workers_writes_the_same(rt: HostRuntime) -> Result<(), Fail> {
+    for &(word, bundle, _, text, status) in &OUTPUTS {
+        for &words in &AUDITS {
+            let is_so = word != "audit"
+                || gives(&rt, rt.alloc(), words, bundle.as_bytes(), text, status)?;
+            assert!(rt; is_so, "{words:?}: {text}");
+        }
     }
     Ok(())
 }
@@ -151,7 +179,7 @@ static LONG_LINES: [(&str, &str, usize, &str, Status); 4] = [
 fn a_line_of_4194304_bytes_is_read(rt: HostRuntime) -> Result<(), Fail> {
     for &(text, line, length, output, status) in &LONG_LINES {
         let input = with_padded(rt.alloc(), text, line, length)?;
-        let is_so = gives(&rt, rt.alloc(), "audit", &input, output, status)?;
+        let is_so = gives(&rt, rt.alloc(), &["audit"], &input, output, status)?;
         assert!(rt; is_so, "{length}: {output}");
     }
     Ok(())

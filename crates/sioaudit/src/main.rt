@@ -15,20 +15,9 @@ fn status_code(status: Status) -> ExitCode {
     }
 }
 
-/// The word for a fault.
-fn fault_word(fault: RunFault) -> &'static str {
-    match fault {
-        RunFault::Memory => "memory",
-        RunFault::Read => "read",
-        RunFault::Write => "write",
-        RunFault::Spawn => "thread",
-    }
-}
-
 /// Says why there is no report.
 fn fail(rt: &impl Eprint, fault: RunFault) -> ExitCode {
-    let word = fault_word(fault);
-    let _ = eprintln!(rt; "sioaudit: {word}");
+    let _ = eprintln!(rt; "sioaudit: {fault}");
     ExitCode::from(3)
 }
 

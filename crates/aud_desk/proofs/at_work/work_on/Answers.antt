@@ -2,9 +2,9 @@ use Rattle.std.proofs.Common.{[], ◌∷◌, ◌++◌, map, All, sym, ap, ◌∙
 use Rattle.std.proofs.lemmas.List.Elements.{All-push}
 use mathlib.Core.List.{map-append}
 use Rattle.aud_desk.specs.declared.entry.Entry.{Entry}
-use Rattle.aud_desk.specs.Draws.{below, reach}
+use Rattle.aud_desk.specs.Draws.{below, past_all}
 use Rattle.aud_desk.specs.Views.{drawn}
-use Rattle.aud_desk.proofs.Lists.{reach-push, below-push}
+use Rattle.aud_desk.proofs.Lists.{past_all-push, below-push}
 use Rattle.aud_desk.proofs.at_work.work_on.Goals as goal
 
 pub loop-index-smaller : goal.loop-index-smaller
@@ -12,7 +12,7 @@ loop-index-smaller g c =
     let some = rw c.in-Some.is at c.claim-claimed.ensures.some in
     let x = c.in-Some.index in
     let was = drawn c.loop-index.seat in
-    omega (arith, some.0, ap reach some.1, reach-push was x some.2)
+    omega (arith, some.0, ap past_all some.1, past_all-push was x some.2)
 
 pub loop-index-preserved : goal.loop-index-preserved
 loop-index-preserved g c =

@@ -6,7 +6,7 @@ use Rattle.std.proofs.lemmas.List.Elements.{Contains-append_left, Contains-push}
 use Rattle.aud_desk.specs.declared.worker.Worker.{Worker}
 use Rattle.aud_report.specs.declared.verdict.Verdict.{Verdict}
 use Rattle.aud_desk.specs.Draws.{times, late_count, is_late, is_same}
-use Rattle.aud_desk.specs.Views.{IsOf, drawn, all_drawn}
+use Rattle.aud_desk.specs.Views.{IsSeatOf, drawn, all_drawn}
 use Rattle.aud_desk.specs.Workers.{HasEntry}
 use Rattle.aud_desk.proofs.Lists.{weigh-append, all-init, all-last}
 use Rattle.aud_desk.proofs.Filled.{entry-among}
@@ -22,8 +22,8 @@ in_one i xs ys h = by_first (times i xs) (times i ys) (omega (arith, weigh-appen
 
 pub settle-requires : goal.settle-requires
 settle-requires c =
-    let was = subst (All (λ (w : Worker). IsOf c.args.tickets w.seat)) c.in-Some.ensures.items c.requires.seats in
-    let mine = all-last (λ (w : Worker). IsOf c.args.tickets w.seat) _ _ was in
+    let was = subst (All (λ (w : Worker). IsSeatOf c.args.tickets w.seat)) c.in-Some.ensures.items c.requires.seats in
+    let mine = all-last (λ (w : Worker). IsSeatOf c.args.tickets w.seat) _ _ was in
     omega (arith, mine.1, c.in_ok-slots.ensures.len, c.count.ensures)
 
 pub loop-worker-init : goal.loop-worker-init
@@ -32,7 +32,7 @@ loop-worker-init c =
     let first = c.in-Some.first in
     let rest = c.pop.new.self.items in
     let items = c.in-Some.ensures.items in
-    let P : Worker → Type 0 = λ w. IsOf t w.seat in
+    let P : Worker → Type 0 = λ w. IsSeatOf t w.seat in
     let was = subst (All P) items c.requires.seats in
     let seat = c.gather_first-all.ensures ∙ ap (λ s. s.seat) c.settle.ensures.seat.0 in
     let is = ap (λ s. s.me.0.drawn) seat in
@@ -53,15 +53,15 @@ loop-worker-init c =
 
 pub settle-requires-in-Some-pop : goal.settle-requires-in-Some-pop
 settle-requires-in-Some-pop c =
-    let was = subst (All (λ (w : Worker). IsOf c.args.tickets w.seat)) c.in-Some-pop.ensures.items c.loop-worker.invariant.mine in
-    let mine = all-last (λ (w : Worker). IsOf c.args.tickets w.seat) _ _ was in
+    let was = subst (All (λ (w : Worker). IsSeatOf c.args.tickets w.seat)) c.in-Some-pop.ensures.items c.loop-worker.invariant.mine in
+    let mine = all-last (λ (w : Worker). IsSeatOf c.args.tickets w.seat) _ _ was in
     omega (arith, mine.1, c.loop-worker.invariant.len)
 
 pub gather_next-requires-clause-held : goal.gather_next-requires-clause-held
 gather_next-requires-clause-held c =
-    let P : Worker → Type 0 = λ w. IsOf c.args.tickets w.seat in
+    let P : Worker → Type 0 = λ w. IsSeatOf c.args.tickets w.seat in
     let was = subst (All P) c.in-Some-pop.ensures.items c.loop-worker.invariant.mine in
-    subst (IsOf c.args.tickets) (sym c.settle-in-Some-pop.ensures.seat.0) (all-last P _ _ was)
+    subst (IsSeatOf c.args.tickets) (sym c.settle-in-Some-pop.ensures.seat.0) (all-last P _ _ was)
 
 pub loop-worker-preserved : goal.loop-worker-preserved
 loop-worker-preserved c =
@@ -69,7 +69,7 @@ loop-worker-preserved c =
     let inv = c.loop-worker.invariant in
     let worker = c.in-Some-pop.worker in
     let items = c.in-Some-pop.ensures.items in
-    let P : Worker → Type 0 = λ w. IsOf t w.seat in
+    let P : Worker → Type 0 = λ w. IsSeatOf t w.seat in
     let was = subst (All P) items inv.mine in
     let settled = c.settle-in-Some-pop.ensures in
     let before = all_drawn c.loop-worker.all in

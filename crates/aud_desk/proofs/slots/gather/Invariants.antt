@@ -3,13 +3,13 @@ use Rattle.aud_report.specs.declared.verdict.Verdict.{Verdict}
 use Rattle.aud_desk.specs.declared.worker.Worker.{Worker}
 use Rattle.aud_desk.specs.Draws.{late_count, times}
 use Rattle.aud_desk.specs.Slots.{HasVerdict, IsFull}
-use Rattle.aud_desk.specs.Views.{IsOf, IsAllOf, all_drawn}
+use Rattle.aud_desk.specs.Views.{IsSeatOf, IsAllOf, all_drawn}
 use Rattle.aud_desk.specs.Workers.{HasEntry}
 use Rattle.aud_desk.proofs.slots.gather.Given as goal
 
 abbrev pub invariant-loop-worker : goal.invariant-loop-worker
 invariant-loop-worker l = record {
-  mine : All (λ w. IsOf l.tickets w.seat) l.workers.items;
+  mine : All (λ w. IsSeatOf l.tickets w.seat) l.workers.items;
   all : IsAllOf l.tickets l.all;
   enough : l.tickets.seats ≤ late_count l.tickets.n (all_drawn l.all) + vec_len l.workers;
   len : vec_len l.slots ≡ l.tickets.n;

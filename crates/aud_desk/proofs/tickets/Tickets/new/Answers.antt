@@ -1,7 +1,7 @@
 use Rattle.std.proofs.Common.{rules, sym, ap, ◌∙◌, subst, arith, ◌≡◌, ◌+◌, ◌-◌, true, [], All}
 use Rattle.std.proofs.lemmas.List.Elements.{All-push}
 use Rattle.aud_desk.specs.declared.tickets.TicketSeat.{TicketSeat}
-use Rattle.aud_desk.specs.Tickets.{seat_view, stays, starts}
+use Rattle.aud_desk.specs.Tickets.{seat_view, one_pass_fewer, starts}
 use Rattle.aud_desk.specs.Views.{SeatOf, drawn}
 use Rattle.aud_desk.proofs.Steps.{splits}
 use Rattle.aud_desk.proofs.tickets.Tickets.new.Goals as goal
@@ -22,7 +22,7 @@ loop-preserved c =
     let new = c.seated.ensures.0 in
     let next : c.seated.result.seat.me.0 ≡ seat_view n seats 1 [] true = ap (λ s. s.me.0) new ∙ ap (λ m. m.0) split.4 ∙ ap (λ m. starts m.0) me in record {
       here = split.0 ∙ c.loop.invariant.here;
-      me = split.2 ∙ (λ i. (stays (me i).0, (me i).1)) ∙ ap (λ p. (seat_view n seats p [] true, [])) less;
+      me = split.2 ∙ (λ i. (one_pass_fewer (me i).0, (me i).1)) ∙ ap (λ p. (seat_view n seats p [] true, [])) less;
       len = search rules;
       each = subst (All P) (sym c.in_ok-push.ensures.items)
           (All-push P c.loop.all.items c.seated.result c.loop.invariant.each

@@ -1,6 +1,6 @@
 use Rattle.std.proofs.Common.{take, map, string_bytes}
-use Rattle.aud_app.specs.Decided.{AreProofs}
-use Rattle.aud_app.proofs.sessions.proofs.Given as goal
+use Rattle.aud_app.specs.Proofs.{AreProofs}
+use Rattle.aud_app.proofs.certificates.proofs.Given as goal
 
 -- the certificates of the sessions that were gone over
 abbrev pub invariant-loop-pid : goal.invariant-loop-pid

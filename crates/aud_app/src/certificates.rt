@@ -1,48 +1,14 @@
-//! The verdicts on the sessions, and their certificates.
+//! The certificates of the sessions.
 ghost use Rattle.std.specs.Prelude.{◌≡◌, IfOk, map, string_bytes};
 ghost use Rattle.aud_maker.specs.Sessions.{sessions_of};
-ghost use Rattle.aud_verdict.specs.Verdicts.{IsSessionVerdict, AreVerdicts};
-ghost use Rattle.aud_app.specs.Decided.{IsProof, AreProofs};
+ghost use Rattle.aud_app.specs.Proofs.{IsProof, AreProofs};
 
 use aud_cert_text::write_cert;
 use aud_client::Recording;
 use aud_maker::sessions;
-use aud_report::SessionVerdict;
 use aud_tap::Text;
-use aud_verdict::{Judged, decide, judge};
+use aud_verdict::{Judged, judge};
 use std::alloc::{AllocError, Global};
-
-/// The answer on a session.
-fn entry(alloc: Global, recording: &Recording<'_>, pid: &str) -> Result<SessionVerdict, AllocError>
-    ensures { IfOk result (λ entry. IsSessionVerdict recording.now pid.now entry) }
-{
-    let name = Text::new(String::from_str(alloc, pid)?);
-    let verdict = decide(alloc, recording, pid)?;
-    Ok(SessionVerdict { pid: name, verdict })
-}
-
-/// The verdicts on these sessions, one for each, in order.
-fn verdicts(
-    alloc: Global,
-    recording: &Recording<'_>,
-    pids: &[String],
-) -> Result<Vec<SessionVerdict>, AllocError>
-    ensures { IfOk result (λ all. AreVerdicts recording.now (map string_bytes pids.now) all.items) }
-{
-    let mut all = Vec::new(alloc);
-    for pid in pids {
-        all.push(entry(alloc, recording, pid.as_str())?)?;
-    }
-    Ok(all)
-}
-
-/// The verdict on each session that the logs mention, in the order of their first mentions.
-pub fn audit(alloc: Global, recording: &Recording<'_>) -> Result<Vec<SessionVerdict>, AllocError>
-    ensures { IfOk result (λ all. AreVerdicts recording.now (sessions_of recording.now) all.items) }
-{
-    let pids = sessions(alloc, recording)?;
-    verdicts(alloc, recording, &pids)
-}
 
 /// The text of the session's certificate, where the verdict is yes.
 fn proof(alloc: Global, recording: &Recording<'_>, pid: &str) -> Result<Option<Text>, AllocError>

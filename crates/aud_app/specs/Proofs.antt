@@ -1,4 +1,4 @@
--- The certificate of each session.
+-- The certificate of each session that is answered yes.
 use Rattle.std.specs.Prelude.{◌≡◌, List, Option, Some, None}
 use Rattle.aud_node.specs.Stream.{Text}
 use Rattle.aud_node.specs.Cluster.{Cluster}

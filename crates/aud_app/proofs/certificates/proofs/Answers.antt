@@ -1,8 +1,8 @@
 use Rattle.std.proofs.Common.{string_bytes}
 use Rattle.std.proofs.lemmas.List.{take_more}
-use Rattle.aud_app.specs.Decided.{IsProof}
+use Rattle.aud_app.specs.Proofs.{IsProof}
 use Rattle.aud_report.proofs.EachLemmas.{one_more-map}
-use Rattle.aud_app.proofs.sessions.proofs.Goals as goal
+use Rattle.aud_app.proofs.certificates.proofs.Goals as goal
 
 pub loop-pid-preserved : goal.loop-pid-preserved
 loop-pid-preserved c =
