@@ -161,9 +161,11 @@ as_held c s Names h = absurd h
 as_held c s f h = h
 
 module _ (c : Cluster) (pid : Text) (cert : CertificateSeen) (once : AreNamedOnce c.taps) (made : IsMade c pid cert) where
+  -- its turns stand in the logs where those that it was made of stand
   pub there : turns_of c cert ≡ made.turns
   there = turns-there c pid cert once made
 
+  -- its pid is that of the session
   named : cert.pid ≡ made.who.pid
   named = made.is.pid_is ∙ sym made.names
 
@@ -177,6 +179,7 @@ module _ (c : Cluster) (pid : Text) (cert : CertificateSeen) (once : AreNamedOnc
   pub whole : IsChain c (who_of cert) (turns_of c cert)
   whole = subst (λ (w : Who). IsChain c w (turns_of c cert)) (sym who_is) (subst (IsChain c made.who) (sym there) made.chain)
 
+  -- each of its turns is accepted
   pub turns_accepted : AreTurnsAccepted c cert.pid cert.turns
   turns_accepted k t at =
       let seen = made.is.turns_are in
@@ -186,9 +189,11 @@ module _ (c : Cluster) (pid : Text) (cert : CertificateSeen) (once : AreNamedOnc
       let same : 0 + k ≡ k = omega arith in
       rw (named, seen) (rw same at accepted)
 
+  -- its spans are those of its turns
   pub spans_accepted : AreSpansOfTurns c.stream (who_of cert) (slices_of c cert) cert.spans
   spans_accepted = rw (there, who_is) (rw (sym made.names) at (made.is.spans_are made.who.nsp))
 
+  -- what refuses it as a whole shows a fault
   refused_whole : (refusal : Refusal) → RefusesWhole c cert refusal → IsSome (fault_found refusal)
   refused_whole refused.Span refuses = absurd (refuses spans_accepted)
   refused_whole refused.Names refuses = refl
@@ -200,12 +205,15 @@ module _ (c : Cluster) (pid : Text) (cert : CertificateSeen) (once : AreNamedOnc
   refused_for (AtTurn k) refusal (t, at, refuses) = absurd (not_refused c cert.pid k t (drop (suc k) cert.turns) (turns_accepted k t at) refusal refuses)
   refused_for AtWhole refusal refuses = refused_whole refusal refuses
 
+  -- the session that it was made for
   abbrev session : SessionLogs
   session = record { who = made.who; turns = made.turns; client = made.client.place }
 
+  -- the logs have that session
   is_session : IsSession c pid session
   is_session = record { names = made.names; chain = made.chain; only = made.client.only }
 
+  -- its client's name is that of the session's one client tap
   place_is : place_named c cert.client ≡ made.client.place
   place_is = go (slice_get c.taps made.client.place) refl (naming c pid session is_session)
     where
@@ -213,9 +221,11 @@ module _ (c : Cluster) (pid : Text) (cert : CertificateSeen) (once : AreNamedOnc
       go None at e = absurd (false≢true e)
       go (Some tap) at e = ap (place_named c) (made.client.name_is ∙ ap tap_name at) ∙ ap (λ o. unwrap_or o (length c.taps)) (once made.client.place tap at)
 
+  -- what is due by the turns shown is what is due to the session
   due_is : shown_due c cert ≡ due_to c session
   due_is = λ i. turns_due c.stream (who_is i) (map (slice_of c) (there i))
 
+  -- what was received against what was due is the same of the certificate and of the session
   case_is : certificate_case c cert ≡ session_case c session
   case_is = λ i. record {
     stream = c.stream;
@@ -225,11 +235,13 @@ module _ (c : Cluster) (pid : Text) (cert : CertificateSeen) (once : AreNamedOnc
     due = due_is i;
   }
 
+  -- so is whether all stays that name the session are of it
   stays_same : are_of_session (who_of cert) (certificate_case c cert).stays ≡ are_of_session made.who (own_stays c session)
   stays_same = λ i. are_of_session (who_is i) (case_is i).stays
 
   -- ---- none of the four faults holds
 
+  -- the session was opened
   logged : HasNoTurn c pid 0 → ⊥
   logged = go made.turns made.chain.some made.chain.are_turns
     where
@@ -239,6 +251,7 @@ module _ (c : Cluster) (pid : Text) (cert : CertificateSeen) (once : AreNamedOnc
           no_turn t.node t.from (beginning made.who 0) are.0.begins
           (ap (λ p. begins_turn p 0 (beginning made.who 0)) (sym made.names) ∙ beginning-begins made.who 0)
 
+  -- none of the four faults without a certificate holds
   none_early : (fault : Fault) → verdict_rank fault < 4 → Holds c pid fault → ⊥
   none_early fault front h =
       none_holds c pid logged (λ no_chain. no_chain made.who made.turns made.names made.chain)
@@ -248,10 +261,12 @@ module _ (c : Cluster) (pid : Text) (cert : CertificateSeen) (once : AreNamedOnc
   -- ---- accepted
 
   module _ (is : IsAccepted c cert) where
+    -- nor does any of the others
     none_late : (fault : Fault) → HoldsOf c session fault → ⊥
     none_late Names h = true≢false (sym is.are_named ∙ stays_same ∙ not_of_session c pid session is_session h)
     none_late fault h = no_fault (session_case c session) (subst IsReceived case_is is.is_received) fault h
 
+    -- none holds of a session whose certificate is accepted
     pub none_of_accepted : NoneHolds c pid
     none_of_accepted fault h = go (cases_lt (verdict_rank fault) 4)
       where
@@ -259,6 +274,7 @@ module _ (c : Cluster) (pid : Text) (cert : CertificateSeen) (once : AreNamedOnc
         go (inl front) = none_early fault front h
         go (inr back) = none_late fault (at_session c pid session is_session fault back h)
 
+    -- the verdict on it is yes
     pub accepted : (got tail turns : ℕ) → got ≡ length (frames_received c cert) → got + tail ≡ length (shown_due c cert) → turns ≡ length cert.turns → IsYes c pid got tail turns
     accepted got tail turns got_is tail_is turns_are =
         record {
@@ -272,14 +288,17 @@ module _ (c : Cluster) (pid : Text) (cert : CertificateSeen) (once : AreNamedOnc
 
   -- ---- refused
 
+  -- where it is refused for its names, not all stays that name the session are of it
   of_names : (place : Place) → Refuses c cert place refused.Names → are_of_session (who_of cert) (certificate_case c cert).stays ≡ false
   of_names (AtTurn k) (t, at, h) = absurd h
   of_names AtWhole h = h
 
+  -- what is refused for a fault of what was received has that fault
   of_received : (f : Fault) (place : Place) → Refuses c cert place (refused.Received f) → HasFault (session_case c session) f
   of_received f (AtTurn k) (t, at, h) = absurd h
   of_received f AtWhole h = subst (λ (case : Case). HasFault case f) case_is h
 
+  -- where it is refused for its names, they are the first fault
   first_names : RefusesFirst c cert refused.Names → HoldsFirst c pid Names
   first_names is =
       record {
@@ -288,6 +307,7 @@ module _ (c : Cluster) (pid : Text) (cert : CertificateSeen) (once : AreNamedOnc
       }
 
   module _ (f : Fault) (is : RefusesFirst c cert (refused.Received f)) where
+    -- the session has the fault
     has : HasFault (session_case c session) f
     has = of_received f is.place is.refuses
 
@@ -296,6 +316,7 @@ module _ (c : Cluster) (pid : Text) (cert : CertificateSeen) (once : AreNamedOnc
     at_whole (AtTurn k) (t, at, h) = absurd h
     at_whole AtWhole h = refl
 
+    -- none of the faults that need a certificate holds before it
     not_before : (other : Fault) → verdict_rank other < verdict_rank f → HoldsOf c session other → ⊥
     not_before Names less h =
         let at = at_whole is.place is.refuses in
@@ -305,6 +326,7 @@ module _ (c : Cluster) (pid : Text) (cert : CertificateSeen) (once : AreNamedOnc
         let low = lower (session_case c session) other f less h has in
         is.none_before AtWhole (refused.Received other) (omega arith) (subst (λ (case : Case). HasFault case other) (sym case_is) h)
 
+    -- it is the session's first fault
     first_received : HoldsFirst c pid f
     first_received =
         record {
@@ -316,6 +338,7 @@ module _ (c : Cluster) (pid : Text) (cert : CertificateSeen) (once : AreNamedOnc
         go other less h (inl front) = none_early other front h
         go other less h (inr back) = not_before other less (at_session c pid session is_session other back h)
 
+  -- the fault that a refusal shows is the session's first
   pub first_found : (refusal : Refusal) (fault : Fault) → RefusesFirst c cert refusal → fault_found refusal ≡ Some fault → HoldsFirst c pid fault
   first_found refused.Names fault is e = subst (HoldsFirst c pid) (same_Some Names fault e) (first_names is)
   first_found (refused.Received f) fault is e = subst (HoldsFirst c pid) (same_Some f fault e) (first_received f is)

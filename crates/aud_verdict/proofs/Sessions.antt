@@ -52,9 +52,11 @@ one_session c pid one other is too =
 -- ---- faults of a session that is there
 
 module _ (c : Cluster) (pid : Text) (s : SessionLogs) (is : IsSession c pid s) where
+  -- a fault of the session of the pid is one of this session
   moved : (fault : Fault) → (t : SessionLogs) × IsSession c pid t × HoldsOf c t fault → HoldsOf c s fault
   moved fault (t, too, h) = subst (λ (x : SessionLogs). HoldsOf c x fault) (one_session c pid t s too is) h
 
+  -- a fault that needs a session holds of this one
   pub at_session : (fault : Fault) → 4 ≤ verdict_rank fault → Holds c pid fault → HoldsOf c s fault
   at_session NoLog late h = absurd (omega arith)
   at_session Chain late h = absurd (omega arith)
@@ -62,6 +64,7 @@ module _ (c : Cluster) (pid : Text) (s : SessionLogs) (is : IsSession c pid s) w
   at_session Client late h = absurd (omega arith)
   at_session fault late h = moved fault h
 
+  -- where a fault holds of this session, it holds
   pub held : (fault : Fault) → 4 ≤ verdict_rank fault → HoldsOf c s fault → Holds c pid fault
   held NoLog late h = absurd (omega arith)
   held Chain late h = absurd (omega arith)
@@ -71,26 +74,31 @@ module _ (c : Cluster) (pid : Text) (s : SessionLogs) (is : IsSession c pid s) w
 
   -- ---- the stays that name it
 
+  -- its client's tap has a reply that names it
   pub naming : is_naming pid (client_at c s.client) ≡ true
   naming =
       All-head (λ place. is_naming pid (client_at c place) ≡ true) s.client []
       (All-same (λ place. is_naming pid (client_at c place) ≡ true) (s.client ∷ []) (naming_places c.taps pid) (sym is.only)
       (filter_passes (λ place. is_naming pid (client_at c place)) (numbers_from 0 (length c.taps))))
 
+  -- where a tap names the session, its records do
   its_tap : (o : Option (List ClientRec)) → is_naming pid o ≡ true → tap_names pid (recs_or_none o) ≡ true
   its_tap None e = absurd (false≢true e)
   its_tap (Some recs) e = e
 
+  -- one of that tap's stays names it
   any_stay : list_any (stay_names_pid s.who.pid) (transcript c s).stays ≡ true
   any_stay =
       ap (λ p. list_any (stay_names_pid p) (transcript c s).stays) is.names
       ∙ named_by_replies c.stream (client_log c s) pid
       ∙ its_tap (client_at c s.client) naming
 
+  -- where some element passes, those that pass are not none
   kept : (test : StaySeen → Bool) (stays : List StaySeen) → list_any test stays ≡ true → is_empty (filter test stays) ≡ false
   kept test [] e = absurd (false≢true e)
   kept test (stay ∷ stays) e = elim (cases_Bool (test stay)) as (λ _. is_empty (filter test (stay ∷ stays)) ≡ false) [ inl passes ↦ rw passes refl | inr fails ↦ rw fails (kept test stays (rw fails at e)) ]
 
+  -- there is a stay whose reply names it
   some_stay : is_empty (own_stays c s) ≡ false
   some_stay = kept (stay_names_pid s.who.pid) (transcript c s).stays any_stay
 
@@ -100,6 +108,7 @@ module _ (c : Cluster) (pid : Text) (s : SessionLogs) (is : IsSession c pid s) w
       one_fails (is_of_session s.who) (own_stays c s)
       (sym (ap (λ b. not b && list_all (is_of_session s.who) (own_stays c s)) some_stay) ∙ e)
 
+  -- where one has other names, they aren't all of the session
   pub not_of_session : HasOtherNames c s → are_of_session s.who (own_stays c s) ≡ false
   not_of_session (stay, (k, h, at), fails) =
       and_right _ _ (list_all_at (is_of_session s.who) (own_stays c s) k stay h (ap (is_of_session s.who) at ∙ fails))
@@ -146,6 +155,7 @@ module _ (c : Cluster) (pid : Text) where
   same_fault (Tail n) (Tail m) (s, is, h) too e = absurd h
   same_fault fault other _ _ e = absurd (omega arith)
 
+  -- one fault at most is the first
   pub one_first : (fault other : Fault) → HoldsFirst c pid fault → HoldsFirst c pid other → fault ≡ other
   one_first fault other is too = go (cases_lt (verdict_rank fault) (verdict_rank other)) (cases_lt (verdict_rank other) (verdict_rank fault))
     where
@@ -154,6 +164,7 @@ module _ (c : Cluster) (pid : Text) where
       go (inr more) (inl less) = absurd (is.none_before other less too.holds)
       go (inr more) (inr less) = same_fault fault other is.holds too.holds (omega arith)
 
+  -- a session has one verdict
   pub one_verdict : (one other : Verdict) → IsVerdict c pid one → IsVerdict c pid other → one ≡ other
   one_verdict (Yes got tail turns) (Yes count rest number) is too =
       let same : is.session ≡ too.session = one_session c pid is.session too.session is.is_session too.is_session in
