@@ -22,7 +22,7 @@ IsFrontIn c cert run = IsPrefixOf (positions_in (certificate_case c cert)) (due 
 
 -- what an accepted certificate says, with these counts: the client received what was due to the session over the turns
 -- shown, whichever run happened
-pub record IsDelivered (c : Cluster) (cert : CertificateSeen) (counts : check.Accepted) : Type 0 where
+pub record IsDeliveredAsShown (c : Cluster) (cert : CertificateSeen) (counts : check.Accepted) : Type 0 where
   -- its turns are the session's, from turn 0 on
   pub are_turns : AreTurns c (who_of cert) 0 (turns_of c cert)
   -- each event received is the stream's entry at its position, byte for byte
@@ -34,8 +34,8 @@ pub record IsDelivered (c : Cluster) (cert : CertificateSeen) (counts : check.Ac
 
 -- what the answer says of every run: after ok, that all was delivered over the turns shown; after `EXTRA`, `DOUBLED`,
 -- `SWAPPED` and `LOST` of a certificate of all turns, that in none it was. The other refusals say nothing of runs
-abbrev pub HoldsInEveryRun : Cluster → CertificateSeen → Answer → Type 0
-HoldsInEveryRun c cert (Accepted pid counts) = IsDelivered c cert counts
-HoldsInEveryRun c cert (Refused refusal) =
+abbrev pub AnswerHoldsInEveryRun : Cluster → CertificateSeen → Answer → Type 0
+AnswerHoldsInEveryRun c cert (Accepted pid counts) = IsDeliveredAsShown c cert counts
+AnswerHoldsInEveryRun c cert (Refused refusal) =
     IsMismatch refusal → IsChain c (who_of cert) (turns_of c cert) → (run : List Step) → IsRun c run → IsFrontIn c cert run → ⊥
-HoldsInEveryRun c cert (Unread fault) = Unit {0}
+AnswerHoldsInEveryRun c cert (Unread fault) = Unit {0}

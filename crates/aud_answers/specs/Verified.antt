@@ -13,7 +13,7 @@ use Rattle.aud_answers.specs.declared.answer.Answer.{Answer}
 use Rattle.aud_answers.specs.declared.answer.Answer.TheVariants.{Accepted, Unread, Refused}
 use Rattle.aud_answers.specs.declared.answer.Answered.{Answered}
 use Rattle.aud_report.specs.OneForEach.{OneForEach}
-use Rattle.aud_answers.specs.EveryRun.{HoldsInEveryRun}
+use Rattle.aud_answers.specs.EveryRun.{AnswerHoldsInEveryRun}
 
 -- how much of what is due by the shown turns the session received
 abbrev pub counts_of : Cluster → CertificateSeen → check.Accepted
@@ -31,7 +31,7 @@ IsAnswerOn c cert (Unread fault) = ⊥
 
 -- the answer on the text's reading, and what it says holds in every run; want of memory is none
 abbrev pub IsAnswerTo : Cluster → Result CertificateSeen CertFault → Answer → Type 0
-IsAnswerTo c (Ok cert) answer = IsAnswerOn c cert answer × HoldsInEveryRun c cert answer
+IsAnswerTo c (Ok cert) answer = IsAnswerOn c cert answer × AnswerHoldsInEveryRun c cert answer
 IsAnswerTo c (Err Memory) answer = ⊥
 IsAnswerTo c (Err fault) answer = answer ≡ Unread fault
 

@@ -2,7 +2,7 @@
 ghost use Rattle.std.specs.Prelude.{◌≡◌, ◌<◌, length, IfOk};
 ghost use Rattle.aud_cert.specs.Certificate.{IsOver};
 ghost use Rattle.aud_cert_text.specs.Reading.{certificate_of};
-ghost use Rattle.aud_answers.specs.EveryRun.{HoldsInEveryRun};
+ghost use Rattle.aud_answers.specs.EveryRun.{AnswerHoldsInEveryRun};
 ghost use Rattle.aud_answers.specs.Verified.{IsAnswerOn, IsAnswerTo, AreAnswered};
 
 use crate::answer::{Answer, Answered};
@@ -23,7 +23,7 @@ fn answer_on(
     requires over { IsOver recording.now cert.now }
     requires some { 0 < length cert.now.turns }
     ensures answer { IfOk result (λ answer. IsAnswerOn recording.now cert.now answer) }
-    ensures every_run { IfOk result (λ answer. HoldsInEveryRun recording.now cert.now answer) }
+    ensures every_run { IfOk result (λ answer. AnswerHoldsInEveryRun recording.now cert.now answer) }
 {
     match check(alloc, recording, cert) {
         Ok(counts) => Ok(Answer::Accepted {
