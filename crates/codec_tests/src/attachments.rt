@@ -2,6 +2,7 @@
 use aud_eio::{Eio, EioFault, decode_binary, decode_payload, decode_text};
 use aud_sio::{Assembler, SioFault, Whole, answers_are_wholes};
 use std::alloc::{AllocError, Global};
+use std::process::Abort;
 use std::test::Fail;
 
 /// Writes a packet's text, namespace and acknowledgement id, and its attachments.
@@ -43,6 +44,16 @@ fn packet_of(alloc: Global, frame: Frame<'_>) -> Result<Eio<'_>, EioFault> {
     }
 }
 
+/// Writes what an assembler answers to a packet.
+fn push_fed<'a>(
+    words: &mut String,
+    assembler: &mut Assembler<'a>,
+    packet: Eio<'a>,
+) -> Result<(), AllocError> {
+    let answer = assembler.feed(packet);
+    push_answer(words, &answer)
+}
+
 /// Whether an assembler answers a message as expected.
 fn answers<'a>(
     alloc: Global,
@@ -50,25 +61,33 @@ fn answers<'a>(
     frame: Frame<'a>,
     expected: &str,
 ) -> Result<bool, Fail> {
-    let packet = packet_of(alloc, frame)?;
-    let answer = assembler.feed(packet);
     let mut words = String::new(alloc);
-    push_answer(&mut words, &answer)?;
+    push_fed(&mut words, assembler, packet_of(alloc, frame)?)?;
     Ok(words.as_str() == expected)
 }
 
 /// A message, and what is answered to it.
 type Exchange = (Frame<'static>, &'static str);
 
-/// The first answer of a session that a new assembler doesn't give.
-fn first_missed(alloc: Global, session: &[Exchange]) -> Result<Option<&'static str>, Fail> {
-    let mut assembler = Assembler::new(alloc);
+/// The first answer of a session that the assembler doesn't give.
+fn first_missed<'a>(
+    alloc: Global,
+    assembler: &mut Assembler<'a>,
+    session: &'a [Exchange],
+) -> Result<Option<&'a str>, Fail> {
     for (frame, answer) in session {
-        if !answers(alloc, &mut assembler, *frame, answer)? {
+        if !answers(alloc, assembler, *frame, answer)? {
             return Ok(Some(answer));
         }
     }
     Ok(None)
+}
+
+/// Asserts that a new assembler gives each answer of a session.
+fn assert_answers(rt: &impl Abort, alloc: Global, session: &[Exchange]) -> Result<(), Fail> {
+    let missed = first_missed(alloc, &mut Assembler::new(alloc), session)?;
+    assert_eq!(rt; missed, None);
+    Ok(())
 }
 
 /// Refusals in their order; after them the assembler is at rest.
@@ -83,9 +102,8 @@ static REFUSALS: [Exchange; 6] = [
 
 #[test]
 fn refusals(rt: HostRuntime) -> Result<(), Fail> {
-    assert_eq!(rt; first_missed(rt.alloc(), &REFUSALS)?, None);
     answers_are_wholes();
-    Ok(())
+    assert_answers(&rt, rt.alloc(), &REFUSALS)
 }
 
 /// The first attachment comes as base64, the other as bytes.
@@ -103,8 +121,7 @@ static ATTACHMENTS: [Exchange; 3] = [
 
 #[test]
 fn attachments(rt: HostRuntime) -> Result<(), Fail> {
-    assert_eq!(rt; first_missed(rt.alloc(), &ATTACHMENTS)?, None);
-    Ok(())
+    assert_answers(&rt, rt.alloc(), &ATTACHMENTS)
 }
 
 /// The frames of the document's sample session in namespace `/admin`: a packet whose attachment comes after a ping.
@@ -126,8 +143,7 @@ static SAMPLE_SESSION: [Exchange; 4] = [
 
 #[test]
 fn sample_session(rt: HostRuntime) -> Result<(), Fail> {
-    assert_eq!(rt; first_missed(rt.alloc(), &SAMPLE_SESSION)?, None);
-    Ok(())
+    assert_answers(&rt, rt.alloc(), &SAMPLE_SESSION)
 }
 
 /// Writes what an assembler answers to packets, each answer on a line.
@@ -137,8 +153,7 @@ fn push_answers<'a>(
     packets: Vec<Eio<'a>>,
 ) -> Result<(), AllocError> {
     for packet in packets {
-        let answer = assembler.feed(packet);
-        push_answer(words, &answer)?;
+        push_fed(words, assembler, packet)?;
         words.push('\n')?;
     }
     Ok(())
@@ -151,9 +166,8 @@ fn answers_body<'a>(
     body: &'a str,
     expected: &str,
 ) -> Result<bool, Fail> {
-    let packets = decode_payload(alloc, body)?;
     let mut words = String::new(alloc);
-    push_answers(&mut words, assembler, packets)?;
+    push_answers(&mut words, assembler, decode_payload(alloc, body)?)?;
     Ok(words.as_str() == expected)
 }
 
@@ -169,14 +183,19 @@ static POLLING_BODIES: [(&str, &str); 2] = [
     ),
 ];
 
-#[test]
-fn polling_bodies(rt: HostRuntime) -> Result<(), Fail> {
-    let mut assembler = Assembler::new(rt.alloc());
+/// Asserts that the assembler answers each body, one after another.
+fn assert_bodies(
+    rt: &impl Abort,
+    alloc: Global,
+    assembler: &mut Assembler<'static>,
+) -> Result<(), Fail> {
     for (body, answers) in &POLLING_BODIES {
-        assert!(rt;
-            answers_body(rt.alloc(), &mut assembler, body, answers)?,
-            "{body}"
-        );
+        assert!(rt; answers_body(alloc, assembler, body, answers)?, "{body}");
     }
     Ok(())
+}
+
+#[test]
+fn polling_bodies(rt: HostRuntime) -> Result<(), Fail> {
+    assert_bodies(&rt, rt.alloc(), &mut Assembler::new(rt.alloc()))
 }

@@ -1,4 +1,8 @@
 //! The packets of a body: the examples of Engine.IO protocol 4, section "HTTP long-polling", and refusals.
+ghost use Rattle.std.specs.Prelude.{◌<◌, All, length};
+ghost use Rattle.aud_eio.specs.Body.{FitsBody};
+ghost use Rattle.aud_eio.specs.Packet.{engine_view};
+
 use aud_eio::{Control, Eio, decode_payload, encode_payload};
 use std::alloc::Global;
 use std::test::Fail;
@@ -37,17 +41,33 @@ fn packets(rt: HostRuntime) -> Result<(), Fail> {
     Ok(())
 }
 
-#[test]
-fn written(rt: HostRuntime) -> Result<(), Fail> {
+/// Whether packets are written as this body.
+fn is_written(alloc: Global, packets: &[Eio<'_>], expected: &str) -> Result<bool, Fail>
+    requires some { 0 < length packets.now }
+    requires fit { All (λ packet. FitsBody (engine_view packet)) packets.now }
+{
+    let body = encode_payload(alloc, packets)?;
+    Ok(body.as_str() == expected)
+}
+
+/// The document's first body.
+fn texts_are_written(alloc: Global) -> Result<bool, Fail> {
     let packets = [
         Eio::Message("hello"),
         Eio::Control(Control::Ping, ""),
         Eio::Message("world"),
     ];
-    let body = encode_payload(rt.alloc(), &packets)?;
-    assert_eq!(rt; body.as_str(), "4hello\u{1e}2\u{1e}4world");
+    is_written(alloc, &packets, "4hello\u{1e}2\u{1e}4world")
+}
+
+fn bytes_are_written(alloc: Global) -> Result<bool, Fail> {
     let packets = [Eio::Message("2[]"), Eio::Lent(&[1, 2])];
-    let body = encode_payload(rt.alloc(), &packets)?;
-    assert_eq!(rt; body.as_str(), "42[]\u{1e}bAQI=");
+    is_written(alloc, &packets, "42[]\u{1e}bAQI=")
+}
+
+#[test]
+fn written(rt: HostRuntime) -> Result<(), Fail> {
+    assert!(rt; texts_are_written(rt.alloc())?);
+    assert!(rt; bytes_are_written(rt.alloc())?);
     Ok(())
 }

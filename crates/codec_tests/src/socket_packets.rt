@@ -34,6 +34,13 @@ fn is_written(alloc: Global, text: &str, expected: &str) -> Result<bool, Fail> {
     Ok(written.as_str() == expected)
 }
 
+fn is_read_and_back(alloc: Global, text: &str, parts: &str) -> Result<bool, Fail> {
+    if !is_read(alloc, text, parts)? {
+        return Ok(false);
+    }
+    is_written(alloc, text, text)
+}
+
 /// Those of the document, which come back as they are.
 static PACKETS: [(&str, &str); 15] = [
     (r#"0{"token":"123"}"#, r#"Connect 0 / None {"token":"123"}"#),
@@ -77,8 +84,7 @@ static PACKETS: [(&str, &str); 15] = [
 #[test]
 fn packets(rt: HostRuntime) -> Result<(), Fail> {
     for (text, parts) in &PACKETS {
-        assert!(rt; is_read(rt.alloc(), text, parts)?, "{text}");
-        assert!(rt; is_written(rt.alloc(), text, text)?, "{text}");
+        assert!(rt; is_read_and_back(rt.alloc(), text, parts)?, "{text}");
     }
     Ok(())
 }

@@ -47,30 +47,31 @@ impl Question for Asked {
     }
 }
 
+static ANSWERS: [(Asked, &str); 3] = [
+    (
+        Asked {
+            nsp: "/",
+            left: &[],
+        },
+        "true: 1 2",
+    ),
+    (
+        Asked {
+            nsp: "/chat",
+            left: &[],
+        },
+        "true:",
+    ),
+    (
+        Asked {
+            nsp: "/",
+            left: &["r"],
+        },
+        "false: 2",
+    ),
+];
+
 #[test]
 fn entries_for_a_session(rt: HostRuntime) -> Result<(), Fail> {
-    let answers = [
-        (
-            Asked {
-                nsp: "/",
-                left: &[],
-            },
-            "true: 1 2",
-        ),
-        (
-            Asked {
-                nsp: "/chat",
-                left: &[],
-            },
-            "true:",
-        ),
-        (
-            Asked {
-                nsp: "/",
-                left: &["r"],
-            },
-            "false: 2",
-        ),
-    ];
-    assert_answers(&rt, rt.alloc(), ENTRIES, &answers)
+    assert_answers(&rt, rt.alloc(), ENTRIES, &ANSWERS)
 }

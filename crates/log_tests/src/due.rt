@@ -69,40 +69,48 @@ impl Question for Due {
     }
 }
 
+/// `q` at 4, `r` at 2 and 3, and the session's own room throughout.
+const HELD: Rooms = &[("q", 4, 4), ("r", 2, 3), ("s1", 1, 4)];
+
+static OF_ONE_ROOM: [(Due, &str); 2] = [
+    (Due(HELD, "/", 0, 4), "[2, 3]"),
+    (Due(HELD, "/", 0, 2), "[2]"),
+];
+
 #[test]
 fn positions_of_held_rooms(rt: HostRuntime) -> Result<(), Fail> {
-    let spans: Rooms = &[("q", 4, 4), ("r", 2, 3), ("s1", 1, 4)];
-    let answers = [
-        (Due(spans, "/", 0, 4), "[2, 3]"),
-        (Due(spans, "/", 0, 2), "[2]"),
-    ];
-    assert_answers(&rt, rt.alloc(), ONE_ROOM, &answers)
+    assert_answers(&rt, rt.alloc(), ONE_ROOM, &OF_ONE_ROOM)
 }
 
+/// Two rooms, both at 2.
+const OVERLAPPING: Rooms = &[("r", 1, 2), ("q", 2, 3)];
+
 /// Spans of one room may overlap too, in any order.
+static OF_TWO_ROOMS: [(Due, &str); 3] = [
+    (Due(OVERLAPPING, "/", 0, 5), "[1, 2, 3, 4]"),
+    (Due(OVERLAPPING, "/", 1, 2), "[2]"),
+    (Due(&[("q", 3, 9), ("q", 0, 3)], "/", 0, 9), "[2, 3, 4]"),
+];
+
 #[test]
 fn spans_that_overlap(rt: HostRuntime) -> Result<(), Fail> {
-    let spans: Rooms = &[("r", 1, 2), ("q", 2, 3)];
-    let answers = [
-        (Due(spans, "/", 0, 5), "[1, 2, 3, 4]"),
-        (Due(spans, "/", 1, 2), "[2]"),
-        (Due(&[("q", 3, 9), ("q", 0, 3)], "/", 0, 9), "[2, 3, 4]"),
-    ];
-    assert_answers(&rt, rt.alloc(), TWO_ROOMS, &answers)
+    assert_answers(&rt, rt.alloc(), TWO_ROOMS, &OF_TWO_ROOMS)
 }
+
+static OF_EXCEPTED: [(Due, &str); 1] = [(Due(&[("r", 1, 3), ("q", 2, 2)], "/", 0, 3), "[1, 3]")];
 
 #[test]
 fn excepted_room(rt: HostRuntime) -> Result<(), Fail> {
-    let answers = [(Due(&[("r", 1, 3), ("q", 2, 2)], "/", 0, 3), "[1, 3]")];
-    assert_answers(&rt, rt.alloc(), EXCEPTED, &answers)
+    assert_answers(&rt, rt.alloc(), EXCEPTED, &OF_EXCEPTED)
 }
+
+static OF_NAMESPACES: [(Due, &str); 3] = [
+    (Due(&[("r", 1, 4)], "/", 0, 4), "[3, 4]"),
+    (Due(&[("r", 1, 4)], "/n", 0, 4), "[1, 2]"),
+    (Due(&[], "/n", 0, 4), "[2]"),
+];
 
 #[test]
 fn other_namespace(rt: HostRuntime) -> Result<(), Fail> {
-    let answers = [
-        (Due(&[("r", 1, 4)], "/", 0, 4), "[3, 4]"),
-        (Due(&[("r", 1, 4)], "/n", 0, 4), "[1, 2]"),
-        (Due(&[], "/n", 0, 4), "[2]"),
-    ];
-    assert_answers(&rt, rt.alloc(), NAMESPACES, &answers)
+    assert_answers(&rt, rt.alloc(), NAMESPACES, &OF_NAMESPACES)
 }

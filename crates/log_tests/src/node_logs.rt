@@ -127,22 +127,23 @@ impl Question for Asked {
 }
 
 /// A node is of a session that one of its records names, whichever that is, and stands in the order of the taps.
+static ANSWERS: [(Asked, &str); 10] = [
+    (Asked::Place("a"), "Some(1)"),
+    (Asked::Place("d"), "Some(4)"),
+    (Asked::Place("e"), "None"),
+    (
+        Asked::Log("a"),
+        "0 0 0 1 1 2 3 3 3 4 in order true, own [1, 2, 4, 7, 8]",
+    ),
+    (Asked::Log("c"), "0 0 0 1 in order false, own []"),
+    (Asked::Turn("a", 2), "7..9 back 2 break 2"),
+    (Asked::Turn("b", 2), "none"),
+    (Asked::Nodes("P"), "[1, 2, 4]"),
+    (Asked::Nodes("Q"), "[3, 4]"),
+    (Asked::Nodes("R"), "[]"),
+];
+
 #[test]
 fn cursors_turns_and_sessions(rt: HostRuntime) -> Result<(), Fail> {
-    let answers = [
-        (Asked::Place("a"), "Some(1)"),
-        (Asked::Place("d"), "Some(4)"),
-        (Asked::Place("e"), "None"),
-        (
-            Asked::Log("a"),
-            "0 0 0 1 1 2 3 3 3 4 in order true, own [1, 2, 4, 7, 8]",
-        ),
-        (Asked::Log("c"), "0 0 0 1 in order false, own []"),
-        (Asked::Turn("a", 2), "7..9 back 2 break 2"),
-        (Asked::Turn("b", 2), "none"),
-        (Asked::Nodes("P"), "[1, 2, 4]"),
-        (Asked::Nodes("Q"), "[3, 4]"),
-        (Asked::Nodes("R"), "[]"),
-    ];
-    assert_answers(&rt, rt.alloc(), LOGS, &answers)
+    assert_answers(&rt, rt.alloc(), LOGS, &ANSWERS)
 }

@@ -77,20 +77,21 @@ impl Question for Asked {
     }
 }
 
+static ANSWERS: [(Asked, &str); 8] = [
+    (Asked::Run(&[ENTRY, START, OPEN, JOIN, TAKE]), "true"),
+    (Asked::Run(&[ENTRY, START, OPEN, JOIN]), "false"),
+    (Asked::Run(&[START, OPEN, JOIN, ENTRY, TAKE]), "true"),
+    (Asked::Run(&[START, OPEN, JOIN, TAKE, ENTRY]), "false"),
+    (Asked::First(ENTRY), "true"),
+    (Asked::First(START), "true"),
+    (Asked::First(OPEN), "false"),
+    (
+        Asked::Session(&[ENTRY, START, OPEN]),
+        "Node(1), turn 0, s1 true, r false",
+    ),
+];
+
 #[test]
 fn runs_of_the_cluster(rt: HostRuntime) -> Result<(), Fail> {
-    let answers = [
-        (Asked::Run(&[ENTRY, START, OPEN, JOIN, TAKE]), "true"),
-        (Asked::Run(&[ENTRY, START, OPEN, JOIN]), "false"),
-        (Asked::Run(&[START, OPEN, JOIN, ENTRY, TAKE]), "true"),
-        (Asked::Run(&[START, OPEN, JOIN, TAKE, ENTRY]), "false"),
-        (Asked::First(ENTRY), "true"),
-        (Asked::First(START), "true"),
-        (Asked::First(OPEN), "false"),
-        (
-            Asked::Session(&[ENTRY, START, OPEN]),
-            "Node(1), turn 0, s1 true, r false",
-        ),
-    ];
-    assert_answers(&rt, rt.alloc(), CLUSTER, &answers)
+    assert_answers(&rt, rt.alloc(), CLUSTER, &ANSWERS)
 }

@@ -38,17 +38,18 @@ pub fn spans_told(alloc: Global, spans: &[Span<'_>]) -> Result<String, Fail> {
 }
 
 /// A session that is in `r` at positions 2 and 3, and in `q` at 4.
+static STEPS: [Next; 6] = [
+    Next::Upto(1),
+    Next::Join("r"),
+    Next::Upto(3),
+    Next::Leave("r"),
+    Next::Join("q"),
+    Next::Upto(4),
+];
+
 #[test]
 fn spans_of_joins_and_leaves(rt: HostRuntime) -> Result<(), Fail> {
-    let steps = [
-        Next::Upto(1),
-        Next::Join("r"),
-        Next::Upto(3),
-        Next::Leave("r"),
-        Next::Join("q"),
-        Next::Upto(4),
-    ];
-    let spans = spans(rt.alloc(), &steps)?;
+    let spans = spans(rt.alloc(), &STEPS)?;
     let told = spans_told(rt.alloc(), &spans)?;
     assert_eq!(rt; told.as_str(), "q 4..4 r 2..3 s1 1..4 ");
     Ok(())

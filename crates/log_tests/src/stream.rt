@@ -53,22 +53,23 @@ impl Question for Asked {
 }
 
 /// A room that is named twice counts once; an event that isn't sent again is addressed to nobody.
+static ANSWERS: [(Asked, &str); 13] = [
+    (Asked::Entry("1-0"), "at 1, an entry true, sent again true"),
+    (Asked::Entry("5-0"), "at 5, an entry true, sent again false"),
+    (Asked::Entry("6-0"), "at 6, an entry true, sent again false"),
+    (Asked::Entry("7-0"), "at 7, an entry true, sent again false"),
+    (Asked::Entry("8-0"), "at 8, an entry true, sent again false"),
+    (Asked::Entry("10-0"), "nowhere"),
+    (Asked::InRoom("/", "r"), "[1, 2]"),
+    (Asked::InRoom("/", "q"), "[2]"),
+    (Asked::InRoom("/n", "r"), "[4]"),
+    (Asked::InRoom("/n", "q"), "[]"),
+    (Asked::ToAll("/"), "[3]"),
+    (Asked::ToAll("/n"), "[9]"),
+    (Asked::ToAll("/m"), "[]"),
+];
+
 #[test]
 fn entries_of_the_stream(rt: HostRuntime) -> Result<(), Fail> {
-    let answers = [
-        (Asked::Entry("1-0"), "at 1, an entry true, sent again true"),
-        (Asked::Entry("5-0"), "at 5, an entry true, sent again false"),
-        (Asked::Entry("6-0"), "at 6, an entry true, sent again false"),
-        (Asked::Entry("7-0"), "at 7, an entry true, sent again false"),
-        (Asked::Entry("8-0"), "at 8, an entry true, sent again false"),
-        (Asked::Entry("10-0"), "nowhere"),
-        (Asked::InRoom("/", "r"), "[1, 2]"),
-        (Asked::InRoom("/", "q"), "[2]"),
-        (Asked::InRoom("/n", "r"), "[4]"),
-        (Asked::InRoom("/n", "q"), "[]"),
-        (Asked::ToAll("/"), "[3]"),
-        (Asked::ToAll("/n"), "[9]"),
-        (Asked::ToAll("/m"), "[]"),
-    ];
-    assert_answers(&rt, rt.alloc(), ENTRIES, &answers)
+    assert_answers(&rt, rt.alloc(), ENTRIES, &ANSWERS)
 }

@@ -113,13 +113,14 @@ impl Question for Asked {
 }
 
 /// Position 3 was sent before the session came to `b`: it is judged by the rooms that the session came with.
+static ANSWERS: [(Asked, &str); 4] = [
+    (Asked::Turn("a", 0, "P"), "1 1..10 0 2 [1, 2, 5, 7, 9]"),
+    (Asked::Turn("a", 0, "Q"), "1 1..10 0 2 [3, 6]"),
+    (Asked::Turn("b", 1, "P"), "2 4..13 3 6 [4, 5, 7, 8, 10, 12]"),
+    (Asked::Spans, "q 2..4 r 1..1 r 4..4 r 6..6 s1 1..6 "),
+];
+
 #[test]
 fn turns_and_their_spans(rt: HostRuntime) -> Result<(), Fail> {
-    let answers = [
-        (Asked::Turn("a", 0, "P"), "1 1..10 0 2 [1, 2, 5, 7, 9]"),
-        (Asked::Turn("a", 0, "Q"), "1 1..10 0 2 [3, 6]"),
-        (Asked::Turn("b", 1, "P"), "2 4..13 3 6 [4, 5, 7, 8, 10, 12]"),
-        (Asked::Spans, "q 2..4 r 1..1 r 4..4 r 6..6 s1 1..6 "),
-    ];
-    assert_answers(&rt, rt.alloc(), TWO_TURNS, &answers)
+    assert_answers(&rt, rt.alloc(), TWO_TURNS, &ANSWERS)
 }
