@@ -43,7 +43,6 @@ pub record RecordStep (c : Cluster) (st st' : State) (l i : ℕ) : Type 0 where
 pub record Stepped (c : Cluster) (st st' : State) (l i : ℕ) : Type 0 where
   pub was : taken_of st l ≡ i
   pub now : taken_of st' l ≡ suc i
-  -- each step takes one from what is left of its log
   pub counted : i < record_count c l
   pub others : (m : ℕ) → (m ≡ l → ⊥) → slice_get st'.logs m ≡ slice_get st.logs m
   pub kind : EntryStep c st st' l i ⊎ RecordStep c st st' l i
@@ -215,6 +214,7 @@ reaches-takes-after a stream (suc i) rec cursor next p h e before = reaches-take
 abbrev pub steps_of : ℕ → List Step → List ℕ
 steps_of l steps = map (λ (s : Step). s.index) (filter (λ (s : Step). nat_eq s.log l) steps)
 
+-- each step takes one from what is left of its log
 counted : (c : Cluster) (st next : State) (s : Step) (steps : List Step) → Stepped c st next s.log s.index → (l : ℕ)
     → length (steps_of l (s ∷ steps)) + taken_of st l ≡ record_count c l → length (steps_of l steps) + taken_of next l ≡ record_count c l
 counted c st next s steps moved l h = grind (arith, eq-eqb s.log l, ne_eqb s.log l)
