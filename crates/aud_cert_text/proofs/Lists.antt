@@ -46,6 +46,12 @@ items-push : {A : Type 0} (data_of : A → Data) (xs : List A) (x : A) → items
 items-push data_of [] x = refl
 items-push data_of (y ∷ xs) x = ap (item (data_of y)) (items-push data_of xs x)
 
+-- the items written so far after a first one, and one more
+pub items-after : {A : Type 0} (data_of : A → Data) (first : Data) (vs : List Value) (xs : List A) (i : ℕ) (v : Value) (d : A) → i < length xs → view v ≡ data_of (get_or xs i d)
+    → items_view vs ≡ item first (items data_of (take i xs)) → items_view (vs ++ v ∷ []) ≡ item first (items data_of (take (i + 1) xs))
+items-after data_of first vs xs i v d h is same =
+    rw (add-one, take-suc xs i d h) (items_view-push vs v ∙ rw (same, is) (ap (item first) (sym (items-push data_of (take i xs) (get_or xs i d)))))
+
 -- the items written so far, and one more
 pub items-more : {A : Type 0} (data_of : A → Data) (vs : List Value) (xs : List A) (i : ℕ) (v : Value) (x : A) → i < length xs → x ≡ get_or xs i x → view v ≡ data_of x
     → items_view vs ≡ items data_of (take i xs) → items_view (vs ++ v ∷ []) ≡ items data_of (take (i + 1) xs)

@@ -15,18 +15,17 @@ items data_of (x ∷ xs) = item (data_of x) (items data_of xs)
 abbrev pub whole : ℕ → Data
 whole n = number (unsigned n)
 
+-- `[name,..]`: a name, and then whole numbers
+abbrev pub row_data : Text → List ℕ → Data
+row_data name numbers = array (item (string name) (items whole numbers))
+
 -- `[room,first,last]`
 abbrev pub span_data : RoomSpan → Data
-span_data s = array (item (string s.room) (item (whole s.first) (item (whole s.last) no_items)))
+span_data s = row_data s.room (s.first ∷ s.last ∷ [])
 
 -- `[node,from,to,low,high]`
 abbrev pub turn_data : TurnSeen → Data
-turn_data t =
-    array (item (string t.node)
-    (item (whole t.from)
-    (item (whole t.to)
-    (item (whole t.low)
-    (item (whole t.high) no_items)))))
+turn_data t = row_data t.node (t.from ∷ t.to ∷ t.low ∷ t.high ∷ [])
 
 -- `{"client":..,"pid":..,"spans":[..],"turns":[..]}`
 abbrev pub certificate_data : CertificateSeen → Data

@@ -4,25 +4,37 @@ ghost use Rattle.serde_json.specs.View.{view, items_view};
 ghost use Rattle.aud_node.specs.Cluster.{Cluster};
 ghost use Rattle.aud_cert_text.specs.Reading.{certificate_of};
 ghost use Rattle.aud_cert_text.specs.Sound.{IsSound};
-ghost use Rattle.aud_cert_text.specs.Text.{items, span_data, turn_data, certificate_data, certificate_text};
+ghost use Rattle.aud_cert_text.specs.Text.{items, row_data, span_data, turn_data, certificate_data, certificate_text};
 
 use aud_cert::{Certificate, Turn};
 use aud_rooms::Span;
 use serde_json::{Value, json};
 use std::alloc::{AllocError, Global};
 
+/// `[name,..]`: the name, and then the numbers.
+fn row_value(alloc: Global, name: &str, numbers: &[u64]) -> Result<Value, AllocError>
+    ensures { IfOk result (λ v. view v ≡ row_data name.now numbers.now) }
+{
+    let mut items = Vec::new(alloc);
+    items.push(Value::try_from_str(alloc, name)?)?;
+    for number in numbers {
+        items.push(Value::from(*number))?;
+    }
+    Ok(Value::Array(items))
+}
+
 /// `[room,first,last]`.
 fn span_value(alloc: Global, span: &Span<'_>) -> Result<Value, AllocError>
     ensures { IfOk result (λ v. view v ≡ span_data span.now) }
 {
-    json!(in alloc; [span.room.as_str(), span.first, span.last])
+    row_value(alloc, span.room.as_str(), &[span.first, span.last])
 }
 
 /// `[node,from,to,low,high]`.
 fn turn_value(alloc: Global, turn: &Turn<'_>) -> Result<Value, AllocError>
     ensures { IfOk result (λ v. view v ≡ turn_data turn.now) }
 {
-    json!(in alloc; [turn.node, turn.from, turn.to, turn.low, turn.high])
+    row_value(alloc, turn.node, &[turn.from, turn.to, turn.low, turn.high])
 }
 
 fn span_values(alloc: Global, spans: &[Span<'_>]) -> Result<Vec<Value>, AllocError>

@@ -1,23 +1,40 @@
 -- The first fault, by what was found before it.
-use Rattle.std.proofs.Common.{◌≡◌, ◌<◌, ℕ, false, List, [], Some, None, map, refl, sym, ap, subst, ◌∙◌, inl, inr, arith}
+use Rattle.std.proofs.Common.{◌≡◌, ◌<◌, ℕ, false, List, [], Some, None, map, refl, sym, ap, subst, ◌∙◌, inl, inr, arith, true≢false}
 use Rattle.aud_tap.specs.declared.records.StreamRec.{StreamRec}
-use Rattle.aud_node.specs.Stream.{Text}
 use Rattle.aud_client.specs.StaySeen.{StaySeen, FrameSeen}
 use Rattle.aud_client.specs.Received.{TranscriptSeen}
 use Rattle.aud_cert.specs.declared.fault.Fault.{Fault}
-use Rattle.aud_cert.specs.declared.fault.Fault.TheVariants.{Window}
+use Rattle.aud_cert.specs.declared.fault.Fault.TheVariants.{Frame, Orphan, Content, Window}
+use Rattle.aud_check.specs.declared.refusal.Refusal.{Refusal}
+use Rattle.aud_check.specs.declared.refusal.Refusal.TheVariants.{Received, Memory}
 use Rattle.aud_check.specs.declared.compare.Mismatch.{Mismatch}
 use Rattle.aud_check.specs.declared.compare.Mismatch.TheVariants as wrong
 use Rattle.aud_merge.specs.ByTurns.{IsPrefixOf}
 use Rattle.aud_check.specs.Compare.{mismatch}
-use Rattle.aud_check.specs.Frames.{AreEntries, frames_in, offset_at, wrong_window}
-use Rattle.aud_check.specs.Faults.{Case, HasFault, fault_of, fault_rank, named, position_in, positions_in}
+use Rattle.aud_check.specs.Frames.{AreEntries, IsFirstAltered, frames_in, offset_at, wrong_window}
+use Rattle.aud_check.specs.Faults.{Case, HasFault, fault_of, fault_rank, positions_in}
 use Rattle.aud_check.specs.Private.FirstFault.{IsFirstFault}
-use Rattle.aud_check.specs.Private.ReceivedCheck.{by_stays}
+use Rattle.aud_check.specs.Private.ReceivedCheck.{IsReceivedRefusal, NamesFault, by_stays}
 use Rattle.aud_check.proofs.Agreed.{mismatch-none}
 use Rattle.aud_check.proofs.Cuts.{position_of}
 use Rattle.aud_check.proofs.Mismatched.{is_fault}
-use Rattle.aud_check.proofs.Ranks.{no_mismatch, what_is_left}
+use Rattle.aud_check.proofs.Ranks.{no_mismatch, some_or_none, what_is_left}
+
+-- a refusal that names the first fault
+pub names_first : (case : Case) (fault : Fault) (refusal : Refusal) → NamesFault fault refusal → IsFirstFault case fault → IsReceivedRefusal case refusal
+names_first case fault (Received other) is first = subst (IsFirstFault case) (sym is) first
+names_first case fault Memory is first = tt
+names_first case fault _ is first = absurd is
+
+-- where the tap decodes and has no orphan, the first frame that isn't its entry is the first fault
+pub altered_first : (case : Case) → case.transcript.bad ≡ None → case.transcript.orphan ≡ false → (frame : FrameSeen) → IsFirstAltered case.stream case.frames frame
+    → IsFirstFault case (Content (offset_at case.stream frame.position))
+altered_first case decodes has_no_orphan frame first = record { holds = (frame, first, refl); none_before = go }
+  where
+    go : (other : Fault) → fault_rank other < 2 → HasFault case other → ⊥
+    go Frame before h = some_or_none case.transcript.bad decodes h
+    go Orphan before h = true≢false (sym h ∙ has_no_orphan)
+    go _ before h = absurd (omega (arith, before))
 
 module _ (stream : List StreamRec) (tap : TranscriptSeen) (stays : List StaySeen) (due : List ℕ) (frames : List FrameSeen) (positions : List ℕ) (of_stays : frames ≡ frames_in stays)
     (of_frames : positions ≡ map position_of frames) (decodes : tap.bad ≡ None) (has_no_orphan : tap.orphan ≡ false) (are_entries : AreEntries stream frames) where
@@ -46,10 +63,9 @@ module _ (stream : List StreamRec) (tap : TranscriptSeen) (stays : List StaySeen
   of_mismatch : (m : Mismatch) → mismatch (positions_in case) due ≡ Some m → IsFirstFault case (fault_of stream m)
   of_mismatch m e = record { holds = is_fault case m e; none_before = λ other before h. let rank = (left other (omega (arith, before, rank_of m)) h).1 in omega (arith, before, rank, rank_of m) }
 
-  -- so is the fault that the code names for it
-  pub mismatch_first : (m : Mismatch) → Some m ≡ mismatch positions due → (p : ℕ) → p ≡ position_in m → (off : Text) → off ≡ offset_at stream p → (f : Fault) → f ≡ named m off → IsFirstFault case f
-  mismatch_first m found p at off is f called =
-      subst (IsFirstFault case) (sym (called ∙ ap (named m) (is ∙ ap (offset_at stream) at))) (of_mismatch m (sym (found ∙ ap (λ ps. mismatch ps due) own)))
+  -- so is one of the positions
+  pub mismatch_first : (m : Mismatch) → Some m ≡ mismatch positions due → IsFirstFault case (fault_of stream m)
+  mismatch_first m found = of_mismatch m (sym (found ∙ ap (λ ps. mismatch ps due) own))
 
   -- where there is no mismatch, a window is the first fault
   pub window_first : IsPrefixOf positions due → (n : ℕ) → Some n ≡ wrong_window stream [] stays → IsFirstFault case (Window n)

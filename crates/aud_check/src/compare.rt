@@ -50,13 +50,7 @@ fn wrong_at(received: &[u64], due: &[u64], place: usize) -> Option<Mismatch>
 }
 
 /// What is wrong at this place, where the position was received and the other one was due.
-fn wrong_there(
-    received: &[u64],
-    due: &[u64],
-    place: usize,
-    position: u64,
-    other: u64,
-) -> Mismatch
+fn wrong_there(received: &[u64], due: &[u64], place: usize, position: u64, other: u64) -> Mismatch
     requires { place < length received.now }
     ensures { result ≡ wrong_there received.now due.now place position other }
 {

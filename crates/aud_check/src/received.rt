@@ -1,10 +1,11 @@
 //! What a client received of a session against what was due to it.
 ghost use Rattle.std.specs.Prelude.{◌≡◌, IfErr, IfOk, OnOk, length, map};
 ghost use Rattle.aud_client.specs.StaySeen.{FrameSeen};
+ghost use Rattle.aud_cert.specs.declared.fault.Fault.TheVariants.{Content};
 ghost use Rattle.aud_check.specs.Private.Ascending.{IsAscending};
-ghost use Rattle.aud_check.specs.Faults.{IsReceived, named, position_in};
+ghost use Rattle.aud_check.specs.Faults.{IsReceived, fault_of, named, position_in};
 ghost use Rattle.aud_check.specs.Frames.{frames_in, offset_at};
-ghost use Rattle.aud_check.specs.Private.ReceivedCheck.{IsReceivedRefusal, by_stays};
+ghost use Rattle.aud_check.specs.Private.ReceivedCheck.{IsReceivedRefusal, NamesFault, by_stays};
 
 use crate::compare::{Mismatch, first_mismatch};
 use crate::content::first_altered;
@@ -40,18 +41,36 @@ pub(crate) fn check_received(
     let frames = frames_in(alloc, stays)?;
     let frames = frames.as_slice();
     if let Some(frame) = first_altered(stream, frames) {
-        let altered = offset_at(alloc, stream, frame.position)?;
-        return Err(Refusal::Received(Fault::Content(altered)));
+        return Err(altered(alloc, stream, frame));
     }
     let positions = positions_of(alloc, frames)?;
     let positions = positions.as_slice();
     if let Some(mismatch) = first_mismatch(positions, due) {
-        let wrong = offset_at(alloc, stream, position_in(mismatch))?;
-        return Err(Refusal::Received(named(mismatch, wrong)));
+        return Err(mismatched(alloc, stream, mismatch));
     }
     match wrong_window(stream, stays, positions) {
         Some(c) => Err(Refusal::Received(Fault::Window(c))),
         None => Ok(positions.len()),
+    }
+}
+
+/// The refusal for this frame, which isn't its entry, or for want of memory.
+fn altered(alloc: Global, stream: &Stream<'_>, frame: &Frame<'_>) -> Refusal
+    ensures { NamesFault (Content (offset_at stream.now frame.now.position)) result }
+{
+    match offset_at(alloc, stream, frame.position) {
+        Ok(off) => Refusal::Received(Fault::Content(off)),
+        Err(_) => Refusal::Memory,
+    }
+}
+
+/// The refusal for this mismatch, or for want of memory.
+fn mismatched(alloc: Global, stream: &Stream<'_>, mismatch: Mismatch) -> Refusal
+    ensures { NamesFault (fault_of stream.now mismatch) result }
+{
+    match offset_at(alloc, stream, position_in(mismatch)) {
+        Ok(off) => Refusal::Received(named(mismatch, off)),
+        Err(_) => Refusal::Memory,
     }
 }
 

@@ -251,7 +251,7 @@ pub due-shown : (c : Cluster) (run : List Step) (who : Who) (turns : List Turn) 
 due-shown c run who turns is are =
     filter_agree _ _ (due-shown_at c run who turns is are) (positions_after 0 (length c.stream)) ∙ sym (filter_both _ (is_due c run who.pid) (positions_after 0 (length c.stream)))
 
--- what is kept of ascending positions up to h stands at their front
+-- of ascending positions past h none is kept
 none_kept : (h : ℕ) (test : ℕ → Bool) (n a : ℕ) → h ≤ a → filter (λ p. nat_le p h) (filter test (positions_after a n)) ≡ []
 none_kept h test zero a past = refl
 none_kept h test (suc n) a past = grind (arith, none_kept h test n (suc a), lt-leb (suc a) h)

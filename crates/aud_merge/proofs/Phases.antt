@@ -158,7 +158,7 @@ pub begun_at : (c : Cluster) (who : Who) (st st' : State) (l i : ℕ) (steps : L
     → Stepped c st st' l i → RunsOn c st' steps → Named c st st' l i who.pid → (l ≡ t.node) × (i ≡ t.from) × (session_of st' who.pid ≡ Here l k who.sid who.nsp held)
 begun_at c who st st' l i steps k held t later o s runs named = grind (arith, waiting-after l who k held named.rec, never_again c, beginning-begins who k, begun-beyond l who k held named.rec)
 
--- where its record is named, a waiting session begins its turn, or one that is not known
+-- a record that names a waiting session begins its turn, or one that is not known
 out_named : (c : Cluster) (who : Who) (last : ℕ) (st st' : State) (l i : ℕ) (steps : List Step) (k : ℕ) (held : Rooms) (rest : List Turn) (counted : k + length rest ≡ last) (o : Out c who st k held rest)
     → Stepped c st st' l i → RunsOn c st' steps → (named : Named c st st' l i who.pid) → begins_turn who.pid k named.rec ≡ true → Went c who last st' l i (Waiting k held rest)
 out_named c who last st st' l i steps k held [] counted o s runs named starts =
@@ -181,7 +181,7 @@ out_named c who last st st' l i steps k held (t ∷ later) counted o s runs name
       );
     }
 
--- where it is not named, it goes on waiting
+-- a session that the record doesn't name goes on waiting
 pub out_stays : (c : Cluster) (who : Who) (st st' : State) (l i : ℕ) (k : ℕ) (held : Rooms) (rest : List Turn) → Out c who st k held rest
     → Stepped c st st' l i → Quiet c st st' l i who.pid → Out c who st' k held rest
 out_stays c who st st' l i k held rest o s quiet =

@@ -1,5 +1,5 @@
 -- What a step that is allowed does, and what one session sees of it; the cursor that a log gives.
-use Rattle.std.proofs.Common.{◌≡◌, ◌<◌, ◌≤◌, ℕ, suc, [], take, Some, slice_get, arith, sym, ap, subst, ◌∙◌, ◌⊎◌, inl, inr, nat_eq, ◌+◌, zero, true, false, cond, List, ◌∷◌, length, map, Option, None, refl, unwrap_or, filter, nat_le, set}
+use Rattle.std.proofs.Common.{◌≡◌, ◌<◌, ◌≤◌, ℕ, suc, [], take, Some, slice_get, arith, sym, ap, subst, ◌∙◌, ◌⊎◌, inl, inr, nat_eq, ◌+◌, zero, true, false, cond, List, ◌∷◌, length, map, Option, None, unwrap_or, filter, nat_le, set}
 use Rattle.std.proofs.lemmas.Bool.{eqb-true, cases_eq, eq-eqb, ne_eqb, leb-false, le-leb, lt-leb}
 use Rattle.std.proofs.lemmas.Option.{same_Some, none-some, slice_get_within, slice_get-map}
 use Rattle.std.specs.Ordering.{nat_cmp}
@@ -14,9 +14,9 @@ use Rattle.aud_base.proofs.SameText.{cases_text}
 use Rattle.aud_node.specs.Cluster.{Cluster, node_log, node_recs, log_at}
 use Rattle.aud_node.specs.TurnRecords.{pid_of}
 use Rattle.aud_node.specs.Cursors.{is_position, next_cursor, cursor_past, cursor_at, position_or, takes}
-use Rattle.aud_node.specs.Lists.{numbers_from}
 use Rattle.aud_node.specs.Stream.{Text, position}
 use Rattle.aud_merge.specs.Due.{cursor_of, cursor_in}
+use Rattle.aud_rooms.proofs.Ascending.{length-numbers}
 use Rattle.aud_merge.specs.declared.step.Step.{Step}
 use Rattle.aud_merge.specs.declared.progress.Progress.{Progress}
 use Rattle.aud_merge.specs.Machine.{State, after, after_next, after_record, after_entry, allowed_cursor, sessions_after, taken_in, taken_of, appended, start, position_if_next, session_of}
@@ -43,7 +43,6 @@ pub record RecordStep (c : Cluster) (st st' : State) (l i : ℕ) : Type 0 where
 pub record Stepped (c : Cluster) (st st' : State) (l i : ℕ) : Type 0 where
   pub was : taken_of st l ≡ i
   pub now : taken_of st' l ≡ suc i
-  -- each step takes one from what is left of its log
   pub counted : i < record_count c l
   pub others : (m : ℕ) → (m ≡ l → ⊥) → slice_get st'.logs m ≡ slice_get st.logs m
   pub kind : EntryStep c st st' l i ⊎ RecordStep c st st' l i
@@ -215,11 +214,7 @@ reaches-takes-after a stream (suc i) rec cursor next p h e before = reaches-take
 abbrev pub steps_of : ℕ → List Step → List ℕ
 steps_of l steps = map (λ (s : Step). s.index) (filter (λ (s : Step). nat_eq s.log l) steps)
 
--- there are so many numbers
-length-numbers_from : (a n : ℕ) → length (numbers_from a n) ≡ n
-length-numbers_from a zero = refl
-length-numbers_from a (suc n) = ap suc (length-numbers_from (suc a) n)
-
+-- each step takes one from what is left of its log
 counted : (c : Cluster) (st next : State) (s : Step) (steps : List Step) → Stepped c st next s.log s.index → (l : ℕ)
     → length (steps_of l (s ∷ steps)) + taken_of st l ≡ record_count c l → length (steps_of l steps) + taken_of next l ≡ record_count c l
 counted c st next s steps moved l h = grind (arith, eq-eqb s.log l, ne_eqb s.log l)
@@ -237,4 +232,4 @@ taken-start c l = grind (arith, slice_get-map)
 
 -- a run is the rest of a run from the start on
 pub RunsOn-run : (c : Cluster) (run : List Step) → IsRun c run → RunsOn c (start c) run
-RunsOn-run c run is = runs_on c (start c) run is.allowed (λ l. let merged = ap length (is.merges l) ∙ length-numbers_from 0 (record_count c l) in omega (arith, merged, taken-start c l))
+RunsOn-run c run is = runs_on c (start c) run is.allowed (λ l. let merged = ap length (is.merges l) ∙ length-numbers 0 (record_count c l) in omega (arith, merged, taken-start c l))

@@ -13,7 +13,7 @@ seen_at (Node place) turn sid nsp rooms = seen.Here place turn sid nsp rooms
 seen_at Away turn sid nsp rooms = seen.Away turn sid nsp rooms
 seen_at Ended turn sid nsp rooms = seen.Ended
 
--- the session that it is
+-- the session, as the machine has it
 abbrev pub session_seen : OpenedSession → seen.SessionState
 session_seen s = seen_at s.at s.turn s.sid.now s.nsp.now s.rooms
 

@@ -1,4 +1,4 @@
-use Rattle.std.proofs.Common.{Some, None, slice_get, sym, ap, ◌∙◌}
+use Rattle.std.proofs.Common.{Some, None, slice_get, ap, ◌∙◌}
 use Rattle.aud_base.proofs.Lists.{got}
 use Rattle.aud_check.specs.Compare.{wrong_by}
 use Rattle.aud_check.proofs.compare.wrong_at.Goals as goal
