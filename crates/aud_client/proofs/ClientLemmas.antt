@@ -49,6 +49,9 @@ pub first_of-append : (xs ys : List ℕ) → first_of (xs ++ ys) ≡ option_or (
 first_of-append [] ys = refl
 first_of-append (x ∷ xs) ys = refl
 
+bad_of-append : (xs ys : List (ℕ × List (ℕ × ClientRec))) → bad_of (xs ++ ys) ≡ option_or (bad_of xs) (bad_of ys)
+bad_of-append xs ys = ap first_of (flat_map-append (λ (cut : ℕ × List (ℕ × ClientRec)). bad_in cut.1) xs ys) ∙ first_of-append (flat_map (λ (cut : ℕ × List (ℕ × ClientRec)). bad_in cut.1) xs) (flat_map (λ (cut : ℕ × List (ℕ × ClientRec)). bad_in cut.1) ys)
+
 option_or_assoc : (a b c : Option ℕ) → option_or (option_or a b) c ≡ option_or a (option_or b c)
 option_or_assoc None b c = refl
 option_or_assoc (Some n) b c = refl
@@ -70,17 +73,9 @@ HasTaken-more recs i rec seen after bad first front seen_is bad_is held =
     let all : connections_in (numbered_records i (drop i recs)) ≡ begins ++ later = ap (λ r. connections_in (numbered_records i r)) front ∙ connections_in-cons i rec rest in
     record {
       connections_are =
-          ap (λ n. after ++ map cut_seen (connections_in (numbered_records n rest))) next
-          ∙ ap (λ r. r ++ map cut_seen later) seen_is
-          ∙ append_assoc seen (map cut_seen begins) (map cut_seen later)
-          ∙ ap (λ r. seen ++ r) (sym (ap (map cut_seen) all ∙ map-append cut_seen begins later))
-          ∙ held.connections_are;
+          cc (append_assoc seen (map cut_seen begins) (map cut_seen later), map-append cut_seen begins later);
       bad_is =
-          ap (λ n. option_or first (bad_of (connections_in (numbered_records n rest)))) next
-          ∙ ap (λ r. option_or r (bad_of later)) bad_is
-          ∙ option_or_assoc bad (bad_of begins) (bad_of later)
-          ∙ ap (option_or bad) (sym (ap bad_of all ∙ ap first_of (flat_map-append (λ (cut : ℕ × List (ℕ × ClientRec)). bad_in cut.1) begins later) ∙ first_of-append (flat_map (λ (cut : ℕ × List (ℕ × ClientRec)). bad_in cut.1) begins) (flat_map (λ (cut : ℕ × List (ℕ × ClientRec)). bad_in cut.1) later)))
-          ∙ held.bad_is;
+          cc (option_or_assoc bad (bad_of begins) (bad_of later), bad_of-append begins later);
     }
 
 -- all records were taken

@@ -1,8 +1,8 @@
 -- What an index keeps of a list: the numbers, ascending, of the elements that pass a test.
-use Rattle.std.proofs.Common.{◌≡◌, ℕ, ◌+◌, ◌<◌, suc, Bool, false, List, [], ◌∷◌, ◌++◌, length, map, take, get_or, refl, sym, ap, ◌∙◌, arith, append_assoc, length-append, Option, Some, slice_get}
+use Rattle.std.proofs.Common.{◌≡◌, ℕ, ◌+◌, ◌<◌, suc, Bool, false, List, [], ◌∷◌, ◌++◌, length, take, get_or, refl, sym, ap, ◌∙◌, arith, append_assoc, length-append, Option, Some, slice_get}
 use Rattle.std.specs.List.{filter, filter_map, cons_option}
 use Rattle.std.specs.Option.{option_map_or}
-use Rattle.std.proofs.lemmas.List.{take_more, map-append}
+use Rattle.std.proofs.lemmas.List.{take_more}
 use Rattle.std.proofs.lemmas.List.Elements.{filter_map-append}
 use Rattle.aud_base.specs.Lists.{numbers_from}
 use Rattle.aud_base.specs.Places.{places_where}
@@ -34,10 +34,3 @@ module _ {X : Type 0} where
   numbered-next xs numbers i o old new within is before after =
       after ∙ ap (λ zs. zs ++ cons_option o []) before ∙ ap (λ u. filter_map (slice_get xs) (take i numbers) ++ cons_option u []) is
       ∙ sym (ap (filter_map (slice_get xs)) (take_more numbers i 0 within) ∙ filter_map-append (slice_get xs) (take i numbers) (get_or numbers i 0 ∷ []))
-
--- what is made of the first elements, with one element more
-pub mapped-next : {X Y : Type 0} (f : X → Y) (xs : List X) (i : ℕ) (x : X) (old new : List Y) → i < length xs → x ≡ get_or xs i x
-    → old ≡ map f (take i xs) → new ≡ old ++ f x ∷ [] → new ≡ map f (take (i + 1) xs)
-mapped-next f xs i x old new within is before after =
-    after ∙ ap (λ ys. ys ++ f x ∷ []) before ∙ sym (map-append f (take i xs) (x ∷ []))
-    ∙ ap (map f) (ap (λ y. take i xs ++ y ∷ []) is ∙ sym (take_more xs i x within))

@@ -50,26 +50,32 @@ bad_or-twice (Some first) number a b = refl
 bad_or-twice None number true b = refl
 bad_or-twice None number false b = refl
 
+-- what stands at a record, of two lists
+at-append : {A : Type 0} (place : ℕ) (xs ys : List A) → at place (xs ++ ys) ≡ at place xs ++ at place ys
+at-append place xs ys = map-append (λ x. (place, x)) xs ys
+
 -- messages and then others
 pub Reads-append : (number : ℕ) (ms ns : List Message) (old mid new : Reader) → Reads number ms old mid → Reads number ns mid new → Reads number (ms ++ ns) old new
 Reads-append number ms ns old mid new a b =
     record {
       answers = a.answers ++ b.answers;
       continues = λ place l.
-          ap (λ m. wholes_after old.assembler (m ++ l)) (map-append (λ x. (place, x)) ms ns)
-          ∙ ap (wholes_after old.assembler) (append_assoc (at place ms) (at place ns) l)
-          ∙ a.continues place (at place ns ++ l)
-          ∙ ap (λ r. at place a.answers ++ r) (b.continues place l)
-          ∙ sym (append_assoc (at place a.answers) (at place b.answers) (wholes_after new.assembler l))
-          ∙ ap (λ r. r ++ wholes_after new.assembler l) (sym (map-append (λ x. (place, x)) a.answers b.answers));
+          cc (
+            at-append place ms ns,
+            append_assoc (at place ms) (at place ns) l,
+            a.continues place (at place ns ++ l),
+            b.continues place l,
+            append_assoc (at place a.answers) (at place b.answers) (wholes_after new.assembler l),
+            at-append place a.answers b.answers,
+          );
       packets_are =
-          b.packets_are ∙ ap (λ r. r ++ at number (wholes_in b.answers)) a.packets_are
-          ∙ append_assoc (packets_read old) (at number (wholes_in a.answers)) (at number (wholes_in b.answers))
-          ∙ ap (λ r. packets_read old ++ r) (sym (ap (at number) (wholes_in-append a.answers b.answers) ∙ map-append (λ x. (number, x)) (wholes_in a.answers) (wholes_in b.answers)));
+          cc (
+            append_assoc (packets_read old) (at number (wholes_in a.answers)) (at number (wholes_in b.answers)),
+            wholes_in-append a.answers b.answers,
+            at-append number (wholes_in a.answers) (wholes_in b.answers),
+          );
       bad_is =
-          b.bad_is ∙ ap (λ r. bad_or r number (list_any is_refused b.answers)) a.bad_is
-          ∙ bad_or-twice old.bad number (list_any is_refused a.answers) (list_any is_refused b.answers)
-          ∙ ap (bad_or old.bad number) (sym (list_any-append is_refused a.answers b.answers));
+          cc (bad_or-twice old.bad number (list_any is_refused a.answers) (list_any is_refused b.answers), list_any-append is_refused a.answers b.answers);
       waits = λ w. b.waits (a.waits w);
     }
 

@@ -1,15 +1,15 @@
 -- What is known of a stay with one packet more.
-use Rattle.std.proofs.Common.{◌≡◌, ℕ, true, false, ◌&&◌, List, [], ◌∷◌, ◌++◌, refl, sym, ap, ◌∙◌, arith, ◌⊎◌, inl, inr, Option, Some, None, is_some}
+use Rattle.std.proofs.Common.{◌≡◌, ℕ, true, false, List, [], ◌∷◌, ◌++◌, refl, sym, ap, ◌∙◌, arith, Option, Some, None, is_some}
 use Rattle.std.specs.List.{list_any, filter_map, cons_option}
 use Rattle.std.specs.Option.{option_or}
-use Rattle.std.proofs.lemmas.Bool.{false≢true, cases_Bool}
+use Rattle.std.proofs.lemmas.Bool.{false≢true}
 use Rattle.std.proofs.lemmas.List.{append-nil}
 use Rattle.std.proofs.lemmas.List.Elements.{filter_map-append}
 use Rattle.aud_tap.specs.declared.records.StreamRec.{StreamRec}
 use Rattle.aud_node.specs.Stream.{Text}
 use Rattle.aud_client.specs.TapPackets.{TapPacket, FromServer, FromClient}
 use Rattle.aud_client.specs.Replies.{ReplySeen}
-use Rattle.aud_client.specs.Stays.{namespace, is_connect, is_reply, is_from_server, goes_on}
+use Rattle.aud_client.specs.Stays.{namespace, is_connect, is_reply, goes_on}
 use Rattle.aud_client.specs.StaySeen.{AskedSeen, FrameSeen, StaySeen, stay_of, reply_at, reply_of, before_reply, ask_of, last_of, asked_of, frame_of}
 use Rattle.aud_client.specs.Private.Kept.{empty_stay, grown}
 
@@ -91,29 +91,17 @@ pub no_connect : (s : List TapPacket) (p : TapPacket) → goes_on s p ≡ true �
 no_connect [] p e some = absurd (false≢true e)
 no_connect (x ∷ xs) p e some = grind arith
 
+-- the reply and what was asked, with one packet more
+reply-more : (s : List TapPacket) (p : TapPacket) → goes_on s p ≡ true → reply_of (s ++ p ∷ []) ≡ option_or (reply_at p) (reply_of s)
+reply-more s p e =
+    grind (arith, replied s (p ∷ []), unreplied s (p ∷ []), none_yet s, reply_of-one p, no_reply_at p, no_connect s p e, or_none (reply_at p))
+
+asked-next : (s : List TapPacket) (p : TapPacket) → goes_on s p ≡ true → asked_of (s ++ p ∷ []) ≡ option_or (ask_of p) (asked_of s)
+asked-next s p e = grind (arith, replied s (p ∷ []), unreplied s (p ∷ []), unreplied s [], append-nil s, no_ask p, no_connect s p e, asked-after s p)
+
 -- a stay with one packet more
 pub stay_of-more : (stream : List StreamRec) (c : ℕ) (s : List TapPacket) (p : TapPacket) → goes_on s p ≡ true
     → stay_of stream c (s ++ p ∷ []) ≡ grown stream (stay_of stream c s) p
 stay_of-more stream c [] p e = absurd (false≢true e)
-stay_of-more stream c (x ∷ xs) p e = same_stays c (namespace x) _ _ _ _ _ _ (both (cases_Bool (list_any is_reply (x ∷ xs)))).0 (both (cases_Bool (list_any is_reply (x ∷ xs)))).1 (filter_map-append (frame_of stream) (x ∷ xs) (p ∷ []))
-  where
-    not_reply : list_any is_reply (x ∷ xs) ≡ true → is_reply p ≡ false
-    not_reply some = ap (λ b. b && is_from_server p) (no_connect (x ∷ xs) p e some)
-
-    all_before : list_any is_reply (x ∷ xs) ≡ false → before_reply (x ∷ xs) ≡ x ∷ xs
-    all_before none = sym (ap before_reply (append-nil (x ∷ xs))) ∙ (unreplied (x ∷ xs) [] none).1 ∙ append-nil (x ∷ xs)
-
-    both : (list_any is_reply (x ∷ xs) ≡ true) ⊎ (list_any is_reply (x ∷ xs) ≡ false)
-        → (reply_of (x ∷ xs ++ p ∷ []) ≡ option_or (reply_at p) (reply_of (x ∷ xs)))
-        × (asked_of (x ∷ xs ++ p ∷ []) ≡ option_or (ask_of p) (asked_of (x ∷ xs)))
-    both (inl some) = (
-      (replied (x ∷ xs) (p ∷ []) some).0 ∙ ap (λ o. option_or o (reply_of (x ∷ xs))) (sym (no_reply_at p (not_reply some))),
-      ap (λ l. last_of (filter_map ask_of l)) (replied (x ∷ xs) (p ∷ []) some).1
-          ∙ ap (λ o. option_or o (asked_of (x ∷ xs))) (sym (no_ask p (no_connect (x ∷ xs) p e some))),
-    )
-    both (inr none) = (
-      (unreplied (x ∷ xs) (p ∷ []) none).0 ∙ reply_of-one p ∙ sym (or_none (reply_at p)) ∙ ap (option_or (reply_at p)) (sym (none_yet (x ∷ xs) none)),
-      ap (λ l. last_of (filter_map ask_of l)) (unreplied (x ∷ xs) (p ∷ []) none).1
-          ∙ asked-after (x ∷ xs) p
-          ∙ ap (λ l. option_or (ask_of p) (last_of (filter_map ask_of l))) (sym (all_before none)),
-    )
+stay_of-more stream c (x ∷ xs) p e =
+    same_stays c (namespace x) _ _ _ _ _ _ (reply-more (x ∷ xs) p e) (asked-next (x ∷ xs) p e) (filter_map-append (frame_of stream) (x ∷ xs) (p ∷ []))

@@ -40,14 +40,6 @@ impl<'a> Recording<'a> {
         ensures { IfOk result (λ recording. recording ≡ cluster_of taps.now) }
     {
         let logs = Logs::build(alloc, taps)?;
-        Recording::of_logs(alloc, logs)
-    }
-
-    /// Reads the clients' taps beside these logs.
-    fn of_logs(alloc: Global, logs: Logs<'a>) -> Result<Recording<'a>, AllocError>
-        requires { AreNamedOnce logs.taps }
-        ensures { IfOk result (λ recording. recording ≡ logs.entry) }
-    {
         let clients = Clients::read(alloc, &logs)?;
         Ok(Recording { logs, clients })
     }
