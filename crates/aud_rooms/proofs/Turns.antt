@@ -39,10 +39,7 @@ begins-foreign pid n k _ e = absurd (false≢true e)
 -- a record of a turn that ends is an inner one, or the last
 pub end_parts : (part : Part) (recs : List NodeRec) (rest : Option End) (e : End) → end_past part recs rest ≡ Some e
     → ((part ≡ Inner) × (rest ≡ Some e)) ⊎ ((part ≡ Last e) × (recs ≡ []))
-end_parts Inner recs rest e is = inl (refl, is)
-end_parts (Last last) [] rest e is = inr (ap Last (same_Some last e is), refl)
-end_parts (Last last) (rec ∷ recs) rest e is = absurd (none-some e is)
-end_parts Foreign recs rest e is = absurd (none-some e is)
+end_parts part recs rest e is = grind arith
 
 -- among the records of a turn that ends there is none that is foreign to it
 no_foreign : (pid : Text) (k : ℕ) (recs : List NodeRec) (e : End) (j : ℕ) (rec : NodeRec) → turn_end pid k recs ≡ Some e → slice_get recs j ≡ Some rec → part_of pid k rec ≡ Foreign → ⊥
