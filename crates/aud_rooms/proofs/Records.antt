@@ -1,6 +1,6 @@
 -- Consecutive records of a node's log, and the cursor along it.
 use Rattle.std.proofs.lemmas.Grind.{common_steps}
-use Rattle.std.proofs.Common.{◌≡◌, ◌<◌, ◌≤◌, ◌+◌, ◌-◌, ℕ, zero, suc, Bool, true, false, List, [], ◌∷◌, length, Some, slice_get, sym, ap, ◌∙◌, arith}
+use Rattle.std.proofs.Common.{◌≡◌, ◌<◌, ◌≤◌, ◌+◌, ◌-◌, ℕ, zero, suc, Bool, true, false, List, [], ◌∷◌, ◌++◌, refl, length, Some, slice_get, sym, ap, ◌∙◌, arith}
 use Rattle.std.specs.List.{list_all}
 use Rattle.std.proofs.lemmas.Bool.Decides.{nat_tests}
 use Rattle.std.proofs.lemmas.Bool.{false≢true}
@@ -14,7 +14,7 @@ use Rattle.aud_node.specs.OwnRecords.{record_names}
 use Rattle.aud_node.specs.Stream.{Text}
 use Rattle.aud_rooms.specs.Rooms.{Rooms, rooms_after}
 use Rattle.aud_rooms.specs.TurnsDue.{rooms_at_end, rooms_at_take}
-use Rattle.aud_node.proofs.RecordLemmas.{cursor_at-rises}
+use Rattle.aud_node.proofs.RecordLemmas.{cursor_at-rises, between-push}
 use Rattle.aud_base.proofs.Lists.{element_at, between-more, between-none}
 
 -- the cursor after a session's own record is the one before it
@@ -73,12 +73,11 @@ module _ (stream : List StreamRec) (log : List NodeRec) (ordered : is_ordered st
           grind (arith, passed m other (omega (arith, e)) there, go d (suc m) (rooms_after pid held other), between-more log m to other (omega (arith, e, b)) there, between-more log m x other (omega (arith, e)) there)
 
 -- the rooms at the end, with one record more
+rooms_at_end-push : (pid : Text) (held : Rooms) (recs : List NodeRec) (rec : NodeRec) → rooms_at_end pid held (recs ++ rec ∷ []) ≡ rooms_after pid (rooms_at_end pid held recs) rec
+rooms_at_end-push pid held [] rec = refl
+rooms_at_end-push pid held (x ∷ recs) rec = rooms_at_end-push pid (rooms_after pid held x) recs rec
+
+-- the same of consecutive records of a log
 pub rooms_at_end-more : (log : List NodeRec) (pid : Text) (from x : ℕ) (rec : NodeRec) (held : Rooms) → from ≤ x → slice_get log x ≡ Some rec → x < length log
     → rooms_at_end pid held (between log from (suc x)) ≡ rooms_after pid (rooms_at_end pid held (between log from x)) rec
-rooms_at_end-more log pid from x rec held a at within = go (x - from) from held (omega arith)
-  where
-    go : (d m : ℕ) (held : Rooms) → m + d ≡ x → rooms_at_end pid held (between log m (suc x)) ≡ rooms_after pid (rooms_at_end pid held (between log m x)) rec
-    go zero m held e = grind (arith, between-more log x (suc x) rec (omega arith) at, between-none log (suc x) (suc x), between-none log m x)
-    go (suc d) m held e =
-        let (other, there) = element_at log m (omega (arith, e, within)) in
-        grind (arith, go d (suc m) (rooms_after pid held other), between-more log m (suc x) other (omega (arith, e)) there, between-more log m x other (omega (arith, e)) there)
+rooms_at_end-more log pid from x rec held a at within = ap (rooms_at_end pid held) (between-push log from x rec a at) ∙ rooms_at_end-push pid held (between log from x) rec

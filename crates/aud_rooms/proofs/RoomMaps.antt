@@ -42,6 +42,9 @@ contains-rooms_with {X} test es q =
     ∙ ap (λ b. b && do_pass test (at_room es q)) (any_key es q)
     ∙ some_passes test (at_room es q)
 
+-- the same, for an attribute of a function
+pub ruleset rooms_by_test = (contains-rooms_with)
+
 -- sets that contain the same rooms are one
 pub same_rooms : (a b : Rooms) → ((q : Text) → set.contains a q ≡ set.contains b q) → a ≡ b
 same_rooms a b same = set.same_set nat_list_cmp_total (set.slice_cmp-IsAntisymmetric set.nat_cmp-IsAntisymmetric) a b same
