@@ -1,7 +1,8 @@
 -- The stays whose reply names a session.
-use Rattle.std.specs.Prelude.{Bool, true, false, ◌&&◌, not, List, [], ◌∷◌, Option, Some, None}
+use Rattle.std.specs.Prelude.{Bool, false, ◌&&◌, not, List, Option, Some, None}
 use Rattle.std.specs.List.{list_all}
 use Rattle.std.specs.Str.{bytes_eq}
+pub use Rattle.aud_node.specs.Lists.{is_empty}
 use Rattle.aud_node.specs.Stream.{Text}
 use Rattle.aud_client.specs.Replies.{ReplySeen}
 use Rattle.aud_rooms.specs.Turns.{Who}
@@ -15,11 +16,6 @@ has_sid sid (Some reply) = bytes_eq reply.sid sid
 -- the stay is of the session's namespace, and its reply has the session's sid
 abbrev pub is_of_session : Who → StaySeen → Bool
 is_of_session who stay = bytes_eq stay.nsp who.nsp && has_sid who.sid stay.reply
-
--- there are no stays
-abbrev pub is_empty : List StaySeen → Bool
-is_empty [] = true
-is_empty (stay ∷ stays) = false
 
 -- there are stays, and each is of the session
 abbrev pub are_of_session : Who → List StaySeen → Bool

@@ -1,22 +1,26 @@
 -- A chain's turns are those that the nodes' logs begin.
-use Rattle.std.proofs.Common.{◌≡◌, ◌<◌, ◌≤◌, ◌+◌, ℕ, zero, suc, Bool, true, false, cond, not, List, [], ◌∷◌, ◌++◌, length, drop, filter, Option, Some, None, option_map, slice_get, refl, sym, ap, subst, ◌∙◌, ◌⊎◌, inl, inr, arith}
-use Rattle.std.specs.List.{Contains}
+use Rattle.std.proofs.Common.{◌≡◌, ◌<◌, ◌≤◌, ◌+◌, ℕ, zero, suc, Bool, true, false, cond, List, [], ◌∷◌, ◌++◌, length, drop, filter, Option, Some, None, option_map, slice_get, refl, sym, ap, subst, ◌∙◌, ◌⊎◌, inl, inr, arith}
+use Rattle.std.specs.List.{Contains, All}
 use Rattle.std.proofs.lemmas.Bool.{cases_eq, false≢true}
-use Rattle.std.proofs.lemmas.Option.{same_Some, none-some, slice_get_within, slice_get_past}
+use Rattle.std.proofs.lemmas.Option.{same_Some, none-some, slice_get_within, slice_get_past, get_or_from_slice_get}
+use Rattle.std.proofs.lemmas.List.Folds.{list_any_at}
 use Rattle.aud_tap.specs.declared.records.NodeRec.{NodeRec}
 use Rattle.aud_tap.specs.declared.taps.Tap.{Tap}
 use Rattle.aud_node.specs.Cluster.{Cluster, node_log, node_recs}
-use Rattle.aud_node.specs.Lists.{numbers_from}
+use Rattle.aud_node.specs.Lists.{numbers_from, first_index}
 use Rattle.aud_node.specs.Stream.{Text}
-use Rattle.aud_node.specs.TurnRecords.{pid_of, begins_turn, rest_of_turn, turn_range}
+use Rattle.aud_node.specs.TurnRecords.{pid_of, begins_turn, rest_of_turn, turn_in, turn_range}
 use Rattle.aud_node.specs.OwnRecords.{is_pid, record_names, own_numbers}
-use Rattle.aud_node.specs.OwnPlaces.{is_none, has_own, own_places}
-use Rattle.aud_node.proofs.TurnLemmas.{after, turn_range-cons, IsWithin, turn_range-within}
+use Rattle.aud_node.specs.OwnPlaces.{has_own, own_places}
+use Rattle.aud_base.proofs.Lists.{drop_at}
+use Rattle.aud_node.proofs.ListLemmas.{first_index-found, first_index-none}
+use Rattle.aud_node.proofs.TurnLemmas.{IsWithin, turn_range-within}
 use Rattle.aud_rooms.specs.Turns.{Who, Turn, beginning, HasNoTurn, IsChain}
 use Rattle.aud_rooms.proofs.Members.{contains-none, contains-parts, contains-first, contains-later}
 use Rattle.aud_base.proofs.SameText.{same_text, itself_text}
 use Rattle.aud_maker.specs.Private.Begun.{placed_or, turn_begun, AreBegun, AreAllBegun, BeginsUpTo}
 use Rattle.aud_maker.proofs.Turns.{begins-names, beginning-begins, turn-to, first_there, found}
+use Rattle.std.proofs.lemmas.List.Elements.{All-contains}
 
 -- ---- the nodes with records of the session
 
@@ -48,11 +52,7 @@ named pid rec e = ap (λ o. is_pid o pid) e ∙ itself_text pid
 
 -- a record that names the session has its pid
 pub unnamed : (rec : NodeRec) (pid : Text) → record_names (Some rec) pid ≡ true → pid_of rec ≡ Some pid
-unnamed rec pid e = go (pid_of rec) e
-  where
-    go : (o : Option Text) → is_pid o pid ≡ true → o ≡ Some pid
-    go None e = absurd (false≢true e)
-    go (Some other) e = ap Some (same_text other pid e)
+unnamed rec pid e = grind (arith, e, λ (other : Text). same_text other pid)
 
 -- the number of a record of the session is one of its numbers
 pub own_number : (log : List NodeRec) (pid : Text) (i : ℕ) (rec : NodeRec) → slice_get log i ≡ Some rec → pid_of rec ≡ Some pid → Contains (own_numbers log pid) i
@@ -65,11 +65,9 @@ pub own_place : (c : Cluster) (pid : Text) (node i : ℕ) (rec : NodeRec) → sl
 own_place c pid node i rec at names_it =
     let (tap, there) = tap_of c node i rec at in
     let within = slice_get_within c.taps node tap there in
-    among (has_own c pid) 0 (length c.taps) node (some (own_numbers (node_log c node) pid) (own_number (node_log c node) pid i rec at names_it)) (omega arith) (omega arith)
-  where
-    some : (ns : List ℕ) → Contains ns i → not (is_none ns) ≡ true
-    some [] here = absurd (contains-none i here)
-    some (n ∷ ns) here = refl
+    let some = list_any_at (λ (r : NodeRec). record_names (Some r) pid) (node_log c node) i rec (slice_get_within (node_log c node) i rec at)
+    (ap (λ r. record_names (Some r) pid) (get_or_from_slice_get (node_log c node) i rec rec at) ∙ named pid rec names_it) in
+    among (has_own c pid) 0 (length c.taps) node some (omega arith) (omega arith)
 
 -- ---- the turn that a log begins
 
@@ -93,28 +91,27 @@ MayIndex log pid k =
 
 -- a log has no record that begins turn k, or the first one and the rest of the turn are found
 indexed : (log : List NodeRec) (pid : Text) (k : ℕ) → MayIndex log pid k
-indexed [] pid k = inl (refl, λ i rec at begins. none-some rec at)
-indexed (x ∷ xs) pid k = go (begins_turn pid k x) refl (indexed xs pid k)
+indexed log pid k = go (first_index (begins_turn pid k) log) refl
   where
-    count : ℕ
-    count = length (rest_of_turn pid xs)
-
-    step : (b : Bool) → begins_turn pid k x ≡ b → turn_range (x ∷ xs) pid k ≡ cond b (Some (0, suc count)) (after 1 (turn_range xs pid k))
-    step b e = turn_range-cons x xs pid k ∙ ap (λ b. cond b (Some (0, suc count)) (after 1 (turn_range xs pid k))) e
-
-    later : begins_turn pid k x ≡ false → BeginsNone xs pid k → BeginsNone (x ∷ xs) pid k
-    later e none zero rec at begins = false≢true (sym e ∙ ap (begins_turn pid k) (same_Some x rec at) ∙ begins)
-    later e none (suc i) rec at begins = none i rec at begins
-
-    go : (b : Bool) → begins_turn pid k x ≡ b → MayIndex xs pid k → MayIndex (x ∷ xs) pid k
-    go true e rest = inr (0, suc count, step true e, record { first = x; there = refl; parts = refl; begins = e; within = (subst (IsWithin (suc (length xs))) (step true e) (turn_range-within (x ∷ xs) pid k)).1; to_is = omega arith })
-    go false e (inl (none, nowhere)) = inl (step false e ∙ ap (after 1) none, later e nowhere)
-    go false e (inr (from, to, is, r)) =
-        let to_is = r.to_is in
-        let within = r.within in
-        let a : 1 + from ≡ suc from = omega arith in
-        let b : 1 + to ≡ suc to = omega arith in
-        inr (suc from, suc to, step false e ∙ ap (after 1) is ∙ ap (λ n. Some (n, 1 + to)) a ∙ ap (λ n. Some (suc from, n)) b, record { first = r.first; there = r.there; parts = r.parts; begins = r.begins; within = omega arith; to_is = omega arith })
+    go : (o : Option ℕ) → first_index (begins_turn pid k) log ≡ o → MayIndex log pid k
+    go None e = inl (ap (option_map (λ from. (from, from + length (turn_in pid (drop from log))))) e, first_index-none (begins_turn pid k) log e)
+    go (Some from) e =
+        let (first, there, begins) = first_index-found (begins_turn pid k) log from e in
+        let parts = drop_at log from first there in
+        let is : turn_range log pid k ≡ Some (from, from + length (turn_in pid (drop from log))) = ap (option_map (λ n. (n, n + length (turn_in pid (drop n log))))) e in
+        inr (
+          from,
+          from + length (turn_in pid (drop from log)),
+          is,
+          record {
+            first = first;
+            there = there;
+            parts = parts;
+            begins = begins;
+            within = (subst (IsWithin (length log)) is (turn_range-within log pid k)).1;
+            to_is = grind (arith, parts);
+          },
+        )
 
 -- the turn k of the session that a node begins
 abbrev pub IsBegun : Cluster → Text → ℕ → Turn → Type 0
@@ -124,6 +121,7 @@ IsBegun c pid k t = IsIndexed (node_log c t.node) pid k t.from t.to
 abbrev MayBegin : Cluster → Text → ℕ → List ℕ → Type 0 → Type 0
 MayBegin c pid k nodes none = ((turn_begun c nodes pid k ≡ None) × none) ⊎ ((t : Turn) × (turn_begun c nodes pid k ≡ Some t) × IsBegun c pid k t)
 
+-- none of these nodes begins it
 abbrev NoneOf : Cluster → Text → ℕ → List ℕ → Type 0
 NoneOf c pid k nodes = (node : ℕ) → Contains nodes node → BeginsNone (node_log c node) pid k
 
@@ -132,15 +130,16 @@ begun-among : (c : Cluster) (pid : Text) (k : ℕ) (nodes : List ℕ) → MayBeg
 begun-among c pid k [] = inl (refl, λ node here. absurd (contains-none node here))
 begun-among c pid k (node ∷ nodes) = go (indexed (node_log c node) pid k) (begun-among c pid k nodes)
   where
-    both : BeginsNone (node_log c node) pid k → NoneOf c pid k nodes → (other : ℕ) → (node ≡ other) ⊎ Contains nodes other → BeginsNone (node_log c other) pid k
-    both here others other (inl same) = subst (λ n. BeginsNone (node_log c n) pid k) same here
-    both here others other (inr is) = others other is
+    both : BeginsNone (node_log c node) pid k → NoneOf c pid k nodes → NoneOf c pid k (node ∷ nodes)
+    both here others other among = elim (contains-parts node nodes other among) as (λ _. BeginsNone (node_log c other) pid k) [
+      | inl same ↦ subst (λ n. BeginsNone (node_log c n) pid k) same here
+      | inr is ↦ others other is
+    ]
 
     go : MayIndex (node_log c node) pid k → MayBegin c pid k nodes (NoneOf c pid k nodes) → MayBegin c pid k (node ∷ nodes) (NoneOf c pid k (node ∷ nodes))
     go (inr (from, to, is, r)) others = inr (record { node = node; from = from; to = to }, ap (placed_or (turn_begun c nodes pid k) node) is, r)
     go (inl (none, nowhere)) (inr (t, is, r)) = inr (t, ap (placed_or (turn_begun c nodes pid k) node) none ∙ is, r)
-    go (inl (none, nowhere)) (inl (no_other, others)) =
-        inl (ap (placed_or (turn_begun c nodes pid k) node) none ∙ no_other, λ other here. both nowhere others other (contains-parts node nodes other here))
+    go (inl (none, nowhere)) (inl (no_other, others)) = inl (ap (placed_or (turn_begun c nodes pid k) node) none ∙ no_other, both nowhere others)
 
 -- some node begins it, or none does
 pub begun : (c : Cluster) (pid : Text) (k : ℕ) → ((turn_begun c (own_places c pid) pid k ≡ None) × HasNoTurn c pid k) ⊎ ((t : Turn) × (turn_begun c (own_places c pid) pid k ≡ Some t) × IsBegun c pid k t)
@@ -214,4 +213,20 @@ one_chain c who one turns other same chain more =
 pub begun-more : (c : Cluster) (nodes : List ℕ) (pid : Text) (k : ℕ) (turns : List Turn) (t : Turn) → AreBegun c nodes pid k turns → turn_begun c nodes pid (k + length turns) ≡ Some t
     → AreBegun c nodes pid k (turns ++ t ∷ [])
 begun-more c nodes pid k [] t are next = (grind (arith, next), tt)
-begun-more c nodes pid k (u ∷ us) t are next = (let e : suc k + length us ≡ k + suc (length us) = omega arith in (are.0, begun-more c nodes pid (suc k) us t are.1 (ap (turn_begun c nodes pid) e ∙ next)))
+begun-more c nodes pid k (u ∷ us) t are next = (are.0, begun-more c nodes pid (suc k) us t are.1 (grind (arith, next)))
+
+-- ---- the last turn that a session's records begin
+
+-- the record with this number begins no greater turn
+abbrev pub IsUpTo : List NodeRec → Text → ℕ → ℕ → Type 0
+IsUpTo log pid last i = (k : ℕ) (rec : NodeRec) → slice_get log i ≡ Some rec → begins_turn pid k rec ≡ true → k ≤ last
+
+-- what the session's records say, the log says
+pub log-upto : (log : List NodeRec) (pid : Text) (last : ℕ) → All (IsUpTo log pid last) (own_numbers log pid) → BeginsUpTo log pid last
+log-upto log pid last all i k rec at begins =
+    All-contains (IsUpTo log pid last) (own_numbers log pid) i all (own_number log pid i rec at (begins-names pid k rec begins)) k rec at begins
+
+-- what the nodes with such records say, all say
+pub nodes-upto : (c : Cluster) (pid : Text) (last : ℕ) → All (λ node. BeginsUpTo (node_log c node) pid last) (own_places c pid) → (node : ℕ) → BeginsUpTo (node_log c node) pid last
+nodes-upto c pid last all node i k rec at begins =
+    All-contains (λ n. BeginsUpTo (node_log c n) pid last) (own_places c pid) node all (own_place c pid node i rec at (begins-names pid k rec begins)) i k rec at begins

@@ -1,12 +1,14 @@
 -- Turns that end as they may are turns.
 use Rattle.std.proofs.Common.{◌≡◌, ◌<◌, ◌≤◌, ◌+◌, ◌-◌, ℕ, zero, suc, true, List, [], ◌∷◌, length, drop, get_or, Option, Some, None, slice_get, refl, sym, ap, ◌∙◌, add-one, nat_eq, arith, bytes_eq}
-use Rattle.std.proofs.lemmas.Bool.{eq-eqb, eqb-true, false≢true, and_parts, and_from}
+use Rattle.std.proofs.lemmas.Bool.{eqb-true, false≢true, and_parts, and_from}
+use Rattle.std.proofs.lemmas.Grind.{common_steps}
+use Rattle.std.proofs.lemmas.Bool.Decides.{nat_tests}
 use Rattle.std.proofs.lemmas.List.{at_drop_more}
 use Rattle.std.proofs.lemmas.Option.{same_Some}
 use Rattle.aud_tap.specs.declared.records.NodeRec.{NodeRec}
 use Rattle.aud_tap.specs.declared.records.NodeRec.TheVariants.{Opened, Back}
 use Rattle.aud_node.specs.Cluster.{Cluster, node_log}
-use Rattle.aud_node.specs.Lists.{between}
+use Rattle.aud_node.specs.Lists.{between, is_empty}
 use Rattle.aud_node.specs.OwnPlaces.{own_places}
 use Rattle.aud_node.specs.Stream.{Text}
 use Rattle.aud_node.specs.TurnRecords.{begins_turn, rest_of_turn}
@@ -16,7 +18,7 @@ use Rattle.aud_base.proofs.Lists.{slice_get-drop}
 use Rattle.aud_base.proofs.SameText.{same_text}
 use Rattle.aud_maker.specs.Private.Begun.{AreBegun}
 use Rattle.aud_maker.specs.Private.Opening.{names_opened, opening_of}
-use Rattle.aud_maker.specs.Private.Ended.{end_by, may_end, is_ended, is_empty, are_ended}
+use Rattle.aud_maker.specs.Private.Ended.{end_by, may_end, is_ended, are_ended}
 use Rattle.aud_maker.proofs.Turns.{kind}
 use Rattle.aud_maker.proofs.BegunLemmas.{IsIndexed, begun-is}
 
@@ -24,9 +26,7 @@ use Rattle.aud_maker.proofs.BegunLemmas.{IsIndexed, begun-is}
 
 -- a record that begins a turn doesn't end it
 begin-plain : (pid : Text) (k : ℕ) (rec : NodeRec) → begins_turn pid k rec ≡ true → end_by pid k (Some rec) ≡ Some ByLog
-begin-plain pid zero (Opened other sid nsp) e = refl
-begin-plain pid (suc k) (Back other number) e = refl
-begin-plain pid k _ e = absurd (false≢true e)
+begin-plain pid k rec e = grind arith
 
 -- the rest of a turn ends as its last record says
 rest-end : (pid : Text) (k : ℕ) (rec : NodeRec) (recs : List NodeRec) → end_by pid k (Some rec) ≡ Some ByLog
@@ -54,9 +54,7 @@ may-true c t (u ∷ us) (Some _) e = absurd (false≢true e)
 
 -- where a turn may end so, the test of its end passes
 true-may : (c : Cluster) (t : Turn) (later : List Turn) (e : End) → MayEnd c t later e → may_end (is_empty later) (nat_eq t.to (length (node_log c t.node))) (Some e) ≡ true
-true-may c t later ByBreak may = refl
-true-may c t later ByGone may = ap is_empty may
-true-may c t later ByLog may = and_from _ _ (ap is_empty may.0) (eq-eqb t.to (length (node_log c t.node)) may.1)
+true-may c t later e may = grind (arith, nat_tests)
 
 -- a record that begins turn k is the one that begins it, where its names are the session's
 begun-beginning : (who : Who) (k : ℕ) (rec : NodeRec) → begins_turn who.pid k rec ≡ true → (k ≡ 0 → names_opened (Some rec) ≡ Some (who.sid, who.nsp)) → rec ≡ beginning who k
@@ -100,12 +98,14 @@ pub opening-names : (c : Cluster) (who : Who) (turns : List Turn) → 0 < length
 opening-names c who [] some are = absurd (omega arith)
 opening-names c who (t ∷ later) some are = ap names_opened are.0.begins
 
+-- whether there are none, by their number
+empty-length : (turns : List Turn) → is_empty turns ≡ nat_eq (length turns) 0
+empty-length [] = refl
+empty-length (t ∷ ts) = grind (arith, nat_tests)
+
 -- no turns are left exactly after the last
 left-empty : (turns : List Turn) (n : ℕ) → n ≤ length turns → is_empty (drop n turns) ≡ nat_eq n (length turns)
-left-empty [] zero h = refl
-left-empty [] (suc n) h = absurd (omega arith)
-left-empty (t ∷ ts) zero h = grind arith
-left-empty (t ∷ ts) (suc n) h = grind (arith, left-empty ts n)
+left-empty turns n h = grind (arith, common_steps, nat_tests, empty-length (drop n turns))
 
 -- one turn more that ends as it may
 pub ended-step : (c : Cluster) (pid : Text) (turns : List Turn) (n : ℕ) (t : Turn) → n < length turns → t ≡ get_or turns n t → true ≡ is_ended c pid n t (nat_eq (n + 1) (length turns))

@@ -2,9 +2,6 @@ pub mod Turns
 pub mod BegunLemmas
 pub mod EndedLemmas
 pub mod SweptLemmas
-pub mod Found
 pub mod FirstFault
-pub mod Last
 pub mod Over
 pub mod MentionLemmas
-pub mod FirstMentions

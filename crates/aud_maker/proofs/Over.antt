@@ -20,6 +20,7 @@ module _ (c : Cluster) (once : AreNamedOnce c.taps) where
       let (tap, at) = tap_of c place i rec there in
       ap (λ o. place_named c (tap_name o)) at ∙ ap (λ o. unwrap_or o (length c.taps)) (once place tap at)
 
+  -- the records of the turns are those that the certificate names
   over-all : (who : Who) (k : ℕ) (turns : List Turn) → AreTurns c who k turns → All (IsTurnOver c) (map (turn_seen c) turns)
   over-all who k [] are = All-nil (IsTurnOver c)
   over-all who k (t ∷ turns) are =
@@ -28,6 +29,7 @@ module _ (c : Cluster) (once : AreNamedOnce c.taps) where
       (ap (λ place. between (node_log c place) t.from t.to) (sym same))
       (over-all who (suc k) turns are.1)
 
+  -- the turns stand where the certificate says
   there-all : (who : Who) (k : ℕ) (turns : List Turn) → AreTurns c who k turns → map (turn_at c) (map (turn_seen c) turns) ≡ turns
   there-all who k [] are = refl
   there-all who k (t ∷ turns) are =

@@ -1,12 +1,11 @@
 -- The sweep over a session's records finds whether all stand in the turns.
 use Rattle.std.proofs.Common.{◌≡◌, ◌<◌, ◌≤◌, ℕ, zero, suc, Bool, true, false, cond, List, [], ◌∷◌, length, filter, Option, Some, None, slice_get, get_or, refl, sym, ap, subst, ◌∙◌, ◌⊎◌, inl, inr, arith}
 use Rattle.std.specs.List.{Contains, list_all}
+use Rattle.std.proofs.lemmas.Bool.Decides.{nat_tests}
 use Rattle.std.proofs.lemmas.Bool.{cases_eq, eq-eqb, false≢true, and_parts, and_from, le-leb}
-use Rattle.std.proofs.lemmas.Option.{same_Some, none-some}
 use Rattle.std.proofs.lemmas.List.Elements.{All-contains}
 use Rattle.std.proofs.lemmas.List.Sums.{AllPass-from_list_all, list_all-from_AllPass}
 use Rattle.aud_tap.specs.declared.records.NodeRec.{NodeRec}
-use Rattle.aud_tap.specs.declared.records.NodeRec.TheVariants.{Opened, Back}
 use Rattle.aud_node.specs.Cluster.{Cluster, node_log}
 use Rattle.aud_node.specs.Lists.{numbers_from}
 use Rattle.aud_node.specs.Stream.{Text}
@@ -16,7 +15,7 @@ use Rattle.aud_node.specs.OwnRecords.{record_names, own_numbers}
 use Rattle.aud_rooms.specs.Turns.{Who, Turn, beginning, StandsIn, IsChain}
 use Rattle.aud_rooms.proofs.Members.{contains-none, contains-parts}
 use Rattle.aud_maker.specs.Private.Swept.{number_begun, turn_or, turn_past, is_in_turn, are_in_turns, is_swept}
-use Rattle.aud_maker.proofs.Turns.{begins-names, beginning-begins, no_begin_inside, first_there, standing}
+use Rattle.aud_maker.proofs.Turns.{begins-names, beginning-begins, no_begin_inside, first_there, stands}
 use Rattle.aud_maker.proofs.BegunLemmas.{named, unnamed, own_number, own_place}
 
 -- ---- what the sweep passes stands in the turns
@@ -58,20 +57,18 @@ swept-covers c pid turns all node number rec at names_it =
 
 -- a number that a record of the session gives a turn is that of a turn that it begins
 begun-begins : (pid : Text) (rec : NodeRec) (k : ℕ) → record_names (Some rec) pid ≡ true → number_begun rec ≡ Some k → begins_turn pid k rec ≡ true
-begun-begins pid (Opened other sid nsp) k own e = subst (λ n. begins_turn pid n (Opened other sid nsp) ≡ true) (same_Some 0 k e) own
-begun-begins pid (Back other zero) k own e = absurd (none-some k e)
-begun-begins pid (Back other (suc n)) k own e = subst (λ m. begins_turn pid m (Back other (suc n)) ≡ true) (same_Some (suc n) k e) (and_from _ _ own (eq-eqb (suc n) (suc n) refl))
-begun-begins pid _ k own e = absurd (none-some k e)
+begun-begins pid rec k own e = grind (arith, nat_tests)
 
 -- the record that begins turn k has the number k
 begun-some : (who : Who) (k : ℕ) → number_begun (beginning who k) ≡ Some k
-begun-some who zero = refl
-begun-some who (suc k) = refl
+begun-some who k = grind arith
 
 module _ (c : Cluster) (who : Who) (turns : List Turn) (chain : IsChain c who turns) (node : ℕ) where
+  -- the node's records
   abbrev log : List NodeRec
   log = node_log c node
 
+  -- the record with this number is the session's
   abbrev own : ℕ → Bool
   own number = record_names (slice_get log number) who.pid
 
@@ -79,9 +76,11 @@ module _ (c : Cluster) (who : Who) (turns : List Turn) (chain : IsChain c who tu
   abbrev GoesOn : ℕ → Option Turn → Type 0
   GoesOn x current = (j : ℕ) (t : Turn) → slice_get turns j ≡ Some t → t.node ≡ node → t.from < x → x < t.to → current ≡ Some t
 
+  -- a turn of the node begins with the record that begins it
   first_record : (j : ℕ) (t : Turn) → slice_get turns j ≡ Some t → t.node ≡ node → slice_get log t.from ≡ Some (beginning who j)
   first_record j t at same = let (later, turn) = first_there c who turns j t chain.are_turns at in ap (λ m. slice_get (node_log c m) t.from) (sym same) ∙ turn.begins
 
+  -- which is the session's
   own_first : (j : ℕ) (t : Turn) → slice_get turns j ≡ Some t → t.node ≡ node → own t.from ≡ true
   own_first j t at same = ap (λ o. record_names o who.pid) (first_record j t at same) ∙ named who.pid (beginning who j) (begins-names who.pid j (beginning who j) (beginning-begins who j))
 
@@ -107,10 +106,11 @@ module _ (c : Cluster) (who : Who) (turns : List Turn) (chain : IsChain c who tu
   -- it stands in the turn that goes on
   stands_now : (x : ℕ) (rec : NodeRec) (current : Option Turn) → slice_get log x ≡ Some rec → record_names (Some rec) who.pid ≡ true → GoesOn x current → is_in_turn node x (turn_past turns (slice_get log x) current) ≡ true
   stands_now x rec current there its on =
-      let (j, t, at, same, from, below) = standing node x turns (chain.covers node x rec there (unnamed rec who.pid its)) in
-      ap (is_in_turn node x) (go_own x rec current there its on j t at same from below)
-      ∙ and_from _ _ (eq-eqb t.node node same) (and_from _ _ (le-leb t.from x from) (le-leb (suc x) t.to below))
+      let s = stands c who 0 turns node x chain.are_turns (chain.covers node x rec there (unnamed rec who.pid its)) in
+      ap (is_in_turn node x) (go_own x rec current there its on s.index s.turn s.is_there s.same_node s.from_le s.below)
+      ∙ and_from _ _ (eq-eqb s.turn.node node s.same_node) (and_from _ _ (le-leb s.turn.from x s.from_le) (le-leb (suc x) s.turn.to s.below))
 
+  -- the sweep passes the records from this one on
   swept-from : (count x : ℕ) (current : Option Turn) → GoesOn x current → are_in_turns log turns node (filter own (numbers_from x count)) current ≡ true
   swept-from zero x current on = refl
   swept-from (suc count) x current on = go (own x) refl (slice_get log x) refl (λ next goes. swept-from count (suc x) next goes)
@@ -127,6 +127,7 @@ module _ (c : Cluster) (who : Who) (turns : List Turn) (chain : IsChain c who tu
           and_from _ _ (stands_now x rec current at its on)
           (ih (turn_past turns (slice_get log x) current) (λ j t there same from below. go_own x rec current at its on j t there same (omega arith) (omega arith)))
 
+  -- so it passes the node
   node-swept : is_swept c turns who.pid node ≡ true
   node-swept = swept-from (length log) 0 None (λ j t at same from below. absurd (omega arith))
 

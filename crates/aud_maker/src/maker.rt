@@ -14,11 +14,10 @@ use crate::order::are_ordered;
 use aud_cert::{Certificate, Fault};
 use aud_client::Recording;
 use std::alloc::{AllocError, Global};
-use std::fmt;
 use thiserror::Error;
 
 /// Why no certificate was made.
-#[derive(Drop, Error)]
+#[derive(Debug, Drop, Error)]
 pub enum MakeFault {
     /// The session has this fault: `NoLog`, `Chain`, `Order` or `Client`.
     #[error("{0}")]
@@ -26,12 +25,6 @@ pub enum MakeFault {
     /// Memory for the certificate could not be had.
     #[error("out of memory")]
     Memory,
-}
-
-impl fmt::Debug for MakeFault {
-    fn fmt<W: fmt::Write>(&self, f: &mut fmt::Formatter<W>) -> fmt::Result {
-        write!(f, "{self}")
-    }
 }
 
 impl From<AllocError> for MakeFault {

@@ -16,7 +16,7 @@ use Rattle.aud_rooms.specs.Turns.{Who, Slice}
 use Rattle.aud_rooms.specs.TurnsDue.{rooms_at_take, rooms_at_end, rooms_for, is_past_first, is_for_rooms, is_turn_due, turns_due, greatest_high}
 use Rattle.aud_rooms.specs.Spans.{RoomSpan, IsMaximal, AreSpans, AreSpansOfTurns, first_low, rooms_by_turns, is_within, rooms_by_spans, is_due_by_spans, due_by_spans}
 use Rattle.aud_rooms.proofs.Intervals.{start_of, stop_of}
-use Rattle.aud_rooms.proofs.Reach.{contains-rooms_by_spans}
+use Rattle.aud_rooms.proofs.Sweep.{contains-rooms_by_spans}
 use Rattle.aud_rooms.proofs.RoomMaps.{same_text, itself, same_rooms}
 
 -- two tests that follow from each other say the same
@@ -44,6 +44,7 @@ maximal_around rooms_at low high p room past within held =
       b.reaches,
     )
 
+-- the span is of the room, and holds the position
 abbrev holds : ℕ → Text → RoomSpan → Bool
 holds p room s = is_within p s && is_eq (slice_cmp nat_cmp room s.room)
 
@@ -95,9 +96,11 @@ module _ (stream : List StreamRec) (who : Who) (slices : List Slice) (spans : Li
       → (nat_le p (greatest_high slices) && is_for (entry stream p) who.nsp (rooms_by_spans spans p)) ≡ is_for_rooms (entry stream p) who.nsp (rooms_for stream who.pid (own_room who.sid) slices p)
   between p some below past = grind (arith, rooms_for-up_to stream who.pid p (own_room who.sid) slices some below, rooms_by_spans-are (rooms_by_turns stream who slices) (first_low slices) (greatest_high slices) spans are p past below, le-leb p (greatest_high slices) below)
 
+  -- up to the greatest high
   within : (p : ℕ) → 0 < p → p ≤ greatest_high slices → 0 < length slices → is_due_by_spans spans stream who.nsp (first_low slices) (greatest_high slices) p ≡ is_turn_due stream who slices p
   within p some below any = grind (arith, between p some below, past_low slices p any, lt-leb (suc (first_low slices)) p)
 
+  -- at each position
   due_at : (p : ℕ) → is_due_by_spans spans stream who.nsp (first_low slices) (greatest_high slices) p ≡ is_turn_due stream who slices p
   due_at p = grind (arith, beyond p, within)
 

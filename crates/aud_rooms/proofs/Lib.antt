@@ -5,11 +5,8 @@ pub mod ByTurns
 pub mod Unique
 pub mod Times
 pub mod RoomMaps
-pub mod Reach
 pub mod Sweep
 pub mod Kept
-pub mod Maximal
-pub mod Finished
 pub mod Parts
 pub mod Candidate
 pub mod OwnNumbers

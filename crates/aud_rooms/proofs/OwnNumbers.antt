@@ -1,7 +1,7 @@
 -- The numbers of a session's records, between two numbers.
-use Rattle.std.proofs.Common.{◌≡◌, ◌<◌, ◌≤◌, ◌+◌, ◌-◌, ℕ, zero, suc, Bool, true, false, ◌&&◌, List, [], ◌++◌, length, filter, refl, ap, ◌∙◌, nat_lt, arith, slice_get}
+use Rattle.std.proofs.Common.{◌≡◌, ◌<◌, ◌≤◌, ◌+◌, ◌-◌, ℕ, zero, suc, Bool, true, false, List, [], ◌++◌, length, filter, refl, arith, slice_get}
 use Rattle.std.specs.List.Sorted.{IsNonDecreasing}
-use Rattle.std.proofs.lemmas.Bool.{le-leb, lt-leb}
+use Rattle.std.proofs.lemmas.Bool.Decides.{nat_tests}
 use Rattle.std.proofs.lemmas.List.{append-nil}
 use Rattle.std.proofs.lemmas.List.Elements.{filter-append}
 use Rattle.aud_tap.specs.declared.records.NodeRec.{NodeRec}
@@ -27,24 +27,31 @@ module _ (p own : ℕ → Bool) where
   filter_no first (suc count) none = grind (arith, filter_no (suc first) count)
 
 module _ (log : List NodeRec) (pid : Text) (from to : ℕ) (h : from ≤ to) (within : to ≤ length log) where
+  -- the number is between the two
   abbrev test : ℕ → Bool
   test = is_between from to
 
+  -- the record with the number is the session's
   abbrev own : ℕ → Bool
   own number = record_names (slice_get log number) pid
 
-  low : (n : ℕ) → n < from → is_between from to n ≡ false
-  low n b = ap (λ c. c && nat_lt n to) (lt-leb from n b)
+  -- a number before the first isn't between the two, nor one from the second on; the others are
+  low : (n : ℕ) → n < from → test n ≡ false
+  low n b = grind (arith, nat_tests)
 
-  inside : (n : ℕ) → from ≤ n → n < to → is_between from to n ≡ true
-  inside n a b = ap (λ c. c && nat_lt n to) (le-leb from n a) ∙ le-leb (suc n) to b
+  -- one from the first on, before the second, is
+  inside : (n : ℕ) → from ≤ n → n < to → test n ≡ true
+  inside n a b = grind (arith, nat_tests)
 
-  high : (n : ℕ) → to ≤ n → is_between from to n ≡ false
-  high n a = ap (λ c. c && nat_lt n to) (le-leb from n (omega arith)) ∙ lt-leb (suc n) to (omega arith)
+  -- one from the second on isn't
+  high : (n : ℕ) → to ≤ n → test n ≡ false
+  high n a = grind (arith, nat_tests)
 
+  -- the numbers before them, between them, and from the second on
   parts : numbers_from 0 (length log) ≡ numbers_from 0 from ++ (numbers_from from (to - from) ++ numbers_from to (length log - to))
   parts = grind (arith, numbers_more 0 from ((to - from) + (length log - to)), numbers_more from (to - from) (length log - to))
 
   -- the session's records between two numbers are those of the numbers in between
   pub own_between-is : own_between log pid from to ≡ filter own (numbers_from from (to - from))
-  own_between-is = grind (arith, parts, filter-append own (numbers_from 0 from), filter-append test (filter own (numbers_from 0 from)), filter_no test own 0 from, low, filter-append own, filter-append test, filter_no test own to (length log - to), high, append-nil, filter_all test own from (to - from), inside)
+  own_between-is =
+      grind (arith, parts, filter-append own (numbers_from 0 from), filter-append test (filter own (numbers_from 0 from)), filter_no test own 0 from, low, filter-append own, filter-append test, filter_no test own to (length log - to), high, append-nil, filter_all test own from (to - from), inside)

@@ -23,10 +23,12 @@ module _ {X : Type 0} (p : X → Bool) where
         rest.1 ∙ ap (λ b. cond (not b) (x ∷ filter (λ y. not (p y)) xs) (filter (λ y. not (p y)) xs)) (sym passes),
       )
 
+  -- the same, by what a search for the place says
   pub point_parts : (xs : List X) (i : ℕ) → IsPartitionPoint (λ y. p y ≡ true) (λ y. p y ≡ false) xs i → i ≤ length xs
       → (take i xs ≡ filter p xs) × (drop i xs ≡ filter (λ y. not (p y)) xs)
   point_parts xs i point h = parts xs i point.0 point.1 h
 
+  -- what passes two tests, one after the other
   pub filter_both : (q : X → Bool) (xs : List X) → filter p (filter q xs) ≡ filter (λ x. q x && p x) xs
   filter_both q [] = refl
   filter_both q (x ∷ xs) = grind (arith, filter_both q xs)

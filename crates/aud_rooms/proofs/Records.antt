@@ -1,40 +1,30 @@
 -- Consecutive records of a node's log, and the cursor along it.
 use Rattle.std.proofs.lemmas.Grind.{common_steps}
-use Rattle.std.proofs.Common.{◌≡◌, ◌<◌, ◌≤◌, ◌+◌, ◌-◌, ℕ, zero, suc, Bool, true, false, cond, List, [], ◌∷◌, length, Option, Some, None, slice_get, refl, sym, ap, ◌∙◌, arith}
+use Rattle.std.proofs.Common.{◌≡◌, ◌<◌, ◌≤◌, ◌+◌, ◌-◌, ℕ, zero, suc, Bool, true, false, List, [], ◌∷◌, ◌++◌, refl, length, Some, slice_get, sym, ap, ◌∙◌, arith}
 use Rattle.std.specs.List.{list_all}
-use Rattle.std.specs.FinSet as set
-use Rattle.std.proofs.lemmas.Bool.{ne_eqb, false≢true, eqb-true}
+use Rattle.std.proofs.lemmas.Bool.Decides.{nat_tests}
+use Rattle.std.proofs.lemmas.Bool.{false≢true}
 use Rattle.std.proofs.lemmas.Option.{none-some}
 use Rattle.aud_tap.specs.declared.records.StreamRec.{StreamRec}
 use Rattle.aud_tap.specs.declared.records.NodeRec.{NodeRec}
-use Rattle.aud_tap.specs.declared.records.NodeRec.TheVariants.{Start, Take, Join, Leave}
-use Rattle.aud_node.specs.Cursors.{takes, is_position, next_cursor, cursor_past, cursor_at}
+use Rattle.aud_node.specs.Cursors.{takes, next_cursor, cursor_past, cursor_at}
 use Rattle.aud_node.specs.Lists.{between, numbers_from}
 use Rattle.aud_node.specs.Ordered.{is_in_order, is_some_in_order, is_ordered}
 use Rattle.aud_node.specs.OwnRecords.{record_names}
-use Rattle.aud_node.specs.Stream.{Text, position}
+use Rattle.aud_node.specs.Stream.{Text}
 use Rattle.aud_rooms.specs.Rooms.{Rooms, rooms_after}
 use Rattle.aud_rooms.specs.TurnsDue.{rooms_at_end, rooms_at_take}
-use Rattle.aud_node.proofs.RecordLemmas.{cursor_at-rises}
+use Rattle.aud_node.proofs.RecordLemmas.{cursor_at-rises, between-push}
 use Rattle.aud_base.proofs.Lists.{element_at, between-more, between-none}
-
--- a session's record leaves the cursor
-own_cursor : (stream : List StreamRec) (i : ℕ) (rec : NodeRec) (pid : Text) (cursor : ℕ) → record_names (Some rec) pid ≡ true → next_cursor stream i rec cursor ≡ cursor
-own_cursor stream i (Start off) pid cursor e = absurd (false≢true e)
-own_cursor stream i (Take off) pid cursor e = absurd (false≢true e)
-own_cursor stream zero _ pid cursor e = refl
-own_cursor stream (suc i) _ pid cursor e = refl
 
 -- the cursor after a session's own record is the one before it
 pub own_cursor_at : (stream : List StreamRec) (log : List NodeRec) (i : ℕ) (rec : NodeRec) (pid : Text) → slice_get log i ≡ Some rec → record_names (Some rec) pid ≡ true
     → cursor_at stream log (suc i) ≡ cursor_at stream log i
-own_cursor_at stream log i rec pid at e = ap (λ o. cursor_past stream i o (cursor_at stream log i)) at ∙ own_cursor stream i rec pid (cursor_at stream log i) e
+own_cursor_at stream log i rec pid at e = grind (arith, at)
 
 -- a record that isn't the session's leaves its rooms
 pub other_rooms : (pid : Text) (held : Rooms) (rec : NodeRec) → record_names (Some rec) pid ≡ false → rooms_after pid held rec ≡ held
-other_rooms pid held (Join other room) e = ap (λ b. cond b (set.insert held room) held) e
-other_rooms pid held (Leave other room) e = ap (λ b. cond b (set.remove held room) held) e
-other_rooms pid held _ e = refl
+other_rooms pid held rec e = grind arith
 
 -- what holds of all consecutive numbers holds of each of them
 all_at : (p : ℕ → Bool) (first count n : ℕ) → list_all p (numbers_from first count) ≡ true → first ≤ n → n < first + count → p n ≡ true
@@ -49,23 +39,13 @@ in_order_at stream (x ∷ xs) i rec ordered at h =
     ap (is_some_in_order stream i (cursor_at stream (x ∷ xs) i)) (sym at)
     ∙ all_at (λ number. is_some_in_order stream number (cursor_at stream (x ∷ xs) number) (slice_get (x ∷ xs) number)) 0 (length (x ∷ xs)) i ordered (omega arith) (omega arith)
 
--- an offset that is of the position stands there
-position_is : (o : Option ℕ) (p : ℕ) → is_position o p ≡ true → o ≡ Some p
-position_is None p e = absurd (false≢true e)
-position_is (Some q) p e = ap Some (eqb-true q p e)
-
 -- after the first record, the cursor comes to a position by that position's `take`
 reaching_takes : (stream : List StreamRec) (i : ℕ) (rec : NodeRec) (cursor p : ℕ) → is_in_order stream (suc i) cursor rec ≡ true → cursor < p → p ≤ next_cursor stream (suc i) rec cursor → takes stream p rec ≡ true
-reaching_takes stream i (Start off) cursor p e a b = absurd (false≢true e)
-reaching_takes stream i (Take off) cursor p e a b = grind arith
-reaching_takes stream i _ cursor p e a b = absurd (omega arith)
+reaching_takes stream i rec cursor p e a b = grind (arith, nat_tests)
 
 -- a record that leaves the cursor before a position doesn't take it
 passing_takes : (stream : List StreamRec) (i : ℕ) (rec : NodeRec) (cursor p : ℕ) → is_in_order stream i cursor rec ≡ true → next_cursor stream i rec cursor < p → takes stream p rec ≡ false
-passing_takes stream zero (Take off) cursor p e h = absurd (false≢true e)
-passing_takes stream (suc i) (Take off) cursor p e h = grind (arith, position_is (position stream off) (suc cursor) e, ne_eqb (suc cursor) p)
-passing_takes stream zero _ cursor p e h = refl
-passing_takes stream (suc i) _ cursor p e h = refl
+passing_takes stream i rec cursor p e h = grind (arith, nat_tests)
 
 module _ (stream : List StreamRec) (log : List NodeRec) (ordered : is_ordered stream log ≡ true) (pid : Text) where
   -- the rooms at the `take` of a position are those at the end of the records before it
@@ -76,14 +56,9 @@ module _ (stream : List StreamRec) (log : List NodeRec) (ordered : is_ordered st
     where
       taken : takes stream p rec ≡ true
       taken =
-          elim x as (λ n. n ≡ x → takes stream p rec ≡ true) [
-            | zero ↦ λ e. absurd (omega (arith, e, some))
-            | suc n ↦ λ e. reaching_takes stream n rec (cursor_at stream log x) p
-                (ap (λ m. is_in_order stream m (cursor_at stream log x) rec) e ∙ in_order_at stream log x rec ordered at (omega arith))
-                before
-                (let next : next_cursor stream (suc n) rec (cursor_at stream log x) ≡ cursor_at stream log (suc x) =
-                ap (λ m. next_cursor stream m rec (cursor_at stream log x)) e ∙ ap (λ o. cursor_past stream x o (cursor_at stream log x)) (sym at) in omega (arith, next, reached))
-          ] refl
+          let here : is_in_order stream x (cursor_at stream log x) rec ≡ true = in_order_at stream log x rec ordered at (omega arith) in
+          let next : x ≡ suc (x - 1) = omega arith in
+          grind (arith, reaching_takes stream (x - 1) rec (cursor_at stream log x) p, here, next, at)
 
       passed : (m : ℕ) (other : NodeRec) → m < x → slice_get log m ≡ Some other → takes stream p other ≡ false
       passed m other h there =
@@ -98,12 +73,11 @@ module _ (stream : List StreamRec) (log : List NodeRec) (ordered : is_ordered st
           grind (arith, passed m other (omega (arith, e)) there, go d (suc m) (rooms_after pid held other), between-more log m to other (omega (arith, e, b)) there, between-more log m x other (omega (arith, e)) there)
 
 -- the rooms at the end, with one record more
+rooms_at_end-push : (pid : Text) (held : Rooms) (recs : List NodeRec) (rec : NodeRec) → rooms_at_end pid held (recs ++ rec ∷ []) ≡ rooms_after pid (rooms_at_end pid held recs) rec
+rooms_at_end-push pid held [] rec = refl
+rooms_at_end-push pid held (x ∷ recs) rec = rooms_at_end-push pid (rooms_after pid held x) recs rec
+
+-- the same of consecutive records of a log
 pub rooms_at_end-more : (log : List NodeRec) (pid : Text) (from x : ℕ) (rec : NodeRec) (held : Rooms) → from ≤ x → slice_get log x ≡ Some rec → x < length log
     → rooms_at_end pid held (between log from (suc x)) ≡ rooms_after pid (rooms_at_end pid held (between log from x)) rec
-rooms_at_end-more log pid from x rec held a at within = go (x - from) from held (omega arith)
-  where
-    go : (d m : ℕ) (held : Rooms) → m + d ≡ x → rooms_at_end pid held (between log m (suc x)) ≡ rooms_after pid (rooms_at_end pid held (between log m x)) rec
-    go zero m held e = grind (arith, between-more log x (suc x) rec (omega arith) at, between-none log (suc x) (suc x), between-none log m x)
-    go (suc d) m held e =
-        let (other, there) = element_at log m (omega (arith, e, within)) in
-        grind (arith, go d (suc m) (rooms_after pid held other), between-more log m (suc x) other (omega (arith, e)) there, between-more log m x other (omega (arith, e)) there)
+rooms_at_end-more log pid from x rec held a at within = ap (rooms_at_end pid held) (between-push log from x rec a at) ∙ rooms_at_end-push pid held (between log from x) rec

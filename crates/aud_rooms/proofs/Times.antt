@@ -1,16 +1,17 @@
--- When one room is held: intervals in order, apart from one another.
+-- When one room is held: intervals in order, apart from one another, which are the maximal intervals of the positions in them.
 use Rattle.std.proofs.lemmas.Grind.{common_steps}
-use Rattle.std.proofs.lemmas.Option.{gets}
-use Rattle.std.proofs.Common.{◌≡◌, ◌<◌, ◌≤◌, ◌-◌, ℕ, zero, suc, true, false, ◌||◌, ◌&&◌, List, [], ◌∷◌, ◌++◌, length, take, Option, Some, None, get_or, refl, sym, ap, subst, ◌∙◌, nat_lt, nat_le, arith}
-use Rattle.std.specs.List.{list_any, slice_get}
+use Rattle.std.proofs.lemmas.Option.{gets, slice_get_within, slice_get-get_or}
+use Rattle.std.proofs.Common.{◌≡◌, ◌<◌, ◌≤◌, ◌-◌, ℕ, zero, suc, true, false, ◌||◌, ◌&&◌, List, [], ◌∷◌, ◌++◌, length, take, Option, Some, None, get_or, refl, sym, ap, subst, ◌∙◌, nat_lt, nat_le, arith, Bool, ◌⊎◌, inl, inr, true≢false}
+use Rattle.std.specs.List.{list_any, slice_get, Contains}
 use Rattle.std.specs.Option.{is_some}
-use Rattle.std.proofs.lemmas.Bool.{le-leb, lt-leb, and_right, le-ltb, lt-ltb, or_from}
+use Rattle.std.proofs.lemmas.Bool.{le-leb, lt-leb, and_right, le-ltb, lt-ltb, or_from, leb-true, ltb-true, ltb-false, cond_both, or_left, or_right, cases_lt}
 use Rattle.std.proofs.lemmas.List.Folds.{list_any-append}
-use Rattle.std.proofs.lemmas.List.{drop_all, take-append-drop}
-use Rattle.std.proofs.lemmas.Option.{slice_get_within, slice_get-get_or}
+use Rattle.std.proofs.lemmas.List.{drop_all, take-append-drop, append-nil}
 use Rattle.aud_base.proofs.Truth.{and_true, or_none}
 use Rattle.aud_rooms.specs.declared.interval.Interval.{Interval}
-use Rattle.aud_rooms.specs.Private.Times.{Times, is_in_interval, is_past_start, is_held_at, is_held_now, AreApart, ContinuesTimes}
+use Rattle.aud_rooms.specs.Private.Times.{Times, is_in_interval, is_past_start, is_held_at, is_held_now, AreApart, ContinuesTimes, intervals_upto, open_interval}
+use Rattle.aud_rooms.specs.Spans.{IsMaximalInterval}
+use Rattle.aud_rooms.proofs.Members.{contains-none, contains-parts, contains-first, contains-later}
 
 -- a position no further than where an interval begins isn't in it
 pub before : (p : ℕ) (i : Interval) → p ≤ i.after → is_in_interval p i ≡ false
@@ -84,10 +85,6 @@ last_upto : (from covered : ℕ) (is : List Interval) (i : Interval) → AreApar
 last_upto from covered [] i (a, b, c, rest) = c
 last_upto from covered (j ∷ js) i (a, b, c, rest) = last_upto (suc j.last) covered js i rest
 
--- what is held from the covered position on changes no covered position
-same_begun : (covered p : ℕ) (is : List Interval) → p ≤ covered → (list_any (is_in_interval p) is || nat_lt covered p) ≡ (list_any (is_in_interval p) is || false)
-same_begun covered p is h = ap (λ b. list_any (is_in_interval p) is || b) (le-ltb covered p h)
-
 -- a room that is held again past its last interval: a new one begins at the covered position
 pub begun : (low covered : ℕ) (is old : List Interval) (i : Interval) → old ≡ is ++ i ∷ [] → (i.last ≡ covered → ⊥) → AreApart low old None covered
     → ContinuesTimes low covered (record { ended = old; since = None }) (record { ended = old; since = Some covered })
@@ -97,7 +94,7 @@ begun low covered is old i parts apart_from apart =
           let here = subst (λ o. AreApart low o None covered) parts apart in
           let upto = last_upto low covered is i here in
           subst (λ o. AreApart low o (Some covered) covered) (sym parts) (apart_begun low covered is i (omega arith) here);
-      same = λ p h. same_begun covered p old h;
+      same = λ p h. ap (λ b. list_any (is_in_interval p) old || b) (le-ltb covered p h);
     }
 
 -- an open interval ends with the covered positions
@@ -144,3 +141,86 @@ pub some_at : (from covered : ℕ) (is : List Interval) (since : Option ℕ) (k 
 some_at from covered [] since k d apart h = absurd (omega arith)
 some_at from covered (i ∷ is) since zero d (a, b, c, rest) h = b
 some_at from covered (i ∷ is) since (suc k) d (a, b, c, rest) h = some_at (suc i.last) covered is since k d rest (omega arith)
+
+-- ---- intervals apart from one another are the maximal intervals of the positions in them
+
+-- the open interval ends with the covered positions
+closed_parts : (low covered : ℕ) (is : List Interval) (since : Option ℕ) → AreApart low is since covered
+    → ContinuesTimes low covered (record { ended = is; since = since }) (record { ended = is ++ open_interval since covered; since = None })
+closed_parts low covered is None apart =
+    record {
+      apart = subst (λ l. AreApart low l None covered) (sym (append-nil is)) apart;
+      same = λ p h. ap (λ l. list_any (is_in_interval p) l || false) (append-nil is);
+    }
+closed_parts low covered is (Some after) apart =
+    cond_both (nat_lt after covered) (record { after = after; last = covered } ∷ []) []
+    (λ last. ContinuesTimes low covered (record { ended = is; since = Some after }) (record { ended = is ++ last; since = None }))
+    (λ e. ended low covered after is (ltb-true after covered e) apart)
+    (λ e. rw append-nil (unused low covered after is (ltb-false after covered e) apart))
+
+-- with the open interval ended, the room is held at the same covered positions
+pub closed : (low covered : ℕ) (t : Times) → AreApart low t.ended t.since covered → ContinuesTimes low covered t (record { ended = intervals_upto covered t; since = None })
+closed low covered t apart = closed_parts low covered t.ended t.since apart
+
+-- an interval of a list of them that are apart is a maximal interval of the positions at which the room is held
+pub place_maximal : (from covered : ℕ) (is : List Interval) (i : Interval) → AreApart from is None covered → Contains is i
+    → IsMaximalInterval (λ p. list_any (is_in_interval p) is) from covered (suc i.after) i.last
+place_maximal from covered [] i apart among = absurd (contains-none i among)
+place_maximal from covered (j ∷ js) i (a, b, c, rest) among = go (place_maximal (suc j.last) covered js i rest) (contains-parts j js i among)
+  where
+    -- it is the first one
+    first : IsMaximalInterval (λ p. list_any (is_in_interval p) (j ∷ js)) from covered (suc j.after) j.last
+    first =
+        record {
+          past_low = omega arith;
+          some = omega arith;
+          to_high = c;
+          held = λ p x y. or_left (is_in_interval p j) _ (inside p j x y);
+          not_before = λ p _ next. or_from (is_in_interval p j) _ (before p j (omega arith)) (none_before (suc j.last) covered p js None rest (omega arith));
+          not_after = λ p _ next. or_from (is_in_interval p j) _ (beyond p j (omega arith)) (none_before (suc j.last) covered p js None rest (omega arith));
+        }
+
+    -- a position right before a later one
+    up_to : (p : ℕ) → (suc j.last < p → list_any (is_in_interval p) js ≡ false) → list_any (is_in_interval p) js ≡ false
+    up_to p past = elim (cases_lt (suc j.last) p) as (λ _. list_any (is_in_interval p) js ≡ false) [ inl h ↦ past h | inr h ↦ none_before (suc j.last) covered p js None rest h ]
+
+    go : (Contains js i → IsMaximalInterval (λ p. list_any (is_in_interval p) js) (suc j.last) covered (suc i.after) i.last) → (j ≡ i) ⊎ Contains js i
+        → IsMaximalInterval (λ p. list_any (is_in_interval p) (j ∷ js)) from covered (suc i.after) i.last
+    go ih (inl same) = subst (λ (x : Interval). IsMaximalInterval (λ p. list_any (is_in_interval p) (j ∷ js)) from covered (suc x.after) x.last) same first
+    go ih (inr later) =
+        let m = ih later in
+        let past = m.past_low in
+        let some = m.some in
+        record {
+          past_low = omega arith;
+          some = m.some;
+          to_high = m.to_high;
+          held = λ p x y. or_right (is_in_interval p j) _ (m.held p x y);
+          not_before = λ p _ next. or_from (is_in_interval p j) _ (beyond p j (omega arith)) (up_to p (λ h. m.not_before p h next));
+          not_after = λ p x next. or_from (is_in_interval p j) _ (beyond p j (omega arith)) (m.not_after p x next);
+        }
+
+-- the interval of a position
+pub interval_of : (p : ℕ) (is : List Interval) → list_any (is_in_interval p) is ≡ true → (i : Interval) × Contains is i × (i.after < p) × (p ≤ i.last)
+interval_of p [] e = absurd (true≢false (sym e))
+interval_of p (j ∷ js) e = grind (arith, interval_of p js, leb-true (suc j.after) p, contains-first j js, leb-true p j.last, contains-later j js)
+
+-- two maximal intervals with a position in common are one
+module _ (test : ℕ → Bool) (low high a b c d p : ℕ) (one : IsMaximalInterval test low high a b) (other : IsMaximalInterval test low high c d)
+    (from_a : a ≤ p) (to_b : p ≤ b) (from_c : c ≤ p) (to_d : p ≤ d) where
+  -- the one doesn't begin before the other
+  not_earlier : a < c → ⊥
+  not_earlier h =
+      let past = one.past_low in
+      true≢false (sym (one.held (c - 1) (omega arith) (omega arith)) ∙ other.not_before (c - 1) (omega arith) (omega arith))
+
+  -- the one doesn't end before the other
+  not_shorter : b < d → ⊥
+  not_shorter h =
+      let to = other.to_high in
+      true≢false (sym (other.held (suc b) (omega arith) (omega arith)) ∙ one.not_after (suc b) (omega arith) refl)
+
+-- maximal intervals with a position in common have the same first and last positions
+pub maximal_same : (test : ℕ → Bool) (low high a b c d p : ℕ) → IsMaximalInterval test low high a b → IsMaximalInterval test low high c d
+    → a ≤ p → p ≤ b → c ≤ p → p ≤ d → (a ≡ c) × (b ≡ d)
+maximal_same test low high a b c d p one other x y z w = grind (arith, not_earlier test low high a b c d p one other x y z w, not_earlier test low high c d a b p other one z w x y, not_shorter test low high a b c d p one other x y z w, not_shorter test low high c d a b p other one z w x y)

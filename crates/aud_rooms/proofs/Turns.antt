@@ -1,6 +1,7 @@
 -- The records of a session's turns: how one begins and ends, and where a record of the session stands.
-use Rattle.std.proofs.Common.{◌≡◌, ◌<◌, ◌≤◌, ◌+◌, ◌-◌, ℕ, zero, suc, true, cond, ◌&&◌, List, [], ◌∷◌, Option, Some, slice_get, refl, sym, ap, ◌∙◌, subst, ◌⊎◌, inl, inr, nat_eq, arith}
-use Rattle.std.proofs.lemmas.Bool.{cases_eq, eq-eqb, eqb-true, false≢true, and_parts}
+use Rattle.std.proofs.Common.{◌≡◌, ◌<◌, ◌≤◌, ◌+◌, ◌-◌, ℕ, zero, suc, true, List, [], ◌∷◌, Option, Some, slice_get, refl, sym, ap, ◌∙◌, subst, ◌⊎◌, inl, inr, arith}
+use Rattle.std.proofs.lemmas.Bool.Decides.{nat_tests}
+use Rattle.std.proofs.lemmas.Bool.{cases_eq, false≢true, and_parts}
 use Rattle.std.proofs.lemmas.Option.{same_Some, none-some}
 use Rattle.aud_tap.specs.declared.records.NodeRec.{NodeRec}
 use Rattle.aud_tap.specs.declared.records.NodeRec.TheVariants.{Opened, Back}
@@ -20,39 +21,26 @@ begins-names pid k _ e = absurd (false≢true e)
 
 -- the record that begins turn n begins no other
 pub begins-same : (who : Who) (k n : ℕ) → begins_turn who.pid k (beginning who n) ≡ true → k ≡ n
-begins-same who zero zero e = refl
-begins-same who zero (suc n) e = absurd (false≢true e)
-begins-same who (suc k) zero e = absurd (false≢true e)
-begins-same who (suc k) (suc n) e = sym (eqb-true (suc n) (suc k) (and_parts _ _ e).1)
+begins-same who k n e = grind (arith, nat_tests)
 
 -- the record that begins turn k begins it
 pub beginning-begins : (who : Who) (k : ℕ) → begins_turn who.pid k (beginning who k) ≡ true
-beginning-begins who zero = itself_text who.pid
-beginning-begins who (suc k) = ap (λ b. b && nat_eq (suc k) (suc k)) (itself_text who.pid) ∙ eq-eqb (suc k) (suc k) refl
+beginning-begins who k = grind (arith, nat_tests, itself_text who.pid)
 
 -- a record that begins some turn is foreign to each turn after its first record
 begins-foreign : (pid : Text) (n k : ℕ) (rec : NodeRec) → begins_turn pid n rec ≡ true → part_of pid k rec ≡ Foreign
-begins-foreign pid zero k (Opened other sid nsp) e = ap (λ b. cond b Foreign Inner) e
-begins-foreign pid (suc n) k (Back other number) e = ap (λ b. cond b Foreign Inner) (and_parts _ _ e).0
-begins-foreign pid n k _ e = absurd (false≢true e)
+begins-foreign pid n k rec e = grind arith
 
 -- a record of a turn that ends is an inner one, or the last
 pub end_parts : (part : Part) (recs : List NodeRec) (rest : Option End) (e : End) → end_past part recs rest ≡ Some e
     → ((part ≡ Inner) × (rest ≡ Some e)) ⊎ ((part ≡ Last e) × (recs ≡ []))
-end_parts Inner recs rest e is = inl (refl, is)
-end_parts (Last last) [] rest e is = inr (ap Last (same_Some last e is), refl)
-end_parts (Last last) (rec ∷ recs) rest e is = absurd (none-some e is)
-end_parts Foreign recs rest e is = absurd (none-some e is)
+end_parts part recs rest e is = grind arith
 
 -- among the records of a turn that ends there is none that is foreign to it
 no_foreign : (pid : Text) (k : ℕ) (recs : List NodeRec) (e : End) (j : ℕ) (rec : NodeRec) → turn_end pid k recs ≡ Some e → slice_get recs j ≡ Some rec → part_of pid k rec ≡ Foreign → ⊥
 no_foreign pid k [] e j rec ends at foreign = none-some rec at
-no_foreign pid k (x ∷ xs) e zero rec ends at foreign =
-    none-some e (ap (λ p. end_past p xs (turn_end pid k xs)) (sym foreign ∙ ap (part_of pid k) (sym (same_Some x rec at))) ∙ ends)
-no_foreign pid k (x ∷ xs) e (suc j) rec ends at foreign = elim (end_parts (part_of pid k x) xs (turn_end pid k xs) e ends) as (λ _. ⊥) [
-  | inl inner ↦ no_foreign pid k xs e j rec inner.1 at foreign
-  | inr last ↦ none-some rec (ap (λ l. slice_get l j) (sym last.1) ∙ at)
-]
+no_foreign pid k (x ∷ xs) e zero rec ends at foreign = grind (arith, at, foreign)
+no_foreign pid k (x ∷ xs) e (suc j) rec ends at foreign = grind (arith, no_foreign pid k xs e j rec, end_parts (part_of pid k x) xs (turn_end pid k xs) e ends)
 
 -- after a turn's first record none of its records begins a turn
 pub no_begin_inside : (c : Cluster) (who : Who) (k : ℕ) (t : Turn) (later : List Turn) → IsTurn c who k t later

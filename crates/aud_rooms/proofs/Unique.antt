@@ -1,8 +1,8 @@
 -- Two lists in order that contain the same spans are one.
-use Rattle.std.proofs.Common.{◌≡◌, ℕ, List, [], ◌∷◌, refl, sym, ap, subst, ◌∙◌, inl, inr, arith}
+use Rattle.std.proofs.Common.{◌≡◌, ℕ, List, [], ◌∷◌, refl, arith}
 use Rattle.std.specs.List.{Contains}
-use Rattle.std.specs.Ordering.{nat_cmp, ordering_reverse}
-use Rattle.std.specs.declared.cmp.Ordering.TheVariants.{Less, Equal, Greater}
+use Rattle.std.specs.Ordering.{nat_cmp}
+use Rattle.std.specs.declared.cmp.Ordering.TheVariants.{Less}
 use Rattle.std.specs.Cmp.Lexicographic.{slice_cmp, nat_list_cmp_total}
 use Rattle.aud_rooms.specs.Rooms.{Rooms}
 use Rattle.aud_node.specs.Stream.{Text}
@@ -10,23 +10,13 @@ use Rattle.aud_rooms.specs.Spans.{RoomSpan}
 use Rattle.aud_rooms.specs.Spans.{ComesBefore, ComesBeforeAll, AreInOrder, AreSpans}
 use Rattle.aud_rooms.proofs.Members.{contains-none, contains-parts, contains-first, contains-later}
 
-less≢greater : Less ≡ Greater → ⊥
-less≢greater e = subst (λ o. elim o as (λ _. Type 0) [ Less ↦ Unit {0} | Equal ↦ ⊥ | Greater ↦ ⊥ ]) e tt
-
--- of two rooms only one comes before the other
+-- of two rooms only one comes before the other, and none before itself
 not_both : (a b : Text) → slice_cmp nat_cmp a b ≡ Less → slice_cmp nat_cmp b a ≡ Less → ⊥
-not_both a b x y = less≢greater (sym x ∙ nat_list_cmp_total.antisymm a b ∙ ap ordering_reverse y)
-
--- no room comes before itself
-not_itself : (a : Text) → slice_cmp nat_cmp a a ≡ Less → ⊥
-not_itself a x = not_both a a x x
+not_both a b x y = grind (arith, nat_list_cmp_total.antisymm a b)
 
 -- of two spans only one comes before the other
 one_way : (a b : RoomSpan) → ComesBefore a b → ComesBefore b a → ⊥
-one_way a b (inl x) (inl y) = not_both a.room b.room x y
-one_way a b (inl x) (inr (same, later)) = not_itself a.room (ap (slice_cmp nat_cmp a.room) (sym same) ∙ x)
-one_way a b (inr (same, later)) (inl y) = not_itself b.room (ap (slice_cmp nat_cmp b.room) (sym same) ∙ y)
-one_way a b (inr (same, later)) (inr (other, earlier)) = omega arith
+one_way a b x y = grind (arith, not_both a.room b.room, not_both a.room a.room)
 
 -- a span that comes before all others comes before each of them
 before_each : (a : RoomSpan) (spans : List RoomSpan) (s : RoomSpan) → ComesBeforeAll a spans → Contains spans s → ComesBefore a s
@@ -35,12 +25,15 @@ before_each a (b ∷ spans) s (first, later) among = grind (arith, before_each a
 
 module _ (x : RoomSpan) (xs : List RoomSpan) (y : RoomSpan) (ys : List RoomSpan) (a : AreInOrder (x ∷ xs)) (b : AreInOrder (y ∷ ys))
     (there : (s : RoomSpan) → Contains (x ∷ xs) s → Contains (y ∷ ys) s) (back : (s : RoomSpan) → Contains (y ∷ ys) s → Contains (x ∷ xs) s) where
+  -- the first spans are the same
   same_first : x ≡ y
   same_first = grind (arith, contains-parts y ys x (there x (contains-first x xs)), contains-first x xs, contains-parts x xs y (back y (contains-first y ys)), contains-first y ys, one_way x y, before_each x xs y a.0, before_each y ys x b.0)
 
+  -- the other spans of the one are in the other
   rest_there : (s : RoomSpan) → Contains xs s → Contains ys s
   rest_there s among = grind (arith, contains-parts y ys s (there s (contains-later x xs s among)), contains-later x xs s among, before_each x xs s a.0 among, same_first, one_way x x)
 
+  -- and the other way round
   rest_back : (s : RoomSpan) → Contains ys s → Contains xs s
   rest_back s among = grind (arith, contains-parts x xs s (back s (contains-later y ys s among)), contains-later y ys s among, before_each y ys s b.0 among, same_first, one_way y y)
 

@@ -1,6 +1,6 @@
 -- What is told to the builder of spans gives the positions the rooms of the turns.
 use Rattle.std.proofs.lemmas.Grind.{common_steps}
-use Rattle.std.proofs.Common.{◌≡◌, ◌<◌, ◌≤◌, ◌+◌, ◌-◌, ℕ, zero, suc, Bool, true, false, cond, List, [], ◌∷◌, ◌++◌, length, map, filter, replicate, max, Option, Some, None, slice_get, unwrap_or, option_map, refl, sym, ap, subst, ◌∙◌, nat_le, arith}
+use Rattle.std.proofs.Common.{◌≡◌, ◌<◌, ◌≤◌, ◌+◌, ◌-◌, ℕ, zero, suc, Bool, true, false, cond, List, [], ◌∷◌, ◌++◌, length, map, filter, replicate, max, Option, Some, slice_get, unwrap_or, option_map, refl, sym, ap, subst, ◌∙◌, nat_le, arith}
 use Rattle.std.specs.List.{All}
 use Rattle.std.specs.FinSet as set
 use Rattle.std.proofs.lemmas.Bool.{cond_both, le-leb, lt-leb}
@@ -35,12 +35,15 @@ get-back : {X : Type 0} (xs : List X) (count : ℕ) (y : X) (i : ℕ) → length
 get-back xs count y i h g = grind (arith, common_steps, gets, get_or-replicate, length-replicate)
 
 module _ (a : Assigned) (q : ℕ) where
+  -- so far are positions covered
   pub covered-upto : covered (covered_upto q a) ≡ max (covered a) q
   covered-upto = grind (arith, common_steps, length-replicate)
 
+  -- the positions covered before keep their rooms
   pub given_before : (p : ℕ) → a.low < p → p ≤ covered a → assigned_rooms (covered_upto q a) p ≡ assigned_rooms a p
   given_before p past within = ap (λ o. unwrap_or o set.empty) (get-front a.sets (replicate (q - covered a) a.held) (p - suc a.low) (omega arith))
 
+  -- the others have the rooms held now
   pub given_now : (p : ℕ) → covered a < p → p ≤ q → assigned_rooms (covered_upto q a) p ≡ a.held
   given_now p past within = ap (λ o. unwrap_or o set.empty) (get-back a.sets (q - covered a) a.held (p - suc a.low) (omega arith) (omega arith))
 
@@ -71,9 +74,11 @@ gives-covered want cursor a b g =
     }
 
 module _ (c : Cluster) (pid : Text) (t : Turn) (in_order : IsInOrder c t) (a : Assigned) (reached : cursor_at c.stream (node_log c t.node) (suc t.from) ≤ covered a) where
+  -- the records of the turn's node
   abbrev log : List NodeRec
   log = node_log c t.node
 
+  -- its cursor after so many of them
   abbrev cur : ℕ → ℕ
   cur n = cursor_at c.stream log n
 
@@ -81,6 +86,7 @@ module _ (c : Cluster) (pid : Text) (t : Turn) (in_order : IsInOrder c t) (a : A
   abbrev want : ℕ → Rooms
   want p = rooms_at_take c.stream pid p a.held (between log t.from t.to)
 
+  -- the record with this number is the session's
   abbrev own : ℕ → Bool
   own number = record_names (slice_get log number) pid
 
@@ -89,12 +95,15 @@ module _ (c : Cluster) (pid : Text) (t : Turn) (in_order : IsInOrder c t) (a : A
     pub gives : Gives want (cur x) a b
     pub held : b.held ≡ rooms_at_end pid a.held (between log t.from x)
 
+  -- the turn has records
   some : t.from < t.to
   some = in_order.is_within.some
 
+  -- they stand in the log
   within : t.to ≤ length log
   within = in_order.is_within.within
 
+  -- before the turn's first record
   first : Before t.from a
   first =
       let early : cur t.from ≤ covered a = omega (arith, cursor_at-rises c.stream log t.from (suc t.from) (omega arith), reached) in
@@ -160,6 +169,7 @@ module _ (c : Cluster) (pid : Text) (t : Turn) (in_order : IsInOrder c t) (a : A
       (λ is. all count (suc x) (walked_record c t.node pid x b) (omega (arith, h)) (omega (arith, e)) (its_own x rec b h some_left at (ap (λ o. record_names o pid) (sym at) ∙ is) before))
       (λ is. all count (suc x) b (omega (arith, h)) (omega (arith, e)) (other x rec b h some_left at (ap (λ o. record_names o pid) (sym at) ∙ is) before))
 
+  -- after the turn's records
   pub records_give : Before t.to (walked_records c t.node pid (own_between log pid t.from t.to) a)
   records_give = grind (arith, own_between-is log pid t.from t.to, some, within, all (t.to - t.from) t.from a, first)
 
@@ -228,18 +238,23 @@ lowest c [] in_order = omega arith
 lowest c (t ∷ turns) in_order = grind (arith, All-head (IsInOrder c) t turns in_order, cursor_at-rises c.stream (node_log c t.node) (suc t.from) t.to)
 
 module _ (c : Cluster) (pid sid nsp : Text) (turns : List Turn) (in_order : All (IsInOrder c) turns) where
+  -- before the first turn
   abbrev begun : Assigned
   begun = starting sid (first_low (map (slice_of c) turns))
 
+  -- after all turns
   abbrev told : Assigned
   told = walked_turns c pid turns begun
 
+  -- the rooms by the turns
   abbrev by_turns : ℕ → Rooms
   by_turns = rooms_by_turns c.stream (record { pid = pid; sid = sid; nsp = nsp }) (map (slice_of c) turns)
 
+  -- all turns were told
   told_all : AllWalked c pid turns begun told
   told_all = turns_walked c pid turns in_order begun
 
+  -- up to the greatest high
   told_upto : covered told ≡ greatest_high (map (slice_of c) turns)
   told_upto = (let upto = told_all.upto in let h = lowest c turns in_order in omega (arith, upto, h))
 
@@ -263,12 +278,7 @@ pub walked_turns-more : (c : Cluster) (pid : Text) (turns : List Turn) (t : Turn
 walked_turns-more c pid [] t a = refl
 walked_turns-more c pid (s ∷ turns) t a = walked_turns-more c pid turns t (walked_turn c pid s a)
 
-module _ {X : Type 0} (f g h : X → X) (same : (x : X) → f (g x) ≡ h x) where
-  mapped_twice : (o : Option X) → option_map f (option_map g o) ≡ option_map h o
-  mapped_twice None = refl
-  mapped_twice (Some x) = ap Some (same x)
-
 -- one record more for the builder
 pub record_told : (c : Cluster) (node : ℕ) (pid : Text) (numbers : List ℕ) (number : ℕ) (o : Option Assigned)
     → option_map (walked_record c node pid number) (option_map (walked_records c node pid numbers) o) ≡ option_map (walked_records c node pid (numbers ++ number ∷ [])) o
-record_told c node pid numbers number o = grind (arith, mapped_twice (walked_record c node pid number) (walked_records c node pid numbers) (walked_records c node pid (numbers ++ number ∷ [])), walked_records-more c node pid numbers number)
+record_told c node pid numbers number o = grind (arith, walked_records-more c node pid numbers number)

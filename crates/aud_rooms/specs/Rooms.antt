@@ -1,5 +1,5 @@
 -- Rooms, and to whom an entry is addressed.
-use Rattle.std.specs.Prelude.{Bool, true, false, List, [], ◌∷◌, Option, Some, None, ◌&&◌, ◌||◌, not, if◌then◌else◌}
+use Rattle.std.specs.Prelude.{Bool, false, Option, Some, None, ◌&&◌, ◌||◌, not, if◌then◌else◌}
 use Rattle.std.specs.List.{list_any}
 use Rattle.std.specs.Ordering.{nat_cmp}
 use Rattle.std.specs.Cmp.Lexicographic.{slice_cmp}
@@ -9,6 +9,7 @@ use Rattle.aud_tap.specs.declared.records.StreamRec.{StreamRec}
 use Rattle.aud_tap.specs.declared.records.StreamRec.TheVariants.{Ev, Other}
 use Rattle.aud_tap.specs.declared.records.NodeRec.{NodeRec}
 use Rattle.aud_tap.specs.declared.records.NodeRec.TheVariants.{Join, Leave}
+use Rattle.aud_node.specs.Lists.{is_empty}
 use Rattle.aud_node.specs.Stream.{Text}
 use Rattle.aud_node.specs.Recoverable.{is_recoverable}
 
@@ -19,11 +20,6 @@ Rooms = set.FinSet (slice_cmp nat_cmp)
 -- the one room named by the sid
 abbrev pub own_room : Text → Rooms
 own_room sid = set.insert set.empty sid
-
--- there are no rooms
-abbrev pub is_empty : List Text → Bool
-is_empty [] = true
-is_empty (room ∷ rooms) = false
 
 -- the namespace is the entry's, its rooms are none or meet these, and none of these is excepted
 abbrev pub is_addressed : StreamRec → Text → Rooms → Bool

@@ -11,6 +11,7 @@ ghost use Rattle.aud_rooms.specs.Private.Reached.{AreByFirst, is_due_at};
 use crate::addressee::{Holds, is_for_holder};
 use crate::candidates::candidates_of;
 use crate::cut::cut_before;
+use crate::interval::Interval;
 use crate::reached::Reached;
 use crate::span::Span;
 use aud_node::Stream;
@@ -30,7 +31,11 @@ pub fn due_of(
 ) -> Result<Vec<u64>, AllocError>
     ensures { IfOk result (λ due. due.items ≡ due_by_spans spans.now stream.now nsp.now birth high) }
 {
-    let found = candidates_of(alloc, spans, stream, nsp, birth, high)?;
+    let within = Interval {
+        after: birth,
+        last: high,
+    };
+    let found = candidates_of(alloc, spans, stream, nsp, within)?;
     let begins = by_first(alloc, spans)?;
     due_by_first(alloc, &begins, &found, stream, nsp)
 }

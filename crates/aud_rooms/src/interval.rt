@@ -1,6 +1,6 @@
 //! Intervals of positions.
 
-/// The positions past `after` up to `last`, at least one.
+/// The positions past `after` up to `last`.
 #[derive(Clone, Copy, Drop)]
 pub struct Interval {
     pub after: u64,

@@ -20,6 +20,7 @@ pub struct Reached<'s> {
 impl<'s> Holds for Reached<'s> {
     ghost rooms = { λ at. rooms_with (nat_le at.position) at.last_of.entries };
 
+    #[tactic(auto, using(crate::proofs::RoomMaps::rooms_by_test))]
     fn holds(&self, room: &str) -> bool {
         match self.last_of.get(room) {
             Some(last) => self.position <= *last,

@@ -3,6 +3,7 @@ use Rattle.std.specs.Prelude.{ℕ, suc, Bool, true, false, List, [], ◌∷◌, 
 use Rattle.std.specs.Str.{bytes_eq}
 use Rattle.aud_tap.specs.declared.records.NodeRec.{NodeRec}
 use Rattle.aud_tap.specs.declared.records.NodeRec.TheVariants.{Broke, Gone}
+use Rattle.aud_node.specs.Lists.{is_empty}
 use Rattle.aud_node.specs.Stream.{Text}
 use Rattle.aud_node.specs.Cluster.{Cluster, node_log}
 use Rattle.aud_rooms.specs.Turns.{Turn, End, ByBreak, ByGone, ByLog}
@@ -24,11 +25,6 @@ may_end is_last with_log (Some ByLog) = is_last && with_log
 abbrev pub is_ended : Cluster → Text → ℕ → Turn → Bool → Bool
 is_ended c pid k t is_last =
     may_end is_last (nat_eq t.to (length (node_log c t.node))) (end_by pid k (slice_get (node_log c t.node) (t.to - 1)))
-
--- there are no turns
-abbrev pub is_empty : List Turn → Bool
-is_empty [] = true
-is_empty (t ∷ later) = false
 
 -- the turns from turn k on end as they may
 abbrev pub are_ended : Cluster → Text → ℕ → List Turn → Bool

@@ -1,6 +1,6 @@
 -- The rooms at a position, by the spans that have begun.
 use Rattle.std.specs.Prelude.{◌≡◌, ◌≤◌, ℕ, Bool, List, [], ◌∷◌, nat_le, ◌&&◌}
-use Rattle.std.specs.List.{AllByRecursion, list_any}
+use Rattle.std.specs.List.{All, list_any}
 use Rattle.std.specs.Ordering.{nat_cmp, is_eq}
 use Rattle.std.specs.Cmp.Lexicographic.{slice_cmp}
 use Rattle.aud_tap.specs.declared.records.StreamRec.{StreamRec}
@@ -20,7 +20,7 @@ pub record HasReached (es : RoomMap ℕ) (spans : List RoomSpan) : Type 0 where
 -- the spans stand in the order of their first positions
 abbrev pub AreByFirst : List RoomSpan → Type 0
 AreByFirst [] = Unit {0}
-AreByFirst (s ∷ spans) = AllByRecursion (λ (later : RoomSpan). s.first ≤ later.first) spans × AreByFirst spans
+AreByFirst (s ∷ spans) = All (λ (later : RoomSpan). s.first ≤ later.first) spans × AreByFirst spans
 
 -- the entry at the position is recoverable and addressed to the rooms whose spans end there or later
 abbrev pub is_due_at : RoomMap ℕ → List StreamRec → Text → ℕ → Bool

@@ -3,7 +3,7 @@ use Rattle.std.proofs.lemmas.List.{take_all}
 use Rattle.std.proofs.lemmas.List.Elements.{All-same}
 use Rattle.aud_node.specs.Cluster.{node_log}
 use Rattle.aud_maker.specs.Private.Begun.{BeginsUpTo}
-use Rattle.aud_maker.proofs.Last.{nodes-upto}
+use Rattle.aud_maker.proofs.BegunLemmas.{nodes-upto}
 use Rattle.aud_maker.proofs.begun.last_begun.Goals as goal
 
 pub returns : goal.returns

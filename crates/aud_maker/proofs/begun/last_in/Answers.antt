@@ -2,7 +2,7 @@ use Rattle.std.proofs.Common.{sym, ◌∙◌}
 use Rattle.std.proofs.lemmas.List.{take_all}
 use Rattle.std.proofs.lemmas.List.Elements.{All-same}
 use Rattle.aud_node.specs.OwnRecords.{own_numbers}
-use Rattle.aud_maker.proofs.Last.{IsUpTo, log-upto}
+use Rattle.aud_maker.proofs.BegunLemmas.{IsUpTo, log-upto}
 use Rattle.aud_maker.proofs.begun.last_in.Goals as goal
 
 pub returns : goal.returns

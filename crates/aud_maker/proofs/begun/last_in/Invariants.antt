@@ -1,6 +1,6 @@
 use Rattle.std.proofs.Common.{take}
 use Rattle.std.specs.List.{All}
-use Rattle.aud_maker.proofs.Last.{IsUpTo}
+use Rattle.aud_maker.proofs.BegunLemmas.{IsUpTo}
 use Rattle.aud_maker.proofs.begun.last_in.Given as goal
 
 abbrev pub invariant-loop-number : goal.invariant-loop-number

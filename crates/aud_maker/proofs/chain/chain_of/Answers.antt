@@ -1,7 +1,7 @@
 use Rattle.std.proofs.Common.{◌∙◌, sym, ap}
 use Rattle.aud_maker.specs.Private.Ended.{are_ended}
 use Rattle.aud_maker.specs.Private.Opening.{opening_of}
-use Rattle.aud_maker.proofs.Found.{is_chain, not_opened, not_ended, not_swept}
+use Rattle.aud_maker.proofs.FirstFault.{is_chain, not_opened, not_ended, not_swept}
 use Rattle.aud_maker.proofs.chain.chain_of.Goals as goal
 
 pub returns-in_default : goal.returns-in_default

@@ -9,8 +9,7 @@ use Rattle.aud_tap.specs.declared.taps.Tap.{Tap}
 use Rattle.aud_node.specs.NodeTaps.{client_recs}
 use Rattle.aud_maker.specs.Sessions.{node_pids, reply_pids, mentions, sessions_of}
 use Rattle.aud_maker.specs.Private.Mentioned.{with_mentions}
-use Rattle.aud_maker.proofs.MentionLemmas.{with_mentions-append, mentions-more}
-use Rattle.aud_maker.proofs.FirstMentions.{first-mentions}
+use Rattle.aud_maker.proofs.MentionLemmas.{with_mentions-append, mentions-more, first-mentions}
 use Rattle.aud_maker.proofs.mentions.sessions.Goals as goal
 
 pub loop-tap-preserved : goal.loop-tap-preserved

@@ -3,7 +3,7 @@ use Rattle.std.specs.List.Sorted.{IsPermutation}
 use Rattle.std.proofs.lemmas.List.Sorted.{IsPermutation-map, IsNonDecreasingBy-from_sort_by_key}
 use denote.Ref.{Bor}
 use Rattle.aud_rooms.specs.Spans.{RoomSpan}
-use Rattle.aud_rooms.proofs.Reach.{sorted_by_first}
+use Rattle.aud_rooms.proofs.Sweep.{sorted_by_first}
 use Rattle.aud_rooms.proofs.due.by_first.Goals as goal
 
 pub returns-clause-permutation : goal.returns-clause-permutation

@@ -1,6 +1,6 @@
 use Rattle.std.specs.Map.Iter.{deref_pair}
 use Rattle.std.proofs.lemmas.Map.Iter.{btree_map_turn}
-use Rattle.aud_rooms.proofs.Finished.{by_room_total}
+use Rattle.aud_rooms.proofs.Kept.{by_room_total}
 use Rattle.aud_rooms.proofs.room_spans.spans_of_rooms.Goals as goal
 
 pub push_spans-requires : goal.push_spans-requires

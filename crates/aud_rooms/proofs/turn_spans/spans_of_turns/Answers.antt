@@ -1,4 +1,4 @@
-use Rattle.std.proofs.Common.{◌≡◌, ◌∙◌, ◌<◌, ◌∷◌, ◌++◌, [], Some, ap, sym, take, length, map, option_map, MatchOption}
+use Rattle.std.proofs.Common.{arith, ◌≡◌, ◌∙◌, ◌<◌, Some, ap, take, length, map, MatchOption}
 use Rattle.std.proofs.lemmas.List.{take_more, take_all}
 use Rattle.std.proofs.lemmas.Option.{MatchOption-at_some}
 use Rattle.std.proofs.lemmas.Result.{IfOk-weaker}
@@ -6,7 +6,7 @@ use Rattle.aud_rooms.specs.Turns.{slice_of}
 use Rattle.aud_node.specs.Stream.{Text}
 use Rattle.aud_rooms.specs.Spans.{AreSpansOfTurns, first_low}
 use Rattle.aud_rooms.specs.Assigned.{starting, AreSpansOf}
-use Rattle.aud_rooms.specs.Private.Walk.{walked_turn, walked_turns}
+use Rattle.aud_rooms.specs.Private.Walk.{walked_turns}
 use Rattle.aud_rooms.proofs.Walk.{walked_turns-more, spans_of_walked}
 use Rattle.aud_rooms.proofs.turn_spans.spans_of_turns.Goals as goal
 
@@ -19,10 +19,7 @@ loop-turn-preserved c =
     let begun = starting c.args.sid.now (first_low (map (slice_of logs) turns)) in
     let turn = c.turn-item.result in
     let some : i < length turns = c.loop-turn-test.true in
-    c.in_ok-walk_turn.ensures
-    ∙ ap (option_map (walked_turn logs pid turn)) c.loop-turn.invariant
-    ∙ ap Some (sym (walked_turns-more logs pid (take i turns) turn begun))
-    ∙ ap (λ ts. Some (walked_turns logs pid ts begun)) (ap (λ t. take i turns ++ t ∷ []) c.turn-item.is ∙ sym (take_more turns i turn some))
+    grind (arith, c.in_ok-walk_turn.ensures, c.loop-turn.invariant, walked_turns-more logs pid (take i turns) turn begun, take_more turns i turn some, c.turn-item.is)
 
 pub returns : goal.returns
 returns c =

@@ -1,6 +1,5 @@
-use Rattle.std.proofs.Common.{◌≡◌, ◌∙◌, ◌<◌, ap, sym, take, length, get_or, option_map}
+use Rattle.std.proofs.Common.{arith, ◌≡◌, ◌<◌, ap, take, length, get_or}
 use Rattle.std.proofs.lemmas.List.{take_more}
-use Rattle.aud_rooms.specs.Private.Walk.{walked_record, walked_records}
 use Rattle.aud_rooms.proofs.Walk.{record_told}
 use Rattle.aud_rooms.proofs.turn_spans.walk_turn.Goals as goal
 
@@ -13,8 +12,4 @@ loop-number-preserved c =
     let pid = c.args.pid.now in
     let some : i < length items = c.loop-number-test.true in
     let same : node ≡ c.args.turn.now.node = ap (λ t. t.node) c.turn.view_is in
-    c.in_ok-walk_record.ensures
-    ∙ ap (λ n. option_map (walked_record logs n pid (get_or items i 0)) c.loop-number.builder) same
-    ∙ ap (option_map (walked_record logs c.args.turn.now.node pid (get_or items i 0))) c.loop-number.invariant
-    ∙ record_told logs c.args.turn.now.node pid (take i items) (get_or items i 0) c.upto.new.self
-    ∙ ap (λ ns. option_map (walked_records logs c.args.turn.now.node pid ns) c.upto.new.self) (sym (take_more items i 0 some))
+    grind (arith, c.in_ok-walk_record.ensures, same, c.loop-number.invariant, record_told logs c.args.turn.now.node pid (take i items) (get_or items i 0) c.upto.new.self, take_more items i 0 some)

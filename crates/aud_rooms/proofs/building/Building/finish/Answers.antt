@@ -3,7 +3,7 @@ use Rattle.std.proofs.lemmas.Result.{IfOk-weaker}
 use Rattle.aud_rooms.specs.Assigned.{AreSpansOf}
 use Rattle.aud_rooms.specs.Private.Building.{assigned_of}
 use Rattle.aud_rooms.proofs.Times.{apart_lower}
-use Rattle.aud_rooms.proofs.Finished.{finished}
+use Rattle.aud_rooms.proofs.Kept.{finished}
 use Rattle.aud_rooms.proofs.building.Building.finish.Goals as goal
 
 pub spans_of_rooms-requires : goal.spans_of_rooms-requires

@@ -3,7 +3,7 @@ use Rattle.std.specs.Cow.{cow_str_bytes}
 use Rattle.aud_rooms.specs.Spans.{RoomSpan}
 use Rattle.aud_rooms.specs.Private.RoomMap.{at_room, do_pass}
 use Rattle.aud_rooms.specs.Private.Reached.{HasReached}
-use Rattle.aud_rooms.proofs.Reach.{reached_more, greatest_first, greatest_of}
+use Rattle.aud_rooms.proofs.Sweep.{reached_more, greatest_first, greatest_of}
 use Rattle.aud_rooms.proofs.reached.Reached.reach.Goals as goal
 use Rattle.aud_rooms.proofs.reached.Reached.reach.Goals.{in-Some, in-None}
 
