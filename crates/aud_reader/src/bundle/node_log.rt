@@ -49,9 +49,8 @@ pub fn add_node_record(
     ensures pids { (before after : List (List ℕ)) → HasPids pids.old (before ++ filter_map pid_of records.old.items ++ after)
         → OnOk result (HasPids pids.new (before ++ filter_map pid_of records.new.items ++ after)) }
 {
-    records.reserve(1)?;
     let rec = node_record(alloc, kind, d)?;
     admit(alloc, records.len(), pids, &rec)?;
-    records.push(rec).unwrap();
+    records.push(rec)?;
     Ok(())
 }
