@@ -27,3 +27,15 @@ loop-handle-preserved g c = record {
       let was = subst (All (λ h. (h.promise.tickets.now ≡ t) × (h.promise.task.now ≡ task))) c.in-Some.ensures.items (c.loop-handle.invariant.work t task jobs).0 in
       (all-init (λ h. (h.promise.tickets.now ≡ t) × (h.promise.task.now ≡ task)) _ _ was, (c.loop-handle.invariant.work t task jobs).1);
 }
+
+pub loop-handle-preserved-in_default-push : goal.loop-handle-preserved-in_default-push
+loop-handle-preserved-in_default-push g c = record {
+  count = λ going. absurd (cc);
+  work = λ t task jobs.
+      let was = subst (All (λ h. (h.promise.tickets.now ≡ t) × (h.promise.task.now ≡ task))) c.in-Some.ensures.items (c.loop-handle.invariant.work t task jobs).0 in
+      (all-init (λ h. (h.promise.tickets.now ≡ t) × (h.promise.task.now ≡ task)) _ _ was,
+        subst (All (IsWorkOf t (g.T.Decide.is_verdict task))) (sym c.in_default-push.ensures.items) (c.loop-handle.invariant.work t task jobs).1);
+}
+
+pub returns-clause-work : goal.returns-clause-work
+returns-clause-work g c = λ t task jobs. (c.loop-handle.invariant.work t task jobs).1
