@@ -1,11 +1,11 @@
 //! The report of an audit, by several workers.
-ghost use Rattle.std.specs.Prelude.{◌≡◌, ◌<◌, ◌≤◌, IfOk, IfErr};
-ghost use Rattle.aud_desk.specs.Faults.{IsNotWorkers};
-ghost use Rattle.aud_app.specs.Private.Faults.{IsUndecided};
+ghost use Rattle.std.specs.Prelude.{◌≡◌, ◌<◌, ◌≤◌, ◌⊎◌, IfOk, OnErr, Err};
+ghost use Rattle.aud_maker.specs.Sessions.{sessions_of};
+ghost use Rattle.aud_verdict.specs.Verdicts.{AreVerdicts};
 ghost use Rattle.aud_app.specs.Output.{IsReport};
 
 use aud_client::Recording;
-use aud_desk::{AuditFault, OpenGate, audit_with};
+use aud_desk::{AuditFault, OpenGate, Report, audit_with};
 use aud_report::{Output, report_on};
 use aud_streams::RunFault;
 use std::alloc::Global;
@@ -13,15 +13,22 @@ use std::sync::Wait;
 use std::thread::Threads;
 use std::time::Clock;
 
-/// The run's fault where an audit gives no report.
-fn run_fault(fault: AuditFault) -> RunFault
-    requires { IsNotWorkers fault }
-    ensures { IsUndecided result }
+/// What so many workers find on the sessions of this recording.
+fn found<H: Threads + Wait + Clock + Sync>(
+    rt: &H,
+    alloc: Global,
+    workers: u8,
+    recording: &Recording<'_>,
+) -> Result<Report, RunFault>
+    requires { (0 < workers) × (workers ≤ 64) }
+    ensures verdicts { IfOk result (λ report. AreVerdicts recording.now (sessions_of recording.now) report.verdicts.items) }
+    ensures err { OnErr result ((result ≡ Err RunFault.Memory) ⊎ (result ≡ Err RunFault.Spawn)) }
 {
-    match fault {
-        AuditFault::Workers => unreachable!(),
-        AuditFault::Spawn => RunFault::Spawn,
-        AuditFault::Memory(_) => RunFault::Memory,
+    match audit_with(rt, alloc, recording, workers as usize, &OpenGate) {
+        Ok(report) => Ok(report),
+        Err(AuditFault::Workers) => unreachable!(),
+        Err(AuditFault::Spawn) => Err(RunFault::Spawn),
+        Err(AuditFault::Memory(_)) => Err(RunFault::Memory),
     }
 }
 
@@ -34,14 +41,8 @@ pub fn audited<H: Threads + Wait + Clock + Sync>(
 ) -> Result<Output, RunFault>
     requires { (0 < workers) × (workers ≤ 64) }
     ensures report { IfOk result (λ o. IsReport recording.now o) }
-    ensures err { IfErr result IsUndecided }
+    ensures err { OnErr result ((result ≡ Err RunFault.Memory) ⊎ (result ≡ Err RunFault.Spawn)) }
 {
-    let report = match audit_with(rt, alloc, recording, workers as usize, &OpenGate) {
-        Ok(report) => report,
-        Err(fault) => return Err(run_fault(fault)),
-    };
-    match report_on(alloc, &report.verdicts) {
-        Ok(output) => Ok(output),
-        Err(_) => Err(RunFault::Memory),
-    }
+    let report = found(rt, alloc, workers, recording)?;
+    Ok(report_on(alloc, &report.verdicts)?)
 }

@@ -1,8 +1,7 @@
 //! What is written for an input.
-ghost use Rattle.std.specs.Prelude.{◌≡◌, ◌<◌, ◌≤◌, IfOk, IfErr, Ok};
+ghost use Rattle.std.specs.Prelude.{◌≡◌, ◌<◌, ◌≤◌, ◌⊎◌, IfOk, OnErr, Ok, Err};
 ghost use Rattle.aud_node.specs.Names.{AreNamedOnce};
 ghost use Rattle.aud_app.specs.Output.{IsProving, IsVerification, IsOutputOn, IsOutputOver, IsOutput, layout_of};
-ghost use Rattle.aud_app.specs.Private.Faults.{IsUndecided};
 
 use crate::audit::audited;
 use crate::certificates::prove;
@@ -58,7 +57,7 @@ fn output_on<H: Threads + Wait + Clock + Sync>(
 ) -> Result<Output, RunFault>
     requires { (0 < options.workers) × (options.workers ≤ 64) }
     ensures output { IfOk result (λ o. IsOutputOn options.mode recording.now certificates.now o) }
-    ensures err { IfErr result IsUndecided }
+    ensures err { OnErr result ((result ≡ Err RunFault.Memory) ⊎ (result ≡ Err RunFault.Spawn)) }
 {
     match options.mode {
         Mode::Audit => audited(rt, alloc, options.workers, recording),
@@ -77,7 +76,7 @@ fn output_over<H: Threads + Wait + Clock + Sync>(
     requires names { AreNamedOnce input.now.taps }
     requires workers { (0 < options.workers) × (options.workers ≤ 64) }
     ensures output { IfOk result (λ o. IsOutputOver options.mode (Ok input.now) o) }
-    ensures err { IfErr result IsUndecided }
+    ensures err { OnErr result ((result ≡ Err RunFault.Memory) ⊎ (result ≡ Err RunFault.Spawn)) }
 {
     let recording = Recording::read(alloc, &input.taps)?;
     output_on(rt, alloc, options, &recording, &input.certificates)
@@ -92,7 +91,7 @@ pub fn output_of<H: Threads + Wait + Clock + Sync>(
 ) -> Result<Output, RunFault>
     requires { (0 < options.workers) × (options.workers ≤ 64) }
     ensures output { IfOk result (λ o. IsOutput options.mode bytes.items o) }
-    ensures err { IfErr result IsUndecided }
+    ensures err { OnErr result ((result ≡ Err RunFault.Memory) ⊎ (result ≡ Err RunFault.Spawn)) }
 {
     match read_input(alloc, layout_of(options.mode), bytes) {
         Ok(input) => output_over(rt, alloc, options, &input),

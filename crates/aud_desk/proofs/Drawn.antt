@@ -1,5 +1,5 @@
 -- What the rule of the tickets says of the numbers in the seats' lists.
-use Rattle.std.proofs.Common.{◌≡◌, ℕ, zero, suc, ◌+◌, ◌<◌, ◌≤◌, Bool, true, false, List, [], ◌∷◌, length, slice_index_or, Contains, refl, arith, nat_lt, ltb-true, ltb-false, eq-eqb, ne_eqb}
+use Rattle.std.proofs.Common.{◌≡◌, ℕ, zero, suc, ◌+◌, ◌<◌, ◌≤◌, Bool, true, false, List, [], ◌∷◌, length, slice_index_or, Contains, refl, arith, ⊎_elim, eq-zero-or-pos, nat_lt, ltb-true, ltb-false, eq-eqb, ne_eqb}
 use mathlib.Core.Logic.{dite}
 use mathlib.Core.Option.{some}
 use native.Mathlib.Decide.{ℕ_discrete}
@@ -18,23 +18,24 @@ times-contained x (y ∷ ys) zero low at = let one : is_same x y ≡ 1 = rw (eq-
 times-contained x (y ∷ ys) (suc k) low at = let r = times-contained x ys k (omega arith) at in omega arith
 
 contained-times : (x : ℕ) (xs : List ℕ) → 0 < times x xs → Contains xs x
-contained-times x [] some = absurd (omega arith)
-contained-times x (y ∷ ys) some = dite (ℕ_discrete y x)
+contained-times x [] has = absurd (omega arith)
+contained-times x (y ∷ ys) has = dite (ℕ_discrete y x)
     (λ same. (0, omega arith, same))
     (λ apart. let z : is_same x y ≡ 0 = rw (ne_eqb y x apart) refl in
     let r = contained-times x ys (omega arith) in (suc r.0, omega (arith, r.1), r.2))
 
 -- where the total is something, one seat has some of it
 total-some : (f : SeatView → ℕ) (vs : List SeatView) → 0 < total f vs → (i : ℕ) × (v : SeatView) × (get_elem? vs i ≡ some v) × (0 < f v)
-total-some f [] some = absurd (omega arith)
-total-some f (v ∷ vs) some = dite (ℕ_discrete (f v) 0)
+total-some f [] has = absurd (omega arith)
+total-some f (v ∷ vs) has = ⊎_elim
     (λ none. let r = total-some f vs (omega (arith, none)) in (suc r.0, r.1, r.2, r.3))
-    (λ has. (0, v, refl, omega arith))
+    (λ mine. (0, v, refl, mine))
+    (eq-zero-or-pos (f v))
 
 -- a number is once below a word that is past it, and not at all below another
 once_if_past : (x w : ℕ) → (b : Bool) → nat_lt x w ≡ b → (weigh_below (is_same x) w ≤ 1) × (0 < weigh_below (is_same x) w → x < w)
 once_if_past x w true is = let past : x < w = ltb-true x w is in (omega (arith, once-below x w past), λ _. past)
-once_if_past x w false is = let none = none-below x w (ltb-false x w is) in (omega (arith, none), λ some. absurd (omega (arith, none)))
+once_if_past x w false is = let none = none-below x w (ltb-false x w is) in (omega (arith, none), λ has. absurd (omega (arith, none)))
 
 module _ (k : Bound) (s : State (Unit {0}) SeatView) where
   pub apart : (i j x : ℕ) (v w : SeatView) → TicketLists k s → IsSeatAt s i v → IsSeatAt s j w → Contains v.drawn x → Contains w.drawn x → i ≡ j

@@ -97,9 +97,9 @@ fn wait_for_all<'s, T: Decide, R: Threads>(
     alloc: Global,
     mut handles: Vec<PromisedHandle<Result<Worker, AuditFault>, Job<'s, T>>>,
 ) -> Result<Vec<Worker>, AuditFault>
-    ensures len { IfOk result (λ ws. vec_len ws ≡ vec_len handles) }
+    ensures len { IfOk result (λ ws. vec_len ws ≡ vec_len handles.entry) }
     ensures work { (t : Tickets) (task : T)
-        → All (λ h. (h.promise.tickets.now ≡ t) × (h.promise.task.now ≡ task)) handles.items
+        → All (λ h. (h.promise.tickets.now ≡ t) × (h.promise.task.now ≡ task)) handles.entry.items
         → IfOk result (λ ws. All (IsWorkOf t (T.is_verdict task)) ws.items) }
     ensures err { IfErr result IsNotWorkers }
 {
