@@ -44,7 +44,7 @@ passes known name b bs lines other (inr (others, e)) = by (is_among known word) 
         absurd (true≢false (sym (itself_text name) ∙ ap (is_text name) (sym same) ∙ other))
 
 -- two lines of different names, of which one is known, bring the same names in either order
-swapped : (known : List (List ℕ)) (b : ℕ) (bs : List ℕ) (c : ℕ) (cs : List ℕ) (left lines : List (List ℕ)) → (is_among known (first_word (b ∷ bs)) ≡ true) ⊎ (is_among known (first_word (c ∷ cs)) ≡ true)
+pub swapped : (known : List (List ℕ)) (b : ℕ) (bs : List ℕ) (c : ℕ) (cs : List ℕ) (left lines : List (List ℕ)) → (is_among known (first_word (b ∷ bs)) ≡ true) ⊎ (is_among known (first_word (c ∷ cs)) ≡ true)
     → names_after (with_name known (first_word (c ∷ cs))) ((b ∷ bs) ∷ left) ≡ names_after (with_name known (first_word (c ∷ cs))) lines
     → names_after known ((b ∷ bs) ∷ (c ∷ cs) ∷ left) ≡ names_after known ((c ∷ cs) ∷ lines)
 swapped known b bs c cs left lines one same = by (is_among known (first_word (c ∷ cs))) refl (is_among known (first_word (b ∷ bs))) refl one same

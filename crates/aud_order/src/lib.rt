@@ -24,4 +24,4 @@
 
 mod law;
 
-pub use law::{inputs_in_any_order, lines_in_any_order};
+pub use law::{inputs_in_any_order, lines_in_any_order, neighbours_in_any_order};
