@@ -1,5 +1,5 @@
 -- What a line that is read does to the taps, and that it does the same to other taps that have its own tap.
-use Rattle.std.proofs.Common.{◌≡◌, ℕ, List, [], ◌∷◌, ◌++◌, length, map, Bool, true, false, cond, ◌⊎◌, inl, inr, not, nat_lt, nat_le, Option, Some, None, option_to_list, Ok, codes, refl, sym, ap, subst, ◌∙◌, append-nil}
+use Rattle.std.proofs.Common.{◌≡◌, ℕ, List, [], ◌∷◌, ◌++◌, length, true, false, ◌⊎◌, inl, inr, not, nat_lt, nat_le, Option, Some, None, option_to_list, Ok, codes, refl, sym, ap, subst, ◌∙◌, append-nil}
 use Rattle.std.specs.List.{cons_option, filter_map}
 use Rattle.std.specs.Set.{distinct_count}
 use Rattle.std.proofs.lemmas.Bool.{leb-true, le-leb, not-true}
@@ -177,8 +177,8 @@ few-after ts next line e few = elim (effect ts next line e) [
 ]
 
 -- the line's name is known
-pub names-after : (ts next : List Tap) (line : List ℕ) → with_line ts line ≡ Ok next → names_of next ≡ with_name (names_of ts) (first_word line)
-names-after ts next line e = elim (effect ts next line e) [
+pub names-next : (ts next : List Tap) (line : List ℕ) → with_line ts line ≡ Ok next → names_of next ≡ with_name (names_of ts) (first_word line)
+names-next ts next line e = elim (effect ts next line e) [
   | inl b ↦ rw (b.is, absent-among (first_word line) ts b.new) (map-append (λ (t : Tap). t.name) ts (begun (first_word line) b.of ∷ []))
   | inr a ↦ rw (a.is, named-among (first_word line) ts a.found a.is_found) (names-with (first_word line) a.records ts)
 ]

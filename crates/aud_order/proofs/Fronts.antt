@@ -3,7 +3,7 @@ use Rattle.std.proofs.Common.{◌≡◌, ℕ, List, [], ◌∷◌, ◌++◌, Boo
 use Rattle.aud_base.proofs.SameText.{same_text, itself_text}
 use Rattle.aud_tap.specs.Forms.{is_text}
 use Rattle.aud_order.specs.Order.{first_word, is_line_of, lines_of_tap, is_among, names_after}
-use Rattle.aud_order.proofs.Words.{with_name, among-more, among-put, after-known, after-new}
+use Rattle.aud_order.proofs.Words.{with_name, among-more, after-known, after-new}
 
 -- the lines without the first of this name
 abbrev pub without_first : List ℕ → List (List ℕ) → List (List ℕ)
@@ -44,7 +44,7 @@ passes known name b bs lines other (inr (others, e)) = by (is_among known word) 
         absurd (true≢false (sym (itself_text name) ∙ ap (is_text name) (sym same) ∙ other))
 
 -- two lines of different names, of which one is known, bring the same names in either order
-swapped : (known : List (List ℕ)) (b : ℕ) (bs : List ℕ) (c : ℕ) (cs : List ℕ) (left lines : List (List ℕ)) → (is_among known (first_word (b ∷ bs)) ≡ true) ⊎ (is_among known (first_word (c ∷ cs)) ≡ true)
+pub swapped : (known : List (List ℕ)) (b : ℕ) (bs : List ℕ) (c : ℕ) (cs : List ℕ) (left lines : List (List ℕ)) → (is_among known (first_word (b ∷ bs)) ≡ true) ⊎ (is_among known (first_word (c ∷ cs)) ≡ true)
     → names_after (with_name known (first_word (c ∷ cs))) ((b ∷ bs) ∷ left) ≡ names_after (with_name known (first_word (c ∷ cs))) lines
     → names_after known ((b ∷ bs) ∷ (c ∷ cs) ∷ left) ≡ names_after known ((c ∷ cs) ∷ lines)
 swapped known b bs c cs left lines one same = by (is_among known (first_word (c ∷ cs))) refl (is_among known (first_word (b ∷ bs))) refl one same
@@ -100,7 +100,7 @@ module _ (b : ℕ) (bs : List ℕ) (rest : List (List ℕ)) where
       past x xs other same =
           elim (is_line_of k x) as (λ v. is_line_of k x ≡ v
           → cond (is_line_of k (b ∷ bs)) ((b ∷ bs) ∷ cond v (x ∷ lines_of_tap k (without_first (first_word (b ∷ bs)) xs)) (lines_of_tap k (without_first (first_word (b ∷ bs)) xs)))
-              (cond v (x ∷ lines_of_tap k (without_first (first_word (b ∷ bs)) xs)) (lines_of_tap k (without_first (first_word (b ∷ bs)) xs)))
+          (cond v (x ∷ lines_of_tap k (without_first (first_word (b ∷ bs)) xs)) (lines_of_tap k (without_first (first_word (b ∷ bs)) xs)))
           ≡ cond v (x ∷ lines_of_tap k xs) (lines_of_tap k xs)) [
             | true ↦ λ own. let past_front = apart (first_word (b ∷ bs)) k x other own in rw past_front (ap (λ ls. x ∷ ls) (rw past_front at same))
             | false ↦ λ own. same

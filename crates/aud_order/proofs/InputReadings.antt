@@ -1,5 +1,5 @@
 -- The lines of an input that is read as a bundle: none is too long, and they are read as its taps.
-use Rattle.std.proofs.Common.{◌≡◌, ℕ, ◌+◌, ◌<◌, ◌≤◌, List, [], ◌∷◌, ◌++◌, length, map, filter, not, Bool, true, false, cond, nat_lt, nat_le, Option, Some, None, Result, Ok, Err, refl, sym, ap, ◌∙◌, true≢false, arith}
+use Rattle.std.proofs.Common.{◌≡◌, ℕ, ◌+◌, ◌<◌, ◌≤◌, List, [], ◌∷◌, length, map, true, false, cond, nat_lt, nat_le, Option, Some, None, Result, Ok, Err, refl, sym, ap, ◌∙◌, true≢false, arith}
 use Rattle.std.proofs.lemmas.Bool.{leb-true, ltb-true}
 use Rattle.aud_base.specs.Steps.{◌>>=◌}
 use Rattle.aud_base.proofs.StepLemmas.{part-of, guard-ok}
@@ -9,7 +9,7 @@ use Rattle.aud_reader.specs.declared.fault.InputCode.TheVariants.{LineTooLong}
 use Rattle.aud_reader.specs.declared.fault.ReadFault.{ReadFault}
 use Rattle.aud_reader.specs.declared.fault.ReadFault.TheVariants.{Input}
 use Rattle.aud_reader.specs.declared.line.Line.{Line}
-use Rattle.aud_reader.specs.Lines.{without_return, is_too_long, line_at, line_then, lines_from, lines_of, line_pieces}
+use Rattle.aud_reader.specs.Lines.{without_return, is_too_long, line_then, lines_from, lines_of, line_pieces}
 use Rattle.aud_reader.specs.Record.{opened_line}
 use Rattle.aud_reader.specs.Bundle.{with_line, taps_after, taps_from, taps_of}
 use Rattle.aud_input.specs.declared.input.Layout.TheVariants.{Bundle}
@@ -42,8 +42,10 @@ numbered (p ∷ ps) n ts last read =
     let rest = numbered ps (n + 1) read.0 last read.2 in
     elim (is_too_long p) as (λ v. is_too_long p ≡ v → IsReadFrom ts (cond v (Err (Input n LineTooLong)) (Ok (record { number = n; bytes = without_return p }))) (n + 1) ps last) [
       | true ↦ λ long. absurd (long-refused ts read.0 (without_return p) long read.1)
-      | false ↦ λ short. (rest.0,
-          ap (λ (r : Result (List Tap) ReadFault). r >>= (λ more. taps_from more (lines_from (n + 1) ps).lines)) (leads-to ts read.0 n (without_return p) read.1) ∙ rest.1)
+      | false ↦ λ short. (
+        rest.0,
+        ap (λ (r : Result (List Tap) ReadFault). r >>= (λ more. taps_from more (lines_from (n + 1) ps).lines)) (leads-to ts read.0 n (without_return p) read.1) ∙ rest.1,
+      )
     ] refl
 
 -- and back

@@ -3,5 +3,6 @@ pub mod Taps
 pub mod Effects
 pub mod Swaps
 pub mod Fronts
+pub mod Neighbours
 pub mod Readings
 pub mod InputReadings

@@ -1,5 +1,5 @@
 -- Lines that are the same but for their order are read as the same taps.
-use Rattle.std.proofs.Common.{◌≡◌, ℕ, List, [], ◌∷◌, ◌++◌, Bool, true, false, cond, ◌⊎◌, inl, inr, Some, None, Result, Ok, Err, refl, sym, ap, subst, ◌∙◌, true≢false, arith}
+use Rattle.std.proofs.Common.{◌≡◌, ℕ, List, [], ◌∷◌, ◌++◌, Bool, true, false, cond, ◌⊎◌, inl, inr, None, Result, Ok, Err, refl, sym, ap, subst, ◌∙◌, true≢false, arith}
 use Rattle.aud_base.specs.Steps.{◌>>=◌}
 use Rattle.aud_base.proofs.SameText.{itself_text}
 use Rattle.aud_base.proofs.StepLemmas.{same-ok, part-of}
@@ -9,12 +9,12 @@ use Rattle.aud_reader.specs.declared.fault.ReadFault.{ReadFault}
 use Rattle.aud_reader.specs.declared.line.Line.{Line}
 use Rattle.aud_reader.specs.Bundle.{tap_named, pids_of, with_line, at_line, passing_empty, taps_after, taps_from, taps_of}
 use Rattle.aud_reader.proofs.LineSteps.{at_line-ok}
-use Rattle.aud_order.specs.Order.{first_word, is_line_of, lines_of_tap, is_among, names_after, AreSameButForOrder, texts, AreReadAlike}
+use Rattle.aud_order.specs.Order.{first_word, lines_of_tap, is_among, names_after, AreSameButForOrder, texts, AreReadAlike}
 use Rattle.aud_order.proofs.Words.{with_name, after-new}
 use Rattle.aud_order.proofs.Taps.{names_of, absent-among, AreFew}
-use Rattle.aud_order.proofs.Effects.{few-after, names-after}
-use Rattle.aud_order.proofs.Swaps.{Swapped, swap}
-use Rattle.aud_order.proofs.Fronts.{without_first, IsNext, Passes, passes, lines-front, names-front}
+use Rattle.aud_order.proofs.Effects.{few-after, names-next}
+use Rattle.aud_order.proofs.Swaps.{swap}
+use Rattle.aud_order.proofs.Fronts.{without_first, IsNext, passes, lines-front, names-front}
 
 -- a line leads from these taps to the next; one without bytes is passed over
 abbrev pub Leads : List Tap → List ℕ → List Tap → Type 0
@@ -48,7 +48,7 @@ module _ (b : ℕ) (bs : List ℕ) (rest : List (List ℕ)) where
         | true ↦ λ is h. let same : c ∷ cs ≡ b ∷ bs = cc in subst (λ l. AreRead ts (l ∷ xs) last) same read
         | false ↦ λ is h.
             let pass = passes (names_of ts) (first_word (b ∷ bs)) c cs xs is next in
-            let known = names-after ts read.0 (c ∷ cs) read.1 in
+            let known = names-next ts read.0 (c ∷ cs) read.1 in
             let on = front xs read.0 last h (subst (λ ns. IsNext ns (first_word (b ∷ bs)) xs) (sym known) pass.still) (few-after ts read.0 (c ∷ cs) read.1 few) read.2 in
             let both = swap ts read.0 on.0 (c ∷ cs) (b ∷ bs) few is (one-known ts (first_word (b ∷ bs)) (first_word (c ∷ cs)) pass.one) read.1 on.1 in
             (both.next, both.before, (on.0, both.after, on.2))
@@ -109,7 +109,7 @@ read-again ((b ∷ bs) ∷ others) lines ts last same few read =
       each = λ k. lines-front b bs (lines_of_tap name others) k lines first ∙ same.each k;
       names = names-front b bs (lines_of_tap name others) (names_of ts) lines first next ∙ same.names;
     }) in
-    (on.0, on.1, read-again others left on.0 last (subst (λ ns. AreSameFrom ns left others) (sym (names-after ts on.0 (b ∷ bs) on.1)) after) (few-after ts on.0 (b ∷ bs) on.1 few) on.2)
+    (on.0, on.1, read-again others left on.0 last (subst (λ ns. AreSameFrom ns left others) (sym (names-next ts on.0 (b ∷ bs) on.1)) after) (few-after ts on.0 (b ∷ bs) on.1 few) on.2)
 
 -- ---- lines with numbers
 

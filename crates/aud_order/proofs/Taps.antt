@@ -1,10 +1,9 @@
 -- Taps with a header or a record more: what is found in them, and how many there are.
-use Rattle.std.proofs.Common.{◌≡◌, ℕ, ◌<◌, ◌≤◌, List, [], ◌∷◌, ◌++◌, map, Bool, true, false, cond, ◌||◌, Option, Some, None, Ok, refl, sym, ap, ◌∙◌, append-nil, arith, nat_lt, true≢false}
+use Rattle.std.proofs.Common.{◌≡◌, ℕ, ◌≤◌, List, [], ◌∷◌, ◌++◌, map, Bool, true, false, cond, ◌||◌, Option, Some, None, refl, sym, ap, ◌∙◌, append-nil, arith, nat_lt, true≢false}
 use Rattle.std.specs.Option.{option_or}
 use Rattle.std.specs.Set.{distinct_count}
 use Rattle.std.proofs.lemmas.Cmp.{nat_list_eq_equiv}
 use Rattle.std.proofs.lemmas.Grind.{flat_map-append}
-use Rattle.std.proofs.lemmas.List.{map-append}
 use Rattle.std.proofs.lemmas.List.Folds.{find-append, list_any-append}
 use Rattle.std.proofs.lemmas.Map.Made.{length-from_keys, length-le_from_is_member}
 use Rattle.std.proofs.lemmas.Option.{same_Some}
@@ -18,7 +17,6 @@ use Rattle.aud_tap.specs.Forms.{is_text}
 use Rattle.aud_reader.specs.declared.fault.InputCode.TheVariants.{SecondStream, Limit}
 use Rattle.aud_reader.specs.Bundle.{max_node_taps, max_client_taps, max_pids, tap_named, with_records, kind_of_tap, taps_on, pids_in, pids_of, another_tap, no_records}
 use Rattle.aud_reader.proofs.KeptLemmas.{taps_on-set, replaced, pids-empty}
-use Rattle.aud_reader.proofs.OwnLines.{named-other}
 use Rattle.aud_reader.proofs.TextsLemmas.{unique}
 use Rattle.aud_order.specs.Order.{is_among}
 

@@ -1,10 +1,9 @@
 -- The name that a line begins with, and the names that lines begin with.
-use Rattle.std.proofs.Common.{◌≡◌, ℕ, List, [], ◌∷◌, ◌++◌, length, Bool, true, false, cond, ◌||◌, ◌⊎◌, inl, inr, nat_le, Ok, refl, sym, ap, ◌∙◌, true≢false}
-use Rattle.std.proofs.lemmas.Bool.{or_left, or_right}
+use Rattle.std.proofs.Common.{◌≡◌, ℕ, List, [], ◌∷◌, ◌++◌, length, true, false, cond, nat_le, Ok, ap, ◌∙◌}
+use Rattle.std.proofs.lemmas.Bool.{or_left}
 use Rattle.std.proofs.lemmas.List.Folds.{list_any-append}
 use Rattle.serde_json.specs.Data.{Data}
 use Rattle.aud_base.specs.Steps.{need}
-use Rattle.aud_base.proofs.SameText.{same_text, itself_text}
 use Rattle.aud_base.proofs.StepLemmas.{same-ok, part-of, guard-ok}
 use Rattle.aud_tap.specs.Forms.{is_text}
 use Rattle.aud_tap.specs.Limits.{max_line}
@@ -12,7 +11,7 @@ use Rattle.aud_tap.specs.TapName.{is_tap_name}
 use Rattle.aud_reader.specs.declared.fault.InputCode.TheVariants.{LineTooLong, NoTapName}
 use Rattle.aud_reader.specs.Record.{cut_at_blank, json_of, opened_line}
 use Rattle.aud_reader.proofs.Lists.{need-ok}
-use Rattle.aud_order.specs.Order.{first_word, is_line_of, lines_of_tap, is_among, names_after}
+use Rattle.aud_order.specs.Order.{first_word, is_among, names_after}
 
 -- a line that opens begins with its tap's name
 pub opened-first_word : (line name : List ℕ) (d : Data) → opened_line line ≡ Ok (name, d) → first_word line ≡ name
@@ -33,10 +32,6 @@ with_name known name = cond (is_among known name) known (known ++ name ∷ [])
 -- a name that is known stays so
 pub among-more : (known : List (List ℕ)) (other name : List ℕ) → is_among known name ≡ true → is_among (known ++ other ∷ []) name ≡ true
 among-more known other name is = list_any-append (is_text name) known (other ∷ []) ∙ or_left _ _ is
-
--- a name that was put to those known is known
-pub among-put : (known : List (List ℕ)) (name : List ℕ) → is_among (known ++ name ∷ []) name ≡ true
-among-put known name = list_any-append (is_text name) known (name ∷ []) ∙ or_right _ _ (or_left _ false (itself_text name))
 
 -- ---- the names that come first
 

@@ -1,10 +1,10 @@
 //! What the lines of a bundle are read as, in one order and in another.
-ghost use Rattle.std.specs.Prelude.{ℕ, List};
+ghost use Rattle.std.specs.Prelude.{◌≡◌, ◌≢◌, ◌⊎◌, ℕ, List, ◌∷◌, ◌++◌, true};
 ghost use Rattle.aud_reader.specs.declared.line.Line.{Line};
 ghost use Rattle.aud_reader.specs.Bundle.{taps_of};
 ghost use Rattle.aud_input.specs.declared.input.Layout.TheVariants.{Bundle};
 ghost use Rattle.aud_input.specs.Input.{input_of};
-ghost use Rattle.aud_order.specs.Order.{AreSameButForOrder, AreReadAlike, texts};
+ghost use Rattle.aud_order.specs.Order.{first_word, is_among, names_in, AreSameButForOrder, AreReadAlike, texts};
 ghost use Rattle.aud_order.specs.Inputs.{line_texts};
 
 /// Lines that are the same but for their order are read as the same taps, or both refused: a law of
@@ -17,8 +17,17 @@ pub fn lines_in_any_order()
         → AreReadAlike (taps_of lines) (taps_of others) }
 {}
 
-/// The same of the bytes of two inputs: a law of [`read_input`](aud_input::read_input), where all lines are of the bundle.
+/// The same of the bytes of two inputs: a law of [`read_input`](aud_input::read_input), where all lines are the
+/// bundle's.
 pub fn inputs_in_any_order()
     ensures { (bytes others : List ℕ) → AreSameButForOrder (line_texts bytes) (line_texts others)
         → AreReadAlike (input_of Bundle bytes) (input_of Bundle others) }
+{}
+
+/// Two neighbouring lines of different taps, of which one had a line before, may stand in either order: the lines are
+/// the same but for their order.
+pub fn neighbours_in_any_order()
+    ensures { (before after : List (List ℕ)) (line other : List ℕ) → first_word line ≢ first_word other
+        → (is_among (names_in before) (first_word line) ≡ true) ⊎ (is_among (names_in before) (first_word other) ≡ true)
+        → AreSameButForOrder (before ++ line ∷ other ∷ after) (before ++ other ∷ line ∷ after) }
 {}
