@@ -6,3 +6,5 @@ pub mod Fronts
 pub mod Neighbours
 pub mod Readings
 pub mod InputReadings
+pub mod OutputReadings
+pub mod OneOutput

@@ -6,6 +6,11 @@ ghost use Rattle.aud_input.specs.declared.input.Layout.TheVariants.{Bundle};
 ghost use Rattle.aud_input.specs.Input.{input_of};
 ghost use Rattle.aud_order.specs.Order.{first_word, is_among, names_in, AreSameButForOrder, AreReadAlike, texts};
 ghost use Rattle.aud_order.specs.Inputs.{line_texts};
+ghost use Rattle.aud_options.specs.declared.choice.Mode.{Mode};
+ghost use Rattle.aud_options.specs.declared.choice.Mode.TheVariants.{Audit};
+ghost use Rattle.aud_report.specs.Output.{OutputSeen};
+ghost use Rattle.aud_app.specs.Output.{IsOutput, layout_of};
+ghost use Rattle.aud_order.specs.Outputs.{AreWrittenAlike};
 
 /// Lines that are the same but for their order are read as the same taps, or both refused: a law of
 /// [`read_bundle`](aud_reader::read_bundle).
@@ -30,4 +35,17 @@ pub fn neighbours_in_any_order()
     ensures { (before after : List (List ℕ)) (line other : List ℕ) → first_word line ≢ first_word other
         → (is_among (names_in before) (first_word line) ≡ true) ⊎ (is_among (names_in before) (first_word other) ≡ true)
         → AreSameButForOrder (before ++ line ∷ other ∷ after) (before ++ other ∷ line ∷ after) }
+{}
+
+/// Inputs that are the same but for the order of their lines have the same output, or a line of each is refused: a law
+/// of [`run`](aud_app::run) in the modes without certificates, `audit` and `prove`.
+pub fn outputs_in_any_order()
+    ensures { (mode : Mode) (bytes others : List ℕ) → layout_of mode ≡ Bundle
+        → AreSameButForOrder (line_texts bytes) (line_texts others) → AreWrittenAlike mode bytes others }
+{}
+
+/// An input has one output of an audit, whichever workers found it: with [`outputs_in_any_order`], inputs that are the
+/// same but for the order of their lines, of which none is refused, are given the same bytes.
+pub fn audit_is_one()
+    ensures { (bytes : List ℕ) (one other : OutputSeen) → IsOutput Audit bytes one → IsOutput Audit bytes other → one ≡ other }
 {}

@@ -30,4 +30,7 @@
 
 mod law;
 
-pub use law::{inputs_in_any_order, lines_in_any_order, neighbours_in_any_order};
+pub use law::{
+    audit_is_one, inputs_in_any_order, lines_in_any_order, neighbours_in_any_order,
+    outputs_in_any_order,
+};

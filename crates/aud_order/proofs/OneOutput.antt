@@ -1,0 +1,43 @@
+-- An input has one output of an audit.
+use Rattle.std.proofs.Common.{◌≡◌, ℕ, List, [], ◌∷◌, Result, Ok, Err, refl, sym, ap, ◌∙◌}
+use Rattle.aud_reader.specs.declared.fault.ReadFault.{ReadFault}
+use Rattle.aud_reader.specs.declared.fault.ReadFault.TheVariants.{Input, Memory}
+use Rattle.aud_node.specs.Stream.{Text}
+use Rattle.aud_node.specs.Cluster.{Cluster, cluster_of}
+use Rattle.aud_maker.specs.Sessions.{sessions_of}
+use Rattle.aud_input.specs.Input.{InputSeen}
+use Rattle.aud_options.specs.declared.choice.Mode.TheVariants.{Audit}
+use Rattle.aud_report.specs.declared.verdict.SessionVerdict.{SessionVerdict}
+use Rattle.aud_report.specs.Output.{OutputSeen, report_of}
+use Rattle.aud_verdict.specs.Verdicts.{IsSessionVerdict, AreVerdicts}
+use Rattle.aud_verdict.proofs.Sessions.{one_verdict}
+use Rattle.aud_app.specs.Output.{IsReport, IsOutputOver}
+
+-- a session has one verdict under its name
+same-entry : (c : Cluster) (pid : Text) (one other : SessionVerdict) → IsSessionVerdict c pid one → IsSessionVerdict c pid other → one ≡ other
+same-entry c pid one other is too =
+    let names : one.pid ≡ other.pid = is.0 ∙ sym too.0 in
+    let verdicts : one.verdict ≡ other.verdict = one_verdict c pid one.verdict other.verdict is.1.0 too.1.0 in
+    λ i. record { pid = names i; verdict = verdicts i }
+
+-- sessions have one list of verdicts
+same-entries : (c : Cluster) (pids : List Text) (ones others : List SessionVerdict) → AreVerdicts c pids ones → AreVerdicts c pids others → ones ≡ others
+same-entries c [] [] [] are too = refl
+same-entries c [] [] (other ∷ others) are too = absurd too
+same-entries c [] (one ∷ ones) others are too = absurd are
+same-entries c (pid ∷ pids) [] others are too = absurd are
+same-entries c (pid ∷ pids) (one ∷ ones) [] are too = absurd too
+same-entries c (pid ∷ pids) (one ∷ ones) (other ∷ others) are too =
+    let heads : one ≡ other = same-entry c pid one other are.0 too.0 in
+    let tails : ones ≡ others = same-entries c pids ones others are.1 too.1 in
+    λ i. heads i ∷ tails i
+
+-- so logs have one report
+same-report : (c : Cluster) (one other : OutputSeen) → IsReport c one → IsReport c other → one ≡ other
+same-report c one other is too = is.1.1 ∙ ap report_of (same-entries c (sessions_of c) is.0 too.0 is.1.0 too.1.0) ∙ sym too.1.1
+
+-- and what is read has one output
+pub one-output : (read : Result InputSeen ReadFault) (one other : OutputSeen) → IsOutputOver Audit read one → IsOutputOver Audit read other → one ≡ other
+one-output (Ok input) one other is too = same-report (cluster_of input.taps) one other is too
+one-output (Err (Input n code)) one other is too = is ∙ sym too
+one-output (Err Memory) one other is too = absurd is
