@@ -111,16 +111,18 @@ static LIMITS: [(Repeating, u32, InputCode); 13] = [
     ((r#"c1 {"k":"lost","x":"#, "[", "]", "}"), 126, NotJson),
 ];
 
+/// Whether the line is read at its limit, and refused so past it.
+fn is_kept(alloc: Global, limit: &(Repeating, u32, InputCode)) -> Result<bool, AllocError> {
+    let (line, most, code) = *limit;
+    let is_read = is_refused_at(alloc, line, most, None)?;
+    let is_refused = is_refused_at(alloc, line, most.saturating_add(1), Some(code))?;
+    Ok(is_read && is_refused)
+}
+
 #[test]
 fn limits_are_kept(rt: HostRuntime) -> Result<(), AllocError> {
-    for (line, most, code) in &LIMITS {
-        let begin = line.0;
-        let more = most.saturating_add(1);
-        assert!(rt; is_refused_at(rt.alloc(), *line, *most, None)?, "{begin}");
-        assert!(rt;
-            is_refused_at(rt.alloc(), *line, more, Some(*code))?,
-            "{begin}"
-        );
+    for limit in &LIMITS {
+        assert!(rt; is_kept(rt.alloc(), limit)?, "{}", limit.0.0);
     }
     Ok(())
 }

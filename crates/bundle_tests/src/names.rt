@@ -24,7 +24,7 @@ static TAP_NAMES: [(&str, bool); 15] = [
 #[test]
 fn tap_names(rt: HostRuntime) {
     for (name, wanted) in &TAP_NAMES {
-        assert_eq!(rt; is_tap_name(name), *wanted, "{name}");
+        assert!(rt; is_tap_name(name) == *wanted, "{name}");
     }
 }
 
@@ -55,6 +55,6 @@ static SESSION_IDS: [(&str, bool); 11] = [
 #[test]
 fn session_ids(rt: HostRuntime) {
     for (id, wanted) in &SESSION_IDS {
-        assert_eq!(rt; is_session_id(id), *wanted, "{id}");
+        assert!(rt; is_session_id(id) == *wanted, "{id}");
     }
 }

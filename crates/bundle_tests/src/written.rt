@@ -7,8 +7,10 @@ use std::alloc::{AllocError, Global};
 
 /// The line of the record of a line.
 fn rewritten(alloc: Global, line: &Line) -> Result<Vec<u8>, ReadFault> {
-    let (name, rec) = parse_line(alloc, line)?;
-    write_line(alloc, name.as_str(), &rec)
+    match parse_line(alloc, line) {
+        Ok((name, rec)) => write_line(alloc, name.as_str(), &rec),
+        Err(fault) => Err(fault),
+    }
 }
 
 /// Whether the record of a line is written so.
