@@ -34,7 +34,7 @@ same-entries c (pid ∷ pids) (one ∷ ones) (other ∷ others) are too =
 
 -- so logs have one report
 same-report : (c : Cluster) (one other : OutputSeen) → IsReport c one → IsReport c other → one ≡ other
-same-report c one other is too = is.1.1 ∙ ap report_of (same-entries c (sessions_of c) is.0 too.0 is.1.0 too.1.0) ∙ sym too.1.1
+same-report c one other is too = is.2 ∙ ap report_of (same-entries c (sessions_of c) is.0 too.0 is.1 too.1) ∙ sym too.2
 
 -- and what is read has one output
 pub one-output : (read : Result InputSeen ReadFault) (one other : OutputSeen) → IsOutputOver Audit read one → IsOutputOver Audit read other → one ≡ other
