@@ -19,8 +19,8 @@ use Rattle.aud_reader.specs.declared.fault.InputCode.TheVariants.{NoHeader, Head
 use Rattle.aud_reader.specs.Header.{header_of}
 use Rattle.aud_reader.specs.NodeRecord.{node_record_of}
 use Rattle.aud_reader.specs.Record.{opened_line, kind_named}
-use Rattle.aud_reader.specs.Bundle.{max_records, max_pids, pid_of, node_room, with_entry, with_node_record, with_client_record, with_tap_record, tap_named, with_records, kind_of_tap, pids_in, pids_of, another_tap, with_header, with_later, with_kind, with_line}
-use Rattle.aud_reader.proofs.KeptLemmas.{with_line-goes}
+use Rattle.aud_tap.specs.RecordFields.{pid_of}
+use Rattle.aud_reader.specs.Bundle.{max_records, max_pids, node_room, with_entry, with_node_record, with_client_record, with_tap_record, tap_named, with_records, kind_of_tap, pids_in, pids_of, another_tap, with_header, with_later, with_kind, with_line}
 use Rattle.aud_reader.proofs.LineSteps.{guarded, one_more}
 use Rattle.aud_order.specs.Order.{first_word}
 use Rattle.aud_order.proofs.Words.{opened-first_word, with_name}
@@ -99,6 +99,11 @@ pub record Adds (ts : List Tap) (line : List ℕ) (next : List Tap) : Type 0 whe
   pub few : AreFew (pids_of ts) → AreFew (pids_of ts ++ more)
   pub is : next ≡ with_records (first_word line) records ts
   pub again : (others : List Tap) → tap_named (first_word line) others ≡ Some found → AreFew (pids_of others ++ more) → with_line others line ≡ Ok (with_records (first_word line) records others)
+
+-- a line that opens goes to the tap of its name
+with_line-goes : (ts : List Tap) (line name word : List ℕ) (d : Data) → opened_line line ≡ Ok (name, d) → kind_named d ≡ Ok word → with_line ts line ≡ with_kind ts name (tap_named name ts) word d
+unfolding with_line
+with_line-goes ts line name word d opened kind = rw (opened, kind) refl
 
 -- a header where there is room
 header_again : (others : List Tap) (name word : List ℕ) (d : Data) (of : TapKind) → is_text word (codes "tap") ≡ true → header_of d ≡ Ok of → another_tap of others ≡ Ok tt → with_header others name word d ≡ Ok (others ++ begun name of ∷ [])
