@@ -1,4 +1,5 @@
-//! The order of lines doesn't matter, as long as each tap's lines keep theirs: laws of the reader of a bundle.
+//! The order of lines doesn't matter, as long as each tap's lines keep theirs: laws of the reader of a bundle, and of what
+//! a run writes for it.
 //!
 //! The functions of this crate do nothing: their contracts are the laws. What "the same but for their order" means is
 //! `AreSameButForOrder` of `specs/Order.antt`.
