@@ -2,7 +2,7 @@
 use Rattle.std.proofs.Common.{◌≡◌, ℕ, List, [], ◌∷◌, ◌++◌, Bool, true, false, cond, ◌⊎◌, inl, inr, refl, sym, ap, ◌∙◌, true≢false}
 use Rattle.aud_base.proofs.SameText.{same_text, itself_text}
 use Rattle.aud_tap.specs.Forms.{is_text}
-use Rattle.aud_order.specs.Order.{first_word, is_line_of, lines_of_tap, is_among, names_after}
+use Rattle.aud_order.specs.Order.{first_word, is_line_of, lines_of_tap, is_known, names_after}
 use Rattle.aud_order.proofs.Words.{with_name, among-more, after-known, after-new}
 
 -- the lines without the first of this name
@@ -12,17 +12,17 @@ without_first name (x ∷ xs) = cond (is_line_of name x) xs (x ∷ without_first
 
 -- the name is known, or comes before all others that aren't
 abbrev pub IsNext : List (List ℕ) → List ℕ → List (List ℕ) → Type 0
-IsNext known name lines = (is_among known name ≡ true) ⊎ ((others : List (List ℕ)) × (names_after known lines ≡ name ∷ others))
+IsNext known name lines = (is_known known name ≡ true) ⊎ ((others : List (List ℕ)) × (names_after known lines ≡ name ∷ others))
 
 -- before a line of the next name stands a line of another name that is known, unless the next one is
 pub record Passes (known : List (List ℕ)) (name word : List ℕ) (lines : List (List ℕ)) : Type 0 where
   pub still : IsNext (with_name known word) name lines
-  pub one : (is_among known name ≡ true) ⊎ (is_among known word ≡ true)
+  pub one : (is_known known name ≡ true) ⊎ (is_known known word ≡ true)
 
 -- a name that is known stays so with another
-known-with : (known : List (List ℕ)) (word name : List ℕ) → is_among known name ≡ true → is_among (with_name known word) name ≡ true
+known-with : (known : List (List ℕ)) (word name : List ℕ) → is_known known name ≡ true → is_known (with_name known word) name ≡ true
 known-with known word name is =
-    elim (is_among known word) as (λ b. is_among (cond b known (known ++ word ∷ [])) name ≡ true) [
+    elim (is_known known word) as (λ b. is_known (cond b known (known ++ word ∷ [])) name ≡ true) [
       | true ↦ is
       | false ↦ among-more known word name is
     ]
@@ -31,12 +31,12 @@ known-with known word name is =
 pub passes : (known : List (List ℕ)) (name : List ℕ) (b : ℕ) (bs : List ℕ) (lines : List (List ℕ)) → is_text name (first_word (b ∷ bs)) ≡ false → IsNext known name ((b ∷ bs) ∷ lines)
     → Passes known name (first_word (b ∷ bs)) lines
 passes known name b bs lines other (inl is) = record { still = inl (known-with known (first_word (b ∷ bs)) name is); one = inl is }
-passes known name b bs lines other (inr (others, e)) = by (is_among known word) refl
+passes known name b bs lines other (inr (others, e)) = by (is_known known word) refl
   where
     word : List ℕ
     word = first_word (b ∷ bs)
 
-    by : (v : Bool) → is_among known word ≡ v → Passes known name word lines
+    by : (v : Bool) → is_known known word ≡ v → Passes known name word lines
     by true is = record { still = inr (others, rw is (sym (after-known known b bs lines is) ∙ e)); one = inr is }
     by false is =
         let new = sym (after-new known b bs lines is) ∙ e in
@@ -44,10 +44,10 @@ passes known name b bs lines other (inr (others, e)) = by (is_among known word) 
         absurd (true≢false (sym (itself_text name) ∙ ap (is_text name) (sym same) ∙ other))
 
 -- two lines of different names, of which one is known, bring the same names in either order
-pub swapped : (known : List (List ℕ)) (b : ℕ) (bs : List ℕ) (c : ℕ) (cs : List ℕ) (left lines : List (List ℕ)) → (is_among known (first_word (b ∷ bs)) ≡ true) ⊎ (is_among known (first_word (c ∷ cs)) ≡ true)
+pub swapped : (known : List (List ℕ)) (b : ℕ) (bs : List ℕ) (c : ℕ) (cs : List ℕ) (left lines : List (List ℕ)) → (is_known known (first_word (b ∷ bs)) ≡ true) ⊎ (is_known known (first_word (c ∷ cs)) ≡ true)
     → names_after (with_name known (first_word (c ∷ cs))) ((b ∷ bs) ∷ left) ≡ names_after (with_name known (first_word (c ∷ cs))) lines
     → names_after known ((b ∷ bs) ∷ (c ∷ cs) ∷ left) ≡ names_after known ((c ∷ cs) ∷ lines)
-swapped known b bs c cs left lines one same = by (is_among known (first_word (c ∷ cs))) refl (is_among known (first_word (b ∷ bs))) refl one same
+swapped known b bs c cs left lines one same = by (is_known known (first_word (c ∷ cs))) refl (is_known known (first_word (b ∷ bs))) refl one same
   where
     name : List ℕ
     name = first_word (b ∷ bs)
@@ -55,7 +55,7 @@ swapped known b bs c cs left lines one same = by (is_among known (first_word (c 
     word : List ℕ
     word = first_word (c ∷ cs)
 
-    by : (v : Bool) → is_among known word ≡ v → (w : Bool) → is_among known name ≡ w → (w ≡ true) ⊎ (v ≡ true)
+    by : (v : Bool) → is_known known word ≡ v → (w : Bool) → is_known known name ≡ w → (w ≡ true) ⊎ (v ≡ true)
         → names_after (cond v known (known ++ word ∷ [])) ((b ∷ bs) ∷ left) ≡ names_after (cond v known (known ++ word ∷ [])) lines
         → names_after known ((b ∷ bs) ∷ (c ∷ cs) ∷ left) ≡ names_after known ((c ∷ cs) ∷ lines)
     by true is true is_name one h =
@@ -123,7 +123,7 @@ module _ (b : ℕ) (bs : List ℕ) (rest : List (List ℕ)) where
             past pass.one (names-front (with_name known (first_word (c ∷ cs))) xs h pass.still)
       ] refl e
     where
-      past : (is_among known (first_word (b ∷ bs)) ≡ true) ⊎ (is_among known (first_word (c ∷ cs)) ≡ true)
+      past : (is_known known (first_word (b ∷ bs)) ≡ true) ⊎ (is_known known (first_word (c ∷ cs)) ≡ true)
           → names_after (with_name known (first_word (c ∷ cs))) ((b ∷ bs) ∷ without_first (first_word (b ∷ bs)) xs) ≡ names_after (with_name known (first_word (c ∷ cs))) xs
           → names_after known ((b ∷ bs) ∷ (c ∷ cs) ∷ without_first (first_word (b ∷ bs)) xs) ≡ names_after known ((c ∷ cs) ∷ xs)
       past one same = swapped known b bs c cs (without_first (first_word (b ∷ bs)) xs) xs one same

@@ -3,7 +3,7 @@ use Rattle.std.proofs.Common.{◌≡◌, ◌≢◌, ℕ, List, [], ◌∷◌, �
 use Rattle.std.proofs.lemmas.List.Elements.{filter-append}
 use Rattle.aud_base.proofs.SameText.{same_text}
 use Rattle.aud_tap.specs.Forms.{is_text}
-use Rattle.aud_order.specs.Order.{first_word, is_line_of, lines_of_tap, is_among, names_after, names_in, AreSameButForOrder}
+use Rattle.aud_order.specs.Order.{first_word, is_line_of, lines_of_tap, is_known, names_after, names_in, AreSameButForOrder}
 use Rattle.aud_order.proofs.Fronts.{swapped}
 
 -- lines of different names are in two taps, of which each keeps its own
@@ -23,7 +23,7 @@ lines-swap k (b ∷ bs) (c ∷ cs) after apart = by (is_text k (first_word (b �
     by false is false is_other = refl
 
 -- of two names of which one is known, at most one is new
-names-swap : (known : List (List ℕ)) (line other : List ℕ) (after : List (List ℕ)) → (is_among known (first_word line) ≡ true) ⊎ (is_among known (first_word other) ≡ true)
+names-swap : (known : List (List ℕ)) (line other : List ℕ) (after : List (List ℕ)) → (is_known known (first_word line) ≡ true) ⊎ (is_known known (first_word other) ≡ true)
     → names_after known (line ∷ other ∷ after) ≡ names_after known (other ∷ line ∷ after)
 names-swap known [] [] after one = refl
 names-swap known [] (c ∷ cs) after one = refl
@@ -36,7 +36,7 @@ names-append known [] more = ap (λ names. names_after names more) (sym (append-
 names-append known ([] ∷ lines) more = names-append known lines more
 names-append known ((b ∷ bs) ∷ lines) more =
     let name = first_word (b ∷ bs) in
-    elim (is_among known name) as (λ v. cond v (names_after known (lines ++ more)) (name ∷ names_after (known ++ name ∷ []) (lines ++ more))
+    elim (is_known known name) as (λ v. cond v (names_after known (lines ++ more)) (name ∷ names_after (known ++ name ∷ []) (lines ++ more))
     ≡ cond v (names_after known lines) (name ∷ names_after (known ++ name ∷ []) lines) ++ names_after (known ++ cond v (names_after known lines) (name ∷ names_after (known ++ name ∷ []) lines)) more) [
       | true ↦ names-append known lines more
       | false ↦ ap (λ names. name ∷ names) (names-append (known ++ name ∷ []) lines more
@@ -45,7 +45,7 @@ names-append known ((b ∷ bs) ∷ lines) more =
 
 -- neighbours of different names, of which one was there before
 pub neighbours : (before after : List (List ℕ)) (line other : List ℕ) → first_word line ≢ first_word other
-    → (is_among (names_in before) (first_word line) ≡ true) ⊎ (is_among (names_in before) (first_word other) ≡ true)
+    → (is_known (names_in before) (first_word line) ≡ true) ⊎ (is_known (names_in before) (first_word other) ≡ true)
     → AreSameButForOrder (before ++ line ∷ other ∷ after) (before ++ other ∷ line ∷ after)
 neighbours before after line other apart one =
     record {

@@ -9,7 +9,7 @@ use Rattle.aud_reader.specs.declared.fault.ReadFault.{ReadFault}
 use Rattle.aud_reader.specs.declared.line.Line.{Line}
 use Rattle.aud_reader.specs.Bundle.{tap_named, pids_of, with_line, at_line, passing_empty, taps_after, taps_from, taps_of}
 use Rattle.aud_reader.proofs.LineSteps.{at_line-ok}
-use Rattle.aud_order.specs.Order.{first_word, lines_of_tap, is_among, names_after, AreSameButForOrder, texts, AreReadAlike}
+use Rattle.aud_order.specs.Order.{first_word, lines_of_tap, is_known, names_after, AreSameButForOrder, texts, AreReadAlike}
 use Rattle.aud_order.proofs.Words.{with_name, after-new}
 use Rattle.aud_order.proofs.Taps.{names_of, absent-among, AreFew}
 use Rattle.aud_order.proofs.Effects.{few-after, names-next}
@@ -29,7 +29,7 @@ AreRead ts (line ∷ lines) last = (next : List Tap) × Leads ts line next × Ar
 -- ---- the first line of a name
 
 -- one of the names of two lines is known, so that the lines may be swapped
-one-known : (ts : List Tap) (name word : List ℕ) → (is_among (names_of ts) name ≡ true) ⊎ (is_among (names_of ts) word ≡ true) → tap_named name ts ≡ None → tap_named word ts ≡ None → ⊥
+one-known : (ts : List Tap) (name word : List ℕ) → (is_known (names_of ts) name ≡ true) ⊎ (is_known (names_of ts) word ≡ true) → tap_named name ts ≡ None → tap_named word ts ≡ None → ⊥
 one-known ts name word (inl is) none _ = true≢false (sym is ∙ absent-among name ts none)
 one-known ts name word (inr is) _ none = true≢false (sym is ∙ absent-among word ts none)
 
@@ -75,7 +75,7 @@ rest-same : (known : List (List ℕ)) (b : ℕ) (bs : List ℕ) (lines others : 
 rest-same known b bs lines others same =
     record {
       each = λ name. left (is_text name (first_word (b ∷ bs))) (lines_of_tap name lines) (lines_of_tap name others) (same.each name);
-      names = rest (is_among known (first_word (b ∷ bs))) same.names;
+      names = rest (is_known known (first_word (b ∷ bs))) same.names;
     }
   where
     left : (v : Bool) (some more : List (List ℕ)) → cond v ((b ∷ bs) ∷ some) some ≡ cond v ((b ∷ bs) ∷ more) more → some ≡ more
@@ -89,9 +89,9 @@ rest-same known b bs lines others same =
 
 -- the name of the first line of the others is the next one
 next-of : (known : List (List ℕ)) (b : ℕ) (bs : List ℕ) (lines others : List (List ℕ)) → names_after known lines ≡ names_after known ((b ∷ bs) ∷ others) → IsNext known (first_word (b ∷ bs)) lines
-next-of known b bs lines others same = by (is_among known (first_word (b ∷ bs))) refl
+next-of known b bs lines others same = by (is_known known (first_word (b ∷ bs))) refl
   where
-    by : (v : Bool) → is_among known (first_word (b ∷ bs)) ≡ v → IsNext known (first_word (b ∷ bs)) lines
+    by : (v : Bool) → is_known known (first_word (b ∷ bs)) ≡ v → IsNext known (first_word (b ∷ bs)) lines
     by true is = inl is
     by false is = inr (names_after (known ++ first_word (b ∷ bs) ∷ []) others, same ∙ after-new known b bs others is)
 

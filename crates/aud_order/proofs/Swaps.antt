@@ -6,7 +6,7 @@ use Rattle.aud_tap.specs.declared.taps.Tap.{Tap}
 use Rattle.aud_tap.specs.Forms.{is_text}
 use Rattle.aud_reader.specs.Bundle.{tap_named, with_records, pids_of, with_line}
 use Rattle.aud_reader.proofs.OwnLines.{named-other}
-use Rattle.aud_order.specs.Order.{first_word, is_among}
+use Rattle.aud_order.specs.Order.{first_word, is_known}
 use Rattle.aud_order.proofs.Taps.{begun, named-push, named-past, with-push, with-with, room-with, AreFew, few-within, pids-begun, pids-with}
 use Rattle.aud_order.proofs.Effects.{Begins, Adds, effect, few-after}
 
@@ -70,17 +70,17 @@ module _ (ts next last : List Tap) (x l : List ℕ) (few : AreFew (pids_of ts)) 
       let all = c.few few_next in
       record {
         next = mid;
-        before = c.again ts found (few-within (pids_of ts ++ c.more) (pids_of next ++ c.more) (λ q m. both q ∙ less (is_among (pids_of ts) q) (is_among a.more q) (is_among c.more q) (sym (list_any-append (is_text q) (pids_of ts) c.more) ∙ m)) all);
+        before = c.again ts found (few-within (pids_of ts ++ c.more) (pids_of next ++ c.more) (λ q m. both q ∙ less (is_known (pids_of ts) q) (is_known a.more q) (is_known c.more q) (sym (list_any-append (is_text q) (pids_of ts) c.more) ∙ m)) all);
         after = a.again mid (named-other (first_word x) (first_word l) c.records ts differ ∙ a.is_found)
             (few-within (pids_of mid ++ a.more) (pids_of next ++ c.more)
-            (λ q m. both q ∙ either (is_among (pids_of ts) q) (is_among a.more q) (is_among c.more q) ∙ ap (λ b. b || is_among a.more q) (sym (pids-with q (first_word l) c.records c.more ts c.found found c.pids)) ∙ sym (list_any-append (is_text q) (pids_of mid) a.more) ∙ m) all)
+            (λ q m. both q ∙ either (is_known (pids_of ts) q) (is_known a.more q) (is_known c.more q) ∙ ap (λ b. b || is_known a.more q) (sym (pids-with q (first_word l) c.records c.more ts c.found found c.pids)) ∙ sym (list_any-append (is_text q) (pids_of mid) a.more) ∙ m) all)
             ∙ ap Ok (sym (c.is ∙ ap (with_records (first_word l) c.records) a.is ∙ with-with (first_word l) (first_word x) c.records a.records ts other));
       }
     where
-      both : (q : List ℕ) → is_among (pids_of next ++ c.more) q ≡ ((is_among (pids_of ts) q || is_among a.more q) || is_among c.more q)
+      both : (q : List ℕ) → is_known (pids_of next ++ c.more) q ≡ ((is_known (pids_of ts) q || is_known a.more q) || is_known c.more q)
       both q =
           list_any-append (is_text q) (pids_of next) c.more
-          ∙ ap (λ b. b || is_among c.more q) (ap (λ us. is_among (pids_of us) q) a.is ∙ pids-with q (first_word x) a.records a.more ts a.found a.is_found a.pids)
+          ∙ ap (λ b. b || is_known c.more q) (ap (λ us. is_known (pids_of us) q) a.is ∙ pids-with q (first_word x) a.records a.more ts a.found a.is_found a.pids)
 
 -- two lines of different names, of which one has its tap
 pub swap : (ts next last : List Tap) (x l : List ℕ) → AreFew (pids_of ts) → is_text (first_word l) (first_word x) ≡ false → (tap_named (first_word l) ts ≡ None → tap_named (first_word x) ts ≡ None → ⊥)

@@ -18,7 +18,7 @@ use Rattle.aud_reader.specs.declared.fault.InputCode.TheVariants.{SecondStream, 
 use Rattle.aud_reader.specs.Bundle.{max_node_taps, max_client_taps, max_pids, tap_named, with_records, kind_of_tap, taps_on, pids_in, pids_of, another_tap, no_records}
 use Rattle.aud_reader.proofs.KeptLemmas.{taps_on-set, replaced, pids-empty}
 use Rattle.aud_reader.proofs.TextsLemmas.{unique}
-use Rattle.aud_order.specs.Order.{is_among}
+use Rattle.aud_order.specs.Order.{is_known}
 
 -- a tap after its header
 abbrev pub begun : List ℕ → TapKind → Tap
@@ -43,19 +43,19 @@ named-past name ts t other = find-append (λ (x : Tap). is_text name x.name) ts 
     alone (Some u) = refl
 
 -- a name is among those of the taps where a tap has it
-pub named-among : (name : List ℕ) (ts : List Tap) (t : Tap) → tap_named name ts ≡ Some t → is_among (names_of ts) name ≡ true
+pub named-among : (name : List ℕ) (ts : List Tap) (t : Tap) → tap_named name ts ≡ Some t → is_known (names_of ts) name ≡ true
 named-among name [] t e = cc
 named-among name (u ∷ us) t e =
-    elim (is_text name u.name) as (λ b. cond b (Some u) (tap_named name us) ≡ Some t → (b || is_among (names_of us) name) ≡ true) [
+    elim (is_text name u.name) as (λ b. cond b (Some u) (tap_named name us) ≡ Some t → (b || is_known (names_of us) name) ≡ true) [
       | true ↦ λ h. refl
       | false ↦ λ h. named-among name us t h
     ] e
 
 -- and it isn't where none has it
-pub absent-among : (name : List ℕ) (ts : List Tap) → tap_named name ts ≡ None → is_among (names_of ts) name ≡ false
+pub absent-among : (name : List ℕ) (ts : List Tap) → tap_named name ts ≡ None → is_known (names_of ts) name ≡ false
 absent-among name [] e = refl
 absent-among name (u ∷ us) e =
-    elim (is_text name u.name) as (λ b. cond b (Some u) (tap_named name us) ≡ None → (b || is_among (names_of us) name) ≡ false) [
+    elim (is_text name u.name) as (λ b. cond b (Some u) (tap_named name us) ≡ None → (b || is_known (names_of us) name) ≡ false) [
       | true ↦ λ h. cc
       | false ↦ λ h. absent-among name us h
     ] e
@@ -115,7 +115,7 @@ pub record AreFew (pids : List (List ℕ)) : Type 0 where
   pub few : distinct_count is_text pids ≤ max_pids
 
 -- pids that are all among few are few
-pub few-within : (pids all : List (List ℕ)) → ((q : List ℕ) → is_among pids q ≡ true → is_among all q ≡ true) → AreFew all → AreFew pids
+pub few-within : (pids all : List (List ℕ)) → ((q : List ℕ) → is_known pids q ≡ true → is_known all q ≡ true) → AreFew all → AreFew pids
 few-within pids all within h =
     let (once, apart, is) = unique pids in
     let (once_all, apart_all, is_all) = unique all in
@@ -132,19 +132,19 @@ pids-begun ts name of =
 
 -- records for a tap bring the pids that they have more
 pub pids-with : (q name : List ℕ) (records : Records) (added : List (List ℕ)) (ts : List Tap) (t : Tap) → tap_named name ts ≡ Some t → pids_in records ≡ pids_in t.records ++ added
-    → is_among (pids_of (with_records name records ts)) q ≡ (is_among (pids_of ts) q || is_among added q)
+    → is_known (pids_of (with_records name records ts)) q ≡ (is_known (pids_of ts) q || is_known added q)
 pids-with q name records added [] t e more = cc
 pids-with q name records added (u ∷ us) t e more =
     elim (is_text name u.name) as (λ b. cond b (Some u) (tap_named name us) ≡ Some t
-    → is_among (pids_of (cond b (record u { records = records } ∷ us) (u ∷ with_records name records us))) q ≡ (is_among (pids_in u.records ++ pids_of us) q || is_among added q)) [
+    → is_known (pids_of (cond b (record u { records = records } ∷ us) (u ∷ with_records name records us))) q ≡ (is_known (pids_in u.records ++ pids_of us) q || is_known added q)) [
       | true ↦ λ h.
           let same = same_Some u t h in
-          rw (more, same) (simp (list_any-append) (last (is_among (pids_in t.records) q) (is_among added q) (is_among (pids_of us) q)))
+          rw (more, same) (simp (list_any-append) (last (is_known (pids_in t.records) q) (is_known added q) (is_known (pids_of us) q)))
       | false ↦ λ h.
           list_any-append (is_text q) (pids_in u.records) (pids_of (with_records name records us))
-          ∙ ap (λ b. is_among (pids_in u.records) q || b) (pids-with q name records added us t h more)
-          ∙ regroup (is_among (pids_in u.records) q) (is_among (pids_of us) q) (is_among added q)
-          ∙ ap (λ b. b || is_among added q) (sym (list_any-append (is_text q) (pids_in u.records) (pids_of us)))
+          ∙ ap (λ b. is_known (pids_in u.records) q || b) (pids-with q name records added us t h more)
+          ∙ regroup (is_known (pids_in u.records) q) (is_known (pids_of us) q) (is_known added q)
+          ∙ ap (λ b. b || is_known added q) (sym (list_any-append (is_text q) (pids_in u.records) (pids_of us)))
     ] e
   where
     last : (own more rest : Bool) → ((own || more) || rest) ≡ ((own || rest) || more)

@@ -11,7 +11,7 @@ use Rattle.aud_tap.specs.TapName.{is_tap_name}
 use Rattle.aud_reader.specs.declared.fault.InputCode.TheVariants.{LineTooLong, NoTapName}
 use Rattle.aud_reader.specs.Record.{cut_at_blank, json_of, opened_line}
 use Rattle.aud_reader.proofs.Lists.{need-ok}
-use Rattle.aud_order.specs.Order.{first_word, is_among, names_after}
+use Rattle.aud_order.specs.Order.{first_word, is_known, names_after}
 
 -- a line that opens begins with its tap's name
 pub opened-first_word : (line name : List ℕ) (d : Data) → opened_line line ≡ Ok (name, d) → first_word line ≡ name
@@ -27,20 +27,20 @@ opened-first_word line name d e =
 
 -- the known names, with this one
 abbrev pub with_name : List (List ℕ) → List ℕ → List (List ℕ)
-with_name known name = cond (is_among known name) known (known ++ name ∷ [])
+with_name known name = cond (is_known known name) known (known ++ name ∷ [])
 
 -- a name that is known stays so
-pub among-more : (known : List (List ℕ)) (other name : List ℕ) → is_among known name ≡ true → is_among (known ++ other ∷ []) name ≡ true
+pub among-more : (known : List (List ℕ)) (other name : List ℕ) → is_known known name ≡ true → is_known (known ++ other ∷ []) name ≡ true
 among-more known other name is = list_any-append (is_text name) known (other ∷ []) ∙ or_left _ _ is
 
 -- ---- the names that come first
 
 module _ (known : List (List ℕ)) (b : ℕ) (bs : List ℕ) (lines : List (List ℕ)) where
   -- a line of a known name is passed over
-  pub after-known : is_among known (first_word (b ∷ bs)) ≡ true → names_after known ((b ∷ bs) ∷ lines) ≡ names_after known lines
+  pub after-known : is_known known (first_word (b ∷ bs)) ≡ true → names_after known ((b ∷ bs) ∷ lines) ≡ names_after known lines
   after-known is = ap (λ v. cond v (names_after known lines) (first_word (b ∷ bs) ∷ names_after (known ++ first_word (b ∷ bs) ∷ []) lines)) is
 
   -- a line of a new name has it first
-  pub after-new : is_among known (first_word (b ∷ bs)) ≡ false
+  pub after-new : is_known known (first_word (b ∷ bs)) ≡ false
       → names_after known ((b ∷ bs) ∷ lines) ≡ first_word (b ∷ bs) ∷ names_after (known ++ first_word (b ∷ bs) ∷ []) lines
   after-new is = ap (λ v. cond v (names_after known lines) (first_word (b ∷ bs) ∷ names_after (known ++ first_word (b ∷ bs) ∷ []) lines)) is

@@ -20,15 +20,15 @@ abbrev pub lines_of_tap : List ℕ → List (List ℕ) → List (List ℕ)
 lines_of_tap name lines = filter (is_line_of name) lines
 
 -- the name is one of these
-abbrev pub is_among : List (List ℕ) → List ℕ → Bool
-is_among names name = list_any (is_text name) names
+abbrev pub is_known : List (List ℕ) → List ℕ → Bool
+is_known names name = list_any (is_text name) names
 
 -- the names that these lines are the first to begin with, in that order, where the known names were there before; lines without bytes have none
 abbrev pub names_after : List (List ℕ) → List (List ℕ) → List (List ℕ)
 names_after known [] = []
 names_after known ([] ∷ lines) = names_after known lines
 names_after known ((b ∷ line) ∷ lines) =
-    if is_among known (first_word (b ∷ line)) then names_after known lines
+    if is_known known (first_word (b ∷ line)) then names_after known lines
     else first_word (b ∷ line) ∷ names_after (known ++ first_word (b ∷ line) ∷ []) lines
 
 -- the names that lines begin with, each once, in the order in which they first come

@@ -4,7 +4,7 @@ ghost use Rattle.aud_reader.specs.declared.line.Line.{Line};
 ghost use Rattle.aud_reader.specs.Bundle.{taps_of};
 ghost use Rattle.aud_input.specs.declared.input.Layout.TheVariants.{Bundle};
 ghost use Rattle.aud_input.specs.Input.{input_of};
-ghost use Rattle.aud_order.specs.Order.{first_word, is_among, names_in, AreSameButForOrder, AreReadAlike, texts};
+ghost use Rattle.aud_order.specs.Order.{first_word, is_known, names_in, AreSameButForOrder, AreReadAlike, texts};
 ghost use Rattle.aud_order.specs.Inputs.{line_texts};
 ghost use Rattle.aud_options.specs.declared.choice.Mode.{Mode};
 ghost use Rattle.aud_options.specs.declared.choice.Mode.TheVariants.{Audit};
@@ -33,7 +33,7 @@ pub fn inputs_in_any_order()
 /// the same but for their order.
 pub fn neighbours_in_any_order()
     ensures { (before after : List (List ℕ)) (line other : List ℕ) → first_word line ≢ first_word other
-        → (is_among (names_in before) (first_word line) ≡ true) ⊎ (is_among (names_in before) (first_word other) ≡ true)
+        → (is_known (names_in before) (first_word line) ≡ true) ⊎ (is_known (names_in before) (first_word other) ≡ true)
         → AreSameButForOrder (before ++ line ∷ other ∷ after) (before ++ other ∷ line ∷ after) }
 {}
 
