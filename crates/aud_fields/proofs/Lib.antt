@@ -1,0 +1,5 @@
+mod Reading
+mod Passing
+mod Growing
+mod First
+pub mod Shown
