@@ -2,6 +2,7 @@ pub mod LinesLemmas
 pub mod Fronts
 pub mod SessionLemmas
 pub mod Lists
+pub mod ShownRecords
 pub mod TapNames
 pub mod ConnectionsLemmas
 pub mod TextsLemmas

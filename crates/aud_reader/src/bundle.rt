@@ -17,17 +17,20 @@ ghost use Rattle.aud_reader.specs.OwnLines.{HaveTheirOwnLines, EachLineIsOfOneTa
 
 use crate::fault::{LineFault, ReadFault, refuse};
 use crate::line::Line;
+use aud_fields::Scratch;
 use aud_tap::Taps;
 use open_taps::OpenTaps;
 use std::alloc::Global;
 use std::marker::Model;
 
-/// Reads the taps of the lines that it is given, one line at a time, and copies what it keeps.
+/// Reads the taps of the lines that it is given, one line at a time, and copies what it keeps. A line is read through
+/// memory that is kept from line to line, and that grows to the longest record.
 ///
 /// After a refusal, want of memory too, it gives that refusal from then on.
 #[derive(Drop)]
 pub struct BundleReader {
     taps: OpenTaps,
+    scratch: Scratch,
     fault: Option<ReadFault>,
 }
 
@@ -55,6 +58,7 @@ impl BundleReader {
     {
         BundleReader {
             taps: OpenTaps::new(alloc),
+            scratch: Scratch::new(alloc),
             fault: None,
         }
     }
@@ -73,7 +77,7 @@ impl BundleReader {
         if bytes.is_empty() {
             return Ok(());
         }
-        match self.taps.read_line(bytes) {
+        match self.taps.read_line(&mut self.scratch, bytes) {
             Ok(()) => Ok(()),
             Err(LineFault::Code(code)) => {
                 refuse(&mut self.fault, ReadFault::Input(line.number, code))

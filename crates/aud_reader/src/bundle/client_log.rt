@@ -1,6 +1,6 @@
 //! The records of a client tap, while they are read.
 ghost use Rattle.std.specs.Prelude.{◌≡◌, ◌∷◌, ◌++◌, [], Ok};
-ghost use Rattle.serde_json.specs.View.{view};
+ghost use Rattle.aud_fields.specs.View.{view};
 ghost use Rattle.aud_reader.specs.Connections.{may_follow};
 ghost use Rattle.aud_reader.specs.Private.Connected.{Connected};
 ghost use Rattle.aud_reader.specs.Steps.{Gives};
@@ -9,8 +9,8 @@ ghost use Rattle.aud_reader.specs.Bundle.{client_room, with_client_record};
 use super::node_log::MAX_RECORDS;
 use crate::fault::{FIELD, LIMIT, LineFault};
 use crate::read::client::client_record;
+use aud_fields::Fields;
 use aud_tap::{ClientRec, ClientRecs};
-use serde_json::Value;
 use std::alloc::Global;
 use std::marker::Model;
 
@@ -101,7 +101,7 @@ impl ClientLog {
 
     /// Adds the record of a line.
     #[tactic(auto, unfolding(crate::specs::Bundle::with_client_record))]
-    pub fn add(&mut self, kind: &str, d: &Value) -> Result<(), LineFault>
+    pub fn add(&mut self, kind: &str, d: &Fields<'_>) -> Result<(), LineFault>
         ensures { Becomes result self.new (with_client_record self.old kind.now (view d.now)) }
     {
         let rec = client_record(self.alloc, kind, d)?;

@@ -1,7 +1,7 @@
 //! The records of a node tap, while they are read.
 ghost use Rattle.std.specs.Prelude.{◌≡◌, ◌++◌, List, ℕ, OnOk, option_to_list};
 ghost use Rattle.std.specs.List.{filter_map};
-ghost use Rattle.serde_json.specs.View.{view};
+ghost use Rattle.aud_fields.specs.View.{view};
 ghost use Rattle.aud_reader.specs.Private.Changes.{Becomes};
 ghost use Rattle.aud_tap.specs.RecordFields.{pid_of};
 ghost use Rattle.aud_reader.specs.Bundle.{node_room, with_node_record};
@@ -11,8 +11,8 @@ ghost use Rattle.aud_reader.specs.Private.Texts.{HasPids};
 use super::pids::add_pid_of;
 use crate::fault::{LIMIT, LineFault};
 use crate::read::node::node_record;
+use aud_fields::Fields;
 use aud_tap::NodeRec;
-use serde_json::Value;
 use std::alloc::Global;
 use std::collections::HashSet;
 
@@ -42,7 +42,7 @@ pub fn add_node_record(
     records: &mut Vec<NodeRec>,
     pids: &mut HashSet<String>,
     kind: &str,
-    d: &Value,
+    d: &Fields<'_>,
 ) -> Result<(), LineFault>
     ensures records { (all : List (List ℕ)) → HasPids pids.old all
         → Becomes result records.new.items (with_node_record all records.old.items kind.now (view d.now)) }

@@ -1,7 +1,7 @@
 //! A tap, while it is read.
 ghost use Rattle.std.specs.Prelude.{◌≡◌, ◌++◌, List, ℕ, OnOk};
 ghost use Rattle.std.specs.List.{filter_map};
-ghost use Rattle.serde_json.specs.View.{view};
+ghost use Rattle.aud_fields.specs.View.{view};
 ghost use Rattle.aud_reader.specs.Private.Changes.{Becomes};
 ghost use Rattle.aud_tap.specs.RecordFields.{pid_of};
 ghost use Rattle.aud_reader.specs.Bundle.{no_records, pids_in, with_node_record, with_tap_record};
@@ -11,8 +11,8 @@ use super::client_log::ClientLog;
 use super::node_log::add_node_record;
 use super::stream_log::StreamLog;
 use crate::fault::LineFault;
+use aud_fields::Fields;
 use aud_tap::{NodeRec, NodeRecs, Records, Tap, TapKind, Text};
-use serde_json::Value;
 use std::alloc::Global;
 use std::collections::HashSet;
 
@@ -43,7 +43,7 @@ impl OpenLog {
         alloc: Global,
         pids: &mut HashSet<String>,
         kind: &str,
-        d: &Value,
+        d: &Fields<'_>,
     ) -> Result<(), LineFault>
         ensures records { (before after : List (List ℕ)) → HasPids pids.old (before ++ pids_in (records_so_far self.old) ++ after)
             → Becomes result (records_so_far self.new) (with_tap_record (before ++ pids_in (records_so_far self.old) ++ after) (records_so_far self.old) kind.now (view d.now)) }
@@ -94,7 +94,7 @@ impl OpenTap {
         alloc: Global,
         pids: &mut HashSet<String>,
         kind: &str,
-        d: &Value,
+        d: &Fields<'_>,
     ) -> Result<(), LineFault>
         ensures name { self.new.name ≡ self.old.name }
         ensures records { (before after : List (List ℕ)) → HasPids pids.old (before ++ pids_in (records_so_far self.old.log) ++ after)

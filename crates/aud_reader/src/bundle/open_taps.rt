@@ -1,7 +1,7 @@
 //! The taps of the lines so far.
 ghost use Rattle.std.specs.Prelude.{◌≡◌, ◌<◌, ◌∷◌, ◌++◌, [], List, ℕ, length, IfOk, OnOk, Ok, Some, None};
 ghost use Rattle.std.specs.HashMap.{get_by_text};
-ghost use Rattle.serde_json.specs.View.{view};
+ghost use Rattle.aud_fields.specs.View.{view};
 ghost use Rattle.aud_reader.specs.Private.Changes.{Becomes};
 ghost use Rattle.aud_reader.specs.Bundle.{no_records, with_header, with_line, with_named, with_value};
 
@@ -11,8 +11,8 @@ use crate::fault::{InputCode, LineFault};
 use crate::read::header::tap_header;
 use crate::read::line::opened_line;
 use crate::read::record::kind_of;
+use aud_fields::{Fields, Scratch};
 use aud_tap::{TapKind, Taps, Text};
-use serde_json::Value;
 use std::alloc::{AllocError, Global};
 use std::collections::{HashMap, HashSet};
 
@@ -65,7 +65,7 @@ impl OpenTaps {
 
     /// Reads the first line of a tap, which is its header.
     #[tactic(auto, unfolding(crate::specs::Bundle::with_header))]
-    fn begin(&mut self, name: &str, kind: &str, d: &Value) -> Result<(), LineFault>
+    fn begin(&mut self, name: &str, kind: &str, d: &Fields<'_>) -> Result<(), LineFault>
         requires keeps { KeepsTaps self.old }
         requires first { place_of (taps_so_far self.old) name.now ≡ None }
         ensures taps { Becomes result (taps_so_far self.new) (with_header (taps_so_far self.old) name.now kind.now (view d.now)) }
@@ -82,7 +82,7 @@ impl OpenTaps {
 
     /// Reads a later line of the tap at a place.
     #[tactic(auto, unfolding(crate::specs::Bundle::with_later))]
-    fn go_on(&mut self, place: usize, kind: &str, d: &Value) -> Result<(), LineFault>
+    fn go_on(&mut self, place: usize, kind: &str, d: &Fields<'_>) -> Result<(), LineFault>
         requires keeps { KeepsTaps self.old }
         requires place { place < length (taps_so_far self.old) }
         ensures taps { (name : List ℕ) → place_of (taps_so_far self.old) name ≡ Some place → Becomes result (taps_so_far self.new) (with_named (taps_so_far self.old) name kind.now (view d.now)) }
@@ -103,8 +103,8 @@ impl OpenTaps {
         self.places.get(name).copied()
     }
 
-    /// Reads the value of a line of the tap of this name.
-    fn read_value(&mut self, name: &str, d: &Value) -> Result<(), LineFault>
+    /// Reads the fields of a line of the tap of this name.
+    fn read_value(&mut self, name: &str, d: &Fields<'_>) -> Result<(), LineFault>
         requires { KeepsTaps self.old }
         ensures taps { Becomes result (taps_so_far self.new) (with_value (taps_so_far self.old) name.now (view d.now)) }
         ensures keeps { OnOk result (KeepsTaps self.new) }
@@ -116,14 +116,14 @@ impl OpenTaps {
         }
     }
 
-    /// Reads a line.
+    /// Reads a line, of which nothing is kept in the scratch.
     #[tactic(auto, unfolding(crate::specs::Bundle::with_line))]
-    pub fn read_line(&mut self, line: &[u8]) -> Result<(), LineFault>
+    pub fn read_line(&mut self, scratch: &mut Scratch, line: &[u8]) -> Result<(), LineFault>
         requires { KeepsTaps self.old }
         ensures taps { Becomes result (taps_so_far self.new) (with_line (taps_so_far self.old) line.now) }
         ensures keeps { OnOk result (KeepsTaps self.new) }
     {
-        let (name, d) = opened_line(self.alloc, line)?;
+        let (name, d) = opened_line(self.alloc, scratch, line)?;
         self.read_value(name, &d)
     }
 

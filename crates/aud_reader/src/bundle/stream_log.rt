@@ -1,7 +1,7 @@
 //! The entries of the stream, while they are read.
 ghost use Rattle.std.specs.Prelude.{◌≡◌, ◌<◌, ◌∷◌, ◌++◌, [], List, ℕ, length, not, vec_len, vec_capacity, OnOk, MatchResult};
 ghost use Rattle.std.specs.List.{list_any};
-ghost use Rattle.serde_json.specs.View.{view};
+ghost use Rattle.aud_fields.specs.View.{view};
 ghost use Rattle.aud_reader.specs.declared.fault.InputCode.TheVariants.{OffsetTwice};
 ghost use Rattle.aud_base.specs.Steps.{guard};
 ghost use Rattle.aud_reader.specs.Steps.{Gives};
@@ -12,8 +12,8 @@ ghost use Rattle.aud_reader.specs.Bundle.{entry_room, with_entry, with_new_entry
 
 use crate::fault::{InputCode, LIMIT, LineFault};
 use crate::read::stream::stream_record;
+use aud_fields::Fields;
 use aud_tap::{StreamRec, StreamRecs};
-use serde_json::Value;
 use std::alloc::Global;
 use std::collections::HashSet;
 use std::marker::Model;
@@ -108,7 +108,7 @@ impl StreamLog {
 
     /// Adds the entry of a line.
     #[tactic(auto, unfolding(crate::specs::Bundle::with_entry))]
-    pub fn add(&mut self, kind: &str, d: &Value) -> Result<(), LineFault>
+    pub fn add(&mut self, kind: &str, d: &Fields<'_>) -> Result<(), LineFault>
         ensures { Becomes result self.new (with_entry self.old kind.now (view d.now)) }
     {
         let entry = stream_record(self.alloc, kind, d)?;

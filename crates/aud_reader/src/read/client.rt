@@ -1,15 +1,15 @@
 //! The records of a client tap.
-ghost use Rattle.serde_json.specs.View.{view};
+ghost use Rattle.aud_fields.specs.View.{view};
 ghost use Rattle.aud_reader.specs.Steps.{Gives};
 ghost use Rattle.aud_reader.specs.ClientRecord.{message_of, client_record_of};
 
 use super::fields::{bytes_at, copied, number_at, text_at};
 use crate::fault::{LineFault, UNKNOWN_KIND};
+use aud_fields::Fields;
 use aud_tap::{ClientRec, Text};
-use serde_json::Value;
 use std::alloc::Global;
 
-fn message(alloc: Global, d: &Value) -> Result<Text, LineFault>
+fn message(alloc: Global, d: &Fields<'_>) -> Result<Text, LineFault>
     ensures { Gives result (message_of (view d.now)) }
 {
     let t = text_at("t", d)?;
@@ -18,7 +18,7 @@ fn message(alloc: Global, d: &Value) -> Result<Text, LineFault>
 
 /// The client's record of this kind.
 #[tactic(auto, unfolding(crate::specs::ClientRecord::client_record_of))]
-pub fn client_record(alloc: Global, kind: &str, d: &Value) -> Result<ClientRec, LineFault>
+pub fn client_record(alloc: Global, kind: &str, d: &Fields<'_>) -> Result<ClientRec, LineFault>
     ensures { Gives result (client_record_of kind.now (view d.now)) }
 {
     match kind {

@@ -1,6 +1,6 @@
 //! The fields of a JSON object, by their types and forms.
 ghost use Rattle.std.specs.Prelude.{◌≡◌, ◌&&◌, Ok, IfOk, IfSome, IsTrue, MatchResult, option_map};
-ghost use Rattle.serde_json.specs.View.{view, items_view};
+ghost use Rattle.aud_fields.specs.View.{field_view, list_view, text_view, view};
 ghost use Rattle.serde_json.specs.Find.{as_str};
 ghost use Rattle.aud_reader.specs.declared.fault.InputCode.TheVariants.{Field};
 ghost use Rattle.aud_base.specs.Steps.{need};
@@ -13,11 +13,11 @@ ghost use Rattle.aud_reader.specs.Fields.{id_or_null, id_or_null_at, decoded, as
 ghost use Rattle.aud_reader.specs.Fields.{all_items, texts_at, blobs_at};
 
 use crate::fault::{FIELD, LIMIT, LineFault};
+use aud_fields::{Field as Member, Fields};
 use aud_tap::limits::fits;
 use aud_tap::{Blobs, Bytes, Text, Texts, is_id, is_namespace};
 use base64::DecodeAllocError;
 use base64::engine::general_purpose::STANDARD;
-use serde_json::Value;
 use std::alloc::{AllocError, Global};
 
 /// A copy of a text that is lent.
@@ -44,20 +44,20 @@ pub fn copies(
 }
 
 /// A whole number.
-pub fn number_at(key: &str, d: &Value) -> Result<u64, LineFault>
+pub fn number_at(key: &str, d: &Fields<'_>) -> Result<u64, LineFault>
     ensures { Gives result (need Field (number_at key.now (view d.now))) }
 {
-    d.get(key).and_then(Value::as_u64).ok_or(FIELD)
+    d.get(key).and_then(Member::as_u64).ok_or(FIELD)
 }
 
-fn text_in<'v>(key: &str, d: &'v Value) -> Option<&'v str>
+fn text_in<'a>(key: &str, d: &Fields<'a>) -> Option<&'a str>
     ensures { option_map (λ s. s.now) result ≡ text_at key.now (view d.now) }
 {
-    d.get(key).and_then(Value::as_str)
+    d.get(key).and_then(Member::as_str)
 }
 
 /// A text.
-pub fn text_at<'v>(key: &str, d: &'v Value) -> Result<&'v str, LineFault>
+pub fn text_at<'a>(key: &str, d: &Fields<'a>) -> Result<&'a str, LineFault>
     ensures { MatchResult result
         (λ s. need Field (text_at key.now (view d.now)) ≡ Ok s.now)
         (λ e. Fails e (need Field (text_at key.now (view d.now)))) }
@@ -66,7 +66,7 @@ pub fn text_at<'v>(key: &str, d: &'v Value) -> Result<&'v str, LineFault>
 }
 
 /// A pid, a sid or an offset.
-pub fn id_at<'v>(key: &str, d: &'v Value) -> Result<&'v str, LineFault>
+pub fn id_at<'a>(key: &str, d: &Fields<'a>) -> Result<&'a str, LineFault>
     ensures value { MatchResult result
         (λ s. need Field (id_at key.now (view d.now)) ≡ Ok s.now)
         (λ e. Fails e (need Field (id_at key.now (view d.now)))) }
@@ -80,7 +80,12 @@ pub fn id_at<'v>(key: &str, d: &'v Value) -> Result<&'v str, LineFault>
 
 /// A copy of a pid, a sid or an offset of at most so many bytes.
 #[tactic(auto, unfolding(crate::specs::Fields::bounded_id_at))]
-pub fn bounded_id_at(alloc: Global, most: usize, key: &str, d: &Value) -> Result<Text, LineFault>
+pub fn bounded_id_at(
+    alloc: Global,
+    most: usize,
+    key: &str,
+    d: &Fields<'_>,
+) -> Result<Text, LineFault>
     ensures reads { Gives result (bounded_id_at most key.now (view d.now)) }
     ensures formed { IfOk result (λ id. IsTrue (is_id id && fits most id)) }
 {
@@ -92,7 +97,7 @@ pub fn bounded_id_at(alloc: Global, most: usize, key: &str, d: &Value) -> Result
 }
 
 /// A namespace.
-pub fn namespace_at<'v>(key: &str, d: &'v Value) -> Result<&'v str, LineFault>
+pub fn namespace_at<'a>(key: &str, d: &Fields<'a>) -> Result<&'a str, LineFault>
     ensures value { MatchResult result
         (λ s. need Field (namespace_at key.now (view d.now)) ≡ Ok s.now)
         (λ e. Fails e (need Field (namespace_at key.now (view d.now)))) }
@@ -104,8 +109,8 @@ pub fn namespace_at<'v>(key: &str, d: &'v Value) -> Result<&'v str, LineFault>
     }
 }
 
-fn id_or_null(d: &Value) -> Option<Option<&str>>
-    ensures value { option_map (option_map (λ s. s.now)) result ≡ id_or_null (view d.now) }
+fn id_or_null<'a>(d: &Member<'a>) -> Option<Option<&'a str>>
+    ensures value { option_map (option_map (λ s. s.now)) result ≡ id_or_null (field_view d.now) }
     ensures form { IfSome result (λ o. IfSome o (λ s. IsTrue (is_id s.now))) }
 {
     if d.is_null() {
@@ -118,7 +123,7 @@ fn id_or_null(d: &Value) -> Option<Option<&str>>
 }
 
 /// An offset, or null for none.
-pub fn id_or_null_at<'v>(key: &str, d: &'v Value) -> Option<Option<&'v str>>
+pub fn id_or_null_at<'a>(key: &str, d: &Fields<'a>) -> Option<Option<&'a str>>
     ensures value { option_map (option_map (λ s. s.now)) result ≡ id_or_null_at key.now (view d.now) }
     ensures form { IfSome result (λ o. IfSome o (λ s. IsTrue (is_id s.now))) }
 {
@@ -136,68 +141,77 @@ fn decoded(alloc: Global, text: &str) -> Result<Bytes, LineFault>
     }
 }
 
-fn as_blob(alloc: Global, d: &Value) -> Result<Bytes, LineFault>
-    ensures { Gives result (need Field (as_blob (view d.now))) }
+fn as_blob(alloc: Global, d: &Member<'_>) -> Result<Bytes, LineFault>
+    ensures { Gives result (need Field (as_blob (field_view d.now))) }
 {
     let text = d.as_str().ok_or(FIELD)?;
     decoded(alloc, text)
 }
 
 /// Bytes, as a text in base64.
-pub fn bytes_at(alloc: Global, key: &str, d: &Value) -> Result<Bytes, LineFault>
+pub fn bytes_at(alloc: Global, key: &str, d: &Fields<'_>) -> Result<Bytes, LineFault>
     ensures { Gives result (need Field (bytes_at key.now (view d.now))) }
 {
     let d = d.get(key).ok_or(FIELD)?;
     as_blob(alloc, d)
 }
 
-fn as_text(alloc: Global, d: &Value) -> Result<Text, LineFault>
-    ensures { Gives result (need Field (as_str (view d.now))) }
+/// A copy of the text that an item is.
+fn item_text(alloc: Global, item: Option<&str>) -> Result<Text, LineFault>
+    ensures { Gives result (need Field (as_str (text_view item.entry))) }
 {
-    let text = d.as_str().ok_or(FIELD)?;
+    let text = item.ok_or(FIELD)?;
     Ok(copied(alloc, text)?)
 }
 
-fn texts(alloc: Global, items: &[Value]) -> Result<Texts, LineFault>
-    ensures { Gives result (need Field (all_items as_str (items_view items.now))) }
+fn texts(alloc: Global, items: &[Option<&str>]) -> Result<Texts, LineFault>
+    ensures { Gives result (need Field (all_items as_str (list_view items.now))) }
 {
     let mut texts = Vec::new(alloc);
-    for d in items {
-        let text = as_text(alloc, d)?;
+    for item in items {
+        let text = item_text(alloc, *item)?;
         texts.push(text)?;
     }
     Ok(Texts::new(texts))
 }
 
 /// A list of texts, empty where it is absent.
-pub fn texts_at(alloc: Global, key: &str, d: &Value) -> Result<Texts, LineFault>
+pub fn texts_at(alloc: Global, key: &str, d: &Fields<'_>) -> Result<Texts, LineFault>
     ensures { Gives result (need Field (texts_at key.now (view d.now))) }
 {
     let Some(list) = d.get(key) else {
         return Ok(Texts::new(Vec::new(alloc)));
     };
-    let items = list.as_array().ok_or(FIELD)?;
+    let items = list.as_list().ok_or(FIELD)?;
     texts(alloc, items)
 }
 
-fn blobs(alloc: Global, items: &[Value]) -> Result<Blobs, LineFault>
-    ensures { Gives result (need Field (all_items as_blob (items_view items.now))) }
+/// The bytes that an item spells in base64.
+fn item_bytes(alloc: Global, item: Option<&str>) -> Result<Bytes, LineFault>
+    ensures { Gives result (need Field (as_blob (text_view item.entry))) }
+{
+    let text = item.ok_or(FIELD)?;
+    decoded(alloc, text)
+}
+
+fn blobs(alloc: Global, items: &[Option<&str>]) -> Result<Blobs, LineFault>
+    ensures { Gives result (need Field (all_items as_blob (list_view items.now))) }
 {
     let mut blobs = Vec::new(alloc);
-    for d in items {
-        let bytes = as_blob(alloc, d)?;
+    for item in items {
+        let bytes = item_bytes(alloc, *item)?;
         blobs.push(bytes)?;
     }
     Ok(Blobs::new(blobs))
 }
 
 /// A list of texts in base64, empty where it is absent.
-pub fn blobs_at(alloc: Global, key: &str, d: &Value) -> Result<Blobs, LineFault>
+pub fn blobs_at(alloc: Global, key: &str, d: &Fields<'_>) -> Result<Blobs, LineFault>
     ensures { Gives result (need Field (blobs_at key.now (view d.now))) }
 {
     let Some(list) = d.get(key) else {
         return Ok(Blobs::new(Vec::new(alloc)));
     };
-    let items = list.as_array().ok_or(FIELD)?;
+    let items = list.as_list().ok_or(FIELD)?;
     blobs(alloc, items)
 }

@@ -1,13 +1,13 @@
 //! The header of a tap.
 ghost use Rattle.std.specs.Prelude.{◌≡◌};
-ghost use Rattle.serde_json.specs.View.{view};
+ghost use Rattle.aud_fields.specs.View.{view};
 ghost use Rattle.aud_reader.specs.Steps.{Gives};
 ghost use Rattle.aud_reader.specs.Header.{tap_kind, header_of};
 
 use super::fields::{number_at, text_at};
 use crate::fault::{InputCode, LineFault, UNKNOWN_KIND};
+use aud_fields::Fields;
 use aud_tap::TapKind;
-use serde_json::Value;
 
 fn tap_kind(word: &str) -> Option<TapKind>
     ensures { result ≡ tap_kind word.now }
@@ -22,7 +22,7 @@ fn tap_kind(word: &str) -> Option<TapKind>
 
 /// What the tap of a header was put on.
 #[tactic(auto, unfolding(crate::specs::Header::header_of))]
-pub fn tap_header(d: &Value) -> Result<TapKind, LineFault>
+pub fn tap_header(d: &Fields<'_>) -> Result<TapKind, LineFault>
     ensures { Gives result (header_of (view d.now)) }
 {
     let v = number_at("v", d)?;

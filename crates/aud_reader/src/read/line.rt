@@ -1,6 +1,8 @@
 //! A line: a tap's name, a blank, and a record in JSON.
 ghost use Rattle.std.specs.Prelude.{◌≡◌, Ok, IfOk, IfErr, IsTrue, MatchResult, string_bytes};
-ghost use Rattle.serde_json.specs.View.{view};
+ghost use Rattle.serde_json.specs.Data.{Data};
+ghost use Rattle.aud_fields.specs.Shown.{shown};
+ghost use Rattle.aud_fields.specs.View.{view};
 ghost use Rattle.aud_reader.specs.Steps.{Fails, IsRefusal};
 ghost use Rattle.aud_tap.specs.WellFormed.{is_well_formed};
 ghost use Rattle.aud_tap.specs.TapName.{is_tap_name};
@@ -10,9 +12,9 @@ use super::record::value_record;
 use super::tap_name::{cut_at_blank, tap_name};
 use crate::fault::{InputCode, LineFault, ReadFault};
 use crate::line::Line;
+use aud_fields::{Fields, FieldsFault, Scratch};
 use aud_tap::Rec;
 use aud_tap::limits::MAX_LINE;
-use serde_json::{Category, Value};
 use std::alloc::Global;
 
 const LINE_TOO_LONG: LineFault = LineFault::Code(InputCode::LineTooLong);
@@ -21,26 +23,35 @@ const NO_TAP_NAME: LineFault = LineFault::Code(InputCode::NoTapName);
 
 const NOT_JSON: LineFault = LineFault::Code(InputCode::NotJson);
 
-/// The value of JSON text.
-fn json(alloc: Global, bytes: &[u8]) -> Result<Value, LineFault>
+/// The fields of JSON text, lent from it and from the scratch.
+fn json<'a>(
+    alloc: Global,
+    scratch: &'a mut Scratch,
+    bytes: &'a [u8],
+) -> Result<Fields<'a>, LineFault>
     ensures { MatchResult result
-        (λ v. json_of bytes.now ≡ Ok (view v))
+        (λ fields. (d : Data) × (json_of bytes.now ≡ Ok d) × (shown d ≡ view fields))
         (λ e. Fails e (json_of bytes.now)) }
 {
-    match Value::from_slice(alloc, bytes) {
-        Ok(value) => Ok(value),
-        Err(e) => match e.classify() {
-            Category::Memory => Err(LineFault::Memory),
-            _ => Err(NOT_JSON),
-        },
+    let Ok(text) = str::from_utf8(bytes) else {
+        return Err(NOT_JSON);
+    };
+    match Fields::read(alloc, text, scratch) {
+        Ok(fields) => Ok(fields),
+        Err(FieldsFault::Memory) => Err(LineFault::Memory),
+        Err(FieldsFault::NotJson) => Err(NOT_JSON),
     }
 }
 
-/// The tap's name, lent, and the JSON value after it.
+/// The tap's name and the fields of the JSON value after it, lent from the line and from the scratch.
 #[tactic(auto, unfolding(crate::specs::Record::opened_line))]
-pub fn opened_line(alloc: Global, line: &[u8]) -> Result<(&str, Value), LineFault>
+pub fn opened_line<'a>(
+    alloc: Global,
+    scratch: &'a mut Scratch,
+    line: &'a [u8],
+) -> Result<(&'a str, Fields<'a>), LineFault>
     ensures reads { MatchResult result
-        (λ p. opened_line line.now ≡ Ok (p.0.now, view p.1))
+        (λ p. (d : Data) × (opened_line line.now ≡ Ok (p.0.now, d)) × (shown d ≡ view p.1))
         (λ e. Fails e (opened_line line.now)) }
     ensures name { IfOk result (λ p. IsTrue (is_tap_name p.0.now)) }
 {
@@ -49,12 +60,16 @@ pub fn opened_line(alloc: Global, line: &[u8]) -> Result<(&str, Value), LineFaul
     }
     let (name, text) = cut_at_blank(line).ok_or(NO_TAP_NAME)?;
     let name = tap_name(name).ok_or(NO_TAP_NAME)?;
-    let d = json(alloc, text)?;
+    let d = json(alloc, scratch, text)?;
     Ok((name, d))
 }
 
-/// The name, copied, and the record of the value after it.
-fn named_record(alloc: Global, name: &str, d: &Value) -> Result<(String, Rec), LineFault>
+/// The name, copied, and the record of the fields after it.
+fn named_record(
+    alloc: Global,
+    name: &str,
+    d: &Fields<'_>,
+) -> Result<(String, Rec), LineFault>
     ensures reads { MatchResult result
         (λ p. (string_bytes p.0 ≡ name.now) × (value_record (view d.now) ≡ Ok p.1))
         (λ e. Fails e (value_record (view d.now))) }
@@ -65,14 +80,18 @@ fn named_record(alloc: Global, name: &str, d: &Value) -> Result<(String, Rec), L
 }
 
 #[tactic(auto, unfolding(crate::specs::Record::line_record))]
-fn parse(alloc: Global, line: &[u8]) -> Result<(String, Rec), LineFault>
+fn parse(
+    alloc: Global,
+    scratch: &mut Scratch,
+    line: &[u8],
+) -> Result<(String, Rec), LineFault>
     ensures reads { MatchResult result
         (λ p. line_record line.now ≡ Ok (string_bytes p.0, p.1))
         (λ e. Fails e (line_record line.now)) }
     ensures name { IfOk result (λ p. IsTrue (is_tap_name (string_bytes p.0))) }
     ensures record { IfOk result (λ p. IsTrue (is_well_formed p.1)) }
 {
-    let (name, d) = opened_line(alloc, line)?;
+    let (name, d) = opened_line(alloc, scratch, line)?;
     named_record(alloc, name, &d)
 }
 
@@ -90,7 +109,8 @@ pub fn parse_line(alloc: Global, line: &Line) -> Result<(String, Rec), ReadFault
     ensures name { IfOk result (λ p. IsTrue (is_tap_name (string_bytes p.0))) }
     ensures record { IfOk result (λ p. IsTrue (is_well_formed p.1)) }
 {
-    match parse(alloc, line.bytes.as_slice()) {
+    let mut scratch = Scratch::new(alloc);
+    match parse(alloc, &mut scratch, line.bytes.as_slice()) {
         Ok(read) => Ok(read),
         Err(LineFault::Code(code)) => Err(ReadFault::Input(line.number, code)),
         Err(LineFault::Memory) => Err(ReadFault::Memory),

@@ -1,6 +1,6 @@
 //! The records of a node tap.
 ghost use Rattle.std.specs.Prelude.{◌&&◌, nat_le, IfOk, IsTrue};
-ghost use Rattle.serde_json.specs.View.{view};
+ghost use Rattle.aud_fields.specs.View.{view};
 ghost use Rattle.aud_tap.specs.Limits.{max_turn};
 ghost use Rattle.aud_tap.specs.WellFormed.{is_session_id, is_room, node_is_well_formed};
 ghost use Rattle.aud_reader.specs.Steps.{Gives};
@@ -10,13 +10,13 @@ use super::fields::{
     bounded_id_at, copied, copies, id_at, id_or_null_at, namespace_at, number_at, text_at,
 };
 use crate::fault::{FIELD, LIMIT, LineFault, UNKNOWN_KIND};
+use aud_fields::Fields;
 use aud_tap::limits::{MAX_ID, MAX_NAMESPACE, MAX_OFFSET, MAX_ROOM, fits};
 use aud_tap::{NodeRec, Text};
-use serde_json::Value;
 use std::alloc::Global;
 
 #[tactic(auto, unfolding(crate::specs::NodeRecord::start_of))]
-fn start(alloc: Global, d: &Value) -> Result<NodeRec, LineFault>
+fn start(alloc: Global, d: &Fields<'_>) -> Result<NodeRec, LineFault>
     ensures reads { Gives result (start_of (view d.now)) }
     ensures formed { IfOk result (λ rec. IsTrue (node_is_well_formed rec)) }
 {
@@ -33,7 +33,7 @@ fn start(alloc: Global, d: &Value) -> Result<NodeRec, LineFault>
 }
 
 #[tactic(auto, unfolding(crate::specs::NodeRecord::open_of))]
-fn open(alloc: Global, d: &Value) -> Result<NodeRec, LineFault>
+fn open(alloc: Global, d: &Fields<'_>) -> Result<NodeRec, LineFault>
     ensures reads { Gives result (open_of (view d.now)) }
     ensures formed { IfOk result (λ rec. IsTrue (node_is_well_formed rec)) }
 {
@@ -49,7 +49,7 @@ fn open(alloc: Global, d: &Value) -> Result<NodeRec, LineFault>
 
 /// A pid and a room.
 #[tactic(auto, unfolding(crate::specs::NodeRecord::member_of))]
-fn member(alloc: Global, d: &Value) -> Result<(Text, Text), LineFault>
+fn member(alloc: Global, d: &Fields<'_>) -> Result<(Text, Text), LineFault>
     ensures reads { Gives result (member_of (view d.now)) }
     ensures formed { IfOk result (λ m. IsTrue (is_session_id m.0 && is_room m.1)) }
 {
@@ -63,7 +63,7 @@ fn member(alloc: Global, d: &Value) -> Result<(Text, Text), LineFault>
 
 /// A pid and the number of a turn.
 #[tactic(auto, unfolding(crate::specs::NodeRecord::pid_and_turn))]
-fn turn(alloc: Global, d: &Value) -> Result<(Text, u16), LineFault>
+fn turn(alloc: Global, d: &Fields<'_>) -> Result<(Text, u16), LineFault>
     ensures reads { Gives result (pid_and_turn (view d.now)) }
     ensures formed { IfOk result (λ t. IsTrue (is_session_id t.0 && nat_le t.1 max_turn)) }
 {
@@ -80,7 +80,7 @@ fn turn(alloc: Global, d: &Value) -> Result<(Text, u16), LineFault>
 
 /// The node's record of this kind.
 #[tactic(auto, unfolding(crate::specs::NodeRecord::node_record_of))]
-pub fn node_record(alloc: Global, kind: &str, d: &Value) -> Result<NodeRec, LineFault>
+pub fn node_record(alloc: Global, kind: &str, d: &Fields<'_>) -> Result<NodeRec, LineFault>
     ensures reads { Gives result (node_record_of kind.now (view d.now)) }
     ensures formed { IfOk result (λ rec. IsTrue (node_is_well_formed rec)) }
 {

@@ -1,6 +1,6 @@
 //! The record of a JSON value, by its kind.
 ghost use Rattle.std.specs.Prelude.{◌≡◌, Ok, IfOk, IsTrue, MatchResult};
-ghost use Rattle.serde_json.specs.View.{view};
+ghost use Rattle.aud_fields.specs.View.{view};
 ghost use Rattle.aud_reader.specs.Steps.{Gives, Fails};
 ghost use Rattle.aud_tap.specs.WellFormed.{is_well_formed};
 ghost use Rattle.aud_reader.specs.Record.{client_kinds, is_one_of, node_kinds, stream_kinds};
@@ -12,8 +12,8 @@ use super::header::tap_header;
 use super::node::node_record;
 use super::stream::stream_record;
 use crate::fault::{LineFault, UNKNOWN_KIND};
+use aud_fields::Fields;
 use aud_tap::{Rec, TapKind};
-use serde_json::Value;
 use std::alloc::Global;
 
 fn is_stream_kind(kind: &str) -> bool
@@ -55,7 +55,7 @@ fn tap_of_kind(kind: &str) -> Option<TapKind>
 
 /// The record of this kind in a tap that was put on `of`.
 #[tactic(auto, unfolding(crate::specs::Record::record_in))]
-fn record_in(alloc: Global, of: TapKind, kind: &str, d: &Value) -> Result<Rec, LineFault>
+fn record_in(alloc: Global, of: TapKind, kind: &str, d: &Fields<'_>) -> Result<Rec, LineFault>
     ensures reads { Gives result (record_in of kind.now (view d.now)) }
     ensures formed { IfOk result (λ rec. IsTrue (is_well_formed rec)) }
 {
@@ -68,7 +68,7 @@ fn record_in(alloc: Global, of: TapKind, kind: &str, d: &Value) -> Result<Rec, L
 
 /// A header, or the record of this kind in whichever tap has it.
 #[tactic(auto, unfolding(crate::specs::Record::record_of))]
-fn record(alloc: Global, kind: &str, d: &Value) -> Result<Rec, LineFault>
+fn record(alloc: Global, kind: &str, d: &Fields<'_>) -> Result<Rec, LineFault>
     ensures reads { Gives result (record_of kind.now (view d.now)) }
     ensures formed { IfOk result (λ rec. IsTrue (is_well_formed rec)) }
 {
@@ -81,7 +81,7 @@ fn record(alloc: Global, kind: &str, d: &Value) -> Result<Rec, LineFault>
 }
 
 /// What an object says that it is.
-pub fn kind_of(d: &Value) -> Result<&str, LineFault>
+pub fn kind_of<'a>(d: &Fields<'a>) -> Result<&'a str, LineFault>
     ensures { MatchResult result
         (λ k. kind_named (view d.now) ≡ Ok k.now)
         (λ e. Fails e (kind_named (view d.now))) }
@@ -91,7 +91,7 @@ pub fn kind_of(d: &Value) -> Result<&str, LineFault>
 
 /// The record of a value, by what it says that it is.
 #[tactic(auto, unfolding(crate::specs::Record::value_record))]
-pub fn value_record(alloc: Global, d: &Value) -> Result<Rec, LineFault>
+pub fn value_record(alloc: Global, d: &Fields<'_>) -> Result<Rec, LineFault>
     ensures reads { Gives result (value_record (view d.now)) }
     ensures formed { IfOk result (λ rec. IsTrue (is_well_formed rec)) }
 {

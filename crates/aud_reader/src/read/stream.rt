@@ -1,6 +1,6 @@
 //! The records of a stream tap.
 ghost use Rattle.std.specs.Prelude.{◌≡◌, ◌&&◌, nat_le, length, IfOk, IsTrue};
-ghost use Rattle.serde_json.specs.View.{view};
+ghost use Rattle.aud_fields.specs.View.{view};
 ghost use Rattle.aud_tap.specs.Limits.{fit_rooms, max_attachments};
 ghost use Rattle.aud_tap.specs.Forms.{is_id, is_namespace};
 ghost use Rattle.aud_tap.specs.WellFormed.{stream_is_well_formed};
@@ -9,9 +9,9 @@ ghost use Rattle.aud_reader.specs.StreamRecord.{bounded_event, event_of, lists_o
 
 use super::fields::{blobs_at, bounded_id_at, copies, id_at, namespace_at, text_at, texts_at};
 use crate::fault::{LIMIT, LineFault, UNKNOWN_KIND};
+use aud_fields::Fields;
 use aud_tap::limits::{MAX_ATTACHMENTS, MAX_NAMESPACE, MAX_OFFSET, fit_rooms, fits};
 use aud_tap::{Blobs, Event, StreamRec, Texts};
-use serde_json::Value;
 use std::alloc::{AllocError, Global};
 
 /// The rooms that an event is for, those that are excepted, and its attachments.
@@ -29,7 +29,7 @@ fn lists_fit(lists: &Lists) -> bool
 
 /// The lists of an event.
 #[tactic(auto, unfolding(crate::specs::StreamRecord::lists_of))]
-fn lists(alloc: Global, d: &Value) -> Result<Lists, LineFault>
+fn lists(alloc: Global, d: &Fields<'_>) -> Result<Lists, LineFault>
     ensures { Gives result (lists_of (view d.now)) }
 {
     let rooms = texts_at(alloc, "rooms", d)?;
@@ -79,7 +79,7 @@ fn bounded_event(
 }
 
 #[tactic(auto, unfolding(crate::specs::StreamRecord::event_of))]
-fn event(alloc: Global, d: &Value) -> Result<StreamRec, LineFault>
+fn event(alloc: Global, d: &Fields<'_>) -> Result<StreamRec, LineFault>
     ensures reads { Gives result (event_of (view d.now)) }
     ensures formed { IfOk result (λ rec. IsTrue (stream_is_well_formed rec)) }
 {
@@ -92,7 +92,7 @@ fn event(alloc: Global, d: &Value) -> Result<StreamRec, LineFault>
 
 /// The stream's record of this kind.
 #[tactic(auto, unfolding(crate::specs::StreamRecord::stream_record_of))]
-pub fn stream_record(alloc: Global, kind: &str, d: &Value) -> Result<StreamRec, LineFault>
+pub fn stream_record(alloc: Global, kind: &str, d: &Fields<'_>) -> Result<StreamRec, LineFault>
     ensures reads { Gives result (stream_record_of kind.now (view d.now)) }
     ensures formed { IfOk result (λ rec. IsTrue (stream_is_well_formed rec)) }
 {

@@ -4,12 +4,12 @@ use Rattle.std.proofs.lemmas.Result.{err_from_is_err_and}
 use Rattle.aud_reader.proofs.Lists.{each-some, each-none, need-ok}
 use Rattle.aud_reader.proofs.read.fields.texts.Goals as goal
 
-pub loop-d-preserved : goal.loop-d-preserved
-loop-d-preserved c =
+pub loop-item-preserved : goal.loop-item-preserved
+loop-item-preserved c =
     let is = need-ok _ _ _ c.in_ok-text.ensures in
-    rw c.in_ok-push.ensures.items (each-some as_str _ _ _ _ c.loop-d.texts.items c.loop-d-test.true c.d-item.is is ∙ c.loop-d.invariant)
+    rw c.in_ok-push.ensures.items (each-some as_str _ _ _ _ c.loop-item.texts.items c.loop-item-test.true is ∙ c.loop-item.invariant)
 
 pub returns-in_err-text : goal.returns-in_err-text
 returns-in_err-text c =
     let refused = err_from_is_err_and c.from_residual.result c.from_residual.ensures.1 in
-    rw (refused.1, refused.2) (each-none as_str _ _ _ c.loop-d.texts.items _ _ c.loop-d-test.true c.d-item.is c.loop-d.invariant c.in_err-text.ensures)
+    rw (refused.1, refused.2) (each-none as_str _ _ _ c.loop-item.texts.items _ _ c.loop-item-test.true c.loop-item.invariant c.in_err-text.ensures)

@@ -1,12 +1,23 @@
+use Rattle.std.proofs.Common.{◌≡◌, ap, ◌∙◌, sym, arith}
+use Rattle.serde_json.specs.Read.{read}
 use Rattle.aud_reader.specs.declared.fault.InputCode.TheVariants.{NotJson}
 use Rattle.aud_reader.specs.Record.{json_of}
 use Rattle.aud_tap.proofs.Json.{json_or-read, json_or-refused}
 use Rattle.aud_reader.proofs.read.line.json.Goals as goal
 
-pub returns-in-Ok : goal.returns-in-Ok
-unfolding json_of
-returns-in-Ok c = json_or-read NotJson _ _ c.in-Ok.ensures.ok
-
 pub returns-in_default : goal.returns-in_default
 unfolding json_of
-returns-in_default c = json_or-refused NotJson _ (c.in-Err.ensures.err (λ m. c.in_default.not-Memory (c.classify.ensures.memory.1 m)))
+returns-in_default c = json_or-refused NotJson _ (λ utf8. absurd (c.in_default.ensures.cases.0 utf8))
+
+pub returns-in-Ok-read : goal.returns-in-Ok-read
+unfolding json_of
+returns-in-Ok-read c =
+    let text = c.in-Ok.ensures.cases in
+    let found = c.in-Ok-read.ensures.shows in
+    (found.0, json_or-read NotJson _ found.0 (text.1, ap read (sym text.0) ∙ found.1), found.2)
+
+pub returns-in-Err-NotJson : goal.returns-in-Err-NotJson
+unfolding json_of
+returns-in-Err-NotJson c =
+    let text = c.in-Ok.ensures.cases in
+    json_or-refused NotJson _ (λ utf8. ap read (sym text.0) ∙ c.in-Err-NotJson.ensures.refused (grind arith))
