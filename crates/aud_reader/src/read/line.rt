@@ -65,11 +65,7 @@ pub fn opened_line<'a>(
 }
 
 /// The name, copied, and the record of the fields after it.
-fn named_record(
-    alloc: Global,
-    name: &str,
-    d: &Fields<'_>,
-) -> Result<(String, Rec), LineFault>
+fn named_record(alloc: Global, name: &str, d: &Fields<'_>) -> Result<(String, Rec), LineFault>
     ensures reads { MatchResult result
         (λ p. (string_bytes p.0 ≡ name.now) × (value_record (view d.now) ≡ Ok p.1))
         (λ e. Fails e (value_record (view d.now))) }
@@ -80,11 +76,7 @@ fn named_record(
 }
 
 #[tactic(auto, unfolding(crate::specs::Record::line_record))]
-fn parse(
-    alloc: Global,
-    scratch: &mut Scratch,
-    line: &[u8],
-) -> Result<(String, Rec), LineFault>
+fn parse(alloc: Global, scratch: &mut Scratch, line: &[u8]) -> Result<(String, Rec), LineFault>
     ensures reads { MatchResult result
         (λ p. line_record line.now ≡ Ok (string_bytes p.0, p.1))
         (λ e. Fails e (line_record line.now)) }

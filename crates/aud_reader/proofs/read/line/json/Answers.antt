@@ -1,4 +1,4 @@
-use Rattle.std.proofs.Common.{◌≡◌, ap, ◌∙◌, sym, arith}
+use Rattle.std.proofs.Common.{ap, ◌∙◌, sym, arith}
 use Rattle.serde_json.specs.Read.{read}
 use Rattle.aud_reader.specs.declared.fault.InputCode.TheVariants.{NotJson}
 use Rattle.aud_reader.specs.Record.{json_of}
