@@ -40,13 +40,6 @@ split (Err e) rest ys h = cc
 split (Ok y) (Err e) ys h = cc
 split (Ok y) (Ok zs) ys h = (y, zs, refl, refl, cc)
 
--- as many are read as were told
-pub each-length : {A B : Type 0} (step : A → Result B CertFault) (xs : List A) (ys : List B) → each step xs ≡ Ok ys → length ys ≡ length xs
-each-length step [] ys h = cc
-each-length step (x ∷ xs) ys h =
-    let parts = split (step x) (each step xs) ys h in
-    ap length parts.4 ∙ ap suc (each-length step xs parts.1 parts.3)
-
 turns-read : (c : Cluster) (parsed : List ParsedTurn) (turns : List TurnSeen) → each (turn_over c) parsed ≡ Ok turns
     → All (IsTurnOver c) turns × (map turn_without_records turns ≡ parsed) × (list_all (λ (t : TurnSeen). is_node c t.node) turns ≡ true)
 turns-read c [] turns h = let e : turns ≡ [] = cc in rw e ((λ k d within. absurd (omega arith)), refl, refl)
@@ -55,10 +48,6 @@ turns-read c (t ∷ ts) turns h =
     let (named, told, known) = turn-read c t turn is in
     let (rest_named, rest_told, rest_known) = turns-read c ts others are in
     rw (all, told, known, rest_told, rest_known) (All-cons (IsTurnOver c) turn others named rest_named, refl, refl)
-
--- turns that were read have the records of their nodes' logs
-pub turns-over : (c : Cluster) (parsed : List ParsedTurn) (turns : List TurnSeen) → each (turn_over c) parsed ≡ Ok turns → All (IsTurnOver c) turns
-turns-over c parsed turns h = (turns-read c parsed turns h).0
 
 -- ---- certificates
 

@@ -7,7 +7,7 @@ use Rattle.aud_tap.specs.Forms.{is_text}
 use Rattle.aud_reader.specs.Bundle.{tap_named, with_records, pids_of, with_line}
 use Rattle.aud_reader.proofs.OwnLines.{named-other}
 use Rattle.aud_order.specs.Order.{first_word, is_known}
-use Rattle.aud_order.proofs.Taps.{begun, named-push, named-past, with-push, with-with, room-with, AreFew, few-within, pids-begun, pids-with}
+use Rattle.aud_order.proofs.Taps.{begun, either, named-push, named-past, with-push, with-with, room-with, AreFew, few-within, pids-begun, pids-with}
 use Rattle.aud_order.proofs.Effects.{Begins, Adds, effect, few-after}
 
 -- the second line first, and then the first
@@ -15,14 +15,6 @@ pub record Swapped (ts : List Tap) (first second : List ℕ) (last : List Tap) :
   pub next : List Tap
   pub before : with_line ts second ≡ Ok next
   pub after : with_line next first ≡ Ok last
-
--- the pids of two records, in either order
-either : (pids first second : Bool) → ((pids || first) || second) ≡ ((pids || second) || first)
-either true first second = refl
-either false true true = refl
-either false true false = refl
-either false false true = refl
-either false false false = refl
 
 -- pids without those of one record
 less : (pids first second : Bool) → (pids || second) ≡ true → ((pids || first) || second) ≡ true

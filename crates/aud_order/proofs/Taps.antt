@@ -2,6 +2,7 @@
 use Rattle.std.proofs.Common.{◌≡◌, ℕ, ◌≤◌, List, [], ◌∷◌, ◌++◌, map, Bool, true, false, cond, ◌||◌, Option, Some, None, refl, sym, ap, ◌∙◌, append-nil, arith, nat_lt, true≢false}
 use Rattle.std.specs.Option.{option_or}
 use Rattle.std.specs.Set.{distinct_count}
+use Rattle.std.proofs.Math.Bool.{or_assoc}
 use Rattle.std.proofs.lemmas.Cmp.{nat_list_eq_equiv}
 use Rattle.std.proofs.lemmas.Grind.{flat_map-append}
 use Rattle.std.proofs.lemmas.List.Folds.{find-append, list_any-append}
@@ -19,6 +20,14 @@ use Rattle.aud_reader.specs.Bundle.{max_node_taps, max_client_taps, max_pids, ta
 use Rattle.aud_reader.proofs.KeptLemmas.{taps_on-set, replaced, pids-empty}
 use Rattle.aud_reader.proofs.TextsLemmas.{unique}
 use Rattle.aud_order.specs.Order.{is_known}
+
+-- the pids of two records, in either order
+pub either : (pids first second : Bool) → ((pids || first) || second) ≡ ((pids || second) || first)
+either true first second = refl
+either false true true = refl
+either false true false = refl
+either false false true = refl
+either false false false = refl
 
 -- a tap after its header
 abbrev pub begun : List ℕ → TapKind → Tap
@@ -139,21 +148,10 @@ pids-with q name records added (u ∷ us) t e more =
     → is_known (pids_of (cond b (record u { records = records } ∷ us) (u ∷ with_records name records us))) q ≡ (is_known (pids_in u.records ++ pids_of us) q || is_known added q)) [
       | true ↦ λ h.
           let same = same_Some u t h in
-          rw (more, same) (simp (list_any-append) (last (is_known (pids_in t.records) q) (is_known added q) (is_known (pids_of us) q)))
+          rw (more, same) (simp (list_any-append) (either (is_known (pids_in t.records) q) (is_known added q) (is_known (pids_of us) q)))
       | false ↦ λ h.
           list_any-append (is_text q) (pids_in u.records) (pids_of (with_records name records us))
           ∙ ap (λ b. is_known (pids_in u.records) q || b) (pids-with q name records added us t h more)
-          ∙ regroup (is_known (pids_in u.records) q) (is_known (pids_of us) q) (is_known added q)
+          ∙ sym (or_assoc (is_known (pids_in u.records) q) (is_known (pids_of us) q) (is_known added q))
           ∙ ap (λ b. b || is_known added q) (sym (list_any-append (is_text q) (pids_in u.records) (pids_of us)))
     ] e
-  where
-    last : (own more rest : Bool) → ((own || more) || rest) ≡ ((own || rest) || more)
-    last true more rest = refl
-    last false true true = refl
-    last false true false = refl
-    last false false true = refl
-    last false false false = refl
-
-    regroup : (own rest more : Bool) → (own || (rest || more)) ≡ ((own || rest) || more)
-    regroup true rest more = refl
-    regroup false rest more = refl

@@ -149,7 +149,3 @@ first_with_name (t ∷ ts) different (suc place) tap at =
     let other : bytes_eq t.name tap.name ≡ false = other_text t.name tap.name (λ same. different 0 (suc place) tap.name (omega arith) (omega arith) (same ∙ sym here)) in
     let rest : AreDifferent names = λ i j d l m. different (suc i) (suc j) d (omega arith) (omega arith) in
     rw (other, first_with_name ts rest place tap at) refl
-
--- in a bundle that was read each tap is the first with its name
-pub named_once : (lines : List Line) (taps : List Tap) → taps_of lines ≡ Ok taps → AreNamedOnce taps
-named_once lines taps e = first_with_name taps (sound-lines [] taps lines sound-none e).names

@@ -20,10 +20,6 @@ same_le a b = elim (cases_lt b a) [ inl h ↦ lt-leb (suc a) (suc b) (omega arit
 same_lt : (a b : ℕ) → nat_lt (suc a) (suc b) ≡ nat_lt a b
 same_lt a b = elim (cases_lt a b) [ inl h ↦ lt-ltb (suc a) (suc b) (omega arith) ∙ sym (lt-ltb a b h) | inr h ↦ le-ltb (suc a) (suc b) (omega arith) ∙ sym (le-ltb a b h) ]
 
--- a packet that awaits nothing is whole at once
-pub none_awaited : (place : ℕ) (w : WholeSeen) (l : List (ℕ × Message)) → gives_with place w 0 l ≡ (place, Ok w) ∷ wholes_of l
-none_awaited place w l = rw (le-leb 0 (length (leading_bytes l)) (omega arith), append-nil) refl
-
 -- one attachment more
 pub one_attached : (before place : ℕ) (w : WholeSeen) (count : ℕ) (b : Blob) (l : List (ℕ × Message))
     → gives_with before w (suc count) ((place, Bytes b) ∷ l) ≡ gives_with place (with_bin w (b ∷ [])) count l
@@ -61,15 +57,6 @@ text_first place text packet l reads =
     ap (λ r. elim r as (λ _. List (ℕ × Answer)) [
       | Ok p ↦ gives_with place (record { text = text; packet = p; bin = [] }) p.attachments l
       | Err fault ↦ (place, Err fault) ∷ wholes_of l
-    ]) reads
-
--- a text that is no packet is refused where it stands, and what follows is read from rest
-pub text_refused : (place : ℕ) (text : List ℕ) (fault : SioFault) (l : List (ℕ × Message)) → packet_of text ≡ Err fault
-    → wholes_of ((place, Text text) ∷ l) ≡ (place, Err fault) ∷ wholes_of l
-text_refused place text fault l reads =
-    ap (λ r. elim r as (λ _. List (ℕ × Answer)) [
-      | Ok p ↦ gives_with place (record { text = text; packet = p; bin = [] }) p.attachments l
-      | Err e ↦ (place, Err e) ∷ wholes_of l
     ]) reads
 
 -- the place of the messages that came before doesn't matter, where more are awaited
