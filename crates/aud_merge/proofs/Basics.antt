@@ -1,5 +1,7 @@
 -- Look-ups, and options.
-use Rattle.std.proofs.Common.{◌≡◌, ℕ, zero, suc, Bool, true, false, cond, List, [], ◌∷◌, set, Option, Some, None, slice_get, refl, sym, ap, ◌∙◌, option_map, option_and_then, bytes_eq}
+use Rattle.std.proofs.lemmas.Grind.{common_steps}
+use Rattle.std.proofs.lemmas.Option.{gets, slice_get_within, slice_get_cases}
+use Rattle.std.proofs.Common.{◌≡◌, arith, ℕ, zero, suc, Bool, true, false, cond, List, [], ◌∷◌, set, Option, Some, None, slice_get, refl, sym, ap, ◌∙◌, option_map, option_and_then, bytes_eq}
 use Rattle.std.specs.Ordering.{nat_cmp}
 use Rattle.std.specs.Cmp.Lexicographic.{slice_cmp, texts_ties, nat_list_cmp_total}
 use Rattle.std.specs.FinMap as fin
@@ -22,17 +24,11 @@ module _ {X : Type 0} where
 
   -- an element that was set is the new one
   pub slice_get-set_same : (xs : List X) (i : ℕ) (v d : X) → slice_get xs i ≡ Some d → slice_get (set xs i v) i ≡ Some v
-  slice_get-set_same [] i v d e = absurd (none-some d e)
-  slice_get-set_same (x ∷ xs) zero v d e = refl
-  slice_get-set_same (x ∷ xs) (suc i) v d e = slice_get-set_same xs i v d e
+  slice_get-set_same xs i v d e = grind (arith, common_steps, gets, slice_get_within xs i d)
 
   -- the others are as they were
   pub slice_get-set_other : (xs : List X) (i j : ℕ) (v : X) → (j ≡ i → ⊥) → slice_get (set xs i v) j ≡ slice_get xs j
-  slice_get-set_other [] i j v n = refl
-  slice_get-set_other (x ∷ xs) zero zero v n = absurd (n refl)
-  slice_get-set_other (x ∷ xs) zero (suc j) v n = refl
-  slice_get-set_other (x ∷ xs) (suc i) zero v n = refl
-  slice_get-set_other (x ∷ xs) (suc i) (suc j) v n = slice_get-set_other xs i j v (λ e. n (ap suc e))
+  slice_get-set_other xs i j v n = grind (arith, common_steps, gets, slice_get_cases xs j, slice_get_cases (set xs i v) j)
 
 -- what an option that is there says of its parts
 module _ {A B : Type 0} where

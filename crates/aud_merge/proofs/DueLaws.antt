@@ -1,4 +1,5 @@
 -- In a run, the session reaches each position when, and with the rooms that, its turns tell; so what is due is due by them.
+use Rattle.std.proofs.lemmas.Bool.Decides.{nat_tests}
 use Rattle.std.proofs.Common.{◌≡◌, ℕ, suc, Bool, true, false, cond, List, [], ◌∷◌, map, find, Option, Some, None, slice_get, refl, sym, ap, subst, ◌∙◌, inl, inr, arith, option_map, option_and_then, unwrap_or, ◌<◌, ◌≤◌, zero, ◌&&◌, ◌++◌, length, filter, ◌⊎◌, nat_le}
 use Rattle.std.proofs.lemmas.Bool.{false≢true, cases_Bool, cond_both, cases_lt, le-leb, lt-leb, and_left, and_right}
 use Rattle.std.specs.Ordering.{nat_cmp}
@@ -35,28 +36,22 @@ use Rattle.aud_merge.proofs.Phases.{length-count, In, Spot, Waiting, Within, Hol
 abbrev pub judged : Cluster → Text → ℕ → State → List Step → Option SessionState
 judged c pid p st steps = option_map (λ s. session_of s pid) (find (is_reached pid p) (states_from c st steps))
 
--- a step after a map is one step
-and_then-map : {A B C : Type 0} (f : B → Option C) (g : A → B) (o : Option A) → option_and_then f (option_map g o) ≡ option_and_then (λ x. f (g x)) o
-and_then-map f g None = refl
-and_then-map f g (Some x) = refl
-
 -- what stands at the first index is what is found
 pub first_index-find : {X Y : Type 0} (test : X → Bool) (f : X → Option Y) (xs : List X)
     → option_and_then (λ t. option_and_then f (slice_get xs t)) (first_index test xs) ≡ option_and_then f (find test xs)
 first_index-find test f [] = refl
-first_index-find test f (x ∷ xs) = grind (arith, first_index-find test f xs, and_then-map)
+first_index-find test f (x ∷ xs) = grind (arith, first_index-find test f xs)
 
 -- the same where a function without an option is applied
 pub first_index-find-map : {X Y : Type 0} (test : X → Bool) (f : X → Y) (xs : List X)
     → option_and_then (λ t. option_map f (slice_get xs t)) (first_index test xs) ≡ option_map f (find test xs)
 first_index-find-map test f [] = refl
-first_index-find-map test f (x ∷ xs) = grind (arith, first_index-find-map test f xs, and_then-map)
+first_index-find-map test f (x ∷ xs) = grind (arith, first_index-find-map test f xs)
 
 module _ (c : Cluster) (who : Who) (last : ℕ) (p : ℕ) where
   -- where the session is reached, the turns say so
   now : (st : State) (spot : Spot) → Holds c who last st spot → spot_reached c spot p ≡ true → HasRooms who (Some (session_of st who.pid)) (rooms_left c who spot p)
-  now st (Within k t at held later) holds reached = grind (arith, rooms_for-at_low c.stream who.pid held (part_from c t at) (map (slice_of c) later) p reached (cursor_at-rises c.stream (node_log c t.node) at t.to holds.1.rest.within), part_from c t at, cursor_at-rises c.stream (node_log c t.node) at t.to holds.1.rest.within)
-  now st _ holds reached = absurd (false≢true reached)
+  now st spot holds reached = grind (arith, rooms_for-at_low c.stream who.pid, cursor_at-rises c.stream)
 
   -- at the end of the run, what isn't reached is never reached
   never : (st : State) (spot : Spot) → Holds c who last st spot → spot_reached c spot p ≡ false
@@ -170,17 +165,11 @@ rooms-turns c run who turns is are p settled =
     subst (λ s. HasRooms who s (rooms_of_turns c who turns p)) (sym (first_index-find-map (is_reached who.pid p) (λ s. session_of s who.pid) (states c run)))
     (agrees c who (length turns) p run (start c) (Waiting 0 (own_room who.sid) turns) (omega arith, at_start c who turns are) (RunsOn-run c run is) (Synced-start c) settled)
 
--- so an entry is for the session there where it is for those rooms
-for_rooms : (who : Who) (at : Option StreamRec) (session : Option SessionState) (rooms : Option Rooms) → HasRooms who session rooms → is_for_session at session ≡ is_for_rooms at who.nsp rooms
-for_rooms who at session None none = ap (is_for_session at) none
-for_rooms who at session (Some held) here = ap (is_for_session at) here.2
-
 -- an entry is for the session when it reaches the position where it is for the rooms that the turns give
 for_given : (c : Cluster) (run : List Step) (who : Who) (turns : List Turn) → IsRun c run → AreTurns c who 0 turns
     → (p : ℕ) → Settled c who (length turns) (rooms_of_turns c who turns p)
     → is_for_session (entry c.stream p) (session_at_reach c run who.pid p) ≡ is_for_rooms (entry c.stream p) who.nsp (rooms_of_turns c who turns p)
-for_given c run who turns is are p settled =
-    for_rooms who (entry c.stream p) (session_at_reach c run who.pid p) (rooms_of_turns c who turns p) (rooms-turns c run who turns is are p settled)
+for_given c run who turns is are p settled = grind (arith, rooms-turns c run who turns is are p settled)
 
 -- a position is due in the run where it is due by the turns, if they settle it
 pub due_at : (c : Cluster) (run : List Step) (who : Who) (turns : List Turn) → IsRun c run → AreTurns c who 0 turns

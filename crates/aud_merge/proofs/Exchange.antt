@@ -1,4 +1,5 @@
 -- Where a run exists, an allowed step stays allowed until it is taken; so where the machine blocks, there is none.
+use Rattle.std.proofs.lemmas.Bool.Decides.{nat_tests}
 use Rattle.std.proofs.Common.{◌≡◌, ◌<◌, ◌≤◌, ℕ, zero, suc, Bool, true, false, cond, List, [], ◌∷◌, set, take, Option, Some, None, slice_get, refl, sym, ap, subst, ◌∙◌, ◌⊎◌, inl, inr, nat_eq, unwrap_or, arith, option_map, option_and_then, bytes_eq, ◌≢◌, ◌+◌, length, is_some}
 use Rattle.std.specs.Ordering.{nat_cmp}
 use Rattle.std.specs.Cmp.Lexicographic.{slice_cmp, nat_list_cmp_total}
@@ -26,7 +27,7 @@ use Rattle.aud_merge.specs.Order.{first_allowed, IsGreedy, unfinished_fronts, Is
 use Rattle.aud_merge.proofs.Positions.{position-more}
 use Rattle.aud_merge.proofs.Basics.{and_then_parts, map_parts, cond_parts, slice_get-set_other, get_insert, get_insert_other}
 use Rattle.aud_merge.proofs.Steps.{Stepped, stepped, appended-grows, Named, next_position-at, RunsOn-run, moved}
-use Rattle.aud_merge.proofs.Records.{IsBeyond, here-node, ended-after, waiting-after}
+use Rattle.aud_merge.proofs.Records.{here-node, ended-after, waiting-after, begins-beyond}
 use Rattle.aud_merge.proofs.Phases.{never_again}
 
 -- the sessions by pid
@@ -66,13 +67,7 @@ taken-more a b stream off cursor next h e = grind (arith, next_position-at (posi
 
 -- with more entries appended, any record that was allowed still is, and leaves the same cursor
 cursor_after-more : (a b : ℕ) (stream : List StreamRec) (i : ℕ) (rec : NodeRec) (cursor next : ℕ) → a ≤ b → allowed_cursor (take a stream) i rec cursor ≡ Some next → allowed_cursor (take b stream) i rec cursor ≡ Some next
-cursor_after-more a b stream zero (Start None) cursor next h e = e
-cursor_after-more a b stream zero (Start (Some off)) cursor next h e = position-more a b stream off next h e
-cursor_after-more a b stream (suc i) (Start off) cursor next h e = absurd (none-some next e)
-cursor_after-more a b stream zero (Take off) cursor next h e = taken-more a b stream off cursor next h e
-cursor_after-more a b stream (suc i) (Take off) cursor next h e = taken-more a b stream off cursor next h e
-cursor_after-more a b stream zero _ cursor next h e = e
-cursor_after-more a b stream (suc i) _ cursor next h e = e
+cursor_after-more a b stream i rec cursor next h e = grind (arith, position-more a b stream, taken-more a b stream)
 
 -- what a record does to the sessions
 record Puts (l : ℕ) (rec : NodeRec) (named : Option Text) (m m' : Sessions) : Type 0 where
@@ -96,8 +91,7 @@ puts l rec (Some pid) m m' e =
 -- the session that is put is the one that the record names
 named_put : (c : Cluster) (st st' : State) (l i : ℕ) (rec : NodeRec) → Stepped c st st' l i → slice_get (node_log c l) i ≡ Some rec
     → (put : Option (Text × SessionState)) → option_map (λ (x : Text × SessionState). x.0) put ≡ pid_of rec → NamedPut c st st' l i put
-named_put c st st' l i rec step at None names = tt
-named_put c st st' l i rec step at (Some x) names = elim (moved c st st' l i x.0 step.kind) as (λ _. Named c st st' l i x.0) [ inl named ↦ named | inr quiet ↦ absurd (quiet.other rec at (sym names)) ]
+named_put c st st' l i rec step at put names = grind (arith, moved c st st' l i)
 
 -- a step on a log of which as many records were taken does that log's next record
 after-at : (c : Cluster) (u : State) (s : Step) (done : Progress) (log : Records) → slice_get u.logs s.log ≡ Some done → done.taken ≡ s.index → log_at c s.log ≡ Some log → after c u s ≡ after_next c u s.log done log
@@ -142,12 +136,7 @@ does c st st' s e =
 
 -- two different sessions can be put in in either order
 insert_comm : (m : Sessions) (x y : Text × SessionState) → (x.0 ≡ y.0 → ⊥) → fin.insert (fin.insert m x.0 x.1) y.0 y.1 ≡ fin.insert (fin.insert m y.0 y.1) x.0 x.1
-insert_comm m x y n = fin.same_map nat_list_cmp_total (fin.slice_cmp-IsAntisymmetric fin.nat_cmp-IsAntisymmetric) _ _ (λ q. simp get_insert (swap (bytes_eq q x.0) (bytes_eq q y.0) (λ a b. n (sym (same_text q x.0 a) ∙ same_text q y.0 b)) x.1 y.1 (fin.get m q)))
-  where
-    swap : (a b : Bool) → (a ≡ true → b ≡ true → ⊥) → (s t : SessionState) (o : Option SessionState) → cond b (Some t) (cond a (Some s) o) ≡ cond a (Some s) (cond b (Some t) o)
-    swap true true n s t o = absurd (n refl refl)
-    swap true false n s t o = refl
-    swap false b n s t o = refl
+insert_comm m x y n = fin.same_map nat_list_cmp_total (fin.slice_cmp-IsAntisymmetric fin.nat_cmp-IsAntisymmetric) _ _ (λ q. grind (arith, get_insert, same_text q))
 
 -- the sessions of two steps differ
 abbrev Apart : Option (Text × SessionState) → Option (Text × SessionState) → Type 0
@@ -168,10 +157,7 @@ same_after m (Some x) (Some y) apart = get_insert_other m y.0 y.1 x.0 apart
 
 -- where one step's session differs from another's, the other's differs from it
 apart_turned : (x y : Option (Text × SessionState)) → Apart x y → Apart y x
-apart_turned None None apart = tt
-apart_turned None (Some y) apart = tt
-apart_turned (Some x) None apart = tt
-apart_turned (Some x) (Some y) apart = λ e. apart (sym e)
+apart_turned x y apart = grind arith
 
 -- what two steps of different logs and different sessions do, they do in either order
 twice_comm : (st : State) (l m : ℕ) (p q : Progress) (x y : Option (Text × SessionState)) → (l ≡ m → ⊥) → Apart x y
@@ -204,17 +190,6 @@ both_begin pid l m one other (Away turn sid nsp rooms) s1 s2 n names names' e e'
     let who : Who = record { pid = pid; sid = sid; nsp = nsp } in
     record { k = suc turn; one_begins = waiting-after l who (suc turn) rooms one s1 names e; other_begins = waiting-after m who (suc turn) rooms other s2 names' e' }
 both_begin pid l m one other Ended s1 s2 n names names' e e' = absurd (ended-after l one s1 e)
-
--- a record that begins turn k leaves the session in that turn
-begins-beyond : (l : ℕ) (pid : Text) (k : ℕ) (rec : NodeRec) (s s' : SessionState) → begins_turn pid k rec ≡ true → session_after l rec s ≡ Some s' → IsBeyond k s'
-begins-beyond l pid zero (Opened other sid nsp) Absent s' begins e = subst (IsBeyond 0) (same_Some _ _ e) (omega arith)
-begins-beyond l pid (suc k) (Back other number) (Away turn sid nsp rooms) s' begins e =
-    let own : number ≡ suc k = eqb-true number (suc k) (and_parts (bytes_eq other pid) (nat_eq number (suc k)) begins).1 in
-    let above : suc k ≤ number = omega (arith, own) in
-    subst (IsBeyond (suc k)) (same_Some _ _ (cond_parts (nat_eq number (suc turn)) _ s' e).1) above
-begins-beyond l pid zero (Opened other sid nsp) _ s' begins e = absurd (none-some s' e)
-begins-beyond l pid (suc k) (Back other number) _ s' begins e = absurd (none-some s' e)
-begins-beyond l pid k _ s s' begins e = absurd (false≢true begins)
 
 -- where the rest of a run takes one of two allowed steps of different logs first, the steps' sessions differ
 apart : (c : Cluster) (st st1 st2 : State) (x s : Step) (dx : Does c st st1 x) (ds : Does c st st2 s) → (x.log ≡ s.log → ⊥)

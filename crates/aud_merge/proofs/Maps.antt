@@ -36,19 +36,9 @@ pub ruleset seen_sessions = (get-sessions_of, or_absent)
 pub sessions_of-insert : (olds news : List ((Bor (List ℕ)) × OpenedSession)) (pid : List ℕ) (s : OpenedSession)
     → ((q : Bor (List ℕ)) → lookup (λ k. is_eq (slice_cmp nat_cmp q.now k.now)) news ≡ cond (is_eq (slice_cmp nat_cmp pid q.now)) (Some s) (lookup (λ k. is_eq (slice_cmp nat_cmp q.now k.now)) olds))
     → sessions_seen news ≡ fin.insert (sessions_seen olds) pid (session_seen s)
-sessions_of-insert olds news pid s updates = fin.same_map nat_list_cmp_total (fin.slice_cmp-IsAntisymmetric fin.nat_cmp-IsAntisymmetric) _ _ at
-  where
-    either : (b : Bool) (o : Option OpenedSession) → option_map session_seen (cond b (Some s) o) ≡ cond b (Some (session_seen s)) (option_map session_seen o)
-    either true o = refl
-    either false o = refl
-
-    at : (q : List ℕ) → fin.get (sessions_seen news) q ≡ fin.get (fin.insert (sessions_seen olds) pid (session_seen s)) q
-    at q =
-        get-sessions_of news q ∙ ap (option_map session_seen) (updates (record { ref_ptr = (0, 0); now = q }))
-        ∙ either (is_eq (slice_cmp nat_cmp pid q)) (lookup (λ k. is_eq (slice_cmp nat_cmp q k.now)) olds)
-        ∙ ap (λ o. cond (is_eq (slice_cmp nat_cmp pid q)) (Some (session_seen s)) o) (sym (get-sessions_of olds q))
-        ∙ ap (λ b. cond b (Some (session_seen s)) (fin.get (sessions_seen olds) q)) ((eq_by_cmp_equiv nat_list_cmp_total).symm pid q)
-        ∙ sym (fin.get-insert nat_list_cmp_total (sessions_seen olds) pid (session_seen s) q)
+sessions_of-insert olds news pid s updates =
+    fin.same_map nat_list_cmp_total (fin.slice_cmp-IsAntisymmetric fin.nat_cmp-IsAntisymmetric) _ _
+    (λ q. grind (arith, get-sessions_of news q, get-sessions_of olds q, updates (record { ref_ptr = (0, 0); now = q }), (eq_by_cmp_equiv nat_list_cmp_total).symm pid q, fin.get-insert nat_list_cmp_total (sessions_seen olds) pid (session_seen s) q))
 
 pub ruleset put_session = (sessions_of-insert)
 
@@ -56,25 +46,14 @@ pub ruleset put_session = (sessions_of-insert)
 module _ (entries : List ((Bor (List ℕ)) × OpenedSession)) (old : Sessions) (same : sessions_seen entries ≡ old) (pid : List ℕ) where
   -- the session of the pid is what the look-up found
   pub found : (o : Option OpenedSession) → o ≡ lookup (λ k. is_eq (slice_cmp nat_cmp pid k.now)) entries → unwrap_or (fin.get old pid) seen.Absent ≡ seen_or_absent o
-  found o is =
-      ap (λ (m : Sessions). unwrap_or (fin.get m pid) seen.Absent) (sym same)
-      ∙ ap (λ x. unwrap_or x seen.Absent) (get-sessions_of entries pid ∙ ap (option_map session_seen) (sym is))
-      ∙ sym (or_absent o)
+  found o is = grind (arith, get-sessions_of entries pid, or_absent o)
 
 -- a record that names the pid, and the session that it finds
 module _ (node : ℕ) (rec : NodeRec) (named : Option (List ℕ)) (old : Sessions) (pid : List ℕ) (names : Some pid ≡ named) (session : seen.SessionState) (is : unwrap_or (fin.get old pid) seen.Absent ≡ session) where
   -- where the record is allowed in the sessions, it is allowed of its session
   pub allowed_there : IsSome (sessions_after node rec named old) → IsSome (session_after node rec session)
-  allowed_there allowed = mapped (session_after node rec session) (subst (λ s. IsSome (option_map (λ x. fin.insert old pid x) (session_after node rec s))) is (subst (λ n. IsSome (sessions_after node rec n old)) (sym names) allowed))
-    where
-      mapped : (o : Option seen.SessionState) → IsSome (option_map (λ x. fin.insert old pid x) o) → IsSome o
-      mapped None e = e
-      mapped (Some x) e = refl
+  allowed_there allowed = grind arith
 
   -- what the record makes of its session is put back in the sessions
   pub changed_there : (next : seen.SessionState) (new : Sessions) → session_after node rec session ≡ Some next → new ≡ fin.insert old pid next → sessions_after node rec named old ≡ Some new
-  changed_there next new becomes put =
-      ap (λ n. sessions_after node rec n old) (sym names)
-      ∙ ap (λ s. option_map (λ x. fin.insert old pid x) (session_after node rec s)) is
-      ∙ ap (option_map (λ x. fin.insert old pid x)) becomes
-      ∙ ap Some (sym put)
+  changed_there next new becomes put = grind arith

@@ -23,19 +23,8 @@ allowed_on c st (s ∷ steps) runs =
 left_of : (c : Cluster) (l : ℕ) (steps : List Step) (st : State) (rest : ℕ) → RunsOn c st steps → taken_of st l + rest ≡ record_count c l → steps_of l steps ≡ numbers_from (taken_of st l) rest
 left_of c l [] st zero runs all = refl
 left_of c l [] st (suc rest) runs all = let finished = runs l in absurd (omega (arith, finished, all))
-left_of c l (s ∷ steps) st rest runs all =
-    let (next, at, later) = runs in
-    go next (stepped c st next s at) (cases_eq s.log l) rest all (λ rest' all'. left_of c l steps next rest' later all')
-  where
-    step_of : Bool → List ℕ
-    step_of b = map (λ (s : Step). s.index) (cond b (s ∷ filter (λ (s : Step). nat_eq s.log l) steps) (filter (λ (s : Step). nat_eq s.log l) steps))
-
-    go : (next : State) → Stepped c st next s.log s.index → (s.log ≡ l) ⊎ (s.log ≡ l → ⊥) → (rest : ℕ) → taken_of st l + rest ≡ record_count c l
-        → ((rest' : ℕ) → taken_of next l + rest' ≡ record_count c l → steps_of l steps ≡ numbers_from (taken_of next l) rest')
-        → steps_of l (s ∷ steps) ≡ numbers_from (taken_of st l) rest
-    go next moved (inl e) zero all ih = grind arith
-    go next moved (inl e) (suc rest) all ih = grind (arith, eq-eqb s.log l e, ih rest)
-    go next moved (inr n) rest all ih = grind (arith, ne_eqb s.log l n, ih rest)
+left_of c l (s ∷ steps) st zero runs all = let (next, at, later) = runs in grind (arith, stepped c st next s at, cases_eq s.log l, eq-eqb s.log l, ne_eqb s.log l, left_of c l steps next zero later)
+left_of c l (s ∷ steps) st (suc rest) runs all = let (next, at, later) = runs in grind (arith, stepped c st next s at, cases_eq s.log l, eq-eqb s.log l, ne_eqb s.log l, left_of c l steps next rest later, left_of c l steps next (suc rest) later)
 
 -- steps that are the rest of a run from the start on are a run
 pub run-RunsOn : (c : Cluster) (run : List Step) → RunsOn c (start c) run → IsRun c run

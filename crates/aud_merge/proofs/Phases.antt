@@ -21,7 +21,7 @@ use Rattle.aud_merge.specs.Runs.{record_count}
 use Rattle.aud_merge.specs.Private.RunsOn.{RunsOn}
 use Rattle.aud_merge.specs.Sessions.{Here, Ended, session_after}
 use Rattle.aud_merge.proofs.Steps.{EntryStep, RecordStep, Stepped, stepped, Named, Quiet, moved, Synced, Synced-step, reaches-takes-after}
-use Rattle.aud_merge.proofs.Records.{IsBeyond, IsBeyond-after, beginning-allowed, here-node, beginning-here, ended-after, past-named, past-other, past-inner, past-last, ended, waiting, waiting-after, begun-beyond}
+use Rattle.aud_merge.proofs.Records.{IsBeyond, IsBeyond-after, beginning-allowed, here-node, beginning-here, ended-after, past-named, past-other, past-inner, past-last, ended, waiting, waiting-after, begins-beyond}
 
 -- a node's log has no more records than steps
 pub length-count : (c : Cluster) (l : ℕ) → length (node_log c l) ≤ record_count c l
@@ -156,7 +156,7 @@ quiet-none c who st st' l i quiet n at = quiet.other (beginning who n) at (begin
 -- a session that waits for turn k is named only by that turn's first record
 pub begun_at : (c : Cluster) (who : Who) (st st' : State) (l i : ℕ) (steps : List Step) (k : ℕ) (held : Rooms) (t : Turn) (later : List Turn) → Out c who st k held (t ∷ later)
     → Stepped c st st' l i → RunsOn c st' steps → Named c st st' l i who.pid → (l ≡ t.node) × (i ≡ t.from) × (session_of st' who.pid ≡ Here l k who.sid who.nsp held)
-begun_at c who st st' l i steps k held t later o s runs named = grind (arith, waiting-after l who k held named.rec, never_again c, beginning-begins who k, begun-beyond l who k held named.rec)
+begun_at c who st st' l i steps k held t later o s runs named = grind (arith, waiting-after l who k held named.rec, never_again c, beginning-begins who k, begins-beyond l who.pid k named.rec)
 
 -- a record that names a waiting session begins its turn, or one that is not known
 out_named : (c : Cluster) (who : Who) (last : ℕ) (st st' : State) (l i : ℕ) (steps : List Step) (k : ℕ) (held : Rooms) (rest : List Turn) (counted : k + length rest ≡ last) (o : Out c who st k held rest)
@@ -258,10 +258,7 @@ node_record c st st' l i s h = grind (arith, EntryStep c st st' l i, RecordStep 
 -- the session past a node's record
 past : (c : Cluster) (st st' : State) (l i : ℕ) (pid : Text) (rec : NodeRec) → slice_get (node_log c l) i ≡ Some rec → Named c st st' l i pid ⊎ Quiet c st st' l i pid
     → session_of st' pid ≡ session_past l pid (session_of st pid) rec
-past c st st' l i pid rec at (inl named) =
-    let is : rec ≡ named.rec = same_Some _ _ (sym at ∙ named.at) in
-    sym (past-named l pid rec (session_of st pid) (session_of st' pid) (ap pid_of is ∙ named.names) (ap (λ r. session_after l r (session_of st pid)) is ∙ named.becomes))
-past c st st' l i pid rec at (inr quiet) = quiet.session ∙ sym (past-other l pid rec (session_of st pid) (quiet.other rec at))
+past c st st' l i pid rec at moved = grind (arith, past-named l pid rec, past-other l pid rec)
 
 -- within a turn, each step leads on in it, or out of it
 inside_step : (c : Cluster) (who : Who) (last : ℕ) (st st' : State) (l i' : ℕ) (k : ℕ) (t : Turn) (i : ℕ) (held : Rooms) (later : List Turn) (counted : suc k + length later ≡ last) (o : In c who st k t i held later)

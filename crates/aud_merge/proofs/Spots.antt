@@ -1,4 +1,5 @@
 -- What is left of the turns, and how a record, and a move, leaves it.
+use Rattle.std.proofs.lemmas.Bool.Decides.{nat_tests}
 use Rattle.std.proofs.Common.{◌≡◌, ◌<◌, ◌≤◌, ℕ, zero, suc, true, false, cond, List, [], ◌∷◌, Option, Some, refl, sym, ap, ◌∙◌, nat_le, arith, ◌-◌, Bool, map, None, ◌⊎◌, inl, inr, option_map}
 use Rattle.std.proofs.lemmas.Bool.{false≢true, leb-true, le-leb}
 use Rattle.std.proofs.lemmas.Option.{none-some}
@@ -33,8 +34,7 @@ part_from c t i =
 
 -- the record by which a position is taken moves no room
 taken-rooms : (stream : List StreamRec) (pid : Text) (p : ℕ) (held : Rooms) (rec : NodeRec) → takes stream p rec ≡ true → rooms_after pid held rec ≡ held
-taken-rooms stream pid p held (Take off) e = refl
-taken-rooms stream pid p held _ e = absurd (false≢true e)
+taken-rooms stream pid p held rec e = grind arith
 
 -- what is left of a slice gives the rooms that the slice gives, as long as the position isn't reached
 pub rooms_for-step : (stream : List StreamRec) (pid : Text) (held : Rooms) (low next high : ℕ) (rec : NodeRec) (recs : List NodeRec) (later : List Slice) (p : ℕ)
@@ -55,15 +55,13 @@ rooms_for-at_low stream pid held slice later p e h = grind (arith, le-leb p slic
 
 -- a record that ends a turn takes no entry
 pub last-takes : (stream : List StreamRec) (pid : Text) (k p : ℕ) (rec : NodeRec) (e : End) → part_of pid k rec ≡ Last e → takes stream p rec ≡ false
-last-takes stream pid k p (Take off) e part = grind arith
-last-takes stream pid k p _ e part = refl
+last-takes stream pid k p rec e part = grind arith
 
 -- the record that begins a turn takes nothing and moves no room
 pub rooms_for-beginning : (stream : List StreamRec) (who : Who) (k : ℕ) (held : Rooms) (low high : ℕ) (recs : List NodeRec) (later : List Slice) (p : ℕ)
     → rooms_for stream who.pid held (record { low = low; high = high; recs = beginning who k ∷ recs } ∷ later) p
     ≡ rooms_for stream who.pid held (record { low = low; high = high; recs = recs } ∷ later) p
-rooms_for-beginning stream who zero held low high recs later p = refl
-rooms_for-beginning stream who (suc k) held low high recs later p = refl
+rooms_for-beginning stream who k held low high recs later p = grind arith
 
 -- the rooms by which what is left of the turns judges a position
 abbrev pub rooms_left : Cluster → Who → Spot → ℕ → Option Rooms
@@ -81,8 +79,7 @@ spot_reached c Beyond p = false
 
 -- a session that waits for a turn is on no node, and reaches nothing
 waiting-unreached : (who : Who) (st : State) (k : ℕ) (held : Rooms) (p : ℕ) → is_at_least (node_cursor st (waiting who k held)) p ≡ false
-waiting-unreached who st zero held p = refl
-waiting-unreached who st (suc k) held p = refl
+waiting-unreached who st k held p = grind arith
 
 -- either the turns tell the rooms, or they are all the turns that the logs have
 abbrev pub Settled : Cluster → Who → ℕ → Option Rooms → Type 0
@@ -91,11 +88,7 @@ Settled c who last rooms = ((held : Rooms) × (rooms ≡ Some held)) ⊎ HasNoTu
 -- the session reaches a position in a state where its place among its turns says so
 pub reached-spot : (c : Cluster) (who : Who) (last : ℕ) (p : ℕ) (st : State) (spot : Spot) → Holds c who last st spot → Synced c st → Settled c who last (rooms_left c who spot p)
     → is_reached who.pid p st ≡ spot_reached c spot p
-reached-spot c who last p st (Waiting k held rest) holds synced settled = ap (λ s. is_at_least (node_cursor st s) p) holds.1.session ∙ waiting-unreached who st k held p
-reached-spot c who last p st (Within k t at held later) holds synced settled = reached-in c who st k t at held later holds.1 synced p
-reached-spot c who last p st Over e synced settled = ap (λ s. is_at_least (node_cursor st s) p) e
-reached-spot c who last p st Beyond has synced (inl told) = absurd (none-some told.0 told.1)
-reached-spot c who last p st Beyond has synced (inr none) = absurd (none has.node has.at has.rec has.stands has.begins)
+reached-spot c who last p st spot holds synced settled = grind (arith, waiting-unreached who st, reached-in c who st)
 
 module _ (c : Cluster) (who : Who) (k : ℕ) (t : Turn) (l i at : ℕ) (held : Rooms) (later : List Turn) (rec : NodeRec) (on : OnSlice c t l i at rec) (p : ℕ) (before : nat_le p (cursor_at c.stream (node_log c t.node) at) ≡ false) where
   -- what the record of the node leaves of the slice
@@ -110,11 +103,7 @@ module _ (c : Cluster) (who : Who) (k : ℕ) (t : Turn) (l i at : ℕ) (held : R
 
   -- after a record that ends the turn, the later turns give the rooms
   rooms-ends : (e : End) → part_of who.pid k rec ≡ Last e → suc at ≡ t.to → rooms_for c.stream who.pid held (part_from c t at ∷ map (slice_of c) later) p ≡ rooms_for c.stream who.pid held (map (slice_of c) later) p
-  rooms-ends e part is_end =
-      rooms-goes
-      ∙ ap (λ rooms. rooms_for c.stream who.pid rooms (part_from c t (suc at) ∷ map (slice_of c) later) p) (last-rooms who.pid k held rec e part)
-      ∙ ap (λ recs. rooms_for c.stream who.pid held (record { low = cursor_at c.stream (node_log c t.node) (suc at); high = cursor_at c.stream (node_log c t.node) t.to; recs = recs } ∷ map (slice_of c) later) p) (between-none (node_log c t.node) (suc at) t.to (omega (arith, is_end)))
-      ∙ rooms_for-after c.stream who.pid held _ _ (map (slice_of c) later) p (past-high e part is_end)
+  rooms-ends e part is_end = grind (arith, rooms-goes, last-rooms who.pid k held rec e part, between-none (node_log c t.node) (suc at) t.to, past-high e part is_end)
 
 -- a move leaves the rooms of each position that isn't reached
 pub Moves-rooms : (c : Cluster) (who : Who) (l i : ℕ) (a b : Spot) → Moves c who l i a b → (p : ℕ) → spot_reached c a p ≡ false → rooms_left c who a p ≡ rooms_left c who b p
@@ -145,20 +134,8 @@ step_left c Beyond p = None
 left_of-more : (c : Cluster) (t : Turn) (at : ℕ) (later : List Turn) (p : ℕ) → at < t.to
     → left_of c t at later p ≡ cond (nat_le p (cursor_at c.stream (node_log c t.node) (suc at))) (Some (record { log = t.node; index = at })) (left_of c t (suc at) later p)
 left_of-more c t at later p h =
-    ap (λ n. cond (nat_le p (cursor_at c.stream (node_log c t.node) t.to)) (option_map (λ number. record { log = t.node; index = number }) (first_reaching c.stream (node_log c t.node) p at n)) (reaching_step c later p)) more
-    ∙ go (nat_le p (cursor_at c.stream (node_log c t.node) (suc at))) refl
-  where
-    more : t.to - at ≡ suc (t.to - suc at)
-    more = omega arith
-
-    go : (b : Bool) → nat_le p (cursor_at c.stream (node_log c t.node) (suc at)) ≡ b
-        → cond (nat_le p (cursor_at c.stream (node_log c t.node) t.to)) (option_map (λ number. record { log = t.node; index = number }) (cond b (Some at) (first_reaching c.stream (node_log c t.node) p (suc at) (t.to - suc at)))) (reaching_step c later p)
-        ≡ cond b (Some (record { log = t.node; index = at })) (left_of c t (suc at) later p)
-    go true e =
-        let reached = leb-true p (cursor_at c.stream (node_log c t.node) (suc at)) e in
-        let rises = cursor_at-rises c.stream (node_log c t.node) (suc at) t.to h in
-        ap (λ b. cond b (Some (record { log = t.node; index = at })) (reaching_step c later p)) (le-leb p (cursor_at c.stream (node_log c t.node) t.to) (omega (arith, reached, rises)))
-    go false e = refl
+    let more : t.to - at ≡ suc (t.to - suc at) = omega arith in
+    grind (arith, more, nat_tests, cursor_at-rises c.stream (node_log c t.node) (suc at) t.to)
 
 -- a move on a record by which the position is reached, or not
 abbrev pub MovesStep : Cluster → ℕ → ℕ → Spot → Spot → ℕ → Type 0

@@ -1,4 +1,5 @@
 -- What a step that is allowed does, and what one session sees of it; the cursor that a log gives.
+use Rattle.std.proofs.lemmas.Bool.Decides.{nat_tests}
 use Rattle.std.proofs.Common.{◌≡◌, ◌<◌, ◌≤◌, ℕ, suc, [], take, Some, slice_get, arith, sym, ap, subst, ◌∙◌, ◌⊎◌, inl, inr, nat_eq, ◌+◌, zero, true, false, cond, List, ◌∷◌, length, map, Option, None, unwrap_or, filter, nat_le, set}
 use Rattle.std.proofs.lemmas.Bool.{eqb-true, cases_eq, eq-eqb, ne_eqb, leb-false, le-leb, lt-leb}
 use Rattle.std.proofs.lemmas.Option.{same_Some, none-some, slice_get_within, slice_get-map}
@@ -139,16 +140,11 @@ moved c st st' l i pid (inr r) = elim (sessions_step l r.rec (pid_of r.rec) st.s
 
 -- a position passes the test for itself
 pub is_position-at : (o : Option ℕ) (p : ℕ) → o ≡ Some p → is_position o p ≡ true
-is_position-at None p e = absurd (none-some p e)
-is_position-at (Some q) p e = eq-eqb q p (same_Some q p e)
+is_position-at o p e = grind (arith, nat_tests)
 
 -- where there is a next position, it is the one after the cursor
 pub next_position-at : (o : Option ℕ) (cursor next : ℕ) → position_if_next o cursor ≡ Some next → (o ≡ Some (suc cursor)) × (suc cursor ≡ next)
-next_position-at None cursor next e = absurd (none-some next e)
-next_position-at (Some p) cursor next e =
-    let (at, is) = cond_parts (nat_eq p (suc cursor)) (Some p) next e in
-    let same : p ≡ suc cursor = eqb-true _ _ at in
-    (ap Some same, sym same ∙ same_Some p next is)
+next_position-at o cursor next e = grind (arith, nat_tests)
 
 -- the cursor after an allowed `take` is the one that the log alone gives
 taken-allowed : (a : ℕ) (stream : List StreamRec) (off : Text) (cursor next : ℕ)
@@ -159,13 +155,7 @@ taken-allowed a stream off cursor next e = grind (arith, next_position-at (posit
 -- the cursor that an allowed record leaves is the one that the log alone gives
 pub next_cursor-allowed : (a : ℕ) (stream : List StreamRec) (i : ℕ) (rec : NodeRec) (cursor next : ℕ)
     → allowed_cursor (take a stream) i rec cursor ≡ Some next → next_cursor stream i rec cursor ≡ next
-next_cursor-allowed a stream zero (Start None) cursor next e = same_Some 0 next e
-next_cursor-allowed a stream zero (Start (Some off)) cursor next e = ap (λ o. position_or o cursor) (position-take a stream off next e)
-next_cursor-allowed a stream (suc i) (Start off) cursor next e = absurd (none-some next e)
-next_cursor-allowed a stream zero (Take off) cursor next e = taken-allowed a stream off cursor next e
-next_cursor-allowed a stream (suc i) (Take off) cursor next e = taken-allowed a stream off cursor next e
-next_cursor-allowed a stream zero _ cursor next e = same_Some cursor next e
-next_cursor-allowed a stream (suc i) _ cursor next e = same_Some cursor next e
+next_cursor-allowed a stream i rec cursor next e = grind (arith, taken-allowed a stream, position-take a stream)
 
 -- the state's cursors are those that the logs give
 abbrev pub Synced : Cluster → State → Type 0
@@ -198,17 +188,9 @@ taken-reaches : (stream : List StreamRec) (o : Option ℕ) (cursor next p : ℕ)
 taken-reaches stream o cursor next p at is before = grind (arith, leb-false p cursor before, le-leb p (suc cursor), eq-eqb (suc cursor) p, lt-leb p (suc cursor), ne_eqb (suc cursor) p)
 
 -- after the first record, the cursor comes to reach a position by that position's `take` alone
-pub reaches-takes : (a : ℕ) (stream : List StreamRec) (i : ℕ) (rec : NodeRec) (cursor next p : ℕ)
-    → allowed_cursor (take a stream) (suc i) rec cursor ≡ Some next → nat_le p cursor ≡ false → nat_le p next ≡ takes stream p rec
-reaches-takes a stream i (Start off) cursor next p e before = absurd (none-some next e)
-reaches-takes a stream i (Take off) cursor next p e before = grind (arith, next_position-at (position (take a stream) off) cursor next e, taken-reaches stream (position stream off) cursor next p, position-take a stream off (suc cursor))
-reaches-takes a stream i _ cursor next p e before = ap (nat_le p) (sym (same_Some cursor next e)) ∙ before
-
--- the same of any record but the first
 pub reaches-takes-after : (a : ℕ) (stream : List StreamRec) (i : ℕ) (rec : NodeRec) (cursor next p : ℕ)
     → 0 < i → allowed_cursor (take a stream) i rec cursor ≡ Some next → nat_le p cursor ≡ false → nat_le p next ≡ takes stream p rec
-reaches-takes-after a stream zero rec cursor next p h e before = absurd (omega arith)
-reaches-takes-after a stream (suc i) rec cursor next p h e before = reaches-takes a stream i rec cursor next p e before
+reaches-takes-after a stream i rec cursor next p h e before = grind (arith, next_position-at, taken-reaches stream, position-take a stream)
 
 -- the numbers of the steps of one log
 abbrev pub steps_of : ℕ → List Step → List ℕ

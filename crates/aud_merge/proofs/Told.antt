@@ -1,4 +1,5 @@
 -- The state of a session after a prefix of a run is the one that the taken records of its turns give.
+use Rattle.std.proofs.lemmas.Bool.Decides.{nat_tests}
 use Rattle.std.proofs.Common.{◌≡◌, ◌<◌, ◌≤◌, ℕ, zero, suc, min, cond, List, [], ◌∷◌, ◌++◌, length, Some, slice_get, refl, sym, ap, subst, ◌∙◌, arith, unwrap_or}
 use Rattle.std.proofs.lemmas.Bool.{le-leb, lt-leb}
 use Rattle.std.proofs.lemmas.Option.{same_Some, none-some}
@@ -39,16 +40,12 @@ one_more c pid t at rec base session some stands is =
 -- a turn whose records were all taken, and turns of which none was
 by_turns-whole : (c : Cluster) (pid : Text) (st : State) (s : SessionState) (t : Turn) (later : List Turn) → t.from < t.to → t.to ≤ taken_of st t.node
     → by_turns c pid st s (t ∷ later) ≡ by_turns c pid st (after_records t.node pid s (between (node_log c t.node) t.from t.to)) later
-by_turns-whole c pid st s t later some taken =
-    let all : min (taken_of st t.node) t.to ≡ t.to = omega (arith, taken) in
-    ap (λ b. cond b s (by_turns c pid st (after_records t.node pid s (between (node_log c t.node) t.from (min (taken_of st t.node) t.to))) later)) (lt-leb (taken_of st t.node) t.from (omega (arith, some, taken)))
-    ∙ ap (λ n. by_turns c pid st (after_records t.node pid s (between (node_log c t.node) t.from n)) later) all
+by_turns-whole c pid st s t later some taken = grind (arith, nat_tests)
 
 -- turns of which nothing was taken leave the session as it is
 by_turns-unstarted : (c : Cluster) (pid : Text) (st : State) (s : SessionState) (rest : List Turn) → Unstarted st rest → by_turns c pid st s rest ≡ s
 by_turns-unstarted c pid st s [] none = refl
-by_turns-unstarted c pid st s (t ∷ rest) none =
-    ap (λ b. cond b s (by_turns c pid st (after_records t.node pid s (between (node_log c t.node) t.from (min (taken_of st t.node) t.to))) rest)) (le-leb (taken_of st t.node) t.from none.0)
+by_turns-unstarted c pid st s (t ∷ rest) none = grind (arith, nat_tests)
 
 -- the turns that aren't over: the one that the session is in, and the later ones
 abbrev ahead : Spot → List Turn
@@ -151,8 +148,8 @@ module _ (c : Cluster) (who : Who) (last : ℕ) (turns : List Turn) (none : HasN
       t then (ap (λ o. slice_get (states_from c (unwrap_or o st) steps) t) (sym allowed) ∙ at)
 
 -- AFTER EACH PREFIX of a run
-pub session-turns : (c : Cluster) (run : List Step) (who : Who) (turns : List Turn) → IsRun c run → IsChain c who turns
+pub session_turns : (c : Cluster) (run : List Step) (who : Who) (turns : List Turn) → IsRun c run → IsChain c who turns
     → (t : ℕ) (then : State) → slice_get (states c run) t ≡ Some then → session_of then who.pid ≡ by_turns c who.pid then Absent turns
-session-turns c run who turns is chain =
+session_turns c run who turns is chain =
     told_along c who (length turns) turns (chain-none c who turns chain) run (start c) (Waiting 0 (own_room who.sid) turns) (omega arith, at_start c who turns chain.are_turns) (RunsOn-run c run is) (Synced-start c)
     (record { base = Absent; same = λ u _. refl; at = refl })

@@ -14,6 +14,7 @@ ghost use Rattle.aud_merge.specs.Due.{due, reach, session_at_reach, states};
 ghost use Rattle.aud_merge.specs.ByTurns.{IsPrefixOf, FallsAfter, HasRooms, reaching_step, rooms_of_turns, by_turns};
 
 /// After each prefix of a run, a session is what the taken records of its turns make of it.
+#[tactic(auto, using(crate::proofs::Told::session_turns))]
 pub fn session_by_turns()
     ensures { (c : Cluster) (run : List Step) (who : Who) (turns : List Turn)
         → IsRun c run → IsChain c who turns
