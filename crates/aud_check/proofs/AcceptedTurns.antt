@@ -1,4 +1,6 @@
 -- Accepted turns are turns of the session.
+use Rattle.aud_base.proofs.SameText.{same_text}
+use Rattle.std.proofs.lemmas.Bool.Decides.{nat_tests}
 use Rattle.std.proofs.Common.{◌≡◌, ◌<◌, ◌+◌, ℕ, suc, true, List, [], ◌∷◌, map, max, length, drop, Some, slice_get, nat_eq, refl, sym, ap, subst, ◌∙◌, arith, true≢false}
 use Rattle.std.specs.List.{All}
 use Rattle.std.specs.Str.{bytes_eq}
@@ -24,15 +26,11 @@ use Rattle.aud_check.proofs.TurnRefusals.{begun-some, from_within, from_to}
 
 -- the session's `open` as the turn's first record
 opens : (pid : Text) (rec : NodeRec) → begins_turn pid 0 rec ≡ true → rec ≡ Opened pid (opened_sid (Some rec)) (opened_nsp (Some rec))
-opens pid (Opened other sid nsp) e = ap (λ x. Opened x sid nsp) ((bytes_decides other pid).0 e)
-opens pid _ e = absurd (true≢false (sym e))
+opens pid rec e = grind (arith, λ (other : Text). same_text other pid)
 
 -- its `back` as a later turn's
 comes_back : (pid : Text) (k : ℕ) (rec : NodeRec) → begins_turn pid (suc k) rec ≡ true → rec ≡ Back pid (suc k)
-comes_back pid k (Back other number) e =
-    let (same, counted) = and_parts (bytes_eq other pid) (nat_eq number (suc k)) e in
-    ap (λ x. Back x number) ((bytes_decides other pid).0 same) ∙ ap (Back pid) (eqb-true number (suc k) counted)
-comes_back pid k _ e = absurd (true≢false (sym e))
+comes_back pid k rec e = grind (arith, nat_tests, λ (other : Text). same_text other pid)
 
 module _ (c : Cluster) (pid : Text) (k : ℕ) (t : TurnSeen) (later : List TurnSeen) (over : IsTurnOver c t) (is : IsTurnAccepted c pid k t later) where
   -- it has records
@@ -143,6 +141,4 @@ lows c pid k (t ∷ later) (is, others) = is.cursors.low_is
 -- the greatest high that accepted turns show is that of their slices
 pub highs : (c : Cluster) (pid : Text) (k : ℕ) (turns : List TurnSeen) → AcceptedFrom c pid k turns → greatest_shown_high turns ≡ greatest_high (slices_at c turns)
 highs c pid k [] all = refl
-highs c pid k (t ∷ later) (is, others) =
-    ap (λ n. max n (greatest_shown_high later)) is.cursors.high_is
-    ∙ ap (λ n. max (slice_of c (turn_at c t)).high n) (highs c pid (suc k) later others)
+highs c pid k (t ∷ later) (is, others) = grind (arith, is, highs c pid (suc k) later others)

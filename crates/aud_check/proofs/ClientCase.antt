@@ -1,5 +1,5 @@
 -- What a client received, by its stays.
-use Rattle.std.proofs.Common.{◌≡◌, ℕ, true, ◌&&◌, not, List, [], ◌∷◌, Option, Some, None, option_map, refl, sym, ap, subst, ◌∙◌}
+use Rattle.std.proofs.Common.{arith, ◌≡◌, ℕ, true, ◌&&◌, not, List, [], ◌∷◌, Option, Some, None, option_map, refl, sym, ap, subst, ◌∙◌}
 use Rattle.std.proofs.lemmas.Bool.{and_parts}
 use Rattle.std.proofs.lemmas.Option.{none-some}
 use Rattle.std.specs.Option.{unwrap_or}
@@ -34,12 +34,7 @@ all_in who (stay ∷ stays) all =
 -- what a tap tells is told by its records
 pub told_recs : (c : Cluster) (client : Text) (t : TranscriptSeen) → Some t ≡ transcript_named c client
     → (recs : List ClientRec) × (client_at c (place_named c client) ≡ Some recs) × (t ≡ transcript_of c.stream recs)
-told_recs c client t is = go (client_at c (place_named c client)) refl is
-  where
-    go : (o : Option (List ClientRec)) → client_at c (place_named c client) ≡ o → Some t ≡ option_map (transcript_of c.stream) o
-        → (recs : List ClientRec) × (client_at c (place_named c client) ≡ Some recs) × (t ≡ transcript_of c.stream recs)
-    go None at transcript = absurd (none-some t (sym transcript))
-    go (Some recs) at transcript = (recs, at, ap (λ o. unwrap_or o t) transcript)
+told_recs c client t is = grind arith
 
 -- the stays of one session are in one namespace
 pub one_namespace : (who : Who) (stays : List StaySeen) → are_of_session who stays ≡ true → are_in_namespace who.nsp stays ≡ true
@@ -47,9 +42,7 @@ one_namespace who stays is = all_in who stays (and_parts (not (is_empty stays)) 
 
 -- where the tap tells of the session, the refusal of what was received is the tap's
 pub client_refused : (who : Who) (case : Case) → are_of_session who case.stays ≡ true → (refusal : Refusal) → IsReceivedRefusal case refusal → IsClientRefusal who case refusal
-client_refused who case named (Received fault) first = (named, first)
-client_refused who case named Memory first = tt
-client_refused who case named _ first = absurd first
+client_refused who case named refusal first = grind arith
 
 module _ (c : Cluster) (client : Text) (who : Who) (due : List ℕ) where
   -- the case of a tap with these records, where these are the frames

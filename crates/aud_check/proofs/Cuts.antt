@@ -1,12 +1,11 @@
 -- Ascending positions, cut at a place.
 use Rattle.std.proofs.Common.{◌≡◌, ◌<◌, ◌≤◌, ◌+◌, ◌-◌, ℕ, zero, suc, Bool, true, ◌&&◌, List, [], ◌∷◌, ◌++◌, length, map, take, drop, get_or, Option, Some, None, slice_get, nat_le, nat_lt, refl, sym, ap, ◌∙◌, ◌⊎◌, inl, inr, arith, length-append}
 use Rattle.std.specs.List.{list_all}
-use Rattle.std.proofs.lemmas.Bool.{cases_lt, le-leb, lt-leb}
+use Rattle.std.proofs.lemmas.Bool.Decides.{nat_tests}
 use Rattle.std.proofs.lemmas.List.{get_or_append_left}
 use Rattle.std.proofs.lemmas.Option.{get_or_from_slice_get, none-some, same_Some}
 use Rattle.aud_base.proofs.Lists.{element_at}
-use Rattle.aud_base.proofs.Numbers.{lt_true, lt_false}
-use Rattle.aud_base.proofs.Truth.{and_true, and_none}
+use Rattle.aud_base.proofs.Truth.{and_true}
 use Rattle.aud_client.specs.StaySeen.{FrameSeen}
 use Rattle.aud_merge.specs.ByTurns.{IsPrefixOf}
 use Rattle.aud_check.specs.Private.Ascending.{IsAscending, is_cut_or_not}
@@ -34,19 +33,11 @@ drop_ascends (x ∷ xs) (suc count) up = drop_ascends xs count (tail x xs up)
 
 -- of two positions, the greater one tells whether neither passes a third, and the lesser one whether both do
 greater_tells : (x z q : ℕ) → x < z → (nat_le x q && nat_le z q) ≡ nat_le z q
-greater_tells x z q h = go (cases_lt q z)
-  where
-    go : (q < z) ⊎ (z ≤ q) → (nat_le x q && nat_le z q) ≡ nat_le z q
-    go (inl past) = ap (λ b. nat_le x q && b) (lt-leb z q past) ∙ and_none (nat_le x q) ∙ sym (lt-leb z q past)
-    go (inr upto) = ap (λ b. b && nat_le z q) (le-leb x q (omega arith))
+greater_tells x z q h = grind (arith, nat_tests)
 
 -- the lesser one tells whether both pass it
 lesser_tells : (x y q : ℕ) → x < y → (nat_lt q x && nat_lt q y) ≡ nat_lt q x
-lesser_tells x y q h = go (cases_lt q x)
-  where
-    go : (q < x) ⊎ (x ≤ q) → (nat_lt q x && nat_lt q y) ≡ nat_lt q x
-    go (inl past) = ap (λ b. nat_lt q x && b) (lt_true q y (omega arith)) ∙ and_true (nat_lt q x)
-    go (inr upto) = ap (λ b. b && nat_lt q y) (lt_false q x upto) ∙ sym (lt_false q x upto)
+lesser_tells x y q h = grind (arith, nat_tests)
 
 -- so the last of ascending ones tells for all
 upto_at : (q z : ℕ) (xs : List ℕ) (k : ℕ) → IsAscending xs → suc k ≡ length xs → slice_get xs k ≡ Some z → list_all (λ p. nat_le p q) xs ≡ nat_le z q

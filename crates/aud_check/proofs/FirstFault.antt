@@ -22,19 +22,13 @@ use Rattle.aud_check.proofs.Ranks.{no_mismatch, some_or_none, what_is_left}
 
 -- a refusal that names the first fault
 pub names_first : (case : Case) (fault : Fault) (refusal : Refusal) → NamesFault fault refusal → IsFirstFault case fault → IsReceivedRefusal case refusal
-names_first case fault (Received other) is first = subst (IsFirstFault case) (sym is) first
-names_first case fault Memory is first = tt
-names_first case fault _ is first = absurd is
+names_first case fault refusal is first = grind arith
 
 -- where the tap decodes and has no orphan, the first frame that isn't its entry is the first fault
 pub altered_first : (case : Case) → case.transcript.bad ≡ None → case.transcript.orphan ≡ false → (frame : FrameSeen) → IsFirstAltered case.stream case.frames frame
     → IsFirstFault case (Content (offset_at case.stream frame.position))
-altered_first case decodes has_no_orphan frame first = record { holds = (frame, first, refl); none_before = go }
-  where
-    go : (other : Fault) → fault_rank other < 2 → HasFault case other → ⊥
-    go Frame before h = some_or_none case.transcript.bad decodes h
-    go Orphan before h = true≢false (sym h ∙ has_no_orphan)
-    go _ before h = absurd (omega (arith, before))
+altered_first case decodes has_no_orphan frame first =
+    record { holds = (frame, first, refl); none_before = λ other before h. grind (arith, some_or_none case.transcript.bad decodes) }
 
 module _ (stream : List StreamRec) (tap : TranscriptSeen) (stays : List StaySeen) (due : List ℕ) (frames : List FrameSeen) (positions : List ℕ) (of_stays : frames ≡ frames_in stays)
     (of_frames : positions ≡ map position_of frames) (decodes : tap.bad ≡ None) (has_no_orphan : tap.orphan ≡ false) (are_entries : AreEntries stream frames) where
@@ -56,8 +50,7 @@ module _ (stream : List StreamRec) (tap : TranscriptSeen) (stays : List StaySeen
 
   -- each mismatch has the same rank
   rank_of : (m : Mismatch) → fault_rank (fault_of stream m) ≡ 3
-  rank_of (wrong.Extra p) = refl
-  rank_of _ = refl
+  rank_of m = grind arith
 
   -- a mismatch is the first fault
   of_mismatch : (m : Mismatch) → mismatch (positions_in case) due ≡ Some m → IsFirstFault case (fault_of stream m)

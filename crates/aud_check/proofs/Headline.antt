@@ -1,5 +1,5 @@
 -- What an accepted certificate says of every run, and a mismatch.
-use Rattle.std.proofs.Common.{◌≡◌, List, map, Some, subst}
+use Rattle.std.proofs.Common.{arith, ◌≡◌, List, map, Some, subst}
 use Rattle.aud_node.specs.Cluster.{Cluster}
 use Rattle.aud_rooms.specs.Turns.{Who, Turn, AreTurns, IsChain, slice_of}
 use Rattle.aud_rooms.specs.TurnsDue.{turns_due}
@@ -44,11 +44,7 @@ module _ (c : Cluster) (cert : CertificateSeen) where
 
   -- where a mismatch is refused, it is the fault
   refused_mismatch : (refusal : Refusal) → IsMismatch refusal → RefusesFirst c cert refusal → (f : Fault) × (mismatch_fault (certificate_case c cert) ≡ Some f)
-  refused_mismatch (Received (fault.Extra off)) about is = (fault.Extra off, holds (fault.Extra off) is)
-  refused_mismatch (Received (fault.Doubled off)) about is = (fault.Doubled off, holds (fault.Doubled off) is)
-  refused_mismatch (Received (fault.Swapped off)) about is = (fault.Swapped off, holds (fault.Swapped off) is)
-  refused_mismatch (Received (fault.Lost off)) about is = (fault.Lost off, holds (fault.Lost off) is)
-  refused_mismatch _ about is = absurd about
+  refused_mismatch refusal about is = grind (arith, holds)
 
   -- of the whole chain, a mismatch says that in no run they are
   pub in_no_run : (refusal : Refusal) → RefusesFirst c cert refusal → IsMismatch refusal
@@ -61,5 +57,4 @@ module _ (c : Cluster) (cert : CertificateSeen) where
 
 -- a mismatch is no want of memory
 pub first_of_all : (c : Cluster) (cert : CertificateSeen) (refusal : Refusal) → IsMismatch refusal → IsFirstRefusal c cert refusal → RefusesFirst c cert refusal
-first_of_all c cert Memory about is = absurd about
-first_of_all c cert _ about is = is
+first_of_all c cert refusal about is = grind arith

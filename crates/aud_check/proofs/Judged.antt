@@ -1,5 +1,5 @@
 -- The first refusal of a certificate, by what was found before it.
-use Rattle.std.proofs.Common.{◌≡◌, ℕ, true, List, sym, ap, subst, ◌∙◌, true≢false}
+use Rattle.std.proofs.Common.{arith, ◌≡◌, ℕ, true, List, sym, ap, subst, ◌∙◌, true≢false}
 use Rattle.aud_node.specs.Stream.{Text}
 use Rattle.aud_node.specs.Cluster.{Cluster}
 use Rattle.aud_rooms.specs.Turns.{Who}
@@ -21,8 +21,7 @@ use Rattle.aud_check.proofs.Ranks.{first_of_turns, first_span, first_names, firs
 
 -- a refusal that comes before all others is the first
 pub first_refusal : (c : Cluster) (cert : CertificateSeen) (refusal : Refusal) → RefusesFirst c cert refusal → IsFirstRefusal c cert refusal
-first_refusal c cert Memory is = tt
-first_refusal c cert _ is = is
+first_refusal c cert refusal is = grind arith
 
 -- the first refusal of the turns is the first of the certificate
 pub turns_first : (c : Cluster) (cert : CertificateSeen) (refusal : Refusal) → IsFirstOfTurns c cert.pid cert.turns refusal → IsFirstRefusal c cert refusal

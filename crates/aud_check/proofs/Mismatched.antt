@@ -1,5 +1,5 @@
 -- A mismatch is a fault: where none holds, there is none.
-use Rattle.std.proofs.Common.{◌≡◌, Option, Some, None, option_map, refl, ap}
+use Rattle.std.proofs.Common.{arith, ◌≡◌, Option, Some, None, option_map, refl, ap}
 use Rattle.aud_cert.specs.declared.fault.Fault.{Fault}
 use Rattle.aud_check.specs.declared.compare.Mismatch.{Mismatch}
 use Rattle.aud_check.specs.declared.compare.Mismatch.TheVariants.{Extra}
@@ -8,8 +8,7 @@ use Rattle.aud_check.specs.Faults.{Case, HasFault, fault_of, positions_in}
 
 -- a mismatch is its fault
 pub is_fault : (case : Case) (m : Mismatch) → mismatch (positions_in case) case.due ≡ Some m → HasFault case (fault_of case.stream m)
-is_fault case (Extra p) e = ap (option_map (fault_of case.stream)) e
-is_fault case _ e = ap (option_map (fault_of case.stream)) e
+is_fault case m e = grind arith
 
 -- where no fault holds of what was received, it begins what was due
 pub none_mismatched : (case : Case) → ((fault : Fault) → HasFault case fault → ⊥) → mismatch (positions_in case) case.due ≡ None

@@ -1,4 +1,5 @@
 -- How a turn ends, by the session's own records alone.
+use Rattle.std.proofs.lemmas.Bool.Decides.{nat_tests}
 use Rattle.std.proofs.Common.{◌≡◌, ◌<◌, ◌≤◌, ◌+◌, ◌-◌, ℕ, zero, suc, Bool, true, false, cond, List, [], ◌∷◌, length, take, drop, min, Option, Some, None, slice_get, get_or, refl, sym, ap, ◌∙◌, ◌⊎◌, inl, inr, nat_eq, nat_le, nat_lt, arith, length-drop}
 use Rattle.std.specs.List.{filter}
 use Rattle.std.proofs.lemmas.Bool.{and_parts, cases_eq, eq-eqb, ne_eqb, leb-true}
@@ -34,11 +35,7 @@ own_end pid k log to (n ∷ ns) = numbered_end (part_at pid k (slice_get log n))
 
 -- a record that doesn't name the session stands inside
 inner_of_others : (pid : Text) (k : ℕ) (rec : NodeRec) → record_names (Some rec) pid ≡ false → part_of pid k rec ≡ Inner
-inner_of_others pid k (Opened other sid nsp) e = ap (λ b. cond b Foreign Inner) e
-inner_of_others pid k (Broke other number) e = ap (λ b. cond b (cond (nat_eq number k) (Last ByBreak) Foreign) Inner) e
-inner_of_others pid k (Back other number) e = ap (λ b. cond b Foreign Inner) e
-inner_of_others pid k (Gone other) e = ap (λ b. cond b (Last ByGone) Inner) e
-inner_of_others pid k _ e = refl
+inner_of_others pid k rec e = grind arith
 
 module _ (pid : Text) (k : ℕ) (log : List NodeRec) (last : ℕ) (within : last ≤ length log) where
   -- the record with this number names the session
@@ -47,28 +44,12 @@ module _ (pid : Text) (k : ℕ) (log : List NodeRec) (last : ℕ) (within : last
 
   -- what a record makes of the end after it, by its number or by the records after it
   numbered : (i : ℕ) (part : Part) (rest : Option End) → i < last → numbered_end part (nat_eq (i + 1) last) rest ≡ end_past part (between log (suc i) last) rest
-  numbered i Inner rest h = refl
-  numbered i Foreign rest h = refl
-  numbered i (Last e) rest h = go (cases_eq (i + 1) last)
-    where
-      go : (i + 1 ≡ last) ⊎ (i + 1 ≡ last → ⊥) → numbered_end (Last e) (nat_eq (i + 1) last) rest ≡ end_past (Last e) (between log (suc i) last) rest
-      go (inl same) =
-          ap (λ b. numbered_end (Last e) b rest) (eq-eqb (i + 1) last same)
-          ∙ sym (ap (λ recs. end_past (Last e) recs rest) (between-none log (suc i) last (omega arith)))
-      go (inr more) =
-          let (next, at) = element_at log (suc i) (omega (arith, more)) in
-          ap (λ b. numbered_end (Last e) b rest) (ne_eqb (i + 1) last more)
-          ∙ sym (ap (λ recs. end_past (Last e) recs rest) (between-more log (suc i) last next (omega (arith, more)) at))
+  numbered i part rest h = grind (arith, nat_tests, element_at log (suc i), between-none log (suc i) last, between-more log (suc i) last)
 
   -- the end from this record on, whether or not it names the session
   step : (a : ℕ) (rec : NodeRec) → slice_get log a ≡ Some rec → a < last → (ns : List ℕ) → own_end pid k log last ns ≡ turn_end pid k (between log (suc a) last)
       → (b : Bool) → record_names (Some rec) pid ≡ b → own_end pid k log last (cond b (a ∷ ns) ns) ≡ turn_end pid k (rec ∷ between log (suc a) last)
-  step a rec at h ns ih true names =
-      ap (λ o. numbered_end (part_at pid k o) (nat_eq (a + 1) last) (own_end pid k log last ns)) at
-      ∙ ap (numbered_end (part_of pid k rec) (nat_eq (a + 1) last)) ih
-      ∙ numbered a (part_of pid k rec) (turn_end pid k (between log (suc a) last)) h
-  step a rec at h ns ih false names =
-      ih ∙ sym (ap (λ part. end_past part (between log (suc a) last) (turn_end pid k (between log (suc a) last))) (inner_of_others pid k rec names))
+  step a rec at h ns ih b names = grind (arith, at, numbered a (part_of pid k rec), inner_of_others pid k rec)
 
   -- the end from a record on, by those of the session among so many
   ends_from : (count a : ℕ) → a + count ≡ last → own_end pid k log last (filter own (numbers_from a count)) ≡ turn_end pid k (between log a last)

@@ -24,11 +24,7 @@ use Rattle.aud_check.proofs.TurnRefusals.{not_refused}
 
 -- a turn is refused by the first four alone
 turn_rank : (c : Cluster) (pid : Text) (k : ℕ) (t : TurnSeen) (later : List TurnSeen) (refusal : Refusal) → RefusesTurn c pid k t later refusal → refusal_rank refusal ≤ 3
-turn_rank c pid k t later NotItsTurn h = omega arith
-turn_rank c pid k t later EndInside h = omega arith
-turn_rank c pid k t later NoEnd h = omega arith
-turn_rank c pid k t later Cursor h = omega arith
-turn_rank c pid k t later _ h = absurd h
+turn_rank c pid k t later refusal h = grind arith
 
 module _ (c : Cluster) (cert : CertificateSeen) where
   -- the first that refuses the turns is the first of all
@@ -82,8 +78,7 @@ no_mismatch case none f h = none-some f (sym (ap (option_map (fault_of case.stre
 
 -- nothing is both there and missing
 pub some_or_none : {A : Type 0} (o : Option A) → o ≡ None → IsSome o → ⊥
-some_or_none None e h = true≢false (sym h)
-some_or_none (Some x) e h = none-some x (sym e)
+some_or_none o e h = grind arith
 
 module _ (case : Case) (decodes : case.transcript.bad ≡ None) (has_no_orphan : case.transcript.orphan ≡ false) (are_entries : AreEntries case.stream case.frames) where
   -- where the tap decodes, has no orphan and each frame is its entry, a fault is a mismatch or a window
@@ -133,8 +128,4 @@ module _ (c : Cluster) (cert : CertificateSeen) where
 
   -- nothing refuses an accepted certificate
   pub nothing_refuses : IsAccepted c cert → (place : Place) (refusal : Refusal) → Refuses c cert place refusal → ⊥
-  nothing_refuses is (AtTurn k) refusal (t, at, h) = not_refused c cert.pid k t (drop (suc k) cert.turns) (is.are_turns k t at) refusal h
-  nothing_refuses is AtWhole Span h = h is.are_spans
-  nothing_refuses is AtWhole Names h = true≢false (sym is.are_named ∙ h)
-  nothing_refuses is AtWhole (Received f) h = no_fault (certificate_case c cert) is.is_received f h
-  nothing_refuses is AtWhole _ h = h
+  nothing_refuses is place refusal h = grind (arith, not_refused c cert.pid, no_fault (certificate_case c cert))

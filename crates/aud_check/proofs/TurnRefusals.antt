@@ -13,11 +13,7 @@ use Rattle.aud_check.specs.TurnRefusals.{is_begun_by, RefusesTurn, IsTurnAccepte
 module _ (c : Cluster) (pid : Text) (k : ℕ) (t : TurnSeen) (later : List TurnSeen) where
   -- nothing refuses an accepted turn
   pub not_refused : IsTurnAccepted c pid k t later → (refusal : Refusal) → RefusesTurn c pid k t later refusal → ⊥
-  not_refused is NotItsTurn h = true≢false (sym is.begins ∙ h)
-  not_refused is EndInside h = none-some is.ends.end (sym h ∙ is.ends.is_end)
-  not_refused is NoEnd h = h is.ends
-  not_refused is Cursor h = h is.cursors
-  not_refused is _ h = h
+  not_refused is refusal h = grind arith
 
 -- a turn that begins has a record
 pub begun-some : (pid : Text) (k : ℕ) (recs : List NodeRec) → is_begun_by pid k (slice_get recs 0) ≡ true → 0 < length recs

@@ -18,6 +18,7 @@ pub(crate) enum Mismatch {
 
 /// The first mismatch of the received positions with those due; none where the due ones begin with the received
 /// ones. Both are gone through once, and once more at the mismatch.
+#[tactic(auto, using(crate::proofs::Agreed::no_mismatch))]
 pub(crate) fn first_mismatch(received: &[u64], due: &[u64]) -> Option<Mismatch>
     ensures first { result ≡ mismatch received.now due.now }
     ensures none_where_prefix { IsNone result ↔ IsPrefixOf received.now due.now }
@@ -26,6 +27,7 @@ pub(crate) fn first_mismatch(received: &[u64], due: &[u64]) -> Option<Mismatch>
 }
 
 /// How far the lists agree.
+#[tactic(auto, using(crate::proofs::Agreed::agreed_ends))]
 fn agreed_len(received: &[u64], due: &[u64]) -> usize
     ensures { result ≡ agreed received.now due.now }
 {
@@ -37,6 +39,7 @@ fn agreed_len(received: &[u64], due: &[u64]) -> usize
 }
 
 /// What is wrong at this place; nothing where the received positions have ended.
+#[tactic(auto, using(std::proofs::lemmas::Option::gets))]
 fn wrong_at(received: &[u64], due: &[u64], place: usize) -> Option<Mismatch>
     ensures { result ≡ wrong_at received.now due.now place }
 {
