@@ -12,7 +12,7 @@ use Rattle.aud_cert.specs.Certificate.{TurnSeen, CertificateSeen, IsTurnOver, Is
 use Rattle.aud_cert_text.specs.Steps.{each}
 use Rattle.aud_cert_text.specs.Parsed.{parsed_span, parsed_turn, each_item, parsed_certificate}
 use Rattle.aud_cert_text.specs.Text.{items, span_data, turn_data, certificate_data}
-use Rattle.aud_cert_text.specs.Reading.{json_of, is_node, is_client, turn_over, certificate_over, certificate_of}
+use Rattle.aud_cert_text.specs.Reading.{certificate_json, is_node, is_client, turn_over, certificate_over, certificate_of}
 use Rattle.aud_cert_text.specs.Sound.{turn_without_records, without_records, names_taps, IsSound}
 
 -- ---- the JSON is shallow and has no float
@@ -94,6 +94,6 @@ over-back c cert known are =
     rw (parts.0, all-lent-back c cert.turns parts.1 are) refl
 
 -- what is written for a sound certificate reads as that certificate
-pub certificate-back : (text : Text) (cert : CertificateSeen) → json_of text ≡ Ok (certificate_data cert) → (c : Cluster) → IsSound c cert → certificate_of c text ≡ Ok cert
+pub certificate-back : (text : Text) (cert : CertificateSeen) → certificate_json text ≡ Ok (certificate_data cert) → (c : Cluster) → IsSound c cert → certificate_of c text ≡ Ok cert
 unfolding certificate_of
 certificate-back text cert json c sound = rw (json, parsed-back cert, sound.formed, over-back c cert sound.taps sound.over, sound.within) refl

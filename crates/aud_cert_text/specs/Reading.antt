@@ -18,9 +18,9 @@ use Rattle.aud_cert_text.specs.Parsed.{ParsedTurn, ParsedCertificate, parsed_cer
 
 -- ---- K1: the text
 
--- the value of JSON text in UTF-8 (RFC 8259)
-abbrev pub json_of : Text → Result Data CertFault
-json_of = json_or Syntax
+-- the JSON value of a certificate's text, in UTF-8 (RFC 8259)
+abbrev pub certificate_json : Text → Result Data CertFault
+certificate_json = json_or Syntax
 
 -- there is a turn
 abbrev pub has_turns : List ParsedTurn → Bool
@@ -86,5 +86,5 @@ certificate_in c d = do
 -- the certificate, or the first of `Syntax`, `UnknownTap` and `Range` that holds of the whole text
 unfoldable pub certificate_of : Cluster → Text → Result CertificateSeen CertFault
 certificate_of c text = do
-  d ← json_of text
+  d ← certificate_json text
   certificate_in c d

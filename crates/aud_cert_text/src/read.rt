@@ -7,7 +7,7 @@ ghost use Rattle.aud_cert_text.specs.Steps.{Gives};
 ghost use Rattle.aud_cert_text.specs.Parsed.{ParsedTurn};
 ghost use Rattle.aud_cert.specs.Certificate.{IsOver};
 ghost use Rattle.aud_cert_text.specs.Sound.{IsSound};
-ghost use Rattle.aud_cert_text.specs.Reading.{json_of, is_formed, certificate_in, certificate_of};
+ghost use Rattle.aud_cert_text.specs.Reading.{certificate_json, is_formed, certificate_in, certificate_of};
 
 use crate::fault::CertFault;
 use crate::lend::certificate;
@@ -21,7 +21,7 @@ use std::alloc::Global;
 
 /// The value of JSON text.
 fn json(alloc: Global, text: &[u8]) -> Result<Value, CertFault>
-    ensures { Gives view result (json_of text.now) }
+    ensures { Gives view result (certificate_json text.now) }
 {
     match Value::from_slice(alloc, text) {
         Ok(value) => Ok(value),

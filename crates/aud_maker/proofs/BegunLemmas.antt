@@ -40,11 +40,7 @@ among p first (suc count) n e a b = go (p first) refl (cases_eq first n) (λ h. 
 
 -- the tap of a record
 pub tap_of : (c : Cluster) (node i : ℕ) (rec : NodeRec) → slice_get (node_log c node) i ≡ Some rec → (tap : Tap) × (slice_get c.taps node ≡ Some tap)
-tap_of c node i rec at = go (slice_get c.taps node) at
-  where
-    go : (o : Option Tap) → slice_get (node_recs (option_map (λ (tap : Tap). tap.records) o)) i ≡ Some rec → (tap : Tap) × (o ≡ Some tap)
-    go None at = absurd (none-some rec at)
-    go (Some tap) at = (tap, refl)
+tap_of c node i rec at = grind arith
 
 -- a record with the session's pid names it
 pub named : (pid : Text) (rec : NodeRec) → pid_of rec ≡ Some pid → record_names (Some rec) pid ≡ true
@@ -150,17 +146,11 @@ begun c pid k = elim (begun-among c pid k (own_places c pid)) as (λ _. MayBegin
 
 -- a turn that is found begun is one that its node's log begins
 pub begun-is : (c : Cluster) (pid : Text) (k : ℕ) (t : Turn) → turn_begun c (own_places c pid) pid k ≡ Some t → IsBegun c pid k t
-begun-is c pid k t e = elim (begun c pid k) as (λ _. IsBegun c pid k t) [
-  | inl none ↦ absurd (none-some t (sym none.0 ∙ e))
-  | inr found ↦ subst (IsBegun c pid k) (same_Some found.0 t (sym found.1 ∙ e)) found.2
-]
+begun-is c pid k t e = grind (arith, begun c pid k)
 
 -- no turn is begun past the last number
 pub none_past : (c : Cluster) (pid : Text) (last k : ℕ) → ((node : ℕ) → BeginsUpTo (node_log c node) pid last) → last < k → turn_begun c (own_places c pid) pid k ≡ None
-none_past c pid last k upto h = elim (begun c pid k) as (λ _. turn_begun c (own_places c pid) pid k ≡ None) [
-  | inl none ↦ none.0
-  | inr found ↦ let r = found.2 in let le = upto found.0.node found.0.from k r.first r.there r.begins in absurd (omega arith)
-]
+none_past c pid last k upto h = grind (arith, begun c pid k, upto)
 
 -- ---- the turns of a chain
 

@@ -46,11 +46,7 @@ indexed-ends log pid k from to is =
 
 -- where the test of an end passes, the turn may end so
 may-true : (c : Cluster) (t : Turn) (later : List Turn) (o : Option End) → may_end (is_empty later) (nat_eq t.to (length (node_log c t.node))) o ≡ true → (e : End) × (o ≡ Some e) × MayEnd c t later e
-may-true c t later None e = absurd (false≢true e)
-may-true c t later (Some ByBreak) e = (ByBreak, refl, tt)
-may-true c t [] (Some ByGone) e = (ByGone, refl, refl)
-may-true c t [] (Some ByLog) e = (ByLog, refl, (refl, eqb-true t.to (length (node_log c t.node)) e))
-may-true c t (u ∷ us) (Some _) e = absurd (false≢true e)
+may-true c t later o e = grind (arith, nat_tests)
 
 -- where a turn may end so, the test of its end passes
 true-may : (c : Cluster) (t : Turn) (later : List Turn) (e : End) → MayEnd c t later e → may_end (is_empty later) (nat_eq t.to (length (node_log c t.node))) (Some e) ≡ true
@@ -58,12 +54,7 @@ true-may c t later e may = grind (arith, nat_tests)
 
 -- a record that begins turn k is the one that begins it, where its names are the session's
 begun-beginning : (who : Who) (k : ℕ) (rec : NodeRec) → begins_turn who.pid k rec ≡ true → (k ≡ 0 → names_opened (Some rec) ≡ Some (who.sid, who.nsp)) → rec ≡ beginning who k
-begun-beginning who zero (Opened other sid nsp) e opened =
-    ap (λ p. Opened p sid nsp) (same_text other who.pid e) ∙ ap (λ (o : Text × Text). Opened who.pid o.0 o.1) (same_Some (sid, nsp) (who.sid, who.nsp) (opened refl))
-begun-beginning who (suc k) (Back other number) e opened =
-    let both = and_parts (bytes_eq other who.pid) (nat_eq number (suc k)) e in
-    ap (λ p. Back p number) (same_text other who.pid both.0) ∙ ap (λ n. Back who.pid n) (eqb-true number (suc k) both.1)
-begun-beginning who k _ e opened = absurd (false≢true e)
+begun-beginning who k rec e opened = grind (arith, nat_tests, λ (other : Text). same_text other who.pid)
 
 module _ (c : Cluster) (who : Who) where
   -- turns that the nodes begin and that end as they may are the session's turns
@@ -95,13 +86,11 @@ module _ (c : Cluster) (who : Who) where
 
 -- a chain's first turn names the session
 pub opening-names : (c : Cluster) (who : Who) (turns : List Turn) → 0 < length turns → AreTurns c who 0 turns → opening_of c turns ≡ Some (who.sid, who.nsp)
-opening-names c who [] some are = absurd (omega arith)
-opening-names c who (t ∷ later) some are = ap names_opened are.0.begins
+opening-names c who turns some are = grind arith
 
 -- whether there are none, by their number
 empty-length : (turns : List Turn) → is_empty turns ≡ nat_eq (length turns) 0
-empty-length [] = refl
-empty-length (t ∷ ts) = grind (arith, nat_tests)
+empty-length turns = grind (arith, nat_tests)
 
 -- no turns are left exactly after the last
 left-empty : (turns : List Turn) (n : ℕ) → n ≤ length turns → is_empty (drop n turns) ≡ nat_eq n (length turns)

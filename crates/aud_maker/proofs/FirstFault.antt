@@ -28,8 +28,7 @@ use Rattle.aud_maker.specs.Made.{is_turn_ordered}
 
 -- turns that open a session are not none
 some_turns : (c : Cluster) (turns : List Turn) (o : Text × Text) → opening_of c turns ≡ Some o → 0 < length turns
-some_turns c [] o e = absurd (none-some o e)
-some_turns c (t ∷ later) o e = omega arith
+some_turns c turns o e = grind arith
 
 module _ (c : Cluster) (pid : Text) (turns : List Turn) (begun : AreAllBegun c pid turns) where
   -- turns that pass all tests are the session's chain
@@ -102,19 +101,11 @@ in_order c who k (t ∷ turns) are e =
 module _ (c : Cluster) (pid : Text) where
   -- where each of the four fails, no fault holds
   pub none_holds : (HasNoTurn c pid 0 → ⊥) → (HasNoChain c pid → ⊥) → (HasUnordered c pid → ⊥) → length (naming_places c.taps pid) ≡ 1 → HasNoMakeFault c pid
-  none_holds logged chained ordered one NoLog holds = logged holds
-  none_holds logged chained ordered one Chain holds = chained holds
-  none_holds logged chained ordered one Order holds = ordered holds
-  none_holds logged chained ordered one Client holds = holds one
-  none_holds logged chained ordered one _ holds = holds
+  none_holds logged chained ordered one fault holds = grind (arith, logged, chained, ordered)
 
   -- of the faults before this rank none holds
   none_before : (n : ℕ) → (0 < n → HasMakeFault c pid NoLog → ⊥) → (1 < n → HasMakeFault c pid Chain → ⊥) → (2 < n → HasMakeFault c pid Order → ⊥) → n < 4 → (other : Fault) → make_fault_rank other < n → HasMakeFault c pid other → ⊥
-  none_before n logged chained ordered h NoLog less holds = logged less holds
-  none_before n logged chained ordered h Chain less holds = chained less holds
-  none_before n logged chained ordered h Order less holds = ordered less holds
-  none_before n logged chained ordered h Client less holds = omega arith
-  none_before n logged chained ordered h _ less holds = holds
+  none_before n logged chained ordered h other less holds = grind (arith, logged, chained, ordered)
 
   -- the first fault is that no node opened the session
   pub first_no_log : HasNoTurn c pid 0 → IsFirstMakeFault c pid NoLog

@@ -26,16 +26,7 @@ alone last recs rest e is = grind arith
 
 -- each record after a turn's first stands inside it, begins another turn, or ends this one
 pub kind : (pid : Text) (k : ℕ) (rec : NodeRec) → Kind (begins_any_turn pid rec) (ends_any_turn pid rec) (part_of pid k rec) (end_by pid k (Some rec))
-kind pid k (Opened other sid nsp) = elim (bytes_eq other pid) as (λ own. Kind own false (cond own Foreign Inner) (Some ByLog)) [ true ↦ inr (inl (refl, refl)) | false ↦ inl (refl, refl, refl, refl) ]
-kind pid k (Back other number) = elim (bytes_eq other pid) as (λ own. Kind own false (cond own Foreign Inner) (Some ByLog)) [ true ↦ inr (inl (refl, refl)) | false ↦ inl (refl, refl, refl, refl) ]
-kind pid k (Broke other number) = go (bytes_eq other pid) (nat_eq number k)
-  where
-    go : (own same : Bool) → Kind false own (cond own (cond same (Last ByBreak) Foreign) Inner) (cond own (cond same (Some ByBreak) None) (Some ByLog))
-    go true true = inr (inr (refl, refl, alone ByBreak, refl))
-    go true false = inr (inr (refl, refl, (λ recs rest e is. absurd (none-some e is)), refl))
-    go false same = inl (refl, refl, refl, refl)
-kind pid k (Gone other) = elim (bytes_eq other pid) as (λ own. Kind false own (cond own (Last ByGone) Inner) (cond own (Some ByGone) (Some ByLog))) [ true ↦ inr (inr (refl, refl, alone ByGone, refl)) | false ↦ inl (refl, refl, refl, refl) ]
-kind pid k _ = inl (refl, refl, refl, refl)
+kind pid k rec = grind (arith, alone)
 
 -- how many records the rest of a turn has, which ends within these or with the log
 rest-count : (pid : Text) (k : ℕ) (log : List NodeRec) (count : ℕ) (e : End) → count ≤ length log → turn_end pid k (take count log) ≡ Some e → (e ≡ ByLog → count ≡ length log)
