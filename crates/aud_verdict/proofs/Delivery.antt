@@ -1,5 +1,5 @@
 -- What a verdict says of every run.
-use Rattle.std.proofs.Common.{◌≡◌, ℕ, List, map, length, Some, sym, ap, subst, ◌∙◌}
+use Rattle.std.proofs.Common.{arith, ◌≡◌, ℕ, List, map, length, Some, sym, ap, subst, ◌∙◌}
 use Rattle.aud_node.specs.Stream.{Text}
 use Rattle.aud_node.specs.Cluster.{Cluster}
 use Rattle.aud_rooms.specs.Turns.{Who, Turn, IsChain, slice_of}
@@ -62,11 +62,7 @@ module _ (law : DueByTurns) (c : Cluster) (pid : Text) where
 
   -- what a misdelivery says of every run
   misdelivered : (fault : Fault) → Holds c pid fault → IsMisdelivery fault → IsMisdelivered c pid
-  misdelivered (Extra off) h about = parted (Extra off) h
-  misdelivered (Doubled off) h about = parted (Doubled off) h
-  misdelivered (Swapped off) h about = parted (Swapped off) h
-  misdelivered (Lost off) h about = parted (Lost off) h
-  misdelivered _ h about = absurd about
+  misdelivered fault h about = grind (arith, parted fault)
 
   -- what a verdict says of every run
   pub in_every_run : (verdict : Verdict) → IsVerdict c pid verdict → HoldsInEveryRun c pid verdict

@@ -84,38 +84,21 @@ first-opened c who (t ∷ turns) some are = rw (between-more (node_log c t.node)
 -- what refuses it is one of those, or want of memory
 pub of_session : (c : Cluster) (cert : CertificateSeen) (refusal : Refusal) → IsFirstRefusal c cert refusal
     → ((place : Place) → Refuses c cert place refusal → IsSome (fault_found refusal)) → IsOfSession refusal
-of_session c cert refused.Memory first so = tt
-of_session c cert refusal first so = so first.place first.refuses
-
--- what refuses a made certificate is its names, what was received, or want of memory
-pub no_other : (refusal : Refusal) → IsOfSession refusal → (refusal ≡ refused.Names → ⊥) → ((fault : Fault) → refusal ≡ refused.Received fault → ⊥) → (refusal ≡ refused.Memory → ⊥) → ⊥
-no_other refused.Names is no_names no_received no_memory = no_names refl
-no_other (refused.Received fault) is no_names no_received no_memory = no_received fault refl
-no_other refused.Memory is no_names no_received no_memory = no_memory refl
-no_other refusal is no_names no_received no_memory = false≢true is
+of_session c cert refusal first so = grind (arith, so)
 
 -- a refusal that shows a fault is the first
 pub first_refusal : (c : Cluster) (cert : CertificateSeen) (refusal : Refusal) (fault : Fault) → IsFirstRefusal c cert refusal → fault_found refusal ≡ Some fault → RefusesFirst c cert refusal
-first_refusal c cert refused.Memory fault first e = absurd (none-some fault e)
-first_refusal c cert refusal fault first e = first
+first_refusal c cert refusal fault first e = grind arith
 
 -- ---- the four faults without a certificate
 
 -- what the making of a certificate finds is a fault of the verdict, in the same order
 found : (c : Cluster) (pid : Text) (fault : Fault) → maker.HasMakeFault c pid fault → (verdict_rank fault < 4) × (maker.make_fault_rank fault ≡ verdict_rank fault) × Holds c pid fault
-found c pid NoLog h = (omega arith, refl, h)
-found c pid Chain h = (omega arith, refl, h)
-found c pid Order h = (omega arith, refl, h)
-found c pid Client h = (omega arith, refl, h)
-found c pid _ h = absurd h
+found c pid fault h = grind arith
 
 -- a fault of the verdict without a certificate is one that the making finds
 known : (c : Cluster) (pid : Text) (fault : Fault) → verdict_rank fault < 4 → Holds c pid fault → maker.HasMakeFault c pid fault × (maker.make_fault_rank fault ≡ verdict_rank fault)
-known c pid NoLog h holds = (holds, refl)
-known c pid Chain h holds = (holds, refl)
-known c pid Order h holds = (holds, refl)
-known c pid Client h holds = (holds, refl)
-known c pid _ h holds = absurd (omega arith)
+known c pid fault front h = grind arith
 
 -- where no certificate is made, the fault found is the verdict's first
 pub not_made : (c : Cluster) (pid : Text) (fault : Fault) → maker.IsFirstMakeFault c pid fault → HoldsFirst c pid fault
@@ -131,15 +114,7 @@ Placed case f = (fault_rank f ≡ min (verdict_rank f - 5) 3 + (verdict_rank f -
 
 -- a fault of what was received comes in the verdict's order as in the check's
 placed : (case : Case) (f : Fault) → HasFault case f → Placed case f
-placed case Frame h = (omega arith, omega arith, omega arith, λ a b. absurd (omega arith))
-placed case Orphan h = (omega arith, omega arith, omega arith, λ a b. absurd (omega arith))
-placed case (Content off) h = (omega arith, omega arith, omega arith, λ a b. absurd (omega arith))
-placed case (Extra off) h = (omega arith, omega arith, omega arith, λ a b. h)
-placed case (Doubled off) h = (omega arith, omega arith, omega arith, λ a b. h)
-placed case (Swapped off) h = (omega arith, omega arith, omega arith, λ a b. h)
-placed case (Lost off) h = (omega arith, omega arith, omega arith, λ a b. h)
-placed case (Window n) h = (omega arith, omega arith, omega arith, λ a b. absurd (omega arith))
-placed case _ h = absurd h
+placed case f h = grind arith
 
 -- so one that comes earlier in the verdict comes earlier in the check
 lower : (case : Case) (g f : Fault) → verdict_rank g < verdict_rank f → HasFault case g → HasFault case f → fault_rank g < fault_rank f
@@ -157,8 +132,7 @@ late case f h = let (is, low, high, mismatched) = placed case f h in omega arith
 
 -- a fault of what was received is one of the session
 pub as_held : (c : Cluster) (s : SessionLogs) (f : Fault) → HasFault (session_case c s) f → HoldsOf c s f
-as_held c s Names h = absurd h
-as_held c s f h = h
+as_held c s f h = grind arith
 
 module _ (c : Cluster) (pid : Text) (cert : CertificateSeen) (once : AreNamedOnce c.taps) (made : IsMade c pid cert) where
   -- its turns stand in the logs where those that it was made of stand
@@ -195,10 +169,7 @@ module _ (c : Cluster) (pid : Text) (cert : CertificateSeen) (once : AreNamedOnc
 
   -- what refuses it as a whole shows a fault
   refused_whole : (refusal : Refusal) → RefusesWhole c cert refusal → IsSome (fault_found refusal)
-  refused_whole refused.Span refuses = absurd (refuses spans_accepted)
-  refused_whole refused.Names refuses = refl
-  refused_whole (refused.Received fault) refuses = refl
-  refused_whole _ refuses = absurd refuses
+  refused_whole refusal refuses = grind (arith, spans_accepted)
 
   -- it is refused for its names or for what the client received alone
   pub refused_for : (place : Place) (refusal : Refusal) → Refuses c cert place refusal → IsSome (fault_found refusal)
@@ -290,13 +261,11 @@ module _ (c : Cluster) (pid : Text) (cert : CertificateSeen) (once : AreNamedOnc
 
   -- where it is refused for its names, not all stays that name the session are of it
   of_names : (place : Place) → Refuses c cert place refused.Names → are_of_session (who_of cert) (certificate_case c cert).stays ≡ false
-  of_names (AtTurn k) (t, at, h) = absurd h
-  of_names AtWhole h = h
+  of_names place h = grind arith
 
   -- what is refused for a fault of what was received has that fault
   of_received : (f : Fault) (place : Place) → Refuses c cert place (refused.Received f) → HasFault (session_case c session) f
-  of_received f (AtTurn k) (t, at, h) = absurd h
-  of_received f AtWhole h = subst (λ (case : Case). HasFault case f) case_is h
+  of_received f place h = grind (arith, case_is)
 
   -- where it is refused for its names, they are the first fault
   first_names : RefusesFirst c cert refused.Names → HoldsFirst c pid Names
@@ -313,8 +282,7 @@ module _ (c : Cluster) (pid : Text) (cert : CertificateSeen) (once : AreNamedOnc
 
     -- of the check's refusals the place of this one is the whole
     at_whole : (place : Place) → Refuses c cert place (refused.Received f) → place_rank cert place (refused.Received f) ≡ 4 * length cert.turns + (2 + fault_rank f)
-    at_whole (AtTurn k) (t, at, h) = absurd h
-    at_whole AtWhole h = refl
+    at_whole place h = grind arith
 
     -- none of the faults that need a certificate holds before it
     not_before : (other : Fault) → verdict_rank other < verdict_rank f → HoldsOf c session other → ⊥

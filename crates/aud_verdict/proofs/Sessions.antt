@@ -58,19 +58,11 @@ module _ (c : Cluster) (pid : Text) (s : SessionLogs) (is : IsSession c pid s) w
 
   -- a fault that needs a session holds of this one
   pub at_session : (fault : Fault) → 4 ≤ verdict_rank fault → Holds c pid fault → HoldsOf c s fault
-  at_session NoLog late h = absurd (omega arith)
-  at_session Chain late h = absurd (omega arith)
-  at_session Order late h = absurd (omega arith)
-  at_session Client late h = absurd (omega arith)
-  at_session fault late h = moved fault h
+  at_session fault late h = grind (arith, moved fault)
 
   -- where a fault holds of this session, it holds
   pub held : (fault : Fault) → 4 ≤ verdict_rank fault → HoldsOf c s fault → Holds c pid fault
-  held NoLog late h = absurd (omega arith)
-  held Chain late h = absurd (omega arith)
-  held Order late h = absurd (omega arith)
-  held Client late h = absurd (omega arith)
-  held fault late h = (s, is, h)
+  held fault late h = grind (arith, is)
 
   -- ---- the stays that name it
 
@@ -83,8 +75,7 @@ module _ (c : Cluster) (pid : Text) (s : SessionLogs) (is : IsSession c pid s) w
 
   -- where a tap names the session, its records do
   its_tap : (o : Option (List ClientRec)) → is_naming pid o ≡ true → tap_names pid (recs_or_none o) ≡ true
-  its_tap None e = absurd (false≢true e)
-  its_tap (Some recs) e = e
+  its_tap o e = grind arith
 
   -- one of that tap's stays names it
   any_stay : list_any (stay_names_pid s.who.pid) (transcript c s).stays ≡ true
@@ -96,7 +87,7 @@ module _ (c : Cluster) (pid : Text) (s : SessionLogs) (is : IsSession c pid s) w
   -- where some element passes, those that pass are not none
   kept : (test : StaySeen → Bool) (stays : List StaySeen) → list_any test stays ≡ true → is_empty (filter test stays) ≡ false
   kept test [] e = absurd (false≢true e)
-  kept test (stay ∷ stays) e = elim (cases_Bool (test stay)) as (λ _. is_empty (filter test (stay ∷ stays)) ≡ false) [ inl passes ↦ rw passes refl | inr fails ↦ rw fails (kept test stays (rw fails at e)) ]
+  kept test (stay ∷ stays) e = grind (arith, kept test stays)
 
   -- there is a stay whose reply names it
   some_stay : is_empty (own_stays c s) ≡ false
@@ -157,12 +148,7 @@ module _ (c : Cluster) (pid : Text) where
 
   -- one fault at most is the first
   pub one_first : (fault other : Fault) → HoldsFirst c pid fault → HoldsFirst c pid other → fault ≡ other
-  one_first fault other is too = go (cases_lt (verdict_rank fault) (verdict_rank other)) (cases_lt (verdict_rank other) (verdict_rank fault))
-    where
-      go : (verdict_rank fault < verdict_rank other) ⊎ (verdict_rank other ≤ verdict_rank fault) → (verdict_rank other < verdict_rank fault) ⊎ (verdict_rank fault ≤ verdict_rank other) → fault ≡ other
-      go (inl less) h = absurd (too.none_before fault less is.holds)
-      go (inr more) (inl less) = absurd (is.none_before other less too.holds)
-      go (inr more) (inr less) = same_fault fault other is.holds too.holds (omega arith)
+  one_first fault other is too = grind (arith, is.none_before, too.none_before, same_fault fault other, cases_lt (verdict_rank fault) (verdict_rank other), cases_lt (verdict_rank other) (verdict_rank fault))
 
   -- a session has one verdict
   pub one_verdict : (one other : Verdict) → IsVerdict c pid one → IsVerdict c pid other → one ≡ other

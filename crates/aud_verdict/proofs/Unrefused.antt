@@ -107,9 +107,7 @@ same_key-Decides a b = Decides-like (bytes_eq (key a) (key b)) there (ap key) (b
 
 -- an order is less where it passes the test
 is_less : (o : Ordering) → Decides (is_lt o) (o ≡ Less)
-is_less Less = (λ e. refl, λ e. refl)
-is_less Equal = (λ e. absurd (false≢true e), λ (e : Equal ≡ Less). cc)
-is_less Greater = (λ e. absurd (false≢true e), λ (e : Greater ≡ Less). cc)
+is_less o = grind arith
 
 -- that a span comes before another
 comes_before : (a b : RoomSpan) → ((ComesBefore a b → ⊥) → ⊥) → ComesBefore a b

@@ -27,6 +27,7 @@ ghost use Rattle.aud_verdict.specs.EveryRun.{HoldsInEveryRun};
 use aud_merge::due_by_turns;
 
 /// A session has one verdict.
+#[tactic(auto, using(crate::proofs::Sessions::one_verdict))]
 pub fn verdict_is_one()
     ensures { (c : Cluster) (pid : Text) (one other : Verdict)
         → IsVerdict c pid one → IsVerdict c pid other → one ≡ other }
