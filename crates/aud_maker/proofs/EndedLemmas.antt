@@ -1,19 +1,17 @@
 -- Turns that end as they may are turns.
-use Rattle.std.proofs.Common.{◌≡◌, ◌<◌, ◌≤◌, ◌+◌, ◌-◌, ℕ, zero, suc, true, List, [], ◌∷◌, length, drop, get_or, Option, Some, None, slice_get, refl, sym, ap, ◌∙◌, add-one, nat_eq, arith, bytes_eq}
-use Rattle.std.proofs.lemmas.Bool.{eqb-true, false≢true, and_parts, and_from}
+use Rattle.std.proofs.Common.{◌≡◌, ◌<◌, ◌≤◌, ◌+◌, ◌-◌, ℕ, suc, true, List, [], ◌∷◌, length, drop, get_or, Option, Some, slice_get, refl, sym, ap, ◌∙◌, add-one, nat_eq, arith}
+use Rattle.std.proofs.lemmas.Bool.{and_parts, and_from}
 use Rattle.std.proofs.lemmas.Grind.{common_steps}
 use Rattle.std.proofs.lemmas.Bool.Decides.{nat_tests}
 use Rattle.std.proofs.lemmas.List.{at_drop_more}
-use Rattle.std.proofs.lemmas.Option.{same_Some}
 use Rattle.aud_tap.specs.declared.records.NodeRec.{NodeRec}
-use Rattle.aud_tap.specs.declared.records.NodeRec.TheVariants.{Opened, Back}
 use Rattle.aud_node.specs.Cluster.{Cluster, node_log}
 use Rattle.aud_node.specs.Lists.{between, is_empty}
 use Rattle.aud_node.specs.OwnPlaces.{own_places}
 use Rattle.aud_node.specs.Stream.{Text}
 use Rattle.aud_node.specs.TurnRecords.{begins_turn, rest_of_turn}
 use Rattle.aud_node.proofs.TurnLemmas.{rest-taken}
-use Rattle.aud_rooms.specs.Turns.{Who, Turn, beginning, End, ByBreak, ByGone, ByLog, turn_end, MayEnd, AreTurns}
+use Rattle.aud_rooms.specs.Turns.{Who, Turn, beginning, End, ByLog, turn_end, MayEnd, AreTurns}
 use Rattle.aud_base.proofs.Lists.{slice_get-drop}
 use Rattle.aud_base.proofs.SameText.{same_text}
 use Rattle.aud_maker.specs.Private.Begun.{AreBegun}

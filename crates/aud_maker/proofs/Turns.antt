@@ -1,12 +1,11 @@
 -- The records of the turns of a chain.
-use Rattle.std.proofs.Common.{◌≡◌, ◌≤◌, ◌+◌, ◌-◌, ℕ, zero, suc, Bool, true, false, cond, List, [], ◌∷◌, length, take, drop, Option, Some, None, slice_get, refl, sym, ap, subst, ◌∙◌, ◌⊎◌, inl, inr, nat_eq, arith, bytes_eq, length-take, length-drop}
-use Rattle.std.proofs.lemmas.Option.{same_Some, none-some}
+use Rattle.std.proofs.Common.{◌≡◌, ◌≤◌, ◌+◌, ◌-◌, ℕ, zero, suc, Bool, true, false, List, [], ◌∷◌, length, take, drop, Option, Some, slice_get, refl, sym, ap, subst, ◌∙◌, ◌⊎◌, arith, length-take, length-drop}
+use Rattle.std.proofs.lemmas.Option.{same_Some}
 use Rattle.aud_tap.specs.declared.records.NodeRec.{NodeRec}
-use Rattle.aud_tap.specs.declared.records.NodeRec.TheVariants.{Opened, Broke, Back, Gone}
 use Rattle.aud_node.specs.Cluster.{Cluster, node_log}
 use Rattle.aud_node.specs.Stream.{Text}
 use Rattle.aud_node.specs.TurnRecords.{begins_turn, begins_any_turn, ends_any_turn, rest_of_turn}
-use Rattle.aud_rooms.specs.Turns.{Who, Turn, Part, Inner, Last, Foreign, End, ByBreak, ByGone, ByLog, part_of, end_past, turn_end, MayEnd, IsTurn, AreTurns, IsChain}
+use Rattle.aud_rooms.specs.Turns.{Who, Turn, Part, Inner, Last, Foreign, End, ByLog, part_of, end_past, turn_end, MayEnd, IsTurn, AreTurns, IsChain}
 pub use Rattle.aud_rooms.proofs.Turns.{begins-names, beginning-begins, no_begin_inside, stands}
 use Rattle.aud_rooms.proofs.Turns.{begins_there, turn_there}
 use Rattle.aud_maker.specs.Private.Ended.{end_by}

@@ -1,7 +1,7 @@
 -- Look-ups, and options.
 use Rattle.std.proofs.lemmas.Grind.{common_steps}
 use Rattle.std.proofs.lemmas.Option.{gets, slice_get_within, slice_get_cases}
-use Rattle.std.proofs.Common.{◌≡◌, arith, ℕ, zero, suc, Bool, true, false, cond, List, [], ◌∷◌, set, Option, Some, None, slice_get, refl, sym, ap, ◌∙◌, option_map, option_and_then, bytes_eq}
+use Rattle.std.proofs.Common.{◌≡◌, arith, ℕ, Bool, true, false, cond, List, set, Option, Some, None, slice_get, refl, sym, ap, ◌∙◌, option_map, option_and_then, bytes_eq}
 use Rattle.std.specs.Ordering.{nat_cmp}
 use Rattle.std.specs.Cmp.Lexicographic.{slice_cmp, texts_ties, nat_list_cmp_total}
 use Rattle.std.specs.FinMap as fin

@@ -1,13 +1,11 @@
 -- In a run, the session reaches each position when, and with the rooms that, its turns tell; so what is due is due by them.
-use Rattle.std.proofs.lemmas.Bool.Decides.{nat_tests}
 use Rattle.std.proofs.Common.{◌≡◌, ℕ, suc, Bool, true, false, cond, List, [], ◌∷◌, map, find, Option, Some, None, slice_get, refl, sym, ap, subst, ◌∙◌, inl, inr, arith, option_map, option_and_then, unwrap_or, ◌<◌, ◌≤◌, zero, ◌&&◌, ◌++◌, length, filter, ◌⊎◌, nat_le}
-use Rattle.std.proofs.lemmas.Bool.{false≢true, cases_Bool, cond_both, cases_lt, le-leb, lt-leb, and_left, and_right}
+use Rattle.std.proofs.lemmas.Bool.{cases_Bool, cond_both, cases_lt, le-leb, lt-leb, and_left, and_right}
 use Rattle.std.specs.Ordering.{nat_cmp}
 use Rattle.std.specs.Cmp.Lexicographic.{slice_cmp}
 use Rattle.std.specs.FinMap as fin
 use Rattle.std.proofs.lemmas.Option.{slice_get_within}
 use Rattle.std.proofs.lemmas.List.Elements.{filter_agree}
-use Rattle.aud_tap.specs.declared.records.StreamRec.{StreamRec}
 use Rattle.aud_base.proofs.Lists.{between-none}
 use Rattle.aud_base.proofs.Numbers.{lt_false}
 use Rattle.aud_base.proofs.Truth.{and_true}
@@ -29,7 +27,7 @@ use Rattle.aud_merge.specs.Private.RunsOn.{IsFinished, RunsOn}
 use Rattle.aud_merge.specs.Sessions.{SessionState, Absent}
 use Rattle.aud_merge.specs.Runs.{IsRun}
 use Rattle.aud_merge.proofs.Steps.{stepped, Synced, Synced-step, moved, Synced-start, RunsOn-run, taken-start}
-use Rattle.aud_merge.proofs.Spots.{part_from, rooms_for-at_low, rooms_left, spot_reached, Settled, reached-spot, Moves-rooms, step_left, Moves-step}
+use Rattle.aud_merge.proofs.Spots.{rooms_for-at_low, rooms_left, spot_reached, Settled, reached-spot, Moves-rooms, step_left, Moves-step}
 use Rattle.aud_merge.proofs.Phases.{length-count, In, Spot, Waiting, Within, Holds, moves_on, Unstarted, Out, begun_at, out_stays, reached-here}
 
 -- the session when it first reaches the position, from this state on

@@ -1,5 +1,5 @@
 -- A `BTreeMap` from lent texts to sessions, seen as a map.
-use Rattle.std.proofs.Common.{◌≡◌, arith, ℕ, Bool, true, false, cond, List, [], ◌∷◌, map, refl, sym, ap, ◌∙◌, Bor, Option, Some, None, option_map, unwrap_or, subst, IsSome}
+use Rattle.std.proofs.Common.{◌≡◌, arith, ℕ, cond, List, [], ◌∷◌, map, refl, ◌∙◌, Bor, Option, Some, None, option_map, unwrap_or, IsSome}
 use Rattle.std.specs.Ordering.{nat_cmp, is_eq}
 use Rattle.std.specs.Cmp.Lexicographic.{slice_cmp, nat_list_cmp_total}
 use Rattle.std.specs.Cmp.{eq_by_cmp_equiv}

@@ -1,5 +1,5 @@
 -- A run from the start is a merging whose steps are allowed, and no other.
-use Rattle.std.proofs.Common.{Some, ◌≡◌, ◌+◌, ◌<◌, ◌≤◌, ◌↔◌, ℕ, zero, suc, Bool, true, cond, length, drop, get_or, List, [], ◌∷◌, map, filter, sym, ap, subst, ◌∙◌, ◌⊎◌, inl, inr, nat_eq, refl, arith}
+use Rattle.std.proofs.Common.{Some, ◌≡◌, ◌+◌, ◌<◌, ◌≤◌, ◌↔◌, ℕ, zero, suc, Bool, true, length, drop, get_or, List, [], ◌∷◌, sym, ap, subst, ◌∙◌, refl, arith}
 use Rattle.std.proofs.lemmas.Bool.{cases_eq, eq-eqb, ne_eqb}
 use Rattle.std.proofs.lemmas.Option.{same_Some}
 use Rattle.std.proofs.lemmas.List.{drop_all}

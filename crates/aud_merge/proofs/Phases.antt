@@ -8,7 +8,7 @@ use Rattle.aud_node.specs.Cluster.{Cluster, node_log}
 use Rattle.aud_node.specs.Cursors.{takes, cursor_at}
 use Rattle.aud_node.specs.Lists.{between}
 use Rattle.aud_node.specs.Stream.{Text}
-use Rattle.aud_node.specs.TurnRecords.{pid_of, begins_turn}
+use Rattle.aud_node.specs.TurnRecords.{begins_turn}
 use Rattle.aud_node.proofs.RecordLemmas.{between-nil}
 use Rattle.aud_rooms.specs.Rooms.{Rooms, own_room, rooms_after}
 use Rattle.aud_rooms.specs.Turns.{Who, Turn, beginning, Inner, Last, End, ByBreak, ByGone, ByLog, part_of, turn_end, MayEnd, IsTurn, AreTurns}

@@ -1,16 +1,12 @@
 -- What single records do to a session.
 use Rattle.std.proofs.lemmas.Bool.Decides.{nat_tests}
-use Rattle.std.proofs.Common.{◌≡◌, ◌≤◌, ℕ, zero, suc, true, cond, Option, Some, None, refl, sym, ap, subst, ◌∙◌, nat_eq, ◌&&◌, arith, bytes_eq, unwrap_or}
-use Rattle.std.proofs.lemmas.Bool.{eqb-true, eq-eqb, and_parts, and_from, false≢true}
-use Rattle.std.proofs.lemmas.Option.{none-some, same_Some, cond_some}
+use Rattle.std.proofs.Common.{◌≡◌, ◌≤◌, ℕ, zero, suc, true, Some, arith}
 use Rattle.aud_tap.specs.declared.records.NodeRec.{NodeRec}
-use Rattle.aud_tap.specs.declared.records.NodeRec.TheVariants.{Start, Opened, Join, Leave, Broke, Back, Gone}
 use Rattle.aud_base.proofs.SameText.{itself_text, other_text}
 use Rattle.aud_node.specs.Stream.{Text}
 use Rattle.aud_node.specs.TurnRecords.{pid_of, begins_turn}
 use Rattle.aud_rooms.specs.Rooms.{Rooms, own_room, rooms_after}
 use Rattle.aud_rooms.specs.Turns.{Who, beginning, Inner, Last, End, ByBreak, ByGone, ByLog, part_of}
-use Rattle.aud_node.specs.OwnRecords.{is_pid}
 use Rattle.aud_merge.specs.ByTurns.{session_past}
 use Rattle.aud_merge.specs.Sessions.{SessionState, Absent, Here, Away, Ended, session_after}
 

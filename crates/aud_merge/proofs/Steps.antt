@@ -1,6 +1,6 @@
 -- What a step that is allowed does, and what one session sees of it; the cursor that a log gives.
 use Rattle.std.proofs.lemmas.Bool.Decides.{nat_tests}
-use Rattle.std.proofs.Common.{◌≡◌, ◌<◌, ◌≤◌, ℕ, suc, [], take, Some, slice_get, arith, sym, ap, subst, ◌∙◌, ◌⊎◌, inl, inr, nat_eq, ◌+◌, zero, true, false, cond, List, ◌∷◌, length, map, Option, None, unwrap_or, filter, nat_le, set}
+use Rattle.std.proofs.Common.{◌≡◌, ◌<◌, ◌≤◌, ℕ, suc, [], take, Some, slice_get, arith, sym, ap, subst, ◌∙◌, ◌⊎◌, inl, inr, nat_eq, ◌+◌, true, false, cond, List, ◌∷◌, length, map, Option, None, unwrap_or, filter, nat_le, set}
 use Rattle.std.proofs.lemmas.Bool.{eqb-true, cases_eq, eq-eqb, ne_eqb, leb-false, le-leb, lt-leb}
 use Rattle.std.proofs.lemmas.Option.{same_Some, none-some, slice_get_within, slice_get-map}
 use Rattle.std.specs.Ordering.{nat_cmp}
@@ -10,11 +10,10 @@ use Rattle.aud_tap.specs.declared.records.NodeRec.{NodeRec}
 use Rattle.aud_tap.specs.declared.taps.Records.{Records}
 use Rattle.aud_tap.specs.declared.taps.Records.TheVariants.{Stream, Node, Client}
 use Rattle.aud_tap.specs.declared.records.StreamRec.{StreamRec}
-use Rattle.aud_tap.specs.declared.records.NodeRec.TheVariants.{Start, Take}
 use Rattle.aud_base.proofs.SameText.{cases_text}
 use Rattle.aud_node.specs.Cluster.{Cluster, node_log, node_recs, log_at}
 use Rattle.aud_node.specs.TurnRecords.{pid_of}
-use Rattle.aud_node.specs.Cursors.{is_position, next_cursor, cursor_past, cursor_at, position_or, takes}
+use Rattle.aud_node.specs.Cursors.{is_position, next_cursor, cursor_past, cursor_at, takes}
 use Rattle.aud_node.specs.Stream.{Text, position}
 use Rattle.aud_merge.specs.Due.{cursor_of, cursor_in}
 use Rattle.aud_rooms.proofs.Ascending.{length-numbers}
