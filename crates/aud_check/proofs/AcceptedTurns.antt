@@ -1,11 +1,8 @@
 -- Accepted turns are turns of the session.
 use Rattle.aud_base.proofs.SameText.{same_text}
 use Rattle.std.proofs.lemmas.Bool.Decides.{nat_tests}
-use Rattle.std.proofs.Common.{◌≡◌, ◌<◌, ◌+◌, ℕ, suc, true, List, [], ◌∷◌, map, max, length, drop, Some, slice_get, nat_eq, refl, sym, ap, subst, ◌∙◌, arith, true≢false}
+use Rattle.std.proofs.Common.{◌≡◌, ◌<◌, ◌+◌, ℕ, suc, true, List, [], ◌∷◌, map, length, drop, Some, slice_get, refl, sym, ap, subst, ◌∙◌, arith}
 use Rattle.std.specs.List.{All}
-use Rattle.std.specs.Str.{bytes_eq}
-use Rattle.std.specs.Cmp.Lexicographic.{bytes_decides}
-use Rattle.std.proofs.lemmas.Bool.{and_parts, eqb-true}
 use Rattle.std.proofs.lemmas.List.Elements.{All-head, All-tail, All-nil, All-cons}
 use Rattle.aud_tap.specs.declared.records.NodeRec.{NodeRec}
 use Rattle.aud_tap.specs.declared.records.NodeRec.TheVariants.{Opened, Back}
@@ -13,7 +10,7 @@ use Rattle.aud_node.specs.Lists.{between}
 use Rattle.aud_node.specs.Stream.{Text}
 use Rattle.aud_node.specs.Cluster.{Cluster}
 use Rattle.aud_node.specs.TurnRecords.{begins_turn}
-use Rattle.aud_rooms.specs.Turns.{Who, IsTurn, AreTurns, beginning, turn_end, slice_of}
+use Rattle.aud_rooms.specs.Turns.{Who, IsTurn, AreTurns, beginning, turn_end}
 use Rattle.aud_cert.specs.Certificate.{TurnSeen, CertificateSeen, IsTurnOver, turn_at, log_named}
 use Rattle.aud_rooms.specs.TurnPlaces.{IsInOrder}
 use Rattle.aud_rooms.specs.TurnsDue.{greatest_high}

@@ -8,7 +8,7 @@ use Rattle.std.proofs.lemmas.List.{drop_all}
 use Rattle.std.proofs.lemmas.Option.{none-some, slice_get_past}
 use Rattle.aud_merge.specs.ByTurns.{IsPrefixOf}
 use Rattle.aud_check.specs.declared.compare.Mismatch.{Mismatch}
-use Rattle.aud_check.specs.Compare.{agreed, mismatch, wrong_after, wrong_by, wrong_there}
+use Rattle.aud_check.specs.Compare.{agreed, mismatch, wrong_by}
 
 -- a list that agrees up to its end stands at the front of the other
 prefix_from_agreed : (xs ys : List ℕ) → length xs ≤ agreed xs ys → IsPrefixOf xs ys

@@ -1,8 +1,6 @@
 -- What a client received, by its stays.
-use Rattle.std.proofs.Common.{arith, ◌≡◌, ℕ, true, ◌&&◌, not, List, [], ◌∷◌, Option, Some, None, option_map, refl, sym, ap, subst, ◌∙◌}
+use Rattle.std.proofs.Common.{arith, ◌≡◌, ℕ, true, ◌&&◌, not, List, [], ◌∷◌, Some, refl, sym, ap, subst, ◌∙◌}
 use Rattle.std.proofs.lemmas.Bool.{and_parts}
-use Rattle.std.proofs.lemmas.Option.{none-some}
-use Rattle.std.specs.Option.{unwrap_or}
 use Rattle.std.specs.List.{list_all}
 use Rattle.std.specs.Str.{bytes_eq}
 use Rattle.aud_tap.specs.declared.records.StreamRec.{StreamRec}
@@ -21,7 +19,6 @@ use Rattle.aud_check.specs.NamedStays.{are_of_session, is_of_session, is_empty, 
 use Rattle.aud_check.specs.Shown.{recs_or_none}
 use Rattle.aud_check.specs.Private.ReceivedCheck.{by_stays, IsReceivedRefusal}
 use Rattle.aud_check.specs.declared.refusal.Refusal.{Refusal}
-use Rattle.aud_check.specs.declared.refusal.Refusal.TheVariants.{Received, Memory}
 
 -- stays that are all of the session are all in its namespace
 all_in : (who : Who) (stays : List StaySeen) → list_all (is_of_session who) stays ≡ true → are_in_namespace who.nsp stays ≡ true

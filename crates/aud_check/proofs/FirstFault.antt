@@ -1,14 +1,12 @@
 -- The first fault, by what was found before it.
-use Rattle.std.proofs.Common.{◌≡◌, ◌<◌, ℕ, false, List, [], Some, None, map, refl, sym, ap, subst, ◌∙◌, inl, inr, arith, true≢false}
+use Rattle.std.proofs.Common.{◌≡◌, ◌<◌, ℕ, false, List, [], Some, None, map, refl, sym, ap, subst, ◌∙◌, inl, inr, arith}
 use Rattle.aud_tap.specs.declared.records.StreamRec.{StreamRec}
 use Rattle.aud_client.specs.StaySeen.{StaySeen, FrameSeen}
 use Rattle.aud_client.specs.Received.{TranscriptSeen}
 use Rattle.aud_cert.specs.declared.fault.Fault.{Fault}
-use Rattle.aud_cert.specs.declared.fault.Fault.TheVariants.{Frame, Orphan, Content, Window}
+use Rattle.aud_cert.specs.declared.fault.Fault.TheVariants.{Content, Window}
 use Rattle.aud_check.specs.declared.refusal.Refusal.{Refusal}
-use Rattle.aud_check.specs.declared.refusal.Refusal.TheVariants.{Received, Memory}
 use Rattle.aud_check.specs.declared.compare.Mismatch.{Mismatch}
-use Rattle.aud_check.specs.declared.compare.Mismatch.TheVariants as wrong
 use Rattle.aud_merge.specs.ByTurns.{IsPrefixOf}
 use Rattle.aud_check.specs.Compare.{mismatch}
 use Rattle.aud_check.specs.Frames.{AreEntries, IsFirstAltered, frames_in, offset_at, wrong_window}

@@ -9,9 +9,8 @@ use Rattle.aud_merge.specs.Due.{due}
 use Rattle.aud_merge.specs.ByTurns.{IsPrefixOf}
 use Rattle.aud_cert.specs.Certificate.{CertificateSeen, IsOver}
 use Rattle.aud_cert.specs.declared.fault.Fault.{Fault}
-use Rattle.aud_cert.specs.declared.fault.Fault.TheVariants as fault
 use Rattle.aud_check.specs.declared.refusal.Refusal.{Refusal}
-use Rattle.aud_check.specs.declared.refusal.Refusal.TheVariants.{Received, Memory}
+use Rattle.aud_check.specs.declared.refusal.Refusal.TheVariants.{Received}
 use Rattle.aud_check.specs.Faults.{HasFault, mismatch_fault, positions_in}
 use Rattle.aud_check.specs.Shown.{who_of, turns_of, shown_due}
 use Rattle.aud_check.specs.TurnRefusals.{AreTurnsAccepted}

@@ -1,8 +1,7 @@
 -- A mismatch is a fault: where none holds, there is none.
-use Rattle.std.proofs.Common.{arith, ◌≡◌, Option, Some, None, option_map, refl, ap}
+use Rattle.std.proofs.Common.{arith, ◌≡◌, Option, Some, None, refl}
 use Rattle.aud_cert.specs.declared.fault.Fault.{Fault}
 use Rattle.aud_check.specs.declared.compare.Mismatch.{Mismatch}
-use Rattle.aud_check.specs.declared.compare.Mismatch.TheVariants.{Extra}
 use Rattle.aud_check.specs.Compare.{mismatch}
 use Rattle.aud_check.specs.Faults.{Case, HasFault, fault_of, positions_in}
 

@@ -1,17 +1,16 @@
 -- How a turn ends, by the session's own records alone.
 use Rattle.std.proofs.lemmas.Bool.Decides.{nat_tests}
-use Rattle.std.proofs.Common.{◌≡◌, ◌<◌, ◌≤◌, ◌+◌, ◌-◌, ℕ, zero, suc, Bool, true, false, cond, List, [], ◌∷◌, length, take, drop, min, Option, Some, None, slice_get, get_or, refl, sym, ap, ◌∙◌, ◌⊎◌, inl, inr, nat_eq, nat_le, nat_lt, arith, length-drop}
+use Rattle.std.proofs.Common.{◌≡◌, ◌<◌, ◌≤◌, ◌+◌, ◌-◌, ℕ, zero, suc, Bool, true, false, cond, List, [], ◌∷◌, length, take, drop, min, Option, Some, None, slice_get, get_or, refl, sym, ap, ◌∙◌, nat_eq, nat_le, nat_lt, arith, length-drop}
 use Rattle.std.specs.List.{filter}
-use Rattle.std.proofs.lemmas.Bool.{and_parts, cases_eq, eq-eqb, ne_eqb, leb-true}
+use Rattle.std.proofs.lemmas.Bool.{and_parts, leb-true}
 use Rattle.std.proofs.lemmas.List.{take_min}
 use Rattle.std.proofs.lemmas.List.Elements.{All-get_or, filter_passes}
 use Rattle.aud_tap.specs.declared.records.NodeRec.{NodeRec}
-use Rattle.aud_tap.specs.declared.records.NodeRec.TheVariants.{Opened, Broke, Back, Gone}
 use Rattle.aud_node.specs.Lists.{between, numbers_from}
 use Rattle.aud_node.specs.Stream.{Text}
 use Rattle.aud_node.specs.OwnRecords.{record_names, own_numbers}
 use Rattle.aud_rooms.specs.TurnPlaces.{is_between, own_between}
-use Rattle.aud_rooms.specs.Turns.{Part, Inner, Last, Foreign, End, ByBreak, ByGone, ByLog, part_of, end_past, turn_end}
+use Rattle.aud_rooms.specs.Turns.{Part, Inner, Last, Foreign, End, ByLog, part_of, end_past, turn_end}
 use Rattle.aud_rooms.proofs.OwnNumbers.{own_between-is}
 use Rattle.aud_base.proofs.Lists.{element_at, between-more, between-none}
 use Rattle.aud_check.specs.TurnRefusals.{end_of}

@@ -11,7 +11,7 @@ use Rattle.aud_cert.specs.Certificate.{CertificateSeen, TurnSeen}
 use Rattle.aud_cert.specs.declared.fault.Fault.{Fault}
 use Rattle.aud_cert.specs.declared.fault.Fault.TheVariants as fault
 use Rattle.aud_check.specs.declared.refusal.Refusal.{Refusal}
-use Rattle.aud_check.specs.declared.refusal.Refusal.TheVariants.{NotItsTurn, EndInside, NoEnd, Cursor, Span, Names, Received}
+use Rattle.aud_check.specs.declared.refusal.Refusal.TheVariants.{Span, Names, Received}
 use Rattle.aud_check.specs.Compare.{mismatch}
 use Rattle.aud_check.specs.Frames.{AreEntries, IsEntry, IsFirstAltered, wrong_window}
 use Rattle.aud_check.specs.Faults.{Case, HasFault, IsReceived, fault_of, mismatch_fault, positions_in, fault_rank}

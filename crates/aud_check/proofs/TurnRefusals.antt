@@ -1,13 +1,11 @@
 -- What refuses a turn, and what comes first.
-use Rattle.std.proofs.Common.{◌≡◌, ◌<◌, ℕ, true, List, [], ◌∷◌, length, slice_get, sym, ap, ◌∙◌, arith, length-take, length-drop, true≢false}
-use Rattle.std.proofs.lemmas.Option.{none-some}
+use Rattle.std.proofs.Common.{◌≡◌, ◌<◌, ℕ, true, List, [], ◌∷◌, length, slice_get, sym, ap, arith, length-take, length-drop, true≢false}
 use Rattle.aud_tap.specs.declared.records.NodeRec.{NodeRec}
 use Rattle.aud_node.specs.Stream.{Text}
 use Rattle.aud_node.specs.Lists.{between}
 use Rattle.aud_node.specs.Cluster.{Cluster}
 use Rattle.aud_cert.specs.Certificate.{TurnSeen}
 use Rattle.aud_check.specs.declared.refusal.Refusal.{Refusal}
-use Rattle.aud_check.specs.declared.refusal.Refusal.TheVariants.{NotItsTurn, EndInside, NoEnd, Cursor}
 use Rattle.aud_check.specs.TurnRefusals.{is_begun_by, RefusesTurn, IsTurnAccepted}
 
 module _ (c : Cluster) (pid : Text) (k : ℕ) (t : TurnSeen) (later : List TurnSeen) where
