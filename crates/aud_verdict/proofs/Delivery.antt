@@ -9,7 +9,6 @@ use Rattle.aud_merge.specs.Runs.{IsRun}
 use Rattle.aud_merge.specs.Due.{due}
 use Rattle.aud_merge.specs.ByTurns.{IsPrefixOf}
 use Rattle.aud_cert.specs.declared.fault.Fault.{Fault}
-use Rattle.aud_cert.specs.declared.fault.Fault.TheVariants.{Extra, Doubled, Swapped, Lost}
 use Rattle.aud_check.specs.Faults.{IsReceived, mismatch_fault}
 use Rattle.aud_check.proofs.Agreed.{mismatch-none}
 use Rattle.aud_check.proofs.Ranks.{no_mismatch}

@@ -20,7 +20,7 @@ use Rattle.aud_client.specs.Replies.{is_naming}
 use Rattle.aud_client.specs.Received.{transcript_of, received_list, stays_naming}
 use Rattle.aud_cert.specs.declared.fault.Fault.{Fault}
 use Rattle.aud_cert.specs.Certificate.{TurnSeen, CertificateSeen, turn_at, place_named}
-use Rattle.aud_cert.specs.declared.fault.Fault.TheVariants.{NoLog, Chain, Order, Client, Names, Frame, Orphan, Content, Extra, Doubled, Swapped, Lost, Window}
+use Rattle.aud_cert.specs.declared.fault.Fault.TheVariants.{Names}
 use Rattle.aud_maker.specs.Made.{name_at, turn_seen, is_turn_ordered, IsMade, tap_name}
 use Rattle.aud_maker.specs.Faults as maker
 use Rattle.aud_maker.proofs.Turns.{beginning-begins}

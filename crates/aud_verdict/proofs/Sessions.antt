@@ -1,7 +1,7 @@
 -- A pid has one session at most, and that has one verdict.
-use Rattle.std.proofs.Common.{◌≡◌, ◌≤◌, Bool, true, false, ◌&&◌, not, List, [], ◌∷◌, length, Option, Some, None, refl, inl, inr, sym, ap, subst, ◌∙◌, arith, ◌<◌, ◌+◌, ◌++◌, ◌⊎◌}
+use Rattle.std.proofs.Common.{◌≡◌, ◌≤◌, Bool, true, false, ◌&&◌, not, List, [], ◌∷◌, length, Option, refl, sym, ap, subst, ◌∙◌, arith, ◌+◌, ◌++◌}
 use Rattle.std.specs.List.{filter, list_any, list_all}
-use Rattle.std.proofs.lemmas.Bool.{false≢true, cases_Bool, and_right, cases_lt}
+use Rattle.std.proofs.lemmas.Bool.{false≢true, and_right, cases_lt}
 use Rattle.std.proofs.lemmas.Option.{some_pair_parts, same_Some}
 use Rattle.std.proofs.lemmas.List.Elements.{All-head, All-same, filter_passes}
 use Rattle.std.proofs.lemmas.List.Folds.{list_all_at}
