@@ -128,26 +128,6 @@ fn wait_for_all<'s, T: Decide, R: Threads>(
     Ok(workers)
 }
 
-/// Starts a worker for each seat, and waits for all.
-fn run_all<'s, E, T: Decide + Sync, G: Gate + Sync, R: Threads + Wait + Clock + Sync>(
-    scope: &Scope<'s, E>,
-    rt: &'s R,
-    alloc: Global,
-    tickets: &'s Tickets,
-    task: &'s T,
-    seats: Vec<TicketSeat>,
-    gate: &'s G,
-) -> Result<Vec<Worker>, AuditFault>
-    requires seats { All (λ s. IsSeatOf tickets.now s × (drawn s ≡ [])) seats.items }
-    requires count { tickets.now.n ≡ T.count task.now }
-    ensures len { IfOk result (λ ws. vec_len ws ≡ vec_len seats) }
-    ensures work { IfOk result (λ ws. All (IsWorkOf tickets.now (T.is_verdict task.now)) ws.items) }
-    ensures err { IfErr result IsNotWorkers }
-{
-    let handles = start_all(scope, rt, alloc, tickets, task, seats, gate)?;
-    wait_for_all(rt, alloc, handles)
-}
-
 /// What a worker for each seat hands back.
 pub fn decide_all<T: Decide + Sync, G: Gate + Sync, R: Threads + Wait + Clock + Sync>(
     rt: &R,
@@ -172,6 +152,11 @@ pub fn decide_all<T: Decide + Sync, G: Gate + Sync, R: Threads + Wait + Clock + 
             ensures len { IfOk result (λ ws. vec_len ws ≡ vec_len seats) }
             ensures work { IfOk result (λ ws. All (IsWorkOf tickets.entry.now (T.is_verdict task.entry.now)) ws.items) }
             ensures err { IfErr result IsNotWorkers }
-        { run_all(scope, rt, alloc, tickets, task, seats, gate) },
+        {
+            match start_all(scope, rt, alloc, tickets, task, seats, gate) {
+                Ok(handles) => wait_for_all(rt, alloc, handles),
+                Err(fault) => Err(fault),
+            }
+        },
     )
 }
