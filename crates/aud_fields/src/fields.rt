@@ -2,7 +2,7 @@
 ghost use Rattle.std.specs.Prelude.{◌≡◌, Some, None, Err, IfOk, option_map};
 ghost use Rattle.json.specs.Json.{value};
 ghost use Rattle.serde_json.specs.Data.{Data};
-ghost use Rattle.serde_json.specs.Read.{converted, of_json, read};
+ghost use Rattle.serde_json.specs.Read.{converted, max_depth, of_json, read};
 ghost use Rattle.serde_json.specs.Find.{get, get_member};
 ghost use Rattle.aud_fields.specs.Shown.{shown};
 ghost use Rattle.aud_fields.specs.View.{field_view, members_view, view};
@@ -14,18 +14,21 @@ use crate::pass::pass_from;
 use json::{Reader, Scratch, Token};
 use std::alloc::Global;
 
+/// How deep `serde_json` lets lists and objects nest.
+const MAX_DEPTH: usize = 127;
+
 /// The fields of the next value.
 fn next_fields<'a>(alloc: Global, reader: &mut Reader<'a>) -> Result<Fields<'a>, FieldsFault>
     ensures shows { IfOk result (λ f. (d : Data)
-        × (converted of_json (value 127 reader.old) ≡ Some (d, reader.new))
+        × (converted of_json (value max_depth reader.old) ≡ Some (d, reader.new))
         × (shown d ≡ view f)) }
     ensures refused { result ≡ Err FieldsFault.NotJson
-        → converted of_json (value 127 reader.old) ≡ None }
+        → converted of_json (value max_depth reader.old) ≡ None }
 {
     let token = reader.next().ok_or(FieldsFault::NotJson)?;
     match token {
         Token::BeginObject => Ok(Fields {
-            members: all_members(alloc, reader, 126)?,
+            members: all_members(alloc, reader, MAX_DEPTH - 1)?,
         }),
         Token::String(_)
         | Token::EndObject
@@ -36,7 +39,7 @@ fn next_fields<'a>(alloc: Global, reader: &mut Reader<'a>) -> Result<Fields<'a>,
         | Token::Bool(_)
         | Token::Null
         | Token::Bad => {
-            pass_from(token, reader, 127)?;
+            pass_from(token, reader, MAX_DEPTH)?;
             Ok(Fields {
                 members: Vec::new(alloc),
             })
