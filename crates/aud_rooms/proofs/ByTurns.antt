@@ -1,9 +1,8 @@
 -- What is due by the spans of the turns.
 use Rattle.std.proofs.lemmas.Grind.{common_steps}
 use Rattle.std.proofs.lemmas.Bool.Decides.{nat_tests}
-use Rattle.std.proofs.Common.{◌≡◌, ◌<◌, ◌≤◌, ◌-◌, ℕ, suc, Bool, true, cond, ◌&&◌, List, [], ◌∷◌, length, Some, None, refl, ap, ◌∙◌, inl, inr, nat_le, nat_lt, arith}
+use Rattle.std.proofs.Common.{◌≡◌, ◌<◌, ◌≤◌, ◌-◌, ℕ, suc, Bool, true, cond, ◌&&◌, List, [], ◌∷◌, length, Some, None, refl, ap, ◌∙◌, inl, inr, nat_le, nat_lt, arith, nat_cmp, is_eq}
 use Rattle.std.specs.List.{list_any}
-use Rattle.std.specs.Ordering.{nat_cmp, is_eq}
 use Rattle.std.specs.Cmp.Lexicographic.{slice_cmp}
 use Rattle.std.specs.FinSet as set
 use Rattle.std.proofs.lemmas.Bool.{cases_lt, cond_both, le-leb, lt-leb, leb-true, leb-false, and_from, and_right, and_parts}

@@ -1,11 +1,9 @@
 -- Which positions a list has; the positions that may be due by spans, and those that are.
 use Rattle.std.proofs.lemmas.Grind.{common_steps}
 use Rattle.std.proofs.lemmas.Bool.Decides.{nat_tests}
-use Rattle.std.proofs.Common.{◌≡◌, ◌<◌, ◌-◌, ℕ, Bool, true, false, ◌&&◌, ◌||◌, List, [], ◌∷◌, ◌++◌, filter, length, take, get_or, min, max, ◌+◌, Option, Some, None, refl, sym, ap, ◌∙◌, arith, ◌==◌, true≢false, ◌≤◌, zero, suc, ◌⊎◌, inr, nat_eq}
+use Rattle.std.proofs.Common.{◌≡◌, ◌<◌, ◌-◌, ℕ, Bool, true, false, ◌&&◌, ◌||◌, List, [], ◌∷◌, ◌++◌, filter, length, take, get_or, min, max, ◌+◌, Option, Some, None, refl, sym, ap, ◌∙◌, arith, ◌==◌, true≢false, ◌≤◌, zero, suc, ◌⊎◌, inr, nat_eq, nat_cmp, is_eq, bytes_eq}
 use Rattle.std.specs.List.{list_any, dedup, dedup_from}
-use Rattle.std.specs.Ordering.{nat_cmp, is_eq}
 use Rattle.std.specs.Cmp.Lexicographic.{slice_cmp}
-use Rattle.std.specs.Str.{bytes_eq}
 use Rattle.std.proofs.lemmas.Bool.{le-leb, lt-leb, and_right, le-ltb, lt-ltb, or_from, eq-eqb, eqb-true, or_right}
 use Rattle.std.proofs.lemmas.List.Folds.{list_any_more, list_any-append}
 use Rattle.std.proofs.lemmas.Map.Text.{is_eq-slice_cmp}

@@ -1,13 +1,11 @@
 -- What a builder of spans keeps of each room, seen as the rooms of each position; its spans are those of these rooms.
 use Rattle.std.proofs.lemmas.Grind.{common_steps}
 use Rattle.std.proofs.lemmas.Bool.Decides.{nat_tests}
-use Rattle.std.proofs.Common.{◌≡◌, ◌<◌, ◌≤◌, ◌+◌, ◌-◌, ℕ, Bool, true, false, cond, [], map, replicate, Option, Some, None, refl, sym, ap, ◌∙◌, arith, suc, List, ◌∷◌, ◌++◌, subst, inl, inr, true≢false}
+use Rattle.std.proofs.Common.{◌≡◌, ◌<◌, ◌≤◌, ◌+◌, ◌-◌, ℕ, Bool, true, false, cond, [], map, replicate, Option, Some, None, refl, sym, ap, ◌∙◌, arith, suc, List, ◌∷◌, ◌++◌, subst, inl, inr, true≢false, nat_cmp, is_eq, Bor, le-ltb, Less}
 use Rattle.std.proofs.lemmas.List.{append-nil, length-map}
-use Rattle.std.specs.Ordering.{nat_cmp, is_eq}
 use Rattle.std.specs.Cmp.{eq_by_cmp_equiv, IsTotalOrder}
 use Rattle.std.specs.Cmp.Lexicographic.{slice_cmp, nat_list_cmp_total}
 use Rattle.std.specs.FinSet as set
-use denote.Ref.{Bor}
 use Rattle.aud_node.specs.Stream.{Text, positions_after}
 use Rattle.aud_rooms.specs.Assigned.{covered, starting, with_joined, with_left, covered_upto, assigned_rooms, AreSpansOf}
 use Rattle.aud_rooms.specs.Private.Times.{Times, AreApart, ContinuesTimes, is_held_at, is_held_now, is_in_interval, intervals_upto, span_of, spans_of}
@@ -16,11 +14,9 @@ use Rattle.aud_rooms.specs.Private.Building.{assigned_of, AreKept, spans_upto}
 use Rattle.aud_rooms.proofs.Times.{held_beyond, apart_longer, place_maximal, interval_of, maximal_same, closed}
 use Rattle.aud_rooms.proofs.RoomMaps.{same_text, contains-rooms_with, same_rooms}
 use Rattle.aud_rooms.proofs.Ascending.{length-numbers, map_positions, map_more, map_same, number_at}
-use Rattle.std.proofs.lemmas.Bool.{le-ltb}
 use Rattle.std.specs.List.{Contains, AllByRecursion, list_any}
 use Rattle.std.specs.List.Sorted.{IsStrictlySortedBy}
-use Rattle.std.specs.declared.cmp.Ordering.TheVariants.{Less}
-use Rattle.std.proofs.lemmas.Option.{slice_get-map}
+use Rattle.std.proofs.lemmas.Option.{slice_get-map, none-some}
 use Rattle.aud_rooms.specs.declared.interval.Interval.{Interval}
 use Rattle.aud_rooms.specs.Spans.{RoomSpan, IsMaximalInterval, IsMaximal, ComesBefore, ComesBeforeAll, AreInOrder, AreSpans}
 use Rattle.aud_rooms.proofs.Members.{contains-none, contains-parts, contains-first, contains-later}
@@ -70,118 +66,76 @@ module _ (low cov position : ℕ) (es : RoomMap Times) (kept : AreKept low cov e
 
 -- ---- a room's times change
 
-module _ (low cov : ℕ) (olds news : RoomMap Times) (room : Text) (t : Times)
-    (updates : (q : Bor Text) → at_room news q.now ≡ cond (is_eq (slice_cmp nat_cmp room q.now)) (Some t) (at_room olds q.now)) where
-  -- what the changed map has for a text
-  at : (q : Text) → at_room news q ≡ cond (is_eq (slice_cmp nat_cmp room q)) (Some t) (at_room olds q)
-  at q = updates (record { ref_ptr = (0, 0); now = q })
-
-  -- the times of all rooms stay in order where the new times are
-  pub kept_put : AreKept low cov olds → AreApart low t.ended t.since cov → AreKept low cov news
-  kept_put kept apart = record { above = kept.above; apart = λ room q is. grind (arith, at room, is, kept.apart room q, apart) }
-
-  -- the rooms of a test that takes the old and the new times alike
-  unchanged : (test : Times → Bool) → do_pass test (at_room olds room) ≡ test t → rooms_with test news ≡ rooms_with test olds
-  unchanged test alike =
-      same_rooms _ _ (λ q. grind (arith, contains-rooms_with test news q, contains-rooms_with test olds q, at q, same_text room q, alike))
-
-  -- a test that the new times pass
-  gained : (test : Times → Bool) → test t ≡ true → rooms_with test news ≡ set.insert (rooms_with test olds) room
-  gained test passes =
-      same_rooms _ _ (λ q. grind (arith, contains-rooms_with test news q, contains-rooms_with test olds q, at q, passes, set.contains-insert nat_list_cmp_total (rooms_with test olds) room q, (eq_by_cmp_equiv nat_list_cmp_total).symm room q))
-
-  -- a test that they fail
-  lost : (test : Times → Bool) → test t ≡ false → rooms_with test news ≡ set.remove (rooms_with test olds) room
-  lost test fails =
-      same_rooms _ _ (λ q. grind (arith, contains-rooms_with test news q, contains-rooms_with test olds q, at q, fails, set.contains-remove nat_list_cmp_total (rooms_with test olds) room q, (eq_by_cmp_equiv nat_list_cmp_total).symm room q))
-
-  -- the covered positions keep their rooms
-  module _ (above : low ≤ cov) (same : (p : ℕ) → p ≤ cov → do_pass (is_held_at p) (at_room olds room) ≡ is_held_at p t) where
-    -- the covered positions have the same rooms
-    same_sets : map (λ p. rooms_with (is_held_at p) news) (positions_after low (cov - low)) ≡ map (λ p. rooms_with (is_held_at p) olds) (positions_after low (cov - low))
-    same_sets = grind (arith, map_positions, unchanged)
-
-    -- the room is held from now on
-    pub assigned_joined : is_held_now t ≡ true → assigned_of low cov news ≡ with_joined room (assigned_of low cov olds)
-    assigned_joined now = grind (arith, same_sets, gained is_held_now now)
-
-    -- the room is held no longer
-    pub assigned_left : is_held_now t ≡ false → assigned_of low cov news ≡ with_left room (assigned_of low cov olds)
-    assigned_left now = grind (arith, same_sets, lost is_held_now now)
-
--- ---- the builder's steps
-
--- nothing is covered, and one room is held
-module _ (birth : ℕ) (sid : Text) (olds news : RoomMap Times) (empty : olds ≡ []) (t : Times) (is : t ≡ record { ended = []; since = Some birth })
-    (updates : (q : Bor Text) → at_room news q.now ≡ cond (is_eq (slice_cmp nat_cmp sid q.now)) (Some t) (at_room olds q.now)) where
-  -- no room passes where nothing is kept
-  none : (test : Times → Bool) → rooms_with test [] ≡ set.empty
-  unfolding rooms_with
-  none test = refl
-
-  -- the map has the new room alone
-  from_none : (q : Bor Text) → at_room news q.now ≡ cond (is_eq (slice_cmp nat_cmp sid q.now)) (Some (record { ended = []; since = Some birth })) None
-  from_none q = grind arith
-
-  -- its times are in order
-  pub kept_started : AreKept birth birth news
-  kept_started =
-      kept_put birth birth [] news sid (record { ended = []; since = Some birth }) from_none
-      (record { above = omega arith; apart = λ room t is. absurd cc })
-      (omega arith, omega arith)
-
-  -- this is how a session starts
-  pub assigned_started : assigned_of birth birth news ≡ starting sid birth
-  assigned_started =
-      assigned_joined birth birth [] news sid (record { ended = []; since = Some birth }) from_none (omega arith) (λ p h. sym (le-ltb birth p h)) refl
-      ∙ ap (λ n. record { low = birth; sets = map (λ p. rooms_with (is_held_at p) []) (positions_after birth n); held = set.insert (rooms_with is_held_now []) sid }) (let e : birth - birth ≡ 0 = omega arith in e)
-      ∙ ap (λ rooms. record { low = birth; sets = []; held = set.insert rooms sid }) (none is_held_now)
-
-module _ (low cov : ℕ) (olds news : RoomMap Times) (room : Text) (old new : Times) (found : at_room olds room ≡ Some old)
-    (updates : (q : Bor Text) → at_room news q.now ≡ cond (is_eq (slice_cmp nat_cmp room q.now)) (Some new) (at_room olds q.now))
-    (kept : AreKept low cov olds) (continues : ContinuesTimes low cov old new) where
-  -- the times of all rooms stay in order
-  pub kept_continued : AreKept low cov news
-  kept_continued = kept_put low cov olds news room new updates kept continues.apart
-
-  -- the covered positions take the old and the new times alike
-  same_times : (p : ℕ) → p ≤ cov → do_pass (is_held_at p) (at_room olds room) ≡ is_held_at p new
-  same_times p h = ap (do_pass (is_held_at p)) found ∙ sym (continues.same p h)
-
-  -- a room that is held again
-  pub assigned_opened : is_held_now new ≡ true → assigned_of low cov news ≡ with_joined room (assigned_of low cov olds)
-  assigned_opened now = assigned_joined low cov olds news room new updates kept.above same_times now
-
-  -- a room that is left
-  pub assigned_shut : is_held_now new ≡ false → assigned_of low cov news ≡ with_left room (assigned_of low cov olds)
-  assigned_shut now = assigned_left low cov olds news room new updates kept.above same_times now
+-- the new times of a room are in order, and the room was held at the same covered positions by those that it had, if any
+pub record Continues (low cov : ℕ) (old : Option Times) (new : Times) : Type 0 where
+  pub apart : AreApart low new.ended new.since cov
+  pub same : (p : ℕ) → p ≤ cov → do_pass (is_held_at p) old ≡ is_held_at p new
 
 -- a room that had no times
-module _ (low cov : ℕ) (olds : RoomMap Times) (room : Text) (absent : at_room olds room ≡ None) (kept : AreKept low cov olds) where
-  module _ (unchanged news : RoomMap Times) (same : unchanged ≡ olds) (t : Times) (is : t ≡ record { ended = []; since = Some cov })
-      (updates : (q : Bor Text) → at_room news q.now ≡ cond (is_eq (slice_cmp nat_cmp room q.now)) (Some t) (at_room unchanged q.now)) where
-    -- the map has the new room beside the old ones
-    from_olds : (q : Bor Text) → at_room news q.now ≡ cond (is_eq (slice_cmp nat_cmp room q.now)) (Some (record { ended = []; since = Some cov })) (at_room olds q.now)
-    from_olds q = grind (arith, common_steps, nat_tests, unchanged)
+pub continues_none : (low cov : ℕ) (old : Option Times) (new : Times) → low ≤ cov → None ≡ old → new ≡ record { ended = []; since = Some cov } → Continues low cov old new
+continues_none low cov old new h absent is =
+    subst (Continues low cov old) (sym is)
+    (subst (λ o. Continues low cov o (record { ended = []; since = Some cov })) absent (record { apart = (h, omega arith); same = λ p to. sym (le-ltb cov p to) }))
 
-    -- the times of all rooms stay in order
-    pub kept_first : AreKept low cov news
-    kept_first = kept_put low cov olds news room (record { ended = []; since = Some cov }) from_olds kept (kept.above, omega arith)
+-- a room that had times
+pub continues_some : (low cov : ℕ) (o : Option Times) (old new : Times) → Some old ≡ o → ContinuesTimes low cov old new → Continues low cov o new
+continues_some low cov o old new found continues =
+    subst (λ o. Continues low cov o new) found (record { apart = continues.apart; same = λ p h. sym (continues.same p h) })
 
-    -- the room is held from now on
-    pub assigned_first : assigned_of low cov news ≡ with_joined room (assigned_of low cov olds)
-    assigned_first =
-        assigned_joined low cov olds news room (record { ended = []; since = Some cov }) from_olds kept.above
-        (λ p h. ap (do_pass (is_held_at p)) absent ∙ sym (le-ltb cov p h)) refl
+module _ (low cov : ℕ) (olds lent news : RoomMap Times) (same : lent ≡ olds) (room : Text) (t : Times)
+    (updates : (q : Bor Text) → at_room news q.now ≡ cond (is_eq (slice_cmp nat_cmp room q.now)) (Some t) (at_room lent q.now))
+    (kept : AreKept low cov olds) (continues : Continues low cov (at_room olds room) t) where
+  -- what the changed map has for a text
+  at : (q : Text) → at_room news q ≡ cond (is_eq (slice_cmp nat_cmp room q)) (Some t) (at_room olds q)
+  at q = updates (record { ref_ptr = (0, 0); now = q }) ∙ ap (λ es. cond (is_eq (slice_cmp nat_cmp room q)) (Some t) (at_room es q)) same
 
-  -- without the room the rooms held now are the same
-  without : set.remove (rooms_with is_held_now olds) room ≡ rooms_with is_held_now olds
-  without =
-      same_rooms _ _ (λ q. grind (arith, set.contains-remove nat_list_cmp_total (rooms_with is_held_now olds) room q, contains-rooms_with is_held_now olds q, same_text q room, absent))
+  -- the times of all rooms stay in order
+  pub kept_put : AreKept low cov news
+  kept_put = record { above = kept.above; apart = λ room q is. grind (arith, at room, is, kept.apart room q, continues.apart) }
 
-  -- to leave a room that isn't held changes nothing
-  pub assigned_absent : assigned_of low cov olds ≡ with_left room (assigned_of low cov olds)
-  assigned_absent = ap (λ rooms. record { low = low; sets = map (λ p. rooms_with (is_held_at p) olds) (positions_after low (cov - low)); held = rooms }) (sym without)
+  -- the covered positions keep their rooms
+  same_at_each : (p : ℕ) → p ≤ cov → rooms_with (is_held_at p) news ≡ rooms_with (is_held_at p) olds
+  same_at_each p h =
+      same_rooms _ _ (λ q. grind (arith, contains-rooms_with (is_held_at p) news q, contains-rooms_with (is_held_at p) olds q, at q, same_text room q, continues.same p h))
+
+  -- so they have the same rooms
+  same_sets : map (λ p. rooms_with (is_held_at p) news) (positions_after low (cov - low)) ≡ map (λ p. rooms_with (is_held_at p) olds) (positions_after low (cov - low))
+  same_sets = (let above = kept.above in map_positions _ _ low (cov - low) (λ p _ h. same_at_each p (omega arith)))
+
+  -- the room is held from now on
+  pub assigned_joined : is_held_now t ≡ true → assigned_of low cov news ≡ with_joined room (assigned_of low cov olds)
+  assigned_joined now = grind (arith, same_sets, gained)
+    where
+      gained : rooms_with is_held_now news ≡ set.insert (rooms_with is_held_now olds) room
+      gained =
+          same_rooms _ _ (λ q. grind (arith, contains-rooms_with is_held_now news q, contains-rooms_with is_held_now olds q, at q, now, set.contains-insert nat_list_cmp_total (rooms_with is_held_now olds) room q, (eq_by_cmp_equiv nat_list_cmp_total).symm room q))
+
+  -- the room is held no longer
+  pub assigned_left : is_held_now t ≡ false → assigned_of low cov news ≡ with_left room (assigned_of low cov olds)
+  assigned_left now = grind (arith, same_sets, lost)
+    where
+      lost : rooms_with is_held_now news ≡ set.remove (rooms_with is_held_now olds) room
+      lost =
+          same_rooms _ _ (λ q. grind (arith, contains-rooms_with is_held_now news q, contains-rooms_with is_held_now olds q, at q, now, set.contains-remove nat_list_cmp_total (rooms_with is_held_now olds) room q, (eq_by_cmp_equiv nat_list_cmp_total).symm room q))
+
+-- nothing is covered and nothing is kept
+pub kept_none : (birth : ℕ) → AreKept birth birth []
+kept_none birth = record { above = omega arith; apart = λ room t is. absurd (none-some t is) }
+
+-- that is how a session starts, before it holds its own room
+pub starts : (birth : ℕ) (sid : Text) → with_joined sid (assigned_of birth birth []) ≡ starting sid birth
+unfolding rooms_with
+starts birth sid =
+    ap (λ n. record { low = birth; sets = map (λ p. rooms_with (is_held_at p) []) (positions_after birth n); held = set.insert set.empty sid }) (let none : birth - birth ≡ 0 = omega arith in none)
+
+-- to leave a room that had no times changes nothing
+pub assigned_absent : (low cov : ℕ) (olds : RoomMap Times) (room : Text) → None ≡ at_room olds room → assigned_of low cov olds ≡ with_left room (assigned_of low cov olds)
+assigned_absent low cov olds room absent =
+    ap (λ rooms. record { low = low; sets = map (λ p. rooms_with (is_held_at p) olds) (positions_after low (cov - low)); held = rooms }) (sym without)
+  where
+    without : set.remove (rooms_with is_held_now olds) room ≡ rooms_with is_held_now olds
+    without =
+        same_rooms _ _ (λ q. grind (arith, set.contains-remove nat_list_cmp_total (rooms_with is_held_now olds) room q, contains-rooms_with is_held_now olds q, same_text q room, absent))
 
 -- ---- the spans of what the builder kept are the spans of the rooms that it gave to positions
 

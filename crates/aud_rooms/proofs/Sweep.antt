@@ -1,5 +1,5 @@
 -- The sweep over the spans in the order of their first positions, and the rooms by the spans that have begun.
-use Rattle.std.proofs.Common.{◌≡◌, ◌<◌, ◌≤◌, ℕ, suc, false, cond, ◌||◌, ◌&&◌, List, [], ◌∷◌, ◌++◌, map, filter, length, max, get_or, Option, Some, None, refl, sym, ap, ◌∙◌, nat_le, arith, true, not, nat_lt, append_assoc, take, drop, drop-cons, subst, ◌+◌}
+use Rattle.std.proofs.Common.{◌≡◌, ◌<◌, ◌≤◌, ℕ, suc, false, cond, ◌||◌, ◌&&◌, List, [], ◌∷◌, ◌++◌, map, filter, length, max, get_or, Option, Some, None, refl, sym, ap, ◌∙◌, nat_le, arith, true, not, nat_lt, append_assoc, take, drop, drop-cons, subst, ◌+◌, Bor, take-suc}
 use Rattle.std.specs.List.{list_any, All}
 use Rattle.std.specs.List.Sorted.{IsNonDecreasingBy, IsPermutation, IsNonDecreasing}
 use Rattle.std.specs.Ordering.{nat_cmp, is_eq, eq_by_cmp}
@@ -8,14 +8,12 @@ use Rattle.std.specs.Cmp.Lexicographic.{slice_cmp, nat_list_cmp_total}
 use Rattle.std.specs.FinSet as set
 use Rattle.std.proofs.lemmas.Bool.{le-leb, lt-leb, leb-true, leb-false, or_from, ltb-true, ltb-false, not-true}
 use Rattle.std.proofs.lemmas.List.Folds.{list_any-append}
-use denote.Ref.{Bor}
 use Rattle.aud_node.specs.Stream.{Text, entry}
 use Rattle.aud_rooms.specs.Spans.{RoomSpan, is_within, rooms_by_spans}
 use Rattle.aud_rooms.specs.Private.RoomMap.{RoomMap, at_room, do_pass, rooms_with}
 use Rattle.aud_rooms.specs.Private.Reached.{reaches, HasReached, AreByFirst, is_due_at}
 use Rattle.aud_base.proofs.Truth.{or_none}
 use Rattle.aud_rooms.proofs.RoomMaps.{same_text, contains-rooms_with, same_rooms}
-use Rattle.std.proofs.Math.Seq.{take-suc}
 use Rattle.std.proofs.lemmas.List.{map-append, take-append-drop, drop_all}
 use Rattle.std.proofs.lemmas.List.Kept.{IsNonDecreasingBy-filter}
 use Rattle.std.proofs.lemmas.List.Elements.{filter-append, filter_agree, filter_passes, All-cons, All-head, All-tail, All-map, All-push, All-filter, All-weaker}

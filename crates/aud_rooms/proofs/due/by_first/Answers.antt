@@ -1,7 +1,5 @@
-use Rattle.std.proofs.Common.{map, rules, subst}
-use Rattle.std.specs.List.Sorted.{IsPermutation}
+use Rattle.std.proofs.Common.{map, rules, subst, IsPermutation, Bor}
 use Rattle.std.proofs.lemmas.List.Sorted.{IsPermutation-map, IsNonDecreasingBy-from_sort_by_key}
-use denote.Ref.{Bor}
 use Rattle.aud_rooms.specs.Spans.{RoomSpan}
 use Rattle.aud_rooms.proofs.Sweep.{sorted_by_first}
 use Rattle.aud_rooms.proofs.due.by_first.Goals as goal

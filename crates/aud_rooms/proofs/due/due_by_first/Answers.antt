@@ -1,5 +1,4 @@
-use Rattle.std.proofs.Common.{◌≡◌, map, take, filter, nat_lt, not, sym, subst}
-use denote.Ref.{Bor}
+use Rattle.std.proofs.Common.{◌≡◌, map, take, filter, nat_lt, not, sym, subst, Bor}
 use Rattle.aud_rooms.specs.Spans.{RoomSpan}
 use Rattle.aud_rooms.specs.Private.Reached.{HasReached}
 use Rattle.aud_rooms.proofs.Sweep.{swept_step, swept_end}

@@ -1,5 +1,4 @@
-use Rattle.std.proofs.Common.{map, take}
-use denote.Ref.{Bor}
+use Rattle.std.proofs.Common.{map, take, Bor}
 use Rattle.aud_rooms.specs.Spans.{RoomSpan}
 use Rattle.aud_rooms.proofs.Sweep.{Swept}
 use Rattle.aud_rooms.proofs.due.due_by_first.Given as goal

@@ -1,7 +1,6 @@
-use Rattle.std.proofs.Common.{List, filter, length, map, sym, ap, subst, ◌∙◌}
+use Rattle.std.proofs.Common.{List, filter, length, map, sym, ap, subst, ◌∙◌, Bor}
 use Rattle.std.specs.List.Sorted.{IsNonDecreasing}
 use Rattle.std.proofs.lemmas.Result.{IfOk-weaker}
-use denote.Ref.{Bor}
 use Rattle.aud_rooms.specs.Spans.{RoomSpan}
 use Rattle.aud_rooms.specs.Private.Candidates.{candidates, is_candidate, is_for_spans}
 use Rattle.aud_rooms.proofs.Ascending.{non_decreasing}

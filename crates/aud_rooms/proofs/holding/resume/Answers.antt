@@ -1,5 +1,4 @@
-use Rattle.std.proofs.Common.{◌≡◌, ◌-◌, ◌∷◌, [], ◌++◌, Some, length, take, sym, ap, ◌∙◌}
-use Rattle.std.specs.List.{slice_get}
+use Rattle.std.proofs.Common.{◌≡◌, ◌-◌, ◌∷◌, [], ◌++◌, Some, length, take, sym, ap, ◌∙◌, slice_get}
 use Rattle.aud_rooms.proofs.Times.{last_part, resumed, begun}
 use Rattle.aud_rooms.proofs.holding.resume.Goals as goal
 

@@ -1,5 +1,4 @@
-use Rattle.std.proofs.Common.{◌≡◌, take}
-use Rattle.std.specs.Option.{option_map}
+use Rattle.std.proofs.Common.{◌≡◌, take, option_map}
 use Rattle.aud_rooms.specs.Private.Walk.{walked_records}
 use Rattle.aud_rooms.proofs.turn_spans.walk_turn.Given as goal
 
