@@ -26,31 +26,19 @@ module _ (p own : ℕ → Bool) where
   filter_no first (suc count) none = grind (arith, filter_no (suc first) count)
 
 module _ (log : List NodeRec) (pid : Text) (from to : ℕ) (h : from ≤ to) (within : to ≤ length log) where
-  -- the number is between the two
-  abbrev test : ℕ → Bool
-  test = is_between from to
-
   -- the record with the number is the session's
   abbrev own : ℕ → Bool
   own number = record_names (slice_get log number) pid
 
-  -- a number before the first isn't between the two, nor one from the second on; the others are
-  low : (n : ℕ) → n < from → test n ≡ false
-  low n b = grind (arith, nat_tests)
-
-  -- one from the first on, before the second, is
-  inside : (n : ℕ) → from ≤ n → n < to → test n ≡ true
-  inside n a b = grind (arith, nat_tests)
-
-  -- one from the second on isn't
-  high : (n : ℕ) → to ≤ n → test n ≡ false
-  high n a = grind (arith, nat_tests)
-
-  -- the numbers before them, between them, and from the second on
-  parts : numbers_from 0 (length log) ≡ numbers_from 0 from ++ (numbers_from from (to - from) ++ numbers_from to (length log - to))
-  parts = grind (arith, numbers_more 0 from ((to - from) + (length log - to)), numbers_more from (to - from) (length log - to))
-
   -- the session's records between two numbers are those of the numbers in between
   pub own_between-is : own_between log pid from to ≡ filter own (numbers_from from (to - from))
   own_between-is =
-      grind (arith, parts, filter-append own (numbers_from 0 from), filter-append test (filter own (numbers_from 0 from)), filter_no test own 0 from, low, filter-append own, filter-append test, filter_no test own to (length log - to), high, append-nil, filter_all test own from (to - from), inside)
+      let test = is_between from to in
+      let front = numbers_from 0 from in
+      let middle = numbers_from from (to - from) in
+      let back = numbers_from to (length log - to) in
+      let parts : numbers_from 0 (length log) ≡ front ++ (middle ++ back) = grind (arith, numbers_more 0 from ((to - from) + (length log - to)), numbers_more from (to - from) (length log - to)) in
+      let none = filter_no test own 0 from (λ n _ b. grind (arith, nat_tests)) in
+      let all = filter_all test own from (to - from) (λ n a b. grind (arith, nat_tests)) in
+      let past = filter_no test own to (length log - to) (λ n a _. grind (arith, nat_tests)) in
+      grind (arith, parts, none, all, past, filter-append own front (middle ++ back), filter-append own middle back, filter-append test (filter own front), filter-append test (filter own middle), append-nil)

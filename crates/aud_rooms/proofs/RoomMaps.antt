@@ -4,6 +4,7 @@ use Rattle.std.specs.List.{list_any}
 use Rattle.std.specs.Ordering.{nat_cmp, is_eq, eq_by_cmp}
 use Rattle.std.specs.Cmp.Lexicographic.{slice_cmp, nat_list_cmp_total, texts_ties, bytes_decides}
 use Rattle.std.specs.FinSet as set
+use Rattle.std.proofs.lemmas.Map.Views.{any-filter_same}
 use Rattle.aud_base.proofs.Lists.{any-map}
 use Rattle.aud_node.specs.Stream.{Text}
 use Rattle.aud_rooms.specs.Rooms.{Rooms}
@@ -18,28 +19,19 @@ same_text a b e = (bytes_decides a b).0 (texts_ties a b ∙ e)
 pub itself : (a : Text) → eq_by_cmp (slice_cmp nat_cmp) a a ≡ true
 itself a = sym (texts_ties a a) ∙ (bytes_decides a a).1 refl
 
--- a room is among those that a test keeps where it is there and passes
-any_kept : (q : Text) (keep : Text → Bool) (keys : List Text) → list_any (eq_by_cmp (slice_cmp nat_cmp) q) (filter keep keys) ≡ (list_any (eq_by_cmp (slice_cmp nat_cmp) q) keys && keep q)
-any_kept q keep [] = refl
-any_kept q keep (k ∷ keys) = grind (arith, any_kept q keep keys, same_text q k)
-
 -- a room is one of the map's where something is kept of it
 any_key : {X : Type 0} (es : RoomMap X) (q : Text) → list_any (eq_by_cmp (slice_cmp nat_cmp) q) (map (λ e. e.0.now) es) ≡ is_some (at_room es q)
 any_key [] q = refl
 any_key (e ∷ es) q = grind (arith, any_key es q)
 
--- what is there and passes is what passes
-some_passes : {X : Type 0} (test : X → Bool) (o : Option X) → (is_some o && do_pass test o) ≡ do_pass test o
-some_passes test o = grind arith
-
 -- a room is among those with what passes the test where what is kept of it passes
 pub contains-rooms_with : {X : Type 0} (test : X → Bool) (es : RoomMap X) (q : Text) → set.contains (rooms_with test es) q ≡ do_pass test (at_room es q)
 unfolding rooms_with
 contains-rooms_with {X} test es q =
-    set.contains-from_list nat_list_cmp_total (filter (λ room. do_pass test (at_room es room)) (map (λ e. e.0.now) es)) q
-    ∙ any_kept q (λ room. do_pass test (at_room es room)) (map (λ e. e.0.now) es)
-    ∙ ap (λ b. b && do_pass test (at_room es q)) (any_key es q)
-    ∙ some_passes test (at_room es q)
+    let passes : Text → Bool = λ room. do_pass test (at_room es room) in
+    set.contains-from_list nat_list_cmp_total (filter passes (map (λ e. e.0.now) es)) q
+    ∙ any-filter_same (eq_by_cmp (slice_cmp nat_cmp) q) passes (passes q) (λ room e. ap passes (sym (same_text q room e))) (map (λ e. e.0.now) es)
+    ∙ grind (arith, any_key es q)
 
 -- the same, for an attribute of a function
 pub ruleset rooms_by_test = (contains-rooms_with)

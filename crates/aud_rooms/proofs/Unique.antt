@@ -3,8 +3,7 @@ use Rattle.std.proofs.Common.{◌≡◌, ℕ, List, [], ◌∷◌, refl, arith, 
 use Rattle.std.specs.Cmp.Lexicographic.{slice_cmp, nat_list_cmp_total}
 use Rattle.aud_rooms.specs.Rooms.{Rooms}
 use Rattle.aud_node.specs.Stream.{Text}
-use Rattle.aud_rooms.specs.Spans.{RoomSpan}
-use Rattle.aud_rooms.specs.Spans.{ComesBefore, ComesBeforeAll, AreInOrder, AreSpans}
+use Rattle.aud_rooms.specs.Spans.{RoomSpan, ComesBefore, ComesBeforeAll, AreInOrder, AreSpans}
 use Rattle.aud_rooms.proofs.Members.{contains-none, contains-parts, contains-first, contains-later}
 
 -- of two rooms only one comes before the other, and none before itself
