@@ -1,12 +1,8 @@
 -- Consecutive numbers and positions, and lists that ascend.
-use Rattle.std.proofs.Common.{◌≡◌, ◌<◌, ◌+◌, ℕ, zero, suc, Bool, List, [], ◌∷◌, ◌++◌, filter, length, get_or, Some, slice_get, refl, sym, ap, ◌∙◌, arith, nat_eq, ◌||◌, ◌≤◌, map, replicate}
-use Rattle.std.specs.List.{list_any}
+use Rattle.std.proofs.Common.{◌≡◌, ◌<◌, ◌+◌, ℕ, zero, suc, Bool, ◌∷◌, ◌++◌, filter, length, get_or, Some, slice_get, refl, ap, ◌∙◌, arith, ◌≤◌, map, replicate}
 use Rattle.std.specs.List.Sorted.{IsNonDecreasing, IsStrictlyIncreasing}
-use Rattle.std.specs.Ordering.{nat_cmp, eq_by_cmp}
-use Rattle.std.specs.Cmp.{nat_cmp_total, unsigned_ties}
 use Rattle.std.proofs.lemmas.List.Kept.{IsStrictlyIncreasing-filter}
 use Rattle.std.proofs.lemmas.Map.Keys.{sorted_from_strictly_increasing, non_decreasing_from_sorted}
-use Rattle.std.proofs.lemmas.Map.Lookups.{btree_set_from_contains, exact_unsigned}
 use Rattle.std.proofs.lemmas.Option.{get_or_from_slice_get}
 use Rattle.aud_node.specs.Lists.{numbers_from}
 use Rattle.std.proofs.lemmas.List.{map-append}
@@ -46,16 +42,6 @@ filter-ascends p first count =
 -- so they don't descend
 pub non_decreasing : (p : ℕ → Bool) (first count : ℕ) → IsNonDecreasing (filter p (numbers_from first count))
 non_decreasing p first count = non_decreasing_from_sorted _ (sorted_from_strictly_increasing _ (filter-ascends p first count))
-
--- there is one ascending list of given numbers
-pub same_ascending : (xs ys : List ℕ) → IsStrictlyIncreasing xs → IsStrictlyIncreasing ys → ((n : ℕ) → list_any (nat_eq n) xs ≡ list_any (nat_eq n) ys) → xs ≡ ys
-same_ascending xs ys a b same =
-    btree_set_from_contains nat_cmp_total (record { keys = xs }) (record { keys = ys }) (sorted_from_strictly_increasing xs a) (sorted_from_strictly_increasing ys b)
-    (λ n. sym (tied n xs) ∙ same n ∙ tied n ys) exact_unsigned
-  where
-    tied : (n : ℕ) (zs : List ℕ) → list_any (nat_eq n) zs ≡ list_any (eq_by_cmp nat_cmp n) zs
-    tied n [] = refl
-    tied n (z ∷ zs) = ap (λ b. b || list_any (nat_eq n) zs) (unsigned_ties n z) ∙ ap (λ b. eq_by_cmp nat_cmp n z || b) (tied n zs)
 
 -- what is made of positions goes by what is made of each
 pub map_positions : {X : Type 0} (f g : ℕ → X) (low count : ℕ) → ((p : ℕ) → low < p → p ≤ low + count → f p ≡ g p) → map f (positions_after low count) ≡ map g (positions_after low count)

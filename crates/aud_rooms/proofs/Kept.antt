@@ -1,7 +1,6 @@
 -- What a builder of spans keeps of each room, seen as the rooms of each position; its spans are those of these rooms.
 use Rattle.std.proofs.lemmas.Grind.{common_steps}
-use Rattle.std.proofs.lemmas.Bool.Decides.{nat_tests}
-use Rattle.std.proofs.Common.{◌≡◌, ◌<◌, ◌≤◌, ◌+◌, ◌-◌, ℕ, Bool, true, false, cond, [], map, replicate, Option, Some, None, refl, sym, ap, ◌∙◌, arith, suc, List, ◌∷◌, ◌++◌, subst, inl, inr, true≢false, nat_cmp, is_eq, Bor, le-ltb, Less}
+use Rattle.std.proofs.Common.{◌≡◌, ◌<◌, ◌≤◌, ◌+◌, ◌-◌, ℕ, true, false, cond, [], map, replicate, Option, Some, None, refl, sym, ap, ◌∙◌, arith, suc, List, ◌∷◌, ◌++◌, subst, inl, inr, true≢false, nat_cmp, is_eq, Bor, le-ltb, Less}
 use Rattle.std.proofs.lemmas.List.{append-nil, length-map}
 use Rattle.std.specs.Cmp.{eq_by_cmp_equiv, IsTotalOrder}
 use Rattle.std.specs.Cmp.Lexicographic.{slice_cmp, nat_list_cmp_total}

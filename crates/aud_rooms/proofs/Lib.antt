@@ -8,6 +8,7 @@ pub mod RoomMaps
 pub mod Sweep
 pub mod Kept
 pub mod Parts
+pub mod Merged
 pub mod Candidate
 pub mod OwnNumbers
 pub mod Records

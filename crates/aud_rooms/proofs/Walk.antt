@@ -1,7 +1,7 @@
 -- What is told to the builder of spans gives the positions the rooms of the turns.
 use Rattle.std.proofs.lemmas.Grind.{common_steps}
 use Rattle.std.proofs.lemmas.Bool.Decides.{nat_tests}
-use Rattle.std.proofs.Common.{◌≡◌, ◌<◌, ◌≤◌, ◌+◌, ◌-◌, ℕ, zero, suc, Bool, true, false, cond, List, [], ◌∷◌, ◌++◌, map, filter, max, Option, Some, None, slice_get, unwrap_or, option_map, is_some, refl, sym, ap, subst, ◌∙◌, nat_le, arith, All, true≢false}
+use Rattle.std.proofs.Common.{◌≡◌, ◌<◌, ◌≤◌, ◌+◌, ◌-◌, ℕ, zero, suc, false, cond, List, [], ◌∷◌, ◌++◌, map, filter, max, Option, Some, None, slice_get, unwrap_or, option_map, is_some, refl, sym, ap, subst, ◌∙◌, nat_le, arith, All, true≢false}
 use Rattle.std.specs.Option.{option_or}
 use Rattle.std.specs.FinSet as set
 use Rattle.std.proofs.lemmas.Bool.{cond_both}
@@ -19,7 +19,7 @@ use Rattle.aud_rooms.specs.Turns.{Turn, slice_of}
 use Rattle.aud_rooms.specs.TurnsDue.{rooms_at_end, rooms_at_take, rooms_for, greatest_high}
 use Rattle.aud_rooms.specs.Spans.{RoomSpan, AreSpans, AreSpansOfTurns, first_low, rooms_by_turns}
 use Rattle.aud_rooms.specs.Assigned.{Assigned, starting, covered, assigned_rooms, covered_upto, AreSpansOf}
-use Rattle.aud_rooms.specs.TurnPlaces.{IsInOrder, own_between}
+use Rattle.aud_rooms.specs.TurnPlaces.{IsInOrder}
 use Rattle.aud_rooms.specs.Private.Walk.{at_cursor, walked_record, walked_records, walked_turn, walked_turns}
 use Rattle.aud_rooms.proofs.Intervals.{spans_alike}
 use Rattle.aud_rooms.proofs.OwnNumbers.{own_between-is}

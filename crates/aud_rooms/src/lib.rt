@@ -28,6 +28,7 @@ mod due;
 mod holding;
 mod interval;
 mod laws;
+mod merge;
 mod reached;
 mod room_set;
 mod room_spans;

@@ -1,15 +1,11 @@
 -- Which positions may be due by spans, by the rooms that their entries name.
-use Rattle.std.specs.Prelude.{ℕ, Bool, List, length, nat_lt, nat_le, nat_eq, ◌&&◌, ◌||◌}
+use Rattle.std.specs.Prelude.{ℕ, Bool, List, length, nat_lt, nat_le, ◌&&◌, ◌||◌}
 use Rattle.std.specs.List.{filter, list_any}
 use Rattle.aud_tap.specs.declared.records.StreamRec.{StreamRec}
 use Rattle.aud_node.specs.Stream.{Text, entry, positions_after}
 use Rattle.aud_node.specs.Addressees.{is_to_all, is_to_room}
 use Rattle.aud_rooms.specs.Rooms.{is_for}
 use Rattle.aud_rooms.specs.Spans.{RoomSpan, is_within, rooms_by_spans}
-
--- the position is one of these
-abbrev pub is_among : List ℕ → ℕ → Bool
-is_among positions p = list_any (nat_eq p) positions
 
 -- past the first position, up to the second
 abbrev pub is_past_upto : ℕ → ℕ → ℕ → Bool
@@ -18,6 +14,10 @@ is_past_upto after upto p = nat_lt after p && nat_le p upto
 -- the span holds the position, and the entry there is recoverable and names the span's room
 abbrev pub is_to_span : List StreamRec → Text → ℕ → RoomSpan → Bool
 is_to_span stream nsp p s = is_within p s && is_to_room (entry stream p) nsp s.room
+
+-- past birth, up to high, recoverable, and for the room of a span that holds the position
+abbrev pub is_to_some : List RoomSpan → List StreamRec → Text → ℕ → ℕ → ℕ → Bool
+is_to_some spans stream nsp birth high p = is_past_upto birth high p && list_any (is_to_span stream nsp p) spans
 
 -- past birth, up to high, recoverable, and for the whole namespace or for the room of a span that holds the position
 abbrev pub is_candidate : List RoomSpan → List StreamRec → Text → ℕ → ℕ → ℕ → Bool

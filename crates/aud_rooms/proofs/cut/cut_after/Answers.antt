@@ -1,4 +1,4 @@
-use Rattle.std.proofs.Common.{◌≡◌, ℕ, true, false, ◌∙◌, nat_le, rules}
+use Rattle.std.proofs.Common.{◌∙◌, nat_le, rules}
 use Rattle.std.proofs.lemmas.List.Sorted.{IsPartitionPoint-from_clause, IsPartitionedBy-leb}
 use Rattle.aud_rooms.proofs.Parts.{point_parts}
 use Rattle.aud_rooms.proofs.cut.cut_after.Goals as goal

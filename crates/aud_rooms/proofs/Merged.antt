@@ -1,0 +1,33 @@
+-- Two ascending lists of positions as one.
+use Rattle.std.proofs.Common.{◌≡◌, ◌<◌, ◌||◌, ℕ, zero, suc, Bool, not, List, ◌∷◌, filter, length, take, drop, None, position, nat_le, refl, ap, arith, length-take}
+use Rattle.std.proofs.lemmas.Bool.Decides.{nat_tests}
+use Rattle.std.proofs.lemmas.List.Folds.{length-prefix_len}
+use Rattle.aud_node.specs.Lists.{numbers_from}
+use Rattle.aud_rooms.specs.Private.Merge.{count_below, without_first, merge}
+
+-- where no number is found that isn't below this one, all come before it
+pub none_below : (n : ℕ) (ms : List ℕ) → None ≡ position (λ m. nat_le n m) ms → length ms ≡ count_below n ms
+none_below n ms none = grind (arith, nat_tests, length-prefix_len (λ m. not (nat_le n m)) ms, length-take (count_below n ms) ms, none)
+
+-- later numbers have none below a number, and don't begin with it
+later_alone : (q : ℕ → Bool) (n first count : ℕ) → n < first
+    → (count_below n (filter q (numbers_from first count)) ≡ 0) × (without_first n (filter q (numbers_from first count)) ≡ filter q (numbers_from first count))
+later_alone q n first zero h = (refl, refl)
+later_alone q n first (suc count) h = grind (arith, nat_tests, later_alone q n (suc first) count)
+
+-- a number before the first one of a list comes first
+before_head : (n m : ℕ) (ns ms : List ℕ) → n < m → merge (m ∷ ns) (n ∷ ms) ≡ n ∷ merge (m ∷ ns) ms
+before_head n m ns ms h =
+    let more : count_below m (n ∷ ms) ≡ suc (count_below m ms) = grind (arith, nat_tests) in
+    grind (arith, ap (λ k. take k (n ∷ ms)) more, ap (λ k. drop k (n ∷ ms)) more)
+
+-- so does one before all numbers of a list
+first_alone : (p : ℕ → Bool) (n first count : ℕ) (ms : List ℕ) → n < first → merge (filter p (numbers_from first count)) (n ∷ ms) ≡ n ∷ merge (filter p (numbers_from first count)) ms
+first_alone p n first zero ms h = refl
+first_alone p n first (suc count) ms h = grind (arith, before_head n first (filter p (numbers_from (suc first) count)) ms, first_alone p n (suc first) count ms)
+
+-- the merge of the numbers that pass one test and those that pass another
+pub merge-filter : (p q : ℕ → Bool) (first count : ℕ) → merge (filter p (numbers_from first count)) (filter q (numbers_from first count)) ≡ filter (λ n. p n || q n) (numbers_from first count)
+merge-filter p q first zero = refl
+merge-filter p q first (suc count) =
+    grind (arith, nat_tests, merge-filter p q (suc first) count, later_alone q first (suc first) count, first_alone p first (suc first) count)
