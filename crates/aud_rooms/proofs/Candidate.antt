@@ -1,7 +1,7 @@
 -- The positions that may be due by spans, and those that are.
 use Rattle.std.proofs.lemmas.Grind.{common_steps}
 use Rattle.std.proofs.lemmas.Bool.Decides.{nat_tests}
-use Rattle.std.proofs.Common.{◌≡◌, ◌-◌, ℕ, Bool, true, false, ◌&&◌, ◌||◌, List, [], ◌∷◌, ◌++◌, filter, length, min, max, Option, Some, None, refl, sym, ◌∙◌, arith, ◌==◌, true≢false, nat_cmp, is_eq, bytes_eq}
+use Rattle.std.proofs.Common.{◌≡◌, ◌-◌, ℕ, Bool, false, ◌&&◌, ◌||◌, List, [], ◌∷◌, ◌++◌, filter, length, min, max, Option, Some, None, refl, sym, ◌∙◌, arith, ◌==◌, nat_cmp, is_eq, bytes_eq}
 use Rattle.std.specs.List.{list_any}
 use Rattle.std.specs.Cmp.Lexicographic.{slice_cmp}
 use Rattle.std.proofs.lemmas.Bool.{le-leb, lt-leb, and_right, le-ltb, lt-ltb}
@@ -16,7 +16,7 @@ use Rattle.aud_node.specs.Recoverable.{is_recoverable}
 use Rattle.aud_node.specs.Addressees.{is_to_all, is_to_room, positions_to_all, positions_to_room}
 use Rattle.aud_rooms.specs.Rooms.{is_for}
 use Rattle.aud_rooms.specs.Spans.{RoomSpan, is_within, rooms_by_spans, is_due_by_spans, due_by_spans}
-use Rattle.aud_rooms.specs.Private.Candidates.{is_past_upto, is_to_span, is_to_some, is_candidate, candidates, is_for_spans}
+use Rattle.aud_rooms.specs.Private.Candidates.{is_past_upto, is_to_span, is_to_some, is_candidate, candidates, is_spared, is_spared_by}
 use Rattle.aud_base.proofs.Truth.{and_none, or_none}
 use Rattle.aud_rooms.proofs.Parts.{filter_twice}
 use Rattle.aud_rooms.proofs.Sweep.{contains-rooms_by_spans}
@@ -92,20 +92,25 @@ module _ (spans : List RoomSpan) (p : ℕ) where
   none_empty [] = refl
   none_empty (room ∷ rooms) = grind arith
 
-  -- an entry that is addressed to the rooms of the spans is for the whole namespace, or for the room of a span
-  for_some : (o : Option StreamRec) (nsp : Text) → is_for o nsp (rooms_by_spans spans p) ≡ true
-      → (is_to_all o nsp || list_any (λ s. is_within p s && is_to_room o nsp s.room) spans) ≡ true
-  for_some None nsp due = absurd (true≢false (sym due))
-  for_some (Some (Other off)) nsp due = absurd (true≢false (sym due ∙ and_none (is_recoverable (Other off))))
-  for_some (Some (Ev event)) nsp due =
-      grind (arith, none_empty event.rooms, any_agree _ _ (λ room. contains-rooms_by_spans spans p room) event.rooms, held_any spans event.rooms)
+  -- two tests that are the same for all, beside one that isn't
+  any_both : (a b : Bool) (f g : RoomSpan → Bool) (some : List RoomSpan) → list_any (λ s. f s && (a && (b && g s))) some ≡ (a && (b && list_any (λ s. f s && g s) some))
+  any_both a b f g [] = grind arith
+  any_both a b f g (s ∷ some) = grind (arith, any_both a b f g some)
+
+  -- an entry is addressed to the rooms of the spans where it is for the whole namespace or for the room of a span, and excepts none of these rooms
+  for_some : (o : Option StreamRec) (nsp : Text)
+      → is_for o nsp (rooms_by_spans spans p) ≡ ((is_to_all o nsp || list_any (λ s. is_within p s && is_to_room o nsp s.room) spans) && is_spared o (rooms_by_spans spans p))
+  for_some None nsp = sym (and_none _)
+  for_some (Some (Other off)) nsp = and_none (is_recoverable (Other off)) ∙ sym (and_none _)
+  for_some (Some (Ev event)) nsp =
+      grind (arith, none_empty event.rooms, any_agree _ _ (λ room. contains-rooms_by_spans spans p room) event.rooms, held_any spans event.rooms, any_both (is_recoverable (Ev event)) (bytes_eq event.nsp nsp) (is_within p) (λ s. list_any (λ other. bytes_eq other s.room) event.rooms) spans)
 
 module _ (spans : List RoomSpan) (stream : List StreamRec) (nsp : Text) (birth high : ℕ) where
   -- what is due is among them
-  due_alike : (p : ℕ) → (is_candidate spans stream nsp birth high p && is_for_spans spans stream nsp p) ≡ is_due_by_spans spans stream nsp birth high p
+  due_alike : (p : ℕ) → (is_candidate spans stream nsp birth high p && is_spared_by spans stream p) ≡ is_due_by_spans spans stream nsp birth high p
   due_alike p = grind (arith, for_some spans p (entry stream p) nsp)
 
-  -- of them, those that are addressed to the rooms whose spans hold them
-  pub candidates_due : filter (is_for_spans spans stream nsp) (candidates spans stream nsp birth high) ≡ due_by_spans spans stream nsp birth high
+  -- of them, those whose entries except none of the rooms whose spans hold them
+  pub candidates_due : filter (is_spared_by spans stream) (candidates spans stream nsp birth high) ≡ due_by_spans spans stream nsp birth high
   candidates_due =
-      filter_twice (is_for_spans spans stream nsp) (is_candidate spans stream nsp birth high) (is_due_by_spans spans stream nsp birth high) due_alike (positions_after 0 (length stream))
+      filter_twice (is_spared_by spans stream) (is_candidate spans stream nsp birth high) (is_due_by_spans spans stream nsp birth high) due_alike (positions_after 0 (length stream))

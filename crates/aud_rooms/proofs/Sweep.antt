@@ -11,7 +11,7 @@ use Rattle.std.proofs.lemmas.List.Folds.{list_any-append}
 use Rattle.aud_node.specs.Stream.{Text, entry}
 use Rattle.aud_rooms.specs.Spans.{RoomSpan, is_within, rooms_by_spans}
 use Rattle.aud_rooms.specs.Private.RoomMap.{RoomMap, at_room, do_pass, rooms_with}
-use Rattle.aud_rooms.specs.Private.Reached.{reaches, HasReached, AreByFirst, is_due_at}
+use Rattle.aud_rooms.specs.Private.Reached.{reaches, HasReached, AreByFirst, is_spared_at}
 use Rattle.aud_base.proofs.Truth.{or_none}
 use Rattle.aud_rooms.proofs.RoomMaps.{same_text, contains-rooms_with, same_rooms}
 use Rattle.std.proofs.lemmas.List.{map-append, take-append-drop, drop_all}
@@ -19,8 +19,7 @@ use Rattle.std.proofs.lemmas.List.Kept.{IsNonDecreasingBy-filter}
 use Rattle.std.proofs.lemmas.List.Elements.{filter-append, filter_agree, filter_passes, All-cons, All-head, All-tail, All-map, All-push, All-filter, All-weaker}
 use Rattle.std.proofs.lemmas.List.Sorted.{list_any-IsPermutation}
 use Rattle.aud_tap.specs.declared.records.StreamRec.{StreamRec}
-use Rattle.aud_rooms.specs.Rooms.{is_for}
-use Rattle.aud_rooms.specs.Private.Candidates.{is_for_spans}
+use Rattle.aud_rooms.specs.Private.Candidates.{is_spared, is_spared_by}
 
 -- one more span begins
 module _ (olds news : RoomMap ℕ) (begun : List RoomSpan) (s : RoomSpan) (was : HasReached olds begun) (room_is : Text) (is : room_is ≡ s.room) (last : ℕ)
@@ -101,25 +100,25 @@ abbrev pub AreAhead : List RoomSpan → ℕ → Type 0
 AreAhead spans p = All (λ (s : RoomSpan). p < s.first) spans
 
 -- what is due before the rest of the positions, at which these spans have begun
-pub record Swept (all : List RoomSpan) (stream : List StreamRec) (nsp : Text) (found : List ℕ) (begun : List RoomSpan) (es : RoomMap ℕ) (due rest : List ℕ) : Type 0 where
+pub record Swept (all : List RoomSpan) (stream : List StreamRec) (found : List ℕ) (begun : List RoomSpan) (es : RoomMap ℕ) (due rest : List ℕ) : Type 0 where
   pub reached : HasReached es begun
   pub past : All (HaveBegun begun) rest
   pub ascending : IsNonDecreasing rest
-  pub so_far : due ++ filter (is_for_spans all stream nsp) rest ≡ filter (is_for_spans all stream nsp) found
+  pub so_far : due ++ filter (is_spared_by all stream) rest ≡ filter (is_spared_by all stream) found
 
-module _ (all : List RoomSpan) (stream : List StreamRec) (nsp : Text) (found : List ℕ) where
+module _ (all : List RoomSpan) (stream : List StreamRec) (found : List ℕ) where
   -- before the sweep
-  pub swept_none : (es : RoomMap ℕ) → HasReached es [] → IsNonDecreasing found → Swept all stream nsp found [] es [] found
+  pub swept_none : (es : RoomMap ℕ) → HasReached es [] → IsNonDecreasing found → Swept all stream found [] es [] found
   swept_none es reached ascending =
       record { reached = reached; past = λ k p h i x none. absurd (omega arith); ascending = ascending; so_far = refl }
 
-  module _ (begun : List RoomSpan) (es : RoomMap ℕ) (due rest : List ℕ) (was : Swept all stream nsp found begun es due rest) (ahead : List RoomSpan) (parts : all ≡ begun ++ ahead) where
+  module _ (begun : List RoomSpan) (es : RoomMap ℕ) (due rest : List ℕ) (was : Swept all stream found begun es due rest) (ahead : List RoomSpan) (parts : all ≡ begun ++ ahead) where
     -- at positions before which no other span begins
-    due_at : (p : ℕ) → HaveBegun begun p → AreAhead ahead p → is_due_at es stream nsp p ≡ is_for_spans all stream nsp p
-    due_at p past later = ap (is_for (entry stream p) nsp) (reached_rooms es begun ahead p was.reached past later ∙ ap (λ spans. rooms_by_spans spans p) (sym parts))
+    due_at : (p : ℕ) → HaveBegun begun p → AreAhead ahead p → is_spared_at es stream p ≡ is_spared_by all stream p
+    due_at p past later = ap (is_spared (entry stream p)) (reached_rooms es begun ahead p was.reached past later ∙ ap (λ spans. rooms_by_spans spans p) (sym parts))
 
     -- the same positions are due
-    due_all : (ps : List ℕ) → All (HaveBegun begun) ps → All (AreAhead ahead) ps → filter (is_due_at es stream nsp) ps ≡ filter (is_for_spans all stream nsp) ps
+    due_all : (ps : List ℕ) → All (HaveBegun begun) ps → All (AreAhead ahead) ps → filter (is_spared_at es stream) ps ≡ filter (is_spared_by all stream) ps
     due_all [] past later = refl
     due_all (p ∷ ps) past later =
         grind (arith, due_all ps (All-tail (HaveBegun begun) p ps past) (All-tail (AreAhead ahead) p ps later), due_at p (All-head (HaveBegun begun) p ps past) (All-head (AreAhead ahead) p ps later))
@@ -127,9 +126,9 @@ module _ (all : List RoomSpan) (stream : List StreamRec) (nsp : Text) (found : L
     -- up to the first position at which one more span has begun
     swept_begun : (s : RoomSpan) (news : RoomMap ℕ) (before later more : List ℕ) → HasReached news (begun ++ s ∷ []) → rest ≡ before ++ later
         → before ≡ filter (λ p. nat_lt p s.first) rest → later ≡ filter (λ p. not (nat_lt p s.first)) rest → All (AreAhead ahead) before
-        → more ≡ due ++ filter (is_due_at es stream nsp) before → Swept all stream nsp found (begun ++ s ∷ []) news more later
+        → more ≡ due ++ filter (is_spared_at es stream) before → Swept all stream found (begun ++ s ∷ []) news more later
     swept_begun s news before later more reached cut below above ahead_of_it is =
-        let P = is_for_spans all stream nsp in
+        let P = is_spared_by all stream in
         let front = subst (All (HaveBegun begun)) (sym below) (All-filter (λ p. nat_lt p s.first) (HaveBegun begun) rest was.past) in
         let back = subst (All (HaveBegun begun)) (sym above) (All-filter (λ p. not (nat_lt p s.first)) (HaveBegun begun) rest was.past) in
         let passed = subst (All (λ p. not (nat_lt p s.first) ≡ true)) (sym above) (filter_passes (λ p. not (nat_lt p s.first)) rest) in
@@ -151,11 +150,11 @@ seen xs = map (λ (s : Bor RoomSpan). s.now) xs
 seen_parts : (xs : List (Bor RoomSpan)) (i : ℕ) → seen xs ≡ seen (take i xs) ++ seen (drop i xs)
 seen_parts xs i = ap seen (sym (take-append-drop i xs)) ∙ map-append (λ (s : Bor RoomSpan). s.now) (take i xs) (drop i xs)
 
-module _ (xs : List (Bor RoomSpan)) (stream : List StreamRec) (nsp : Text) (found : List ℕ) (i : ℕ) (es : RoomMap ℕ) (due rest more : List ℕ)
-    (was : Swept (seen xs) stream nsp found (seen (take i xs)) es due rest) where
+module _ (xs : List (Bor RoomSpan)) (stream : List StreamRec) (found : List ℕ) (i : ℕ) (es : RoomMap ℕ) (due rest more : List ℕ)
+    (was : Swept (seen xs) stream found (seen (take i xs)) es due rest) where
   module _ (d : Bor RoomSpan) (within : i < length xs) (is : d ≡ get_or xs i d) (sorted : AreByFirst (seen xs)) (news : RoomMap ℕ) (before later : List ℕ)
       (cut : rest ≡ before ++ later) (below : before ≡ filter (λ p. nat_lt p d.now.first) rest) (above : later ≡ filter (λ p. not (nat_lt p d.now.first)) rest)
-      (adds : more ≡ due ++ filter (is_due_at es stream nsp) before)
+      (adds : more ≡ due ++ filter (is_spared_at es stream) before)
       (reached : HasReached news (seen (take i xs) ++ d.now ∷ [])) where
     -- the spans that have begun, this one, and those ahead
     parts : seen xs ≡ seen (take i xs) ++ d.now ∷ seen (drop (suc i) xs)
@@ -174,26 +173,26 @@ module _ (xs : List (Bor RoomSpan)) (stream : List StreamRec) (nsp : Text) (foun
     begun_more = grind (arith, take-suc xs i d within, map-append)
 
     -- the step of the sweep
-    pub swept_step : Swept (seen xs) stream nsp found (seen (take (i + 1) xs)) news more later
+    pub swept_step : Swept (seen xs) stream found (seen (take (i + 1) xs)) news more later
     swept_step =
-        subst (λ begun. Swept (seen xs) stream nsp found begun news more later) begun_more
-        (swept_begun (seen xs) stream nsp found (seen (take i xs)) es due rest was (d.now ∷ seen (drop (suc i) xs)) parts
+        subst (λ begun. Swept (seen xs) stream found begun news more later) begun_more
+        (swept_begun (seen xs) stream found (seen (take i xs)) es due rest was (d.now ∷ seen (drop (suc i) xs)) parts
         d.now news before later more reached cut below above
         (λ k z h. ahead _ (ltb-true _ d.now.first (subst (All (λ p. nat_lt p d.now.first ≡ true)) (sym below) (filter_passes (λ p. nat_lt p d.now.first) rest) k z h))) adds)
 
   -- after the last span the rest of the positions is looked at
-  pub swept_end : length xs ≤ i → more ≡ due ++ filter (is_due_at es stream nsp) rest → more ≡ filter (is_for_spans (seen xs) stream nsp) found
+  pub swept_end : length xs ≤ i → more ≡ due ++ filter (is_spared_at es stream) rest → more ≡ filter (is_spared_by (seen xs) stream) found
   swept_end none adds =
       let over = drop_all i xs none in
       let last : All (AreAhead (seen (drop i xs))) rest = subst (λ (ys : List (Bor RoomSpan)). All (AreAhead (seen ys)) rest) (sym over) (λ k p h j x some. absurd (omega arith)) in
-      grind (arith, adds, due_all (seen xs) stream nsp found (seen (take i xs)) es due rest was (seen (drop i xs)) (seen_parts xs i) rest was.past last, was.so_far)
+      grind (arith, adds, due_all (seen xs) stream found (seen (take i xs)) es due rest was (seen (drop i xs)) (seen_parts xs i) rest was.past last, was.so_far)
 
 -- ---- spans in another order
 
 -- the order in which the spans stand doesn't matter to which positions are due
-pub for_permuted : (spans others : List RoomSpan) (stream : List StreamRec) (nsp : Text) (found : List ℕ) → IsPermutation spans others
-    → filter (is_for_spans others stream nsp) found ≡ filter (is_for_spans spans stream nsp) found
-for_permuted spans others stream nsp found permuted = filter_agree _ _ (λ p. ap (is_for (entry stream p) nsp) (rooms p)) found
+pub for_permuted : (spans others : List RoomSpan) (stream : List StreamRec) (found : List ℕ) → IsPermutation spans others
+    → filter (is_spared_by others stream) found ≡ filter (is_spared_by spans stream) found
+for_permuted spans others stream found permuted = filter_agree _ _ (λ p. ap (is_spared (entry stream p)) (rooms p)) found
   where
     rooms : (p : ℕ) → rooms_by_spans others p ≡ rooms_by_spans spans p
     rooms p = same_rooms _ _ (λ room. grind (arith, contains-rooms_by_spans others p room, contains-rooms_by_spans spans p room, list_any-IsPermutation (λ s. is_within p s && is_eq (slice_cmp nat_cmp room s.room)) spans others permuted))

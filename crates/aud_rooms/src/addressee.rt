@@ -36,11 +36,18 @@ pub(crate) fn is_for_holder<H: Holds>(entry: &StreamRec, nsp: &str, holder: &H) 
 fn is_event_for<H: Holds>(event: &Event, nsp: &str, holder: &H) -> bool
     ensures { result ≡ is_addressed (StreamRec.Ev event.now) nsp.now (H.rooms holder.now) }
 {
-    if event.nsp.as_str() != nsp || holds_any(holder, event.except.as_slice()) {
+    if event.nsp.as_str() != nsp || excepts_held(event, holder) {
         return false;
     }
     let rooms = event.rooms.as_slice();
     rooms.is_empty() || holds_any(holder, rooms)
+}
+
+/// Whether one of the rooms that the event excepts is held.
+pub(crate) fn excepts_held<H: Holds>(event: &Event, holder: &H) -> bool
+    ensures { result ≡ list_any (set.contains (H.rooms holder.now)) event.now.except }
+{
+    holds_any(holder, event.except.as_slice())
 }
 
 fn holds_any<H: Holds>(holder: &H, rooms: &[Text]) -> bool

@@ -3,18 +3,18 @@ ghost use Rattle.std.specs.Prelude.{◌≡◌, ◌++◌, map, OnOk, IfOk};
 ghost use Rattle.std.specs.List.{filter};
 ghost use Rattle.std.specs.List.Sorted.{IsNonDecreasing, IsPermutation};
 ghost use Rattle.aud_node.specs.Stream.{entry};
-ghost use Rattle.aud_rooms.specs.Rooms.{is_for};
 ghost use Rattle.aud_rooms.specs.Spans.{due_by_spans};
-ghost use Rattle.aud_rooms.specs.Private.Candidates.{is_for_spans};
-ghost use Rattle.aud_rooms.specs.Private.Reached.{AreByFirst, is_due_at};
+ghost use Rattle.aud_rooms.specs.Private.Candidates.{is_spared, is_spared_by};
+ghost use Rattle.aud_rooms.specs.Private.Reached.{AreByFirst, is_spared_at};
 
-use crate::addressee::{Holds, is_for_holder};
+use crate::addressee::{Holds, excepts_held};
 use crate::candidates::candidates_of;
 use crate::cut::cut_before;
 use crate::interval::Interval;
 use crate::reached::Reached;
 use crate::span::Span;
 use aud_node::Stream;
+use aud_tap::StreamRec;
 use std::alloc::{AllocError, Global};
 
 /// The recoverable positions past `birth` up to `high` that are addressed to the namespace and to the rooms whose spans
@@ -37,7 +37,7 @@ pub fn due_of(
     };
     let found = candidates_of(alloc, spans, stream, nsp, within)?;
     let begins = by_first(alloc, spans)?;
-    due_by_first(alloc, &begins, &found, stream, nsp)
+    due_by_first(alloc, &begins, &found, stream)
 }
 
 /// The spans in the order of their first positions.
@@ -58,18 +58,17 @@ fn lent<'s, 'a>(alloc: Global, spans: &'s [Span<'a>]) -> Result<Vec<&'s Span<'a>
     Ok(lent)
 }
 
-/// Of ascending positions, those that are addressed to the namespace and to the rooms whose spans hold them. The spans
-/// stand in the order of their first positions: between two of these the same spans have begun.
+/// Of ascending positions, those whose entries except none of the rooms whose spans hold them. The spans stand in the
+/// order of their first positions: between two of these the same spans have begun.
 fn due_by_first(
     alloc: Global,
     begins: &[&Span],
     found: &[usize],
     stream: &Stream,
-    nsp: &str,
 ) -> Result<Vec<u64>, AllocError>
     requires by_first { AreByFirst (map (λ s. s.now) begins.now) }
     requires ascending { IsNonDecreasing found.now }
-    ensures { IfOk result (λ due. due.items ≡ filter (is_for_spans (map (λ s. s.now) begins.now) stream.now nsp.now) found.now) }
+    ensures { IfOk result (λ due. due.items ≡ filter (is_spared_by (map (λ s. s.now) begins.now) stream.now) found.now) }
 {
     let mut reached = Reached::new(alloc);
     let mut due = Vec::new(alloc);
@@ -77,11 +76,11 @@ fn due_by_first(
     for span in begins {
         let span: &Span = *span;
         let (before, later) = cut_before(rest, span.first as usize);
-        push_due(&mut due, &mut reached, stream, nsp, before)?;
+        push_due(&mut due, &mut reached, stream, before)?;
         reached.reach(span)?;
         rest = later;
     }
-    push_due(&mut due, &mut reached, stream, nsp, rest)?;
+    push_due(&mut due, &mut reached, stream, rest)?;
     Ok(due)
 }
 
@@ -90,31 +89,27 @@ fn push_due(
     due: &mut Vec<u64>,
     reached: &mut Reached,
     stream: &Stream,
-    nsp: &str,
     positions: &[usize],
 ) -> Result<(), AllocError>
-    ensures due { OnOk result (due.new.items ≡ due.old.items ++ filter (is_due_at reached.old.last_of.entries stream.now nsp.now) positions.now) }
+    ensures due { OnOk result (due.new.items ≡ due.old.items ++ filter (is_spared_at reached.old.last_of.entries stream.now) positions.now) }
     ensures reached { reached.new.last_of ≡ reached.old.last_of }
 {
     for position in positions {
         let position = *position as u64;
         reached.position = position;
-        if is_due(stream, nsp, position, reached) {
+        if is_spared_in(stream, position, reached) {
             due.push(position)?;
         }
     }
     Ok(())
 }
 
-/// Whether the entry at the position is recoverable and addressed to the namespace and the rooms.
-fn is_due<H: Holds>(stream: &Stream, nsp: &str, position: u64, rooms: &H) -> bool
-    ensures { result ≡ is_for (entry stream.now position) nsp.now (H.rooms rooms.now) }
+/// Whether the entry at the position excepts none of the rooms.
+fn is_spared_in<H: Holds>(stream: &Stream, position: u64, rooms: &H) -> bool
+    ensures { result ≡ is_spared (entry stream.now position) (H.rooms rooms.now) }
 {
-    if !stream.recoverable(position) {
-        return false;
-    }
     match stream.entry(position) {
-        Some(entry) => is_for_holder(entry, nsp, rooms),
-        None => false,
+        Some(StreamRec::Ev(event)) => !excepts_held(event, rooms),
+        _ => false,
     }
 }

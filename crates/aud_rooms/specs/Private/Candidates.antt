@@ -1,10 +1,12 @@
 -- Which positions may be due by spans, by the rooms that their entries name.
-use Rattle.std.specs.Prelude.{ℕ, Bool, List, length, nat_lt, nat_le, ◌&&◌, ◌||◌}
+use Rattle.std.specs.Prelude.{Option, Some, None, false, not, ℕ, Bool, List, length, nat_lt, nat_le, ◌&&◌, ◌||◌}
 use Rattle.std.specs.List.{filter, list_any}
+use Rattle.std.specs.FinSet as set
 use Rattle.aud_tap.specs.declared.records.StreamRec.{StreamRec}
+use Rattle.aud_tap.specs.declared.records.StreamRec.TheVariants.{Ev, Other}
 use Rattle.aud_node.specs.Stream.{Text, entry, positions_after}
 use Rattle.aud_node.specs.Addressees.{is_to_all, is_to_room}
-use Rattle.aud_rooms.specs.Rooms.{is_for}
+use Rattle.aud_rooms.specs.Rooms.{Rooms}
 use Rattle.aud_rooms.specs.Spans.{RoomSpan, is_within, rooms_by_spans}
 
 -- past the first position, up to the second
@@ -28,6 +30,12 @@ is_candidate spans stream nsp birth high p =
 abbrev pub candidates : List RoomSpan → List StreamRec → Text → ℕ → ℕ → List ℕ
 candidates spans stream nsp birth high = filter (is_candidate spans stream nsp birth high) (positions_after 0 (length stream))
 
--- recoverable, and addressed to the namespace and the rooms whose spans hold the position
-abbrev pub is_for_spans : List RoomSpan → List StreamRec → Text → ℕ → Bool
-is_for_spans spans stream nsp p = is_for (entry stream p) nsp (rooms_by_spans spans p)
+-- the entry, if there is one, is an event, and none of its excepted rooms is among these
+abbrev pub is_spared : Option StreamRec → Rooms → Bool
+is_spared None held = false
+is_spared (Some (Ev event)) held = not (list_any (set.contains held) event.except)
+is_spared (Some (Other off)) held = false
+
+-- the entry at the position excepts none of the rooms whose spans hold the position
+abbrev pub is_spared_by : List RoomSpan → List StreamRec → ℕ → Bool
+is_spared_by spans stream p = is_spared (entry stream p) (rooms_by_spans spans p)

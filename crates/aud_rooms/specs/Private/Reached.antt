@@ -5,9 +5,9 @@ use Rattle.std.specs.Ordering.{nat_cmp, is_eq}
 use Rattle.std.specs.Cmp.Lexicographic.{slice_cmp}
 use Rattle.aud_tap.specs.declared.records.StreamRec.{StreamRec}
 use Rattle.aud_node.specs.Stream.{Text, entry}
-use Rattle.aud_rooms.specs.Rooms.{is_for}
 use Rattle.aud_rooms.specs.Spans.{RoomSpan}
 use Rattle.aud_rooms.specs.Private.RoomMap.{RoomMap, at_room, do_pass, rooms_with}
+use Rattle.aud_rooms.specs.Private.Candidates.{is_spared}
 
 -- the span is one of the room, and doesn't end before the position
 abbrev pub reaches : Text → ℕ → RoomSpan → Bool
@@ -22,6 +22,6 @@ abbrev pub AreByFirst : List RoomSpan → Type 0
 AreByFirst [] = Unit {0}
 AreByFirst (s ∷ spans) = All (λ (later : RoomSpan). s.first ≤ later.first) spans × AreByFirst spans
 
--- the entry at the position is recoverable and addressed to the rooms whose spans end there or later
-abbrev pub is_due_at : RoomMap ℕ → List StreamRec → Text → ℕ → Bool
-is_due_at es stream nsp p = is_for (entry stream p) nsp (rooms_with (nat_le p) es)
+-- the entry at the position excepts none of the rooms whose spans end there or later
+abbrev pub is_spared_at : RoomMap ℕ → List StreamRec → ℕ → Bool
+is_spared_at es stream p = is_spared (entry stream p) (rooms_with (nat_le p) es)

@@ -1,4 +1,4 @@
-use Rattle.std.proofs.Common.{◌≡◌, ◌++◌, List, filter, length, sym, ap, ◌∙◌, arith}
+use Rattle.std.proofs.Common.{◌≡◌, ◌++◌, ℕ, Bool, List, filter, length, sym, ap, ◌∙◌, arith}
 use Rattle.std.proofs.lemmas.Grind.{common_steps}
 use Rattle.std.proofs.lemmas.List.{nil_from_length}
 use Rattle.std.proofs.lemmas.Result.{IfOk-weaker}
@@ -19,16 +19,13 @@ returns-in-empty t c =
 pub returns-in_ok-other-in_default : goal.returns-in_ok-other-in_default
 returns-in_ok-other-in_default t c =
     let stream = c.args.stream.now in
-    let nsp = c.args.nsp.now in
-    let birth = c.args.within.after in
-    let high = c.args.within.last in
+    let test : List RoomSpan → ℕ → Bool = λ spans. is_to_some spans stream c.args.nsp.now c.args.within.after c.args.within.last in
     let front = c.split_at.result.0.now in
     let back = c.split_at.result.1.now in
     let parts : front ++ back ≡ c.args.spans.now = grind (arith, common_steps) in
     IfOk-weaker c.merged.result _ _
     (λ all is.
-    is (is_to_some front stream nsp birth high) (is_to_some back stream nsp birth high) 0 (length stream)
-    (c.deref.ensures.value ∙ c.in_ok-one-in_default.ensures) (c.deref-in_default.ensures.value ∙ c.in_ok-other-in_default.ensures)
-    ∙ to_both stream nsp birth high front back
-    ∙ ap (λ (spans : List RoomSpan). filter (is_to_some spans stream nsp birth high) (positions_after 0 (length stream))) parts)
+    is (test front) (test back) 0 (length stream) (c.deref.ensures.value ∙ c.in_ok-one-in_default.ensures) (c.deref-in_default.ensures.value ∙ c.in_ok-other-in_default.ensures)
+    ∙ to_both stream c.args.nsp.now c.args.within.after c.args.within.last front back
+    ∙ ap (λ spans. filter (test spans) (positions_after 0 (length stream))) parts)
     c.merged.ensures

@@ -5,4 +5,4 @@ use Rattle.aud_rooms.proofs.due.due_by_first.Given as goal
 
 abbrev pub invariant-loop-span : goal.invariant-loop-span
 invariant-loop-span l =
-    Swept (map (λ (s : Bor RoomSpan). s.now) l.begins) l.stream l.nsp l.found (map (λ (s : Bor RoomSpan). s.now) (take l.span-index l.begins)) l.reached.last_of.entries l.due.items l.rest
+    Swept (map (λ (s : Bor RoomSpan). s.now) l.begins) l.stream l.found (map (λ (s : Bor RoomSpan). s.now) (take l.span-index l.begins)) l.reached.last_of.entries l.due.items l.rest

@@ -2,7 +2,7 @@ use Rattle.std.proofs.Common.{List, filter, length, map, sym, ap, subst, ◌∙�
 use Rattle.std.specs.List.Sorted.{IsNonDecreasing}
 use Rattle.std.proofs.lemmas.Result.{IfOk-weaker}
 use Rattle.aud_rooms.specs.Spans.{RoomSpan}
-use Rattle.aud_rooms.specs.Private.Candidates.{candidates, is_candidate, is_for_spans}
+use Rattle.aud_rooms.specs.Private.Candidates.{candidates, is_candidate, is_spared_by}
 use Rattle.aud_rooms.proofs.Ascending.{non_decreasing}
 use Rattle.aud_rooms.proofs.Candidate.{candidates_due}
 use Rattle.aud_rooms.proofs.Sweep.{for_permuted}
@@ -23,8 +23,8 @@ returns c =
     IfOk-weaker c.due_by_first.result _ _
     (λ due is.
     is
-    ∙ ap (λ (xs : List (Bor RoomSpan)). filter (is_for_spans (map (λ (s : Bor RoomSpan). s.now) xs) stream nsp) c.deref-2.result.now) c.deref.ensures.value
-    ∙ ap (filter (is_for_spans (map (λ (s : Bor RoomSpan). s.now) begins) stream nsp)) (c.deref-2.ensures.value ∙ c.in_ok-found.ensures)
-    ∙ for_permuted c.args.spans.now (map (λ (s : Bor RoomSpan). s.now) begins) stream nsp found c.in_ok-begins.ensures.permutation
+    ∙ ap (λ (xs : List (Bor RoomSpan)). filter (is_spared_by (map (λ (s : Bor RoomSpan). s.now) xs) stream) c.deref-2.result.now) c.deref.ensures.value
+    ∙ ap (filter (is_spared_by (map (λ (s : Bor RoomSpan). s.now) begins) stream)) (c.deref-2.ensures.value ∙ c.in_ok-found.ensures)
+    ∙ for_permuted c.args.spans.now (map (λ (s : Bor RoomSpan). s.now) begins) stream found c.in_ok-begins.ensures.permutation
     ∙ candidates_due c.args.spans.now stream nsp c.args.birth c.args.high)
     c.due_by_first.ensures
