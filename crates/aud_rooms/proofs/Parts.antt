@@ -1,5 +1,5 @@
 -- The parts of a list before and after the place where a test begins to fail.
-use Rattle.std.proofs.Common.{◌≡◌, ◌≤◌, ℕ, zero, suc, Bool, true, false, cond, not, ◌&&◌, List, [], ◌∷◌, length, take, drop, filter, refl, sym, ap, ◌∙◌, arith}
+use Rattle.std.proofs.Common.{◌≡◌, ◌≤◌, ℕ, zero, suc, Bool, true, false, not, ◌&&◌, List, [], ◌∷◌, length, take, drop, filter, refl, ◌∙◌, arith}
 use Rattle.std.specs.List.{AllWithin}
 use Rattle.std.specs.List.Sorted.{IsPartitionPoint}
 use Rattle.std.proofs.lemmas.List.Elements.{filter_agree}
@@ -11,17 +11,11 @@ module _ {X : Type 0} (p : X → Bool) where
   parts [] zero front back h = (refl, refl)
   parts [] (suc i) front back h = (refl, refl)
   parts (x ∷ xs) zero front back h =
-      let fails = back 0 x (omega arith) (omega arith) in
-      let rest = parts xs zero (λ k d a b. absurd (omega arith)) (λ k d a b. back (suc k) d (omega arith) (omega arith)) (omega arith) in (
-        rest.0 ∙ ap (λ b. cond b (x ∷ filter p xs) (filter p xs)) (sym fails),
-        ap (λ ys. x ∷ ys) rest.1 ∙ ap (λ b. cond (not b) (x ∷ filter (λ y. not (p y)) xs) (filter (λ y. not (p y)) xs)) (sym fails),
-      )
+      let rest = parts xs zero (λ k d a b. absurd (omega arith)) (λ k d a b. back (suc k) d (omega arith) (omega arith)) (omega arith) in
+      grind (arith, back 0 x (omega arith) (omega arith), rest)
   parts (x ∷ xs) (suc i) front back h =
-      let passes = front 0 x (omega arith) (omega arith) in
-      let rest = parts xs i (λ k d a b. front (suc k) d (omega arith) (omega arith)) (λ k d a b. back (suc k) d (omega arith) (omega arith)) (omega arith) in (
-        ap (λ ys. x ∷ ys) rest.0 ∙ ap (λ b. cond b (x ∷ filter p xs) (filter p xs)) (sym passes),
-        rest.1 ∙ ap (λ b. cond (not b) (x ∷ filter (λ y. not (p y)) xs) (filter (λ y. not (p y)) xs)) (sym passes),
-      )
+      let rest = parts xs i (λ k d a b. front (suc k) d (omega arith) (omega arith)) (λ k d a b. back (suc k) d (omega arith) (omega arith)) (omega arith) in
+      grind (arith, front 0 x (omega arith) (omega arith), rest)
 
   -- the same, by what a search for the place says
   pub point_parts : (xs : List X) (i : ℕ) → IsPartitionPoint (λ y. p y ≡ true) (λ y. p y ≡ false) xs i → i ≤ length xs

@@ -158,9 +158,7 @@ module _ (xs : List (Bor RoomSpan)) (stream : List StreamRec) (found : List ℕ)
       (reached : HasReached news (seen (take i xs) ++ d.now ∷ [])) where
     -- the spans that have begun, this one, and those ahead
     parts : seen xs ≡ seen (take i xs) ++ d.now ∷ seen (drop (suc i) xs)
-    parts =
-        seen_parts xs i
-        ∙ ap (λ ys. seen (take i xs) ++ seen ys) (drop-cons xs i d within ∙ ap (λ y. y ∷ drop (suc i) xs) (sym is))
+    parts = grind (arith, seen_parts xs i, drop-cons xs i d within, is)
 
     -- before this one begins, none of those ahead has begun
     ahead : (p : ℕ) → p < d.now.first → AreAhead (d.now ∷ seen (drop (suc i) xs)) p

@@ -1,4 +1,4 @@
-use Rattle.std.proofs.Common.{◌≡◌, ◌++◌, ℕ, Bool, List, filter, length, sym, ap, ◌∙◌, arith}
+use Rattle.std.proofs.Common.{◌≡◌, ◌++◌, ℕ, Bool, List, filter, length, ap, ◌∙◌, arith}
 use Rattle.std.proofs.lemmas.Grind.{common_steps}
 use Rattle.std.proofs.lemmas.List.{nil_from_length}
 use Rattle.std.proofs.lemmas.Result.{IfOk-weaker}
@@ -10,11 +10,8 @@ use Rattle.aud_rooms.proofs.candidates.+to_spans.Goals as goal
 
 pub returns-in-empty : goal.returns-in-empty
 returns-in-empty t c =
-    let stream = c.args.stream.now in
     let short = c.in-empty.len_below in
-    c.new.ensures.items
-    ∙ sym (to_none stream c.args.nsp.now c.args.within.after c.args.within.last)
-    ∙ ap (λ (spans : List RoomSpan). filter (is_to_some spans stream c.args.nsp.now c.args.within.after c.args.within.last) (positions_after 0 (length stream))) (sym (nil_from_length c.args.spans.now (omega arith)))
+    grind (arith, c.new.ensures.items, to_none c.args.stream.now c.args.nsp.now c.args.within.after c.args.within.last, nil_from_length c.args.spans.now (omega arith))
 
 pub returns-in_ok-other-in_default : goal.returns-in_ok-other-in_default
 returns-in_ok-other-in_default t c =
