@@ -20,6 +20,10 @@ same_le a b = elim (cases_lt b a) [ inl h ↦ lt-leb (suc a) (suc b) (omega arit
 same_lt : (a b : ℕ) → nat_lt (suc a) (suc b) ≡ nat_lt a b
 same_lt a b = elim (cases_lt a b) [ inl h ↦ lt-ltb (suc a) (suc b) (omega arith) ∙ sym (lt-ltb a b h) | inr h ↦ le-ltb (suc a) (suc b) (omega arith) ∙ sym (le-ltb a b h) ]
 
+-- a packet that awaits nothing is whole at once
+none_awaited : (place : ℕ) (w : WholeSeen) (l : List (ℕ × Message)) → gives_with place w 0 l ≡ (place, Ok w) ∷ wholes_of l
+none_awaited place w l = rw (le-leb 0 (length (leading_bytes l)) (omega arith), append-nil) refl
+
 -- one attachment more
 pub one_attached : (before place : ℕ) (w : WholeSeen) (count : ℕ) (b : Blob) (l : List (ℕ × Message))
     → gives_with before w (suc count) ((place, Bytes b) ∷ l) ≡ gives_with place (with_bin w (b ∷ [])) count l
@@ -58,6 +62,13 @@ text_first place text packet l reads =
       | Ok p ↦ gives_with place (record { text = text; packet = p; bin = [] }) p.attachments l
       | Err fault ↦ (place, Err fault) ∷ wholes_of l
     ]) reads
+
+-- a text at rest whose packet awaits nothing
+pub text_alone : (place : ℕ) (text : List ℕ) (packet : PacketSeen) (l : List (ℕ × Message)) → packet_of text ≡ Ok packet → packet.attachments ≡ 0
+    → wholes_of ((place, Text text) ∷ l) ≡ (place, Ok (record { text = text; packet = packet; bin = [] })) ∷ wholes_of l
+text_alone place text packet l reads alone =
+    let w : WholeSeen = record { text = text; packet = packet; bin = [] } in
+    text_first place text packet l reads ∙ ap (λ n. gives_with place w n l) alone ∙ none_awaited place w l
 
 -- the place of the messages that came before doesn't matter, where more are awaited
 pub any_place : (before after : ℕ) (w : WholeSeen) (count : ℕ) (l : List (ℕ × Message))

@@ -1,5 +1,5 @@
 //! Packets with their attachments, out of Engine.IO packets.
-ghost use Rattle.std.specs.Prelude.{◌≡◌, ◌≤◌, ◌∷◌, [], length, Err, IfErr, IfOk, IsSome, true};
+ghost use Rattle.std.specs.Prelude.{◌≡◌, ◌≤◌, ◌∷◌, ◌↔◌, [], length, Err, IfErr, IfOk, IsSome, IsTrue, true};
 ghost use Rattle.aud_eio.specs.Packet.{engine_view};
 ghost use Rattle.aud_sio.specs.Packet.{has_payload, packet_of, packet_view};
 ghost use Rattle.aud_sio.specs.Message.{Text, Bytes, messages_of};
@@ -40,6 +40,13 @@ impl<'a> Assembler<'a> {
         ensures { result ≡ [] }
     {
         Assembler { alloc, half: None }
+    }
+
+    /// Whether the assembler is at rest: no attachment is awaited.
+    pub fn is_at_rest(&self) -> bool
+        ensures { IsTrue result ↔ (self.now ≡ []) }
+    {
+        self.half.is_none()
     }
 
     /// The next Engine.IO packet. A packet is given with its last attachment, or at once where it has none; it lends
