@@ -12,3 +12,4 @@ pub mod ReadLemmas
 pub mod ConnectionLemmas
 pub mod ClientLemmas
 pub mod ClientTaps
+pub mod KnownLemmas

@@ -2,6 +2,7 @@
 use Rattle.std.specs.Prelude.{ℕ, List, map}
 use Rattle.aud_sio.specs.Packet.{packet_view}
 use Rattle.aud_sio.specs.Assembly.{whole_view}
+use Rattle.aud_node.specs.Known.{spelled}
 use Rattle.aud_client.specs.TapPackets.{TapPacket, FromServer, FromClient, Connection}
 use Rattle.aud_client.specs.declared.connection.TapPacket.{TapPacket as PacketCode}
 use Rattle.aud_client.specs.declared.connection.TapPacket.TheVariants as code
@@ -11,6 +12,7 @@ use Rattle.aud_client.specs.declared.client_tap.Connection.{Connection as Connec
 -- a packet, its attachments put together
 abbrev pub packet_seen : PacketCode → TapPacket
 packet_seen (code.FromServer whole) = FromServer (whole_view whole)
+packet_seen (code.Known known) = FromServer (spelled known.event.now.text)
 packet_seen (code.FromClient packet) = FromClient (packet_view packet)
 
 -- a packet at its record

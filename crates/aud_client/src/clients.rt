@@ -39,7 +39,7 @@ impl<'a> Clients<'a> {
 /// What each of the taps tells, where it is a client's.
 fn transcripts_of<'a>(
     alloc: Global,
-    stream: &Stream<'_>,
+    stream: &Stream<'a>,
     taps: &'a [Tap],
 ) -> Result<Vec<Option<IndexedTranscript<'a>>>, AllocError>
     ensures { IfOk result (λ transcripts. transcripts.items ≡ map (transcript_in stream.now) taps.now) }
@@ -54,14 +54,14 @@ fn transcripts_of<'a>(
 /// What the tap tells, if it is a client's.
 fn transcript_in<'a>(
     alloc: Global,
-    stream: &Stream<'_>,
+    stream: &Stream<'a>,
     tap: &'a Tap,
 ) -> Result<Option<IndexedTranscript<'a>>, AllocError>
     ensures { IfOk result (λ transcript. transcript ≡ transcript_in stream.now tap.now) }
 {
     match &tap.records {
         Records::Client(recs) => {
-            let decoded = ClientTap::build(alloc, recs.as_slice())?;
+            let decoded = ClientTap::read(alloc, Some(stream), recs.as_slice())?;
             Ok(Some(IndexedTranscript::read(alloc, decoded, stream)?))
         }
         Records::Stream(_) => Ok(None),

@@ -1,14 +1,15 @@
 //! The packets of one connection of a client.
-ghost use Rattle.std.specs.Prelude.{◌≡◌, ◌+◌, ◌^◌, ◌<◌, ◌++◌, ◌∷◌, [], IfOk, OnOk, Some, None, true, flat_map, length, map};
+ghost use Rattle.std.specs.Prelude.{◌≡◌, ◌+◌, ◌^◌, ◌<◌, ◌++◌, ◌∷◌, [], IfOk, OnOk, OnSome, Some, None, true, flat_map, length, map};
 ghost use Rattle.aud_eio.specs.Packet.{engine_view, engine_packet_of};
 ghost use Rattle.aud_eio.specs.Body.{engine_packets_of};
-ghost use Rattle.aud_sio.specs.Message.{messages_of, at};
+ghost use Rattle.aud_sio.specs.Message.{Text, messages_of, at};
 ghost use Rattle.aud_sio.specs.Packet.{packet_of, packet_view};
 ghost use Rattle.aud_client.specs.TapPackets.{is_connection_kind, one_of, client_packet, client_packet_in};
 ghost use Rattle.aud_client.specs.Private.ConnectionRead.{HasRead, ReadsRecord, ReadsEngine, Reads, ends_connection, inside, sent_seen, packets_read, bad_or};
 ghost use Rattle.aud_client.specs.Seen.{packet_seen};
 
 use aud_eio::{Eio, EioFault, decode_binary, decode_payload, decode_text};
+use aud_node::{KnownEvent, Stream};
 use aud_sio::{Assembler, Packet, PacketKind, SioFault, Whole, decode};
 use aud_tap::ClientRec;
 use std::alloc::{AllocError, Global};
@@ -18,6 +19,8 @@ use std::alloc::{AllocError, Global};
 pub enum TapPacket<'a> {
     /// From the server, with its attachments.
     FromServer(Whole<'a>),
+    /// From the server, without attachments: its text is that of an event of the stream, and isn't decoded again.
+    Known(KnownEvent<'a>),
     /// A CONNECT or a DISCONNECT of the client.
     FromClient(Packet<'a>),
 }
@@ -32,23 +35,26 @@ pub struct Placed<'a> {
 
 /// What the records of a connection gave so far.
 #[derive(Drop)]
-pub struct Reader<'a> {
+pub struct Reader<'s, 'a> {
     alloc: Global,
+    /// Whose events are known by their texts.
+    stream: Option<&'s Stream<'a>>,
     assembler: Assembler<'a>,
     pub packets: Vec<Placed<'a>>,
     /// The first record that doesn't decode.
     pub bad: Option<usize>,
 }
 
-impl<'a> Reader<'a> {
-    /// No record was read yet.
-    pub fn new(alloc: Global) -> Reader<'a>
+impl<'s, 'a> Reader<'s, 'a> {
+    /// No record was read yet. The events of this stream are known by their texts, if there is one.
+    pub fn new(alloc: Global, stream: Option<&'s Stream<'a>>) -> Reader<'s, 'a>
         ensures assembler { result.assembler ≡ [] }
         ensures packets { packets_read result ≡ [] }
         ensures bad { result.bad ≡ None }
     {
         Reader {
             alloc,
+            stream,
             assembler: Assembler::new(alloc),
             packets: Vec::new(alloc),
             bad: None,
@@ -129,8 +135,32 @@ impl<'a> Reader<'a> {
         Ok(())
     }
 
-    /// An Engine.IO packet from the server.
+    /// An Engine.IO packet from the server. The text of a known event isn't decoded.
     fn receive(&mut self, number: usize, packet: Eio<'a>) -> Result<(), AllocError>
+        ensures { OnOk result (Reads number (messages_of (engine_view packet.entry)) self.old self.new) }
+    {
+        match self.known(&packet) {
+            Some(known) => self.place(number, TapPacket::Known(known)),
+            None => self.feed(number, packet),
+        }
+    }
+
+    /// The event whose text the packet carries, where one is known by it and no attachment is awaited.
+    fn known(&self, packet: &Eio<'_>) -> Option<KnownEvent<'a>>
+        ensures rest { OnSome result (λ _. self.now.assembler ≡ []) }
+        ensures text { OnSome result (λ known. messages_of (engine_view packet.now) ≡ Text known.event.now.text ∷ []) }
+    {
+        if !self.assembler.is_at_rest() {
+            return None;
+        }
+        match packet {
+            Eio::Message(text) => self.stream?.known(text),
+            _ => None,
+        }
+    }
+
+    /// An Engine.IO packet from the server, to be decoded.
+    fn feed(&mut self, number: usize, packet: Eio<'a>) -> Result<(), AllocError>
         ensures { OnOk result (Reads number (messages_of (engine_view packet.entry)) self.old self.new) }
     {
         match self.assembler.feed(packet) {

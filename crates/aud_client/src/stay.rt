@@ -13,7 +13,7 @@ ghost use Rattle.aud_client.specs.Private.Kept.{empty_stay, grown};
 
 use crate::asked::{Asked, asked_in};
 use crate::connection::TapPacket;
-use crate::frame::{Frame, frame_of};
+use crate::frame::{Frame, frame_of, known_frame};
 use crate::replies::{Reply, reply_of};
 use aud_node::Stream;
 use aud_sio::{Packet, Whole};
@@ -88,6 +88,7 @@ impl<'a> Stay<'a> {
     {
         match packet {
             TapPacket::FromServer(whole) => self.receive(alloc, stream, whole),
+            TapPacket::Known(known) => self.keep(known_frame(alloc, stream, known)),
             TapPacket::FromClient(packet) => self.ask(alloc, &packet),
         }
     }

@@ -1,5 +1,5 @@
 //! The stays of a tap, as its packets come.
-ghost use Rattle.std.specs.Prelude.{◌≡◌, ℕ, ◌++◌, ◌∷◌, List, [], OnOk, flat_map, length, Some, slice_get, set};
+ghost use Rattle.std.specs.Prelude.{◌≡◌, ℕ, ◌++◌, ◌∷◌, List, [], OnOk, OnSome, flat_map, length, None, Some, slice_get, set, true};
 ghost use Rattle.std.specs.Option.{option_and_then};
 ghost use Rattle.aud_tap.specs.declared.records.StreamRec.{StreamRec};
 ghost use Rattle.aud_client.specs.TapPackets.{TapPacket as TapPacketSeen};
@@ -8,6 +8,7 @@ ghost use Rattle.aud_client.specs.Stays.{is_connect, is_disconnect, namespace, p
 ghost use Rattle.aud_sio.specs.Packet.{packet_view};
 ghost use Rattle.aud_client.specs.StaySeen.{StaySeen};
 ghost use Rattle.aud_client.specs.Received.{stays_of};
+ghost use Rattle.aud_node.specs.Recoverable.{is_event};
 ghost use Rattle.aud_node.specs.Stream.{Text};
 ghost use Rattle.aud_client.specs.Private.Kept.{KeepsStays, BeginsAt, GoesOn, open_at, place_for, unless_replied, empty_stay, grown};
 
@@ -196,33 +197,45 @@ impl<'a> Stays<'a> {
     }
 }
 
-/// The packet itself, without its attachments and its way.
-fn packet_in<'a, 'b>(packet: &'b TapPacket<'a>) -> &'b Packet<'a>
-    ensures { packet_view result.now ≡ packet_in (packet_seen packet.now) }
+/// The packet itself, without its attachments and its way; none where it is a known event, which wasn't decoded.
+fn packet_in<'a, 'b>(packet: &'b TapPacket<'a>) -> Option<&'b Packet<'a>>
+    ensures decoded { OnSome result (λ it. packet_view it.now ≡ packet_in (packet_seen packet.now)) }
+    ensures known { result ≡ None → is_event (packet_in (packet_seen packet.now)).kind ≡ true }
 {
     match packet {
-        TapPacket::FromServer(whole) => &whole.packet,
-        TapPacket::FromClient(packet) => packet,
+        TapPacket::FromServer(whole) => Some(&whole.packet),
+        TapPacket::Known(_) => None,
+        TapPacket::FromClient(packet) => Some(packet),
     }
 }
 
-/// The packet's namespace, lent from the tap's records.
+/// The packet's namespace, lent from the taps' records.
 pub fn namespace<'a>(packet: &TapPacket<'a>) -> &'a str
     ensures { result.now ≡ namespace (packet_seen packet.now) }
 {
-    packet_in(packet).nsp
+    match packet {
+        TapPacket::FromServer(whole) => whole.packet.nsp,
+        TapPacket::Known(known) => known.event.nsp.as_str(),
+        TapPacket::FromClient(packet) => packet.nsp,
+    }
 }
 
 /// Whether the packet is a CONNECT, in either direction.
 fn is_connect(packet: &TapPacket<'_>) -> bool
     ensures { result ≡ is_connect (packet_seen packet.now) }
 {
-    matches!(packet_in(packet).kind, PacketKind::Connect)
+    match packet_in(packet) {
+        Some(packet) => matches!(packet.kind, PacketKind::Connect),
+        None => false,
+    }
 }
 
 /// Whether the packet is a DISCONNECT, in either direction.
 fn is_disconnect(packet: &TapPacket<'_>) -> bool
     ensures { result ≡ is_disconnect (packet_seen packet.now) }
 {
-    matches!(packet_in(packet).kind, PacketKind::Disconnect)
+    match packet_in(packet) {
+        Some(packet) => matches!(packet.kind, PacketKind::Disconnect),
+        None => false,
+    }
 }

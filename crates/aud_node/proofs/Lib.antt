@@ -7,3 +7,4 @@ pub mod TurnLemmas
 pub mod NodeLemmas
 pub mod NameLemmas
 pub mod AddresseeLemmas
+pub mod KnownLemmas

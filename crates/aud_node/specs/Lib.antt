@@ -9,6 +9,7 @@ pub mod NodeTap
 pub mod NodeTaps
 pub mod Names
 pub mod AtPosition
+pub mod Known
 pub mod OwnRecords
 pub mod OwnPlaces
 pub mod Addressees

@@ -22,6 +22,7 @@ mod addressees;
 mod by_name;
 mod cursors;
 mod fields;
+mod known;
 mod logs;
 mod node_log;
 mod offsets;
@@ -31,6 +32,7 @@ mod stream;
 mod turns;
 
 pub use fields::{offset, pid};
+pub use known::KnownEvent;
 pub use logs::Logs;
 pub use node_log::NodeLog;
 pub use recoverable::is_event;

@@ -1,13 +1,16 @@
 //! The stream's entries.
-ghost use Rattle.std.specs.Prelude.{◌≡◌, IfOk};
+ghost use Rattle.std.specs.Prelude.{◌≡◌, IfOk, IfSome, Some, option_map, slice_get};
 ghost use Rattle.std.specs.Option.{option_copied};
 ghost use Rattle.aud_node.specs.Stream.{position, entry};
 ghost use Rattle.aud_node.specs.AtPosition.{is_recoverable_at};
 ghost use Rattle.aud_node.specs.Private.NextPosition.{next_position};
 ghost use Rattle.aud_node.specs.Addressees.{positions_to_all, positions_to_room};
+ghost use Rattle.aud_node.specs.Known.{known_entry};
+ghost use Rattle.aud_tap.specs.declared.records.StreamRec.TheVariants.{Ev};
 
 use crate::addressees::Addressees;
 use crate::fields::offset;
+use crate::known::{KnownEvent, KnownTexts};
 use crate::offsets::Offsets;
 use crate::recoverable::recoverable_of;
 use aud_tap::StreamRec;
@@ -21,6 +24,7 @@ pub struct Stream<'a> {
     offsets: Offsets<'a>,
     recoverable: Vec<bool>,
     addressees: Addressees<'a>,
+    known: KnownTexts<'a>,
 }
 
 impl<'a> Model for Stream<'a> {
@@ -43,11 +47,13 @@ impl<'a> Stream<'a> {
         let offsets = Offsets::build(alloc, entries)?;
         let recoverable = recoverable_of(alloc, entries)?;
         let addressees = Addressees::build(alloc, entries, &recoverable)?;
+        let known = KnownTexts::build(alloc, entries, &recoverable)?;
         Ok(Stream {
             entries,
             offsets,
             recoverable,
             addressees,
+            known,
         })
     }
 
@@ -86,6 +92,32 @@ impl<'a> Stream<'a> {
             .get(position as usize - 1)
             .copied()
             .unwrap_or(false)
+    }
+
+    /// The first event of this text that a server sends again after a recovery, and that has no attachments; none where
+    /// there is no such event. The text isn't decoded.
+    pub fn known(&self, text: &str) -> Option<KnownEvent<'a>>
+        ensures first { option_map (λ known. known.before) result ≡ known_entry self.now text.now }
+        ensures entry { IfSome result (λ known. slice_get self.now known.before ≡ Some (Ev known.event.now)) }
+        ensures text { IfSome result (λ known. known.event.now.text ≡ text.now) }
+    {
+        let before = self.known.get(text)?;
+        match self.entries.get(before)? {
+            StreamRec::Ev(event) => Some(KnownEvent { before, event }),
+            StreamRec::Other { .. } => None,
+        }
+    }
+
+    /// The position, from 1 on, of the first entry that has the event's offset. It is looked up only where two entries
+    /// have the same offset, or where the event is another stream's.
+    pub fn position_of(&self, known: &KnownEvent<'_>) -> Option<u64>
+        ensures { result ≡ position self.now known.now.event.now.off }
+    {
+        let off = known.event.off.as_str();
+        match self.next(known.before as u64, off) {
+            Some(position) => Some(position),
+            None => self.position(off),
+        }
     }
 
     /// The positions, ascending, of the recoverable entries of the namespace that name the room.

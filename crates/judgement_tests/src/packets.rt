@@ -1,6 +1,6 @@
 //! The packets of clients' taps, as texts.
 use aud_client::{ClientTap, Connection, Recording, TapPacket, reply_of};
-use aud_sio::Whole;
+use aud_sio::{PacketKind, Whole};
 use std::alloc::Global;
 use std::test::Fail;
 
@@ -52,6 +52,7 @@ fn write_connection(transcript: &mut String, connection: &Connection<'_>) -> Res
     for placed in connection.packets.as_slice() {
         let (from, kind) = match &placed.packet {
             TapPacket::FromServer(whole) => ("in", whole.packet.kind),
+            TapPacket::Known(_) => ("in", PacketKind::Event),
             TapPacket::FromClient(packet) => ("out", packet.kind),
         };
         write!(transcript, " {} {from} {kind:?}", placed.number)?;
@@ -82,6 +83,7 @@ fn whole_told(alloc: Global, whole: &Whole<'_>) -> Result<String, Fail> {
 fn received<'t, 'a>(tap: &'t ClientTap<'a>, index: usize) -> Option<&'t Whole<'a>> {
     match &tap.connections().first()?.packets.get(index)?.packet {
         TapPacket::FromServer(whole) => Some(whole),
+        TapPacket::Known(_) => None,
         TapPacket::FromClient(_) => None,
     }
 }

@@ -3,10 +3,12 @@ use Rattle.std.specs.Prelude.{◌≡◌, map}
 use Rattle.aud_node.specs.Recoverable.{is_recoverable}
 use Rattle.aud_node.specs.Private.OffsetIndex.{HoldsOffsets}
 use Rattle.aud_node.specs.Private.AddresseeIndex.{HoldsAddressees}
+use Rattle.aud_node.specs.Private.KnownIndex.{HoldsKnown}
 use Rattle.aud_node.specs.declared.stream.Stream.TheInside.{Inside}
 
--- the positions, the flags and the addressees are those of the entries
+-- the positions, the flags, the addressees and the known texts are those of the entries
 pub record HoldsStream (s : Inside) : Type 0 where
   pub offsets_are : HoldsOffsets s.entries.now s.offsets
   pub flags_are : s.recoverable.items ≡ map is_recoverable s.entries.now
   pub addressees_are : HoldsAddressees s.entries.now s.addressees
+  pub known_are : HoldsKnown s.entries.now s.known
