@@ -1,13 +1,14 @@
 -- What a text gives that is known.
-use Rattle.std.proofs.Common.{◌≡◌, ◌∷◌, ◌++◌, [], true, false, ◌&&◌, cond, refl, sym, ap, ◌∙◌, Ok, Some, None, is_none, List}
+use Rattle.std.proofs.Common.{◌≡◌, ◌∷◌, ◌++◌, [], true, false, ◌&&◌, cond, refl, sym, ap, ◌∙◌, Ok, Some, None, is_none, List, ℕ, map}
 use Rattle.std.specs.List.{cons_option}
 use Rattle.std.specs.Option.{option_map, option_and_then, option_or}
 use Rattle.aud_tap.specs.declared.records.Event.{Event}
 use Rattle.aud_tap.specs.declared.records.StreamRec.{StreamRec}
 use Rattle.aud_sio.specs.declared.kind.PacketKind.{PacketKind}
 use Rattle.aud_sio.specs.declared.kind.PacketKind.TheVariants as kind
-use Rattle.aud_sio.specs.Message.{Text}
-use Rattle.aud_sio.specs.Assembly.{Continues}
+use Rattle.aud_sio.specs.Message.{Text, blob_bytes}
+use Rattle.aud_sio.specs.Assembly.{Continues, blob_view}
+use Rattle.aud_sio.specs.declared.whole.Blob.{Blob as BlobCode}
 use Rattle.aud_sio.proofs.Assembling.{text_alone}
 use Rattle.aud_node.specs.Recoverable.{is_event}
 use Rattle.aud_node.specs.Known.{is_sent_alone, spelled}
@@ -15,7 +16,7 @@ use Rattle.aud_node.proofs.KnownLemmas.{sent_alone}
 use Rattle.aud_client.specs.TapPackets.{FromServer}
 use Rattle.aud_client.specs.Replies.{is_connect_kind}
 use Rattle.aud_client.specs.Stays.{is_disconnect_kind}
-use Rattle.aud_client.specs.StaySeen.{StaySeen, frame_at, frame_of, offset_in, recoverable_position, reply_at}
+use Rattle.aud_client.specs.StaySeen.{FrameSeen, StaySeen, frame_at, frame_of, offset_in, recoverable_position, reply_at}
 use Rattle.aud_client.specs.Private.Kept.{grown}
 use Rattle.aud_client.proofs.Telling.{no_reply_at}
 
@@ -54,6 +55,13 @@ module _ (event : Event) (alone : is_sent_alone event ≡ true) where
   -- the frame is that of the recoverable entry with the event's offset
   pub known_frame : (stream : List StreamRec) → frame_of stream (FromServer (spelled event.text)) ≡ option_map (frame_at (spelled event.text)) (recoverable_position stream event.off)
   known_frame stream = ap (λ off. option_map (frame_at (spelled event.text)) (option_and_then (recoverable_position stream) off)) known_offset
+
+  -- the frame at a position that was found
+  pub known_at : (stream : List StreamRec) (p : ℕ) (text : List ℕ) (blobs : List BlobCode) → text ≡ event.text → blobs ≡ [] → Some p ≡ recoverable_position stream event.off
+      → Some (record { position = p; text = text; bin = map blob_bytes (map blob_view blobs) }) ≡ frame_of stream (FromServer (spelled event.text))
+  known_at stream p text blobs is none found =
+      let frame : List ℕ → List BlobCode → FrameSeen = λ t bs. record { position = p; text = t; bin = map blob_bytes (map blob_view bs) } in
+      ap (λ t. Some (frame t blobs)) is ∙ ap (λ bs. Some (frame event.text bs)) none ∙ ap (option_map (frame_at (spelled event.text))) found ∙ sym (known_frame stream)
 
   -- it is no reply, and asks for nothing: a stay has the frame more
   pub known_grown : (stream : List StreamRec) (t : StaySeen)

@@ -1,5 +1,5 @@
 //! The packets of one connection of a client.
-ghost use Rattle.std.specs.Prelude.{◌≡◌, ◌+◌, ◌^◌, ◌<◌, ◌++◌, ◌∷◌, [], IfOk, OnOk, OnSome, Some, None, true, flat_map, length, map};
+ghost use Rattle.std.specs.Prelude.{◌≡◌, ◌+◌, ◌^◌, ◌<◌, ◌++◌, ◌∷◌, [], IfOk, IfSome, OnOk, OnSome, Some, None, true, flat_map, length, map};
 ghost use Rattle.aud_eio.specs.Packet.{engine_view, engine_packet_of};
 ghost use Rattle.aud_eio.specs.Body.{engine_packets_of};
 ghost use Rattle.aud_sio.specs.Message.{Text, messages_of, at};
@@ -147,8 +147,8 @@ impl<'s, 'a> Reader<'s, 'a> {
 
     /// The event whose text the packet carries, where one is known by it and no attachment is awaited.
     fn known(&self, packet: &Eio<'_>) -> Option<KnownEvent<'a>>
-        ensures rest { OnSome result (λ _. self.now.assembler ≡ []) }
-        ensures text { OnSome result (λ known. messages_of (engine_view packet.now) ≡ Text known.event.now.text ∷ []) }
+        ensures rest { OnSome result (self.now.assembler ≡ []) }
+        ensures text { IfSome result (λ known. messages_of (engine_view packet.now) ≡ Text known.event.now.text ∷ []) }
     {
         if !self.assembler.is_at_rest() {
             return None;

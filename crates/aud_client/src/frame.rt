@@ -55,14 +55,16 @@ pub(crate) fn known_frame<'a>(
     stream: &Stream<'_>,
     known: KnownEvent<'a>,
 ) -> Option<Frame<'a>>
-    ensures { result ≡ frame_of stream.now (FromServer (spelled known.event.now.text)) }
+    ensures { result ≡ frame_of stream.now (FromServer (spelled known.entry.event.now.text)) }
 {
-    let position = known_position(stream, &known)?;
-    Some(Frame {
-        position,
-        text: known.event.text.as_str(),
-        bin: Vec::new(alloc),
-    })
+    match known_position(stream, &known) {
+        Some(position) => Some(Frame {
+            position,
+            text: known.event.text.as_str(),
+            bin: Vec::new(alloc),
+        }),
+        None => None,
+    }
 }
 
 /// The position of the recoverable entry whose offset ends the event, if the packet is one.

@@ -1,5 +1,5 @@
 //! The stays of a tap, as its packets come.
-ghost use Rattle.std.specs.Prelude.{◌≡◌, ℕ, ◌++◌, ◌∷◌, List, [], OnOk, OnSome, flat_map, length, None, Some, slice_get, set, true};
+ghost use Rattle.std.specs.Prelude.{◌≡◌, ℕ, ◌++◌, ◌∷◌, List, [], IfSome, OnOk, flat_map, length, None, Some, slice_get, set, true};
 ghost use Rattle.std.specs.Option.{option_and_then};
 ghost use Rattle.aud_tap.specs.declared.records.StreamRec.{StreamRec};
 ghost use Rattle.aud_client.specs.TapPackets.{TapPacket as TapPacketSeen};
@@ -199,7 +199,7 @@ impl<'a> Stays<'a> {
 
 /// The packet itself, without its attachments and its way; none where it is a known event, which wasn't decoded.
 fn packet_in<'a, 'b>(packet: &'b TapPacket<'a>) -> Option<&'b Packet<'a>>
-    ensures decoded { OnSome result (λ it. packet_view it.now ≡ packet_in (packet_seen packet.now)) }
+    ensures decoded { IfSome result (λ it. packet_view it.now ≡ packet_in (packet_seen packet.now)) }
     ensures known { result ≡ None → is_event (packet_in (packet_seen packet.now)).kind ≡ true }
 {
     match packet {
