@@ -3,16 +3,18 @@ ghost use Rattle.std.specs.Prelude.{◌≡◌, ◌<◌, length, IfOk};
 ghost use Rattle.aud_cert.specs.Certificate.{IsOver};
 ghost use Rattle.aud_cert_text.specs.Reading.{certificate_of};
 ghost use Rattle.aud_answers.specs.EveryRun.{AnswerHoldsInEveryRun};
-ghost use Rattle.aud_answers.specs.Verified.{IsAnswerOn, IsAnswerTo, AreAnswered};
+ghost use Rattle.aud_answers.specs.Verified.{IsAnswerOn, IsAnswerTo, IsAnswered, AreAnswered};
 
 use crate::answer::{Answer, Answered};
 use aud_cert::Certificate;
 use aud_cert_text::{CertFault, read_cert};
 use aud_check::{Refusal, check};
 use aud_client::Recording;
+use aud_parallel::try_map;
 use aud_reader::Line;
 use aud_tap::Text;
 use std::alloc::{AllocError, Global};
+use std::thread::Threads;
 
 /// The answer on a certificate that is read.
 fn answer_on(
@@ -46,21 +48,37 @@ fn answer_to(alloc: Global, recording: &Recording<'_>, text: &[u8]) -> Result<An
     }
 }
 
-/// The answers on these certificates, one for each, in order.
-pub fn answers(
+/// The answer on the certificate that stands on this line, by its number.
+fn answered(
+    alloc: Global,
+    recording: &Recording<'_>,
+    line: &Line,
+) -> Result<Answered, AllocError>
+    ensures { IfOk result (IsAnswered recording.now line.now) }
+{
+    let answer = answer_to(alloc, recording, line.bytes.as_slice())?;
+    Ok(Answered {
+        line: line.number,
+        answer,
+    })
+}
+
+/// The answers on these certificates, one for each, in order. They are shared out among as many threads as
+/// [`try_map`] starts.
+pub fn answers<H: Threads + Sync>(
+    rt: &H,
     alloc: Global,
     recording: &Recording<'_>,
     lines: &[Line],
 ) -> Result<Vec<Answered>, AllocError>
     ensures { IfOk result (λ all. AreAnswered recording.now lines.now all.items) }
 {
-    let mut all = Vec::new(alloc);
-    for line in lines {
-        let answer = answer_to(alloc, recording, line.bytes.as_slice())?;
-        all.push(Answered {
-            line: line.number,
-            answer,
-        })?;
-    }
-    Ok(all)
+    try_map(
+        rt,
+        alloc,
+        lines,
+        |line: &Line| -> Result<Answered, AllocError>
+            ensures { IfOk result (IsAnswered recording.entry.now line.now) }
+        { answered(alloc, recording, line) },
+    )
 }
