@@ -23,6 +23,11 @@ abbrev pub IsJudged : Cluster → Text → Judged → Type 0
 IsJudged c pid (Shown cert counts) = IsShown c pid cert counts
 IsJudged c pid (Faulty fault) = IsVerdict c pid (No fault)
 
+-- the verdict on the session for which the certificate was made; where it is yes the certificate shows it
+abbrev pub IsJudgedBy : Cluster → CertificateSeen → Verdict → Type 0
+IsJudgedBy c cert (Yes got tail turns) = IsShown c cert.pid cert (record { got = got; tail = tail; turns = turns })
+IsJudgedBy c cert (No fault) = IsVerdict c cert.pid (No fault)
+
 -- where the verdict is yes, the session's certificate is accepted
 abbrev pub HasCertificate : Cluster → Text → Verdict → Type 0
 HasCertificate c pid (Yes got tail turns) = (cert : CertificateSeen) × IsMade c pid cert × IsAccepted c cert

@@ -1,7 +1,7 @@
 //! The verdict on a session, in words that know no certificate, and what the acceptance of a certificate means.
 //!
 //! Begin at [`judge`], which finds the verdict, and where it is yes the certificate that shows it; [`decide`] keeps the
-//! verdict alone. [`verdict_by_certificate`] says that what is found is the verdict.
+//! verdict alone, and [`judge_made`] finds it where the certificate is made already. [`verdict_by_certificate`] says that what is found is the verdict.
 //!
 //! With the `recording` of `examples/lost_event.jsonl`, in which a replay leaves out an event:
 //!
@@ -28,4 +28,4 @@ pub use acceptance::{
 };
 pub use aud_report::Verdict;
 pub use laws::{verdict_by_certificate, verdict_in_every_run, verdict_is_one};
-pub use verdict::{Judged, decide, judge};
+pub use verdict::{Judged, decide, judge, judge_made};

@@ -1,7 +1,8 @@
 //! The verdict on a session: its certificate is made, and then checked.
 ghost use Rattle.std.specs.Prelude.{◌≡◌, IfOk, Some};
+ghost use Rattle.aud_maker.specs.Made.{IsMade};
 ghost use Rattle.aud_verdict.specs.EveryRun.{HoldsInEveryRun};
-ghost use Rattle.aud_verdict.specs.Judged.{IsJudged, HasCertificate};
+ghost use Rattle.aud_verdict.specs.Judged.{IsJudged, IsJudgedBy, HasCertificate};
 ghost use Rattle.aud_verdict.specs.Refused.{fault_found, IsOfSession};
 ghost use Rattle.aud_verdict.specs.Verdict.{IsVerdict};
 
@@ -36,6 +37,33 @@ fn fault_found(refusal: Refusal) -> Result<Fault, AllocError>
     }
 }
 
+/// The verdict on the session for which this certificate was made. It costs the session's own records and stays, and
+/// what is due to it.
+pub fn judge_made(
+    alloc: Global,
+    recording: &Recording<'_>,
+    cert: &Certificate<'_>,
+) -> Result<Verdict, AllocError>
+    requires { IsMade recording.now cert.now.pid cert.now }
+    ensures { IfOk result (IsJudgedBy recording.now cert.now) }
+{
+    verdict_by_certificate();
+    verdict_in_every_run();
+    recording.named_once();
+    made_is_over();
+    match check(alloc, recording, cert) {
+        Ok(counts) => Ok(Verdict::Yes {
+            got: counts.got,
+            tail: counts.tail,
+            turns: counts.turns,
+        }),
+        Err(refusal) => {
+            let fault = fault_found(refusal)?;
+            Ok(Verdict::No(fault))
+        }
+    }
+}
+
 /// What is found of the session with this pid: the verdict on it, and where that is yes its certificate. It costs the
 /// session's own records and stays, and what is due to it.
 pub fn judge<'a>(
@@ -46,20 +74,17 @@ pub fn judge<'a>(
     ensures { IfOk result (IsJudged recording.now pid.now) }
 {
     verdict_by_certificate();
-    verdict_in_every_run();
     let cert = match make(alloc, recording, pid) {
         Ok(cert) => cert,
         Err(MakeFault::Fault(fault)) => return Ok(Judged::Faulty(fault)),
         Err(MakeFault::Memory) => return Err(AllocError),
     };
-    recording.named_once();
-    made_is_over();
-    match check(alloc, recording, &cert) {
-        Ok(counts) => Ok(Judged::Shown(cert, counts)),
-        Err(refusal) => {
-            let fault = fault_found(refusal)?;
-            Ok(Judged::Faulty(fault))
+    match judge_made(alloc, recording, &cert)? {
+        Verdict::Yes { got, tail, turns } => {
+            let counts = Accepted { got, tail, turns };
+            Ok(Judged::Shown(cert, counts))
         }
+        Verdict::No(fault) => Ok(Judged::Faulty(fault)),
     }
 }
 
