@@ -1,6 +1,7 @@
 pub mod Proofs
 pub mod Output
 pub mod Headline
+pub mod Private
 pub use Rattle.aud_options.specs.Words
 pub use Rattle.aud_streams.specs.Watched
 pub use Rattle.aud_streams.specs.Written

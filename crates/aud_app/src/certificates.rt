@@ -1,50 +1,89 @@
 //! The certificates of the sessions.
-ghost use Rattle.std.specs.Prelude.{◌≡◌, IfOk, map, string_bytes};
+ghost use Rattle.std.specs.Prelude.{All, IfOk};
+ghost use Rattle.aud_maker.specs.Made.{IsMade};
 ghost use Rattle.aud_maker.specs.Sessions.{sessions_of};
+ghost use Rattle.aud_report.specs.OneForEach.{OneForEach};
 ghost use Rattle.aud_app.specs.Proofs.{IsProof, AreProofs};
+ghost use Rattle.aud_app.specs.Private.Proven.{IsOfItsSession, IsProofBy};
 
+use aud_cert::{Certificate, Fault};
 use aud_cert_text::write_cert;
 use aud_client::Recording;
 use aud_maker::sessions;
+use aud_many::make_all;
+use aud_parallel::try_map;
 use aud_tap::Text;
-use aud_verdict::{Judged, judge};
+use aud_verdict::{Verdict, judge_made, verdict_by_certificate};
 use std::alloc::{AllocError, Global};
+use std::thread::Threads;
 
-/// The text of the session's certificate, where the verdict is yes.
-fn proof(alloc: Global, recording: &Recording<'_>, pid: &str) -> Result<Option<Text>, AllocError>
-    ensures { IfOk result (λ proof. IsProof recording.now pid.now proof) }
+/// The text of the certificate, where the verdict on the session for which it was made is yes.
+fn shown(
+    alloc: Global,
+    recording: &Recording<'_>,
+    cert: &Certificate<'_>,
+) -> Result<Option<Text>, AllocError>
+    requires { IsMade recording.now cert.now.pid cert.now }
+    ensures { IfOk result (IsProof recording.now cert.now.pid) }
 {
-    match judge(alloc, recording, pid)? {
-        Judged::Shown(cert, _) => {
-            let Ok(text) = write_cert(alloc, &cert) else {
-                return Err(AllocError);
-            };
-            Ok(Some(Text::new(text)))
-        }
-        Judged::Faulty(_) => Ok(None),
+    match judge_made(alloc, recording, cert)? {
+        Verdict::Yes { .. } => {}
+        Verdict::No(_) => return Ok(None),
+    }
+    match write_cert(alloc, cert) {
+        Ok(text) => Ok(Some(Text::new(text))),
+        Err(_) => Err(AllocError),
     }
 }
 
-/// The certificates of these sessions, one place for each, in order.
-fn proofs(
+/// The text of the certificate that was made, where the verdict is yes; none where it is no, or none was made.
+fn proof(
     alloc: Global,
     recording: &Recording<'_>,
-    pids: &[String],
-) -> Result<Vec<Option<Text>>, AllocError>
-    ensures { IfOk result (λ all. AreProofs recording.now (map string_bytes pids.now) all.items) }
+    made: &Result<Certificate<'_>, Fault>,
+) -> Result<Option<Text>, AllocError>
+    requires { IsOfItsSession recording.now made.now }
+    ensures { IfOk result (IsProofBy recording.now made.now) }
 {
-    let mut all = Vec::new(alloc);
-    for pid in pids {
-        all.push(proof(alloc, recording, pid.as_str())?)?;
+    match made {
+        Ok(cert) => shown(alloc, recording, cert),
+        Err(_) => Ok(None),
     }
-    Ok(all)
+}
+
+/// The texts of the certificates that were made, one place for each, in order.
+fn proofs<H: Threads + Sync>(
+    rt: &H,
+    alloc: Global,
+    recording: &Recording<'_>,
+    made: &[Result<Certificate<'_>, Fault>],
+) -> Result<Vec<Option<Text>>, AllocError>
+    requires { All (IsOfItsSession recording.now) made.now }
+    ensures { IfOk result (λ all. OneForEach (IsProofBy recording.now) made.now all.items) }
+{
+    try_map(
+        rt,
+        alloc,
+        made,
+        |made: &Result<Certificate<'_>, Fault>| -> Result<Option<Text>, AllocError>
+            requires { IsOfItsSession recording.now made.now }
+            ensures { IfOk result (IsProofBy recording.entry.now made.now) }
+        { proof(alloc, recording, made) },
+    )
 }
 
 /// The certificate of each session that the logs mention and that is answered yes, in the order of their first
-/// mentions, with an empty place for each of the others.
-pub fn prove(alloc: Global, recording: &Recording<'_>) -> Result<Vec<Option<Text>>, AllocError>
+/// mentions, with an empty place for each of the others. All are made, and then checked, each time shared out among as
+/// many threads as [`try_map`] starts.
+pub fn prove<H: Threads + Sync>(
+    rt: &H,
+    alloc: Global,
+    recording: &Recording<'_>,
+) -> Result<Vec<Option<Text>>, AllocError>
     ensures { IfOk result (λ all. AreProofs recording.now (sessions_of recording.now) all.items) }
 {
+    verdict_by_certificate();
     let pids = sessions(alloc, recording)?;
-    proofs(alloc, recording, &pids)
+    let made = make_all(rt, alloc, recording, &pids)?;
+    proofs(rt, alloc, recording, &made)
 }

@@ -18,22 +18,27 @@ use std::thread::Threads;
 use std::time::Clock;
 
 /// The certificates of the sessions of this recording.
-fn proved(alloc: Global, recording: &Recording<'_>) -> Result<Output, AllocError>
+fn proved<H: Threads + Sync>(
+    rt: &H,
+    alloc: Global,
+    recording: &Recording<'_>,
+) -> Result<Output, AllocError>
     ensures { IfOk result (λ o. IsProving recording.now o) }
 {
-    let proofs = prove(alloc, recording)?;
+    let proofs = prove(rt, alloc, recording)?;
     proving_on(alloc, &proofs)
 }
 
 /// The answers on these certificates.
-fn verified(
+fn verified<H: Threads + Sync>(
+    rt: &H,
     alloc: Global,
     recording: &Recording<'_>,
     certificates: &[Line],
 ) -> Result<Output, AllocError>
     ensures { IfOk result (λ o. IsVerification recording.now certificates.now o) }
 {
-    let all = answers(alloc, recording, certificates)?;
+    let all = answers(rt, alloc, recording, certificates)?;
     verification_on(alloc, &all)
 }
 
@@ -61,8 +66,8 @@ fn output_on<H: Threads + Wait + Clock + Sync>(
 {
     match options.mode {
         Mode::Audit => audited(rt, alloc, options.workers, recording),
-        Mode::Prove => Ok(proved(alloc, recording)?),
-        Mode::Verify => Ok(verified(alloc, recording, certificates)?),
+        Mode::Prove => Ok(proved(rt, alloc, recording)?),
+        Mode::Verify => Ok(verified(rt, alloc, recording, certificates)?),
     }
 }
 

@@ -15,7 +15,8 @@ use std::thread::Threads;
 use std::time::Clock;
 
 /// Reads the input to its end, decides, and only then writes. An audit starts so many workers, each in a thread of its
-/// own; how many they are changes nothing in what is written. The other modes start none.
+/// own; the other modes share certificates out among as many threads as `aud_parallel::try_map` starts. How many they
+/// are changes nothing in what is written.
 pub fn run<H: Threads + Wait + Clock + Sync, R: Read, W: Write>(
     rt: &H,
     alloc: Global,

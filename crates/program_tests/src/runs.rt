@@ -1,7 +1,7 @@
 //! Runs over memory: what a word of the command line makes of a bundle, and of certificates after it.
 use crate::bundles::{
-    B_WITHOUT_SECOND_EVENT, BUNDLE_A, BUNDLE_B, CUT, LATER_HEADER, NOT_DUE, PROOF_A, REPORT_A,
-    REPORT_OF_TWO, STREAM_HEADER, TWO_SESSIONS,
+    ANSWERS_ON_TWO, B_WITHOUT_SECOND_EVENT, BUNDLE_A, BUNDLE_B, CUT, LATER_HEADER, NOT_DUE, PROOF_A,
+    PROOF_OF_TWO, REPORT_A, REPORT_OF_TWO, STREAM_HEADER, TWO_SESSIONS,
 };
 use aud_app::{Status, Watched, options, run};
 use std::alloc::{AllocError, Global};
@@ -182,5 +182,39 @@ fn a_line_of_4194304_bytes_is_read(rt: HostRuntime) -> Result<(), Fail> {
         let is_so = gives(&rt, rt.alloc(), &["audit"], &input, output, status)?;
         assert!(rt; is_so, "{length}: {output}");
     }
+    Ok(())
+}
+
+/// `TWO_SESSIONS` with 3,000 further sessions of its node, which join nothing and which no client names.
+fn with_idle_sessions(alloc: Global) -> Result<String, AllocError> {
+    let mut text = String::from_str(alloc, TWO_SESSIONS)?;
+    for n in 0..3000u32 {
+        writeln!(&mut text, "a {{\"k\":\"open\",\"pid\":\"X{n}\",\"sid\":\"x{n}\",\"nsp\":\"/\"}}")?;
+    }
+    Ok(text)
+}
+
+#[test]
+fn idle_sessions_have_no_certificates(rt: HostRuntime) -> Result<(), Fail> {
+    let bundle = with_idle_sessions(rt.alloc())?;
+    let are_two = gives(
+        &rt,
+        rt.alloc(),
+        &["prove"],
+        bundle.as_bytes(),
+        PROOF_OF_TWO,
+        Status::SomeNo,
+    )?;
+    assert!(rt; are_two);
+    let input = with_certificates(rt.alloc(), bundle.as_str(), PROOF_OF_TWO)?;
+    let are_ok = gives(
+        &rt,
+        rt.alloc(),
+        &["verify"],
+        &input,
+        ANSWERS_ON_TWO,
+        Status::AllYes,
+    )?;
+    assert!(rt; are_ok);
     Ok(())
 }
