@@ -11,9 +11,9 @@ returns-in-Known c =
     let stay = c.args.self.now in
     on_ok_weaker c.keep.result
     (λ kept.
-        kept ∙ ap (λ frame. record stay { frames = stay.frames ++ cons_option frame [] }) c.known_frame.ensures
-        ∙ known_grown c.in-Known.known.event.now c.in-Known.known.sent_alone c.args.stream.now stay
-        ∙ ap (λ p. grown c.args.stream.now stay (packet_seen p)) (sym c.in-Known.is))
+    kept ∙ ap (λ frame. record stay { frames = stay.frames ++ cons_option frame [] }) c.known_frame.ensures
+    ∙ known_grown c.in-Known.known.event.now c.in-Known.known.sent_alone c.args.stream.now stay
+    ∙ ap (λ p. grown c.args.stream.now stay (packet_seen p)) (sym c.in-Known.is))
     c.keep.ensures
 
 pub returns-in-FromClient : goal.returns-in-FromClient
