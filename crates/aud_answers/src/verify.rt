@@ -49,11 +49,7 @@ fn answer_to(alloc: Global, recording: &Recording<'_>, text: &[u8]) -> Result<An
 }
 
 /// The answer on the certificate that stands on this line, by its number.
-fn answered(
-    alloc: Global,
-    recording: &Recording<'_>,
-    line: &Line,
-) -> Result<Answered, AllocError>
+fn answered(alloc: Global, recording: &Recording<'_>, line: &Line) -> Result<Answered, AllocError>
     ensures { IfOk result (IsAnswered recording.now line.now) }
 {
     let answer = answer_to(alloc, recording, line.bytes.as_slice())?;

@@ -1,5 +1,5 @@
 -- The certificates of sessions, by what was made for each.
-use Rattle.std.proofs.Common.{◌≡◌, List, Option, None, Result, Ok, Err, sym, subst}
+use Rattle.std.proofs.Common.{List, Option, Result, Ok, Err, sym, subst}
 use Rattle.std.specs.List.{All}
 use Rattle.aud_node.specs.Stream.{Text}
 use Rattle.aud_node.specs.Cluster.{Cluster}

@@ -26,12 +26,7 @@ pub fn try_map<
     T: Sync,
     U: Send + Drop,
     F: Fn(&T) -> Result<U, AllocError> + Copy + Send + Sync,
->(
-    rt: &H,
-    alloc: Global,
-    items: &[T],
-    f: F,
-) -> Result<Vec<U>, AllocError>
+>(rt: &H, alloc: Global, items: &[T], f: F) -> Result<Vec<U>, AllocError>
     requires { All (TakesAt F.Fn f) items.now }
     ensures { IfOk result (λ all. AllZip (λ x y. FnReturnsAt F.Fn f x (Ok y)) items.now all.items) }
 {

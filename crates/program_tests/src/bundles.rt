@@ -39,12 +39,14 @@ pub const REPORT_OF_TWO: &str =
     "yes P got=0 tail=0 turns=1\nyes Q got=1 tail=0 turns=1\nsessions=2 yes=2 no=0\n";
 
 /// The certificates of `TWO_SESSIONS`, where the node's log goes on for 3,000 records.
-pub const PROOF_OF_TWO: &str = r#"{"client":"c1","pid":"P","spans":[["s1",1,1]],"turns":[["a",1,3004,0,1]]}
+pub const PROOF_OF_TWO: &str =
+    r#"{"client":"c1","pid":"P","spans":[["s1",1,1]],"turns":[["a",1,3004,0,1]]}
 {"client":"c2","pid":"Q","spans":[["s2",1,1]],"turns":[["a",2,3004,0,1]]}
 "#;
 
 /// The answers on them, which stand after 3,014 lines.
-pub const ANSWERS_ON_TWO: &str = "ok 3015 P got=0 tail=0 turns=1\nok 3016 Q got=1 tail=0 turns=1\ncerts=2 ok=2 bad=0\n";
+pub const ANSWERS_ON_TWO: &str =
+    "ok 3015 P got=0 tail=0 turns=1\nok 3016 Q got=1 tail=0 turns=1\ncerts=2 ok=2 bad=0\n";
 
 /// Lines 1 to 6 of `BUNDLE_A`, and a seventh that is cut.
 pub const CUT: &str = r#"st {"k":"tap","v":1,"of":"stream"}

@@ -1,7 +1,7 @@
 //! Runs over memory: what a word of the command line makes of a bundle, and of certificates after it.
 use crate::bundles::{
-    ANSWERS_ON_TWO, B_WITHOUT_SECOND_EVENT, BUNDLE_A, BUNDLE_B, CUT, LATER_HEADER, NOT_DUE, PROOF_A,
-    PROOF_OF_TWO, REPORT_A, REPORT_OF_TWO, STREAM_HEADER, TWO_SESSIONS,
+    ANSWERS_ON_TWO, B_WITHOUT_SECOND_EVENT, BUNDLE_A, BUNDLE_B, CUT, LATER_HEADER, NOT_DUE,
+    PROOF_A, PROOF_OF_TWO, REPORT_A, REPORT_OF_TWO, STREAM_HEADER, TWO_SESSIONS,
 };
 use aud_app::{Status, Watched, options, run};
 use std::alloc::{AllocError, Global};
@@ -189,7 +189,10 @@ fn a_line_of_4194304_bytes_is_read(rt: HostRuntime) -> Result<(), Fail> {
 fn with_idle_sessions(alloc: Global) -> Result<String, AllocError> {
     let mut text = String::from_str(alloc, TWO_SESSIONS)?;
     for n in 0..3000u32 {
-        writeln!(&mut text, "a {{\"k\":\"open\",\"pid\":\"X{n}\",\"sid\":\"x{n}\",\"nsp\":\"/\"}}")?;
+        writeln!(
+            &mut text,
+            "a {{\"k\":\"open\",\"pid\":\"X{n}\",\"sid\":\"x{n}\",\"nsp\":\"/\"}}"
+        )?;
     }
     Ok(text)
 }
