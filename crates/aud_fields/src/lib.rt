@@ -15,7 +15,7 @@
 //! assert!(rt; fields.get("k").and_then(Field::as_str) == Some("leave"));
 //! assert!(rt; fields.get("turn").and_then(Field::as_u64) == Some(3));
 //! let rooms = fields.get("rooms").and_then(Field::as_list).ok_or("no rooms")?;
-//! assert!(rt; rooms.as_slice() == &[Some("r"), None]);
+//! assert!(rt; matches!(rooms.as_slice(), [Some("r"), None]));
 //! assert!(rt; fields.get("pid").is_none());
 //! ```
 #![tactic(auto)]
