@@ -23,6 +23,7 @@ mod audit;
 mod certificates;
 mod output;
 mod program;
+mod reading;
 
 pub use aud_options::{Mode, Options, options};
 pub use aud_report::Status;

@@ -1,13 +1,13 @@
 //! What is written for an input.
 ghost use Rattle.std.specs.Prelude.{◌≡◌, ◌<◌, ◌≤◌, ◌⊎◌, IfOk, OnErr, Ok, Err};
 ghost use Rattle.aud_node.specs.Names.{AreNamedOnce};
-ghost use Rattle.aud_app.specs.Output.{IsProving, IsVerification, IsOutputOn, IsOutputOver, IsOutput, layout_of};
+ghost use Rattle.aud_app.specs.Output.{IsProving, IsVerification, IsOutputOn, IsOutputOver, layout_of};
 
 use crate::audit::audited;
 use crate::certificates::prove;
 use aud_answers::{answers, verification_on};
 use aud_client::Recording;
-use aud_input::{Input, Layout, read_input};
+use aud_input::{Input, Layout};
 use aud_options::{Mode, Options};
 use aud_reader::{Line, ReadFault};
 use aud_report::{Output, proving_on, refusal};
@@ -43,7 +43,7 @@ fn verified<H: Threads + Sync>(
 }
 
 /// What the lines of a mode's input are.
-fn layout_of(mode: Mode) -> Layout
+pub fn layout_of(mode: Mode) -> Layout
     ensures { result ≡ layout_of mode }
 {
     match mode {
@@ -87,18 +87,19 @@ fn output_over<H: Threads + Wait + Clock + Sync>(
     output_on(rt, alloc, options, &recording, &input.certificates)
 }
 
-/// What is written for these bytes; nothing but these bytes is looked at. They are let go before the logs are made.
+/// What is written for what was read: for the taps and the certificates, or for the first refused line.
 pub fn output_of<H: Threads + Wait + Clock + Sync>(
     rt: &H,
     alloc: Global,
     options: Options,
-    bytes: Vec<u8>,
+    read: Result<Input, ReadFault>,
 ) -> Result<Output, RunFault>
-    requires { (0 < options.workers) × (options.workers ≤ 64) }
-    ensures output { IfOk result (λ o. IsOutput options.mode bytes.items o) }
+    requires names { IfOk read (λ input. AreNamedOnce input.taps) }
+    requires workers { (0 < options.workers) × (options.workers ≤ 64) }
+    ensures output { IfOk result (λ o. IsOutputOver options.mode read o) }
     ensures err { OnErr result ((result ≡ Err RunFault.Memory) ⊎ (result ≡ Err RunFault.Spawn)) }
 {
-    match read_input(alloc, layout_of(options.mode), bytes) {
+    match read {
         Ok(input) => output_over(rt, alloc, options, &input),
         Err(ReadFault::Input(line, code)) => Ok(refusal(alloc, line, code)?),
         Err(ReadFault::Memory) => Err(RunFault::Memory),

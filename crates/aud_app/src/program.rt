@@ -4,19 +4,22 @@ ghost use Rattle.aud_streams.specs.Watched.{inner_of, calls_of, has_failed};
 ghost use Rattle.aud_app.specs.Headline.{ReportHoldsOf};
 ghost use Rattle.aud_app.specs.Output.{IsOutputOf, Writes, WritesFront};
 
-use crate::output::output_of;
+use crate::output::{layout_of, output_of};
+use crate::reading::read_input;
 use aud_options::{Mode, Options};
 use aud_report::{Output, Status};
-use aud_streams::{READ_LIMIT, RunFault, Watched, read_all, write_out};
+use aud_streams::{READ_LIMIT, RunFault, Watched, write_out};
 use std::alloc::Global;
 use std::io::{Read, Write};
 use std::sync::Wait;
 use std::thread::Threads;
 use std::time::Clock;
 
-/// Reads the input to its end, decides, and only then writes. An audit starts so many workers, each in a thread of its
-/// own; the other modes share certificates out among as many threads as `aud_parallel::try_map` starts. How many they
-/// are changes nothing in what is written.
+/// Reads the input to its end, decides, and only then writes. The input is read in pieces of at most 65,536 bytes, and
+/// each line is let go once it was read, but for certificates; it is read to its end where a line is refused too. An
+/// audit starts so many workers, each in a thread of its own; the other modes share certificates out among as many
+/// threads as `aud_parallel::try_map` starts. How many they are changes nothing in what is written.
+#[tactic(auto, using(crate::proofs::Pieces::output_read))]
 pub fn run<H: Threads + Wait + Clock + Sync, R: Read, W: Write>(
     rt: &H,
     alloc: Global,
@@ -42,8 +45,8 @@ pub fn run<H: Threads + Wait + Clock + Sync, R: Read, W: Write>(
     ensures read { result ≡ Err RunFault.Read → (has_failed input.new ≡ true) ⊎ (READ_LIMIT ≤ calls_of input.new) }
     ensures write { result ≡ Err RunFault.Write → has_failed output.new ≡ true }
 {
-    let bytes = read_all(alloc, input)?;
-    let Output { status, text } = output_of(rt, alloc, options, bytes)?;
+    let read = read_input(alloc, layout_of(options.mode), input)?;
+    let Output { status, text } = output_of(rt, alloc, options, read)?;
     write_out(output, text.as_bytes())?;
     Ok(status)
 }

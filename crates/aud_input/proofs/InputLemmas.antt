@@ -1,26 +1,25 @@
--- The lines of a whole input, and what one more of them brings.
-use Rattle.std.proofs.Common.{◌≡◌, ℕ, List, [], ◌++◌, Option, Some, None, Err, refl, sym, ap, ◌∙◌, append-nil}
+-- What the end of an input brings to its reader.
+use Rattle.std.proofs.Common.{◌≡◌, List, [], ◌++◌, None, Err, sym, ap, ◌∙◌, append-nil}
 use Rattle.aud_reader.specs.declared.line.Line.{Line}
 use Rattle.aud_reader.specs.declared.fault.ReadFault.{ReadFault}
-use Rattle.aud_reader.specs.Lines.{Split, lines_of, lines_to_come, result_of}
+use Rattle.aud_reader.specs.Lines.{lines_to_come}
+use Rattle.aud_reader.specs.Bundle.{unless_refused}
+use Rattle.aud_input.specs.Reader.{PartsSoFar, InputSoFar, parts_to_come, input_over, input_to_come}
 
--- a splitter that was fed the whole input still gives its lines
-pub lines_fed : (s t : Split) (bytes : List ℕ) → ((text : List ℕ) → lines_to_come s text ≡ lines_of text)
-    → ((more : List ℕ) → lines_to_come t more ≡ lines_to_come s (bytes ++ more)) → lines_to_come t [] ≡ lines_of bytes
-lines_fed s t bytes begins law = law [] ∙ begins (bytes ++ []) ∙ ap lines_of (append-nil bytes)
+-- the last lines are what is still to come
+last-lines : (s : InputSoFar) (ls : List Line) → s.fault ≡ None → lines_to_come s.cut [] ≡ record { lines = ls; fault = None }
+    → input_to_come s [] ≡ parts_to_come s.parts (ls ++ [])
+last-lines s ls none last =
+    ap (λ fault. unless_refused fault (input_over s.parts (lines_to_come s.cut []))) none
+    ∙ ap (input_over s.parts) last
+    ∙ ap (parts_to_come s.parts) (sym (append-nil ls))
 
--- after a refusal these are the lines that weren't handed out
-pub lines_refused : (t : Split) (fault : ReadFault) → t.fault ≡ Some fault → lines_to_come t [] ≡ record { lines = t.waiting; fault = Some fault }
-lines_refused t fault e = rw (e, append-nil) refl
+-- they were read
+pub last-read : (s : InputSoFar) (new : PartsSoFar) (ls : List Line) → s.fault ≡ None → lines_to_come s.cut [] ≡ record { lines = ls; fault = None }
+    → ((more : List Line) → parts_to_come new more ≡ parts_to_come s.parts (ls ++ more)) → input_to_come s [] ≡ parts_to_come new []
+last-read s new ls none last read = last-lines s ls none last ∙ sym (read [])
 
--- the refusal that a splitter's answer tells
-pub fault_of : (kept : Option ReadFault) (fault : ReadFault) → Err fault ≡ result_of kept → kept ≡ Some fault
-fault_of None fault e = cc
-fault_of (Some kept) fault e = cc
-
--- the lines of an input whose splitter refuses one
-pub lines_cut : (s t : Split) (bytes : List ℕ) (fault : ReadFault) (lines : List Line) → ((text : List ℕ) → lines_to_come s text ≡ lines_of text)
-    → ((more : List ℕ) → lines_to_come t more ≡ lines_to_come s (bytes ++ more)) → Err fault ≡ result_of t.fault → lines ≡ t.waiting
-    → record { lines = lines; fault = Some fault } ≡ lines_of bytes
-lines_cut s t bytes fault lines begins law refused taken =
-    rw taken (sym (lines_refused t fault (fault_of t.fault fault refused)) ∙ lines_fed s t bytes begins law)
+-- one of them was refused
+pub last-refused : (s : InputSoFar) (ls : List Line) (fault : ReadFault) → s.fault ≡ None → lines_to_come s.cut [] ≡ record { lines = ls; fault = None }
+    → ((more : List Line) → parts_to_come s.parts (ls ++ more) ≡ Err fault) → input_to_come s [] ≡ Err fault
+last-refused s ls fault none last refused = last-lines s ls none last ∙ refused []

@@ -1,15 +1,22 @@
 //! The input of a mode: the taps of its bundle, and the certificates where it has some.
 //!
 //! ```
-//! use aud_input::{Layout, read_input};
+//! use aud_input::{InputReader, Layout};
 //!
-//! let bytes = Vec::from_slice(alloc, b"c1 {\"k\":\"tap\",\"v\":1,\"of\":\"client\"}\n{}\n")?;
-//! let input = read_input(alloc, Layout::BundleAndCertificates, bytes)?;
+//! let mut reader = InputReader::new(alloc, Layout::BundleAndCertificates);
+//! reader.feed(b"c1 {\"k\":\"tap\",\"v\":1,\"of\":\"cli")?;
+//! reader.feed(b"ent\"}\n{}\n")?;
+//! let input = reader.finish()?;
 //! assert_eq!(rt; input.taps.as_slice().len(), 1);
 //! assert_eq!(rt; input.certificates.len(), 1);
 //! ```
 #![tactic(auto)]
 
 mod input;
+mod law;
+mod parts;
+mod reader;
 
-pub use input::{Input, Layout, read_input};
+pub use input::{Input, Layout};
+pub use law::input_in_any_pieces;
+pub use reader::InputReader;

@@ -22,8 +22,8 @@ pub fn lines_in_any_order()
         → AreReadAlike (taps_of lines) (taps_of others) }
 {}
 
-/// The same of the bytes of two inputs: a law of [`read_input`](aud_input::read_input), where all lines are the
-/// bundle's.
+/// The same of the bytes of two inputs: a law of [`InputReader`](aud_input::InputReader), where all lines are
+/// the bundle's.
 pub fn inputs_in_any_order()
     ensures { (bytes others : List ℕ) → AreSameButForOrder (line_texts bytes) (line_texts others)
         → AreReadAlike (input_of Bundle bytes) (input_of Bundle others) }

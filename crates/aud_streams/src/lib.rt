@@ -1,15 +1,17 @@
-//! The streams of a run: the whole input, the whole output, and which of the two failed.
+//! The streams of a run: readers and writers whose calls are counted, the whole output, and which of the two failed.
 //!
-//! [`Watched`] counts the calls of a reader or a writer and keeps whether one failed; [`read_all`] and [`write_out`] go
-//! through it, and try nothing again.
+//! [`Watched`] counts the calls of a reader or a writer and keeps whether one failed; [`write_out`] goes through it, and
+//! tries nothing again. [`READ_LIMIT`] says how often the input may be read.
 //!
 //! ```
-//! use aud_streams::{Watched, read_all, write_out};
+//! use aud_streams::{Watched, write_out};
 //!
 //! let mut input = Watched::new(&b"sessions=0"[..]);
-//! let bytes = read_all(alloc, &mut input)?;
+//! let mut piece = [0u8; 16];
+//! let n = input.read(&mut piece)?;
+//! assert_eq!(rt; input.calls(), 1);
 //! let mut output = Watched::new(Vec::new(alloc));
-//! write_out(&mut output, &bytes)?;
+//! write_out(&mut output, &piece[..n])?;
 //! assert_eq!(rt; output.into_inner().as_slice(), b"sessions=0");
 //! ```
 #![tactic(auto)]
@@ -19,5 +21,5 @@ mod streams;
 mod watched;
 
 pub use fault::RunFault;
-pub use streams::{READ_LIMIT, read_all, write_out};
+pub use streams::{READ_LIMIT, write_out};
 pub use watched::Watched;

@@ -1,5 +1,5 @@
 //! Certificates among the lines of a bundle.
-use aud_input::{Layout, read_input};
+use aud_input::{InputReader, Layout};
 use aud_reader::{InputCode, ReadFault};
 use std::alloc::Global;
 
@@ -9,8 +9,9 @@ static INPUT: &str =
 
 /// How many taps the input has, and the number of the line of its first certificate.
 fn read(alloc: Global, layout: Layout) -> Result<(usize, Option<u64>), ReadFault> {
-    let bytes = INPUT.as_bytes().to_vec(alloc)?;
-    let input = read_input(alloc, layout, bytes)?;
+    let mut reader = InputReader::new(alloc, layout);
+    reader.feed(INPUT.as_bytes())?;
+    let input = reader.finish()?;
     let first = input.certificates.first().map(|line| line.number);
     Ok((input.taps.as_slice().len(), first))
 }

@@ -33,7 +33,7 @@ fn audited<H: Threads + Wait + Clock + Sync>(
     writes: u64,
     most: usize,
 ) -> Seen {
-    let mut input = Watched::new(TestReader::new(BUNDLE_A.as_bytes(), reads));
+    let mut input = Watched::new(TestReader::new(BUNDLE_A.as_bytes(), reads, 1));
     let mut output = Watched::new(TestWriter::new(alloc, writes, most));
     let outcome = run(rt, alloc, &mut input, &mut output, AUDIT);
     let (write_failed, writes) = (output.failed(), output.calls());
@@ -104,6 +104,17 @@ fn reader_fails(rt: HostRuntime) {
             audited(&rt, rt.alloc(), answered, u64::MAX, usize::MAX),
             seen
         );
+    }
+}
+
+/// A read that fails is told before a line that was refused, however many bytes the reader gave a call.
+#[test]
+fn reader_fails_after_a_refused_line(rt: HostRuntime) {
+    for (answered, most) in [(4, 1), (1, 4), (1, 65_536)] {
+        let mut input = Watched::new(TestReader::new(b"{}\n{", answered, most));
+        let mut output = Watched::new(Vec::new(rt.alloc()));
+        let outcome = run(&rt, rt.alloc(), &mut input, &mut output, AUDIT);
+        assert!(rt; outcome == Err(RunFault::Read) && output.calls() == 0);
     }
 }
 

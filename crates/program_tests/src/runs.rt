@@ -3,19 +3,21 @@ use crate::bundles::{
     ANSWERS_ON_TWO, B_WITHOUT_SECOND_EVENT, BUNDLE_A, BUNDLE_B, CUT, LATER_HEADER, NOT_DUE,
     PROOF_A, PROOF_OF_TWO, REPORT_A, REPORT_OF_TWO, STREAM_HEADER, TWO_SESSIONS,
 };
+use crate::streams::TestReader;
 use aud_app::{Status, Watched, options, run};
 use std::alloc::{AllocError, Global};
+use std::io::Read;
 use std::sync::Wait;
 use std::test::Fail;
 use std::thread::Threads;
 use std::time::Clock;
 
 /// Whether the run for these words over an input ends so, and writes this text.
-fn gives<H: Threads + Wait + Clock + Sync>(
+fn gives<H: Threads + Wait + Clock + Sync, R: Read + Drop>(
     rt: &H,
     alloc: Global,
     words: &[&str],
-    input: &[u8],
+    input: R,
     text: &str,
     status: Status,
 ) -> Result<bool, Fail> {
@@ -109,8 +111,21 @@ static OUTPUTS: [(&str, &str, &str, &str, Status); 16] = [
 fn outputs(rt: HostRuntime) -> Result<(), Fail> {
     for &(word, bundle, certificates, text, status) in &OUTPUTS {
         let input = with_certificates(rt.alloc(), bundle, certificates)?;
-        let is_so = gives(&rt, rt.alloc(), &[word], &input, text, status)?;
+        let is_so = gives(&rt, rt.alloc(), &[word], input.as_slice(), text, status)?;
         assert!(rt; is_so, "{word}: {text}");
+    }
+    Ok(())
+}
+
+#[test]
+fn any_pieces_give_the_same(rt: HostRuntime) -> Result<(), Fail> {
+    for &(word, bundle, certificates, text, status) in &OUTPUTS {
+        let input = with_certificates(rt.alloc(), bundle, certificates)?;
+        for most in [1, 7, 65_536] {
+            let reader = TestReader::new(&input, u64::MAX, most);
+            let is_so = gives(&rt, rt.alloc(), &[word], reader, text, status)?;
+            assert!(rt; is_so, "{word}, {most} bytes a call: {text}");
+        }
     }
     Ok(())
 }
@@ -179,7 +194,7 @@ static LONG_LINES: [(&str, &str, usize, &str, Status); 4] = [
 fn a_line_of_4194304_bytes_is_read(rt: HostRuntime) -> Result<(), Fail> {
     for &(text, line, length, output, status) in &LONG_LINES {
         let input = with_padded(rt.alloc(), text, line, length)?;
-        let is_so = gives(&rt, rt.alloc(), &["audit"], &input, output, status)?;
+        let is_so = gives(&rt, rt.alloc(), &["audit"], input.as_slice(), output, status)?;
         assert!(rt; is_so, "{length}: {output}");
     }
     Ok(())

@@ -1,21 +1,23 @@
-//! A reader and a writer over memory that fail at a given call, and take few bytes a call or none.
+//! A reader and a writer over memory that fail at a given call, and give or take few bytes a call or none.
 ghost use Rattle.std.specs.Prelude.{Some, None};
 
 use std::alloc::Global;
 use std::io::{self, ErrorKind, Read, Write};
 
-/// Reads a byte a call from memory, and fails once a number of calls were answered.
+/// Reads at most some bytes a call from memory, and fails once a number of calls were answered.
 #[derive(Drop)]
 pub struct TestReader<'a> {
     bytes: &'a [u8],
     calls_left: u64,
+    most: usize,
 }
 
 impl<'a> TestReader<'a> {
-    pub fn new(bytes: &'a [u8], calls: u64) -> TestReader<'a> {
+    pub fn new(bytes: &'a [u8], calls: u64, most: usize) -> TestReader<'a> {
         TestReader {
             bytes,
             calls_left: calls,
+            most,
         }
     }
 }
@@ -28,12 +30,8 @@ impl Read for TestReader<'_> {
             return Err(io::Error::from(ErrorKind::Interrupted));
         }
         self.calls_left -= 1;
-        if buf.is_empty() || self.bytes.is_empty() {
-            return Ok(0);
-        }
-        buf[0] = self.bytes[0];
-        self.bytes = &self.bytes[1..];
-        Ok(1)
+        let given = buf.len().min(self.most);
+        self.bytes.read(&mut buf[..given])
     }
 }
 

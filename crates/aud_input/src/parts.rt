@@ -1,0 +1,102 @@
+//! The taps and the certificates of lines that come one after another.
+ghost use Rattle.std.specs.Prelude.{◌≡◌, ◌≢◌, ◌++◌, ◌∷◌, [], List, None, Ok, Err, IfOk, IfErr, OnOk};
+ghost use Rattle.aud_reader.specs.declared.line.Line.{Line};
+ghost use Rattle.aud_tap.specs.Names.{AreNamedOnce};
+ghost use Rattle.aud_input.specs.Input.{opens_object, is_certificate, parts_of};
+ghost use Rattle.aud_input.specs.Reader.{parts_to_come};
+
+use crate::input::{Input, Layout};
+use aud_reader::{BundleReader, Line, ReadFault};
+use std::alloc::Global;
+use std::marker::Model;
+
+/// Reads lines until one is refused: keeps the certificates, and of the others what the reader of the bundle keeps.
+#[derive(Drop)]
+pub struct PartsReader {
+    layout: Layout,
+    taps: BundleReader,
+    certificates: Vec<Line>,
+}
+
+impl Model for PartsReader {
+    ghost use Rattle.aud_input.specs.Reader.{PartsSoFar};
+
+    ghost Value = { PartsSoFar };
+
+    ghost view = { λ s. record { layout = s.layout; taps = s.taps; certificates = s.certificates.items } };
+}
+
+/// Whether a line begins with `{`.
+fn opens_object(line: &[u8]) -> bool
+    ensures { result ≡ opens_object line.now }
+{
+    !line.is_empty() && line[0] == b'{'
+}
+
+/// Whether a line is a certificate.
+fn is_certificate(layout: Layout, line: &Line) -> bool
+    ensures { result ≡ is_certificate layout line.now }
+{
+    match layout {
+        Layout::Bundle => false,
+        Layout::BundleAndCertificates => opens_object(line.bytes.as_slice()),
+    }
+}
+
+impl PartsReader {
+    /// A reader before the first line.
+    pub fn new(alloc: Global, layout: Layout) -> PartsReader
+        ensures going { result.taps.fault ≡ None }
+        ensures parts { (lines : List Line) → parts_to_come result lines ≡ parts_of layout lines }
+    {
+        PartsReader {
+            layout,
+            taps: BundleReader::new(alloc),
+            certificates: Vec::new(alloc),
+        }
+    }
+
+    /// Reads the next line.
+    fn read_line(&mut self, line: Line) -> Result<(), ReadFault>
+        requires going { self.old.taps.fault ≡ None }
+        ensures going { OnOk result (self.new.taps.fault ≡ None) }
+        ensures parts { OnOk result ((more : List Line) → parts_to_come self.new more ≡ parts_to_come self.old (line ∷ more)) }
+        ensures refused { IfErr result (λ e. e ≢ ReadFault.Memory → (more : List Line) → parts_to_come self.old (line ∷ more) ≡ Err e) }
+    {
+        if is_certificate(self.layout, &line) {
+            self.certificates.push(line)?;
+            Ok(())
+        } else {
+            self.taps.line(&line)
+        }
+    }
+
+    /// Reads the next lines, up to the first that is refused.
+    pub fn read_lines(&mut self, lines: Vec<Line>) -> Result<(), ReadFault>
+        requires going { self.old.taps.fault ≡ None }
+        ensures going { OnOk result (self.new.taps.fault ≡ None) }
+        ensures parts { OnOk result ((more : List Line) → parts_to_come self.new more ≡ parts_to_come self.old (lines.items ++ more)) }
+        ensures refused { IfErr result (λ e. e ≢ ReadFault.Memory → (more : List Line) → parts_to_come self.old (lines.items ++ more) ≡ Err e) }
+    {
+        for line in lines {
+            self.read_line(line)?;
+        }
+        Ok(())
+    }
+
+    /// The taps and the certificates of the lines. No two taps have one name.
+    pub fn finish(self) -> Result<Input, ReadFault>
+        requires going { self.taps.fault ≡ None }
+        ensures read { IfOk result (λ input. parts_to_come self [] ≡ Ok input) }
+        ensures names { IfOk result (λ input. AreNamedOnce input.taps) }
+        ensures err { IfErr result (λ e. e ≡ ReadFault.Memory) }
+    {
+        let PartsReader {
+            layout: _,
+            taps,
+            certificates,
+        } = self;
+        let taps = taps.finish()?;
+        Ok(Input { taps, certificates })
+    }
+}
