@@ -120,10 +120,6 @@ module _ (stream : List StreamRec) (pid n : Text) where
 
   -- ---- the packet in front of those after
 
-  -- what the stay that stands open gives
-  abbrev from_open : List TapPacket → List TapPacket → List FrameSeen
-  from_open stay l = if_named (stay_names pid (whole_stay stay l)) (rest_of stay l)
-
   -- a packet of another namespace gives nothing
   goes-other : (before : List TapPacket) (q : TapPacket) (r : List TapPacket) → bytes_eq (namespace q) n ≡ false
       → stay_names pid (stay_at before q r) ≡ false → Goes (before ++ q ∷ []) r → Goes before (q ∷ r)

@@ -13,9 +13,6 @@ use Rattle.aud_client.specs.Private.ConnectionRead.{AreBefore, HasRead, ReadsRec
 use Rattle.aud_client.specs.declared.connection.Reader.{Reader}
 
 -- numbers of other records
-differ : (a b : ℕ) → a < b → nat_eq a b ≡ false
-differ a b h = ne_eqb a b (λ (e : a ≡ b). omega arith)
-
 differ_up : (a b : ℕ) → a < b → nat_eq b a ≡ false
 differ_up a b h = ne_eqb b a (λ (e : b ≡ a). omega arith)
 

@@ -21,18 +21,6 @@ use Rattle.aud_client.proofs.Telling.{no_reply_at, reply_of-one, replied, unrepl
 abbrev pub stay_names : Text → List TapPacket → Bool
 stay_names pid stay = reply_names pid (reply_of stay)
 
--- how tests join
-or_assoc : (a b d : Bool) → (a || (b || d)) ≡ ((a || b) || d)
-or_assoc true b d = refl
-or_assoc false b d = refl
-
-or_swap : (a b d : Bool) → ((a || b) || d) ≡ ((a || d) || b)
-or_swap true b d = refl
-or_swap false true true = refl
-or_swap false true false = refl
-or_swap false false true = refl
-or_swap false false false = refl
-
 -- ---- one packet more
 
 -- a packet names the session where its reply does
