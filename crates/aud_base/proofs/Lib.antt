@@ -1,6 +1,7 @@
 pub mod SameText
 pub mod Truth
 pub mod Numbers
+pub mod Options
 pub mod Lists
 pub mod StepLemmas
 pub mod NotedPlaces

@@ -5,11 +5,7 @@ use Rattle.std.proofs.lemmas.Bool.{le-leb, lt-leb}
 use Rattle.std.proofs.lemmas.List.Elements.{filter-append}
 use Rattle.aud_base.specs.Lists.{numbers_from}
 
--- a lesser number passes the test (`le-leb` and `lt-leb` of std are the same for `nat_le`)
-pub lt_true : (a b : ℕ) → a < b → nat_lt a b ≡ true
-lt_true a b h = le-leb (suc a) b (omega arith)
-
--- and one that isn't less fails it
+-- a number that is not less than another fails the test
 pub lt_false : (a b : ℕ) → b ≤ a → nat_lt a b ≡ false
 lt_false a b h = lt-leb (suc a) b (omega arith)
 

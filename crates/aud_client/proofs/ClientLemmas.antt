@@ -1,5 +1,6 @@
 -- The connections of a tap, record after record.
 use Rattle.std.proofs.Common.{◌≡◌, ◌+◌, ℕ, suc, List, [], ◌∷◌, ◌++◌, map, flat_map, refl, sym, ap, ◌∙◌, Option, Some, None, append-nil, append_assoc, drop, length, ◌≤◌, arith}
+use Rattle.aud_base.proofs.Options.{or_none}
 use Rattle.aud_tap.specs.declared.records.ClientRec.{ClientRec}
 use Rattle.aud_tap.specs.declared.records.ClientRec.TheVariants.{Conn, TextIn, BytesIn, Poll, TextOut, Lost}
 use Rattle.aud_sio.specs.Wholes.{wholes_of}
@@ -11,7 +12,6 @@ use Rattle.std.specs.Option.{option_or}
 use Rattle.std.proofs.lemmas.List.{map-append, drop_all}
 use Rattle.std.proofs.lemmas.Grind.{flat_map-append}
 use Rattle.aud_client.specs.declared.connection.Reader.{Reader}
-use Rattle.aud_client.proofs.Telling.{or_none}
 
 -- what stands before the next end
 pub until_end-numbered : (n : ℕ) (recs : List ClientRec) → until_end (numbered_records n recs) ≡ numbered_records n (inside recs)

@@ -41,11 +41,6 @@ pub rooms_for-step : (stream : List StreamRec) (pid : Text) (held : Rooms) (low 
     ≡ rooms_for stream pid (rooms_after pid held rec) (record { low = next; high = high; recs = recs } ∷ later) p
 rooms_for-step stream pid held low next high rec recs later p before reaches = grind (arith, taken-rooms stream pid p held rec)
 
--- a slice whose records are all passed gives no rooms
-pub rooms_for-after : (stream : List StreamRec) (pid : Text) (held : Rooms) (low high : ℕ) (later : List Slice) (p : ℕ)
-    → nat_le p high ≡ false → rooms_for stream pid held (record { low = low; high = high; recs = [] } ∷ later) p ≡ rooms_for stream pid held later p
-rooms_for-after stream pid held low high later p e = ap (λ b. cond b (Some (cond (nat_le p low) held held)) (rooms_for stream pid held later p)) e
-
 -- a slice whose low reaches the position gives its first rooms
 pub rooms_for-at_low : (stream : List StreamRec) (pid : Text) (held : Rooms) (slice : Slice) (later : List Slice) (p : ℕ)
     → nat_le p slice.low ≡ true → slice.low ≤ slice.high → rooms_for stream pid held (slice ∷ later) p ≡ Some held

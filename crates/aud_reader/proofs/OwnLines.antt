@@ -8,6 +8,7 @@ use Rattle.std.proofs.lemmas.Map.Made.{IsDistinct-from_AllPairs}
 use Rattle.aud_reader.specs.Record.{line_record, opened_line}
 use Rattle.std.proofs.lemmas.List.Folds.{find-append}
 use Rattle.std.proofs.lemmas.Slice.Eq.{bytes_eq-Decides}
+use Rattle.aud_base.proofs.Options.{or_none}
 use Rattle.aud_base.proofs.SameText.{same_text, itself_text}
 use Rattle.aud_reader.specs.declared.line.Line.{Line}
 use Rattle.aud_tap.specs.declared.records.TapKind.{TapKind}
@@ -42,10 +43,6 @@ kind-new : (of : TapKind) (name : List ℕ) → recs_of (record { name = name; r
 kind-new kind.Stream name = refl
 kind-new kind.Node name = refl
 kind-new kind.Client name = refl
-
-or_none : {A : Type 0} (o : Option A) → option_or o None ≡ o
-or_none None = refl
-or_none (Some x) = refl
 
 -- the line's record, where the line is read
 record-read : (name line n : List ℕ) (r : Rec) → line_record line ≡ Ok (n, r) → (number : ℕ) → record_for name (record { number = number; bytes = line }) ≡ cond (is_text name n) (Some r) None

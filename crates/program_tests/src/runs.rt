@@ -194,7 +194,14 @@ static LONG_LINES: [(&str, &str, usize, &str, Status); 4] = [
 fn a_line_of_4194304_bytes_is_read(rt: HostRuntime) -> Result<(), Fail> {
     for &(text, line, length, output, status) in &LONG_LINES {
         let input = with_padded(rt.alloc(), text, line, length)?;
-        let is_so = gives(&rt, rt.alloc(), &["audit"], input.as_slice(), output, status)?;
+        let is_so = gives(
+            &rt,
+            rt.alloc(),
+            &["audit"],
+            input.as_slice(),
+            output,
+            status,
+        )?;
         assert!(rt; is_so, "{length}: {output}");
     }
     Ok(())
@@ -229,7 +236,7 @@ fn idle_sessions_have_no_certificates(rt: HostRuntime) -> Result<(), Fail> {
         &rt,
         rt.alloc(),
         &["verify"],
-        &input,
+        input.as_slice(),
         ANSWERS_ON_TWO,
         Status::AllYes,
     )?;
