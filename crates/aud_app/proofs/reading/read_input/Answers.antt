@@ -40,5 +40,5 @@ pieces-preserved g c =
       room = c.pieces.invariant.room;
       number = omega (arith, c.in_ok-feed-in-Ok.ensures.number, length-take-le n c.deref.result.now, within, c.pieces.invariant.room, c.pieces.invariant.number);
       read = more_read _ _ _ _ c.pieces.reader c.feed.new.reader (take n c.read.new.buf) c.pieces.invariant.read c.in-Ok.ensures.bytes.0
-        (λ more. c.in_ok-feed-in-Ok.ensures.input more ∙ ap (λ piece. input_to_come c.pieces.reader (piece ++ more)) given);
+          (λ more. c.in_ok-feed-in-Ok.ensures.input more ∙ ap (λ piece. input_to_come c.pieces.reader (piece ++ more)) given);
     }
