@@ -15,13 +15,13 @@ pub record PieceFed : Type 0 where
   pub reader : InputSoFar
 
 -- what `feed` says of a call and the reader before it
-pub record Feeds (old : InputSoFar) (call : PieceFed) : Type 0 where
+pub record ReadsPiece (old : InputSoFar) (call : PieceFed) : Type 0 where
   pub value : call.answer ≡ result_of call.reader.fault
   pub input : (more : List ℕ) → ¬ (call.answer ≡ Err Memory) → input_to_come call.reader more ≡ input_to_come old (call.piece ++ more)
   pub refused : IfSome old.fault (λ fault. (call.answer ≡ Err fault) × (call.reader ≡ old))
 
 -- what `finish` says of a reader and the answer
-pub record Finishes (last : InputSoFar) (answer : Result InputSeen ReadFault) : Type 0 where
+pub record EndsInput (last : InputSoFar) (answer : Result InputSeen ReadFault) : Type 0 where
   pub read : IfOk answer (λ input. input_to_come last [] ≡ Ok input)
   pub refused : IfErr answer (λ e. ¬ (e ≡ Memory) → input_to_come last [] ≡ Err e)
   pub kept : IfSome last.fault (λ fault. answer ≡ Err fault)
@@ -29,7 +29,7 @@ pub record Finishes (last : InputSoFar) (answer : Result InputSeen ReadFault) : 
 -- each piece is fed to the reader that the one before it left
 abbrev pub PiecesFollow : InputSoFar → List PieceFed → InputSoFar → Type 0
 PiecesFollow old [] last = last ≡ old
-PiecesFollow old (call ∷ calls) last = Feeds old call × PiecesFollow call.reader calls last
+PiecesFollow old (call ∷ calls) last = ReadsPiece old call × PiecesFollow call.reader calls last
 
 -- the pieces, joined
 abbrev pub bytes_of : List PieceFed → List ℕ
@@ -39,5 +39,5 @@ bytes_of calls = flat_map (λ call. call.piece) calls
 -- ran out
 abbrev pub PiecesAreReadAsOne : Type 0
 PiecesAreReadAsOne = (layout : Layout) (first last : InputSoFar) (calls : List PieceFed) (answer : Result InputSeen ReadFault)
-    → ((bytes : List ℕ) → input_to_come first bytes ≡ input_of layout bytes) → PiecesFollow first calls last → Finishes last answer → ¬ (answer ≡ Err Memory)
+    → ((bytes : List ℕ) → input_to_come first bytes ≡ input_of layout bytes) → PiecesFollow first calls last → EndsInput last answer → ¬ (answer ≡ Err Memory)
     → input_of layout (bytes_of calls) ≡ answer
