@@ -1,7 +1,9 @@
 -- Names that stand once.
 use Rattle.std.proofs.Common.{◌≡◌, ℕ, ◌+◌, ◌-◌, ◌<◌, List, [], ◌∷◌, length, get_or, take, drop, map, true, false, refl, ap, sym, ◌∙◌, add-one}
 use Rattle.std.specs.Prelude.{not, ◌&&◌}
-use Rattle.std.specs.List.{list_any}
+use Rattle.std.specs.List.{list_any, list_all}
+use Rattle.std.proofs.lemmas.List.Folds.{list_all-map}
+use Rattle.aud_tap.specs.TapName.{is_tap_name}
 use Rattle.std.specs.Str.{bytes_eq}
 use Rattle.std.specs.Borrow.{Bor}
 use Rattle.std.proofs.Math.Seq.{drop-cons}
@@ -16,6 +18,10 @@ Name = Bor (List ℕ)
 -- there are as many texts as lent texts
 pub text_count : (names : List Name) → length (texts names) ≡ length names
 text_count names = length-map names (λ (n : Name). n.now)
+
+-- lent texts are names of taps where the texts are
+pub tap_names : (names : List Name) → list_all is_tap_name (texts names) ≡ list_all (λ (name : Name). is_tap_name name.now) names
+tap_names names = list_all-map is_tap_name (λ (n : Name). n.now) names
 
 -- whether the names from an index on stand once, by the name there and those after it
 from-index : (names : List Name) (i : ℕ) (d : Name) → i < length names

@@ -60,7 +60,7 @@ fn stand_once(names: &[&str]) -> bool
 }
 
 fn all_tap_names(names: &[&str]) -> bool
-    ensures { result ≡ list_all is_tap_name (texts names.now) }
+    ensures { result ≡ list_all (λ name. is_tap_name name.now) names.now }
 {
     names.iter().all(|name| is_tap_name(name))
 }
@@ -73,7 +73,7 @@ fn is_tap_count(count: usize) -> bool
 }
 
 /// Whether a desk can have taps of these names.
-#[tactic(auto, using(crate::proofs::Names::text_count))]
+#[tactic(auto, using(crate::proofs::Names::text_count, crate::proofs::Names::tap_names))]
 pub fn are_desk_names(names: &[&str]) -> bool
     ensures { result ≡ are_desk_names (texts names.now) }
 {
