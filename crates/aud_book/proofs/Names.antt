@@ -1,5 +1,5 @@
 -- Names that stand once.
-use Rattle.std.proofs.Common.{◌≡◌, ℕ, ◌+◌, ◌-◌, ◌<◌, List, [], ◌∷◌, length, get_or, take, drop, map, true, false, refl, ap, sym, ◌∙◌, add-one}
+use Rattle.std.proofs.Common.{◌≡◌, ℕ, ◌+◌, ◌-◌, ◌<◌, List, ◌∷◌, length, get_or, take, drop, true, false, ap, sym, ◌∙◌, add-one}
 use Rattle.std.specs.Prelude.{not, ◌&&◌}
 use Rattle.std.specs.List.{list_any, list_all}
 use Rattle.std.proofs.lemmas.List.Folds.{list_all-map}
@@ -31,7 +31,7 @@ from-index names i d h =
     let rest = drop (i + 1) names in
     let here : drop i names ≡ name ∷ rest = drop-cons names i d h ∙ ap (λ k. name ∷ drop k names) (sym (add-one i)) in
     let any : list_any (λ other. bytes_eq other name.now) (texts rest) ≡ list_any (λ (other : Name). bytes_eq other.now name.now) (take (length names - (i + 1)) rest) =
-        any-map (λ other. bytes_eq other name.now) (λ (l : Name). l.now) rest ∙ ap (list_any (λ (other : Name). bytes_eq other.now name.now)) (sym (take_rest names (i + 1))) in
+    any-map (λ other. bytes_eq other name.now) (λ (l : Name). l.now) rest ∙ ap (list_any (λ (other : Name). bytes_eq other.now name.now)) (sym (take_rest names (i + 1))) in
     ap (λ ns. stand_once (texts ns)) here ∙ ap (λ b. not b && stand_once (texts rest)) any
 
 -- a name that stands again

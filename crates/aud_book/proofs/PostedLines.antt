@@ -7,7 +7,7 @@ use Rattle.std.proofs.lemmas.List.{take_more, append-nil, append_assoc, length-a
 use Rattle.std.specs.Borrow.{Bor}
 use Rattle.aud_reader.specs.declared.line.Line.{Line}
 use Rattle.aud_book.specs.declared.book.TapLines.{TapLines}
-use Rattle.aud_book.specs.History.{PostedTap, texts}
+use Rattle.aud_book.specs.History.{texts}
 use Rattle.aud_book.specs.Taps.{seen, seen_taps}
 use Rattle.aud_book.specs.PostedLines.{lines_of_taps, named_line, named_lines, numbered}
 
@@ -35,7 +35,7 @@ line-more old lines lines' name posted i line d new h there is more it =
     let at : ℕ → Line = λ n. record { number = n; bytes = bytes } in
     let first = length old + 1 in
     let all : map (named_line name) (texts (take (i + 1) posted)) ≡ front ++ bytes ∷ [] =
-        ap (λ ls. map (named_line name) (texts ls)) (take_more posted i d h ∙ ap (λ l. take i posted ++ l ∷ []) (sym there)) ∙ ap (map (named_line name)) (map-append (λ (l : Bor (List ℕ)). l.now) (take i posted) (line ∷ [])) ∙ map-append (named_line name) (texts (take i posted)) (line.now ∷ []) in
+    ap (λ ls. map (named_line name) (texts ls)) (take_more posted i d h ∙ ap (λ l. take i posted ++ l ∷ []) (sym there)) ∙ ap (map (named_line name)) (map-append (λ (l : Bor (List ℕ)). l.now) (take i posted) (line ∷ [])) ∙ map-append (named_line name) (texts (take i posted)) (line.now ∷ []) in
     let count : length lines ≡ length old + length front = ap (length {A = Line}) is ∙ length-append old (numbered first front) ∙ ap (λ k. length old + k) (numbered-length first front) in
     let number : length lines + 1 ≡ length front + first = omega (arith, count) in
     more ∙ ap (λ l. lines ++ l ∷ []) (it ∙ ap at number) ∙ ap (λ ls. ls ++ at (length front + first) ∷ []) is ∙ append_assoc old (numbered first front) (at (length front + first) ∷ [])

@@ -1,5 +1,5 @@
 -- A line more in the history and in a tap's list.
-use Rattle.std.proofs.Common.{◌≡◌, ◌≢◌, ℕ, zero, suc, ◌+◌, ◌<◌, Bool, List, [], ◌∷◌, ◌++◌, length, get_or, set, take, map, true, false, sym, refl, ap, ◌∙◌, subst, arith, eq-eqb, ne_eqb, Vec}
+use Rattle.std.proofs.Common.{◌≡◌, ◌≢◌, ℕ, zero, suc, ◌+◌, ◌<◌, Bool, List, [], ◌∷◌, ◌++◌, length, get_or, set, take, map, true, false, sym, refl, ap, ◌∙◌, subst, arith, eq-eqb, ne_eqb}
 use Rattle.std.specs.Prelude.{if◌then◌else◌, ◌==◌}
 use Rattle.std.specs.Borrow.{Bor}
 use mathlib.Core.Logic.{dite}
@@ -7,8 +7,8 @@ use mathlib.Core.List.{map-append}
 use Rattle.std.proofs.lemmas.List.{take_more}
 use native.Mathlib.Decide.{ℕ_discrete}
 use Rattle.aud_book.specs.declared.book.TapLines.{TapLines}
-use Rattle.aud_book.specs.History.{PostedTap, IsMergingOf, lines_at, project, texts, pairs}
-use Rattle.aud_book.specs.Taps.{seen, seen_taps, names_of, unposted}
+use Rattle.aud_book.specs.History.{IsMergingOf, lines_at, project, texts, pairs}
+use Rattle.aud_book.specs.Taps.{seen_taps, names_of, unposted}
 
 abbrev Line : Type 0
 Line = Bor (List ℕ)

@@ -3,7 +3,6 @@ use Rattle.std.specs.Prelude.{ℕ, List, [], ◌∷◌, ◌&&◌, Bool, true, no
 use Rattle.std.specs.List.{list_any, list_all}
 use Rattle.std.specs.Str.{bytes_eq}
 use Rattle.aud_tap.specs.TapName.{is_tap_name}
-use Rattle.aud_reader.specs.Bundle.{max_node_taps, max_client_taps}
 
 -- the taps of a bundle: a stream, nodes and clients
 abbrev pub max_taps : ℕ

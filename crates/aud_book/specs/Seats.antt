@@ -1,5 +1,5 @@
 -- The seats of a desk.
-use Rattle.std.specs.Prelude.{◌≡◌, ℕ, List, map, length}
+use Rattle.std.specs.Prelude.{◌≡◌, ℕ, List, map}
 use Rattle.aud_book.specs.declared.seat.TapSeat.{TapSeat}
 use Rattle.aud_book.specs.declared.posts.Posts.{Ghosts}
 use Rattle.aud_book.specs.History.{PostedTap, texts}

@@ -83,6 +83,7 @@ impl<'a, L: Posts> Desk<'a, L> {
         ensures seats { IfOk result (λ r. seen_seats r.1.items ≡ map unposted names.now) }
         ensures ok { IfOk result (λ _. IsTrue (are_desk_names (texts names.now))) }
         ensures names { IfErr result (λ e. e ≢ DeskFault.Memory → are_desk_names (texts names.now) ≡ false) }
+        ensures memory { IfErr result (λ e. e ≡ DeskFault.Memory → IsTrue (are_desk_names (texts names.now))) }
     {
         if !are_desk_names(names) {
             return Err(DeskFault::Names);
@@ -138,7 +139,9 @@ impl<'a, L: Posts> Desk<'a, L> {
     {
         match refusal(seat.name, seat.lines.len(), line) {
             Some(fault) => Err((seat, fault)),
-            None => self.enter(rt, seat, line).map_err(|seat| (seat, PostFault::Memory)),
+            None => self
+                .enter(rt, seat, line)
+                .map_err(|seat| (seat, PostFault::Memory)),
         }
     }
 

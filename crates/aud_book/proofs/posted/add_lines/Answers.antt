@@ -1,4 +1,4 @@
-use Rattle.std.proofs.Common.{rules, ap, ◌∙◌}
+use Rattle.std.proofs.Common.{rules}
 use Rattle.aud_book.proofs.PostedLines.{line-more}
 use Rattle.aud_book.proofs.posted.add_lines.Goals as goal
 

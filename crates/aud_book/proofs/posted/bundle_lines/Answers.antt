@@ -1,4 +1,3 @@
-use Rattle.std.proofs.Common.{sym}
 use Rattle.aud_book.proofs.PostedLines.{tap-more}
 use Rattle.aud_book.proofs.posted.bundle_lines.Goals as goal
 

@@ -1,4 +1,4 @@
-use Rattle.std.proofs.Common.{◌≡◌, ◌+◌, map, take, vec_len}
+use Rattle.std.proofs.Common.{◌≡◌, ◌+◌, map, take}
 use Rattle.aud_book.specs.Taps.{unposted}
 use Rattle.aud_book.specs.Seats.{seen_seats}
 use Rattle.aud_book.proofs.desk.Desk.open.Given as goal
