@@ -1,5 +1,5 @@
 -- Texts that are written for a client's record spell it.
-use Rattle.std.proofs.Common.{◌≡◌, ◌≤◌, ℕ, List, String, string_bytes, Some, Ok, Err, Result, Global, false, refl, ap, ◌∙◌, arith, IfOk}
+use Rattle.std.proofs.Common.{◌≡◌, ◌≤◌, String, string_bytes, Some, Ok, Err, Result, Global, false, refl, ap, ◌∙◌, arith, IfOk}
 use Rattle.std.proofs.lemmas.Str.{IsUtf8-string_bytes}
 use Rattle.serde_json.specs.Data.{Data, depth}
 use Rattle.serde_json.specs.Read.{read}

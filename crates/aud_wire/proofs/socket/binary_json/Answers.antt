@@ -1,4 +1,4 @@
-use Rattle.std.proofs.Common.{◌≡◌, string_bytes, ◌∙◌}
+use Rattle.std.proofs.Common.{◌≡◌, ◌∙◌}
 use Rattle.serde_json.specs.View.{view}
 use Rattle.aud_tap.specs.declared.records.ClientRec.TheVariants.{BytesIn}
 use Rattle.aud_writer.specs.Written.{client_data}
