@@ -1,12 +1,13 @@
 -- The names of a desk's taps.
-use Rattle.std.specs.Prelude.{ℕ, List, [], ◌∷◌, ◌&&◌, Bool, true, not, length, nat_le}
+use Rattle.std.specs.Prelude.{ℕ, ◌+◌, List, [], ◌∷◌, ◌&&◌, Bool, true, not, length, nat_le}
 use Rattle.std.specs.List.{list_any, list_all}
 use Rattle.std.specs.Str.{bytes_eq}
 use Rattle.aud_tap.specs.TapName.{is_tap_name}
+use Rattle.aud_reader.specs.Bundle.{max_node_taps, max_client_taps}
 
--- the taps of a bundle: a stream, nodes and clients
+-- the most taps of a bundle: one stream, and as many nodes and clients as there may be
 abbrev pub max_taps : ℕ
-max_taps = 4161
+max_taps = 1 + max_node_taps + max_client_taps
 
 -- a name is none of these
 abbrev pub is_new : List (List ℕ) → List ℕ → Bool
