@@ -7,7 +7,7 @@
 //! ```
 //! use aud_answers::{answers, verification_on};
 //!
-//! let all = answers(&rt, alloc, recording, lines)?;
+//! let all = answers(&rt, alloc, 4, recording, lines)?;
 //! let output = verification_on(alloc, &all)?;
 //! assert_eq!(rt; output.text.as_str(), "ok 12 P got=1 tail=0 turns=1\ncerts=1 ok=1 bad=0\n");
 //! ```

@@ -29,7 +29,7 @@ fn answer_on(
 {
     match check(alloc, recording, cert) {
         Ok(counts) => Ok(Answer::Accepted {
-            pid: Text::new(String::from_str(alloc, cert.pid.as_str())?),
+            pid: Text::new(alloc, cert.pid.as_str())?,
             counts,
         }),
         Err(Refusal::Memory) => Err(AllocError),
@@ -59,11 +59,12 @@ fn answered(alloc: Global, recording: &Recording<'_>, line: &Line) -> Result<Ans
     })
 }
 
-/// The answers on these certificates, one for each, in order. They are shared out among as many threads as
-/// [`try_map`] starts.
+/// The answers on these certificates, one for each, in order. They are shared out among at most `threads`
+/// threads, as [`try_map`] says.
 pub fn answers<H: Threads + Sync>(
     rt: &H,
     alloc: Global,
+    threads: usize,
     recording: &Recording<'_>,
     lines: &[Line],
 ) -> Result<Vec<Answered>, AllocError>
@@ -72,6 +73,7 @@ pub fn answers<H: Threads + Sync>(
     try_map(
         rt,
         alloc,
+        threads,
         lines,
         |line: &Line| -> Result<Answered, AllocError>
             ensures { IfOk result (IsAnswered recording.entry.now line.now) }

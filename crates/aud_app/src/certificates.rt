@@ -31,7 +31,7 @@ fn shown(
         Verdict::No(_) => return Ok(None),
     }
     match write_cert(alloc, cert) {
-        Ok(text) => Ok(Some(Text::new(text))),
+        Ok(text) => Ok(Some(Text::new(alloc, text.as_str())?)),
         Err(_) => Err(AllocError),
     }
 }
@@ -55,6 +55,7 @@ fn proof(
 fn proofs<H: Threads + Sync>(
     rt: &H,
     alloc: Global,
+    threads: usize,
     recording: &Recording<'_>,
     made: &[Result<Certificate<'_>, Fault>],
 ) -> Result<Vec<Option<Text>>, AllocError>
@@ -64,6 +65,7 @@ fn proofs<H: Threads + Sync>(
     try_map(
         rt,
         alloc,
+        threads,
         made,
         |made: &Result<Certificate<'_>, Fault>| -> Result<Option<Text>, AllocError>
             requires { IsOfItsSession recording.now made.now }
@@ -73,17 +75,18 @@ fn proofs<H: Threads + Sync>(
 }
 
 /// The certificate of each session that the logs mention and that is answered yes, in the order of their first
-/// mentions, with an empty place for each of the others. All are made, and then checked, each time shared out among as
-/// many threads as [`try_map`] starts.
+/// mentions, with an empty place for each of the others. All are made, and then checked, each time shared out among at
+/// most `threads` threads, as [`try_map`] says.
 pub fn prove<H: Threads + Sync>(
     rt: &H,
     alloc: Global,
+    threads: usize,
     recording: &Recording<'_>,
 ) -> Result<Vec<Option<Text>>, AllocError>
     ensures { IfOk result (λ all. AreProofs recording.now (sessions_of recording.now) all.items) }
 {
     verdict_by_certificate();
     let pids = sessions(alloc, recording)?;
-    let made = make_all(rt, alloc, recording, &pids)?;
-    proofs(rt, alloc, recording, &made)
+    let made = make_all(rt, alloc, threads, recording, &pids)?;
+    proofs(rt, alloc, threads, recording, &made)
 }

@@ -7,11 +7,13 @@
 //!
 //! ```
 //! use aud_app::{Status, Watched, options, run};
+//! use std::hash::RandomState;
 //!
 //! let options = options(alloc, &["audit"])?;
+//! let keys = RandomState::new(&rt)?;
 //! let mut input = Watched::new(bundle);
 //! let mut output = Watched::new(Vec::new(alloc));
-//! let status = run(&rt, alloc, &mut input, &mut output, options)?;
+//! let status = run(&rt, alloc, keys, &mut input, &mut output, options)?;
 //! assert_eq!(rt; status, Status::AllYes);
 //! let report = output.into_inner();
 //! let written = str::from_utf8(&report)?;
@@ -29,3 +31,4 @@ pub use aud_options::{Mode, Options, options};
 pub use aud_report::Status;
 pub use aud_streams::{RunFault, Watched};
 pub use program::run;
+pub use reading::READ_LIMIT;

@@ -13,6 +13,7 @@ use aud_reader::{Line, ReadFault};
 use aud_report::{Output, proving_on, refusal};
 use aud_streams::RunFault;
 use std::alloc::{AllocError, Global};
+use std::hash::RandomState;
 use std::sync::Wait;
 use std::thread::Threads;
 use std::time::Clock;
@@ -21,11 +22,12 @@ use std::time::Clock;
 fn proved<H: Threads + Sync>(
     rt: &H,
     alloc: Global,
+    threads: usize,
     recording: &Recording<'_>,
 ) -> Result<Output, AllocError>
     ensures { IfOk result (λ o. IsProving recording.now o) }
 {
-    let proofs = prove(rt, alloc, recording)?;
+    let proofs = prove(rt, alloc, threads, recording)?;
     proving_on(alloc, &proofs)
 }
 
@@ -33,12 +35,13 @@ fn proved<H: Threads + Sync>(
 fn verified<H: Threads + Sync>(
     rt: &H,
     alloc: Global,
+    threads: usize,
     recording: &Recording<'_>,
     certificates: &[Line],
 ) -> Result<Output, AllocError>
     ensures { IfOk result (λ o. IsVerification recording.now certificates.now o) }
 {
-    let all = answers(rt, alloc, recording, certificates)?;
+    let all = answers(rt, alloc, threads, recording, certificates)?;
     verification_on(alloc, &all)
 }
 
@@ -64,10 +67,11 @@ fn output_on<H: Threads + Wait + Clock + Sync>(
     ensures output { IfOk result (λ o. IsOutputOn options.mode recording.now certificates.now o) }
     ensures err { OnErr result ((result ≡ Err RunFault.Memory) ⊎ (result ≡ Err RunFault.Spawn)) }
 {
+    let threads = options.workers as usize;
     match options.mode {
         Mode::Audit => audited(rt, alloc, options.workers, recording),
-        Mode::Prove => Ok(proved(rt, alloc, recording)?),
-        Mode::Verify => Ok(verified(rt, alloc, recording, certificates)?),
+        Mode::Prove => Ok(proved(rt, alloc, threads, recording)?),
+        Mode::Verify => Ok(verified(rt, alloc, threads, recording, certificates)?),
     }
 }
 
@@ -75,6 +79,7 @@ fn output_on<H: Threads + Wait + Clock + Sync>(
 fn output_over<H: Threads + Wait + Clock + Sync>(
     rt: &H,
     alloc: Global,
+    keys: RandomState,
     options: Options,
     input: &Input,
 ) -> Result<Output, RunFault>
@@ -83,7 +88,8 @@ fn output_over<H: Threads + Wait + Clock + Sync>(
     ensures output { IfOk result (λ o. IsOutputOver options.mode (Ok input.now) o) }
     ensures err { OnErr result ((result ≡ Err RunFault.Memory) ⊎ (result ≡ Err RunFault.Spawn)) }
 {
-    let recording = Recording::read(alloc, &input.taps)?;
+    let threads = options.workers as usize;
+    let recording = Recording::read(rt, alloc, keys, threads, &input.taps)?;
     output_on(rt, alloc, options, &recording, &input.certificates)
 }
 
@@ -91,6 +97,7 @@ fn output_over<H: Threads + Wait + Clock + Sync>(
 pub fn output_of<H: Threads + Wait + Clock + Sync>(
     rt: &H,
     alloc: Global,
+    keys: RandomState,
     options: Options,
     read: Result<Input, ReadFault>,
 ) -> Result<Output, RunFault>
@@ -100,7 +107,7 @@ pub fn output_of<H: Threads + Wait + Clock + Sync>(
     ensures err { OnErr result ((result ≡ Err RunFault.Memory) ⊎ (result ≡ Err RunFault.Spawn)) }
 {
     match read {
-        Ok(input) => output_over(rt, alloc, options, &input),
+        Ok(input) => output_over(rt, alloc, keys, options, &input),
         Err(ReadFault::Input(line, code)) => Ok(refusal(alloc, line, code)?),
         Err(ReadFault::Memory) => Err(RunFault::Memory),
     }

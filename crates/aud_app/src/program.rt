@@ -5,11 +5,12 @@ ghost use Rattle.aud_app.specs.Headline.{ReportHoldsOf};
 ghost use Rattle.aud_app.specs.Output.{IsOutputOf, Writes, WritesFront};
 
 use crate::output::{layout_of, output_of};
-use crate::reading::read_input;
+use crate::reading::{READ_LIMIT, read_input};
 use aud_options::{Mode, Options};
 use aud_report::{Output, Status};
-use aud_streams::{READ_LIMIT, RunFault, Watched, write_out};
+use aud_streams::{RunFault, Watched, write_out};
 use std::alloc::Global;
+use std::hash::RandomState;
 use std::io::{Read, Write};
 use std::sync::Wait;
 use std::thread::Threads;
@@ -17,12 +18,14 @@ use std::time::Clock;
 
 /// Reads the input to its end, decides, and only then writes. The input is read in pieces of at most 65,536 bytes, and
 /// each line is let go once it was read, but for certificates; it is read to its end where a line is refused too. An
-/// audit starts so many workers, each in a thread of its own; the other modes share certificates out among as many
-/// threads as `aud_parallel::try_map` starts. How many they are changes nothing in what is written.
+/// audit starts `options.workers` workers, each in a thread of its own; all else is shared out among at most so many
+/// threads, this one among them, as `aud_parallel::try_map` says. How many they are changes nothing in what is written,
+/// and nor do the keys, by which names are looked up: whoever picked the names of the input is not to know them.
 #[tactic(auto, using(crate::proofs::Pieces::output_read))]
 pub fn run<H: Threads + Wait + Clock + Sync, R: Read, W: Write>(
     rt: &H,
     alloc: Global,
+    keys: RandomState,
     input: &mut Watched<R>,
     output: &mut Watched<W>,
     options: Options,
@@ -45,8 +48,8 @@ pub fn run<H: Threads + Wait + Clock + Sync, R: Read, W: Write>(
     ensures read { result ≡ Err RunFault.Read → (has_failed input.new ≡ true) ⊎ (READ_LIMIT ≤ calls_of input.new) }
     ensures write { result ≡ Err RunFault.Write → has_failed output.new ≡ true }
 {
-    let read = read_input(alloc, layout_of(options.mode), input)?;
-    let Output { status, text } = output_of(rt, alloc, options, read)?;
+    let read = read_input(alloc, keys, layout_of(options.mode), input)?;
+    let Output { status, text } = output_of(rt, alloc, keys, options, read)?;
     write_out(output, text.as_bytes())?;
     Ok(status)
 }

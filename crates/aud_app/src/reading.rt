@@ -7,15 +7,19 @@ ghost use Rattle.aud_app.specs.Private.Reading.{IsInputOf};
 
 use aud_input::{Input, InputReader, Layout};
 use aud_reader::ReadFault;
-use aud_streams::{READ_LIMIT, RunFault, Watched};
+use aud_streams::{RunFault, Watched};
 use std::alloc::{AllocError, Global};
+use std::hash::RandomState;
 use std::io::Read;
+
+/// How many times the input of a run may be read.
+pub const READ_LIMIT: u64 = 4_294_967_296;
 
 /// The most bytes that one read is asked for.
 const PIECE: usize = 65_536;
 
-/// So many bytes on the heap, where a piece finds room: a local of that size would cost at each call.
-fn room(alloc: Global, size: usize) -> Result<Vec<u8>, AllocError>
+/// So many bytes on the heap, for a piece: a local of that size would cost at each call.
+fn buffer(alloc: Global, size: usize) -> Result<Vec<u8>, AllocError>
     ensures { IfOk result (λ bytes. vec_len bytes ≡ size) }
 {
     vec![in alloc; 0u8; size]
@@ -40,6 +44,7 @@ fn feed(reader: &mut InputReader, piece: &[u8]) -> Result<(), AllocError>
 /// is not tried again, of whatever kind its error is.
 pub fn read_input<R: Read>(
     alloc: Global,
+    keys: RandomState,
     layout: Layout,
     input: &mut Watched<R>,
 ) -> Result<Result<Input, ReadFault>, RunFault>
@@ -50,8 +55,8 @@ pub fn read_input<R: Read>(
     ensures read { result ≡ Err RunFault.Read → (has_failed input.new ≡ true) ⊎ (READ_LIMIT ≤ calls_of input.new) }
     ensures others { OnErr result ((result ≡ Err RunFault.Read) ⊎ (result ≡ Err RunFault.Memory)) }
 {
-    let mut reader = InputReader::new(alloc, layout);
-    let mut piece = room(alloc, PIECE)?;
+    let mut reader = InputReader::new(alloc, keys, layout);
+    let mut piece = buffer(alloc, PIECE)?;
     'pieces: for _ in 0..READ_LIMIT {
         match input.read(&mut piece) {
             Ok(0) => return Ok(reader.finish()),

@@ -5,3 +5,4 @@ pub mod Options
 pub mod Lists
 pub mod StepLemmas
 pub mod NotedPlaces
+mod PageLemmas

@@ -4,7 +4,8 @@ ghost use Rattle.std.specs.Str.{bytes_eq};
 ghost use Rattle.aud_base.specs.Places.{is_place, noted, places_of, with_place};
 
 use std::alloc::{AllocError, Global};
-use std::collections::BTreeMap;
+use std::collections::HashMap;
+use std::hash::RandomState;
 
 /// Of each text, the places where it stands.
 ///
@@ -14,17 +15,17 @@ use std::collections::BTreeMap;
 #[derive(Drop)]
 pub struct Places {
     alloc: Global,
-    by_text: BTreeMap<String, Vec<usize>>,
+    by_text: HashMap<String, Vec<usize>, RandomState>,
 }
 
 impl Places {
-    /// No text stands anywhere.
-    pub fn new(alloc: Global) -> Places
+    /// No text stands anywhere. Texts are hashed with these keys.
+    pub fn new(alloc: Global, keys: RandomState) -> Places
         ensures { (text : List ℕ) → places_of result text ≡ [] }
     {
         Places {
             alloc,
-            by_text: BTreeMap::new(alloc),
+            by_text: HashMap::with_hasher(alloc, keys),
         }
     }
 

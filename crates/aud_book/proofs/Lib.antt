@@ -1,3 +1,4 @@
 pub mod Taps
 pub mod PostedLines
-pub mod Names
+pub mod NameLemmas
+pub mod Alike

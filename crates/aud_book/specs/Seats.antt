@@ -1,5 +1,6 @@
 -- The seats of a desk.
-use Rattle.std.specs.Prelude.{◌≡◌, ℕ, List, map}
+use Rattle.std.specs.Prelude.{◌≡◌, ℕ, List, map, length}
+use Rattle.aud_base.specs.Lists.{numbers_from}
 use Rattle.aud_book.specs.declared.seat.TapSeat.{TapSeat}
 use Rattle.aud_book.specs.declared.posts.Posts.{Ghosts}
 use Rattle.aud_book.specs.History.{PostedTap, texts}
@@ -26,3 +27,7 @@ IsOfSameTap s t = (t.place ≡ s.place) × (t.name.now ≡ s.name.now)
 -- nothing that can be seen of a seat has changed
 abbrev pub IsUnchanged : {X : Type 0} {g : Ghosts X} → TapSeat X g → TapSeat X g → Type 0
 IsUnchanged s t = IsOfSameTap s t × (lines_of t ≡ lines_of s) × (counted_of t ≡ counted_of s)
+
+-- seats are in the order of their taps, each at the place of its tap
+abbrev pub AreInOrder : {X : Type 0} {g : Ghosts X} → List (TapSeat X g) → Type 0
+AreInOrder ss = map (λ s. s.place) ss ≡ numbers_from 0 (length ss)

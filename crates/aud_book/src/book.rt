@@ -1,7 +1,7 @@
 //! The lines of each tap, and the order in which they came.
-ghost use Rattle.std.specs.Prelude.{◌≡◌, true, ℕ, ◌+◌, ◌<◌, [], ◌∷◌, ◌++◌, IfOk, OnOk, OnErr, vec_len, length, map};
+ghost use Rattle.std.specs.Prelude.{◌≡◌, ◌≢◌, true, false, ℕ, ◌+◌, ◌<◌, [], ◌∷◌, ◌++◌, IfOk, OnOk, OnErr, vec_len, length, map};
 ghost use Rattle.aud_book.specs.History.{IsMergingOf, lines_at, texts, pairs};
-ghost use Rattle.aud_book.specs.Taps.{seen_taps, names_of, unposted};
+ghost use Rattle.aud_book.specs.Taps.{seen, seen_taps, names_of, unposted};
 
 use crate::lines::{copied, same_lines};
 use std::alloc::{AllocError, Global};
@@ -82,8 +82,8 @@ impl<'a> Book<'a> {
 
 /// Whether the tap has this name and these lines.
 pub fn is_tap_of(tap: &TapLines<'_>, name: &str, lines: &[&[u8]]) -> bool
-    ensures name { result ≡ true → tap.now.name.now ≡ name.now }
-    ensures lines { result ≡ true → texts tap.now.lines.items ≡ texts lines.now }
+    ensures same { result ≡ true → seen tap.now ≡ record { name = name.now; lines = texts lines.now } }
+    ensures other { result ≡ false → seen tap.now ≢ record { name = name.now; lines = texts lines.now } }
 {
     if tap.name != name {
         return false;

@@ -5,59 +5,22 @@ ghost use Rattle.aud_book.specs.Taps.{seen_taps, unposted};
 ghost use Rattle.aud_book.specs.Names.{are_desk_names};
 ghost use Rattle.aud_book.specs.Refusals.{refusal};
 
-use crate::book::{Book, TapLines, is_tap_of};
+use crate::book::Book;
 use crate::fault::{BackFault, DeskFault, PostFault};
-use crate::limits::{are_desk_names, refusal};
-use crate::lines::same_lines;
+use crate::limits::refusal;
+use crate::names::are_desk_names;
 use crate::posted::Posted;
 use crate::posts::Posts;
 use crate::seat::{TapSeat, empty_seat};
+use crate::shelf::Shelf;
 use std::alloc::{AllocError, Global};
-use std::sync::ledger::{Blank, Share};
-use std::sync::{Mutex, Wait, ledger};
-
-/// What lies under the lock: the book, and beside it the ledger's, whose total is the number of lines of the history.
-#[derive(Drop)]
-struct Shelf<'a, L: Posts> {
-    book: Book<'a>,
-    tally: ledger::Book<L>,
-    ghost counted: { vec_len book.history ≡ tally.total },
-    ghost all_taps: { vec_len book.taps ≡ L.count },
-}
-
-impl<'a, L: Posts> Shelf<'a, L> {
-    fn lines_of(&self, alloc: Global, place: usize) -> Result<Vec<&'a [u8]>, AllocError>
-        requires { place < L.count }
-    {
-        self.book.lines_of(alloc, place)
-    }
-
-    /// Adds a line to a tap, and counts it in the poster's share.
-    fn append(
-        &mut self,
-        place: usize,
-        line: &'a [u8],
-        mine: &mut Share<L>,
-    ) -> Result<(), AllocError>
-        requires place { place < L.count }
-        requires part { 0 < mine.old.parts }
-        ensures ok { OnOk result (mine.new.amount ≡ mine.old.amount + 1) }
-        ensures err { OnErr result (mine.new.amount ≡ mine.old.amount) }
-        ensures parts { mine.new.parts ≡ mine.old.parts }
-    {
-        let Shelf { book, tally } = self;
-        book.append(place, line)?;
-        tally.add(mine, 1);
-        Ok(())
-    }
-}
+use std::sync::ledger::Blank;
+use std::sync::{Mutex, Wait};
 
 /// A book that threads share. Each tap has a seat, from which alone its lines are posted.
 #[derive(Drop)]
 pub struct Desk<'a, L: Posts> {
-    taps: usize,
     shelf: Mutex<Shelf<'a, L>>,
-    ghost all_taps: { taps ≡ L.count },
 }
 
 /// The seats weren't all those of the desk, in the order of its taps. Both are handed back as they were.
@@ -114,7 +77,7 @@ impl<'a, L: Posts> Desk<'a, L> {
             seats.push(empty_seat(alloc, place, names[place], share))?;
         }
         let shelf = Mutex::new(Shelf { book, tally });
-        Ok((Desk { taps: count, shelf }, seats))
+        Ok((Desk { shelf }, seats))
     }
 
     /// Posts a line from a seat, which comes back with it. The bytes are the line without the tap's name and the blank
@@ -140,53 +103,11 @@ impl<'a, L: Posts> Desk<'a, L> {
         match refusal(seat.name, seat.lines.len(), line) {
             Some(fault) => Err((seat, fault)),
             None => self
-                .enter(rt, seat, line)
+                .shelf
+                .lock(rt)
+                .enter(seat, line)
                 .map_err(|seat| (seat, PostFault::Memory)),
         }
-    }
-
-    /// Enters a line in the seat and in the book, or hands the seat back for want of memory.
-    fn enter<R: Wait>(
-        &self,
-        rt: &R,
-        seat: TapSeat<'a, L>,
-        line: &'a [u8],
-    ) -> Result<TapSeat<'a, L>, TapSeat<'a, L>>
-        ensures line { IfOk result (λ s. lines_of s ≡ lines_of seat.entry ++ line.now ∷ []) }
-        ensures counted { IfOk result (λ s. counted_of s ≡ counted_of seat.entry + 1) }
-        ensures tap { IfOk result (λ s. IsOfSameTap seat.entry s) }
-        ensures unchanged { IfErr result (λ s. IsUnchanged seat.entry s) }
-    {
-        let TapSeat {
-            place,
-            name,
-            mut lines,
-            mut share,
-        } = seat;
-        if lines.reserve(1).is_err() {
-            return Err(TapSeat {
-                place,
-                name,
-                lines,
-                share,
-            });
-        }
-        let added = self.shelf.lock(rt).append(place, line, &mut share);
-        if added.is_err() {
-            return Err(TapSeat {
-                place,
-                name,
-                lines,
-                share,
-            });
-        }
-        lines.push_reserved(line);
-        Ok(TapSeat {
-            place,
-            name,
-            lines,
-            share,
-        })
     }
 
     /// The lines that were posted from the seat, in their order, as the book has them, in a list of their own. It waits
@@ -199,31 +120,7 @@ impl<'a, L: Posts> Desk<'a, L> {
     ) -> Result<Vec<&'a [u8]>, BackFault>
         ensures { IfOk result (λ v. texts v.items ≡ lines_of seat.now) }
     {
-        let lines = self
-            .shelf
-            .lock(rt)
-            .lines_of(alloc, seat.place)
-            .map_err(|_| BackFault::Memory)?;
-        if same_lines(&lines, &seat.lines) {
-            Ok(lines)
-        } else {
-            Err(BackFault::Strayed)
-        }
-    }
-
-    /// Whether the seats are those of the taps, in their order, with the same names and lines.
-    fn are_seats_of(taps: &[TapLines<'a>], seats: &[TapSeat<'a, L>]) -> bool
-        ensures { result ≡ true → seen_taps taps.now ≡ seen_seats seats.now }
-    {
-        if seats.len() != taps.len() {
-            return false;
-        }
-        for i in 0..seats.len() {
-            if seats[i].place != i || !is_tap_of(&taps[i], seats[i].name, &seats[i].lines) {
-                return false;
-            }
-        }
-        true
+        self.shelf.lock(rt).read_back(alloc, seat)
     }
 
     /// Ends the posting: the taps are the names and lines of all seats, and the history is a merging of these lines. No
@@ -235,16 +132,16 @@ impl<'a, L: Posts> Desk<'a, L> {
         ensures history { IfOk result (λ p. IsMergingOf (seen_seats seats.entry.items) (pairs p.history.items)) }
         ensures back { IfErr result (λ s. s.seats ≡ seats.entry) }
     {
-        let Desk { taps, shelf } = self;
-        let Shelf { book, tally } = shelf.into_inner();
-        if !Self::are_seats_of(&book.taps, &seats) {
-            let shelf = Mutex::new(Shelf { book, tally });
-            return Err(Strayed {
-                desk: Desk { taps, shelf },
-                seats,
-            });
+        let Desk { shelf } = self;
+        match shelf.into_inner().close(seats) {
+            Ok(posted) => Ok(posted),
+            Err((shelf, seats)) => {
+                let shelf = Mutex::new(shelf);
+                Err(Strayed {
+                    desk: Desk { shelf },
+                    seats,
+                })
+            }
         }
-        let Book { taps, history } = book;
-        Ok(Posted { taps, history })
     }
 }

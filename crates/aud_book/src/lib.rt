@@ -34,7 +34,7 @@
 //! );
 //! seats.push(stream?)?;
 //! seats.push(node?)?;
-//! let taps = read_posted(alloc, &desk.close(seats)?)?;
+//! let taps = read_posted(alloc, keys, &desk.close(seats)?)?;
 //! ```
 //!
 //! Code that opens a desk is generic over `L: Posts`: docs/EMBED.md says how it is called, and the rest that whoever
@@ -46,9 +46,11 @@ mod desk;
 mod fault;
 mod limits;
 mod lines;
+mod names;
 mod posted;
 mod posts;
 mod seat;
+mod shelf;
 
 pub use book::{Book, TapLines};
 pub use desk::{Desk, Strayed};

@@ -1,12 +1,13 @@
 //! Lists of lent lines.
-ghost use Rattle.std.specs.Prelude.{◌≡◌, true, IfOk};
+ghost use Rattle.std.specs.Prelude.{◌≡◌, ◌≢◌, true, false, IfOk};
 ghost use Rattle.aud_book.specs.History.{texts};
 
 use std::alloc::{AllocError, Global};
 
 /// Whether two lists have the same lines.
 pub fn same_lines(left: &[&[u8]], right: &[&[u8]]) -> bool
-    ensures { result ≡ true → texts left.now ≡ texts right.now }
+    ensures same { result ≡ true → texts left.now ≡ texts right.now }
+    ensures other { result ≡ false → texts left.now ≢ texts right.now }
 {
     if left.len() != right.len() {
         return false;
@@ -32,7 +33,8 @@ pub fn copied<'a>(alloc: Global, lines: &[&'a [u8]]) -> Result<Vec<&'a [u8]>, Al
 
 /// Whether two lines are the same.
 fn is_line(left: &[u8], right: &[u8]) -> bool
-    ensures { result ≡ true → left.now ≡ right.now }
+    ensures same { result ≡ true → left.now ≡ right.now }
+    ensures other { result ≡ false → left.now ≢ right.now }
 {
     left == right
 }

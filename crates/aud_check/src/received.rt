@@ -123,5 +123,5 @@ fn offset_at(alloc: Global, stream: &Stream<'_>, position: u64) -> Result<Text, 
         Some(entry) => offset(entry),
         None => "",
     };
-    Ok(Text::new(String::from_str(alloc, off)?))
+    Text::new(alloc, off)
 }

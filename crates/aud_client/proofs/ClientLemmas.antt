@@ -1,13 +1,16 @@
 -- The connections of a tap, record after record.
 use Rattle.std.proofs.Common.{◌≡◌, ◌+◌, ℕ, suc, List, [], ◌∷◌, ◌++◌, map, flat_map, refl, sym, ap, ◌∙◌, Option, Some, None, append-nil, append_assoc, drop, length, ◌≤◌, arith}
 use Rattle.aud_base.proofs.Options.{or_none}
+use Rattle.aud_tap.specs.declared.records.StreamRec.{StreamRec}
 use Rattle.aud_tap.specs.declared.records.ClientRec.{ClientRec}
 use Rattle.aud_tap.specs.declared.records.ClientRec.TheVariants.{Conn, TextIn, BytesIn, Poll, TextOut, Lost}
 use Rattle.aud_sio.specs.Wholes.{wholes_of}
 use Rattle.std.specs.List.{filter}
-use Rattle.aud_client.specs.TapPackets.{Connection, numbered_records, until_end, connections_in, messages_at, answers_in, packets_at, packets_in, is_bad, bad_in, first_of}
-use Rattle.aud_client.specs.Private.ConnectionRead.{HasRead, packets_read, inside}
+use Rattle.aud_client.specs.TapPackets.{TapPacket, Connection, numbered_records, until_end, connections_in, messages_at, answers_in, packets_at, packets_in, tap_packets, is_bad, bad_in, first_of}
+use Rattle.aud_client.specs.Private.ConnectionRead.{HasGiven, inside}
 use Rattle.aud_client.specs.Private.ClientRead.{begun, bad_of, cut_seen}
+use Rattle.aud_client.specs.StaySeen.{StaySeen}
+use Rattle.aud_client.specs.Received.{stays_of, tap_stays}
 use Rattle.std.specs.Option.{option_or}
 use Rattle.std.proofs.lemmas.List.{map-append, drop_all}
 use Rattle.std.proofs.lemmas.Grind.{flat_map-append}
@@ -33,16 +36,19 @@ connections_in-cons n (Poll t) recs = refl
 connections_in-cons n (TextOut t) recs = refl
 
 -- all that a connection gives
-pub answers-all : (first : ℕ) (recs : List ClientRec) (reader : Reader) (h : HasRead first recs reader) → answers_in (numbered_records first recs) ≡ h.answers
-answers-all first recs reader h =
+answers-given : (first : ℕ) (recs : List ClientRec) (packets : List (ℕ × TapPacket)) (reader : Reader) (h : HasGiven first recs packets reader) → answers_in (numbered_records first recs) ≡ h.answers
+answers-given first recs packets reader h =
     ap wholes_of (sym (append-nil (flat_map messages_at (numbered_records first recs)))) ∙ h.continues [] ∙ ap (λ r. h.answers ++ r) h.waits ∙ append-nil h.answers
 
 -- the packets of a connection that was read
-pub packets-all : (first : ℕ) (recs : List ClientRec) (reader : Reader) → HasRead first recs reader → packets_read reader ≡ packets_in (numbered_records first recs)
-packets-all first recs reader h = h.packets_are ∙ ap (λ xs. flat_map (packets_at xs) (numbered_records first recs)) (sym (answers-all first recs reader h))
+pub packets-given : (first : ℕ) (recs : List ClientRec) (packets : List (ℕ × TapPacket)) (reader : Reader) → HasGiven first recs packets reader → packets ≡ packets_in (numbered_records first recs)
+packets-given first recs packets reader h =
+    h.packets_are ∙ ap (λ xs. flat_map (packets_at xs) (numbered_records first recs)) (sym (answers-given first recs packets reader h))
 
-pub bad-all : (first : ℕ) (recs : List ClientRec) (reader : Reader) → HasRead first recs reader → reader.bad ≡ first_of (bad_in (numbered_records first recs))
-bad-all first recs reader h = h.bad_is ∙ ap (λ xs. first_of (map (λ (rec : ℕ × ClientRec). rec.0) (filter (is_bad xs) (numbered_records first recs)))) (sym (answers-all first recs reader h))
+-- its first bad record
+pub bad-given : (first : ℕ) (recs : List ClientRec) (packets : List (ℕ × TapPacket)) (reader : Reader) → HasGiven first recs packets reader → reader.bad ≡ first_of (bad_in (numbered_records first recs))
+bad-given first recs packets reader h =
+    h.bad_is ∙ ap (λ xs. first_of (map (λ (rec : ℕ × ClientRec). rec.0) (filter (is_bad xs) (numbered_records first recs)))) (sym (answers-given first recs packets reader h))
 
 -- the first of two lists
 pub first_of-append : (xs ys : List ℕ) → first_of (xs ++ ys) ≡ option_or (first_of xs) (first_of ys)
@@ -86,3 +92,32 @@ HasTaken-all recs i seen bad end held =
       sym (append-nil seen) ∙ sym (ap (λ r. seen ++ map cut_seen (connections_in (numbered_records i r))) none) ∙ held.connections_are,
       sym (or_none bad) ∙ sym (ap (λ r. option_or bad (bad_of (connections_in (numbered_records i r)))) none) ∙ held.bad_is,
     )
+
+-- what the first records tell: their stays, and the first bad one
+pub record HasTold (stream : List StreamRec) (recs : List ClientRec) (i : ℕ) (stays : List StaySeen) (bad : Option ℕ) : Type 0 where
+  pub seen : List Connection
+  pub taken : HasTaken recs i seen bad
+  pub stays_are : stays ≡ flat_map (stays_of stream) seen
+
+-- no record
+pub HasTold-none : (stream : List StreamRec) (recs : List ClientRec) (stays : List StaySeen) → stays ≡ [] → HasTold stream recs 0 stays None
+HasTold-none stream recs stays none = record { seen = []; taken = record { connections_are = refl; bad_is = refl }; stays_are = none }
+
+-- one record more was taken
+pub HasTold-more : (stream : List StreamRec) (recs : List ClientRec) (i : ℕ) (rec : ClientRec) (stays after : List StaySeen) (bad first : Option ℕ) → drop i recs ≡ rec ∷ drop (i + 1) recs
+    → after ≡ stays ++ flat_map (stays_of stream) (map cut_seen (begun i rec (drop (i + 1) recs))) → first ≡ option_or bad (bad_of (begun i rec (drop (i + 1) recs)))
+    → HasTold stream recs i stays bad → HasTold stream recs (i + 1) after first
+HasTold-more stream recs i rec stays after bad first front after_is bad_is held =
+    let begins = map cut_seen (begun i rec (drop (i + 1) recs)) in
+    record {
+      seen = held.seen ++ begins;
+      taken = HasTaken-more recs i rec held.seen (held.seen ++ begins) bad first front refl bad_is held.taken;
+      stays_are = after_is ∙ ap (λ ss. ss ++ flat_map (stays_of stream) begins) held.stays_are ∙ sym (flat_map-append (stays_of stream) held.seen begins);
+    }
+
+-- all records were taken
+pub HasTold-all : (stream : List StreamRec) (recs : List ClientRec) (i : ℕ) (stays : List StaySeen) (bad : Option ℕ) → length recs ≤ i → HasTold stream recs i stays bad
+    → (stays ≡ tap_stays stream recs) × (bad ≡ (tap_packets recs).bad)
+HasTold-all stream recs i stays bad end held =
+    let all = HasTaken-all recs i held.seen bad end held.taken in
+    (held.stays_are ∙ ap (flat_map (stays_of stream)) all.0, all.1)

@@ -8,8 +8,8 @@ use Rattle.aud_tap.specs.declared.records.ClientRec.TheVariants.{Conn, TextIn, B
 use Rattle.aud_sio.specs.Message.{at}
 use Rattle.aud_sio.specs.Wholes.{Answer, wholes_of}
 use Rattle.aud_sio.specs.Assembly.{Waits, wholes_after}
-use Rattle.aud_client.specs.TapPackets.{FromServer, server_packets, numbered_records, messages_at, packets_at, is_bad, is_refused, engine_packets, first_of}
-use Rattle.aud_client.specs.Private.ConnectionRead.{AreBefore, HasRead, ReadsRecord, packets_read, bad_or}
+use Rattle.aud_client.specs.TapPackets.{TapPacket, FromServer, server_packets, numbered_records, messages_at, packets_at, is_bad, is_refused, engine_packets, first_of}
+use Rattle.aud_client.specs.Private.ConnectionRead.{AreBefore, HasGiven, HasRead, ReadsRecord, packets_read, bad_or}
 use Rattle.aud_client.specs.declared.connection.Reader.{Reader}
 
 -- numbers of other records
@@ -104,8 +104,10 @@ HasRead-none first reader held packets bad =
     }
 
 -- one record more
-pub HasRead-more : (first : ℕ) (recs : List ClientRec) (rec : ClientRec) (old new : Reader) → HasRead first recs old → ReadsRecord (first + length recs) rec old new → HasRead first (recs ++ rec ∷ []) new
-HasRead-more first recs rec old new before more =
+pub HasGiven-more : (first : ℕ) (recs : List ClientRec) (rec : ClientRec) (packets after : List (ℕ × TapPacket)) (old new : Reader) → HasGiven first recs packets old
+    → (more : ReadsRecord (first + length recs) rec old new) → after ≡ packets ++ packets_at (at (first + length recs) more.answers) (first + length recs, rec)
+    → HasGiven first (recs ++ rec ∷ []) after new
+HasGiven-more first recs rec packets after old new before more after_is =
     let n = first + length recs in
     let all = numbered-append first recs (rec ∷ []) in
     record {
@@ -119,7 +121,7 @@ HasRead-more first recs rec old new before more =
           ∙ ap (λ r. before.answers ++ r) (more.continues l)
           ∙ sym (append_assoc before.answers (at n more.answers) (wholes_after new.assembler l));
       packets_are =
-          more.packets_are
+          after_is
           ∙ ap (λ r. r ++ packets_at (at n more.answers) (n, rec)) before.packets_are
           ∙ ap (λ r. r ++ packets_at (at n more.answers) (n, rec)) (sym (packets-other n first before.answers more.answers recs (omega arith)))
           ∙ ap (λ r. flat_map (packets_at (before.answers ++ at n more.answers)) (numbered_records first recs) ++ r) (packets_at-same (at n more.answers) (before.answers ++ at n more.answers) n rec (sym (received-before n before.answers (at n more.answers) before.before)))
@@ -131,4 +133,21 @@ HasRead-more first recs rec old new before more =
           ∙ ap (λ b. bad_or (first_bad (is_bad (before.answers ++ at n more.answers)) (numbered_records first recs)) n (is_refused (engine_packets rec) || b)) (sym (refused_at-before n before.answers (at n more.answers) before.before))
           ∙ sym (ap (first_bad (is_bad (before.answers ++ at n more.answers))) all ∙ first_bad-last (is_bad (before.answers ++ at n more.answers)) (numbered_records first recs) (n, rec));
       waits = more.waits before.waits;
+    }
+
+-- one record more, and all packets are held
+pub HasRead-more : (first : ℕ) (recs : List ClientRec) (rec : ClientRec) (old new : Reader) → HasRead first recs old → ReadsRecord (first + length recs) rec old new → HasRead first (recs ++ rec ∷ []) new
+HasRead-more first recs rec old new before more = HasGiven-more first recs rec (packets_read old) (packets_read new) old new before more more.packets_are
+
+-- a reader that holds fewer packets gave the same
+pub HasGiven-same : (first : ℕ) (recs : List ClientRec) (packets : List (ℕ × TapPacket)) (old new : Reader) → new.assembler ≡ old.assembler → new.bad ≡ old.bad
+    → HasGiven first recs packets old → HasGiven first recs packets new
+HasGiven-same first recs packets old new assembler bad h =
+    record {
+      answers = h.answers;
+      before = h.before;
+      continues = λ l. h.continues l ∙ ap (λ held. h.answers ++ wholes_after held l) (sym assembler);
+      packets_are = h.packets_are;
+      bad_is = bad ∙ h.bad_is;
+      waits = subst Waits (sym assembler) h.waits;
     }

@@ -13,3 +13,5 @@ pub mod ConnectionLemmas
 pub mod ClientLemmas
 pub mod ClientTaps
 pub mod KnownLemmas
+pub mod Mapped
+pub mod KeptRecords

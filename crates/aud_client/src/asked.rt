@@ -1,5 +1,5 @@
 //! What a client asks to recover.
-ghost use Rattle.std.specs.Prelude.{◌≡◌, IfOk, string_bytes};
+ghost use Rattle.std.specs.Prelude.{◌≡◌, IfOk};
 ghost use Rattle.std.specs.Option.{option_copied, option_map, option_and_then};
 ghost use Rattle.serde_json.specs.View.{view as data_of};
 ghost use Rattle.aud_client.specs.Replies.{value_of};
@@ -8,6 +8,7 @@ ghost use Rattle.aud_client.specs.StaySeen.{asked_in, asked_by};
 
 use crate::payload::{text_at, value_of};
 use aud_sio::{Packet, PacketKind};
+use aud_tap::Text;
 use serde_json::Value;
 use std::alloc::{AllocError, Global};
 use std::marker::Model;
@@ -17,19 +18,17 @@ use std::marker::Model;
 #[derive(Drop)]
 pub struct Asked {
     /// Any text, also one that no session can have.
-    pub pid: String,
+    pub pid: Text,
     /// The offset of the last event that the client has seen; none where the payload has none, or no text.
-    pub offset: Option<String>,
+    pub offset: Option<Text>,
 }
 
 impl Model for Asked {
-    ghost use Rattle.std.specs.Prelude.{string_bytes};
-    ghost use Rattle.std.specs.Option.{option_map};
     ghost use Rattle.aud_client.specs.StaySeen.{AskedSeen};
 
     ghost Value = { AskedSeen };
 
-    ghost view = { λ a. record { pid = string_bytes a.pid; offset = option_map string_bytes a.offset } };
+    ghost view = { λ a. record { pid = a.pid; offset = a.offset } };
 }
 
 /// What a packet of the client asks for, if it is a CONNECT that does.
@@ -60,17 +59,17 @@ fn asked_by(alloc: Global, json: &Value) -> Result<Option<Asked>, AllocError>
         return Ok(None);
     };
     Ok(Some(Asked {
-        pid: String::from_str(alloc, pid)?,
+        pid: Text::new(alloc, pid)?,
         offset: owned(alloc, text_at(json, "offset"))?,
     }))
 }
 
 /// The text, in memory of its own.
-fn owned(alloc: Global, text: Option<&str>) -> Result<Option<String>, AllocError>
-    ensures { IfOk result (λ own. option_map string_bytes own ≡ option_copied text.entry) }
+fn owned(alloc: Global, text: Option<&str>) -> Result<Option<Text>, AllocError>
+    ensures { IfOk result (λ own. own ≡ option_copied text.entry) }
 {
     match text {
-        Some(text) => Ok(Some(String::from_str(alloc, text)?)),
+        Some(text) => Ok(Some(Text::new(alloc, text)?)),
         None => Ok(None),
     }
 }

@@ -9,12 +9,18 @@ ghost use Rattle.aud_client.specs.Private.BySession.{stays_numbered};
 use crate::stay::Stay;
 use aud_base::Places;
 use std::alloc::{AllocError, Global};
+use std::hash::RandomState;
 
-/// Of each pid, the numbers of the stays whose reply names it. Stays count from 0; each is looked at once.
-pub fn by_session(alloc: Global, stays: &[Stay<'_>]) -> Result<Places, AllocError>
+/// Of each pid, the numbers of the stays whose reply names it. Stays count from 0; each is looked at once. Pids are
+/// hashed with these keys.
+pub fn by_session(
+    alloc: Global,
+    keys: RandomState,
+    stays: &[Stay<'_>],
+) -> Result<Places, AllocError>
     ensures { IfOk result (λ kept. (pid : Text) → stays_numbered stays.now (places_of kept pid) ≡ stays_naming pid stays.now) }
 {
-    let mut kept = Places::new(alloc);
+    let mut kept = Places::new(alloc, keys);
     for (number, stay) in stays.iter().enumerate() {
         note_stay(&mut kept, number, stay)?;
     }

@@ -5,7 +5,6 @@ ghost use Rattle.aud_client.specs.TapPackets.{tap_packets, numbered_records, bad
 ghost use Rattle.aud_client.specs.Private.ConnectionRead.{HasRead, inside};
 
 use crate::connection::{Placed, Reader};
-use aud_node::Stream;
 use aud_tap::ClientRec;
 use std::alloc::{AllocError, Global};
 use std::marker::Model;
@@ -53,23 +52,12 @@ impl<'a> ClientTap<'a> {
     pub fn build(alloc: Global, recs: &'a [ClientRec]) -> Result<ClientTap<'a>, AllocError>
         ensures { IfOk result (λ tap. tap ≡ recs.now) }
     {
-        ClientTap::read(alloc, None, recs)
-    }
-
-    /// What the records give. The texts of this stream's events, if there is one, aren't decoded again.
-    pub(crate) fn read(
-        alloc: Global,
-        stream: Option<&Stream<'a>>,
-        recs: &'a [ClientRec],
-    ) -> Result<ClientTap<'a>, AllocError>
-        ensures { IfOk result (λ tap. tap ≡ recs.now) }
-    {
         let mut read = Connections {
             list: Vec::new(alloc),
             bad: None,
         };
         for (number, rec) in recs.iter().enumerate() {
-            read.take(alloc, stream, number, rec, &recs[number + 1..])?;
+            read.take(alloc, number, rec, &recs[number + 1..])?;
         }
         Ok(ClientTap { recs, read })
     }
@@ -113,7 +101,6 @@ impl<'a> Connections<'a> {
     fn take(
         &mut self,
         alloc: Global,
-        stream: Option<&Stream<'a>>,
         number: usize,
         rec: &ClientRec,
         after: &'a [ClientRec],
@@ -123,7 +110,7 @@ impl<'a> Connections<'a> {
         ensures bad { OnOk result (self.new.bad ≡ option_or self.old.bad (bad_of (begun number rec.now after.now))) }
     {
         match rec {
-            ClientRec::Conn { c } => self.begin(alloc, stream, *c, number + 1, after),
+            ClientRec::Conn { c } => self.begin(alloc, *c, number + 1, after),
             _ => Ok(()),
         }
     }
@@ -132,7 +119,6 @@ impl<'a> Connections<'a> {
     fn begin(
         &mut self,
         alloc: Global,
-        stream: Option<&Stream<'a>>,
         c: u64,
         first: usize,
         recs: &'a [ClientRec],
@@ -141,7 +127,7 @@ impl<'a> Connections<'a> {
         ensures connections { OnOk result (connections_seen self.new.list.items ≡ connections_seen self.old.list.items ++ cut_seen (c, numbered_records first (inside recs.now)) ∷ []) }
         ensures bad { OnOk result (self.new.bad ≡ option_or self.old.bad (first_of (bad_in (numbered_records first (inside recs.now))))) }
     {
-        let reader = read_connection(alloc, stream, first, recs)?;
+        let reader = read_connection(alloc, first, recs)?;
         self.bad = self.bad.or(reader.bad);
         let packets = reader.into_packets();
         self.list.push(Connection { c, packets })?;
@@ -150,16 +136,15 @@ impl<'a> Connections<'a> {
 }
 
 /// Reads the records, the first of which has this number, up to the next `conn` or `lost`.
-fn read_connection<'s, 'a>(
+fn read_connection<'a>(
     alloc: Global,
-    stream: Option<&'s Stream<'a>>,
     first: usize,
     recs: &'a [ClientRec],
-) -> Result<Reader<'s, 'a>, AllocError>
+) -> Result<Reader<'a, 'a>, AllocError>
     requires { first + length recs.now < 2 ^ 64 }
     ensures { IfOk result (HasRead first (inside recs.now)) }
 {
-    let mut reader = Reader::new(alloc, stream);
+    let mut reader = Reader::new(alloc, None);
     reader.read_all(first, recs)?;
     Ok(reader)
 }

@@ -1,17 +1,21 @@
 //! What the clients' taps tell, and which of them name which session.
-ghost use Rattle.std.specs.Prelude.{◌≡◌, IfOk, OnOk, map};
+ghost use Rattle.std.specs.Prelude.{◌≡◌, IfOk, OnOk, length, map};
 ghost use Rattle.std.specs.Option.{option_copied};
+ghost use Rattle.aud_base.specs.Lists.{numbers_from};
 ghost use Rattle.aud_base.specs.Places.{noted, places_of};
 ghost use Rattle.aud_node.specs.Stream.{Text};
+ghost use Rattle.aud_client.specs.Received.{transcript_at};
 ghost use Rattle.aud_client.specs.Private.Clients.{AreRead, has_naming_stay, naming_transcripts, transcript_in};
 
 use crate::by_session::note_stays;
-use crate::client_tap::ClientTap;
 use crate::indexed_transcript::IndexedTranscript;
 use aud_base::Places;
-use aud_node::{Logs, Stream};
-use aud_tap::{Records, Tap};
+use aud_node::Logs;
+use aud_parallel::try_map;
+use aud_tap::Tap;
 use std::alloc::{AllocError, Global};
+use std::hash::RandomState;
+use std::thread::Threads;
 
 /// What the clients' taps tell, each read once.
 #[derive(Drop)]
@@ -23,12 +27,18 @@ pub struct Clients<'a> {
 }
 
 impl<'a> Clients<'a> {
-    /// Reads the clients' taps. Their packets are let go, one tap after another.
-    pub fn read(alloc: Global, logs: &Logs<'a>) -> Result<Clients<'a>, AllocError>
+    /// Reads the clients' taps, in at most so many threads.
+    pub fn read<H: Threads + Sync>(
+        rt: &H,
+        alloc: Global,
+        keys: RandomState,
+        threads: usize,
+        logs: &Logs<'a>,
+    ) -> Result<Clients<'a>, AllocError>
         ensures { IfOk result (AreRead logs.now) }
     {
-        let transcripts = transcripts_of(alloc, logs.stream(), logs.taps())?;
-        let naming = naming_of(alloc, transcripts.as_slice())?;
+        let transcripts = transcripts_of(rt, alloc, keys, threads, logs)?;
+        let naming = naming_of(alloc, keys, transcripts.as_slice())?;
         Ok(Clients {
             transcripts,
             naming,
@@ -36,47 +46,66 @@ impl<'a> Clients<'a> {
     }
 }
 
-/// What each of the taps tells, where it is a client's.
-fn transcripts_of<'a>(
+/// What the tap at each place tells, where it is a client's. The places are shared out among at most so many threads.
+fn transcripts_of<'a, H: Threads + Sync>(
+    rt: &H,
     alloc: Global,
-    stream: &Stream<'a>,
-    taps: &'a [Tap],
+    keys: RandomState,
+    threads: usize,
+    logs: &Logs<'a>,
 ) -> Result<Vec<Option<IndexedTranscript<'a>>>, AllocError>
-    ensures { IfOk result (λ transcripts. transcripts.items ≡ map (transcript_in stream.now) taps.now) }
+    ensures { IfOk result (λ transcripts. transcripts.items ≡ map (transcript_in logs.now.stream) logs.now.taps) }
 {
-    let mut transcripts = Vec::new(alloc);
-    for tap in taps {
-        transcripts.push(transcript_in(alloc, stream, tap)?)?;
-    }
-    Ok(transcripts)
+    let places = places_of_all(alloc, logs.taps())?;
+    try_map(
+        rt,
+        alloc,
+        threads,
+        places.as_slice(),
+        |place: &usize| -> Result<Option<IndexedTranscript<'_>>, AllocError>
+            ensures { IfOk result (λ transcript. transcript ≡ transcript_at logs.entry.now place.now) }
+        { transcript_at(alloc, keys, logs, *place) },
+    )
 }
 
-/// What the tap tells, if it is a client's.
-fn transcript_in<'a>(
-    alloc: Global,
-    stream: &Stream<'a>,
-    tap: &'a Tap,
-) -> Result<Option<IndexedTranscript<'a>>, AllocError>
-    ensures { IfOk result (λ transcript. transcript ≡ transcript_in stream.now tap.now) }
+/// The places of the taps, in their order.
+fn places_of_all(alloc: Global, taps: &[Tap]) -> Result<Vec<usize>, AllocError>
+    ensures { IfOk result (λ places. places.items ≡ numbers_from 0 (length taps.now)) }
 {
-    match &tap.records {
-        Records::Client(recs) => {
-            let decoded = ClientTap::read(alloc, Some(stream), recs.as_slice())?;
-            Ok(Some(IndexedTranscript::read(alloc, decoded, stream)?))
+    let mut places = Vec::with_capacity(alloc, taps.len())?;
+    for place in 0..taps.len() {
+        places.push(place)?;
+    }
+    Ok(places)
+}
+
+/// What the tap at the place tells, if it is a client's.
+fn transcript_at<'a>(
+    alloc: Global,
+    keys: RandomState,
+    logs: &Logs<'a>,
+    place: usize,
+) -> Result<Option<IndexedTranscript<'a>>, AllocError>
+    ensures { IfOk result (λ transcript. transcript ≡ transcript_at logs.now place) }
+{
+    match logs.client(place) {
+        Some(recs) => {
+            let transcript = IndexedTranscript::read(alloc, keys, recs, logs.stream())?;
+            Ok(Some(transcript))
         }
-        Records::Stream(_) => Ok(None),
-        Records::Node(_) => Ok(None),
+        None => Ok(None),
     }
 }
 
 /// Of each pid, the places of those that tell of a stay whose reply names it.
 fn naming_of(
     alloc: Global,
+    keys: RandomState,
     transcripts: &[Option<IndexedTranscript<'_>>],
 ) -> Result<Places, AllocError>
     ensures { IfOk result (λ naming. (pid : Text) → places_of naming pid ≡ naming_transcripts transcripts.now pid) }
 {
-    let mut naming = Places::new(alloc);
+    let mut naming = Places::new(alloc, keys);
     for (place, transcript) in transcripts.iter().enumerate() {
         note_transcript(&mut naming, place, transcript.as_ref())?;
     }

@@ -6,13 +6,14 @@ ghost use Rattle.aud_sio.specs.Message.{Text, messages_of, at};
 ghost use Rattle.aud_sio.specs.Packet.{packet_of, packet_view};
 ghost use Rattle.aud_client.specs.TapPackets.{is_connection_kind, one_of, client_packet, client_packet_in};
 ghost use Rattle.aud_client.specs.Private.ConnectionRead.{HasRead, ReadsRecord, ReadsEngine, Reads, ends_connection, inside, sent_seen, packets_read, bad_or};
-ghost use Rattle.aud_client.specs.Seen.{packet_seen};
+ghost use Rattle.aud_client.specs.Seen.{packet_seen, placed_seen};
 
 use aud_eio::{Eio, EioFault, decode_binary, decode_payload, decode_text};
 use aud_node::{KnownEvent, Stream};
 use aud_sio::{Assembler, Packet, PacketKind, SioFault, Whole, decode};
 use aud_tap::ClientRec;
 use std::alloc::{AllocError, Global};
+use std::mem::replace;
 
 /// A packet of a connection.
 #[derive(Drop)]
@@ -61,6 +62,16 @@ impl<'s, 'a> Reader<'s, 'a> {
         }
     }
 
+    /// The packets that were read, of which none is held after that.
+    pub fn take_packets(&mut self) -> Vec<Placed<'a>>
+        ensures packets { map placed_seen result.items ≡ packets_read self.old }
+        ensures rest { packets_read self.new ≡ [] }
+        ensures assembler { self.new.assembler ≡ self.old.assembler }
+        ensures bad { self.new.bad ≡ self.old.bad }
+    {
+        replace(&mut self.packets, Vec::new(self.alloc))
+    }
+
     /// The packets that were read.
     pub fn into_packets(self) -> Vec<Placed<'a>>
         ensures { result.items ≡ self.entry.packets.items }
@@ -84,7 +95,7 @@ impl<'s, 'a> Reader<'s, 'a> {
     }
 
     /// The connection's next record, which has this number.
-    fn read(&mut self, number: usize, rec: &'a ClientRec) -> Result<(), AllocError>
+    pub fn read(&mut self, number: usize, rec: &'a ClientRec) -> Result<(), AllocError>
         ensures { OnOk result (ReadsRecord number rec.now self.old self.new) }
     {
         match rec {
@@ -220,7 +231,7 @@ impl<'s, 'a> Reader<'s, 'a> {
 }
 
 /// Whether the record ends the connection before it.
-fn ends_connection(rec: &ClientRec) -> bool
+pub fn ends_connection(rec: &ClientRec) -> bool
     ensures { result ≡ ends_connection rec.now }
 {
     matches!(rec, ClientRec::Conn { .. } | ClientRec::Lost)

@@ -5,13 +5,14 @@ ghost use Rattle.aud_client.specs.Received.{transcript_of, stays_naming};
 ghost use Rattle.aud_client.specs.Private.BySession.{stays_numbered};
 
 use crate::by_session::by_session;
-use crate::client_tap::ClientTap;
 use crate::stay::Stay;
 use crate::tap::read_transcript;
 use crate::transcript::Transcript;
 use aud_base::Places;
 use aud_node::Stream;
+use aud_tap::ClientRec;
 use std::alloc::{AllocError, Global};
+use std::hash::RandomState;
 use std::marker::Model;
 
 /// What a client's tap tells, and which of its stays name which session: a session then costs its own stays. Seen as
@@ -35,16 +36,17 @@ impl<'a> Model for IndexedTranscript<'a> {
 }
 
 impl<'a> IndexedTranscript<'a> {
-    /// Reads the tap, all of it once.
+    /// Reads the records, all of them once. Pids are hashed with these keys.
     pub fn read(
         alloc: Global,
-        tap: ClientTap<'a>,
-        stream: &Stream<'_>,
+        keys: RandomState,
+        recs: &'a [ClientRec],
+        stream: &Stream<'a>,
     ) -> Result<IndexedTranscript<'a>, AllocError>
-        ensures { IfOk result (λ transcript. transcript ≡ transcript_of stream.now tap.entry) }
+        ensures { IfOk result (λ transcript. transcript ≡ transcript_of stream.now recs.now) }
     {
-        let transcript = read_transcript(alloc, tap, stream)?;
-        let by_session = by_session(alloc, transcript.stays.as_slice())?;
+        let transcript = read_transcript(alloc, recs, stream)?;
+        let by_session = by_session(alloc, keys, transcript.stays.as_slice())?;
         Ok(IndexedTranscript {
             transcript,
             by_session,

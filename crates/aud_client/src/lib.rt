@@ -1,13 +1,15 @@
 //! What clients sent and received: the packets of their taps, the stays of their connections, and the frames in them.
 //!
-//! Begin at [`Recording`], which reads all taps of a bundle once; [`read_transcript`] goes through a tap's packets.
+//! Begin at [`Recording`], which reads all taps of a bundle once; [`read_transcript`] goes through a tap's records.
 //!
 //! With the `taps` of `examples/bundle_a.jsonl`:
 //!
 //! ```
 //! use aud_client::Recording;
+//! use std::hash::RandomState;
 //!
-//! let recording = Recording::read(alloc, taps)?;
+//! let keys = RandomState::new(&rt)?;
+//! let recording = Recording::read(&rt, alloc, keys, 4, taps)?;
 //! assert_eq!(rt; recording.naming("P"), [2].as_slice()); // the place of `c1`
 //! let client = recording.client(2).ok_or("no client")?;
 //! let stay = client.transcript().stays.first().ok_or("no stay")?;
@@ -32,6 +34,7 @@ mod replies;
 mod stay;
 mod stays;
 mod tap;
+mod told;
 mod transcript;
 
 pub use asked::Asked;

@@ -11,7 +11,9 @@ use crate::indexed_transcript::IndexedTranscript;
 use aud_node::Logs;
 use aud_tap::Taps;
 use std::alloc::{AllocError, Global};
+use std::hash::RandomState;
 use std::marker::Model;
+use std::thread::Threads;
 
 /// The taps, lent, with all that was made of them, each read once: the logs of the stream and of the nodes, and what
 /// each client's tap tells. Seen as the cluster. A tap is named by its place, which counts from 0 in the order of the
@@ -34,13 +36,21 @@ impl<'a> Model for Recording<'a> {
 }
 
 impl<'a> Recording<'a> {
-    /// Reads the taps. The packets of the clients' taps are let go, one tap after another.
-    pub fn read(alloc: Global, taps: &'a Taps) -> Result<Recording<'a>, AllocError>
+    /// Reads the taps, those of clients in at most so many threads: with 0 or 1 none is started. How many there are
+    /// changes nothing in what is read. A client's packets are let go record after record: what the stays keep of them
+    /// is moved out. Names, pids and offsets are hashed with these keys.
+    pub fn read<H: Threads + Sync>(
+        rt: &H,
+        alloc: Global,
+        keys: RandomState,
+        threads: usize,
+        taps: &'a Taps,
+    ) -> Result<Recording<'a>, AllocError>
         requires { AreNamedOnce taps.now }
         ensures { IfOk result (λ recording. recording ≡ cluster_of taps.now) }
     {
-        let logs = Logs::build(alloc, taps)?;
-        let clients = Clients::read(alloc, &logs)?;
+        let logs = Logs::build(alloc, keys, taps)?;
+        let clients = Clients::read(rt, alloc, keys, threads, &logs)?;
         Ok(Recording { logs, clients })
     }
 

@@ -1,12 +1,12 @@
 //! What the server's answer to a CONNECT tells.
-ghost use Rattle.std.specs.Prelude.{◌≡◌, IfOk, option_map, string_bytes};
+ghost use Rattle.std.specs.Prelude.{◌≡◌, IfOk, option_map};
 ghost use Rattle.serde_json.specs.View.{view as data_of};
 ghost use Rattle.aud_sio.specs.Assembly.{whole_view};
 ghost use Rattle.aud_client.specs.Replies.{is_connect_kind, pid_in, reply_in, sid_in, reply_in_value, value_of};
 
 use crate::payload::{text_at, value_of};
 use aud_sio::{PacketKind, Whole};
-use aud_tap::is_session_id;
+use aud_tap::{Text, is_session_id};
 use serde_json::Value;
 use std::alloc::{AllocError, Global};
 use std::marker::Model;
@@ -16,18 +16,17 @@ use std::marker::Model;
 pub struct Reply {
     /// The session that it names: 1 to 128 bytes, each of 0x21 to 0x7e. None where the payload has no such `pid`, as
     /// where recovery is off.
-    pub pid: Option<String>,
+    pub pid: Option<Text>,
     /// Empty where the payload has none.
-    pub sid: String,
+    pub sid: Text,
 }
 
 impl Model for Reply {
-    ghost use Rattle.std.specs.Prelude.{option_map, string_bytes};
     ghost use Rattle.aud_client.specs.Replies.{ReplySeen};
 
     ghost Value = { ReplySeen };
 
-    ghost view = { λ r. record { pid = option_map string_bytes r.pid; sid = string_bytes r.sid } };
+    ghost view = { λ r. record { pid = r.pid; sid = r.sid } };
 }
 
 /// The reply that a packet of the server is (Socket.IO protocol 5, "Connection to a namespace"); none where it is no
@@ -55,7 +54,7 @@ fn reply_in_value(alloc: Global, payload: Option<&str>) -> Result<Reply, AllocEr
     let Some(json) = value_of(alloc, payload)? else {
         return Ok(Reply {
             pid: None,
-            sid: String::new(alloc),
+            sid: Text::new(alloc, "")?,
         });
     };
     let pid = pid_in(alloc, &json)?;
@@ -64,21 +63,21 @@ fn reply_in_value(alloc: Global, payload: Option<&str>) -> Result<Reply, AllocEr
 }
 
 /// The session that the value names.
-fn pid_in(alloc: Global, json: &Value) -> Result<Option<String>, AllocError>
-    ensures { IfOk result (λ pid. option_map string_bytes pid ≡ pid_in (data_of json.now)) }
+fn pid_in(alloc: Global, json: &Value) -> Result<Option<Text>, AllocError>
+    ensures { IfOk result (λ pid. pid ≡ pid_in (data_of json.now)) }
 {
     match text_at(json, "pid") {
-        Some(pid) if is_session_id(pid) => Ok(Some(String::from_str(alloc, pid)?)),
+        Some(pid) if is_session_id(pid) => Ok(Some(Text::new(alloc, pid)?)),
         _ => Ok(None),
     }
 }
 
 /// The `sid` of the value, empty where there is none.
-fn sid_in(alloc: Global, json: &Value) -> Result<String, AllocError>
-    ensures { IfOk result (λ sid. string_bytes sid ≡ sid_in (data_of json.now)) }
+fn sid_in(alloc: Global, json: &Value) -> Result<Text, AllocError>
+    ensures { IfOk result (λ sid. sid ≡ sid_in (data_of json.now)) }
 {
     match text_at(json, "sid") {
-        Some(sid) => Ok(String::from_str(alloc, sid)?),
-        None => Ok(String::new(alloc)),
+        Some(sid) => Text::new(alloc, sid),
+        None => Text::new(alloc, ""),
     }
 }

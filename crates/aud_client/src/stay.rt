@@ -17,6 +17,7 @@ use crate::frame::{Frame, frame_of, known_frame};
 use crate::replies::{Reply, reply_of};
 use aud_node::Stream;
 use aud_sio::{Packet, Whole};
+use aud_tap::Text;
 use std::alloc::{AllocError, Global};
 use std::marker::Model;
 
@@ -49,7 +50,7 @@ impl<'a> Stay<'a> {
         ensures { result ≡ stay_names_pid pid.now self.now }
     {
         match self.reply.as_ref() {
-            Some(reply) => is_this(reply.pid.as_deref(), pid),
+            Some(reply) => is_this(reply.pid.as_ref(), pid),
             None => false,
         }
     }
@@ -138,11 +139,11 @@ impl<'a> Stay<'a> {
 }
 
 /// Whether there is a pid, and it is this one.
-fn is_this(named: Option<&str>, pid: &str) -> bool
+fn is_this(named: Option<&Text>, pid: &str) -> bool
     ensures { result ≡ is_this pid.now (option_copied named.entry) }
 {
     match named {
-        Some(named) => named == pid,
+        Some(named) => named.as_str() == pid,
         None => false,
     }
 }

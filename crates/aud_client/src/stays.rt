@@ -1,19 +1,17 @@
 //! The stays of a tap, as its packets come.
-ghost use Rattle.std.specs.Prelude.{◌≡◌, ℕ, ◌++◌, ◌∷◌, List, [], IfSome, OnOk, flat_map, length, None, Some, slice_get, set, true};
+ghost use Rattle.std.specs.Prelude.{◌≡◌, ℕ, ◌++◌, ◌∷◌, List, [], IfSome, OnOk, length, None, Some, slice_get, set, true};
 ghost use Rattle.std.specs.Option.{option_and_then};
 ghost use Rattle.aud_tap.specs.declared.records.StreamRec.{StreamRec};
 ghost use Rattle.aud_client.specs.TapPackets.{TapPacket as TapPacketSeen};
-ghost use Rattle.aud_client.specs.Seen.{connection_seen, connections_seen, packet_seen};
+ghost use Rattle.aud_client.specs.Seen.{packet_seen};
 ghost use Rattle.aud_client.specs.Stays.{is_connect, is_disconnect, namespace, packet_in};
 ghost use Rattle.aud_sio.specs.Packet.{packet_view};
 ghost use Rattle.aud_client.specs.StaySeen.{StaySeen};
-ghost use Rattle.aud_client.specs.Received.{stays_of};
 ghost use Rattle.aud_node.specs.Recoverable.{is_event};
 ghost use Rattle.aud_node.specs.Stream.{Text};
-ghost use Rattle.aud_client.specs.Private.Kept.{KeepsStays, BeginsAt, GoesOn, open_at, place_for, unless_replied, empty_stay, grown};
+ghost use Rattle.aud_client.specs.Private.Kept.{KeepsStays, packets_seen, BeginsAt, GoesOn, open_at, place_for, unless_replied, empty_stay, grown};
 
-use crate::client_tap::Connection;
-use crate::connection::TapPacket;
+use crate::connection::{Placed, TapPacket};
 use crate::stay::Stay;
 use aud_node::Stream;
 use aud_sio::{Packet, PacketKind};
@@ -48,41 +46,26 @@ impl<'a> Stays<'a> {
         stays
     }
 
-    /// The tap's connections, each of them as a whole.
-    pub fn connections(
-        &mut self,
-        stream: &Stream<'_>,
-        connections: Vec<Connection<'a>>,
-    ) -> Result<(), AllocError>
-        ensures { OnOk result (self.new.stays.items ≡ self.old.stays.items ++ flat_map (stays_of stream.now) (connections_seen connections.entry.items)) }
+    /// No stay goes on.
+    pub fn begin_connection(&mut self)
+        ensures { (stream : List StreamRec) (c : ℕ) → KeepsStays stream c self.new self.old.stays.items [] }
     {
-        for connection in connections {
-            self.connection(stream, connection)?;
-        }
-        Ok(())
+        self.open.clear();
     }
 
-    /// The tap's next connection, all of it.
-    fn connection(
+    /// The next packets of the connection with this number.
+    pub fn packets(
         &mut self,
         stream: &Stream<'_>,
-        connection: Connection<'a>,
+        c: u64,
+        packets: Vec<Placed<'a>>,
     ) -> Result<(), AllocError>
-        ensures { OnOk result (self.new.stays.items ≡ self.old.stays.items ++ stays_of stream.now (connection_seen connection.entry)) }
+        ensures { (done : List StaySeen) (before : List TapPacketSeen) → KeepsStays stream.now c self.old done before → OnOk result (KeepsStays stream.now c self.new done (before ++ packets_seen packets.entry.items)) }
     {
-        let Connection { c, packets } = connection;
-        self.begin_connection();
         for placed in packets {
             self.take(stream, c, placed.packet)?;
         }
         Ok(())
-    }
-
-    /// No stay goes on.
-    fn begin_connection(&mut self)
-        ensures { (stream : List StreamRec) (c : ℕ) → KeepsStays stream c self.new self.old.stays.items [] }
-    {
-        self.open.clear();
     }
 
     /// The next packet of the connection with this number.

@@ -2,42 +2,29 @@
 ghost use Rattle.std.specs.Prelude.{◌≡◌, IfOk};
 ghost use Rattle.std.specs.List.{list_any};
 ghost use Rattle.std.specs.Option.{option_copied};
-ghost use Rattle.aud_client.specs.Received.{transcript_of, tap_stays, is_orphan, names_somebody};
+ghost use Rattle.aud_client.specs.Received.{transcript_of, is_orphan, names_somebody};
 
-use crate::client_tap::ClientTap;
 use crate::replies::Reply;
 use crate::stay::Stay;
-use crate::stays::Stays;
+use crate::told::{Told, told_by};
 use crate::transcript::Transcript;
 use aud_node::Stream;
+use aud_tap::ClientRec;
 use std::alloc::{AllocError, Global};
 
-/// The stays of the tap, with the frames that are recoverable in this stream. The packets are let go: what the frames
-/// keep of them is moved out.
+/// The stays of a client's tap with these records, with the frames that are recoverable in this stream. Packets are let
+/// go record after record: what the frames keep of them is moved out. The texts of the stream's events aren't decoded.
 pub fn read_transcript<'a>(
     alloc: Global,
-    tap: ClientTap<'a>,
-    stream: &Stream<'_>,
+    recs: &'a [ClientRec],
+    stream: &Stream<'a>,
 ) -> Result<Transcript<'a>, AllocError>
-    ensures { IfOk result (λ r. r ≡ transcript_of stream.now tap.entry) }
+    ensures { IfOk result (λ r. r ≡ transcript_of stream.now recs.now) }
 {
-    let bad = tap.bad();
-    let stays = stays_of(alloc, tap, stream)?;
+    let Told { bad, stays } = told_by(alloc, recs, stream)?;
+    let stays = stays.into_stays();
     let orphan = has_orphan(stays.as_slice());
     Ok(Transcript { bad, orphan, stays })
-}
-
-/// The stays of all connections, in one pass.
-fn stays_of<'a>(
-    alloc: Global,
-    tap: ClientTap<'a>,
-    stream: &Stream<'_>,
-) -> Result<Vec<Stay<'a>>, AllocError>
-    ensures { IfOk result (λ stays. stays.items ≡ tap_stays stream.now tap.entry) }
-{
-    let mut stays = Stays::new(alloc);
-    stays.connections(stream, tap.into_connections())?;
-    Ok(stays.into_stays())
 }
 
 /// Whether any of the stays is an orphan's.

@@ -85,7 +85,7 @@ fn named(
         let Some(pid) = pids.next() else {
             unreachable!()
         };
-        let pid = Text::new(pid);
+        let pid = Text::new(alloc, pid.as_str())?;
         all.push(SessionVerdict { pid, verdict })?;
     }
     Ok(all)

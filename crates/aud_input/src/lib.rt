@@ -2,8 +2,10 @@
 //!
 //! ```
 //! use aud_input::{InputReader, Layout};
+//! use std::hash::RandomState;
 //!
-//! let mut reader = InputReader::new(alloc, Layout::BundleAndCertificates);
+//! let keys = RandomState::new(&rt)?;
+//! let mut reader = InputReader::new(alloc, keys, Layout::BundleAndCertificates);
 //! reader.feed(b"c1 {\"k\":\"tap\",\"v\":1,\"of\":\"cli")?;
 //! reader.feed(b"ent\"}\n{}\n")?;
 //! let input = reader.finish()?;

@@ -8,6 +8,7 @@ ghost use Rattle.aud_input.specs.Reader.{parts_to_come};
 use crate::input::{Input, Layout};
 use aud_reader::{BundleReader, Line, ReadFault};
 use std::alloc::Global;
+use std::hash::RandomState;
 use std::marker::Model;
 
 /// Reads lines until one is refused: keeps the certificates, and of the others what the reader of the bundle keeps.
@@ -44,14 +45,14 @@ fn is_certificate(layout: Layout, line: &Line) -> bool
 }
 
 impl PartsReader {
-    /// A reader before the first line.
-    pub fn new(alloc: Global, layout: Layout) -> PartsReader
+    /// A reader before the first line. Texts are found again by their hashes under these keys.
+    pub fn new(alloc: Global, keys: RandomState, layout: Layout) -> PartsReader
         ensures going { result.taps.fault ≡ None }
         ensures parts { (lines : List Line) → parts_to_come result lines ≡ parts_of layout lines }
     {
         PartsReader {
             layout,
-            taps: BundleReader::new(alloc),
+            taps: BundleReader::new(alloc, keys),
             certificates: Vec::new(alloc),
         }
     }

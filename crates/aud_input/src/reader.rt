@@ -10,6 +10,7 @@ use crate::input::{Input, Layout};
 use crate::parts::PartsReader;
 use aud_reader::{ReadFault, Splitter};
 use std::alloc::Global;
+use std::hash::RandomState;
 use std::marker::Model;
 
 /// Reads an input that comes in pieces: each line once it is whole.
@@ -54,15 +55,15 @@ fn read_piece(
 }
 
 impl InputReader {
-    /// A reader before the first byte.
-    pub fn new(alloc: Global, layout: Layout) -> InputReader
+    /// A reader before the first byte. Texts are found again by their hashes under these keys.
+    pub fn new(alloc: Global, keys: RandomState, layout: Layout) -> InputReader
         ensures number { result.cut.number ≡ 1 }
         ensures going { result.fault ≡ None }
         ensures input { (bytes : List ℕ) → input_to_come result bytes ≡ input_of layout bytes }
     {
         InputReader {
             splitter: Splitter::new(alloc),
-            parts: PartsReader::new(alloc, layout),
+            parts: PartsReader::new(alloc, keys, layout),
             fault: None,
         }
     }

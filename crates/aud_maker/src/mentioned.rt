@@ -4,13 +4,14 @@ ghost use Rattle.aud_maker.specs.Private.Mentioned.{with_mention};
 
 use indexmap::IndexSet;
 use std::alloc::{AllocError, Global};
+use std::hash::RandomState;
 use std::marker::Model;
 
 /// The pids of sessions, each once, in the order of their first mentions; seen as their list.
 #[derive(Drop)]
 pub(crate) struct Mentioned {
     alloc: Global,
-    pids: IndexSet<String>,
+    pids: IndexSet<String, RandomState>,
 }
 
 impl Model for Mentioned {
@@ -22,13 +23,13 @@ impl Model for Mentioned {
 }
 
 impl Mentioned {
-    /// None yet.
-    pub(crate) fn new(alloc: Global) -> Mentioned
+    /// None yet; the pids will be hashed with these keys.
+    pub(crate) fn new(alloc: Global, keys: RandomState) -> Mentioned
         ensures { result ≡ [] }
     {
         Mentioned {
             alloc,
-            pids: IndexSet::new(alloc),
+            pids: IndexSet::with_hasher(alloc, keys),
         }
     }
 

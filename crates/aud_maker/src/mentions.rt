@@ -9,7 +9,7 @@ ghost use Rattle.aud_maker.specs.Private.Mentioned.{with_mentions};
 use crate::mentioned::Mentioned;
 use aud_client::{Recording, Stay};
 use aud_node::pid;
-use aud_tap::{NodeRec, Records, Tap};
+use aud_tap::{NodeRecs, Records, Tap};
 use std::alloc::{AllocError, Global};
 
 /// The pids of the sessions, each once, by first mention: in the nodes' taps, in the order of their headers and then of
@@ -18,8 +18,9 @@ use std::alloc::{AllocError, Global};
 pub fn sessions(alloc: Global, recording: &Recording<'_>) -> Result<Vec<String>, AllocError>
     ensures { IfOk result (λ pids. map string_bytes pids.items ≡ sessions_of recording.now) }
 {
-    let mut mentioned = Mentioned::new(alloc);
-    let taps = recording.logs().taps();
+    let logs = recording.logs();
+    let mut mentioned = Mentioned::new(alloc, logs.keys());
+    let taps = logs.taps();
     for tap in taps {
         mention_node(&mut mentioned, tap)?;
     }
@@ -34,16 +35,16 @@ fn mention_node(mentioned: &mut Mentioned, tap: &Tap) -> Result<(), AllocError>
     ensures { OnOk result (mentioned.new ≡ with_mentions mentioned.old (node_pids tap.now)) }
 {
     match &tap.records {
-        Records::Node(recs) => mention_records(mentioned, recs.as_slice()),
+        Records::Node(recs) => mention_records(mentioned, recs),
         _ => Ok(()),
     }
 }
 
-fn mention_records(mentioned: &mut Mentioned, recs: &[NodeRec]) -> Result<(), AllocError>
+fn mention_records(mentioned: &mut Mentioned, recs: &NodeRecs) -> Result<(), AllocError>
     ensures { OnOk result (mentioned.new ≡ with_mentions mentioned.old (filter_map pid_of recs.now)) }
 {
-    for rec in recs {
-        if let Some(named) = pid(rec) {
+    for number in 0..recs.len() {
+        if let Some(named) = pid(&recs[number]) {
             mentioned.mention(named)?;
         }
     }

@@ -6,7 +6,7 @@
 //! use aud_cert::Fault;
 //! use aud_many::make_all;
 //!
-//! let made = make_all(&rt, alloc, recording, &pids)?;
+//! let made = make_all(&rt, alloc, 4, recording, &pids)?;
 //! assert!(rt; made[0].is_ok());
 //! // No node opened a session Q.
 //! assert!(rt; matches!(made[1], Err(Fault::NoLog)));
@@ -40,10 +40,11 @@ fn make_one<'a>(
 
 /// What `make` gives for each of these sessions, in their order: its certificate, or the first of the faults `NoLog`,
 /// `Chain`, `Order` and `Client` that holds. Want of memory at any of them is the one error. They are shared out among
-/// as many threads as [`try_map`] starts. Each costs what it costs `make`.
+/// at most `threads` threads, as [`try_map`] says. Each costs what it costs `make`.
 pub fn make_all<'a, H: Threads + Sync>(
     rt: &H,
     alloc: Global,
+    threads: usize,
     recording: &Recording<'a>,
     pids: &[String],
 ) -> Result<Vec<Result<Certificate<'a>, Fault>>, AllocError>
@@ -52,6 +53,7 @@ pub fn make_all<'a, H: Threads + Sync>(
     try_map(
         rt,
         alloc,
+        threads,
         pids,
         |pid: &String| -> Result<Result<Certificate<'_>, Fault>, AllocError>
             ensures { IfOk result (IsMadeOf recording.entry.now (string_bytes pid.now)) }

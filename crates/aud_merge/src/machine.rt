@@ -32,7 +32,7 @@ fn next_allowed(state: &State, logs: &Logs, place: usize, done: Progress, log: &
 {
     match log {
         Records::Stream(recs) => done.taken < recs.as_slice().len(),
-        Records::Node(recs) => match recs.as_slice().get(done.taken) {
+        Records::Node(recs) => match recs.get(done.taken) {
             Some(rec) => record_allowed(state, logs, place, done, rec),
             None => false,
         },
@@ -110,9 +110,9 @@ fn take_next<'a>(
             }
             None => unreachable!(),
         },
-        Records::Node(recs) => match recs.as_slice().get(done.taken) {
-            Some(rec) => take_record(state, logs, place, done, rec),
-            None => unreachable!(),
+        Records::Node(recs) => match recs.get(done.taken) {
+            Some(rec) if done.taken < recs.len() => take_record(state, logs, place, done, rec),
+            _ => unreachable!(),
         },
         Records::Client(_) => unreachable!(),
     }

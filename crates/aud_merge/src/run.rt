@@ -43,7 +43,7 @@ fn step_count(log: &Records) -> usize
 {
     match log {
         Records::Stream(recs) => recs.as_slice().len(),
-        Records::Node(recs) => recs.as_slice().len(),
+        Records::Node(recs) => recs.len(),
         Records::Client(_) => 0,
     }
 }

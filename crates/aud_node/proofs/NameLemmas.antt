@@ -1,5 +1,5 @@
 -- The places of taps and records by what they name.
-use Rattle.std.proofs.Common.{◌≡◌, ℕ, ◌+◌, suc, Bool, List, [], ◌∷◌, length, refl, sym, ap, ◌∙◌, arith, Option, Some, option_map, slice_get}
+use Rattle.std.proofs.Common.{◌≡◌, ℕ, ◌+◌, suc, Bool, List, [], ◌∷◌, length, refl, ap, ◌∙◌, arith, Some, option_map, slice_get}
 use Rattle.std.specs.List.{filter}
 use Rattle.aud_base.specs.Places.{places_where}
 use Rattle.aud_node.specs.Lists.{numbers_from, first_index}

@@ -1,6 +1,6 @@
 -- Consecutive records of a log: one by its number, those between two numbers, and the cursor along them.
-use Rattle.std.proofs.Common.{◌≡◌, ◌<◌, ◌≤◌, ◌+◌, ◌-◌, ℕ, zero, suc, List, [], ◌∷◌, ◌++◌, length, drop, Option, Some, None, slice_get, refl, ap, ◌∙◌, arith}
-use Rattle.std.proofs.lemmas.List.{length-take, length-drop}
+use Rattle.std.proofs.Common.{◌≡◌, ◌<◌, ◌≤◌, ◌+◌, ◌-◌, ℕ, zero, suc, List, [], ◌∷◌, ◌++◌, length, take, drop, min, Option, Some, None, slice_get, refl, sym, ap, ◌∙◌, arith}
+use Rattle.std.proofs.lemmas.List.{length-take, length-drop, drop-drop, drop-take, take-take, take_rest, take_all, drop_all}
 use Rattle.std.proofs.lemmas.Option.{slice_get_within}
 use Rattle.aud_tap.specs.declared.records.StreamRec.{StreamRec}
 use Rattle.aud_tap.specs.declared.records.NodeRec.{NodeRec}
@@ -17,6 +17,28 @@ module _ {X : Type 0} where
   -- an element between two numbers
   pub slice_get-between : (xs : List X) (from to i j : ℕ) → i ≡ from + j → i < to → slice_get (between xs from to) j ≡ slice_get xs i
   slice_get-between xs from to i j e h = slice_get-take (to - from) (drop from xs) j (omega arith) ∙ slice_get-drop from xs j i e
+
+  -- there are no elements after the last one
+  between-clipped : (xs : List X) (a b from to : ℕ) → to ≡ min b (length xs) → from ≡ min a to → between xs from to ≡ between xs a b
+  between-clipped xs a b from to last first = grind (arith, last, first, take_rest xs a, take_all (b - a) (drop a xs), drop_all a xs, drop_all from xs, length-drop a xs)
+
+  -- the elements between two numbers of those between two others
+  between-within : (xs : List X) (f t a b : ℕ) → a ≤ b → b ≤ t - f → between xs (f + a) (f + b) ≡ between (between xs f t) a b
+  between-within xs f t a b ab bt =
+      let count : f + b - (f + a) ≡ b - a = omega arith in
+      let all : a + (t - f - a) ≡ t - f = omega (arith, ab, bt) in
+      ap (λ n. take n (drop (f + a) xs)) count
+      ∙ ap (take (b - a)) (sym (drop-drop a f xs))
+      ∙ sym (take-take (b - a) (t - f - a) (drop a (drop f xs)) (omega (arith, bt)))
+      ∙ ap (take (b - a)) (sym (drop-take a (t - f - a) (drop f xs)))
+      ∙ ap (λ n. take (b - a) (drop a (take n (drop f xs)))) all
+
+  -- the same where there may be fewer
+  pub between-between : (xs : List X) (f t a b from to : ℕ) → t ≤ length xs → to ≡ min b (t - f) → from ≡ min a to → between xs (f + from) (f + to) ≡ between (between xs f t) a b
+  between-between xs f t a b from to within last first =
+      let count : length (between xs f t) ≡ t - f = omega (arith, length-take (t - f) (drop f xs), length-drop f xs) in
+      between-within xs f t from to (omega (arith, first)) (omega (arith, last))
+      ∙ between-clipped (between xs f t) a b from to (last ∙ ap (min b) (sym count)) first
 
   -- one element more at the end of those between two numbers
   pub between-push : (xs : List X) (from at : ℕ) (x : X) → from ≤ at → slice_get xs at ≡ Some x → between xs from (suc at) ≡ between xs from at ++ x ∷ []

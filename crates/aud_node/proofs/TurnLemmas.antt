@@ -33,15 +33,15 @@ after-more : (i n : ℕ) (o : Option (ℕ × ℕ)) → n ≡ i + 1 → after n o
 after-more i n o next = grind arith
 
 -- the loop's step: one record more in front
-pub step : (log : List NodeRec) (i n : ℕ) (rec : NodeRec) (old new : Turns) → n ≡ i + 1 → drop i log ≡ rec ∷ drop n log → HoldsFrom log n old
-    → ((q : Text) (k : ℕ) → kept_range new q k ≡ cond (begins_turn q k rec) (Some (record { from = i; to = kept_end old q (length log) })) (kept_range old q k))
-    → ((q : Text) → kept_end new q (length log) ≡ cond (begins_any_turn q rec) i (cond (ends_any_turn q rec) (i + 1) (kept_end old q (length log))))
+pub step : (log : List NodeRec) (len i n : ℕ) (rec : NodeRec) (old new : Turns) → len ≡ length log → n ≡ i + 1 → drop i log ≡ rec ∷ drop n log → HoldsFrom log n old
+    → ((q : Text) (k : ℕ) → kept_range new q k ≡ cond (begins_turn q k rec) (Some (record { from = i; to = kept_end old q len })) (kept_range old q k))
+    → ((q : Text) → kept_end new q len ≡ cond (begins_any_turn q rec) i (cond (ends_any_turn q rec) (i + 1) (kept_end old q len)))
     → HoldsFrom log i new
-step log i n rec old new next front held spans ends =
+step log len i n rec old new all next front held spans ends =
     record {
       spans_are = λ pid k.
-          grind (arith, spans pid k, front, turn_range-cons rec (drop n log) pid k, held.spans_are pid k, held.ends_are pid, after-more i n (turn_range (drop n log) pid k));
-      ends_are = λ pid. grind (arith, ends pid, front, held.ends_are pid);
+          grind (arith, all, spans pid k, front, turn_range-cons rec (drop n log) pid k, held.spans_are pid k, held.ends_are pid, after-more i n (turn_range (drop n log) pid k));
+      ends_are = λ pid. grind (arith, all, ends pid, front, held.ends_are pid);
     }
 
 -- from the first record on

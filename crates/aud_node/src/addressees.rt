@@ -10,21 +10,24 @@ ghost use Rattle.aud_node.specs.Private.AddresseeIndex.{HoldsAddressees, kept_to
 use aud_base::Places;
 use aud_tap::{StreamRec, Text};
 use std::alloc::{AllocError, Global};
-use std::collections::BTreeMap;
+use std::collections::HashMap;
+use std::hash::RandomState;
 
 /// Of each namespace, the positions of the recoverable entries for the whole of it, and of those that name a room, by
 /// the room.
 #[derive(Drop)]
 pub struct Addressees<'a> {
     alloc: Global,
+    keys: RandomState,
     everyone: Places,
-    rooms: BTreeMap<&'a str, Places>,
+    rooms: HashMap<&'a str, Places, RandomState>,
 }
 
 impl<'a> Addressees<'a> {
     /// The positions of these entries, of which the flags say whether they are recoverable. An entry costs its rooms.
     pub fn build(
         alloc: Global,
+        keys: RandomState,
         entries: &'a [StreamRec],
         recoverable: &[bool],
     ) -> Result<Addressees<'a>, AllocError>
@@ -33,8 +36,9 @@ impl<'a> Addressees<'a> {
     {
         let mut addressees = Addressees {
             alloc,
-            everyone: Places::new(alloc),
-            rooms: BTreeMap::new(alloc),
+            keys,
+            everyone: Places::new(alloc, keys),
+            rooms: HashMap::with_hasher(alloc, keys),
         };
         for (i, entry) in entries.iter().enumerate() {
             addressees.note(entry, recoverable[i], i + 1)?;
@@ -94,7 +98,8 @@ impl<'a> Addressees<'a> {
         ensures rooms { OnOk result ((q room : List ℕ) → kept_to_room self.new q room ≡ noted position (bytes_eq nsp.now q && list_any (λ other. bytes_eq other room) rooms.now) (kept_to_room self.old q room)) }
         ensures everyone { self.new.everyone ≡ self.old.everyone }
     {
-        let positions = self.rooms.entry(nsp)?.or_insert(Places::new(self.alloc));
+        let none = Places::new(self.alloc, self.keys);
+        let positions = self.rooms.entry(nsp)?.or_insert(none);
         note_each(positions, rooms, position)?;
         Ok(())
     }

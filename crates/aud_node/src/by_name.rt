@@ -10,14 +10,15 @@ ghost use Rattle.aud_node.specs.Names.{place_of};
 
 use crate::fields::pid;
 use aud_base::Places;
-use aud_tap::{NodeRec, Records, Tap};
+use aud_tap::{NodeRec, NodeRecs, Records, Tap};
 use std::alloc::{AllocError, Global};
+use std::hash::RandomState;
 
 /// Of each name, the places of the taps that have it; in a bundle it is one.
-pub fn taps_by_name(alloc: Global, taps: &[Tap]) -> Result<Places, AllocError>
+pub fn taps_by_name(alloc: Global, keys: RandomState, taps: &[Tap]) -> Result<Places, AllocError>
     ensures { IfOk result (λ places. (name : Text) → slice_get (places_of places name) 0 ≡ place_of taps.now name) }
 {
-    let mut places = Places::new(alloc);
+    let mut places = Places::new(alloc, keys);
     for (place, tap) in taps.iter().enumerate() {
         places.note(place, tap.name.as_str())?;
     }
@@ -25,21 +26,25 @@ pub fn taps_by_name(alloc: Global, taps: &[Tap]) -> Result<Places, AllocError>
 }
 
 /// Of each pid, the numbers of the records that name it.
-pub fn records_by_pid(alloc: Global, recs: &[NodeRec]) -> Result<Places, AllocError>
+pub fn records_by_pid(
+    alloc: Global,
+    keys: RandomState,
+    recs: &NodeRecs,
+) -> Result<Places, AllocError>
     ensures { IfOk result (λ numbers. (pid : Text) → places_of numbers pid ≡ own_numbers recs.now pid) }
 {
-    let mut numbers = Places::new(alloc);
-    for (number, rec) in recs.iter().enumerate() {
-        note_record(&mut numbers, number, rec)?;
+    let mut numbers = Places::new(alloc, keys);
+    for number in 0..recs.len() {
+        note_record(&mut numbers, number, &recs[number])?;
     }
     Ok(numbers)
 }
 
 /// Of each pid, the places of the nodes among these taps whose records name it. Each record is looked at once.
-pub fn nodes_by_pid(alloc: Global, taps: &[Tap]) -> Result<Places, AllocError>
+pub fn nodes_by_pid(alloc: Global, keys: RandomState, taps: &[Tap]) -> Result<Places, AllocError>
     ensures { IfOk result (λ places. (pid : Text) → places_of places pid ≡ own_places (cluster_of taps.now) pid) }
 {
-    let mut places = Places::new(alloc);
+    let mut places = Places::new(alloc, keys);
     for (place, tap) in taps.iter().enumerate() {
         note_node(&mut places, place, tap)?;
     }
@@ -50,17 +55,17 @@ fn note_node(places: &mut Places, place: usize, tap: &Tap) -> Result<(), AllocEr
     ensures { OnOk result ((q : Text) → places_of places.new q ≡ noted place (list_any (λ rec. record_names (Some rec) q) (node_recs (Some tap.now.records))) (places_of places.old q)) }
 {
     match &tap.records {
-        Records::Node(recs) => note_records(places, place, recs.as_slice()),
+        Records::Node(recs) => note_records(places, place, recs),
         Records::Stream(_) => Ok(()),
         Records::Client(_) => Ok(()),
     }
 }
 
-fn note_records(places: &mut Places, place: usize, recs: &[NodeRec]) -> Result<(), AllocError>
+fn note_records(places: &mut Places, place: usize, recs: &NodeRecs) -> Result<(), AllocError>
     ensures { OnOk result ((q : Text) → places_of places.new q ≡ noted place (list_any (λ rec. record_names (Some rec) q) recs.now) (places_of places.old q)) }
 {
-    for rec in recs {
-        note_record(places, place, rec)?;
+    for number in 0..recs.len() {
+        note_record(places, place, &recs[number])?;
     }
     Ok(())
 }

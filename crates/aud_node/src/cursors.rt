@@ -4,7 +4,7 @@ ghost use Rattle.aud_node.specs.Cursors.{next_cursor};
 ghost use Rattle.aud_node.specs.Ordered.{is_in_order};
 
 use crate::stream::Stream;
-use aud_tap::NodeRec;
+use aud_tap::{NodeRec, NodeRecs};
 use std::alloc::{AllocError, Global};
 
 /// The cursor after each record of a log, and whether the log's records are in order.
@@ -18,18 +18,14 @@ impl Cursors {
     ghost use Rattle.aud_node.specs.Private.CursorIndex.{HoldsCursors};
 
     /// The cursors of the log.
-    pub fn build(
-        alloc: Global,
-        stream: &Stream<'_>,
-        recs: &[NodeRec],
-    ) -> Result<Cursors, AllocError>
+    pub fn build(alloc: Global, stream: &Stream<'_>, recs: &NodeRecs) -> Result<Cursors, AllocError>
         ensures { IfOk result (HoldsCursors stream.now recs.now) }
     {
-        let mut after = Vec::new(alloc);
+        let mut after = Vec::with_capacity(alloc, recs.len())?;
         let mut ordered = !recs.is_empty();
         let mut cursor = 0;
-        for (number, rec) in recs.iter().enumerate() {
-            let advance = Advance::by(stream, number, rec, cursor);
+        for number in 0..recs.len() {
+            let advance = Advance::by(stream, number, &recs[number], cursor);
             cursor = advance.cursor;
             after.push(cursor)?;
             if !advance.in_order {

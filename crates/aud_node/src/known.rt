@@ -7,6 +7,7 @@ ghost use Rattle.aud_node.specs.Stream.{Text};
 use aud_tap::{Event, StreamRec};
 use std::alloc::{AllocError, Global};
 use std::collections::HashMap;
+use std::hash::RandomState;
 
 /// An event of the stream that a server sends again after a recovery, as its text alone. What that text spells is known
 /// of each such event: where the text comes again, it needn't be decoded.
@@ -22,7 +23,7 @@ pub struct KnownEvent<'a> {
 /// Of each text, the first entry that is such an event and has this text; entries count from 0.
 #[derive(Drop)]
 pub struct KnownTexts<'a> {
-    entries: HashMap<&'a str, usize>,
+    entries: HashMap<&'a str, usize, RandomState>,
 }
 
 impl<'a> KnownTexts<'a> {
@@ -32,6 +33,7 @@ impl<'a> KnownTexts<'a> {
     /// of several with one text the first is kept.
     pub fn build(
         alloc: Global,
+        keys: RandomState,
         entries: &'a [StreamRec],
         recoverable: &[bool],
     ) -> Result<KnownTexts<'a>, AllocError>
@@ -39,7 +41,7 @@ impl<'a> KnownTexts<'a> {
         ensures { IfOk result (HoldsKnown entries.now) }
     {
         let mut known = KnownTexts {
-            entries: HashMap::with_capacity(alloc, entries.len())?,
+            entries: HashMap::with_capacity_and_hasher(alloc, entries.len(), keys)?,
         };
         for i in (0..entries.len()).rev() {
             known.note(&entries[i], recoverable[i], i)?;

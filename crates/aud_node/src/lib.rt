@@ -2,12 +2,12 @@
 //!
 //! Begin at [`logs`], which is made once from the taps; all that it lends was computed then.
 //!
-//! With the `taps` of `examples/bundle_a.jsonl`:
+//! With the `taps` of `examples/bundle_a.jsonl`, and `keys` by `RandomState::new`:
 //!
 //! ```
 //! use aud_node::Logs;
 //!
-//! let logs = Logs::build(alloc, taps)?;
+//! let logs = Logs::build(alloc, keys, taps)?;
 //! assert_eq!(rt; logs.stream().position("1-0"), Some(1));
 //! assert!(rt; logs.stream().recoverable(1));
 //! assert_eq!(rt; logs.place_of("a"), Some(1));
@@ -28,6 +28,7 @@ mod node_log;
 mod offsets;
 mod recoverable;
 mod recs;
+mod session_turns;
 mod stream;
 mod turns;
 

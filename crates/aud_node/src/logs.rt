@@ -12,12 +12,14 @@ use crate::stream::Stream;
 use aud_base::Places;
 use aud_tap::{ClientRec, Records, StreamRec, Tap, Taps};
 use std::alloc::{AllocError, Global};
+use std::hash::RandomState;
 use std::marker::Model;
 
 /// The taps, lent, with what was made once of the stream and of the nodes: seen as the cluster. A tap is named by its
 /// place, which counts from 0 in the order of the headers.
 #[derive(Drop)]
 pub struct Logs<'a> {
+    keys: RandomState,
     taps: &'a [Tap],
     names: Places,
     stream_place: Option<usize>,
@@ -40,16 +42,17 @@ impl<'a> Model for Logs<'a> {
 }
 
 impl<'a> Logs<'a> {
-    /// The logs of the taps.
-    pub fn build(alloc: Global, taps: &'a Taps) -> Result<Logs<'a>, AllocError>
+    /// The logs of the taps. Their texts are hashed with these keys.
+    pub fn build(alloc: Global, keys: RandomState, taps: &'a Taps) -> Result<Logs<'a>, AllocError>
         ensures { IfOk result (λ logs. logs ≡ cluster_of taps.now) }
     {
         let taps = taps.as_slice();
-        let names = taps_by_name(alloc, taps)?;
-        let stream = Stream::build(alloc, entries_of(taps))?;
-        let nodes = nodes_of(alloc, &stream, taps)?;
-        let own = nodes_by_pid(alloc, taps)?;
+        let names = taps_by_name(alloc, keys, taps)?;
+        let stream = Stream::build(alloc, keys, entries_of(taps))?;
+        let nodes = nodes_of(alloc, keys, &stream, taps)?;
+        let own = nodes_by_pid(alloc, keys, taps)?;
         Ok(Logs {
+            keys,
             taps,
             names,
             stream_place: place_of_stream(taps),
@@ -57,6 +60,11 @@ impl<'a> Logs<'a> {
             nodes,
             own,
         })
+    }
+
+    /// The keys with which texts are hashed here: for whoever hashes the same texts.
+    pub fn keys(&self) -> RandomState {
+        self.keys
     }
 
     /// The stream's entries, lent.
@@ -153,6 +161,7 @@ fn client_recs(tap: &Tap) -> Option<&[ClientRec]>
 /// The node's log of each tap that is a node's.
 fn nodes_of<'a>(
     alloc: Global,
+    keys: RandomState,
     stream: &Stream<'a>,
     taps: &'a [Tap],
 ) -> Result<Vec<Option<NodeLog<'a>>>, AllocError>
@@ -160,7 +169,7 @@ fn nodes_of<'a>(
 {
     let mut nodes = Vec::new(alloc);
     for tap in taps {
-        nodes.push(node_of(alloc, stream, tap)?)?;
+        nodes.push(node_of(alloc, keys, stream, tap)?)?;
     }
     Ok(nodes)
 }
@@ -168,6 +177,7 @@ fn nodes_of<'a>(
 /// The node's log, if the tap is a node's.
 fn node_of<'a>(
     alloc: Global,
+    keys: RandomState,
     stream: &Stream<'a>,
     tap: &'a Tap,
 ) -> Result<Option<NodeLog<'a>>, AllocError>
@@ -175,7 +185,7 @@ fn node_of<'a>(
 {
     match &tap.records {
         Records::Stream(_) => Ok(None),
-        Records::Node(recs) => Ok(Some(NodeLog::build(alloc, stream, recs.as_slice())?)),
+        Records::Node(recs) => Ok(Some(NodeLog::build(alloc, keys, stream, recs)?)),
         Records::Client(_) => Ok(None),
     }
 }

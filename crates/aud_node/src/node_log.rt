@@ -12,8 +12,9 @@ use crate::recs::Recs;
 use crate::stream::Stream;
 use crate::turns::Turns;
 use aud_base::Places;
-use aud_tap::{NodeRec, StreamRec};
+use aud_tap::{NodeRecs, StreamRec};
 use std::alloc::{AllocError, Global};
+use std::hash::RandomState;
 use std::marker::Model;
 use std::ops::Range;
 
@@ -21,7 +22,7 @@ use std::ops::Range;
 #[derive(Drop)]
 pub struct NodeLog<'a> {
     stream: &'a [StreamRec],
-    recs: &'a [NodeRec],
+    recs: &'a NodeRecs,
     cursors: Cursors,
     own: Places,
     turns: Turns<'a>,
@@ -44,15 +45,16 @@ impl<'a> NodeLog<'a> {
 
     pub(crate) fn build(
         alloc: Global,
+        keys: RandomState,
         stream: &Stream<'a>,
-        recs: &'a [NodeRec],
+        recs: &'a NodeRecs,
     ) -> Result<NodeLog<'a>, AllocError>
         ensures stream { IfOk result (λ log. log.stream ≡ stream.now) }
         ensures recs { IfOk result (λ log. log.recs ≡ recs.now) }
     {
         let cursors = Cursors::build(alloc, stream, recs)?;
-        let own = records_by_pid(alloc, recs)?;
-        let turns = Turns::build(alloc, recs)?;
+        let own = records_by_pid(alloc, keys, recs)?;
+        let turns = Turns::build(alloc, keys, recs)?;
         Ok(NodeLog {
             stream: stream.entries(),
             recs,

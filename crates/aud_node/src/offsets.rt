@@ -7,23 +7,28 @@ ghost use Rattle.aud_node.specs.Private.OffsetIndex.{kept_position, HoldsOffsets
 use crate::fields::offset;
 use aud_tap::StreamRec;
 use std::alloc::{AllocError, Global};
-use std::collections::BTreeMap;
+use std::collections::HashMap;
+use std::hash::RandomState;
 
 /// The position of each offset of the stream.
 #[derive(Drop)]
 pub struct Offsets<'a> {
-    positions: BTreeMap<&'a str, u64>,
+    positions: HashMap<&'a str, u64, RandomState>,
     /// No two entries have the same offset.
     distinct: bool,
 }
 
 impl<'a> Offsets<'a> {
     /// The positions of these entries, which are read from the last on: of several with one offset the first is kept.
-    pub fn build(alloc: Global, entries: &'a [StreamRec]) -> Result<Offsets<'a>, AllocError>
+    pub fn build(
+        alloc: Global,
+        keys: RandomState,
+        entries: &'a [StreamRec],
+    ) -> Result<Offsets<'a>, AllocError>
         ensures { IfOk result (HoldsOffsets entries.now) }
     {
         let mut offsets = Offsets {
-            positions: BTreeMap::new(alloc),
+            positions: HashMap::with_capacity_and_hasher(alloc, entries.len(), keys)?,
             distinct: true,
         };
         for i in (0..entries.len()).rev() {

@@ -15,6 +15,7 @@ use crate::offsets::Offsets;
 use crate::recoverable::recoverable_of;
 use aud_tap::StreamRec;
 use std::alloc::{AllocError, Global};
+use std::hash::RandomState;
 use std::marker::Model;
 
 /// The stream's entries, lent; seen as their list. Positions count from 1.
@@ -41,13 +42,17 @@ impl<'a> Model for Stream<'a> {
 }
 
 impl<'a> Stream<'a> {
-    pub(crate) fn build(alloc: Global, entries: &'a [StreamRec]) -> Result<Stream<'a>, AllocError>
+    pub(crate) fn build(
+        alloc: Global,
+        keys: RandomState,
+        entries: &'a [StreamRec],
+    ) -> Result<Stream<'a>, AllocError>
         ensures { IfOk result (λ stream. stream ≡ entries.now) }
     {
-        let offsets = Offsets::build(alloc, entries)?;
+        let offsets = Offsets::build(alloc, keys, entries)?;
         let recoverable = recoverable_of(alloc, entries)?;
-        let addressees = Addressees::build(alloc, entries, &recoverable)?;
-        let known = KnownTexts::build(alloc, entries, &recoverable)?;
+        let addressees = Addressees::build(alloc, keys, entries, &recoverable)?;
+        let known = KnownTexts::build(alloc, keys, entries, &recoverable)?;
         Ok(Stream {
             entries,
             offsets,

@@ -5,9 +5,11 @@ ghost use Rattle.aud_node.specs.Stream.{Text};
 ghost use Rattle.aud_node.specs.TurnRecords.{begins_turn, begins_any_turn, ends_any_turn};
 ghost use Rattle.aud_node.specs.Private.TurnIndex.{kept_range, kept_end, HoldsTurns};
 
-use aud_tap::NodeRec;
+use crate::session_turns::SessionTurns;
+use aud_tap::{NodeRec, NodeRecs};
 use std::alloc::{AllocError, Global};
-use std::collections::BTreeMap;
+use std::collections::HashMap;
+use std::hash::RandomState;
 
 /// Consecutive records by their numbers: `to` is not included.
 #[derive(Clone, Copy)]
@@ -16,24 +18,25 @@ pub struct TurnRange {
     pub to: usize,
 }
 
-/// Of each pid and turn, the records of that turn.
+/// Of each pid, the turns of that session.
 #[derive(Drop)]
 pub struct Turns<'a> {
     alloc: Global,
-    /// Of each pid, where a turn ends that is going on before the records seen so far.
-    ends: BTreeMap<&'a str, usize>,
-    spans: BTreeMap<&'a str, BTreeMap<u16, TurnRange>>,
+    sessions: HashMap<&'a str, SessionTurns, RandomState>,
 }
 
 impl<'a> Turns<'a> {
     /// The turns in the log, which is read from its end.
-    pub fn build(alloc: Global, recs: &'a [NodeRec]) -> Result<Turns<'a>, AllocError>
+    pub fn build(
+        alloc: Global,
+        keys: RandomState,
+        recs: &'a NodeRecs,
+    ) -> Result<Turns<'a>, AllocError>
         ensures { IfOk result (HoldsTurns recs.now) }
     {
         let mut turns = Turns {
             alloc,
-            ends: BTreeMap::new(alloc),
-            spans: BTreeMap::new(alloc),
+            sessions: HashMap::with_hasher(alloc, keys),
         };
         for number in (0..recs.len()).rev() {
             turns.put(recs.len(), number, &recs[number])?;
@@ -45,8 +48,8 @@ impl<'a> Turns<'a> {
     pub fn get(&self, pid: &str, turn: u16) -> Option<TurnRange>
         ensures { result ≡ kept_range self.now pid.now turn }
     {
-        match self.spans.get(pid) {
-            Some(spans) => spans.get(&turn).copied(),
+        match self.sessions.get(pid) {
+            Some(session) => session.get(turn),
             None => None,
         }
     }
@@ -78,29 +81,24 @@ impl<'a> Turns<'a> {
         ensures spans { OnOk result ((q : Text) (k : ℕ) → kept_range self.new q k ≡ (if bytes_eq pid.now q && nat_eq turn k then Some (record { from = number; to = kept_end self.old pid.now len }) else kept_range self.old q k)) }
         ensures ends { OnOk result ((q : Text) → kept_end self.new q len ≡ (if bytes_eq pid.now q then number else kept_end self.old q len)) }
     {
-        let to = match self.ends.get(pid) {
-            Some(end) => *end,
-            None => len,
-        };
-        self.keep(pid, turn, TurnRange { from: number, to })?;
-        self.end(pid, number)
-    }
-
-    /// The turn with this number is these records, whichever it was before.
-    fn keep(&mut self, pid: &'a str, turn: u16, span: TurnRange) -> Result<(), AllocError>
-        ensures spans { OnOk result ((q : Text) (k : ℕ) → kept_range self.new q k ≡ (if bytes_eq pid.now q && nat_eq turn k then Some span else kept_range self.old q k)) }
-        ensures ends { (q : Text) (len : ℕ) → kept_end self.new q len ≡ kept_end self.old q len }
-    {
-        self.spans.entry(pid)?.or_default().insert(turn, span)?;
+        let session = self
+            .sessions
+            .entry(pid)?
+            .or_insert(SessionTurns::new(self.alloc));
+        session.begin(len, turn, number)?;
         Ok(())
     }
 
     /// A turn of the pid that is going on ends before the record with this number.
     fn end(&mut self, pid: &'a str, number: usize) -> Result<(), AllocError>
-        ensures spans { (q : Text) (k : ℕ) → kept_range self.new q k ≡ kept_range self.old q k }
+        ensures spans { OnOk result ((q : Text) (k : ℕ) → kept_range self.new q k ≡ kept_range self.old q k) }
         ensures ends { OnOk result ((q : Text) (len : ℕ) → kept_end self.new q len ≡ (if bytes_eq pid.now q then number else kept_end self.old q len)) }
     {
-        self.ends.insert(pid, number)?;
+        let session = self
+            .sessions
+            .entry(pid)?
+            .or_insert(SessionTurns::new(self.alloc));
+        session.end_at(number);
         Ok(())
     }
 }

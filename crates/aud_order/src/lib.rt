@@ -8,20 +8,22 @@
 //!
 //! ```
 //! use aud_reader::{Splitter, read_bundle};
+//! use std::hash::RandomState;
 //!
+//! let keys = RandomState::new(&rt)?;
 //! let mut splitter = Splitter::new(alloc);
 //! splitter.feed(br#"a {"k":"tap","v":1,"of":"node"}
 //! a {"k":"start","off":null}
 //! b {"k":"tap","v":1,"of":"client"}
 //! "#)?;
-//! let apart = read_bundle(alloc, &splitter.finish()?)?;
+//! let apart = read_bundle(alloc, keys, &splitter.finish()?)?;
 //!
 //! let mut splitter = Splitter::new(alloc);
 //! splitter.feed(br#"a {"k":"tap","v":1,"of":"node"}
 //! b {"k":"tap","v":1,"of":"client"}
 //! a {"k":"start","off":null}
 //! "#)?;
-//! let mixed = read_bundle(alloc, &splitter.finish()?)?;
+//! let mixed = read_bundle(alloc, keys, &splitter.finish()?)?;
 //!
 //! for (tap, other) in apart.as_slice().iter().zip(mixed.as_slice().iter()) {
 //!     assert_eq!(rt; tap.name.as_str(), other.name.as_str());

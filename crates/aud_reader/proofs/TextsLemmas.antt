@@ -1,23 +1,17 @@
 -- Sets of texts, against lists.
-use Rattle.std.proofs.Common.{◌≡◌, ℕ, ◌+◌, ◌<◌, ◌≤◌, List, [], ◌∷◌, ◌++◌, length, map, Bool, true, false, cond, ◌||◌, Option, Some, None, option_to_list, Ok, Err, refl, sym, ap, ◌∙◌, arith, length-append}
+use Rattle.std.proofs.Common.{◌≡◌, ℕ, ◌+◌, ◌<◌, ◌≤◌, List, [], ◌∷◌, ◌++◌, length, Bool, true, false, cond, ◌||◌, Option, Some, None, option_to_list, Ok, Err, refl, sym, ap, ◌∙◌, arith, length-append}
 use Rattle.std.specs.List.{list_any, filter_map, cons_option, IsDistinct, AllByRecursion}
 use Rattle.std.proofs.lemmas.List.Elements.{filter_map-append}
 use Rattle.aud_tap.specs.declared.records.NodeRec.{NodeRec}
 use Rattle.std.specs.Set.{distinct_count}
-use Rattle.std.specs.HashSet.{HashSet, contains_text, UpdatesBy}
-use Rattle.std.specs.Str.{bytes_eq}
-use Rattle.std.specs.String.{string_bytes, string_eq}
-use Rattle.std.specs.declared.string.String.{String}
+use Rattle.std.specs.HashSet.{HashSet, IsUnique, Updates, contains}
 use Rattle.std.proofs.Math.Bool.{or-true, or-false}
 use Rattle.std.proofs.lemmas.Bool.{le-leb, lt-leb, or_parts}
 use Rattle.std.proofs.lemmas.Cmp.{nat_list_eq_equiv}
-use Rattle.std.proofs.lemmas.List.{length-map}
 use Rattle.std.proofs.lemmas.List.Folds.{list_any-append}
 use Rattle.std.proofs.lemmas.Map.Keys.{IsDistinct-push}
 use Rattle.std.proofs.lemmas.Map.Made.{length-from_keys}
 use Rattle.std.proofs.lemmas.Map.Steps.{list_any_congr}
-use Rattle.std.proofs.lemmas.Map.Text.{hash_set_updates_text}
-use Rattle.aud_base.proofs.Lists.{any-map}
 use Rattle.aud_reader.specs.declared.fault.InputCode.TheVariants.{Limit}
 use Rattle.aud_tap.specs.Forms.{is_text}
 use Rattle.aud_tap.specs.RecordFields.{pid_of}
@@ -29,11 +23,10 @@ any-push : (q text : List ℕ) (texts : List (List ℕ)) → list_any (is_text q
 any-push q text texts = list_any-append (is_text q) texts (text ∷ []) ∙ ap (λ b. list_any (is_text q) texts || b) (or-false (is_text q text))
 
 -- a text that is put in
-texts-new : {Y S : Type 0} (s n : HashSet (String Y) S) (texts : List (List ℕ)) (text : List ℕ)
-    → UpdatesBy string_eq (λ k. bytes_eq text (string_bytes k)) s n true → HasTexts s texts → HasTexts n (texts ++ text ∷ [])
-texts-new s n texts text updates has q =
-    hash_set_updates_text text s n true updates q
-    ∙ ap (cond (bytes_eq text q) true) (has q)
+pub texts-put : {S : Type 0} (s n : HashSet (List ℕ) S) (texts : List (List ℕ)) (text : List ℕ) → Updates is_text s n text true → HasTexts s texts → HasTexts n (texts ++ text ∷ [])
+texts-put s n texts text updates has q =
+    updates.0 q
+    ∙ ap (cond (is_text text q) true) (has q)
     ∙ ap (λ b. cond b true (list_any (is_text q) texts)) (nat_list_eq_equiv.symm text q)
     ∙ either (is_text q text) (list_any (is_text q) texts)
     ∙ sym (any-push q text texts)
@@ -42,71 +35,48 @@ texts-new s n texts text updates has q =
     either true a = sym (or-true a)
     either false a = sym (or-false a)
 
--- a key that spells the text
-pub texts-put : {Y S : Type 0} (s n : HashSet (String Y) S) (texts : List (List ℕ)) (text : List ℕ) (key : String Y) → string_bytes key ≡ text
-    → UpdatesBy string_eq (string_eq key) s n true → HasTexts s texts → HasTexts n (texts ++ text ∷ [])
-texts-put s n texts text key spells updates has = rw (← spells) (texts-new s n texts (string_bytes key) updates has)
-
 -- a text that is in already
-texts-known : {Y S : Type 0} (s : HashSet (String Y) S) (texts : List (List ℕ)) (text : List ℕ) → contains_text s text ≡ true → HasTexts s texts → HasTexts s (texts ++ text ∷ [])
+texts-known : {S : Type 0} (s : HashSet (List ℕ) S) (texts : List (List ℕ)) (text : List ℕ) → contains is_text s text ≡ true → HasTexts s texts → HasTexts s (texts ++ text ∷ [])
 texts-known s texts text known has q = has q ∙ sym (any-push q text texts ∙ known-or (is_text q text) refl)
   where
     known-or : (b : Bool) → is_text q text ≡ b → (list_any (is_text q) texts || b) ≡ list_any (is_text q) texts
     known-or false e = or-false (list_any (is_text q) texts)
     known-or true e = or-true (list_any (is_text q) texts) ∙ sym (list_any_congr nat_list_eq_equiv q text texts e ∙ sym (has text) ∙ known)
 
--- a key that no other equals spells a text that no other spells
-apart-bytes : {Y : Type 0} (k : String Y) (ks : List (String Y)) → AllByRecursion (λ y. string_eq k y ≡ false) ks → AllByRecursion (λ y. is_text (string_bytes k) y ≡ false) (map string_bytes ks)
-apart-bytes k [] h = h
-apart-bytes k (y ∷ ks) h = (h.0, apart-bytes k ks h.1)
-
--- keys that differ spell texts that differ
-distinct-bytes : {Y : Type 0} (ks : List (String Y)) → IsDistinct string_eq ks → IsDistinct is_text (map string_bytes ks)
-unfolding IsDistinct
-distinct-bytes [] h = h
-distinct-bytes (k ∷ ks) h = (apart-bytes k ks h.0, distinct-bytes ks h.1)
-
--- the keys of a set spell the texts that it has
-members : {Y S : Type 0} (s : HashSet (String Y) S) (texts : List (List ℕ)) → HasTexts s texts → (q : List ℕ) → list_any (is_text q) (map string_bytes s.keys) ≡ list_any (is_text q) texts
-members s texts has q = any-map (is_text q) string_bytes s.keys ∙ has q
-
 -- a set has each text once
-count-texts : {Y S : Type 0} (s : HashSet (String Y) S) (texts : List (List ℕ)) → IsDistinct string_eq s.keys → HasTexts s texts → distinct_count is_text texts ≡ length s.keys
-count-texts s texts unique has =
-    sym (length-from_keys nat_list_eq_equiv (map string_bytes s.keys) texts (distinct-bytes s.keys unique) (members s texts has))
-    ∙ length-map s.keys string_bytes
+count-texts : {S : Type 0} (s : HashSet (List ℕ) S) (texts : List (List ℕ)) → IsUnique is_text s → HasTexts s texts → distinct_count is_text texts ≡ length s.keys
+count-texts s texts unique has = sym (length-from_keys nat_list_eq_equiv s.keys texts unique has)
 
 -- and one more than that, where a text isn't in it
-count-absent : {Y S : Type 0} (s : HashSet (String Y) S) (texts : List (List ℕ)) (text : List ℕ) → IsDistinct string_eq s.keys → HasTexts s texts → contains_text s text ≡ false
+count-absent : {S : Type 0} (s : HashSet (List ℕ) S) (texts : List (List ℕ)) (text : List ℕ) → IsUnique is_text s → HasTexts s texts → contains is_text s text ≡ false
     → distinct_count is_text (texts ++ text ∷ []) ≡ length s.keys + 1
 count-absent s texts text unique has absent =
-    let keys = map string_bytes s.keys in
-    let apart : IsDistinct is_text (keys ++ text ∷ []) = IsDistinct-push nat_list_eq_equiv keys text (distinct-bytes s.keys unique) (any-map (is_text text) string_bytes s.keys ∙ absent) in
-    sym (length-from_keys nat_list_eq_equiv (keys ++ text ∷ []) (texts ++ text ∷ []) apart
-    (λ q. any-push q text keys ∙ ap (λ b. b || is_text q text) (members s texts has q) ∙ sym (any-push q text texts)))
-    ∙ length-append keys (text ∷ []) ∙ ap (λ n. n + 1) (length-map s.keys string_bytes)
+    let apart : IsDistinct is_text (s.keys ++ text ∷ []) = IsDistinct-push nat_list_eq_equiv s.keys text unique absent in
+    sym (length-from_keys nat_list_eq_equiv (s.keys ++ text ∷ []) (texts ++ text ∷ []) apart
+    (λ q. any-push q text s.keys ∙ ap (λ b. b || is_text q text) (has q) ∙ sym (any-push q text texts)))
+    ∙ length-append s.keys (text ∷ [])
 
 -- pids that are few enough fit
 pub fit-ok : (pids : List (List ℕ)) → distinct_count is_text pids ≤ max_pids → pids_fit pids ≡ Ok tt
 fit-ok pids h = rw (le-leb _ _ h) refl
 
 -- a pid that is in the set already leaves the set that of the pids
-pub pids-known : {Y S : Type 0} (s : HashSet (String Y) S) (all : List (List ℕ)) (pid : List ℕ) → IsDistinct string_eq s.keys → HasPids s all → contains_text s pid ≡ true → HasPids s (all ++ pid ∷ [])
+pub pids-known : {S : Type 0} (s : HashSet (List ℕ) S) (all : List (List ℕ)) (pid : List ℕ) → IsUnique is_text s → HasPids s all → contains is_text s pid ≡ true → HasPids s (all ++ pid ∷ [])
 pids-known s all pid unique has known =
     let texts : HasTexts s (all ++ pid ∷ []) = texts-known s all pid known has.texts in
     let before = count-texts s all unique has.texts in
     let after = count-texts s (all ++ pid ∷ []) unique texts in
     record { texts = texts; few = rw (after, ← before) has.few }
 
--- a key that spells a pid is put in
-pub pids-put : {Y S : Type 0} (s n : HashSet (String Y) S) (all : List (List ℕ)) (pid : List ℕ) (key : String Y) → string_bytes key ≡ pid → IsDistinct string_eq s.keys → HasPids s all → contains_text s pid ≡ false
-    → length s.keys < max_pids → UpdatesBy string_eq (string_eq key) s n true → HasPids n (all ++ pid ∷ [])
-pids-put s n all pid key spells unique has absent room updates =
+-- a pid is put in
+pub pids-put : {S : Type 0} (s n : HashSet (List ℕ) S) (all : List (List ℕ)) (pid : List ℕ) → IsUnique is_text s → HasPids s all → contains is_text s pid ≡ false → length s.keys < max_pids
+    → Updates is_text s n pid true → HasPids n (all ++ pid ∷ [])
+pids-put s n all pid unique has absent room updates =
     let count = count-absent s all pid unique has.texts absent in
-    record { texts = texts-put s n all pid key spells updates has.texts; few = rw count (omega arith) }
+    record { texts = texts-put s n all pid updates has.texts; few = rw count (omega arith) }
 
 -- a pid that isn't in a full set is one too many, so the line is refused
-pub pids-full : {Y S : Type 0} (s : HashSet (String Y) S) (all : List (List ℕ)) (pid : List ℕ) → IsDistinct string_eq s.keys → HasPids s all → contains_text s pid ≡ false → max_pids ≤ length s.keys
+pub pids-full : {S : Type 0} (s : HashSet (List ℕ) S) (all : List (List ℕ)) (pid : List ℕ) → IsUnique is_text s → HasPids s all → contains is_text s pid ≡ false → max_pids ≤ length s.keys
     → pids_fit (all ++ pid ∷ []) ≡ Err Limit
 pids-full s all pid unique has absent full =
     let count = count-absent s all pid unique has.texts absent in
@@ -140,7 +110,7 @@ count-same texts others same =
     sym (length-from_keys nat_list_eq_equiv once others apart (λ q. is q ∙ same q)) ∙ length-from_keys nat_list_eq_equiv once texts apart is
 
 -- one more pid of one tap among all
-pub pids-moved : {Y S : Type 0} (s : HashSet (String Y) S) (before own after more : List (List ℕ)) → HasPids s ((before ++ own ++ after) ++ more) → HasPids s (before ++ (own ++ more) ++ after)
+pub pids-moved : {S : Type 0} (s : HashSet (List ℕ) S) (before own after more : List (List ℕ)) → HasPids s ((before ++ own ++ after) ++ more) → HasPids s (before ++ (own ++ more) ++ after)
 pids-moved s before own after more has =
     record {
       texts = λ q. has.texts q ∙ moved q;
@@ -159,7 +129,7 @@ pids-moved s before own after more has =
     moved q = simp (list_any-append) (swap (list_any (is_text q) before) (list_any (is_text q) own) (list_any (is_text q) after) (list_any (is_text q) more))
 
 -- one more record of one tap among all
-pub pids-more : {Y S : Type 0} (s : HashSet (String Y) S) (before : List (List ℕ)) (recs : List NodeRec) (rec : NodeRec) (after : List (List ℕ))
+pub pids-more : {S : Type 0} (s : HashSet (List ℕ) S) (before : List (List ℕ)) (recs : List NodeRec) (rec : NodeRec) (after : List (List ℕ))
     → HasPids s ((before ++ filter_map pid_of recs ++ after) ++ option_to_list (pid_of rec)) → HasPids s (before ++ filter_map pid_of (recs ++ rec ∷ []) ++ after)
 pids-more s before recs rec after has =
     rw (filter_map-append pid_of recs (rec ∷ []), alone (pid_of rec)) (pids-moved s before (filter_map pid_of recs) after (option_to_list (pid_of rec)) has)

@@ -11,7 +11,7 @@ use Rattle.aud_reader.specs.declared.bundle.open_taps.OpenTaps.{OpenTaps}
 -- the records of a tap so far
 abbrev pub records_so_far : OpenLog → Records
 records_so_far (log.Stream entries) = Stream entries
-records_so_far (log.Node records) = Node records.items
+records_so_far (log.Node records) = Node records
 records_so_far (log.Client records) = Client records
 
 abbrev pub tap_so_far : OpenTap → Tap

@@ -17,19 +17,23 @@ ghost use Rattle.aud_reader.specs.OwnLines.{HaveTheirOwnLines, EachLineIsOfOneTa
 
 use crate::fault::{LineFault, ReadFault, refuse};
 use crate::line::Line;
+use aud_base::TextPool;
 use aud_fields::Scratch;
 use aud_tap::Taps;
 use open_taps::OpenTaps;
 use std::alloc::Global;
+use std::hash::RandomState;
 use std::marker::Model;
 
-/// Reads the taps of the lines that it is given, one line at a time, and copies what it keeps. A line is read through
-/// memory that is kept from line to line, and that grows to the longest record.
+/// Reads the taps of the lines that it is given, one line at a time, and copies what it keeps. A text that stands in many
+/// records is shared by them, through a pool that is let go with the reader. A line is read through memory that is kept
+/// from line to line, and that grows to the longest record.
 ///
 /// After a refusal, want of memory too, it gives that refusal from then on.
 #[derive(Drop)]
 pub struct BundleReader {
     taps: OpenTaps,
+    pool: TextPool,
     scratch: Scratch,
     fault: Option<ReadFault>,
 }
@@ -51,13 +55,14 @@ impl Model for BundleReader {
 impl BundleReader {
     ghost use Rattle.aud_reader.specs.Bundle.{taps_to_come};
 
-    /// A reader before the first line.
-    pub fn new(alloc: Global) -> BundleReader
+    /// A reader before the first line. Texts are found again by their hashes under these keys.
+    pub fn new(alloc: Global, keys: RandomState) -> BundleReader
         ensures state { result ≡ record { taps = []; fault = None } }
         ensures taps { (lines : List Line) → taps_to_come result lines ≡ taps_of lines }
     {
         BundleReader {
-            taps: OpenTaps::new(alloc),
+            taps: OpenTaps::new(alloc, keys),
+            pool: TextPool::new(alloc, keys),
             scratch: Scratch::new(alloc),
             fault: None,
         }
@@ -77,7 +82,10 @@ impl BundleReader {
         if bytes.is_empty() {
             return Ok(());
         }
-        match self.taps.read_line(&mut self.scratch, bytes) {
+        match self
+            .taps
+            .read_line(&mut self.pool, &mut self.scratch, bytes)
+        {
             Ok(()) => Ok(()),
             Err(LineFault::Code(code)) => {
                 refuse(&mut self.fault, ReadFault::Input(line.number, code))
@@ -109,8 +117,8 @@ impl BundleReader {
 /// and the first of the reasons that docs/FORMAT.md lists.
 ///
 /// Each line is judged by the taps of the lines before it. Lines without bytes are passed over. The lines are lent for
-/// the call alone.
-pub fn read_bundle(alloc: Global, lines: &[Line]) -> Result<Taps, ReadFault>
+/// the call alone. Texts are found again by their hashes under these keys.
+pub fn read_bundle(alloc: Global, keys: RandomState, lines: &[Line]) -> Result<Taps, ReadFault>
     ensures read { IfOk result (λ taps. taps_of lines.now ≡ Ok taps) }
     ensures names { IfOk result (λ taps. AreNamedOnce taps) }
     ensures stream { IfOk result (λ taps. HasOneStreamAtMost taps) }
@@ -119,7 +127,7 @@ pub fn read_bundle(alloc: Global, lines: &[Line]) -> Result<Taps, ReadFault>
     ensures each_line { IfOk result (λ taps. EachLineIsOfOneTap lines.now taps) }
     ensures refused { IfErr result (λ e. e ≢ ReadFault.Memory → taps_of lines.now ≡ Err e) }
 {
-    let mut reader = BundleReader::new(alloc);
+    let mut reader = BundleReader::new(alloc, keys);
     for line in lines {
         reader.line(line)?;
     }

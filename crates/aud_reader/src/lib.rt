@@ -6,13 +6,14 @@
 //!
 //! ```
 //! use aud_reader::{Splitter, read_bundle};
+//! use std::hash::RandomState;
 //!
 //! let mut splitter = Splitter::new(alloc);
 //! splitter.feed(br#"a {"k":"tap","v":1,"of":"no"#)?;
 //! splitter.feed(b"de\"}\na {\"k\":\"start\",\"off\":null}\n")?;
 //! let lines = splitter.finish()?;
 //! assert_eq!(rt; lines.len(), 2);
-//! let taps = read_bundle(alloc, &lines)?;
+//! let taps = read_bundle(alloc, RandomState::new(&rt)?, &lines)?;
 //! let tap = taps.as_slice().first().ok_or("no tap")?;
 //! assert_eq!(rt; tap.name.as_str(), "a");
 //! ```

@@ -7,7 +7,7 @@
 //! use aud_report::{SessionVerdict, Status, Verdict, report_on};
 //! use aud_tap::Text;
 //!
-//! let pid = Text::new(String::from_str(alloc, "P")?);
+//! let pid = Text::new(alloc, "P")?;
 //! let verdict = Verdict::Yes { got: 1, tail: 0, turns: 1 };
 //! let output = report_on(alloc, &[SessionVerdict { pid, verdict }])?;
 //! assert_eq!(rt; output.status, Status::AllYes);

@@ -1,7 +1,7 @@
 //! The streams of a run: readers and writers whose calls are counted, the whole output, and which of the two failed.
 //!
 //! [`Watched`] counts the calls of a reader or a writer and keeps whether one failed; [`write_out`] goes through it, and
-//! tries nothing again. [`READ_LIMIT`] says how often the input may be read.
+//! tries nothing again.
 //!
 //! ```
 //! use aud_streams::{Watched, write_out};
@@ -21,5 +21,5 @@ mod streams;
 mod watched;
 
 pub use fault::RunFault;
-pub use streams::{READ_LIMIT, write_out};
+pub use streams::write_out;
 pub use watched::Watched;

@@ -1,4 +1,4 @@
-//! How often the input may be read, and the output in as many writes as it takes.
+//! The output, in as many writes as it takes.
 ghost use Rattle.std.specs.Prelude.{◌≡◌, true, OnOk, OnErr, Err};
 ghost use Rattle.std.specs.Io.KnownBytes.{Appends};
 ghost use Rattle.aud_streams.specs.Watched.{inner_of, has_failed};
@@ -7,9 +7,6 @@ ghost use Rattle.aud_streams.specs.Written.{AppendsFront};
 use crate::fault::RunFault;
 use crate::watched::Watched;
 use std::io::Write;
-
-/// How many times the input may be read.
-pub const READ_LIMIT: u64 = 4_294_967_296;
 
 /// Writes a text. A write that fails or takes nothing is not tried again, of whatever kind its
 /// error is.

@@ -9,8 +9,8 @@
 //!
 //! assert!(rt; is_tap_name("a") && !is_tap_name("a b"));
 //! assert!(rt; is_session_id("P") && !is_session_id(""));
-//! let pid = Text::new(String::from_str(alloc, "P")?);
-//! let room = Text::new(String::from_str(alloc, "r")?);
+//! let pid = Text::new(alloc, "P")?;
+//! let room = Text::new(alloc, "r")?;
 //! let record = NodeRec::Join { pid, room };
 //! assert!(rt; matches!(&record, NodeRec::Join { room, .. } if room.as_str() == "r"));
 //! ```

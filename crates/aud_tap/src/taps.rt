@@ -1,12 +1,12 @@
 //! The taps of a bundle.
 use crate::records::{ClientRec, NodeRec, StreamRec};
-use aud_base::{Listed, Text};
+use aud_base::{Listed, Paged, Text};
 
 /// The records of a stream tap, in the order in which it wrote them.
 pub type StreamRecs = Listed<StreamRec>;
 
 /// The records of a node tap, in the order in which it wrote them.
-pub type NodeRecs = Listed<NodeRec>;
+pub type NodeRecs = Paged<NodeRec>;
 
 /// The records of a client tap, in the order in which it wrote them.
 pub type ClientRecs = Listed<ClientRec>;

@@ -8,7 +8,7 @@
 //! use aud_tap::{NodeRec, Rec, Text};
 //! use aud_writer::write_line;
 //!
-//! let off = Text::new(String::from_str(alloc, "1-0")?);
+//! let off = Text::new(alloc, "1-0")?;
 //! let record = Rec::Node(NodeRec::Take { off });
 //! let line = write_line(alloc, "a", &record)?;
 //! assert_eq!(rt; str::from_utf8(&line)?, r#"a {"k":"take","off":"1-0"}"#);

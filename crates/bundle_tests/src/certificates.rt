@@ -2,14 +2,20 @@
 use aud_input::{InputReader, Layout};
 use aud_reader::{InputCode, ReadFault};
 use std::alloc::Global;
+use std::hash::RandomState;
+use std::test::Fail;
 
 /// A tap of one record, with a certificate between its lines.
 static INPUT: &str =
     "a {\"k\":\"tap\",\"v\":1,\"of\":\"node\"}\n{\"pid\":\"P\"}\na {\"k\":\"start\",\"off\":null}\n";
 
 /// How many taps the input has, and the number of the line of its first certificate.
-fn read(alloc: Global, layout: Layout) -> Result<(usize, Option<u64>), ReadFault> {
-    let mut reader = InputReader::new(alloc, layout);
+fn read(
+    alloc: Global,
+    keys: RandomState,
+    layout: Layout,
+) -> Result<(usize, Option<u64>), ReadFault> {
+    let mut reader = InputReader::new(alloc, keys, layout);
     reader.feed(INPUT.as_bytes())?;
     let input = reader.finish()?;
     let first = input.certificates.first().map(|line| line.number);
@@ -17,9 +23,11 @@ fn read(alloc: Global, layout: Layout) -> Result<(usize, Option<u64>), ReadFault
 }
 
 #[test]
-fn certificates_stand_apart(rt: HostRuntime) {
-    let both = read(rt.alloc(), Layout::BundleAndCertificates);
+fn certificates_stand_apart(rt: HostRuntime) -> Result<(), Fail> {
+    let keys = RandomState::new(&rt)?;
+    let both = read(rt.alloc(), keys, Layout::BundleAndCertificates);
     assert!(rt; both == Ok((1, Some(2))));
-    let bundle = read(rt.alloc(), Layout::Bundle);
+    let bundle = read(rt.alloc(), keys, Layout::Bundle);
     assert!(rt; bundle == Err(ReadFault::Input(2, InputCode::NoTapName)));
+    Ok(())
 }

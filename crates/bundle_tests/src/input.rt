@@ -2,6 +2,7 @@
 use aud_reader::{Line, ReadFault, parse_line};
 use aud_tap::{Bytes, Rec};
 use std::alloc::{AllocError, Global};
+use std::hash::RandomState;
 
 /// The line of this number with these bytes.
 pub fn line_of(alloc: Global, number: u64, bytes: &[u8]) -> Result<Line, AllocError> {
@@ -13,9 +14,14 @@ pub fn line_of(alloc: Global, number: u64, bytes: &[u8]) -> Result<Line, AllocEr
 }
 
 /// The tap's name and the record of the line of this number with these bytes.
-pub fn read(alloc: Global, number: u64, bytes: &[u8]) -> Result<(String, Rec), ReadFault> {
+pub fn read(
+    alloc: Global,
+    keys: RandomState,
+    number: u64,
+    bytes: &[u8],
+) -> Result<(String, Rec), ReadFault> {
     let line = line_of(alloc, number, bytes)?;
-    parse_line(alloc, &line)
+    parse_line(alloc, keys, &line)
 }
 
 /// Whether the lines have these texts, and are numbered from 1.

@@ -2,6 +2,8 @@
 use crate::refusals::is_refused;
 use aud_reader::InputCode::{self, Limit, LineTooLong, NoTapName, NotJson};
 use std::alloc::{AllocError, Global};
+use std::hash::RandomState;
+use std::test::Fail;
 
 /// A line: its start, a part that stands a number of times, what closes the part as often, and its end.
 type Repeating = (&'static str, &'static str, &'static str, &'static str);
@@ -26,13 +28,14 @@ fn write(text: &mut String, line: Repeating, times: u32) -> Result<(), AllocErro
 /// Whether the line is refused so, or is read, where its part stands so many times.
 fn is_refused_at(
     alloc: Global,
+    keys: RandomState,
     line: Repeating,
     times: u32,
     wanted: Option<InputCode>,
 ) -> Result<bool, AllocError> {
     let mut text = String::new(alloc);
     write(&mut text, line, times)?;
-    Ok(is_refused(alloc, text.as_bytes(), wanted))
+    Ok(is_refused(alloc, keys, text.as_bytes(), wanted))
 }
 
 /// Lines, how often the part of each may stand, and the refusal of one more.
@@ -112,17 +115,22 @@ static LIMITS: [(Repeating, u32, InputCode); 13] = [
 ];
 
 /// Whether the line is read at its limit, and refused so past it.
-fn is_kept(alloc: Global, limit: &(Repeating, u32, InputCode)) -> Result<bool, AllocError> {
+fn is_kept(
+    alloc: Global,
+    keys: RandomState,
+    limit: &(Repeating, u32, InputCode),
+) -> Result<bool, AllocError> {
     let (line, most, code) = *limit;
-    let is_read = is_refused_at(alloc, line, most, None)?;
-    let is_refused = is_refused_at(alloc, line, most.saturating_add(1), Some(code))?;
+    let is_read = is_refused_at(alloc, keys, line, most, None)?;
+    let is_refused = is_refused_at(alloc, keys, line, most.saturating_add(1), Some(code))?;
     Ok(is_read && is_refused)
 }
 
 #[test]
-fn limits_are_kept(rt: HostRuntime) -> Result<(), AllocError> {
+fn limits_are_kept(rt: HostRuntime) -> Result<(), Fail> {
+    let keys = RandomState::new(&rt)?;
     for limit in &LIMITS {
-        assert!(rt; is_kept(rt.alloc(), limit)?, "{}", limit.0.0);
+        assert!(rt; is_kept(rt.alloc(), keys, limit)?, "{}", limit.0.0);
     }
     Ok(())
 }

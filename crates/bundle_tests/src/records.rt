@@ -3,6 +3,8 @@ use crate::input::read;
 use aud_reader::ReadFault;
 use aud_tap::{Blobs, ClientRec, NodeRec, Rec, StreamRec, TapKind, Texts};
 use std::alloc::Global;
+use std::hash::RandomState;
+use std::test::Fail;
 
 /// A record: its variant, its texts in their order, and its number; of an event no lists.
 type Fields<'a> = (&'a str, &'a str, &'a str, &'a str, u64);
@@ -126,8 +128,8 @@ fn is_wanted(read: &Result<(String, Rec), ReadFault>, wanted: &Part<'_>) -> bool
 }
 
 /// Whether the line is read so.
-fn reads_as(alloc: Global, text: &str, wanted: &Part<'_>) -> bool {
-    let read = read(alloc, 1, text.as_bytes());
+fn reads_as(alloc: Global, keys: RandomState, text: &str, wanted: &Part<'_>) -> bool {
+    let read = read(alloc, keys, 1, text.as_bytes());
     is_wanted(&read, wanted)
 }
 
@@ -222,16 +224,23 @@ static RECORDS: [(&str, Fields<'static>); 25] = [
 ];
 
 #[test]
-fn fields_are_read(rt: HostRuntime) {
+fn fields_are_read(rt: HostRuntime) -> Result<(), Fail> {
+    let keys = RandomState::new(&rt)?;
     for (text, wanted) in &RECORDS {
-        assert!(rt; reads_as(rt.alloc(), text, &Part::Fields(wanted)), "{text}");
+        assert!(rt;
+            reads_as(rt.alloc(), keys, text, &Part::Fields(wanted)),
+            "{text}"
+        );
     }
+    Ok(())
 }
 
 #[test]
-fn lists_are_read_in_their_order(rt: HostRuntime) {
+fn lists_are_read_in_their_order(rt: HostRuntime) -> Result<(), Fail> {
+    let keys = RandomState::new(&rt)?;
     let text =
         r#"t {"k":"ev","off":"4-0","nsp":"/n","rooms":["r"],"except":["s1","s2"],"bin":["AQI=","Aw=="],"text":""}"#;
     let wanted = Part::Lists(&["r"], &["s1", "s2"], &[&[1, 2], &[3]]);
-    assert!(rt; reads_as(rt.alloc(), text, &wanted));
+    assert!(rt; reads_as(rt.alloc(), keys, text, &wanted));
+    Ok(())
 }

@@ -3,10 +3,17 @@ use crate::input::read;
 use aud_reader::InputCode::{self, Field, Limit, NoTapName, NotJson, UnknownKind, Version};
 use aud_reader::ReadFault;
 use std::alloc::Global;
+use std::hash::RandomState;
+use std::test::Fail;
 
 /// Whether the line is refused so, by its own number, or is read.
-pub fn is_refused(alloc: Global, bytes: &[u8], wanted: Option<InputCode>) -> bool {
-    let refusal = read(alloc, 7, bytes).err();
+pub fn is_refused(
+    alloc: Global,
+    keys: RandomState,
+    bytes: &[u8],
+    wanted: Option<InputCode>,
+) -> bool {
+    let refusal = read(alloc, keys, 7, bytes).err();
     match wanted {
         Some(code) => refusal == Some(ReadFault::Input(7, code)),
         None => refusal.is_none(),
@@ -82,10 +89,15 @@ static TEXTS: [(&str, Option<InputCode>); 42] = [
 ];
 
 #[test]
-fn texts_are_refused(rt: HostRuntime) {
+fn texts_are_refused(rt: HostRuntime) -> Result<(), Fail> {
+    let keys = RandomState::new(&rt)?;
     for (text, wanted) in &TEXTS {
-        assert!(rt; is_refused(rt.alloc(), text.as_bytes(), *wanted), "{text}");
+        assert!(rt;
+            is_refused(rt.alloc(), keys, text.as_bytes(), *wanted),
+            "{text}"
+        );
     }
+    Ok(())
 }
 
 /// A stray byte, half a sequence, a longer form than is needed, a surrogate, and what is past the last code point
@@ -107,8 +119,10 @@ static BYTES: [(&[u8], Option<InputCode>); 10] = [
 ];
 
 #[test]
-fn what_is_not_utf8_is_refused(rt: HostRuntime) {
+fn what_is_not_utf8_is_refused(rt: HostRuntime) -> Result<(), Fail> {
+    let keys = RandomState::new(&rt)?;
     for (bytes, wanted) in &BYTES {
-        assert!(rt; is_refused(rt.alloc(), bytes, *wanted), "{bytes:?}");
+        assert!(rt; is_refused(rt.alloc(), keys, bytes, *wanted), "{bytes:?}");
     }
+    Ok(())
 }

@@ -3,6 +3,8 @@ use crate::input::{are, line_of};
 use aud_reader::{InputCode, Line, ReadFault, Splitter, read_bundle};
 use aud_tap::{Records, Tap};
 use std::alloc::{AllocError, Global};
+use std::hash::RandomState;
+use std::test::Fail;
 
 /// One session of one node, whose client receives the only event.
 static SESSION: [&str; 11] = [
@@ -25,7 +27,7 @@ type Outcome = Result<&'static [(&'static str, usize)], ReadFault>;
 fn counted(tap: &Tap) -> (&str, usize) {
     let count = match &tap.records {
         Records::Stream(entries) => entries.as_slice().len(),
-        Records::Node(records) => records.as_slice().len(),
+        Records::Node(records) => records.len(),
         Records::Client(records) => records.as_slice().len(),
     };
     (tap.name.as_str(), count)
@@ -41,8 +43,8 @@ fn are_counted(taps: &[Tap], wanted: &[(&str, usize)]) -> bool {
 }
 
 /// Whether the lines have these taps, or are refused so.
-fn gives(alloc: Global, lines: &[Line], wanted: Outcome) -> bool {
-    match read_bundle(alloc, lines) {
+fn gives(alloc: Global, keys: RandomState, lines: &[Line], wanted: Outcome) -> bool {
+    match read_bundle(alloc, keys, lines) {
         Ok(taps) => match wanted {
             Ok(wanted) => are_counted(taps.as_slice(), wanted),
             Err(_) => false,
@@ -67,10 +69,15 @@ fn lines_of(alloc: Global, texts: &[&str]) -> Result<Vec<Line>, AllocError> {
 }
 
 /// Whether the session and a twelfth line give these taps, or are refused so.
-fn session_gives(alloc: Global, text: &str, wanted: Outcome) -> Result<bool, AllocError> {
+fn session_gives(
+    alloc: Global,
+    keys: RandomState,
+    text: &str,
+    wanted: Outcome,
+) -> Result<bool, AllocError> {
     let mut lines = lines_of(alloc, &SESSION)?;
     add(alloc, &mut lines, 12, text)?;
-    Ok(gives(alloc, &lines, wanted))
+    Ok(gives(alloc, keys, &lines, wanted))
 }
 
 /// A twelfth line after those of the session, and the taps or the refusal.
@@ -116,15 +123,17 @@ static TWELFTH: [(&str, Outcome); 11] = [
 ];
 
 #[test]
-fn lines_are_judged_by_those_before(rt: HostRuntime) -> Result<(), AllocError> {
+fn lines_are_judged_by_those_before(rt: HostRuntime) -> Result<(), Fail> {
+    let keys = RandomState::new(&rt)?;
     for (text, wanted) in &TWELFTH {
-        assert!(rt; session_gives(rt.alloc(), text, *wanted)?, "{text}");
+        assert!(rt; session_gives(rt.alloc(), keys, text, *wanted)?, "{text}");
     }
     Ok(())
 }
 
 #[test]
-fn the_first_refusal_is_given(rt: HostRuntime) -> Result<(), AllocError> {
+fn the_first_refusal_is_given(rt: HostRuntime) -> Result<(), Fail> {
+    let keys = RandomState::new(&rt)?;
     let texts = [
         SESSION[7],
         r#"c1 {"k":"lost"}"#,
@@ -133,7 +142,7 @@ fn the_first_refusal_is_given(rt: HostRuntime) -> Result<(), AllocError> {
     ];
     let lines = lines_of(rt.alloc(), &texts)?;
     let refused = Err(ReadFault::Input(2, InputCode::Field));
-    assert!(rt; gives(rt.alloc(), &lines, refused));
+    assert!(rt; gives(rt.alloc(), keys, &lines, refused));
     Ok(())
 }
 
@@ -160,19 +169,21 @@ fn lines_of_piece(alloc: Global, input: &[u8]) -> Result<Vec<Line>, ReadFault> {
 }
 
 /// Whether an input is read as the session.
-fn is_session(alloc: Global, input: &[u8]) -> bool {
+fn is_session(alloc: Global, keys: RandomState, input: &[u8]) -> bool {
     match lines_of_piece(alloc, input) {
         Ok(lines) => {
-            are(&lines, &SESSION) && gives(alloc, &lines, Ok(&[("st", 1), ("a", 4), ("c1", 3)]))
+            are(&lines, &SESSION)
+                && gives(alloc, keys, &lines, Ok(&[("st", 1), ("a", 4), ("c1", 3)]))
         }
         Err(_) => false,
     }
 }
 
 #[test]
-fn lines_may_end_in_carriage_return_and_newline(rt: HostRuntime) -> Result<(), AllocError> {
+fn lines_may_end_in_carriage_return_and_newline(rt: HostRuntime) -> Result<(), Fail> {
+    let keys = RandomState::new(&rt)?;
     let input = windows_session(rt.alloc())?;
-    assert!(rt; is_session(rt.alloc(), &input));
+    assert!(rt; is_session(rt.alloc(), keys, &input));
     Ok(())
 }
 
@@ -185,22 +196,33 @@ fn pad(text: &mut String, length: usize) -> Result<(), AllocError> {
 }
 
 /// Whether a text as the only line gives these taps, or is refused so.
-fn line_gives(alloc: Global, text: &str, wanted: Outcome) -> Result<bool, AllocError> {
+fn line_gives(
+    alloc: Global,
+    keys: RandomState,
+    text: &str,
+    wanted: Outcome,
+) -> Result<bool, AllocError> {
     let lines = lines_of(alloc, &[text])?;
-    Ok(gives(alloc, &lines, wanted))
+    Ok(gives(alloc, keys, &lines, wanted))
 }
 
 /// Whether the stream's header alone, with blanks at its end up to a length, gives these taps, or is refused so.
-fn padded_header_gives(alloc: Global, length: usize, wanted: Outcome) -> Result<bool, AllocError> {
+fn padded_header_gives(
+    alloc: Global,
+    keys: RandomState,
+    length: usize,
+    wanted: Outcome,
+) -> Result<bool, AllocError> {
     let mut text = String::from_str(alloc, SESSION[0])?;
     pad(&mut text, length)?;
-    line_gives(alloc, text.as_str(), wanted)
+    line_gives(alloc, keys, text.as_str(), wanted)
 }
 
 #[test]
-fn a_line_of_4194304_bytes_is_read(rt: HostRuntime) -> Result<(), AllocError> {
+fn a_line_of_4194304_bytes_is_read(rt: HostRuntime) -> Result<(), Fail> {
+    let keys = RandomState::new(&rt)?;
     let too_long = Err(ReadFault::Input(1, InputCode::LineTooLong));
-    assert!(rt; padded_header_gives(rt.alloc(), 4_194_304, Ok(&[("st", 0)]))?);
-    assert!(rt; padded_header_gives(rt.alloc(), 4_194_305, too_long)?);
+    assert!(rt; padded_header_gives(rt.alloc(), keys, 4_194_304, Ok(&[("st", 0)]))?);
+    assert!(rt; padded_header_gives(rt.alloc(), keys, 4_194_305, too_long)?);
     Ok(())
 }

@@ -4,19 +4,26 @@ use crate::input::line_of;
 use aud_reader::{Line, ReadFault, parse_line};
 use aud_writer::write_line;
 use std::alloc::{AllocError, Global};
+use std::hash::RandomState;
+use std::test::Fail;
 
 /// The line of the record of a line.
-fn rewritten(alloc: Global, line: &Line) -> Result<Vec<u8>, ReadFault> {
-    match parse_line(alloc, line) {
+fn rewritten(alloc: Global, keys: RandomState, line: &Line) -> Result<Vec<u8>, ReadFault> {
+    match parse_line(alloc, keys, line) {
         Ok((name, rec)) => write_line(alloc, name.as_str(), &rec),
         Err(fault) => Err(fault),
     }
 }
 
 /// Whether the record of a line is written so.
-fn is_written(alloc: Global, text: &str, wanted: &str) -> Result<bool, AllocError> {
+fn is_written(
+    alloc: Global,
+    keys: RandomState,
+    text: &str,
+    wanted: &str,
+) -> Result<bool, AllocError> {
     let line = line_of(alloc, 1, text.as_bytes())?;
-    match rewritten(alloc, &line) {
+    match rewritten(alloc, keys, &line) {
         Ok(written) => Ok(written.as_slice() == wanted.as_bytes()),
         Err(_) => Ok(false),
     }
@@ -113,9 +120,10 @@ static LINES: [(&str, &str); 24] = [
 ];
 
 #[test]
-fn records_are_written(rt: HostRuntime) -> Result<(), AllocError> {
+fn records_are_written(rt: HostRuntime) -> Result<(), Fail> {
+    let keys = RandomState::new(&rt)?;
     for (text, wanted) in &LINES {
-        assert!(rt; is_written(rt.alloc(), text, wanted)?, "{text}");
+        assert!(rt; is_written(rt.alloc(), keys, text, wanted)?, "{text}");
     }
     Ok(())
 }

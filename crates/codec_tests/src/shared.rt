@@ -1,6 +1,7 @@
-//! Texts, lists of them, attachments and places, over the public calls of `aud_base`.
-use aud_base::{Blobs, Bytes, Places, Text, Texts};
+//! Texts, lists of them, attachments, places and pools, over the public calls of `aud_base`.
+use aud_base::{Blobs, Bytes, Places, Text, TextPool, Texts};
 use std::alloc::{AllocError, Global};
+use std::hash::RandomState;
 use std::process::Abort;
 use std::test::Fail;
 
@@ -9,7 +10,7 @@ static TEXTS: [&str; 3] = ["r", "", "\u{20ac}"];
 fn texts(alloc: Global) -> Result<Texts, AllocError> {
     let mut texts = Vec::new(alloc);
     for text in &TEXTS {
-        texts.push(Text::new(String::from_str(alloc, text)?))?;
+        texts.push(Text::new(alloc, text)?)?;
     }
     Ok(Texts::new(texts))
 }
@@ -75,8 +76,8 @@ static NOTED: [(usize, &str); 6] = [(0, "r"), (0, "q"), (0, "r"), (2, "r"), (3, 
 /// Each text with its places; `s` stands nowhere.
 static PLACES: [(&str, &[usize]); 4] = [("r", &[0, 2]), ("q", &[0, 3]), ("", &[3]), ("s", &[])];
 
-fn index(alloc: Global) -> Result<Places, AllocError> {
-    let mut index = Places::new(alloc);
+fn index(alloc: Global, keys: RandomState) -> Result<Places, AllocError> {
+    let mut index = Places::new(alloc, keys);
     for (place, text) in &NOTED {
         index.note(*place, text)?;
     }
@@ -91,6 +92,31 @@ fn assert_places(rt: &impl Abort, index: &Places) {
 
 #[test]
 fn places_of_texts(rt: HostRuntime) -> Result<(), Fail> {
-    assert_places(&rt, &index(rt.alloc())?);
+    let keys = RandomState::new(&rt)?;
+    assert_places(&rt, &index(rt.alloc(), keys)?);
+    Ok(())
+}
+
+/// Whether each text that the pool gives, and gives again, is the one that it was asked for, and the text that it lends
+/// then too.
+fn gives_its_texts(pool: &mut TextPool) -> Result<bool, AllocError> {
+    for text in ["r", "", "\u{20ac}", "r"] {
+        let given = pool.text(text)?;
+        if given.as_str() != text || given.share()?.as_str() != text {
+            return Ok(false);
+        }
+        match pool.find(text) {
+            Some(found) if found.as_str() == text => {}
+            _ => return Ok(false),
+        }
+    }
+    Ok(true)
+}
+
+#[test]
+fn texts_of_a_pool(rt: HostRuntime) -> Result<(), Fail> {
+    let mut pool = TextPool::new(rt.alloc(), RandomState::new(&rt)?);
+    assert!(rt; gives_its_texts(&mut pool)?);
+    assert!(rt; pool.find("q").is_none());
     Ok(())
 }

@@ -3,13 +3,15 @@ use crate::bundle::{REPORT, taps};
 use aud_client::Recording;
 use aud_desk::{AuditFault, OpenGate, audit_with};
 use aud_report::report_on;
+use std::hash::RandomState;
 use std::test::Fail;
 
 #[test]
 fn any_number_of_workers_gives_one_report(rt: HostRuntime) -> Result<(), Fail> {
     let alloc = rt.alloc();
-    let taps = taps(alloc)?;
-    let recording = Recording::read(alloc, &taps)?;
+    let keys = RandomState::new(&rt)?;
+    let taps = taps(alloc, keys)?;
+    let recording = Recording::read(&rt, alloc, keys, 4, &taps)?;
     for workers in [1usize, 2, 64] {
         let report = audit_with(&rt, alloc, &recording, workers, &OpenGate)?;
         assert_eq!(rt; (report.yes, report.no), (2, 0));
@@ -22,8 +24,9 @@ fn any_number_of_workers_gives_one_report(rt: HostRuntime) -> Result<(), Fail> {
 #[test]
 fn none_and_65_workers_are_refused(rt: HostRuntime) -> Result<(), Fail> {
     let alloc = rt.alloc();
-    let taps = taps(alloc)?;
-    let recording = Recording::read(alloc, &taps)?;
+    let keys = RandomState::new(&rt)?;
+    let taps = taps(alloc, keys)?;
+    let recording = Recording::read(&rt, alloc, keys, 4, &taps)?;
     for workers in [0usize, 65] {
         let refused = audit_with(&rt, alloc, &recording, workers, &OpenGate);
         assert!(rt; matches!(refused, Err(AuditFault::Workers)));

@@ -5,6 +5,7 @@ ghost use Rattle.aud_tap.specs.Names.{AreNamedOnce};
 use aud_reader::{Line, read_bundle};
 use aud_tap::{Bytes, Taps};
 use std::alloc::{AllocError, Global};
+use std::hash::RandomState;
 use std::test::Fail;
 
 const TWO_SESSIONS: &str = r#"st {"k":"tap","v":1,"of":"stream"}
@@ -38,10 +39,10 @@ fn lines(alloc: Global) -> Result<Vec<Line>, AllocError> {
 }
 
 /// The taps of the bundle.
-pub fn taps(alloc: Global) -> Result<Taps, Fail>
+pub fn taps(alloc: Global, keys: RandomState) -> Result<Taps, Fail>
     ensures { IfOk result (λ taps. AreNamedOnce taps) }
 {
     let lines = lines(alloc)?;
-    let taps = read_bundle(alloc, lines.as_slice())?;
+    let taps = read_bundle(alloc, keys, lines.as_slice())?;
     Ok(taps)
 }

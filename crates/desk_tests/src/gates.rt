@@ -3,6 +3,7 @@ use crate::bundle::{REPORT, taps};
 use aud_client::Recording;
 use aud_desk::{Gate, audit_with};
 use aud_report::report_on;
+use std::hash::RandomState;
 use std::sync::Wait;
 use std::sync::atomic::AtomicBool;
 use std::sync::atomic::Ordering::SeqCst;
@@ -43,8 +44,9 @@ impl Gate for Held {
 #[test]
 fn two_workers_are_at_work_at_once(rt: HostRuntime) -> Result<(), Fail> {
     let alloc = rt.alloc();
-    let taps = taps(alloc)?;
-    let recording = Recording::read(alloc, &taps)?;
+    let keys = RandomState::new(&rt)?;
+    let taps = taps(alloc, keys)?;
+    let recording = Recording::read(&rt, alloc, keys, 4, &taps)?;
     let gate = Held {
         began: AtomicBool::new(false),
         kept: AtomicBool::new(false),

@@ -1,5 +1,5 @@
-//! Tests of the workers: tickets drawn in turn, one worker's entries, reports by 1, 2 and 64 workers, and a gate that
-//! shows that two workers are at work at once.
+//! Tests of the workers: tickets drawn in turn, one worker's entries, reports by 1, 2 and 64 workers, a gate that shows
+//! that two workers are at work at once, and work that is shared out among threads.
 #![tactic(auto)]
 
 #[cfg(test)]
@@ -8,6 +8,8 @@ mod audits;
 mod bundle;
 #[cfg(test)]
 mod gates;
+#[cfg(test)]
+mod shared_out;
 #[cfg(test)]
 mod tickets;
 #[cfg(test)]

@@ -4,8 +4,11 @@ use aud_client::Recording;
 use aud_reader::{Line, read_bundle};
 use aud_tap::Bytes;
 use std::alloc::{AllocError, Global};
+use std::hash::RandomState;
 use std::process::Abort;
+use std::random::RandomSource;
 use std::test::Fail;
+use std::thread::Threads;
 
 /// What is asked of the recording of a bundle. A tap is named by its name, or by its place, which counts from 0.
 #[derive(Clone, Copy)]
@@ -46,22 +49,28 @@ pub enum Asked<'a> {
 
 /// Asserts that this is the answer over the bundle, which is given in texts of one or more lines.
 pub fn assert_answer(
-    rt: &impl Abort,
+    rt: &(impl Abort + RandomSource + Threads + Sync),
     alloc: Global,
     bundle: &[&str],
     asked: Asked<'_>,
     answer: &str,
 ) -> Result<(), Fail> {
-    let transcript = answer_over(alloc, bundle, asked)?;
+    let transcript = answer_over(rt, alloc, bundle, asked)?;
     assert_eq!(rt; transcript.as_str(), answer);
     Ok(())
 }
 
 /// The text of the answer over the lines of the bundle.
-fn answer_over(alloc: Global, bundle: &[&str], asked: Asked<'_>) -> Result<String, Fail> {
+fn answer_over(
+    rt: &(impl RandomSource + Threads + Sync),
+    alloc: Global,
+    bundle: &[&str],
+    asked: Asked<'_>,
+) -> Result<String, Fail> {
+    let keys = RandomState::new(rt)?;
     let lines = lines_of(alloc, bundle)?;
-    let taps = read_bundle(alloc, lines.as_slice())?;
-    let recording = Recording::read(alloc, &taps)?;
+    let taps = read_bundle(alloc, keys, lines.as_slice())?;
+    let recording = Recording::read(rt, alloc, keys, 4, &taps)?;
     answer_of_recording(alloc, &recording, asked)
 }
 

@@ -1,5 +1,6 @@
 //! What clients' taps tell, as texts.
 use aud_client::{Frame, IndexedTranscript, Recording, Stay, Transcript};
+use aud_tap::Text;
 use std::alloc::{AllocError, Global};
 use std::test::Fail;
 
@@ -31,19 +32,27 @@ fn write_stays(out: &mut String, transcript: &Transcript<'_>) -> Result<(), Allo
     Ok(())
 }
 
+/// The text, or these words where there is none.
+fn text_or<'a>(text: Option<&'a Text>, words: &'a str) -> &'a str {
+    match text {
+        Some(text) => text.as_str(),
+        None => words,
+    }
+}
+
 /// The connection, the namespace, the reply's pid and sid, the pid and the offset that were asked for, and the
 /// positions of the frames.
 fn write_stay(out: &mut String, stay: &Stay<'_>) -> Result<(), AllocError> {
     let (c, nsp) = (stay.c, stay.nsp);
     write!(out, "{c} {nsp}")?;
     if let Some(reply) = stay.reply.as_ref() {
-        let pid = reply.pid.as_deref().unwrap_or("nobody");
+        let pid = text_or(reply.pid.as_ref(), "nobody");
         let sid = reply.sid.as_str();
         write!(out, " reply {pid} {sid}")?;
     }
     if let Some(asked) = stay.asked.as_ref() {
         let pid = asked.pid.as_str();
-        let offset = asked.offset.as_deref().unwrap_or("nowhere");
+        let offset = text_or(asked.offset.as_ref(), "nowhere");
         write!(out, " asked {pid} {offset}")?;
     }
     for frame in stay.frames.iter() {

@@ -105,7 +105,13 @@ fn packet_replied(alloc: Global, tap: &ClientTap<'_>, index: usize) -> Result<St
 /// The pid and the sid that the packet tells.
 fn reply_told(alloc: Global, whole: &Whole<'_>) -> Result<String, Fail> {
     match reply_of(alloc, whole)? {
-        Some(reply) => Ok(format!(in alloc; "{:?} {:?}", reply.pid, reply.sid)?),
+        Some(reply) => {
+            let pid = match reply.pid.as_ref() {
+                Some(pid) => Some(pid.as_str()),
+                None => None,
+            };
+            Ok(format!(in alloc; "{:?} {:?}", pid, reply.sid.as_str())?)
+        }
         None => Ok(String::from_str(alloc, "no reply")?),
     }
 }

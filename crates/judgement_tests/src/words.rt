@@ -28,8 +28,8 @@ fn refusals(rt: HostRuntime) -> Result<(), Fail> {
 #[test]
 fn what_was_received(rt: HostRuntime) -> Result<(), Fail> {
     let alloc = rt.alloc();
-    let extra = Refusal::Received(Fault::Extra(Text::new(String::from_str(alloc, "1-0")?)));
-    let lost = Fault::Lost(Text::new(String::from_str(alloc, "2-0")?));
+    let extra = Refusal::Received(Fault::Extra(Text::new(alloc, "1-0")?));
+    let lost = Fault::Lost(Text::new(alloc, "2-0")?);
     let accepted = Accepted {
         got: 2,
         tail: 10,

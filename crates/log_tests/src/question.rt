@@ -3,7 +3,9 @@ use aud_node::Logs;
 use aud_reader::{Line, read_bundle};
 use aud_tap::{Bytes, Taps};
 use std::alloc::Global;
+use std::hash::RandomState;
 use std::process::Abort;
+use std::random::RandomSource;
 use std::test::Fail;
 
 /// What can be asked of logs.
@@ -14,13 +16,14 @@ pub trait Question {
 
 /// Asserts that the logs of the bundle, a text of lines, give each question its answer.
 pub fn assert_answers<Q: Question>(
-    rt: &impl Abort,
+    rt: &(impl Abort + RandomSource),
     alloc: Global,
     bundle: &str,
     answers: &[(Q, &str)],
 ) -> Result<(), Fail> {
-    let taps = taps_of(alloc, bundle)?;
-    let logs = Logs::build(alloc, &taps)?;
+    let keys = RandomState::new(rt)?;
+    let taps = taps_of(alloc, keys, bundle)?;
+    let logs = Logs::build(alloc, keys, &taps)?;
     for (question, answer) in answers {
         let given = question.answer(alloc, &logs)?;
         assert_eq!(rt; given.as_str(), *answer);
@@ -28,12 +31,12 @@ pub fn assert_answers<Q: Question>(
     Ok(())
 }
 
-fn taps_of(alloc: Global, bundle: &str) -> Result<Taps, Fail> {
+fn taps_of(alloc: Global, keys: RandomState, bundle: &str) -> Result<Taps, Fail> {
     let mut lines = Vec::new(alloc);
     for text in bundle.lines() {
         let number = lines.len() as u64 + 1;
         let bytes = Bytes::new(text.as_bytes().to_vec(alloc)?);
         lines.push(Line { number, bytes })?;
     }
-    Ok(read_bundle(alloc, lines.as_slice())?)
+    Ok(read_bundle(alloc, keys, lines.as_slice())?)
 }

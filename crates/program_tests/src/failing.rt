@@ -3,7 +3,9 @@ use crate::bundles::{BUNDLE_A, REPORT_A};
 use crate::streams::{TestReader, TestWriter};
 use aud_app::{Mode, Options, RunFault, Status, Watched, run};
 use std::alloc::Global;
+use std::hash::RandomState;
 use std::sync::Wait;
+use std::test::Fail;
 use std::thread::Threads;
 use std::time::Clock;
 
@@ -29,13 +31,14 @@ struct Seen {
 fn audited<H: Threads + Wait + Clock + Sync>(
     rt: &H,
     alloc: Global,
+    keys: RandomState,
     reads: u64,
     writes: u64,
     most: usize,
 ) -> Seen {
     let mut input = Watched::new(TestReader::new(BUNDLE_A.as_bytes(), reads, 1));
     let mut output = Watched::new(TestWriter::new(alloc, writes, most));
-    let outcome = run(rt, alloc, &mut input, &mut output, AUDIT);
+    let outcome = run(rt, alloc, keys, &mut input, &mut output, AUDIT);
     let (write_failed, writes) = (output.failed(), output.calls());
     let written = output.into_inner().into_written();
     Seen {
@@ -90,7 +93,8 @@ fn no_fault(writes: u64) -> Seen {
 
 /// A reader that gives a byte a call takes a call for each byte and one at the end.
 #[test]
-fn reader_fails(rt: HostRuntime) {
+fn reader_fails(rt: HostRuntime) -> Result<(), Fail> {
+    let keys = RandomState::new(&rt)?;
     let calls = BUNDLE_A.len() as u64 + 1;
     for (answered, seen) in [
         (0, read_fault(1)),
@@ -101,26 +105,30 @@ fn reader_fails(rt: HostRuntime) {
         (calls, no_fault(1)),
     ] {
         assert_eq!(rt;
-            audited(&rt, rt.alloc(), answered, u64::MAX, usize::MAX),
+            audited(&rt, rt.alloc(), keys, answered, u64::MAX, usize::MAX),
             seen
         );
     }
+    Ok(())
 }
 
 /// A read that fails is told before a line that was refused, however many bytes the reader gave a call.
 #[test]
-fn reader_fails_after_a_refused_line(rt: HostRuntime) {
+fn reader_fails_after_a_refused_line(rt: HostRuntime) -> Result<(), Fail> {
+    let keys = RandomState::new(&rt)?;
     for (answered, most) in [(4, 1), (1, 4), (1, 65_536)] {
         let mut input = Watched::new(TestReader::new(b"{}\n{", answered, most));
         let mut output = Watched::new(Vec::new(rt.alloc()));
-        let outcome = run(&rt, rt.alloc(), &mut input, &mut output, AUDIT);
+        let outcome = run(&rt, rt.alloc(), keys, &mut input, &mut output, AUDIT);
         assert!(rt; outcome == Err(RunFault::Read) && output.calls() == 0);
     }
+    Ok(())
 }
 
 /// A writer that takes a byte a call takes a call for each byte; a call that takes none is a fault.
 #[test]
-fn writer_fails(rt: HostRuntime) {
+fn writer_fails(rt: HostRuntime) -> Result<(), Fail> {
+    let keys = RandomState::new(&rt)?;
     let bytes = REPORT_A.len();
     for (answered, most, seen) in [
         (0, 1, write_fault(1, 0)),
@@ -131,6 +139,10 @@ fn writer_fails(rt: HostRuntime) {
         (bytes as u64, 1, no_fault(bytes as u64)),
         (9, 0, write_fault(1, 0)),
     ] {
-        assert_eq!(rt; audited(&rt, rt.alloc(), u64::MAX, answered, most), seen);
+        assert_eq!(rt;
+            audited(&rt, rt.alloc(), keys, u64::MAX, answered, most),
+            seen
+        );
     }
+    Ok(())
 }

@@ -6,14 +6,16 @@ use crate::bundles::{
 use crate::streams::TestReader;
 use aud_app::{Status, Watched, options, run};
 use std::alloc::{AllocError, Global};
+use std::hash::RandomState;
 use std::io::Read;
+use std::random::RandomSource;
 use std::sync::Wait;
 use std::test::Fail;
 use std::thread::Threads;
 use std::time::Clock;
 
 /// Whether the run for these words over an input ends so, and writes this text.
-fn gives<H: Threads + Wait + Clock + Sync, R: Read + Drop>(
+fn gives<H: Threads + Wait + Clock + RandomSource + Sync, R: Read + Drop>(
     rt: &H,
     alloc: Global,
     words: &[&str],
@@ -22,9 +24,10 @@ fn gives<H: Threads + Wait + Clock + Sync, R: Read + Drop>(
     status: Status,
 ) -> Result<bool, Fail> {
     let options = options(alloc, words)?;
+    let keys = RandomState::new(rt)?;
     let mut input = Watched::new(input);
     let mut output = Watched::new(Vec::new(alloc));
-    let outcome = run(rt, alloc, &mut input, &mut output, options);
+    let outcome = run(rt, alloc, keys, &mut input, &mut output, options);
     Ok(outcome == Ok(status) && output.into_inner().as_slice() == text.as_bytes())
 }
 

@@ -3,6 +3,7 @@
 
 use aud_app::{RunFault, Status, Watched, options, run};
 use clap::error::ErrorKind;
+use std::hash::RandomState;
 use std::process::ExitCode;
 use std::{env, io};
 
@@ -58,9 +59,12 @@ fn main(rt: HostRuntime) -> ExitCode {
         Ok(chosen) => chosen,
         Err(error) => return refuse(&rt, &error),
     };
+    let Ok(keys) = RandomState::new(&rt) else {
+        return fail(&rt, RunFault::Read);
+    };
     let mut input = Watched::new(rt.stdin());
     let mut output = Watched::new(rt.stdout());
-    match run(&rt, alloc, &mut input, &mut output, chosen) {
+    match run(&rt, alloc, keys, &mut input, &mut output, chosen) {
         Ok(status) => status_code(status),
         Err(fault) => fail(&rt, fault),
     }

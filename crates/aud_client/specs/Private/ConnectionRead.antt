@@ -77,11 +77,15 @@ abbrev pub AreBefore : ℕ → List (ℕ × Answer) → Type 0
 AreBefore number [] = Unit {0}
 AreBefore number (answer ∷ answers) = (answer.0 < number) × AreBefore number answers
 
--- so many records of a connection were read, the first of which has this number
-pub record HasRead (first : ℕ) (recs : List ClientRec) (reader : Reader) : Type 0 where
+-- so many records of a connection were read, the first of which has this number, and gave these packets
+pub record HasGiven (first : ℕ) (recs : List ClientRec) (packets : List (ℕ × TapPacket)) (reader : Reader) : Type 0 where
   pub answers : List (ℕ × Answer)
   pub before : AreBefore (first + length recs) answers
   pub continues : (l : List (ℕ × Message)) → wholes_of (flat_map messages_at (numbered_records first recs) ++ l) ≡ answers ++ wholes_after reader.assembler l
-  pub packets_are : packets_read reader ≡ flat_map (packets_at answers) (numbered_records first recs)
+  pub packets_are : packets ≡ flat_map (packets_at answers) (numbered_records first recs)
   pub bad_is : reader.bad ≡ first_of (map (λ (rec : ℕ × ClientRec). rec.0) (filter (is_bad answers) (numbered_records first recs)))
   pub waits : Waits reader.assembler
+
+-- so many records of a connection were read, the first of which has this number, and their packets are held
+abbrev pub HasRead : ℕ → List ClientRec → Reader → Type 0
+HasRead first recs reader = HasGiven first recs (packets_read reader) reader

@@ -1,9 +1,8 @@
 -- What the index of addressees keeps.
 use Rattle.std.specs.Prelude.{◌≡◌, ℕ, List, []}
 use Rattle.std.specs.Option.{option_map_or}
-use Rattle.std.specs.Ordering.{nat_cmp}
-use Rattle.std.specs.Cmp.Lexicographic.{slice_cmp}
-use Rattle.std.specs.BTreeMap as tree
+use Rattle.std.specs.Str.{bytes_eq}
+use Rattle.std.specs.HashMap as hash
 use Rattle.aud_base.specs.Places.{places_of}
 use Rattle.aud_tap.specs.declared.records.StreamRec.{StreamRec}
 use Rattle.aud_node.specs.Stream.{Text}
@@ -12,7 +11,7 @@ use Rattle.aud_node.specs.Addressees.{positions_to_room, positions_to_all}
 
 -- the positions that are kept for the room of the namespace
 abbrev pub kept_to_room : Addressees → Text → Text → List ℕ
-kept_to_room addressees nsp room = option_map_or (λ positions. places_of positions room) (tree.get_by (λ k. slice_cmp nat_cmp nsp k.now) addressees.rooms) []
+kept_to_room addressees nsp room = option_map_or (λ positions. places_of positions room) (hash.get_by (λ k. bytes_eq nsp k.now) addressees.rooms) []
 
 -- the positions that are kept are those of the stream
 pub record HoldsAddressees (stream : List StreamRec) (addressees : Addressees) : Type 0 where

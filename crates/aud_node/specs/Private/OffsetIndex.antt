@@ -1,15 +1,14 @@
 -- What the index of offsets answers.
 use Rattle.std.specs.Prelude.{◌≡◌, ℕ, suc, true, List, Option, Some, slice_get}
-use Rattle.std.specs.Ordering.{nat_cmp}
-use Rattle.std.specs.Cmp.Lexicographic.{slice_cmp}
-use Rattle.std.specs.BTreeMap as tree
+use Rattle.std.specs.Str.{bytes_eq}
+use Rattle.std.specs.HashMap as hash
 use Rattle.aud_tap.specs.declared.records.StreamRec.{StreamRec}
 use Rattle.aud_node.specs.Stream.{Text, offset_of, position}
 use Rattle.aud_node.specs.declared.offsets.Offsets.{Offsets}
 
 -- the position that is kept for the offset
 abbrev pub kept_position : Offsets → Text → Option ℕ
-kept_position offsets off = tree.get_by (λ k. slice_cmp nat_cmp off k.now) offsets.positions
+kept_position offsets off = hash.get_by (λ k. bytes_eq off k.now) offsets.positions
 
 -- each entry is the first with its offset
 abbrev pub AreFirst : List StreamRec → Type 0

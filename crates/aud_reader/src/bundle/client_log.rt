@@ -9,6 +9,7 @@ ghost use Rattle.aud_reader.specs.Bundle.{client_room, with_client_record};
 use super::node_log::MAX_RECORDS;
 use crate::fault::{FIELD, LIMIT, LineFault};
 use crate::read::client::client_record;
+use aud_base::TextPool;
 use aud_fields::Fields;
 use aud_tap::{ClientRec, ClientRecs};
 use std::alloc::Global;
@@ -99,12 +100,12 @@ impl ClientLog {
         Ok(())
     }
 
-    /// Adds the record of a line.
+    /// Adds the record of a line, of which the texts are shared with the pool.
     #[tactic(auto, unfolding(crate::specs::Bundle::with_client_record))]
-    pub fn add(&mut self, kind: &str, d: &Fields<'_>) -> Result<(), LineFault>
+    pub fn add(&mut self, pool: &mut TextPool, kind: &str, d: &Fields<'_>) -> Result<(), LineFault>
         ensures { Becomes result self.new (with_client_record self.old kind.now (view d.now)) }
     {
-        let rec = client_record(self.alloc, kind, d)?;
+        let rec = client_record(self.alloc, pool, kind, d)?;
         self.admit(&rec)?;
         self.push(rec)
     }

@@ -11,19 +11,19 @@ ghost use Rattle.aud_reader.specs.Private.Texts.{HasPids};
 use super::pids::add_pid_of;
 use crate::fault::{LIMIT, LineFault};
 use crate::read::node::node_record;
+use aud_base::TextPool;
 use aud_fields::Fields;
-use aud_tap::NodeRec;
-use std::alloc::Global;
+use aud_tap::{NodeRec, NodeRecs, Text};
 use std::collections::HashSet;
+use std::hash::RandomState;
 
 /// The most records of a node tap or a client tap.
 pub const MAX_RECORDS: usize = 4_000_000;
 
 /// Adds the pid that a record speaks of to those of all node records, where there is room after so many records.
 fn admit(
-    alloc: Global,
     count: usize,
-    pids: &mut HashSet<String>,
+    pids: &mut HashSet<Text, RandomState>,
     rec: &NodeRec,
 ) -> Result<(), LineFault>
     ensures room { (all : List (List ℕ)) → HasPids pids.old all → Gives result (node_room count (all ++ option_to_list (pid_of rec.now))) }
@@ -32,25 +32,25 @@ fn admit(
     if count >= MAX_RECORDS {
         return Err(LIMIT);
     }
-    add_pid_of(alloc, pids, rec)
+    add_pid_of(pids, rec)
 }
 
-/// Adds the record of a line, and its pid to those of all node records.
+/// Adds the record of a line, of which the texts are shared with the pool, and its pid to those of all node records.
 #[tactic(auto, unfolding(crate::specs::Bundle::with_node_record))]
 pub fn add_node_record(
-    alloc: Global,
-    records: &mut Vec<NodeRec>,
-    pids: &mut HashSet<String>,
+    pool: &mut TextPool,
+    records: &mut NodeRecs,
+    pids: &mut HashSet<Text, RandomState>,
     kind: &str,
     d: &Fields<'_>,
 ) -> Result<(), LineFault>
     ensures records { (all : List (List ℕ)) → HasPids pids.old all
-        → Becomes result records.new.items (with_node_record all records.old.items kind.now (view d.now)) }
-    ensures pids { (before after : List (List ℕ)) → HasPids pids.old (before ++ filter_map pid_of records.old.items ++ after)
-        → OnOk result (HasPids pids.new (before ++ filter_map pid_of records.new.items ++ after)) }
+        → Becomes result records.new (with_node_record all records.old kind.now (view d.now)) }
+    ensures pids { (before after : List (List ℕ)) → HasPids pids.old (before ++ filter_map pid_of records.old ++ after)
+        → OnOk result (HasPids pids.new (before ++ filter_map pid_of records.new ++ after)) }
 {
-    let rec = node_record(alloc, kind, d)?;
-    admit(alloc, records.len(), pids, &rec)?;
+    let rec = node_record(pool, kind, d)?;
+    admit(records.len(), pids, &rec)?;
     records.push(rec)?;
     Ok(())
 }

@@ -11,37 +11,39 @@ use super::client_log::ClientLog;
 use super::node_log::add_node_record;
 use super::stream_log::StreamLog;
 use crate::fault::LineFault;
+use aud_base::TextPool;
 use aud_fields::Fields;
-use aud_tap::{NodeRec, NodeRecs, Records, Tap, TapKind, Text};
+use aud_tap::{NodeRecs, Records, Tap, TapKind, Text};
 use std::alloc::Global;
 use std::collections::HashSet;
+use std::hash::RandomState;
 
 /// The records of a tap so far.
 #[derive(Drop)]
 pub enum OpenLog {
     Stream(StreamLog),
-    Node(Vec<NodeRec>),
+    Node(NodeRecs),
     Client(ClientLog),
 }
 
 impl OpenLog {
     ghost use Rattle.aud_reader.specs.SoFar.{records_so_far};
 
-    fn new(alloc: Global, of: TapKind) -> OpenLog
+    fn new(alloc: Global, keys: RandomState, of: TapKind) -> OpenLog
         ensures { records_so_far result ≡ no_records of }
     {
         match of {
-            TapKind::Stream => OpenLog::Stream(StreamLog::new(alloc)),
-            TapKind::Node => OpenLog::Node(Vec::new(alloc)),
+            TapKind::Stream => OpenLog::Stream(StreamLog::new(alloc, keys)),
+            TapKind::Node => OpenLog::Node(NodeRecs::new(alloc)),
             TapKind::Client => OpenLog::Client(ClientLog::new(alloc)),
         }
     }
 
-    /// Adds the record of a line. The pids are those of all node records.
+    /// Adds the record of a line, of which the texts are shared with the pool. The pids are those of all node records.
     fn add(
         &mut self,
-        alloc: Global,
-        pids: &mut HashSet<String>,
+        pool: &mut TextPool,
+        pids: &mut HashSet<Text, RandomState>,
         kind: &str,
         d: &Fields<'_>,
     ) -> Result<(), LineFault>
@@ -51,9 +53,9 @@ impl OpenLog {
             → OnOk result (HasPids pids.new (before ++ pids_in (records_so_far self.new) ++ after)) }
     {
         match self {
-            OpenLog::Stream(entries) => entries.add(kind, d),
-            OpenLog::Node(records) => add_node_record(alloc, records, pids, kind, d),
-            OpenLog::Client(records) => records.add(kind, d),
+            OpenLog::Stream(entries) => entries.add(pool, kind, d),
+            OpenLog::Node(records) => add_node_record(pool, records, pids, kind, d),
+            OpenLog::Client(records) => records.add(pool, kind, d),
         }
     }
 
@@ -62,7 +64,7 @@ impl OpenLog {
     {
         match self {
             OpenLog::Stream(entries) => Records::Stream(entries.close()),
-            OpenLog::Node(records) => Records::Node(NodeRecs::new(records)),
+            OpenLog::Node(records) => Records::Node(records),
             OpenLog::Client(records) => Records::Client(records.close()),
         }
     }
@@ -78,21 +80,21 @@ pub struct OpenTap {
 impl OpenTap {
     ghost use Rattle.aud_reader.specs.SoFar.{records_so_far, tap_so_far};
 
-    /// A tap without records.
-    pub fn new(alloc: Global, name: Text, of: TapKind) -> OpenTap
+    /// A tap without records. Offsets are hashed with these keys.
+    pub fn new(alloc: Global, keys: RandomState, name: Text, of: TapKind) -> OpenTap
         ensures { tap_so_far result ≡ record { name = name; records = no_records of } }
     {
         OpenTap {
             name,
-            log: OpenLog::new(alloc, of),
+            log: OpenLog::new(alloc, keys, of),
         }
     }
 
-    /// Adds the record of a line. The pids are those of all node records.
+    /// Adds the record of a line, of which the texts are shared with the pool. The pids are those of all node records.
     pub fn add(
         &mut self,
-        alloc: Global,
-        pids: &mut HashSet<String>,
+        pool: &mut TextPool,
+        pids: &mut HashSet<Text, RandomState>,
         kind: &str,
         d: &Fields<'_>,
     ) -> Result<(), LineFault>
@@ -102,7 +104,7 @@ impl OpenTap {
         ensures pids { (before after : List (List ℕ)) → HasPids pids.old (before ++ pids_in (records_so_far self.old.log) ++ after)
             → OnOk result (HasPids pids.new (before ++ pids_in (records_so_far self.new.log) ++ after)) }
     {
-        self.log.add(alloc, pids, kind, d)
+        self.log.add(pool, pids, kind, d)
     }
 
     /// The tap, at the end.

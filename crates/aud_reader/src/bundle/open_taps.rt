@@ -11,10 +11,12 @@ use crate::fault::{InputCode, LineFault};
 use crate::read::header::tap_header;
 use crate::read::line::opened_line;
 use crate::read::record::kind_of;
+use aud_base::TextPool;
 use aud_fields::{Fields, Scratch};
 use aud_tap::{TapKind, Taps, Text};
 use std::alloc::{AllocError, Global};
 use std::collections::{HashMap, HashSet};
+use std::hash::RandomState;
 
 const NO_HEADER: LineFault = LineFault::Code(InputCode::NoHeader);
 
@@ -25,9 +27,10 @@ const HEADER_TWICE: LineFault = LineFault::Code(InputCode::HeaderTwice);
 #[derive(Drop)]
 pub struct OpenTaps {
     alloc: Global,
+    keys: RandomState,
     taps: Vec<OpenTap>,
-    places: HashMap<String, usize>,
-    pids: HashSet<String>,
+    places: HashMap<String, usize, RandomState>,
+    pids: HashSet<Text, RandomState>,
     counts: Counts,
 }
 
@@ -36,15 +39,17 @@ impl OpenTaps {
     ghost use Rattle.aud_reader.specs.Private.Kept.{KeepsTaps};
     ghost use Rattle.aud_reader.specs.SoFar.{taps_so_far};
 
-    pub fn new(alloc: Global) -> OpenTaps
+    /// No taps. Names, pids and offsets are hashed with these keys.
+    pub fn new(alloc: Global, keys: RandomState) -> OpenTaps
         ensures taps { taps_so_far result ≡ [] }
         ensures keeps { KeepsTaps result }
     {
         OpenTaps {
             alloc,
+            keys,
             taps: Vec::new(alloc),
-            places: HashMap::new(alloc),
-            pids: HashSet::new(alloc),
+            places: HashMap::with_hasher(alloc, keys),
+            pids: HashSet::with_hasher(alloc, keys),
             counts: Counts::new(),
         }
     }
@@ -58,8 +63,9 @@ impl OpenTaps {
     {
         let key = String::from_str(self.alloc, name)?;
         self.places.insert(key, self.taps.len())?;
-        let name = Text::new(String::from_str(self.alloc, name)?);
-        self.taps.push(OpenTap::new(self.alloc, name, of))?;
+        let name = Text::new(self.alloc, name)?;
+        self.taps
+            .push(OpenTap::new(self.alloc, self.keys, name, of))?;
         Ok(())
     }
 
@@ -80,9 +86,15 @@ impl OpenTaps {
         Ok(())
     }
 
-    /// Reads a later line of the tap at a place.
+    /// Reads a later line of the tap at a place. Its texts are shared with the pool.
     #[tactic(auto, unfolding(crate::specs::Bundle::with_later))]
-    fn go_on(&mut self, place: usize, kind: &str, d: &Fields<'_>) -> Result<(), LineFault>
+    fn go_on(
+        &mut self,
+        pool: &mut TextPool,
+        place: usize,
+        kind: &str,
+        d: &Fields<'_>,
+    ) -> Result<(), LineFault>
         requires keeps { KeepsTaps self.old }
         requires place { place < length (taps_so_far self.old) }
         ensures taps { (name : List ℕ) → place_of (taps_so_far self.old) name ≡ Some place → Becomes result (taps_so_far self.new) (with_named (taps_so_far self.old) name kind.now (view d.now)) }
@@ -92,7 +104,7 @@ impl OpenTaps {
             return Err(HEADER_TWICE);
         }
         let tap = &mut self.taps[place];
-        tap.add(self.alloc, &mut self.pids, kind, d)
+        tap.add(pool, &mut self.pids, kind, d)
     }
 
     /// The place of the tap of this name.
@@ -104,27 +116,37 @@ impl OpenTaps {
     }
 
     /// Reads the fields of a line of the tap of this name.
-    fn read_value(&mut self, name: &str, d: &Fields<'_>) -> Result<(), LineFault>
+    fn read_value(
+        &mut self,
+        pool: &mut TextPool,
+        name: &str,
+        d: &Fields<'_>,
+    ) -> Result<(), LineFault>
         requires { KeepsTaps self.old }
         ensures taps { Becomes result (taps_so_far self.new) (with_value (taps_so_far self.old) name.now (view d.now)) }
         ensures keeps { OnOk result (KeepsTaps self.new) }
     {
         let kind = kind_of(d)?;
         match self.place(name) {
-            Some(place) => self.go_on(place, kind, d),
+            Some(place) => self.go_on(pool, place, kind, d),
             None => self.begin(name, kind, d),
         }
     }
 
-    /// Reads a line, of which nothing is kept in the scratch.
+    /// Reads a line, of which nothing is kept in the scratch. Its texts are shared with the pool.
     #[tactic(auto, unfolding(crate::specs::Bundle::with_line))]
-    pub fn read_line(&mut self, scratch: &mut Scratch, line: &[u8]) -> Result<(), LineFault>
+    pub fn read_line(
+        &mut self,
+        pool: &mut TextPool,
+        scratch: &mut Scratch,
+        line: &[u8],
+    ) -> Result<(), LineFault>
         requires { KeepsTaps self.old }
         ensures taps { Becomes result (taps_so_far self.new) (with_line (taps_so_far self.old) line.now) }
         ensures keeps { OnOk result (KeepsTaps self.new) }
     {
         let (name, d) = opened_line(self.alloc, scratch, line)?;
-        self.read_value(name, &d)
+        self.read_value(pool, name, &d)
     }
 
     /// The taps, at the end.

@@ -6,15 +6,15 @@ ghost use Rattle.aud_reader.specs.Bundle.{pids_fit};
 ghost use Rattle.aud_reader.specs.Private.Texts.{HasPids};
 
 use crate::fault::{LIMIT, LineFault};
-use aud_tap::NodeRec;
-use std::alloc::Global;
+use aud_tap::{NodeRec, Text};
 use std::collections::HashSet;
+use std::hash::RandomState;
 
 /// The most different pids in the node records of a bundle.
 pub const MAX_PIDS: usize = 65_536;
 
 /// The pid that a record speaks of.
-fn pid_of(rec: &NodeRec) -> Option<&str>
+fn pid_of(rec: &NodeRec) -> Option<&Text>
     ensures { option_map (λ pid. pid.now) result ≡ pid_of rec.now }
 {
     match rec {
@@ -24,12 +24,12 @@ fn pid_of(rec: &NodeRec) -> Option<&str>
         | NodeRec::Leave { pid, .. }
         | NodeRec::Broke { pid, .. }
         | NodeRec::Back { pid, .. }
-        | NodeRec::Gone { pid } => Some(pid.as_str()),
+        | NodeRec::Gone { pid } => Some(pid),
     }
 }
 
 /// Adds a pid, unless there are too many.
-fn add_pid(alloc: Global, pids: &mut HashSet<String>, pid: &str) -> Result<(), LineFault>
+fn add_pid(pids: &mut HashSet<Text, RandomState>, pid: &Text) -> Result<(), LineFault>
     ensures fit { (all : List (List ℕ)) → HasPids pids.old all → Gives result (pids_fit (all ++ pid.now ∷ [])) }
     ensures pids { (all : List (List ℕ)) → HasPids pids.old all → OnOk result (HasPids pids.new (all ++ pid.now ∷ [])) }
 {
@@ -40,17 +40,17 @@ fn add_pid(alloc: Global, pids: &mut HashSet<String>, pid: &str) -> Result<(), L
     if count >= MAX_PIDS {
         return Err(LIMIT);
     }
-    pids.insert(String::from_str(alloc, pid)?)?;
+    pids.insert(pid.share()?)?;
     Ok(())
 }
 
 /// Adds the pid that a record speaks of, unless there are too many.
-pub fn add_pid_of(alloc: Global, pids: &mut HashSet<String>, rec: &NodeRec) -> Result<(), LineFault>
+pub fn add_pid_of(pids: &mut HashSet<Text, RandomState>, rec: &NodeRec) -> Result<(), LineFault>
     ensures fit { (all : List (List ℕ)) → HasPids pids.old all → Gives result (pids_fit (all ++ option_to_list (pid_of rec.now))) }
     ensures pids { (all : List (List ℕ)) → HasPids pids.old all → OnOk result (HasPids pids.new (all ++ option_to_list (pid_of rec.now))) }
 {
     match pid_of(rec) {
-        Some(pid) => add_pid(alloc, pids, pid),
+        Some(pid) => add_pid(pids, pid),
         None => Ok(()),
     }
 }

@@ -12,10 +12,12 @@ ghost use Rattle.aud_reader.specs.Bundle.{entry_room, with_entry, with_new_entry
 
 use crate::fault::{InputCode, LIMIT, LineFault};
 use crate::read::stream::stream_record;
+use aud_base::TextPool;
 use aud_fields::Fields;
-use aud_tap::{StreamRec, StreamRecs};
+use aud_tap::{StreamRec, StreamRecs, Text};
 use std::alloc::Global;
 use std::collections::HashSet;
+use std::hash::RandomState;
 use std::marker::Model;
 
 const OFFSET_TWICE: LineFault = LineFault::Code(InputCode::OffsetTwice);
@@ -23,21 +25,21 @@ const OFFSET_TWICE: LineFault = LineFault::Code(InputCode::OffsetTwice);
 /// The most entries of the stream.
 pub const MAX_ENTRIES: usize = 1_000_000;
 
-fn offset_of(entry: &StreamRec) -> &str
+fn offset_of(entry: &StreamRec) -> &Text
     ensures { result.now ≡ offset_of entry.now }
 {
     match entry {
-        StreamRec::Ev(event) => event.off.as_str(),
-        StreamRec::Other { off } => off.as_str(),
+        StreamRec::Ev(event) => &event.off,
+        StreamRec::Other { off } => off,
     }
 }
 
 /// Adds an offset, unless it is there already.
-fn add_offset(alloc: Global, offsets: &mut HashSet<String>, off: &str) -> Result<(), LineFault>
+fn add_offset(offsets: &mut HashSet<Text, RandomState>, off: &Text) -> Result<(), LineFault>
     ensures new { (all : List (List ℕ)) → HasTexts offsets.old all → Gives result (guard OffsetTwice (not (list_any (is_text off.now) all))) }
     ensures kept { (all : List (List ℕ)) → HasTexts offsets.old all → MatchResult result (λ _. HasTexts offsets.new (all ++ off.now ∷ [])) (λ _. HasTexts offsets.new all) }
 {
-    let is_new = offsets.insert(String::from_str(alloc, off)?)?;
+    let is_new = offsets.insert(off.share()?)?;
     if !is_new {
         return Err(OFFSET_TWICE);
     }
@@ -46,9 +48,8 @@ fn add_offset(alloc: Global, offsets: &mut HashSet<String>, off: &str) -> Result
 
 /// Adds the offset of an entry, unless it is there already, and makes room for the entry; unless there are too many.
 fn admit(
-    alloc: Global,
     entries: &mut Vec<StreamRec>,
-    offsets: &mut HashSet<String>,
+    offsets: &mut HashSet<Text, RandomState>,
     entry: &StreamRec,
 ) -> Result<(), LineFault>
     ensures new { (all : List (List ℕ)) → HasTexts offsets.old all → Gives result (entry_room (length entries.old.items) all entry.now) }
@@ -60,7 +61,7 @@ fn admit(
         return Err(LIMIT);
     }
     entries.reserve(1)?;
-    add_offset(alloc, offsets, offset_of(entry))
+    add_offset(offsets, offset_of(entry))
 }
 
 /// The entries so far, and their offsets.
@@ -68,7 +69,7 @@ fn admit(
 pub struct StreamLog {
     alloc: Global,
     entries: Vec<StreamRec>,
-    offsets: HashSet<String>,
+    offsets: HashSet<Text, RandomState>,
 }
 
 impl Model for StreamLog {
@@ -87,13 +88,14 @@ impl Model for StreamLog {
 impl StreamLog {
     ghost use Rattle.aud_reader.specs.Private.Changes.{Becomes};
 
-    pub fn new(alloc: Global) -> StreamLog
+    /// No entries. Their offsets are hashed with these keys.
+    pub fn new(alloc: Global, keys: RandomState) -> StreamLog
         ensures { result ≡ [] }
     {
         StreamLog {
             alloc,
             entries: Vec::new(alloc),
-            offsets: HashSet::new(alloc),
+            offsets: HashSet::with_hasher(alloc, keys),
         }
     }
 
@@ -101,17 +103,17 @@ impl StreamLog {
     fn push(&mut self, entry: StreamRec) -> Result<(), LineFault>
         ensures { Becomes result self.new (with_new_entry self.old entry) }
     {
-        admit(self.alloc, &mut self.entries, &mut self.offsets, &entry)?;
+        admit(&mut self.entries, &mut self.offsets, &entry)?;
         self.entries.push(entry).unwrap();
         Ok(())
     }
 
-    /// Adds the entry of a line.
+    /// Adds the entry of a line, of which the texts are shared with the pool.
     #[tactic(auto, unfolding(crate::specs::Bundle::with_entry))]
-    pub fn add(&mut self, kind: &str, d: &Fields<'_>) -> Result<(), LineFault>
+    pub fn add(&mut self, pool: &mut TextPool, kind: &str, d: &Fields<'_>) -> Result<(), LineFault>
         ensures { Becomes result self.new (with_entry self.old kind.now (view d.now)) }
     {
-        let entry = stream_record(self.alloc, kind, d)?;
+        let entry = stream_record(self.alloc, pool, kind, d)?;
         self.push(entry)
     }
 

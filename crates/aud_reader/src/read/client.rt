@@ -3,22 +3,28 @@ ghost use Rattle.aud_fields.specs.View.{view};
 ghost use Rattle.aud_reader.specs.Steps.{Gives};
 ghost use Rattle.aud_reader.specs.ClientRecord.{message_of, client_record_of};
 
-use super::fields::{bytes_at, copied, number_at, text_at};
+use super::fields::{bytes_at, number_at, text_at};
 use crate::fault::{LineFault, UNKNOWN_KIND};
+use aud_base::TextPool;
 use aud_fields::Fields;
 use aud_tap::{ClientRec, Text};
 use std::alloc::Global;
 
-fn message(alloc: Global, d: &Fields<'_>) -> Result<Text, LineFault>
+fn message(pool: &mut TextPool, d: &Fields<'_>) -> Result<Text, LineFault>
     ensures { Gives result (message_of (view d.now)) }
 {
     let t = text_at("t", d)?;
-    Ok(copied(alloc, t)?)
+    Ok(pool.text(t)?)
 }
 
 /// The client's record of this kind.
 #[tactic(auto, unfolding(crate::specs::ClientRecord::client_record_of))]
-pub fn client_record(alloc: Global, kind: &str, d: &Fields<'_>) -> Result<ClientRec, LineFault>
+pub fn client_record(
+    alloc: Global,
+    pool: &mut TextPool,
+    kind: &str,
+    d: &Fields<'_>,
+) -> Result<ClientRec, LineFault>
     ensures { Gives result (client_record_of kind.now (view d.now)) }
 {
     match kind {
@@ -26,16 +32,16 @@ pub fn client_record(alloc: Global, kind: &str, d: &Fields<'_>) -> Result<Client
             c: number_at("c", d)?,
         }),
         "in" => Ok(ClientRec::TextIn {
-            t: message(alloc, d)?,
+            t: message(pool, d)?,
         }),
         "inb" => Ok(ClientRec::BytesIn {
             b: bytes_at(alloc, "b", d)?,
         }),
         "poll" => Ok(ClientRec::Poll {
-            t: message(alloc, d)?,
+            t: message(pool, d)?,
         }),
         "out" => Ok(ClientRec::TextOut {
-            t: message(alloc, d)?,
+            t: message(pool, d)?,
         }),
         "lost" => Ok(ClientRec::Lost),
         _ => Err(UNKNOWN_KIND),

@@ -13,6 +13,7 @@ ghost use Rattle.aud_reader.specs.Fields.{id_or_null, id_or_null_at, decoded, as
 ghost use Rattle.aud_reader.specs.Fields.{all_items, texts_at, blobs_at};
 
 use crate::fault::{FIELD, LIMIT, LineFault};
+use aud_base::TextPool;
 use aud_fields::{Field as Member, Fields};
 use aud_tap::limits::fits;
 use aud_tap::{Blobs, Bytes, Text, Texts, is_id, is_namespace};
@@ -20,27 +21,16 @@ use base64::DecodeAllocError;
 use base64::engine::general_purpose::STANDARD;
 use std::alloc::{AllocError, Global};
 
-/// A copy of a text that is lent.
-pub fn copied(alloc: Global, text: &str) -> Result<Text, AllocError>
-    ensures { IfOk result (λ copy. copy ≡ text.now) }
-{
-    Ok(Text::new(String::from_str(alloc, text)?))
-}
-
-/// Copies of three texts that are lent.
-pub fn copies(
-    alloc: Global,
+/// Three texts, shared with the pool.
+pub fn shared(
+    pool: &mut TextPool,
     first: &str,
     second: &str,
     third: &str,
 ) -> Result<(Text, Text, Text), AllocError>
-    ensures { IfOk result (λ copies. copies ≡ (first.now, second.now, third.now)) }
+    ensures { IfOk result (λ shared. shared ≡ (first.now, second.now, third.now)) }
 {
-    Ok((
-        copied(alloc, first)?,
-        copied(alloc, second)?,
-        copied(alloc, third)?,
-    ))
+    Ok((pool.text(first)?, pool.text(second)?, pool.text(third)?))
 }
 
 /// A whole number.
@@ -78,10 +68,10 @@ pub fn id_at<'a>(key: &str, d: &Fields<'a>) -> Result<&'a str, LineFault>
     }
 }
 
-/// A copy of a pid, a sid or an offset of at most so many bytes.
+/// A pid, a sid or an offset of at most so many bytes, shared with the pool.
 #[tactic(auto, unfolding(crate::specs::Fields::bounded_id_at))]
 pub fn bounded_id_at(
-    alloc: Global,
+    pool: &mut TextPool,
     most: usize,
     key: &str,
     d: &Fields<'_>,
@@ -93,7 +83,7 @@ pub fn bounded_id_at(
     if !fits(most, id) {
         return Err(LIMIT);
     }
-    Ok(copied(alloc, id)?)
+    Ok(pool.text(id)?)
 }
 
 /// A namespace.
@@ -156,34 +146,39 @@ pub fn bytes_at(alloc: Global, key: &str, d: &Fields<'_>) -> Result<Bytes, LineF
     as_blob(alloc, d)
 }
 
-/// A copy of the text that an item is.
-fn item_text(alloc: Global, item: Option<&str>) -> Result<Text, LineFault>
+/// The text that an item is, shared with the pool.
+fn item_text(pool: &mut TextPool, item: Option<&str>) -> Result<Text, LineFault>
     ensures { Gives result (need Field (as_str (text_view item.entry))) }
 {
     let text = item.ok_or(FIELD)?;
-    Ok(copied(alloc, text)?)
+    Ok(pool.text(text)?)
 }
 
-fn texts(alloc: Global, items: &[Option<&str>]) -> Result<Texts, LineFault>
+fn texts(alloc: Global, pool: &mut TextPool, items: &[Option<&str>]) -> Result<Texts, LineFault>
     ensures { Gives result (need Field (all_items as_str (list_view items.now))) }
 {
     let mut texts = Vec::new(alloc);
     for item in items {
-        let text = item_text(alloc, *item)?;
+        let text = item_text(pool, *item)?;
         texts.push(text)?;
     }
     Ok(Texts::new(texts))
 }
 
-/// A list of texts, empty where it is absent.
-pub fn texts_at(alloc: Global, key: &str, d: &Fields<'_>) -> Result<Texts, LineFault>
+/// A list of texts, empty where it is absent. The texts are shared with the pool.
+pub fn texts_at(
+    alloc: Global,
+    pool: &mut TextPool,
+    key: &str,
+    d: &Fields<'_>,
+) -> Result<Texts, LineFault>
     ensures { Gives result (need Field (texts_at key.now (view d.now))) }
 {
     let Some(list) = d.get(key) else {
         return Ok(Texts::new(Vec::new(alloc)));
     };
     let items = list.as_list().ok_or(FIELD)?;
-    texts(alloc, items)
+    texts(alloc, pool, items)
 }
 
 /// The bytes that an item spells in base64.

@@ -12,10 +12,12 @@ use super::record::value_record;
 use super::tap_name::{cut_at_blank, tap_name};
 use crate::fault::{InputCode, LineFault, ReadFault};
 use crate::line::Line;
+use aud_base::TextPool;
 use aud_fields::{Fields, FieldsFault, Scratch};
 use aud_tap::Rec;
 use aud_tap::limits::MAX_LINE;
 use std::alloc::Global;
+use std::hash::RandomState;
 
 const LINE_TOO_LONG: LineFault = LineFault::Code(InputCode::LineTooLong);
 
@@ -65,18 +67,28 @@ pub fn opened_line<'a>(
 }
 
 /// The name, copied, and the record of the fields after it.
-fn named_record(alloc: Global, name: &str, d: &Fields<'_>) -> Result<(String, Rec), LineFault>
+fn named_record(
+    alloc: Global,
+    pool: &mut TextPool,
+    name: &str,
+    d: &Fields<'_>,
+) -> Result<(String, Rec), LineFault>
     ensures reads { MatchResult result
         (λ p. (string_bytes p.0 ≡ name.now) × (value_record (view d.now) ≡ Ok p.1))
         (λ e. Fails e (value_record (view d.now))) }
     ensures record { IfOk result (λ p. IsTrue (is_well_formed p.1)) }
 {
     let name = String::from_str(alloc, name)?;
-    Ok((name, value_record(alloc, d)?))
+    Ok((name, value_record(alloc, pool, d)?))
 }
 
 #[tactic(auto, unfolding(crate::specs::Record::line_record))]
-fn parse(alloc: Global, scratch: &mut Scratch, line: &[u8]) -> Result<(String, Rec), LineFault>
+fn parse(
+    alloc: Global,
+    pool: &mut TextPool,
+    scratch: &mut Scratch,
+    line: &[u8],
+) -> Result<(String, Rec), LineFault>
     ensures reads { MatchResult result
         (λ p. line_record line.now ≡ Ok (string_bytes p.0, p.1))
         (λ e. Fails e (line_record line.now)) }
@@ -84,15 +96,16 @@ fn parse(alloc: Global, scratch: &mut Scratch, line: &[u8]) -> Result<(String, R
     ensures record { IfOk result (λ p. IsTrue (is_well_formed p.1)) }
 {
     let (name, d) = opened_line(alloc, scratch, line)?;
-    named_record(alloc, name, &d)
+    named_record(alloc, pool, name, &d)
 }
 
 /// The tap's name and the record of a line, with the form and the fields of this line alone looked
 /// at: in the order of docs/FORMAT.md, and with the kinds of any tap.
 ///
 /// Unknown keys are passed over, and of a key that stands twice the last value counts. The refusal has the line's own
-/// number. What is returned is copied.
-pub fn parse_line(alloc: Global, line: &Line) -> Result<(String, Rec), ReadFault>
+/// number. What is returned is copied; a text that stands in the line twice is copied once, and found again by its hash
+/// under these keys.
+pub fn parse_line(alloc: Global, keys: RandomState, line: &Line) -> Result<(String, Rec), ReadFault>
     ensures read { IfOk result (λ p. line_record line.now.bytes ≡ Ok (string_bytes p.0, p.1)) }
     ensures refused { IfErr result
         (λ e. IsRefusal line.now.number e (line_record line.now.bytes)) }
@@ -101,8 +114,9 @@ pub fn parse_line(alloc: Global, line: &Line) -> Result<(String, Rec), ReadFault
     ensures name { IfOk result (λ p. IsTrue (is_tap_name (string_bytes p.0))) }
     ensures record { IfOk result (λ p. IsTrue (is_well_formed p.1)) }
 {
+    let mut pool = TextPool::new(alloc, keys);
     let mut scratch = Scratch::new(alloc);
-    match parse(alloc, &mut scratch, line.bytes.as_slice()) {
+    match parse(alloc, &mut pool, &mut scratch, line.bytes.as_slice()) {
         Ok(read) => Ok(read),
         Err(LineFault::Code(code)) => Err(ReadFault::Input(line.number, code)),
         Err(LineFault::Memory) => Err(ReadFault::Memory),

@@ -7,16 +7,16 @@ ghost use Rattle.aud_reader.specs.Steps.{Gives};
 ghost use Rattle.aud_reader.specs.NodeRecord.{start_of, open_of, member_of, pid_and_turn, node_record_of};
 
 use super::fields::{
-    bounded_id_at, copied, copies, id_at, id_or_null_at, namespace_at, number_at, text_at,
+    bounded_id_at, id_at, id_or_null_at, namespace_at, number_at, shared, text_at,
 };
 use crate::fault::{FIELD, LIMIT, LineFault, UNKNOWN_KIND};
+use aud_base::TextPool;
 use aud_fields::Fields;
 use aud_tap::limits::{MAX_ID, MAX_NAMESPACE, MAX_OFFSET, MAX_ROOM, fits};
 use aud_tap::{NodeRec, Text};
-use std::alloc::Global;
 
 #[tactic(auto, unfolding(crate::specs::NodeRecord::start_of))]
-fn start(alloc: Global, d: &Fields<'_>) -> Result<NodeRec, LineFault>
+fn start(pool: &mut TextPool, d: &Fields<'_>) -> Result<NodeRec, LineFault>
     ensures reads { Gives result (start_of (view d.now)) }
     ensures formed { IfOk result (λ rec. IsTrue (node_is_well_formed rec)) }
 {
@@ -28,12 +28,12 @@ fn start(alloc: Global, d: &Fields<'_>) -> Result<NodeRec, LineFault>
         return Err(LIMIT);
     }
     Ok(NodeRec::Start {
-        off: Some(copied(alloc, off)?),
+        off: Some(pool.text(off)?),
     })
 }
 
 #[tactic(auto, unfolding(crate::specs::NodeRecord::open_of))]
-fn open(alloc: Global, d: &Fields<'_>) -> Result<NodeRec, LineFault>
+fn open(pool: &mut TextPool, d: &Fields<'_>) -> Result<NodeRec, LineFault>
     ensures reads { Gives result (open_of (view d.now)) }
     ensures formed { IfOk result (λ rec. IsTrue (node_is_well_formed rec)) }
 {
@@ -43,13 +43,13 @@ fn open(alloc: Global, d: &Fields<'_>) -> Result<NodeRec, LineFault>
     if !fits(MAX_ID, pid) || !fits(MAX_ID, sid) || !fits(MAX_NAMESPACE, nsp) {
         return Err(LIMIT);
     }
-    let (pid, sid, nsp) = copies(alloc, pid, sid, nsp)?;
+    let (pid, sid, nsp) = shared(pool, pid, sid, nsp)?;
     Ok(NodeRec::Opened { pid, sid, nsp })
 }
 
 /// A pid and a room.
 #[tactic(auto, unfolding(crate::specs::NodeRecord::member_of))]
-fn member(alloc: Global, d: &Fields<'_>) -> Result<(Text, Text), LineFault>
+fn member(pool: &mut TextPool, d: &Fields<'_>) -> Result<(Text, Text), LineFault>
     ensures reads { Gives result (member_of (view d.now)) }
     ensures formed { IfOk result (λ m. IsTrue (is_session_id m.0 && is_room m.1)) }
 {
@@ -58,12 +58,12 @@ fn member(alloc: Global, d: &Fields<'_>) -> Result<(Text, Text), LineFault>
     if !fits(MAX_ID, pid) || !fits(MAX_ROOM, room) {
         return Err(LIMIT);
     }
-    Ok((copied(alloc, pid)?, copied(alloc, room)?))
+    Ok((pool.text(pid)?, pool.text(room)?))
 }
 
 /// A pid and the number of a turn.
 #[tactic(auto, unfolding(crate::specs::NodeRecord::pid_and_turn))]
-fn turn(alloc: Global, d: &Fields<'_>) -> Result<(Text, u16), LineFault>
+fn turn(pool: &mut TextPool, d: &Fields<'_>) -> Result<(Text, u16), LineFault>
     ensures reads { Gives result (pid_and_turn (view d.now)) }
     ensures formed { IfOk result (λ t. IsTrue (is_session_id t.0 && nat_le t.1 max_turn)) }
 {
@@ -75,39 +75,39 @@ fn turn(alloc: Global, d: &Fields<'_>) -> Result<(Text, u16), LineFault>
     let Ok(turn) = u16::try_from(turn) else {
         return Err(LIMIT);
     };
-    Ok((copied(alloc, pid)?, turn))
+    Ok((pool.text(pid)?, turn))
 }
 
 /// The node's record of this kind.
 #[tactic(auto, unfolding(crate::specs::NodeRecord::node_record_of))]
-pub fn node_record(alloc: Global, kind: &str, d: &Fields<'_>) -> Result<NodeRec, LineFault>
+pub fn node_record(pool: &mut TextPool, kind: &str, d: &Fields<'_>) -> Result<NodeRec, LineFault>
     ensures reads { Gives result (node_record_of kind.now (view d.now)) }
     ensures formed { IfOk result (λ rec. IsTrue (node_is_well_formed rec)) }
 {
     match kind {
-        "start" => start(alloc, d),
+        "start" => start(pool, d),
         "take" => Ok(NodeRec::Take {
-            off: bounded_id_at(alloc, MAX_OFFSET, "off", d)?,
+            off: bounded_id_at(pool, MAX_OFFSET, "off", d)?,
         }),
-        "open" => open(alloc, d),
+        "open" => open(pool, d),
         "join" => {
-            let (pid, room) = member(alloc, d)?;
+            let (pid, room) = member(pool, d)?;
             Ok(NodeRec::Join { pid, room })
         }
         "leave" => {
-            let (pid, room) = member(alloc, d)?;
+            let (pid, room) = member(pool, d)?;
             Ok(NodeRec::Leave { pid, room })
         }
         "break" => {
-            let (pid, turn) = turn(alloc, d)?;
+            let (pid, turn) = turn(pool, d)?;
             Ok(NodeRec::Broke { pid, turn })
         }
         "back" => {
-            let (pid, turn) = turn(alloc, d)?;
+            let (pid, turn) = turn(pool, d)?;
             Ok(NodeRec::Back { pid, turn })
         }
         "gone" => Ok(NodeRec::Gone {
-            pid: bounded_id_at(alloc, MAX_ID, "pid", d)?,
+            pid: bounded_id_at(pool, MAX_ID, "pid", d)?,
         }),
         _ => Err(UNKNOWN_KIND),
     }

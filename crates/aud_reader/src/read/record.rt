@@ -12,6 +12,7 @@ use super::header::tap_header;
 use super::node::node_record;
 use super::stream::stream_record;
 use crate::fault::{LineFault, UNKNOWN_KIND};
+use aud_base::TextPool;
 use aud_fields::Fields;
 use aud_tap::{Rec, TapKind};
 use std::alloc::Global;
@@ -55,20 +56,26 @@ fn tap_of_kind(kind: &str) -> Option<TapKind>
 
 /// The record of this kind in a tap that was put on `of`.
 #[tactic(auto, unfolding(crate::specs::Record::record_in))]
-fn record_in(alloc: Global, of: TapKind, kind: &str, d: &Fields<'_>) -> Result<Rec, LineFault>
+fn record_in(
+    alloc: Global,
+    pool: &mut TextPool,
+    of: TapKind,
+    kind: &str,
+    d: &Fields<'_>,
+) -> Result<Rec, LineFault>
     ensures reads { Gives result (record_in of kind.now (view d.now)) }
     ensures formed { IfOk result (λ rec. IsTrue (is_well_formed rec)) }
 {
     match of {
-        TapKind::Stream => Ok(Rec::Stream(stream_record(alloc, kind, d)?)),
-        TapKind::Node => Ok(Rec::Node(node_record(alloc, kind, d)?)),
-        TapKind::Client => Ok(Rec::Client(client_record(alloc, kind, d)?)),
+        TapKind::Stream => Ok(Rec::Stream(stream_record(alloc, pool, kind, d)?)),
+        TapKind::Node => Ok(Rec::Node(node_record(pool, kind, d)?)),
+        TapKind::Client => Ok(Rec::Client(client_record(alloc, pool, kind, d)?)),
     }
 }
 
 /// A header, or the record of this kind in whichever tap has it.
 #[tactic(auto, unfolding(crate::specs::Record::record_of))]
-fn record(alloc: Global, kind: &str, d: &Fields<'_>) -> Result<Rec, LineFault>
+fn record(alloc: Global, pool: &mut TextPool, kind: &str, d: &Fields<'_>) -> Result<Rec, LineFault>
     ensures reads { Gives result (record_of kind.now (view d.now)) }
     ensures formed { IfOk result (λ rec. IsTrue (is_well_formed rec)) }
 {
@@ -77,7 +84,7 @@ fn record(alloc: Global, kind: &str, d: &Fields<'_>) -> Result<Rec, LineFault>
         return Ok(Rec::Header { of, v: 1 });
     }
     let of = tap_of_kind(kind).ok_or(UNKNOWN_KIND)?;
-    record_in(alloc, of, kind, d)
+    record_in(alloc, pool, of, kind, d)
 }
 
 /// What an object says that it is.
@@ -91,10 +98,10 @@ pub fn kind_of<'a>(d: &Fields<'a>) -> Result<&'a str, LineFault>
 
 /// The record of a value, by what it says that it is.
 #[tactic(auto, unfolding(crate::specs::Record::value_record))]
-pub fn value_record(alloc: Global, d: &Fields<'_>) -> Result<Rec, LineFault>
+pub fn value_record(alloc: Global, pool: &mut TextPool, d: &Fields<'_>) -> Result<Rec, LineFault>
     ensures reads { Gives result (value_record (view d.now)) }
     ensures formed { IfOk result (λ rec. IsTrue (is_well_formed rec)) }
 {
     let kind = kind_of(d)?;
-    record(alloc, kind, d)
+    record(alloc, pool, kind, d)
 }

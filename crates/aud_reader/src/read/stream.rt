@@ -7,8 +7,9 @@ ghost use Rattle.aud_tap.specs.WellFormed.{stream_is_well_formed};
 ghost use Rattle.aud_reader.specs.Steps.{Gives};
 ghost use Rattle.aud_reader.specs.StreamRecord.{bounded_event, event_of, lists_of, stream_record_of};
 
-use super::fields::{blobs_at, bounded_id_at, copies, id_at, namespace_at, text_at, texts_at};
+use super::fields::{blobs_at, bounded_id_at, id_at, namespace_at, shared, text_at, texts_at};
 use crate::fault::{LIMIT, LineFault, UNKNOWN_KIND};
+use aud_base::TextPool;
 use aud_fields::Fields;
 use aud_tap::limits::{MAX_ATTACHMENTS, MAX_NAMESPACE, MAX_OFFSET, fit_rooms, fits};
 use aud_tap::{Blobs, Event, StreamRec, Texts};
@@ -29,17 +30,17 @@ fn lists_fit(lists: &Lists) -> bool
 
 /// The lists of an event.
 #[tactic(auto, unfolding(crate::specs::StreamRecord::lists_of))]
-fn lists(alloc: Global, d: &Fields<'_>) -> Result<Lists, LineFault>
+fn lists(alloc: Global, pool: &mut TextPool, d: &Fields<'_>) -> Result<Lists, LineFault>
     ensures { Gives result (lists_of (view d.now)) }
 {
-    let rooms = texts_at(alloc, "rooms", d)?;
-    let except = texts_at(alloc, "except", d)?;
+    let rooms = texts_at(alloc, pool, "rooms", d)?;
+    let except = texts_at(alloc, pool, "except", d)?;
     Ok((rooms, except, blobs_at(alloc, "bin", d)?))
 }
 
-/// The event of texts, which are copied, and of its lists.
+/// The event of texts, which are shared with the pool, and of its lists.
 fn event_with(
-    alloc: Global,
+    pool: &mut TextPool,
     off: &str,
     nsp: &str,
     text: &str,
@@ -47,7 +48,7 @@ fn event_with(
 ) -> Result<Event, AllocError>
     ensures { IfOk result (λ event. event ≡ record { off = off.now; nsp = nsp.now; rooms = lists.0; except = lists.1; text = text.now; bin = lists.2 }) }
 {
-    let (off, nsp, text) = copies(alloc, off, nsp, text)?;
+    let (off, nsp, text) = shared(pool, off, nsp, text)?;
     let (rooms, except, bin) = lists;
     Ok(Event {
         off,
@@ -59,10 +60,10 @@ fn event_with(
     })
 }
 
-/// The event of texts, which are copied, and of its lists, where all are within their limits.
+/// The event of texts, which are shared with the pool, and of its lists, where all are within their limits.
 #[tactic(auto, unfolding(crate::specs::StreamRecord::bounded_event))]
 fn bounded_event(
-    alloc: Global,
+    pool: &mut TextPool,
     off: &str,
     nsp: &str,
     text: &str,
@@ -75,31 +76,36 @@ fn bounded_event(
     if !fits(MAX_OFFSET, off) || !fits(MAX_NAMESPACE, nsp) || !lists_fit(&lists) {
         return Err(LIMIT);
     }
-    Ok(StreamRec::Ev(event_with(alloc, off, nsp, text, lists)?))
+    Ok(StreamRec::Ev(event_with(pool, off, nsp, text, lists)?))
 }
 
 #[tactic(auto, unfolding(crate::specs::StreamRecord::event_of))]
-fn event(alloc: Global, d: &Fields<'_>) -> Result<StreamRec, LineFault>
+fn event(alloc: Global, pool: &mut TextPool, d: &Fields<'_>) -> Result<StreamRec, LineFault>
     ensures reads { Gives result (event_of (view d.now)) }
     ensures formed { IfOk result (λ rec. IsTrue (stream_is_well_formed rec)) }
 {
     let off = id_at("off", d)?;
     let nsp = namespace_at("nsp", d)?;
     let text = text_at("text", d)?;
-    let lists = lists(alloc, d)?;
-    bounded_event(alloc, off, nsp, text, lists)
+    let lists = lists(alloc, pool, d)?;
+    bounded_event(pool, off, nsp, text, lists)
 }
 
 /// The stream's record of this kind.
 #[tactic(auto, unfolding(crate::specs::StreamRecord::stream_record_of))]
-pub fn stream_record(alloc: Global, kind: &str, d: &Fields<'_>) -> Result<StreamRec, LineFault>
+pub fn stream_record(
+    alloc: Global,
+    pool: &mut TextPool,
+    kind: &str,
+    d: &Fields<'_>,
+) -> Result<StreamRec, LineFault>
     ensures reads { Gives result (stream_record_of kind.now (view d.now)) }
     ensures formed { IfOk result (λ rec. IsTrue (stream_is_well_formed rec)) }
 {
     match kind {
-        "ev" => event(alloc, d),
+        "ev" => event(alloc, pool, d),
         "other" => Ok(StreamRec::Other {
-            off: bounded_id_at(alloc, MAX_OFFSET, "off", d)?,
+            off: bounded_id_at(pool, MAX_OFFSET, "off", d)?,
         }),
         _ => Err(UNKNOWN_KIND),
     }

@@ -6,5 +6,5 @@ use Rattle.aud_node.proofs.by_name.records_by_pid.Goals as goal
 
 pub loop-number-preserved : goal.loop-number-preserved
 loop-number-preserved c = λ q.
-    noted-at (λ o. record_names o q) c.args.recs.now c.loop-number.number c.index-recs-number.result
-    (places_of c.loop-number.numbers q) (places_of c.note_record.new.places q) (omega arith) c.index-recs-number.is (c.loop-number.invariant q) (c.in_ok-note_record.ensures q)
+    noted-at (λ o. record_names o q) c.args.recs.now c.loop-number.number c.index.result.now
+    (places_of c.loop-number.numbers q) (places_of c.note_record.new.places q) (omega arith) c.index.ensures (c.loop-number.invariant q) (c.in_ok-note_record.ensures q)

@@ -14,9 +14,9 @@ loop-number-preserved c =
     let i = c.loop-number.number in
     let log = c.args.recs.now in
     let stream = c.args.stream.now in
-    let rec = c.index-recs-number.result in
+    let rec = c.index.result.now in
     let before = c.loop-number.invariant in
-    let here : slice_get log i ≡ Some rec = slice_get_read log (length log) i rec refl (omega arith) c.index-recs-number.is in
+    let here : slice_get log i ≡ Some rec = slice_get_read log (length log) i rec refl (omega arith) c.index.ensures in
     let cursor : c.by-advance.result.cursor ≡ cursor_at stream log (i + 1) =
     c.by-advance.ensures.cursor ∙ ap (next_cursor stream i rec) before.cursor_is ∙ sym (cursor_at-more stream log i rec here) in
     let next : i + 1 ≡ suc i = omega arith in

@@ -1,9 +1,7 @@
 use Rattle.std.proofs.Common.{sym, ap, ◌∙◌, slice_get, Some, None}
 use Rattle.std.proofs.lemmas.Bool.{false≢true}
 use Rattle.std.proofs.lemmas.Option.{none-some}
-use Rattle.std.specs.Option.{option_map}
 use Rattle.aud_base.proofs.Lists.{got}
-use Rattle.aud_node.specs.Known.{known_entry, is_sent_as}
 use Rattle.aud_node.proofs.KnownLemmas.{known-there, known-at, known-event}
 use Rattle.aud_node.proofs.stream.Stream.known.Goals as goal
 

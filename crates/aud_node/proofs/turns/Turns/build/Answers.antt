@@ -5,8 +5,8 @@ use Rattle.aud_node.proofs.turns.Turns.build.Goals as goal
 
 pub loop-number-preserved : goal.loop-number-preserved
 loop-number-preserved c =
-    step c.args.recs.now _ c.loop-number.number c.index-recs-number.result c.loop-number.turns c.put.new.self (omega arith)
-    (drop-read c.args.recs.now c.loop-number.number c.index-recs-number.result (omega arith) (omega arith) c.index-recs-number.is)
+    step c.args.recs.now c.len.result _ c.loop-number.number c.index.result.now c.loop-number.turns c.put.new.self c.len.ensures (omega arith)
+    (drop-read c.args.recs.now c.loop-number.number c.index.result.now (omega arith) (omega arith) c.index.ensures)
     c.loop-number.invariant c.in_ok-put.ensures.spans c.in_ok-put.ensures.ends
 
 pub returns : goal.returns

@@ -1,12 +1,9 @@
-use Rattle.std.proofs.Common.{ap, ◌∙◌, Some, unwrap_or}
-use Rattle.std.specs.Str.{bytes_eq}
-use Rattle.std.specs.Ordering.{nat_cmp}
-use Rattle.std.specs.Cmp.Lexicographic.{slice_cmp}
-use Rattle.std.specs.BTreeMap as tree
-use Rattle.aud_node.proofs.MapLemmas.{get-updated, unwrap_or-updated}
+use Rattle.std.proofs.Common.{arith}
+use Rattle.std.proofs.lemmas.Grind.{text_groups}
 use Rattle.aud_node.proofs.turns.Turns.end.Goals as goal
 
+pub returns-clause-spans : goal.returns-clause-spans
+returns-clause-spans c = λ q k. let inner = c.end_at.ensures.spans k in let none = c.new.ensures.spans k in grind (arith, text_groups)
+
 pub returns-clause-ends : goal.returns-clause-ends
-returns-clause-ends c = λ q len.
-    ap (λ o. unwrap_or o len) (get-updated c.args.self.now.ends c.insert.new.self c.args.pid.now (Some c.args.number) c.in_ok-insert.ensures.updates q)
-    ∙ unwrap_or-updated (bytes_eq c.args.pid.now q) c.args.number (tree.get_by (λ key. slice_cmp nat_cmp q key.now) c.args.self.now.ends) len
+returns-clause-ends c = λ q len. grind (arith, text_groups)

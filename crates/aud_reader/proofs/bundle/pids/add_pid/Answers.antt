@@ -18,5 +18,5 @@ pub returns : goal.returns
 returns c =
     let room : length c.args.pids.now.keys < max_pids = omega (arith, c.len-count.ensures.len, c.if-count-ge-MAX_PIDS.false) in
     let put = λ (all : List (List ℕ)) (has : HasPids c.args.pids.now all).
-    pids-put c.args.pids.now c.insert.new.self all c.args.pid.now c.in_ok-from_str.field-0 c.in_ok-from_str.ensures.ok c.len-count.ensures.unique has (sym c.if-contains.ensures) room c.in_ok-insert.ensures.updates in
+    pids-put c.args.pids.now c.insert.new.self all c.args.pid.now c.len-count.ensures.unique has (sym c.if-contains.ensures) room (rw (← c.in_ok-share.ensures) c.in_ok-insert.ensures.updates) in
     record { fit = λ all has. fit-ok (all ++ c.args.pid.now ∷ []) (put all has).few; pids = put }

@@ -1,0 +1,63 @@
+//! Texts of which each is kept once.
+ghost use Rattle.std.specs.Prelude.{◌≡◌, IfOk, IfSome};
+
+use crate::Text;
+use std::alloc::{AllocError, Global};
+use std::collections::HashMap;
+use std::hash::{BuildHasher, RandomState};
+
+/// Texts that are to be shared, each by its hash. Of two texts that have one hash the later is kept.
+#[derive(Drop)]
+pub struct TextPool {
+    alloc: Global,
+    keys: RandomState,
+    by_hash: HashMap<u64, Text>,
+}
+
+impl TextPool {
+    /// A pool without texts. Its texts are hashed with these keys.
+    pub fn new(alloc: Global, keys: RandomState) -> TextPool {
+        TextPool {
+            alloc,
+            keys,
+            by_hash: HashMap::new(alloc),
+        }
+    }
+
+    /// The pool's own text that is the same, lent.
+    pub fn find(&self, text: &str) -> Option<&Text>
+        ensures { IfSome result (λ found. found.now ≡ text.now) }
+    {
+        self.find_at(self.keys.hash_one(text), text)
+    }
+
+    /// The pool's own text that is the same, under its hash.
+    fn find_at(&self, hash: u64, text: &str) -> Option<&Text>
+        ensures { IfSome result (λ found. found.now ≡ text.now) }
+    {
+        match self.by_hash.get(&hash) {
+            Some(kept) if kept.as_str() == text => Some(kept),
+            _ => None,
+        }
+    }
+
+    /// The text, shared with the pool, which copies it where it has none that is the same.
+    pub fn text(&mut self, text: &str) -> Result<Text, AllocError>
+        ensures { IfOk result (λ shared. shared ≡ text.now) }
+    {
+        let hash = self.keys.hash_one(text);
+        match self.find_at(hash, text) {
+            Some(found) => found.share(),
+            None => self.keep(hash, text),
+        }
+    }
+
+    /// A copy of the text, which the pool shares from then on.
+    fn keep(&mut self, hash: u64, text: &str) -> Result<Text, AllocError>
+        ensures { IfOk result (λ kept. kept ≡ text.now) }
+    {
+        let own = Text::new(self.alloc, text)?;
+        self.by_hash.insert(hash, own.share()?)?;
+        Ok(own)
+    }
+}

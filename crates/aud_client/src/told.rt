@@ -1,0 +1,120 @@
+//! What a client's tap tells, as its records come.
+ghost use Rattle.std.specs.Prelude.{◌≡◌, ◌+◌, ◌^◌, ◌<◌, ◌++◌, ◌∷◌, ℕ, List, [], IfOk, OnOk, flat_map, length, map};
+ghost use Rattle.std.specs.Option.{option_or};
+ghost use Rattle.aud_tap.specs.declared.records.ClientRec.{ClientRec};
+ghost use Rattle.aud_client.specs.TapPackets.{tap_packets, numbered_records, bad_in, first_of};
+ghost use Rattle.aud_client.specs.StaySeen.{StaySeen};
+ghost use Rattle.aud_client.specs.Received.{stays_of, tap_stays};
+ghost use Rattle.aud_client.specs.Private.ConnectionRead.{inside};
+ghost use Rattle.aud_client.specs.Private.ClientRead.{begun, bad_of, cut_seen};
+ghost use Rattle.aud_client.specs.Private.Told.{HasKept};
+
+use crate::connection::{Reader, ends_connection};
+use crate::stays::Stays;
+use aud_node::Stream;
+use aud_tap::ClientRec;
+use std::alloc::{AllocError, Global};
+
+/// What the records so far tell.
+#[derive(Drop)]
+pub struct Told<'a> {
+    pub stays: Stays<'a>,
+    /// The first record that doesn't decode.
+    pub bad: Option<usize>,
+}
+
+/// What the records tell, where this is the stream. The texts of its events aren't decoded.
+pub fn told_by<'a>(
+    alloc: Global,
+    recs: &'a [ClientRec],
+    stream: &Stream<'a>,
+) -> Result<Told<'a>, AllocError>
+    ensures stays { IfOk result (λ told. told.stays.stays.items ≡ tap_stays stream.now recs.now) }
+    ensures bad { IfOk result (λ told. told.bad ≡ (tap_packets recs.now).bad) }
+{
+    let mut told = Told {
+        stays: Stays::new(alloc),
+        bad: None,
+    };
+    for (number, rec) in recs.iter().enumerate() {
+        told.take(alloc, stream, number, rec, &recs[number + 1..])?;
+    }
+    Ok(told)
+}
+
+impl<'a> Told<'a> {
+    /// The record with this number, in front of these.
+    fn take(
+        &mut self,
+        alloc: Global,
+        stream: &Stream<'a>,
+        number: usize,
+        rec: &ClientRec,
+        after: &'a [ClientRec],
+    ) -> Result<(), AllocError>
+        requires { number + 1 + length after.now < 2 ^ 64 }
+        ensures stays { OnOk result (self.new.stays.stays.items ≡ self.old.stays.stays.items ++ flat_map (stays_of stream.now) (map cut_seen (begun number rec.now after.now))) }
+        ensures bad { OnOk result (self.new.bad ≡ option_or self.old.bad (bad_of (begun number rec.now after.now))) }
+    {
+        match rec {
+            ClientRec::Conn { c } => self.connection(alloc, stream, *c, number + 1, after),
+            _ => Ok(()),
+        }
+    }
+
+    /// A connection begins with these records, the first of which has this number.
+    fn connection(
+        &mut self,
+        alloc: Global,
+        stream: &Stream<'a>,
+        c: u64,
+        first: usize,
+        recs: &'a [ClientRec],
+    ) -> Result<(), AllocError>
+        requires { first + length recs.now < 2 ^ 64 }
+        ensures stays { OnOk result (self.new.stays.stays.items ≡ self.old.stays.stays.items ++ flat_map (stays_of stream.now) (cut_seen (c, numbered_records first (inside recs.now)) ∷ [])) }
+        ensures bad { OnOk result (self.new.bad ≡ option_or self.old.bad (first_of (bad_in (numbered_records first (inside recs.now))))) }
+    {
+        self.stays.begin_connection();
+        let mut reader = Reader::new(alloc, Some(stream));
+        read_records(&mut self.stays, &mut reader, stream, c, first, recs)?;
+        self.bad = self.bad.or(reader.bad);
+        Ok(())
+    }
+}
+
+/// The connection's records, the first of which has this number: up to the next `conn` or `lost`.
+fn read_records<'a>(
+    stays: &mut Stays<'a>,
+    reader: &mut Reader<'_, 'a>,
+    stream: &Stream<'_>,
+    c: u64,
+    first: usize,
+    recs: &'a [ClientRec],
+) -> Result<(), AllocError>
+    requires { first + length recs.now < 2 ^ 64 }
+    ensures { (done : List StaySeen) → HasKept stream.now c first done [] reader.old stays.old → OnOk result (HasKept stream.now c first done (inside recs.now) reader.new stays.new) }
+{
+    for (i, rec) in recs.iter().enumerate() {
+        if ends_connection(rec) {
+            return Ok(());
+        }
+        read_record(stays, reader, stream, c, first + i, rec)?;
+    }
+    Ok(())
+}
+
+/// The connection's next record, which has this number. The packets that are whole with it go into the stays.
+fn read_record<'a>(
+    stays: &mut Stays<'a>,
+    reader: &mut Reader<'_, 'a>,
+    stream: &Stream<'_>,
+    c: u64,
+    number: usize,
+    rec: &'a ClientRec,
+) -> Result<(), AllocError>
+    ensures { (first : ℕ) (done : List StaySeen) (recs : List ClientRec) → number ≡ first + length recs → HasKept stream.now c first done recs reader.old stays.old → OnOk result (HasKept stream.now c first done (recs ++ rec.now ∷ []) reader.new stays.new) }
+{
+    reader.read(number, rec)?;
+    stays.packets(stream, c, reader.take_packets())
+}
