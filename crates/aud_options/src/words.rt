@@ -39,6 +39,10 @@ A line that begins with { is a certificate. Each has a line, and the last line c
   bad <line> <code> <name>
   certs=<n> ok=<n> bad=<n>";
 
+const SIMULATE_ABOUT: &str = "Writes the bundle of a simulated cluster";
+
+const SIMULATE_LINES: &str = "`sioaudit simulate --help` has its options.";
+
 const AUDIT_ABOUT: &str = "Reads a bundle and writes a verdict for each session";
 
 const AUDIT_LINES: &str = "\
@@ -72,11 +76,13 @@ fn with_audit<'a>(alloc: Global) -> Result<Command<'a>, AllocError> {
         .subcommand(audit)
 }
 
-/// The parser of the words.
+/// The parser of the words, with the commands that [`options`] understands, and with `simulate`, whose words it refuses:
+/// they are read by the crate of the simulated cluster.
 fn command<'a>(alloc: Global) -> Result<Command<'a>, AllocError> {
     with_audit(alloc)?
         .subcommand(described(alloc, "prove", PROVE_ABOUT, PROVE_LINES))?
         .subcommand(described(alloc, "verify", VERIFY_ABOUT, VERIFY_LINES))?
+        .subcommand(described(alloc, "simulate", SIMULATE_ABOUT, SIMULATE_LINES))?
         .bin_name("sioaudit")
 }
 

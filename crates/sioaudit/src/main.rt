@@ -1,6 +1,9 @@
-//! `sioaudit`: reads a bundle from standard input and writes the report on it.
+//! `sioaudit`: reads a bundle from standard input and writes the report on it, or writes a simulated one.
 #![tactic(auto)]
 
+mod simulate;
+
+use crate::simulate::{is_simulation, simulation};
 use aud_app::{RunFault, Status, Watched, options, run};
 use clap::error::ErrorKind;
 use std::hash::RandomState;
@@ -55,6 +58,9 @@ fn main(rt: HostRuntime) -> ExitCode {
     let Ok(words) = owned.iter().map(|w| w.as_str()).collect::<Vec<&str>>(alloc) else {
         return fail(&rt, RunFault::Memory);
     };
+    if is_simulation(&words) {
+        return simulation(&rt, alloc, &words, rt.stdout());
+    }
     let chosen = match options(alloc, &words) {
         Ok(chosen) => chosen,
         Err(error) => return refuse(&rt, &error),

@@ -1,0 +1,19 @@
+use Rattle.std.proofs.Common.{[], ◌∙◌, arith, option_to_list}
+use Rattle.aud_schedule.specs.Acts.{fault_of}
+use Rattle.aud_schedule.proofs.Growing.{grown-then, grown-on, grown-at, grown-more}
+use Rattle.aud_schedule.proofs.faults.spoil.Goals as goal
+
+pub returns-clause-acts : goal.returns-clause-acts
+returns-clause-acts c =
+    let size = c.args.course.now.size in
+    let same = c.emit_to_all-2.ensures.size ∙ c.emit_to_all.ensures.size in
+    let start = c.args.acts.now.items in
+    let spoilt = c.add.new.acts.items in
+    let one = c.emit_to_all.new.acts.items in
+    let two = c.emit_to_all-2.new.acts.items in
+    let end = c.catch_up.new.acts.items in
+    let last = grown-at c.emit_to_all-2.new.course.size size 10 [] two end same c.in_ok-catch_up.ensures.acts in
+    let second = grown-at c.emit_to_all.new.course.size size 1 [] one two c.emit_to_all.ensures.size c.in_ok-emit_to_all-2.ensures.acts in
+    let sent = grown-then size 1 11 [] [] spoilt one end c.in_ok-emit_to_all.ensures.acts (grown-then size 1 10 [] [] one two end second last) in
+    let all = grown-on size 1 12 (option_to_list (fault_of c.args.act)) start spoilt end (c.in_ok-add.ensures.grown size c.requires) sent in
+    grown-more size 13 23 (option_to_list (fault_of c.args.act)) start end (omega arith) all

@@ -1,0 +1,4 @@
+pub mod Size
+pub mod Acts
+pub mod Plans
+pub mod Private

@@ -1,0 +1,114 @@
+//! Events: their words, the rooms that they are for, and their attachments.
+ghost use Rattle.std.specs.Prelude.{◌≡◌, IfOk};
+ghost use Rattle.aud_schedule.specs.Acts.{IsQuiet};
+
+use crate::audience::{ALL, Audience, ROOMS};
+use crate::course::Course;
+use aud_sim::Act;
+use aud_tap::{Blobs, Bytes, Text, Texts};
+use std::alloc::{AllocError, Global};
+
+const WORDS: [&str; 6] = ["hi", "ho", "tick", "offer", "move", "note"];
+
+/// A copy of the text.
+pub fn text(alloc: Global, text: &str) -> Result<Text, AllocError> {
+    Text::new(alloc, text)
+}
+
+/// The word of an event.
+pub fn word(course: &mut Course) -> Result<Text, AllocError>
+    ensures { course.new.size ≡ course.old.size }
+{
+    let index = course.below(6) as usize;
+    text(course.alloc, WORDS[index])
+}
+
+/// The names of these rooms, and of the room of the session with this number, unless it is 0.
+fn names(alloc: Global, rooms: u8, session: u32) -> Result<Texts, AllocError> {
+    let mut names = Vec::new(alloc);
+    for (bit, room) in ROOMS.iter().enumerate() {
+        if rooms >> bit & 1 != 0 {
+            names.push(text(alloc, room)?)?;
+        }
+    }
+    if session != 0 {
+        let room = format!(in alloc; "s{session}")?;
+        names.push(text(alloc, room.as_str())?)?;
+    }
+    Ok(Texts::new(names))
+}
+
+/// The attachments of an event: mostly none, else one or two.
+fn attachments(course: &mut Course) -> Result<Blobs, AllocError>
+    ensures { course.new.size ≡ course.old.size }
+{
+    let mut blobs = Vec::new(course.alloc);
+    if course.is_one_in(8) {
+        for _ in 0..=course.below(2) {
+            let bytes = course.word().to_le_bytes();
+            blobs.push(Bytes::new(bytes.to_vec(course.alloc)?))?;
+        }
+    }
+    Ok(Blobs::new(blobs))
+}
+
+/// The set of one of the rooms.
+fn some_room(course: &mut Course) -> u8
+    ensures { course.new.size ≡ course.old.size }
+{
+    1u8 << course.below(4)
+}
+
+/// Whom an event is for: everyone, one session, or one or two rooms.
+fn meant(course: &mut Course) -> Audience
+    ensures { course.new.size ≡ course.old.size }
+{
+    match course.below(5) {
+        0 => ALL,
+        1 => Audience {
+            session: course.some_session(),
+            ..ALL
+        },
+        _ => Audience {
+            rooms: some_room(course) | some_room(course),
+            ..ALL
+        },
+    }
+}
+
+/// Whom an event is for, but for one session or one room, or for nobody.
+pub fn some_audience(course: &mut Course) -> Audience
+    ensures { course.new.size ≡ course.old.size }
+{
+    let meant = meant(course);
+    match course.below(5) {
+        0 => Audience {
+            except_session: course.some_session(),
+            ..meant
+        },
+        1 => Audience {
+            except_rooms: some_room(course),
+            ..meant
+        },
+        _ => meant,
+    }
+}
+
+/// An event for these comes into the stream.
+pub fn emit(course: &mut Course, audience: Audience) -> Result<Act, AllocError>
+    ensures size { course.new.size ≡ course.old.size }
+    ensures act { IfOk result (IsQuiet course.old.size) }
+{
+    course.enter(audience)?;
+    let alloc = course.alloc;
+    let rooms = names(alloc, audience.rooms, audience.session)?;
+    let except = names(alloc, audience.except_rooms, audience.except_session)?;
+    let word = word(course)?;
+    let bin = attachments(course)?;
+    Ok(Act::Emit {
+        rooms,
+        except,
+        word,
+        bin,
+    })
+}

@@ -1,0 +1,3 @@
+pub mod RoomTexts
+pub mod Replays
+pub mod Schedules

@@ -1,0 +1,98 @@
+-- What a client has, and what it is sent. Positions count from 1.
+use Rattle.std.specs.Prelude.{ℕ, ◌+◌, ◌^◌, ◌-◌, min, List, [], ◌∷◌, Bool, false, Option, Some, None, option_map, if◌then◌else◌}
+use Rattle.aud_tap.specs.declared.records.ClientRec.TheVariants.{TextIn, BytesIn}
+use Rattle.aud_tap.specs.declared.records.Rec.TheVariants as rec
+use Rattle.aud_rooms.specs.Rooms.{is_addressed}
+use Rattle.aud_sim.specs.declared.entry.Entry.{Entry}
+use Rattle.aud_sim.specs.declared.client.Injected.{Injected}
+use Rattle.aud_sim.specs.declared.client.Injected.TheVariants.{Nothing, DropNext, DoubleNext, HoldNext, AlterNext, Holds}
+use Rattle.aud_sim.specs.declared.client.Session.{Session}
+use Rattle.aud_sim.specs.declared.client.Client.{Client}
+use Rattle.aud_sim.specs.Bundle.{Lines, with_line}
+use Rattle.aud_sim.specs.Entries.{attachments_of, entry_at}
+use Rattle.aud_sim.specs.Texts.{main_namespace}
+
+-- ---- what is written of a frame
+
+-- the attachments, each as a message of its own
+abbrev pub with_attachments : List ℕ → List (List ℕ) → Lines → Lines
+with_attachments name [] lines = lines
+with_attachments name (bytes ∷ more) lines = with_attachments name more (with_line name (rec.Client (BytesIn bytes)) lines)
+
+-- a frame of this text, and the attachments after it
+abbrev pub with_frame : List ℕ → List ℕ → List (List ℕ) → Lines → Lines
+with_frame name text attachments lines = with_attachments name attachments (with_line name (rec.Client (TextIn text)) lines)
+
+-- the frame of an entry
+abbrev pub with_own_frame : List ℕ → Entry → Lines → Lines
+with_own_frame name entry lines = with_frame name entry.frame (attachments_of entry.event) lines
+
+-- the frame of an entry, with another word
+abbrev pub with_altered_frame : List ℕ → Entry → Lines → Lines
+with_altered_frame name entry lines = with_frame name entry.altered (attachments_of entry.event) lines
+
+-- the frame of the entry at a position
+abbrev pub with_held_frame : List ℕ → Option Entry → Lines → Lines
+with_held_frame name None lines = lines
+with_held_frame name (Some entry) lines = with_own_frame name entry lines
+
+-- what is written where an entry is sent, by the fault that waits
+abbrev pub with_sent : List ℕ → List Entry → Injected → Entry → Lines → Lines
+with_sent name entries Nothing entry lines = with_own_frame name entry lines
+with_sent name entries DropNext entry lines = lines
+with_sent name entries DoubleNext entry lines = with_own_frame name entry (with_own_frame name entry lines)
+with_sent name entries HoldNext entry lines = lines
+with_sent name entries AlterNext entry lines = with_altered_frame name entry lines
+with_sent name entries (Holds position) entry lines = with_held_frame name (entry_at entries position) (with_own_frame name entry lines)
+
+-- ---- what is left of the fault, and the last offset received
+
+-- the fault after a frame of the entry at a position
+abbrev pub fault_after : Injected → ℕ → Injected
+fault_after HoldNext position = Holds position
+fault_after fault position = Nothing
+
+-- the position of the offset that the client received last, after a frame of the entry at a position
+abbrev pub last_after : Injected → ℕ → Option ℕ → Option ℕ
+last_after DropNext position last = last
+last_after HoldNext position last = last
+last_after (Holds held) position last = Some held
+last_after fault position last = Some position
+
+-- a held frame is never written once its connection is over
+abbrev pub fault_after_connection : Injected → Injected
+fault_after_connection (Holds position) = Nothing
+fault_after_connection fault = fault
+
+-- ---- a client that is sent an entry
+
+-- the entry is addressed to the session, if there is one
+abbrev pub is_for : Entry → Option Session → Bool
+is_for entry None = false
+is_for entry (Some session) = is_addressed entry.event main_namespace session.rooms
+
+-- the session after a frame of the entry at a position
+abbrev pub session_sent : Injected → ℕ → Session → Session
+session_sent fault position session = record session { last = last_after fault position session.last }
+
+-- the lines where an entry is sent to a client, if it is addressed to its session
+abbrev pub lines_sent : List Entry → Entry → Client → Lines → Lines
+lines_sent entries entry client lines =
+    if is_for entry client.session then with_sent client.name entries client.injected entry lines else lines
+
+-- the client then
+abbrev pub client_sent : ℕ → Entry → Client → Client
+client_sent position entry client =
+    if is_for entry client.session
+    then record client { injected = fault_after client.injected position; session = option_map (session_sent client.injected position) client.session }
+    else client
+
+-- ---- one more
+
+-- the number of a client's next connection, and of the next session; it stops at the greatest number of 64 bits
+abbrev pub next_number : ℕ → ℕ
+next_number number = min (number + 1) (2 ^ 64 - 1)
+
+-- the number of a session's next turn; it stops at the greatest
+abbrev pub next_turn : ℕ → ℕ
+next_turn turn = min (turn + 1) (2 ^ 16 - 1)

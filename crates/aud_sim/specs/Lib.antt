@@ -1,0 +1,16 @@
+pub use Rattle.aud_tap.specs.TapName
+pub use Rattle.aud_tap.specs.WellFormed
+pub use Rattle.aud_tap.specs.RecordFields
+pub use Rattle.aud_writer.specs.Written
+pub use Rattle.aud_rooms.specs.Rooms
+pub mod Texts
+pub mod Bundle
+pub mod Entries
+pub mod Clients
+pub mod Nodes
+pub mod Delivery
+pub mod Sessions
+pub mod Cluster
+pub mod Acts
+pub mod Possible
+pub mod Schedule

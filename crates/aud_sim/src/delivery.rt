@@ -1,0 +1,149 @@
+//! Sending an entry to the sessions that it is addressed to.
+ghost use Rattle.std.specs.Prelude.{◌≡◌, ◌-◌, OnOk, option_map};
+ghost use Rattle.aud_sim.specs.Clients.{fault_after, last_after, is_for, session_sent, lines_sent, client_sent};
+ghost use Rattle.aud_sim.specs.Delivery.{sent_to, replayed, sent_to_guest, sent_to_guests};
+
+use crate::bundle::Bundle;
+use crate::client::{Client, Injected};
+use crate::entry::{Entry, entry_at};
+use crate::frames::sent;
+use crate::guest::Guest;
+use crate::rooms::is_addressed;
+use std::alloc::AllocError;
+
+/// The fault after a frame of the entry at a position.
+fn fault_after(fault: Injected, position: usize) -> Injected
+    ensures { result ≡ fault_after fault position }
+{
+    match fault {
+        Injected::HoldNext => Injected::Holds(position),
+        _ => Injected::Nothing,
+    }
+}
+
+/// The position of the offset that the client received last, after a frame of the entry at a position.
+fn last_after(fault: Injected, position: usize, last: Option<usize>) -> Option<usize>
+    ensures { result ≡ last_after fault position last }
+{
+    match fault {
+        Injected::DropNext | Injected::HoldNext => last,
+        Injected::Holds(held) => Some(held),
+        _ => Some(position),
+    }
+}
+
+/// Whether the entry is addressed to the client's session, if it has one.
+fn is_for(entry: &Entry, client: &Client) -> bool
+    ensures { result ≡ is_for entry.now client.now.session }
+{
+    match &client.session {
+        Some(session) => is_addressed(&entry.event, &session.rooms),
+        None => false,
+    }
+}
+
+/// The client after a frame of the entry at a position.
+fn note(client: &mut Client, position: usize)
+    ensures { client.new ≡ record client.old {
+      injected = fault_after client.old.injected position;
+      session = option_map (session_sent client.old.injected position) client.old.session;
+    } }
+{
+    let fault = client.injected;
+    if let Some(session) = &mut client.session {
+        session.last = last_after(fault, position, session.last);
+    }
+    client.injected = fault_after(fault, position);
+}
+
+/// Sends an entry, at this position, to the client, where it is addressed to its session.
+fn send(
+    bundle: &mut Bundle,
+    entries: &[Entry],
+    position: usize,
+    entry: &Entry,
+    client: &mut Client,
+) -> Result<(), AllocError>
+    ensures lines { OnOk result (bundle.new ≡ lines_sent entries.now entry.now client.old bundle.old) }
+    ensures client { OnOk result (client.new ≡ client_sent position entry.now client.old) }
+{
+    if !is_for(entry, client) {
+        return Ok(());
+    }
+    sent(
+        bundle,
+        client.name.as_str(),
+        entries,
+        client.injected,
+        entry,
+    )?;
+    note(client, position);
+    Ok(())
+}
+
+/// Sends the entry at a position to the client, where it is addressed to its session.
+fn deliver(
+    bundle: &mut Bundle,
+    entries: &[Entry],
+    position: usize,
+    client: &mut Client,
+) -> Result<(), AllocError>
+    ensures { OnOk result (sent_to entries.now position (record { lines = bundle.old; client = client.old })
+        ≡ record { lines = bundle.new; client = client.new }) }
+{
+    match entry_at(entries, position) {
+        Some(entry) => send(bundle, entries, position, entry, client),
+        None => Ok(()),
+    }
+}
+
+/// Sends the entry at a position to the client with this index, where it is addressed to its session.
+fn deliver_to(
+    bundle: &mut Bundle,
+    entries: &[Entry],
+    position: usize,
+    clients: &mut Vec<Client>,
+    index: usize,
+) -> Result<(), AllocError>
+    ensures { OnOk result (sent_to_guest entries.now position index (record { lines = bundle.old; clients = clients.old.items })
+        ≡ record { lines = bundle.new; clients = clients.new.items }) }
+{
+    match clients.get_mut(index) {
+        Some(client) => deliver(bundle, entries, position, client),
+        None => Ok(()),
+    }
+}
+
+/// Sends the entry at a position to those of a node's sessions that it is addressed to, in their order.
+pub fn deliver_to_all(
+    bundle: &mut Bundle,
+    entries: &[Entry],
+    position: usize,
+    clients: &mut Vec<Client>,
+    guests: &[Guest],
+) -> Result<(), AllocError>
+    ensures { OnOk result (sent_to_guests entries.now position guests.now (record { lines = bundle.old; clients = clients.old.items })
+        ≡ record { lines = bundle.new; clients = clients.new.items }) }
+{
+    for guest in guests {
+        deliver_to(bundle, entries, position, clients, guest.client)?;
+    }
+    Ok(())
+}
+
+/// Sends a client the entries past one position up to another that are addressed to its session.
+pub fn replay(
+    bundle: &mut Bundle,
+    entries: &[Entry],
+    from: usize,
+    to: usize,
+    client: &mut Client,
+) -> Result<(), AllocError>
+    ensures { OnOk result (replayed entries.now from (to - from) (record { lines = bundle.old; client = client.old })
+        ≡ record { lines = bundle.new; client = client.new }) }
+{
+    for before in from..to {
+        deliver(bundle, entries, before + 1, client)?;
+    }
+    Ok(())
+}

@@ -1,0 +1,280 @@
+//! What an act does.
+ghost use Rattle.std.specs.Prelude.{◌≡◌, ◌-◌, IfOk, OnOk};
+ghost use Rattle.aud_sim.specs.Acts.{emitted, lines_taken, node_taken, taken, took_and_sent, connected, recovered, volatile_sent, joined, parted, cut, finished, injected_in, after};
+ghost use Rattle.aud_sim.specs.Cluster.{seen};
+ghost use Rattle.aud_tap.specs.RecordFields.{offset_of};
+
+use crate::act::Act;
+use crate::bundle::Bundle;
+use crate::client::Injected;
+use crate::cluster::Cluster;
+use crate::delivery::deliver_to_all;
+use crate::entry::{Entry, event};
+use crate::node::Node;
+use crate::recovery::recover_on;
+use crate::sessions::{self, open_on};
+use crate::texts::copied;
+use aud_tap::{Bytes, NodeRec, Rec, StreamRec, Text};
+use std::alloc::{AllocError, Global};
+
+/// An event is put into the stream.
+fn emit(
+    cluster: &mut Cluster,
+    rooms: &[Text],
+    except: &[Text],
+    word: &str,
+    bin: &[Bytes],
+) -> Result<(), AllocError>
+    ensures { OnOk result (seen cluster.new ≡ emitted rooms.now except.now word.now bin.now (seen cluster.old)) }
+{
+    let Cluster {
+        alloc,
+        bundle,
+        entries,
+        ..
+    } = cluster;
+    let position = entries.len() + 1;
+    let told = event(*alloc, rooms, except, word, bin, position)?;
+    bundle.line("st", &Rec::Stream(StreamRec::Ev(told)))?;
+    entries.push(Entry::new(*alloc, rooms, except, word, bin, position)?)?;
+    Ok(())
+}
+
+fn offset_of(alloc: Global, entry: &StreamRec) -> Result<Text, AllocError>
+    ensures { IfOk result (λ off. off ≡ offset_of entry.now) }
+{
+    match entry {
+        StreamRec::Ev(event) => copied(alloc, event.off.as_str()),
+        StreamRec::Other { off } => copied(alloc, off.as_str()),
+    }
+}
+
+/// A node takes its next entry, if there is one.
+fn take_next(
+    alloc: Global,
+    bundle: &mut Bundle,
+    entries: &[Entry],
+    node: &mut Node,
+) -> Result<(), AllocError>
+    ensures lines { OnOk result (bundle.new ≡ lines_taken entries.now node.old bundle.old) }
+    ensures node { OnOk result (node.new ≡ node_taken entries.now node.old) }
+{
+    match entries.get(node.cursor) {
+        Some(entry) => {
+            let off = offset_of(alloc, &entry.event)?;
+            bundle.node(node.name.as_str(), NodeRec::Take { off })?;
+            node.cursor += 1;
+            Ok(())
+        }
+        None => Ok(()),
+    }
+}
+
+/// The node with an index takes its next entry.
+fn take(cluster: &mut Cluster, index: usize) -> Result<(), AllocError>
+    ensures { OnOk result (seen cluster.new ≡ taken index (seen cluster.old)) }
+{
+    let Cluster {
+        alloc,
+        bundle,
+        entries,
+        nodes,
+        ..
+    } = cluster;
+    match nodes.get_mut(index) {
+        Some(node) => take_next(*alloc, bundle, entries, node),
+        None => Ok(()),
+    }
+}
+
+/// A node takes its next entry, and sends it.
+fn take_and_send(cluster: &mut Cluster, index: usize) -> Result<(), AllocError>
+    ensures { OnOk result (seen cluster.new ≡ took_and_sent index (seen cluster.old)) }
+{
+    take(cluster, index)?;
+    let Cluster {
+        bundle,
+        entries,
+        nodes,
+        clients,
+        ..
+    } = cluster;
+    match nodes.get(index) {
+        Some(node) => deliver_to_all(bundle, entries, node.cursor, clients, &node.guests),
+        None => Ok(()),
+    }
+}
+
+/// A client opens a session on a node.
+fn connect(cluster: &mut Cluster, client: usize, node: usize) -> Result<(), AllocError>
+    ensures { OnOk result (seen cluster.new ≡ connected client node (seen cluster.old)) }
+{
+    let Cluster {
+        bundle,
+        nodes,
+        clients,
+        sessions,
+        ..
+    } = cluster;
+    let number = sessions.saturating_add(1);
+    match clients.get_mut(client) {
+        Some(who) => open_on(bundle, who, client, nodes, node, number)?,
+        None => return Ok(()),
+    }
+    *sessions = number;
+    Ok(())
+}
+
+/// The session of a client is recovered on a node.
+fn recover(cluster: &mut Cluster, client: usize, node: usize) -> Result<(), AllocError>
+    ensures { OnOk result (seen cluster.new ≡ recovered client node (seen cluster.old)) }
+{
+    let Cluster {
+        bundle,
+        entries,
+        nodes,
+        clients,
+        ..
+    } = cluster;
+    match clients.get_mut(client) {
+        Some(who) => recover_on(bundle, entries, who, client, nodes, node),
+        None => Ok(()),
+    }
+}
+
+/// A client is sent an event of a word alone.
+fn send_volatile(cluster: &mut Cluster, index: usize, word: &str) -> Result<(), AllocError>
+    ensures { OnOk result (seen cluster.new ≡ volatile_sent index word.now (seen cluster.old)) }
+{
+    let Cluster {
+        bundle,
+        clients,
+        ..
+    } = cluster;
+    match clients.get(index) {
+        Some(client) => sessions::volatile(bundle, client, word),
+        None => Ok(()),
+    }
+}
+
+/// The session of a client joins a room.
+fn join(cluster: &mut Cluster, index: usize, room: &str) -> Result<(), AllocError>
+    ensures { OnOk result (seen cluster.new ≡ joined index room.now (seen cluster.old)) }
+{
+    let Cluster {
+        bundle,
+        nodes,
+        clients,
+        ..
+    } = cluster;
+    match clients.get_mut(index) {
+        Some(client) => sessions::join(bundle, nodes, client, room),
+        None => Ok(()),
+    }
+}
+
+/// The session of a client leaves a room.
+fn leave(cluster: &mut Cluster, index: usize, room: &str) -> Result<(), AllocError>
+    ensures { OnOk result (seen cluster.new ≡ parted index room.now (seen cluster.old)) }
+{
+    let Cluster {
+        bundle,
+        nodes,
+        clients,
+        ..
+    } = cluster;
+    match clients.get_mut(index) {
+        Some(client) => sessions::leave(bundle, nodes, client, room),
+        None => Ok(()),
+    }
+}
+
+/// The connection of a client breaks.
+fn cut(cluster: &mut Cluster, index: usize) -> Result<(), AllocError>
+    ensures { OnOk result (seen cluster.new ≡ cut index (seen cluster.old)) }
+{
+    let Cluster {
+        bundle,
+        nodes,
+        clients,
+        ..
+    } = cluster;
+    match clients.get_mut(index) {
+        Some(client) => sessions::cut(bundle, nodes, client),
+        None => Ok(()),
+    }
+}
+
+/// The session of a client ends.
+fn finish(cluster: &mut Cluster, index: usize) -> Result<(), AllocError>
+    ensures { OnOk result (seen cluster.new ≡ finished index (seen cluster.old)) }
+{
+    let Cluster {
+        bundle,
+        nodes,
+        clients,
+        ..
+    } = cluster;
+    match clients.get_mut(index) {
+        Some(client) => sessions::finish(bundle, nodes, client),
+        None => Ok(()),
+    }
+}
+
+/// A fault waits for the client's next frame.
+fn inject(cluster: &mut Cluster, index: usize, fault: Injected)
+    ensures { seen cluster.new ≡ injected_in index fault (seen cluster.old) }
+{
+    if let Some(client) = cluster.clients.get_mut(index) {
+        client.injected = fault;
+    }
+}
+
+/// The index of what has this number, from 1.
+fn index(number: usize) -> usize
+    ensures { result ≡ number - 1 }
+{
+    number.saturating_sub(1)
+}
+
+/// Does an act that the state allows.
+pub fn perform(cluster: &mut Cluster, act: &Act) -> Result<(), AllocError>
+    ensures { OnOk result (seen cluster.new ≡ after act.now (seen cluster.old)) }
+{
+    match act {
+        Act::Emit {
+            rooms,
+            except,
+            word,
+            bin,
+        } => {
+            let (rooms, except) = (rooms.as_slice(), except.as_slice());
+            emit(cluster, rooms, except, word.as_str(), bin.as_slice())
+        }
+        Act::Volatile { client, word } => send_volatile(cluster, index(*client), word.as_str()),
+        Act::Take { node } => take_and_send(cluster, index(*node)),
+        Act::Connect { client, node } => connect(cluster, index(*client), index(*node)),
+        Act::Join { client, room } => join(cluster, index(*client), room.as_str()),
+        Act::Leave { client, room } => leave(cluster, index(*client), room.as_str()),
+        Act::Cut { client } => cut(cluster, index(*client)),
+        Act::Recover { client, node } => recover(cluster, index(*client), index(*node)),
+        Act::RecoverLagging { client, node } => recover(cluster, index(*client), index(*node)),
+        Act::Finish { client } => finish(cluster, index(*client)),
+        Act::DropNext { client } => {
+            inject(cluster, index(*client), Injected::DropNext);
+            Ok(())
+        }
+        Act::DoubleNext { client } => {
+            inject(cluster, index(*client), Injected::DoubleNext);
+            Ok(())
+        }
+        Act::HoldNext { client } => {
+            inject(cluster, index(*client), Injected::HoldNext);
+            Ok(())
+        }
+        Act::AlterNext { client } => {
+            inject(cluster, index(*client), Injected::AlterNext);
+            Ok(())
+        }
+    }
+}

@@ -1,0 +1,1 @@
+pub use Rattle.aud_schedule.specs.Plans

@@ -1,0 +1,149 @@
+//! Injected faults, and acts that are not possible.
+use crate::audited::report;
+use crate::schedule::acts;
+use aud_sim::{SimFault, simulate};
+use std::test::Fail;
+
+/// How many nodes there are, the schedule of one client, and what an audit says of its session.
+static VERDICTS: [(usize, &str, &str); 17] = [
+    (
+        1,
+        "c1@1 j1:r e:hi:r e:ho:r t1 t1",
+        "yes p1 got=2 tail=0 turns=1\nsessions=1 yes=1 no=0\n",
+    ),
+    (
+        1,
+        "c1@1 j1:r e:hi:r e:ho:r drop1 t1 t1",
+        "no p1 LOST 1-0\nsessions=1 yes=0 no=1\n",
+    ),
+    (
+        1,
+        "c1@1 j1:r e:hi:r e:ho:r double1 t1 t1",
+        "no p1 DOUBLED 1-0\nsessions=1 yes=0 no=1\n",
+    ),
+    (
+        1,
+        "c1@1 j1:r e:hi:r e:ho:r hold1 t1 t1",
+        "no p1 SWAPPED 1-0\nsessions=1 yes=0 no=1\n",
+    ),
+    (
+        1,
+        "c1@1 j1:r e:hi:r e:ho:r alter1 t1 t1",
+        "no p1 CONTENT 1-0\nsessions=1 yes=0 no=1\n",
+    ),
+    (
+        2,
+        "c1@1 j1:r e:hi:r t1 x1 g1@2 t2",
+        "no p1 DOUBLED 1-0\nsessions=1 yes=0 no=1\n",
+    ),
+    // in a replay
+    (
+        2,
+        "c1@1 e:a t1 drop1 x1 e:b e:c t2 t2 t2 r1@2",
+        "no p1 LOST 2-0\nsessions=1 yes=0 no=1\n",
+    ),
+    (
+        2,
+        "c1@1 e:a t1 double1 x1 e:b e:c t2 t2 t2 r1@2",
+        "no p1 DOUBLED 2-0\nsessions=1 yes=0 no=1\n",
+    ),
+    (
+        2,
+        "c1@1 e:a t1 hold1 x1 e:b e:c t2 t2 t2 r1@2",
+        "no p1 SWAPPED 2-0\nsessions=1 yes=0 no=1\n",
+    ),
+    (
+        2,
+        "c1@1 e:a t1 alter1 x1 e:b e:c t2 t2 t2 r1@2",
+        "no p1 CONTENT 2-0\nsessions=1 yes=0 no=1\n",
+    ),
+    // with attachments
+    (
+        1,
+        "c1@1 e:a:::2 e:b:::1 drop1 t1 t1",
+        "no p1 LOST 1-0\nsessions=1 yes=0 no=1\n",
+    ),
+    (
+        1,
+        "c1@1 e:a:::2 e:b:::1 double1 t1 t1",
+        "no p1 DOUBLED 1-0\nsessions=1 yes=0 no=1\n",
+    ),
+    (
+        1,
+        "c1@1 e:a:::2 e:b:::1 hold1 t1 t1",
+        "no p1 SWAPPED 1-0\nsessions=1 yes=0 no=1\n",
+    ),
+    (
+        1,
+        "c1@1 e:a:::2 e:b:::1 alter1 t1 t1",
+        "no p1 CONTENT 1-0\nsessions=1 yes=0 no=1\n",
+    ),
+    // a frame without an offset between, and a frame that is held when its connection ends
+    (
+        1,
+        "c1@1 e:a e:b hold1 t1 v1:hi t1",
+        "no p1 SWAPPED 1-0\nsessions=1 yes=0 no=1\n",
+    ),
+    (
+        2,
+        "c1@1 e:z t1 e:a e:b hold1 t1 x1 t2 t2 t2 r1@2",
+        "no p1 LOST 2-0\nsessions=1 yes=0 no=1\n",
+    ),
+    // a fault that waits over the end of a connection
+    (
+        1,
+        "c1@1 drop1 f1 c1@1 e:a e:b t1 t1",
+        "yes p1 got=0 tail=0 turns=1\nno p2 LOST 1-0\nsessions=2 yes=1 no=1\n",
+    ),
+];
+
+#[test]
+fn verdicts(rt: HostRuntime) -> Result<(), Fail> {
+    for &(nodes, schedule, text) in &VERDICTS {
+        assert!(rt; 1 <= nodes && nodes <= 64);
+        let written = report(&rt, rt.alloc(), nodes, 1, schedule)?;
+        assert_eq!(rt; str::from_utf8(&written)?, text, "{schedule}");
+    }
+    Ok(())
+}
+
+/// Schedules of two nodes and two clients, and the number of the act that is not possible.
+static REFUSED: [(&str, usize); 27] = [
+    ("c1@1 j1:r e:hi:r t1 x1 r1@2 t2", 5),
+    ("t1", 0),
+    ("e:a t1 t1", 2),
+    ("e:a t0", 1),
+    ("e:a t3", 1),
+    ("c0@1", 0),
+    ("c3@1", 0),
+    ("c1@0", 0),
+    ("c1@3", 0),
+    ("c1@1 c1@2", 1),
+    ("v1:hi", 0),
+    ("c1@1 x1 v1:hi", 2),
+    ("j1:r", 0),
+    ("c1@1 j1:", 1),
+    ("l1:r", 0),
+    ("x1", 0),
+    ("c1@1 x1 x1", 2),
+    ("f1", 0),
+    ("c1@1 x1 r1@1", 2),
+    ("c1@1 e:a t1 f1 r1@1", 4),
+    ("c1@1 e:a t1 x1 g1@1", 4),
+    ("c1@1 e:a drop1 t1 x1 r1@1", 5),
+    ("drop1 hold1", 1),
+    ("c1@1 e:a hold1 t1 double1", 4),
+    ("e:h1", 0),
+    ("e:abcdefghijklmnopqrstuvwxyzabcdefg", 0),
+    ("e:a:::65", 0),
+];
+
+#[test]
+fn acts_that_are_not_possible(rt: HostRuntime) -> Result<(), Fail> {
+    for &(schedule, act) in &REFUSED {
+        let acts = acts(rt.alloc(), schedule)?;
+        let refused = simulate(rt.alloc(), 2, 2, &acts).err();
+        assert_eq!(rt; refused, Some(SimFault::Act(act)), "{schedule}");
+    }
+    Ok(())
+}

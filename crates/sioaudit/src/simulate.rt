@@ -1,0 +1,47 @@
+//! The command `simulate`.
+use crate::{fail, refuse};
+use aud_app::{RunFault, Watched};
+use aud_sim::SimFault;
+use aud_simulation::{plan_asked, simulated};
+use aud_streams::write_out;
+use std::alloc::Global;
+use std::io::Write;
+use std::process::ExitCode;
+
+/// Whether the words ask for a simulation.
+pub fn is_simulation(words: &[&str]) -> bool {
+    words.first().is_some_and(|word| *word == "simulate")
+}
+
+/// Says why there is no bundle.
+fn unsimulated(rt: &impl Eprint, fault: SimFault) -> ExitCode {
+    match fault {
+        SimFault::Memory => fail(rt, RunFault::Memory),
+        SimFault::Act(_) => {
+            let _ = eprintln!(rt; "sioaudit: {fault}");
+            ExitCode::from(3)
+        }
+    }
+}
+
+/// Writes the bundle that the words ask for.
+pub fn simulation<W: Write + Drop>(
+    rt: &(impl Print + Eprint),
+    alloc: Global,
+    words: &[&str],
+    output: W,
+) -> ExitCode {
+    let plan = match plan_asked(alloc, words) {
+        Ok(plan) => plan,
+        Err(error) => return refuse(rt, &error),
+    };
+    let bundle = match simulated(alloc, &plan) {
+        Ok(bundle) => bundle,
+        Err(fault) => return unsimulated(rt, fault),
+    };
+    let mut output = Watched::new(output);
+    match write_out(&mut output, bundle.as_slice()) {
+        Ok(()) => ExitCode::SUCCESS,
+        Err(fault) => fail(rt, fault),
+    }
+}
