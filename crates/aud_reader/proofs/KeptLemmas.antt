@@ -18,6 +18,7 @@ use Rattle.aud_reader.specs.declared.fault.LineFault.{LineFault}
 use Rattle.aud_reader.specs.declared.fault.LineFault.TheVariants as fault
 use Rattle.aud_tap.specs.declared.records.TapKind.{TapKind}
 use Rattle.aud_tap.specs.declared.records.TapKind.TheVariants as kind
+use Rattle.aud_tap.specs.declared.records.Version.{Version}
 use Rattle.aud_tap.specs.declared.taps.Records.{Records}
 use Rattle.aud_tap.specs.declared.taps.Tap.{Tap}
 use Rattle.aud_base.specs.Steps.{◌>>=◌}
@@ -135,7 +136,7 @@ replaced name records ts t e = let (i, place, at) = placed name ts t e in let he
 -- ---- a later line of a tap
 
 -- a line whose name has a place is a later line of the tap there
-named-later : (ts : List Tap) (i : ℕ) (t : Tap) (name word : List ℕ) (d : Data) → place_of ts name ≡ Some i → get_or ts i t ≡ t → with_named ts name word d ≡ with_later ts name t.records word d
+named-later : (ts : List Tap) (i : ℕ) (t : Tap) (name word : List ℕ) (d : Data) → place_of ts name ≡ Some i → get_or ts i t ≡ t → with_named ts name word d ≡ with_later ts name t word d
 named-later ts i t name word d place at = ap (λ o. with_kind ts name o word d) (at-place name t.records ts i t place at).1
 
 -- a header whose name has a place is refused
@@ -150,24 +151,24 @@ becomes-then (Err (fault.Code code)) x y reading f e is = rw is refl
 
 -- where the reader changed a tap's records as the line says, all taps are as the line says
 pub go_on-taps : (ts : List Tap) (i : ℕ) (t t' : Tap) (name word : List ℕ) (d : Data) (r : Result (Unit {0}) LineFault) → place_of ts name ≡ Some i → get_or ts i t ≡ t → is_text word (codes "tap") ≡ false
-    → t'.name ≡ t.name → Becomes r t'.records (with_tap_record (pids_of ts) t.records word d) → Becomes r (set ts i t') (with_named ts name word d)
+    → t'.name ≡ t.name → t'.version ≡ t.version → Becomes r t'.records (with_tap_record t.version (pids_of ts) t.records word d) → Becomes r (set ts i t') (with_named ts name word d)
 unfolding with_later
-go_on-taps ts i t t' name word d r place at e same is =
-    let named : List ℕ → Tap = λ n. record { name = n; records = t'.records } in
-    let renamed : record t { records = t'.records } ≡ t' = ap named (sym same) in
+go_on-taps ts i t t' name word d r place at e same version is =
+    let named : List ℕ → Version → Tap = λ n v. record { name = n; version = v; records = t'.records } in
+    let renamed : record t { records = t'.records } ≡ t' = ap (λ n. named n t.version) (sym same) ∙ ap (named t'.name) (sym version) in
     rw (named-later ts i t name word d place at, e)
-    (becomes-then r t'.records (set ts i t') (with_tap_record (pids_of ts) t.records word d) (λ more. Ok (with_records name more ts))
+    (becomes-then r t'.records (set ts i t') (with_tap_record t.version (pids_of ts) t.records word d) (λ more. Ok (with_records name more ts))
     (ap Ok ((at-place name t'.records ts i t place at).2 ∙ ap (set ts i) renamed)) is)
 
 -- and the reader's places, pids and counts stay those of the taps
 pub go_on-keeps : (s s' : OpenTaps) (i : ℕ) (t t' : Tap) (word : List ℕ) (d : Data) (r : Result (Unit {0}) LineFault) → taps_so_far s' ≡ set (taps_so_far s) i t' → s'.places ≡ s.places → s'.counts ≡ s.counts
-    → KeepsTaps s → (short : i < length (taps_so_far s)) → (at : get_or (taps_so_far s) i t ≡ t) → t'.name ≡ t.name → Becomes r t'.records (with_tap_record (pids_of (taps_so_far s)) t.records word d)
+    → KeepsTaps s → (short : i < length (taps_so_far s)) → (at : get_or (taps_so_far s) i t ≡ t) → t'.name ≡ t.name → t'.version ≡ t.version → Becomes r t'.records (with_tap_record t.version (pids_of (taps_so_far s)) t.records word d)
     → OnOk r (HasPids s'.pids ((around (taps_so_far s) i t short at).before ++ pids_in t'.records ++ (around (taps_so_far s) i t short at).after))
     → OnOk r (KeepsTaps s')
-go_on-keeps s s' i t t' word d (Err e) taps places counts keeps short at same is pids = tt
-go_on-keeps s s' i t t' word d (Ok u) taps places counts keeps short at same is pids =
+go_on-keeps s s' i t t' word d (Err e) taps places counts keeps short at same version is pids = tt
+go_on-keeps s s' i t t' word d (Ok u) taps places counts keeps short at same version is pids =
     let ts = taps_so_far s in
-    let stays = (one_more (pids_of ts) t.records t'.records word d is).same in
+    let stays = (one_more t.version (pids_of ts) t.records t'.records word d is).same in
     record {
       places = λ name. rw (places, taps) (keeps.places name ∙ sym (place_of-set name ts i t t' short at same));
       pids = rw (taps, (around ts i t short at).put t') pids;
@@ -213,12 +214,12 @@ pids-empty kind.Node = refl
 pids-empty kind.Client = refl
 
 -- after a header the reader's places, pids and counts are those of the taps
-pub begin-keeps : (s s' : OpenTaps) (name : List ℕ) (of : TapKind) → KeepsTaps s → s'.pids ≡ s.pids → taps_so_far s' ≡ taps_so_far s ++ record { name = name; records = no_records of } ∷ []
-    → ((text : List ℕ) → get_by_text s'.places text ≡ place_of (taps_so_far s') text) → Counted s'.counts (taps_so_far s ++ record { name = name; records = no_records of } ∷ []) → KeepsTaps s'
-begin-keeps s s' name of keeps same taps places counts =
+pub begin-keeps : (s s' : OpenTaps) (name : List ℕ) (of : TapKind) (version : Version) → KeepsTaps s → s'.pids ≡ s.pids → taps_so_far s' ≡ taps_so_far s ++ record { name = name; version = version; records = no_records of } ∷ []
+    → ((text : List ℕ) → get_by_text s'.places text ≡ place_of (taps_so_far s') text) → Counted s'.counts (taps_so_far s ++ record { name = name; version = version; records = no_records of } ∷ []) → KeepsTaps s'
+begin-keeps s s' name of version keeps same taps places counts =
     record {
       places = places;
-      pids = rw (taps, flat_map-append (λ (t : Tap). pids_in t.records) (taps_so_far s) (record { name = name; records = no_records of } ∷ []), pids-empty of, append-nil, same) keeps.pids;
+      pids = rw (taps, flat_map-append (λ (t : Tap). pids_in t.records) (taps_so_far s) (record { name = name; version = version; records = no_records of } ∷ []), pids-empty of, append-nil, same) keeps.pids;
       counts = rw taps counts;
     }
 

@@ -11,6 +11,7 @@ use Rattle.aud_reader.specs.declared.fault.ReadFault.{ReadFault}
 use Rattle.aud_reader.specs.declared.line.Line.{Line}
 use Rattle.aud_tap.specs.declared.records.TapKind.{TapKind}
 use Rattle.aud_tap.specs.declared.records.TapKind.TheVariants as tap
+use Rattle.aud_tap.specs.declared.records.Version.{Version}
 use Rattle.aud_tap.specs.declared.records.Rec.{Rec}
 use Rattle.aud_tap.specs.declared.records.Rec.TheVariants as rec
 use Rattle.aud_tap.specs.declared.records.StreamRec.{StreamRec}
@@ -23,7 +24,7 @@ use Rattle.aud_tap.specs.Forms.{is_text}
 use Rattle.aud_base.specs.Steps.{◌>>=◌, need, guard}
 use Rattle.aud_reader.specs.Header.{header_of}
 use Rattle.aud_reader.specs.StreamRecord.{stream_record_of}
-use Rattle.aud_reader.specs.NodeRecord.{node_record_of}
+use Rattle.aud_reader.specs.NodeRecord.{is_in_version, node_record_of}
 use Rattle.aud_reader.specs.ClientRecord.{client_record_of}
 use Rattle.aud_reader.specs.Record.{opened_line, kind_named, tap_of_kind, record_in, record_of, value_record, line_record}
 use Rattle.aud_tap.specs.RecordFields.{offset_of, pid_of}
@@ -59,12 +60,13 @@ unfolding node_record_of
 node-kind word d r e =
     or_kind (codes "start") word tap.Node _ _ r refl e (λ e1.
     or_kind (codes "take") word tap.Node _ _ r refl e1 (λ e2.
-    or_kind (codes "open") word tap.Node _ _ r refl e2 (λ e3.
-    or_kind (codes "join") word tap.Node _ _ r refl e3 (λ e4.
-    or_kind (codes "leave") word tap.Node _ _ r refl e4 (λ e5.
-    or_kind (codes "break") word tap.Node _ _ r refl e5 (λ e6.
-    or_kind (codes "back") word tap.Node _ _ r refl e6 (λ e7.
-    or_kind (codes "gone") word tap.Node _ _ r refl e7 (λ e8. cc))))))))
+    or_kind (codes "takes") word tap.Node _ _ r refl e2 (λ e3.
+    or_kind (codes "open") word tap.Node _ _ r refl e3 (λ e4.
+    or_kind (codes "join") word tap.Node _ _ r refl e4 (λ e5.
+    or_kind (codes "leave") word tap.Node _ _ r refl e5 (λ e6.
+    or_kind (codes "break") word tap.Node _ _ r refl e6 (λ e7.
+    or_kind (codes "back") word tap.Node _ _ r refl e7 (λ e8.
+    or_kind (codes "gone") word tap.Node _ _ r refl e8 (λ e9. cc)))))))))
 
 -- a word that is read as a record of a client is one of a client's kinds
 client-kind : (word : List ℕ) (d : Data) (r : ClientRec) → client_record_of word d ≡ Ok r → tap_of_kind word ≡ Some tap.Client
@@ -102,10 +104,11 @@ put_entry entries new kind d e =
     (record { value = read.0; reads = read.1; is = cc }, room.1)
 
 -- a node's record that was added stands last, after those from before
-put_node : (pids : List (List ℕ)) (records new : List NodeRec) (kind : List ℕ) (d : Data) → with_node_record pids records kind d ≡ Ok new → Put (node_record_of kind d) records new
+put_node : (version : Version) (pids : List (List ℕ)) (records new : List NodeRec) (kind : List ℕ) (d : Data) → with_node_record version pids records kind d ≡ Ok new → Put (node_record_of kind d) records new
 unfolding with_node_record
-put_node pids records new kind d e =
-    let read = part-of (node_record_of kind d) _ new e in
+put_node version pids records new kind d e =
+    let known = guard-ok UnknownKind (is_in_version version kind) _ new e in
+    let read = part-of (node_record_of kind d) _ new known.1 in
     let room = part-of (node_room (length records) (pids ++ option_to_list (pid_of read.0))) _ new read.2 in
     record { value = read.0; reads = read.1; is = cc }
 
@@ -134,13 +137,13 @@ put_in of as_rec as_records read list put new kind d reads recs same known one e
     }
 
 -- a tap that took a line has one record more, and the kind that it had
-pub one_more : (pids : List (List ℕ)) (old new : Records) (kind : List ℕ) (d : Data) → with_tap_record pids old kind d ≡ Ok new → OneMore old kind d new
+pub one_more : (version : Version) (pids : List (List ℕ)) (old new : Records) (kind : List ℕ) (d : Data) → with_tap_record version pids old kind d ≡ Ok new → OneMore old kind d new
 unfolding record_in
-one_more pids (Stream entries) new kind d e =
+one_more version pids (Stream entries) new kind d e =
     put_in tap.Stream rec.Stream Stream (stream_record_of kind d) entries (with_entry entries kind d) new kind d refl (λ rs. refl) (λ rs. refl) (stream-kind kind d) (λ more put. (put_entry entries more kind d put).0) e
-one_more pids (Node records) new kind d e =
-    put_in tap.Node rec.Node Node (node_record_of kind d) records (with_node_record pids records kind d) new kind d refl (λ rs. refl) (λ rs. refl) (node-kind kind d) (λ more. put_node pids records more kind d) e
-one_more pids (Client records) new kind d e =
+one_more version pids (Node records) new kind d e =
+    put_in tap.Node rec.Node Node (node_record_of kind d) records (with_node_record version pids records kind d) new kind d refl (λ rs. refl) (λ rs. refl) (node-kind kind d) (λ more. put_node version pids records more kind d) e
+one_more version pids (Client records) new kind d e =
     put_in tap.Client rec.Client Client (client_record_of kind d) records (with_client_record records kind d) new kind d refl (λ rs. refl) (λ rs. refl) (client-kind kind d) (λ more. put_client records more kind d) e
 
 -- ---- one more line
@@ -149,10 +152,11 @@ one_more pids (Client records) new kind d e =
 pub record Begins (ts : List Tap) (line : List ℕ) (more : List Tap) : Type 0 where
   pub name : List ℕ
   pub of : TapKind
-  pub reads : line_record line ≡ Ok (name, rec.Header of 1)
+  pub version : Version
+  pub reads : line_record line ≡ Ok (name, rec.Header of version)
   pub new : tap_named name ts ≡ None
   pub room : another_tap of ts ≡ Ok tt
-  pub is : more ≡ ts ++ record { name = name; records = no_records of } ∷ []
+  pub is : more ≡ ts ++ record { name = name; version = version; records = no_records of } ∷ []
 
 -- the line adds its record to its tap
 pub record Adds (ts : List Tap) (line : List ℕ) (more : List Tap) : Type 0 where
@@ -162,16 +166,16 @@ pub record Adds (ts : List Tap) (line : List ℕ) (more : List Tap) : Type 0 whe
   pub kind : List ℕ
   pub d : Data
   pub is_found : tap_named name ts ≡ Some found
-  pub added : with_tap_record (pids_of ts) found.records kind d ≡ Ok records
+  pub added : with_tap_record found.version (pids_of ts) found.records kind d ≡ Ok records
   pub grown : OneMore found.records kind d records
   pub reads : line_record line ≡ Ok (name, grown.rec)
   pub is : more ≡ with_records name records ts
 
 -- a line that is read as a header has a header for its record
-header_reads : (line name kind : List ℕ) (d : Data) (of : TapKind) → opened_line line ≡ Ok (name, d) → kind_named d ≡ Ok kind → is_text kind (codes "tap") ≡ true → header_of d ≡ Ok of
-    → line_record line ≡ Ok (name, rec.Header of 1)
+header_reads : (line name kind : List ℕ) (d : Data) (of : TapKind) (version : Version) → opened_line line ≡ Ok (name, d) → kind_named d ≡ Ok kind → is_text kind (codes "tap") ≡ true → header_of d ≡ Ok (of, version)
+    → line_record line ≡ Ok (name, rec.Header of version)
 unfolding line_record value_record record_of
-header_reads line name kind d of opened word tap header = rw (opened, word, tap, header) refl
+header_reads line name kind d of version opened word tap header = rw (opened, word, tap, header) refl
 
 -- a line that is no header has the record of its kind
 later_reads : (line name kind : List ℕ) (d : Data) (r : Rec) → opened_line line ≡ Ok (name, d) → kind_named d ≡ Ok kind → is_text kind (codes "tap") ≡ false
@@ -185,23 +189,24 @@ unfolding with_header
 begins ts more line name kind d opened word new e =
     let header = guard-ok NoHeader (is_text kind (codes "tap")) _ more e in
     let read = part-of (header_of d) _ more header.1 in
-    let room = part-of (another_tap read.0 ts) _ more read.2 in
+    let room = part-of (another_tap read.0.0 ts) _ more read.2 in
     record {
       name = name;
-      of = read.0;
-      reads = header_reads line name kind d read.0 opened word header.0 read.1;
+      of = read.0.0;
+      version = read.0.1;
+      reads = header_reads line name kind d read.0.0 read.0.1 opened word header.0 read.1;
       new = new;
       room = room.1;
       is = cc;
     }
 
 -- a line for which a tap is there, read without a fault, adds a record to it
-adds : (ts more : List Tap) (line name kind : List ℕ) (d : Data) (t : Tap) → opened_line line ≡ Ok (name, d) → kind_named d ≡ Ok kind → tap_named name ts ≡ Some t → with_later ts name t.records kind d ≡ Ok more → Adds ts line more
+adds : (ts more : List Tap) (line name kind : List ℕ) (d : Data) (t : Tap) → opened_line line ≡ Ok (name, d) → kind_named d ≡ Ok kind → tap_named name ts ≡ Some t → with_later ts name t kind d ≡ Ok more → Adds ts line more
 unfolding with_later
 adds ts more line name kind d t opened word found e =
     let later = guard-ok HeaderTwice (not (is_text kind (codes "tap"))) _ more e in
-    let added = part-of (with_tap_record (pids_of ts) t.records kind d) _ more later.1 in
-    let grown = one_more (pids_of ts) t.records added.0 kind d added.1 in
+    let added = part-of (with_tap_record t.version (pids_of ts) t.records kind d) _ more later.1 in
+    let grown = one_more t.version (pids_of ts) t.records added.0 kind d added.1 in
     record {
       name = name;
       found = t;

@@ -13,6 +13,7 @@ use Rattle.aud_base.proofs.SameText.{same_text, itself_text}
 use Rattle.aud_reader.specs.declared.line.Line.{Line}
 use Rattle.aud_tap.specs.declared.records.TapKind.{TapKind}
 use Rattle.aud_tap.specs.declared.records.TapKind.TheVariants as kind
+use Rattle.aud_tap.specs.declared.records.Version.{Version}
 use Rattle.aud_tap.specs.declared.records.Rec.{Rec}
 use Rattle.aud_tap.specs.declared.records.Rec.TheVariants as rec
 use Rattle.aud_tap.specs.declared.taps.Records.{Records}
@@ -39,10 +40,10 @@ by_name {P} name n same other =
 -- ---- a header
 
 -- the records of a new tap are its header alone
-kind-new : (of : TapKind) (name : List ℕ) → recs_of (record { name = name; records = no_records of }) ≡ rec.Header of 1 ∷ []
-kind-new kind.Stream name = refl
-kind-new kind.Node name = refl
-kind-new kind.Client name = refl
+kind-new : (of : TapKind) (version : Version) (name : List ℕ) → recs_of (record { name = name; version = version; records = no_records of }) ≡ rec.Header of version ∷ []
+kind-new kind.Stream version name = refl
+kind-new kind.Node version name = refl
+kind-new kind.Client version name = refl
 
 -- the line's record, where the line is read
 record-read : (name line n : List ℕ) (r : Rec) → line_record line ≡ Ok (n, r) → (number : ℕ) → record_for name (record { number = number; bytes = line }) ≡ cond (is_text name n) (Some r) None
@@ -51,10 +52,10 @@ record-read name line n r reads number = rw reads refl
 -- a header adds a record to the tap that it names, and to no other
 begins-adds : (name : List ℕ) (ts more : List Tap) (line : List ℕ) → Begins ts line more → AddsFor name ts line more
 begins-adds name ts more line b =
-    let t : Tap = record { name = b.name; records = no_records b.of } in
-    rw (b.is, find-append (λ (u : Tap). is_text name u.name) ts (t ∷ []), record-read name line b.name (rec.Header b.of 1) b.reads 0)
+    let t : Tap = record { name = b.name; version = b.version; records = no_records b.of } in
+    rw (b.is, find-append (λ (u : Tap). is_text name u.name) ts (t ∷ []), record-read name line b.name (rec.Header b.of b.version) b.reads 0)
     (by_name name b.name
-    (λ same. let new : tap_named name ts ≡ None = rw same b.new in rw (new, same, itself_text b.name, kind-new b.of b.name) refl)
+    (λ same. let new : tap_named name ts ≡ None = rw same b.new in rw (new, same, itself_text b.name, kind-new b.of b.version b.name) refl)
     (λ other. rw (other, or_none (tap_named name ts), append-nil) refl))
 
 -- ---- a later line
@@ -85,7 +86,7 @@ adds-adds name ts more line a =
     (by_name name a.name
     (λ same.
     rw (same, itself_text a.name, named-same a.name a.records ts a.found a.is_found, a.is_found)
-    (ap (λ k. rec.Header k 1 ∷ recs_in a.records) a.grown.same ∙ ap (λ rs. rec.Header (kind_of_tap (a.found).records) 1 ∷ rs) a.grown.recs))
+    (ap (λ k. rec.Header k (a.found).version ∷ recs_in a.records) a.grown.same ∙ ap (λ rs. rec.Header (kind_of_tap (a.found).records) (a.found).version ∷ rs) a.grown.recs))
     (λ other. rw (other, named-other name a.name a.records ts other, append-nil) refl))
 
 -- ---- the lines
@@ -171,7 +172,7 @@ each-line ts more (line ∷ lines) different e =
     (λ some. elim first.step [
       | inl passed ↦ absurd (some passed.0)
       | inr read ↦ elim read [
-        | inl b ↦ of_one b.name (rec.Header b.of 1) ts more line lines different e b.reads
+        | inl b ↦ of_one b.name (rec.Header b.of b.version) ts more line lines different e b.reads
         | inr a ↦ of_one a.name a.grown.rec ts more line lines different e a.reads
       ]
     ])

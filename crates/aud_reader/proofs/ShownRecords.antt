@@ -9,6 +9,7 @@ use Rattle.aud_fields.specs.Shown.{shown_item, shown_items, shown_field, shown}
 use Rattle.aud_fields.proofs.Shown.{get-shown, at-shown, as_str-shown_field, as_str-shown_item, as_null-shown_field, as_number-shown_field, as_array-shown_field}
 use Rattle.aud_tap.specs.declared.records.TapKind.{TapKind}
 use Rattle.aud_tap.specs.declared.records.TapKind.TheVariants as tap
+use Rattle.aud_tap.specs.declared.records.Version.{Version}
 use Rattle.aud_tap.specs.declared.records.Rec.{Rec}
 use Rattle.aud_tap.specs.declared.records.Rec.TheVariants.{Header}
 use Rattle.aud_tap.specs.declared.taps.Tap.{Tap}
@@ -171,7 +172,7 @@ record_of-shown : (kind : List ℕ) (d : Data) → record_of kind (shown d) ≡ 
 unfolding record_of
 record_of-shown kind d =
     rw (header_of-shown d)
-    (ap (λ r. if is_text kind (codes "tap") then header_of d >>= (λ of. Ok (Header of 1)) else r)
+    (ap (λ r. if is_text kind (codes "tap") then header_of d >>= (λ header. Ok (Header header.0 header.1)) else r)
     (same_after (need UnknownKind (tap_of_kind kind)) (λ of. record_in of kind (shown d)) (λ of. record_in of kind d) (λ of. record_in-shown of kind d)))
 
 -- the record of a value
@@ -184,17 +185,17 @@ value_record-shown d =
 -- ---- taps
 
 -- the records of a tap with that of a line
-with_tap_record-shown : (pids : List (List ℕ)) (rs : Records) (kind : List ℕ) (d : Data) → with_tap_record pids rs kind (shown d) ≡ with_tap_record pids rs kind d
+with_tap_record-shown : (version : Version) (pids : List (List ℕ)) (rs : Records) (kind : List ℕ) (d : Data) → with_tap_record version pids rs kind (shown d) ≡ with_tap_record version pids rs kind d
 unfolding with_entry with_node_record with_client_record
-with_tap_record-shown pids (records.Stream entries) kind d = rw (stream_record_of-shown kind d)
-with_tap_record-shown pids (records.Node rs) kind d = rw (node_record_of-shown kind d)
-with_tap_record-shown pids (records.Client rs) kind d = rw (client_record_of-shown kind d)
+with_tap_record-shown version pids (records.Stream entries) kind d = rw (stream_record_of-shown kind d)
+with_tap_record-shown version pids (records.Node rs) kind d = rw (node_record_of-shown kind d)
+with_tap_record-shown version pids (records.Client rs) kind d = rw (client_record_of-shown kind d)
 
 -- the first line of a tap, or a later one
 with_kind-shown : (ts : List Tap) (name : List ℕ) (o : Option Tap) (kind : List ℕ) (d : Data) → with_kind ts name o kind (shown d) ≡ with_kind ts name o kind d
 unfolding with_header with_later
 with_kind-shown ts name None kind d = rw (header_of-shown d)
-with_kind-shown ts name (Some t) kind d = rw (with_tap_record-shown (pids_of ts) t.records kind d)
+with_kind-shown ts name (Some t) kind d = rw (with_tap_record-shown t.version (pids_of ts) t.records kind d)
 
 -- the taps with what a value brings
 with_value-shown : (ts : List Tap) (name : List ℕ) (d : Data) → with_value ts name (shown d) ≡ with_value ts name d

@@ -17,6 +17,7 @@ use Rattle.aud_base.proofs.StepLemmas.{part-of, guard-ok}
 use Rattle.serde_json.specs.Data.{Data}
 use Rattle.aud_reader.specs.declared.fault.InputCode.TheVariants.{Limit, OffsetTwice, SecondStream}
 use Rattle.aud_reader.specs.declared.line.Line.{Line}
+use Rattle.aud_tap.specs.declared.records.Version.{Version}
 use Rattle.aud_tap.specs.declared.records.TapKind.{TapKind}
 use Rattle.aud_tap.specs.declared.records.TapKind.TheVariants as tap
 use Rattle.aud_tap.specs.declared.taps.Records.{Records}
@@ -53,11 +54,11 @@ none-of name (t ∷ ts) e =
 -- ---- the streams
 
 -- a new tap leaves at most one stream, as a second one is refused
-streams-new : (of : TapKind) (name : List ℕ) (ts : List Tap) → taps_on tap.Stream ts ≤ 1 → another_tap of ts ≡ Ok tt → taps_on tap.Stream (ts ++ record { name = name; records = no_records of } ∷ []) ≤ 1
-streams-new of name ts few room =
-    rw (sum_by-append (λ (t : Tap). cond (same_kind tap.Stream (kind_of_tap t.records)) 1 0) ts (record { name = name; records = no_records of } ∷ [])) (go of room)
+streams-new : (of : TapKind) (version : Version) (name : List ℕ) (ts : List Tap) → taps_on tap.Stream ts ≤ 1 → another_tap of ts ≡ Ok tt → taps_on tap.Stream (ts ++ record { name = name; version = version; records = no_records of } ∷ []) ≤ 1
+streams-new of version name ts few room =
+    rw (sum_by-append (λ (t : Tap). cond (same_kind tap.Stream (kind_of_tap t.records)) 1 0) ts (record { name = name; version = version; records = no_records of } ∷ [])) (go of room)
   where
-    go : (of : TapKind) → another_tap of ts ≡ Ok tt → taps_on tap.Stream ts + taps_on tap.Stream (record { name = name; records = no_records of } ∷ []) ≤ 1
+    go : (of : TapKind) → another_tap of ts ≡ Ok tt → taps_on tap.Stream ts + taps_on tap.Stream (record { name = name; version = version; records = no_records of } ∷ []) ≤ 1
     go tap.Stream room = let none : taps_on tap.Stream ts < 1 = ltb-true _ _ (guarded SecondStream (nat_lt (taps_on tap.Stream ts) 1) room) in omega arith
     go tap.Node room = omega arith
     go tap.Client room = omega arith
@@ -77,26 +78,26 @@ offsets-none tap.Node = λ i j d l m. absurd (omega arith)
 offsets-none tap.Client = λ i j d l m. absurd (omega arith)
 
 -- one more record leaves a tap's offsets different, as one that is there is refused
-offsets-more : (pids : List (List ℕ)) (old new : Records) (kind : List ℕ) (d : Data) → with_tap_record pids old kind d ≡ Ok new → AreDifferent (offsets_in old) → AreDifferent (offsets_in new)
-offsets-more pids (Stream entries) new kind d e different =
+offsets-more : (version : Version) (pids : List (List ℕ)) (old new : Records) (kind : List ℕ) (d : Data) → with_tap_record version pids old kind d ≡ Ok new → AreDifferent (offsets_in old) → AreDifferent (offsets_in new)
+offsets-more version pids (Stream entries) new kind d e different =
     let more = part-of (with_entry entries kind d) _ new e in
     let (put, room) = put_entry entries more.0 kind d more.1 in
     let known = list_any (is_text (offset_of put.value)) (map offset_of entries) in
     let test = guard-ok Limit (nat_lt (length entries) max_entries) (guard OffsetTwice (not known)) tt room in
     let is : new ≡ Stream (entries ++ put.value ∷ []) = cc in
     rw (is, map-append offset_of entries (put.value ∷ [])) (different-push (map offset_of entries) (offset_of put.value) different (not-true known (guarded OffsetTwice (not known) test.1)))
-offsets-more pids (Node records) new kind d e different = offsets-absent new (λ is. let same = (one_more pids (Node records) new kind d e).same in cc)
-offsets-more pids (Client records) new kind d e different = offsets-absent new (λ is. let same = (one_more pids (Client records) new kind d e).same in cc)
+offsets-more version pids (Node records) new kind d e different = offsets-absent new (λ is. let same = (one_more version pids (Node records) new kind d e).same in cc)
+offsets-more version pids (Client records) new kind d e different = offsets-absent new (λ is. let same = (one_more version pids (Client records) new kind d e).same in cc)
 
 -- ---- one more line
 
 -- a header leaves the names different, one stream at most, and each offset once
 sound-begins : (ts more : List Tap) (line : List ℕ) → AreSoundTaps ts → Begins ts line more → AreSoundTaps more
 sound-begins ts more line sound b =
-    let t : Tap = record { name = b.name; records = no_records b.of } in
+    let t : Tap = record { name = b.name; version = b.version; records = no_records b.of } in
     rw b.is (record {
       names = rw (map-append (λ (x : Tap). x.name) ts (t ∷ [])) (different-push (names_of ts) b.name sound.names (none-of b.name ts b.new));
-      stream = streams-new b.of b.name ts sound.stream b.room;
+      stream = streams-new b.of b.version b.name ts sound.stream b.room;
       offsets = All-push (λ (x : Tap). AreDifferent (offsets_in x.records)) ts t sound.offsets (offsets-none b.of);
     })
 
@@ -110,7 +111,7 @@ sound-adds ts more line sound a =
       names = rw (map-set name_of ts i (record a.found { records = a.records }), ap (set (names_of ts) i) named ∙ set-get_or (names_of ts) i (a.found).name) sound.names;
       stream = rw (taps_on-set tap.Stream ts i a.found (record a.found { records = a.records }) within at a.grown.same) sound.stream;
       offsets = All-set (λ (t : Tap). AreDifferent (offsets_in t.records)) ts i (record a.found { records = a.records })
-          (offsets-more _ (a.found).records a.records a.kind a.d a.added (rw at at (sound.offsets i a.found within))) sound.offsets;
+          (offsets-more (a.found).version _ (a.found).records a.records a.kind a.d a.added (rw at at (sound.offsets i a.found within))) sound.offsets;
     })
 
 -- before the first line nothing is there that could break what the taps keep to

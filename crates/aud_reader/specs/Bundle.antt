@@ -4,12 +4,13 @@ use Rattle.std.specs.List.{filter_map, flat_map, list_any}
 use Rattle.std.specs.Set.{distinct_count}
 use Rattle.serde_json.specs.Data.{Data}
 use Rattle.aud_reader.specs.declared.fault.InputCode.{InputCode}
-use Rattle.aud_reader.specs.declared.fault.InputCode.TheVariants.{NoHeader, HeaderTwice, SecondStream, OffsetTwice, Field, Limit}
+use Rattle.aud_reader.specs.declared.fault.InputCode.TheVariants.{NoHeader, UnknownKind, HeaderTwice, SecondStream, OffsetTwice, Field, Limit}
 use Rattle.aud_reader.specs.declared.fault.ReadFault.{ReadFault}
 use Rattle.aud_reader.specs.declared.fault.ReadFault.TheVariants.{Input}
 use Rattle.aud_reader.specs.declared.line.Line.{Line}
 use Rattle.aud_tap.specs.declared.records.TapKind.{TapKind}
 use Rattle.aud_tap.specs.declared.records.TapKind.TheVariants as kind
+use Rattle.aud_tap.specs.declared.records.Version.{Version}
 use Rattle.aud_tap.specs.declared.records.StreamRec.{StreamRec}
 use Rattle.aud_tap.specs.declared.records.NodeRec.{NodeRec}
 use Rattle.aud_tap.specs.declared.records.ClientRec.{ClientRec}
@@ -21,7 +22,7 @@ use Rattle.aud_tap.specs.Forms.{is_text}
 use Rattle.aud_tap.specs.RecordFields.{offset_of, pid_of}
 use Rattle.aud_reader.specs.Header.{header_of}
 use Rattle.aud_reader.specs.StreamRecord.{stream_record_of}
-use Rattle.aud_reader.specs.NodeRecord.{node_record_of}
+use Rattle.aud_reader.specs.NodeRecord.{is_in_version, node_record_of}
 use Rattle.aud_reader.specs.ClientRecord.{client_record_of}
 use Rattle.aud_reader.specs.Connections.{may_follow}
 use Rattle.aud_reader.specs.Record.{opened_line, kind_named}
@@ -70,9 +71,10 @@ pids_fit pids = guard Limit (nat_le (distinct_count is_text pids) max_pids)
 abbrev pub node_room : ℕ → List (List ℕ) → Result (Unit {0}) InputCode
 node_room count pids = guard Limit (nat_lt count max_records) >>= (λ room. pids_fit pids)
 
--- a node's records with that of a line, beside the pids of all node records
-unfoldable pub with_node_record : List (List ℕ) → List NodeRec → List ℕ → Data → Result (List NodeRec) InputCode
-with_node_record pids records kind d = do
+-- a node's records, in a tap of this version, with that of a line, beside the pids of all node records
+unfoldable pub with_node_record : Version → List (List ℕ) → List NodeRec → List ℕ → Data → Result (List NodeRec) InputCode
+with_node_record version pids records kind d = do
+  known ← guard UnknownKind (is_in_version version kind)
   rec ← node_record_of kind d
   room ← node_room (length records) (pids ++ option_to_list (pid_of rec))
   Ok (records ++ rec ∷ [])
@@ -88,11 +90,11 @@ with_client_record records kind d = do
   room ← client_room records rec
   Ok (records ++ rec ∷ [])
 
--- the records of a tap with that of a line
-abbrev pub with_tap_record : List (List ℕ) → Records → List ℕ → Data → Result Records InputCode
-with_tap_record pids (Stream entries) kind d = with_entry entries kind d >>= (λ more. Ok (Stream more))
-with_tap_record pids (Node records) kind d = with_node_record pids records kind d >>= (λ more. Ok (Node more))
-with_tap_record pids (Client records) kind d = with_client_record records kind d >>= (λ more. Ok (Client more))
+-- the records of a tap of this version with that of a line
+abbrev pub with_tap_record : Version → List (List ℕ) → Records → List ℕ → Data → Result Records InputCode
+with_tap_record version pids (Stream entries) kind d = with_entry entries kind d >>= (λ more. Ok (Stream more))
+with_tap_record version pids (Node records) kind d = with_node_record version pids records kind d >>= (λ more. Ok (Node more))
+with_tap_record version pids (Client records) kind d = with_client_record records kind d >>= (λ more. Ok (Client more))
 
 -- ---- taps
 
@@ -148,21 +150,21 @@ no_records kind.Client = Client []
 unfoldable pub with_header : List Tap → List ℕ → List ℕ → Data → Result (List Tap) InputCode
 with_header taps name kind d = do
   header ← guard NoHeader (is_text kind (codes "tap"))
-  of ← header_of d
-  room ← another_tap of taps
-  Ok (taps ++ record { name = name; records = no_records of } ∷ [])
+  tap ← header_of d
+  room ← another_tap tap.0 taps
+  Ok (taps ++ record { name = name; version = tap.1; records = no_records tap.0 } ∷ [])
 
--- a later line of a tap is a record
-unfoldable pub with_later : List Tap → List ℕ → Records → List ℕ → Data → Result (List Tap) InputCode
-with_later taps name records kind d = do
+-- a later line of a tap is a record, of a kind that the tap's version has
+unfoldable pub with_later : List Tap → List ℕ → Tap → List ℕ → Data → Result (List Tap) InputCode
+with_later taps name t kind d = do
   later ← guard HeaderTwice (not (is_text kind (codes "tap")))
-  more ← with_tap_record (pids_of taps) records kind d
+  more ← with_tap_record t.version (pids_of taps) t.records kind d
   Ok (with_records name more taps)
 
 -- the first line of a tap, or a later one
 abbrev pub with_kind : List Tap → List ℕ → Option Tap → List ℕ → Data → Result (List Tap) InputCode
 with_kind taps name None kind d = with_header taps name kind d
-with_kind taps name (Some t) kind d = with_later taps name t.records kind d
+with_kind taps name (Some t) kind d = with_later taps name t kind d
 
 abbrev pub with_named : List Tap → List ℕ → List ℕ → Data → Result (List Tap) InputCode
 with_named taps name kind d = with_kind taps name (tap_named name taps) kind d

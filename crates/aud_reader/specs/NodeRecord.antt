@@ -1,10 +1,12 @@
 -- The records of a node tap.
-use Rattle.std.specs.Prelude.{ℕ, nat_le, List, codes, Bool, true, Option, Some, None, Result, Ok, Err, if◌then◌else◌}
+use Rattle.std.specs.Prelude.{ℕ, nat_le, List, codes, Bool, true, not, Option, Some, None, Result, Ok, Err, if◌then◌else◌}
 use Rattle.serde_json.specs.Data.{Data}
 use Rattle.aud_reader.specs.declared.fault.InputCode.{InputCode}
 use Rattle.aud_reader.specs.declared.fault.InputCode.TheVariants.{UnknownKind, Field, Limit}
+use Rattle.aud_tap.specs.declared.records.Version.{Version}
+use Rattle.aud_tap.specs.declared.records.Version.TheVariants.{One, Two}
 use Rattle.aud_tap.specs.declared.records.NodeRec.{NodeRec}
-use Rattle.aud_tap.specs.declared.records.NodeRec.TheVariants.{Start, Take, Opened, Join, Leave, Broke, Back, Gone}
+use Rattle.aud_tap.specs.declared.records.NodeRec.TheVariants.{Start, Take, Takes, Opened, Join, Leave, Broke, Back, Gone}
 use Rattle.aud_base.specs.Steps.{◌>>=◌, need, guard}
 use Rattle.aud_tap.specs.Limits.{fits, max_offset, max_id, max_room, max_namespace, max_turn}
 use Rattle.aud_tap.specs.Forms.{is_text}
@@ -26,6 +28,10 @@ start_of d = do
 -- the node takes an entry
 abbrev pub take_of : Data → Result NodeRec InputCode
 take_of d = bounded_id_at max_offset (codes "off") d >>= (λ off. Ok (Take off))
+
+-- the node takes every entry up to this one
+abbrev pub takes_of : Data → Result NodeRec InputCode
+takes_of d = bounded_id_at max_offset (codes "off") d >>= (λ off. Ok (Takes off))
 
 -- a session opens
 unfoldable pub open_of : Data → Result NodeRec InputCode
@@ -76,15 +82,21 @@ back_of d = pid_and_turn d >>= (λ t. Ok (Back t.0 t.1))
 abbrev pub gone_of : Data → Result NodeRec InputCode
 gone_of d = bounded_id_at max_id (codes "pid") d >>= (λ pid. Ok (Gone pid))
 
--- the node's record of this kind
+-- a node's tap of this version may have records of this kind, if any node's tap may: `takes` is of version 2
+abbrev pub is_in_version : Version → List ℕ → Bool
+is_in_version One kind = not (is_text kind (codes "takes"))
+is_in_version Two kind = true
+
+-- the node's record of this kind, in either version
 unfoldable pub node_record_of : List ℕ → Data → Result NodeRec InputCode
 node_record_of kind d =
     if is_text kind (codes "start") then start_of d
     else (if is_text kind (codes "take") then take_of d
+    else (if is_text kind (codes "takes") then takes_of d
     else (if is_text kind (codes "open") then open_of d
     else (if is_text kind (codes "join") then join_of d
     else (if is_text kind (codes "leave") then leave_of d
     else (if is_text kind (codes "break") then break_of d
     else (if is_text kind (codes "back") then back_of d
     else (if is_text kind (codes "gone") then gone_of d
-    else Err UnknownKind)))))))
+    else Err UnknownKind))))))))

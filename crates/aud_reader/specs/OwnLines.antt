@@ -37,7 +37,7 @@ recs_in (Client records) = map rec.Client records
 
 -- a tap's header, and then its records
 abbrev pub recs_of : Tap → List Rec
-recs_of t = rec.Header (kind_of_tap t.records) 1 ∷ recs_in t.records
+recs_of t = rec.Header (kind_of_tap t.records) t.version ∷ recs_in t.records
 
 -- those of the tap of this name; none where there is no such tap
 abbrev pub recs_by_name : List ℕ → List Tap → List Rec

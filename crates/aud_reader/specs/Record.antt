@@ -39,14 +39,14 @@ opened_line line = do
 abbrev pub kind_named : Data → Result (List ℕ) InputCode
 kind_named d = need Field (text_at (codes "k") d)
 
--- the kinds of record of a stream, a node and a client
+-- the kinds of record of a stream, a node and a client, in any version
 abbrev pub stream_kinds : List (List ℕ)
 stream_kinds = codes "ev" ∷ codes "other" ∷ []
 
 abbrev pub node_kinds : List (List ℕ)
 node_kinds =
-    codes "start" ∷ codes "take" ∷ codes "open" ∷ codes "join" ∷ codes "leave" ∷ codes "break"
-    ∷ codes "back" ∷ codes "gone" ∷ []
+    codes "start" ∷ codes "take" ∷ codes "takes" ∷ codes "open" ∷ codes "join" ∷ codes "leave"
+    ∷ codes "break" ∷ codes "back" ∷ codes "gone" ∷ []
 
 abbrev pub client_kinds : List (List ℕ)
 client_kinds =
@@ -73,7 +73,7 @@ record_in tap.Client kind d = client_record_of kind d >>= (λ r. Ok (Client r))
 -- a header, or the record of this kind in whichever tap has it
 unfoldable pub record_of : List ℕ → Data → Result Rec InputCode
 record_of kind d =
-    if is_text kind (codes "tap") then header_of d >>= (λ of. Ok (Header of 1))
+    if is_text kind (codes "tap") then header_of d >>= (λ header. Ok (Header header.0 header.1))
     else (need UnknownKind (tap_of_kind kind) >>= (λ of. record_in of kind d))
 
 -- the record of a value, by what it says that it is

@@ -15,7 +15,7 @@ records_so_far (log.Node records) = Node records
 records_so_far (log.Client records) = Client records
 
 abbrev pub tap_so_far : OpenTap → Tap
-tap_so_far t = record { name = t.name; records = records_so_far t.log }
+tap_so_far t = record { name = t.name; version = t.version; records = records_so_far t.log }
 
 -- the taps so far
 abbrev pub taps_so_far : OpenTaps → List Tap

@@ -3,6 +3,7 @@ use Rattle.std.specs.Prelude.{ℕ, zero, suc, List, [], ◌∷◌, ◌++◌, Non
 use Rattle.aud_tap.specs.declared.records.TapKind.{TapKind}
 use Rattle.aud_tap.specs.declared.records.TapKind.TheVariants as of
 use Rattle.aud_tap.specs.declared.records.NodeRec.TheVariants.{Start}
+use Rattle.aud_tap.specs.declared.records.Version.TheVariants.{One}
 use Rattle.aud_tap.specs.declared.records.Rec.TheVariants as rec
 use Rattle.aud_sim.specs.declared.client.Client.{Client}
 use Rattle.aud_sim.specs.declared.client.Injected.TheVariants.{Nothing}
@@ -44,7 +45,7 @@ first_clients (suc count) = first_clients count ++ record { name = name_of (code
 
 -- the header of a tap
 abbrev pub with_header : TapKind → List ℕ → Lines → Lines
-with_header kind name lines = with_line name (rec.Header kind 1) lines
+with_header kind name lines = with_line name (rec.Header kind One) lines
 
 -- the headers of the nodes' taps
 abbrev pub with_node_headers : List NodeState → Lines → Lines

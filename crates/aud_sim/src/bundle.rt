@@ -3,10 +3,9 @@ ghost use Rattle.std.specs.Prelude.{◌≡◌, [], true, OnOk};
 ghost use Rattle.aud_tap.specs.declared.records.Rec.TheVariants.{Node, Client};
 ghost use Rattle.aud_sim.specs.Bundle.{with_line};
 
-use crate::forms::is_well_formed;
 use aud_reader::ReadFault;
 use aud_tap::{ClientRec, NodeRec, Rec, is_tap_name};
-use aud_writer::write_line;
+use aud_writer::{is_well_formed, write_line};
 use std::alloc::{AllocError, Global};
 use std::marker::Model;
 

@@ -7,7 +7,7 @@ use crate::client::{Client, Injected};
 use crate::entry::Entry;
 use crate::node::Node;
 use crate::texts::name_of;
-use aud_tap::{NodeRec, Rec, TapKind};
+use aud_tap::{NodeRec, Rec, TapKind, Version};
 use std::alloc::{AllocError, Global};
 
 /// The bundle so far, the entries of the stream, the nodes, the clients, and how many sessions were opened.
@@ -56,7 +56,13 @@ fn first_clients(alloc: Global, count: usize) -> Result<Vec<Client>, AllocError>
 fn header(bundle: &mut Bundle, name: &str, of: TapKind) -> Result<(), AllocError>
     ensures { OnOk result (bundle.new ≡ with_header of name.now bundle.old) }
 {
-    bundle.line(name, &Rec::Header { of, v: 1 })
+    bundle.line(
+        name,
+        &Rec::Header {
+            of,
+            v: Version::One,
+        },
+    )
 }
 
 fn node_headers(bundle: &mut Bundle, nodes: &[Node]) -> Result<(), AllocError>

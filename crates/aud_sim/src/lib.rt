@@ -11,7 +11,6 @@ mod delivery;
 mod doing;
 mod entry;
 mod fault;
-mod forms;
 mod frames;
 mod guest;
 mod node;

@@ -4,7 +4,7 @@ use Rattle.aud_tap.specs.declared.records.Event.{Event}
 use Rattle.aud_tap.specs.declared.records.StreamRec.{StreamRec}
 use Rattle.aud_tap.specs.declared.records.StreamRec.TheVariants.{Ev, Other}
 use Rattle.aud_tap.specs.declared.records.NodeRec.{NodeRec}
-use Rattle.aud_tap.specs.declared.records.NodeRec.TheVariants.{Start, Take, Opened, Join, Leave, Broke, Back, Gone}
+use Rattle.aud_tap.specs.declared.records.NodeRec.TheVariants.{Start, Take, Takes, Opened, Join, Leave, Broke, Back, Gone}
 use Rattle.aud_tap.specs.declared.records.Rec.{Rec}
 use Rattle.aud_tap.specs.declared.records.Rec.TheVariants.{Header, Stream, Node, Client}
 use Rattle.aud_tap.specs.Limits.{fits, fit_rooms, max_id, max_offset, max_room, max_namespace, max_attachments, max_turn}
@@ -42,6 +42,7 @@ abbrev pub node_is_well_formed : NodeRec → Bool
 node_is_well_formed (Start None) = true
 node_is_well_formed (Start (Some off)) = is_offset off
 node_is_well_formed (Take off) = is_offset off
+node_is_well_formed (Takes off) = is_offset off
 node_is_well_formed (Opened pid sid nsp) = is_session_id pid && is_session_id sid && is_full_namespace nsp
 node_is_well_formed (Join pid room) = is_session_id pid && is_room room
 node_is_well_formed (Leave pid room) = is_session_id pid && is_room room
@@ -51,7 +52,7 @@ node_is_well_formed (Gone pid) = is_session_id pid
 
 -- any record; of a client's the types say all
 abbrev pub is_well_formed : Rec → Bool
-is_well_formed (Header of v) = v == 1
+is_well_formed (Header of v) = true
 is_well_formed (Stream r) = stream_is_well_formed r
 is_well_formed (Node r) = node_is_well_formed r
 is_well_formed (Client r) = true

@@ -13,6 +13,14 @@ pub enum TapKind {
     Client,
 }
 
+/// The version of the format that a tap is written in, as its header says: docs/FORMAT.md has what differs.
+#[derive(Clone, Copy, Debug, PartialEq, Eq, Drop)]
+pub enum Version {
+    One,
+    /// A node's tap may have the kind `takes` too.
+    Two,
+}
+
 /// An event of the stream.
 #[derive(Drop)]
 pub struct Event {
@@ -46,6 +54,8 @@ pub enum NodeRec {
     Start { off: Option<Text> },
     /// The node takes an entry and sends it to whom it is addressed.
     Take { off: Text },
+    /// The node takes every entry from the one after its last up to the one of this offset. In version 2 alone.
+    Takes { off: Text },
     /// A session of the namespace begins, in the one room named by its sid.
     Opened { pid: Text, sid: Text, nsp: Text },
     /// The session joins the room.
@@ -81,7 +91,7 @@ pub enum ClientRec {
 #[derive(Drop)]
 pub enum Rec {
     /// The first line of a tap: what it was put on, and the version of the format.
-    Header { of: TapKind, v: u64 },
+    Header { of: TapKind, v: Version },
     /// A record of the stream's tap.
     Stream(StreamRec),
     /// A record of a node's tap.

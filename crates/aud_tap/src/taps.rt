@@ -1,9 +1,9 @@
 //! The taps of a bundle.
-use crate::records::{ClientRec, NodeRec, StreamRec};
+use crate::records::{ClientRec, NodeRec, StreamRec, Version};
 use aud_base::{Listed, Paged, Text};
 
 /// The records of a stream tap, in the order in which it wrote them.
-pub type StreamRecs = Listed<StreamRec>;
+pub type StreamRecs = Paged<StreamRec>;
 
 /// The records of a node tap, in the order in which it wrote them.
 pub type NodeRecs = Paged<NodeRec>;
@@ -24,6 +24,8 @@ pub enum Records {
 pub struct Tap {
     /// Its name, which no other tap of a bundle has.
     pub name: Text,
+    /// The version that its header names.
+    pub version: Version,
     pub records: Records,
 }
 

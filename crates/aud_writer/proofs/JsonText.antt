@@ -5,7 +5,7 @@ use Rattle.serde_json.specs.Written.{has_float, items_have_float, members_have_f
 use Rattle.aud_tap.specs.declared.records.Event.{Event}
 use Rattle.aud_tap.specs.declared.records.StreamRec.TheVariants.{Ev, Other}
 use Rattle.aud_tap.specs.declared.records.NodeRec.{NodeRec}
-use Rattle.aud_tap.specs.declared.records.NodeRec.TheVariants.{Start, Take, Opened, Join, Leave, Broke, Back, Gone}
+use Rattle.aud_tap.specs.declared.records.NodeRec.TheVariants.{Start, Take, Takes, Opened, Join, Leave, Broke, Back, Gone}
 use Rattle.aud_tap.specs.declared.records.ClientRec.{ClientRec}
 use Rattle.aud_tap.specs.declared.records.ClientRec.TheVariants.{Conn, TextIn, BytesIn, Poll, TextOut, Lost}
 use Rattle.aud_tap.specs.declared.records.Rec.{Rec}
@@ -41,6 +41,7 @@ node-plain : (r : NodeRec) → IsPlain (node_data r)
 node-plain (Start None) = (omega arith, refl)
 node-plain (Start (Some off)) = (omega arith, refl)
 node-plain (Take off) = (omega arith, refl)
+node-plain (Takes off) = (omega arith, refl)
 node-plain (Opened pid sid nsp) = (omega arith, refl)
 node-plain (Join pid room) = (omega arith, refl)
 node-plain (Leave pid room) = (omega arith, refl)

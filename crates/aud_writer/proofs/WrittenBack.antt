@@ -1,7 +1,7 @@
 -- What is written for a record reads as that record.
 use Rattle.std.proofs.Common.{◌≡◌, ℕ, List, [], ◌∷◌, length, map, Option, Some, None, true, ◌&&◌, codes, nat_le, Ok, refl, ap, ◌∙◌}
 use Rattle.std.specs.Result.{result_ok}
-use Rattle.std.proofs.lemmas.Bool.{and_parts, eqb-true}
+use Rattle.std.proofs.lemmas.Bool.{and_parts}
 use Rattle.base64.proofs.EngineFacts.{decode_of-encode_of}
 use Rattle.base64.specs.Engines.{standard}
 use Rattle.base64.specs.GeneralPurpose.{IsBytes}
@@ -11,11 +11,13 @@ use Rattle.aud_tap.specs.declared.records.ClientRec.{ClientRec}
 use Rattle.aud_tap.specs.declared.records.ClientRec.TheVariants.{Conn, TextIn, BytesIn, Poll, TextOut, Lost}
 use Rattle.aud_tap.specs.declared.records.TapKind.{TapKind}
 use Rattle.aud_tap.specs.declared.records.TapKind.TheVariants as tap
+use Rattle.aud_tap.specs.declared.records.Version.{Version}
+use Rattle.aud_tap.specs.declared.records.Version.TheVariants.{One, Two}
 use Rattle.aud_tap.specs.declared.records.Event.{Event}
 use Rattle.aud_tap.specs.declared.records.StreamRec.{StreamRec}
 use Rattle.aud_tap.specs.declared.records.StreamRec.TheVariants.{Ev, Other}
 use Rattle.aud_tap.specs.declared.records.NodeRec.{NodeRec}
-use Rattle.aud_tap.specs.declared.records.NodeRec.TheVariants.{Start, Take, Opened, Join, Leave, Broke, Back, Gone}
+use Rattle.aud_tap.specs.declared.records.NodeRec.TheVariants.{Start, Take, Takes, Opened, Join, Leave, Broke, Back, Gone}
 use Rattle.aud_tap.specs.declared.records.Rec.{Rec}
 use Rattle.aud_tap.specs.declared.records.Rec.TheVariants.{Header, Stream, Node, Client}
 use Rattle.aud_tap.specs.Limits.{fits, fit_rooms, max_attachments, max_id, max_offset, max_namespace, max_turn}
@@ -31,11 +33,14 @@ use Rattle.aud_writer.specs.Written.{record_data, stream_data, header_data, even
 use Rattle.aud_writer.specs.Private.BytesBack.{DecodeBack, stream_bytes, client_bytes, blobs_of, put_unless_empty}
 
 -- a header that was written reads as that header
-pub header-back : (of : TapKind) → value_record (header_data of 1) ≡ Ok (Header of 1)
+pub header-back : (of : TapKind) (v : Version) → value_record (header_data of v) ≡ Ok (Header of v)
 unfolding value_record record_of header_of
-header-back tap.Stream = refl
-header-back tap.Node = refl
-header-back tap.Client = refl
+header-back tap.Stream One = refl
+header-back tap.Stream Two = refl
+header-back tap.Node One = refl
+header-back tap.Node Two = refl
+header-back tap.Client One = refl
+header-back tap.Client Two = refl
 
 -- a `join` or `leave` that is well formed has a pid and a room that are
 member-parts : (pid room : List ℕ) → is_session_id pid && is_room room ≡ true → (is_id pid ≡ true) × (fits max_id pid ≡ true) × (is_room room ≡ true)
@@ -51,6 +56,7 @@ unfolding value_record record_of record_in node_record_of start_of bounded_id_at
 node-back (Start None) h = refl
 node-back (Start (Some off)) h = let o = and_parts (is_id off) (fits max_offset off) h in rw (o.0, o.1) refl
 node-back (Take off) h = let o = and_parts (is_id off) (fits max_offset off) h in rw (o.0, o.1) refl
+node-back (Takes off) h = let o = and_parts (is_id off) (fits max_offset off) h in rw (o.0, o.1) refl
 node-back (Opened pid sid nsp) h =
     let ps = and_parts (is_session_id pid && is_session_id sid) (is_full_namespace nsp) h in
     let ids = and_parts (is_session_id pid) (is_session_id sid) ps.0 in
@@ -231,7 +237,7 @@ stream-back (Other off) h bytes = let o = and_parts (is_id off) (fits max_offset
 
 -- what is written for a well-formed record reads as that record
 pub record-back : (r : Rec) → is_well_formed r ≡ true → DecodeBack (blobs_of r) → value_record (record_data r) ≡ Ok r
-record-back (Header of v) h bytes = rw (eqb-true v 1 h) (header-back of)
+record-back (Header of v) h bytes = header-back of v
 record-back (Stream r) h bytes = stream-back r h bytes
 record-back (Node r) h bytes = node-back r h
 record-back (Client r) h bytes = client-back r bytes

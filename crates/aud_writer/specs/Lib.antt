@@ -2,5 +2,8 @@ pub use Rattle.aud_tap.specs.TapName
 pub use Rattle.aud_tap.specs.WellFormed
 pub use Rattle.aud_reader.specs.Steps
 pub use Rattle.aud_reader.specs.Record
+pub use Rattle.aud_reader.specs.Lines
+pub use Rattle.aud_reader.specs.OwnLines
 pub mod Written
+pub mod WrittenBundle
 pub mod Private

@@ -8,11 +8,13 @@ use Rattle.aud_reader.specs.declared.fault.InputCode.{InputCode}
 use Rattle.aud_reader.specs.declared.fault.InputCode.TheVariants.{LineTooLong}
 use Rattle.aud_tap.specs.declared.records.TapKind.{TapKind}
 use Rattle.aud_tap.specs.declared.records.TapKind.TheVariants as tap
+use Rattle.aud_tap.specs.declared.records.Version.{Version}
+use Rattle.aud_tap.specs.declared.records.Version.TheVariants.{One, Two}
 use Rattle.aud_tap.specs.declared.records.Event.{Event}
 use Rattle.aud_tap.specs.declared.records.StreamRec.{StreamRec}
 use Rattle.aud_tap.specs.declared.records.StreamRec.TheVariants.{Ev, Other}
 use Rattle.aud_tap.specs.declared.records.NodeRec.{NodeRec}
-use Rattle.aud_tap.specs.declared.records.NodeRec.TheVariants.{Start, Take, Opened, Join, Leave, Broke, Back, Gone}
+use Rattle.aud_tap.specs.declared.records.NodeRec.TheVariants.{Start, Take, Takes, Opened, Join, Leave, Broke, Back, Gone}
 use Rattle.aud_tap.specs.declared.records.ClientRec.{ClientRec}
 use Rattle.aud_tap.specs.declared.records.ClientRec.TheVariants.{Conn, TextIn, BytesIn, Poll, TextOut, Lost}
 use Rattle.aud_tap.specs.declared.records.Rec.{Rec}
@@ -44,8 +46,6 @@ list_member key (t ∷ ts) rest = member key (array (text_items (t ∷ ts))) res
 abbrev pub encoded : List ℕ → List ℕ
 encoded = encode_of standard
 
--- ---- the bytes in a record
-
 -- ---- the JSON of a record
 
 -- the word for a kind of tap
@@ -54,12 +54,17 @@ tap_word tap.Stream = codes "stream"
 tap_word tap.Node = codes "node"
 tap_word tap.Client = codes "client"
 
+-- the number of a version
+abbrev pub version_number : Version → ℕ
+version_number One = 1
+version_number Two = 2
+
 -- `{"k":"tap","of":..,"v":..}`
-abbrev pub header_data : TapKind → ℕ → Data
+abbrev pub header_data : TapKind → Version → Data
 header_data of v =
     object (text_member (codes "k") (codes "tap")
     (text_member (codes "of") (tap_word of)
-    (number_member (codes "v") v no_members)))
+    (number_member (codes "v") (version_number v) no_members)))
 
 -- `{"bin":[..],"except":[..],"k":"ev","nsp":..,"off":..,"rooms":[..],"text":..}`
 abbrev pub event_data : Event → Data
@@ -118,6 +123,7 @@ abbrev pub node_data : NodeRec → Data
 node_data (Start None) = begin_data
 node_data (Start (Some off)) = offset_data (codes "start") off
 node_data (Take off) = offset_data (codes "take") off
+node_data (Takes off) = offset_data (codes "takes") off
 node_data (Opened pid sid nsp) = open_data pid sid nsp
 node_data (Join pid room) = member_data (codes "join") pid room
 node_data (Leave pid room) = member_data (codes "leave") pid room

@@ -1,6 +1,6 @@
-//! The writer of a bundle: the line of a record.
+//! The writer of a bundle: the line of a record, and the bytes of all taps.
 //!
-//! Begin at [`line`]; the JSON of each kind of record has a module of its own.
+//! Begin at [`line`] and [`bundle`]; the JSON of each kind of record has a module of its own.
 //!
 //! Writing that node `a` takes an entry of the stream:
 //!
@@ -15,10 +15,14 @@
 //! ```
 #![tactic(auto)]
 
+mod bundle;
 mod client;
 mod fields;
+mod forms;
 mod line;
 mod node;
 mod stream;
 
+pub use bundle::write_bundle;
+pub use forms::is_well_formed;
 pub use line::write_line;

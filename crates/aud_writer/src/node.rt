@@ -45,6 +45,7 @@ pub fn node_value(alloc: Global, rec: &NodeRec) -> Result<Value, AllocError>
         NodeRec::Start { off: None } => begin_value(alloc),
         NodeRec::Start { off: Some(off) } => offset_value(alloc, "start", off.as_str()),
         NodeRec::Take { off } => offset_value(alloc, "take", off.as_str()),
+        NodeRec::Takes { off } => offset_value(alloc, "takes", off.as_str()),
         NodeRec::Opened { pid, sid, nsp } => {
             open_value(alloc, pid.as_str(), sid.as_str(), nsp.as_str())
         }

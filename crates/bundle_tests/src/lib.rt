@@ -20,3 +20,5 @@ mod refusals;
 mod taps;
 #[cfg(test)]
 mod written;
+#[cfg(test)]
+mod written_bundles;

@@ -1,7 +1,7 @@
 //! The fields of each kind of record, and keys that are unknown or stand twice.
 use crate::input::read;
 use aud_reader::ReadFault;
-use aud_tap::{Blobs, ClientRec, NodeRec, Rec, StreamRec, TapKind, Texts};
+use aud_tap::{Blobs, ClientRec, NodeRec, Rec, StreamRec, TapKind, Texts, Version};
 use std::alloc::Global;
 use std::hash::RandomState;
 use std::test::Fail;
@@ -15,6 +15,14 @@ fn word(of: TapKind) -> &'static str {
         TapKind::Stream => "stream",
         TapKind::Node => "node",
         TapKind::Client => "client",
+    }
+}
+
+/// The number of a version.
+fn number(version: Version) -> u64 {
+    match version {
+        Version::One => 1,
+        Version::Two => 2,
     }
 }
 
@@ -36,6 +44,7 @@ fn node_fields(rec: &NodeRec) -> Fields<'_> {
         NodeRec::Start { off: None } => ("Start", "none", "", "", 0),
         NodeRec::Start { off: Some(off) } => ("Start", off.as_str(), "", "", 0),
         NodeRec::Take { off } => ("Take", off.as_str(), "", "", 0),
+        NodeRec::Takes { off } => ("Takes", off.as_str(), "", "", 0),
         NodeRec::Opened { pid, sid, nsp } => (
             "Opened",
             pid.as_str(),
@@ -70,7 +79,7 @@ fn client_fields(rec: &ClientRec) -> Fields<'_> {
 
 fn fields(rec: &Rec) -> Fields<'_> {
     match rec {
-        Rec::Header { of, v } => ("Header", word(*of), "", "", *v),
+        Rec::Header { of, v } => ("Header", word(*of), "", "", number(*v)),
         Rec::Stream(rec) => stream_fields(rec),
         Rec::Node(rec) => node_fields(rec),
         Rec::Client(rec) => client_fields(rec),
@@ -133,7 +142,7 @@ fn reads_as(alloc: Global, keys: RandomState, text: &str, wanted: &Part<'_>) -> 
     is_wanted(&read, wanted)
 }
 
-static RECORDS: [(&str, Fields<'static>); 25] = [
+static RECORDS: [(&str, Fields<'static>); 29] = [
     (
         r#"t {"k":"tap","v":1,"of":"stream"}"#,
         ("Header", "stream", "", "", 1),
@@ -145,6 +154,18 @@ static RECORDS: [(&str, Fields<'static>); 25] = [
     (
         r#"t {"k":"tap","v":1,"of":"client"}"#,
         ("Header", "client", "", "", 1),
+    ),
+    (
+        r#"t {"k":"tap","of":"stream","v":2}"#,
+        ("Header", "stream", "", "", 2),
+    ),
+    (
+        r#"t {"k":"tap","of":"node","v":2}"#,
+        ("Header", "node", "", "", 2),
+    ),
+    (
+        r#"t {"k":"tap","of":"client","v":2}"#,
+        ("Header", "client", "", "", 2),
     ),
     (
         r#"t {"k":"ev","off":"1-0","nsp":"/","rooms":["r"],"text":"2[\"hi\",\"1-0\"]"}"#,
@@ -163,6 +184,10 @@ static RECORDS: [(&str, Fields<'static>); 25] = [
         ("Start", "1-0", "", "", 0),
     ),
     (r#"t {"k":"take","off":"1-0"}"#, ("Take", "1-0", "", "", 0)),
+    (
+        r#"t {"k":"takes","off":"9-0"}"#,
+        ("Takes", "9-0", "", "", 0),
+    ),
     (
         r#"t {"k":"open","pid":"P","sid":"s1","nsp":"/"}"#,
         ("Opened", "P", "s1", "/", 0),

@@ -20,7 +20,7 @@ pub fn is_refused(
     }
 }
 
-static TEXTS: [(&str, Option<InputCode>); 42] = [
+static TEXTS: [(&str, Option<InputCode>); 44] = [
     ("", Some(NoTapName)),
     (r#"{"k":"lost"}"#, Some(NoTapName)),
     (r#" {"k":"lost"}"#, Some(NoTapName)),
@@ -36,7 +36,9 @@ static TEXTS: [(&str, Option<InputCode>); 42] = [
     (r#"a {"k":null}"#, Some(Field)),
     (r#"a {"k":"tap","of":"bundle"}"#, Some(Field)),
     (r#"a {"k":"tap","of":"node","v":1.0}"#, Some(Field)),
-    (r#"a {"k":"tap","of":"bundle","v":2}"#, Some(Version)),
+    (r#"a {"k":"tap","of":"bundle","v":0}"#, Some(Version)),
+    (r#"a {"k":"tap","of":"bundle","v":3}"#, Some(Version)),
+    (r#"a {"k":"tap","of":"bundle","v":2}"#, Some(UnknownKind)),
     (r#"a {"k":"tap","of":"bundle","v":1}"#, Some(UnknownKind)),
     (r#"a {"k":"event"}"#, Some(UnknownKind)),
     (r#"a {"k":"start"}"#, Some(Field)),

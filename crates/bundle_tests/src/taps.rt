@@ -26,7 +26,7 @@ type Outcome = Result<&'static [(&'static str, usize)], ReadFault>;
 
 fn counted(tap: &Tap) -> (&str, usize) {
     let count = match &tap.records {
-        Records::Stream(entries) => entries.as_slice().len(),
+        Records::Stream(entries) => entries.len(),
         Records::Node(records) => records.len(),
         Records::Client(records) => records.as_slice().len(),
     };
@@ -127,6 +127,65 @@ fn lines_are_judged_by_those_before(rt: HostRuntime) -> Result<(), Fail> {
     let keys = RandomState::new(&rt)?;
     for (text, wanted) in &TWELFTH {
         assert!(rt; session_gives(rt.alloc(), keys, text, *wanted)?, "{text}");
+    }
+    Ok(())
+}
+
+/// Lines of the session in another form, by number, and the taps or the refusal.
+static ALTERED: [(&[(usize, &str)], Outcome); 5] = [
+    (
+        &[(7, r#"a {"k":"takes","off":"1-0"}"#)],
+        Err(ReadFault::Input(7, InputCode::UnknownKind)),
+    ),
+    (
+        &[
+            (3, r#"a {"k":"tap","v":2,"of":"node"}"#),
+            (7, r#"a {"k":"takes","off":"1-0"}"#),
+        ],
+        Ok(&[("st", 1), ("a", 4), ("c1", 3)]),
+    ),
+    (
+        &[
+            (1, r#"st {"k":"tap","v":2,"of":"stream"}"#),
+            (3, r#"a {"k":"tap","v":2,"of":"node"}"#),
+            (8, r#"c1 {"k":"tap","v":2,"of":"client"}"#),
+        ],
+        Ok(&[("st", 1), ("a", 4), ("c1", 3)]),
+    ),
+    (
+        &[
+            (8, r#"c1 {"k":"tap","v":2,"of":"client"}"#),
+            (11, r#"c1 {"k":"takes","off":"1-0"}"#),
+        ],
+        Err(ReadFault::Input(11, InputCode::UnknownKind)),
+    ),
+    (
+        &[(3, r#"a {"k":"tap","v":3,"of":"node"}"#)],
+        Err(ReadFault::Input(3, InputCode::Version)),
+    ),
+];
+
+/// The session with these lines in the place of those of their numbers, which count from 1.
+fn altered(alloc: Global, others: &[(usize, &str)]) -> Result<Vec<Line>, AllocError> {
+    let mut lines = Vec::new(alloc);
+    for (i, text) in SESSION.iter().enumerate() {
+        let mut text = *text;
+        for (number, other) in others {
+            if *number == i + 1 {
+                text = *other;
+            }
+        }
+        add(alloc, &mut lines, i as u64 + 1, text)?;
+    }
+    Ok(lines)
+}
+
+#[test]
+fn takes_is_read_in_version_2_alone(rt: HostRuntime) -> Result<(), Fail> {
+    let keys = RandomState::new(&rt)?;
+    for (others, wanted) in &ALTERED {
+        let lines = altered(rt.alloc(), others)?;
+        assert!(rt; gives(rt.alloc(), keys, &lines, *wanted));
     }
     Ok(())
 }

@@ -29,7 +29,7 @@ fn is_written(
     }
 }
 
-static LINES: [(&str, &str); 24] = [
+static LINES: [(&str, &str); 26] = [
     (
         r#"st {"k":"tap","v":1,"of":"stream"}"#,
         r#"st {"k":"tap","of":"stream","v":1}"#,
@@ -65,6 +65,14 @@ static LINES: [(&str, &str); 24] = [
     (
         r#"a {"k":"take","off":"1-0"}"#,
         r#"a {"k":"take","off":"1-0"}"#,
+    ),
+    (
+        r#"a {"v":2,"of":"node","k":"tap"}"#,
+        r#"a {"k":"tap","of":"node","v":2}"#,
+    ),
+    (
+        r#"a {"off":"2-0","k":"takes"}"#,
+        r#"a {"k":"takes","off":"2-0"}"#,
     ),
     (
         r#"a {"k":"break","pid":"P","turn":0}"#,

@@ -1,5 +1,6 @@
 //! How many taps there are of each kind.
 ghost use Rattle.std.specs.Prelude.{◌≡◌, ◌∷◌, ◌++◌, [], List, ℕ, Ok, MatchResult};
+ghost use Rattle.aud_tap.specs.declared.records.Version.{Version};
 ghost use Rattle.aud_tap.specs.declared.taps.Tap.{Tap};
 ghost use Rattle.aud_reader.specs.Steps.{Fails};
 ghost use Rattle.aud_reader.specs.Bundle.{another_tap, no_records};
@@ -38,7 +39,7 @@ impl Counts {
     /// Counts one more tap of a kind, unless there are as many as may be.
     pub fn add(&mut self, of: TapKind) -> Result<(), LineFault>
         ensures { (taps : List Tap) → Counted self.old taps
-            → MatchResult result (λ _. (another_tap of taps ≡ Ok tt) × ((name : List ℕ) → Counted self.new (taps ++ record { name = name; records = no_records of } ∷ []))) (λ e. Fails e (another_tap of taps)) }
+            → MatchResult result (λ _. (another_tap of taps ≡ Ok tt) × ((name : List ℕ) (version : Version) → Counted self.new (taps ++ record { name = name; version = version; records = no_records of } ∷ []))) (λ e. Fails e (another_tap of taps)) }
     {
         match of {
             TapKind::Stream => {

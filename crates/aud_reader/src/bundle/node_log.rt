@@ -9,11 +9,11 @@ ghost use Rattle.aud_reader.specs.Steps.{Gives};
 ghost use Rattle.aud_reader.specs.Private.Texts.{HasPids};
 
 use super::pids::add_pid_of;
-use crate::fault::{LIMIT, LineFault};
-use crate::read::node::node_record;
+use crate::fault::{LIMIT, LineFault, UNKNOWN_KIND};
+use crate::read::node::{is_in_version, node_record};
 use aud_base::TextPool;
 use aud_fields::Fields;
-use aud_tap::{NodeRec, NodeRecs, Text};
+use aud_tap::{NodeRec, NodeRecs, Text, Version};
 use std::collections::HashSet;
 use std::hash::RandomState;
 
@@ -35,9 +35,11 @@ fn admit(
     add_pid_of(pids, rec)
 }
 
-/// Adds the record of a line, of which the texts are shared with the pool, and its pid to those of all node records.
+/// Adds the record of a line in a tap of this version, of which the texts are shared with the pool, and its pid to those
+/// of all node records.
 #[tactic(auto, unfolding(crate::specs::Bundle::with_node_record))]
 pub fn add_node_record(
+    version: Version,
     pool: &mut TextPool,
     records: &mut NodeRecs,
     pids: &mut HashSet<Text, RandomState>,
@@ -45,10 +47,13 @@ pub fn add_node_record(
     d: &Fields<'_>,
 ) -> Result<(), LineFault>
     ensures records { (all : List (List ℕ)) → HasPids pids.old all
-        → Becomes result records.new (with_node_record all records.old kind.now (view d.now)) }
+        → Becomes result records.new (with_node_record version all records.old kind.now (view d.now)) }
     ensures pids { (before after : List (List ℕ)) → HasPids pids.old (before ++ filter_map pid_of records.old ++ after)
         → OnOk result (HasPids pids.new (before ++ filter_map pid_of records.new ++ after)) }
 {
+    if !is_in_version(version, kind) {
+        return Err(UNKNOWN_KIND);
+    }
     let rec = node_record(pool, kind, d)?;
     admit(records.len(), pids, &rec)?;
     records.push(rec)?;

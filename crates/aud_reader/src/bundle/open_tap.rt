@@ -13,7 +13,7 @@ use super::stream_log::StreamLog;
 use crate::fault::LineFault;
 use aud_base::TextPool;
 use aud_fields::Fields;
-use aud_tap::{NodeRecs, Records, Tap, TapKind, Text};
+use aud_tap::{NodeRecs, Records, Tap, TapKind, Text, Version};
 use std::alloc::Global;
 use std::collections::HashSet;
 use std::hash::RandomState;
@@ -39,22 +39,24 @@ impl OpenLog {
         }
     }
 
-    /// Adds the record of a line, of which the texts are shared with the pool. The pids are those of all node records.
+    /// Adds the record of a line in a tap of this version, of which the texts are shared with the pool. The pids are those
+    /// of all node records.
     fn add(
         &mut self,
+        version: Version,
         pool: &mut TextPool,
         pids: &mut HashSet<Text, RandomState>,
         kind: &str,
         d: &Fields<'_>,
     ) -> Result<(), LineFault>
         ensures records { (before after : List (List ℕ)) → HasPids pids.old (before ++ pids_in (records_so_far self.old) ++ after)
-            → Becomes result (records_so_far self.new) (with_tap_record (before ++ pids_in (records_so_far self.old) ++ after) (records_so_far self.old) kind.now (view d.now)) }
+            → Becomes result (records_so_far self.new) (with_tap_record version (before ++ pids_in (records_so_far self.old) ++ after) (records_so_far self.old) kind.now (view d.now)) }
         ensures pids { (before after : List (List ℕ)) → HasPids pids.old (before ++ pids_in (records_so_far self.old) ++ after)
             → OnOk result (HasPids pids.new (before ++ pids_in (records_so_far self.new) ++ after)) }
     {
         match self {
             OpenLog::Stream(entries) => entries.add(pool, kind, d),
-            OpenLog::Node(records) => add_node_record(pool, records, pids, kind, d),
+            OpenLog::Node(records) => add_node_record(version, pool, records, pids, kind, d),
             OpenLog::Client(records) => records.add(pool, kind, d),
         }
     }
@@ -74,6 +76,7 @@ impl OpenLog {
 #[derive(Drop)]
 pub struct OpenTap {
     name: Text,
+    version: Version,
     log: OpenLog,
 }
 
@@ -81,11 +84,18 @@ impl OpenTap {
     ghost use Rattle.aud_reader.specs.SoFar.{records_so_far, tap_so_far};
 
     /// A tap without records. Offsets are hashed with these keys.
-    pub fn new(alloc: Global, keys: RandomState, name: Text, of: TapKind) -> OpenTap
-        ensures { tap_so_far result ≡ record { name = name; records = no_records of } }
+    pub fn new(
+        alloc: Global,
+        keys: RandomState,
+        name: Text,
+        of: TapKind,
+        version: Version,
+    ) -> OpenTap
+        ensures { tap_so_far result ≡ record { name = name; version = version; records = no_records of } }
     {
         OpenTap {
             name,
+            version,
             log: OpenLog::new(alloc, keys, of),
         }
     }
@@ -99,21 +109,23 @@ impl OpenTap {
         d: &Fields<'_>,
     ) -> Result<(), LineFault>
         ensures name { self.new.name ≡ self.old.name }
+        ensures version { self.new.version ≡ self.old.version }
         ensures records { (before after : List (List ℕ)) → HasPids pids.old (before ++ pids_in (records_so_far self.old.log) ++ after)
-            → Becomes result (records_so_far self.new.log) (with_tap_record (before ++ pids_in (records_so_far self.old.log) ++ after) (records_so_far self.old.log) kind.now (view d.now)) }
+            → Becomes result (records_so_far self.new.log) (with_tap_record self.old.version (before ++ pids_in (records_so_far self.old.log) ++ after) (records_so_far self.old.log) kind.now (view d.now)) }
         ensures pids { (before after : List (List ℕ)) → HasPids pids.old (before ++ pids_in (records_so_far self.old.log) ++ after)
             → OnOk result (HasPids pids.new (before ++ pids_in (records_so_far self.new.log) ++ after)) }
     {
-        self.log.add(pool, pids, kind, d)
+        self.log.add(self.version, pool, pids, kind, d)
     }
 
     /// The tap, at the end.
     pub fn close(self) -> Tap
         ensures { result ≡ tap_so_far self }
     {
-        let OpenTap { name, log } = self;
+        let OpenTap { name, version, log } = self;
         Tap {
             name,
+            version,
             records: log.close(),
         }
     }

@@ -13,7 +13,7 @@ use crate::read::line::opened_line;
 use crate::read::record::kind_of;
 use aud_base::TextPool;
 use aud_fields::{Fields, Scratch};
-use aud_tap::{TapKind, Taps, Text};
+use aud_tap::{TapKind, Taps, Text, Version};
 use std::alloc::{AllocError, Global};
 use std::collections::{HashMap, HashSet};
 use std::hash::RandomState;
@@ -55,8 +55,8 @@ impl OpenTaps {
     }
 
     /// Puts a tap without records at the end.
-    fn push(&mut self, name: &str, of: TapKind) -> Result<(), AllocError>
-        ensures taps { OnOk result (taps_so_far self.new ≡ taps_so_far self.old ++ record { name = name.now; records = no_records of } ∷ []) }
+    fn push(&mut self, name: &str, of: TapKind, version: Version) -> Result<(), AllocError>
+        ensures taps { OnOk result (taps_so_far self.new ≡ taps_so_far self.old ++ record { name = name.now; version = version; records = no_records of } ∷ []) }
         ensures places { ((text : List ℕ) → get_by_text self.old.places text ≡ place_of (taps_so_far self.old) text) → place_of (taps_so_far self.old) name.now ≡ None
             → OnOk result ((text : List ℕ) → get_by_text self.new.places text ≡ place_of (taps_so_far self.new) text) }
         ensures others { self.new ≡ record self.old { taps = self.new.taps; places = self.new.places } }
@@ -65,7 +65,7 @@ impl OpenTaps {
         self.places.insert(key, self.taps.len())?;
         let name = Text::new(self.alloc, name)?;
         self.taps
-            .push(OpenTap::new(self.alloc, self.keys, name, of))?;
+            .push(OpenTap::new(self.alloc, self.keys, name, of, version))?;
         Ok(())
     }
 
@@ -80,9 +80,9 @@ impl OpenTaps {
         if kind != "tap" {
             return Err(NO_HEADER);
         }
-        let of = tap_header(d)?;
+        let (of, version) = tap_header(d)?;
         self.counts.add(of)?;
-        self.push(name, of)?;
+        self.push(name, of, version)?;
         Ok(())
     }
 

@@ -18,7 +18,7 @@ fn pid_of(rec: &NodeRec) -> Option<&Text>
     ensures { option_map (λ pid. pid.now) result ≡ pid_of rec.now }
 {
     match rec {
-        NodeRec::Start { .. } | NodeRec::Take { .. } => None,
+        NodeRec::Start { .. } | NodeRec::Take { .. } | NodeRec::Takes { .. } => None,
         NodeRec::Opened { pid, .. }
         | NodeRec::Join { pid, .. }
         | NodeRec::Leave { pid, .. }

@@ -1,5 +1,5 @@
 //! The entries of the stream, while they are read.
-ghost use Rattle.std.specs.Prelude.{◌≡◌, ◌<◌, ◌∷◌, ◌++◌, [], List, ℕ, length, not, vec_len, vec_capacity, OnOk, MatchResult};
+ghost use Rattle.std.specs.Prelude.{◌≡◌, ◌∷◌, ◌++◌, [], List, ℕ, length, not, MatchResult};
 ghost use Rattle.std.specs.List.{list_any};
 ghost use Rattle.aud_fields.specs.View.{view};
 ghost use Rattle.aud_reader.specs.declared.fault.InputCode.TheVariants.{OffsetTwice};
@@ -46,21 +46,18 @@ fn add_offset(offsets: &mut HashSet<Text, RandomState>, off: &Text) -> Result<()
     Ok(())
 }
 
-/// Adds the offset of an entry, unless it is there already, and makes room for the entry; unless there are too many.
+/// Adds the offset of an entry, unless it is there already, or there are too many entries.
 fn admit(
-    entries: &mut Vec<StreamRec>,
+    entries: &StreamRecs,
     offsets: &mut HashSet<Text, RandomState>,
     entry: &StreamRec,
 ) -> Result<(), LineFault>
-    ensures new { (all : List (List ℕ)) → HasTexts offsets.old all → Gives result (entry_room (length entries.old.items) all entry.now) }
+    ensures new { (all : List (List ℕ)) → HasTexts offsets.old all → Gives result (entry_room (length entries.now) all entry.now) }
     ensures kept { (all : List (List ℕ)) → HasTexts offsets.old all → MatchResult result (λ _. HasTexts offsets.new (all ++ offset_of entry.now ∷ [])) (λ _. HasTexts offsets.new all) }
-    ensures items { entries.new.items ≡ entries.old.items }
-    ensures room { OnOk result (vec_len entries.new < vec_capacity entries.new) }
 {
     if entries.len() >= MAX_ENTRIES {
         return Err(LIMIT);
     }
-    entries.reserve(1)?;
     add_offset(offsets, offset_of(entry))
 }
 
@@ -68,7 +65,8 @@ fn admit(
 #[derive(Drop)]
 pub struct StreamLog {
     alloc: Global,
-    entries: Vec<StreamRec>,
+    keys: RandomState,
+    entries: StreamRecs,
     offsets: HashSet<Text, RandomState>,
 }
 
@@ -80,9 +78,9 @@ impl Model for StreamLog {
 
     ghost Value = { List StreamRec };
 
-    ghost view = { λ s. s.entries.items };
+    ghost view = { λ s. s.entries };
 
-    ghost invariant = { λ s. HasTexts s.offsets (map offset_of s.entries.items) };
+    ghost invariant = { λ s. HasTexts s.offsets (map offset_of s.entries) };
 }
 
 impl StreamLog {
@@ -94,18 +92,26 @@ impl StreamLog {
     {
         StreamLog {
             alloc,
-            entries: Vec::new(alloc),
+            keys,
+            entries: StreamRecs::new(alloc),
             offsets: HashSet::with_hasher(alloc, keys),
         }
     }
 
-    /// Adds an entry, unless there are too many or an earlier one has its offset.
+    /// Adds an entry, unless there are too many or an earlier one has its offset. Where memory runs out, the entries may
+    /// be let go.
     fn push(&mut self, entry: StreamRec) -> Result<(), LineFault>
         ensures { Becomes result self.new (with_new_entry self.old entry) }
     {
-        admit(&mut self.entries, &mut self.offsets, &entry)?;
-        self.entries.push(entry).unwrap();
-        Ok(())
+        admit(&self.entries, &mut self.offsets, &entry)?;
+        match self.entries.push(entry) {
+            Ok(()) => Ok(()),
+            Err(_) => {
+                self.entries = StreamRecs::new(self.alloc);
+                self.offsets = HashSet::with_hasher(self.alloc, self.keys);
+                Err(LineFault::Memory)
+            }
+        }
     }
 
     /// Adds the entry of a line, of which the texts are shared with the pool.
@@ -121,6 +127,6 @@ impl StreamLog {
     pub fn close(self) -> StreamRecs
         ensures { result ≡ self }
     {
-        StreamRecs::new(self.entries)
+        self.entries
     }
 }

@@ -1,10 +1,10 @@
 //! The records of a node tap.
-ghost use Rattle.std.specs.Prelude.{◌&&◌, nat_le, IfOk, IsTrue};
+ghost use Rattle.std.specs.Prelude.{◌≡◌, ◌&&◌, nat_le, IfOk, IsTrue};
 ghost use Rattle.aud_fields.specs.View.{view};
 ghost use Rattle.aud_tap.specs.Limits.{max_turn};
 ghost use Rattle.aud_tap.specs.WellFormed.{is_session_id, is_room, node_is_well_formed};
 ghost use Rattle.aud_reader.specs.Steps.{Gives};
-ghost use Rattle.aud_reader.specs.NodeRecord.{start_of, open_of, member_of, pid_and_turn, node_record_of};
+ghost use Rattle.aud_reader.specs.NodeRecord.{start_of, open_of, member_of, pid_and_turn, is_in_version, node_record_of};
 
 use super::fields::{
     bounded_id_at, id_at, id_or_null_at, namespace_at, number_at, shared, text_at,
@@ -13,7 +13,7 @@ use crate::fault::{FIELD, LIMIT, LineFault, UNKNOWN_KIND};
 use aud_base::TextPool;
 use aud_fields::Fields;
 use aud_tap::limits::{MAX_ID, MAX_NAMESPACE, MAX_OFFSET, MAX_ROOM, fits};
-use aud_tap::{NodeRec, Text};
+use aud_tap::{NodeRec, Text, Version};
 
 #[tactic(auto, unfolding(crate::specs::NodeRecord::start_of))]
 fn start(pool: &mut TextPool, d: &Fields<'_>) -> Result<NodeRec, LineFault>
@@ -78,7 +78,17 @@ fn turn(pool: &mut TextPool, d: &Fields<'_>) -> Result<(Text, u16), LineFault>
     Ok((pool.text(pid)?, turn))
 }
 
-/// The node's record of this kind.
+/// A tap of this version may have records of this kind, if any node's tap may.
+pub fn is_in_version(version: Version, kind: &str) -> bool
+    ensures { result ≡ is_in_version version kind.now }
+{
+    match version {
+        Version::One => kind != "takes",
+        Version::Two => true,
+    }
+}
+
+/// The node's record of this kind, in either version.
 #[tactic(auto, unfolding(crate::specs::NodeRecord::node_record_of))]
 pub fn node_record(pool: &mut TextPool, kind: &str, d: &Fields<'_>) -> Result<NodeRec, LineFault>
     ensures reads { Gives result (node_record_of kind.now (view d.now)) }
@@ -87,6 +97,9 @@ pub fn node_record(pool: &mut TextPool, kind: &str, d: &Fields<'_>) -> Result<No
     match kind {
         "start" => start(pool, d),
         "take" => Ok(NodeRec::Take {
+            off: bounded_id_at(pool, MAX_OFFSET, "off", d)?,
+        }),
+        "takes" => Ok(NodeRec::Takes {
             off: bounded_id_at(pool, MAX_OFFSET, "off", d)?,
         }),
         "open" => open(pool, d),

@@ -28,7 +28,7 @@ fn is_node_kind(kind: &str) -> bool
 {
     matches!(
         kind,
-        "start" | "take" | "open" | "join" | "leave" | "break" | "back" | "gone"
+        "start" | "take" | "takes" | "open" | "join" | "leave" | "break" | "back" | "gone"
     )
 }
 
@@ -80,8 +80,8 @@ fn record(alloc: Global, pool: &mut TextPool, kind: &str, d: &Fields<'_>) -> Res
     ensures formed { IfOk result (λ rec. IsTrue (is_well_formed rec)) }
 {
     if kind == "tap" {
-        let of = tap_header(d)?;
-        return Ok(Rec::Header { of, v: 1 });
+        let (of, v) = tap_header(d)?;
+        return Ok(Rec::Header { of, v });
     }
     let of = tap_of_kind(kind).ok_or(UNKNOWN_KIND)?;
     record_in(alloc, pool, of, kind, d)

@@ -17,12 +17,12 @@ returns c =
     let at : get_or ts c.args.place t ≡ t = get_or-map tap_so_far c.args.self.now.taps.items c.args.place c.index_mut-tap.result.now ∙ ap tap_so_far (sym c.index_mut-tap.ensures.value) in
     let near = around ts c.args.place t c.requires.place at in
     let has : HasPids c.args.self.now.pids (near.before ++ pids_in t.records ++ near.after) = rw (← near.is) c.requires.keeps.pids in
-    let read : Becomes c.add.result t'.records (with_tap_record (pids_of ts) t.records c.args.kind.now (view c.args.d.now)) = rw near.is (c.add.ensures.records near.before near.after has) in
+    let read : Becomes c.add.result t'.records (with_tap_record t.version (pids_of ts) t.records c.args.kind.now (view c.args.d.now)) = rw near.is (c.add.ensures.records near.before near.after has) in
     let put = map-set tap_so_far c.args.self.now.taps.items c.args.place c.add.new.self in
     record {
-      taps = λ name place. rw put (go_on-taps ts c.args.place t t' name c.args.kind.now (view c.args.d.now) c.add.result place at (sym c.if-eq.ensures) c.add.ensures.name read);
+      taps = λ name place. rw put (go_on-taps ts c.args.place t t' name c.args.kind.now (view c.args.d.now) c.add.result place at (sym c.if-eq.ensures) c.add.ensures.name c.add.ensures.version read);
       keeps = go_on-keeps c.args.self.now _ c.args.place t t' c.args.kind.now (view c.args.d.now) c.add.result put refl refl
-          c.requires.keeps c.requires.place at c.add.ensures.name read (c.add.ensures.pids near.before near.after has);
+          c.requires.keeps c.requires.place at c.add.ensures.name c.add.ensures.version read (c.add.ensures.pids near.before near.after has);
     }
 
 pub returns-then-eq-clause-taps : goal.returns-then-eq-clause-taps

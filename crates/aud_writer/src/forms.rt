@@ -59,6 +59,7 @@ fn node_is_well_formed(rec: &NodeRec) -> bool
         NodeRec::Start { off: None } => true,
         NodeRec::Start { off: Some(off) } => is_offset(off.as_str()),
         NodeRec::Take { off } => is_offset(off.as_str()),
+        NodeRec::Takes { off } => is_offset(off.as_str()),
         NodeRec::Opened { pid, sid, nsp } => {
             is_session_id(pid.as_str())
                 && is_session_id(sid.as_str())
@@ -72,12 +73,12 @@ fn node_is_well_formed(rec: &NodeRec) -> bool
     }
 }
 
-/// Whether the record's fields have a bundle's forms and limits.
+/// Whether the record's fields have a bundle's forms and limits, as `write_line` asks for.
 pub fn is_well_formed(rec: &Rec) -> bool
     ensures { result ≡ is_well_formed rec.now }
 {
     match rec {
-        Rec::Header { v, .. } => *v == 1,
+        Rec::Header { .. } => true,
         Rec::Stream(rec) => stream_is_well_formed(rec),
         Rec::Node(rec) => node_is_well_formed(rec),
         Rec::Client(_) => true,
