@@ -1,4 +1,6 @@
 -- Where a run exists, an allowed step stays allowed until it is taken; so where the machine blocks, there is none.
+use Rattle.std.proofs.lemmas.Bool.Decides.{nat_tests}
+use Rattle.aud_node.specs.Cursors.{position_if_past}
 use Rattle.std.proofs.Common.{◌≡◌, ◌<◌, ◌≤◌, ℕ, zero, suc, true, cond, List, [], ◌∷◌, set, take, Option, Some, None, slice_get, refl, sym, ap, subst, ◌∙◌, ◌⊎◌, inl, inr, nat_eq, unwrap_or, arith, option_map, option_and_then, ◌≢◌, ◌+◌, length, is_some}
 use Rattle.std.specs.Ordering.{nat_cmp}
 use Rattle.std.specs.Cmp.Lexicographic.{slice_cmp, nat_list_cmp_total}
@@ -24,7 +26,7 @@ use Rattle.aud_merge.specs.Sessions.{SessionState, Absent, Here, Away, Ended, se
 use Rattle.aud_merge.specs.Order.{first_allowed, IsGreedy, unfinished_fronts, IsBlockedAt}
 use Rattle.aud_merge.proofs.Positions.{position-more}
 use Rattle.aud_merge.proofs.Basics.{and_then_parts, map_parts, cond_parts, slice_get-set_other, get_insert, get_insert_other}
-use Rattle.aud_merge.proofs.Steps.{Stepped, stepped, appended-grows, Named, next_position-at, RunsOn-run, moved}
+use Rattle.aud_merge.proofs.Steps.{Stepped, stepped, appended-grows, Named, next_position-at, past_position-at, RunsOn-run, moved}
 use Rattle.aud_merge.proofs.Records.{here-node, ended-after, waiting-after, begins-beyond}
 use Rattle.aud_merge.proofs.Phases.{never_again}
 
@@ -63,9 +65,13 @@ pub record Does (c : Cluster) (st st' : State) (s : Step) : Type 0 where
 taken-more : (a b : ℕ) (stream : List StreamRec) (off : Text) (cursor next : ℕ) → a ≤ b → position_if_next (position (take a stream) off) cursor ≡ Some next → position_if_next (position (take b stream) off) cursor ≡ Some next
 taken-more a b stream off cursor next h e = grind (arith, next_position-at (position (take a stream) off) cursor next e, position-more a b stream off (suc cursor) h)
 
+-- so does a `takes`
+passed-more : (a b : ℕ) (stream : List StreamRec) (off : Text) (cursor next : ℕ) → a ≤ b → position_if_past (position (take a stream) off) cursor ≡ Some next → position_if_past (position (take b stream) off) cursor ≡ Some next
+passed-more a b stream off cursor next h e = grind (arith, nat_tests, past_position-at (position (take a stream) off) cursor next e, position-more a b stream off next h)
+
 -- with more entries appended, any record that was allowed still is, and leaves the same cursor
 cursor_after-more : (a b : ℕ) (stream : List StreamRec) (i : ℕ) (rec : NodeRec) (cursor next : ℕ) → a ≤ b → allowed_cursor (take a stream) i rec cursor ≡ Some next → allowed_cursor (take b stream) i rec cursor ≡ Some next
-cursor_after-more a b stream i rec cursor next h e = grind (arith, position-more a b stream, taken-more a b stream)
+cursor_after-more a b stream i rec cursor next h e = grind (arith, position-more a b stream, taken-more a b stream, passed-more a b stream)
 
 -- what a record does to the sessions
 record Puts (l : ℕ) (rec : NodeRec) (named : Option Text) (m m' : Sessions) : Type 0 where
@@ -238,7 +244,7 @@ exchange c (s ∷ steps) st runs x st1 e = go (cases_eq x.log s.log) (λ st2 st3
         (s ∷ rest, (_, first ∙ ap Some same, ends))
 
 -- what was allowed to be taken from the start leaves the rest of a run
-goes_on : (c : Cluster) (steps : List Step) (st : State) → AreAllowed c st steps → (run : List Step) → RunsOn c st run → (rest : List Step) × RunsOn c (state_after c st steps) rest
+pub goes_on : (c : Cluster) (steps : List Step) (st : State) → AreAllowed c st steps → (run : List Step) → RunsOn c st run → (rest : List Step) × RunsOn c (state_after c st steps) rest
 goes_on c [] st allowed run runs = (run, runs)
 goes_on c (s ∷ steps) st allowed run runs = grind (arith, goes_on c steps, exchange c run st runs s)
 
@@ -264,7 +270,7 @@ stays_allowed c steps run is allowed x s st1 st2 ex es n =
     (_, allowed-after c st st1 st2 x s dx ds es n (apart c st st1 st2 x s dx ds n (stepped c st st1 x ex) (stepped c st st2 s es) later goes))
 
 -- a test says that there is something: there is
-some-is : {A : Type 0} (o : Option A) → is_some o ≡ true → (x : A) × (o ≡ Some x)
+pub some-is : {A : Type 0} (o : Option A) → is_some o ≡ true → (x : A) × (o ≡ Some x)
 some-is None e = absurd (false≢true e)
 some-is (Some x) e = (x, refl)
 
@@ -280,7 +286,7 @@ chosen c st (suc count) place step e = elim (cases_Bool (is_some (after c st (fr
 ]
 
 -- steps that are chosen so are allowed, one after the other
-greedy-allowed : (c : Cluster) (steps : List Step) (st : State) → IsGreedy c st steps → AreAllowed c st steps
+pub greedy-allowed : (c : Cluster) (steps : List Step) (st : State) → IsGreedy c st steps → AreAllowed c st steps
 greedy-allowed c [] st g = tt
 greedy-allowed c (s ∷ steps) st g =
     let (next, at) = chosen c st (length c.taps) 0 s g.0 in

@@ -1,11 +1,11 @@
 -- Where a session is among its turns, in a state of a run; and how each step leads on.
-use Rattle.std.proofs.Common.{◌≡◌, ◌<◌, ◌≤◌, ◌+◌, ℕ, suc, true, false, List, [], ◌∷◌, length, Some, slice_get, refl, sym, ap, subst, ◌∙◌, ◌⊎◌, inl, inr, nat_le, arith}
+use Rattle.std.proofs.Common.{◌≡◌, ◌<◌, ◌≤◌, ◌+◌, ℕ, suc, true, List, [], ◌∷◌, length, Some, slice_get, refl, sym, ap, subst, ◌∙◌, ◌⊎◌, inl, inr, nat_le, arith}
 use Rattle.std.proofs.lemmas.Bool.{cases_eq}
 use Rattle.std.proofs.lemmas.Option.{same_Some, slice_get_within}
 use Rattle.aud_tap.specs.declared.records.NodeRec.{NodeRec}
 use Rattle.aud_base.proofs.Lists.{between-more, between-none}
 use Rattle.aud_node.specs.Cluster.{Cluster, node_log}
-use Rattle.aud_node.specs.Cursors.{takes, cursor_at}
+use Rattle.aud_node.specs.Cursors.{later_cursor, cursor_at}
 use Rattle.aud_node.specs.Lists.{between}
 use Rattle.aud_node.specs.Stream.{Text}
 use Rattle.aud_node.specs.TurnRecords.{begins_turn}
@@ -16,11 +16,11 @@ use Rattle.aud_rooms.proofs.Turns.{end_parts, begins-same, beginning-begins, beg
 use Rattle.aud_merge.specs.ByTurns.{session_past}
 use Rattle.aud_merge.specs.Due.{cursor_of, node_cursor, is_at_least, is_reached}
 use Rattle.aud_merge.specs.declared.step.Step.{Step}
-use Rattle.aud_merge.specs.Machine.{State, session_of, taken_in, taken_of, appended}
+use Rattle.aud_merge.specs.Machine.{State, session_of, taken_in, taken_of}
 use Rattle.aud_merge.specs.Runs.{record_count}
 use Rattle.aud_merge.specs.Private.RunsOn.{RunsOn}
 use Rattle.aud_merge.specs.Sessions.{Here, Ended, session_after}
-use Rattle.aud_merge.proofs.Steps.{EntryStep, RecordStep, Stepped, stepped, Named, Quiet, moved, Synced, Synced-step, reaches-takes-after}
+use Rattle.aud_merge.proofs.Steps.{EntryStep, RecordStep, Stepped, stepped, Named, Quiet, moved, Synced, Synced-step, cursor-moves}
 use Rattle.aud_merge.proofs.Records.{IsBeyond, IsBeyond-after, beginning-allowed, here-node, beginning-here, ended-after, past-named, past-other, past-inner, past-last, ended, waiting, waiting-after, begins-beyond}
 
 -- a node's log has no more records than steps
@@ -113,7 +113,7 @@ pub record OnSlice (c : Cluster) (t : Turn) (l i at : ℕ) (rec : NodeRec) : Typ
   pub index : i ≡ at
   pub stands : slice_get (node_log c t.node) at ≡ Some rec
   pub some : at < t.to
-  pub reaches : (p : ℕ) → nat_le p (cursor_at c.stream (node_log c t.node) at) ≡ false → nat_le p (cursor_at c.stream (node_log c t.node) (suc at)) ≡ takes c.stream p rec
+  pub moves : cursor_at c.stream (node_log c t.node) (suc at) ≡ later_cursor c.stream rec (cursor_at c.stream (node_log c t.node) at)
 
 -- how the step of record i of log l moves the session
 pub data Moves (c : Cluster) (who : Who) (l i : ℕ) : Spot → Spot → Type 0 where
@@ -292,10 +292,7 @@ inside_step c who last st st' l i' k t i held later counted o s synced synced' e
           index = index;
           stands = r.at;
           some = more c who last st st' l i' k t i held later counted o r.rec r.at;
-          reaches = λ p before.
-              ap (nat_le p) (sym (synced' t.node ∙ ap (cursor_at c.stream (node_log c t.node)) here.now))
-              ∙ reaches-takes-after (appended c st) c.stream i r.rec (cursor_of st t.node) (cursor_of st' t.node) p (omega (arith, rest.begun)) r.cursor
-              (ap (nat_le p) (synced t.node ∙ ap (cursor_at c.stream (node_log c t.node)) o.taken) ∙ before);
+          moves = cursor-moves c.stream (node_log c t.node) i r.rec (omega (arith, rest.begun)) r.at;
         } in
         node_step c who last st st' l i' k t i held later counted o r.rec on here.now unstarted
         (past c st st' t.node i who.pid r.rec r.at (moved c st st' t.node i who.pid here.kind) ∙ ap (λ x. session_past t.node who.pid x r.rec) o.session)

@@ -1,12 +1,12 @@
 -- What is left of the turns, and how a record, and a move, leaves it.
 use Rattle.std.proofs.lemmas.Bool.Decides.{nat_tests}
-use Rattle.std.proofs.Common.{◌≡◌, ◌<◌, ◌≤◌, ℕ, suc, true, false, cond, List, [], ◌∷◌, Option, Some, refl, sym, ap, ◌∙◌, nat_le, arith, ◌-◌, Bool, map, None, ◌⊎◌, option_map}
+use Rattle.std.proofs.Common.{◌≡◌, ◌<◌, ◌≤◌, ℕ, suc, true, false, cond, List, ◌∷◌, Option, Some, refl, sym, ap, ◌∙◌, nat_le, arith, ◌-◌, Bool, map, None, ◌⊎◌, option_map}
 use Rattle.std.proofs.lemmas.Bool.{false≢true, leb-true, le-leb}
 use Rattle.aud_tap.specs.declared.records.StreamRec.{StreamRec}
 use Rattle.aud_tap.specs.declared.records.NodeRec.{NodeRec}
 use Rattle.aud_base.proofs.Lists.{between-more, between-none}
 use Rattle.aud_node.specs.Cluster.{Cluster, node_log}
-use Rattle.aud_node.specs.Cursors.{takes, cursor_at}
+use Rattle.aud_node.specs.Cursors.{later_cursor, cursor_at}
 use Rattle.aud_node.specs.Lists.{between}
 use Rattle.aud_node.specs.Stream.{Text}
 use Rattle.aud_node.proofs.RecordLemmas.{cursor_at-rises}
@@ -30,16 +30,16 @@ part_from c t i =
       recs = between (node_log c t.node) i t.to;
     }
 
--- the record by which a position is taken moves no room
-taken-rooms : (stream : List StreamRec) (pid : Text) (p : ℕ) (held : Rooms) (rec : NodeRec) → takes stream p rec ≡ true → rooms_after pid held rec ≡ held
-taken-rooms stream pid p held rec e = grind arith
+-- the record by which the cursor comes to reach a position moves no room
+taken-rooms : (stream : List StreamRec) (pid : Text) (p cursor : ℕ) (held : Rooms) (rec : NodeRec) → nat_le p cursor ≡ false → nat_le p (later_cursor stream rec cursor) ≡ true → rooms_after pid held rec ≡ held
+taken-rooms stream pid p cursor held rec before e = grind (arith, false≢true)
 
 -- what is left of a slice gives the rooms that the slice gives, as long as the position isn't reached
 pub rooms_for-step : (stream : List StreamRec) (pid : Text) (held : Rooms) (low next high : ℕ) (rec : NodeRec) (recs : List NodeRec) (later : List Slice) (p : ℕ)
-    → nat_le p low ≡ false → nat_le p next ≡ takes stream p rec
+    → nat_le p low ≡ false → next ≡ later_cursor stream rec low
     → rooms_for stream pid held (record { low = low; high = high; recs = rec ∷ recs } ∷ later) p
     ≡ rooms_for stream pid (rooms_after pid held rec) (record { low = next; high = high; recs = recs } ∷ later) p
-rooms_for-step stream pid held low next high rec recs later p before reaches = grind (arith, taken-rooms stream pid p held rec)
+rooms_for-step stream pid held low next high rec recs later p before moves = grind (arith, moves, taken-rooms stream pid p low held rec before)
 
 -- a slice whose low reaches the position gives its first rooms
 pub rooms_for-at_low : (stream : List StreamRec) (pid : Text) (held : Rooms) (slice : Slice) (later : List Slice) (p : ℕ)
@@ -47,8 +47,8 @@ pub rooms_for-at_low : (stream : List StreamRec) (pid : Text) (held : Rooms) (sl
 rooms_for-at_low stream pid held slice later p e h = grind (arith, le-leb p slice.high, leb-true p slice.low e)
 
 -- a record that ends a turn takes no entry
-pub last-takes : (stream : List StreamRec) (pid : Text) (k p : ℕ) (rec : NodeRec) (e : End) → part_of pid k rec ≡ Last e → takes stream p rec ≡ false
-last-takes stream pid k p rec e part = grind arith
+pub last-stays : (stream : List StreamRec) (pid : Text) (k cursor : ℕ) (rec : NodeRec) (e : End) → part_of pid k rec ≡ Last e → later_cursor stream rec cursor ≡ cursor
+last-stays stream pid k cursor rec e part = grind arith
 
 -- the record that begins a turn takes nothing and moves no room
 pub rooms_for-beginning : (stream : List StreamRec) (who : Who) (k : ℕ) (held : Rooms) (low high : ℕ) (recs : List NodeRec) (later : List Slice) (p : ℕ)
@@ -88,11 +88,11 @@ module _ (c : Cluster) (who : Who) (k : ℕ) (t : Turn) (l i at : ℕ) (held : R
   rooms-goes : rooms_for c.stream who.pid held (part_from c t at ∷ map (slice_of c) later) p ≡ rooms_for c.stream who.pid (rooms_after who.pid held rec) (part_from c t (suc at) ∷ map (slice_of c) later) p
   rooms-goes =
       ap (λ recs. rooms_for c.stream who.pid held (record { low = cursor_at c.stream (node_log c t.node) at; high = cursor_at c.stream (node_log c t.node) t.to; recs = recs } ∷ map (slice_of c) later) p) (between-more (node_log c t.node) at t.to rec on.some on.stands)
-      ∙ rooms_for-step c.stream who.pid held _ _ _ rec (between (node_log c t.node) (suc at) t.to) (map (slice_of c) later) p before (on.reaches p before)
+      ∙ rooms_for-step c.stream who.pid held _ _ _ rec (between (node_log c t.node) (suc at) t.to) (map (slice_of c) later) p before on.moves
 
   -- after a record that ends the turn, the position isn't reached in it
   past-high : (e : End) → part_of who.pid k rec ≡ Last e → suc at ≡ t.to → nat_le p (cursor_at c.stream (node_log c t.node) t.to) ≡ false
-  past-high e part is_end = ap (λ n. nat_le p (cursor_at c.stream (node_log c t.node) n)) (sym is_end) ∙ on.reaches p before ∙ last-takes c.stream who.pid k p rec e part
+  past-high e part is_end = ap (λ n. nat_le p (cursor_at c.stream (node_log c t.node) n)) (sym is_end) ∙ ap (nat_le p) (on.moves ∙ last-stays c.stream who.pid k (cursor_at c.stream (node_log c t.node) at) rec e part) ∙ before
 
   -- after a record that ends the turn, the later turns give the rooms
   rooms-ends : (e : End) → part_of who.pid k rec ≡ Last e → suc at ≡ t.to → rooms_for c.stream who.pid held (part_from c t at ∷ map (slice_of c) later) p ≡ rooms_for c.stream who.pid held (map (slice_of c) later) p

@@ -1,7 +1,7 @@
 -- What a step that is allowed does, and what one session sees of it; the cursor that a log gives.
 use Rattle.std.proofs.lemmas.Bool.Decides.{nat_tests}
-use Rattle.std.proofs.Common.{◌≡◌, ◌<◌, ◌≤◌, ℕ, suc, [], take, Some, slice_get, arith, sym, ap, subst, ◌∙◌, ◌⊎◌, inl, inr, nat_eq, ◌+◌, true, false, cond, List, ◌∷◌, length, map, Option, None, unwrap_or, filter, nat_le, set}
-use Rattle.std.proofs.lemmas.Bool.{eqb-true, cases_eq, eq-eqb, ne_eqb, leb-false, le-leb, lt-leb}
+use Rattle.std.proofs.Common.{◌≡◌, ◌<◌, ◌≤◌, ℕ, zero, suc, [], take, Some, slice_get, arith, sym, ap, subst, ◌∙◌, ◌⊎◌, inl, inr, nat_eq, ◌+◌, true, cond, List, ◌∷◌, length, map, Option, None, unwrap_or, filter, set}
+use Rattle.std.proofs.lemmas.Bool.{eqb-true, cases_eq, eq-eqb, ne_eqb}
 use Rattle.std.proofs.lemmas.Option.{same_Some, none-some, slice_get_within, slice_get-map}
 use Rattle.std.specs.Ordering.{nat_cmp}
 use Rattle.std.specs.Cmp.Lexicographic.{slice_cmp}
@@ -13,7 +13,7 @@ use Rattle.aud_tap.specs.declared.records.StreamRec.{StreamRec}
 use Rattle.aud_base.proofs.SameText.{cases_text}
 use Rattle.aud_node.specs.Cluster.{Cluster, node_log, node_recs, log_at}
 use Rattle.aud_node.specs.TurnRecords.{pid_of}
-use Rattle.aud_node.specs.Cursors.{is_position, next_cursor, cursor_past, cursor_at, takes}
+use Rattle.aud_node.specs.Cursors.{is_position, position_if_past, position_or, later_cursor, next_cursor, cursor_past, cursor_at}
 use Rattle.aud_node.specs.Stream.{Text, position}
 use Rattle.aud_merge.specs.Due.{cursor_of, cursor_in}
 use Rattle.aud_rooms.proofs.Ascending.{length-numbers}
@@ -151,10 +151,20 @@ taken-allowed : (a : ℕ) (stream : List StreamRec) (off : Text) (cursor next : 
     → cond (is_position (position stream off) (suc cursor)) (suc cursor) cursor ≡ next
 taken-allowed a stream off cursor next e = grind (arith, next_position-at (position (take a stream) off) cursor next e, is_position-at (position stream off) (suc cursor), position-take a stream off (suc cursor))
 
+-- where there is a position past the cursor, it is this one
+pub past_position-at : (o : Option ℕ) (cursor next : ℕ) → position_if_past o cursor ≡ Some next → (o ≡ Some next) × (cursor < next)
+past_position-at o cursor next e = grind (arith, nat_tests)
+
+-- the cursor after an allowed `takes` is the one that the log alone gives
+passed-allowed : (a : ℕ) (stream : List StreamRec) (off : Text) (cursor next : ℕ)
+    → position_if_past (position (take a stream) off) cursor ≡ Some next
+    → position_or (position_if_past (position stream off) cursor) cursor ≡ next
+passed-allowed a stream off cursor next e = grind (arith, nat_tests, past_position-at (position (take a stream) off) cursor next e, position-take a stream off next)
+
 -- the cursor that an allowed record leaves is the one that the log alone gives
 pub next_cursor-allowed : (a : ℕ) (stream : List StreamRec) (i : ℕ) (rec : NodeRec) (cursor next : ℕ)
     → allowed_cursor (take a stream) i rec cursor ≡ Some next → next_cursor stream i rec cursor ≡ next
-next_cursor-allowed a stream i rec cursor next e = grind (arith, taken-allowed a stream, position-take a stream)
+next_cursor-allowed a stream i rec cursor next e = grind (arith, taken-allowed a stream, passed-allowed a stream, position-take a stream)
 
 -- the state's cursors are those that the logs give
 abbrev pub Synced : Cluster → State → Type 0
@@ -182,14 +192,10 @@ Synced-step c st st' l i s synced m = go (cases_eq m l)
     go (inl e) = subst (λ (n : ℕ). cursor_of st' n ≡ cursor_at c.stream (node_log c n) (taken_of st' n)) (sym e) (by_kind s.kind ∙ ap (λ n. cursor_at c.stream (node_log c l) n) (sym s.now))
     go (inr n) = ap cursor_in (s.others m n) ∙ synced m ∙ ap (λ o. cursor_at c.stream (node_log c m) (taken_in o)) (sym (s.others m n))
 
--- a cursor that moves on by one comes to reach a position where this is the one taken
-taken-reaches : (stream : List StreamRec) (o : Option ℕ) (cursor next p : ℕ) → o ≡ Some (suc cursor) → suc cursor ≡ next → nat_le p cursor ≡ false → nat_le p next ≡ is_position o p
-taken-reaches stream o cursor next p at is before = grind (arith, leb-false p cursor before, le-leb p (suc cursor), eq-eqb (suc cursor) p, lt-leb p (suc cursor), ne_eqb (suc cursor) p)
-
--- after the first record, the cursor comes to reach a position by that position's `take` alone
-pub reaches-takes-after : (a : ℕ) (stream : List StreamRec) (i : ℕ) (rec : NodeRec) (cursor next p : ℕ)
-    → 0 < i → allowed_cursor (take a stream) i rec cursor ≡ Some next → nat_le p cursor ≡ false → nat_le p next ≡ takes stream p rec
-reaches-takes-after a stream i rec cursor next p h e before = grind (arith, next_position-at, taken-reaches stream, position-take a stream)
+-- a log's record after the first one moves the cursor there
+pub cursor-moves : (stream : List StreamRec) (log : List NodeRec) (i : ℕ) (rec : NodeRec) → 0 < i → slice_get log i ≡ Some rec → cursor_at stream log (suc i) ≡ later_cursor stream rec (cursor_at stream log i)
+cursor-moves stream log zero rec h at = absurd (omega arith)
+cursor-moves stream log (suc i) rec h at = ap (λ o. cursor_past stream (suc i) o (cursor_at stream log (suc i))) at
 
 -- the numbers of the steps of one log
 abbrev pub steps_of : ℕ → List Step → List ℕ

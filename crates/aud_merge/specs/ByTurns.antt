@@ -37,8 +37,8 @@ FallsAfter run moment None = moment ≡ None
 FallsAfter run moment (Some step) = (t : ℕ) × (slice_get run t ≡ Some step) × (moment ≡ Some (suc t))
 
 -- the rooms that the turns give a position: of the first turn whose high reaches it, those at the turn's start where
--- its low does, else those at the position's `take`. The first turn starts in the one room named by the sid, a later
--- one with the rooms at the end of the one before
+-- its low does, else those at the first of its records after which the cursor does. The first turn starts in the one
+-- room named by the sid, a later one with the rooms at the end of the one before
 abbrev pub rooms_of_turns : Cluster → Who → List Turn → ℕ → Option Rooms
 rooms_of_turns c who turns p = rooms_for c.stream who.pid (own_room who.sid) (map (slice_of c) turns) p
 

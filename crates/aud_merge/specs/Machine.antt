@@ -6,10 +6,11 @@ use Rattle.std.specs.Cmp.Lexicographic.{slice_cmp}
 use Rattle.std.specs.FinMap as fin
 use Rattle.aud_tap.specs.declared.records.StreamRec.{StreamRec}
 use Rattle.aud_tap.specs.declared.records.NodeRec.{NodeRec}
-use Rattle.aud_tap.specs.declared.records.NodeRec.TheVariants.{Start, Take}
+use Rattle.aud_tap.specs.declared.records.NodeRec.TheVariants.{Start, Take, Takes}
 use Rattle.aud_tap.specs.declared.taps.Records.{Records}
 use Rattle.aud_tap.specs.declared.taps.Records.TheVariants.{Stream, Node, Client}
 use Rattle.aud_node.specs.Stream.{Text, position}
+use Rattle.aud_node.specs.Cursors.{position_if_past}
 use Rattle.aud_node.specs.Cluster.{Cluster, stream_place, log_at}
 use Rattle.aud_node.specs.TurnRecords.{pid_of}
 use Rattle.aud_merge.specs.declared.step.Step.{Step}
@@ -59,6 +60,7 @@ allowed_cursor entries zero (Start None) cursor = Some 0
 allowed_cursor entries zero (Start (Some off)) cursor = position entries off
 allowed_cursor entries (suc number) (Start off) cursor = None
 allowed_cursor entries number (Take off) cursor = position_if_next (position entries off) cursor
+allowed_cursor entries number (Takes off) cursor = position_if_past (position entries off) cursor
 allowed_cursor entries number _ cursor = Some cursor
 
 -- the sessions that the node's record leaves, which names this pid, if any; none where it isn't allowed

@@ -34,7 +34,7 @@ pub use laws::{
     session_by_turns,
 };
 pub use machine::{allowed, apply};
-pub use run::is_run;
+pub use run::{is_run, step_count};
 pub use session::{At, OpenedSession};
 pub use state::State;
 pub use step::Step;

@@ -31,7 +31,7 @@ fn next_allowed(state: &State, logs: &Logs, place: usize, done: Progress, log: &
     ensures { result ≡ is_some (after_next logs.now state.now place done log.now) }
 {
     match log {
-        Records::Stream(recs) => done.taken < recs.as_slice().len(),
+        Records::Stream(recs) => done.taken < recs.len(),
         Records::Node(recs) => match recs.get(done.taken) {
             Some(rec) => record_allowed(state, logs, place, done, rec),
             None => false,
@@ -60,6 +60,10 @@ fn allowed_cursor(stream: &Stream, appended: usize, rec: &NodeRec, done: Progres
         NodeRec::Start { .. } => None,
         NodeRec::Take { off } => match appended_position(stream, appended, off.as_str()) {
             Some(position) if position > 0 && position - 1 == done.cursor => Some(position),
+            _ => None,
+        },
+        NodeRec::Takes { off } => match appended_position(stream, appended, off.as_str()) {
+            Some(position) if position > done.cursor => Some(position),
             _ => None,
         },
         _ => Some(done.cursor),
@@ -103,13 +107,13 @@ fn take_next<'a>(
     ensures unchanged { OnErr result (state.new ≡ state.old) }
 {
     match log {
-        Records::Stream(recs) => match recs.as_slice().get(done.taken) {
-            Some(_) => {
-                state.advance(place, done.taken + 1, done.cursor);
-                Ok(())
+        Records::Stream(recs) => {
+            if done.taken >= recs.len() {
+                unreachable!()
             }
-            None => unreachable!(),
-        },
+            state.advance(place, done.taken + 1, done.cursor);
+            Ok(())
+        }
         Records::Node(recs) => match recs.get(done.taken) {
             Some(rec) if done.taken < recs.len() => take_record(state, logs, place, done, rec),
             _ => unreachable!(),

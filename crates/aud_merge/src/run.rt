@@ -37,12 +37,12 @@ fn is_finished(state: &State, logs: &Logs) -> bool
     true
 }
 
-/// How many steps the log has.
-fn step_count(log: &Records) -> usize
+/// How many steps the log has: one for each record of the stream's or of a node's tap, none for a client's.
+pub fn step_count(log: &Records) -> usize
     ensures { result ≡ log_length (Some log.now) }
 {
     match log {
-        Records::Stream(recs) => recs.as_slice().len(),
+        Records::Stream(recs) => recs.len(),
         Records::Node(recs) => recs.len(),
         Records::Client(_) => 0,
     }

@@ -57,7 +57,7 @@ impl<'a> State<'a> {
     }
 
     /// How many records of the log at this place were taken.
-    pub(crate) fn taken(&self, place: usize) -> usize
+    pub fn taken(&self, place: usize) -> usize
         ensures { result ≡ taken_of self.now place }
     {
         match self.logs.get(place) {

@@ -3,19 +3,21 @@ use Rattle.std.specs.Prelude.{ℕ, zero, suc, Bool, true, false, List, [], ◌�
 use Rattle.std.specs.List.{list_all}
 use Rattle.aud_tap.specs.declared.records.StreamRec.{StreamRec}
 use Rattle.aud_tap.specs.declared.records.NodeRec.{NodeRec}
-use Rattle.aud_tap.specs.declared.records.NodeRec.TheVariants.{Start, Take}
+use Rattle.aud_tap.specs.declared.records.NodeRec.TheVariants.{Start, Take, Takes}
 use Rattle.aud_node.specs.Lists.{numbers_from}
 use Rattle.aud_node.specs.Stream.{position}
-use Rattle.aud_node.specs.Cursors.{is_position, cursor_at}
+use Rattle.aud_node.specs.Cursors.{is_position, position_if_past, cursor_at}
 
 -- the record with this number, after this cursor, is in order: the first one is a `start` at the stream's begin or
--- after an entry of the stream, no other one is a `start`, and each `take` is of the position after the cursor
+-- after an entry of the stream, no other one is a `start`, each `take` is of the position after the cursor, and each
+-- `takes` is of a position past the cursor
 abbrev pub is_in_order : List StreamRec → ℕ → ℕ → NodeRec → Bool
 is_in_order stream zero cursor (Start None) = true
 is_in_order stream zero cursor (Start (Some off)) = is_some (position stream off)
 is_in_order stream zero cursor _ = false
 is_in_order stream (suc number) cursor (Start off) = false
 is_in_order stream (suc number) cursor (Take off) = is_position (position stream off) (suc cursor)
+is_in_order stream (suc number) cursor (Takes off) = is_some (position_if_past (position stream off) cursor)
 is_in_order stream (suc number) cursor _ = true
 
 abbrev pub is_some_in_order : List StreamRec → ℕ → ℕ → Option NodeRec → Bool

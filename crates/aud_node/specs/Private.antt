@@ -3,6 +3,7 @@ pub mod AddresseeIndex
 pub mod NextPosition
 pub mod KnownIndex
 pub mod LogsIndex
+pub mod LentList
 pub mod NodeLogIndex
 pub mod CursorIndex
 pub mod StreamIndex

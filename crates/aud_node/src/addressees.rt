@@ -7,6 +7,7 @@ ghost use Rattle.aud_base.specs.Places.{noted, places_of};
 ghost use Rattle.aud_node.specs.Addressees.{names_no_room, names_room};
 ghost use Rattle.aud_node.specs.Private.AddresseeIndex.{HoldsAddressees, kept_to_room};
 
+use crate::rest::Rest;
 use aud_base::Places;
 use aud_tap::{StreamRec, Text};
 use std::alloc::{AllocError, Global};
@@ -28,7 +29,7 @@ impl<'a> Addressees<'a> {
     pub fn build(
         alloc: Global,
         keys: RandomState,
-        entries: &'a [StreamRec],
+        entries: &Rest<'a, StreamRec>,
         recoverable: &[bool],
     ) -> Result<Addressees<'a>, AllocError>
         requires { recoverable.now ≡ map is_recoverable entries.now }
@@ -40,8 +41,8 @@ impl<'a> Addressees<'a> {
             everyone: Places::new(alloc, keys),
             rooms: HashMap::with_hasher(alloc, keys),
         };
-        for (i, entry) in entries.iter().enumerate() {
-            addressees.note(entry, recoverable[i], i + 1)?;
+        for i in 0..entries.len() {
+            addressees.note(entries.at(i), recoverable[i], i + 1)?;
         }
         Ok(addressees)
     }

@@ -1,6 +1,6 @@
 //! The cursor of a node: the last position that it took.
 ghost use Rattle.std.specs.Prelude.{◌≡◌, IfOk, ◌&&◌, is_some, unwrap_or};
-ghost use Rattle.aud_node.specs.Cursors.{next_cursor};
+ghost use Rattle.aud_node.specs.Cursors.{next_cursor, position_if_past};
 ghost use Rattle.aud_node.specs.Ordered.{is_in_order};
 
 use crate::stream::Stream;
@@ -75,7 +75,21 @@ impl Advance {
             NodeRec::Take { off } => {
                 Advance::to(stream.next(cursor, off.as_str()), cursor, number > 0)
             }
+            NodeRec::Takes { off } => {
+                let position = if_past(stream.position(off.as_str()), cursor);
+                Advance::to(position, cursor, number > 0)
+            }
             _ => Advance::to(Some(cursor), cursor, number > 0),
         }
+    }
+}
+
+/// The position, if it is past the cursor.
+fn if_past(position: Option<u64>, cursor: u64) -> Option<u64>
+    ensures { result ≡ position_if_past position cursor }
+{
+    match position {
+        Some(position) if position > cursor => Some(position),
+        _ => None,
     }
 }

@@ -23,6 +23,7 @@ pub fn pid(rec: &NodeRec) -> Option<&str>
     match rec {
         NodeRec::Start { .. } => None,
         NodeRec::Take { .. } => None,
+        NodeRec::Takes { .. } => None,
         NodeRec::Opened { pid, .. } => Some(pid.as_str()),
         NodeRec::Join { pid, .. } => Some(pid.as_str()),
         NodeRec::Leave { pid, .. } => Some(pid.as_str()),

@@ -4,6 +4,7 @@ ghost use Rattle.aud_node.specs.Known.{is_sent_alone, is_sent_as};
 ghost use Rattle.aud_node.specs.Recoverable.{is_recoverable};
 ghost use Rattle.aud_node.specs.Stream.{Text};
 
+use crate::rest::Rest;
 use aud_tap::{Event, StreamRec};
 use std::alloc::{AllocError, Global};
 use std::collections::HashMap;
@@ -34,7 +35,7 @@ impl<'a> KnownTexts<'a> {
     pub fn build(
         alloc: Global,
         keys: RandomState,
-        entries: &'a [StreamRec],
+        entries: &Rest<'a, StreamRec>,
         recoverable: &[bool],
     ) -> Result<KnownTexts<'a>, AllocError>
         requires { recoverable.now ≡ map is_recoverable entries.now }
@@ -44,7 +45,7 @@ impl<'a> KnownTexts<'a> {
             entries: HashMap::with_capacity_and_hasher(alloc, entries.len(), keys)?,
         };
         for i in (0..entries.len()).rev() {
-            known.note(&entries[i], recoverable[i], i)?;
+            known.note(entries.at(i), recoverable[i], i)?;
         }
         Ok(known)
     }

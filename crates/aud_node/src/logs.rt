@@ -8,6 +8,7 @@ ghost use Rattle.aud_node.specs.OwnPlaces.{own_places};
 
 use crate::by_name::{nodes_by_pid, taps_by_name};
 use crate::node_log::NodeLog;
+use crate::rest::Rest;
 use crate::stream::Stream;
 use aud_base::Places;
 use aud_tap::{ClientRec, Records, StreamRec, Tap, Taps};
@@ -136,15 +137,15 @@ fn place_of_stream(taps: &[Tap]) -> Option<usize>
 }
 
 /// The entries of the first stream tap.
-fn entries_of(taps: &[Tap]) -> &[StreamRec]
-    ensures { result.now ≡ stream_of taps.now }
+fn entries_of(taps: &[Tap]) -> Rest<'_, StreamRec>
+    ensures { result ≡ stream_of taps.now }
 {
     for tap in taps {
         if let Records::Stream(recs) = &tap.records {
-            return recs.as_slice();
+            return Rest::all(recs);
         }
     }
-    &[]
+    Rest::none()
 }
 
 /// The records, if the tap is a client's.

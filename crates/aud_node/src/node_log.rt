@@ -9,6 +9,7 @@ ghost use Rattle.aud_node.specs.NodeTap.{cursor_after};
 use crate::by_name::records_by_pid;
 use crate::cursors::Cursors;
 use crate::recs::Recs;
+use crate::rest::Rest;
 use crate::stream::Stream;
 use crate::turns::Turns;
 use aud_base::Places;
@@ -21,7 +22,7 @@ use std::ops::Range;
 /// The records of a node's tap, lent, with the stream that the node takes from.
 #[derive(Drop)]
 pub struct NodeLog<'a> {
-    stream: &'a [StreamRec],
+    stream: Rest<'a, StreamRec>,
     recs: &'a NodeRecs,
     cursors: Cursors,
     own: Places,
@@ -35,7 +36,7 @@ impl<'a> Model for NodeLog<'a> {
 
     ghost use Rattle.aud_node.specs.Private.NodeLogIndex.{HoldsNodeLog};
 
-    ghost view = { λ n. record { stream = n.stream.now; recs = n.recs.now } };
+    ghost view = { λ n. record { stream = n.stream; recs = n.recs.now } };
 
     ghost invariant = { HoldsNodeLog };
 }
@@ -78,8 +79,8 @@ impl<'a> NodeLog<'a> {
         self.cursors.after.get(number).copied()
     }
 
-    /// Whether the log begins with its only `start`, at the stream's start or after one of its entries, and each
-    /// `take` is of the position after the cursor.
+    /// Whether the log begins with its only `start`, at the stream's start or after one of its entries, each `take`
+    /// is of the position after the cursor, and each `takes` is of a position past the cursor.
     pub fn ordered(&self) -> bool
         ensures { result ≡ is_ordered self.now.stream self.now.recs }
     {

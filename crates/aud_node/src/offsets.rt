@@ -5,6 +5,7 @@ ghost use Rattle.aud_node.specs.Stream.{Text};
 ghost use Rattle.aud_node.specs.Private.OffsetIndex.{kept_position, HoldsOffsets};
 
 use crate::fields::offset;
+use crate::rest::Rest;
 use aud_tap::StreamRec;
 use std::alloc::{AllocError, Global};
 use std::collections::HashMap;
@@ -23,7 +24,7 @@ impl<'a> Offsets<'a> {
     pub fn build(
         alloc: Global,
         keys: RandomState,
-        entries: &'a [StreamRec],
+        entries: &Rest<'a, StreamRec>,
     ) -> Result<Offsets<'a>, AllocError>
         ensures { IfOk result (HoldsOffsets entries.now) }
     {
@@ -32,7 +33,7 @@ impl<'a> Offsets<'a> {
             distinct: true,
         };
         for i in (0..entries.len()).rev() {
-            offsets.mark(offset(&entries[i]), i as u64 + 1)?;
+            offsets.mark(offset(entries.at(i)), i as u64 + 1)?;
         }
         Ok(offsets)
     }

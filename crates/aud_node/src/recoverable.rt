@@ -3,17 +3,18 @@ ghost use Rattle.std.specs.Prelude.{◌≡◌, IfOk, map};
 ghost use Rattle.aud_sio.specs.Packet.{packet_view};
 ghost use Rattle.aud_node.specs.Recoverable.{is_recoverable, is_packet_of, is_event};
 
+use crate::rest::Rest;
 use aud_sio::{Packet, PacketKind, SioFault, decode, last_text};
 use aud_tap::{Event, StreamRec};
 use std::alloc::{AllocError, Global};
 
 /// Of each entry, whether it is recoverable.
-pub fn recoverable_of(alloc: Global, entries: &[StreamRec]) -> Result<Vec<bool>, AllocError>
+pub fn recoverable_of(alloc: Global, entries: &Rest<'_, StreamRec>) -> Result<Vec<bool>, AllocError>
     ensures { IfOk result (λ flags. flags.items ≡ map is_recoverable entries.now) }
 {
     let mut flags = Vec::new(alloc);
-    for entry in entries {
-        flags.push(is_recoverable(alloc, entry)?)?;
+    for i in 0..entries.len() {
+        flags.push(is_recoverable(alloc, entries.at(i))?)?;
     }
     Ok(flags)
 }

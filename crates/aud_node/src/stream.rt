@@ -13,6 +13,7 @@ use crate::fields::offset;
 use crate::known::{KnownEvent, KnownTexts};
 use crate::offsets::Offsets;
 use crate::recoverable::recoverable_of;
+use crate::rest::Rest;
 use aud_tap::StreamRec;
 use std::alloc::{AllocError, Global};
 use std::hash::RandomState;
@@ -21,7 +22,7 @@ use std::marker::Model;
 /// The stream's entries, lent; seen as their list. Positions count from 1.
 #[derive(Drop)]
 pub struct Stream<'a> {
-    entries: &'a [StreamRec],
+    entries: Rest<'a, StreamRec>,
     offsets: Offsets<'a>,
     recoverable: Vec<bool>,
     addressees: Addressees<'a>,
@@ -36,7 +37,7 @@ impl<'a> Model for Stream<'a> {
 
     ghost use Rattle.aud_node.specs.Private.StreamIndex.{HoldsStream};
 
-    ghost view = { λ s. s.entries.now };
+    ghost view = { λ s. s.entries };
 
     ghost invariant = { HoldsStream };
 }
@@ -45,14 +46,14 @@ impl<'a> Stream<'a> {
     pub(crate) fn build(
         alloc: Global,
         keys: RandomState,
-        entries: &'a [StreamRec],
+        entries: Rest<'a, StreamRec>,
     ) -> Result<Stream<'a>, AllocError>
-        ensures { IfOk result (λ stream. stream ≡ entries.now) }
+        ensures { IfOk result (λ stream. stream ≡ entries.entry) }
     {
-        let offsets = Offsets::build(alloc, keys, entries)?;
-        let recoverable = recoverable_of(alloc, entries)?;
-        let addressees = Addressees::build(alloc, keys, entries, &recoverable)?;
-        let known = KnownTexts::build(alloc, keys, entries, &recoverable)?;
+        let offsets = Offsets::build(alloc, keys, &entries)?;
+        let recoverable = recoverable_of(alloc, &entries)?;
+        let addressees = Addressees::build(alloc, keys, &entries, &recoverable)?;
+        let known = KnownTexts::build(alloc, keys, &entries, &recoverable)?;
         Ok(Stream {
             entries,
             offsets,
@@ -63,10 +64,10 @@ impl<'a> Stream<'a> {
     }
 
     /// The entries, lent for as long as the taps.
-    pub fn entries(&self) -> &'a [StreamRec]
-        ensures { result.now ≡ self.now }
+    pub fn entries(&self) -> Rest<'a, StreamRec>
+        ensures { result ≡ self.now }
     {
-        self.entries
+        self.entries.after(0)
     }
 
     /// The position, from 1 on, of the entry that has the offset.

@@ -12,7 +12,7 @@ use Rattle.aud_tap.specs.declared.records.StreamRec.{StreamRec}
 use Rattle.aud_node.specs.Stream.{Text, entry, positions_after}
 use Rattle.aud_rooms.specs.Rooms.{Rooms, own_room, is_for}
 use Rattle.aud_rooms.specs.Turns.{Who, Slice}
-use Rattle.aud_rooms.specs.TurnsDue.{rooms_at_take, rooms_at_end, rooms_for, is_past_first, is_for_rooms, is_turn_due, turns_due, greatest_high}
+use Rattle.aud_rooms.specs.TurnsDue.{rooms_at_reach, rooms_at_end, rooms_for, is_past_first, is_for_rooms, is_turn_due, turns_due, greatest_high}
 use Rattle.aud_rooms.specs.Spans.{RoomSpan, IsMaximal, AreSpans, AreSpansOfTurns, first_low, rooms_by_turns, is_within, rooms_by_spans, is_due_by_spans, due_by_spans}
 use Rattle.aud_rooms.proofs.Intervals.{start_of, stop_of}
 use Rattle.aud_rooms.proofs.Sweep.{contains-rooms_by_spans}
@@ -72,7 +72,7 @@ module _ (stream : List StreamRec) (pid : Text) (p : ℕ) where
   pub rooms_for-up_to : (held : Rooms) (slices : List Slice) → 0 < p → p ≤ greatest_high slices → (rooms : Rooms) × (rooms_for stream pid held slices p ≡ Some rooms)
   rooms_for-up_to held [] some h = absurd (omega arith)
   rooms_for-up_to held (slice ∷ later) some h =
-      cond_both (nat_le p slice.high) _ _ (λ o. (rooms : Rooms) × (o ≡ Some rooms)) (λ e. (cond (nat_le p slice.low) held (rooms_at_take stream pid p held slice.recs), refl))
+      cond_both (nat_le p slice.high) _ _ (λ o. (rooms : Rooms) × (o ≡ Some rooms)) (λ e. (cond (nat_le p slice.low) held (rooms_at_reach stream pid p slice.low held slice.recs), refl))
       (λ e. let above : slice.high < p = leb-false p slice.high e in rooms_for-up_to (rooms_at_end pid held slice.recs) later some (omega arith))
 
   -- one past it has none

@@ -1,7 +1,7 @@
 -- What is told to the builder of spans gives the positions the rooms of the turns.
 use Rattle.std.proofs.lemmas.Grind.{common_steps}
 use Rattle.std.proofs.lemmas.Bool.Decides.{nat_tests}
-use Rattle.std.proofs.Common.{◌≡◌, ◌<◌, ◌≤◌, ◌+◌, ◌-◌, ℕ, zero, suc, false, cond, List, [], ◌∷◌, ◌++◌, map, filter, max, Option, Some, None, slice_get, unwrap_or, option_map, is_some, refl, sym, ap, subst, ◌∙◌, nat_le, arith, All, true≢false}
+use Rattle.std.proofs.Common.{◌≡◌, ◌<◌, ◌≤◌, ◌+◌, ◌-◌, ℕ, zero, suc, false, cond, List, [], ◌∷◌, ◌++◌, map, filter, max, Option, Some, None, slice_get, unwrap_or, option_map, refl, sym, ap, subst, ◌∙◌, nat_le, arith, All}
 use Rattle.std.specs.Option.{option_or}
 use Rattle.std.specs.FinSet as set
 use Rattle.std.proofs.lemmas.Bool.{cond_both}
@@ -10,20 +10,20 @@ use Rattle.std.proofs.lemmas.Option.{gets, slice_get_cases, slice_get_past}
 use Rattle.std.proofs.lemmas.List.Elements.{All-head, All-tail}
 use Rattle.aud_tap.specs.declared.records.NodeRec.{NodeRec}
 use Rattle.aud_node.specs.Cluster.{Cluster, node_log}
-use Rattle.aud_node.specs.Cursors.{next_cursor, cursor_past, cursor_at}
+use Rattle.aud_node.specs.Cursors.{later_cursor, cursor_at}
 use Rattle.aud_node.specs.Lists.{between, numbers_from}
 use Rattle.aud_node.specs.OwnRecords.{record_names}
 use Rattle.aud_node.specs.Stream.{Text}
 use Rattle.aud_rooms.specs.Rooms.{Rooms, rooms_after}
 use Rattle.aud_rooms.specs.Turns.{Turn, slice_of}
-use Rattle.aud_rooms.specs.TurnsDue.{rooms_at_end, rooms_at_take, rooms_for, greatest_high}
+use Rattle.aud_rooms.specs.TurnsDue.{rooms_at_end, rooms_at_reach, rooms_for, greatest_high}
 use Rattle.aud_rooms.specs.Spans.{RoomSpan, AreSpans, AreSpansOfTurns, first_low, rooms_by_turns}
 use Rattle.aud_rooms.specs.Assigned.{Assigned, starting, covered, assigned_rooms, covered_upto, AreSpansOf}
-use Rattle.aud_rooms.specs.TurnPlaces.{IsInOrder}
+use Rattle.aud_rooms.specs.TurnPlaces.{IsWithin, IsInOrder}
 use Rattle.aud_rooms.specs.Private.Walk.{at_cursor, walked_record, walked_records, walked_turn, walked_turns}
 use Rattle.aud_rooms.proofs.Intervals.{spans_alike}
 use Rattle.aud_rooms.proofs.OwnNumbers.{own_between-is}
-use Rattle.aud_rooms.proofs.Records.{other_rooms, in_order_at, takes_reached}
+use Rattle.aud_rooms.proofs.Records.{other_rooms, cursor_before, before_moves, before_rises, later_stays}
 use Rattle.aud_node.proofs.RecordLemmas.{cursor_at-rises}
 use Rattle.aud_base.proofs.Lists.{element_at, between-more, between-none}
 
@@ -39,16 +39,6 @@ upto p last rooms = cond (nat_le p last) (Some rooms) None
 or_or : (f g h : Option Rooms) → option_or (option_or f g) h ≡ option_or f (option_or g h)
 or_or f g h = grind arith
 
--- what is there in place of what isn't
-else_same : (f g h : Option Rooms) → (is_some f ≡ false → g ≡ h) → option_or f g ≡ option_or f h
-else_same None g h same = same refl
-else_same (Some rooms) g h same = refl
-
--- what is missing from a first part and a second one, up to a position, lies past that position
-past_missing : (f : Option Rooms) (p last : ℕ) (rooms : Rooms) → is_some (option_or f (upto p last rooms)) ≡ false → last < p
-past_missing None p last rooms none = grind (arith, nat_tests)
-past_missing (Some given) p last rooms none = absurd (true≢false none)
-
 module _ (a : Assigned) (q : ℕ) where
   -- so far are positions covered
   covered-upto : covered (covered_upto q a) ≡ max (covered a) q
@@ -58,32 +48,31 @@ module _ (a : Assigned) (q : ℕ) where
   given-upto : (p : ℕ) → a.low < p → given p (covered_upto q a) ≡ option_or (given p a) (upto p q a.held)
   given-upto p past = grind (arith, common_steps, nat_tests, gets, get_or-replicate, length-replicate, slice_get_past, slice_get_cases a.sets (p - suc a.low))
 
--- what a state becomes: the positions that have no rooms yet, if they lie past a first one, get the wanted rooms up to a last one
-record Told (first last : ℕ) (want : ℕ → Rooms) (held : Rooms) (a b : Assigned) : Type 0 where
+-- what a state becomes: the positions that have no rooms yet get the wanted rooms up to a last one
+record Told (last : ℕ) (want : ℕ → Rooms) (held : Rooms) (a b : Assigned) : Type 0 where
   low : b.low ≡ a.low
   covers : covered b ≡ max (covered a) last
   holds : b.held ≡ held
-  gives : (p : ℕ) → a.low < p → (is_some (given p a) ≡ false → first < p) → given p b ≡ option_or (given p a) (upto p last (want p))
+  gives : (p : ℕ) → a.low < p → given p b ≡ option_or (given p a) (upto p last (want p))
 
 -- positions are covered, the rooms held now change, and then the state becomes this
-told_after : (first next q last : ℕ) (want later : ℕ → Rooms) (now held : Rooms) (a b : Assigned) → next ≤ q → q ≤ last → Told next last later held (record (covered_upto q a) { held = now }) b
-    → ((p : ℕ) → first < p → option_or (upto p q a.held) (upto p last (later p)) ≡ upto p last (want p)) → Told first last want held a b
-told_after first next q last want later now held a b from up after step =
+told_after : (q last : ℕ) (want later : ℕ → Rooms) (now held : Rooms) (a b : Assigned) → q ≤ last → Told last later held (record (covered_upto q a) { held = now }) b
+    → ((p : ℕ) → option_or (upto p q a.held) (upto p last (later p)) ≡ upto p last (want p)) → Told last want held a b
+told_after q last want later now held a b up after step =
     let covers = after.covers in
     let begun = covered-upto a q in
     record {
       low = after.low;
       covers = omega (arith, covers, begun, up);
       holds = after.holds;
-      gives = λ p past missing.
-          let before = given-upto a q p past in
-          after.gives p past (λ none. let beyond = past_missing (given p a) p q a.held (ap is_some (sym before) ∙ none) in omega (arith, beyond, from))
-          ∙ ap (λ o. option_or o (upto p last (later p))) before
+      gives = λ p past.
+          after.gives p past
+          ∙ ap (λ o. option_or o (upto p last (later p))) (given-upto a q p past)
           ∙ or_or (given p a) (upto p q a.held) (upto p last (later p))
-          ∙ else_same (given p a) (option_or (upto p q a.held) (upto p last (later p))) (upto p last (want p)) (λ none. step p (missing none));
+          ∙ ap (option_or (given p a)) (step p);
     }
 
-module _ (c : Cluster) (pid : Text) (t : Turn) (in_order : IsInOrder c t) where
+module _ (c : Cluster) (pid : Text) (t : Turn) (is_within : IsWithin c t) where
   -- the records of the turn's node
   abbrev log : List NodeRec
   log = node_log c t.node
@@ -92,18 +81,13 @@ module _ (c : Cluster) (pid : Text) (t : Turn) (in_order : IsInOrder c t) where
   abbrev cur : ℕ → ℕ
   cur n = cursor_at c.stream log n
 
-  -- where the first record of the log leaves the cursor
-  abbrev early : ℕ → ℕ
-  early zero = cur 1
-  early (suc x) = 0
-
-  -- the rooms of a position: those held before a record, where the cursor has come to the position, else those at its `take`
+  -- the rooms of a position: those held before a record, where the cursor has come to the position, else those at the first record after which it has
   abbrev want : ℕ → Rooms → ℕ → Rooms
-  want x held p = cond (nat_le p (cur x)) held (rooms_at_take c.stream pid p held (between log x t.to))
+  want x held p = cond (nat_le p (cursor_before c.stream log x)) held (rooms_at_reach c.stream pid p (cursor_before c.stream log x) held (between log x t.to))
 
   -- what a state becomes by the records from this one on
   abbrev ToldFrom : ℕ → Assigned → Assigned → Type 0
-  ToldFrom x a b = Told (early x) (cur t.to) (want x a.held) (rooms_at_end pid a.held (between log x t.to)) a b
+  ToldFrom x a b = Told (cur t.to) (want x a.held) (rooms_at_end pid a.held (between log x t.to)) a b
 
   module _ (x : ℕ) (rec : NodeRec) (a : Assigned) (h : x < t.to) (at : slice_get log x ≡ Some rec) where
     -- the records from this one on are this one and those after it
@@ -114,20 +98,23 @@ module _ (c : Cluster) (pid : Text) (t : Turn) (in_order : IsInOrder c t) where
     rises : cur (suc x) ≤ cur t.to
     rises = cursor_at-rises c.stream log (suc x) t.to (omega arith)
 
+    -- the record moves the cursor there
+    moves : later_cursor c.stream rec (cursor_before c.stream log x) ≡ cur (suc x)
+    moves = before_moves c.stream log x rec at
+
+    -- not back
+    moves_on : cursor_before c.stream log x ≤ cur (suc x)
+    moves_on = before_rises c.stream log x
+
     -- the positions up to the cursor have the rooms held before the record, and the later ones those that are wanted after it
-    want_more : (p : ℕ) → early x < p
-        → option_or (upto p (cur (suc x)) a.held) (upto p (cur t.to) (want (suc x) (rooms_after pid a.held rec) p)) ≡ upto p (cur t.to) (want x a.held p)
-    want_more p past =
-        let next : cur (suc x) ≡ next_cursor c.stream x rec (cur x) = ap (λ o. cursor_past c.stream x o (cur x)) at in
-        let first : x ≡ 0 → cur (suc x) < p = λ e. let same : cur (suc x) ≡ early x = ap (λ n. cur (suc n)) e ∙ ap early (sym e) in omega (arith, same, past) in
-        let taken = takes_reached c.stream x rec (cur x) p (in_order_at c.stream log x rec in_order.ordered at) (λ e. rw (← next) (first e)) in
-        grind (arith, nat_tests, next, taken, records, rises, cursor_at-rises c.stream log x (suc x))
+    want_more : (p : ℕ) → option_or (upto p (cur (suc x)) a.held) (upto p (cur t.to) (want (suc x) (rooms_after pid a.held rec) p)) ≡ upto p (cur t.to) (want x a.held p)
+    want_more p = grind (arith, nat_tests, moves, moves_on, records, rises)
 
     -- one of the session's own records
     its_own : (b : Assigned) → ToldFrom (suc x) (walked_record c t.node pid x a) b → ToldFrom x a b
     its_own b next =
-        subst (λ held. Told (early x) (cur t.to) (want x a.held) held a b) (ap (rooms_at_end pid a.held) (sym records))
-        (told_after (early x) 0 (cur (suc x)) (cur t.to) (want x a.held) (want (suc x) (rooms_after pid a.held rec)) (rooms_after pid a.held rec) _ a b (omega arith) rises
+        subst (λ held. Told (cur t.to) (want x a.held) held a b) (ap (rooms_at_end pid a.held) (sym records))
+        (told_after (cur (suc x)) (cur t.to) (want x a.held) (want (suc x) (rooms_after pid a.held rec)) (rooms_after pid a.held rec) _ a b rises
         (subst (λ o. ToldFrom (suc x) (at_cursor pid (cur (suc x)) o a) b) at next) want_more)
 
     -- a record of another session, or of none
@@ -138,9 +125,7 @@ module _ (c : Cluster) (pid : Text) (t : Turn) (in_order : IsInOrder c t) where
           low = after.low;
           covers = after.covers;
           holds = after.holds ∙ ap (λ held. rooms_at_end pid held (between log (suc x) t.to)) (sym same) ∙ ap (rooms_at_end pid a.held) (sym records);
-          gives = λ p past missing.
-              after.gives p past (λ _. omega arith)
-              ∙ else_same (given p a) (upto p (cur t.to) (want (suc x) a.held p)) (upto p (cur t.to) (want x a.held p)) (λ none. grind (arith, nat_tests, same, want_more p (missing none), rises));
+          gives = λ p past. after.gives p past ∙ ap (option_or (given p a)) (grind (arith, nat_tests, same, want_more p, rises));
         }
 
   -- all records from this one on
@@ -152,10 +137,10 @@ module _ (c : Cluster) (pid : Text) (t : Turn) (in_order : IsInOrder c t) where
         low = refl;
         covers = covered-upto a (cur t.to);
         holds = sym (ap (rooms_at_end pid a.held) (between-none log x t.to (omega arith)));
-        gives = λ p past _. given-upto a (cur t.to) p past ∙ ap (option_or (given p a)) (grind (arith, last));
+        gives = λ p past. given-upto a (cur t.to) p past ∙ ap (option_or (given p a)) (grind (arith, between-none log x t.to));
       }
   all (suc count) x a e =
-      let within = in_order.is_within.within in
+      let within = is_within.within in
       let (rec, at) = element_at log x (omega (arith, e)) in
       let some : x < t.to = omega (arith, e) in
       let rest = filter (λ number. record_names (slice_get log number) pid) (numbers_from (suc x) count) in
@@ -164,17 +149,17 @@ module _ (c : Cluster) (pid : Text) (t : Turn) (in_order : IsInOrder c t) where
       (λ is. other x rec a some at _ (ap (λ o. record_names o pid) (sym at) ∙ is) (all count (suc x) a (omega (arith, e))))
 
   -- what is told of a turn gives its positions the rooms that the turn gives them
-  turn_walked : (a : Assigned) → Told 0 (slice_of c t).high (λ p. cond (nat_le p (slice_of c t).low) a.held (rooms_at_take c.stream pid p a.held (slice_of c t).recs)) (rooms_at_end pid a.held (slice_of c t).recs) a (walked_turn c pid t a)
+  turn_walked : (a : Assigned) → Told (slice_of c t).high (λ p. cond (nat_le p (slice_of c t).low) a.held (rooms_at_reach c.stream pid p (slice_of c t).low a.held (slice_of c t).recs)) (rooms_at_end pid a.held (slice_of c t).recs) a (walked_turn c pid t a)
   turn_walked a =
       let low = cur (suc t.from) in
-      let some = in_order.is_within.some in
-      let before = cursor_at-rises c.stream log t.from (suc t.from) (omega arith) in
-      let rises = cursor_at-rises c.stream log (suc t.from) t.to (omega arith) in
-      let first : early t.from ≤ low = grind (arith, before) in
-      told_after 0 (early t.from) low (cur t.to) _ (want t.from a.held) a.held _ a _ first rises
-      (subst (λ ns. ToldFrom t.from (covered_upto low a) (covered_upto (cur t.to) (walked_records c t.node pid ns (covered_upto low a)))) (sym (own_between-is log pid t.from t.to (omega arith) in_order.is_within.within))
+      let within = is_within.within in
+      let some = is_within.some in
+      let (rec, at) = element_at log t.from (omega (arith, some, within)) in
+      let stays = later_stays c.stream log t.from rec at in
+      told_after low (cur t.to) _ (want t.from a.held) a.held _ a _ (rises t.from rec a some at)
+      (subst (λ ns. ToldFrom t.from (covered_upto low a) (covered_upto (cur t.to) (walked_records c t.node pid ns (covered_upto low a)))) (sym (own_between-is log pid t.from t.to (omega arith) within))
       (all (t.to - t.from) t.from (covered_upto low a) (omega arith)))
-      (λ p past. grind (arith, nat_tests, before, rises))
+      (λ p. grind (arith, nat_tests, stays, moves t.from rec a some at, moves_on t.from rec a some at, records t.from rec a some at, rises t.from rec a some at))
 
 -- turns give the positions the rooms that the slices give them
 record AllWalked (c : Cluster) (pid : Text) (turns : List Turn) (a b : Assigned) : Type 0 where
@@ -186,7 +171,7 @@ record AllWalked (c : Cluster) (pid : Text) (turns : List Turn) (a b : Assigned)
 turns_walked : (c : Cluster) (pid : Text) (turns : List Turn) → All (IsInOrder c) turns → (a : Assigned) → AllWalked c pid turns a (walked_turns c pid turns a)
 turns_walked c pid [] in_order a = record { low = refl; covers = omega arith; gives = λ p past. grind arith }
 turns_walked c pid (t ∷ turns) in_order a =
-    let one = turn_walked c pid t (All-head (IsInOrder c) t turns in_order) a in
+    let one = turn_walked c pid t (All-head (IsInOrder c) t turns in_order).is_within a in
     let rest = turns_walked c pid turns (All-tail (IsInOrder c) t turns in_order) (walked_turn c pid t a) in
     let high = one.covers in
     let all = rest.covers in
@@ -194,7 +179,7 @@ turns_walked c pid (t ∷ turns) in_order a =
     record {
       low = rest.low ∙ one.low;
       covers = omega (arith, high, all);
-      gives = λ p past. grind (arith, rest.gives p (omega (arith, low, past)), one.holds, one.gives p past (λ _. omega (arith, past)), or_or (given p a));
+      gives = λ p past. grind (arith, rest.gives p (omega (arith, low, past)), one.holds, one.gives p past, or_or (given p a));
     }
 
 -- the first low is no greater than the greatest high

@@ -4,7 +4,7 @@ use Rattle.std.specs.List.{filter}
 use Rattle.aud_tap.specs.declared.records.StreamRec.{StreamRec}
 use Rattle.aud_tap.specs.declared.records.NodeRec.{NodeRec}
 use Rattle.aud_node.specs.Stream.{Text, entry, positions_after}
-use Rattle.aud_node.specs.Cursors.{takes}
+use Rattle.aud_node.specs.Cursors.{later_cursor}
 use Rattle.aud_rooms.specs.Rooms.{Rooms, own_room, rooms_after, is_for}
 use Rattle.aud_rooms.specs.Turns.{Who, Slice}
 
@@ -13,19 +13,22 @@ abbrev pub rooms_at_end : Text → Rooms → List NodeRec → Rooms
 rooms_at_end pid held [] = held
 rooms_at_end pid held (rec ∷ recs) = rooms_at_end pid (rooms_after pid held rec) recs
 
--- the rooms at the `take` of position p
-abbrev pub rooms_at_take : List StreamRec → Text → ℕ → Rooms → List NodeRec → Rooms
-rooms_at_take stream pid p held [] = held
-rooms_at_take stream pid p held (rec ∷ recs) =
-    if takes stream p rec then held else rooms_at_take stream pid p (rooms_after pid held rec) recs
+-- the rooms at the first of the records after which the cursor reaches position p; before them it stands at this one
+abbrev pub rooms_at_reach : List StreamRec → Text → ℕ → ℕ → Rooms → List NodeRec → Rooms
+rooms_at_reach stream pid p cursor held [] = held
+rooms_at_reach stream pid p cursor held (rec ∷ recs) =
+    if nat_le p (later_cursor stream rec cursor)
+    then held
+    else rooms_at_reach stream pid p (later_cursor stream rec cursor) (rooms_after pid held rec) recs
 
 -- a position belongs to the first slice whose high reaches it. Its rooms are those at that slice's start where low
--- reaches it, else those at its `take`. A slice starts with the rooms at the end of the one before
+-- reaches it, else those at the first of its records after which the cursor does; low is the cursor after the slice's
+-- first record, so that record moves it no further. A slice starts with the rooms at the end of the one before
 abbrev pub rooms_for : List StreamRec → Text → Rooms → List Slice → ℕ → Option Rooms
 rooms_for stream pid held [] p = None
 rooms_for stream pid held (slice ∷ later) p =
     if nat_le p slice.high
-    then Some (if nat_le p slice.low then held else rooms_at_take stream pid p held slice.recs)
+    then Some (if nat_le p slice.low then held else rooms_at_reach stream pid p slice.low held slice.recs)
     else rooms_for stream pid (rooms_at_end pid held slice.recs) later p
 
 -- the position is past the first slice's low

@@ -1,5 +1,6 @@
 -- A cluster of two nodes in which a session is recovered, and a run of it: examples/bundle_b.jsonl.
 use Rattle.std.specs.Prelude.{ℕ, List, [], ◌∷◌, None, codes}
+use Rattle.aud_tap.specs.declared.records.Version.TheVariants.{One}
 use Rattle.aud_tap.specs.declared.records.StreamRec.{StreamRec}
 use Rattle.aud_tap.specs.declared.records.StreamRec.TheVariants.{Ev}
 use Rattle.aud_tap.specs.declared.records.NodeRec.{NodeRec}
@@ -50,9 +51,9 @@ client =
 abbrev pub received_positions : List ℕ
 received_positions = 1 ∷ 2 ∷ []
 
--- a tap by its name and its records
+-- a tap of version 1, by its name and its records
 abbrev pub tap : Text → Records → Tap
-tap name records = record { name = name; records = records }
+tap name records = record { name = name; version = One; records = records }
 
 -- the stream, the two nodes, and the client, in the order of their places
 abbrev pub logs : Cluster

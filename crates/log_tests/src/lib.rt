@@ -11,6 +11,8 @@ mod due;
 #[cfg(test)]
 mod node_logs;
 #[cfg(test)]
+mod orders;
+#[cfg(test)]
 mod pages;
 #[cfg(test)]
 mod question;

@@ -6,7 +6,8 @@ use std::alloc::Global;
 use std::ops::Range;
 use std::test::Fail;
 
-/// The session `P` goes from `a` to `b` and back, twice. Node `c` takes an entry before an earlier one.
+/// The session `P` goes from `a` to `b` and back, twice. Node `c` takes an entry before an earlier one. The taps of the
+/// nodes `v`, `w` and `x` are of version 2: `v` takes all entries, `w` up to where its cursor stands, and `x` back.
 const LOGS: &str = r#"
 st {"k":"tap","v":1,"of":"stream"}
 st {"k":"ev","off":"1-0","nsp":"/","text":"2[\"hi\",\"1-0\"]"}
@@ -43,6 +44,20 @@ d {"k":"start","off":null}
 d {"k":"gone","pid":"P"}
 d {"k":"gone","pid":"Q"}
 d {"k":"gone","pid":"P"}
+v {"k":"tap","v":2,"of":"node"}
+v {"k":"start","off":null}
+v {"k":"takes","off":"2-0"}
+v {"k":"take","off":"3-0"}
+v {"k":"takes","off":"4-0"}
+w {"k":"tap","v":2,"of":"node"}
+w {"k":"start","off":"1-0"}
+w {"k":"takes","off":"3-0"}
+w {"k":"takes","off":"3-0"}
+x {"k":"tap","v":2,"of":"node"}
+x {"k":"start","off":null}
+x {"k":"takes","off":"3-0"}
+x {"k":"takes","off":"2-0"}
+x {"k":"takes","off":"4-0"}
 "#;
 
 /// The cursors after the records, whether these are in order, and the numbers of those of the session `P`.
@@ -127,7 +142,7 @@ impl Question for Asked {
 }
 
 /// A node is of a session that one of its records names, whichever that is, and stands in the order of the taps.
-static ANSWERS: [(Asked, &str); 10] = [
+static ANSWERS: [(Asked, &str); 13] = [
     (Asked::Place("a"), "Some(1)"),
     (Asked::Place("d"), "Some(4)"),
     (Asked::Place("e"), "None"),
@@ -136,6 +151,9 @@ static ANSWERS: [(Asked, &str); 10] = [
         "0 0 0 1 1 2 3 3 3 4 in order true, own [1, 2, 4, 7, 8]",
     ),
     (Asked::Log("c"), "0 0 0 1 in order false, own []"),
+    (Asked::Log("v"), "0 2 3 4 in order true, own []"),
+    (Asked::Log("w"), "1 3 3 in order false, own []"),
+    (Asked::Log("x"), "0 3 3 4 in order false, own []"),
     (Asked::Turn("a", 2), "7..9 back 2 break 2"),
     (Asked::Turn("b", 2), "none"),
     (Asked::Nodes("P"), "[1, 2, 4]"),

@@ -1,6 +1,6 @@
-//! A node's log that is longer than two pages of records.
+//! A stream and a node's log, each longer than two pages of records.
 use aud_node::Logs;
-use aud_tap::{NodeRec, NodeRecs, Records, StreamRec, StreamRecs, Tap, Taps, Text};
+use aud_tap::{NodeRec, NodeRecs, Records, StreamRec, StreamRecs, Tap, Taps, Text, Version};
 use std::alloc::Global;
 use std::hash::RandomState;
 use std::test::Fail;
@@ -15,7 +15,7 @@ fn offset(alloc: Global, position: usize) -> Result<Text, Fail> {
 
 /// The stream, and a node that takes all of it: its record with a number takes the entry at that position.
 fn long_taps(alloc: Global) -> Result<Taps, Fail> {
-    let mut entries = Vec::new(alloc);
+    let mut entries = StreamRecs::new(alloc);
     let mut records = NodeRecs::new(alloc);
     records.push(NodeRec::Start { off: None })?;
     for position in 1..=ENTRIES {
@@ -29,10 +29,12 @@ fn long_taps(alloc: Global) -> Result<Taps, Fail> {
     let mut taps = Vec::new(alloc);
     taps.push(Tap {
         name: Text::new(alloc, "st")?,
-        records: Records::Stream(StreamRecs::new(entries)),
+        version: Version::One,
+        records: Records::Stream(entries),
     })?;
     taps.push(Tap {
         name: Text::new(alloc, "a")?,
+        version: Version::One,
         records: Records::Node(records),
     })?;
     Ok(Taps::new(taps))
@@ -68,5 +70,27 @@ fn records_run_over_the_ends_of_pages(rt: HostRuntime) -> Result<(), Fail> {
     assert_eq!(rt; last.len(), 810);
     assert_eq!(rt; taken(last.get(1)), "8192-0");
     assert_eq!(rt; taken(last.get(809)), "9000-0");
+    Ok(())
+}
+
+#[test]
+fn entries_run_over_the_ends_of_pages(rt: HostRuntime) -> Result<(), Fail> {
+    let keys = RandomState::new(&rt)?;
+    let taps = long_taps(rt.alloc())?;
+    let logs = Logs::build(rt.alloc(), keys, &taps)?;
+    let stream = logs.stream();
+    assert_eq!(rt; stream.entries().len(), 9_000);
+    for (number, off) in ["4096-0", "4097-0", "8192-0", "8193-0", "9000-0"]
+        .iter()
+        .enumerate()
+    {
+        let position = [4_096_u64, 4_097, 8_192, 8_193, 9_000][number];
+        assert_eq!(rt; stream.position(off), Some(position));
+        assert_eq!(rt;
+            stream.entry(position).map(|entry| aud_node::offset(entry)),
+            Some(*off)
+        );
+    }
+    assert!(rt; stream.entry(9_001).is_none());
     Ok(())
 }

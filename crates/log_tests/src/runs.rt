@@ -1,4 +1,5 @@
-//! Runs of a cluster with one entry, and a node on which the session `P` is opened and takes it.
+//! Runs of a cluster with one entry, and a node on which the session `P` is opened and takes it; and runs of nodes that
+//! take many entries by one record.
 use crate::question::{Question, assert_answers};
 use aud_merge::{State, Step, allowed, apply, is_run};
 use aud_node::Logs;
@@ -16,6 +17,34 @@ a {"k":"take","off":"1-0"}
 c1 {"k":"tap","v":1,"of":"client"}
 "#;
 
+/// Node `a` takes two entries by one record and then one by another, node `b` two by one record after its start.
+const MANY: &str = r#"
+st {"k":"tap","v":2,"of":"stream"}
+st {"k":"ev","off":"1-0","nsp":"/","text":"2[\"hi\",\"1-0\"]"}
+st {"k":"ev","off":"2-0","nsp":"/","text":"2[\"hi\",\"2-0\"]"}
+st {"k":"ev","off":"3-0","nsp":"/","text":"2[\"hi\",\"3-0\"]"}
+a {"k":"tap","v":2,"of":"node"}
+a {"k":"start","off":null}
+a {"k":"takes","off":"2-0"}
+a {"k":"takes","off":"3-0"}
+b {"k":"tap","v":2,"of":"node"}
+b {"k":"start","off":"1-0"}
+b {"k":"takes","off":"3-0"}
+"#;
+
+/// Node `a` takes up to where its cursor stands, node `b` up to an entry before it.
+const NOT_PAST: &str = r#"
+st {"k":"tap","v":2,"of":"stream"}
+st {"k":"ev","off":"1-0","nsp":"/","text":"2[\"hi\",\"1-0\"]"}
+st {"k":"ev","off":"2-0","nsp":"/","text":"2[\"hi\",\"2-0\"]"}
+a {"k":"tap","v":2,"of":"node"}
+a {"k":"start","off":"2-0"}
+a {"k":"takes","off":"2-0"}
+b {"k":"tap","v":2,"of":"node"}
+b {"k":"start","off":"2-0"}
+b {"k":"takes","off":"1-0"}
+"#;
+
 /// The entry is appended.
 const ENTRY: Step = Step { log: 0, index: 0 };
 
@@ -27,6 +56,22 @@ const OPEN: Step = Step { log: 1, index: 1 };
 const JOIN: Step = Step { log: 1, index: 2 };
 
 const TAKE: Step = Step { log: 1, index: 3 };
+
+/// The records of the second tap and of the third.
+const FIRST_OF_A: Step = Step { log: 1, index: 0 };
+
+const SECOND_OF_A: Step = Step { log: 1, index: 1 };
+
+const THIRD_OF_A: Step = Step { log: 1, index: 2 };
+
+const FIRST_OF_B: Step = Step { log: 2, index: 0 };
+
+const SECOND_OF_B: Step = Step { log: 2, index: 1 };
+
+/// The second and the third entry.
+const SECOND_ENTRY: Step = Step { log: 0, index: 1 };
+
+const THIRD_ENTRY: Step = Step { log: 0, index: 2 };
 
 fn take<'a>(state: &mut State<'a>, logs: &Logs<'a>, step: &Step) -> Result<(), Fail> {
     if !allowed(state, logs, step) {
@@ -47,6 +92,20 @@ fn session_told(alloc: Global, state: &State<'_>) -> Result<String, Fail> {
     )?)
 }
 
+/// Whether the step is allowed after the others.
+fn allowed_after(
+    alloc: Global,
+    logs: &Logs<'_>,
+    steps: &[Step],
+    step: &Step,
+) -> Result<bool, Fail> {
+    let mut state = State::new(alloc, logs)?;
+    for step in steps {
+        take(&mut state, logs, step)?;
+    }
+    Ok(allowed(&state, logs, step))
+}
+
 fn session_after(alloc: Global, logs: &Logs<'_>, steps: &[Step]) -> Result<String, Fail> {
     let mut state = State::new(alloc, logs)?;
     for step in steps {
@@ -62,6 +121,8 @@ enum Asked {
     Run(&'static [Step]),
     /// Whether a step is allowed first.
     First(Step),
+    /// Whether a step is allowed after these.
+    After(&'static [Step], Step),
     /// The session `P` after these steps.
     Session(&'static [Step]),
 }
@@ -71,6 +132,7 @@ impl Question for Asked {
         let answer = match self {
             Asked::Run(steps) => is_run(alloc, logs, steps)?,
             Asked::First(step) => allowed(&State::new(alloc, logs)?, logs, step),
+            Asked::After(steps, step) => allowed_after(alloc, logs, steps, step)?,
             Asked::Session(steps) => return session_after(alloc, logs, steps),
         };
         Ok(format!(in alloc; "{answer}")?)
@@ -94,4 +156,72 @@ static ANSWERS: [(Asked, &str); 8] = [
 #[test]
 fn runs_of_the_cluster(rt: HostRuntime) -> Result<(), Fail> {
     assert_answers(&rt, rt.alloc(), CLUSTER, &ANSWERS)
+}
+
+/// All entries up to the offset are appended before a node takes them.
+static ANSWERS_ON_MANY: [(Asked, &str); 7] = [
+    (
+        Asked::Run(&[
+            ENTRY,
+            SECOND_ENTRY,
+            FIRST_OF_A,
+            SECOND_OF_A,
+            THIRD_ENTRY,
+            FIRST_OF_B,
+            SECOND_OF_B,
+            THIRD_OF_A,
+        ]),
+        "true",
+    ),
+    (
+        Asked::Run(&[
+            ENTRY,
+            SECOND_ENTRY,
+            FIRST_OF_A,
+            SECOND_OF_A,
+            THIRD_OF_A,
+            FIRST_OF_B,
+            THIRD_ENTRY,
+            SECOND_OF_B,
+        ]),
+        "false",
+    ),
+    (Asked::After(&[ENTRY, FIRST_OF_A], SECOND_OF_A), "false"),
+    (
+        Asked::After(&[ENTRY, SECOND_ENTRY, FIRST_OF_A], SECOND_OF_A),
+        "true",
+    ),
+    (
+        Asked::After(&[ENTRY, SECOND_ENTRY, FIRST_OF_A, SECOND_OF_A], THIRD_OF_A),
+        "false",
+    ),
+    (
+        Asked::After(&[ENTRY, SECOND_ENTRY, FIRST_OF_B], SECOND_OF_B),
+        "false",
+    ),
+    (
+        Asked::After(&[ENTRY, SECOND_ENTRY, THIRD_ENTRY, FIRST_OF_B], SECOND_OF_B),
+        "true",
+    ),
+];
+
+#[test]
+fn runs_of_nodes_that_take_many_entries(rt: HostRuntime) -> Result<(), Fail> {
+    assert_answers(&rt, rt.alloc(), MANY, &ANSWERS_ON_MANY)
+}
+
+static ANSWERS_ON_NOT_PAST: [(Asked, &str); 2] = [
+    (
+        Asked::After(&[ENTRY, SECOND_ENTRY, FIRST_OF_A], SECOND_OF_A),
+        "false",
+    ),
+    (
+        Asked::After(&[ENTRY, SECOND_ENTRY, FIRST_OF_B], SECOND_OF_B),
+        "false",
+    ),
+];
+
+#[test]
+fn no_node_takes_back_or_on_the_spot(rt: HostRuntime) -> Result<(), Fail> {
+    assert_answers(&rt, rt.alloc(), NOT_PAST, &ANSWERS_ON_NOT_PAST)
 }

@@ -1,4 +1,5 @@
-//! A session that is opened on node `a` and recovered on node `b`, and joins and leaves rooms on both.
+//! A session that is opened on node `a` and recovered on node `b`, and joins and leaves rooms on both; and one whose node
+//! takes many entries by one record.
 ghost use Rattle.std.specs.Prelude.{IfOk};
 ghost use Rattle.aud_rooms.specs.TurnPlaces.{IsInOrder};
 
@@ -47,6 +48,26 @@ b {"k":"take","off":"6-0"}
 b {"k":"break","pid":"P","turn":1}
 "#;
 
+/// `P` holds `r` as the node takes 1 and 2, and `q` as it takes the others.
+const MANY_AT_ONCE: &str = r#"
+st {"k":"tap","v":1,"of":"stream"}
+st {"k":"other","off":"1-0"}
+st {"k":"other","off":"2-0"}
+st {"k":"other","off":"3-0"}
+st {"k":"other","off":"4-0"}
+st {"k":"other","off":"5-0"}
+a {"k":"tap","v":2,"of":"node"}
+a {"k":"start","off":null}
+a {"k":"open","pid":"P","sid":"s1","nsp":"/"}
+a {"k":"join","pid":"P","room":"r"}
+a {"k":"takes","off":"2-0"}
+a {"k":"leave","pid":"P","room":"r"}
+a {"k":"join","pid":"P","room":"q"}
+a {"k":"take","off":"3-0"}
+a {"k":"takes","off":"5-0"}
+a {"k":"leave","pid":"P","room":"q"}
+"#;
+
 /// A turn of `P` on the node with this name, which took the stream in order.
 fn turn(logs: &Logs<'_>, name: &str, number: u16) -> Result<TurnPlace, Fail>
     ensures { IfOk result (λ turn. IsInOrder logs.now turn) }
@@ -88,6 +109,13 @@ fn turn_told(
     )?)
 }
 
+/// The spans of the first turn.
+fn first_told(alloc: Global, logs: &Logs<'_>) -> Result<String, Fail> {
+    let turns = [turn(logs, "a", 0)?];
+    let spans = spans_of_turns(alloc, logs, "P", "s1", &turns)?;
+    spans_told(alloc, &spans)
+}
+
 /// The spans of both turns.
 fn both_told(alloc: Global, logs: &Logs<'_>) -> Result<String, Fail> {
     let turns = [turn(logs, "a", 0)?, turn(logs, "b", 1)?];
@@ -100,6 +128,8 @@ fn both_told(alloc: Global, logs: &Logs<'_>) -> Result<String, Fail> {
 enum Asked {
     /// The turn on a node with a number, and the records of a pid in it.
     Turn(&'static str, u16, &'static str),
+    /// The spans of the first turn alone.
+    FirstSpans,
     Spans,
 }
 
@@ -107,6 +137,7 @@ impl Question for Asked {
     fn answer(&self, alloc: Global, logs: &Logs<'_>) -> Result<String, Fail> {
         match self {
             Asked::Turn(name, number, pid) => turn_told(alloc, logs, name, *number, pid),
+            Asked::FirstSpans => first_told(alloc, logs),
             Asked::Spans => both_told(alloc, logs),
         }
     }
@@ -123,4 +154,14 @@ static ANSWERS: [(Asked, &str); 4] = [
 #[test]
 fn turns_and_their_spans(rt: HostRuntime) -> Result<(), Fail> {
     assert_answers(&rt, rt.alloc(), TWO_TURNS, &ANSWERS)
+}
+
+static ANSWERS_AT_ONCE: [(Asked, &str); 2] = [
+    (Asked::Turn("a", 0, "P"), "1 1..9 0 5 [1, 2, 4, 5, 8]"),
+    (Asked::FirstSpans, "q 3..5 r 1..2 s1 1..5 "),
+];
+
+#[test]
+fn spans_where_many_are_taken_at_once(rt: HostRuntime) -> Result<(), Fail> {
+    assert_answers(&rt, rt.alloc(), MANY_AT_ONCE, &ANSWERS_AT_ONCE)
 }

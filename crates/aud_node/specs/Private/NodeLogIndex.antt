@@ -9,6 +9,6 @@ use Rattle.aud_node.specs.declared.node_log.NodeLog.TheInside.{Inside}
 
 -- the cursors, the numbers and the turns are those of the records
 pub record HoldsNodeLog (n : Inside) : Type 0 where
-  pub cursors_are : HoldsCursors n.stream.now n.recs.now n.cursors
+  pub cursors_are : HoldsCursors n.stream n.recs.now n.cursors
   pub own_are : (pid : Text) → places_of n.own pid ≡ own_numbers n.recs.now pid
   pub turns_are : HoldsTurns n.recs.now n.turns

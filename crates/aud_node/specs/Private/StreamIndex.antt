@@ -8,7 +8,7 @@ use Rattle.aud_node.specs.declared.stream.Stream.TheInside.{Inside}
 
 -- the positions, the flags, the addressees and the known texts are those of the entries
 pub record HoldsStream (s : Inside) : Type 0 where
-  pub offsets_are : HoldsOffsets s.entries.now s.offsets
-  pub flags_are : s.recoverable.items ≡ map is_recoverable s.entries.now
-  pub addressees_are : HoldsAddressees s.entries.now s.addressees
-  pub known_are : HoldsKnown s.entries.now s.known
+  pub offsets_are : HoldsOffsets s.entries s.offsets
+  pub flags_are : s.recoverable.items ≡ map is_recoverable s.entries
+  pub addressees_are : HoldsAddressees s.entries s.addressees
+  pub known_are : HoldsKnown s.entries s.known

@@ -2,5 +2,5 @@ use Rattle.std.proofs.Common.{◌≡◌, map, take}
 use Rattle.aud_node.specs.Recoverable.{is_recoverable}
 use Rattle.aud_node.proofs.recoverable.recoverable_of.Given as goal
 
-abbrev pub invariant-loop-entry : goal.invariant-loop-entry
-invariant-loop-entry l = l.flags.items ≡ map is_recoverable (take l.entry-index l.entries)
+abbrev pub invariant-loop-i : goal.invariant-loop-i
+invariant-loop-i l = l.flags.items ≡ map is_recoverable (take l.i l.entries)

@@ -1,5 +1,4 @@
-use Rattle.std.proofs.Common.{◌≡◌, length, slice_get, refl, arith, Some}
-use Rattle.std.proofs.lemmas.Option.{slice_get_read}
+use Rattle.std.proofs.Common.{◌≡◌, slice_get, refl, Some}
 use Rattle.aud_tap.specs.declared.records.StreamRec.{StreamRec}
 use Rattle.aud_base.specs.Places.{places_of}
 use Rattle.aud_node.specs.Addressees.{is_to_all, is_to_room, names_no_room, names_room}
@@ -11,8 +10,8 @@ pub loop-i-preserved : goal.loop-i-preserved
 loop-i-preserved c =
     let i = c.loop-i.i in
     let stream = c.args.entries.now in
-    let e = c.index-entries-i.result in
-    let here : slice_get stream i ≡ Some e = slice_get_read stream (length stream) i e refl (omega arith) c.index-entries-i.is in
+    let e = c.at.result.now in
+    let here : slice_get stream i ≡ Some e = c.at.ensures.value in
     let was = c.loop-i.addressees in
     let flag = flag-read stream c.args.recoverable.now i e c.requires here in
     record {

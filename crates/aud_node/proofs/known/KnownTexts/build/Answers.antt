@@ -4,4 +4,4 @@ use Rattle.aud_node.proofs.known.KnownTexts.build.Goals as goal
 
 pub loop-i-preserved : goal.loop-i-preserved
 loop-i-preserved c =
-    KnownFrom-step c.args.entries.now c.loop-i.i c.index-entries-i.result c.loop-i.known c.note.new.self (omega arith) (omega arith) c.index-entries-i.is c.loop-i.invariant c.in_ok-note.ensures
+    KnownFrom-step c.args.entries.now c.loop-i.i c.at.result.now c.loop-i.known c.note.new.self (omega arith) (omega arith) c.at.ensures.item c.loop-i.invariant c.in_ok-note.ensures

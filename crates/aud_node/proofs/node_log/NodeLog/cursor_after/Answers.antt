@@ -9,5 +9,5 @@ returns c =
     c.copied.ensures
     ∙ got c.deref.result.now c.args.number c.get.result c.get.ensures.lookup.3
     ∙ ap (λ ps. slice_get ps c.args.number) (c.deref.ensures.value ∙ c.self.invariant.cursors_are.after_are)
-    ∙ cursors_after-read c.self.inside.stream.now c.self.inside.recs.now c.args.number
+    ∙ cursors_after-read c.self.inside.stream c.self.inside.recs.now c.args.number
     ∙ ap (λ log. cursor_after log c.args.number) c.self.view_is

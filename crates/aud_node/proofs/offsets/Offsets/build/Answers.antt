@@ -6,8 +6,8 @@ use Rattle.aud_node.proofs.offsets.Offsets.build.Goals as goal
 
 pub loop-i-preserved : goal.loop-i-preserved
 loop-i-preserved c =
-    let e = c.index-entries-i.result in
-    HoldsAfter-step c.args.entries.now c.loop-i.i e c.loop-i.offsets c.mark.new.self (omega arith) (omega arith) c.index-entries-i.is c.loop-i.invariant
+    let e = c.at.result.now in
+    HoldsAfter-step c.args.entries.now c.loop-i.i e c.loop-i.offsets c.mark.new.self (omega arith) (omega arith) c.at.ensures.item c.loop-i.invariant
     (λ q. c.in_ok-mark.ensures.positions q ∙ ap (λ o. cond (bytes_eq o q) (Some (c.loop-i.i - 1 + 1)) (kept_position c.loop-i.offsets q)) c.offset.ensures)
     c.in_ok-mark.ensures.was_distinct
     (λ distinct. ap (kept_position c.loop-i.offsets) (sym c.offset.ensures) ∙ c.in_ok-mark.ensures.was_new distinct)

@@ -8,5 +8,5 @@ pub returns : goal.returns
 returns c =
     c.unwrap_or.ensures
     ∙ ap (λ o. unwrap_or o false) (c.copied.ensures ∙ got c.deref.result.now (c.args.position - 1) c.get.result c.get.ensures.lookup.3 ∙ ap (λ fs. slice_get fs (c.args.position - 1)) (c.deref.ensures.value ∙ c.self.invariant.flags_are))
-    ∙ recoverable-flag c.self.inside.entries.now c.args.position (omega arith)
+    ∙ recoverable-flag c.self.inside.entries c.args.position (omega arith)
     ∙ ap (λ s. is_recoverable_at s c.args.position) c.self.view_is
