@@ -1,0 +1,80 @@
+//! The text of what is shown.
+ghost use Rattle.std.specs.Prelude.{◌≡◌, ◌++◌, IfOk, OnOk, flat_map, string_bytes};
+ghost use Rattle.aud_run.specs.Text.{blocked_line, name_at, order_text, step_line};
+
+use crate::answer::Order;
+use aud_merge::Step;
+use aud_node::Logs;
+use aud_tap::Tap;
+use std::alloc::{AllocError, Global};
+
+/// The name of the tap at this place; empty where there is none.
+fn name_at(taps: &[Tap], place: usize) -> &str
+    ensures { result.now ≡ name_at taps.now place }
+{
+    match taps.get(place) {
+        Some(tap) => tap.name.as_str(),
+        None => "",
+    }
+}
+
+/// Puts the line of a step at the end.
+fn push_step(out: &mut String, taps: &[Tap], step: Step) -> Result<(), AllocError>
+    ensures { OnOk result (string_bytes out.new ≡ string_bytes out.old ++ step_line taps.now step) }
+{
+    let name = name_at(taps, step.log);
+    let index = step.index;
+    writeln!(out, "{name} {index}")
+}
+
+/// The lines of the steps of a run.
+fn run_lines(alloc: Global, taps: &[Tap], steps: &[Step]) -> Result<String, AllocError>
+    ensures { IfOk result (λ text. string_bytes text ≡ flat_map (step_line taps.now) steps.now) }
+{
+    let mut out = String::new(alloc);
+    for step in steps {
+        push_step(&mut out, taps, *step)?;
+    }
+    Ok(out)
+}
+
+/// Puts the line of a record that blocks at the end.
+fn push_blocked(out: &mut String, taps: &[Tap], step: Step) -> Result<(), AllocError>
+    ensures { OnOk result (string_bytes out.new ≡ string_bytes out.old ++ blocked_line taps.now step) }
+{
+    let name = name_at(taps, step.log);
+    let index = step.index;
+    writeln!(out, "blocked {name} {index}")
+}
+
+/// The lines of the records that block.
+fn blocked_lines(alloc: Global, taps: &[Tap], fronts: &[Step]) -> Result<String, AllocError>
+    ensures { IfOk result (λ text. string_bytes text ≡ flat_map (blocked_line taps.now) fronts.now) }
+{
+    let mut out = String::new(alloc);
+    for front in fronts {
+        push_blocked(&mut out, taps, *front)?;
+    }
+    Ok(out)
+}
+
+/// A line for each step of a run and how many there are, or a line for each record that blocks and how many there are.
+/// Taps are named; records count from 0, the header not counted.
+pub fn order_text(alloc: Global, logs: &Logs<'_>, order: &Order) -> Result<String, AllocError>
+    ensures { IfOk result (λ text. string_bytes text ≡ order_text logs.now.taps order.now) }
+{
+    match order {
+        Order::Run(steps) => {
+            let mut out = run_lines(alloc, logs.taps(), steps)?;
+            let count = steps.len();
+            writeln!(&mut out, "steps={count}")?;
+            Ok(out)
+        }
+        Order::Blocked(fronts) => {
+            let mut out = blocked_lines(alloc, logs.taps(), fronts)?;
+            let count = fronts.len();
+            writeln!(&mut out, "blocked={count}")?;
+            Ok(out)
+        }
+    }
+}
