@@ -32,7 +32,7 @@ pub enum Fault {
     Lost(Text),
     /// The recovery on the connection with this number asked for another position than it had to.
     Window(u64),
-    /// So many events that were due, after the last one received, did not come. No verdict is made so yet.
+    /// So many events that were due, after the last one received, did not come. Only where the whole is asked for.
     Tail(u64),
 }
 

@@ -15,8 +15,8 @@ use std::alloc::Global;
 use std::sync::Wait;
 use std::time::Clock;
 
-/// Draws until there is none, and decides each index that it drew. Where memory could not be had, the fault has the
-/// number of entries that it had made.
+/// Draws until there is none, and decides each index that it drew, with `whole` as in [`Entry::decide`]. Where memory
+/// could not be had, the fault has the number of entries that it had made.
 pub fn work<G: Gate, R: Wait + Clock>(
     rt: &R,
     alloc: Global,
@@ -24,16 +24,18 @@ pub fn work<G: Gate, R: Wait + Clock>(
     seat: TicketSeat,
     recording: &Recording<'_>,
     sessions: &[String],
+    whole: bool,
     gate: &G,
 ) -> Result<Worker, AuditFault>
     requires seat { IsSeatOf tickets.now seat × (drawn seat ≡ []) }
     requires sessions { tickets.now.n ≡ length sessions.now }
-    ensures worker { IfOk result (IsWorkOf tickets.now (IsVerdictAt recording.now (map string_bytes sessions.now))) }
+    ensures worker { IfOk result (IsWorkOf tickets.now (IsVerdictAt recording.now whole (map string_bytes sessions.now))) }
     ensures err { IfErr result IsMemory }
 {
     let sessions = Sessions {
         recording,
         pids: sessions,
+        whole,
     };
     work_on(rt, alloc, tickets, seat, &sessions, gate)
 }

@@ -52,17 +52,22 @@ fn verdicts<G: Gate + Sync, R: Threads + Wait + Clock + Sync>(
     recording: &Recording<'_>,
     pids: &[String],
     workers: usize,
+    whole: bool,
     gate: &G,
 ) -> Result<Vec<Verdict>, AuditFault>
     requires { (0 < workers) × (workers ≤ 64) }
     ensures len { IfOk result (λ all. vec_len all ≡ length pids.now) }
-    ensures each { IfOk result (λ all. (i : ℕ) (verdict : Verdict) → slice_get all.items i ≡ Some verdict → IsVerdictAt recording.now (map string_bytes pids.now) i verdict) }
+    ensures each { IfOk result (λ all. (i : ℕ) (verdict : Verdict) → slice_get all.items i ≡ Some verdict → IsVerdictAt recording.now whole (map string_bytes pids.now) i verdict) }
     ensures err { IfErr result IsNotWorkers }
 {
     let Ok((tickets, seats)) = Tickets::new(alloc, pids.len(), workers) else {
         return Err(AuditFault::Memory(0));
     };
-    let task = Sessions { recording, pids };
+    let task = Sessions {
+        recording,
+        pids,
+        whole,
+    };
     let done = decide_all(rt, alloc, &tickets, &task, seats, gate)?;
     match gather(alloc, tickets, done) {
         Ok(verdicts) => Ok(verdicts),
@@ -91,18 +96,20 @@ fn named(
     Ok(all)
 }
 
-/// The verdict on each session that the logs mention, found by 1 to 64 workers, each in a thread of its own. How many
-/// they are, and what the gate does, changes nothing in the report. Where memory could not be had, the fault has the
+/// The verdict on each session that the logs mention, found by 1 to 64 workers, each in a thread of its own; with
+/// `whole`, a session to which more is due than was received is answered no, by `TAIL`. How many workers there are, and
+/// what the gate does, changes nothing in the report. Where memory could not be had, the fault has the
 /// number of entries that all workers had made.
 pub fn audit_with<G: Gate + Sync, R: Threads + Wait + Clock + Sync>(
     rt: &R,
     alloc: Global,
     recording: &Recording<'_>,
     workers: usize,
+    whole: bool,
     gate: &G,
 ) -> Result<Report, AuditFault>
     // The workers' promise: for every number of workers and every gate.
-    ensures verdicts { IfOk result (λ report. AreVerdicts recording.now (sessions_of recording.now) report.verdicts.items) }
+    ensures verdicts { IfOk result (λ report. AreVerdicts recording.now whole (sessions_of recording.now) report.verdicts.items) }
     ensures yes { IfOk result (λ report. report.yes ≡ count_by is_yes report.verdicts.items) }
     ensures all { IfOk result (λ report. report.yes + report.no ≡ vec_len report.verdicts) }
     // The number of workers is refused only where it is none that can be.
@@ -116,7 +123,7 @@ pub fn audit_with<G: Gate + Sync, R: Threads + Wait + Clock + Sync>(
         return Err(AuditFault::Memory(0));
     };
     let made = pids.len();
-    let found = verdicts(rt, alloc, recording, pids.as_slice(), workers, gate)?;
+    let found = verdicts(rt, alloc, recording, pids.as_slice(), workers, whole, gate)?;
     match named(alloc, pids, found) {
         Ok(verdicts) => Ok(counted(verdicts)),
         Err(_) => Err(AuditFault::Memory(made)),

@@ -29,6 +29,8 @@ pub trait Decide {
 pub struct Sessions<'s, 'a> {
     pub recording: &'s Recording<'a>,
     pub pids: &'s [String],
+    /// Whether the whole is asked for.
+    pub whole: bool,
 }
 
 impl<'s, 'a> Decide for Sessions<'s, 'a> {
@@ -37,9 +39,9 @@ impl<'s, 'a> Decide for Sessions<'s, 'a> {
 
     ghost count = { λ s. length s.pids.now };
 
-    ghost is_verdict = { λ s. IsVerdictAt s.recording.now (map string_bytes s.pids.now) };
+    ghost is_verdict = { λ s. IsVerdictAt s.recording.now s.whole (map string_bytes s.pids.now) };
 
     fn decide(&self, alloc: Global, index: usize) -> Result<Entry, AllocError> {
-        Entry::decide(alloc, self.recording, self.pids, index)
+        Entry::decide(alloc, self.recording, self.pids, index, self.whole)
     }
 }

@@ -15,18 +15,19 @@ pub struct Entry {
 impl Entry {
     ghost use Rattle.aud_verdict.specs.Verdicts.{IsVerdictAt};
 
-    /// The verdict on the session with this index, which counts from 0.
+    /// The verdict on the session with this index, which counts from 0; `whole` as in [`decide`].
     pub fn decide(
         alloc: Global,
         recording: &Recording<'_>,
         sessions: &[String],
         index: usize,
+        whole: bool,
     ) -> Result<Entry, AllocError>
         requires { index < length sessions.now }
         ensures index { IfOk result (λ entry. entry.index ≡ index) }
-        ensures verdict { IfOk result (λ entry. IsVerdictAt recording.now (map string_bytes sessions.now) index entry.verdict) }
+        ensures verdict { IfOk result (λ entry. IsVerdictAt recording.now whole (map string_bytes sessions.now) index entry.verdict) }
     {
-        let verdict = decide(alloc, recording, sessions[index].as_str())?;
+        let verdict = decide(alloc, recording, sessions[index].as_str(), whole)?;
         Ok(Entry { index, verdict })
     }
 

@@ -1,5 +1,5 @@
 -- An input has one output of an audit.
-use Rattle.std.proofs.Common.{◌≡◌, ℕ, List, [], ◌∷◌, Result, Ok, Err, refl, sym, ap, ◌∙◌}
+use Rattle.std.proofs.Common.{◌≡◌, ℕ, Bool, List, [], ◌∷◌, Result, Ok, Err, refl, sym, ap, ◌∙◌}
 use Rattle.aud_reader.specs.declared.fault.ReadFault.{ReadFault}
 use Rattle.aud_reader.specs.declared.fault.ReadFault.TheVariants.{Input, Memory}
 use Rattle.aud_node.specs.Stream.{Text}
@@ -14,30 +14,30 @@ use Rattle.aud_verdict.proofs.Sessions.{one_verdict}
 use Rattle.aud_app.specs.Output.{IsReport, IsOutputOver}
 
 -- a session has one verdict under its name
-same-entry : (c : Cluster) (pid : Text) (one other : SessionVerdict) → IsSessionVerdict c pid one → IsSessionVerdict c pid other → one ≡ other
-same-entry c pid one other is too =
+same-entry : (c : Cluster) (whole : Bool) (pid : Text) (one other : SessionVerdict) → IsSessionVerdict c whole pid one → IsSessionVerdict c whole pid other → one ≡ other
+same-entry c whole pid one other is too =
     let names : one.pid ≡ other.pid = is.0 ∙ sym too.0 in
-    let verdicts : one.verdict ≡ other.verdict = one_verdict c pid one.verdict other.verdict is.1.0 too.1.0 in
+    let verdicts : one.verdict ≡ other.verdict = one_verdict c whole pid one.verdict other.verdict is.1.0 too.1.0 in
     λ i. record { pid = names i; verdict = verdicts i }
 
 -- sessions have one list of verdicts
-same-entries : (c : Cluster) (pids : List Text) (ones others : List SessionVerdict) → AreVerdicts c pids ones → AreVerdicts c pids others → ones ≡ others
-same-entries c [] [] [] are too = refl
-same-entries c [] [] (other ∷ others) are too = absurd too
-same-entries c [] (one ∷ ones) others are too = absurd are
-same-entries c (pid ∷ pids) [] others are too = absurd are
-same-entries c (pid ∷ pids) (one ∷ ones) [] are too = absurd too
-same-entries c (pid ∷ pids) (one ∷ ones) (other ∷ others) are too =
-    let heads : one ≡ other = same-entry c pid one other are.0 too.0 in
-    let tails : ones ≡ others = same-entries c pids ones others are.1 too.1 in
+same-entries : (c : Cluster) (whole : Bool) (pids : List Text) (ones others : List SessionVerdict) → AreVerdicts c whole pids ones → AreVerdicts c whole pids others → ones ≡ others
+same-entries c whole [] [] [] are too = refl
+same-entries c whole [] [] (other ∷ others) are too = absurd too
+same-entries c whole [] (one ∷ ones) others are too = absurd are
+same-entries c whole (pid ∷ pids) [] others are too = absurd are
+same-entries c whole (pid ∷ pids) (one ∷ ones) [] are too = absurd too
+same-entries c whole (pid ∷ pids) (one ∷ ones) (other ∷ others) are too =
+    let heads : one ≡ other = same-entry c whole pid one other are.0 too.0 in
+    let tails : ones ≡ others = same-entries c whole pids ones others are.1 too.1 in
     λ i. heads i ∷ tails i
 
 -- so logs have one report
-same-report : (c : Cluster) (one other : OutputSeen) → IsReport c one → IsReport c other → one ≡ other
-same-report c one other is too = is.2 ∙ ap report_of (same-entries c (sessions_of c) is.0 too.0 is.1 too.1) ∙ sym too.2
+same-report : (c : Cluster) (whole : Bool) (one other : OutputSeen) → IsReport whole c one → IsReport whole c other → one ≡ other
+same-report c whole one other is too = is.2 ∙ ap report_of (same-entries c whole (sessions_of c) is.0 too.0 is.1 too.1) ∙ sym too.2
 
 -- and what is read has one output
-pub one-output : (read : Result InputSeen ReadFault) (one other : OutputSeen) → IsOutputOver Audit read one → IsOutputOver Audit read other → one ≡ other
-one-output (Ok input) one other is too = same-report (cluster_of input.taps) one other is too
-one-output (Err (Input n code)) one other is too = is ∙ sym too
-one-output (Err Memory) one other is too = absurd is
+pub one-output : (whole : Bool) (read : Result InputSeen ReadFault) (one other : OutputSeen) → IsOutputOver Audit whole read one → IsOutputOver Audit whole read other → one ≡ other
+one-output whole (Ok input) one other is too = same-report (cluster_of input.taps) whole one other is too
+one-output whole (Err (Input n code)) one other is too = is ∙ sym too
+one-output whole (Err Memory) one other is too = absurd is

@@ -30,9 +30,9 @@ module _ (ts next last : List Tap) (x l : List ℕ) (few : AreFew (pids_of ts)) 
   -- a header, and then a record of another tap
   header-record : Begins ts x next → Adds next l last → Swapped ts x l last
   header-record b a =
-      let t = begun (first_word x) b.of in
+      let t = begun (first_word x) b.of b.version in
       let found : tap_named (first_word l) ts ≡ Some a.found = sym (ap (tap_named (first_word l)) b.is ∙ named-past (first_word l) ts t other) ∙ a.is_found in
-      let pids : pids_of next ≡ pids_of ts = ap pids_of b.is ∙ pids-begun ts (first_word x) b.of in
+      let pids : pids_of next ≡ pids_of ts = ap pids_of b.is ∙ pids-begun ts (first_word x) b.of b.version in
       let mid = with_records (first_word l) a.records ts in
       record {
         next = mid;
@@ -44,13 +44,13 @@ module _ (ts next last : List Tap) (x l : List ℕ) (few : AreFew (pids_of ts)) 
   -- a record, and then the header of another tap
   record-header : Adds ts x next → Begins next l last → Swapped ts x l last
   record-header a b =
-      let t = begun (first_word l) b.of in
+      let t = begun (first_word l) b.of b.version in
       let new : tap_named (first_word l) ts ≡ None = sym (ap (tap_named (first_word l)) a.is ∙ named-other (first_word l) (first_word x) a.records ts other) ∙ b.new in
       let mid = ts ++ t ∷ [] in
       record {
         next = mid;
         before = b.again ts new (sym (room-with (first_word x) a.records ts a.found a.is_found a.same b.of) ∙ (rw a.is at b.room));
-        after = a.again mid (named-push (first_word x) ts t a.found a.is_found) (rw (pids-begun ts (first_word l) b.of) (a.few few))
+        after = a.again mid (named-push (first_word x) ts t a.found a.is_found) (rw (pids-begun ts (first_word l) b.of b.version) (a.few few))
             ∙ ap Ok (sym (b.is ∙ ap (λ us. us ++ t ∷ []) a.is ∙ sym (with-push (first_word x) a.records ts t a.found a.is_found)));
       }
 
@@ -80,7 +80,7 @@ pub swap : (ts next last : List Tap) (x l : List ℕ) → AreFew (pids_of ts) �
 swap ts next last x l few other one read_x read_l =
     elim (effect ts next x read_x) [
       | inl b ↦ elim (effect next last l read_l) [
-        | inl c ↦ absurd (one (sym (ap (tap_named (first_word l)) b.is ∙ named-past (first_word l) ts (begun (first_word x) b.of) other) ∙ c.new) b.new)
+        | inl c ↦ absurd (one (sym (ap (tap_named (first_word l)) b.is ∙ named-past (first_word l) ts (begun (first_word x) b.of b.version) other) ∙ c.new) b.new)
         | inr a ↦ header-record ts next last x l few other b a
       ]
       | inr a ↦ elim (effect next last l read_l) [

@@ -12,6 +12,7 @@ use Rattle.aud_base.specs.Steps.{guard}
 use Rattle.aud_base.proofs.SameText.{same_text, itself_text}
 use Rattle.aud_tap.specs.declared.records.TapKind.{TapKind}
 use Rattle.aud_tap.specs.declared.records.TapKind.TheVariants as kind
+use Rattle.aud_tap.specs.declared.records.Version.{Version}
 use Rattle.aud_tap.specs.declared.taps.Records.{Records}
 use Rattle.aud_tap.specs.declared.taps.Tap.{Tap}
 use Rattle.aud_tap.specs.Forms.{is_text}
@@ -30,8 +31,8 @@ either false false true = refl
 either false false false = refl
 
 -- a tap after its header
-abbrev pub begun : List ℕ → TapKind → Tap
-begun name of = record { name = name; records = no_records of }
+abbrev pub begun : List ℕ → TapKind → Version → Tap
+begun name of version = record { name = name; version = version; records = no_records of }
 
 -- the names of taps
 abbrev pub names_of : List Tap → List (List ℕ)
@@ -135,9 +136,9 @@ few-within pids all within h =
     record { few = omega arith }
 
 -- a header brings no pids
-pub pids-begun : (ts : List Tap) (name : List ℕ) (of : TapKind) → pids_of (ts ++ begun name of ∷ []) ≡ pids_of ts
-pids-begun ts name of =
-    flat_map-append (λ (t : Tap). pids_in t.records) ts (begun name of ∷ []) ∙ ap (λ ps. pids_of ts ++ (ps ++ [])) (pids-empty of) ∙ append-nil (pids_of ts)
+pub pids-begun : (ts : List Tap) (name : List ℕ) (of : TapKind) (version : Version) → pids_of (ts ++ begun name of version ∷ []) ≡ pids_of ts
+pids-begun ts name of version =
+    flat_map-append (λ (t : Tap). pids_in t.records) ts (begun name of version ∷ []) ∙ ap (λ ps. pids_of ts ++ (ps ++ [])) (pids-empty of) ∙ append-nil (pids_of ts)
 
 -- records for a tap bring the pids that they have more
 pub pids-with : (q name : List ℕ) (records : Records) (added : List (List ℕ)) (ts : List Tap) (t : Tap) → tap_named name ts ≡ Some t → pids_in records ≡ pids_in t.records ++ added

@@ -1,5 +1,5 @@
 //! What the lines of a bundle are read as, in one order and in another.
-ghost use Rattle.std.specs.Prelude.{◌≡◌, ◌≢◌, ◌⊎◌, ℕ, List, ◌∷◌, ◌++◌, true};
+ghost use Rattle.std.specs.Prelude.{◌≡◌, ◌≢◌, ◌⊎◌, ℕ, Bool, List, ◌∷◌, ◌++◌, true};
 ghost use Rattle.aud_reader.specs.declared.line.Line.{Line};
 ghost use Rattle.aud_reader.specs.Bundle.{taps_of};
 ghost use Rattle.aud_input.specs.declared.input.Layout.TheVariants.{Bundle};
@@ -38,14 +38,14 @@ pub fn neighbours_in_any_order()
 {}
 
 /// Inputs that are the same but for the order of their lines have the same output, or a line of each is refused: a law
-/// of [`run`](aud_app::run) in the modes without certificates, `audit` and `prove`.
+/// of [`run`](aud_app::run) in the modes without certificates, `audit` and `prove`, with equal `whole`.
 pub fn outputs_in_any_order()
-    ensures { (mode : Mode) (bytes others : List ℕ) → layout_of mode ≡ Bundle
-        → AreSameButForOrder (line_texts bytes) (line_texts others) → AreWrittenAlike mode bytes others }
+    ensures { (mode : Mode) (whole : Bool) (bytes others : List ℕ) → layout_of mode ≡ Bundle
+        → AreSameButForOrder (line_texts bytes) (line_texts others) → AreWrittenAlike mode whole bytes others }
 {}
 
-/// An input has one output of an audit, whichever workers found it: with [`outputs_in_any_order`], inputs that are the
-/// same but for the order of their lines, of which none is refused, are given the same bytes.
+/// An input has one output of an audit with equal `whole`, whichever workers found it: with [`outputs_in_any_order`],
+/// inputs that are the same but for the order of their lines, of which none is refused, are given the same bytes.
 pub fn audit_is_one()
-    ensures { (bytes : List ℕ) (one other : OutputSeen) → IsOutput Audit bytes one → IsOutput Audit bytes other → one ≡ other }
+    ensures { (whole : Bool) (bytes : List ℕ) (one other : OutputSeen) → IsOutput Audit whole bytes one → IsOutput Audit whole bytes other → one ≡ other }
 {}

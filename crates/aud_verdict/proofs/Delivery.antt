@@ -1,5 +1,6 @@
 -- What a verdict says of every run.
-use Rattle.std.proofs.Common.{arith, ◌≡◌, ℕ, List, map, length, Some, sym, ap, subst, ◌∙◌}
+use Rattle.std.proofs.Common.{arith, ◌≡◌, ℕ, Bool, true, false, List, [], ◌∷◌, ◌++◌, map, length, Some, refl, sym, ap, subst, ◌∙◌}
+use Rattle.std.proofs.lemmas.List.{length-map}
 use Rattle.aud_node.specs.Stream.{Text}
 use Rattle.aud_node.specs.Cluster.{Cluster}
 use Rattle.aud_rooms.specs.Turns.{Who, Turn, IsChain, slice_of}
@@ -8,19 +9,31 @@ use Rattle.aud_merge.specs.declared.step.Step.{Step}
 use Rattle.aud_merge.specs.Runs.{IsRun}
 use Rattle.aud_merge.specs.Due.{due}
 use Rattle.aud_merge.specs.ByTurns.{IsPrefixOf}
+use Rattle.aud_client.specs.StaySeen.{FrameSeen}
 use Rattle.aud_cert.specs.declared.fault.Fault.{Fault}
-use Rattle.aud_check.specs.Faults.{IsReceived, mismatch_fault}
+use Rattle.aud_cert.specs.declared.fault.Fault.TheVariants.{Tail}
+use Rattle.aud_check.specs.Faults.{mismatch_fault}
 use Rattle.aud_check.proofs.Agreed.{mismatch-none}
 use Rattle.aud_check.proofs.Ranks.{no_mismatch}
 use Rattle.aud_report.specs.declared.verdict.Verdict.{Verdict}
 use Rattle.aud_report.specs.declared.verdict.Verdict.TheVariants.{Yes, No}
-use Rattle.aud_verdict.specs.Session.{SessionLogs, IsSession, session_case, due_to, positions}
-use Rattle.aud_verdict.specs.Faults.{Holds, IsMisdelivery}
+use Rattle.aud_verdict.specs.Session.{SessionLogs, IsSession, session_case, received_by, due_to, positions}
+use Rattle.aud_verdict.specs.Faults.{Holds, HoldsFirst, IsMisdelivery}
 use Rattle.aud_verdict.specs.Verdict.{IsYes, IsVerdict}
-use Rattle.aud_verdict.specs.EveryRun.{IsDelivered, IsMisdelivered, HoldsInEveryRun}
-use Rattle.aud_verdict.proofs.Sessions.{one_session, held}
-use Rattle.aud_verdict.proofs.Made.{late, as_held}
-use Rattle.aud_verdict.proofs.Unrefused.{all_received}
+use Rattle.aud_verdict.specs.EveryRun.{IsDelivered, IsMisdelivered, IsUnfinished, HoldsInEveryRun}
+use Rattle.aud_verdict.proofs.Sessions.{one_session}
+use Rattle.aud_verdict.proofs.Left.{received_in, without_tail, none_left}
+
+-- a front that is as long as the list is all of it
+whole_front : (xs ys : List ℕ) → IsPrefixOf xs ys → length xs ≡ length ys → xs ≡ ys
+whole_front [] [] front same = refl
+whole_front [] (y ∷ ys) front same = absurd (omega (arith, same))
+whole_front (x ∷ xs) [] front same = absurd (omega (arith, same))
+whole_front (x ∷ xs) (y ∷ ys) (rest, e) same =
+    let here : x ≡ y = cc in
+    let later : xs ++ rest ≡ ys = cc in
+    let tail : xs ≡ ys = whole_front xs ys (rest, later) (omega (arith, same)) in
+    cc
 
 -- what the merging law says: in every run what is due to a session is its due list by turns
 abbrev pub DueByTurns : Type 0
@@ -32,11 +45,10 @@ module _ (law : DueByTurns) (c : Cluster) (pid : Text) where
   due_in s is run is_run = ap (due c run) (sym is.names) ∙ law c run s.who s.turns is_run is.chain
 
   -- what a yes says of every run
-  delivered : (got tail turns : ℕ) → IsYes c pid got tail turns → IsDelivered c pid got tail turns
-  delivered got tail turns is =
+  delivered : (whole : Bool) (got tail turns : ℕ) → IsYes c whole pid got tail turns → IsDelivered c pid got tail turns
+  delivered whole got tail turns is =
       let s = is.session in
-      let received : IsReceived (session_case c s) =
-      all_received (session_case c s) (λ fault h. is.none_holds fault (held c pid s is.is_session fault (late (session_case c s) fault h) (as_held c s fault h))) in
+      let received = received_in c pid whole s is.is_session (λ fault before. is.none_holds fault) in
       record {
         session = s;
         is_session = is.is_session;
@@ -60,10 +72,28 @@ module _ (law : DueByTurns) (c : Cluster) (pid : Text) where
       }
 
   -- what a misdelivery says of every run
-  misdelivered : (fault : Fault) → Holds c pid fault → IsMisdelivery fault → IsMisdelivered c pid
-  misdelivered fault h about = grind (arith, parted fault)
+  misdelivered : (whole : Bool) (fault : Fault) → Holds c whole pid fault → IsMisdelivery fault → IsMisdelivered c pid
+  misdelivered whole fault h about = grind (arith, parted fault)
+
+  -- what a tail says of every run
+  unfinished : (whole : Bool) (count : ℕ) → HoldsFirst c whole pid (Tail count) → IsUnfinished c pid count
+  unfinished whole count is =
+      let (some, got, turns, front) = without_tail c pid whole count is in
+      record { some = some; got = got; turns = turns; is_delivered = delivered false got count turns front }
 
   -- what a verdict says of every run
-  pub in_every_run : (verdict : Verdict) → IsVerdict c pid verdict → HoldsInEveryRun c pid verdict
-  in_every_run (Yes got tail turns) is = delivered got tail turns is
-  in_every_run (No fault) is = misdelivered fault is.holds
+  pub in_every_run : (whole : Bool) (verdict : Verdict) → IsVerdict c whole pid verdict → HoldsInEveryRun c pid verdict
+  in_every_run whole (Yes got tail turns) is = delivered whole got tail turns is
+  in_every_run whole (No fault) is = (misdelivered whole fault is.holds, λ count e. unfinished whole count (subst (HoldsFirst c whole pid) e is))
+
+  -- where the whole is asked for, a yes says that in every run what was received is all that is due
+  pub all_in_every_run : (got tail turns : ℕ) → IsVerdict c true pid (Yes got tail turns) → (s : SessionLogs) → IsSession c pid s → (run : List Step) → IsRun c run
+      → positions c s ≡ due c run pid
+  all_in_every_run got tail turns is s one run is_run =
+      let said = delivered true got tail turns is in
+      let same = said.is_only s one in
+      let front = said.is_front run is_run in
+      let count = length-map (received_by c said.session) (λ (frame : FrameSeen). frame.position) in
+      let total = said.are_all run is_run in
+      let none = none_left c pid got tail turns is in
+      ap (positions c) same ∙ whole_front (positions c said.session) (due c run pid) front (omega (arith, count, total, none, said.got_is))

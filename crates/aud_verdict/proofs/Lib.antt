@@ -1,4 +1,5 @@
 pub mod Sessions
 pub mod Unrefused
 pub mod Made
+pub mod Left
 pub mod Delivery

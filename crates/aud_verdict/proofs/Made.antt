@@ -1,5 +1,5 @@
 -- What is found by making a session's certificate and checking it is its verdict.
-use Rattle.std.proofs.Common.{◌≡◌, ◌<◌, ◌+◌, ℕ, zero, suc, true, List, [], ◌∷◌, length, map, drop, slice_get, Some, refl, sym, ap, subst, ◌∙◌, arith, ◌≤◌, ◌-◌, ◌*◌, min, false, Option, None, unwrap_or, ◌⊎◌, inl, inr}
+use Rattle.std.proofs.Common.{◌≡◌, ◌<◌, ◌+◌, ℕ, zero, suc, Bool, true, List, [], ◌∷◌, length, map, drop, slice_get, Some, refl, sym, ap, subst, ◌∙◌, arith, ◌≤◌, ◌-◌, ◌*◌, min, false, Option, None, unwrap_or, ◌⊎◌, inl, inr}
 use Rattle.std.specs.List.{list_all}
 use Rattle.std.specs.Option.{IsSome, option_and_then}
 use Rattle.std.proofs.lemmas.Bool.{false≢true, and_parts, true≢false, cases_lt}
@@ -20,7 +20,7 @@ use Rattle.aud_client.specs.Replies.{is_naming}
 use Rattle.aud_client.specs.Received.{transcript_of, received_list, stays_naming}
 use Rattle.aud_cert.specs.declared.fault.Fault.{Fault}
 use Rattle.aud_cert.specs.Certificate.{TurnSeen, CertificateSeen, turn_at, place_named}
-use Rattle.aud_cert.specs.declared.fault.Fault.TheVariants.{Names}
+use Rattle.aud_cert.specs.declared.fault.Fault.TheVariants.{Names, Tail}
 use Rattle.aud_maker.specs.Made.{name_at, turn_seen, is_turn_ordered, IsMade, tap_name}
 use Rattle.aud_maker.specs.Faults as maker
 use Rattle.aud_maker.proofs.Turns.{beginning-begins}
@@ -93,15 +93,15 @@ first_refusal c cert refusal fault first e = grind arith
 -- ---- the four faults without a certificate
 
 -- what the making of a certificate finds is a fault of the verdict, in the same order
-found : (c : Cluster) (pid : Text) (fault : Fault) → maker.HasMakeFault c pid fault → (verdict_rank fault < 4) × (maker.make_fault_rank fault ≡ verdict_rank fault) × Holds c pid fault
+found : (c : Cluster) (pid : Text) (fault : Fault) → maker.HasMakeFault c pid fault → (verdict_rank fault < 4) × (maker.make_fault_rank fault ≡ verdict_rank fault) × Holds c false pid fault
 found c pid fault h = grind arith
 
 -- a fault of the verdict without a certificate is one that the making finds
-known : (c : Cluster) (pid : Text) (fault : Fault) → verdict_rank fault < 4 → Holds c pid fault → maker.HasMakeFault c pid fault × (maker.make_fault_rank fault ≡ verdict_rank fault)
+known : (c : Cluster) (pid : Text) (fault : Fault) → verdict_rank fault < 4 → Holds c false pid fault → maker.HasMakeFault c pid fault × (maker.make_fault_rank fault ≡ verdict_rank fault)
 known c pid fault front h = grind arith
 
 -- where no certificate is made, the fault found is the verdict's first
-pub not_made : (c : Cluster) (pid : Text) (fault : Fault) → maker.IsFirstMakeFault c pid fault → HoldsFirst c pid fault
+pub not_made : (c : Cluster) (pid : Text) (fault : Fault) → maker.IsFirstMakeFault c pid fault → HoldsFirst c false pid fault
 not_made c pid fault is =
     let (front, own, holds) = found c pid fault is.holds in
     record { holds = holds; none_before = λ other less h. (let (held, its) = known c pid other (omega arith) h in is.none_before other (omega arith) held) }
@@ -131,8 +131,8 @@ pub late : (case : Case) (f : Fault) → HasFault case f → 4 ≤ verdict_rank 
 late case f h = let (is, low, high, mismatched) = placed case f h in omega arith
 
 -- a fault of what was received is one of the session
-pub as_held : (c : Cluster) (s : SessionLogs) (f : Fault) → HasFault (session_case c s) f → HoldsOf c s f
-as_held c s f h = grind arith
+pub as_held : (c : Cluster) (whole : Bool) (s : SessionLogs) (f : Fault) → HasFault (session_case c s) f → HoldsOf c whole s f
+as_held c whole s f h = grind arith
 
 module _ (c : Cluster) (pid : Text) (cert : CertificateSeen) (once : AreNamedOnce c.taps) (made : IsMade c pid cert) where
   -- its turns stand in the logs where those that it was made of stand
@@ -223,7 +223,7 @@ module _ (c : Cluster) (pid : Text) (cert : CertificateSeen) (once : AreNamedOnc
           (ap (λ p. begins_turn p 0 (beginning made.who 0)) (sym made.names) ∙ beginning-begins made.who 0)
 
   -- none of the four faults without a certificate holds
-  none_early : (fault : Fault) → verdict_rank fault < 4 → Holds c pid fault → ⊥
+  none_early : (fault : Fault) → verdict_rank fault < 4 → Holds c false pid fault → ⊥
   none_early fault front h =
       none_holds c pid logged (λ no_chain. no_chain made.who made.turns made.names made.chain)
       (not_unordered c made.who pid made.turns made.names made.chain made.ordered) (ap (λ (ns : List ℕ). length ns) made.client.only) fault
@@ -233,20 +233,21 @@ module _ (c : Cluster) (pid : Text) (cert : CertificateSeen) (once : AreNamedOnc
 
   module _ (is : IsAccepted c cert) where
     -- nor does any of the others
-    none_late : (fault : Fault) → HoldsOf c session fault → ⊥
+    none_late : (fault : Fault) → HoldsOf c false session fault → ⊥
     none_late Names h = true≢false (sym is.are_named ∙ stays_same ∙ not_of_session c pid session is_session h)
+    none_late (Tail count) h = false≢true h.0
     none_late fault h = no_fault (session_case c session) (subst IsReceived case_is is.is_received) fault h
 
     -- none holds of a session whose certificate is accepted
-    pub none_of_accepted : NoneHolds c pid
+    pub none_of_accepted : NoneHolds c false pid
     none_of_accepted fault h = go (cases_lt (verdict_rank fault) 4)
       where
         go : (verdict_rank fault < 4) ⊎ (4 ≤ verdict_rank fault) → ⊥
         go (inl front) = none_early fault front h
-        go (inr back) = none_late fault (at_session c pid session is_session fault back h)
+        go (inr back) = none_late fault (at_session c pid session is_session false fault back h)
 
     -- the verdict on it is yes
-    pub accepted : (got tail turns : ℕ) → got ≡ length (frames_received c cert) → got + tail ≡ length (shown_due c cert) → turns ≡ length cert.turns → IsYes c pid got tail turns
+    pub accepted : (got tail turns : ℕ) → got ≡ length (frames_received c cert) → got + tail ≡ length (shown_due c cert) → turns ≡ length cert.turns → IsYes c false pid got tail turns
     accepted got tail turns got_is tail_is turns_are =
         record {
           none_holds = none_of_accepted;
@@ -268,10 +269,10 @@ module _ (c : Cluster) (pid : Text) (cert : CertificateSeen) (once : AreNamedOnc
   of_received f place h = grind (arith, case_is)
 
   -- where it is refused for its names, they are the first fault
-  first_names : RefusesFirst c cert refused.Names → HoldsFirst c pid Names
+  first_names : RefusesFirst c cert refused.Names → HoldsFirst c false pid Names
   first_names is =
       record {
-        holds = held c pid session is_session Names (omega arith) (other_names c pid session is_session (sym stays_same ∙ of_names is.place is.refuses));
+        holds = held c pid session is_session false Names (omega arith) (other_names c pid session is_session (sym stays_same ∙ of_names is.place is.refuses));
         none_before = none_early;
       }
 
@@ -285,29 +286,30 @@ module _ (c : Cluster) (pid : Text) (cert : CertificateSeen) (once : AreNamedOnc
     at_whole place h = grind arith
 
     -- none of the faults that need a certificate holds before it
-    not_before : (other : Fault) → verdict_rank other < verdict_rank f → HoldsOf c session other → ⊥
+    not_before : (other : Fault) → verdict_rank other < verdict_rank f → HoldsOf c false session other → ⊥
     not_before Names less h =
         let at = at_whole is.place is.refuses in
         is.none_before AtWhole refused.Names (omega arith) (stays_same ∙ not_of_session c pid session is_session h)
+    not_before (Tail count) less h = false≢true h.0
     not_before other less h =
         let at = at_whole is.place is.refuses in
         let low = lower (session_case c session) other f less h has in
         is.none_before AtWhole (refused.Received other) (omega arith) (subst (λ (case : Case). HasFault case other) (sym case_is) h)
 
     -- it is the session's first fault
-    first_received : HoldsFirst c pid f
+    first_received : HoldsFirst c false pid f
     first_received =
         record {
-          holds = held c pid session is_session f (late (session_case c session) f has) (as_held c session f has);
+          holds = held c pid session is_session false f (late (session_case c session) f has) (as_held c false session f has);
           none_before = λ other less h. go other less h (cases_lt (verdict_rank other) 4);
         }
       where
-        go : (other : Fault) → verdict_rank other < verdict_rank f → Holds c pid other → (verdict_rank other < 4) ⊎ (4 ≤ verdict_rank other) → ⊥
+        go : (other : Fault) → verdict_rank other < verdict_rank f → Holds c false pid other → (verdict_rank other < 4) ⊎ (4 ≤ verdict_rank other) → ⊥
         go other less h (inl front) = none_early other front h
-        go other less h (inr back) = not_before other less (at_session c pid session is_session other back h)
+        go other less h (inr back) = not_before other less (at_session c pid session is_session false other back h)
 
   -- the fault that a refusal shows is the session's first
-  pub first_found : (refusal : Refusal) (fault : Fault) → RefusesFirst c cert refusal → fault_found refusal ≡ Some fault → HoldsFirst c pid fault
-  first_found refused.Names fault is e = subst (HoldsFirst c pid) (same_Some Names fault e) (first_names is)
-  first_found (refused.Received f) fault is e = subst (HoldsFirst c pid) (same_Some f fault e) (first_received f is)
+  pub first_found : (refusal : Refusal) (fault : Fault) → RefusesFirst c cert refusal → fault_found refusal ≡ Some fault → HoldsFirst c false pid fault
+  first_found refused.Names fault is e = subst (HoldsFirst c false pid) (same_Some Names fault e) (first_names is)
+  first_found (refused.Received f) fault is e = subst (HoldsFirst c false pid) (same_Some f fault e) (first_received f is)
   first_found _ fault is e = absurd (none-some fault e)

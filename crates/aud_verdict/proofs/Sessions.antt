@@ -53,16 +53,16 @@ one_session c pid one other is too =
 
 module _ (c : Cluster) (pid : Text) (s : SessionLogs) (is : IsSession c pid s) where
   -- a fault of the session of the pid is one of this session
-  moved : (fault : Fault) → (t : SessionLogs) × IsSession c pid t × HoldsOf c t fault → HoldsOf c s fault
-  moved fault (t, too, h) = subst (λ (x : SessionLogs). HoldsOf c x fault) (one_session c pid t s too is) h
+  moved : (whole : Bool) (fault : Fault) → (t : SessionLogs) × IsSession c pid t × HoldsOf c whole t fault → HoldsOf c whole s fault
+  moved whole fault (t, too, h) = subst (λ (x : SessionLogs). HoldsOf c whole x fault) (one_session c pid t s too is) h
 
   -- a fault that needs a session holds of this one
-  pub at_session : (fault : Fault) → 4 ≤ verdict_rank fault → Holds c pid fault → HoldsOf c s fault
-  at_session fault late h = grind (arith, moved fault)
+  pub at_session : (whole : Bool) (fault : Fault) → 4 ≤ verdict_rank fault → Holds c whole pid fault → HoldsOf c whole s fault
+  at_session whole fault late h = grind (arith, moved whole fault)
 
   -- where a fault holds of this session, it holds
-  pub held : (fault : Fault) → 4 ≤ verdict_rank fault → HoldsOf c s fault → Holds c pid fault
-  held fault late h = grind (arith, is)
+  pub held : (whole : Bool) (fault : Fault) → 4 ≤ verdict_rank fault → HoldsOf c whole s fault → Holds c whole pid fault
+  held whole fault late h = grind (arith, is)
 
   -- ---- the stays that name it
 
@@ -124,9 +124,9 @@ same_altered : (stream : List StreamRec) (frames : List FrameSeen) (altered othe
 same_altered stream frames altered other is too =
     one_altered stream is.before too.before altered other is.after too.after (sym is.parts ∙ too.parts) is.are_entries is.is_altered too.are_entries too.is_altered
 
-module _ (c : Cluster) (pid : Text) where
+module _ (c : Cluster) (whole : Bool) (pid : Text) where
   -- one fault at most of each rank holds
-  same_fault : (fault other : Fault) → Holds c pid fault → Holds c pid other → verdict_rank fault ≡ verdict_rank other → fault ≡ other
+  same_fault : (fault other : Fault) → Holds c whole pid fault → Holds c whole pid other → verdict_rank fault ≡ verdict_rank other → fault ≡ other
   same_fault NoLog NoLog h too e = refl
   same_fault Chain Chain h too e = refl
   same_fault Order Order h too e = refl
@@ -135,23 +135,25 @@ module _ (c : Cluster) (pid : Text) where
   same_fault Frame Frame h too e = refl
   same_fault Orphan Orphan h too e = refl
   same_fault (Content off) (Content named) (s, is, (altered, first, called)) too e =
-      let (other, first_too, so_called) = moved c pid s is (Content named) too in
+      let (other, first_too, so_called) = moved c pid s is whole (Content named) too in
       let one : altered ≡ other = same_altered c.stream (received_by c s) altered other first first_too in
       ap Content (called ∙ ap (λ (frame : FrameSeen). offset_at c.stream frame.position) one ∙ sym so_called)
-  same_fault (Extra off) (Extra named) (s, is, h) too e = same_Some (Extra off) (Extra named) (sym h ∙ moved c pid s is (Extra named) too)
-  same_fault (Doubled off) (Doubled named) (s, is, h) too e = same_Some (Doubled off) (Doubled named) (sym h ∙ moved c pid s is (Doubled named) too)
-  same_fault (Swapped off) (Swapped named) (s, is, h) too e = same_Some (Swapped off) (Swapped named) (sym h ∙ moved c pid s is (Swapped named) too)
-  same_fault (Lost off) (Lost named) (s, is, h) too e = same_Some (Lost off) (Lost named) (sym h ∙ moved c pid s is (Lost named) too)
-  same_fault (Window n) (Window m) (s, is, h) too e = ap Window (same_Some n m (sym h ∙ moved c pid s is (Window m) too))
-  same_fault (Tail n) (Tail m) (s, is, h) too e = absurd h
+  same_fault (Extra off) (Extra named) (s, is, h) too e = same_Some (Extra off) (Extra named) (sym h ∙ moved c pid s is whole (Extra named) too)
+  same_fault (Doubled off) (Doubled named) (s, is, h) too e = same_Some (Doubled off) (Doubled named) (sym h ∙ moved c pid s is whole (Doubled named) too)
+  same_fault (Swapped off) (Swapped named) (s, is, h) too e = same_Some (Swapped off) (Swapped named) (sym h ∙ moved c pid s is whole (Swapped named) too)
+  same_fault (Lost off) (Lost named) (s, is, h) too e = same_Some (Lost off) (Lost named) (sym h ∙ moved c pid s is whole (Lost named) too)
+  same_fault (Window n) (Window m) (s, is, h) too e = ap Window (same_Some n m (sym h ∙ moved c pid s is whole (Window m) too))
+  same_fault (Tail n) (Tail m) (s, is, (asked, some, count)) too e =
+      let (asked_too, some_too, count_too) = moved c pid s is whole (Tail m) too in
+      ap Tail (count ∙ sym count_too)
   same_fault fault other _ _ e = absurd (omega arith)
 
   -- one fault at most is the first
-  pub one_first : (fault other : Fault) → HoldsFirst c pid fault → HoldsFirst c pid other → fault ≡ other
+  pub one_first : (fault other : Fault) → HoldsFirst c whole pid fault → HoldsFirst c whole pid other → fault ≡ other
   one_first fault other is too = grind (arith, is.none_before, too.none_before, same_fault fault other, cases_lt (verdict_rank fault) (verdict_rank other), cases_lt (verdict_rank other) (verdict_rank fault))
 
   -- a session has one verdict
-  pub one_verdict : (one other : Verdict) → IsVerdict c pid one → IsVerdict c pid other → one ≡ other
+  pub one_verdict : (one other : Verdict) → IsVerdict c whole pid one → IsVerdict c whole pid other → one ≡ other
   one_verdict (Yes got tail turns) (Yes count rest number) is too =
       let same : is.session ≡ too.session = one_session c pid is.session too.session is.is_session too.is_session in
       let counts : got ≡ count = is.got_is ∙ ap (λ (s : SessionLogs). length (received_by c s)) same ∙ sym too.got_is in

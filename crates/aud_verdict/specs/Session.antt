@@ -1,5 +1,6 @@
 -- A session in the recording: its turns on the nodes, its one client's tap, and what that tap tells of it.
-use Rattle.std.specs.Prelude.{◌≡◌, ℕ, List, [], ◌∷◌, map}
+use Rattle.std.specs.Prelude.{◌≡◌, ℕ, List, [], ◌∷◌, map, not}
+use Rattle.std.specs.List.{filter}
 use Rattle.aud_tap.specs.declared.records.ClientRec.{ClientRec}
 use Rattle.aud_node.specs.Stream.{Text}
 use Rattle.aud_node.specs.Cluster.{Cluster}
@@ -9,6 +10,7 @@ use Rattle.aud_rooms.specs.Turns.{Who, Turn, slice_of, IsChain}
 use Rattle.aud_rooms.specs.TurnsDue.{turns_due}
 use Rattle.aud_client.specs.StaySeen.{StaySeen, FrameSeen}
 use Rattle.aud_client.specs.Received.{TranscriptSeen, transcript_of, received_list, stays_naming}
+use Rattle.aud_check.specs.Compare.{has_position}
 use Rattle.aud_check.specs.Faults.{Case, positions_in}
 use Rattle.aud_check.specs.Shown.{recs_or_none}
 
@@ -52,3 +54,7 @@ session_case c s = record { stream = c.stream; transcript = transcript c s; stay
 -- the positions that were received
 abbrev pub positions : Cluster → SessionLogs → List ℕ
 positions c s = positions_in (session_case c s)
+
+-- the positions that were due and were not received, ascending
+abbrev pub missed : Cluster → SessionLogs → List ℕ
+missed c s = filter (λ p. not (has_position (positions c s) p)) (due_to c s)

@@ -1,6 +1,6 @@
 //! What the acceptance of a certificate means, over the definitions alone. These functions do nothing: their contracts
 //! are the laws.
-ghost use Rattle.std.specs.Prelude.{◌≡◌, ◌↔◌, ◌<◌, List, Ok, length};
+ghost use Rattle.std.specs.Prelude.{◌≡◌, ◌↔◌, ◌<◌, ℕ, List, Ok, length};
 ghost use Rattle.aud_node.specs.Stream.{Text};
 ghost use Rattle.aud_node.specs.Cluster.{Cluster};
 ghost use Rattle.aud_node.specs.Names.{AreNamedOnce};
@@ -9,10 +9,12 @@ ghost use Rattle.aud_merge.specs.declared.step.Step.{Step};
 ghost use Rattle.aud_merge.specs.Runs.{IsRun};
 ghost use Rattle.aud_merge.specs.Due.{due};
 ghost use Rattle.aud_merge.specs.ByTurns.{IsPrefixOf};
+ghost use Rattle.aud_cert.specs.declared.fault.Fault.TheVariants.{Tail};
 ghost use Rattle.aud_cert.specs.Certificate.{CertificateSeen, IsOver};
 ghost use Rattle.aud_cert_text.specs.Reading.{certificate_of};
 ghost use Rattle.aud_maker.specs.Made.{IsMade};
 ghost use Rattle.aud_check.specs.declared.refusal.Refusal.{Refusal};
+ghost use Rattle.aud_check.specs.declared.refusal.Refusal.TheVariants.{Received};
 ghost use Rattle.aud_check.specs.Faults.{positions_in};
 ghost use Rattle.aud_check.specs.Refusals.{IsAccepted, RefusesFirst, IsMismatch, Place, Refuses, certificate_case};
 ghost use Rattle.aud_check.specs.Shown.{shown_due, turns_of, who_of};
@@ -23,6 +25,12 @@ use aud_merge::due_by_turns;
 pub fn accepted_exactly()
     ensures { (c : Cluster) (cert : CertificateSeen)
         → IsAccepted c cert ↔ ((place : Place) (refusal : Refusal) → Refuses c cert place refusal → ⊥) }
+{}
+
+/// A tail refuses no certificate: what is still due after the last event received is counted.
+pub fn tail_refuses_none()
+    ensures { (c : Cluster) (cert : CertificateSeen) (place : Place) (count : ℕ)
+        → Refuses c cert place (Received (Tail count)) → ⊥ }
 {}
 
 /// What an accepted certificate over the logs says holds in every run: its turns are the session's, from turn 0 on; what

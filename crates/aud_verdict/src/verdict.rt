@@ -1,12 +1,12 @@
 //! The verdict on a session: its certificate is made, and then checked.
-ghost use Rattle.std.specs.Prelude.{◌≡◌, IfOk, Some};
+ghost use Rattle.std.specs.Prelude.{◌≡◌, false, IfOk, Some};
 ghost use Rattle.aud_maker.specs.Made.{IsMade};
 ghost use Rattle.aud_verdict.specs.EveryRun.{HoldsInEveryRun};
 ghost use Rattle.aud_verdict.specs.Judged.{IsJudged, IsJudgedBy, HasCertificate};
 ghost use Rattle.aud_verdict.specs.Refused.{fault_found, IsOfSession};
-ghost use Rattle.aud_verdict.specs.Verdict.{IsVerdict};
+ghost use Rattle.aud_verdict.specs.Verdict.{IsVerdict, asked_so};
 
-use crate::laws::{verdict_by_certificate, verdict_in_every_run};
+use crate::laws::{verdict_by_certificate, verdict_in_every_run, verdict_of_whole};
 use aud_cert::{Certificate, Fault};
 use aud_check::{Accepted, Refusal, check};
 use aud_client::Recording;
@@ -19,7 +19,7 @@ use std::alloc::{AllocError, Global};
 pub enum Judged<'a> {
     /// The accepted certificate of all its turns, and how much of what was due was received.
     Shown(Certificate<'a>, Accepted),
-    /// The first fault that holds.
+    /// The first fault that holds; never [`Fault::Tail`], for which [`decide`] asks.
     Faulty(Fault),
 }
 
@@ -37,7 +37,7 @@ fn fault_found(refusal: Refusal) -> Result<Fault, AllocError>
     }
 }
 
-/// The verdict on the session for which this certificate was made. It costs the session's own records and stays, and
+/// The verdict on the session for which this certificate was made, where the whole isn't asked for. It costs the session's own records and stays, and
 /// what is due to it.
 pub fn judge_made(
     alloc: Global,
@@ -64,8 +64,8 @@ pub fn judge_made(
     }
 }
 
-/// What is found of the session with this pid: the verdict on it, and where that is yes its certificate. It costs the
-/// session's own records and stays, and what is due to it.
+/// What is found of the session with this pid, where the whole isn't asked for: the verdict on it, and where that is yes
+/// its certificate. It costs the session's own records and stays, and what is due to it.
 pub fn judge<'a>(
     alloc: Global,
     recording: &Recording<'a>,
@@ -88,14 +88,11 @@ pub fn judge<'a>(
     }
 }
 
-/// The verdict on the session with this pid, at the cost of [`judge`].
-pub fn decide(alloc: Global, recording: &Recording<'_>, pid: &str) -> Result<Verdict, AllocError>
-    ensures verdict { IfOk result (IsVerdict recording.now pid.now) }
+/// The verdict on the session with this pid, where the whole isn't asked for.
+fn found(alloc: Global, recording: &Recording<'_>, pid: &str) -> Result<Verdict, AllocError>
+    ensures verdict { IfOk result (IsVerdict recording.now false pid.now) }
     ensures certificate { IfOk result (HasCertificate recording.now pid.now) }
-    // Delivery in every run.
-    ensures every_run { IfOk result (HoldsInEveryRun recording.now pid.now) }
 {
-    verdict_in_every_run();
     match judge(alloc, recording, pid)? {
         Judged::Shown(_, counts) => {
             let Accepted { got, tail, turns } = counts;
@@ -103,4 +100,38 @@ pub fn decide(alloc: Global, recording: &Recording<'_>, pid: &str) -> Result<Ver
         }
         Judged::Faulty(fault) => Ok(Verdict::No(fault)),
     }
+}
+
+/// What becomes of a verdict that was found without asking for the whole, where it is asked for or isn't.
+fn asked_so(whole: bool, verdict: Verdict) -> Verdict
+    ensures { result ≡ asked_so whole verdict }
+{
+    match verdict {
+        Verdict::Yes { got, tail, turns } => {
+            if whole && tail > 0 {
+                return Verdict::No(Fault::Tail(tail as u64));
+            }
+            Verdict::Yes { got, tail, turns }
+        }
+        Verdict::No(fault) => Verdict::No(fault),
+    }
+}
+
+/// The verdict on the session with this pid, at the cost of [`judge`]. Where the whole is asked for, a session to which
+/// more is due than was received is answered no, by [`Fault::Tail`]; all other verdicts are the same.
+pub fn decide(
+    alloc: Global,
+    recording: &Recording<'_>,
+    pid: &str,
+    whole: bool,
+) -> Result<Verdict, AllocError>
+    ensures verdict { IfOk result (IsVerdict recording.now whole pid.now) }
+    ensures certificate { IfOk result (HasCertificate recording.now pid.now) }
+    // Delivery in every run.
+    ensures every_run { IfOk result (HoldsInEveryRun recording.now pid.now) }
+{
+    verdict_of_whole();
+    verdict_in_every_run();
+    let verdict = found(alloc, recording, pid)?;
+    Ok(asked_so(whole, verdict))
 }

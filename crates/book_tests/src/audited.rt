@@ -26,7 +26,7 @@ fn audit<R: Threads + Wait + Clock + RandomSource + Sync>(
     let keys = RandomState::new(rt)?;
     let taps = read_posted(alloc, keys, posted)?;
     let recording = Recording::read(rt, alloc, keys, 2, &taps)?;
-    let report = audit_with(rt, alloc, &recording, 2, &OpenGate)?;
+    let report = audit_with(rt, alloc, &recording, 2, false, &OpenGate)?;
     let output = report_on(alloc, report.verdicts.as_slice())?;
     ensure(output.text.as_str() == REPORT, "the report on the bundle")
 }

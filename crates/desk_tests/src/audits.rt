@@ -1,5 +1,5 @@
 //! Reports by several workers.
-use crate::bundle::{REPORT, taps};
+use crate::bundle::{REPORT, REPORT_OF_WHOLE, taps, taps_of};
 use aud_client::Recording;
 use aud_desk::{AuditFault, OpenGate, audit_with};
 use aud_report::report_on;
@@ -13,10 +13,25 @@ fn any_number_of_workers_gives_one_report(rt: HostRuntime) -> Result<(), Fail> {
     let taps = taps(alloc, keys)?;
     let recording = Recording::read(&rt, alloc, keys, 4, &taps)?;
     for workers in [1usize, 2, 64] {
-        let report = audit_with(&rt, alloc, &recording, workers, &OpenGate)?;
+        let report = audit_with(&rt, alloc, &recording, workers, false, &OpenGate)?;
         assert_eq!(rt; (report.yes, report.no), (2, 0));
         let output = report_on(alloc, report.verdicts.as_slice())?;
         assert_eq!(rt; output.text.as_str(), REPORT);
+    }
+    Ok(())
+}
+
+#[test]
+fn what_never_came_is_a_fault_of_the_whole(rt: HostRuntime) -> Result<(), Fail> {
+    let alloc = rt.alloc();
+    let keys = RandomState::new(&rt)?;
+    let taps = taps_of(alloc, keys, 13)?;
+    let recording = Recording::read(&rt, alloc, keys, 4, &taps)?;
+    for workers in [1usize, 2] {
+        let report = audit_with(&rt, alloc, &recording, workers, true, &OpenGate)?;
+        assert_eq!(rt; (report.yes, report.no), (1, 1));
+        let output = report_on(alloc, report.verdicts.as_slice())?;
+        assert_eq!(rt; output.text.as_str(), REPORT_OF_WHOLE);
     }
     Ok(())
 }
@@ -28,7 +43,7 @@ fn none_and_65_workers_are_refused(rt: HostRuntime) -> Result<(), Fail> {
     let taps = taps(alloc, keys)?;
     let recording = Recording::read(&rt, alloc, keys, 4, &taps)?;
     for workers in [0usize, 65] {
-        let refused = audit_with(&rt, alloc, &recording, workers, &OpenGate);
+        let refused = audit_with(&rt, alloc, &recording, workers, false, &OpenGate);
         assert!(rt; matches!(refused, Err(AuditFault::Workers)));
     }
     Ok(())

@@ -27,10 +27,15 @@ c2 {"k":"in","t":"42[\"hi\",\"1-0\"]"}"#;
 pub const REPORT: &str =
     "yes P got=0 tail=0 turns=1\nyes Q got=1 tail=0 turns=1\nsessions=2 yes=2 no=0\n";
 
-/// The lines of the bundle.
-fn lines(alloc: Global) -> Result<Vec<Line>, AllocError> {
+/// What is written for the bundle without its last line, the event that the second session was due, where the whole is
+/// asked for.
+pub const REPORT_OF_WHOLE: &str =
+    "yes P got=0 tail=0 turns=1\nno Q TAIL 1\nsessions=2 yes=1 no=1\n";
+
+/// So many lines of the bundle, which has 14.
+fn lines(alloc: Global, count: usize) -> Result<Vec<Line>, AllocError> {
     let mut lines = Vec::new(alloc);
-    for text in TWO_SESSIONS.lines() {
+    for text in TWO_SESSIONS.lines().take(count) {
         let number = lines.len() as u64 + 1;
         let bytes = Bytes::new(text.as_bytes().to_vec(alloc)?);
         lines.push(Line { number, bytes })?;
@@ -42,7 +47,14 @@ fn lines(alloc: Global) -> Result<Vec<Line>, AllocError> {
 pub fn taps(alloc: Global, keys: RandomState) -> Result<Taps, Fail>
     ensures { IfOk result (λ taps. AreNamedOnce taps) }
 {
-    let lines = lines(alloc)?;
+    taps_of(alloc, keys, 14)
+}
+
+/// The taps of so many lines of the bundle.
+pub fn taps_of(alloc: Global, keys: RandomState, count: usize) -> Result<Taps, Fail>
+    ensures { IfOk result (λ taps. AreNamedOnce taps) }
+{
+    let lines = lines(alloc, count)?;
     let taps = read_bundle(alloc, keys, lines.as_slice())?;
     Ok(taps)
 }

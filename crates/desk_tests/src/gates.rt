@@ -52,7 +52,7 @@ fn two_workers_are_at_work_at_once(rt: HostRuntime) -> Result<(), Fail> {
         kept: AtomicBool::new(false),
         gave_up: AtomicBool::new(false),
     };
-    let report = audit_with(&rt, alloc, &recording, 2, &gate)?;
+    let report = audit_with(&rt, alloc, &recording, 2, false, &gate)?;
     assert!(rt; gate.began.load(SeqCst) && gate.kept.load(SeqCst) && !gate.gave_up.load(SeqCst));
     let output = report_on(alloc, report.verdicts.as_slice())?;
     assert_eq!(rt; output.text.as_str(), REPORT);

@@ -31,6 +31,7 @@ fn one_worker_decides_all(rt: HostRuntime) -> Result<(), Fail> {
         seat,
         &recording,
         pids.as_slice(),
+        false,
         &OpenGate,
     )?;
     assert!(rt; matches!(worker.entries(), [one, other] if one.index() == 0 && other.index() == 1));

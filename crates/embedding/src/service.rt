@@ -60,7 +60,7 @@ pub fn report<R: Threads + Wait + Clock + Sync>(
     let posted = record::<Brand, R>(rt, alloc, Blank::new(NAMES.len() as u64), &NAMES)?;
     let taps = read_posted(alloc, keys, &posted)?;
     let recording = Recording::read(rt, alloc, keys, 4, &taps)?;
-    let report = audit_with(rt, alloc, &recording, 4, &OpenGate)?;
+    let report = audit_with(rt, alloc, &recording, 4, false, &OpenGate)?;
     let output = report_on(alloc, report.verdicts.as_slice())?;
     Ok(output.text)
 }

@@ -45,6 +45,8 @@ pub enum Asked<'a> {
     CheckedTogether(&'a [&'a str]),
     /// The verdict on the session.
     Verdict(&'a str),
+    /// The verdict on the session, where the whole is asked for.
+    Whole(&'a str),
 }
 
 /// Asserts that this is the answer over the bundle, which is given in texts of one or more lines.
@@ -98,7 +100,8 @@ fn answer_of_recording(
         Asked::Rewritten(text) => judgements::rewritten(alloc, recording, text),
         Asked::Checked(text) => judgements::checked(alloc, recording, text),
         Asked::CheckedTogether(texts) => judgements::checked_together(alloc, recording, texts),
-        Asked::Verdict(pid) => judgements::verdict(alloc, recording, pid),
+        Asked::Verdict(pid) => judgements::verdict(alloc, recording, pid, false),
+        Asked::Whole(pid) => judgements::verdict(alloc, recording, pid, true),
     }
 }
 

@@ -111,9 +111,14 @@ fn write_answer(out: &mut String, answer: &Result<Accepted, Refusal>) -> Result<
     }
 }
 
-/// The verdict on the session.
-pub fn verdict(alloc: Global, recording: &Recording<'_>, pid: &str) -> Result<String, Fail> {
-    let verdict = decide(alloc, recording, pid)?;
+/// The verdict on the session, where the whole is asked for or isn't.
+pub fn verdict(
+    alloc: Global,
+    recording: &Recording<'_>,
+    pid: &str,
+    whole: bool,
+) -> Result<String, Fail> {
+    let verdict = decide(alloc, recording, pid, whole)?;
     Ok(text_of_verdict(alloc, &verdict)?)
 }
 

@@ -9,6 +9,6 @@ use Rattle.aud_desk.proofs.audit.verdicts.Goals as goal
 pub returns-in-Ok-gather-clause-each : goal.returns-in-Ok-gather-clause-each
 returns-in-Ok-gather-clause-each g c = λ i verdict at.
     let has = c.in-Ok-gather.ensures.each i verdict at in
-    let Is : ℕ → Verdict → Type 0 = IsVerdictAt c.args.recording.now (map string_bytes c.args.pids.now) in
+    let Is : ℕ → Verdict → Type 0 = IsVerdictAt c.args.recording.now c.args.whole (map string_bytes c.args.pids.now) in
     let mine = All-contains (IsWorkOf c.in-Ok.tickets Is) _ has.0 c.in_ok-done.ensures.work has.1 in
     All-contains (λ (e : Entry). Is e.index e.verdict) has.0.entries.items (entry_of i verdict) mine.1 has.2

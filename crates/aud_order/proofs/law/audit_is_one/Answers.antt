@@ -5,4 +5,4 @@ use Rattle.aud_order.proofs.OneOutput.{one-output}
 use Rattle.aud_order.proofs.law.audit_is_one.Goals as goal
 
 pub returns : goal.returns
-returns c = λ bytes one other. one-output (input_of (layout_of Audit) bytes) one other
+returns c = λ whole bytes one other. one-output whole (input_of (layout_of Audit) bytes) one other

@@ -1,3 +1,4 @@
+use Rattle.std.proofs.Common.{false}
 use Rattle.aud_report.specs.declared.verdict.Verdict.TheVariants.{Yes}
 use Rattle.aud_verdict.proofs.Made.{first_refusal, of_session}
 use Rattle.aud_verdict.proofs.verdict.judge_made.Goals as goal
@@ -9,7 +10,7 @@ returns-in-Ok c =
     let cert = c.args.cert.now in
     let yes = c.verdict_by_certificate.ensures.accepted c.args.recording.now cert.pid cert counts.got counts.tail counts.turns c.named_once.ensures c.requires
     answer.accepted answer.got answer.tail answer.turns in
-    (c.requires, answer.accepted, yes, c.verdict_in_every_run.ensures.all c.args.recording.now cert.pid (Yes counts.got counts.tail counts.turns) yes)
+    (c.requires, answer.accepted, yes, c.verdict_in_every_run.ensures.all c.args.recording.now false cert.pid (Yes counts.got counts.tail counts.turns) yes)
 
 pub check-requires-clause-over : goal.check-requires-clause-over
 check-requires-clause-over c =
