@@ -1,0 +1,9 @@
+mod ToldLemmas
+mod TurnLemmas
+mod ListLemmas
+mod ChainLemmas
+mod DueLemmas
+mod VerdictLemmas
+mod UpgradedLemmas
+mod KeptLemmas
+mod LoopLemmas

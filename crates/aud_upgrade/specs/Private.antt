@@ -1,0 +1,3 @@
+pub mod Told
+pub mod Alike
+pub mod Same
