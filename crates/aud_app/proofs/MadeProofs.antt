@@ -1,5 +1,5 @@
 -- The certificates of sessions, by what was made for each.
-use Rattle.std.proofs.Common.{List, Option, Result, Ok, Err, sym, subst}
+use Rattle.std.proofs.Common.{false, List, Option, Result, Ok, Err, sym, subst}
 use Rattle.std.specs.List.{All}
 use Rattle.aud_node.specs.Stream.{Text}
 use Rattle.aud_node.specs.Cluster.{Cluster}
@@ -24,7 +24,7 @@ of_its_session c pid (Err fault) is = tt
 pub of_their_sessions : (c : Cluster) (pids : List Text) (all : List (Result CertificateSeen Fault)) → AreMadeOf c pids all → All (IsOfItsSession c) all
 of_their_sessions c pids all are = each-All (IsMadeOf c) (IsOfItsSession c) (of_its_session c) pids all are
 
-module _ (c : Cluster) (not_made : (pid : Text) (fault : Fault) → IsFirstMakeFault c pid fault → IsVerdict c pid (No fault)) where
+module _ (c : Cluster) (not_made : (pid : Text) (fault : Fault) → IsFirstMakeFault c pid fault → IsVerdict c false pid (No fault)) where
   -- what is proven by what was made for a session is the session's
   of_session : (pid : Text) (made : Result CertificateSeen Fault) (proof : Option Text) → IsMadeOf c pid made → IsProofBy c made proof → IsProof c pid proof
   of_session pid (Ok cert) proof is by = subst (λ p. IsProof c p proof) is.0.is.pid_is by

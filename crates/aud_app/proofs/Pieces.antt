@@ -1,5 +1,5 @@
 -- Reads of an input, one after the other, and what is written for what they gave.
-use Rattle.std.proofs.Common.{◌≡◌, ℕ, ◌<◌, List, [], ◌++◌, length, take, Option, Result, Ok, Err, IfOk, IfErr, refl, sym, ap, subst, ◌∙◌, append_assoc, append-nil}
+use Rattle.std.proofs.Common.{◌≡◌, ℕ, ◌<◌, Bool, List, [], ◌++◌, length, take, Option, Result, Ok, Err, IfOk, IfErr, refl, sym, ap, subst, ◌∙◌, append_assoc, append-nil}
 use Rattle.std.specs.Io.KnownBytes.{Consumes, IsAtEnd}
 use Rattle.std.proofs.KnownBytes.{Consumes-nil, Consumes-trans, Consumes-whole}
 use Rattle.aud_reader.specs.declared.fault.ReadFault.{ReadFault}
@@ -47,10 +47,10 @@ all_read layout a b c reader buf n answer zero room so_far last ok err other =
     )
 
 -- the output over what was read is that of the bytes
-pub output_read : (mode : Mode) (left : Option (List ℕ)) (read : Result InputSeen ReadFault) (output : OutputSeen) → (¬ (read ≡ Err Memory) → IsInputOf (layout_of mode) left read)
-    → IsOutputOver mode read output → IsOutputOf mode left output
-output_read mode left (Ok input) output known is =
-    let of = known (λ e. cc) in (of.0, of.1, subst (λ r. IsOutputOver mode r output) (sym of.2) is)
-output_read mode left (Err (Input n code)) output known is =
-    let of = known (λ e. cc) in (of.0, of.1, subst (λ r. IsOutputOver mode r output) (sym of.2) is)
-output_read mode left (Err Memory) output known is = absurd is
+pub output_read : (mode : Mode) (whole : Bool) (left : Option (List ℕ)) (read : Result InputSeen ReadFault) (output : OutputSeen) → (¬ (read ≡ Err Memory) → IsInputOf (layout_of mode) left read)
+    → IsOutputOver mode whole read output → IsOutputOf mode whole left output
+output_read mode whole left (Ok input) output known is =
+    let of = known (λ e. cc) in (of.0, of.1, subst (λ r. IsOutputOver mode whole r output) (sym of.2) is)
+output_read mode whole left (Err (Input n code)) output known is =
+    let of = known (λ e. cc) in (of.0, of.1, subst (λ r. IsOutputOver mode whole r output) (sym of.2) is)
+output_read mode whole left (Err Memory) output known is = absurd is

@@ -1,4 +1,6 @@
 pub mod Proofs
+pub mod Orders
+pub mod Upgrades
 pub mod Output
 pub mod Headline
 pub mod Private

@@ -1,14 +1,15 @@
 -- What a run writes for its input, and how it ends.
-use Rattle.std.specs.Prelude.{◌≡◌, ℕ, List, Option, IfSome, Result, Ok, Err}
+use Rattle.std.specs.Prelude.{◌≡◌, ℕ, Bool, List, Option, IfSome, Result, Ok, Err}
 use Rattle.std.specs.Io.KnownBytes.{Appends}
 use Rattle.aud_reader.specs.declared.fault.ReadFault.{ReadFault}
 use Rattle.aud_reader.specs.declared.fault.ReadFault.TheVariants.{Input, Memory}
 use Rattle.aud_reader.specs.declared.line.Line.{Line}
+use Rattle.aud_tap.specs.declared.taps.Tap.{Tap}
 use Rattle.aud_node.specs.Stream.{Text}
 use Rattle.aud_node.specs.Cluster.{Cluster, cluster_of}
 use Rattle.aud_maker.specs.Sessions.{sessions_of}
 use Rattle.aud_options.specs.declared.choice.Mode.{Mode}
-use Rattle.aud_options.specs.declared.choice.Mode.TheVariants.{Audit, Prove, Verify}
+use Rattle.aud_options.specs.declared.choice.Mode.TheVariants.{Audit, Prove, Verify, Order, Upgrade}
 use Rattle.aud_input.specs.declared.input.Layout.{Layout}
 use Rattle.aud_input.specs.declared.input.Layout.TheVariants.{Bundle, BundleAndCertificates}
 use Rattle.aud_input.specs.Input.{InputSeen, input_of}
@@ -20,11 +21,16 @@ use Rattle.aud_answers.specs.Lines.{verification_of}
 use Rattle.aud_answers.specs.Verified.{AreAnswered}
 use Rattle.aud_streams.specs.Written.{AppendsFront}
 use Rattle.aud_verdict.specs.Verdicts.{AreVerdicts}
+use Rattle.aud_upgrade.specs.Upgraded.{upgraded}
+use Rattle.aud_writer.specs.WrittenBundle.{written_bundle}
 use Rattle.aud_app.specs.Proofs.{AreProofs}
+use Rattle.aud_app.specs.Orders.{IsOrdering}
+use Rattle.aud_app.specs.Upgrades.{upgrade_output}
 
--- the output of an audit: the report of the verdicts on all sessions, in the order of their first mentions
-abbrev pub IsReport : Cluster → OutputSeen → Type 0
-IsReport c output = (entries : List SessionVerdict) × AreVerdicts c (sessions_of c) entries × (output ≡ report_of entries)
+-- the output of an audit, where the whole is asked for or isn't: the report of the verdicts on all sessions, in the order
+-- of their first mentions
+abbrev pub IsReport : Bool → Cluster → OutputSeen → Type 0
+IsReport whole c output = (entries : List SessionVerdict) × AreVerdicts c whole (sessions_of c) entries × (output ≡ report_of entries)
 
 -- the certificates of all sessions that are answered yes, in the order of their first mentions
 abbrev pub IsProving : Cluster → OutputSeen → Type 0
@@ -34,31 +40,39 @@ IsProving c output = (proofs : List (Option Text)) × AreProofs c (sessions_of c
 abbrev pub IsVerification : Cluster → List Line → OutputSeen → Type 0
 IsVerification c certificates output = (answers : List Answered) × AreAnswered c certificates answers × (output ≡ verification_of answers)
 
--- the output of a mode over these logs and certificates
-abbrev pub IsOutputOn : Mode → Cluster → List Line → OutputSeen → Type 0
-IsOutputOn Audit c certificates output = IsReport c output
-IsOutputOn Prove c certificates output = IsProving c output
-IsOutputOn Verify c certificates output = IsVerification c certificates output
+-- the bundle of these taps in version 2
+abbrev pub IsUpgrade : List Tap → OutputSeen → Type 0
+IsUpgrade taps output = output ≡ upgrade_output (written_bundle (upgraded taps))
+
+-- the output of a mode over these logs and certificates; whether the whole is asked for is an audit's question alone
+abbrev pub IsOutputOn : Mode → Bool → Cluster → List Line → OutputSeen → Type 0
+IsOutputOn Audit whole c certificates output = IsReport whole c output
+IsOutputOn Prove whole c certificates output = IsProving c output
+IsOutputOn Verify whole c certificates output = IsVerification c certificates output
+IsOutputOn Order whole c certificates output = IsOrdering c output
+IsOutputOn Upgrade whole c certificates output = IsUpgrade c.taps output
 
 -- the output of a mode over what was read
-abbrev pub IsOutputOver : Mode → Result InputSeen ReadFault → OutputSeen → Type 0
-IsOutputOver mode (Ok input) output = IsOutputOn mode (cluster_of input.taps) input.certificates output
-IsOutputOver mode (Err (Input n code)) output = output ≡ refusal_of n code
-IsOutputOver mode (Err Memory) output = ⊥
+abbrev pub IsOutputOver : Mode → Bool → Result InputSeen ReadFault → OutputSeen → Type 0
+IsOutputOver mode whole (Ok input) output = IsOutputOn mode whole (cluster_of input.taps) input.certificates output
+IsOutputOver mode whole (Err (Input n code)) output = output ≡ refusal_of n code
+IsOutputOver mode whole (Err Memory) output = ⊥
 
 -- what the lines of a mode's input are
 abbrev pub layout_of : Mode → Layout
 layout_of Audit = Bundle
 layout_of Prove = Bundle
 layout_of Verify = BundleAndCertificates
+layout_of Order = Bundle
+layout_of Upgrade = Bundle
 
 -- the output of a mode over its input
-abbrev pub IsOutput : Mode → List ℕ → OutputSeen → Type 0
-IsOutput mode bytes output = IsOutputOver mode (input_of (layout_of mode) bytes) output
+abbrev pub IsOutput : Mode → Bool → List ℕ → OutputSeen → Type 0
+IsOutput mode whole bytes output = IsOutputOver mode whole (input_of (layout_of mode) bytes) output
 
 -- the output of a mode over the bytes that a reader had left, where the reader tells them
-abbrev pub IsOutputOf : Mode → Option (List ℕ) → OutputSeen → Type 0
-IsOutputOf mode left output = (bytes : List ℕ) × IfSome left (λ told. bytes ≡ told) × IsOutput mode bytes output
+abbrev pub IsOutputOf : Mode → Bool → Option (List ℕ) → OutputSeen → Type 0
+IsOutputOf mode whole left output = (bytes : List ℕ) × IfSome left (λ told. bytes ≡ told) × IsOutput mode whole bytes output
 
 -- the whole text of such an output was written, and the run ends as the output does
 abbrev pub Writes : Option (List ℕ) → Option (List ℕ) → (OutputSeen → Type 0) → Status → Type 0

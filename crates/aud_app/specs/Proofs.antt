@@ -1,5 +1,5 @@
 -- The certificate of each session that is answered yes.
-use Rattle.std.specs.Prelude.{◌≡◌, List, Option, Some, None}
+use Rattle.std.specs.Prelude.{◌≡◌, false, List, Option, Some, None}
 use Rattle.aud_node.specs.Stream.{Text}
 use Rattle.aud_node.specs.Cluster.{Cluster}
 use Rattle.aud_cert.specs.declared.fault.Fault.{Fault}
@@ -11,10 +11,10 @@ use Rattle.aud_report.specs.OneForEach.{OneForEach}
 use Rattle.aud_verdict.specs.Verdict.{IsVerdict}
 use Rattle.aud_verdict.specs.Judged.{IsShown}
 
--- the text of the session's certificate, where the verdict is yes; none where it is no
+-- the text of the session's certificate, where the verdict is yes, the whole not being asked for; none where it is no
 abbrev pub IsProof : Cluster → Text → Option Text → Type 0
 IsProof c pid (Some text) = (cert : CertificateSeen) × (counts : Accepted) × IsShown c pid cert counts × (text ≡ certificate_text cert)
-IsProof c pid None = (fault : Fault) × IsVerdict c pid (No fault)
+IsProof c pid None = (fault : Fault) × IsVerdict c false pid (No fault)
 
 -- the certificates of these sessions, a place for each, in order
 abbrev pub AreProofs : Cluster → List Text → List (Option Text) → Type 0

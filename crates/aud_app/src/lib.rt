@@ -23,9 +23,12 @@
 
 mod audit;
 mod certificates;
+mod order;
 mod output;
 mod program;
 mod reading;
+mod upgraded;
+mod written;
 
 pub use aud_options::{Mode, Options, options};
 pub use aud_report::Status;

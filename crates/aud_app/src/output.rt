@@ -1,47 +1,74 @@
 //! What is written for an input.
 ghost use Rattle.std.specs.Prelude.{◌≡◌, ◌<◌, ◌≤◌, ◌⊎◌, IfOk, OnErr, Ok, Err};
 ghost use Rattle.aud_node.specs.Names.{AreNamedOnce};
-ghost use Rattle.aud_app.specs.Output.{IsProving, IsVerification, IsOutputOn, IsOutputOver, layout_of};
+ghost use Rattle.aud_node.specs.Cluster.{cluster_of};
+ghost use Rattle.aud_app.specs.Output.{IsReport, IsProving, IsVerification, IsOutputOver, layout_of};
 
 use crate::audit::audited;
 use crate::certificates::prove;
+use crate::order::ordered;
+use crate::upgraded::upgraded;
+use crate::written::Written;
 use aud_answers::{answers, verification_on};
 use aud_client::Recording;
 use aud_input::{Input, Layout};
 use aud_options::{Mode, Options};
-use aud_reader::{Line, ReadFault};
+use aud_reader::ReadFault;
 use aud_report::{Output, proving_on, refusal};
 use aud_streams::RunFault;
+use aud_tap::Taps;
 use std::alloc::{AllocError, Global};
 use std::hash::RandomState;
 use std::sync::Wait;
 use std::thread::Threads;
 use std::time::Clock;
 
-/// The certificates of the sessions of this recording.
+/// The report on the sessions of these taps.
+fn audited_taps<H: Threads + Wait + Clock + Sync>(
+    rt: &H,
+    alloc: Global,
+    keys: RandomState,
+    options: Options,
+    taps: &Taps,
+) -> Result<Output, RunFault>
+    requires names { AreNamedOnce taps.now }
+    requires workers { (0 < options.workers) × (options.workers ≤ 64) }
+    ensures output { IfOk result (λ o. IsReport options.whole (cluster_of taps.now) o) }
+    ensures err { OnErr result ((result ≡ Err RunFault.Memory) ⊎ (result ≡ Err RunFault.Spawn)) }
+{
+    let recording = Recording::read(rt, alloc, keys, options.workers as usize, taps)?;
+    audited(rt, alloc, options.workers, options.whole, &recording)
+}
+
+/// The certificates of the sessions of these taps.
 fn proved<H: Threads + Sync>(
     rt: &H,
     alloc: Global,
+    keys: RandomState,
     threads: usize,
-    recording: &Recording<'_>,
+    taps: &Taps,
 ) -> Result<Output, AllocError>
-    ensures { IfOk result (λ o. IsProving recording.now o) }
+    requires { AreNamedOnce taps.now }
+    ensures { IfOk result (λ o. IsProving (cluster_of taps.now) o) }
 {
-    let proofs = prove(rt, alloc, threads, recording)?;
+    let recording = Recording::read(rt, alloc, keys, threads, taps)?;
+    let proofs = prove(rt, alloc, threads, &recording)?;
     proving_on(alloc, &proofs)
 }
 
-/// The answers on these certificates.
+/// The answers on the certificates.
 fn verified<H: Threads + Sync>(
     rt: &H,
     alloc: Global,
+    keys: RandomState,
     threads: usize,
-    recording: &Recording<'_>,
-    certificates: &[Line],
+    input: &Input,
 ) -> Result<Output, AllocError>
-    ensures { IfOk result (λ o. IsVerification recording.now certificates.now o) }
+    requires { AreNamedOnce input.now.taps }
+    ensures { IfOk result (λ o. IsVerification (cluster_of input.now.taps) input.now.certificates o) }
 {
-    let all = answers(rt, alloc, threads, recording, certificates)?;
+    let recording = Recording::read(rt, alloc, keys, threads, &input.taps)?;
+    let all = answers(rt, alloc, threads, &recording, &input.certificates)?;
     verification_on(alloc, &all)
 }
 
@@ -50,28 +77,8 @@ pub fn layout_of(mode: Mode) -> Layout
     ensures { result ≡ layout_of mode }
 {
     match mode {
-        Mode::Audit | Mode::Prove => Layout::Bundle,
+        Mode::Audit | Mode::Prove | Mode::Order | Mode::Upgrade => Layout::Bundle,
         Mode::Verify => Layout::BundleAndCertificates,
-    }
-}
-
-/// What is written over this recording and certificates.
-fn output_on<H: Threads + Wait + Clock + Sync>(
-    rt: &H,
-    alloc: Global,
-    options: Options,
-    recording: &Recording<'_>,
-    certificates: &[Line],
-) -> Result<Output, RunFault>
-    requires { (0 < options.workers) × (options.workers ≤ 64) }
-    ensures output { IfOk result (λ o. IsOutputOn options.mode recording.now certificates.now o) }
-    ensures err { OnErr result ((result ≡ Err RunFault.Memory) ⊎ (result ≡ Err RunFault.Spawn)) }
-{
-    let threads = options.workers as usize;
-    match options.mode {
-        Mode::Audit => audited(rt, alloc, options.workers, recording),
-        Mode::Prove => Ok(proved(rt, alloc, threads, recording)?),
-        Mode::Verify => Ok(verified(rt, alloc, threads, recording, certificates)?),
     }
 }
 
@@ -82,15 +89,20 @@ fn output_over<H: Threads + Wait + Clock + Sync>(
     keys: RandomState,
     options: Options,
     input: &Input,
-) -> Result<Output, RunFault>
+) -> Result<Written, RunFault>
     requires names { AreNamedOnce input.now.taps }
     requires workers { (0 < options.workers) × (options.workers ≤ 64) }
-    ensures output { IfOk result (λ o. IsOutputOver options.mode (Ok input.now) o) }
+    ensures output { IfOk result (λ o. IsOutputOver options.mode options.whole (Ok input.now) o) }
     ensures err { OnErr result ((result ≡ Err RunFault.Memory) ⊎ (result ≡ Err RunFault.Spawn)) }
 {
     let threads = options.workers as usize;
-    let recording = Recording::read(rt, alloc, keys, threads, &input.taps)?;
-    output_on(rt, alloc, options, &recording, &input.certificates)
+    match options.mode {
+        Mode::Audit => Ok(Written::of(audited_taps(rt, alloc, keys, options, &input.taps)?)),
+        Mode::Prove => Ok(Written::of(proved(rt, alloc, keys, threads, &input.taps)?)),
+        Mode::Verify => Ok(Written::of(verified(rt, alloc, keys, threads, input)?)),
+        Mode::Order => Ok(Written::of(ordered(alloc, keys, &input.taps)?)),
+        Mode::Upgrade => Ok(upgraded(alloc, keys, &input.taps)?),
+    }
 }
 
 /// What is written for what was read: for the taps and the certificates, or for the first refused line.
@@ -100,15 +112,15 @@ pub fn output_of<H: Threads + Wait + Clock + Sync>(
     keys: RandomState,
     options: Options,
     read: Result<Input, ReadFault>,
-) -> Result<Output, RunFault>
+) -> Result<Written, RunFault>
     requires names { IfOk read (λ input. AreNamedOnce input.taps) }
     requires workers { (0 < options.workers) × (options.workers ≤ 64) }
-    ensures output { IfOk result (λ o. IsOutputOver options.mode read o) }
+    ensures output { IfOk result (λ o. IsOutputOver options.mode options.whole read o) }
     ensures err { OnErr result ((result ≡ Err RunFault.Memory) ⊎ (result ≡ Err RunFault.Spawn)) }
 {
     match read {
         Ok(input) => output_over(rt, alloc, keys, options, &input),
-        Err(ReadFault::Input(line, code)) => Ok(refusal(alloc, line, code)?),
+        Err(ReadFault::Input(line, code)) => Ok(Written::of(refusal(alloc, line, code)?)),
         Err(ReadFault::Memory) => Err(RunFault::Memory),
     }
 }

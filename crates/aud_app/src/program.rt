@@ -1,13 +1,14 @@
 //! A whole run: bytes in, the report on them out.
 ghost use Rattle.std.specs.Prelude.{◌≡◌, ◌≤◌, ◌<◌, ◌⊎◌, true, IfOk, OnOk, Err};
 ghost use Rattle.aud_streams.specs.Watched.{inner_of, calls_of, has_failed};
-ghost use Rattle.aud_app.specs.Headline.{ReportHoldsOf};
+ghost use Rattle.aud_app.specs.Headline.{ReportHoldsOf, WholeReportHoldsOf};
 ghost use Rattle.aud_app.specs.Output.{IsOutputOf, Writes, WritesFront};
 
 use crate::output::{layout_of, output_of};
 use crate::reading::{READ_LIMIT, read_input};
+use crate::written::Written;
 use aud_options::{Mode, Options};
-use aud_report::{Output, Status};
+use aud_report::Status;
 use aud_streams::{RunFault, Watched, write_out};
 use std::alloc::Global;
 use std::hash::RandomState;
@@ -34,14 +35,17 @@ pub fn run<H: Threads + Wait + Clock + Sync, R: Read, W: Write>(
     requires workers { (0 < options.workers) × (options.workers ≤ 64) }
 
     // What was written is the mode's output over what the reader had left, whole, and the run ends as that output does.
-    ensures ok { IfOk result (Writes (W.contents (inner_of output.old)) (W.contents (inner_of output.new)) (IsOutputOf options.mode (R.remaining (inner_of input.old)))) }
+    ensures ok { IfOk result (Writes (W.contents (inner_of output.old)) (W.contents (inner_of output.new)) (IsOutputOf options.mode options.whole (R.remaining (inner_of input.old)))) }
     // Each line of an audit holds in every run: after a yes, the client received what was due to its session; after a no
-    // for an event that was extra, doubled, swapped or lost, it did not.
+    // for an event that was extra, doubled, swapped or lost, it did not; after a no for a tail, so many events are missing
+    // at the end.
     ensures every_run { options.mode ≡ Mode.Audit → IfOk result (Writes (W.contents (inner_of output.old)) (W.contents (inner_of output.new)) (ReportHoldsOf (R.remaining (inner_of input.old)))) }
+    // Where the whole is asked for, a yes also has tail 0: the client received all that was due.
+    ensures whole { options.mode ≡ Mode.Audit → options.whole ≡ true → IfOk result (Writes (W.contents (inner_of output.old)) (W.contents (inner_of output.new)) (WholeReportHoldsOf (R.remaining (inner_of input.old)))) }
     // No read or write that failed was tried again.
     ensures unfailed { OnOk result ((has_failed input.new ≡ has_failed input.old) × (has_failed output.new ≡ has_failed output.old)) }
     // After a failed write a front of that output was written.
-    ensures front { result ≡ Err RunFault.Write → WritesFront (W.contents (inner_of output.old)) (W.contents (inner_of output.new)) (IsOutputOf options.mode (R.remaining (inner_of input.old))) }
+    ensures front { result ≡ Err RunFault.Write → WritesFront (W.contents (inner_of output.old)) (W.contents (inner_of output.new)) (IsOutputOf options.mode options.whole (R.remaining (inner_of input.old))) }
     // After every other fault nothing was.
     ensures nothing { (result ≡ Err RunFault.Memory) ⊎ (result ≡ Err RunFault.Read) ⊎ (result ≡ Err RunFault.Spawn)
         → output.new ≡ output.old }
@@ -49,7 +53,7 @@ pub fn run<H: Threads + Wait + Clock + Sync, R: Read, W: Write>(
     ensures write { result ≡ Err RunFault.Write → has_failed output.new ≡ true }
 {
     let read = read_input(alloc, keys, layout_of(options.mode), input)?;
-    let Output { status, text } = output_of(rt, alloc, keys, options, read)?;
-    write_out(output, text.as_bytes())?;
+    let Written { status, bytes } = output_of(rt, alloc, keys, options, read)?;
+    write_out(output, bytes.as_slice())?;
     Ok(status)
 }

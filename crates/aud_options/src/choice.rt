@@ -9,6 +9,10 @@ pub enum Mode {
     Prove,
     /// An answer on each certificate of the input.
     Verify,
+    /// The steps of a run of the logs, or the records that block every run.
+    Order,
+    /// The bundle in version 2 of the format.
+    Upgrade,
 }
 
 /// What the words of the command line ask for.
@@ -17,4 +21,15 @@ pub struct Options {
     pub mode: Mode,
     /// How many workers an audit has, each in a thread of its own: 1 to 64. The output is the same for every number.
     pub workers: u8,
+    /// Whether an audit also answers no where something that was due never came, as `TAIL`. No other mode looks at it.
+    pub whole: bool,
+}
+
+/// The options that stand after `audit`.
+#[derive(Clone, Copy, Debug, PartialEq, Eq, Drop)]
+pub struct AuditOptions {
+    /// The number of `--workers`, where it stands there.
+    pub workers: Option<u8>,
+    /// Whether `--whole` stands there.
+    pub whole: bool,
 }

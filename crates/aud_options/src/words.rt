@@ -1,11 +1,11 @@
 //! The words of the command line: [`options`] reads them, and the parser has the help and the
 //! errors.
-ghost use Rattle.std.specs.Prelude.{◌≡◌, ◌≤◌, None, Some, IfErr, IfOk, IfSome};
-ghost use Rattle.aud_options.specs.Words.{asked, is_end_of_words, mode_named, mode_of, workers_apart, workers_asked, workers_given, workers_joined, workers_named};
+ghost use Rattle.std.specs.Prelude.{◌≡◌, ◌≤◌, true, None, Some, IfErr, IfOk, IfSome};
+ghost use Rattle.aud_options.specs.Words.{AreWithin, asked, audit_asked, is_end_of_words, mode_named, mode_of, options_asked, options_of, plain, with_whole, with_workers, workers_joined, workers_named};
 
-use crate::choice::{Mode, Options};
+use crate::choice::{AuditOptions, Mode, Options};
 use clap::error::ErrorKind;
-use clap::{Arg, Command, Error, value_parser};
+use clap::{Arg, ArgAction, Command, Error, value_parser};
 use std::alloc::{AllocError, Global};
 
 const ABOUT: &str = "Audits what the sessions of a Socket.IO cluster received";
@@ -39,6 +39,23 @@ A line that begins with { is a certificate. Each has a line, and the last line c
   bad <line> <code> <name>
   certs=<n> ok=<n> bad=<n>";
 
+const ORDER_ABOUT: &str =
+    "Reads a bundle and writes one run of its logs, or the records that block every run";
+
+const ORDER_LINES: &str = "\
+A run takes the records of the stream and of the nodes one after another, each where the cluster
+allows it. Records count from 0 in their tap, its header not counted:
+  <tap> <record>            for each step of a run
+  steps=<n>
+  blocked <tap> <record>    where there is no run, for the next record of each log that isn't finished
+  blocked=<n>               the exit status is then 1";
+
+const UPGRADE_ABOUT: &str = "Reads a bundle and writes it in version 2 of the format";
+
+const UPGRADE_LINES: &str = "\
+What a node took one by one it takes by one record, and no verdict changes. The numbers of records do:
+certificates of the old bundle don't fit the new one.";
+
 const SIMULATE_ABOUT: &str = "Writes the bundle of a simulated cluster";
 
 const SIMULATE_LINES: &str = "`sioaudit simulate --help` has its options.";
@@ -56,7 +73,7 @@ fn described<'a>(alloc: Global, name: &'a str, about: &'a str, lines: &'a str) -
     Command::new(alloc, name).about(about).after_help(lines)
 }
 
-/// The command `audit` and its option.
+/// The command `audit` and its options.
 fn audit<'a>(alloc: Global) -> Result<Command<'a>, AllocError> {
     let workers = Arg::new(alloc, "workers")
         .long("workers")
@@ -64,7 +81,13 @@ fn audit<'a>(alloc: Global) -> Result<Command<'a>, AllocError> {
         .help("Threads to audit with, 1 to 64; the report is the same for every N")
         .value_parser(value_parser!(u8).range(1..65))
         .default_value("4");
-    described(alloc, "audit", AUDIT_ABOUT, AUDIT_LINES).arg(workers)
+    let whole = Arg::new(alloc, "whole")
+        .long("whole")
+        .help("Answer no, TAIL <n>, where n due events never came")
+        .action(ArgAction::SetTrue);
+    described(alloc, "audit", AUDIT_ABOUT, AUDIT_LINES)
+        .arg(workers)?
+        .arg(whole)
 }
 
 /// The parser of the words, with the first of its commands.
@@ -82,6 +105,8 @@ fn command<'a>(alloc: Global) -> Result<Command<'a>, AllocError> {
     with_audit(alloc)?
         .subcommand(described(alloc, "prove", PROVE_ABOUT, PROVE_LINES))?
         .subcommand(described(alloc, "verify", VERIFY_ABOUT, VERIFY_LINES))?
+        .subcommand(described(alloc, "order", ORDER_ABOUT, ORDER_LINES))?
+        .subcommand(described(alloc, "upgrade", UPGRADE_ABOUT, UPGRADE_LINES))?
         .subcommand(described(alloc, "simulate", SIMULATE_ABOUT, SIMULATE_LINES))?
         .bin_name("sioaudit")
 }
@@ -96,6 +121,10 @@ fn mode_named(name: &str) -> Option<Mode>
         Some(Mode::Prove)
     } else if name == "verify" {
         Some(Mode::Verify)
+    } else if name == "order" {
+        Some(Mode::Order)
+    } else if name == "upgrade" {
+        Some(Mode::Upgrade)
     } else {
         None
     }
@@ -135,43 +164,93 @@ fn is_end(words: &[&str]) -> bool
     }
 }
 
-/// The number of workers of this option, which is the first of these words.
-fn workers_apart(option: &str, words: &[&str]) -> Option<u8>
-    ensures number { result ≡ workers_apart option.now words.now }
-    ensures within { IfSome result (λ n. (1 ≤ n) × (n ≤ 64)) }
+/// These options and `--whole`, which may stand once.
+fn with_whole(options: AuditOptions) -> Option<AuditOptions>
+    ensures { result ≡ with_whole options }
 {
-    let (number, rest) = words.split_first()?;
-    if option == "--workers" && is_end(rest) {
-        workers_named(number)
-    } else {
-        None
+    if options.whole {
+        return None;
     }
+    Some(AuditOptions {
+        workers: options.workers,
+        whole: true,
+    })
 }
 
-/// The number of workers that the words after `audit` give.
-fn workers_given(words: &[&str]) -> Option<u8>
-    ensures number { result ≡ workers_given words.now }
-    ensures within { IfSome result (λ n. (1 ≤ n) × (n ≤ 64)) }
+/// These options and `--workers` with its number, where it has one; it may stand once.
+fn with_workers(options: AuditOptions, number: Option<u8>) -> Option<AuditOptions>
+    ensures { result ≡ with_workers options number }
 {
-    let (word, rest) = words.split_first()?;
-    if is_end(rest) {
-        workers_joined(word)
-    } else {
-        workers_apart(word, rest)
+    if options.workers.is_some() {
+        return None;
     }
+    let workers = number?;
+    Some(AuditOptions {
+        workers: Some(workers),
+        whole: options.whole,
+    })
 }
 
-/// The number of workers that the words after a mode's name ask for.
-fn workers_asked(mode: Mode, words: &[&str]) -> Option<u8>
-    ensures number { result ≡ workers_asked mode words.now }
-    ensures within { IfSome result (λ n. (1 ≤ n) × (n ≤ 64)) }
+/// The options that the words after `audit` give, in any order, beside those that the words before them gave.
+fn audit_asked(before: AuditOptions, words: &[&str]) -> Option<AuditOptions>
+    requires { AreWithin before }
+    ensures options { result ≡ audit_asked before words.now }
+    ensures within { IfSome result AreWithin }
 {
     if is_end(words) {
-        return Some(4);
+        return Some(before);
     }
+    let (word, rest) = words.split_first()?;
+    if *word == "--whole" {
+        return audit_asked(with_whole(before)?, rest);
+    }
+    if *word != "--workers" {
+        return audit_asked(with_workers(before, workers_joined(word))?, rest);
+    }
+    let (number, rest) = rest.split_first()?;
+    audit_asked(with_workers(before, workers_named(number))?, rest)
+}
+
+/// What is asked of an audit with these options: 4 workers where they give no number.
+fn options_of(options: AuditOptions) -> Options
+    requires { AreWithin options }
+    ensures options { result ≡ options_of options }
+    ensures within { (1 ≤ result.workers) × (result.workers ≤ 64) }
+{
+    Options {
+        mode: Mode::Audit,
+        workers: options.workers.unwrap_or(4),
+        whole: options.whole,
+    }
+}
+
+/// What a mode's name alone asks for.
+fn plain(mode: Mode) -> Options
+    ensures { result ≡ plain mode }
+{
+    Options {
+        mode,
+        workers: 4,
+        whole: false,
+    }
+}
+
+/// What the words after a mode's name ask for.
+fn options_asked(mode: Mode, words: &[&str]) -> Option<Options>
+    ensures options { result ≡ options_asked mode words.now }
+    ensures within { IfSome result (λ o. (1 ≤ o.workers) × (o.workers ≤ 64)) }
+{
     match mode {
-        Mode::Audit => workers_given(words),
-        Mode::Prove | Mode::Verify => None,
+        Mode::Audit => {
+            let none = AuditOptions {
+                workers: None,
+                whole: false,
+            };
+            Some(options_of(audit_asked(none, words)?))
+        }
+        Mode::Prove | Mode::Verify | Mode::Order | Mode::Upgrade => is_end(words).then_some(plain(
+            mode,
+        )),
     }
 }
 
@@ -181,9 +260,7 @@ fn asked(words: &[&str]) -> Option<Options>
     ensures within { IfSome result (λ o. (1 ≤ o.workers) × (o.workers ≤ 64)) }
 {
     let (name, rest) = words.split_first()?;
-    let mode = mode_named(name)?;
-    let workers = workers_asked(mode, rest)?;
-    Some(Options { mode, workers })
+    options_asked(mode_named(name)?, rest)
 }
 
 /// The error on words that the parser lets pass, and that [`asked`] does not understand.
@@ -207,6 +284,8 @@ pub fn options<'a>(alloc: Global, words: &'a [&'a str]) -> Result<Options, Error
     ensures refused { IfErr result (λ _. asked words.now ≡ None) }
     ensures mode { IfOk result (λ o. mode_of words.now ≡ Some o.mode) }
     ensures workers { IfOk result (λ o. (1 ≤ o.workers) × (o.workers ≤ 64)) }
+    // Only an audit is asked for the whole.
+    ensures whole { IfOk result (λ o. o.whole ≡ true → o.mode ≡ Mode.Audit) }
 {
     match asked(words) {
         Some(options) => Ok(options),

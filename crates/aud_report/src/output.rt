@@ -13,9 +13,9 @@ use std::marker::Model;
 /// How a run ended.
 #[derive(Clone, Copy, Debug, PartialEq, Eq, Drop)]
 pub enum Status {
-    /// Each session is answered yes.
+    /// Each session is answered yes, or each certificate is ok; a run was shown, or a bundle written.
     AllYes,
-    /// Some session is answered no.
+    /// Some session is answered no, or has no certificate, or some certificate is bad; or there is no run.
     SomeNo,
     /// A line of the input is refused.
     Refused,

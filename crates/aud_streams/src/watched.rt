@@ -5,12 +5,13 @@ ghost use Rattle.std.specs.Io.KnownBytes.{ReadConsumes, WriteAppends, Keeps};
 
 use std::io::{self, Read, Write};
 
-/// Hands calls on, counts them, and keeps whether one failed.
+/// Hands calls on, counts them, and keeps whether one failed, and the system's reason.
 #[derive(Drop)]
 pub struct Watched<T> {
     inner: T,
     calls: u64,
     failed: bool,
+    os_error: Option<i32>,
 }
 
 impl<T> Watched<T> {
@@ -25,6 +26,7 @@ impl<T> Watched<T> {
             inner,
             calls: 0,
             failed: false,
+            os_error: None,
         }
     }
 
@@ -36,6 +38,7 @@ impl<T> Watched<T> {
             inner,
             calls: _,
             failed: _,
+            os_error: _,
         } = self;
         inner
     }
@@ -57,11 +60,26 @@ impl<T> Watched<T> {
         self.failed = self.failed || failed;
     }
 
+    /// Keeps the system's number of the error of a call that failed, if it has one.
+    fn note_error(&mut self, error: &io::Error)
+        ensures inner { inner_of self.new ≡ inner_of self.old }
+        ensures calls { calls_of self.new ≡ calls_of self.old }
+        ensures failed { has_failed self.new ≡ has_failed self.old }
+    {
+        self.os_error = error.raw_os_error();
+    }
+
     /// Whether a call failed, or a write took no bytes.
     pub fn failed(&self) -> bool
         ensures { result ≡ has_failed self.now }
     {
         self.failed
+    }
+
+    /// The system's number (`errno`) of the error of the last read or write that failed; none where none did, or for an
+    /// error that isn't the system's.
+    pub fn os_error(&self) -> Option<i32> {
+        self.os_error
     }
 }
 
@@ -78,6 +96,9 @@ impl<T: Read> Read for Watched<T> {
     {
         let outcome = self.inner.read(buf);
         self.note(outcome.is_err());
+        if let Err(error) = &outcome {
+            self.note_error(error);
+        }
         outcome
     }
 }
@@ -95,6 +116,9 @@ impl<T: Write> Write for Watched<T> {
     {
         let outcome = self.inner.write(buf);
         self.note(!matches!(&outcome, Ok(1..)));
+        if let Err(error) = &outcome {
+            self.note_error(error);
+        }
         outcome
     }
 

@@ -12,6 +12,7 @@ use std::time::Clock;
 const AUDIT: Options = Options {
     mode: Mode::Audit,
     workers: 4,
+    whole: false,
 };
 
 /// What is seen of an audit of `BUNDLE_A`.
@@ -27,17 +28,16 @@ struct Seen {
     written: usize,
 }
 
-/// An audit whose reader gives a byte a call and whose writer takes so many, until their calls are used up.
+/// An audit to this writer, whose reader gives a byte a call until its calls are used up.
 fn audited<H: Threads + Wait + Clock + Sync>(
     rt: &H,
     alloc: Global,
     keys: RandomState,
     reads: u64,
-    writes: u64,
-    most: usize,
+    writer: TestWriter,
 ) -> Seen {
     let mut input = Watched::new(TestReader::new(BUNDLE_A.as_bytes(), reads, 1));
-    let mut output = Watched::new(TestWriter::new(alloc, writes, most));
+    let mut output = Watched::new(writer);
     let outcome = run(rt, alloc, keys, &mut input, &mut output, AUDIT);
     let (write_failed, writes) = (output.failed(), output.calls());
     let written = output.into_inner().into_written();
@@ -91,24 +91,18 @@ fn no_fault(writes: u64) -> Seen {
     }
 }
 
-/// A reader that gives a byte a call takes a call for each byte and one at the end.
+/// A reader that gives a byte a call takes a call for each byte and one at the end. It fails at each of them in turn.
 #[test]
 fn reader_fails(rt: HostRuntime) -> Result<(), Fail> {
     let keys = RandomState::new(&rt)?;
     let calls = BUNDLE_A.len() as u64 + 1;
-    for (answered, seen) in [
-        (0, read_fault(1)),
-        (1, read_fault(2)),
-        (2, read_fault(3)),
-        (100, read_fault(101)),
-        (calls - 1, read_fault(calls)),
-        (calls, no_fault(1)),
-    ] {
-        assert_eq!(rt;
-            audited(&rt, rt.alloc(), keys, answered, u64::MAX, usize::MAX),
-            seen
-        );
+    for answered in 0..calls {
+        let writer = TestWriter::new(rt.alloc(), u64::MAX, usize::MAX);
+        let seen = audited(&rt, rt.alloc(), keys, answered, writer);
+        assert_eq!(rt; seen, read_fault(answered + 1));
     }
+    let writer = TestWriter::new(rt.alloc(), u64::MAX, usize::MAX);
+    assert_eq!(rt; audited(&rt, rt.alloc(), keys, calls, writer), no_fault(1));
     Ok(())
 }
 
@@ -125,24 +119,23 @@ fn reader_fails_after_a_refused_line(rt: HostRuntime) -> Result<(), Fail> {
     Ok(())
 }
 
-/// A writer that takes a byte a call takes a call for each byte; a call that takes none is a fault.
+/// A writer that takes a byte a call takes a call for each byte. It fails at each of them in turn, and then takes nothing at
+/// each of them in turn.
 #[test]
 fn writer_fails(rt: HostRuntime) -> Result<(), Fail> {
     let keys = RandomState::new(&rt)?;
-    let bytes = REPORT_A.len();
-    for (answered, most, seen) in [
-        (0, 1, write_fault(1, 0)),
-        (1, 1, write_fault(2, 1)),
-        (2, 1, write_fault(3, 2)),
-        (30, 1, write_fault(31, 30)),
-        (bytes as u64 - 1, 1, write_fault(bytes as u64, bytes - 1)),
-        (bytes as u64, 1, no_fault(bytes as u64)),
-        (9, 0, write_fault(1, 0)),
-    ] {
-        assert_eq!(rt;
-            audited(&rt, rt.alloc(), keys, u64::MAX, answered, most),
-            seen
-        );
+    for taken in 0..REPORT_A.len() {
+        let fault = write_fault(taken as u64 + 1, taken);
+        let failing = TestWriter::new(rt.alloc(), taken as u64, 1);
+        assert_eq!(rt; audited(&rt, rt.alloc(), keys, u64::MAX, failing), fault);
+        let full = TestWriter::full(rt.alloc(), taken as u64, 1);
+        assert_eq!(rt; audited(&rt, rt.alloc(), keys, u64::MAX, full), fault);
     }
+    let calls = REPORT_A.len() as u64;
+    let writer = TestWriter::new(rt.alloc(), calls, 1);
+    assert_eq!(rt;
+        audited(&rt, rt.alloc(), keys, u64::MAX, writer),
+        no_fault(calls)
+    );
     Ok(())
 }

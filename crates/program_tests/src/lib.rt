@@ -7,8 +7,14 @@ mod bundles;
 #[cfg(test)]
 mod failing;
 #[cfg(test)]
+mod malicious;
+#[cfg(test)]
+mod pages;
+#[cfg(test)]
 mod runs;
 #[cfg(test)]
 mod streams;
+#[cfg(test)]
+mod versions;
 #[cfg(test)]
 mod words;

@@ -25,6 +25,16 @@ fn fail(rt: &impl Eprint, fault: RunFault) -> ExitCode {
     ExitCode::from(3)
 }
 
+/// Says why there is no report, after a read or a write that failed, with the system's reason where there is one.
+fn fail_for(rt: &impl Eprint, fault: RunFault, os_error: Option<i32>) -> ExitCode {
+    let Some(number) = os_error else {
+        return fail(rt, fault);
+    };
+    let reason = io::Error::from_raw_os_error(number);
+    let _ = eprintln!(rt; "sioaudit: {fault}: {reason}");
+    ExitCode::from(3)
+}
+
 /// Prints the help that was asked for, or why the words are refused.
 fn refuse(rt: &(impl Print + Eprint), error: &clap::Error) -> ExitCode {
     if error.kind() == ErrorKind::OutOfMemory {
@@ -32,7 +42,7 @@ fn refuse(rt: &(impl Print + Eprint), error: &clap::Error) -> ExitCode {
     }
     match error.print(rt) {
         _ if error.use_stderr() => ExitCode::from(4),
-        Err(_) => fail(rt, RunFault::Write),
+        Err(error) => fail_for(rt, RunFault::Write, error.raw_os_error()),
         Ok(()) => ExitCode::SUCCESS,
     }
 }
@@ -72,6 +82,8 @@ fn main(rt: HostRuntime) -> ExitCode {
     let mut output = Watched::new(rt.stdout());
     match run(&rt, alloc, keys, &mut input, &mut output, chosen) {
         Ok(status) => status_code(status),
+        Err(RunFault::Read) => fail_for(&rt, RunFault::Read, input.os_error()),
+        Err(RunFault::Write) => fail_for(&rt, RunFault::Write, output.os_error()),
         Err(fault) => fail(&rt, fault),
     }
 }

@@ -1,5 +1,5 @@
 //! The command `simulate`.
-use crate::{fail, refuse};
+use crate::{fail, fail_for, refuse};
 use aud_app::{RunFault, Watched};
 use aud_sim::SimFault;
 use aud_simulation::{plan_asked, simulated};
@@ -42,6 +42,6 @@ pub fn simulation<W: Write + Drop>(
     let mut output = Watched::new(output);
     match write_out(&mut output, bundle.as_slice()) {
         Ok(()) => ExitCode::SUCCESS,
-        Err(fault) => fail(rt, fault),
+        Err(fault) => fail_for(rt, fault, output.os_error()),
     }
 }
