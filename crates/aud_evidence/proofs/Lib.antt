@@ -1,0 +1,4 @@
+pub mod Differences
+pub mod Ends
+pub mod Firsts
+pub mod Parts

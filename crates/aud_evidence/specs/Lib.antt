@@ -1,0 +1,12 @@
+pub use Rattle.aud_node.specs.Lists
+pub use Rattle.aud_node.specs.Cluster
+pub use Rattle.aud_merge.specs.ByTurns
+pub use Rattle.aud_client.specs.Received
+pub use Rattle.aud_check.specs.Compare
+pub use Rattle.aud_check.specs.Frames
+pub mod Class
+pub mod Difference
+pub mod Order
+pub mod Parting
+pub mod Stays
+pub mod Private

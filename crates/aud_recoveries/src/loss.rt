@@ -1,0 +1,96 @@
+//! What a client missed where its recovery was refused.
+ghost use Rattle.std.specs.Prelude.{◌≡◌, IfOk, MatchOption, None, Some};
+ghost use Rattle.aud_maker.specs.Made.{IsMade};
+ghost use Rattle.aud_recoveries.specs.Missed.{IsMissed, IsMissedFrom, IsUntold};
+ghost use Rattle.aud_recoveries.specs.Private.Opened.{opened_in};
+
+use crate::held::spans_held;
+use crate::last::last_received;
+use crate::opening::opening_cursor;
+use aud_cert::{Certificate, Turn};
+use aud_client::Recording;
+use aud_maker::{MakeFault, made_is_over, make};
+use aud_rooms::due_of;
+use aud_tap::NodeRec;
+use std::alloc::{AllocError, Global};
+
+/// The positions, ascending, of what the client at this place missed where it asked for one session and was given
+/// another: the recoverable entries after the last event that it received of the first, up to the cursor of the node
+/// on which the second opened, that are addressed to the rooms that the first held at its break. Where it received
+/// none, those after the first session's birth.
+///
+/// None where the logs don't tell: where the first session has one of the faults `NoLog`, `Chain`, `Order` and
+/// `Client`, or no node opened the second. It costs the first session's own records and stays, and what is addressed to
+/// its rooms.
+pub fn missed(
+    alloc: Global,
+    recording: &Recording<'_>,
+    client: usize,
+    asked: &str,
+    got: &str,
+) -> Result<Option<Vec<u64>>, AllocError>
+    ensures { IfOk result (λ missed. MatchOption missed (IsUntold recording.now asked.now got.now)
+        (λ missed. IsMissed recording.now client asked.now got.now missed.items)) }
+{
+    let Some(cursor) = opening_cursor(recording.logs(), got) else {
+        return Ok(None);
+    };
+    let cert = match make(alloc, recording, asked) {
+        Ok(cert) => cert,
+        Err(MakeFault::Fault(_)) => return Ok(None),
+        Err(MakeFault::Memory) => return Err(AllocError),
+    };
+    let last = last_received(alloc, recording, client, asked)?;
+    let missed = missed_from(alloc, recording, &cert, last, cursor)?;
+    Ok(Some(missed))
+}
+
+/// What was missed of the session for which the certificate was made, after this position, or else after its birth, up
+/// to the cursor.
+fn missed_from(
+    alloc: Global,
+    recording: &Recording<'_>,
+    cert: &Certificate<'_>,
+    last: Option<u64>,
+    cursor: u64,
+) -> Result<Vec<u64>, AllocError>
+    requires { IsMade recording.now cert.now.pid cert.now }
+    ensures { IfOk result (λ missed. IsMissedFrom recording.now cert.now.pid last cursor missed.items) }
+{
+    made_is_over();
+    recording.named_once();
+    let logs = recording.logs();
+    let turns = cert.turns.as_slice();
+    let Some(opened) = opened_in(turns) else {
+        unreachable!()
+    };
+    let pid = cert.pid.as_str();
+    let after = last.unwrap_or(opened.low);
+    let spans = spans_held(alloc, logs, pid, opened.sid, turns, after, cursor)?;
+    due_of(alloc, &spans, logs.stream(), opened.nsp, after, cursor)
+}
+
+/// What the `open` of a session names, and the node's cursor after it.
+#[derive(Clone, Copy)]
+struct Opened<'a> {
+    sid: &'a str,
+    nsp: &'a str,
+    low: u64,
+}
+
+/// What the first record of the first turn opens.
+fn opened_in<'a>(turns: &[Turn<'a>]) -> Option<Opened<'a>>
+    ensures { MatchOption result (opened_in turns.now ≡ None) (λ o. opened_in turns.now ≡ Some (o.sid.now, o.nsp.now, o.low)) }
+{
+    let Some(turn) = turns.first() else {
+        return None;
+    };
+    match turn.recs.get(0) {
+        Some(NodeRec::Opened { sid, nsp, .. }) => Some(Opened {
+            sid: sid.as_str(),
+            nsp: nsp.as_str(),
+            low: turn.low,
+        }),
+        _ => None,
+    }
+}
