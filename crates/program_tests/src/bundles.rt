@@ -14,19 +14,6 @@ c1 {"k":"in","t":"40{\"sid\":\"s1\",\"pid\":\"P\"}"}
 c1 {"k":"in","t":"42[\"hi\",\"1-0\"]"}
 "#;
 
-/// `BUNDLE_A` without its last line: the event that was due never came.
-pub const NEVER_CAME: &str = r#"st {"k":"tap","v":1,"of":"stream"}
-st {"k":"ev","off":"1-0","nsp":"/","rooms":["r"],"text":"2[\"hi\",\"1-0\"]"}
-a {"k":"tap","v":1,"of":"node"}
-a {"k":"start","off":null}
-a {"k":"open","pid":"P","sid":"s1","nsp":"/"}
-a {"k":"join","pid":"P","room":"r"}
-a {"k":"take","off":"1-0"}
-c1 {"k":"tap","v":1,"of":"client"}
-c1 {"k":"conn","c":1}
-c1 {"k":"in","t":"40{\"sid\":\"s1\",\"pid\":\"P\"}"}
-"#;
-
 /// What an audit of `BUNDLE_A` writes.
 pub const REPORT_A: &str = "yes P got=1 tail=0 turns=1\nsessions=1 yes=1 no=0\n";
 
@@ -145,9 +132,4 @@ c1 {"k":"lost"}
 c1 {"k":"conn","c":2}
 c1 {"k":"out","t":"40{\"pid\":\"P\",\"offset\":\"1-0\"}"}
 c1 {"k":"in","t":"40{\"sid\":\"s1\",\"pid\":\"P\"}"}
-"#;
-
-/// The certificate of the session of `BUNDLE_B`.
-pub const PROOF_B: &str =
-    r#"{"client":"c1","pid":"P","spans":[["r",1,2],["s1",1,2]],"turns":[["a",1,5,0,1],["b",3,4,2,2]]}
 "#;

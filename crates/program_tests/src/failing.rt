@@ -28,16 +28,17 @@ struct Seen {
     written: usize,
 }
 
-/// An audit to this writer, whose reader gives a byte a call until its calls are used up.
+/// An audit whose reader gives a byte a call and whose writer takes so many, until their calls are used up.
 fn audited<H: Threads + Wait + Clock + Sync>(
     rt: &H,
     alloc: Global,
     keys: RandomState,
     reads: u64,
-    writer: TestWriter,
+    writes: u64,
+    most: usize,
 ) -> Seen {
     let mut input = Watched::new(TestReader::new(BUNDLE_A.as_bytes(), reads, 1));
-    let mut output = Watched::new(writer);
+    let mut output = Watched::new(TestWriter::new(alloc, writes, most));
     let outcome = run(rt, alloc, keys, &mut input, &mut output, AUDIT);
     let (write_failed, writes) = (output.failed(), output.calls());
     let written = output.into_inner().into_written();
@@ -91,18 +92,24 @@ fn no_fault(writes: u64) -> Seen {
     }
 }
 
-/// A reader that gives a byte a call takes a call for each byte and one at the end. It fails at each of them in turn.
+/// A reader that gives a byte a call takes a call for each byte and one at the end.
 #[test]
 fn reader_fails(rt: HostRuntime) -> Result<(), Fail> {
     let keys = RandomState::new(&rt)?;
     let calls = BUNDLE_A.len() as u64 + 1;
-    for answered in 0..calls {
-        let writer = TestWriter::new(rt.alloc(), u64::MAX, usize::MAX);
-        let seen = audited(&rt, rt.alloc(), keys, answered, writer);
-        assert_eq!(rt; seen, read_fault(answered + 1));
+    for (answered, seen) in [
+        (0, read_fault(1)),
+        (1, read_fault(2)),
+        (2, read_fault(3)),
+        (100, read_fault(101)),
+        (calls - 1, read_fault(calls)),
+        (calls, no_fault(1)),
+    ] {
+        assert_eq!(rt;
+            audited(&rt, rt.alloc(), keys, answered, u64::MAX, usize::MAX),
+            seen
+        );
     }
-    let writer = TestWriter::new(rt.alloc(), u64::MAX, usize::MAX);
-    assert_eq!(rt; audited(&rt, rt.alloc(), keys, calls, writer), no_fault(1));
     Ok(())
 }
 
@@ -119,23 +126,24 @@ fn reader_fails_after_a_refused_line(rt: HostRuntime) -> Result<(), Fail> {
     Ok(())
 }
 
-/// A writer that takes a byte a call takes a call for each byte. It fails at each of them in turn, and then takes nothing at
-/// each of them in turn.
+/// A writer that takes a byte a call takes a call for each byte; a call that takes none is a fault.
 #[test]
 fn writer_fails(rt: HostRuntime) -> Result<(), Fail> {
     let keys = RandomState::new(&rt)?;
-    for taken in 0..REPORT_A.len() {
-        let fault = write_fault(taken as u64 + 1, taken);
-        let failing = TestWriter::new(rt.alloc(), taken as u64, 1);
-        assert_eq!(rt; audited(&rt, rt.alloc(), keys, u64::MAX, failing), fault);
-        let full = TestWriter::full(rt.alloc(), taken as u64, 1);
-        assert_eq!(rt; audited(&rt, rt.alloc(), keys, u64::MAX, full), fault);
+    let bytes = REPORT_A.len();
+    for (answered, most, seen) in [
+        (0, 1, write_fault(1, 0)),
+        (1, 1, write_fault(2, 1)),
+        (2, 1, write_fault(3, 2)),
+        (30, 1, write_fault(31, 30)),
+        (bytes as u64 - 1, 1, write_fault(bytes as u64, bytes - 1)),
+        (bytes as u64, 1, no_fault(bytes as u64)),
+        (9, 0, write_fault(1, 0)),
+    ] {
+        assert_eq!(rt;
+            audited(&rt, rt.alloc(), keys, u64::MAX, answered, most),
+            seen
+        );
     }
-    let calls = REPORT_A.len() as u64;
-    let writer = TestWriter::new(rt.alloc(), calls, 1);
-    assert_eq!(rt;
-        audited(&rt, rt.alloc(), keys, u64::MAX, writer),
-        no_fault(calls)
-    );
     Ok(())
 }

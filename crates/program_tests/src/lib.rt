@@ -7,10 +7,6 @@ mod bundles;
 #[cfg(test)]
 mod failing;
 #[cfg(test)]
-mod malicious;
-#[cfg(test)]
-mod pages;
-#[cfg(test)]
 mod runs;
 #[cfg(test)]
 mod streams;

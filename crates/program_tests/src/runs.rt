@@ -1,7 +1,7 @@
 //! Runs over memory: what a word of the command line makes of a bundle, and of certificates after it.
 use crate::bundles::{
-    ANSWERS_ON_TWO, B_WITHOUT_SECOND_EVENT, BUNDLE_A, BUNDLE_B, CUT, LATER_HEADER, NEVER_CAME,
-    NOT_DUE, PROOF_A, PROOF_OF_TWO, REPORT_A, REPORT_OF_TWO, STREAM_HEADER, TWO_SESSIONS,
+    ANSWERS_ON_TWO, B_WITHOUT_SECOND_EVENT, BUNDLE_A, BUNDLE_B, CUT, LATER_HEADER, NOT_DUE,
+    PROOF_A, PROOF_OF_TWO, REPORT_A, REPORT_OF_TWO, STREAM_HEADER, TWO_SESSIONS,
 };
 use crate::streams::TestReader;
 use aud_app::{Status, Watched, options, run};
@@ -116,78 +116,6 @@ fn outputs(rt: HostRuntime) -> Result<(), Fail> {
         let input = with_certificates(rt.alloc(), bundle, certificates)?;
         let is_so = gives(&rt, rt.alloc(), &[word], input.as_slice(), text, status)?;
         assert!(rt; is_so, "{word}: {text}");
-    }
-    Ok(())
-}
-
-/// Words, a bundle and certificates after it, and the text and the status of its output: an event that never came is a
-/// fault of an audit that asks for the whole, and of nothing else.
-static WHOLE: [(&[&str], &str, &str, &str, Status); 9] = [
-    (
-        &["audit"],
-        NEVER_CAME,
-        "",
-        "yes P got=0 tail=1 turns=1\nsessions=1 yes=1 no=0\n",
-        Status::AllYes,
-    ),
-    (
-        &["audit", "--whole"],
-        NEVER_CAME,
-        "",
-        "no P TAIL 1\nsessions=1 yes=0 no=1\n",
-        Status::SomeNo,
-    ),
-    (
-        &["audit", "--whole", "--workers", "1"],
-        B_WITHOUT_SECOND_EVENT,
-        "",
-        "no P TAIL 1\nsessions=1 yes=0 no=1\n",
-        Status::SomeNo,
-    ),
-    (
-        &["audit", "--workers=64", "--whole"],
-        NOT_DUE,
-        "",
-        "no P EXTRA 1-0\nsessions=1 yes=0 no=1\n",
-        Status::SomeNo,
-    ),
-    (
-        &["audit", "--whole"],
-        BUNDLE_A,
-        "",
-        REPORT_A,
-        Status::AllYes,
-    ),
-    (
-        &["audit", "--whole"],
-        CUT,
-        "",
-        "line 7: NotJson\n",
-        Status::Refused,
-    ),
-    (
-        &["audit", "--whole"],
-        "",
-        "",
-        "sessions=0 yes=0 no=0\n",
-        Status::AllYes,
-    ),
-    (&["prove"], NEVER_CAME, "", PROOF_A, Status::AllYes),
-    (
-        &["verify"],
-        NEVER_CAME,
-        PROOF_A,
-        "ok 11 P got=0 tail=1 turns=1\ncerts=1 ok=1 bad=0\n",
-        Status::AllYes,
-    ),
-];
-
-#[test]
-fn what_never_came_is_a_fault_of_the_whole(rt: HostRuntime) -> Result<(), Fail> {
-    for &(words, bundle, certificates, text, status) in &WHOLE {
-        let input = with_certificates(rt.alloc(), bundle, certificates)?;
-        let is_so = gives(&rt, rt.alloc(), words, input.as_slice(), text, status)?;
-        assert!(rt; is_so, "{words:?}: {text}");
     }
     Ok(())
 }

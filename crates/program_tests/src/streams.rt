@@ -35,13 +35,12 @@ impl Read for TestReader<'_> {
     }
 }
 
-/// Keeps what is written, at most some bytes a call, and fails once a number of calls were answered; or takes nothing then.
+/// Keeps what is written, at most some bytes a call, and fails once a number of calls were answered.
 #[derive(Drop)]
 pub struct TestWriter {
     written: Vec<u8>,
     calls_left: u64,
     most: usize,
-    fails: bool,
 }
 
 impl TestWriter {
@@ -50,17 +49,6 @@ impl TestWriter {
             written: Vec::new(alloc),
             calls_left: calls,
             most,
-            fails: true,
-        }
-    }
-
-    /// A writer that takes nothing, and doesn't fail, once so many calls were answered.
-    pub fn full(alloc: Global, calls: u64, most: usize) -> TestWriter {
-        TestWriter {
-            written: Vec::new(alloc),
-            calls_left: calls,
-            most,
-            fails: false,
         }
     }
 
@@ -74,11 +62,8 @@ impl Write for TestWriter {
     ghost contents = { λ w. Some w.written.items };
 
     fn write(&mut self, buf: &[u8]) -> io::Result<usize> {
-        if self.calls_left == 0 && self.fails {
-            return Err(io::Error::from(ErrorKind::Interrupted));
-        }
         if self.calls_left == 0 {
-            return Ok(0);
+            return Err(io::Error::from(ErrorKind::Interrupted));
         }
         self.calls_left -= 1;
         let taken = buf.len().min(self.most);

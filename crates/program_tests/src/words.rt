@@ -4,56 +4,28 @@ use std::alloc::Global;
 use std::test::Fail;
 
 /// Words that are understood, and what they ask for.
-static ACCEPTED: [(&[&str], Mode, u8, bool); 20] = [
-    (&["audit"], Mode::Audit, 4, false),
-    (&["audit", "--"], Mode::Audit, 4, false),
-    (&["audit", "--workers", "64"], Mode::Audit, 64, false),
-    (&["audit", "--workers=1"], Mode::Audit, 1, false),
-    (&["audit", "--workers", "+07"], Mode::Audit, 7, false),
-    (&["audit", "--workers=+064"], Mode::Audit, 64, false),
-    (&["audit", "--workers", "8", "--"], Mode::Audit, 8, false),
-    (&["audit", "--workers=8", "--"], Mode::Audit, 8, false),
-    (&["audit", "--whole"], Mode::Audit, 4, true),
-    (&["audit", "--whole", "--"], Mode::Audit, 4, true),
-    (
-        &["audit", "--whole", "--workers", "8"],
-        Mode::Audit,
-        8,
-        true,
-    ),
-    (&["audit", "--whole", "--workers=8"], Mode::Audit, 8, true),
-    (
-        &["audit", "--workers", "8", "--whole"],
-        Mode::Audit,
-        8,
-        true,
-    ),
-    (&["audit", "--workers=8", "--whole"], Mode::Audit, 8, true),
-    (
-        &["audit", "--workers", "8", "--whole", "--"],
-        Mode::Audit,
-        8,
-        true,
-    ),
-    (
-        &["audit", "--whole", "--workers=8", "--"],
-        Mode::Audit,
-        8,
-        true,
-    ),
-    (&["prove"], Mode::Prove, 4, false),
-    (&["prove", "--"], Mode::Prove, 4, false),
-    (&["verify"], Mode::Verify, 4, false),
-    (&["verify", "--"], Mode::Verify, 4, false),
+static ACCEPTED: [(&[&str], Mode, u8); 12] = [
+    (&["audit"], Mode::Audit, 4),
+    (&["audit", "--"], Mode::Audit, 4),
+    (&["audit", "--workers", "64"], Mode::Audit, 64),
+    (&["audit", "--workers=1"], Mode::Audit, 1),
+    (&["audit", "--workers", "+07"], Mode::Audit, 7),
+    (&["audit", "--workers=+064"], Mode::Audit, 64),
+    (&["audit", "--workers", "8", "--"], Mode::Audit, 8),
+    (&["audit", "--workers=8", "--"], Mode::Audit, 8),
+    (&["prove"], Mode::Prove, 4),
+    (&["prove", "--"], Mode::Prove, 4),
+    (&["verify"], Mode::Verify, 4),
+    (&["verify", "--"], Mode::Verify, 4),
 ];
 
 #[test]
 fn words_that_are_accepted(rt: HostRuntime) -> Result<(), Fail> {
-    for &(words, mode, workers, whole) in &ACCEPTED {
+    for &(words, mode, workers) in &ACCEPTED {
         let asked = Options {
             mode,
             workers,
-            whole,
+            whole: false,
         };
         assert_eq!(rt; options(rt.alloc(), words)?, asked);
     }
@@ -72,19 +44,11 @@ fn is_refused(alloc: Global, words: &[&str], text: &str, is_help: bool) -> Resul
 }
 
 /// Words that are refused, and a part of the text that says why.
-static REFUSED: [(&[&str], &str); 30] = [
+static REFUSED: [(&[&str], &str); 22] = [
     (&[], "Usage"),
     (&["judge"], "judge"),
     (&["--", "audit"], "audit"),
     (&["audit", "prove"], "prove"),
-    (&["audit", "--whole", "--whole"], "--whole"),
-    (&["audit", "--whole", "--workers=8", "--whole"], "--whole"),
-    (&["audit", "--whole=true"], "--whole"),
-    (&["audit", "--workers", "--whole"], "--workers"),
-    (&["audit", "--workers", "--whole", "8"], "--workers"),
-    (&["audit", "--whole", "--workers"], "--workers"),
-    (&["audit", "--", "--whole"], "--whole"),
-    (&["--whole", "audit"], "--whole"),
     (&["prove", "--whole"], "--whole"),
     (&["verify", "--whole"], "--whole"),
     (&["audit", "--workers"], "--workers"),
@@ -117,11 +81,10 @@ fn words_that_are_refused(rt: HostRuntime) -> Result<(), Fail> {
 }
 
 /// Words that ask for help, and a part of it.
-static HELP: [(&[&str], &str); 6] = [
+static HELP: [(&[&str], &str); 5] = [
     (&["--help"], "Exit status"),
     (&["--help"], "verify"),
     (&["audit", "--help"], "--workers"),
-    (&["audit", "--help"], "--whole"),
     (&["prove", "--help"], "certificate"),
     (&["verify", "--help"], "bad <line>"),
 ];
