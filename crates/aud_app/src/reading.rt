@@ -11,6 +11,7 @@ use aud_streams::{RunFault, Watched};
 use std::alloc::{AllocError, Global};
 use std::hash::RandomState;
 use std::io::Read;
+use std::thread::Threads;
 
 /// How many times the input of a run may be read.
 pub const READ_LIMIT: u64 = 4_294_967_296;
@@ -26,12 +27,17 @@ fn buffer(alloc: Global, size: usize) -> Result<Vec<u8>, AllocError>
 }
 
 /// Hands the next piece to the reader, which keeps a refused line until it ends.
-fn feed(reader: &mut InputReader, piece: &[u8]) -> Result<(), AllocError>
+fn feed<H: Threads + Sync>(
+    rt: &H,
+    threads: usize,
+    reader: &mut InputReader,
+    piece: &[u8],
+) -> Result<(), AllocError>
     requires { reader.old.cut.number + length piece.now < 2 ^ 64 }
     ensures input { OnOk result ((more : List ℕ) → input_to_come reader.new more ≡ input_to_come reader.old (piece.now ++ more)) }
     ensures number { reader.new.cut.number ≤ reader.old.cut.number + length piece.now }
 {
-    match reader.feed(piece) {
+    match reader.feed(rt, threads, piece) {
         Ok(()) | Err(ReadFault::Input(_, _)) => Ok(()),
         Err(ReadFault::Memory) => Err(AllocError),
     }
@@ -39,10 +45,13 @@ fn feed(reader: &mut InputReader, piece: &[u8]) -> Result<(), AllocError>
 
 /// The taps and the certificates of the input, or its first refused line.
 ///
-/// Each line is let go once it was read, but for the certificates. The input is read to its end where a line of it is
-/// refused too, so that a read that fails is told first, however many bytes the reader gives a call. A read that fails
-/// is not tried again, of whatever kind its error is.
-pub fn read_input<R: Read>(
+/// Lines are read by at most `threads` threads, this one among them; for more than one they wait until there are enough,
+/// as [`InputReader`] says. Each line is let go once it was read, but for the certificates. The input is read to its end
+/// where a line of it is refused too, so that a read that fails is told first, however many bytes the reader gives a call.
+/// A read that fails is not tried again, of whatever kind its error is.
+pub fn read_input<H: Threads + Sync, R: Read>(
+    rt: &H,
+    threads: usize,
     alloc: Global,
     keys: RandomState,
     layout: Layout,
@@ -59,8 +68,8 @@ pub fn read_input<R: Read>(
     let mut piece = buffer(alloc, PIECE)?;
     'pieces: for _ in 0..READ_LIMIT {
         match input.read(&mut piece) {
-            Ok(0) => return Ok(reader.finish()),
-            Ok(n) => feed(&mut reader, &piece[..n])?,
+            Ok(0) => return Ok(reader.finish(rt, threads)),
+            Ok(n) => feed(rt, threads, &mut reader, &piece[..n])?,
             Err(_) => return Err(RunFault::Read),
         }
     }

@@ -5,7 +5,7 @@ use Rattle.aud_reader.specs.declared.fault.ReadFault.TheVariants.{Memory}
 use Rattle.aud_reader.proofs.LinesLemmas.{some_of}
 use Rattle.aud_input.specs.Input.{InputSeen, input_of}
 use Rattle.aud_input.specs.Reader.{InputSoFar, input_to_come}
-use Rattle.aud_input.specs.Pieces.{PieceFed, ReadsPiece, EndsInput, PiecesFollow, bytes_of, PiecesAreReadAsOne}
+use Rattle.aud_input.specs.Pieces.{PieceFed, PiecesFollow, bytes_of, PiecesAreReadAsOne}
 
 -- a reader that has refused stays as it is
 same-if_some : (s t : InputSoFar) (answer : Result (Unit {0}) ReadFault) (had : Option ReadFault) (fault : ReadFault)

@@ -7,15 +7,17 @@ use Rattle.aud_reader.specs.Bundle.{Reading, taps_to_come, unless_refused}
 use Rattle.aud_input.specs.declared.input.Layout.{Layout}
 use Rattle.aud_input.specs.Input.{InputSeen, certificates_in, bundle_in, with_certificates, unless_cut}
 
--- what the lines are, and what was read of those so far: the reader of the bundle, and the certificates
+-- what the lines are, and what became of those so far: the reader of the bundle, the bundle's lines that wait to be read,
+-- and the certificates
 pub record PartsSoFar : Type 0 where
   pub layout : Layout
   pub taps : Reading
+  pub waiting : List Line
   pub certificates : List Line
 
 -- the taps and the certificates in the end, where these are the lines to come; or the first refused line
 abbrev pub parts_to_come : PartsSoFar → List Line → Result InputSeen ReadFault
-parts_to_come s lines = with_certificates (s.certificates ++ certificates_in s.layout lines) (taps_to_come s.taps (bundle_in s.layout lines))
+parts_to_come s lines = with_certificates (s.certificates ++ certificates_in s.layout lines) (taps_to_come s.taps (s.waiting ++ bundle_in s.layout lines))
 
 -- a reader: the splitter, what was read of its lines, and the refusal
 pub record InputSoFar : Type 0 where

@@ -6,14 +6,15 @@
 //!
 //! let keys = RandomState::new(&rt)?;
 //! let mut reader = InputReader::new(alloc, keys, Layout::BundleAndCertificates);
-//! reader.feed(b"c1 {\"k\":\"tap\",\"v\":1,\"of\":\"cli")?;
-//! reader.feed(b"ent\"}\n{}\n")?;
-//! let input = reader.finish()?;
+//! reader.feed(&rt, 4, b"c1 {\"k\":\"tap\",\"v\":1,\"of\":\"cli")?;
+//! reader.feed(&rt, 4, b"ent\"}\n{}\n")?;
+//! let input = reader.finish(&rt, 4)?;
 //! assert_eq!(rt; input.taps.as_slice().len(), 1);
 //! assert_eq!(rt; input.certificates.len(), 1);
 //! ```
 #![tactic(auto)]
 
+mod batch;
 mod input;
 mod law;
 mod parts;

@@ -5,17 +5,21 @@ ghost use Rattle.aud_tap.specs.Names.{AreNamedOnce};
 ghost use Rattle.aud_input.specs.Input.{opens_object, is_certificate, parts_of};
 ghost use Rattle.aud_input.specs.Reader.{parts_to_come};
 
+use crate::batch::Batch;
 use crate::input::{Input, Layout};
 use aud_reader::{BundleReader, Line, ReadFault};
-use std::alloc::Global;
+use std::alloc::{AllocError, Global};
 use std::hash::RandomState;
 use std::marker::Model;
+use std::thread::Threads;
 
-/// Reads lines until one is refused: keeps the certificates, and of the others what the reader of the bundle keeps.
+/// Reads lines until one is refused: keeps the certificates, and of the others what the reader of the bundle keeps. For
+/// more than one thread those wait until there are enough to be read together.
 #[derive(Drop)]
 pub struct PartsReader {
     layout: Layout,
     taps: BundleReader,
+    waiting: Batch,
     certificates: Vec<Line>,
 }
 
@@ -24,7 +28,7 @@ impl Model for PartsReader {
 
     ghost Value = { PartsSoFar };
 
-    ghost view = { λ s. record { layout = s.layout; taps = s.taps; certificates = s.certificates.items } };
+    ghost view = { λ s. record { layout = s.layout; taps = s.taps; waiting = s.waiting; certificates = s.certificates.items } };
 }
 
 /// Whether a line begins with `{`.
@@ -53,41 +57,82 @@ impl PartsReader {
         PartsReader {
             layout,
             taps: BundleReader::new(alloc, keys),
+            waiting: Batch::new(alloc),
             certificates: Vec::new(alloc),
         }
     }
 
-    /// Reads the next line.
-    fn read_line(&mut self, line: Line) -> Result<(), ReadFault>
+    /// Reads the bundle's lines that wait.
+    pub fn read_waiting<H: Threads + Sync>(
+        &mut self,
+        rt: &H,
+        threads: usize,
+    ) -> Result<(), ReadFault>
         requires going { self.old.taps.fault ≡ None }
         ensures going { OnOk result (self.new.taps.fault ≡ None) }
+        ensures none { OnOk result (self.new.waiting ≡ []) }
+        ensures parts { OnOk result ((more : List Line) → parts_to_come self.new more ≡ parts_to_come self.old more) }
+        ensures refused { IfErr result (λ e. e ≢ ReadFault.Memory → (more : List Line) → parts_to_come self.old more ≡ Err e) }
+    {
+        self.taps.lines(rt, threads, self.waiting.lines())?;
+        self.waiting.clear();
+        Ok(())
+    }
+
+    /// Keeps the next line.
+    fn keep_line(&mut self, line: Line) -> Result<(), AllocError>
+        ensures going { self.new.taps ≡ self.old.taps }
         ensures parts { OnOk result ((more : List Line) → parts_to_come self.new more ≡ parts_to_come self.old (line ∷ more)) }
-        ensures refused { IfErr result (λ e. e ≢ ReadFault.Memory → (more : List Line) → parts_to_come self.old (line ∷ more) ≡ Err e) }
     {
         if is_certificate(self.layout, &line) {
             self.certificates.push(line)?;
             Ok(())
         } else {
-            self.taps.line(&line)
+            self.waiting.push(line)
         }
     }
 
-    /// Reads the next lines, up to the first that is refused.
-    pub fn read_lines(&mut self, lines: Vec<Line>) -> Result<(), ReadFault>
+    /// Reads the next line, or keeps it until there are enough to be read.
+    fn read_line<H: Threads + Sync>(
+        &mut self,
+        rt: &H,
+        threads: usize,
+        line: Line,
+    ) -> Result<(), ReadFault>
+        requires going { self.old.taps.fault ≡ None }
+        ensures going { OnOk result (self.new.taps.fault ≡ None) }
+        ensures parts { OnOk result ((more : List Line) → parts_to_come self.new more ≡ parts_to_come self.old (line ∷ more)) }
+        ensures refused { IfErr result (λ e. e ≢ ReadFault.Memory → (more : List Line) → parts_to_come self.old (line ∷ more) ≡ Err e) }
+    {
+        self.keep_line(line)?;
+        if self.waiting.is_full(threads) {
+            return self.read_waiting(rt, threads);
+        }
+        Ok(())
+    }
+
+    /// Reads the next lines, up to the first that is refused. The last of them may wait to be read.
+    pub fn read_lines<H: Threads + Sync>(
+        &mut self,
+        rt: &H,
+        threads: usize,
+        lines: Vec<Line>,
+    ) -> Result<(), ReadFault>
         requires going { self.old.taps.fault ≡ None }
         ensures going { OnOk result (self.new.taps.fault ≡ None) }
         ensures parts { OnOk result ((more : List Line) → parts_to_come self.new more ≡ parts_to_come self.old (lines.items ++ more)) }
         ensures refused { IfErr result (λ e. e ≢ ReadFault.Memory → (more : List Line) → parts_to_come self.old (lines.items ++ more) ≡ Err e) }
     {
         for line in lines {
-            self.read_line(line)?;
+            self.read_line(rt, threads, line)?;
         }
         Ok(())
     }
 
-    /// The taps and the certificates of the lines. No two taps have one name.
-    pub fn finish(self) -> Result<Input, ReadFault>
+    /// The taps and the certificates of the lines that were read.
+    fn close(self) -> Result<Input, ReadFault>
         requires going { self.taps.fault ≡ None }
+        requires none { self.waiting ≡ [] }
         ensures read { IfOk result (λ input. parts_to_come self [] ≡ Ok input) }
         ensures names { IfOk result (λ input. AreNamedOnce input.taps) }
         ensures err { IfErr result (λ e. e ≡ ReadFault.Memory) }
@@ -95,9 +140,23 @@ impl PartsReader {
         let PartsReader {
             layout: _,
             taps,
+            waiting: _,
             certificates,
         } = self;
         let taps = taps.finish()?;
         Ok(Input { taps, certificates })
+    }
+
+    /// The taps and the certificates of the lines, or the first of those that waited that is refused. No two taps have
+    /// one name.
+    pub fn finish<H: Threads + Sync>(self, rt: &H, threads: usize) -> Result<Input, ReadFault>
+        requires going { self.taps.fault ≡ None }
+        ensures read { IfOk result (λ input. parts_to_come self [] ≡ Ok input) }
+        ensures names { IfOk result (λ input. AreNamedOnce input.taps) }
+        ensures refused { IfErr result (λ e. e ≢ ReadFault.Memory → parts_to_come self [] ≡ Err e) }
+    {
+        let mut this = self;
+        this.read_waiting(rt, threads)?;
+        this.close()
     }
 }

@@ -12,11 +12,13 @@ use aud_reader::{ReadFault, Splitter};
 use std::alloc::Global;
 use std::hash::RandomState;
 use std::marker::Model;
+use std::thread::Threads;
 
-/// Reads an input that comes in pieces: each line once it is whole.
+/// Reads an input that comes in pieces: for one thread each line once it is whole; for several the lines of the bundle
+/// wait until there are 8,192 of them, or 1 MiB, and are read together.
 ///
-/// It keeps the line that has begun, the certificates, and what the records of the other lines tell. After a refusal,
-/// want of memory too, it gives that refusal from then on, and looks at no more bytes.
+/// It keeps the line that has begun, the lines that wait, the certificates, and what the records of the other lines tell.
+/// After a refusal, want of memory too, it gives that refusal from then on, and looks at no more bytes.
 #[derive(Drop)]
 pub struct InputReader {
     splitter: Splitter,
@@ -36,8 +38,10 @@ impl Model for InputReader {
     ghost invariant = { λ s. s.fault ≡ None → AreGoing s.splitter s.parts };
 }
 
-/// Cuts the next piece into lines, and reads those that are whole.
-fn read_piece(
+/// Cuts the next piece into lines, and reads those that are whole, now or later.
+fn read_piece<H: Threads + Sync>(
+    rt: &H,
+    threads: usize,
     splitter: &mut Splitter,
     parts: &mut PartsReader,
     piece: &[u8],
@@ -50,8 +54,15 @@ fn read_piece(
     ensures number { splitter.new.number ≤ splitter.old.number + length piece.now }
 {
     let cut = splitter.feed(piece);
-    parts.read_lines(splitter.take())?;
-    cut
+    parts.read_lines(rt, threads, splitter.take())?;
+    match cut {
+        Ok(()) => Ok(()),
+        Err(fault) => {
+            // A line that waits stands before the one that is too long, and may be refused too.
+            parts.read_waiting(rt, threads)?;
+            Err(fault)
+        }
+    }
 }
 
 impl InputReader {
@@ -70,9 +81,14 @@ impl InputReader {
 
     /// Reads the next piece of the input, which is lent for the call alone.
     ///
-    /// The first refused line is refused once it is whole, or once its bytes are too many. The numbers of lines are below
-    /// 2 to the 64th.
-    pub fn feed(&mut self, piece: &[u8]) -> Result<(), ReadFault>
+    /// The first refused line is refused once it was read, at most `threads` threads sharing the work, or once its bytes
+    /// are too many. The numbers of lines are below 2 to the 64th.
+    pub fn feed<H: Threads + Sync>(
+        &mut self,
+        rt: &H,
+        threads: usize,
+        piece: &[u8],
+    ) -> Result<(), ReadFault>
         requires { self.old.cut.number + length piece.now < 2 ^ 64 }
         ensures value { result ≡ result_of self.new.fault }
         ensures input { (more : List ℕ) → result ≢ Err ReadFault.Memory → input_to_come self.new more ≡ input_to_come self.old (piece.now ++ more) }
@@ -82,7 +98,7 @@ impl InputReader {
         if let Some(fault) = self.fault {
             return Err(fault);
         }
-        match read_piece(&mut self.splitter, &mut self.parts, piece) {
+        match read_piece(rt, threads, &mut self.splitter, &mut self.parts, piece) {
             Ok(()) => Ok(()),
             Err(fault) => {
                 self.fault = Some(fault);
@@ -93,7 +109,7 @@ impl InputReader {
 
     /// Ends the input: its taps and its certificates, or its first refused line. What comes after the last newline is a
     /// line too. No two taps have one name.
-    pub fn finish(self) -> Result<Input, ReadFault>
+    pub fn finish<H: Threads + Sync>(self, rt: &H, threads: usize) -> Result<Input, ReadFault>
         requires { self.cut.number < 2 ^ 64 - 1 }
         ensures read { IfOk result (λ input. input_to_come self [] ≡ Ok input) }
         ensures names { IfOk result (λ input. AreNamedOnce input.taps) }
@@ -105,7 +121,7 @@ impl InputReader {
             return Err(fault);
         }
         let lines = this.splitter.finish()?;
-        this.parts.read_lines(lines)?;
-        this.parts.finish()
+        this.parts.read_lines(rt, threads, lines)?;
+        this.parts.finish(rt, threads)
     }
 }

@@ -160,15 +160,14 @@ go_on-taps ts i t t' name word d r place at e same version is =
     (becomes-then r t'.records (set ts i t') (with_tap_record t.version (pids_of ts) t.records word d) (λ more. Ok (with_records name more ts))
     (ap Ok ((at-place name t'.records ts i t place at).2 ∙ ap (set ts i) renamed)) is)
 
--- and the reader's places, pids and counts stay those of the taps
-pub go_on-keeps : (s s' : OpenTaps) (i : ℕ) (t t' : Tap) (word : List ℕ) (d : Data) (r : Result (Unit {0}) LineFault) → taps_so_far s' ≡ set (taps_so_far s) i t' → s'.places ≡ s.places → s'.counts ≡ s.counts
-    → KeepsTaps s → (short : i < length (taps_so_far s)) → (at : get_or (taps_so_far s) i t ≡ t) → t'.name ≡ t.name → t'.version ≡ t.version → Becomes r t'.records (with_tap_record t.version (pids_of (taps_so_far s)) t.records word d)
+-- where a tap of the same name, version and kind stands in another's place, the reader's places, pids and counts stay those of the taps
+pub changed-keeps : (s s' : OpenTaps) (i : ℕ) (t t' : Tap) (r : Result (Unit {0}) LineFault) → taps_so_far s' ≡ set (taps_so_far s) i t' → s'.places ≡ s.places → s'.counts ≡ s.counts
+    → KeepsTaps s → (short : i < length (taps_so_far s)) → (at : get_or (taps_so_far s) i t ≡ t) → t'.name ≡ t.name → OnOk r (kind_of_tap t'.records ≡ kind_of_tap t.records)
     → OnOk r (HasPids s'.pids ((around (taps_so_far s) i t short at).before ++ pids_in t'.records ++ (around (taps_so_far s) i t short at).after))
     → OnOk r (KeepsTaps s')
-go_on-keeps s s' i t t' word d (Err e) taps places counts keeps short at same version is pids = tt
-go_on-keeps s s' i t t' word d (Ok u) taps places counts keeps short at same version is pids =
+changed-keeps s s' i t t' (Err e) taps places counts keeps short at same stays pids = tt
+changed-keeps s s' i t t' (Ok u) taps places counts keeps short at same stays pids =
     let ts = taps_so_far s in
-    let stays = (one_more t.version (pids_of ts) t.records t'.records word d is).same in
     record {
       places = λ name. rw (places, taps) (keeps.places name ∙ sym (place_of-set name ts i t t' short at same));
       pids = rw (taps, (around ts i t short at).put t') pids;
@@ -178,6 +177,15 @@ go_on-keeps s s' i t t' word d (Ok u) taps places counts keeps short at same ver
         clients = keeps.counts.clients ∙ sym (taps_on-set kind.Client ts i t t' short at stays);
       });
     }
+
+-- and so after a line of the tap
+pub go_on-keeps : (s s' : OpenTaps) (i : ℕ) (t t' : Tap) (word : List ℕ) (d : Data) (r : Result (Unit {0}) LineFault) → taps_so_far s' ≡ set (taps_so_far s) i t' → s'.places ≡ s.places → s'.counts ≡ s.counts
+    → KeepsTaps s → (short : i < length (taps_so_far s)) → (at : get_or (taps_so_far s) i t ≡ t) → t'.name ≡ t.name → t'.version ≡ t.version → Becomes r t'.records (with_tap_record t.version (pids_of (taps_so_far s)) t.records word d)
+    → OnOk r (HasPids s'.pids ((around (taps_so_far s) i t short at).before ++ pids_in t'.records ++ (around (taps_so_far s) i t short at).after))
+    → OnOk r (KeepsTaps s')
+go_on-keeps s s' i t t' word d (Err e) taps places counts keeps short at same version is pids = tt
+go_on-keeps s s' i t t' word d (Ok u) taps places counts keeps short at same version is pids =
+    changed-keeps s s' i t t' (Ok u) taps places counts keeps short at same (one_more t.version (pids_of (taps_so_far s)) t.records t'.records word d is).same pids
 
 -- ---- a new tap
 

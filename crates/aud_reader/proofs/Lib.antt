@@ -10,3 +10,5 @@ pub mod KeptLemmas
 pub mod LineSteps
 pub mod OwnLines
 pub mod TapLaws
+pub mod NewRecords
+pub mod OwnRecordsLemmas

@@ -212,7 +212,7 @@ module _ (text name : List ℕ) (d v : Data) (opened : opened_line text ≡ Ok (
   line-brings ts = rw opened (sym (with_value-shown ts name d) ∙ ap (with_value ts name) is)
 
   -- the record of the line is that of the value
-  record-is : value_record d ≡ value_record v
+  pub record-is : value_record d ≡ value_record v
   record-is = sym (value_record-shown d) ∙ ap value_record is
 
   -- the record of the line was read, or refused

@@ -5,3 +5,5 @@ pub mod Changes
 pub mod Texts
 pub mod Kept
 pub mod Sound
+pub mod NewRecord
+pub mod OwnRecords

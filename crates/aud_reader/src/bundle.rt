@@ -4,16 +4,19 @@ mod counts;
 mod node_log;
 mod open_tap;
 mod open_taps;
+mod own_records;
 mod pids;
 mod stream_log;
 
-ghost use Rattle.std.specs.Prelude.{◌≡◌, ◌≢◌, ◌∷◌, [], List, IfOk, IfErr, IfSome, Ok, Err, Some, None};
+ghost use Rattle.std.specs.Prelude.{◌≡◌, ◌≢◌, ◌++◌, ◌∷◌, [], List, IfOk, IfErr, IfSome, Ok, Err, Some, None};
+ghost use Rattle.std.specs.List.{AllZip, flat_map};
 ghost use Rattle.aud_tap.specs.Names.{AreNamedOnce};
 ghost use Rattle.aud_reader.specs.declared.line.Line.{Line};
 ghost use Rattle.aud_reader.specs.Lines.{result_of};
 ghost use Rattle.aud_reader.specs.Bundle.{taps_of};
 ghost use Rattle.aud_reader.specs.TapLaws.{HasOneStreamAtMost, HasEachOffsetOnce};
 ghost use Rattle.aud_reader.specs.OwnLines.{HaveTheirOwnLines, EachLineIsOfOneTap};
+ghost use Rattle.aud_reader.specs.Private.OwnRecords.{AreOfLines, IsOfLine};
 
 use crate::fault::{LineFault, ReadFault, refuse};
 use crate::line::Line;
@@ -21,9 +24,11 @@ use aud_base::TextPool;
 use aud_fields::Scratch;
 use aud_tap::Taps;
 use open_taps::OpenTaps;
+use own_records::{OwnRecord, own_records_of, parts_of};
 use std::alloc::Global;
 use std::hash::RandomState;
 use std::marker::Model;
+use std::thread::Threads;
 
 /// Reads the taps of the lines that it is given, one line at a time, and copies what it keeps. A text that stands in many
 /// records is shared by them, through a pool that is let go with the reader. A line is read through memory that is kept
@@ -32,6 +37,8 @@ use std::marker::Model;
 /// After a refusal, want of memory too, it gives that refusal from then on.
 #[derive(Drop)]
 pub struct BundleReader {
+    alloc: Global,
+    keys: RandomState,
     taps: OpenTaps,
     pool: TextPool,
     scratch: Scratch,
@@ -61,6 +68,8 @@ impl BundleReader {
         ensures taps { (lines : List Line) → taps_to_come result lines ≡ taps_of lines }
     {
         BundleReader {
+            alloc,
+            keys,
             taps: OpenTaps::new(alloc, keys),
             pool: TextPool::new(alloc, keys),
             scratch: Scratch::new(alloc),
@@ -86,6 +95,114 @@ impl BundleReader {
             .taps
             .read_line(&mut self.pool, &mut self.scratch, bytes)
         {
+            Ok(()) => Ok(()),
+            Err(LineFault::Code(code)) => {
+                refuse(&mut self.fault, ReadFault::Input(line.number, code))
+            }
+            Err(LineFault::Memory) => refuse(&mut self.fault, ReadFault::Memory),
+        }
+    }
+
+    /// Reads the next lines, up to the first that is refused: what [`line`](BundleReader::line) gives, line after line.
+    ///
+    /// With 2 threads or more they are parsed in parts, which are shared out among at most so many threads, as
+    /// [`try_map`](aud_parallel::try_map) says; then their records are added in the lines' order. How many threads there are
+    /// changes nothing in what is given. Texts that stand in many records are then shared within a part alone.
+    pub fn lines<H: Threads + Sync>(
+        &mut self,
+        rt: &H,
+        threads: usize,
+        lines: &[Line],
+    ) -> Result<(), ReadFault>
+        ensures value { result ≡ result_of self.new.fault }
+        ensures taps { (more : List Line) → result ≢ Err ReadFault.Memory → taps_to_come self.new more ≡ taps_to_come self.old (lines.now ++ more) }
+        ensures refused { IfSome self.old.fault (λ fault. (result ≡ Err fault) × (self.new ≡ self.old)) }
+    {
+        if let Some(fault) = self.fault {
+            return Err(fault);
+        }
+        if threads < 2 {
+            return self.each_line(lines);
+        }
+        self.lines_in_parts(rt, threads, lines)
+    }
+
+    /// Reads the next lines, one after the other.
+    fn each_line(&mut self, lines: &[Line]) -> Result<(), ReadFault>
+        requires { self.old.fault ≡ None }
+        ensures value { result ≡ result_of self.new.fault }
+        ensures taps { (more : List Line) → result ≢ Err ReadFault.Memory → taps_to_come self.new more ≡ taps_to_come self.old (lines.now ++ more) }
+    {
+        for line in lines {
+            self.line(line)?;
+        }
+        Ok(())
+    }
+
+    /// Reads the next lines, which are parsed in parts.
+    fn lines_in_parts<H: Threads + Sync>(
+        &mut self,
+        rt: &H,
+        threads: usize,
+        lines: &[Line],
+    ) -> Result<(), ReadFault>
+        requires { self.old.fault ≡ None }
+        ensures value { result ≡ result_of self.new.fault }
+        ensures taps { (more : List Line) → result ≢ Err ReadFault.Memory → taps_to_come self.new more ≡ taps_to_come self.old (lines.now ++ more) }
+    {
+        let Ok(parts) = parts_of(self.alloc, lines) else {
+            return refuse(&mut self.fault, ReadFault::Memory);
+        };
+        match own_records_of(rt, self.alloc, self.keys, threads, parts.as_slice()) {
+            Ok(own) => self.join(parts.as_slice(), own),
+            Err(_) => refuse(&mut self.fault, ReadFault::Memory),
+        }
+    }
+
+    /// Adds the records of all parts, in their order.
+    fn join(&mut self, parts: &[&[Line]], own: Vec<Vec<OwnRecord>>) -> Result<(), ReadFault>
+        requires open { self.old.fault ≡ None }
+        requires own { AllZip (λ part records. AreOfLines part.now records.items) parts.now own.items }
+        ensures value { result ≡ result_of self.new.fault }
+        ensures taps { (more : List Line) → result ≢ Err ReadFault.Memory → taps_to_come self.new more ≡ taps_to_come self.old (flat_map (λ part. part.now) parts.now ++ more) }
+    {
+        let mut number = 0;
+        for records in own {
+            self.join_part(parts[number], records)?;
+            number += 1;
+        }
+        Ok(())
+    }
+
+    /// Adds the records of a part's lines, in their order.
+    fn join_part(&mut self, lines: &[Line], own: Vec<OwnRecord>) -> Result<(), ReadFault>
+        requires open { self.old.fault ≡ None }
+        requires own { AreOfLines lines.now own.items }
+        ensures value { result ≡ result_of self.new.fault }
+        ensures taps { (more : List Line) → result ≢ Err ReadFault.Memory → taps_to_come self.new more ≡ taps_to_come self.old (lines.now ++ more) }
+    {
+        let mut number = 0;
+        for record in own {
+            self.parsed_line(&lines[number], record)?;
+            number += 1;
+        }
+        Ok(())
+    }
+
+    /// Reads the next line, whose record is added where it is known and the tap is there.
+    fn parsed_line(&mut self, line: &Line, own: OwnRecord) -> Result<(), ReadFault>
+        requires open { self.old.fault ≡ None }
+        requires own { IsOfLine line.now own }
+        ensures value { result ≡ result_of self.new.fault }
+        ensures taps { (more : List Line) → result ≢ Err ReadFault.Memory → taps_to_come self.new more ≡ taps_to_come self.old (line.now ∷ more) }
+    {
+        let Some((name, rec)) = own else {
+            return self.line(line);
+        };
+        let Some(place) = self.taps.place(name.as_str()) else {
+            return self.line(line);
+        };
+        match self.taps.push_record(place, rec) {
             Ok(()) => Ok(()),
             Err(LineFault::Code(code)) => {
                 refuse(&mut self.fault, ReadFault::Input(line.number, code))

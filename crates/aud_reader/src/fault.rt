@@ -126,6 +126,9 @@ pub const LIMIT: LineFault = LineFault::Code(InputCode::Limit);
 /// The tap has no record of this kind.
 pub const UNKNOWN_KIND: LineFault = LineFault::Code(InputCode::UnknownKind);
 
+/// The tap has a header already.
+pub const HEADER_TWICE: LineFault = LineFault::Code(InputCode::HeaderTwice);
+
 /// Keeps a refusal, which is given from then on.
 pub fn refuse(kept: &mut Option<ReadFault>, fault: ReadFault) -> Result<(), ReadFault>
     ensures after { kept.new ≡ Some fault }

@@ -4,6 +4,7 @@ pub use Rattle.aud_client.specs.Received
 pub use Rattle.aud_rooms.specs.Turns
 pub use Rattle.aud_maker.specs.Faults
 pub mod Recoveries
+pub mod Opened
 pub mod Opening
 pub mod Missed
 -- what private contracts alone cite

@@ -19,8 +19,10 @@ mod counts;
 mod held;
 mod last;
 mod loss;
+mod opened;
 mod opening;
 
 pub use asked::{Recovery, recoveries, stay_of};
 pub use counts::{granted, refused};
 pub use loss::missed;
+pub use opened::{Opened, opened_in};

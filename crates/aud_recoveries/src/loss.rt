@@ -1,17 +1,16 @@
 //! What a client missed where its recovery was refused.
-ghost use Rattle.std.specs.Prelude.{◌≡◌, IfOk, MatchOption, None, Some};
+ghost use Rattle.std.specs.Prelude.{◌≡◌, IfOk, MatchOption, None};
 ghost use Rattle.aud_maker.specs.Made.{IsMade};
 ghost use Rattle.aud_recoveries.specs.Missed.{IsMissed, IsMissedFrom, IsUntold};
-ghost use Rattle.aud_recoveries.specs.Private.Opened.{opened_in};
 
 use crate::held::spans_held;
 use crate::last::last_received;
+use crate::opened::opened_in;
 use crate::opening::opening_cursor;
-use aud_cert::{Certificate, Turn};
+use aud_cert::Certificate;
 use aud_client::Recording;
 use aud_maker::{MakeFault, made_is_over, make};
 use aud_rooms::due_of;
-use aud_tap::NodeRec;
 use std::alloc::{AllocError, Global};
 
 /// The positions, ascending, of what the client at this place missed where it asked for one session and was given
@@ -68,29 +67,4 @@ fn missed_from(
     let after = last.unwrap_or(opened.low);
     let spans = spans_held(alloc, logs, pid, opened.sid, turns, after, cursor)?;
     due_of(alloc, &spans, logs.stream(), opened.nsp, after, cursor)
-}
-
-/// What the `open` of a session names, and the node's cursor after it.
-#[derive(Clone, Copy)]
-struct Opened<'a> {
-    sid: &'a str,
-    nsp: &'a str,
-    low: u64,
-}
-
-/// What the first record of the first turn opens.
-fn opened_in<'a>(turns: &[Turn<'a>]) -> Option<Opened<'a>>
-    ensures { MatchOption result (opened_in turns.now ≡ None) (λ o. opened_in turns.now ≡ Some (o.sid.now, o.nsp.now, o.low)) }
-{
-    let Some(turn) = turns.first() else {
-        return None;
-    };
-    match turn.recs.get(0) {
-        Some(NodeRec::Opened { sid, nsp, .. }) => Some(Opened {
-            sid: sid.as_str(),
-            nsp: nsp.as_str(),
-            low: turn.low,
-        }),
-        _ => None,
-    }
 }

@@ -1,6 +1,6 @@
 //! The text of what is shown.
 ghost use Rattle.std.specs.Prelude.{◌≡◌, ◌++◌, IfOk, OnOk, flat_map, string_bytes};
-ghost use Rattle.aud_run.specs.Text.{blocked_line, name_at, order_text, step_line};
+ghost use Rattle.aud_run.specs.Text.{name_at, order_text, step_line};
 
 use crate::answer::Order;
 use aud_merge::Step;
@@ -18,42 +18,27 @@ fn name_at(taps: &[Tap], place: usize) -> &str
     }
 }
 
-/// Puts the line of a step at the end.
-fn push_step(out: &mut String, taps: &[Tap], step: Step) -> Result<(), AllocError>
-    ensures { OnOk result (string_bytes out.new ≡ string_bytes out.old ++ step_line taps.now step) }
+/// Puts a step's line, which begins so, at the end.
+fn push_step(out: &mut String, beginning: &str, taps: &[Tap], step: Step) -> Result<(), AllocError>
+    ensures { OnOk result (string_bytes out.new ≡ string_bytes out.old ++ step_line beginning.now taps.now step) }
 {
     let name = name_at(taps, step.log);
     let index = step.index;
-    writeln!(out, "{name} {index}")
+    writeln!(out, "{beginning}{name} {index}")
 }
 
-/// The lines of the steps of a run.
-fn run_lines(alloc: Global, taps: &[Tap], steps: &[Step]) -> Result<String, AllocError>
-    ensures { IfOk result (λ text. string_bytes text ≡ flat_map (step_line taps.now) steps.now) }
+/// The lines of steps, each of which begins so.
+fn step_lines(
+    alloc: Global,
+    beginning: &str,
+    taps: &[Tap],
+    steps: &[Step],
+) -> Result<String, AllocError>
+    ensures { IfOk result (λ text. string_bytes text ≡ flat_map (step_line beginning.now taps.now) steps.now) }
 {
     let mut out = String::new(alloc);
     for step in steps {
-        push_step(&mut out, taps, *step)?;
-    }
-    Ok(out)
-}
-
-/// Puts the line of a record that blocks at the end.
-fn push_blocked(out: &mut String, taps: &[Tap], step: Step) -> Result<(), AllocError>
-    ensures { OnOk result (string_bytes out.new ≡ string_bytes out.old ++ blocked_line taps.now step) }
-{
-    let name = name_at(taps, step.log);
-    let index = step.index;
-    writeln!(out, "blocked {name} {index}")
-}
-
-/// The lines of the records that block.
-fn blocked_lines(alloc: Global, taps: &[Tap], fronts: &[Step]) -> Result<String, AllocError>
-    ensures { IfOk result (λ text. string_bytes text ≡ flat_map (blocked_line taps.now) fronts.now) }
-{
-    let mut out = String::new(alloc);
-    for front in fronts {
-        push_blocked(&mut out, taps, *front)?;
+        push_step(&mut out, beginning, taps, *step)?;
     }
     Ok(out)
 }
@@ -65,13 +50,13 @@ pub fn order_text(alloc: Global, logs: &Logs<'_>, order: &Order) -> Result<Strin
 {
     match order {
         Order::Run(steps) => {
-            let mut out = run_lines(alloc, logs.taps(), steps)?;
+            let mut out = step_lines(alloc, "", logs.taps(), steps)?;
             let count = steps.len();
             writeln!(&mut out, "steps={count}")?;
             Ok(out)
         }
         Order::Blocked(fronts) => {
-            let mut out = blocked_lines(alloc, logs.taps(), fronts)?;
+            let mut out = step_lines(alloc, "blocked ", logs.taps(), fronts)?;
             let count = fronts.len();
             writeln!(&mut out, "blocked={count}")?;
             Ok(out)

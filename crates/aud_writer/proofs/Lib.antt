@@ -5,3 +5,6 @@ pub mod LineBack
 pub mod BundleSoFar
 pub mod Newlines
 pub mod LinesBack
+pub mod LineEffects
+pub mod BundleRooms
+pub mod TapsBack

@@ -6,4 +6,5 @@ pub use Rattle.aud_reader.specs.Lines
 pub use Rattle.aud_reader.specs.OwnLines
 pub mod Written
 pub mod WrittenBundle
+pub mod OfABundle
 pub mod Private

@@ -11,6 +11,8 @@ use Rattle.aud_reader.specs.Record.{line_record}
 use Rattle.aud_reader.specs.declared.fault.ReadFault.{ReadFault}
 use Rattle.aud_reader.specs.declared.fault.ReadFault.TheVariants.{Input}
 use Rattle.aud_reader.specs.declared.fault.InputCode.TheVariants.{LineTooLong}
+use Rattle.aud_reader.specs.Bundle.{taps_of}
+use Rattle.aud_reader.specs.Lines.{lines_of}
 use Rattle.aud_reader.specs.OwnLines.{recs_of}
 use Rattle.aud_writer.specs.Written.{line_text}
 
@@ -42,6 +44,11 @@ numbered n (l ∷ ls) = record { number = n; bytes = l } ∷ numbered (n + 1) ls
 -- the line of a record reads as it, where the name and the record have a bundle's forms
 abbrev pub ReadsBack : List ℕ × Rec → Type 0
 ReadsBack r = is_tap_name r.0 ≡ true → is_well_formed r.1 ≡ true → line_record (line_text r.0 r.1) ≡ Ok r
+
+-- these bytes are read as these taps: none of their lines is refused for its length, and the taps of the lines are these
+pub record AreReadAs (bytes : List ℕ) (taps : List Tap) : Type 0 where
+  pub whole : (lines_of bytes).fault ≡ None
+  pub read : taps_of (lines_of bytes).lines ≡ Ok taps
 
 -- the number, which counts from 1, of the first line that is too long
 abbrev pub first_too_long : List (List ℕ) → Option ℕ

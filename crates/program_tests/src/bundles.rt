@@ -48,44 +48,15 @@ pub const PROOF_OF_TWO: &str =
 pub const ANSWERS_ON_TWO: &str =
     "ok 3015 P got=0 tail=0 turns=1\nok 3016 Q got=1 tail=0 turns=1\ncerts=2 ok=2 bad=0\n";
 
-/// Lines 1 to 6 of `BUNDLE_A`, and a seventh that is cut.
-pub const CUT: &str = r#"st {"k":"tap","v":1,"of":"stream"}
-st {"k":"ev","off":"1-0","nsp":"/","rooms":["r"],"text":"2[\"hi\",\"1-0\"]"}
-a {"k":"tap","v":1,"of":"node"}
-a {"k":"start","off":null}
-a {"k":"open","pid":"P","sid":"s1","nsp":"/"}
-a {"k":"join","pid":"P","room":"r"}
-a {"k":"take","off":"1-"#;
-
-/// `BUNDLE_A` without line 6: the session is in no room of the event's.
-pub const NOT_DUE: &str = r#"st {"k":"tap","v":1,"of":"stream"}
-st {"k":"ev","off":"1-0","nsp":"/","rooms":["r"],"text":"2[\"hi\",\"1-0\"]"}
-a {"k":"tap","v":1,"of":"node"}
-a {"k":"start","off":null}
-a {"k":"open","pid":"P","sid":"s1","nsp":"/"}
-a {"k":"take","off":"1-0"}
-c1 {"k":"tap","v":1,"of":"client"}
-c1 {"k":"conn","c":1}
-c1 {"k":"in","t":"40{\"sid\":\"s1\",\"pid\":\"P\"}"}
-c1 {"k":"in","t":"42[\"hi\",\"1-0\"]"}
-"#;
-
-/// The header of a stream, and that of a later version.
-pub const STREAM_HEADER: &str = r#"st {"k":"tap","v":1,"of":"stream"}"#;
-
-pub const LATER_HEADER: &str = r#"st {"k":"tap","v":3,"of":"stream"}
-"#;
-
 /// The certificate of the session of `BUNDLE_A`.
 pub const PROOF_A: &str =
     r#"{"client":"c1","pid":"P","spans":[["r",1,1],["s1",1,1]],"turns":[["a",1,4,0,1]]}
 "#;
 
-/// Two turns of a session, on two nodes, and a third event, which no node has taken.
+/// Two turns of a session, on two nodes.
 pub const BUNDLE_B: &str = r#"st {"k":"tap","v":1,"of":"stream"}
 st {"k":"ev","off":"1-0","nsp":"/","rooms":["r"],"text":"2[\"hi\",\"1-0\"]"}
 st {"k":"ev","off":"2-0","nsp":"/","rooms":["r"],"text":"2[\"hi\",\"2-0\"]"}
-st {"k":"ev","off":"3-0","nsp":"/","rooms":["r"],"text":"2[\"hi\",\"3-0\"]"}
 a {"k":"tap","v":1,"of":"node"}
 a {"k":"start","off":null}
 a {"k":"open","pid":"P","sid":"s1","nsp":"/"}
@@ -108,28 +79,7 @@ c1 {"k":"in","t":"42[\"hi\",\"2-0\"]"}
 c1 {"k":"in","t":"40{\"sid\":\"s1\",\"pid\":\"P\"}"}
 "#;
 
-/// `BUNDLE_B` without the event that came in the second turn.
-pub const B_WITHOUT_SECOND_EVENT: &str = r#"st {"k":"tap","v":1,"of":"stream"}
-st {"k":"ev","off":"1-0","nsp":"/","rooms":["r"],"text":"2[\"hi\",\"1-0\"]"}
-st {"k":"ev","off":"2-0","nsp":"/","rooms":["r"],"text":"2[\"hi\",\"2-0\"]"}
-st {"k":"ev","off":"3-0","nsp":"/","rooms":["r"],"text":"2[\"hi\",\"3-0\"]"}
-a {"k":"tap","v":1,"of":"node"}
-a {"k":"start","off":null}
-a {"k":"open","pid":"P","sid":"s1","nsp":"/"}
-a {"k":"join","pid":"P","room":"r"}
-a {"k":"take","off":"1-0"}
-a {"k":"break","pid":"P","turn":0}
-b {"k":"tap","v":1,"of":"node"}
-b {"k":"start","off":null}
-b {"k":"take","off":"1-0"}
-b {"k":"take","off":"2-0"}
-b {"k":"back","pid":"P","turn":1}
-c1 {"k":"tap","v":1,"of":"client"}
-c1 {"k":"conn","c":1}
-c1 {"k":"in","t":"40{\"sid\":\"s1\",\"pid\":\"P\"}"}
-c1 {"k":"in","t":"42[\"hi\",\"1-0\"]"}
-c1 {"k":"lost"}
-c1 {"k":"conn","c":2}
-c1 {"k":"out","t":"40{\"pid\":\"P\",\"offset\":\"1-0\"}"}
-c1 {"k":"in","t":"40{\"sid\":\"s1\",\"pid\":\"P\"}"}
+/// The certificate of its session.
+pub const PROOF_B: &str =
+    r#"{"client":"c1","pid":"P","spans":[["r",1,2],["s1",1,2]],"turns":[["a",1,5,0,1],["b",3,4,2,2]]}
 "#;

@@ -1,149 +1,205 @@
-//! Runs over readers and writers that fail, and that take few bytes a call or none.
-use crate::bundles::{BUNDLE_A, REPORT_A};
-use crate::streams::{TestReader, TestWriter};
-use aud_app::{Mode, Options, RunFault, Status, Watched, run};
+//! Runs whose reader or writer fails, at each of its calls in turn, and that give or take few bytes a call.
+use crate::each_mode::{ROWS, Row};
+use crate::inputs::assembled;
+use crate::streams::{Failure, Plan, TestReader, TestWriter};
+use aud_app::{Options, RunFault, Status, Watched, run};
 use std::alloc::Global;
 use std::hash::RandomState;
+use std::io::ErrorKind;
+use std::process::Abort;
 use std::sync::Wait;
 use std::test::Fail;
 use std::thread::Threads;
 use std::time::Clock;
 
-const AUDIT: Options = Options {
-    mode: Mode::Audit,
-    workers: 4,
-    whole: false,
-};
-
-/// What is seen of an audit of `BUNDLE_A`.
+/// What is seen of a run.
 #[derive(Clone, Copy, Debug, PartialEq, Eq, Drop)]
 struct Seen {
     outcome: Result<Status, RunFault>,
-    read_failed: bool,
     reads: u64,
-    write_failed: bool,
+    read_failed: bool,
     writes: u64,
-    /// Whether a front of the report was written, and of how many bytes.
+    write_failed: bool,
+    calls_after_failure: u64,
+    os_error: Option<i32>,
+    /// Whether a front of the output was written, and of how many bytes.
     is_front: bool,
     written: usize,
 }
 
-/// An audit whose reader gives a byte a call and whose writer takes so many, until their calls are used up.
-fn audited<H: Threads + Wait + Clock + Sync>(
+/// A run whose streams fail as planned.
+fn watched_run<H: Threads + Wait + Clock + Sync>(
     rt: &H,
     alloc: Global,
     keys: RandomState,
-    reads: u64,
-    writes: u64,
-    most: usize,
+    row: &Row,
+    input: &[u8],
+    reads: Plan,
+    writes: Plan,
 ) -> Seen {
-    let mut input = Watched::new(TestReader::new(BUNDLE_A.as_bytes(), reads, 1));
-    let mut output = Watched::new(TestWriter::new(alloc, writes, most));
-    let outcome = run(rt, alloc, keys, &mut input, &mut output, AUDIT);
-    let (write_failed, writes) = (output.failed(), output.calls());
-    let written = output.into_inner().into_written();
-    Seen {
+    let mut reader = Watched::new(TestReader::new(input, reads));
+    let mut writer = Watched::new(TestWriter::new(alloc, writes));
+    let options = Options {
+        mode: row.mode,
+        workers: 4,
+        whole: false,
+    };
+    let outcome = run(rt, alloc, keys, &mut reader, &mut writer, options);
+    let seen = Seen {
         outcome,
-        read_failed: input.failed(),
-        reads: input.calls(),
-        write_failed,
-        writes,
-        is_front: REPORT_A.as_bytes().starts_with(written.as_slice()),
-        written: written.len(),
-    }
-}
-
-/// An audit whose reads fail from the last of these on.
-fn read_fault(reads: u64) -> Seen {
-    Seen {
-        outcome: Err(RunFault::Read),
-        read_failed: true,
-        reads,
-        write_failed: false,
-        writes: 0,
-        is_front: true,
+        reads: reader.calls(),
+        read_failed: reader.failed(),
+        writes: writer.calls(),
+        write_failed: writer.failed(),
+        calls_after_failure: 0,
+        os_error: reader.os_error().or(writer.os_error()),
+        is_front: false,
         written: 0,
+    };
+    let reader = reader.into_inner();
+    let writer = writer.into_inner();
+    Seen {
+        calls_after_failure: reader
+            .calls_after_failure()
+            .saturating_add(writer.calls_after_failure()),
+        is_front: row.output.as_bytes().starts_with(writer.written()),
+        written: writer.written().len(),
+        ..seen
     }
 }
 
-/// An audit that reads all, and whose writes fail from the last of these on.
-fn write_fault(writes: u64, written: usize) -> Seen {
+/// What is seen where nothing fails, in so many calls.
+fn without_fault(row: &Row, reads: u64, writes: u64) -> Seen {
     Seen {
-        outcome: Err(RunFault::Write),
+        outcome: Ok(row.status),
+        reads,
         read_failed: false,
-        reads: BUNDLE_A.len() as u64 + 1,
-        write_failed: true,
         writes,
-        is_front: true,
-        written,
-    }
-}
-
-/// An audit that reads all and writes all.
-fn no_fault(writes: u64) -> Seen {
-    Seen {
-        outcome: Ok(Status::AllYes),
-        read_failed: false,
-        reads: BUNDLE_A.len() as u64 + 1,
         write_failed: false,
-        writes,
+        calls_after_failure: 0,
+        os_error: None,
         is_front: true,
-        written: REPORT_A.len(),
+        written: row.output.len(),
     }
 }
 
-/// A reader that gives a byte a call takes a call for each byte and one at the end.
+/// How a read fails: at the system's `EINTR`, `EAGAIN` and `EIO`, and otherwise.
+static READ_FAILURES: [Failure; 4] = [
+    Failure::System(4),
+    Failure::System(11),
+    Failure::System(5),
+    Failure::Own(ErrorKind::Interrupted),
+];
+
+/// Has each read of a run fail in turn.
+fn fail_each_read<H: Abort + Threads + Wait + Clock + Sync>(
+    rt: &H,
+    alloc: Global,
+    keys: RandomState,
+    row: &Row,
+    input: &[u8],
+    most: usize,
+) {
+    let all = Plan::unfailing(usize::MAX);
+    let unfailed = watched_run(rt, alloc, keys, row, input, Plan::unfailing(most), all);
+    assert_eq!(rt; unfailed, without_fault(row, unfailed.reads, 1));
+    for k in 1..=unfailed.reads {
+        for failure in READ_FAILURES {
+            let failed = watched_run(
+                rt,
+                alloc,
+                keys,
+                row,
+                input,
+                Plan::failing(most, k, failure),
+                all,
+            );
+            let wanted = Seen {
+                outcome: Err(RunFault::Read),
+                reads: k,
+                read_failed: true,
+                writes: 0,
+                os_error: failure.os_error(),
+                written: 0,
+                ..unfailed
+            };
+            assert_eq!(rt; failed, wanted, "read {k}, {most} bytes a call");
+        }
+    }
+}
+
+/// How a write fails: at the system's `EINTR`, `EAGAIN` and `ENOSPC`, otherwise, and by taking nothing.
+static WRITE_FAILURES: [Failure; 5] = [
+    Failure::System(4),
+    Failure::System(11),
+    Failure::System(28),
+    Failure::Own(ErrorKind::Interrupted),
+    Failure::TakesNone,
+];
+
+/// Has each write of a run fail in turn.
+fn fail_each_write<H: Abort + Threads + Wait + Clock + Sync>(
+    rt: &H,
+    alloc: Global,
+    keys: RandomState,
+    row: &Row,
+    input: &[u8],
+    most: usize,
+) {
+    let all = Plan::unfailing(65_536);
+    let unfailed = watched_run(rt, alloc, keys, row, input, all, Plan::unfailing(most));
+    assert_eq!(rt;
+        unfailed,
+        without_fault(row, unfailed.reads, unfailed.writes)
+    );
+    for k in 1..=unfailed.writes {
+        let before = (k as usize).saturating_sub(1).saturating_mul(most);
+        for failure in WRITE_FAILURES {
+            let failed = watched_run(
+                rt,
+                alloc,
+                keys,
+                row,
+                input,
+                all,
+                Plan::failing(most, k, failure),
+            );
+            let wanted = Seen {
+                outcome: Err(RunFault::Write),
+                writes: k,
+                write_failed: true,
+                os_error: failure.os_error(),
+                written: before,
+                ..unfailed
+            };
+            assert_eq!(rt; failed, wanted, "write {k}, {most} bytes a call");
+        }
+    }
+}
+
+/// How many bytes a stream gives or takes a call.
+static PIECES: [usize; 3] = [1, 100, 65_536];
+
 #[test]
-fn reader_fails(rt: HostRuntime) -> Result<(), Fail> {
+fn a_reader_fails_at_each_call(rt: HostRuntime) -> Result<(), Fail> {
     let keys = RandomState::new(&rt)?;
-    let calls = BUNDLE_A.len() as u64 + 1;
-    for (answered, seen) in [
-        (0, read_fault(1)),
-        (1, read_fault(2)),
-        (2, read_fault(3)),
-        (100, read_fault(101)),
-        (calls - 1, read_fault(calls)),
-        (calls, no_fault(1)),
-    ] {
-        assert_eq!(rt;
-            audited(&rt, rt.alloc(), keys, answered, u64::MAX, usize::MAX),
-            seen
-        );
+    for row in &ROWS {
+        let input = assembled(rt.alloc(), row.input)?;
+        for most in PIECES {
+            fail_each_read(&rt, rt.alloc(), keys, row, input.as_bytes(), most);
+        }
     }
     Ok(())
 }
 
-/// A read that fails is told before a line that was refused, however many bytes the reader gave a call.
 #[test]
-fn reader_fails_after_a_refused_line(rt: HostRuntime) -> Result<(), Fail> {
+fn a_writer_fails_at_each_call(rt: HostRuntime) -> Result<(), Fail> {
     let keys = RandomState::new(&rt)?;
-    for (answered, most) in [(4, 1), (1, 4), (1, 65_536)] {
-        let mut input = Watched::new(TestReader::new(b"{}\n{", answered, most));
-        let mut output = Watched::new(Vec::new(rt.alloc()));
-        let outcome = run(&rt, rt.alloc(), keys, &mut input, &mut output, AUDIT);
-        assert!(rt; outcome == Err(RunFault::Read) && output.calls() == 0);
-    }
-    Ok(())
-}
-
-/// A writer that takes a byte a call takes a call for each byte; a call that takes none is a fault.
-#[test]
-fn writer_fails(rt: HostRuntime) -> Result<(), Fail> {
-    let keys = RandomState::new(&rt)?;
-    let bytes = REPORT_A.len();
-    for (answered, most, seen) in [
-        (0, 1, write_fault(1, 0)),
-        (1, 1, write_fault(2, 1)),
-        (2, 1, write_fault(3, 2)),
-        (30, 1, write_fault(31, 30)),
-        (bytes as u64 - 1, 1, write_fault(bytes as u64, bytes - 1)),
-        (bytes as u64, 1, no_fault(bytes as u64)),
-        (9, 0, write_fault(1, 0)),
-    ] {
-        assert_eq!(rt;
-            audited(&rt, rt.alloc(), keys, u64::MAX, answered, most),
-            seen
-        );
+    for row in &ROWS {
+        let input = assembled(rt.alloc(), row.input)?;
+        for most in PIECES {
+            fail_each_write(&rt, rt.alloc(), keys, row, input.as_bytes(), most);
+        }
     }
     Ok(())
 }

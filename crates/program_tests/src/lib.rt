@@ -5,7 +5,13 @@
 #[cfg(test)]
 mod bundles;
 #[cfg(test)]
+mod each_mode;
+#[cfg(test)]
 mod failing;
+#[cfg(test)]
+mod inputs;
+#[cfg(test)]
+mod prefixes;
 #[cfg(test)]
 mod runs;
 #[cfg(test)]

@@ -1,11 +1,13 @@
-//! Runs over memory: what a word of the command line makes of a bundle, and of certificates after it.
+//! Runs over memory: what a word of the command line makes of an input.
 use crate::bundles::{
-    ANSWERS_ON_TWO, B_WITHOUT_SECOND_EVENT, BUNDLE_A, BUNDLE_B, CUT, LATER_HEADER, NOT_DUE,
-    PROOF_A, PROOF_OF_TWO, REPORT_A, REPORT_OF_TWO, STREAM_HEADER, TWO_SESSIONS,
+    ANSWERS_ON_TWO, BUNDLE_A, BUNDLE_B, PROOF_A, PROOF_B, PROOF_OF_TWO, REPORT_A, REPORT_OF_TWO,
+    TWO_SESSIONS,
 };
-use crate::streams::TestReader;
+use crate::inputs::Part::{self, Lines, Numbered, Text, Times};
+use crate::inputs::assembled;
+use crate::streams::{Plan, TestReader};
 use aud_app::{Status, Watched, options, run};
-use std::alloc::{AllocError, Global};
+use std::alloc::Global;
 use std::hash::RandomState;
 use std::io::Read;
 use std::random::RandomSource;
@@ -31,101 +33,410 @@ pub fn gives<H: Threads + Wait + Clock + RandomSource + Sync, R: Read + Drop>(
     Ok(outcome == Ok(status) && output.into_inner().as_slice() == text.as_bytes())
 }
 
-/// A bundle, and certificates after it.
-fn with_certificates(
-    alloc: Global,
-    bundle: &str,
-    certificates: &str,
-) -> Result<Vec<u8>, AllocError> {
-    let mut bytes = bundle.as_bytes().to_vec(alloc)?;
-    bytes.extend_from_slice(certificates.as_bytes())?;
-    Ok(bytes)
-}
+/// An event that no node of `BUNDLE_B` takes.
+const THIRD_EVENT: &str =
+    r#"st {"k":"ev","off":"3-0","nsp":"/","rooms":["r"],"text":"2[\"hi\",\"3-0\"]"}
+"#;
 
-/// A word, a bundle and certificates after it, and the text and the status of its output.
-static OUTPUTS: [(&str, &str, &str, &str, Status); 16] = [
-    ("audit", "", "", "sessions=0 yes=0 no=0\n", Status::AllYes),
-    ("audit", BUNDLE_A, "", REPORT_A, Status::AllYes),
+/// A client's tap that has one connection.
+const OTHER_CLIENT: &str = r#"c2 {"k":"tap","v":1,"of":"client"}
+c2 {"k":"conn","c":1}
+"#;
+
+/// A word, an input, and the text and the status of its output.
+static OUTPUTS: [(&str, &[Part], &str, Status); 32] = [
+    ("audit", &[], "sessions=0 yes=0 no=0\n", Status::AllYes),
+    ("audit", &[Text(BUNDLE_A)], REPORT_A, Status::AllYes),
+    // The session is in no room of the event.
     (
         "audit",
-        NOT_DUE,
-        "",
+        &[Lines(BUNDLE_A, 1, 5), Lines(BUNDLE_A, 7, 11)],
         "no P EXTRA 1-0\nsessions=1 yes=0 no=1\n",
         Status::SomeNo,
     ),
-    ("audit", TWO_SESSIONS, "", REPORT_OF_TWO, Status::AllYes),
     (
         "audit",
-        BUNDLE_B,
-        "",
+        &[Text(TWO_SESSIONS)],
+        REPORT_OF_TWO,
+        Status::AllYes,
+    ),
+    (
+        "audit",
+        &[Text(BUNDLE_B)],
         "yes P got=2 tail=0 turns=2\nsessions=1 yes=1 no=0\n",
         Status::AllYes,
     ),
-    ("audit", CUT, "", "line 7: NotJson\n", Status::Refused),
-    ("audit", "{}\n", "", "line 1: NoTapName\n", Status::Refused),
-    ("prove", BUNDLE_A, "", PROOF_A, Status::AllYes),
-    ("prove", NOT_DUE, "", "", Status::SomeNo),
-    ("prove", "", "", "", Status::AllYes),
+    (
+        "audit",
+        &[Lines(BUNDLE_A, 1, 6), Text(r#"a {"k":"take","off":"1-"#)],
+        "line 7: NotJson\n",
+        Status::Refused,
+    ),
+    (
+        "audit",
+        &[Text("{}\n")],
+        "line 1: NoTapName\n",
+        Status::Refused,
+    ),
+    ("prove", &[Text(BUNDLE_A)], PROOF_A, Status::AllYes),
+    (
+        "prove",
+        &[Lines(BUNDLE_A, 1, 5), Lines(BUNDLE_A, 7, 11)],
+        "",
+        Status::SomeNo,
+    ),
+    ("prove", &[], "", Status::AllYes),
     (
         "verify",
-        BUNDLE_A,
-        PROOF_A,
+        &[Text(BUNDLE_A), Text(PROOF_A)],
         "ok 12 P got=1 tail=0 turns=1\ncerts=1 ok=1 bad=0\n",
         Status::AllYes,
     ),
     (
         "verify",
-        BUNDLE_B,
-        r#"{"client":"c1","pid":"P","spans":[["r",1,2],["s1",1,2]],"turns":[["a",1,5,0,1],["b",3,4,2,2]]}"#,
+        &[
+            Lines(BUNDLE_B, 1, 3),
+            Text(THIRD_EVENT),
+            Lines(BUNDLE_B, 4, 23),
+            Text(PROOF_B),
+        ],
         "ok 25 P got=2 tail=0 turns=2\ncerts=1 ok=1 bad=0\n",
         Status::AllYes,
     ),
     (
         "verify",
-        BUNDLE_B,
-        r#"{"client":"c1","pid":"P","spans":[["r",1,3],["s1",1,2]],"turns":[["a",1,5,0,1],["b",3,4,2,2]]}"#,
+        &[
+            Lines(BUNDLE_B, 1, 3),
+            Text(THIRD_EVENT),
+            Lines(BUNDLE_B, 4, 23),
+            Text(
+                r#"{"client":"c1","pid":"P","spans":[["r",1,3],["s1",1,2]],"turns":[["a",1,5,0,1],["b",3,4,2,2]]}"#,
+            ),
+        ],
         "bad 25 K9 Span\ncerts=1 ok=0 bad=1\n",
         Status::SomeNo,
     ),
     (
         "verify",
-        BUNDLE_B,
-        r#"{"client":"c1","pid":"P","spans":[["r",1,2],["s1",1,2]],"turns":[["a",1,4,0,1],["b",3,4,2,2]]}"#,
+        &[
+            Lines(BUNDLE_B, 1, 3),
+            Text(THIRD_EVENT),
+            Lines(BUNDLE_B, 4, 23),
+            Text(
+                r#"{"client":"c1","pid":"P","spans":[["r",1,2],["s1",1,2]],"turns":[["a",1,4,0,1],["b",3,4,2,2]]}"#,
+            ),
+        ],
         "bad 25 K7 NoEnd\ncerts=1 ok=0 bad=1\n",
         Status::SomeNo,
     ),
     (
         "verify",
-        BUNDLE_B,
-        r#"{"client":"c1","pid":"P","spans":[["r",1,1],["s1",1,1]],"turns":[["a",1,5,0,1]]}"#,
+        &[
+            Lines(BUNDLE_B, 1, 3),
+            Text(THIRD_EVENT),
+            Lines(BUNDLE_B, 4, 23),
+            Text(
+                r#"{"client":"c1","pid":"P","spans":[["r",1,1],["s1",1,1]],"turns":[["a",1,5,0,1]]}"#,
+            ),
+        ],
         "bad 25 K11 Received EXTRA 2-0\ncerts=1 ok=0 bad=1\n",
+        Status::SomeNo,
+    ),
+    // The event of the second turn never came.
+    (
+        "verify",
+        &[
+            Lines(BUNDLE_B, 1, 3),
+            Text(THIRD_EVENT),
+            Lines(BUNDLE_B, 4, 21),
+            Lines(BUNDLE_B, 23, 23),
+            Text(
+                r#"{"client":"c1","pid":"P","spans":[["r",1,1],["s1",1,1]],"turns":[["a",1,5,0,1]]}"#,
+            ),
+        ],
+        "ok 24 P got=1 tail=0 turns=1\ncerts=1 ok=1 bad=0\n",
+        Status::AllYes,
+    ),
+    // An unknown key, whose value is nested arrays.
+    (
+        "audit",
+        &[
+            Lines(BUNDLE_A, 1, 1),
+            Text(r#"st {"k":"ev","x":"#),
+            Times("[", 126),
+            Times("]", 126),
+            Text(r#","off":"1-0","nsp":"/","rooms":["r"],"text":"2[\"hi\",\"1-0\"]"}"#),
+            Text("\n"),
+            Lines(BUNDLE_A, 3, 11),
+        ],
+        REPORT_A,
+        Status::AllYes,
+    ),
+    (
+        "audit",
+        &[
+            Lines(BUNDLE_A, 1, 1),
+            Text(r#"st {"k":"ev","x":"#),
+            Times("[", 127),
+            Times("]", 127),
+            Text(r#","off":"1-0","nsp":"/","rooms":["r"],"text":"2[\"hi\",\"1-0\"]"}"#),
+            Text("\n"),
+            Lines(BUNDLE_A, 3, 11),
+        ],
+        "line 2: NotJson\n",
+        Status::Refused,
+    ),
+    // A packet of nested arrays.
+    (
+        "audit",
+        &[
+            Text(BUNDLE_A),
+            Text(r#"c1 {"k":"in","t":"42"#),
+            Times("[", 127),
+            Times("]", 127),
+            Text(r#""}"#),
+        ],
+        REPORT_A,
+        Status::AllYes,
+    ),
+    (
+        "audit",
+        &[
+            Text(BUNDLE_A),
+            Text(r#"c1 {"k":"in","t":"42"#),
+            Times("[", 128),
+            Times("]", 128),
+            Text(r#""}"#),
+        ],
+        "no P FRAME\nsessions=1 yes=0 no=1\n",
+        Status::SomeNo,
+    ),
+    // Half a surrogate pair in a packet.
+    (
+        "audit",
+        &[
+            Text(BUNDLE_A),
+            Text(r#"c1 {"k":"in","t":"42[\"\\ud800\"]"}"#),
+        ],
+        "no P FRAME\nsessions=1 yes=0 no=1\n",
+        Status::SomeNo,
+    ),
+    (
+        "audit",
+        &[
+            Lines(BUNDLE_A, 1, 4),
+            Text(r#"a {"k":"open","pid":"P Q","sid":"s1","nsp":"/"}"#),
+            Text("\n"),
+            Lines(BUNDLE_A, 6, 11),
+        ],
+        "line 5: Field\n",
+        Status::Refused,
+    ),
+    (
+        "audit",
+        &[
+            Lines(BUNDLE_A, 1, 4),
+            Text(r#"a {"k":"open","pid":""#),
+            Times("P", 129),
+            Text(r#"","sid":"s1","nsp":"/"}"#),
+            Text("\n"),
+            Lines(BUNDLE_A, 6, 11),
+        ],
+        "line 5: Limit\n",
+        Status::Refused,
+    ),
+    (
+        "audit",
+        &[
+            Lines(BUNDLE_A, 1, 1),
+            Text(r#"st {"k":"ev","off":""#),
+            Times("1", 65),
+            Text(r#"","nsp":"/","rooms":["r"],"text":"2[\"hi\",\"1-0\"]"}"#),
+            Text("\n"),
+            Lines(BUNDLE_A, 3, 11),
+        ],
+        "line 2: Limit\n",
+        Status::Refused,
+    ),
+    (
+        "verify",
+        &[Text(BUNDLE_A), Text("{\n")],
+        "bad 12 K1 Syntax\ncerts=1 ok=0 bad=1\n",
         Status::SomeNo,
     ),
     (
         "verify",
-        B_WITHOUT_SECOND_EVENT,
-        r#"{"client":"c1","pid":"P","spans":[["r",1,1],["s1",1,1]],"turns":[["a",1,5,0,1]]}"#,
-        "ok 24 P got=1 tail=0 turns=1\ncerts=1 ok=1 bad=0\n",
+        &[
+            Text(BUNDLE_A),
+            Text(r#"{"client":"c1","pid":"P","spans":[["r",1,1],["s1",1,1]],"turns":[]}"#),
+        ],
+        "bad 12 K1 Syntax\ncerts=1 ok=0 bad=1\n",
+        Status::SomeNo,
+    ),
+    (
+        "verify",
+        &[
+            Text(BUNDLE_A),
+            Text(
+                r#"{"client":"c9","pid":"P","spans":[["r",1,1],["s1",1,1]],"turns":[["a",1,4,0,1]]}"#,
+            ),
+        ],
+        "bad 12 K2 UnknownTap\ncerts=1 ok=0 bad=1\n",
+        Status::SomeNo,
+    ),
+    (
+        "verify",
+        &[
+            Text(BUNDLE_A),
+            Text(
+                r#"{"client":"c1","pid":"P","spans":[["r",1,1],["s1",1,1]],"turns":[["a",1,5,0,1]]}"#,
+            ),
+        ],
+        "bad 12 K3 Range\ncerts=1 ok=0 bad=1\n",
+        Status::SomeNo,
+    ),
+    (
+        "verify",
+        &[
+            Text(BUNDLE_A),
+            Text(
+                r#"{"client":"c1","pid":"Q","spans":[["r",1,1],["s1",1,1]],"turns":[["a",1,4,0,1]]}"#,
+            ),
+        ],
+        "bad 12 K5 NotItsTurn\ncerts=1 ok=0 bad=1\n",
+        Status::SomeNo,
+    ),
+    (
+        "verify",
+        &[
+            Lines(BUNDLE_B, 1, 9),
+            Text(r#"a {"k":"take","off":"2-0"}"#),
+            Text("\n"),
+            Lines(BUNDLE_B, 10, 23),
+            Text(r#"{"client":"c1","pid":"P","spans":[],"turns":[["a",1,6,0,2]]}"#),
+        ],
+        "bad 25 K6 EndInside\ncerts=1 ok=0 bad=1\n",
+        Status::SomeNo,
+    ),
+    (
+        "verify",
+        &[
+            Text(BUNDLE_A),
+            Text(
+                r#"{"client":"c1","pid":"P","spans":[["r",1,1],["s1",1,1]],"turns":[["a",1,4,0,0]]}"#,
+            ),
+        ],
+        "bad 12 K8 Cursor\ncerts=1 ok=0 bad=1\n",
+        Status::SomeNo,
+    ),
+    (
+        "verify",
+        &[
+            Text(BUNDLE_A),
+            Text(OTHER_CLIENT),
+            Text(
+                r#"{"client":"c2","pid":"P","spans":[["r",1,1],["s1",1,1]],"turns":[["a",1,4,0,1]]}"#,
+            ),
+        ],
+        "bad 14 K10 Names\ncerts=1 ok=0 bad=1\n",
+        Status::SomeNo,
+    ),
+];
+
+/// The same of long lines, and of many of them.
+static LARGE: [(&str, &[Part], &str, Status); 8] = [
+    (
+        "audit",
+        &[Text(STREAM_HEADER), Times(" ", 4_194_304 - 34)],
+        "sessions=0 yes=0 no=0\n",
+        Status::AllYes,
+    ),
+    (
+        "audit",
+        &[Text(STREAM_HEADER), Times(" ", 4_194_305 - 34)],
+        "line 1: LineTooLong\n",
+        Status::Refused,
+    ),
+    (
+        "audit",
+        &[Text("{"), Times(" ", 4_194_304)],
+        "line 1: LineTooLong\n",
+        Status::Refused,
+    ),
+    (
+        "audit",
+        &[Text(LATER_HEADER), Text("{"), Times(" ", 4_194_304)],
+        "line 1: Version\n",
+        Status::Refused,
+    ),
+    (
+        "prove",
+        &[Text(TWO_SESSIONS), Numbered(IDLE_SESSION, 3_000)],
+        PROOF_OF_TWO,
+        Status::SomeNo,
+    ),
+    (
+        "verify",
+        &[
+            Text(TWO_SESSIONS),
+            Numbered(IDLE_SESSION, 3_000),
+            Text(PROOF_OF_TWO),
+        ],
+        ANSWERS_ON_TWO,
+        Status::AllYes,
+    ),
+    (
+        "audit",
+        NINE_THOUSAND,
+        "yes P got=9000 tail=0 turns=1\nsessions=1 yes=1 no=0\n",
+        Status::AllYes,
+    ),
+    (
+        "prove",
+        NINE_THOUSAND,
+        "{\"client\":\"c1\",\"pid\":\"P\",\"spans\":[[\"r\",1,9000],[\"s1\",1,9000]],\"turns\":[[\"a\",1,9003,0,9000]]}\n",
         Status::AllYes,
     ),
 ];
 
-#[test]
-fn outputs(rt: HostRuntime) -> Result<(), Fail> {
-    for &(word, bundle, certificates, text, status) in &OUTPUTS {
-        let input = with_certificates(rt.alloc(), bundle, certificates)?;
-        let is_so = gives(&rt, rt.alloc(), &[word], input.as_slice(), text, status)?;
-        assert!(rt; is_so, "{word}: {text}");
-    }
-    Ok(())
-}
+/// The header of a stream, of 34 bytes, and that of a later version.
+const STREAM_HEADER: &str = r#"st {"k":"tap","v":1,"of":"stream"}"#;
+
+const LATER_HEADER: &str = r#"st {"k":"tap","v":3,"of":"stream"}
+"#;
+
+/// A session that joins nothing and that no client names.
+const IDLE_SESSION: &str = r#"a {"k":"open","pid":"X#","sid":"x#","nsp":"/"}
+"#;
+
+/// `BUNDLE_A` with 9,000 events, more than a page of records holds.
+const NINE_THOUSAND: &[Part] = &[
+    Lines(BUNDLE_A, 1, 1),
+    Numbered(EVENT, 9_000),
+    Lines(BUNDLE_A, 3, 6),
+    Numbered(TAKE, 9_000),
+    Lines(BUNDLE_A, 8, 10),
+    Numbered(FRAME, 9_000),
+];
+
+const EVENT: &str = r##"st {"k":"ev","off":"#-0","nsp":"/","rooms":["r"],"text":"2[\"hi\",\"#-0\"]"}
+"##;
+
+const TAKE: &str = r##"a {"k":"take","off":"#-0"}
+"##;
+
+const FRAME: &str = r##"c1 {"k":"in","t":"42[\"hi\",\"#-0\"]"}
+"##;
+
+/// How many bytes are read a call.
+static PIECES: [usize; 3] = [1, 7, 65_536];
 
 #[test]
-fn any_pieces_give_the_same(rt: HostRuntime) -> Result<(), Fail> {
-    for &(word, bundle, certificates, text, status) in &OUTPUTS {
-        let input = with_certificates(rt.alloc(), bundle, certificates)?;
-        for most in [1, 7, 65_536] {
-            let reader = TestReader::new(&input, u64::MAX, most);
+fn outputs_in_any_pieces(rt: HostRuntime) -> Result<(), Fail> {
+    for &(word, parts, text, status) in OUTPUTS.iter().chain(&LARGE) {
+        let input = assembled(rt.alloc(), parts)?;
+        for most in PIECES {
+            let reader = TestReader::new(input.as_bytes(), Plan::unfailing(most));
             let is_so = gives(&rt, rt.alloc(), &[word], reader, text, status)?;
             assert!(rt; is_so, "{word}, {most} bytes a call: {text}");
         }
@@ -142,107 +453,13 @@ static AUDITS: [&[&str]; 3] = [
 
 #[test]
 fn any_number_of_workers_writes_the_same(rt: HostRuntime) -> Result<(), Fail> {
-    for &(word, bundle, _, text, status) in &OUTPUTS {
+    for &(word, parts, text, status) in &OUTPUTS {
+        let input = assembled(rt.alloc(), parts)?;
         for &words in &AUDITS {
             let is_so = word != "audit"
-                || gives(&rt, rt.alloc(), words, bundle.as_bytes(), text, status)?;
+                || gives(&rt, rt.alloc(), words, input.as_bytes(), text, status)?;
             assert!(rt; is_so, "{words:?}: {text}");
         }
     }
-    Ok(())
-}
-
-/// A text, and after it a line with blanks up to so many bytes.
-fn with_padded(
-    alloc: Global,
-    text: &str,
-    line: &str,
-    length: usize,
-) -> Result<Vec<u8>, AllocError> {
-    let mut bytes = text.as_bytes().to_vec(alloc)?;
-    bytes.extend_from_slice(line.as_bytes())?;
-    for _ in line.len()..length {
-        bytes.push(b' ')?;
-    }
-    Ok(bytes)
-}
-
-/// A text, a line after it with blanks up to so many bytes, and the text and the status of its output.
-static LONG_LINES: [(&str, &str, usize, &str, Status); 4] = [
-    (
-        "",
-        STREAM_HEADER,
-        4_194_304,
-        "sessions=0 yes=0 no=0\n",
-        Status::AllYes,
-    ),
-    (
-        "",
-        STREAM_HEADER,
-        4_194_305,
-        "line 1: LineTooLong\n",
-        Status::Refused,
-    ),
-    ("", "{", 4_194_305, "line 1: LineTooLong\n", Status::Refused),
-    (
-        LATER_HEADER,
-        "{",
-        4_194_305,
-        "line 1: Version\n",
-        Status::Refused,
-    ),
-];
-
-#[test]
-fn a_line_of_4194304_bytes_is_read(rt: HostRuntime) -> Result<(), Fail> {
-    for &(text, line, length, output, status) in &LONG_LINES {
-        let input = with_padded(rt.alloc(), text, line, length)?;
-        let is_so = gives(
-            &rt,
-            rt.alloc(),
-            &["audit"],
-            input.as_slice(),
-            output,
-            status,
-        )?;
-        assert!(rt; is_so, "{length}: {output}");
-    }
-    Ok(())
-}
-
-/// `TWO_SESSIONS` with 3,000 further sessions of its node, which join nothing and which no client names.
-fn with_idle_sessions(alloc: Global) -> Result<String, AllocError> {
-    let mut text = String::from_str(alloc, TWO_SESSIONS)?;
-    for n in 0..3000u32 {
-        writeln!(
-            &mut text,
-            "a {{\"k\":\"open\",\"pid\":\"X{n}\",\"sid\":\"x{n}\",\"nsp\":\"/\"}}"
-        )?;
-    }
-    Ok(text)
-}
-
-#[test]
-fn idle_sessions_have_no_certificates(rt: HostRuntime) -> Result<(), Fail> {
-    let bundle = with_idle_sessions(rt.alloc())?;
-    let are_two = gives(
-        &rt,
-        rt.alloc(),
-        &["prove"],
-        bundle.as_bytes(),
-        PROOF_OF_TWO,
-        Status::SomeNo,
-    )?;
-    assert!(rt; are_two);
-    let input = with_certificates(rt.alloc(), bundle.as_str(), PROOF_OF_TWO)?;
-    let are_ok = gives(
-        &rt,
-        rt.alloc(),
-        &["verify"],
-        input.as_slice(),
-        ANSWERS_ON_TWO,
-        Status::AllYes,
-    )?;
-    assert!(rt; are_ok);
     Ok(())
 }

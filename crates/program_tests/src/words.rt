@@ -4,28 +4,45 @@ use std::alloc::Global;
 use std::test::Fail;
 
 /// Words that are understood, and what they ask for.
-static ACCEPTED: [(&[&str], Mode, u8); 12] = [
-    (&["audit"], Mode::Audit, 4),
-    (&["audit", "--"], Mode::Audit, 4),
-    (&["audit", "--workers", "64"], Mode::Audit, 64),
-    (&["audit", "--workers=1"], Mode::Audit, 1),
-    (&["audit", "--workers", "+07"], Mode::Audit, 7),
-    (&["audit", "--workers=+064"], Mode::Audit, 64),
-    (&["audit", "--workers", "8", "--"], Mode::Audit, 8),
-    (&["audit", "--workers=8", "--"], Mode::Audit, 8),
-    (&["prove"], Mode::Prove, 4),
-    (&["prove", "--"], Mode::Prove, 4),
-    (&["verify"], Mode::Verify, 4),
-    (&["verify", "--"], Mode::Verify, 4),
+static ACCEPTED: [(&[&str], Mode, u8, bool); 19] = [
+    (&["audit"], Mode::Audit, 4, false),
+    (&["audit", "--"], Mode::Audit, 4, false),
+    (&["audit", "--workers", "64"], Mode::Audit, 64, false),
+    (&["audit", "--workers=1"], Mode::Audit, 1, false),
+    (&["audit", "--workers", "+07"], Mode::Audit, 7, false),
+    (&["audit", "--workers=+064"], Mode::Audit, 64, false),
+    (&["audit", "--workers", "8", "--"], Mode::Audit, 8, false),
+    (&["audit", "--workers=8", "--"], Mode::Audit, 8, false),
+    (&["prove"], Mode::Prove, 4, false),
+    (&["prove", "--"], Mode::Prove, 4, false),
+    (&["verify"], Mode::Verify, 4, false),
+    (&["verify", "--"], Mode::Verify, 4, false),
+    (&["order"], Mode::Order, 4, false),
+    (&["order", "--"], Mode::Order, 4, false),
+    (&["upgrade"], Mode::Upgrade, 4, false),
+    (&["upgrade", "--"], Mode::Upgrade, 4, false),
+    (&["audit", "--whole"], Mode::Audit, 4, true),
+    (
+        &["audit", "--whole", "--workers", "2"],
+        Mode::Audit,
+        2,
+        true,
+    ),
+    (
+        &["audit", "--workers=2", "--whole", "--"],
+        Mode::Audit,
+        2,
+        true,
+    ),
 ];
 
 #[test]
 fn words_that_are_accepted(rt: HostRuntime) -> Result<(), Fail> {
-    for &(words, mode, workers) in &ACCEPTED {
+    for &(words, mode, workers, whole) in &ACCEPTED {
         let asked = Options {
             mode,
             workers,
-            whole: false,
+            whole,
         };
         assert_eq!(rt; options(rt.alloc(), words)?, asked);
     }
@@ -44,13 +61,23 @@ fn is_refused(alloc: Global, words: &[&str], text: &str, is_help: bool) -> Resul
 }
 
 /// Words that are refused, and a part of the text that says why.
-static REFUSED: [(&[&str], &str); 22] = [
+static REFUSED: [(&[&str], &str); 29] = [
     (&[], "Usage"),
     (&["judge"], "judge"),
     (&["--", "audit"], "audit"),
     (&["audit", "prove"], "prove"),
     (&["prove", "--whole"], "--whole"),
     (&["verify", "--whole"], "--whole"),
+    (&["order", "--whole"], "--whole"),
+    (&["upgrade", "--whole"], "--whole"),
+    (&["simulate", "--whole"], "--whole"),
+    (&["--whole", "audit"], "--whole"),
+    (&["audit", "--whole", "--whole"], "--whole"),
+    (
+        &["audit", "--whole", "--workers", "1", "--whole"],
+        "--whole",
+    ),
+    (&["audit", "--", "--whole"], "--whole"),
     (&["audit", "--workers"], "--workers"),
     (&["audit", "--workers", "0"], "0"),
     (&["audit", "--workers", "65"], "65"),

@@ -5,6 +5,7 @@ ghost use Rattle.aud_reader.specs.Connections.{may_follow};
 ghost use Rattle.aud_reader.specs.Private.Connected.{Connected};
 ghost use Rattle.aud_reader.specs.Steps.{Gives};
 ghost use Rattle.aud_reader.specs.Bundle.{client_room, with_client_record};
+ghost use Rattle.aud_reader.specs.Private.NewRecord.{with_new_client_record};
 
 use super::node_log::MAX_RECORDS;
 use crate::fault::{FIELD, LIMIT, LineFault};
@@ -90,7 +91,7 @@ impl ClientLog {
         Ok(())
     }
 
-    fn push(&mut self, rec: ClientRec) -> Result<(), LineFault>
+    fn append(&mut self, rec: ClientRec) -> Result<(), LineFault>
         ensures { Becomes result self.new (Ok (self.old ++ rec ∷ [])) }
     {
         let (last, is_open) = self.connection_after(&rec);
@@ -100,13 +101,20 @@ impl ClientLog {
         Ok(())
     }
 
+    /// Adds a record, if it may follow, and there is room for it.
+    pub fn push(&mut self, rec: ClientRec) -> Result<(), LineFault>
+        ensures { Becomes result self.new (with_new_client_record self.old rec) }
+    {
+        self.admit(&rec)?;
+        self.append(rec)
+    }
+
     /// Adds the record of a line, of which the texts are shared with the pool.
     #[tactic(auto, unfolding(crate::specs::Bundle::with_client_record))]
     pub fn add(&mut self, pool: &mut TextPool, kind: &str, d: &Fields<'_>) -> Result<(), LineFault>
         ensures { Becomes result self.new (with_client_record self.old kind.now (view d.now)) }
     {
         let rec = client_record(self.alloc, pool, kind, d)?;
-        self.admit(&rec)?;
         self.push(rec)
     }
 

@@ -6,6 +6,7 @@ ghost use Rattle.aud_reader.specs.Private.Changes.{Becomes};
 ghost use Rattle.aud_tap.specs.RecordFields.{pid_of};
 ghost use Rattle.aud_reader.specs.Bundle.{node_room, with_node_record};
 ghost use Rattle.aud_reader.specs.Steps.{Gives};
+ghost use Rattle.aud_reader.specs.Private.NewRecord.{has_record, with_new_node_record, with_room_for};
 ghost use Rattle.aud_reader.specs.Private.Texts.{HasPids};
 
 use super::pids::add_pid_of;
@@ -35,6 +36,50 @@ fn admit(
     add_pid_of(pids, rec)
 }
 
+/// Adds a record, and its pid to those of all node records, if there is room for both.
+fn append(
+    records: &mut NodeRecs,
+    pids: &mut HashSet<Text, RandomState>,
+    rec: NodeRec,
+) -> Result<(), LineFault>
+    ensures records { (all : List (List ℕ)) → HasPids pids.old all
+        → Becomes result records.new (with_room_for all records.old rec) }
+    ensures pids { (before after : List (List ℕ)) → HasPids pids.old (before ++ filter_map pid_of records.old ++ after)
+        → OnOk result (HasPids pids.new (before ++ filter_map pid_of records.new ++ after)) }
+{
+    admit(records.len(), pids, &rec)?;
+    records.push(rec)?;
+    Ok(())
+}
+
+/// A tap of this version may have this record.
+fn has_record(version: Version, rec: &NodeRec) -> bool
+    ensures { result ≡ has_record version rec.now }
+{
+    match version {
+        Version::One => !matches!(rec, NodeRec::Takes { .. }),
+        Version::Two => true,
+    }
+}
+
+/// Adds a record to those of a tap of this version, and its pid to those of all node records.
+pub fn push_node_record(
+    version: Version,
+    records: &mut NodeRecs,
+    pids: &mut HashSet<Text, RandomState>,
+    rec: NodeRec,
+) -> Result<(), LineFault>
+    ensures records { (all : List (List ℕ)) → HasPids pids.old all
+        → Becomes result records.new (with_new_node_record version all records.old rec) }
+    ensures pids { (before after : List (List ℕ)) → HasPids pids.old (before ++ filter_map pid_of records.old ++ after)
+        → OnOk result (HasPids pids.new (before ++ filter_map pid_of records.new ++ after)) }
+{
+    if !has_record(version, &rec) {
+        return Err(UNKNOWN_KIND);
+    }
+    append(records, pids, rec)
+}
+
 /// Adds the record of a line in a tap of this version, of which the texts are shared with the pool, and its pid to those
 /// of all node records.
 #[tactic(auto, unfolding(crate::specs::Bundle::with_node_record))]
@@ -55,7 +100,5 @@ pub fn add_node_record(
         return Err(UNKNOWN_KIND);
     }
     let rec = node_record(pool, kind, d)?;
-    admit(records.len(), pids, &rec)?;
-    records.push(rec)?;
-    Ok(())
+    append(records, pids, rec)
 }

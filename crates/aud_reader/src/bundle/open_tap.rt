@@ -5,15 +5,16 @@ ghost use Rattle.aud_fields.specs.View.{view};
 ghost use Rattle.aud_reader.specs.Private.Changes.{Becomes};
 ghost use Rattle.aud_tap.specs.RecordFields.{pid_of};
 ghost use Rattle.aud_reader.specs.Bundle.{no_records, pids_in, with_node_record, with_tap_record};
+ghost use Rattle.aud_reader.specs.Private.NewRecord.{with_new_record};
 ghost use Rattle.aud_reader.specs.Private.Texts.{HasPids};
 
 use super::client_log::ClientLog;
-use super::node_log::add_node_record;
+use super::node_log::{add_node_record, push_node_record};
 use super::stream_log::StreamLog;
-use crate::fault::LineFault;
+use crate::fault::{HEADER_TWICE, LineFault, UNKNOWN_KIND};
 use aud_base::TextPool;
 use aud_fields::Fields;
-use aud_tap::{NodeRecs, Records, Tap, TapKind, Text, Version};
+use aud_tap::{NodeRecs, Rec, Records, Tap, TapKind, Text, Version};
 use std::alloc::Global;
 use std::collections::HashSet;
 use std::hash::RandomState;
@@ -58,6 +59,29 @@ impl OpenLog {
             OpenLog::Stream(entries) => entries.add(pool, kind, d),
             OpenLog::Node(records) => add_node_record(version, pool, records, pids, kind, d),
             OpenLog::Client(records) => records.add(pool, kind, d),
+        }
+    }
+
+    /// Adds a record to those of a tap of this version. The pids are those of all node records.
+    fn push(
+        &mut self,
+        version: Version,
+        pids: &mut HashSet<Text, RandomState>,
+        rec: Rec,
+    ) -> Result<(), LineFault>
+        ensures records { (before after : List (List ℕ)) → HasPids pids.old (before ++ pids_in (records_so_far self.old) ++ after)
+            → Becomes result (records_so_far self.new) (with_new_record version (before ++ pids_in (records_so_far self.old) ++ after) (records_so_far self.old) rec) }
+        ensures pids { (before after : List (List ℕ)) → HasPids pids.old (before ++ pids_in (records_so_far self.old) ++ after)
+            → OnOk result (HasPids pids.new (before ++ pids_in (records_so_far self.new) ++ after)) }
+    {
+        match (self, rec) {
+            (OpenLog::Stream(entries), Rec::Stream(entry)) => entries.push(entry),
+            (OpenLog::Node(records), Rec::Node(rec)) => {
+                push_node_record(version, records, pids, rec)
+            }
+            (OpenLog::Client(records), Rec::Client(rec)) => records.push(rec),
+            (_, Rec::Header { .. }) => Err(HEADER_TWICE),
+            _ => Err(UNKNOWN_KIND),
         }
     }
 
@@ -116,6 +140,18 @@ impl OpenTap {
             → OnOk result (HasPids pids.new (before ++ pids_in (records_so_far self.new.log) ++ after)) }
     {
         self.log.add(self.version, pool, pids, kind, d)
+    }
+
+    /// Adds a record. The pids are those of all node records.
+    pub fn push(&mut self, pids: &mut HashSet<Text, RandomState>, rec: Rec) -> Result<(), LineFault>
+        ensures name { self.new.name ≡ self.old.name }
+        ensures version { self.new.version ≡ self.old.version }
+        ensures records { (before after : List (List ℕ)) → HasPids pids.old (before ++ pids_in (records_so_far self.old.log) ++ after)
+            → Becomes result (records_so_far self.new.log) (with_new_record self.old.version (before ++ pids_in (records_so_far self.old.log) ++ after) (records_so_far self.old.log) rec) }
+        ensures pids { (before after : List (List ℕ)) → HasPids pids.old (before ++ pids_in (records_so_far self.old.log) ++ after)
+            → OnOk result (HasPids pids.new (before ++ pids_in (records_so_far self.new.log) ++ after)) }
+    {
+        self.log.push(self.version, pids, rec)
     }
 
     /// The tap, at the end.

@@ -3,24 +3,23 @@ ghost use Rattle.std.specs.Prelude.{◌≡◌, ◌<◌, ◌∷◌, ◌++◌, [],
 ghost use Rattle.std.specs.HashMap.{get_by_text};
 ghost use Rattle.aud_fields.specs.View.{view};
 ghost use Rattle.aud_reader.specs.Private.Changes.{Becomes};
+ghost use Rattle.aud_reader.specs.Record.{line_record};
 ghost use Rattle.aud_reader.specs.Bundle.{no_records, with_header, with_line, with_named, with_value};
 
 use super::counts::Counts;
 use super::open_tap::OpenTap;
-use crate::fault::{InputCode, LineFault};
+use crate::fault::{HEADER_TWICE, InputCode, LineFault};
 use crate::read::header::tap_header;
 use crate::read::line::opened_line;
 use crate::read::record::kind_of;
 use aud_base::TextPool;
 use aud_fields::{Fields, Scratch};
-use aud_tap::{TapKind, Taps, Text, Version};
+use aud_tap::{Rec, TapKind, Taps, Text, Version};
 use std::alloc::{AllocError, Global};
 use std::collections::{HashMap, HashSet};
 use std::hash::RandomState;
 
 const NO_HEADER: LineFault = LineFault::Code(InputCode::NoHeader);
-
-const HEADER_TWICE: LineFault = LineFault::Code(InputCode::HeaderTwice);
 
 /// The taps in the order of their headers, the place of each by its name, the pids of all node
 /// records, and how many taps there are of each kind.
@@ -108,7 +107,7 @@ impl OpenTaps {
     }
 
     /// The place of the tap of this name.
-    fn place(&self, name: &str) -> Option<usize>
+    pub fn place(&self, name: &str) -> Option<usize>
         requires { KeepsTaps self.now }
         ensures { result ≡ place_of (taps_so_far self.now) name.now }
     {
@@ -147,6 +146,18 @@ impl OpenTaps {
     {
         let (name, d) = opened_line(self.alloc, scratch, line)?;
         self.read_value(pool, name, &d)
+    }
+
+    /// Adds the record that a line tells of the tap at a place: the tap that the line names.
+    pub fn push_record(&mut self, place: usize, rec: Rec) -> Result<(), LineFault>
+        requires keeps { KeepsTaps self.old }
+        requires place { place < length (taps_so_far self.old) }
+        ensures taps { (line name : List ℕ) → place_of (taps_so_far self.old) name ≡ Some place → line_record line ≡ Ok (name, rec)
+            → Becomes result (taps_so_far self.new) (with_line (taps_so_far self.old) line) }
+        ensures keeps { OnOk result (KeepsTaps self.new) }
+    {
+        let tap = &mut self.taps[place];
+        tap.push(&mut self.pids, rec)
     }
 
     /// The taps, at the end.

@@ -100,7 +100,7 @@ impl StreamLog {
 
     /// Adds an entry, unless there are too many or an earlier one has its offset. Where memory runs out, the entries may
     /// be let go.
-    fn push(&mut self, entry: StreamRec) -> Result<(), LineFault>
+    pub fn push(&mut self, entry: StreamRec) -> Result<(), LineFault>
         ensures { Becomes result self.new (with_new_entry self.old entry) }
     {
         admit(&self.entries, &mut self.offsets, &entry)?;

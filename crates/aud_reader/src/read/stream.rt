@@ -7,12 +7,12 @@ ghost use Rattle.aud_tap.specs.WellFormed.{stream_is_well_formed};
 ghost use Rattle.aud_reader.specs.Steps.{Gives};
 ghost use Rattle.aud_reader.specs.StreamRecord.{bounded_event, event_of, lists_of, stream_record_of};
 
-use super::fields::{blobs_at, bounded_id_at, id_at, namespace_at, shared, text_at, texts_at};
+use super::fields::{blobs_at, bounded_id_at, id_at, namespace_at, text_at, texts_at};
 use crate::fault::{LIMIT, LineFault, UNKNOWN_KIND};
 use aud_base::TextPool;
 use aud_fields::Fields;
 use aud_tap::limits::{MAX_ATTACHMENTS, MAX_NAMESPACE, MAX_OFFSET, fit_rooms, fits};
-use aud_tap::{Blobs, Event, StreamRec, Texts};
+use aud_tap::{Blobs, Event, StreamRec, Text, Texts};
 use std::alloc::{AllocError, Global};
 
 /// The rooms that an event is for, those that are excepted, and its attachments.
@@ -38,8 +38,10 @@ fn lists(alloc: Global, pool: &mut TextPool, d: &Fields<'_>) -> Result<Lists, Li
     Ok((rooms, except, blobs_at(alloc, "bin", d)?))
 }
 
-/// The event of texts, which are shared with the pool, and of its lists.
+/// The event of texts and of its lists. Its offset and its namespace are shared with the pool; its text, which ends with
+/// the offset, no other record has.
 fn event_with(
+    alloc: Global,
     pool: &mut TextPool,
     off: &str,
     nsp: &str,
@@ -48,21 +50,21 @@ fn event_with(
 ) -> Result<Event, AllocError>
     ensures { IfOk result (λ event. event ≡ record { off = off.now; nsp = nsp.now; rooms = lists.0; except = lists.1; text = text.now; bin = lists.2 }) }
 {
-    let (off, nsp, text) = shared(pool, off, nsp, text)?;
     let (rooms, except, bin) = lists;
     Ok(Event {
-        off,
-        nsp,
+        off: pool.text(off)?,
+        nsp: pool.text(nsp)?,
         rooms,
         except,
-        text,
+        text: Text::new(alloc, text)?,
         bin,
     })
 }
 
-/// The event of texts, which are shared with the pool, and of its lists, where all are within their limits.
+/// The event of texts and of its lists, where all are within their limits.
 #[tactic(auto, unfolding(crate::specs::StreamRecord::bounded_event))]
 fn bounded_event(
+    alloc: Global,
     pool: &mut TextPool,
     off: &str,
     nsp: &str,
@@ -76,7 +78,7 @@ fn bounded_event(
     if !fits(MAX_OFFSET, off) || !fits(MAX_NAMESPACE, nsp) || !lists_fit(&lists) {
         return Err(LIMIT);
     }
-    Ok(StreamRec::Ev(event_with(pool, off, nsp, text, lists)?))
+    Ok(StreamRec::Ev(event_with(alloc, pool, off, nsp, text, lists)?))
 }
 
 #[tactic(auto, unfolding(crate::specs::StreamRecord::event_of))]
@@ -88,7 +90,7 @@ fn event(alloc: Global, pool: &mut TextPool, d: &Fields<'_>) -> Result<StreamRec
     let nsp = namespace_at("nsp", d)?;
     let text = text_at("text", d)?;
     let lists = lists(alloc, pool, d)?;
-    bounded_event(pool, off, nsp, text, lists)
+    bounded_event(alloc, pool, off, nsp, text, lists)
 }
 
 /// The stream's record of this kind.

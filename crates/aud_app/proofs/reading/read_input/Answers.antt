@@ -20,12 +20,14 @@ returns-in-Ok-eq0-clause-input g c = λ other.
     c.pieces.invariant.read c.in-Ok-eq0.ensures.bytes c.finish.ensures.read c.finish.ensures.refused other
 
 pub feed-requires : goal.feed-requires
-feed-requires g c =
-    omega (arith, length-take-le c.in-Ok.n c.deref.result.now, c.in-Ok.ensures.bound.0, c.read.auto.buf, c.deref_mut.ensures.len, c.pieces.invariant.room, c.pieces.invariant.number, c.pieces-test.true)
+feed-requires g c = (
+  c.type_bounds.sync-H,
+  omega (arith, length-take-le c.in-Ok.n c.deref.result.now, c.in-Ok.ensures.bound.0, c.read.auto.buf, c.deref_mut.ensures.len, c.pieces.invariant.room, c.pieces.invariant.number, c.pieces-test.true),
+)
 
 pub finish-requires : goal.finish-requires
 finish-requires g c =
-    let fits : c.pieces.reader.cut.number < 18446744073709551615 = omega (arith, c.pieces.invariant.number, c.pieces-test.true) in fits
+    let fits : c.pieces.reader.cut.number < 18446744073709551615 = omega (arith, c.pieces.invariant.number, c.pieces-test.true) in (c.type_bounds.sync-H, fits)
 
 pub pieces-preserved : goal.pieces-preserved
 pieces-preserved g c =

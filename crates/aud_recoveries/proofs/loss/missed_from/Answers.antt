@@ -4,7 +4,7 @@ use Rattle.std.proofs.lemmas.Result.{IfOk-weaker}
 use Rattle.aud_cert.specs.Certificate.{CertificateSeen}
 use Rattle.aud_rooms.specs.Spans.{due_by_spans}
 use Rattle.aud_recoveries.specs.Missed.{IsMissedFrom}
-use Rattle.aud_recoveries.specs.Private.Opened.{opened_in}
+use Rattle.aud_recoveries.specs.Opened.{opened_in}
 use Rattle.aud_recoveries.proofs.MissedLemmas.{opened_is, missed_so}
 use Rattle.aud_recoveries.proofs.loss.missed_from.Goals as goal
 

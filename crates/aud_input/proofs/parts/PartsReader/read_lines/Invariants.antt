@@ -5,7 +5,7 @@ use Rattle.aud_input.proofs.parts.PartsReader.read_lines.Given as goal
 
 -- the lines to come bring what all lines did
 abbrev pub invariant-loop-line : goal.invariant-loop-line
-invariant-loop-line l = record {
+invariant-loop-line g l = record {
   going : l.self.taps.fault ≡ None;
   parts : (more : List Line) → parts_to_come l.self (l.line-iterator.rest.items ++ more) ≡ parts_to_come l.fn.self (l.fn.lines.items ++ more);
 }

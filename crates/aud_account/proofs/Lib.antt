@@ -1,0 +1,3 @@
+mod Positions
+mod Sessions
+mod Differences

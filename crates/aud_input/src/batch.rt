@@ -1,0 +1,69 @@
+//! Lines that are read together.
+ghost use Rattle.std.specs.Prelude.{◌≡◌, ◌<◌, ◌≤◌, ◌++◌, ◌∷◌, [], length, true, OnOk};
+
+use aud_reader::Line;
+use std::alloc::{AllocError, Global};
+use std::marker::Model;
+
+/// So many lines are enough for several threads.
+const MAX_LINES: usize = 8_192;
+
+/// So many bytes are enough, however few the lines are.
+const MAX_BYTES: usize = 1_048_576;
+
+/// Lines that wait, in their order, until there are enough of them to be read together.
+#[derive(Drop)]
+pub struct Batch {
+    lines: Vec<Line>,
+    bytes: usize,
+}
+
+impl Model for Batch {
+    ghost use Rattle.std.specs.Prelude.{List};
+    ghost use Rattle.aud_reader.specs.declared.line.Line.{Line};
+
+    ghost Value = { List Line };
+
+    ghost view = { λ s. s.lines.items };
+}
+
+impl Batch {
+    pub fn new(alloc: Global) -> Batch
+        ensures { result ≡ [] }
+    {
+        Batch {
+            lines: Vec::new(alloc),
+            bytes: 0,
+        }
+    }
+
+    pub fn push(&mut self, line: Line) -> Result<(), AllocError>
+        ensures { OnOk result (self.new ≡ self.old ++ line ∷ []) }
+    {
+        self.bytes = self.bytes.saturating_add(line.bytes.as_slice().len());
+        self.lines.push(line)?;
+        Ok(())
+    }
+
+    pub fn lines(&self) -> &[Line]
+        ensures { result.now ≡ self.now }
+    {
+        &self.lines
+    }
+
+    /// Whether the lines are to wait no longer. For a single thread each line is enough.
+    pub fn is_full(&self, threads: usize) -> bool
+        ensures one { threads < 2 → result ≡ true }
+        ensures many { 8192 ≤ length self.now → result ≡ true }
+    {
+        threads < 2 || MAX_LINES <= self.lines.len() || MAX_BYTES <= self.bytes
+    }
+
+    /// Lets the lines go, and keeps their room.
+    pub fn clear(&mut self)
+        ensures { self.new ≡ [] }
+    {
+        self.lines.clear();
+        self.bytes = 0;
+    }
+}
