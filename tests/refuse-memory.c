@@ -1,0 +1,60 @@
+// Loaded before the C library (LD_PRELOAD), it refuses one allocation of a program. REFUSE is that allocation's number, counted
+// from 1; with 0 none is refused. REFUSE_TOLD names a file of two words of 8 bytes, which are kept up to date while the program
+// runs, however it ends: how many allocations were counted, and how many were refused.
+#include <errno.h>
+#include <fcntl.h>
+#include <stdatomic.h>
+#include <stdlib.h>
+#include <sys/mman.h>
+#include <unistd.h>
+
+extern void *__libc_malloc(size_t);
+extern void *__libc_calloc(size_t, size_t);
+extern void *__libc_realloc(void *, size_t);
+extern void *__libc_memalign(size_t, size_t);
+
+struct told {
+    atomic_long counted, refused;
+};
+
+static struct told nobody, *told = &nobody;
+static long wanted;
+
+// Whether this allocation is the one to be refused.
+static int refuses(void) {
+    if (atomic_fetch_add(&told->counted, 1) + 1 != wanted)
+        return 0;
+    atomic_fetch_add(&told->refused, 1);
+    errno = ENOMEM;
+    return 1;
+}
+
+void *malloc(size_t bytes) { return refuses() ? NULL : __libc_malloc(bytes); }
+
+void *calloc(size_t count, size_t size) { return refuses() ? NULL : __libc_calloc(count, size); }
+
+void *realloc(void *old, size_t bytes) { return bytes != 0 && refuses() ? NULL : __libc_realloc(old, bytes); }
+
+void *memalign(size_t align, size_t bytes) { return refuses() ? NULL : __libc_memalign(align, bytes); }
+
+void *aligned_alloc(size_t align, size_t bytes) { return memalign(align, bytes); }
+
+int posix_memalign(void **out, size_t align, size_t bytes) {
+    void *its = memalign(align, bytes);
+    if (its == NULL)
+        return ENOMEM;
+    *out = its;
+    return 0;
+}
+
+__attribute__((constructor)) static void begin(void) {
+    const char *number = getenv("REFUSE"), *name = getenv("REFUSE_TOLD");
+    int file = name ? open(name, O_RDWR) : -1;
+    if (file >= 0) {
+        void *its = mmap(NULL, sizeof *told, PROT_READ | PROT_WRITE, MAP_SHARED, file, 0);
+        if (its != MAP_FAILED)
+            told = its;
+        close(file);
+    }
+    wanted = number ? atol(number) : 0;
+}
