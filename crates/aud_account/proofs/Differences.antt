@@ -7,7 +7,8 @@ use Rattle.aud_merge.specs.ByTurns.{IsPrefixOf}
 use Rattle.aud_evidence.specs.declared.difference.Difference.{Difference}
 use Rattle.aud_evidence.specs.Difference.{IsAscending, IsDifference}
 use Rattle.aud_verdict.specs.Session.{own_stays, due_to}
-use Rattle.aud_account.specs.Account.{IsAccount, IsDifferenceOf, positions_received}
+use Rattle.aud_evidence.specs.Window.{positions_received}
+use Rattle.aud_account.specs.Account.{IsAccount, IsDifferenceOf}
 use Rattle.aud_account.proofs.Sessions.{due_ascends}
 
 module _ (c : Cluster) (pid : Text) (client : ℕ) (stays : List StaySeen) (due : List ℕ) (account : IsAccount c pid client stays due) (received found : List ℕ) (received_is : received ≡ positions_received stays) (found_is : found ≡ due) where

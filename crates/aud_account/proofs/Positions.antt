@@ -5,7 +5,7 @@ use Rattle.std.proofs.lemmas.List.{map-append}
 use Rattle.aud_client.specs.StaySeen.{StaySeen, FrameSeen}
 use Rattle.aud_check.specs.Frames.{frames_in}
 use Rattle.aud_check.proofs.Steps.{at_map, take_at}
-use Rattle.aud_account.specs.Account.{positions_received}
+use Rattle.aud_evidence.specs.Window.{positions_received}
 
 abbrev pub position_of : FrameSeen → ℕ
 position_of frame = frame.position

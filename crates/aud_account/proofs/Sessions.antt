@@ -17,22 +17,18 @@ use Rattle.aud_rooms.specs.Turns.{Who, Turn, Slice, slice_of}
 use Rattle.aud_rooms.specs.TurnsDue.{turns_due, is_turn_due, greatest_high}
 use Rattle.aud_rooms.specs.Spans.{RoomSpan, AreSpansOfTurns, due_by_spans, first_low}
 use Rattle.aud_rooms.proofs.Ascending.{filter-ascends}
-use Rattle.aud_recoveries.specs.Opened.{opened_in}
+use Rattle.aud_recoveries.specs.Opened.{greatest_turn_high, opened_in}
 use Rattle.aud_recoveries.specs.Recoveries.{stays_told, stays_at}
+use Rattle.aud_recoveries.proofs.Highs.{highs}
 use Rattle.aud_recoveries.proofs.MissedLemmas.{opened_is}
 use Rattle.aud_evidence.specs.Difference.{IsAscending}
 use Rattle.aud_verdict.specs.Session.{SessionLogs, IsSession, own_stays, due_to}
-use Rattle.aud_account.specs.Private.Sessions.{session_made, greatest_turn_high, stays_at_place}
+use Rattle.aud_account.specs.Private.Sessions.{session_made, stays_at_place}
 use Rattle.aud_account.specs.Account.{IsAccount}
 
 -- what was due ascends
 pub due_ascends : (c : Cluster) (s : SessionLogs) → IsAscending (due_to c s)
 due_ascends c s = AllPairs-from_increasing _ (filter-ascends (is_turn_due c.stream s.who (map (slice_of c) s.turns)) 1 (length c.stream))
-
--- the greatest position of turns as a certificate has them
-highs : (c : Cluster) (turns : List Turn) → greatest_turn_high (map (turn_seen c) turns) ≡ greatest_high (map (slice_of c) turns)
-highs c [] = refl
-highs c (t ∷ turns) = ap (max (slice_of c t).high) (highs c turns)
 
 -- the stays of the tap, if there is one, are those that its records tell
 told : (stream : List StreamRec) (o : Option (List ClientRec)) → stays_told (option_map (transcript_of stream) o) ≡ (transcript_of stream (recs_or_none o)).stays

@@ -1,12 +1,12 @@
 -- What a client received of a session, and what was due to it.
-use Rattle.std.specs.Prelude.{◌≡◌, ℕ, List, map}
+use Rattle.std.specs.Prelude.{◌≡◌, ℕ, List}
 use Rattle.aud_node.specs.Stream.{Text}
 use Rattle.aud_node.specs.Cluster.{Cluster}
-use Rattle.aud_client.specs.StaySeen.{StaySeen, FrameSeen}
-use Rattle.aud_check.specs.Frames.{frames_in}
+use Rattle.aud_client.specs.StaySeen.{StaySeen}
 use Rattle.aud_verdict.specs.Session.{SessionLogs, IsSession, own_stays, due_to}
 use Rattle.aud_evidence.specs.declared.difference.Difference.{Difference}
 use Rattle.aud_evidence.specs.Difference.{IsDifference}
+use Rattle.aud_evidence.specs.Window.{positions_received}
 
 -- the session's client is that of the tap at this place; there these are the stays whose reply names the session, in
 -- the tap's order; and these positions were due to it by its turns, ascending
@@ -16,10 +16,6 @@ pub record IsAccount (c : Cluster) (pid : Text) (client : ℕ) (stays : List Sta
   pub client_is : client ≡ session.client
   pub stays_are : stays ≡ own_stays c session
   pub due_is : due ≡ due_to c session
-
--- the positions of the frames in stays, stay after stay
-abbrev pub positions_received : List StaySeen → List ℕ
-positions_received stays = map (λ (frame : FrameSeen). frame.position) (frames_in stays)
 
 -- what the client received of the session first parts so from what was due to it
 pub record IsDifferenceOf (c : Cluster) (pid : Text) (difference : Difference) : Type 0 where

@@ -4,7 +4,8 @@ ghost use Rattle.aud_node.specs.Cluster.{Cluster};
 ghost use Rattle.aud_node.specs.Stream.{Text};
 ghost use Rattle.aud_client.specs.StaySeen.{FrameSeen};
 ghost use Rattle.aud_merge.specs.ByTurns.{IsPrefixOf};
-ghost use Rattle.aud_account.specs.Account.{IsAccount, IsDifferenceOf, positions_received};
+ghost use Rattle.aud_evidence.specs.Window.{positions_received};
+ghost use Rattle.aud_account.specs.Account.{IsAccount, IsDifferenceOf};
 
 use crate::account::Account;
 use aud_client::Stay;

@@ -1,12 +1,12 @@
 //! What was due to a session by its turns.
-ghost use Rattle.std.specs.Prelude.{◌≡◌, IfOk, max};
+ghost use Rattle.std.specs.Prelude.{◌≡◌, IfOk};
 ghost use Rattle.aud_maker.specs.Made.{IsMade};
 ghost use Rattle.aud_verdict.specs.Session.{due_to};
-ghost use Rattle.aud_account.specs.Private.Sessions.{greatest_turn_high, session_made};
+ghost use Rattle.aud_account.specs.Private.Sessions.{session_made};
 
-use aud_cert::{Certificate, Turn};
+use aud_cert::Certificate;
 use aud_client::Recording;
-use aud_recoveries::opened_in;
+use aud_recoveries::{greatest_high, opened_in};
 use aud_rooms::{due_by_spans_of_turns, due_of};
 use std::alloc::{AllocError, Global};
 
@@ -35,15 +35,4 @@ pub(crate) fn due_by_turns(
         opened.low,
         high,
     )
-}
-
-/// The greatest position that the turns reach.
-fn greatest_high(turns: &[Turn<'_>]) -> u64
-    ensures { result ≡ greatest_turn_high turns.now }
-{
-    let mut high = 0;
-    for turn in turns {
-        high = turn.high.max(high);
-    }
-    high
 }

@@ -18,6 +18,8 @@
 
 mod certificate;
 mod fault;
+mod place;
 
 pub use certificate::{Certificate, Turn};
 pub use fault::Fault;
+pub use place::turn_place;

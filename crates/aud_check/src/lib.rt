@@ -36,3 +36,4 @@ mod words;
 
 pub use certificate::{Accepted, check};
 pub use refusal::Refusal;
+pub use stays::frames_in;

@@ -3,7 +3,7 @@ ghost use Rattle.std.specs.Prelude.{◌≡◌, IfOk, MatchOption, [], map};
 ghost use Rattle.aud_node.specs.Cluster.{node_log};
 ghost use Rattle.aud_cert.specs.Certificate.{turn_at};
 
-use aud_cert::Turn;
+use aud_cert::{Turn, turn_place};
 use aud_node::{Logs, Recs};
 use aud_rooms::TurnPlace;
 use std::alloc::{AllocError, Global};
@@ -21,17 +21,6 @@ pub(crate) fn places_of(
         places.push(turn_place(logs, turn))?;
     }
     Ok(places)
-}
-
-/// Where the turn stands; past all taps where none has the name of its node.
-pub(crate) fn turn_place(logs: &Logs<'_>, turn: &Turn<'_>) -> TurnPlace
-    ensures { result ≡ turn_at logs.now turn.now }
-{
-    TurnPlace {
-        node: logs.place_of(turn.node).unwrap_or(logs.taps().len()),
-        from: turn.from as usize,
-        to: turn.to as usize,
-    }
 }
 
 /// The records of the node whose tap is at this place, lent by the logs; none where that tap is no node's.

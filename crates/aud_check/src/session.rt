@@ -6,8 +6,8 @@ ghost use Rattle.aud_rooms.specs.Turns.{slice_of};
 ghost use Rattle.aud_cert.specs.Certificate.{IsOver, IsTurnOver};
 ghost use Rattle.aud_check.specs.Shown.{first_record, who_of};
 
-use crate::place::{records_at, turn_place};
-use aud_cert::{Certificate, Turn};
+use crate::place::records_at;
+use aud_cert::{Certificate, Turn, turn_place};
 use aud_node::Logs;
 use aud_rooms::TurnPlace;
 use aud_tap::NodeRec;

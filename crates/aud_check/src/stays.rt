@@ -41,11 +41,11 @@ fn has_sid(sid: &str, reply: &Option<Reply>) -> bool
     }
 }
 
-/// The frames of the stays, stay after stay, lent.
-pub(crate) fn frames_in<'s>(
+/// The frames of the stays, stay after stay, lent: over the stays whose reply names a session all that was received of it.
+pub fn frames_in<'s, 'a>(
     alloc: Global,
-    stays: &[&'s Stay<'s>],
-) -> Result<Vec<&'s Frame<'s>>, AllocError>
+    stays: &[&'s Stay<'a>],
+) -> Result<Vec<&'s Frame<'a>>, AllocError>
     ensures { IfOk result (λ frames. map (λ frame. frame.now) frames.items ≡ frames_in (map (λ stay. stay.now) stays.now)) }
 {
     let mut frames = Vec::new(alloc);
@@ -56,7 +56,10 @@ pub(crate) fn frames_in<'s>(
 }
 
 /// Adds the frames of the stay.
-fn push_frames<'s>(frames: &mut Vec<&'s Frame<'s>>, stay: &'s Stay<'s>) -> Result<(), AllocError>
+fn push_frames<'s, 'a>(
+    frames: &mut Vec<&'s Frame<'a>>,
+    stay: &'s Stay<'a>,
+) -> Result<(), AllocError>
     ensures { OnOk result (map (λ frame. frame.now) frames.new.items ≡ map (λ frame. frame.now) frames.old.items ++ stay.now.frames) }
 {
     for frame in &stay.frames {

@@ -11,10 +11,10 @@ ghost use Rattle.aud_check.specs.Private.TurnEnd.{end_seen};
 ghost use Rattle.aud_check.specs.TurnRefusals.{AreTurnsAccepted, HasCursors, IsTurnAccepted, is_begun_by};
 ghost use Rattle.aud_check.specs.Private.TurnCheck.{IsFirstOfTurn, IsFirstOfTurns};
 
-use crate::place::{records_at, turn_place};
+use crate::place::records_at;
 use crate::refusal::Refusal;
 use crate::turn_end::{End, turn_end};
-use aud_cert::Turn;
+use aud_cert::{Turn, turn_place};
 use aud_node::Logs;
 use aud_rooms::TurnPlace;
 use aud_tap::NodeRec;

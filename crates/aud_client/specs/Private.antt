@@ -1,5 +1,4 @@
 -- What contracts of private functions alone cite: what the code keeps, and its steps. No public clause rests on these words.
-pub mod BySession
 pub mod Kept
 pub mod Open
 pub mod IndexedTranscript

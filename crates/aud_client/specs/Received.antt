@@ -1,6 +1,6 @@
 -- What a client received: the stays of all connections of its tap, and the received list of a session.
-use Rattle.std.specs.Prelude.{ℕ, Bool, true, false, not, ◌&&◌, List, [], ◌∷◌, ◌++◌, map, flat_map, Option, Some, None, is_some, if◌then◌else◌, option_map}
-use Rattle.std.specs.List.{filter, list_any, list_all}
+use Rattle.std.specs.Prelude.{ℕ, Bool, true, false, not, ◌&&◌, List, [], ◌∷◌, ◌++◌, map, flat_map, Option, Some, None, is_some, if◌then◌else◌, option_map, slice_get}
+use Rattle.std.specs.List.{filter, filter_map, list_any, list_all}
 use Rattle.std.specs.Str.{bytes_eq}
 use Rattle.aud_tap.specs.declared.records.StreamRec.{StreamRec}
 use Rattle.aud_tap.specs.declared.records.ClientRec.{ClientRec}
@@ -65,6 +65,10 @@ is_recovered stay = asked_for_reply stay.asked stay.reply
 
 abbrev pub stays_naming : Text → List StaySeen → List StaySeen
 stays_naming pid ss = filter (stay_names_pid pid) ss
+
+-- the stays with these numbers, which count from 0
+abbrev pub stays_numbered : List StaySeen → List ℕ → List StaySeen
+stays_numbered ss numbers = filter_map (slice_get ss) numbers
 
 -- all of these stays are in the namespace
 abbrev pub are_in_namespace : Text → List StaySeen → Bool

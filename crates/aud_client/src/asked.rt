@@ -32,7 +32,7 @@ impl Model for Asked {
 }
 
 /// What a packet of the client asks for, if it is a CONNECT that does.
-pub(crate) fn asked_in(alloc: Global, packet: &Packet<'_>) -> Result<Option<Asked>, AllocError>
+pub fn asked_in(alloc: Global, packet: &Packet<'_>) -> Result<Option<Asked>, AllocError>
     ensures { IfOk result (λ asked. asked ≡ asked_in (packet_view packet.now)) }
 {
     match packet.kind {

@@ -3,8 +3,7 @@ ghost use Rattle.std.specs.Prelude.{◌≡◌, IfOk, OnOk};
 ghost use Rattle.std.specs.List.{list_any};
 ghost use Rattle.aud_base.specs.Places.{noted, places_of};
 ghost use Rattle.aud_node.specs.Stream.{Text};
-ghost use Rattle.aud_client.specs.Received.{stay_names_pid, stays_naming};
-ghost use Rattle.aud_client.specs.Private.BySession.{stays_numbered};
+ghost use Rattle.aud_client.specs.Received.{stay_names_pid, stays_naming, stays_numbered};
 
 use crate::stay::Stay;
 use aud_base::Places;

@@ -1,14 +1,16 @@
 //! The events of the stream that came.
 ghost use Rattle.std.specs.Prelude.{◌≡◌};
-ghost use Rattle.std.specs.Option.{option_and_then, option_copied};
+ghost use Rattle.std.specs.Option.{option_and_then, option_copied, option_map};
 ghost use Rattle.aud_tap.specs.Forms.{passing};
 ghost use Rattle.aud_node.specs.AtPosition.{is_recoverable_at};
 ghost use Rattle.aud_node.specs.Known.{spelled};
 ghost use Rattle.aud_sio.specs.Packet.{packet_view};
 ghost use Rattle.aud_sio.specs.Assembly.{whole_view};
 ghost use Rattle.aud_client.specs.TapPackets.{FromServer};
+ghost use Rattle.aud_client.specs.Seen.{packet_seen};
 ghost use Rattle.aud_client.specs.StaySeen.{frame_of, offset_in, recoverable_position};
 
+use crate::connection::TapPacket;
 use aud_node::{KnownEvent, Stream, is_event};
 use aud_sio::{Blob, Packet, Whole, last_text};
 use std::alloc::Global;
@@ -64,6 +66,17 @@ pub(crate) fn known_frame<'a>(
             bin: Vec::new(alloc),
         }),
         None => None,
+    }
+}
+
+/// The position of the frame that a packet is, if it is one.
+pub fn frame_position(stream: &Stream<'_>, packet: &TapPacket<'_>) -> Option<u64>
+    ensures { result ≡ option_map (λ frame. frame.position) (frame_of stream.now (packet_seen packet.now)) }
+{
+    match packet {
+        TapPacket::FromServer(whole) => position_of(stream, &whole.packet),
+        TapPacket::Known(known) => known_position(stream, known),
+        TapPacket::FromClient(_) => None,
     }
 }
 

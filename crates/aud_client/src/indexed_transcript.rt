@@ -1,8 +1,7 @@
 //! A client's tap that was read, with its stays by session.
 ghost use Rattle.std.specs.Prelude.{◌≡◌, IfOk, map, slice_get};
 ghost use Rattle.std.specs.Option.{option_copied};
-ghost use Rattle.aud_client.specs.Received.{transcript_of, stays_naming};
-ghost use Rattle.aud_client.specs.Private.BySession.{stays_numbered};
+ghost use Rattle.aud_client.specs.Received.{transcript_of, stays_naming, stays_numbered};
 
 use crate::by_session::by_session;
 use crate::stay::Stay;
@@ -60,11 +59,18 @@ impl<'a> IndexedTranscript<'a> {
         &self.transcript
     }
 
+    /// The numbers, ascending, of the stays whose reply names the session, lent; stays count from 0 in the tap's order.
+    pub fn numbers_naming(&self, pid: &str) -> &[usize]
+        ensures { stays_numbered self.now.stays result.now ≡ stays_naming pid.now self.now.stays }
+    {
+        self.by_session.of(pid)
+    }
+
     /// The stays whose reply names the session, in the tap's order, lent. No other stay is looked at.
     pub fn naming<'s>(&'s self, alloc: Global, pid: &str) -> Result<Vec<&'s Stay<'a>>, AllocError>
         ensures { IfOk result (λ naming. map (λ stay. stay.now) naming.items ≡ stays_naming pid.now self.now.stays) }
     {
-        stays_at(alloc, &self.transcript.stays, self.by_session.of(pid))
+        stays_at(alloc, &self.transcript.stays, self.numbers_naming(pid))
     }
 }
 

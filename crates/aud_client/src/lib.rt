@@ -37,14 +37,15 @@ mod tap;
 mod told;
 mod transcript;
 
-pub use asked::Asked;
+pub use asked::{Asked, asked_in};
 pub use client_tap::{ClientTap, Connection};
 pub use connection::{Placed, TapPacket};
-pub use frame::Frame;
+pub use frame::{Frame, frame_position};
 pub use indexed_transcript::IndexedTranscript;
 pub use laws::received_by_stays;
 pub use recording::Recording;
 pub use replies::{Reply, reply_of};
 pub use stay::Stay;
+pub use stays::{is_connect, is_disconnect, namespace};
 pub use tap::read_transcript;
 pub use transcript::Transcript;

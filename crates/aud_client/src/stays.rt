@@ -204,7 +204,7 @@ pub fn namespace<'a>(packet: &TapPacket<'a>) -> &'a str
 }
 
 /// Whether the packet is a CONNECT, in either direction.
-fn is_connect(packet: &TapPacket<'_>) -> bool
+pub fn is_connect(packet: &TapPacket<'_>) -> bool
     ensures { result ≡ is_connect (packet_seen packet.now) }
 {
     match packet_in(packet) {
@@ -214,7 +214,7 @@ fn is_connect(packet: &TapPacket<'_>) -> bool
 }
 
 /// Whether the packet is a DISCONNECT, in either direction.
-fn is_disconnect(packet: &TapPacket<'_>) -> bool
+pub fn is_disconnect(packet: &TapPacket<'_>) -> bool
     ensures { result ≡ is_disconnect (packet_seen packet.now) }
 {
     match packet_in(packet) {

@@ -5,8 +5,10 @@ pub use Rattle.aud_client.specs.Received
 pub use Rattle.aud_check.specs.Compare
 pub use Rattle.aud_check.specs.Frames
 pub mod Class
+pub mod Content
 pub mod Difference
 pub mod Order
 pub mod Parting
 pub mod Stays
+pub mod Window
 pub mod Private

@@ -1,2 +1,4 @@
 -- What contracts of private functions alone cite. No public clause rests on these words.
+pub mod Attachments
 pub mod Displaced
+pub mod Misplaced

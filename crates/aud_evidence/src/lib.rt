@@ -12,13 +12,17 @@
 #![tactic(auto)]
 
 mod class;
+mod content;
 mod difference;
 mod order;
 mod parting;
 mod stays;
+mod window;
 
 pub use class::{Class, class_of};
+pub use content::{Altered, Part, first_altered};
 pub use difference::{Difference, first_difference};
 pub use order::first_unordered;
 pub use parting::first_parting;
 pub use stays::{first_naming, first_orphan, first_other_named};
+pub use window::{BadWindow, Misfit, first_bad_window};

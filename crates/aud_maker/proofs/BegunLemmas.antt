@@ -18,7 +18,8 @@ use Rattle.aud_node.proofs.TurnLemmas.{IsWithin, turn_range-within}
 use Rattle.aud_rooms.specs.Turns.{Who, Turn, beginning, HasNoTurn, IsChain}
 use Rattle.aud_rooms.proofs.Members.{contains-none, contains-parts, contains-first, contains-later}
 use Rattle.aud_base.proofs.SameText.{same_text, itself_text}
-use Rattle.aud_maker.specs.Private.Begun.{placed_or, turn_begun, AreBegun, AreAllBegun, BeginsUpTo}
+use Rattle.aud_maker.specs.Begun.{placed_or, turn_begun, AreBegun, AreAllBegun}
+use Rattle.aud_maker.specs.Private.Begun.{BeginsUpTo}
 use Rattle.aud_maker.proofs.Turns.{begins-names, beginning-begins, turn-to, first_there, found}
 use Rattle.std.proofs.lemmas.List.Elements.{All-contains}
 

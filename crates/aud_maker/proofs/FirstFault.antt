@@ -7,9 +7,9 @@ use Rattle.aud_node.specs.Cluster.{Cluster}
 use Rattle.aud_node.specs.Stream.{Text}
 use Rattle.aud_rooms.specs.Turns.{Who, Turn, IsChain, AreTurns, HasNoTurn}
 use Rattle.aud_node.specs.OwnPlaces.{own_places}
-use Rattle.aud_maker.specs.Private.Begun.{AreAllBegun, turn_begun}
+use Rattle.aud_maker.specs.Begun.{AreAllBegun, turn_begun}
 use Rattle.aud_maker.specs.Private.Ended.{are_ended}
-use Rattle.aud_maker.specs.Private.Swept.{is_swept}
+use Rattle.aud_maker.specs.InTurn.{is_swept}
 use Rattle.aud_maker.specs.Chain.{HasNoChain}
 use Rattle.aud_maker.specs.Private.Opening.{opening_of}
 use Rattle.aud_maker.proofs.BegunLemmas.{chain-same, begun, one_chain}

@@ -14,7 +14,7 @@ use Rattle.aud_node.specs.OwnPlaces.{own_places}
 use Rattle.aud_node.specs.OwnRecords.{record_names, own_numbers}
 use Rattle.aud_rooms.specs.Turns.{Who, Turn, beginning, StandsIn, IsChain}
 use Rattle.aud_rooms.proofs.Members.{contains-none, contains-parts}
-use Rattle.aud_maker.specs.Private.Swept.{number_begun, turn_or, turn_past, is_in_turn, are_in_turns, is_swept}
+use Rattle.aud_maker.specs.InTurn.{number_begun, turn_or, turn_past, is_in_turn, are_in_turns, is_swept}
 use Rattle.aud_maker.proofs.Turns.{begins-names, beginning-begins, no_begin_inside, first_there, stands}
 use Rattle.aud_maker.proofs.BegunLemmas.{named, unnamed, own_number, own_place}
 

@@ -3,4 +3,3 @@ pub mod Opening
 pub mod Begun
 pub mod Ended
 pub mod Mentioned
-pub mod Swept

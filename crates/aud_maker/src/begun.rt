@@ -4,15 +4,17 @@ ghost use Rattle.aud_node.specs.Cluster.{node_log};
 ghost use Rattle.aud_node.specs.TurnRecords.{begins_turn, turn_range};
 ghost use Rattle.aud_node.specs.OwnPlaces.{own_places};
 ghost use Rattle.aud_rooms.specs.Turns.{HasNoTurn};
-ghost use Rattle.aud_maker.specs.Private.Begun.{placed_or, turn_begun, AreAllBegun, BeginsUpTo};
+ghost use Rattle.aud_maker.specs.Begun.{placed_or, turn_begun, AreAllBegun};
+ghost use Rattle.aud_maker.specs.Private.Begun.{BeginsUpTo};
 
 use aud_node::{Logs, NodeLog};
 use aud_rooms::TurnPlace;
 use aud_tap::NodeRec;
 use std::alloc::{AllocError, Global};
 
-/// The turns from turn 0 on, up to the first that none of the nodes begins.
-pub(crate) fn begun_turns(
+/// Where the turns of the session stand, from turn 0 on, up to the first that none of the nodes begins. `nodes` are the
+/// places of the nodes with records of the session, ascending: [`Logs::nodes_of`].
+pub fn begun_turns(
     alloc: Global,
     logs: &Logs<'_>,
     nodes: &[usize],

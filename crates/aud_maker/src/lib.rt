@@ -31,6 +31,8 @@ mod mentions;
 mod order;
 mod swept;
 
+pub use begun::begun_turns;
 pub use laws::made_is_over;
 pub use maker::{MakeFault, make};
 pub use mentions::sessions;
+pub use swept::{stands_in, turn_after, turn_begun_by};

@@ -1,7 +1,7 @@
 //! Whether a session's records stand in its turns.
 ghost use Rattle.std.specs.Prelude.{◌≡◌, slice_get};
 ghost use Rattle.std.specs.List.{list_all};
-ghost use Rattle.aud_maker.specs.Private.Swept.{number_begun, turn_past, is_in_turn, is_swept};
+ghost use Rattle.aud_maker.specs.InTurn.{number_begun, turn_past, is_in_turn, is_swept};
 
 use aud_node::{Logs, NodeLog};
 use aud_rooms::TurnPlace;
@@ -37,8 +37,9 @@ fn is_node_swept(logs: &Logs<'_>, node: usize, pid: &str, turns: &[TurnPlace]) -
     true
 }
 
-/// The turn that goes on after the record with this number.
-fn turn_after(
+/// The turn that goes on after the record with this number, which counts from 0 in the log: the one of `turns` that it
+/// begins, else `current`.
+pub fn turn_after(
     log: &NodeLog<'_>,
     number: usize,
     turns: &[TurnPlace],
@@ -47,7 +48,7 @@ fn turn_after(
     ensures { result ≡ turn_past turns.now (slice_get log.now.recs number) current }
 {
     let begun = match log.recs().get(number) {
-        Some(rec) => begun_by(rec),
+        Some(rec) => turn_begun_by(rec),
         None => None,
     };
     match begun {
@@ -56,8 +57,8 @@ fn turn_after(
     }
 }
 
-/// The number of the turn that the record begins.
-fn begun_by(rec: &NodeRec) -> Option<u16>
+/// The number of the turn that the record begins, which counts from 0; none where it begins none.
+pub fn turn_begun_by(rec: &NodeRec) -> Option<u16>
     ensures { result ≡ number_begun rec.now }
 {
     match rec {
@@ -67,8 +68,8 @@ fn begun_by(rec: &NodeRec) -> Option<u16>
     }
 }
 
-/// Whether there is a turn, and the node's record with this number stands in it.
-fn stands_in(node: usize, number: usize, turn: &Option<TurnPlace>) -> bool
+/// Whether there is a turn, and the record with this number, which counts from 0, of the node at this place stands in it.
+pub fn stands_in(node: usize, number: usize, turn: &Option<TurnPlace>) -> bool
     ensures { result ≡ is_in_turn node number turn.now }
 {
     match turn {

@@ -8,6 +8,9 @@ use clap::error::ErrorKind;
 use clap::{Arg, ArgAction, Command, Error, value_parser};
 use std::alloc::{AllocError, Global};
 
+/// The version that `--version` tells.
+const VERSION: &str = "1.0.0";
+
 const ABOUT: &str = "Audits what the sessions of a Socket.IO cluster received";
 
 const STATUSES: &str = "\
@@ -94,6 +97,7 @@ fn audit<'a>(alloc: Global) -> Result<Command<'a>, AllocError> {
 fn with_audit<'a>(alloc: Global) -> Result<Command<'a>, AllocError> {
     let audit = audit(alloc)?;
     described(alloc, "sioaudit", ABOUT, STATUSES)
+        .version(VERSION)
         .no_binary_name(true)
         .subcommand_required(true)
         .subcommand(audit)

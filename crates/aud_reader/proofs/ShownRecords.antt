@@ -22,7 +22,7 @@ use Rattle.aud_reader.specs.declared.fault.InputCode.{InputCode}
 use Rattle.aud_reader.specs.declared.fault.InputCode.TheVariants.{UnknownKind}
 use Rattle.aud_reader.specs.declared.fault.LineFault.{LineFault}
 use Rattle.aud_reader.specs.declared.fault.LineFault.TheVariants as fault
-use Rattle.aud_reader.specs.Steps.{Fails}
+use Rattle.aud_reader.specs.Steps.{Fails, Gives}
 use Rattle.aud_reader.specs.Fields.{number_at, id_at, bounded_id_at, namespace_at, id_or_null, id_or_null_at, decoded, as_blob, bytes_at, all_items, list_or_empty, texts_at, blobs_at}
 use Rattle.aud_reader.specs.Header.{header_of}
 use Rattle.aud_reader.specs.StreamRecord.{lists_of, event_of, stream_record_of}
@@ -212,7 +212,7 @@ module _ (text name : List ℕ) (d v : Data) (opened : opened_line text ≡ Ok (
   line-brings ts = rw opened (sym (with_value-shown ts name d) ∙ ap (with_value ts name) is)
 
   -- the record of the line is that of the value
-  pub record-is : value_record d ≡ value_record v
+  record-is : value_record d ≡ value_record v
   record-is = sym (value_record-shown d) ∙ ap value_record is
 
   -- the record of the line was read, or refused
@@ -222,3 +222,10 @@ module _ (text name : List ℕ) (d v : Data) (opened : opened_line text ≡ Ok (
   record-read (Ok p) read = rw (opened, record-is, read.1, read.0)
   record-read (Err fault.Memory) read = tt
   record-read (Err (fault.Code code)) read = rw (opened, record-is, read)
+
+  -- the same of a record that shares its texts
+  pub shared-read : (r : Result (List ℕ × Rec) LineFault) → MatchResult r (λ p. (p.0 ≡ name) × (value_record v ≡ Ok p.1)) (λ e. Fails e (value_record v)) → Gives r (line_record text)
+  unfolding line_record
+  shared-read (Ok (own, rec)) read = rw (opened, record-is, read.1, read.0)
+  shared-read (Err fault.Memory) read = tt
+  shared-read (Err (fault.Code code)) read = rw (opened, record-is, read)

@@ -1,3 +1,4 @@
 pub mod Steps
 pub mod HeldLemmas
 pub mod MissedLemmas
+pub mod Highs

@@ -4,7 +4,7 @@ ghost use Rattle.aud_cert.specs.Certificate.{turn_at};
 ghost use Rattle.aud_rooms.specs.Assigned.{AreSpansOf, covered_upto, starting};
 ghost use Rattle.aud_recoveries.specs.Private.Held.{changed_by, walked_record, walked_turn, walked_turns};
 
-use aud_cert::Turn;
+use aud_cert::{Turn, turn_place};
 use aud_node::Logs;
 use aud_rooms::{Span, SpanBuilder, TurnPlace};
 use aud_tap::NodeRec;
@@ -30,17 +30,6 @@ pub(crate) fn spans_held<'a>(
     }
     builder.upto(high)?;
     builder.finish()
-}
-
-/// Where the turn stands; past all taps where none has the name of its node.
-fn turn_place(logs: &Logs<'_>, turn: &Turn<'_>) -> TurnPlace
-    ensures { result ≡ turn_at logs.now turn.now }
-{
-    TurnPlace {
-        node: logs.place_of(turn.node).unwrap_or(logs.taps().len()),
-        from: turn.from as usize,
-        to: turn.to as usize,
-    }
 }
 
 fn walk_turn<'a>(

@@ -25,4 +25,4 @@ mod opening;
 pub use asked::{Recovery, recoveries, stay_of};
 pub use counts::{granted, refused};
 pub use loss::missed;
-pub use opened::{Opened, opened_in};
+pub use opened::{Opened, greatest_high, opened_in};

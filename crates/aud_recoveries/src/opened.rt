@@ -1,6 +1,6 @@
-//! What the first turn of a session opens.
+//! What the turns of a session open, and how far they reach.
 ghost use Rattle.std.specs.Prelude.{◌≡◌, MatchOption, None, Some};
-ghost use Rattle.aud_recoveries.specs.Opened.{opened_in};
+ghost use Rattle.aud_recoveries.specs.Opened.{greatest_turn_high, opened_in};
 
 use aud_cert::Turn;
 use aud_tap::NodeRec;
@@ -28,4 +28,15 @@ pub fn opened_in<'a>(turns: &[Turn<'a>]) -> Option<Opened<'a>>
         }),
         _ => None,
     }
+}
+
+/// The greatest position that the turns reach, 0 where there are none. Positions count from 1.
+pub fn greatest_high(turns: &[Turn<'_>]) -> u64
+    ensures { result ≡ greatest_turn_high turns.now }
+{
+    let mut high = 0;
+    for turn in turns {
+        high = turn.high.max(high);
+    }
+    high
 }

@@ -1,4 +1,4 @@
-//! Worked examples of bundles: their lines, the record of a line, the taps of the lines, certificates among them, and
+//! Worked examples of bundles: their lines, the record of a line, the line of a record, the taps of the lines, certificates among them, and
 //! lines that are written, as a user of the crates below reads and writes them.
 #![tactic(auto)]
 
@@ -7,6 +7,8 @@ mod batches;
 #[cfg(test)]
 mod certificates;
 #[cfg(test)]
+mod files;
+#[cfg(test)]
 mod input;
 #[cfg(test)]
 mod limits;
@@ -14,6 +16,8 @@ mod limits;
 mod lines;
 #[cfg(test)]
 mod names;
+#[cfg(test)]
+mod record_lines;
 #[cfg(test)]
 mod records;
 #[cfg(test)]

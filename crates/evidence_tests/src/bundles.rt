@@ -143,3 +143,72 @@ c1 {"k":"out","t":"40{\"pid\":\"P\"}"}
 c1 {"k":"conn","c":4}
 c1 {"k":"out","t":"40{\"pid\":\"N\",\"offset\":\"o1\"}"}
 c1 {"k":"in","t":"40{\"sid\":\"s2\",\"pid\":\"Q\"}"}"#;
+
+/// Stays in two namespaces of one connection; an event with two attachments, between which a ping stands; a recovery whose
+/// reply and replay come in one body; and a client that asks twice, and is not answered.
+pub const PLACED: &str = r#"st {"k":"tap","v":1,"of":"stream"}
+st {"k":"ev","off":"o1","nsp":"/","text":"2[\"one\",\"o1\"]"}
+st {"k":"ev","off":"o2","nsp":"/","text":"52-[\"two\",{\"_placeholder\":true,\"num\":0},{\"_placeholder\":true,\"num\":1},\"o2\"]","bin":["AQI=","Aw=="]}
+st {"k":"ev","off":"o3","nsp":"/","text":"2[\"three\",\"o3\"]"}
+st {"k":"ev","off":"o4","nsp":"/admin","text":"2/admin,[\"four\",\"o4\"]"}
+c1 {"k":"tap","v":1,"of":"client"}
+c1 {"k":"conn","c":1}
+c1 {"k":"in","t":"0{\"sid\":\"e1\",\"upgrades\":[],\"pingTimeout\":800,\"pingInterval\":800}"}
+c1 {"k":"out","t":"40{}"}
+c1 {"k":"out","t":"40/admin,{}"}
+c1 {"k":"in","t":"40{\"sid\":\"s1\",\"pid\":\"P\"}"}
+c1 {"k":"in","t":"42[\"one\",\"o1\"]"}
+c1 {"k":"in","t":"40/admin,{\"sid\":\"s2\",\"pid\":\"A\"}"}
+c1 {"k":"in","t":"452-[\"two\",{\"_placeholder\":true,\"num\":0},{\"_placeholder\":true,\"num\":1},\"o2\"]"}
+c1 {"k":"inb","b":"AQI="}
+c1 {"k":"in","t":"2"}
+c1 {"k":"inb","b":"Aw=="}
+c1 {"k":"in","t":"42/admin,[\"four\",\"o4\"]"}
+c1 {"k":"in","t":"41/admin,"}
+c1 {"k":"lost"}
+c1 {"k":"conn","c":2}
+c1 {"k":"out","t":"40{\"pid\":\"P\",\"offset\":\"o2\"}"}
+c1 {"k":"poll","t":"40{\"sid\":\"s1\",\"pid\":\"P\"}\u001e42[\"three\",\"o3\"]"}
+c1 {"k":"in","t":"42[\"v\",\"hello\"]"}
+c1 {"k":"conn","c":3}
+c1 {"k":"out","t":"40{\"pid\":\"P\",\"offset\":\"o2\"}"}
+c1 {"k":"out","t":"40{\"pid\":\"P\",\"offset\":\"o3\"}"}"#;
+
+/// Session `P` joins `r` after entry 2 was taken, leaves `q` before entry 4 is, breaks, and comes back on a node that had
+/// taken entry 7 by then; there it leaves `r`, and the node takes the entries 8 to 10 by one record. Entry 11 is taken by
+/// no node.
+pub const CHANGES: &str = r#"st {"k":"tap","v":2,"of":"stream"}
+st {"k":"ev","off":"o1","nsp":"/","text":"2[\"m\",\"o1\"]"}
+st {"k":"ev","off":"o2","nsp":"/","rooms":["r"],"text":"2[\"m\",\"o2\"]"}
+st {"k":"ev","off":"o3","nsp":"/","rooms":["r"],"text":"2[\"m\",\"o3\"]"}
+st {"k":"ev","off":"o4","nsp":"/","rooms":["q"],"text":"2[\"m\",\"o4\"]"}
+st {"k":"ev","off":"o5","nsp":"/","except":["q","r"],"text":"2[\"m\",\"o5\"]"}
+st {"k":"ev","off":"o6","nsp":"/","except":["s1"],"text":"2[\"m\",\"o6\"]"}
+st {"k":"ev","off":"o7","nsp":"/","rooms":["r"],"text":"2[\"m\",\"o7\"]"}
+st {"k":"ev","off":"o8","nsp":"/x","text":"2/x,[\"m\",\"o8\"]"}
+st {"k":"ev","off":"o9","nsp":"/","text":"2[\"volatile\"]"}
+st {"k":"ev","off":"o10","nsp":"/","text":"2[\"m\",\"o10\"]"}
+st {"k":"ev","off":"o11","nsp":"/","text":"2[\"m\",\"o11\"]"}
+a {"k":"tap","v":2,"of":"node"}
+a {"k":"start","off":null}
+a {"k":"take","off":"o1"}
+a {"k":"open","pid":"P","sid":"s1","nsp":"/"}
+a {"k":"take","off":"o2"}
+a {"k":"join","pid":"P","room":"r"}
+a {"k":"join","pid":"P","room":"q"}
+a {"k":"take","off":"o3"}
+a {"k":"leave","pid":"P","room":"q"}
+a {"k":"take","off":"o4"}
+a {"k":"take","off":"o5"}
+a {"k":"take","off":"o6"}
+a {"k":"break","pid":"P","turn":0}
+a {"k":"take","off":"o7"}
+b {"k":"tap","v":2,"of":"node"}
+b {"k":"start","off":"o6"}
+b {"k":"take","off":"o7"}
+b {"k":"back","pid":"P","turn":1}
+b {"k":"leave","pid":"P","room":"r"}
+b {"k":"takes","off":"o10"}
+c1 {"k":"tap","v":2,"of":"client"}
+c1 {"k":"conn","c":1}
+c1 {"k":"in","t":"40{\"sid\":\"s1\",\"pid\":\"P\"}"}"#;

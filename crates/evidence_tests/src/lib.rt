@@ -1,12 +1,27 @@
-//! Tests of what explains a bundle: the recoveries that were asked for and what was missed, and what shows a fault. Each
-//! is a row of a table: a bundle, and the text of the answer.
+//! Tests of what explains a bundle: the recoveries that were asked for and what was missed, what shows a fault, and the
+//! records at which stays stand, where a session reached a position, and why an entry was not due. Each is a row of a table:
+//! a bundle, and the text of the answer, or a stay.
 #![tactic(auto)]
 
 #[cfg(test)]
+mod accounts;
+#[cfg(test)]
 mod bundles;
+#[cfg(test)]
+mod chains;
+#[cfg(test)]
+mod classes;
+#[cfg(test)]
+mod contents;
 #[cfg(test)]
 mod differences;
 #[cfg(test)]
 mod over;
 #[cfg(test)]
+mod placed;
+#[cfg(test)]
+mod reached;
+#[cfg(test)]
 mod recovered;
+#[cfg(test)]
+mod shown;

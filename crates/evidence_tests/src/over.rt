@@ -105,7 +105,7 @@ fn text_or_none(text: &Option<Text>) -> &str {
 }
 
 /// The lines of the bundle.
-fn lines_of(alloc: Global, bundle: &str) -> Result<Vec<Line>, AllocError> {
+pub fn lines_of(alloc: Global, bundle: &str) -> Result<Vec<Line>, AllocError> {
     let mut lines = Vec::new(alloc);
     for line in bundle.lines() {
         let number = lines.len() as u64 + 1;

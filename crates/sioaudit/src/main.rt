@@ -1,12 +1,15 @@
 //! `sioaudit`: reads a bundle from standard input and writes the report on it, or writes a simulated one.
 #![tactic(auto)]
 
+mod progress;
 mod simulate;
 
+use crate::progress::Progress;
 use crate::simulate::{is_simulation, simulation};
 use aud_app::{RunFault, Status, Watched, options, run};
 use clap::error::ErrorKind;
 use std::hash::RandomState;
+use std::io::IsTerminal;
 use std::process::ExitCode;
 use std::{env, io};
 
@@ -78,7 +81,9 @@ fn main(rt: HostRuntime) -> ExitCode {
     let Ok(keys) = RandomState::new(&rt) else {
         return fail(&rt, RunFault::Read);
     };
-    let mut input = Watched::new(rt.stdin());
+    let notes = rt.stderr();
+    let is_shown = notes.is_terminal();
+    let mut input = Watched::new(Progress::new(rt.stdin(), notes, is_shown));
     let mut output = Watched::new(rt.stdout());
     match run(&rt, alloc, keys, &mut input, &mut output, chosen) {
         Ok(status) => status_code(status),

@@ -2,8 +2,7 @@
 use Rattle.std.specs.Prelude.{◌≡◌}
 use Rattle.aud_base.specs.Places.{places_of}
 use Rattle.aud_node.specs.Stream.{Text}
-use Rattle.aud_client.specs.Received.{stays_naming}
-use Rattle.aud_client.specs.Private.BySession.{stays_numbered}
+use Rattle.aud_client.specs.Received.{stays_naming, stays_numbered}
 use Rattle.aud_client.specs.declared.indexed_transcript.IndexedTranscript.TheInside.{Inside}
 
 -- of each pid, the numbers of the stays whose reply names it

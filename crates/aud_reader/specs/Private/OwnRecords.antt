@@ -1,13 +1,14 @@
 -- What lines say by themselves, read before the taps that they belong to are looked at.
-use Rattle.std.specs.Prelude.{◌≡◌, ℕ, List, Option, Ok, IfSome}
+use Rattle.std.specs.Prelude.{◌≡◌, ℕ, List, Option, Some, None, Ok, IsErr}
 use Rattle.std.specs.List.{AllZip}
 use Rattle.aud_reader.specs.declared.line.Line.{Line}
 use Rattle.aud_tap.specs.declared.records.Rec.{Rec}
 use Rattle.aud_reader.specs.Record.{line_record}
 
--- the name and the record of the line, if they are there
+-- the name and the record of the line; none where it is refused for what it says by itself
 abbrev pub IsOfLine : Line → Option (List ℕ × Rec) → Type 0
-IsOfLine line own = IfSome own (λ parts. line_record line.bytes ≡ Ok parts)
+IsOfLine line (Some parts) = line_record line.bytes ≡ Ok parts
+IsOfLine line None = IsErr (line_record line.bytes)
 
 -- those of each line, in the lines' order
 abbrev pub AreOfLines : List Line → List (Option (List ℕ × Rec)) → Type 0

@@ -1,7 +1,9 @@
 //! What lines say by themselves, read in many threads.
-ghost use Rattle.std.specs.Prelude.{◌≡◌, IfOk, Ok, map};
+ghost use Rattle.std.specs.Prelude.{◌≡◌, IfOk, MatchResult, Ok, map};
 ghost use Rattle.std.specs.List.{AllZip, flat_map};
-ghost use Rattle.aud_reader.specs.Record.{line_record};
+ghost use Rattle.aud_fields.specs.View.{view};
+ghost use Rattle.aud_reader.specs.Record.{line_record, value_record};
+ghost use Rattle.aud_reader.specs.Steps.{Fails, Gives};
 ghost use Rattle.aud_reader.specs.Private.OwnRecords.{AreOfLines, IsOfLine};
 
 use crate::fault::LineFault;
@@ -9,7 +11,7 @@ use crate::line::Line;
 use crate::read::line::opened_line;
 use crate::read::record::value_record;
 use aud_base::TextPool;
-use aud_fields::Scratch;
+use aud_fields::{Fields, Scratch};
 use aud_parallel::try_map;
 use aud_tap::{Rec, Text};
 use std::alloc::{AllocError, Global};
@@ -22,6 +24,21 @@ const PART: usize = 256;
 /// The name and the record of a line. None where the line has no bytes, or is refused for what it says by itself.
 pub type OwnRecord = Option<(Text, Rec)>;
 
+/// The name and the record of the fields after it, of which the texts are shared with the pool.
+fn shared_record(
+    alloc: Global,
+    pool: &mut TextPool,
+    name: &str,
+    d: &Fields<'_>,
+) -> Result<(Text, Rec), LineFault>
+    ensures { MatchResult result
+        (λ p. (p.0 ≡ name.now) × (value_record (view d.now) ≡ Ok p.1))
+        (λ e. Fails e (value_record (view d.now))) }
+{
+    let name = pool.text(name)?;
+    Ok((name, value_record(alloc, pool, d)?))
+}
+
 /// The name and the record of a line, of which the texts are shared with the pool.
 #[tactic(auto, unfolding(crate::specs::Record::line_record))]
 fn named_record(
@@ -30,11 +47,10 @@ fn named_record(
     scratch: &mut Scratch,
     line: &[u8],
 ) -> Result<(Text, Rec), LineFault>
-    ensures { IfOk result (λ parts. line_record line.now ≡ Ok parts) }
+    ensures { Gives result (line_record line.now) }
 {
     let (name, d) = opened_line(alloc, scratch, line)?;
-    let name = pool.text(name)?;
-    Ok((name, value_record(alloc, pool, &d)?))
+    shared_record(alloc, pool, name, &d)
 }
 
 /// What a line says by itself. Its texts are shared with the pool.

@@ -1,5 +1,5 @@
 use Rattle.std.proofs.Common.{◌∙◌, ap, map}
-use Rattle.aud_account.specs.Account.{positions_received}
+use Rattle.aud_evidence.specs.Window.{positions_received}
 use Rattle.aud_account.proofs.Differences.{difference_told}
 use Rattle.aud_account.proofs.difference.difference_in.Goals as goal
 

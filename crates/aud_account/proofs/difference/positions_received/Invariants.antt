@@ -1,5 +1,5 @@
 use Rattle.std.proofs.Common.{◌≡◌, map, take}
-use Rattle.aud_account.specs.Account.{positions_received}
+use Rattle.aud_evidence.specs.Window.{positions_received}
 use Rattle.aud_account.proofs.difference.positions_received.Given as goal
 
 -- those of the stays that were gone over

@@ -7,7 +7,8 @@ use Rattle.aud_rooms.specs.Spans.{due_by_spans}
 use Rattle.aud_verdict.specs.Session.{due_to}
 use Rattle.aud_recoveries.specs.Opened.{opened_in}
 use Rattle.aud_recoveries.proofs.MissedLemmas.{opened_is}
-use Rattle.aud_account.specs.Private.Sessions.{session_made, greatest_turn_high}
+use Rattle.aud_recoveries.specs.Opened.{greatest_turn_high}
+use Rattle.aud_account.specs.Private.Sessions.{session_made}
 use Rattle.aud_account.proofs.Sessions.{due_so}
 use Rattle.aud_account.proofs.due.due_by_turns.Goals as goal
 

@@ -2,8 +2,7 @@ use Rattle.std.proofs.Common.{◌≡◌, false, length, slice_get, ap, ◌∙◌
 use Rattle.std.specs.Option.{option_map_or}
 use Rattle.aud_base.specs.Places.{places_of, places_where}
 use Rattle.aud_base.proofs.NotedPlaces.{noted-at}
-use Rattle.aud_client.specs.Private.BySession.{stays_numbered}
-use Rattle.aud_client.specs.Received.{stay_names_pid}
+use Rattle.aud_client.specs.Received.{stay_names_pid, stays_numbered}
 use Rattle.aud_client.proofs.Numbers.{numbered_all}
 use Rattle.aud_client.proofs.by_session.by_session.Goals as goal
 

@@ -1,5 +1,5 @@
 use Rattle.std.proofs.Common.{◌≡◌, map, take}
-use Rattle.aud_client.specs.Private.BySession.{stays_numbered}
+use Rattle.aud_client.specs.Received.{stays_numbered}
 use Rattle.aud_client.proofs.indexed_transcript.stays_at.Given as goal
 
 abbrev pub invariant-loop-number : goal.invariant-loop-number

@@ -1,6 +1,6 @@
 use Rattle.std.proofs.Common.{◌≡◌, ◌+◌, ◌∙◌, length, sym, ap, arith}
 use Rattle.std.proofs.lemmas.List.{length_push}
-use Rattle.aud_maker.specs.Private.Begun.{turn_begun}
+use Rattle.aud_maker.specs.Begun.{turn_begun}
 use Rattle.aud_maker.proofs.BegunLemmas.{begun-more, none_past}
 use Rattle.aud_maker.proofs.begun.begun_turns.Goals as goal
 

@@ -1,5 +1,5 @@
 use Rattle.std.proofs.Common.{◌≡◌, length}
-use Rattle.aud_maker.specs.Private.Begun.{AreBegun}
+use Rattle.aud_maker.specs.Begun.{AreBegun}
 use Rattle.aud_maker.proofs.begun.begun_turns.Given as goal
 
 abbrev pub invariant-loop-number : goal.invariant-loop-number

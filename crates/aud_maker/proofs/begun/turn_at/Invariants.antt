@@ -1,5 +1,5 @@
 use Rattle.std.proofs.Common.{◌≡◌, drop}
-use Rattle.aud_maker.specs.Private.Begun.{turn_begun}
+use Rattle.aud_maker.specs.Begun.{turn_begun}
 use Rattle.aud_maker.proofs.begun.turn_at.Given as goal
 
 abbrev pub invariant-loop-node : goal.invariant-loop-node

@@ -1,6 +1,6 @@
 use Rattle.std.proofs.Common.{◌≡◌, drop}
 use Rattle.std.specs.List.{list_all}
-use Rattle.aud_maker.specs.Private.Swept.{is_swept}
+use Rattle.aud_maker.specs.InTurn.{is_swept}
 use Rattle.aud_maker.proofs.swept.are_swept.Given as goal
 
 abbrev pub invariant-loop-node : goal.invariant-loop-node

@@ -1,6 +1,6 @@
 use Rattle.std.proofs.Common.{◌≡◌, drop}
 use Rattle.aud_node.specs.Cluster.{node_log}
-use Rattle.aud_maker.specs.Private.Swept.{are_in_turns, is_swept}
+use Rattle.aud_maker.specs.InTurn.{are_in_turns, is_swept}
 use Rattle.aud_maker.proofs.swept.is_node_swept.Given as goal
 
 abbrev pub invariant-loop-number : goal.invariant-loop-number

@@ -1,6 +1,6 @@
 use Rattle.std.proofs.Common.{◌≡◌, max, drop}
-use Rattle.aud_account.specs.Private.Sessions.{greatest_turn_high}
-use Rattle.aud_account.proofs.due.greatest_high.Given as goal
+use Rattle.aud_recoveries.specs.Opened.{greatest_turn_high}
+use Rattle.aud_recoveries.proofs.opened.greatest_high.Given as goal
 
 -- the greatest so far and of those to come is the greatest of all
 abbrev pub invariant-loop-turn : goal.invariant-loop-turn

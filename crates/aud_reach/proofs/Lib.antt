@@ -1,0 +1,5 @@
+mod Cursors
+mod Found
+mod Told
+mod Held
+mod Due

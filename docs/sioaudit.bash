@@ -1,0 +1,58 @@
+# Completions of sioaudit for bash: source this file in ~/.bashrc, or put it into
+# ~/.local/share/bash-completion/completions/ under the name sioaudit.
+
+# the options of a command
+_sioaudit_options() {
+    case $1 in
+        '') echo '-h --help -V --version' ;;
+        audit) echo '--whole --workers -h --help' ;;
+        simulate) echo '--nodes --clients --acts --seed --fault -h --help' ;;
+        prove | verify | order | upgrade) echo '-h --help' ;;
+    esac
+}
+
+# the values of an option of a command, and whether it takes one: a status of 1 says that it doesn't
+_sioaudit_values() {
+    case $1$2 in
+        audit--workers) echo '1 2 4 8 16 32 64' ;;
+        simulate--fault) echo 'drop double hold alter lag' ;;
+        simulate--nodes | simulate--clients | simulate--acts | simulate--seed) ;;
+        *) return 1 ;;
+    esac
+}
+
+# completes the word as the name of a file
+_sioaudit_files() {
+    compopt -o filenames 2>/dev/null
+    mapfile -t COMPREPLY < <(compgen -f -- "$1")
+}
+
+_sioaudit() {
+    local commands='audit prove verify order upgrade simulate'
+    local current=${COMP_WORDS[COMP_CWORD]} before=${COMP_WORDS[COMP_CWORD - 1]}
+    local command='' values i
+    COMPREPLY=()
+
+    for ((i = 1; i < COMP_CWORD; i++)); do
+        [[ " $commands " == *" ${COMP_WORDS[i]} "* ]] && { command=${COMP_WORDS[i]}; break; }
+    done
+
+    # bash cuts --name=value at the sign
+    if [[ $current == '=' ]]; then
+        current=''
+    elif [[ $before == '=' ]]; then
+        before=${COMP_WORDS[COMP_CWORD - 2]}
+    fi
+
+    if [[ $before == [\<\>] ]]; then
+        _sioaudit_files "$current"
+    elif [[ -n $command ]] && values=$(_sioaudit_values "$command" "$before"); then
+        mapfile -t COMPREPLY < <(compgen -W "$values" -- "$current")
+    elif [[ $current == -* ]]; then
+        mapfile -t COMPREPLY < <(compgen -W "$(_sioaudit_options "$command")" -- "$current")
+    elif [[ -z $command ]]; then
+        mapfile -t COMPREPLY < <(compgen -W "$commands" -- "$current")
+    fi
+}
+
+complete -F _sioaudit sioaudit ./sioaudit
