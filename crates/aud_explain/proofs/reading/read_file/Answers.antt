@@ -1,0 +1,10 @@
+use Rattle.std.proofs.Common.{take, rules}
+use Rattle.aud_explain.proofs.Takes.{more_read}
+use Rattle.aud_explain.proofs.reading.read_file.Goals as goal
+
+pub pieces-preserved : goal.pieces-preserved
+pieces-preserved g c = record {
+  within = c.in_ok-feed-in-Ok.ensures.within;
+  failed = search rules;
+  read = more_read _ _ _ c.args.feeding.now c.pieces.feeding c.feed.new.self (take c.in-Ok.n c.read.new.buf) c.pieces.invariant.read c.in-Ok.ensures.bytes.0 c.in_ok-feed-in-Ok.ensures.taken;
+}

@@ -1,0 +1,5 @@
+pub mod Only
+pub mod FailOn
+pub mod Given
+pub mod Words
+pub mod Private

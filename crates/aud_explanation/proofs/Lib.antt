@@ -1,0 +1,5 @@
+pub mod Each
+pub mod Filled
+pub mod JsonLists
+pub mod JsonPlain
+pub mod Laid

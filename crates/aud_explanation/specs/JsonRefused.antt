@@ -1,0 +1,36 @@
+-- The member of the refused recoveries.
+use Rattle.std.specs.Prelude.{List, codes, Option, Some, None}
+use Rattle.std.specs.Option.{option_copied}
+use Rattle.serde_json.specs.Data.{Data, null, string, array, object, Members, no_members, member, put}
+use Rattle.aud_cert_text.specs.Text.{items, whole}
+use Rattle.aud_rows.specs.declared.row.Row.{Row}
+use Rattle.aud_explanation.specs.declared.refused.Missed.{Missed}
+use Rattle.aud_explanation.specs.declared.refused.RefusedRecovery.{RefusedRecovery}
+use Rattle.aud_explanation.specs.JsonValue.{text_or_null}
+use Rattle.aud_explanation.specs.JsonRow.{row_data}
+
+-- `{"off":..,"position":..}`
+abbrev pub missed_data : Missed → Data
+missed_data m = object (member (codes "off") (string m.off.now) (member (codes "position") (whole m.position) no_members))
+
+-- what was missed, `null` where that is not known
+abbrev pub all_missed_data : Option (List Missed) → Data
+all_missed_data (Some entries) = array (items missed_data entries)
+all_missed_data None = null
+
+-- the reply, `null` where there was none
+abbrev pub reply_data : Option Row → Data
+reply_data (Some reply) = row_data reply
+reply_data None = null
+
+-- `{"ask":..,"instead":..,"missed":..,"reply":..}`
+abbrev pub refused_data : RefusedRecovery → Data
+refused_data r =
+    object (member (codes "ask") (row_data r.ask)
+    (member (codes "instead") (text_or_null (option_copied r.instead))
+    (member (codes "missed") (all_missed_data (option_copied r.missed))
+    (member (codes "reply") (reply_data r.reply) no_members))))
+
+-- the refused recoveries
+unfoldable pub with_refused : List RefusedRecovery → Members → Members
+with_refused recoveries ms = put (codes "refused") (array (items refused_data recoveries)) ms

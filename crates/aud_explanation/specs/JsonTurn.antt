@@ -1,0 +1,49 @@
+-- The member of the turns.
+use Rattle.std.specs.Prelude.{ℕ, List, [], ◌∷◌, codes, Option, Some, None}
+use Rattle.serde_json.specs.Data.{Data, null, string, array, object, Members, no_members, member, put}
+use Rattle.aud_cert_text.specs.Text.{items, whole}
+use Rattle.aud_explanation.specs.declared.turn.TurnShown.{TurnShown}
+use Rattle.aud_explanation.specs.declared.turn.TurnBegin.{TurnBegin}
+use Rattle.aud_explanation.specs.declared.turn.TurnBegin.TheVariants.{Open, Back}
+use Rattle.aud_explanation.specs.declared.turn.TurnEnd.{TurnEnd}
+use Rattle.aud_explanation.specs.declared.turn.TurnEnd.TheVariants.{Break, Gone, Log, Missing}
+
+-- how a turn begins
+abbrev pub begin_word : TurnBegin → List ℕ
+begin_word Open = codes "open"
+begin_word Back = codes "back"
+
+-- how it ends
+abbrev pub end_word : TurnEnd → List ℕ
+end_word (Break line) = codes "break"
+end_word (Gone line) = codes "gone"
+end_word (Log line) = codes "log"
+end_word Missing = codes "missing"
+
+-- the lines on which it begins and ends
+abbrev pub lines_data : ℕ → TurnEnd → Data
+lines_data begin (Break line) = array (items whole (begin ∷ line ∷ []))
+lines_data begin (Gone line) = array (items whole (begin ∷ line ∷ []))
+lines_data begin (Log line) = array (items whole (begin ∷ line ∷ []))
+lines_data begin Missing = array (items whole (begin ∷ []))
+
+-- the first and the last position that the node took
+abbrev pub took_data : Option (ℕ × ℕ) → Data
+took_data (Some took) = array (items whole (took.0 ∷ took.1 ∷ []))
+took_data None = null
+
+-- `{"begin":..,"end":..,"high":..,"lines":..,"low":..,"node":..,"took":..,"turn":..}`
+abbrev pub turn_data : TurnShown → Data
+turn_data t =
+    object (member (codes "begin") (string (begin_word t.begin))
+    (member (codes "end") (string (end_word t.end))
+    (member (codes "high") (whole t.high)
+    (member (codes "lines") (lines_data t.begin_line t.end)
+    (member (codes "low") (whole t.low)
+    (member (codes "node") (string t.node.now)
+    (member (codes "took") (took_data t.took)
+    (member (codes "turn") (whole t.turn) no_members))))))))
+
+-- the turns
+unfoldable pub with_turns : List TurnShown → Members → Members
+with_turns turns ms = put (codes "turns") (array (items turn_data turns)) ms

@@ -1,0 +1,53 @@
+-- The recoveries that were refused.
+use Rattle.std.specs.Prelude.{ℕ, List, [], ◌++◌, codes, decimal, flat_map, length, Option, Some, None}
+use Rattle.std.specs.Option.{option_copied}
+use Rattle.aud_report.specs.declared.verdict.Verdict.{Verdict}
+use Rattle.aud_rows.specs.declared.row.Row.{Row}
+use Rattle.aud_explanation.specs.declared.refused.Missed.{Missed}
+use Rattle.aud_explanation.specs.declared.refused.RefusedRecovery.{RefusedRecovery}
+use Rattle.aud_explanation.specs.Page.{laid_line}
+use Rattle.aud_explanation.specs.Evidence.{row_text}
+
+-- the session that the client got instead
+abbrev pub instead_words : Option (List ℕ) → List ℕ
+instead_words (Some pid) = codes "got session " ++ pid
+instead_words None = codes "got no session"
+
+-- how many entries it missed
+abbrev pub count_words : Option (List Missed) → List ℕ
+count_words (Some entries) = codes ", missed " ++ decimal (length entries)
+count_words None = codes ", missed: not known"
+
+-- the line of a refused recovery
+abbrev pub head_line : RefusedRecovery → List ℕ
+head_line r = codes "refused recovery: " ++ instead_words (option_copied r.instead) ++ count_words (option_copied r.missed)
+
+-- the same, laid out
+abbrev pub head_text : RefusedRecovery → List ℕ
+head_text r = laid_line (head_line r)
+
+-- the row of the reply, where there is one
+abbrev pub reply_text : Verdict → ℕ → Option Row → List ℕ
+reply_text verdict width (Some reply) = row_text verdict width reply
+reply_text verdict width None = []
+
+-- an entry that was missed
+abbrev pub missed_line : Missed → List ℕ
+missed_line m = codes "    missed entry " ++ decimal m.position ++ codes " " ++ m.off.now
+
+-- its line
+abbrev pub missed_text : Missed → List ℕ
+missed_text m = laid_line (missed_line m)
+
+-- a line for each, where they are known
+abbrev pub all_missed_text : Option (List Missed) → List ℕ
+all_missed_text (Some entries) = flat_map missed_text entries
+all_missed_text None = []
+
+-- what the client got instead, the ask and the reply, and what it missed
+abbrev pub refused_text : Verdict → RefusedRecovery → List ℕ
+refused_text verdict r = head_text r ++ row_text verdict (length r.ask.tap.now) r.ask ++ reply_text verdict (length r.ask.tap.now) r.reply ++ all_missed_text (option_copied r.missed)
+
+-- all of them
+abbrev pub all_refused_text : Verdict → List RefusedRecovery → List ℕ
+all_refused_text verdict recoveries = flat_map (refused_text verdict) recoveries

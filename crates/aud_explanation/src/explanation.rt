@@ -1,0 +1,49 @@
+//! The explanation of a session.
+ghost use Rattle.std.specs.Prelude.{◌≡◌};
+ghost use Rattle.aud_explanation.specs.ExplainedClass.{class_of_explained};
+
+use crate::also::Also;
+use crate::cause::Cause;
+use crate::client::{Account, Client};
+use crate::event::ClientEvent;
+use crate::refused::RefusedRecovery;
+use crate::turn::TurnShown;
+use aud_evidence::{Class, class_of};
+use aud_report::Verdict;
+use aud_rows::Row;
+
+/// What is told of a session: the verdict on it, its client, and why. All of it is lent.
+#[derive(Clone, Copy, Drop)]
+pub struct Explanation<'r> {
+    /// The session.
+    pub pid: &'r str,
+    /// The verdict on it.
+    pub verdict: &'r Verdict,
+    /// The client that had it; none where no tap of a client names it, or several do.
+    pub client: Option<Client<'r>>,
+    /// What was received of what was due; none where the delivery was not judged.
+    pub account: Option<Account>,
+    /// The turns, from turn 0 on.
+    pub turns: &'r [TurnShown<'r>],
+    /// The records that show the fault.
+    pub evidence: &'r [Row<'r>],
+    /// The other entries with the same fault.
+    pub also: &'r [Also<'r>],
+    /// The recoveries of this session that were asked for and refused.
+    pub refused: &'r [RefusedRecovery<'r>],
+    /// What happened to the client, in the order of its tap.
+    pub events: &'r [ClientEvent],
+    /// What the fault may come from.
+    pub causes: &'r [Cause<'r>],
+}
+
+/// The class of what is explained: that of the fault, or delivery where there is none and a recovery was refused.
+pub fn class_of_explained(explanation: &Explanation<'_>) -> Option<Class>
+    ensures { result ≡ class_of_explained explanation.now }
+{
+    match explanation.verdict {
+        Verdict::No(fault) => Some(class_of(fault)),
+        Verdict::Yes { .. } if explanation.refused.is_empty() => None,
+        Verdict::Yes { .. } => Some(Class::Delivery),
+    }
+}

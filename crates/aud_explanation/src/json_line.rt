@@ -1,0 +1,85 @@
+//! The JSON of an explanation.
+ghost use Rattle.std.specs.Prelude.{◌≡◌, IfOk, OnOk, string_bytes};
+ghost use Rattle.serde_json.specs.View.{view, members_view};
+ghost use Rattle.aud_explanation.specs.Json.{head_members, shown_members, told_members, explanation_data, explanation_json};
+
+mod account;
+mod also;
+mod cause;
+mod event;
+mod refused;
+mod row;
+mod turn;
+mod value;
+mod verdict;
+
+use crate::explanation::{Explanation, class_of_explained};
+use crate::json_line::account::{put_account, put_client};
+use crate::json_line::also::put_also;
+use crate::json_line::cause::put_causes;
+use crate::json_line::event::put_events;
+use crate::json_line::refused::put_refused;
+use crate::json_line::row::put_evidence;
+use crate::json_line::turn::put_turns;
+use crate::json_line::verdict::put_verdict;
+use serde_json::{Map, Value};
+use std::alloc::{AllocError, Global};
+
+/// Puts the verdict, the client, and what it received.
+fn put_head(
+    alloc: Global,
+    members: &mut Map<String, Value>,
+    explanation: &Explanation<'_>,
+) -> Result<(), AllocError>
+    ensures { OnOk result (members_view members.new.entries ≡ head_members explanation.now (members_view members.old.entries)) }
+{
+    let class = class_of_explained(explanation);
+    put_verdict(alloc, members, explanation.pid, explanation.verdict, class)?;
+    put_client(alloc, members, explanation.client)?;
+    put_account(alloc, members, explanation.account)
+}
+
+/// Puts the turns, the evidence, and the other entries.
+fn put_shown(
+    alloc: Global,
+    members: &mut Map<String, Value>,
+    explanation: &Explanation<'_>,
+) -> Result<(), AllocError>
+    ensures { OnOk result (members_view members.new.entries ≡ shown_members explanation.now (members_view members.old.entries)) }
+{
+    put_turns(alloc, members, explanation.turns)?;
+    put_evidence(alloc, members, explanation.evidence)?;
+    put_also(alloc, members, explanation.also)
+}
+
+/// Puts the refused recoveries, what happened to the client, and the causes.
+fn put_told(
+    alloc: Global,
+    members: &mut Map<String, Value>,
+    explanation: &Explanation<'_>,
+) -> Result<(), AllocError>
+    ensures { OnOk result (members_view members.new.entries ≡ told_members explanation.now (members_view members.old.entries)) }
+{
+    put_refused(alloc, members, explanation.refused)?;
+    put_events(alloc, members, explanation.events)?;
+    put_causes(alloc, members, explanation.causes)
+}
+
+fn explanation_value(alloc: Global, explanation: &Explanation<'_>) -> Result<Value, AllocError>
+    ensures { IfOk result (λ v. view v ≡ explanation_data explanation.now) }
+{
+    let mut members = Map::new(alloc);
+    put_head(alloc, &mut members, explanation)?;
+    put_shown(alloc, &mut members, explanation)?;
+    put_told(alloc, &mut members, explanation)?;
+    Ok(Value::Object(members))
+}
+
+/// The explanation as one line of JSON, without blanks and without a newline, its keys in byte order. Each member is always
+/// there: what is not known is `null`. `v` is the version of these members, 1.
+pub fn explanation_json(alloc: Global, explanation: &Explanation<'_>) -> Result<String, AllocError>
+    ensures { IfOk result (λ text. string_bytes text ≡ explanation_json explanation.now) }
+{
+    let value = explanation_value(alloc, explanation)?;
+    value.to_string(alloc)
+}

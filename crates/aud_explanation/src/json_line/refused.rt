@@ -1,0 +1,88 @@
+//! The member of the refused recoveries.
+ghost use Rattle.std.specs.Prelude.{◌≡◌, IfOk, OnOk};
+ghost use Rattle.std.specs.Option.{option_copied};
+ghost use Rattle.serde_json.specs.View.{view, items_view, members_view};
+ghost use Rattle.aud_cert_text.specs.Text.{items};
+ghost use Rattle.aud_explanation.specs.JsonValue.{text_or_null};
+ghost use Rattle.aud_explanation.specs.JsonRefused.{missed_data, all_missed_data, reply_data, refused_data, with_refused};
+
+use crate::json_line::row::row_value;
+use crate::json_line::value::text_or_null;
+use crate::refused::{Missed, RefusedRecovery};
+use aud_rows::Row;
+use serde_json::{Map, Value, json, put};
+use std::alloc::{AllocError, Global};
+
+/// `{"off":..,"position":..}`.
+fn missed_value(alloc: Global, missed: &Missed<'_>) -> Result<Value, AllocError>
+    ensures { IfOk result (λ v. view v ≡ missed_data missed.now) }
+{
+    json!(in alloc; {"off": missed.off, "position": missed.position})
+}
+
+fn missed_values(alloc: Global, entries: &[Missed<'_>]) -> Result<Vec<Value>, AllocError>
+    ensures { IfOk result (λ vs. items_view vs.items ≡ items missed_data entries.now) }
+{
+    let mut values = Vec::new(alloc);
+    for missed in entries {
+        values.push(missed_value(alloc, missed)?)?;
+    }
+    Ok(values)
+}
+
+/// What was missed, or `null`.
+fn all_missed_value(alloc: Global, entries: Option<&[Missed<'_>]>) -> Result<Value, AllocError>
+    ensures { IfOk result (λ v. view v ≡ all_missed_data (option_copied entries.entry)) }
+{
+    match entries {
+        Some(entries) => Ok(Value::Array(missed_values(alloc, entries)?)),
+        None => Ok(Value::Null),
+    }
+}
+
+/// The reply, or `null`.
+fn reply_value(alloc: Global, reply: Option<Row<'_>>) -> Result<Value, AllocError>
+    ensures { IfOk result (λ v. view v ≡ reply_data reply.entry) }
+{
+    match reply {
+        Some(reply) => row_value(alloc, &reply),
+        None => Ok(Value::Null),
+    }
+}
+
+/// `{"ask":..,"instead":..,"missed":..,"reply":..}`.
+fn refused_value(alloc: Global, refused: &RefusedRecovery<'_>) -> Result<Value, AllocError>
+    ensures { IfOk result (λ v. view v ≡ refused_data refused.now) }
+{
+    let ask = row_value(alloc, &refused.ask)?;
+    let instead = text_or_null(alloc, refused.instead)?;
+    let missed = all_missed_value(alloc, refused.missed)?;
+    let reply = reply_value(alloc, refused.reply)?;
+    json!(in alloc; {"ask": ask, "instead": instead, "missed": missed, "reply": reply})
+}
+
+fn refused_values(
+    alloc: Global,
+    recoveries: &[RefusedRecovery<'_>],
+) -> Result<Vec<Value>, AllocError>
+    ensures { IfOk result (λ vs. items_view vs.items ≡ items refused_data recoveries.now) }
+{
+    let mut values = Vec::new(alloc);
+    for refused in recoveries {
+        values.push(refused_value(alloc, refused)?)?;
+    }
+    Ok(values)
+}
+
+/// Puts the refused recoveries.
+#[tactic(auto, unfolding(crate::specs::JsonRefused::with_refused))]
+pub(crate) fn put_refused(
+    alloc: Global,
+    members: &mut Map<String, Value>,
+    recoveries: &[RefusedRecovery<'_>],
+) -> Result<(), AllocError>
+    ensures { OnOk result (members_view members.new.entries ≡ with_refused recoveries.now (members_view members.old.entries)) }
+{
+    let values = refused_values(alloc, recoveries)?;
+    put(members, alloc, "refused", Value::Array(values))
+}

@@ -1,0 +1,88 @@
+//! The member of the turns.
+ghost use Rattle.std.specs.Prelude.{◌≡◌, IfOk, OnOk};
+ghost use Rattle.serde_json.specs.View.{view, items_view, members_view};
+ghost use Rattle.aud_cert_text.specs.Text.{items};
+ghost use Rattle.aud_explanation.specs.JsonTurn.{begin_word, end_word, lines_data, took_data, turn_data, with_turns};
+
+use crate::json_line::value::numbers;
+use crate::turn::{TurnBegin, TurnEnd, TurnShown};
+use serde_json::{Map, Value, json, put};
+use std::alloc::{AllocError, Global};
+
+fn begin_word(begin: TurnBegin) -> &'static str
+    ensures { result.now ≡ begin_word begin }
+{
+    match begin {
+        TurnBegin::Open => "open",
+        TurnBegin::Back => "back",
+    }
+}
+
+fn end_word(end: TurnEnd) -> &'static str
+    ensures { result.now ≡ end_word end }
+{
+    match end {
+        TurnEnd::Break { .. } => "break",
+        TurnEnd::Gone { .. } => "gone",
+        TurnEnd::Log { .. } => "log",
+        TurnEnd::Missing => "missing",
+    }
+}
+
+/// The lines on which a turn begins and ends.
+fn lines_value(alloc: Global, begin: u64, end: TurnEnd) -> Result<Value, AllocError>
+    ensures { IfOk result (λ v. view v ≡ lines_data begin end) }
+{
+    let values = match end {
+        TurnEnd::Break { line } | TurnEnd::Gone { line } | TurnEnd::Log { line } => {
+            numbers(alloc, &[begin, line])?
+        }
+        TurnEnd::Missing => numbers(alloc, &[begin])?,
+    };
+    Ok(Value::Array(values))
+}
+
+/// The first and the last position that a node took in a turn.
+fn took_value(alloc: Global, took: Option<(u64, u64)>) -> Result<Value, AllocError>
+    ensures { IfOk result (λ v. view v ≡ took_data took) }
+{
+    match took {
+        Some((from, to)) => Ok(Value::Array(numbers(alloc, &[from, to])?)),
+        None => Ok(Value::Null),
+    }
+}
+
+/// `{"begin":..,"end":..,"high":..,"lines":..,"low":..,"node":..,"took":..,"turn":..}`.
+fn turn_value(alloc: Global, turn: &TurnShown<'_>) -> Result<Value, AllocError>
+    ensures { IfOk result (λ v. view v ≡ turn_data turn.now) }
+{
+    let begin = begin_word(turn.begin);
+    let end = end_word(turn.end);
+    let lines = lines_value(alloc, turn.begin_line, turn.end)?;
+    let took = took_value(alloc, turn.took)?;
+    let number = u64::from(turn.turn);
+    json!(in alloc; {"begin": begin, "end": end, "high": turn.high, "lines": lines, "low": turn.low, "node": turn.node, "took": took, "turn": number})
+}
+
+fn turn_values(alloc: Global, turns: &[TurnShown<'_>]) -> Result<Vec<Value>, AllocError>
+    ensures { IfOk result (λ vs. items_view vs.items ≡ items turn_data turns.now) }
+{
+    let mut values = Vec::new(alloc);
+    for turn in turns {
+        values.push(turn_value(alloc, turn)?)?;
+    }
+    Ok(values)
+}
+
+/// Puts the turns.
+#[tactic(auto, unfolding(crate::specs::JsonTurn::with_turns))]
+pub(crate) fn put_turns(
+    alloc: Global,
+    members: &mut Map<String, Value>,
+    turns: &[TurnShown<'_>],
+) -> Result<(), AllocError>
+    ensures { OnOk result (members_view members.new.entries ≡ with_turns turns.now (members_view members.old.entries)) }
+{
+    let values = turn_values(alloc, turns)?;
+    put(members, alloc, "turns", Value::Array(values))
+}

@@ -1,0 +1,49 @@
+//! One session's explanation: its data, its text, and its JSON.
+//!
+//! Begin at [`Explanation`], which whoever found the evidence fills. [`push_text`] writes it for a reader, and
+//! [`explanation_json`] for a program.
+//!
+//! ```
+//! use aud_explanation::{Explanation, push_text};
+//! use aud_report::Verdict;
+//!
+//! let verdict = Verdict::Yes { got: 1, tail: 0, turns: 1 };
+//! let explanation = Explanation {
+//!     pid: "P",
+//!     verdict: &verdict,
+//!     client: None,
+//!     account: None,
+//!     turns: &[],
+//!     evidence: &[],
+//!     also: &[],
+//!     refused: &[],
+//!     events: &[],
+//!     causes: &[],
+//! };
+//! let mut out = String::new(alloc);
+//! push_text(alloc, &mut out, &explanation)?;
+//! let text = "yes P got=1 tail=0 turns=1\nno one client, turns 0, delivery not judged\n";
+//! assert_eq!(rt; out.as_str(), text);
+//! ```
+#![tactic(auto)]
+
+mod also;
+mod cause;
+mod client;
+mod event;
+mod explanation;
+mod fault;
+mod json_line;
+mod refused;
+mod text;
+mod turn;
+
+pub use also::Also;
+pub use cause::Cause;
+pub use client::{Account, Client};
+pub use event::{ClientEvent, Happens};
+pub use explanation::{Explanation, class_of_explained};
+pub use json_line::explanation_json;
+pub use refused::{Missed, RefusedRecovery};
+pub use text::push_text;
+pub use turn::{TurnBegin, TurnEnd, TurnShown};

@@ -1,0 +1,23 @@
+//! Recoveries that were refused.
+use aud_rows::Row;
+
+/// A recovery of the session that a client asked for and did not get.
+#[derive(Clone, Copy, Debug, Drop)]
+pub struct RefusedRecovery<'r> {
+    /// The record in which it asks.
+    pub ask: Row<'r>,
+    /// The record in which it is answered; none where the connection ended before.
+    pub reply: Option<Row<'r>>,
+    /// The session that it got instead; none where it got none.
+    pub instead: Option<&'r str>,
+    /// What it missed of the session that it asked for, in the order of the stream; none where that is not known.
+    pub missed: Option<&'r [Missed<'r>]>,
+}
+
+/// An entry that a client missed.
+#[derive(Clone, Copy, Debug, Drop)]
+pub struct Missed<'r> {
+    /// Positions count from 1.
+    pub position: u64,
+    pub off: &'r str,
+}

@@ -1,0 +1,75 @@
+//! The text of an explanation.
+ghost use Rattle.std.specs.Prelude.{◌≡◌, ◌++◌, OnOk, string_bytes};
+ghost use Rattle.aud_explanation.specs.Text.{shown_text, told_text, explanation_text};
+
+mod also;
+mod cause;
+mod client;
+mod event;
+mod evidence;
+mod mark;
+mod page;
+mod record;
+mod refused;
+mod span;
+mod turn;
+mod verdict;
+
+use crate::explanation::{Explanation, class_of_explained};
+use crate::text::also::push_also;
+use crate::text::cause::push_causes;
+use crate::text::client::push_client;
+use crate::text::event::push_events;
+use crate::text::evidence::push_evidence;
+pub(crate) use crate::text::record::push_record;
+use crate::text::refused::push_refused;
+use crate::text::turn::push_turns;
+use crate::text::verdict::push_verdict;
+use std::alloc::{AllocError, Global};
+
+/// Puts the verdict, the client and the evidence at the end.
+fn push_shown(
+    alloc: Global,
+    out: &mut String,
+    explanation: &Explanation<'_>,
+) -> Result<(), AllocError>
+    ensures { OnOk result (string_bytes out.new ≡ string_bytes out.old ++ shown_text explanation.now) }
+{
+    let class = class_of_explained(explanation);
+    let turns = explanation.turns.len();
+    push_verdict(alloc, out, explanation.pid, explanation.verdict, class)?;
+    push_client(alloc, out, explanation.client, turns, explanation.account)?;
+    push_evidence(alloc, out, explanation.verdict, explanation.evidence)?;
+    push_also(alloc, out, explanation.also)
+}
+
+/// Puts the timeline, the refused recoveries and the causes at the end.
+fn push_told(
+    alloc: Global,
+    out: &mut String,
+    explanation: &Explanation<'_>,
+) -> Result<(), AllocError>
+    ensures { OnOk result (string_bytes out.new ≡ string_bytes out.old ++ told_text explanation.now) }
+{
+    push_turns(alloc, out, explanation.turns)?;
+    push_events(alloc, out, explanation.events)?;
+    push_refused(alloc, out, explanation.verdict, explanation.refused)?;
+    push_causes(alloc, out, explanation.causes)
+}
+
+/// Puts the text of an explanation at the end: the verdict with its class, the client, the evidence, the other entries with
+/// the same fault, a row for each turn and one for the client, the refused recoveries, and the causes.
+///
+/// A line has at most 100 columns, a character a column. A word that does not stand within it goes on in the next line, after
+/// eight blanks, and so does what is left of a word that is longer than a line: nothing is left out. A control character
+/// of a name is shown as `\x` and two hexadecimal digits.
+pub fn push_text(
+    alloc: Global,
+    out: &mut String,
+    explanation: &Explanation<'_>,
+) -> Result<(), AllocError>
+    ensures { OnOk result (string_bytes out.new ≡ string_bytes out.old ++ explanation_text explanation.now) }
+{
+    push_shown(alloc, out, explanation)?;
+    push_told(alloc, out, explanation)
+}

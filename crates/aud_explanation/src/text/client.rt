@@ -1,0 +1,83 @@
+//! The line of the client.
+ghost use Rattle.std.specs.Prelude.{◌≡◌, ◌++◌, OnOk, string_bytes};
+ghost use Rattle.aud_explanation.specs.Client.{conn_words, names_words, client_words, frame_words, account_words, client_text};
+
+use crate::client::{Account, Client};
+use crate::text::page::push_line;
+use std::alloc::{AllocError, Global};
+
+/// Puts the connection at the end, where there is one.
+fn push_conn(line: &mut String, conn: Option<u64>) -> Result<(), AllocError>
+    ensures { OnOk result (string_bytes line.new ≡ string_bytes line.old ++ conn_words conn) }
+{
+    match conn {
+        Some(conn) => write!(line, ", connection {conn}"),
+        None => Ok(()),
+    }
+}
+
+/// Puts the names of a client at the end.
+fn push_names(line: &mut String, client: &Client<'_>) -> Result<(), AllocError>
+    ensures { OnOk result (string_bytes line.new ≡ string_bytes line.old ++ names_words client.now) }
+{
+    let (tap, nsp) = (client.tap, client.nsp);
+    write!(line, "client {tap}, namespace {nsp}")?;
+    push_conn(line, client.conn)
+}
+
+/// Puts the words for the client at the end.
+fn push_words(line: &mut String, client: Option<Client<'_>>) -> Result<(), AllocError>
+    ensures { OnOk result (string_bytes line.new ≡ string_bytes line.old ++ client_words client.entry) }
+{
+    match client {
+        Some(client) => push_names(line, &client),
+        None => write!(line, "no one client"),
+    }
+}
+
+/// Puts the frame at which what was received parts from what was due at the end, where it does.
+fn push_frame(line: &mut String, frame: Option<u64>) -> Result<(), AllocError>
+    ensures { OnOk result (string_bytes line.new ≡ string_bytes line.old ++ frame_words frame) }
+{
+    match frame {
+        Some(frame) => write!(line, ", differs at frame {frame}"),
+        None => Ok(()),
+    }
+}
+
+/// Puts what was received at the end.
+fn push_account(line: &mut String, account: Option<Account>) -> Result<(), AllocError>
+    ensures { OnOk result (string_bytes line.new ≡ string_bytes line.old ++ account_words account) }
+{
+    match account {
+        Some(
+            Account {
+                got,
+                due,
+                tail,
+                at_frame,
+            },
+        ) => {
+            write!(line, ", got {got}, due {due}, tail {tail}")?;
+            push_frame(line, at_frame)
+        }
+        None => write!(line, ", delivery not judged"),
+    }
+}
+
+/// Puts the line of the client at the end: its tap, how many turns the session had, and what was received.
+pub(crate) fn push_client(
+    alloc: Global,
+    out: &mut String,
+    client: Option<Client<'_>>,
+    turns: usize,
+    account: Option<Account>,
+) -> Result<(), AllocError>
+    ensures { OnOk result (string_bytes out.new ≡ string_bytes out.old ++ client_text client.entry turns account) }
+{
+    let mut line = String::new(alloc);
+    push_words(&mut line, client)?;
+    write!(&mut line, ", turns {turns}")?;
+    push_account(&mut line, account)?;
+    push_line(out, line.as_str())
+}

@@ -1,0 +1,116 @@
+//! The row of what happened to the client.
+ghost use Rattle.std.specs.Prelude.{◌≡◌, ◌++◌, ◌≤◌, IfOk, OnOk, string_bytes};
+ghost use Rattle.aud_explanation.specs.EventText.{after_words, happens_words, event_words, has_room, piece, piece_end, filled, events_text};
+
+use crate::event::{ClientEvent, Happens};
+use crate::text::span::push_span;
+use std::alloc::{AllocError, Global};
+
+/// Puts the position after which a client asks to go on at the end.
+fn push_after(out: &mut String, after: Option<u64>) -> Result<(), AllocError>
+    ensures { OnOk result (string_bytes out.new ≡ string_bytes out.old ++ after_words after) }
+{
+    match after {
+        Some(position) => write!(out, " asks after {position}"),
+        None => write!(out, " asks"),
+    }
+}
+
+/// Puts the words for what happens at the end.
+fn push_happens(out: &mut String, happens: Happens) -> Result<(), AllocError>
+    ensures { OnOk result (string_bytes out.new ≡ string_bytes out.old ++ happens_words happens) }
+{
+    match happens {
+        Happens::Asks { after } => push_after(out, after),
+        Happens::Reply => out.push_str(" reply"),
+        Happens::Refused => out.push_str(" refused"),
+        Happens::Got { from, to } => {
+            out.push_str(" got ")?;
+            push_span(out, from, to)
+        }
+        Happens::Lost => out.push_str(" lost"),
+    }
+}
+
+/// The lines, and what happens there.
+fn event_words(alloc: Global, event: &ClientEvent) -> Result<String, AllocError>
+    ensures { IfOk result (λ text. string_bytes text ≡ event_words event.now) }
+{
+    let mut text = String::new(alloc);
+    push_span(&mut text, event.first, event.last)?;
+    push_happens(&mut text, event.happens)?;
+    Ok(text)
+}
+
+/// Whether the words stand within the line, two blanks before them.
+fn has_room(column: usize, words: &str) -> bool
+    ensures { result ≡ has_room column words.now }
+{
+    words.len() < 99usize.saturating_sub(column)
+}
+
+/// Puts the words at the end, in the next line where this one has no room.
+fn push_piece(out: &mut String, column: usize, words: &str) -> Result<(), AllocError>
+    ensures { OnOk result (string_bytes out.new ≡ string_bytes out.old ++ piece column words.now) }
+{
+    if has_room(column, words) {
+        out.push_str("  ")?;
+    } else {
+        out.push_str("\n        ")?;
+    }
+    out.push_str(words)
+}
+
+/// The column after the words.
+fn piece_end(column: usize, words: &str) -> usize
+    ensures { result ≡ piece_end column words.now }
+{
+    if has_room(column, words) {
+        column + 2 + words.len()
+    } else {
+        8 + words.len().min(92)
+    }
+}
+
+/// Puts what happens at the end, and gives the column after it.
+fn push_event(
+    alloc: Global,
+    out: &mut String,
+    column: usize,
+    event: &ClientEvent,
+) -> Result<usize, AllocError>
+    ensures text { OnOk result (string_bytes out.new ≡ string_bytes out.old ++ piece column (event_words event.now)) }
+    ensures end { IfOk result (λ end. end ≡ piece_end column (event_words event.now)) }
+{
+    let words = event_words(alloc, event)?;
+    let words = words.as_str();
+    push_piece(out, column, words)?;
+    Ok(piece_end(column, words))
+}
+
+/// Puts the events at the end, from that column on, and the newline.
+fn push_filled(alloc: Global, out: &mut String, events: &[ClientEvent]) -> Result<(), AllocError>
+    ensures { OnOk result (string_bytes out.new ≡ string_bytes out.old ++ filled 10 events.now) }
+{
+    let mut column = 10;
+    for event in events {
+        column = push_event(alloc, out, column, event)?;
+    }
+    out.push_str("\n")
+}
+
+/// Puts the row of the events at the end; nothing where there is none.
+pub(crate) fn push_events(
+    alloc: Global,
+    out: &mut String,
+    events: &[ClientEvent],
+) -> Result<(), AllocError>
+    ensures { OnOk result (string_bytes out.new ≡ string_bytes out.old ++ events_text events.now) }
+{
+    if events.is_empty() {
+        Ok(())
+    } else {
+        out.push_str("    client")?;
+        push_filled(alloc, out, events)
+    }
+}

@@ -1,0 +1,113 @@
+//! The table of evidence.
+ghost use Rattle.std.specs.Prelude.{◌≡◌, ◌++◌, OnOk, flat_map, string_bytes};
+ghost use Rattle.aud_explanation.specs.Evidence.{tap_width, row_line, row_text, heading_text, table_text, evidence_text};
+
+use crate::text::mark::mark;
+use crate::text::page::{push_left, push_line, push_right};
+use crate::text::record::push_record;
+use aud_report::Verdict;
+use aud_rows::Row;
+use std::alloc::{AllocError, Global};
+
+/// The width of the column of taps: that of the longest name, and that of its heading at least.
+fn tap_width(rows: &[Row<'_>]) -> usize
+    ensures { result ≡ tap_width rows.now }
+{
+    let mut width = 3;
+    for row in rows {
+        width = width.max(row.tap.len());
+    }
+    width
+}
+
+/// Puts the words of a row at the end.
+fn push_words(
+    alloc: Global,
+    line: &mut String,
+    verdict: &Verdict,
+    width: usize,
+    row: &Row<'_>,
+) -> Result<(), AllocError>
+    ensures { OnOk result (string_bytes line.new ≡ string_bytes line.old ++ row_line verdict.now width row.now) }
+{
+    let number = row.line;
+    let digits = format!(in alloc; "{number}")?;
+    push_right(line, digits.as_str(), 8)?;
+    line.push_str(" ")?;
+    push_left(line, row.tap, width)?;
+    line.push_str("  ")?;
+    push_record(line, row.says)?;
+    line.push_str(mark(row.role, verdict))
+}
+
+/// Puts the line of a row at the end.
+pub(crate) fn push_row(
+    alloc: Global,
+    out: &mut String,
+    verdict: &Verdict,
+    width: usize,
+    row: &Row<'_>,
+) -> Result<(), AllocError>
+    ensures { OnOk result (string_bytes out.new ≡ string_bytes out.old ++ row_text verdict.now width row.now) }
+{
+    let mut line = String::new(alloc);
+    push_words(alloc, &mut line, verdict, width, row)?;
+    push_line(out, line.as_str())
+}
+
+/// Puts the heading of the table at the end.
+fn push_heading(alloc: Global, out: &mut String, width: usize) -> Result<(), AllocError>
+    ensures { OnOk result (string_bytes out.new ≡ string_bytes out.old ++ heading_text width) }
+{
+    let mut line = String::new(alloc);
+    line.push_str("    line ")?;
+    push_left(&mut line, "tap", width)?;
+    line.push_str("  record")?;
+    push_line(out, line.as_str())
+}
+
+/// Puts a line for each row at the end.
+fn push_rows(
+    alloc: Global,
+    out: &mut String,
+    verdict: &Verdict,
+    width: usize,
+    rows: &[Row<'_>],
+) -> Result<(), AllocError>
+    ensures { OnOk result (string_bytes out.new ≡ string_bytes out.old ++ flat_map (row_text verdict.now width) rows.now) }
+{
+    for row in rows {
+        push_row(alloc, out, verdict, width, row)?;
+    }
+    Ok(())
+}
+
+/// Puts the heading and the rows at the end.
+fn push_table(
+    alloc: Global,
+    out: &mut String,
+    verdict: &Verdict,
+    rows: &[Row<'_>],
+) -> Result<(), AllocError>
+    ensures { OnOk result (string_bytes out.new ≡ string_bytes out.old ++ table_text verdict.now rows.now) }
+{
+    let width = tap_width(rows);
+    push_heading(alloc, out, width)?;
+    push_rows(alloc, out, verdict, width, rows)
+}
+
+/// Puts the table of evidence at the end, a line for each row under a heading; nothing where there is none.
+pub(crate) fn push_evidence(
+    alloc: Global,
+    out: &mut String,
+    verdict: &Verdict,
+    rows: &[Row<'_>],
+) -> Result<(), AllocError>
+    ensures { OnOk result (string_bytes out.new ≡ string_bytes out.old ++ evidence_text verdict.now rows.now) }
+{
+    if rows.is_empty() {
+        Ok(())
+    } else {
+        push_table(alloc, out, verdict, rows)
+    }
+}

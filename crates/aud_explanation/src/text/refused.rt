@@ -1,0 +1,130 @@
+//! The recoveries that were refused.
+ghost use Rattle.std.specs.Prelude.{◌≡◌, ◌++◌, OnOk, flat_map, length, string_bytes};
+ghost use Rattle.std.specs.Option.{option_copied};
+ghost use Rattle.aud_explanation.specs.Evidence.{row_text};
+ghost use Rattle.aud_explanation.specs.RefusedText.{instead_words, count_words, head_line, head_text, reply_text, missed_line, missed_text, all_missed_text, refused_text, all_refused_text};
+
+use crate::refused::{Missed, RefusedRecovery};
+use crate::text::evidence::push_row;
+use crate::text::page::push_line;
+use aud_report::Verdict;
+use aud_rows::Row;
+use std::alloc::{AllocError, Global};
+
+/// Puts the session that a client got instead at the end.
+fn push_instead(line: &mut String, instead: Option<&str>) -> Result<(), AllocError>
+    ensures { OnOk result (string_bytes line.new ≡ string_bytes line.old ++ instead_words (option_copied instead.entry)) }
+{
+    match instead {
+        Some(pid) => write!(line, "got session {pid}"),
+        None => write!(line, "got no session"),
+    }
+}
+
+/// Puts how many entries a client missed at the end.
+fn push_count(line: &mut String, missed: Option<&[Missed<'_>]>) -> Result<(), AllocError>
+    ensures { OnOk result (string_bytes line.new ≡ string_bytes line.old ++ count_words (option_copied missed.entry)) }
+{
+    match missed {
+        Some(entries) => {
+            let count = entries.len();
+            write!(line, ", missed {count}")
+        }
+        None => write!(line, ", missed: not known"),
+    }
+}
+
+/// Puts the line of a refused recovery at the end.
+fn push_head(
+    alloc: Global,
+    out: &mut String,
+    refused: &RefusedRecovery<'_>,
+) -> Result<(), AllocError>
+    ensures { OnOk result (string_bytes out.new ≡ string_bytes out.old ++ head_text refused.now) }
+{
+    let mut line = String::new(alloc);
+    line.push_str("refused recovery: ")?;
+    push_instead(&mut line, refused.instead)?;
+    push_count(&mut line, refused.missed)?;
+    push_line(out, line.as_str())
+}
+
+/// Puts the row of the reply at the end, where there is one.
+fn push_reply(
+    alloc: Global,
+    out: &mut String,
+    verdict: &Verdict,
+    width: usize,
+    reply: Option<Row<'_>>,
+) -> Result<(), AllocError>
+    ensures { OnOk result (string_bytes out.new ≡ string_bytes out.old ++ reply_text verdict.now width reply.entry) }
+{
+    match reply {
+        Some(reply) => push_row(alloc, out, verdict, width, &reply),
+        None => Ok(()),
+    }
+}
+
+/// Puts the line of an entry that was missed at the end.
+fn push_missed(alloc: Global, out: &mut String, missed: &Missed<'_>) -> Result<(), AllocError>
+    ensures { OnOk result (string_bytes out.new ≡ string_bytes out.old ++ missed_text missed.now) }
+{
+    let mut line = String::new(alloc);
+    let (position, off) = (missed.position, missed.off);
+    write!(&mut line, "    missed entry {position} {off}")?;
+    push_line(out, line.as_str())
+}
+
+fn push_entries(alloc: Global, out: &mut String, entries: &[Missed<'_>]) -> Result<(), AllocError>
+    ensures { OnOk result (string_bytes out.new ≡ string_bytes out.old ++ flat_map missed_text entries.now) }
+{
+    for missed in entries {
+        push_missed(alloc, out, missed)?;
+    }
+    Ok(())
+}
+
+/// Puts a line for each entry that was missed at the end, where they are known.
+fn push_all_missed(
+    alloc: Global,
+    out: &mut String,
+    missed: Option<&[Missed<'_>]>,
+) -> Result<(), AllocError>
+    ensures { OnOk result (string_bytes out.new ≡ string_bytes out.old ++ all_missed_text (option_copied missed.entry)) }
+{
+    match missed {
+        Some(entries) => push_entries(alloc, out, entries),
+        None => Ok(()),
+    }
+}
+
+/// Puts a refused recovery at the end: what the client got instead, the ask and the reply, and what it missed.
+fn push_one(
+    alloc: Global,
+    out: &mut String,
+    verdict: &Verdict,
+    refused: &RefusedRecovery<'_>,
+) -> Result<(), AllocError>
+    ensures { OnOk result (string_bytes out.new ≡ string_bytes out.old ++ refused_text verdict.now refused.now) }
+{
+    let width = refused.ask.tap.len();
+    push_head(alloc, out, refused)?;
+    push_row(alloc, out, verdict, width, &refused.ask)?;
+    push_reply(alloc, out, verdict, width, refused.reply)?;
+    push_all_missed(alloc, out, refused.missed)
+}
+
+/// Puts the refused recoveries at the end.
+pub(crate) fn push_refused(
+    alloc: Global,
+    out: &mut String,
+    verdict: &Verdict,
+    recoveries: &[RefusedRecovery<'_>],
+) -> Result<(), AllocError>
+    ensures { OnOk result (string_bytes out.new ≡ string_bytes out.old ++ all_refused_text verdict.now recoveries.now) }
+{
+    for refused in recoveries {
+        push_one(alloc, out, verdict, refused)?;
+    }
+    Ok(())
+}

@@ -1,0 +1,46 @@
+//! The line of the verdict.
+ghost use Rattle.std.specs.Prelude.{◌≡◌, ◌++◌, OnOk, string_bytes};
+ghost use Rattle.aud_explanation.specs.Verdict.{verdict_words, class_words, verdict_text};
+
+use crate::text::page::push_line;
+use aud_evidence::Class;
+use aud_report::Verdict;
+use std::alloc::{AllocError, Global};
+
+/// Puts the words of the verdict at the end, as an audit prints them.
+fn push_words(line: &mut String, pid: &str, verdict: &Verdict) -> Result<(), AllocError>
+    ensures { OnOk result (string_bytes line.new ≡ string_bytes line.old ++ verdict_words pid.now verdict.now) }
+{
+    match verdict {
+        Verdict::Yes { got, tail, turns } => {
+            write!(line, "yes {pid} got={got} tail={tail} turns={turns}")
+        }
+        Verdict::No(fault) => write!(line, "no {pid} {fault}"),
+    }
+}
+
+/// Puts the class at the end, where there is one.
+fn push_class(line: &mut String, class: Option<Class>) -> Result<(), AllocError>
+    ensures { OnOk result (string_bytes line.new ≡ string_bytes line.old ++ class_words class) }
+{
+    match class {
+        Some(class) => write!(line, " [{class}]"),
+        None => Ok(()),
+    }
+}
+
+/// Puts the line of the verdict at the end: as an audit prints it, and the class.
+pub(crate) fn push_verdict(
+    alloc: Global,
+    out: &mut String,
+    pid: &str,
+    verdict: &Verdict,
+    class: Option<Class>,
+) -> Result<(), AllocError>
+    ensures { OnOk result (string_bytes out.new ≡ string_bytes out.old ++ verdict_text pid.now verdict.now class) }
+{
+    let mut line = String::new(alloc);
+    push_words(&mut line, pid, verdict)?;
+    push_class(&mut line, class)?;
+    push_line(out, line.as_str())
+}

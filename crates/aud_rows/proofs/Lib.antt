@@ -1,0 +1,3 @@
+pub mod TrueRows
+pub mod Stays
+pub mod EndsLemmas

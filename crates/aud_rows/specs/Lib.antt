@@ -1,0 +1,17 @@
+pub use Rattle.aud_node.specs.Cluster
+pub use Rattle.aud_rooms.specs.Turns
+pub use Rattle.aud_lines.specs.TapLines
+pub use Rattle.aud_places.specs.StayPlaces
+pub mod Seen
+pub mod NodeSays
+pub mod StreamSays
+pub mod Marks
+pub mod ClientSays
+pub mod ClientPlaces
+pub mod TrueRow
+pub mod Rows
+pub mod StayRows
+pub mod EndRows
+pub mod TurnRows
+-- what private contracts alone cite
+pub mod Private

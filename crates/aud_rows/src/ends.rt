@@ -1,0 +1,65 @@
+//! What the records of a client's tap say that carry no packet.
+ghost use Rattle.std.specs.Prelude.{◌≡◌};
+ghost use Rattle.std.specs.Option.{option_copied, option_map};
+ghost use Rattle.aud_rows.specs.EndRows.{bad_said, is_lost, lost_past, lost_said};
+ghost use Rattle.aud_rows.specs.Marks.{marks_of, open_before};
+ghost use Rattle.aud_rows.specs.Private.SaidAt.{said_seen};
+
+use crate::client::SaidAt;
+use crate::client_places::{conn_at, first_past, last_before};
+use crate::row::Says;
+use aud_tap::ClientRec;
+
+/// The first mark past the record with this number, if it loses a connection.
+pub fn lost_past<'r>(recs: &[ClientRec], marks: &[usize], number: usize) -> Option<SaidAt<'r>>
+    requires { marks.now ≡ marks_of recs.now }
+    ensures { option_map said_seen result ≡ lost_past recs.now number }
+{
+    let mark = first_past(number, marks)?;
+    lost_said(recs, marks, mark)
+}
+
+/// The record with this number, if it loses a connection.
+fn lost_said<'r>(recs: &[ClientRec], marks: &[usize], number: usize) -> Option<SaidAt<'r>>
+    requires { marks.now ≡ marks_of recs.now }
+    ensures { option_map said_seen result ≡ lost_said recs.now number }
+{
+    if !is_lost(recs.get(number)) {
+        return None;
+    }
+    let conn = open_before(recs, marks, number)?;
+    Some(SaidAt {
+        number,
+        says: Says::Lost { conn },
+    })
+}
+
+/// The record with this number, which is no packet.
+pub fn bad_said<'r>(recs: &[ClientRec], marks: &[usize], number: usize) -> Option<SaidAt<'r>>
+    requires { marks.now ≡ marks_of recs.now }
+    ensures { option_map said_seen result ≡ bad_said recs.now number }
+{
+    let conn = open_before(recs, marks, number)?;
+    Some(SaidAt {
+        number,
+        says: Says::NoPacket { conn },
+    })
+}
+
+/// The number of the connection that goes on in front of the record with this number.
+fn open_before(recs: &[ClientRec], marks: &[usize], number: usize) -> Option<u64>
+    requires { marks.now ≡ marks_of recs.now }
+    ensures { result ≡ open_before recs.now number }
+{
+    let mark = last_before(number, marks)?;
+    conn_at(recs, mark)
+}
+
+fn is_lost(rec: Option<&ClientRec>) -> bool
+    ensures { result ≡ is_lost (option_copied rec.entry) }
+{
+    match rec {
+        Some(ClientRec::Lost) => true,
+        _ => false,
+    }
+}

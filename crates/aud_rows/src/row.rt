@@ -1,0 +1,109 @@
+//! A record of the bundle, as an explanation shows it.
+
+/// A record of the bundle, as an explanation shows it: where it stands, what it says, and what it is shown for.
+#[derive(Clone, Copy, Debug, PartialEq, Eq, Drop)]
+pub struct Row<'r> {
+    /// The line of the input that the record stands on; lines count from 1.
+    pub line: u64,
+    /// The name of its tap, lent.
+    pub tap: &'r str,
+    /// What the record says.
+    pub says: Says<'r>,
+    /// What it is shown for.
+    pub role: Role,
+}
+
+/// What a record says, in the words of the session that is explained. Positions count from 1, turns from 0; cursors are
+/// those of the node after the record. Texts are lent.
+#[derive(Clone, Copy, Debug, PartialEq, Eq, Drop)]
+pub enum Says<'r> {
+    /// An entry of the stream.
+    Entry {
+        position: u64,
+        off: &'r str,
+    },
+    /// A node begins its log, at this cursor.
+    Start {
+        cursor: u64,
+    },
+    /// A node takes entries, up to this one: a `take` of one, or a `takes`. The position is 0 where the stream has no entry
+    /// of the offset.
+    Take {
+        position: u64,
+        off: &'r str,
+    },
+    /// The session is opened on the node.
+    Open {
+        sid: &'r str,
+        nsp: &'r str,
+        cursor: u64,
+    },
+    Join {
+        room: &'r str,
+    },
+    Leave {
+        room: &'r str,
+    },
+    /// The session's connection breaks on the node.
+    Break {
+        turn: u16,
+        cursor: u64,
+    },
+    /// The node takes the session back.
+    Back {
+        turn: u16,
+        cursor: u64,
+    },
+    Gone,
+    /// The client asks for the session with this pid, to go on after the entry of this offset.
+    Asks {
+        conn: u64,
+        pid: &'r str,
+        off: Option<&'r str>,
+    },
+    /// The server answers the client.
+    Reply {
+        conn: u64,
+        sid: &'r str,
+        pid: Option<&'r str>,
+    },
+    /// The client receives the entry at this position.
+    Got {
+        conn: u64,
+        position: u64,
+        off: &'r str,
+    },
+    /// The client loses the connection.
+    Lost {
+        conn: u64,
+    },
+    /// The client's record is no packet.
+    NoPacket {
+        conn: u64,
+    },
+}
+
+/// What a row is shown for.
+#[derive(Clone, Copy, Debug, PartialEq, Eq, Drop)]
+pub enum Role {
+    /// The record at which what was received parts from what was due, or the first that does not fit.
+    Fault,
+    /// The earlier frame of the same position, or the earlier record that the fault contradicts.
+    Earlier,
+    /// The later frame that has the entry, or that shows that the entry was passed over.
+    Later,
+    /// The entry in question.
+    Entry,
+    /// Where the session first reached the entry.
+    Reached,
+    /// The change of rooms that decides whether the entry was due.
+    Room,
+    /// The end of a turn.
+    Break,
+    /// The beginning of a turn.
+    Back,
+    /// What the client asked for.
+    Ask,
+    /// What it was answered.
+    Reply,
+}

@@ -1,0 +1,2 @@
+pub mod NoClient
+pub mod Shows

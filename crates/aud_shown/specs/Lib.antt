@@ -1,0 +1,15 @@
+pub use Rattle.aud_rows.specs.Seen
+pub use Rattle.aud_rows.specs.ClientPlaces
+pub use Rattle.aud_rows.specs.StayRows
+pub use Rattle.aud_rows.specs.TrueRow
+pub mod FramePlaces
+pub mod RowLists
+pub mod SessionRows
+pub mod DifferenceRows
+pub mod ShowsDifference
+pub mod ContentRows
+pub mod ShowsAltered
+pub mod WindowRows
+pub mod ShowsWindow
+pub mod ChainRows
+pub mod OrderRows

@@ -1,0 +1,114 @@
+//! A summary as JSON.
+ghost use Rattle.std.specs.Prelude.{◌≡◌, IfOk, OnOk, string_bytes};
+ghost use Rattle.serde_json.specs.Data.{no_members, number, put, unsigned};
+ghost use Rattle.serde_json.specs.View.{members_view, view};
+ghost use Rattle.aud_summary.specs.Json.{classes_data, entries_data, faults_data, figures_data, first_faults, recoveries_data, summary_data, summary_json, tails_data};
+
+use crate::classes::Classes;
+use crate::entries::Entries;
+use crate::faults::Faults;
+use crate::recoveries::Recoveries;
+use crate::summary::Summary;
+use crate::tails::Tails;
+use serde_json::{Map, Value, json};
+use std::alloc::{AllocError, Global};
+
+/// The summary as one line of JSON without blanks and without a newline: `{"summary":{..},"v":1}`, where `v` is the
+/// version of the schema. It has every figure, and all classes and faults, with 0 for those that no session has; the
+/// members of each object stand in the byte order of their names.
+pub fn summary_json(alloc: Global, summary: &Summary) -> Result<String, AllocError>
+    ensures { IfOk result (λ text. string_bytes text ≡ summary_json summary.now) }
+{
+    let value = summary_value(alloc, summary)?;
+    value.to_string(alloc)
+}
+
+fn summary_value(alloc: Global, summary: &Summary) -> Result<Value, AllocError>
+    ensures { IfOk result (λ value. view value ≡ summary_data summary.now) }
+{
+    json!(in alloc; {"summary": figures_value(alloc, summary)?, "v": 1u64})
+}
+
+fn figures_value(alloc: Global, summary: &Summary) -> Result<Value, AllocError>
+    ensures { IfOk result (λ value. view value ≡ figures_data summary.now) }
+{
+    json!(in alloc; {
+        "bytes": summary.input.bytes,
+        "class": classes_value(alloc, &summary.classes)?,
+        "entries": entries_value(alloc, &summary.entries)?,
+        "fault": faults_value(alloc, &summary.faults)?,
+        "lines": summary.input.lines,
+        "no": summary.no,
+        "recoveries": recoveries_value(alloc, &summary.recoveries)?,
+        "seconds": summary.input.seconds,
+        "sessions": summary.sessions,
+        "tail": tails_value(alloc, &summary.tails)?,
+        "unobserved": summary.unobserved,
+        "yes": summary.yes
+    })
+}
+
+fn classes_value(alloc: Global, classes: &Classes) -> Result<Value, AllocError>
+    ensures { IfOk result (λ value. view value ≡ classes_data classes.now) }
+{
+    json!(in alloc; {"delivery": classes.delivery, "packets": classes.packets, "recording": classes.recording})
+}
+
+fn entries_value(alloc: Global, entries: &Entries) -> Result<Value, AllocError>
+    ensures { IfOk result (λ value. view value ≡ entries_data entries.now) }
+{
+    json!(in alloc; {"all": entries.all, "recoverable": entries.recoverable})
+}
+
+fn faults_value(alloc: Global, faults: &Faults) -> Result<Value, AllocError>
+    ensures { IfOk result (λ value. view value ≡ faults_data faults.now) }
+{
+    let mut map = first_faults(alloc, faults)?;
+    put_figure(&mut map, alloc, "NAMES", faults.names)?;
+    put_figure(&mut map, alloc, "NOLOG", faults.no_log)?;
+    put_figure(&mut map, alloc, "ORDER", faults.order)?;
+    put_figure(&mut map, alloc, "ORPHAN", faults.orphan)?;
+    put_figure(&mut map, alloc, "SWAPPED", faults.swapped)?;
+    put_figure(&mut map, alloc, "TAIL", faults.tail)?;
+    put_figure(&mut map, alloc, "WINDOW", faults.window)?;
+    Ok(Value::Object(map))
+}
+
+/// The members of the faults up to `LOST`.
+fn first_faults(alloc: Global, faults: &Faults) -> Result<Map<String, Value>, AllocError>
+    ensures { IfOk result (λ map. members_view map.entries ≡ first_faults faults.now no_members) }
+{
+    let mut map = Map::new(alloc);
+    put_figure(&mut map, alloc, "CHAIN", faults.chain)?;
+    put_figure(&mut map, alloc, "CLIENT", faults.client)?;
+    put_figure(&mut map, alloc, "CONTENT", faults.content)?;
+    put_figure(&mut map, alloc, "DOUBLED", faults.doubled)?;
+    put_figure(&mut map, alloc, "EXTRA", faults.extra)?;
+    put_figure(&mut map, alloc, "FRAME", faults.frame)?;
+    put_figure(&mut map, alloc, "LOST", faults.lost)?;
+    Ok(map)
+}
+
+/// Puts the number into the object, under the name.
+fn put_figure(
+    map: &mut Map<String, Value>,
+    alloc: Global,
+    name: &str,
+    figure: usize,
+) -> Result<(), AllocError>
+    ensures { OnOk result (members_view map.new.entries ≡ put name.now (number (unsigned figure)) (members_view map.old.entries)) }
+{
+    serde_json::put(map, alloc, name, Value::from(figure))
+}
+
+fn recoveries_value(alloc: Global, recoveries: &Recoveries) -> Result<Value, AllocError>
+    ensures { IfOk result (λ value. view value ≡ recoveries_data recoveries.now) }
+{
+    json!(in alloc; {"asked": recoveries.asked, "granted": recoveries.granted, "refused": recoveries.refused})
+}
+
+fn tails_value(alloc: Global, tails: &Tails) -> Result<Value, AllocError>
+    ensures { IfOk result (λ value. view value ≡ tails_data tails.now) }
+{
+    json!(in alloc; {"events": tails.events, "sessions": tails.sessions})
+}
