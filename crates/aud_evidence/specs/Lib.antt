@@ -7,6 +7,7 @@ pub use Rattle.aud_check.specs.Frames
 pub mod Class
 pub mod Content
 pub mod Difference
+pub mod FaultWord
 pub mod Order
 pub mod Parting
 pub mod Stays

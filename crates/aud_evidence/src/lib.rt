@@ -18,6 +18,7 @@ mod order;
 mod parting;
 mod stays;
 mod window;
+mod word;
 
 pub use class::{Class, class_of};
 pub use content::{Altered, Part, first_altered};
@@ -26,3 +27,4 @@ pub use order::first_unordered;
 pub use parting::first_parting;
 pub use stays::{first_naming, first_orphan, first_other_named};
 pub use window::{BadWindow, Misfit, first_bad_window};
+pub use word::fault_word;

@@ -1,8 +1,10 @@
 -- Files that are taken in, one after the other.
-use Rattle.std.proofs.Common.{◌≡◌, ℕ, suc, ◌+◌, ◌<◌, zero-add, add-zero, drop, get_or, take, ◌==◌, List, [], ◌∷◌, ◌++◌, length, map, Bool, true, false, not, cond, Option, refl, sym, ap, ◌∙◌, append_assoc, append-nil, arith, subst, IfSome, IfOk, IfErr, OnOk, Result, Ok, Err}
+use Rattle.std.proofs.Common.{◌≡◌, ℕ, suc, ◌+◌, ◌-◌, ◌<◌, zero-add, add-zero, drop, get_or, take, ◌==◌, List, [], ◌∷◌, ◌++◌, length, map, Bool, true, false, not, cond, Option, Some, None, refl, sym, ap, ◌∙◌, append_assoc, append-nil, arith, subst, IfSome, IfOk, IfErr, OnOk, Result, Ok, Err}
+use Rattle.std.specs.Prelude.{slice_get}
 use Rattle.std.specs.List.{flat_map}
 use Rattle.std.proofs.lemmas.List.{drop-drop, drop-set-lt, get_or-drop, length-map, map-append, map_more, take-map}
-use Rattle.std.proofs.lemmas.List.Sums.{sum_by-cons}
+use Rattle.std.proofs.lemmas.List.Sums.{sum_by-append, sum_by-cons}
+use Rattle.std.specs.List.{sum_by}
 use Rattle.std.proofs.Math.ListN.{set}
 use Rattle.std.proofs.Math.Seq.{take-length}
 use Rattle.std.proofs.lemmas.List.Concat.{flat_map-append}
@@ -17,13 +19,14 @@ use Rattle.aud_streams.specs.declared.fault.RunFault.{RunFault}
 use Rattle.aud_streams.specs.declared.watched.Watched.{Watched}
 use Rattle.aud_streams.specs.Watched.{inner_of}
 use Rattle.aud_explain.specs.declared.feeding.Feeding.{Feeding}
-use Rattle.aud_explain.specs.Private.Feeding.{AreReadBefore, AreTaken, IsReadWhole, IsRefusedBy, TellsUnread, Begins, EndsFile, TakesIn, line_end, lines_so_far, newlines_in}
+use Rattle.aud_explain.specs.Private.Feeding.{AreReadBefore, AreTaken, IsReadWhole, IsRefusedBy, TellsUnread, Begins, EndsFile, TakesIn, line_end, lines_so_far, newlines_in, size_so_far}
 use Rattle.aud_explain.specs.declared.reading.Recorded.{Recorded}
 use Rattle.aud_explain.specs.declared.reading.ReadingFault.{ReadingFault}
 use Rattle.aud_explain.specs.declared.reading.ReadingFault.TheVariants.{Refused, Unread, Memory}
 use Rattle.std.specs.Result.{IsErrAnd}
 use Rattle.aud_explain.specs.FileLine.{file_line}
-use Rattle.aud_explain.specs.Files.{AreRecorded, AreTold, AreUnrecorded, line_counts, taps_read}
+use Rattle.aud_explain.specs.Files.{AreRecorded, AreTold, AreUnrecorded, IsKept, header_told, line_counts, size_of, taps_read}
+use Rattle.aud_explain.specs.Private.Tail.{known}
 
 -- ---- how many lines a text has
 
@@ -88,9 +91,13 @@ ended-last files file more begun is =
 
 -- ---- files that are taken in
 
+-- a sum with one more
+sum_by-last : (f : List ℕ → ℕ) (files : List (List ℕ)) (file : List ℕ) → sum_by f (files ++ file ∷ []) ≡ sum_by f files + f file
+sum_by-last f files file = omega (arith, sum_by-append f files (file ∷ []), sum_by-cons f file [])
+
 -- no file yet
 pub none_taken : (s : Feeding) → Begins s → AreTaken [] [] s
-none_taken s begins = record { input = begins.input; lines = begins.lines; counted = refl; ended = begins.ended; begun = begins.begun }
+none_taken s begins = record { input = begins.input; lines = begins.lines; kept = begins.kept; counted = refl; ended = begins.ended; begun = begins.begun; size = begins.size; all = begins.all }
 
 -- one more, which is ended
 pub one_more : (files : List (List ℕ)) (counts : List ℕ) (file : List ℕ) (s t u : Feeding) → AreTaken files counts s → TakesIn s t file → EndsFile t u
@@ -101,10 +108,24 @@ one_more files counts file s t u before taken ends =
     record {
       input = λ more. ends.input more ∙ taken.input (line_end t.begun ++ more) ∙ before.input (file ++ (line_end t.begun ++ more)) ∙ ap (input_of Bundle) (ended-last files file more t.begun begun);
       lines = λ more. ends.lines more ∙ taken.lines (line_end t.begun ++ more) ∙ before.lines (file ++ (line_end t.begun ++ more)) ∙ ap tap_lines_of (ended-last files file more t.begun begun);
+      kept = λ n more line is. rw (← ended-last files file more t.begun begun) (before.kept n (file ++ (line_end t.begun ++ more)) line (taken.kept n (line_end t.begun ++ more) line (ends.kept n more line is)));
       counted = rw (count, before.counted) (sym (map-append (λ file. length (line_pieces file)) files (file ∷ [])));
       ended = ends.ended;
       begun = ends.begun;
+      size = omega (arith, ends.size, taken.size, before.size, sum_by-last (λ file. length file) files file);
+      all = rw begun at ends.all ∙ omega (arith, taken.all, before.all, lines_counted file, sum_by-last (λ file. length (line_pieces file)) files file);
     }
+
+-- the size with the last, which isn't ended
+pub size_whole : (files : List (List ℕ)) (counts : List ℕ) (file : List ℕ) (s t : Feeding) → AreTaken files counts s → TakesIn s t file
+    → size_so_far t ≡ size_of (files ++ file ∷ [])
+size_whole files counts file s t before taken =
+    let begun : t.begun ≡ is_begun false file = taken.begun ∙ ap (λ b. is_begun b file) before.begun in
+    let lines : t.lines + cond t.begun 1 0 ≡ sum_by (λ file. length (line_pieces file)) (files ++ file ∷ []) =
+    rw begun (omega (arith, taken.all, before.all, lines_counted file, sum_by-last (λ file. length (line_pieces file)) files file))
+    in
+    let bytes : t.bytes ≡ sum_by (λ file. length file) (files ++ file ∷ []) = omega (arith, taken.size, before.size, sum_by-last (λ file. length file) files file) in
+    cc
 
 -- the last, which isn't ended
 pub input_whole : (files : List (List ℕ)) (counts : List ℕ) (file : List ℕ) (s t : Feeding) → AreTaken files counts s → TakesIn s t file
@@ -116,6 +137,18 @@ pub lines_whole : (files : List (List ℕ)) (counts : List ℕ) (file : List ℕ
     → tap_lines_to_come t.index.lines [] ≡ tap_lines_of (joined (files ++ file ∷ []))
 lines_whole files counts file s t before taken =
     taken.lines [] ∙ before.lines (file ++ []) ∙ ap (λ rest. tap_lines_of (flat_map (ended false) files ++ rest)) (append-nil file) ∙ ap tap_lines_of (sym (joined-last files file))
+
+pub known_whole : (files : List (List ℕ)) (counts : List ℕ) (file : List ℕ) (s t : Feeding) → AreTaken files counts s → TakesIn s t file
+    → (n : ℕ) (line : List ℕ) → known t.kept n [] ≡ Some line → slice_get (line_pieces (joined (files ++ file ∷ []))) (n - 1) ≡ Some line
+known_whole files counts file s t before taken n line is =
+    let so_far = before.kept n (file ++ []) line (taken.kept n [] line is) in
+    rw (joined-last files file, ← append-nil file) so_far
+
+-- what is kept of a line by the one is kept by the other, which knows as much of it
+IsKept-more : (a b : Option (List ℕ)) (line : List ℕ) → ((l : List ℕ) → a ≡ Some l → b ≡ Some l) → IsKept a line → IsKept b line
+IsKept-more a b [] more is = tt
+IsKept-more None b (x ∷ line) more is = absurd (cc)
+IsKept-more (Some l) b (x ∷ line) more is = rw (more l refl) is
 
 -- ---- the bytes that readers tell
 
@@ -172,7 +205,9 @@ pub record AreAllTaken (lefts : List (Option (List ℕ))) (counts : List ℕ) (t
   pub told : AreTold lefts files
   pub input : input_to_come t.reader [] ≡ input_of Bundle (joined files)
   pub lines : tap_lines_to_come t.index.lines [] ≡ tap_lines_of (joined files)
+  pub kept : (n : ℕ) (line : List ℕ) → known t.kept n [] ≡ Some line → slice_get (line_pieces (joined files)) (n - 1) ≡ Some line
   pub counted : counts ≡ line_counts files
+  pub size : size_so_far t ≡ size_of files
 
 pub all_taken : (lefts front : List (Option (List ℕ))) (left : Option (List ℕ)) (counts : List ℕ) (s t : Feeding) → lefts ≡ front ++ left ∷ []
     → AreReadBefore front counts s → IsReadWhole left s t → AreAllTaken lefts counts t
@@ -181,7 +216,9 @@ all_taken lefts front left counts s t is before read = record {
   told = rw is (told_more front before.0 left read.0 before.1 read.1);
   input = input_whole before.0 counts read.0 s t before.2 read.2;
   lines = lines_whole before.0 counts read.0 s t before.2 read.2;
+  kept = known_whole before.0 counts read.0 s t before.2 read.2;
   counted = before.2.counted ∙ counts-last before.0 read.0;
+  size = size_whole before.0 counts read.0 s t before.2 read.2;
 }
 
 -- the readers of all files
@@ -195,24 +232,27 @@ lefts_whole {R = R} remaining old now i file same whole is =
 -- what is recorded in the end
 pub recorded : (lefts : List (Option (List ℕ))) (counts : List ℕ) (t : Feeding) (result : Result Recorded ReadingFault) → AreAllTaken lefts counts t
     → IfOk result (λ read. taps_read (input_to_come t.reader []) ≡ Ok read.taps) → IfOk result (λ read. tap_lines_to_come t.index.lines [] ≡ read.lines)
-    → IfOk result (λ read. AreRecorded lefts read)
-recorded lefts counts t (Ok read) all taps lines = record {
+    → IfOk result (λ read. read.size ≡ size_so_far t) → IfOk result (λ read. AreRecorded lefts read)
+recorded lefts counts t (Ok read) all taps lines size = record {
   files = all.files;
   told = all.told;
   taps = ap taps_read (sym all.input) ∙ taps;
   lines = sym all.lines ∙ lines;
+  size = size ∙ all.size;
 }
-recorded lefts counts t (Err fault) all taps lines = tt
+recorded lefts counts t (Err fault) all taps lines size = tt
 
 -- or why it isn't
 pub unrecorded : (lefts : List (Option (List ℕ))) (counts given : List ℕ) (t : Feeding) (result : Result Recorded ReadingFault) → AreAllTaken lefts counts t → given ≡ counts
-    → IfErr result (λ e. IsRefusedBy given (input_to_come t.reader []) e) → IfErr result (λ e. AreUnrecorded lefts e)
+    → IfErr result (λ e. IsRefusedBy given (input_to_come t.reader []) t.kept (tap_lines_to_come t.index.lines []) e) → IfErr result (λ e. AreUnrecorded lefts e)
 unrecorded lefts counts given t (Ok read) all same why = tt
-unrecorded lefts counts given t (Err (Refused number code at)) all same why = record {
+unrecorded lefts counts given t (Err (Refused refusal)) all same why = record {
   files = all.files;
   told = all.told;
   refused = ap taps_read (sym all.input) ∙ why.0;
-  stands = why.1 ∙ ap (λ counts. file_line counts number) (same ∙ all.counted);
+  stands = why.1 ∙ ap (λ counts. file_line counts refusal.number) (same ∙ all.counted);
+  kept = IsKept-more (known t.kept refusal.number []) (slice_get (line_pieces (joined all.files)) (refusal.number - 1)) refusal.line (all.kept refusal.number) why.2;
+  header = why.3 ∙ ap (λ lines. header_told refusal.code lines refusal.line) all.lines;
 }
 unrecorded lefts counts given t (Err (Unread file)) all same why = absurd why
 unrecorded lefts counts given t (Err Memory) all same why = tt
@@ -220,7 +260,7 @@ unrecorded lefts counts given t (Err Memory) all same why = tt
 -- a file that could not be read is one of them
 pub unread_one : {R : Type 0} (remaining : R → Option (List ℕ)) (old : List (Watched R)) (fault : ReadingFault) (file : ℕ) → file < length old → TellsUnread file fault
     → AreUnrecorded (map (λ w. remaining (inner_of w)) old) fault
-unread_one remaining old (Refused number code at) file within why = absurd why
+unread_one remaining old (Refused refusal) file within why = absurd why
 unread_one {R = R} remaining old (Unread place) file within why =
     let left : Watched R → Option (List ℕ) = λ w. remaining (inner_of w) in
     omega (arith, why, within, length-map old left)

@@ -1,2 +1,3 @@
 pub mod Takes
+pub mod TailLemmas
 pub mod Files

@@ -1,5 +1,5 @@
 -- Bytes that are taken in, one piece after the other.
-use Rattle.std.proofs.Common.{◌≡◌, ℕ, ◌+◌, ◌<◌, ◌==◌, List, [], ◌∷◌, ◌++◌, length, take, Bool, not, cond, Option, refl, sym, ap, ◌∙◌, append_assoc, append-nil, arith}
+use Rattle.std.proofs.Common.{◌≡◌, ℕ, ◌+◌, ◌<◌, ◌==◌, List, [], ◌∷◌, ◌++◌, length, take, Bool, not, cond, Option, refl, sym, ap, ◌∙◌, append_assoc, append-nil, length-append, arith}
 use Rattle.std.proofs.lemmas.List.Sums.{sum_by-append}
 use Rattle.std.specs.Io.KnownBytes.{Consumes, IsAtEnd}
 use Rattle.std.proofs.KnownBytes.{Consumes-nil, Consumes-trans, Consumes-whole}
@@ -18,15 +18,18 @@ newlines-append a b = sum_by-append (λ x. cond (x == 10) 1 0) a b
 
 -- nothing is taken in
 pub TakesIn-nil : (s : Feeding) → TakesIn s s []
-TakesIn-nil s = record { input = λ more. refl; lines = λ more. refl; ended = omega arith; begun = refl }
+TakesIn-nil s = record { input = λ more. refl; lines = λ more. refl; kept = λ n more line is. is; ended = omega arith; begun = refl; size = omega arith; all = omega arith }
 
 -- bytes, and then others
 pub TakesIn-more : (a b c : Feeding) (x y : List ℕ) → TakesIn a b x → TakesIn b c y → TakesIn a c (x ++ y)
 TakesIn-more a b c x y first then = record {
   input = λ more. then.input more ∙ first.input (y ++ more) ∙ ap (input_to_come a.reader) (sym (append_assoc x y more));
   lines = λ more. then.lines more ∙ first.lines (y ++ more) ∙ ap (tap_lines_to_come a.index.lines) (sym (append_assoc x y more));
+  kept = λ n more line is. rw (append_assoc x y more) (first.kept n (y ++ more) line (then.kept n more line is));
   ended = omega (arith, first.ended, then.ended, newlines-append x y);
   begun = then.begun ∙ ap (λ begun. is_begun begun y) first.begun ∙ sym (begun-append a.begun x y);
+  size = omega (arith, first.size, then.size, length-append x y);
+  all = omega (arith, first.all, then.all, newlines-append x y);
 }
 
 -- what was read of a file so far was taken in

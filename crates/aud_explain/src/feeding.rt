@@ -4,6 +4,7 @@ ghost use Rattle.aud_input.specs.Reader.{input_to_come};
 ghost use Rattle.aud_lines.specs.Sources.{is_begun};
 ghost use Rattle.aud_explain.specs.Private.Feeding.{Begins, EndsFile, IsWithin, TakesIn, lines_so_far};
 
+use crate::kept::Kept;
 use aud_input::{InputReader, Layout};
 use aud_lines::LineIndex;
 use aud_reader::ReadFault;
@@ -17,15 +18,19 @@ pub const PIECES_LIMIT: u64 = 4_294_967_296;
 /// The most bytes of a piece.
 pub const PIECE: usize = 65_536;
 
-/// The reader of the bundle, and beside it the index of its lines; of the file that is read how many lines were ended, and
-/// whether one has begun; and how many pieces there were in all.
+/// The reader of the bundle, and beside it the index of its lines and the last of them; of the file that is read how many
+/// lines were ended, and whether one has begun; and of all files how many pieces there were, how many bytes, and how many
+/// lines were ended.
 #[derive(Drop)]
 pub struct Feeding {
     pub reader: InputReader,
     pub index: LineIndex,
+    pub kept: Kept,
     pub ended: u64,
     pub begun: bool,
     pub pieces: u64,
+    pub bytes: u64,
+    pub lines: u64,
 }
 
 /// How many newlines are among these bytes.
@@ -45,19 +50,20 @@ fn has_begun(before: bool, bytes: &[u8]) -> bool
     bytes[bytes.len() - 1] != b'\n'
 }
 
-/// Hands the next piece to the reader, which keeps a refused line until it ends.
+/// Hands the next piece to the reader, which keeps a refusal until it ends: the number of the refused line, if one is.
 fn feed_reader<H: Threads + Sync>(
     rt: &H,
     threads: usize,
     reader: &mut InputReader,
     piece: &[u8],
-) -> Result<(), AllocError>
+) -> Result<Option<u64>, AllocError>
     requires { reader.old.cut.number + length piece.now < 2 ^ 64 }
     ensures input { OnOk result ((more : List ℕ) → input_to_come reader.new more ≡ input_to_come reader.old (piece.now ++ more)) }
     ensures number { reader.new.cut.number ≤ reader.old.cut.number + length piece.now }
 {
     match reader.feed(rt, threads, piece) {
-        Ok(()) | Err(ReadFault::Input(_, _)) => Ok(()),
+        Ok(()) => Ok(None),
+        Err(ReadFault::Input(number, _)) => Ok(Some(number)),
         Err(ReadFault::Memory) => Err(AllocError),
     }
 }
@@ -72,9 +78,12 @@ impl Feeding {
         Feeding {
             reader: InputReader::new(alloc, keys, Layout::Bundle),
             index: LineIndex::new(alloc, keys),
+            kept: Kept::new(alloc),
             ended: 0,
             begun: false,
             pieces: 0,
+            bytes: 0,
+            lines: 0,
         }
     }
 
@@ -92,11 +101,16 @@ impl Feeding {
         ensures within { OnOk result (IsWithin self.new) }
         ensures pieces { OnOk result (self.new.pieces ≡ self.old.pieces + 1) }
     {
-        feed_reader(rt, threads, &mut self.reader, piece)?;
+        self.kept.feed(piece)?;
+        let refused = feed_reader(rt, threads, &mut self.reader, piece)?;
+        self.kept.note(refused)?;
         self.index.feed(piece)?;
-        self.ended += newlines_in(piece) as u64;
+        let newlines = newlines_in(piece) as u64;
+        self.ended += newlines;
+        self.lines += newlines;
         self.begun = has_begun(self.begun, piece);
         self.pieces += 1;
+        self.bytes += piece.len() as u64;
         Ok(())
     }
 
@@ -108,9 +122,11 @@ impl Feeding {
         ensures ended { OnOk result (EndsFile self.old self.new) }
         ensures within { OnOk result (IsWithin self.new) }
     {
+        let bytes = self.bytes;
         if self.begun {
             self.feed(rt, threads, b"\n")?;
         }
+        self.bytes = bytes;
         let count = self.ended;
         self.ended = 0;
         self.begun = false;

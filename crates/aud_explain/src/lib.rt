@@ -1,5 +1,5 @@
 //! The mode `explain`: [`read_files`] reads the files of a bundle as one input, and tells which line of them each record
-//! stands on, or which line of which file is refused.
+//! stands on, or which line of which file is refused, and what stands in it.
 //!
 //! A record that stands in the second of two files:
 //!
@@ -17,8 +17,12 @@
 #![tactic(auto)]
 
 mod feeding;
+mod kept;
 mod place;
 mod reading;
+mod refusal;
+mod tail;
 
 pub use place::{FileLine, file_line};
-pub use reading::{ReadingFault, Recorded, read_files};
+pub use reading::{ReadingFault, Recorded, Size, read_files};
+pub use refusal::Refusal;

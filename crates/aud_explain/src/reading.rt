@@ -1,15 +1,20 @@
 //! The files of a bundle, read as one input.
 ghost use Rattle.std.specs.Prelude.{◌≡◌, ℕ, ◌<◌, ◌≤◌, ◌++◌, ◌∷◌, slice_index_or, ◌⊎◌, [], length, map, take, drop, true, IfOk, IfErr, OnOk, OnErr, Ok, Err};
+ghost use Rattle.aud_tap.specs.Names.{AreNamedOnce};
 ghost use Rattle.aud_input.specs.Reader.{input_to_come};
 ghost use Rattle.aud_lines.specs.TapLines.{tap_lines_to_come};
-ghost use Rattle.aud_explain.specs.Files.{AreRecorded, AreUnrecorded, taps_read};
+ghost use Rattle.aud_explain.specs.FileLine.{file_line};
+ghost use Rattle.aud_explain.specs.Files.{AreRecorded, AreUnrecorded, IsKept, header_told, taps_read};
+ghost use Rattle.aud_explain.specs.Private.Tail.{known};
 ghost use Rattle.aud_streams.specs.declared.watched.Watched.{Watched};
 ghost use Rattle.aud_streams.specs.Watched.{inner_of, has_failed};
-ghost use Rattle.aud_explain.specs.Private.Feeding.{AreReadBefore, Begins, IsReadWhole, IsRefusedBy, IsWithin, TellsUnread};
+ghost use Rattle.aud_explain.specs.Private.Feeding.{AreReadBefore, Begins, IsReadWhole, IsRefusedBy, IsWithin, TellsUnread, size_so_far};
 
 use crate::feeding::{Feeding, PIECE, PIECES_LIMIT};
-use crate::place::{FileLine, file_line};
-use aud_lines::RecordLines;
+use crate::kept::Kept;
+use crate::place::file_line;
+use crate::refusal::Refusal;
+use aud_lines::{LineIndex, RecordLines};
 use aud_reader::{InputCode, ReadFault};
 use aud_streams::{RunFault, Watched};
 use aud_tap::Taps;
@@ -23,21 +28,23 @@ use std::thread::Threads;
 pub struct Recorded {
     pub taps: Taps,
     pub lines: RecordLines,
+    pub size: Size,
+}
+
+/// How many lines and how many bytes files have. What comes after the last newline of a file is a line too.
+#[derive(Clone, Copy, Debug, PartialEq, Eq, Drop)]
+pub struct Size {
+    pub lines: u64,
+    pub bytes: u64,
 }
 
 /// Why there is no recording. Files count from 0, in their order.
-#[derive(Clone, Copy, Debug, PartialEq, Eq, Drop)]
+#[derive(Drop)]
 pub enum ReadingFault {
-    /// A line is refused: its number where the files are read as one input, why, and where it stands.
-    Refused {
-        number: u64,
-        code: InputCode,
-        at: FileLine,
-    },
+    /// A line is refused.
+    Refused(Refusal),
     /// A read of this file failed, or there were too many reads.
-    Unread {
-        file: usize,
-    },
+    Unread { file: usize },
     /// Memory could not be had.
     Memory,
 }
@@ -158,6 +165,61 @@ fn read_front<H: Threads + Sync, R: Read>(
     Ok(counts)
 }
 
+/// How many lines and bytes there were in all, the line that has begun among them.
+fn size_of(feeding: &Feeding) -> Size
+    requires { IsWithin feeding.now }
+    ensures { result ≡ size_so_far feeding.now }
+{
+    Size {
+        lines: feeding.lines + u64::from(feeding.begun),
+        bytes: feeding.bytes,
+    }
+}
+
+/// The line of the header that stands already where this line is refused.
+fn header_of(lines: &RecordLines, code: InputCode, line: &[u8]) -> Option<u64>
+    ensures { result ≡ header_told code lines.now line.now }
+{
+    match code {
+        InputCode::SecondStream => None,
+        InputCode::LineTooLong
+        | InputCode::NoTapName
+        | InputCode::NotJson
+        | InputCode::NoHeader
+        | InputCode::UnknownKind
+        | InputCode::Field
+        | InputCode::Limit
+        | InputCode::OffsetTwice
+        | InputCode::HeaderTwice
+        | InputCode::Version => lines.first_like(line),
+    }
+}
+
+/// What is told of a refused line.
+fn refusal(
+    kept: &Kept,
+    index: LineIndex,
+    counts: &[u64],
+    number: u64,
+    code: InputCode,
+) -> Result<Refusal, AllocError>
+    ensures number { IfOk result (λ r. (r.number ≡ number) × (r.code ≡ code)) }
+    ensures at { IfOk result (λ r. r.at ≡ file_line counts.now number) }
+    ensures line { IfOk result (λ r. IsKept (known kept.now number []) r.line) }
+    ensures header { IfOk result (λ r. r.header ≡ header_told code (tap_lines_to_come index.lines []) r.line) }
+{
+    let line = kept.line(number)?;
+    let lines = index.finish()?;
+    let header = header_of(&lines, code, line.as_slice());
+    Ok(Refusal {
+        number,
+        code,
+        at: file_line(counts, number),
+        line,
+        header,
+    })
+}
+
 /// The recording at the end of the input, or its first refused line.
 fn finish<H: Threads + Sync>(
     rt: &H,
@@ -168,14 +230,20 @@ fn finish<H: Threads + Sync>(
     requires { IsWithin feeding }
     ensures taps { IfOk result (λ read. taps_read (input_to_come feeding.reader []) ≡ Ok read.taps) }
     ensures lines { IfOk result (λ read. tap_lines_to_come feeding.index.lines [] ≡ read.lines) }
-    ensures refused { IfErr result (λ e. IsRefusedBy counts.now (input_to_come feeding.reader []) e) }
+    ensures size { IfOk result (λ read. read.size ≡ size_so_far feeding) }
+    ensures names { IfOk result (λ read. AreNamedOnce read.taps) }
+    ensures refused { IfErr result (λ e. IsRefusedBy counts.now (input_to_come feeding.reader []) feeding.kept (tap_lines_to_come feeding.index.lines []) e) }
 {
+    let size = size_of(&feeding);
     let Feeding {
         reader,
         index,
+        kept,
         ended: _,
         begun: _,
         pieces: _,
+        bytes: _,
+        lines: _,
     } = feeding;
     match reader.finish(rt, threads) {
         Ok(input) => {
@@ -183,18 +251,19 @@ fn finish<H: Threads + Sync>(
             Ok(Recorded {
                 taps: input.taps,
                 lines,
+                size,
             })
         }
-        Err(ReadFault::Input(number, code)) => Err(ReadingFault::Refused {
-            number,
-            code,
-            at: file_line(counts, number),
-        }),
+        Err(ReadFault::Input(number, code)) => match refusal(&kept, index, counts, number, code) {
+            Ok(refusal) => Err(ReadingFault::Refused(refusal)),
+            Err(_) => Err(ReadingFault::Memory),
+        },
         Err(ReadFault::Memory) => Err(ReadingFault::Memory),
     }
 }
 
-/// Reads files one after the other, as one input: its recording, and the line of each record.
+/// Reads files one after the other, as one input: its recording, the line of each record, and how many lines and bytes the
+/// files have. No two taps have one name.
 ///
 /// Each line is read by at most `threads` threads, this one among them, as [`InputReader`](aud_input::InputReader) says.
 /// The files are read to their end where a line is refused too, so that a read that fails is told first; it is not tried
@@ -209,6 +278,7 @@ pub fn read_files<H: Threads + Sync, R: Read>(
 ) -> Result<Recorded, ReadingFault>
     requires { 0 < length files.old }
     ensures recorded { IfOk result (λ read. AreRecorded (map (λ file. R.remaining (inner_of file)) files.old) read) }
+    ensures names { IfOk result (λ read. AreNamedOnce read.taps) }
     ensures unrecorded { IfErr result (λ e. AreUnrecorded (map (λ file. R.remaining (inner_of file)) files.old) e) }
 {
     let mut feeding = Feeding::new(alloc, keys);

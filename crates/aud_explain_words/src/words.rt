@@ -1,7 +1,6 @@
 //! The words of `explain`.
 ghost use Rattle.std.specs.Prelude.{◌≡◌, ◌≢◌, ◌≤◌, Some, None, IfErr, IfOk, IfSome, option_map};
 ghost use Rattle.clap.specs.Words.{kind_of};
-ghost use Rattle.aud_options.specs.Words.{workers_named};
 ghost use Rattle.aud_explain_words.specs.Words.{AreWithin, asked, choices_of, no_choices, options_of, with_fail_on, with_given, with_json, with_only, with_quiet, with_workers};
 
 use crate::fail_on::{EVERY_CLASS, FailOn, fail_on_named};
@@ -9,22 +8,10 @@ use crate::given::{Given, given_of, values_of};
 use crate::help::refusal;
 use crate::only::{Only, only_named};
 use crate::options::{Choices, ExplainOptions};
+use aud_options::workers_named;
 use clap::Error;
 use clap::error::ErrorKind;
 use std::alloc::{AllocError, Global};
-
-/// The number of workers that this text gives: decimal digits for 1 to 64, and a plus may stand before them.
-fn workers_named(text: &str) -> Option<u8>
-    ensures number { result ≡ workers_named text.now }
-    ensures within { IfSome result (λ n. (1 ≤ n) × (n ≤ 64)) }
-{
-    let workers = text.parse::<u8>().ok()?;
-    if (1..=64).contains(&workers) {
-        Some(workers)
-    } else {
-        None
-    }
-}
 
 /// These options and `--only`, which may stand once.
 fn with_only(choices: Choices, only: Option<Only>) -> Option<Choices>

@@ -25,7 +25,7 @@ use Rattle.aud_explanation.specs.declared.turn.TurnShown.{TurnShown}
 use Rattle.aud_explanation.specs.declared.turn.TurnEnd.{TurnEnd}
 use Rattle.aud_explanation.specs.declared.turn.TurnEnd.TheVariants as end
 use Rattle.aud_explanation.specs.ExplainedClass.{class_of_explained}
-use Rattle.aud_explanation.specs.FaultWords.{fault_off}
+use Rattle.aud_explanation.specs.FaultEntry.{fault_off}
 use Rattle.aud_explanation.specs.JsonValue.{text_or_null, number_or_null}
 use Rattle.aud_explanation.specs.JsonVerdict.{verdict_word, fault_data, off_data, class_data, with_fault, with_verdict}
 use Rattle.aud_explanation.specs.JsonAccount.{with_names, with_client, with_counts, with_account}

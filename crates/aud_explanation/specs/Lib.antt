@@ -2,8 +2,9 @@ pub use Rattle.aud_cert.specs.Fault
 pub use Rattle.aud_report.specs.Report
 pub use Rattle.aud_cert_text.specs.Text as CertificateText
 pub use Rattle.aud_evidence.specs.Class
+pub use Rattle.aud_evidence.specs.FaultWord
 pub mod ExplainedClass
-pub mod FaultWords
+pub mod FaultEntry
 pub mod Page
 pub mod Record
 pub mod Mark

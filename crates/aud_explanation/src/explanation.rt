@@ -12,9 +12,10 @@ use aud_evidence::{Class, class_of};
 use aud_report::Verdict;
 use aud_rows::Row;
 
-/// What is told of a session: the verdict on it, its client, and why. All of it is lent.
+/// What is told of a session: the verdict on it, its client, and why. All of it is lent: names for as long as the recording,
+/// `'r`; lists for as long as what was found, `'s`; and what their elements list for `'l`.
 #[derive(Clone, Copy, Drop)]
-pub struct Explanation<'r> {
+pub struct Explanation<'s, 'l, 'r> {
     /// The session.
     pub pid: &'r str,
     /// The verdict on it.
@@ -24,21 +25,21 @@ pub struct Explanation<'r> {
     /// What was received of what was due; none where the delivery was not judged.
     pub account: Option<Account>,
     /// The turns, from turn 0 on.
-    pub turns: &'r [TurnShown<'r>],
+    pub turns: &'s [TurnShown<'r>],
     /// The records that show the fault.
-    pub evidence: &'r [Row<'r>],
+    pub evidence: &'s [Row<'r>],
     /// The other entries with the same fault.
-    pub also: &'r [Also<'r>],
+    pub also: &'s [Also<'l>],
     /// The recoveries of this session that were asked for and refused.
-    pub refused: &'r [RefusedRecovery<'r>],
+    pub refused: &'s [RefusedRecovery<'l, 'r>],
     /// What happened to the client, in the order of its tap.
-    pub events: &'r [ClientEvent],
+    pub events: &'s [ClientEvent],
     /// What the fault may come from.
-    pub causes: &'r [Cause<'r>],
+    pub causes: &'s [Cause<'l>],
 }
 
 /// The class of what is explained: that of the fault, or delivery where there is none and a recovery was refused.
-pub fn class_of_explained(explanation: &Explanation<'_>) -> Option<Class>
+pub fn class_of_explained(explanation: &Explanation<'_, '_, '_>) -> Option<Class>
     ensures { result ≡ class_of_explained explanation.now }
 {
     match explanation.verdict {

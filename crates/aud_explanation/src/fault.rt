@@ -1,31 +1,9 @@
-//! The words of a fault.
+//! The entry of a fault.
 ghost use Rattle.std.specs.Prelude.{◌≡◌};
 ghost use Rattle.std.specs.Option.{option_copied};
-ghost use Rattle.aud_explanation.specs.FaultWords.{fault_word, fault_off};
+ghost use Rattle.aud_explanation.specs.FaultEntry.{fault_off};
 
 use aud_cert::Fault;
-
-/// The name of the fault.
-pub(crate) fn fault_word(fault: &Fault) -> &'static str
-    ensures { result.now ≡ fault_word fault.now }
-{
-    match fault {
-        Fault::NoLog => "NOLOG",
-        Fault::Chain => "CHAIN",
-        Fault::Order => "ORDER",
-        Fault::Client => "CLIENT",
-        Fault::Names => "NAMES",
-        Fault::Frame => "FRAME",
-        Fault::Orphan => "ORPHAN",
-        Fault::Content(_) => "CONTENT",
-        Fault::Extra(_) => "EXTRA",
-        Fault::Doubled(_) => "DOUBLED",
-        Fault::Swapped(_) => "SWAPPED",
-        Fault::Lost(_) => "LOST",
-        Fault::Window(_) => "WINDOW",
-        Fault::Tail(_) => "TAIL",
-    }
-}
 
 /// The offset of the entry that the fault is of.
 pub(crate) fn fault_off(fault: &Fault) -> Option<&str>

@@ -29,7 +29,7 @@ use std::alloc::{AllocError, Global};
 fn put_head(
     alloc: Global,
     members: &mut Map<String, Value>,
-    explanation: &Explanation<'_>,
+    explanation: &Explanation<'_, '_, '_>,
 ) -> Result<(), AllocError>
     ensures { OnOk result (members_view members.new.entries ≡ head_members explanation.now (members_view members.old.entries)) }
 {
@@ -43,7 +43,7 @@ fn put_head(
 fn put_shown(
     alloc: Global,
     members: &mut Map<String, Value>,
-    explanation: &Explanation<'_>,
+    explanation: &Explanation<'_, '_, '_>,
 ) -> Result<(), AllocError>
     ensures { OnOk result (members_view members.new.entries ≡ shown_members explanation.now (members_view members.old.entries)) }
 {
@@ -56,7 +56,7 @@ fn put_shown(
 fn put_told(
     alloc: Global,
     members: &mut Map<String, Value>,
-    explanation: &Explanation<'_>,
+    explanation: &Explanation<'_, '_, '_>,
 ) -> Result<(), AllocError>
     ensures { OnOk result (members_view members.new.entries ≡ told_members explanation.now (members_view members.old.entries)) }
 {
@@ -65,7 +65,10 @@ fn put_told(
     put_causes(alloc, members, explanation.causes)
 }
 
-fn explanation_value(alloc: Global, explanation: &Explanation<'_>) -> Result<Value, AllocError>
+fn explanation_value(
+    alloc: Global,
+    explanation: &Explanation<'_, '_, '_>,
+) -> Result<Value, AllocError>
     ensures { IfOk result (λ v. view v ≡ explanation_data explanation.now) }
 {
     let mut members = Map::new(alloc);
@@ -77,7 +80,10 @@ fn explanation_value(alloc: Global, explanation: &Explanation<'_>) -> Result<Val
 
 /// The explanation as one line of JSON, without blanks and without a newline, its keys in byte order. Each member is always
 /// there: what is not known is `null`. `v` is the version of these members, 1.
-pub fn explanation_json(alloc: Global, explanation: &Explanation<'_>) -> Result<String, AllocError>
+pub fn explanation_json(
+    alloc: Global,
+    explanation: &Explanation<'_, '_, '_>,
+) -> Result<String, AllocError>
     ensures { IfOk result (λ text. string_bytes text ≡ explanation_json explanation.now) }
 {
     let value = explanation_value(alloc, explanation)?;

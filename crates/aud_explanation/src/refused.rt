@@ -1,9 +1,9 @@
 //! Recoveries that were refused.
 use aud_rows::Row;
 
-/// A recovery of the session that a client asked for and did not get.
+/// A recovery of the session that a client asked for and did not get. What it missed is lent for `'l`, names for `'r`.
 #[derive(Clone, Copy, Debug, Drop)]
-pub struct RefusedRecovery<'r> {
+pub struct RefusedRecovery<'l, 'r> {
     /// The record in which it asks.
     pub ask: Row<'r>,
     /// The record in which it is answered; none where the connection ended before.
@@ -11,7 +11,7 @@ pub struct RefusedRecovery<'r> {
     /// The session that it got instead; none where it got none.
     pub instead: Option<&'r str>,
     /// What it missed of the session that it asked for, in the order of the stream; none where that is not known.
-    pub missed: Option<&'r [Missed<'r>]>,
+    pub missed: Option<&'l [Missed<'r>]>,
 }
 
 /// An entry that a client missed.

@@ -31,7 +31,7 @@ use std::alloc::{AllocError, Global};
 fn push_shown(
     alloc: Global,
     out: &mut String,
-    explanation: &Explanation<'_>,
+    explanation: &Explanation<'_, '_, '_>,
 ) -> Result<(), AllocError>
     ensures { OnOk result (string_bytes out.new ≡ string_bytes out.old ++ shown_text explanation.now) }
 {
@@ -47,7 +47,7 @@ fn push_shown(
 fn push_told(
     alloc: Global,
     out: &mut String,
-    explanation: &Explanation<'_>,
+    explanation: &Explanation<'_, '_, '_>,
 ) -> Result<(), AllocError>
     ensures { OnOk result (string_bytes out.new ≡ string_bytes out.old ++ told_text explanation.now) }
 {
@@ -66,7 +66,7 @@ fn push_told(
 pub fn push_text(
     alloc: Global,
     out: &mut String,
-    explanation: &Explanation<'_>,
+    explanation: &Explanation<'_, '_, '_>,
 ) -> Result<(), AllocError>
     ensures { OnOk result (string_bytes out.new ≡ string_bytes out.old ++ explanation_text explanation.now) }
 {

@@ -3,8 +3,8 @@ use Rattle.std.proofs.Common.{◌≡◌, ℕ, zero, suc, ◌+◌, List, [], ◌�
 use Rattle.std.specs.List.{filter}
 use Rattle.std.specs.Option.{option_and_then}
 use Rattle.aud_base.proofs.SameText.{same_text, itself_text, other_text}
-use Rattle.aud_lines.specs.TapLines.{NamedLine, TapLines, named_lines, numbers_of, is_among, new_names, with_line, with_lines}
-use Rattle.aud_lines.specs.RecordLines.{KeptAreLinesOfRecords}
+use Rattle.aud_lines.specs.TapLines.{NamedLine, TapLines, first_kept, named_lines, numbers_of, is_among, new_names, with_line, with_lines}
+use Rattle.aud_lines.specs.RecordLines.{FirstKeptIsFirst, KeptAreLinesOfRecords}
 use Rattle.aud_lines.specs.Private.Kept.{place_in, AreNamedOnce}
 use Rattle.std.proofs.lemmas.Option.{none-some, same_Some}
 use Rattle.aud_lines.proofs.PlacesLemmas.{none_of, once-with_line}
@@ -132,3 +132,16 @@ kept-lines text tap number =
     by_name : (o : Option (List ℕ)) → option_and_then (λ name. slice_get (numbers_by name (with_lines [] (named_lines text))) (number + 1)) o ≡ option_and_then (λ name. slice_get (numbers_of name (named_lines text)) (number + 1)) o
     by_name None = refl
     by_name (Some name) = ap (λ ns. slice_get ns (number + 1)) (numbers-with_lines name [] (named_lines text))
+
+first-by : (name : List ℕ) (ts : List TapLines) → first_kept ts name ≡ slice_get (numbers_by name ts) 0
+unfolding numbers_by
+first-by name [] = refl
+first-by name (t ∷ ts) =
+    elim (bytes_eq t.name name) as (λ b. cond b (slice_get t.numbers 0) (first_kept ts name) ≡ slice_get (cond b t.numbers (numbers_by name ts)) 0) [
+      | true ↦ refl
+      | false ↦ first-by name ts
+    ]
+
+pub kept-first : FirstKeptIsFirst
+unfolding numbers_by
+kept-first text name = first-by name (with_lines [] (named_lines text)) ∙ ap (λ ns. slice_get ns 0) (numbers-with_lines name [] (named_lines text))

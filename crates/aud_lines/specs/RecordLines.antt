@@ -7,7 +7,7 @@ use Rattle.aud_reader.specs.Lines.{line_pieces, lines_of}
 use Rattle.aud_reader.specs.Record.{line_record}
 use Rattle.aud_reader.specs.Bundle.{taps_of}
 use Rattle.aud_reader.specs.OwnLines.{recs_in}
-use Rattle.aud_lines.specs.TapLines.{max_numbered, tap_lines_of, kept_line, line_of_record}
+use Rattle.aud_lines.specs.TapLines.{max_numbered, tap_lines_of, kept_line, first_kept, line_of_record, named_lines, numbers_of}
 
 -- the record is that of the line with this number, which begins with this name
 pub record StandsOn (lines : List Line) (name : List ℕ) (rec : Rec) (number : ℕ) : Type 0 where
@@ -34,3 +34,7 @@ RecordsHaveTheirLines = (text : List ℕ) (taps : List Tap) → (lines_of text).
 -- header's and those of the records before it
 abbrev pub KeptAreLinesOfRecords : Type 0
 KeptAreLinesOfRecords = (text : List ℕ) (tap number : ℕ) → kept_line (tap_lines_of text) tap number ≡ line_of_record text tap number
+
+-- the line that is kept as the first of a name is the first that begins with it
+abbrev pub FirstKeptIsFirst : Type 0
+FirstKeptIsFirst = (text name : List ℕ) → first_kept (tap_lines_of text) name ≡ slice_get (numbers_of name (named_lines text)) 0

@@ -75,6 +75,15 @@ tap_lines_of text = with_lines [] (named_lines text)
 abbrev pub kept_line : List TapLines → ℕ → ℕ → Option ℕ
 kept_line ts tap rec = option_and_then (λ (t : TapLines). slice_get t.numbers (rec + 1)) (slice_get ts tap)
 
+-- the first line that is kept of the tap of this name
+abbrev pub first_kept : List TapLines → List ℕ → Option ℕ
+first_kept [] name = None
+first_kept (t ∷ ts) name = if bytes_eq t.name name then slice_get t.numbers 0 else first_kept ts name
+
+-- the first line with the name that this line begins with
+abbrev pub first_like : List TapLines → List ℕ → Option ℕ
+first_like ts line = option_and_then (first_kept ts) (name_of line)
+
 -- the lines of the taps so far, the number of the line that has begun, and the front of that line
 pub record LinesSoFar : Type 0 where
   pub taps : List TapLines

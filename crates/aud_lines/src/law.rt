@@ -1,5 +1,5 @@
 //! What the index says of the records that are read.
-ghost use Rattle.aud_lines.specs.RecordLines.{KeptAreLinesOfRecords, RecordsHaveTheirLines};
+ghost use Rattle.aud_lines.specs.RecordLines.{FirstKeptIsFirst, KeptAreLinesOfRecords, RecordsHaveTheirLines};
 ghost use Rattle.aud_lines.specs.Sources.{LinesAreThoseOfFiles};
 
 /// The line that [`RecordLines::line_of`](crate::RecordLines::line_of) gives for a record is the line that the record stands
@@ -16,6 +16,12 @@ pub fn records_have_their_lines()
 /// a line begins with is that of tap 0, the next that of tap 1, and so on. Only the first 4,294,967,294 lines count.
 pub fn lines_of_records()
     ensures { KeptAreLinesOfRecords }
+{}
+
+/// The line that [`RecordLines::first_like`](crate::RecordLines::first_like) gives for a name is the first line that begins
+/// with it: that of the tap's header, where the input is read as taps. Only the first 4,294,967,294 lines count.
+pub fn first_lines_of_taps()
+    ensures { FirstKeptIsFirst }
 {}
 
 /// The lines of files that are read as one input, by [`Sources`](crate::Sources), are the lines of the first file, and then

@@ -21,6 +21,6 @@ mod sources;
 mod tap_lines;
 
 pub use index::LineIndex;
-pub use law::{lines_of_files, lines_of_records, records_have_their_lines};
+pub use law::{first_lines_of_taps, lines_of_files, lines_of_records, records_have_their_lines};
 pub use sources::Sources;
 pub use tap_lines::RecordLines;

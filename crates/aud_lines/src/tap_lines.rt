@@ -1,7 +1,8 @@
 //! The lines of each tap.
 ghost use Rattle.std.specs.Prelude.{◌≡◌, ◌++◌, ◌∷◌, [], OnOk, IfOk};
-ghost use Rattle.aud_lines.specs.TapLines.{kept_line};
+ghost use Rattle.aud_lines.specs.TapLines.{first_kept, first_like, kept_line};
 
+use crate::name::name_of;
 use aud_tap::Text;
 use std::alloc::{AllocError, Global};
 use std::marker::Model;
@@ -56,6 +57,19 @@ impl Model for RecordLines {
     ghost view = { λ s. s.taps.items };
 }
 
+/// The first line of the tap of this name.
+fn first_kept(taps: &[TapLines], name: &str) -> Option<u64>
+    ensures { result ≡ first_kept taps.now name.now }
+{
+    for tap in taps {
+        if tap.name.as_str() == name {
+            let number = tap.numbers.first()?;
+            return Some(u64::from(*number));
+        }
+    }
+    None
+}
+
 impl RecordLines {
     /// The lines of these taps.
     pub fn new(taps: Vec<TapLines>) -> RecordLines
@@ -72,5 +86,13 @@ impl RecordLines {
         let lines = self.taps.get(tap)?;
         let number = lines.numbers.get(number.checked_add(1)?)?;
         Some(u64::from(*number))
+    }
+
+    /// The first line with the name that this line begins with; lines count from 1. None where the line begins with no tap's
+    /// name, and where no line of the first 4,294,967,294 begins with it.
+    pub fn first_like(&self, line: &[u8]) -> Option<u64>
+        ensures { result ≡ first_like self.now line.now }
+    {
+        first_kept(&self.taps, name_of(line)?)
     }
 }

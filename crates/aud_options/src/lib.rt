@@ -1,4 +1,5 @@
-//! The words of the command line: [`options`] reads what they ask for.
+//! The words of the command line: [`options`] reads what they ask for, and [`workers_named`] a number of
+//! workers, for whoever reads other words.
 //!
 //! The words after the program's name:
 //!
@@ -17,4 +18,4 @@ mod choice;
 mod words;
 
 pub use choice::{Mode, Options};
-pub use words::options;
+pub use words::{options, workers_named};

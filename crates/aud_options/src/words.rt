@@ -136,7 +136,7 @@ fn mode_named(name: &str) -> Option<Mode>
 
 /// The number of workers that this text gives: decimal digits for 1 to 64, and a plus may stand
 /// before them.
-fn workers_named(text: &str) -> Option<u8>
+pub fn workers_named(text: &str) -> Option<u8>
     ensures number { result ≡ workers_named text.now }
     ensures within { IfSome result (λ n. (1 ≤ n) × (n ≤ 64)) }
 {

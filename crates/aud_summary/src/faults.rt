@@ -1,8 +1,8 @@
 //! How many sessions are answered no with each fault.
 ghost use Rattle.std.specs.Prelude.{◌≡◌, count_by};
-ghost use Rattle.aud_summary.specs.ByFault.{fault_word, faults_of, is_no_for};
+ghost use Rattle.aud_summary.specs.ByFault.{faults_of, is_no_for};
 
-use aud_cert::Fault;
+use aud_evidence::fault_word;
 use aud_report::{SessionVerdict, Verdict};
 
 /// How many sessions are answered no with each fault, in the order in which faults are looked for.
@@ -62,28 +62,6 @@ fn is_no_for(verdict: &SessionVerdict, word: &str) -> bool
 {
     match &verdict.verdict {
         Verdict::Yes { .. } => false,
-        Verdict::No(fault) => word_of(fault) == word,
-    }
-}
-
-/// The fault's word, without the offset, the connection or the count.
-fn word_of(fault: &Fault) -> &'static str
-    ensures { result.now ≡ fault_word fault.now }
-{
-    match fault {
-        Fault::NoLog => "NOLOG",
-        Fault::Chain => "CHAIN",
-        Fault::Order => "ORDER",
-        Fault::Client => "CLIENT",
-        Fault::Names => "NAMES",
-        Fault::Frame => "FRAME",
-        Fault::Orphan => "ORPHAN",
-        Fault::Content(_) => "CONTENT",
-        Fault::Extra(_) => "EXTRA",
-        Fault::Doubled(_) => "DOUBLED",
-        Fault::Swapped(_) => "SWAPPED",
-        Fault::Lost(_) => "LOST",
-        Fault::Window(_) => "WINDOW",
-        Fault::Tail(_) => "TAIL",
+        Verdict::No(fault) => fault_word(fault) == word,
     }
 }

@@ -1,5 +1,6 @@
 //! Files that are read as one input.
 use aud_explain::{FileLine, ReadingFault, read_files};
+use aud_reader::InputCode;
 use aud_streams::Watched;
 use std::alloc::Global;
 use std::hash::RandomState;
@@ -41,9 +42,47 @@ fn a_refused_line_has_its_file(rt: HostRuntime) -> Result<(), Fail> {
         Watched::new(REFUSED.as_bytes()),
     ];
     match read_files(&rt, 1, alloc, keys, &mut files) {
-        Err(ReadingFault::Refused { number, at, .. }) => {
-            assert_eq!(rt; number, 4);
-            assert_eq!(rt; at, FileLine { file: 1, line: 2 });
+        Err(ReadingFault::Refused(refusal)) => {
+            assert_eq!(rt; refusal.number, 4);
+            assert_eq!(rt; refusal.at, FileLine { file: 1, line: 2 });
+            assert_eq!(rt; refusal.line.as_slice(), b"no record".as_slice());
+        }
+        _ => return Err("the line is not refused")?,
+    }
+    Ok(())
+}
+
+#[test]
+fn a_refused_line_has_the_header_of_its_tap(rt: HostRuntime) -> Result<(), Fail> {
+    let alloc: Global = rt.alloc();
+    let keys = RandomState::new(&rt)?;
+    let mut files = [
+        Watched::new(b"\n".as_slice()),
+        Watched::new(FIRST.as_bytes()),
+        Watched::new(FIRST.as_bytes()),
+    ];
+    match read_files(&rt, 4, alloc, keys, &mut files) {
+        Err(ReadingFault::Refused(refusal)) => {
+            assert_eq!(rt; refusal.code, InputCode::HeaderTwice);
+            assert_eq!(rt; refusal.number, 4);
+            assert_eq!(rt; refusal.header, Some(2));
+            assert!(rt; refusal.line.as_slice().starts_with(b"a {"));
+        }
+        _ => return Err("the line is not refused")?,
+    }
+    Ok(())
+}
+
+#[test]
+fn a_last_line_that_is_cut_off_is_handed_out(rt: HostRuntime) -> Result<(), Fail> {
+    let alloc: Global = rt.alloc();
+    let keys = RandomState::new(&rt)?;
+    let cut = b"a {\"k\":\"tap\",\"v\":1,\"of\":\"node\"}\r\na {\"k\":\"sta".as_slice();
+    let mut files = [Watched::new(cut)];
+    match read_files(&rt, 4, alloc, keys, &mut files) {
+        Err(ReadingFault::Refused(refusal)) => {
+            assert_eq!(rt; refusal.code, InputCode::NotJson);
+            assert_eq!(rt; refusal.line.as_slice(), b"a {\"k\":\"sta".as_slice());
         }
         _ => return Err("the line is not refused")?,
     }

@@ -51,7 +51,7 @@ fn reply_value(alloc: Global, reply: Option<Row<'_>>) -> Result<Value, AllocErro
 }
 
 /// `{"ask":..,"instead":..,"missed":..,"reply":..}`.
-fn refused_value(alloc: Global, refused: &RefusedRecovery<'_>) -> Result<Value, AllocError>
+fn refused_value(alloc: Global, refused: &RefusedRecovery<'_, '_>) -> Result<Value, AllocError>
     ensures { IfOk result (λ v. view v ≡ refused_data refused.now) }
 {
     let ask = row_value(alloc, &refused.ask)?;
@@ -63,7 +63,7 @@ fn refused_value(alloc: Global, refused: &RefusedRecovery<'_>) -> Result<Value, 
 
 fn refused_values(
     alloc: Global,
-    recoveries: &[RefusedRecovery<'_>],
+    recoveries: &[RefusedRecovery<'_, '_>],
 ) -> Result<Vec<Value>, AllocError>
     ensures { IfOk result (λ vs. items_view vs.items ≡ items refused_data recoveries.now) }
 {
@@ -79,7 +79,7 @@ fn refused_values(
 pub(crate) fn put_refused(
     alloc: Global,
     members: &mut Map<String, Value>,
-    recoveries: &[RefusedRecovery<'_>],
+    recoveries: &[RefusedRecovery<'_, '_>],
 ) -> Result<(), AllocError>
     ensures { OnOk result (members_view members.new.entries ≡ with_refused recoveries.now (members_view members.old.entries)) }
 {

@@ -3,9 +3,9 @@ ghost use Rattle.std.specs.Prelude.{◌≡◌, IfOk, OnOk};
 ghost use Rattle.serde_json.specs.View.{view, members_view};
 ghost use Rattle.aud_explanation.specs.JsonVerdict.{verdict_word, fault_data, off_data, class_data, with_fault, with_verdict};
 
-use crate::fault::{fault_off, fault_word};
+use crate::fault::fault_off;
 use crate::json_line::value::text_or_null;
-use aud_evidence::Class;
+use aud_evidence::{Class, fault_word};
 use aud_report::Verdict;
 use serde_json::{Map, Value, put};
 use std::alloc::{AllocError, Global};

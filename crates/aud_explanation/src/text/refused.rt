@@ -38,7 +38,7 @@ fn push_count(line: &mut String, missed: Option<&[Missed<'_>]>) -> Result<(), Al
 fn push_head(
     alloc: Global,
     out: &mut String,
-    refused: &RefusedRecovery<'_>,
+    refused: &RefusedRecovery<'_, '_>,
 ) -> Result<(), AllocError>
     ensures { OnOk result (string_bytes out.new ≡ string_bytes out.old ++ head_text refused.now) }
 {
@@ -103,7 +103,7 @@ fn push_one(
     alloc: Global,
     out: &mut String,
     verdict: &Verdict,
-    refused: &RefusedRecovery<'_>,
+    refused: &RefusedRecovery<'_, '_>,
 ) -> Result<(), AllocError>
     ensures { OnOk result (string_bytes out.new ≡ string_bytes out.old ++ refused_text verdict.now refused.now) }
 {
@@ -119,7 +119,7 @@ pub(crate) fn push_refused(
     alloc: Global,
     out: &mut String,
     verdict: &Verdict,
-    recoveries: &[RefusedRecovery<'_>],
+    recoveries: &[RefusedRecovery<'_, '_>],
 ) -> Result<(), AllocError>
     ensures { OnOk result (string_bytes out.new ≡ string_bytes out.old ++ all_refused_text verdict.now recoveries.now) }
 {

@@ -1,6 +1,13 @@
-use Rattle.std.proofs.Common.{take, rules}
-use Rattle.aud_explain.proofs.Takes.{more_read}
+use Rattle.std.proofs.Common.{take, refl, rules}
+use Rattle.aud_explain.proofs.Takes.{more_read, none_read}
 use Rattle.aud_explain.proofs.reading.read_file.Goals as goal
+
+pub pieces-init : goal.pieces-init
+pieces-init g c = record {
+  within = c.requires.within;
+  failed = refl;
+  read = none_read _ c.args.feeding.now;
+}
 
 pub pieces-preserved : goal.pieces-preserved
 pieces-preserved g c = record {

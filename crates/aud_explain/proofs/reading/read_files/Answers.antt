@@ -16,7 +16,7 @@ returns-in-Ok-read_at-clause-recorded g c =
     let read = c.in-Ok-read_at.ensures.read in
     let lefts = lefts_whole g.R.Read.remaining files c.read_front.new.files last read.0 c.in-Ok.ensures.rest whole read.1 in
     let all = all_taken _ _ _ c.in-Ok.counts.items c.read_front.new.feeding c.read_at.new.feeding lefts c.in-Ok.ensures.read read.2 in
-    recorded _ c.in-Ok.counts.items c.read_at.new.feeding c.finish.result all c.finish.ensures.taps c.finish.ensures.lines
+    recorded _ c.in-Ok.counts.items c.read_at.new.feeding c.finish.result all c.finish.ensures.taps c.finish.ensures.lines c.finish.ensures.size
 
 pub returns-in-Ok-read_at-clause-unrecorded : goal.returns-in-Ok-read_at-clause-unrecorded
 returns-in-Ok-read_at-clause-unrecorded g c =

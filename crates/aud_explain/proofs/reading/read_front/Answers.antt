@@ -1,4 +1,4 @@
-use Rattle.std.proofs.Common.{◌<◌, ◌++◌, ◌∷◌, [], length, arith, rules}
+use Rattle.std.proofs.Common.{◌≡◌, ◌<◌, ◌++◌, ◌∷◌, [], length, arith, rules}
 use Rattle.aud_streams.specs.Watched.{inner_of}
 use Rattle.aud_explain.proofs.Files.{lefts_read, no_memory, one_more, rest_kept, told_more, told_same}
 use Rattle.aud_explain.proofs.reading.read_front.Goals as goal
@@ -26,3 +26,13 @@ pub returns-in_err-push_count-clause-unread : goal.returns-in_err-push_count-cla
 returns-in_err-push_count-clause-unread g c =
     let within : c.files.place < c.args.upto = omega arith in
     no_memory c.args.upto c.files.place c.from_residual-in_err-push_count.result within c.from_residual-in_err-push_count.ensures.1
+
+pub returns-in_err-count-clause-unread : goal.returns-in_err-count-clause-unread
+returns-in_err-count-clause-unread g c =
+    let within : c.files.place < c.args.upto = omega arith in
+    no_memory c.args.upto c.files.place c.from_residual.result within c.from_residual.ensures.1
+
+pub returns-clause-read : goal.returns-clause-read
+returns-clause-read g c =
+    let at : c.args.upto ≡ c.files.place = omega (arith, c.files-test.false, c.files.auto.place-end) in
+    rw at c.files.invariant.read

@@ -1,0 +1,3 @@
+mod AtBreakLemmas
+mod Told
+mod Sure

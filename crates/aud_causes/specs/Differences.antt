@@ -1,0 +1,108 @@
+-- What a difference between what was received and what was due may come from.
+use Rattle.std.specs.Prelude.{◌≡◌, ℕ, not, ◌&&◌, ◌++◌, List, [], map, Option, option_to_list, nat_lt, nat_le}
+use Rattle.std.specs.Option.{option_and_then}
+use Rattle.aud_node.specs.Cluster.{Cluster}
+use Rattle.aud_node.specs.Stream.{Text}
+use Rattle.aud_client.specs.StaySeen.{StaySeen}
+use Rattle.aud_rooms.specs.Turns.{Who, Turn}
+use Rattle.aud_cert.specs.Certificate.{TurnSeen, turn_at}
+use Rattle.aud_maker.specs.Made.{IsMade}
+use Rattle.aud_check.specs.Compare.{has_position}
+use Rattle.aud_evidence.specs.declared.difference.Difference.{Difference}
+use Rattle.aud_evidence.specs.declared.difference.Difference.TheVariants.{Extra, Doubled, Swapped, Lost}
+use Rattle.aud_reach.specs.Reasons.{Reason}
+use Rattle.aud_reach.specs.NotDue.{why_not_due}
+use Rattle.aud_account.specs.declared.account.Account.{Account}
+use Rattle.aud_causes.specs.declared.cause.Cause.{Cause}
+use Rattle.aud_causes.specs.declared.cause.Cause.TheVariants.{OffsetOfAnotherSession}
+use Rattle.aud_causes.specs.declared.facts.Facts.{Facts}
+use Rattle.aud_causes.specs.Facts.{facts_of}
+use Rattle.aud_causes.specs.Delivery.{cause_if, doubled_live, swapped_live, lost_live, sent_again, stale_offset, skipped_in_window}
+use Rattle.aud_causes.specs.Behind.{node_behind}
+use Rattle.aud_causes.specs.Extra.{log_ended_early, before_birth, late_leave}
+use Rattle.aud_causes.specs.AtBreak.{first_taken, rooms_at_break}
+
+-- ---- what is known of a session
+
+-- a session, as its `open` names it; its turns in the nodes' logs, and as its certificate has them; the stays of its client's
+-- tap whose reply names it; and the positions that were due to it
+pub record Case : Type 0 where
+  pub c : Cluster
+  pub who : Who
+  pub turns : List Turn
+  pub seen : List TurnSeen
+  pub stays : List StaySeen
+  pub due : List ℕ
+
+-- that of an account whose certificate was made for the session
+abbrev pub case_of : (c : Cluster) (account : Account) → IsMade c account.cert.pid account.cert → Case
+case_of c account made =
+    record { c = c; who = made.who; turns = made.turns; seen = account.cert.turns; stays = map (λ stay. stay.now) account.stays.items; due = account.due.items }
+
+-- ---- the offset of another session
+
+-- the entry after which the client asked to go on in the stay was not due to the session
+abbrev pub offset_of_another : List ℕ → ℕ → ℕ → Option Cause
+offset_of_another due stay after = cause_if (not (has_position due after)) (OffsetOfAnotherSession stay after)
+
+-- so it is in the later stay, and the entry in question comes after it
+abbrev pub other_session_before : List ℕ → Facts → Option Cause
+other_session_before due f =
+    option_and_then (λ after. cause_if (nat_lt after f.parted.position && not (has_position due after)) (OffsetOfAnotherSession f.later after)) f.asked
+
+-- so it is, and the entry in question doesn't
+abbrev pub other_session_after : List ℕ → Facts → Option Cause
+other_session_after due f =
+    option_and_then (λ after. cause_if (nat_le f.parted.position after && not (has_position due after)) (OffsetOfAnotherSession f.later after)) f.asked
+
+-- ---- the causes, in their order
+
+-- the cause, if it holds, before these
+abbrev pub cause_and : Option Cause → List Cause → List Cause
+cause_and cause causes = option_to_list cause ++ causes
+
+-- of an entry that came twice: the node was behind the break; the node sent again what it had replayed; the offset was
+-- stale; it came twice while the client was connected
+abbrev pub doubled_causes : Cluster → List TurnSeen → List StaySeen → Facts → List Cause
+doubled_causes c turns stays f =
+    cause_and (node_behind c turns f) (cause_and (sent_again f (first_taken stays f)) (cause_and (stale_offset f) (cause_and (doubled_live f) [])))
+
+-- of an entry that came late: the node was behind the break; two changed places while the client was connected
+abbrev pub swapped_causes : Cluster → List TurnSeen → Facts → List Cause
+swapped_causes c turns f = cause_and (node_behind c turns f) (cause_and (swapped_live f) [])
+
+-- of an entry that was lost, where this holds of the rooms at the break: that; it was left out of the replay; the offset
+-- was another session's; it was left out while the client was connected
+abbrev pub lost_causes : Option Cause → List ℕ → Facts → List Cause
+lost_causes at_break due f =
+    cause_and at_break (cause_and (skipped_in_window f) (cause_and (other_session_after due f) (cause_and (lost_live f) [])))
+
+-- the same of a session's entry
+abbrev pub lost_in : Case → Facts → List Cause
+lost_in s f = lost_causes (rooms_at_break s.c s.who s.turns s.stays f) s.due f
+
+-- of an entry that was not due, for this reason, and where this holds of the rooms at the break: the node was behind the
+-- break; that of the rooms; the offset was another session's; a node's log ends early; a room of it was left; it was taken
+-- before the session was opened
+abbrev pub extra_causes : Cluster → Text → List TurnSeen → Option Cause → List ℕ → Option Reason → Facts → List Cause
+extra_causes c pid turns at_break due why f =
+    cause_and (node_behind c turns f)
+    (cause_and at_break
+    (cause_and (other_session_before due f)
+    (cause_and (log_ended_early c pid turns why)
+    (cause_and (late_leave c pid (map (turn_at c) turns) f.parted.position why) (cause_and (before_birth c turns why) [])))))
+
+-- the same of a session's entry at this position
+abbrev pub extra_in : Case → Facts → ℕ → List Cause
+extra_in s f p = extra_causes s.c s.who.pid s.seen (rooms_at_break s.c s.who s.turns s.stays f) s.due (why_not_due s.c s.who s.turns p) f
+
+-- of the facts of a difference of this kind
+abbrev pub causes_by : Case → Difference → Facts → List Cause
+causes_by s (Extra frame position) f = extra_in s f position
+causes_by s (Doubled first again position) f = doubled_causes s.c s.seen s.stays f
+causes_by s (Swapped frame due later) f = swapped_causes s.c s.seen f
+causes_by s (Lost frame due) f = lost_in s f
+
+-- of a difference
+abbrev pub difference_causes : Case → Difference → List Cause
+difference_causes s difference = causes_by s difference (facts_of s.c.stream s.seen s.stays difference)

@@ -1,0 +1,88 @@
+-- Why an event came that was not due, by the reason for which it wasn't.
+use Rattle.std.specs.Prelude.{ℕ, ◌-◌, Bool, false, not, List, [], ◌∷◌, length, Option, Some, None, if◌then◌else◌, slice_get}
+use Rattle.std.specs.Option.{option_map, option_and_then, option_or}
+use Rattle.aud_tap.specs.declared.records.NodeRec.{NodeRec}
+use Rattle.aud_tap.specs.declared.records.StreamRec.{StreamRec}
+use Rattle.aud_tap.specs.declared.records.StreamRec.TheVariants.{Ev}
+use Rattle.aud_node.specs.Cluster.{Cluster}
+use Rattle.aud_node.specs.Stream.{Text, entry}
+use Rattle.aud_node.specs.TurnRecords.{ends_any_turn}
+use Rattle.aud_rooms.specs.Turns.{Turn}
+use Rattle.aud_cert.specs.Certificate.{TurnSeen}
+use Rattle.aud_chain.specs.declared.place.RecordPlace.{RecordPlace}
+use Rattle.aud_merge.specs.declared.step.Step.{Step}
+use Rattle.aud_merge.specs.ByTurns.{reaching_step}
+use Rattle.aud_recoveries.specs.Opened.{greatest_turn_high}
+use Rattle.aud_reach.specs.declared.reach.Reach.{Reach}
+use Rattle.aud_reach.specs.declared.change.RoomChange.{RoomChange}
+use Rattle.aud_reach.specs.Changes.{last_change_before}
+use Rattle.aud_reach.specs.Reach.{first_turn_reaching}
+use Rattle.aud_reach.specs.Reasons.{Reason, BeforeBirth, InNoTurn, NoCommonRoom}
+use Rattle.aud_causes.specs.declared.cause.Cause.{Cause}
+use Rattle.aud_causes.specs.declared.cause.Cause.TheVariants as cause
+use Rattle.aud_causes.specs.Behind.{first_of, last_of}
+
+-- ---- the log that ends early
+
+-- there is a record, and it is a `break` or the `gone` of the session
+abbrev pub ends_turn : Text → Option NodeRec → Bool
+ends_turn pid None = false
+ends_turn pid (Some rec) = ends_any_turn pid rec
+
+-- the turn's last record is none of these: the log ends in the turn
+abbrev pub goes_on : Text → TurnSeen → Bool
+goes_on pid t = not (ends_turn pid (slice_get t.recs (length t.recs - 1)))
+
+-- the last of the turns
+abbrev pub last_turn : List TurnSeen → Option TurnSeen
+last_turn turns = slice_get turns (length turns - 1)
+
+-- the log of the last turn ends in it
+abbrev pub ended_in : Cluster → Text → List TurnSeen → TurnSeen → Option Cause
+ended_in c pid turns t = if goes_on pid t then Some (cause.LogEndedEarly (last_of c t) (greatest_turn_high turns)) else None
+
+-- the session reached the entry in no turn, and the log of its last turn ends in it
+abbrev pub log_ended_early : Cluster → Text → List TurnSeen → Option Reason → Option Cause
+log_ended_early c pid turns (Some InNoTurn) = option_and_then (ended_in c pid turns) (last_turn turns)
+log_ended_early c pid turns _ = None
+
+-- ---- before the birth
+
+-- the node had taken the entry when it opened the session
+abbrev pub before_birth : Cluster → List TurnSeen → Option Reason → Option Cause
+before_birth c turns (Some BeforeBirth) = option_map (λ (t : TurnSeen). cause.BeforeBirth (first_of c t) t.low) (slice_get turns 0)
+before_birth c turns _ = None
+
+-- ---- a room that was left
+
+-- where the session of these turns first reached the position
+abbrev pub reached_at : Cluster → List Turn → ℕ → Option Reach
+reached_at c turns p =
+    option_and_then
+    (λ turn. option_map (λ (step : Step). record { turn = turn; node = step.log; number = step.index }) (reaching_step c turns p))
+    (first_turn_reaching c turns p)
+
+-- the record, if it is one by which the room was left
+abbrev pub leave_of : RoomChange → Option RecordPlace
+leave_of change = if change.joined then None else Some (record { node = change.node; number = change.number })
+
+-- the last record, before the reach, by which the session changed the room, if it left it there
+abbrev pub left_before : Cluster → Text → List Turn → Reach → Text → Option RecordPlace
+left_before c pid turns reach room = option_and_then leave_of (last_change_before c pid room turns reach)
+
+-- the same of the first of these rooms of which there is one
+abbrev pub first_left : Cluster → Text → List Turn → Reach → List Text → Option RecordPlace
+first_left c pid turns reach [] = None
+first_left c pid turns reach (room ∷ rooms) = option_or (left_before c pid turns reach room) (first_left c pid turns reach rooms)
+
+-- the rooms that the entry is for, if it is an event
+abbrev pub rooms_named : Option StreamRec → List Text
+rooms_named (Some (Ev event)) = event.rooms
+rooms_named _ = []
+
+-- the session held none of the entry's rooms when it reached the entry, and had left one of them
+abbrev pub late_leave : Cluster → Text → List Turn → ℕ → Option Reason → Option Cause
+late_leave c pid turns p (Some NoCommonRoom) =
+    option_map cause.LateLeave
+    (option_and_then (λ reach. first_left c pid turns reach (rooms_named (entry c.stream p))) (reached_at c turns p))
+late_leave c pid turns p _ = None

@@ -1,0 +1,45 @@
+-- What a fault of the recording may come from.
+use Rattle.std.specs.Prelude.{◌≡◌, ℕ, List, [], ◌∷◌, length, Option, Some, None, option_to_list, ◌⊎◌}
+use Rattle.std.specs.Option.{option_and_then}
+use Rattle.aud_node.specs.Cluster.{Cluster}
+use Rattle.aud_node.specs.Stream.{Text}
+use Rattle.aud_client.specs.Received.{stays_naming}
+use Rattle.aud_client.specs.Replies.{naming_places}
+use Rattle.aud_client.specs.StaySeen.{StaySeen}
+use Rattle.aud_cert.specs.declared.fault.Fault.{Fault}
+use Rattle.aud_cert.specs.declared.fault.Fault.TheVariants as fault
+use Rattle.aud_chain.specs.declared.place.RecordPlace.{RecordPlace}
+use Rattle.aud_chain.specs.declared.misfit.Misfit.{Misfit}
+use Rattle.aud_chain.specs.Misfit.{HasChain, IsMisfit}
+use Rattle.aud_recoveries.specs.Recoveries.{stays_at}
+use Rattle.aud_causes.specs.declared.cause.Cause.{Cause}
+use Rattle.aud_causes.specs.declared.cause.Cause.TheVariants.{NodeNotTapped}
+use Rattle.aud_causes.specs.Logs.{chain_cause, first_recovery, order_cause}
+use Rattle.aud_causes.specs.Names.{client_cause}
+
+-- the stays of the client's tap at this place, if there is one, whose reply names the session
+abbrev pub stays_of_client : Cluster → Option ℕ → Text → List StaySeen
+stays_of_client c None pid = []
+stays_of_client c (Some client) pid = stays_naming pid (stays_at c client)
+
+-- the causes of this misfit, where this is the place of the session's client's tap
+abbrev pub misfit_causes : Cluster → Option ℕ → Text → Misfit → List Cause
+misfit_causes c client pid misfit = option_to_list (chain_cause misfit (first_recovery 0 (stays_of_client c client pid)))
+
+-- the session's records are a chain of turns, and there are no causes; or there is a misfit in them, and these are its causes
+abbrev pub AreChainCauses : Cluster → Option ℕ → Text → List Cause → Type 0
+AreChainCauses c client pid found =
+    (HasChain c pid × (found ≡ [])) ⊎ ((misfit : Misfit) × IsMisfit c pid misfit × (found ≡ misfit_causes c client pid misfit))
+
+-- the cause for which this record of a node is out of order, if one is
+abbrev pub order_at : Cluster → Option RecordPlace → Option Cause
+order_at c unordered = option_and_then (order_cause c) unordered
+
+-- the causes of a fault for which the session with this pid has no certificate, where this is the place of its client's tap, if
+-- it has one, and this record of a node is out of order, if one is; none of another fault
+abbrev pub AreRecordedCauses : Cluster → Option ℕ → Text → Option RecordPlace → Fault → List Cause → Type 0
+AreRecordedCauses c client pid unordered fault.NoLog found = found ≡ NodeNotTapped 0 ∷ []
+AreRecordedCauses c client pid unordered fault.Chain found = AreChainCauses c client pid found
+AreRecordedCauses c client pid unordered fault.Order found = found ≡ option_to_list (order_at c unordered)
+AreRecordedCauses c client pid unordered fault.Client found = found ≡ option_to_list (client_cause (length (naming_places c.taps pid)))
+AreRecordedCauses c client pid unordered _ found = found ≡ []

@@ -1,0 +1,116 @@
+-- What the refusal of a recovery may come from.
+use Rattle.std.specs.Prelude.{ℕ, List, [], ◌∷◌, Option, Some, None, is_some, if◌then◌else◌, nat_le, nat_lt}
+use Rattle.std.specs.Option.{option_map, option_and_then}
+use Rattle.aud_tap.specs.declared.records.StreamRec.{StreamRec}
+use Rattle.aud_node.specs.Cluster.{Cluster}
+use Rattle.aud_node.specs.NodeTap.{NodeTap, cursor_after}
+use Rattle.aud_node.specs.NodeTaps.{node_at}
+use Rattle.aud_node.specs.Stream.{Text, position}
+use Rattle.aud_client.specs.Replies.{ReplySeen}
+use Rattle.aud_client.specs.StaySeen.{AskedSeen, StaySeen}
+use Rattle.aud_chain.specs.declared.place.RecordPlace.{RecordPlace}
+use Rattle.aud_chain.specs.declared.marks.Mark.{Mark}
+use Rattle.aud_chain.specs.declared.marks.Mark.TheVariants as mark
+use Rattle.aud_chain.specs.declared.marks.TurnMark.{TurnMark}
+use Rattle.aud_chain.specs.Marks.{turn_marks}
+use Rattle.aud_causes.specs.declared.cause.Cause.{Cause}
+use Rattle.aud_causes.specs.declared.cause.Cause.TheVariants.{NoOffset, UnknownOffset, SessionOver, NeverBroken, AskedTooEarly}
+use Rattle.aud_causes.specs.Delivery.{cause_if}
+use Rattle.aud_causes.specs.Differences.{cause_and}
+
+-- ---- the offset
+
+-- the stream has no such position
+abbrev pub unknown_offset : Option ℕ → Option Cause
+unknown_offset None = Some (UnknownOffset 0)
+unknown_offset (Some p) = None
+
+-- the client gave no offset, or one that the stream doesn't have
+abbrev pub offset_cause : List StreamRec → Option Text → Option Cause
+offset_cause stream None = Some (NoOffset 0)
+offset_cause stream (Some off) = unknown_offset (position stream off)
+
+-- ---- the records that begin and end turns
+
+-- the first by which a node ends the session
+abbrev pub over_by : TurnMark → Mark → Option Cause → Option Cause
+over_by m mark.Gone rest = Some (SessionOver m.place)
+over_by m _ rest = rest
+
+abbrev pub session_over : List TurnMark → Option Cause
+session_over [] = None
+session_over (m ∷ marks) = over_by m m.mark (session_over marks)
+
+-- the first by which a node opens it
+abbrev pub open_by : TurnMark → Mark → Option RecordPlace → Option RecordPlace
+open_by m mark.Open rest = Some m.place
+open_by m _ rest = rest
+
+abbrev pub first_open : List TurnMark → Option RecordPlace
+first_open [] = None
+first_open (m ∷ marks) = open_by m m.mark (first_open marks)
+
+-- the break of the last turn that has one, where this is the last so far, of this turn
+abbrev pub last_break : ℕ → Option RecordPlace → List TurnMark → Option RecordPlace
+last_break turn last [] = last
+last_break turn last (m ∷ marks) = last_break (turn_by turn m.mark) (break_by turn last m.place m.mark) marks
+  where
+    turn_by : ℕ → Mark → ℕ
+    turn_by turn (mark.Break broken) = if nat_le turn broken then broken else turn
+    turn_by turn _ = turn
+
+    break_by : ℕ → Option RecordPlace → RecordPlace → Mark → Option RecordPlace
+    break_by turn last place (mark.Break broken) = if nat_le turn broken then Some place else last
+    break_by turn last place _ = last
+
+-- a node opened the session, and none recorded a break of it
+abbrev pub never_broken : List TurnMark → Option Cause
+never_broken marks = if is_some (last_break 0 None marks) then None else option_map NeverBroken (first_open marks)
+
+-- the node's cursor after the record at this place
+abbrev pub cursor_there : Cluster → RecordPlace → Option ℕ
+cursor_there c place = option_and_then (λ (tap : NodeTap). cursor_after tap place.number) (node_at c place.node)
+
+-- the break's cursor is past that of the `open`
+abbrev pub broke_past : Cluster → RecordPlace → RecordPlace → Option Cause
+broke_past c broke begin =
+    option_and_then
+    (λ high. option_and_then (λ low. cause_if (nat_lt low high) (AskedTooEarly broke begin high low)) (cursor_there c begin))
+    (cursor_there c broke)
+
+-- the session broke with its node's cursor past the one with which the session was opened that the client got: the server
+-- noticed the break after the client had come back
+abbrev pub asked_too_early : Cluster → List TurnMark → List TurnMark → Option Cause
+asked_too_early c marks opening =
+    option_and_then (λ broke. option_and_then (broke_past c broke) (first_open opening)) (last_break 0 None marks)
+
+-- ---- the causes, in their order
+
+-- the offset; the session was over; it had not broken; the client asked too early. These are the records that begin and end the
+-- turns of the session that was asked for, and of the one that the client got
+abbrev pub refused_causes : Cluster → Option Cause → List TurnMark → List TurnMark → List Cause
+refused_causes c offset marks opening =
+    cause_and offset (cause_and (session_over marks) (cause_and (never_broken marks) (cause_and (asked_too_early c marks opening) [])))
+
+-- the session that a reply names; the empty text where there is none
+abbrev pub got_of : Option ReplySeen → Text
+got_of None = []
+got_of (Some reply) = pid_or_empty reply.pid
+  where
+    pid_or_empty : Option Text → Text
+    pid_or_empty None = []
+    pid_or_empty (Some pid) = pid
+
+-- where the client asked for this, and got this session
+abbrev pub asked_causes : Cluster → AskedSeen → Text → List Cause
+asked_causes c asked got = refused_causes c (offset_cause c.stream asked.offset) (turn_marks c asked.pid) (turn_marks c got)
+
+-- where this was asked for
+abbrev pub causes_of_asked : Cluster → Option AskedSeen → Text → List Cause
+causes_of_asked c None got = []
+causes_of_asked c (Some asked) got = asked_causes c asked got
+
+-- of the stay in which the recovery was refused, if there is one
+abbrev pub refusal_causes : Cluster → Option StaySeen → List Cause
+refusal_causes c None = []
+refusal_causes c (Some stay) = causes_of_asked c stay.asked (got_of stay.reply)

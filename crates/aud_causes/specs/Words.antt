@@ -1,0 +1,131 @@
+-- The words of causes: their names, what to do, and what happened.
+use Rattle.std.specs.Prelude.{ℕ, List, [], ◌∷◌, codes, decimal, flat_map}
+use Rattle.aud_causes.specs.declared.why.Piece.{Piece}
+use Rattle.aud_causes.specs.declared.why.Piece.TheVariants.{Words, Number}
+use Rattle.aud_causes.specs.declared.cause.Cause.{Cause}
+use Rattle.aud_causes.specs.declared.cause.Cause.TheVariants.{NodeBehindBreak, SentAgainAfterReplay, StaleOffset, OffsetOfAnotherSession, UnknownOffset, NoOffset, RoomsAtBreak, SkippedInWindow, LostLive, DoubledLive, SwappedLive, Altered, LogEndedEarly, LateLeave, BeforeBirth, MissingBreak, NodeNotTapped, RestartedInOldLog, EntriesSkippedByNode, NotInStream, TwoTaps, NoClientTap, SidDiffers, NamespaceDiffers, NotAPacket, TapBeganLate, CutBeforeReply, ReplyWithoutPid, SessionOver, NeverBroken, AskedTooEarly}
+
+-- the name of the cause, for scripts
+abbrev pub id_text : Cause → List ℕ
+id_text (NodeBehindBreak broke back high low) = codes "node-behind-break"
+id_text (SentAgainAfterReplay first again low) = codes "sent-again-after-replay"
+id_text (StaleOffset stay after) = codes "stale-offset"
+id_text (OffsetOfAnotherSession stay after) = codes "offset-of-another-session"
+id_text (UnknownOffset stay) = codes "unknown-offset"
+id_text (NoOffset stay) = codes "no-offset"
+id_text (RoomsAtBreak stay after low) = codes "rooms-at-break"
+id_text (SkippedInWindow stay after low) = codes "skipped-in-window"
+id_text (LostLive frame) = codes "lost-live"
+id_text (DoubledLive first again) = codes "doubled-live"
+id_text (SwappedLive frame later) = codes "swapped-live"
+id_text (Altered frame) = codes "altered"
+id_text (LogEndedEarly last high) = codes "log-ended-early"
+id_text (LateLeave leave) = codes "late-leave"
+id_text (BeforeBirth begin low) = codes "before-birth"
+id_text (MissingBreak turn begin back stay) = codes "missing-break"
+id_text (NodeNotTapped turn) = codes "node-not-tapped"
+id_text (RestartedInOldLog start) = codes "restarted-in-old-log"
+id_text (EntriesSkippedByNode taken cursor position) = codes "entries-skipped-by-node"
+id_text (NotInStream taken) = codes "not-in-stream"
+id_text (TwoTaps taps) = codes "two-taps"
+id_text NoClientTap = codes "no-client-tap"
+id_text (SidDiffers stay) = codes "sid-differs"
+id_text (NamespaceDiffers stay) = codes "namespace-differs"
+id_text NotAPacket = codes "not-a-packet"
+id_text (TapBeganLate stay) = codes "tap-began-late"
+id_text (CutBeforeReply stay) = codes "cut-before-reply"
+id_text (ReplyWithoutPid stay) = codes "reply-without-pid"
+id_text (SessionOver gone) = codes "session-over"
+id_text (NeverBroken begin) = codes "never-broken"
+id_text (AskedTooEarly broke begin high low) = codes "asked-too-early"
+
+-- what to do
+abbrev pub todo_text : Cause → List ℕ
+todo_text (NodeBehindBreak broke back high low) = codes "let the restore wait until the cursor is at the break's, or drop what the client has."
+todo_text (SentAgainAfterReplay first again low) = codes "let the replay end at the node's cursor, or drop what it sent from what the node takes."
+todo_text (StaleOffset stay after) = codes "store the offset with each event, before the event is worked on."
+todo_text (OffsetOfAnotherSession stay after) = codes "drop the offset when a new session opens."
+todo_text (UnknownOffset stay) = codes "take as offset only what a server that recovers put at the end of an event."
+todo_text (NoOffset stay) = codes "store the offset of each event, and ask with the last one."
+todo_text (RoomsAtBreak stay after low) = codes "join again after a recovery, or accept it: public adapters replay by the rooms at the break."
+todo_text (SkippedInWindow stay after low) = codes "look at how the node reads the stream for the replay."
+todo_text (LostLive frame) = codes "look at what stands between the node and the client, and at what the node sent."
+todo_text (DoubledLive first again) = codes "look at what stands between the node and the client, and at what the node sent."
+todo_text (SwappedLive frame later) = codes "look at what stands between the node and the client, and at what the node sent."
+todo_text (Altered frame) = codes "look at what stands between the node and the client; let the stream's tap write as the nodes do."
+todo_text (LogEndedEarly last high) = codes "write a node's log unbuffered, and stop the nodes after the clients."
+todo_text (LateLeave leave) = codes "send an entry by the rooms that the session holds when the node takes it."
+todo_text (BeforeBirth begin low) = codes "send a session nothing that the node took before it opened the session."
+todo_text (MissingBreak turn begin back stay) = codes "write a node's log unbuffered; look at the disk and at how logs are rotated."
+todo_text (NodeNotTapped turn) = codes "tap each node, from its start."
+todo_text (RestartedInOldLog start) = codes "begin a new log, of another name, each time that a node starts."
+todo_text (EntriesSkippedByNode taken cursor position) = codes "write a `take` for each entry before it is sent, unbuffered."
+todo_text (NotInStream taken) = codes "tap the stream before the nodes, and stop its tap after them."
+todo_text (TwoTaps taps) = codes "keep one name of a tap for a client's whole life."
+todo_text NoClientTap = codes "tap the client before its first connection."
+todo_text (SidDiffers stay) = codes "write the session's sid into the node's log, not that of the transport."
+todo_text (NamespaceDiffers stay) = codes "write the namespace in which the session was opened."
+todo_text NotAPacket = codes "record bodies of polling as they came, and of answers with status 200 alone."
+todo_text (TapBeganLate stay) = codes "begin a client's tap before its first packet."
+todo_text (CutBeforeReply stay) = codes "nothing, where the client came back; else look at why the connection was cut."
+todo_text (ReplyWithoutPid stay) = codes "let the server recover sessions in this namespace."
+todo_text (SessionOver gone) = codes "keep a session that a client may come back to, for as long as it may."
+todo_text (NeverBroken begin) = codes "let the client wait longer before it comes back, or the server notice a break sooner."
+todo_text (AskedTooEarly broke begin high low) = codes "let the client wait longer before it comes back, or the server notice a break sooner."
+
+-- ---- what happened
+
+-- a piece of a sentence: words, or a number
+pub data PieceSeen : Type 0 where
+  Spelled : List ℕ → PieceSeen
+  Counted : ℕ → PieceSeen
+
+abbrev pub piece_seen : Piece → PieceSeen
+piece_seen (Words words) = Spelled words.now
+piece_seen (Number number) = Counted number
+
+-- its text
+abbrev pub piece_text : PieceSeen → List ℕ
+piece_text (Spelled words) = words
+piece_text (Counted number) = decimal number
+
+-- the text of the pieces, one after the other
+abbrev pub sentence_text : List PieceSeen → List ℕ
+sentence_text pieces = flat_map piece_text pieces
+
+-- the sentence of a cause, where the node in question has this name
+abbrev pub why_pieces : List ℕ → Cause → List PieceSeen
+why_pieces node (NodeBehindBreak broke back high low) = Spelled node ∷ Spelled (codes " took the session back with its cursor at ") ∷ Counted low ∷ Spelled (codes "; the break was at ") ∷ Counted high ∷ Spelled (codes ".") ∷ []
+why_pieces node (SentAgainAfterReplay first again low) = Spelled (codes "The replay ran past the node's cursor at ") ∷ Counted low ∷ Spelled (codes ", and the node sent again what it took then.") ∷ []
+why_pieces node (StaleOffset stay after) = Spelled (codes "The client asked to go on after entry ") ∷ Counted after ∷ Spelled (codes ", and had later ones already.") ∷ []
+why_pieces node (OffsetOfAnotherSession stay after) = Spelled (codes "The client asked to go on after entry ") ∷ Counted after ∷ Spelled (codes ", which was not due to this session.") ∷ []
+why_pieces node (UnknownOffset stay) = Spelled (codes "The client asked to go on after an offset that no entry of the stream has.") ∷ []
+why_pieces node (NoOffset stay) = Spelled (codes "The client asked for the session and gave no offset.") ∷ []
+why_pieces node (RoomsAtBreak stay after low) = Spelled (codes "Of the entries after ") ∷ Counted after ∷ Spelled (codes " up to ") ∷ Counted low ∷ Spelled (codes ", exactly those came that are for the rooms held at the break.") ∷ []
+why_pieces node (SkippedInWindow stay after low) = Spelled (codes "The entry is one of those to be sent again, after ") ∷ Counted after ∷ Spelled (codes " up to ") ∷ Counted low ∷ Spelled (codes ", and was left out.") ∷ []
+why_pieces node (LostLive frame) = Spelled (codes "The node took the entry while the client was connected, and no frame of it came.") ∷ []
+why_pieces node (DoubledLive first again) = Spelled (codes "No recovery stands between the two frames: the entry came twice while the client was connected.") ∷ []
+why_pieces node (SwappedLive frame later) = Spelled (codes "No recovery stands between the two frames: they changed places while the client was connected.") ∷ []
+why_pieces node (Altered frame) = Spelled (codes "The event is not the entry as the stream's tap has it.") ∷ []
+why_pieces node (LogEndedEarly last high) = Spelled (codes "The log of ") ∷ Spelled node ∷ Spelled (codes " ends in the session's last turn; the turns reach entry ") ∷ Counted high ∷ Spelled (codes ".") ∷ []
+why_pieces node (LateLeave leave) = Spelled (codes "The session had left a room of the entry before it reached the entry.") ∷ []
+why_pieces node (BeforeBirth begin low) = Spelled node ∷ Spelled (codes " had taken the entry when it opened the session, with its cursor at ") ∷ Counted low ∷ Spelled (codes ".") ∷ []
+why_pieces node (MissingBreak turn begin back stay) = Spelled (codes "The client recovered the session after turn ") ∷ Counted turn ∷ Spelled (codes ", so that turn broke; no log has its break.") ∷ []
+why_pieces node (NodeNotTapped turn) = Spelled (codes "No node's log has the begin of turn ") ∷ Counted turn ∷ Spelled (codes ".") ∷ []
+why_pieces node (RestartedInOldLog start) = Spelled node ∷ Spelled (codes " started again in its old log.") ∷ []
+why_pieces node (EntriesSkippedByNode taken cursor position) = Spelled node ∷ Spelled (codes " took entry ") ∷ Counted position ∷ Spelled (codes " with its cursor at ") ∷ Counted cursor ∷ Spelled (codes ".") ∷ []
+why_pieces node (NotInStream taken) = Spelled node ∷ Spelled (codes " names an entry that the stream's tap doesn't have.") ∷ []
+why_pieces node (TwoTaps taps) = Counted taps ∷ Spelled (codes " taps of clients name the session.") ∷ []
+why_pieces node NoClientTap = Spelled (codes "No tap of a client names the session.") ∷ []
+why_pieces node (SidDiffers stay) = Spelled (codes "The reply has another sid than the session was opened with.") ∷ []
+why_pieces node (NamespaceDiffers stay) = Spelled (codes "The reply is of another namespace than the session was opened in.") ∷ []
+why_pieces node NotAPacket = Spelled (codes "A record of the client's tap is no packet.") ∷ []
+why_pieces node (TapBeganLate stay) = Spelled (codes "Events came in a stay without a reply, and no session was asked for in it.") ∷ []
+why_pieces node (CutBeforeReply stay) = Spelled (codes "The client asked for a session, and events came, but no reply did.") ∷ []
+why_pieces node (ReplyWithoutPid stay) = Spelled (codes "The reply names no session: the server recovers none there.") ∷ []
+why_pieces node (SessionOver gone) = Spelled (codes "The log of ") ∷ Spelled node ∷ Spelled (codes " ends the session.") ∷ []
+why_pieces node (NeverBroken begin) = Spelled (codes "No log has a break of the session.") ∷ []
+why_pieces node (AskedTooEarly broke begin high low) = Spelled (codes "The session broke with its node's cursor at ") ∷ Counted high ∷ Spelled (codes "; another was opened instead with the cursor at ") ∷ Counted low ∷ Spelled (codes ".") ∷ []
+
+abbrev pub why_text : List ℕ → Cause → List ℕ
+why_text node cause = sentence_text (why_pieces node cause)

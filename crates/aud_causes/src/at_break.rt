@@ -1,0 +1,167 @@
+//! A replay by the rooms that the session held at the break.
+ghost use Rattle.std.specs.Prelude.{◌≡◌, IfOk, Some, map, nat_eq, slice_get, take};
+ghost use Rattle.std.specs.Cmp.Lexicographic.{pointwise};
+ghost use Rattle.aud_maker.specs.Made.{IsMade};
+ghost use Rattle.aud_causes.specs.AtBreak.{came_within, due_at_break, first_past, first_taken, is_by_rooms_at_break, rooms_at_break};
+
+use crate::cause::Cause;
+use crate::facts::{Facts, Replay, stay_at};
+use crate::held::spans_held;
+use crate::live::is_replayed;
+use aud_cert::{Certificate, Turn};
+use aud_client::{Frame, Recording, Stay};
+use aud_maker::made_is_over;
+use aud_recoveries::opened_in;
+use aud_rooms::due_of;
+use std::alloc::{AllocError, Global};
+
+/// Where the entry was to be replayed, and of all those that were exactly those came in the stay that are addressed to the
+/// rooms held at the break. It costs the session's own records, and what is addressed to these rooms.
+pub(crate) fn rooms_at_break(
+    alloc: Global,
+    recording: &Recording<'_>,
+    cert: &Certificate<'_>,
+    stays: &[&Stay<'_>],
+    facts: Facts,
+) -> Result<Option<Cause>, AllocError>
+    requires { IsMade recording.now cert.now.pid cert.now }
+    ensures { IfOk result (λ found. (made : IsMade recording.now cert.now.pid cert.now)
+        → found ≡ rooms_at_break recording.now made.who made.turns (map (λ stay. stay.now) stays.now) facts) }
+{
+    let Some(replay) = facts.replay else {
+        return Ok(None);
+    };
+    if !is_replayed(replay, facts.parted.position) {
+        return Ok(None);
+    }
+    if !is_by_rooms_at_break(alloc, recording, cert, stays, facts.later, replay)? {
+        return Ok(None);
+    }
+    Ok(Some(Cause::RoomsAtBreak {
+        stay: facts.later,
+        after: replay.after,
+        low: replay.low,
+    }))
+}
+
+/// Whether exactly those came in the stay with this number that are addressed to the rooms held at the break before it.
+fn is_by_rooms_at_break(
+    alloc: Global,
+    recording: &Recording<'_>,
+    cert: &Certificate<'_>,
+    stays: &[&Stay<'_>],
+    later: usize,
+    replay: Replay,
+) -> Result<bool, AllocError>
+    requires { IsMade recording.now cert.now.pid cert.now }
+    ensures { IfOk result (λ is. (made : IsMade recording.now cert.now.pid cert.now)
+        → is ≡ is_by_rooms_at_break recording.now made.who made.turns (map (λ stay. stay.now) stays.now) later replay) }
+{
+    let due = due_at_break(alloc, recording, cert, later, replay)?;
+    let came = came_within(alloc, stays, later, replay)?;
+    Ok(are_same(came.as_slice(), due.as_slice()))
+}
+
+fn are_same(came: &[u64], due: &[u64]) -> bool
+    ensures { result ≡ pointwise nat_eq came.now due.now }
+{
+    came == due
+}
+
+/// Of the entries that were to be replayed, those that are addressed to the rooms held after so many turns.
+fn due_at_break(
+    alloc: Global,
+    recording: &Recording<'_>,
+    cert: &Certificate<'_>,
+    count: usize,
+    replay: Replay,
+) -> Result<Vec<u64>, AllocError>
+    requires { IsMade recording.now cert.now.pid cert.now }
+    ensures { IfOk result (λ due. (made : IsMade recording.now cert.now.pid cert.now)
+        → due.items ≡ due_at_break recording.now made.who made.turns count replay) }
+{
+    made_is_over();
+    recording.named_once();
+    let logs = recording.logs();
+    let turns = cert.turns.as_slice();
+    let Some(opened) = opened_in(turns) else {
+        unreachable!()
+    };
+    let pid = cert.pid.as_str();
+    let before = turns_before(turns, count);
+    let spans = spans_held(
+        alloc,
+        logs,
+        pid,
+        opened.sid,
+        before,
+        replay.after,
+        replay.low,
+    )?;
+    due_of(
+        alloc,
+        &spans,
+        logs.stream(),
+        opened.nsp,
+        replay.after,
+        replay.low,
+    )
+}
+
+/// The first of the turns, so many.
+fn turns_before<'s, 'a>(turns: &'s [Turn<'a>], count: usize) -> &'s [Turn<'a>]
+    ensures { result.now ≡ take count turns.now }
+{
+    let (before, _) = turns.split_at(count.min(turns.len()));
+    before
+}
+
+/// The positions of the frames in the stay with this number that were to be replayed.
+fn came_within(
+    alloc: Global,
+    stays: &[&Stay<'_>],
+    number: usize,
+    replay: Replay,
+) -> Result<Vec<u64>, AllocError>
+    ensures { IfOk result (λ came. came.items ≡ came_within (slice_get (map (λ stay. stay.now) stays.now) number) replay) }
+{
+    match stay_at(stays, number) {
+        Some(stay) => came_in(alloc, stay, replay),
+        None => Ok(Vec::new(alloc)),
+    }
+}
+
+/// The same of this stay.
+fn came_in(alloc: Global, stay: &Stay<'_>, replay: Replay) -> Result<Vec<u64>, AllocError>
+    ensures { IfOk result (λ came. came.items ≡ came_within (Some stay.now) replay) }
+{
+    let mut came = Vec::new(alloc);
+    for frame in &stay.frames {
+        if is_replayed(replay, frame.position) {
+            came.push(frame.position)?;
+        }
+    }
+    Ok(came)
+}
+
+/// The first position past what was to be replayed that came in the later stay; none where none did, or what was to be
+/// replayed isn't known.
+pub(crate) fn first_taken(stays: &[&Stay<'_>], facts: Facts) -> Option<u64>
+    ensures { result ≡ first_taken (map (λ stay. stay.now) stays.now) facts }
+{
+    let replay = facts.replay?;
+    let stay = stay_at(stays, facts.later)?;
+    first_past(&stay.frames, replay.low)
+}
+
+/// The position of the first of the frames that is past this one.
+fn first_past(frames: &[Frame<'_>], low: u64) -> Option<u64>
+    ensures { result ≡ first_past low frames.now }
+{
+    for frame in frames {
+        if low < frame.position {
+            return Some(frame.position);
+        }
+    }
+    None
+}

@@ -1,0 +1,258 @@
+//! Causes, each with the figures that show it.
+ghost use Rattle.std.specs.Prelude.{◌≡◌};
+ghost use Rattle.aud_causes.specs.Words.{id_text, todo_text};
+
+use aud_chain::RecordPlace;
+
+/// What a fault may come from, with what shows it. Positions of the stream count from 1; all else from 0: frames over all
+/// that was received of the session, in the order of the client's tap, and stays among those whose reply names it.
+#[derive(Clone, Copy, Debug, PartialEq, Eq, Drop)]
+pub enum Cause {
+    /// The node that took the session back was at a lower cursor than the one on which it had broken.
+    NodeBehindBreak {
+        broke: RecordPlace,
+        back: RecordPlace,
+        high: u64,
+        low: u64,
+    },
+    /// The replay went past the node's cursor at the `back`, and the node sent the same again when it took it.
+    SentAgainAfterReplay {
+        first: usize,
+        again: usize,
+        low: u64,
+    },
+    /// The client asked to go on after an entry before others that it had.
+    StaleOffset {
+        stay: usize,
+        after: u64,
+    },
+    /// The client asked to go on after an entry that was not due to the session.
+    OffsetOfAnotherSession {
+        stay: usize,
+        after: u64,
+    },
+    /// The client asked to go on after an offset that the stream doesn't have.
+    UnknownOffset {
+        stay: usize,
+    },
+    /// The client asked for the session, and gave no offset.
+    NoOffset {
+        stay: usize,
+    },
+    /// What was replayed is what the rooms held at the break are addressed by.
+    RoomsAtBreak {
+        stay: usize,
+        after: u64,
+        low: u64,
+    },
+    /// The entry is one of those to be replayed, and was left out.
+    SkippedInWindow {
+        stay: usize,
+        after: u64,
+        low: u64,
+    },
+    /// An entry was left out while the client was connected.
+    LostLive {
+        frame: usize,
+    },
+    /// An entry was sent twice while the client was connected.
+    DoubledLive {
+        first: usize,
+        again: usize,
+    },
+    /// Two entries changed places while the client was connected.
+    SwappedLive {
+        frame: usize,
+        later: usize,
+    },
+    /// An event's text or attachments are not the entry's.
+    Altered {
+        frame: usize,
+    },
+    /// The log of the session's last turn ends in that turn, before the entry.
+    LogEndedEarly {
+        last: RecordPlace,
+        high: u64,
+    },
+    /// The session left a room of the entry before it reached the entry.
+    LateLeave {
+        leave: RecordPlace,
+    },
+    /// The node had taken the entry before it opened the session.
+    BeforeBirth {
+        begin: RecordPlace,
+        low: u64,
+    },
+    /// The client went on after a turn of which no node has the `break`.
+    MissingBreak {
+        turn: usize,
+        begin: RecordPlace,
+        back: RecordPlace,
+        stay: usize,
+    },
+    /// No node's log has this turn.
+    NodeNotTapped {
+        turn: usize,
+    },
+    /// A log goes on after a second `start`.
+    RestartedInOldLog {
+        start: RecordPlace,
+    },
+    /// A node took an entry that isn't the next one.
+    EntriesSkippedByNode {
+        taken: RecordPlace,
+        cursor: u64,
+        position: u64,
+    },
+    /// A node took an entry that the stream doesn't have.
+    NotInStream {
+        taken: RecordPlace,
+    },
+    /// Several clients' taps name the session.
+    TwoTaps {
+        taps: usize,
+    },
+    /// No client's tap names the session.
+    NoClientTap,
+    /// A reply has another sid than the session's `open`.
+    SidDiffers {
+        stay: usize,
+    },
+    /// A reply is of another namespace than the session's `open`.
+    NamespaceDiffers {
+        stay: usize,
+    },
+    /// A record of the client's tap is no packet.
+    NotAPacket,
+    /// Events came in a stay without a reply; the stay has this number in the tap.
+    TapBeganLate {
+        stay: usize,
+    },
+    /// The client asked for a session, and events came, but no reply; the stay has this number in the tap.
+    CutBeforeReply {
+        stay: usize,
+    },
+    /// The reply names nobody; the stay has this number in the tap.
+    ReplyWithoutPid {
+        stay: usize,
+    },
+    /// The session that was asked for was over.
+    SessionOver {
+        gone: RecordPlace,
+    },
+    /// The session that was asked for had not broken: its last turn goes on.
+    NeverBroken {
+        begin: RecordPlace,
+    },
+    /// The session that was asked for broke with its node's cursor past the one with which another was opened instead.
+    AskedTooEarly {
+        broke: RecordPlace,
+        begin: RecordPlace,
+        high: u64,
+        low: u64,
+    },
+}
+
+impl Cause {
+    /// The name of the cause, for scripts: lower-case words joined by `-`.
+    pub fn id(self) -> &'static str
+        ensures { result.now ≡ id_text self }
+    {
+        match self {
+            Cause::NodeBehindBreak { .. } => "node-behind-break",
+            Cause::SentAgainAfterReplay { .. } => "sent-again-after-replay",
+            Cause::StaleOffset { .. } => "stale-offset",
+            Cause::OffsetOfAnotherSession { .. } => "offset-of-another-session",
+            Cause::UnknownOffset { .. } => "unknown-offset",
+            Cause::NoOffset { .. } => "no-offset",
+            Cause::RoomsAtBreak { .. } => "rooms-at-break",
+            Cause::SkippedInWindow { .. } => "skipped-in-window",
+            Cause::LostLive { .. } => "lost-live",
+            Cause::DoubledLive { .. } => "doubled-live",
+            Cause::SwappedLive { .. } => "swapped-live",
+            Cause::Altered { .. } => "altered",
+            Cause::LogEndedEarly { .. } => "log-ended-early",
+            Cause::LateLeave { .. } => "late-leave",
+            Cause::BeforeBirth { .. } => "before-birth",
+            Cause::MissingBreak { .. } => "missing-break",
+            Cause::NodeNotTapped { .. } => "node-not-tapped",
+            Cause::RestartedInOldLog { .. } => "restarted-in-old-log",
+            Cause::EntriesSkippedByNode { .. } => "entries-skipped-by-node",
+            Cause::NotInStream { .. } => "not-in-stream",
+            Cause::TwoTaps { .. } => "two-taps",
+            Cause::NoClientTap => "no-client-tap",
+            Cause::SidDiffers { .. } => "sid-differs",
+            Cause::NamespaceDiffers { .. } => "namespace-differs",
+            Cause::NotAPacket => "not-a-packet",
+            Cause::TapBeganLate { .. } => "tap-began-late",
+            Cause::CutBeforeReply { .. } => "cut-before-reply",
+            Cause::ReplyWithoutPid { .. } => "reply-without-pid",
+            Cause::SessionOver { .. } => "session-over",
+            Cause::NeverBroken { .. } => "never-broken",
+            Cause::AskedTooEarly { .. } => "asked-too-early",
+        }
+    }
+
+    /// What to do.
+    pub fn todo(self) -> &'static str
+        ensures { result.now ≡ todo_text self }
+    {
+        match self {
+            Cause::NodeBehindBreak { .. } =>
+                "let the restore wait until the cursor is at the break's, or drop what the client has.",
+            Cause::SentAgainAfterReplay { .. } =>
+                "let the replay end at the node's cursor, or drop what it sent from what the node takes.",
+            Cause::StaleOffset { .. } =>
+                "store the offset with each event, before the event is worked on.",
+            Cause::OffsetOfAnotherSession { .. } => "drop the offset when a new session opens.",
+            Cause::UnknownOffset { .. } =>
+                "take as offset only what a server that recovers put at the end of an event.",
+            Cause::NoOffset { .. } => "store the offset of each event, and ask with the last one.",
+            Cause::RoomsAtBreak { .. } =>
+                "join again after a recovery, or accept it: public adapters replay by the rooms at the break.",
+            Cause::SkippedInWindow { .. } =>
+                "look at how the node reads the stream for the replay.",
+            Cause::LostLive { .. } =>
+                "look at what stands between the node and the client, and at what the node sent.",
+            Cause::DoubledLive { .. } =>
+                "look at what stands between the node and the client, and at what the node sent.",
+            Cause::SwappedLive { .. } =>
+                "look at what stands between the node and the client, and at what the node sent.",
+            Cause::Altered { .. } =>
+                "look at what stands between the node and the client; let the stream's tap write as the nodes do.",
+            Cause::LogEndedEarly { .. } =>
+                "write a node's log unbuffered, and stop the nodes after the clients.",
+            Cause::LateLeave { .. } =>
+                "send an entry by the rooms that the session holds when the node takes it.",
+            Cause::BeforeBirth { .. } =>
+                "send a session nothing that the node took before it opened the session.",
+            Cause::MissingBreak { .. } =>
+                "write a node's log unbuffered; look at the disk and at how logs are rotated.",
+            Cause::NodeNotTapped { .. } => "tap each node, from its start.",
+            Cause::RestartedInOldLog { .. } =>
+                "begin a new log, of another name, each time that a node starts.",
+            Cause::EntriesSkippedByNode { .. } =>
+                "write a `take` for each entry before it is sent, unbuffered.",
+            Cause::NotInStream { .. } =>
+                "tap the stream before the nodes, and stop its tap after them.",
+            Cause::TwoTaps { .. } => "keep one name of a tap for a client's whole life.",
+            Cause::NoClientTap => "tap the client before its first connection.",
+            Cause::SidDiffers { .. } =>
+                "write the session's sid into the node's log, not that of the transport.",
+            Cause::NamespaceDiffers { .. } =>
+                "write the namespace in which the session was opened.",
+            Cause::NotAPacket =>
+                "record bodies of polling as they came, and of answers with status 200 alone.",
+            Cause::TapBeganLate { .. } => "begin a client's tap before its first packet.",
+            Cause::CutBeforeReply { .. } =>
+                "nothing, where the client came back; else look at why the connection was cut.",
+            Cause::ReplyWithoutPid { .. } => "let the server recover sessions in this namespace.",
+            Cause::SessionOver { .. } =>
+                "keep a session that a client may come back to, for as long as it may.",
+            Cause::NeverBroken { .. } =>
+                "let the client wait longer before it comes back, or the server notice a break sooner.",
+            Cause::AskedTooEarly { .. } =>
+                "let the client wait longer before it comes back, or the server notice a break sooner.",
+        }
+    }
+}

@@ -1,0 +1,101 @@
+//! The causes that a session's fault may have.
+ghost use Rattle.std.specs.Prelude.{◌≡◌, All, IfOk, IfSome, map};
+ghost use Rattle.std.specs.Option.{option_copied};
+ghost use Rattle.aud_account.specs.Account.{IsAccount};
+ghost use Rattle.aud_maker.specs.Made.{IsMade};
+ghost use Rattle.aud_rows.specs.ClientPlaces.{AreOf};
+ghost use Rattle.aud_causes.specs.Causes.{AreCauses, AreFound, AreNumbersAt, is_sure};
+ghost use Rattle.aud_causes.specs.Records.{place_of};
+
+use crate::cause::Cause;
+use crate::found::{CauseFound, shown_causes};
+use crate::judged::judged_causes;
+use crate::recorded::recorded_causes;
+use aud_account::Account;
+use aud_cert::Fault;
+use aud_chain::RecordPlace;
+use aud_client::Recording;
+use aud_report::Verdict;
+use aud_rows::{ClientPlaces, Sheet};
+use std::alloc::{AllocError, Global};
+
+/// What was noted of the taps, once for all sessions.
+#[derive(Clone, Copy, Debug, PartialEq, Eq, Drop)]
+pub struct Noted {
+    /// Of a session whose verdict is `ORDER`: the first record out of order of a node that it was on.
+    pub unordered: Option<RecordPlace>,
+    /// Of one whose verdict is `ORPHAN`: the number, in its client's tap, of the first stay with events whose reply names
+    /// nobody.
+    pub orphan: Option<usize>,
+}
+
+/// What the fault of the session with this pid may come from: of the causes that such a fault can have those that hold, in a
+/// fixed order. One is sure exactly where it is the only one. `tap` is that of the session's client, if one alone names it; the
+/// account is the session's, if it has one.
+///
+/// It costs the session's own records and stays, and what was due to it.
+pub fn causes_of<'r, 'a>(
+    alloc: Global,
+    sheet: Sheet<'r, 'a>,
+    tap: Option<&ClientPlaces>,
+    pid: &str,
+    verdict: &Verdict,
+    account: Option<&Account<'r, 'a>>,
+    noted: Noted,
+) -> Result<Vec<CauseFound>, AllocError>
+    requires tap { IfSome (option_copied tap) (AreOf sheet.recording.now) }
+    requires account { IfSome (option_copied account) (λ a. IsMade sheet.recording.now pid.now a.cert
+        × IsAccount sheet.recording.now pid.now a.client (map (λ stay. stay.now) a.stays.items) a.due.items) }
+    ensures causes { IfOk result (λ causes. AreCauses sheet.entry.recording.now sheet.entry.lines.now (place_of (option_copied tap.entry)) pid.now noted
+        (option_copied account.entry) verdict.now causes.items) }
+    ensures sure { IfOk result (λ causes. All (λ cause. cause.sure ≡ is_sure causes.items) causes.items) }
+{
+    let Verdict::No(fault) = verdict else {
+        return Ok(Vec::new(alloc));
+    };
+    let recording = sheet.recording;
+    let client = place_of(tap);
+    let found = causes_found(alloc, recording, client, pid, fault, account, noted)?;
+    let numbers = numbers_at(recording, client, pid);
+    shown_causes(alloc, &sheet, tap, numbers, found.as_slice())
+}
+
+/// The causes of the fault.
+fn causes_found(
+    alloc: Global,
+    recording: &Recording<'_>,
+    client: Option<usize>,
+    pid: &str,
+    fault: &Fault,
+    account: Option<&Account<'_, '_>>,
+    noted: Noted,
+) -> Result<Vec<Cause>, AllocError>
+    requires { IfSome (option_copied account) (λ a. IsMade recording.now pid.now a.cert
+        × IsAccount recording.now pid.now a.client (map (λ stay. stay.now) a.stays.items) a.due.items) }
+    ensures { IfOk result (λ found. AreFound recording.now client pid.now noted (option_copied account.entry) fault.now found.items) }
+{
+    match account {
+        Some(account) => judged_causes(alloc, recording, account, fault, noted.orphan),
+        None => recorded_causes(alloc, recording, client, pid, fault, noted.unordered),
+    }
+}
+
+/// The place of the tap, if there is one.
+fn place_of(tap: Option<&ClientPlaces>) -> Option<usize>
+    ensures { result ≡ place_of (option_copied tap.entry) }
+{
+    Some(tap?.place)
+}
+
+/// The numbers of the stays whose reply names the session, of the client's tap at this place.
+fn numbers_at<'r>(recording: &'r Recording<'_>, client: Option<usize>, pid: &str) -> &'r [usize]
+    ensures { AreNumbersAt recording.now client pid.now result.now }
+{
+    let Some(client) = client else {
+        return &[];
+    };
+    match recording.client(client) {
+        Some(transcript) => transcript.numbers_naming(pid),
+        None => &[],
+    }
+}

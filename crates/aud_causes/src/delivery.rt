@@ -1,0 +1,204 @@
+//! What a difference between what was received and what was due may come from.
+ghost use Rattle.std.specs.Prelude.{◌≡◌, IfOk, map, option_map};
+ghost use Rattle.aud_check.specs.Compare.{has_position};
+ghost use Rattle.aud_maker.specs.Made.{IsMade};
+ghost use Rattle.aud_reach.specs.NotDue.{reason_of};
+ghost use Rattle.aud_causes.specs.Differences.{case_of, difference_causes, doubled_causes, extra_causes, extra_in, lost_causes, lost_in, offset_of_another, other_session_after, other_session_before, swapped_causes};
+
+use crate::at_break::{first_taken, rooms_at_break};
+use crate::behind::node_behind;
+use crate::cause::Cause;
+use crate::extra::{before_birth, late_leave, log_ended_early};
+use crate::facts::{Facts, facts_of};
+use crate::list::push_cause;
+use crate::live::{
+    doubled_live, lost_live, sent_again, skipped_in_window, stale_offset, swapped_live,
+};
+use aud_account::Account;
+use aud_cert::Turn;
+use aud_client::{Recording, Stay};
+use aud_evidence::Difference;
+use aud_node::Logs;
+use aud_reach::{NotDue, why_not_due};
+use std::alloc::{AllocError, Global};
+
+/// The causes of the difference, of those that a difference of its kind can have. The account is the session's.
+pub(crate) fn difference_causes(
+    alloc: Global,
+    recording: &Recording<'_>,
+    account: &Account<'_, '_>,
+    difference: Difference,
+) -> Result<Vec<Cause>, AllocError>
+    requires { IsMade recording.now account.now.cert.pid account.now.cert }
+    ensures { IfOk result (λ found. (made : IsMade recording.now account.now.cert.pid account.now.cert)
+        → found.items ≡ difference_causes (case_of recording.now account.now made) difference) }
+{
+    let logs = recording.logs();
+    let turns = account.cert.turns.as_slice();
+    let stays = account.stays.as_slice();
+    let facts = facts_of(logs.stream(), turns, stays, difference);
+    match difference {
+        Difference::Extra { position, .. } => extra_of(alloc, recording, account, facts, position),
+        Difference::Doubled { .. } => doubled_causes(alloc, logs, turns, stays, facts),
+        Difference::Swapped { .. } => swapped_causes(alloc, logs, turns, facts),
+        Difference::Lost { .. } => lost_of(alloc, recording, account, facts),
+    }
+}
+
+/// Those of an entry that came twice.
+fn doubled_causes(
+    alloc: Global,
+    logs: &Logs<'_>,
+    turns: &[Turn<'_>],
+    stays: &[&Stay<'_>],
+    facts: Facts,
+) -> Result<Vec<Cause>, AllocError>
+    ensures { IfOk result (λ found. found.items ≡ doubled_causes logs.now turns.now (map (λ stay. stay.now) stays.now) facts) }
+{
+    let mut found = Vec::new(alloc);
+    push_cause(&mut found, node_behind(logs, turns, facts))?;
+    push_cause(&mut found, sent_again(facts, first_taken(stays, facts)))?;
+    push_cause(&mut found, stale_offset(facts))?;
+    push_cause(&mut found, doubled_live(facts))?;
+    Ok(found)
+}
+
+/// Those of an entry that came late.
+fn swapped_causes(
+    alloc: Global,
+    logs: &Logs<'_>,
+    turns: &[Turn<'_>],
+    facts: Facts,
+) -> Result<Vec<Cause>, AllocError>
+    ensures { IfOk result (λ found. found.items ≡ swapped_causes logs.now turns.now facts) }
+{
+    let mut found = Vec::new(alloc);
+    push_cause(&mut found, node_behind(logs, turns, facts))?;
+    push_cause(&mut found, swapped_live(facts))?;
+    Ok(found)
+}
+
+/// Those of an entry that was lost, where this holds of the rooms at the break.
+fn lost_causes(
+    alloc: Global,
+    at_break: Option<Cause>,
+    due: &[u64],
+    facts: Facts,
+) -> Result<Vec<Cause>, AllocError>
+    ensures { IfOk result (λ found. found.items ≡ lost_causes at_break due.now facts) }
+{
+    let mut found = Vec::new(alloc);
+    push_cause(&mut found, at_break)?;
+    push_cause(&mut found, skipped_in_window(facts))?;
+    push_cause(&mut found, other_session_after(due, facts))?;
+    push_cause(&mut found, lost_live(facts))?;
+    Ok(found)
+}
+
+/// Those of an entry that was lost. The account is the session's.
+fn lost_of(
+    alloc: Global,
+    recording: &Recording<'_>,
+    account: &Account<'_, '_>,
+    facts: Facts,
+) -> Result<Vec<Cause>, AllocError>
+    requires { IsMade recording.now account.now.cert.pid account.now.cert }
+    ensures { IfOk result (λ found. (made : IsMade recording.now account.now.cert.pid account.now.cert)
+        → found.items ≡ lost_in (case_of recording.now account.now made) facts) }
+{
+    let stays = account.stays.as_slice();
+    let at_break = rooms_at_break(alloc, recording, &account.cert, stays, facts)?;
+    lost_causes(alloc, at_break, account.due.as_slice(), facts)
+}
+
+/// Those of an entry that was not due, where this holds of the rooms at the break.
+fn extra_causes(
+    alloc: Global,
+    logs: &Logs<'_>,
+    pid: &str,
+    turns: &[Turn<'_>],
+    at_break: Option<Cause>,
+    due: &[u64],
+    why: &Option<NotDue<'_>>,
+    facts: Facts,
+) -> Result<Vec<Cause>, AllocError>
+    ensures { IfOk result (λ found. found.items ≡ extra_causes logs.now pid.now turns.now at_break due.now (option_map reason_of why.now) facts) }
+{
+    let mut found = Vec::new(alloc);
+    push_cause(&mut found, node_behind(logs, turns, facts))?;
+    push_cause(&mut found, at_break)?;
+    push_cause(&mut found, other_session_before(due, facts))?;
+    push_cause(&mut found, log_ended_early(logs, pid, turns, why))?;
+    let position = facts.parted.position;
+    push_cause(&mut found, late_leave(logs, pid, turns, position, why))?;
+    push_cause(&mut found, before_birth(logs, turns, why))?;
+    Ok(found)
+}
+
+/// Those of an entry that was not due. The account is the session's.
+fn extra_of(
+    alloc: Global,
+    recording: &Recording<'_>,
+    account: &Account<'_, '_>,
+    facts: Facts,
+    position: u64,
+) -> Result<Vec<Cause>, AllocError>
+    requires { IsMade recording.now account.now.cert.pid account.now.cert }
+    ensures { IfOk result (λ found. (made : IsMade recording.now account.now.cert.pid account.now.cert)
+        → found.items ≡ extra_in (case_of recording.now account.now made) facts position) }
+{
+    let stays = account.stays.as_slice();
+    let at_break = rooms_at_break(alloc, recording, &account.cert, stays, facts)?;
+    let logs = recording.logs();
+    let why = why_not_due(logs, &account.cert, position);
+    extra_causes(
+        alloc,
+        logs,
+        account.cert.pid.as_str(),
+        account.cert.turns.as_slice(),
+        at_break,
+        account.due.as_slice(),
+        &why,
+        facts,
+    )
+}
+
+/// Where the client asked in the later stay to go on after an entry that was not due to the session, and stands before the
+/// one in question.
+fn other_session_before(due: &[u64], facts: Facts) -> Option<Cause>
+    ensures { result ≡ other_session_before due.now facts }
+{
+    let after = facts.asked?;
+    if facts.parted.position <= after {
+        return None;
+    }
+    offset_of_another(due, facts.later, after)
+}
+
+/// The same where it doesn't stand before that.
+fn other_session_after(due: &[u64], facts: Facts) -> Option<Cause>
+    ensures { result ≡ other_session_after due.now facts }
+{
+    let after = facts.asked?;
+    if after < facts.parted.position {
+        return None;
+    }
+    offset_of_another(due, facts.later, after)
+}
+
+/// Where the entry after which the client asked to go on was not due to the session.
+pub(crate) fn offset_of_another(due: &[u64], stay: usize, after: u64) -> Option<Cause>
+    ensures { result ≡ offset_of_another due.now stay after }
+{
+    if has_position(due, after) {
+        return None;
+    }
+    Some(Cause::OffsetOfAnotherSession { stay, after })
+}
+
+/// Whether the position is one of these.
+fn has_position(positions: &[u64], position: u64) -> bool
+    ensures { result ≡ has_position positions.now position }
+{
+    positions.contains(&position)
+}

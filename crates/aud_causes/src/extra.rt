@@ -1,0 +1,148 @@
+//! Why an event came that was not due.
+ghost use Rattle.std.specs.Prelude.{◌≡◌, map, option_map};
+ghost use Rattle.std.specs.Option.{option_copied};
+ghost use Rattle.aud_cert.specs.Certificate.{turn_at};
+ghost use Rattle.aud_reach.specs.NotDue.{reason_of};
+ghost use Rattle.aud_causes.specs.Extra.{before_birth, ends_turn, first_left, goes_on, late_leave, left_before, log_ended_early, reached_at, rooms_named};
+
+use crate::behind::{first_of, last_of};
+use crate::cause::Cause;
+use aud_cert::Turn;
+use aud_chain::RecordPlace;
+use aud_node::Logs;
+use aud_reach::{NotDue, Reach, first_reach, last_change_of};
+use aud_recoveries::greatest_high;
+use aud_tap::{NodeRec, StreamRec, Text};
+
+/// Where the session reached the entry in no turn, and the log of its last turn ends in that turn.
+pub(crate) fn log_ended_early(
+    logs: &Logs<'_>,
+    pid: &str,
+    turns: &[Turn<'_>],
+    why: &Option<NotDue<'_>>,
+) -> Option<Cause>
+    ensures { result ≡ log_ended_early logs.now pid.now turns.now (option_map reason_of why.now) }
+{
+    if !matches!(why, Some(NotDue::InNoTurn)) {
+        return None;
+    }
+    let turn = turns.get(turns.len().saturating_sub(1))?;
+    if !goes_on(pid, turn) {
+        return None;
+    }
+    Some(Cause::LogEndedEarly {
+        last: last_of(logs, turn),
+        high: greatest_high(turns),
+    })
+}
+
+/// Whether the turn's last record is no `break` and no `gone` of the session.
+pub(crate) fn goes_on(pid: &str, turn: &Turn<'_>) -> bool
+    ensures { result ≡ goes_on pid.now turn.now }
+{
+    let recs = &turn.recs;
+    !ends_turn(pid, recs.get(recs.len().saturating_sub(1)))
+}
+
+fn ends_turn(pid: &str, rec: Option<&NodeRec>) -> bool
+    ensures { result ≡ ends_turn pid.now (option_copied rec.entry) }
+{
+    match rec {
+        Some(NodeRec::Broke { pid: other, .. }) => other.as_str() == pid,
+        Some(NodeRec::Gone { pid: other }) => other.as_str() == pid,
+        _ => false,
+    }
+}
+
+/// Where the node had taken the entry when it opened the session.
+pub(crate) fn before_birth(
+    logs: &Logs<'_>,
+    turns: &[Turn<'_>],
+    why: &Option<NotDue<'_>>,
+) -> Option<Cause>
+    ensures { result ≡ before_birth logs.now turns.now (option_map reason_of why.now) }
+{
+    if !matches!(why, Some(NotDue::BeforeBirth)) {
+        return None;
+    }
+    let turn = turns.get(0)?;
+    Some(Cause::BeforeBirth {
+        begin: first_of(logs, turn),
+        low: turn.low,
+    })
+}
+
+/// The last record, before the reach, by which the session changed the first of these rooms that it had left there.
+pub(crate) fn first_left(
+    logs: &Logs<'_>,
+    pid: &str,
+    turns: &[Turn<'_>],
+    reach: Reach,
+    rooms: &[Text],
+) -> Option<RecordPlace>
+    ensures { result ≡ first_left logs.now pid.now (map (turn_at logs.now) turns.now) reach rooms.now }
+{
+    for room in rooms {
+        if let Some(place) = left_before(logs, pid, turns, reach, room.as_str()) {
+            return Some(place);
+        }
+    }
+    None
+}
+
+/// The last record, before the reach, by which the session changed the room, if it left it there.
+fn left_before(
+    logs: &Logs<'_>,
+    pid: &str,
+    turns: &[Turn<'_>],
+    reach: Reach,
+    room: &str,
+) -> Option<RecordPlace>
+    ensures { result ≡ left_before logs.now pid.now (map (turn_at logs.now) turns.now) reach room.now }
+{
+    let change = last_change_of(logs, pid, turns, reach, room)?;
+    if change.joined {
+        return None;
+    }
+    Some(RecordPlace {
+        node: change.node,
+        number: change.number,
+    })
+}
+
+/// The rooms that the entry is for, if it is an event.
+pub(crate) fn rooms_named(entry: Option<&StreamRec>) -> &[Text]
+    ensures { result.now ≡ rooms_named (option_copied entry.entry) }
+{
+    match entry {
+        Some(StreamRec::Ev(event)) => event.rooms.as_slice(),
+        _ => &[],
+    }
+}
+
+/// Where the session held none of the entry's rooms when it reached the entry, and had left one of them.
+pub(crate) fn late_leave(
+    logs: &Logs<'_>,
+    pid: &str,
+    turns: &[Turn<'_>],
+    position: u64,
+    why: &Option<NotDue<'_>>,
+) -> Option<Cause>
+    ensures { result ≡ late_leave logs.now pid.now (map (turn_at logs.now) turns.now) position (option_map reason_of why.now) }
+{
+    if !matches!(why, Some(NotDue::NoCommonRoom)) {
+        return None;
+    }
+    let reach = reached_at(logs, turns, position)?;
+    let rooms = rooms_named(logs.stream().entry(position));
+    Some(Cause::LateLeave {
+        leave: first_left(logs, pid, turns, reach, rooms)?,
+    })
+}
+
+/// Where the session first reached the position.
+fn reached_at(logs: &Logs<'_>, turns: &[Turn<'_>], position: u64) -> Option<Reach>
+    ensures { result ≡ reached_at logs.now (map (turn_at logs.now) turns.now) position }
+{
+    first_reach(logs, turns, position)
+}

@@ -1,0 +1,88 @@
+//! Causes that were found, as they are told.
+ghost use Rattle.std.specs.Prelude.{◌≡◌, IfOk, IfSome, map};
+ghost use Rattle.std.specs.Option.{option_copied};
+ghost use Rattle.aud_rows.specs.ClientPlaces.{AreOf};
+ghost use Rattle.aud_causes.specs.Found.{cause_seen, shown_cause, shown_causes};
+ghost use Rattle.aud_causes.specs.Records.{name_of, node_of, place_of};
+
+use crate::cause::Cause;
+use crate::lines::lines_at;
+use crate::record_at::{node_of, push_records};
+use crate::why::why_text;
+use aud_node::Logs;
+use aud_rows::{ClientPlaces, Sheet};
+use std::alloc::{AllocError, Global};
+
+/// What a fault may come from, as it is told.
+#[derive(Debug, Drop)]
+pub struct CauseFound {
+    /// The name of the cause, for scripts: lower-case words joined by `-`.
+    pub id: &'static str,
+    /// Whether no other cause holds of those that the fault can have.
+    pub sure: bool,
+    /// The lines of the records that show it.
+    pub lines: Vec<u64>,
+    /// What happened, in a sentence.
+    pub why: String,
+    /// What to do.
+    pub todo: &'static str,
+}
+
+/// The causes, as they are told: each is sure exactly where it is the only one.
+pub(crate) fn shown_causes(
+    alloc: Global,
+    sheet: &Sheet<'_, '_>,
+    tap: Option<&ClientPlaces>,
+    numbers: &[usize],
+    found: &[Cause],
+) -> Result<Vec<CauseFound>, AllocError>
+    requires { IfSome (option_copied tap) (AreOf sheet.now.recording.now) }
+    ensures { IfOk result (λ causes. map cause_seen causes.items
+        ≡ shown_causes sheet.now.recording.now sheet.now.lines.now (place_of (option_copied tap.entry)) numbers.now found.now) }
+{
+    let sure = found.len() == 1;
+    let mut causes = Vec::new(alloc);
+    for cause in found {
+        causes.push(shown_cause(alloc, sheet, tap, numbers, sure, *cause)?)?;
+    }
+    Ok(causes)
+}
+
+fn shown_cause(
+    alloc: Global,
+    sheet: &Sheet<'_, '_>,
+    tap: Option<&ClientPlaces>,
+    numbers: &[usize],
+    sure: bool,
+    cause: Cause,
+) -> Result<CauseFound, AllocError>
+    requires { IfSome (option_copied tap) (AreOf sheet.now.recording.now) }
+    ensures { IfOk result (λ shown. cause_seen shown
+        ≡ shown_cause sheet.now.recording.now sheet.now.lines.now (place_of (option_copied tap.entry)) numbers.now sure cause) }
+{
+    let mut records = Vec::new(alloc);
+    push_records(&mut records, cause)?;
+    let lines = lines_at(alloc, sheet, tap, numbers, records.as_slice())?;
+    let node = name_of(sheet.recording.logs(), node_of(cause));
+    let why = why_text(alloc, cause, node)?;
+    Ok(CauseFound {
+        id: cause.id(),
+        sure,
+        lines,
+        why,
+        todo: cause.todo(),
+    })
+}
+
+/// The name of the tap at the place, if there is one; else the empty text.
+fn name_of<'a>(logs: &Logs<'a>, place: Option<usize>) -> &'a str
+    ensures { result.now ≡ name_of logs.now place }
+{
+    let Some(place) = place else {
+        return "";
+    };
+    match logs.taps().get(place) {
+        Some(tap) => tap.name.as_str(),
+        None => "",
+    }
+}

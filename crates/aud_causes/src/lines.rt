@@ -1,0 +1,117 @@
+//! The lines of the records that show a cause.
+ghost use Rattle.std.specs.Prelude.{◌≡◌, ◌++◌, IfOk, IfSome, OnOk, option_map, option_to_list};
+ghost use Rattle.std.specs.Option.{option_copied};
+ghost use Rattle.aud_rows.specs.ClientPlaces.{AreOf};
+ghost use Rattle.aud_rows.specs.Seen.{row_seen};
+ghost use Rattle.aud_rows.specs.StayRows.{stays_at};
+ghost use Rattle.aud_shown.specs.FramePlaces.{frame_at};
+ghost use Rattle.aud_causes.specs.Records.{client_row, line_at, line_of, lines_at, node_row_of, place_of};
+
+use crate::record_at::RecordAt;
+use aud_client::{IndexedTranscript, Recording, Stay};
+use aud_rows::{ClientPlaces, Role, Row, Sheet};
+use aud_shown::{FramePlace, frame_at};
+use std::alloc::{AllocError, Global};
+
+/// The lines of these records, of those that are known.
+pub(crate) fn lines_at(
+    alloc: Global,
+    sheet: &Sheet<'_, '_>,
+    tap: Option<&ClientPlaces>,
+    numbers: &[usize],
+    records: &[RecordAt],
+) -> Result<Vec<u64>, AllocError>
+    requires { IfSome (option_copied tap) (AreOf sheet.now.recording.now) }
+    ensures { IfOk result (λ found. found.items ≡ lines_at sheet.now.recording.now sheet.now.lines.now (place_of (option_copied tap.entry)) numbers.now records.now) }
+{
+    let mut found = Vec::new(alloc);
+    for record in records {
+        push_line(&mut found, line_at(sheet, tap, numbers, *record))?;
+    }
+    Ok(found)
+}
+
+fn push_line(found: &mut Vec<u64>, line: Option<u64>) -> Result<(), AllocError>
+    ensures { OnOk result (found.new.items ≡ found.old.items ++ option_to_list line) }
+{
+    if let Some(line) = line {
+        found.push(line)?;
+    }
+    Ok(())
+}
+
+/// The line of this record, if it is known. Those of clients are looked for in this tap, where these are the numbers of the
+/// session's stays.
+fn line_at(
+    sheet: &Sheet<'_, '_>,
+    tap: Option<&ClientPlaces>,
+    numbers: &[usize],
+    at: RecordAt,
+) -> Option<u64>
+    requires { IfSome (option_copied tap) (AreOf sheet.now.recording.now) }
+    ensures { result ≡ line_at sheet.now.recording.now sheet.now.lines.now (place_of (option_copied tap.entry)) numbers.now at }
+{
+    match tap {
+        Some(tap) => line_of(client_row(sheet, tap, numbers, at)),
+        None => line_of(node_row_of(sheet, at)),
+    }
+}
+
+fn line_of(row: Option<Row<'_>>) -> Option<u64>
+    ensures { result ≡ line_of (option_map row_seen row.entry) }
+{
+    Some(row?.line)
+}
+
+/// The row of a node's record.
+fn node_row_of<'r>(sheet: &Sheet<'r, '_>, at: RecordAt) -> Option<Row<'r>>
+    ensures { option_map row_seen result ≡ node_row_of sheet.now.recording.now sheet.now.lines.now at }
+{
+    match at {
+        RecordAt::Node(place) => sheet.node_row(place.node, place.number, Role::Fault),
+        _ => None,
+    }
+}
+
+/// The row of a node's record, or of one of the client's tap.
+fn client_row<'r>(
+    sheet: &Sheet<'r, '_>,
+    tap: &ClientPlaces,
+    numbers: &[usize],
+    at: RecordAt,
+) -> Option<Row<'r>>
+    requires { AreOf sheet.now.recording.now tap.now }
+    ensures { option_map row_seen result ≡ client_row sheet.now.recording.now sheet.now.lines.now tap.now.place numbers.now at }
+{
+    match at {
+        RecordAt::Node(place) => sheet.node_row(place.node, place.number, Role::Fault),
+        RecordAt::Got(frame) => {
+            let at = frame_in(sheet.recording, tap.place, numbers, frame)?;
+            sheet.frame_row(tap, at.stay, at.frame, Role::Fault)
+        }
+        RecordAt::Ask(stay) => sheet.ask_row(tap, *numbers.get(stay)?, Role::Fault),
+        RecordAt::Reply(stay) => sheet.reply_row(tap, *numbers.get(stay)?, Role::Fault),
+        RecordAt::First(number) => sheet.first_row(tap, number, Role::Fault),
+        RecordAt::Bad => sheet.bad_row(tap, Role::Fault),
+    }
+}
+
+/// Where the frame stands in the stays with these numbers.
+fn frame_in(
+    recording: &Recording<'_>,
+    client: usize,
+    numbers: &[usize],
+    frame: usize,
+) -> Option<FramePlace>
+    ensures { result ≡ frame_at (stays_at recording.now client) numbers.now frame }
+{
+    let client = recording.client(client)?;
+    frame_at(stays_of(client), numbers, frame)
+}
+
+/// The stays of a client's tap.
+fn stays_of<'s, 'a>(client: &'s IndexedTranscript<'a>) -> &'s [Stay<'a>]
+    ensures { result.now ≡ client.now.stays }
+{
+    client.transcript().stays.as_slice()
+}

@@ -1,0 +1,123 @@
+//! Causes that go by the facts of a difference alone.
+ghost use Rattle.std.specs.Prelude.{◌≡◌};
+ghost use Rattle.aud_causes.specs.Delivery.{doubled_live, is_live, is_outside, is_taken_live, lost_live, sent_again, skipped_in_window, stale_offset, swapped_live, is_replayed};
+
+use crate::cause::Cause;
+use crate::facts::{Facts, Replay};
+
+/// Whether the position is one that the node had to send again.
+pub(crate) fn is_replayed(replay: Replay, position: u64) -> bool
+    ensures { result ≡ is_replayed replay position }
+{
+    replay.after < position && position <= replay.low
+}
+
+/// Whether the entry came in no replay, for sure: its stay is no recovery, or it isn't one that was to be replayed.
+fn is_outside(facts: Facts) -> bool
+    ensures { result ≡ is_outside facts }
+{
+    if !facts.recovered {
+        return true;
+    }
+    match facts.replay {
+        Some(replay) => !is_replayed(replay, facts.parted.position),
+        None => false,
+    }
+}
+
+/// Whether the two frames stand in one stay, and the entry came in no replay.
+fn is_live(facts: Facts) -> bool
+    ensures { result ≡ is_live facts }
+{
+    facts.earlier == facts.later && is_outside(facts)
+}
+
+pub(crate) fn doubled_live(facts: Facts) -> Option<Cause>
+    ensures { result ≡ doubled_live facts }
+{
+    if !is_live(facts) {
+        return None;
+    }
+    Some(Cause::DoubledLive {
+        first: facts.parted.first,
+        again: facts.parted.again,
+    })
+}
+
+pub(crate) fn swapped_live(facts: Facts) -> Option<Cause>
+    ensures { result ≡ swapped_live facts }
+{
+    if !is_live(facts) {
+        return None;
+    }
+    Some(Cause::SwappedLive {
+        frame: facts.parted.first,
+        later: facts.parted.again,
+    })
+}
+
+/// Whether the node took the entry after it took the session back, if it did so.
+fn is_taken_live(facts: Facts) -> bool
+    ensures { result ≡ is_taken_live facts }
+{
+    if !facts.recovered {
+        return true;
+    }
+    match facts.replay {
+        Some(replay) => replay.low < facts.parted.position,
+        None => false,
+    }
+}
+
+pub(crate) fn lost_live(facts: Facts) -> Option<Cause>
+    ensures { result ≡ lost_live facts }
+{
+    if !is_taken_live(facts) {
+        return None;
+    }
+    Some(Cause::LostLive {
+        frame: facts.parted.again,
+    })
+}
+
+/// Where this is the first position past the cursor of the turn that came in the stay.
+pub(crate) fn sent_again(facts: Facts, past: Option<u64>) -> Option<Cause>
+    ensures { result ≡ sent_again facts past }
+{
+    let replay = facts.replay?;
+    if facts.earlier != facts.later || past != Some(facts.parted.position) {
+        return None;
+    }
+    Some(Cause::SentAgainAfterReplay {
+        first: facts.parted.first,
+        again: facts.parted.again,
+        low: replay.low,
+    })
+}
+
+pub(crate) fn stale_offset(facts: Facts) -> Option<Cause>
+    ensures { result ≡ stale_offset facts }
+{
+    let after = facts.asked?;
+    if facts.later <= facts.earlier || facts.parted.position <= after {
+        return None;
+    }
+    Some(Cause::StaleOffset {
+        stay: facts.later,
+        after,
+    })
+}
+
+pub(crate) fn skipped_in_window(facts: Facts) -> Option<Cause>
+    ensures { result ≡ skipped_in_window facts }
+{
+    let replay = facts.replay?;
+    if !is_replayed(replay, facts.parted.position) {
+        return None;
+    }
+    Some(Cause::SkippedInWindow {
+        stay: facts.later,
+        after: replay.after,
+        low: replay.low,
+    })
+}

@@ -1,0 +1,120 @@
+//! The records that show a cause.
+ghost use Rattle.std.specs.Prelude.{◌≡◌, ◌++◌, OnOk};
+ghost use Rattle.aud_causes.specs.Records.{node_of, records_of};
+
+use crate::cause::Cause;
+use aud_chain::RecordPlace;
+use std::alloc::AllocError;
+
+/// A record of the bundle: of a node, or of the session's client. Stays and frames are those of the session, but for `First`.
+#[derive(Clone, Copy, Debug, PartialEq, Eq, Drop)]
+pub enum RecordAt {
+    Node(RecordPlace),
+    /// A frame.
+    Got(usize),
+    /// What was asked in a stay.
+    Ask(usize),
+    /// The reply in a stay.
+    Reply(usize),
+    /// The first record of the stay with this number in the tap.
+    First(usize),
+    /// The tap's first record that is no packet.
+    Bad,
+}
+
+/// The node of which the cause speaks, by the place of its tap.
+pub(crate) fn node_of(cause: Cause) -> Option<usize>
+    ensures { result ≡ node_of cause }
+{
+    match cause {
+        Cause::NodeBehindBreak { back, .. } => Some(back.node),
+        Cause::LogEndedEarly { last, .. } => Some(last.node),
+        Cause::BeforeBirth { begin, .. } => Some(begin.node),
+        Cause::RestartedInOldLog { start } => Some(start.node),
+        Cause::EntriesSkippedByNode { taken, .. } => Some(taken.node),
+        Cause::NotInStream { taken } => Some(taken.node),
+        Cause::SessionOver { gone } => Some(gone.node),
+        _ => None,
+    }
+}
+
+/// Adds the records that show the cause.
+pub(crate) fn push_records(found: &mut Vec<RecordAt>, cause: Cause) -> Result<(), AllocError>
+    ensures { OnOk result (found.new.items ≡ found.old.items ++ records_of cause) }
+{
+    match cause {
+        Cause::NodeBehindBreak { broke, back, .. } => push_all(
+            found,
+            &[RecordAt::Node(broke), RecordAt::Node(back)],
+        ),
+        Cause::SentAgainAfterReplay { first, again, .. } => push_all(
+            found,
+            &[RecordAt::Got(first), RecordAt::Got(again)],
+        ),
+        Cause::StaleOffset { stay, .. } => push_all(found, &[RecordAt::Ask(stay)]),
+        Cause::OffsetOfAnotherSession { stay, .. } => push_all(found, &[RecordAt::Ask(stay)]),
+        Cause::UnknownOffset { stay } => push_all(found, &[RecordAt::Ask(stay)]),
+        Cause::NoOffset { stay } => push_all(found, &[RecordAt::Ask(stay)]),
+        Cause::RoomsAtBreak { stay, .. } => push_all(
+            found,
+            &[RecordAt::Ask(stay), RecordAt::Reply(stay)],
+        ),
+        Cause::SkippedInWindow { stay, .. } => push_all(
+            found,
+            &[RecordAt::Ask(stay), RecordAt::Reply(stay)],
+        ),
+        Cause::LostLive { frame } => push_all(found, &[RecordAt::Got(frame)]),
+        Cause::DoubledLive { first, again } => push_all(
+            found,
+            &[RecordAt::Got(first), RecordAt::Got(again)],
+        ),
+        Cause::SwappedLive { frame, later } => push_all(
+            found,
+            &[RecordAt::Got(frame), RecordAt::Got(later)],
+        ),
+        Cause::Altered { frame } => push_all(found, &[RecordAt::Got(frame)]),
+        Cause::LogEndedEarly { last, .. } => push_all(found, &[RecordAt::Node(last)]),
+        Cause::LateLeave { leave } => push_all(found, &[RecordAt::Node(leave)]),
+        Cause::BeforeBirth { begin, .. } => push_all(found, &[RecordAt::Node(begin)]),
+        Cause::MissingBreak {
+            begin,
+            back,
+            stay,
+            ..
+        } => push_all(
+            found,
+            &[
+                RecordAt::Node(begin),
+                RecordAt::Node(back),
+                RecordAt::Ask(stay),
+                RecordAt::Reply(stay),
+            ],
+        ),
+        Cause::RestartedInOldLog { start } => push_all(found, &[RecordAt::Node(start)]),
+        Cause::EntriesSkippedByNode { taken, .. } => push_all(found, &[RecordAt::Node(taken)]),
+        Cause::NotInStream { taken } => push_all(found, &[RecordAt::Node(taken)]),
+        Cause::SidDiffers { stay } => push_all(found, &[RecordAt::Reply(stay)]),
+        Cause::NamespaceDiffers { stay } => push_all(found, &[RecordAt::Reply(stay)]),
+        Cause::NotAPacket => push_all(found, &[RecordAt::Bad]),
+        Cause::TapBeganLate { stay } => push_all(found, &[RecordAt::First(stay)]),
+        Cause::CutBeforeReply { stay } => push_all(found, &[RecordAt::First(stay)]),
+        Cause::ReplyWithoutPid { stay } => push_all(found, &[RecordAt::First(stay)]),
+        Cause::SessionOver { gone } => push_all(found, &[RecordAt::Node(gone)]),
+        Cause::NeverBroken { begin } => push_all(found, &[RecordAt::Node(begin)]),
+        Cause::AskedTooEarly { broke, begin, .. } => push_all(
+            found,
+            &[RecordAt::Node(broke), RecordAt::Node(begin)],
+        ),
+        Cause::NodeNotTapped { .. } | Cause::TwoTaps { .. } | Cause::NoClientTap => Ok(()),
+    }
+}
+
+/// Adds these.
+fn push_all(found: &mut Vec<RecordAt>, records: &[RecordAt]) -> Result<(), AllocError>
+    ensures { OnOk result (found.new.items ≡ found.old.items ++ records.now) }
+{
+    for record in records {
+        found.push(*record)?;
+    }
+    Ok(())
+}

@@ -1,0 +1,85 @@
+//! What a fault of the recording may come from: one for which the session has no certificate.
+ghost use Rattle.std.specs.Prelude.{◌≡◌, IfOk, map, option_to_list};
+ghost use Rattle.aud_causes.specs.Recorded.{AreChainCauses, AreRecordedCauses, order_at, stays_of_client};
+
+use crate::cause::Cause;
+use crate::list::push_cause;
+use crate::logs::{chain_cause, first_recovery, order_cause};
+use crate::names::client_cause;
+use aud_cert::Fault;
+use aud_chain::{RecordPlace, first_misfit};
+use aud_client::{Recording, Stay};
+use aud_node::Logs;
+use std::alloc::{AllocError, Global};
+
+/// The causes of such a fault of the session with this pid, whose one client's tap is at this place, if it has one, where this
+/// record of a node is out of order, if one is.
+pub(crate) fn recorded_causes(
+    alloc: Global,
+    recording: &Recording<'_>,
+    client: Option<usize>,
+    pid: &str,
+    fault: &Fault,
+    unordered: Option<RecordPlace>,
+) -> Result<Vec<Cause>, AllocError>
+    ensures { IfOk result (λ found. AreRecordedCauses recording.now client pid.now unordered fault.now found.items) }
+{
+    match fault {
+        Fault::NoLog => one_cause(alloc, Some(Cause::NodeNotTapped { turn: 0 })),
+        Fault::Chain => chain_causes(alloc, recording, client, pid),
+        Fault::Order => one_cause(alloc, order_at(recording.logs(), unordered)),
+        Fault::Client => one_cause(alloc, client_cause(recording, pid)),
+        _ => Ok(Vec::new(alloc)),
+    }
+}
+
+/// The cause alone, if it holds.
+pub(crate) fn one_cause(alloc: Global, cause: Option<Cause>) -> Result<Vec<Cause>, AllocError>
+    ensures { IfOk result (λ found. found.items ≡ option_to_list cause) }
+{
+    let mut found = Vec::new(alloc);
+    push_cause(&mut found, cause)?;
+    Ok(found)
+}
+
+/// The cause of the misfit in the session's chain of turns.
+fn chain_causes(
+    alloc: Global,
+    recording: &Recording<'_>,
+    client: Option<usize>,
+    pid: &str,
+) -> Result<Vec<Cause>, AllocError>
+    ensures { IfOk result (λ found. AreChainCauses recording.now client pid.now found.items) }
+{
+    let misfit = first_misfit(alloc, recording.logs(), pid)?;
+    let Some(misfit) = misfit else {
+        return Ok(Vec::new(alloc));
+    };
+    let stays = stays_of_client(alloc, recording, client, pid)?;
+    one_cause(alloc, chain_cause(misfit, first_recovery(stays.as_slice())))
+}
+
+/// The stays of the client's tap at this place whose reply names the session.
+fn stays_of_client<'r, 'a>(
+    alloc: Global,
+    recording: &'r Recording<'a>,
+    client: Option<usize>,
+    pid: &str,
+) -> Result<Vec<&'r Stay<'a>>, AllocError>
+    ensures { IfOk result (λ stays. map (λ stay. stay.now) stays.items ≡ stays_of_client recording.now client pid.now) }
+{
+    let Some(client) = client else {
+        return Ok(Vec::new(alloc));
+    };
+    match recording.client(client) {
+        Some(transcript) => transcript.naming(alloc, pid),
+        None => Ok(Vec::new(alloc)),
+    }
+}
+
+/// The cause for which this record of a node is out of order, if one is.
+fn order_at(logs: &Logs<'_>, unordered: Option<RecordPlace>) -> Option<Cause>
+    ensures { result ≡ order_at logs.now unordered }
+{
+    order_cause(logs, unordered?)
+}

@@ -1,0 +1,191 @@
+//! What the refusal of a recovery may come from.
+ghost use Rattle.std.specs.Prelude.{◌≡◌, ◌∷◌, [], IfOk, None, Some, map, slice_get};
+ghost use Rattle.aud_recoveries.specs.Recoveries.{stays_at};
+ghost use Rattle.aud_rows.specs.ClientPlaces.{AreOf};
+ghost use Rattle.aud_causes.specs.Found.{cause_seen, shown_causes};
+ghost use Rattle.aud_causes.specs.Refusals.{asked_causes, asked_too_early, broke_past, cursor_there, first_open, got_of, last_break, never_broken, offset_cause, refusal_causes, refused_causes, session_over};
+
+use crate::cause::Cause;
+use crate::found::{CauseFound, shown_causes};
+use crate::list::push_cause;
+use aud_chain::{Mark, RecordPlace, TurnMark, turn_marks};
+use aud_client::{Asked, Stay};
+use aud_node::{Logs, Stream};
+use aud_recoveries::{Recovery, stay_of};
+use aud_rows::{ClientPlaces, Sheet};
+use std::alloc::{AllocError, Global};
+
+/// What the refusal of this recovery may come from: of the causes that it can have those that hold, in a fixed order. One is
+/// sure exactly where it is the only one. `tap` is that of the client. It costs the records that begin and end the turns of two
+/// sessions: of the one that was asked for, and of the one that the client got.
+pub fn causes_of_refusal<'r>(
+    alloc: Global,
+    sheet: &Sheet<'r, '_>,
+    tap: &ClientPlaces,
+    recovery: &Recovery,
+) -> Result<Vec<CauseFound>, AllocError>
+    requires { AreOf sheet.now.recording.now tap.now }
+    ensures { IfOk result (λ causes. map cause_seen causes.items
+        ≡ shown_causes sheet.now.recording.now sheet.now.lines.now (Some tap.now.place) (recovery.now.stay ∷ [])
+        (refusal_causes sheet.now.recording.now (slice_get (stays_at sheet.now.recording.now recovery.now.client) recovery.now.stay))) }
+{
+    let Some(stay) = stay_of(sheet.recording, recovery) else {
+        return Ok(Vec::new(alloc));
+    };
+    let found = stay_causes(alloc, sheet.recording.logs(), stay)?;
+    let numbers = [recovery.stay];
+    shown_causes(alloc, sheet, Some(tap), &numbers, found.as_slice())
+}
+
+/// The causes for the stay in which it was refused.
+fn stay_causes(alloc: Global, logs: &Logs<'_>, stay: &Stay<'_>) -> Result<Vec<Cause>, AllocError>
+    ensures { IfOk result (λ found. found.items ≡ refusal_causes logs.now (Some stay.now)) }
+{
+    match &stay.asked {
+        Some(asked) => asked_causes(alloc, logs, asked, got_of(stay)),
+        None => Ok(Vec::new(alloc)),
+    }
+}
+
+/// The session that the client got; the empty text where it got none.
+fn got_of<'s>(stay: &'s Stay<'_>) -> &'s str
+    ensures { result.now ≡ got_of stay.now.reply }
+{
+    match &stay.reply {
+        Some(reply) => match &reply.pid {
+            Some(pid) => pid.as_str(),
+            None => "",
+        },
+        None => "",
+    }
+}
+
+/// The causes where the client asked for this, and got this session.
+fn asked_causes(
+    alloc: Global,
+    logs: &Logs<'_>,
+    asked: &Asked,
+    got: &str,
+) -> Result<Vec<Cause>, AllocError>
+    ensures { IfOk result (λ found. found.items ≡ asked_causes logs.now asked.now got.now) }
+{
+    let marks = turn_marks(alloc, logs, asked.pid.as_str())?;
+    let opening = turn_marks(alloc, logs, got)?;
+    let offset = offset_cause(logs.stream(), asked);
+    refused_causes(alloc, logs, offset, marks.as_slice(), opening.as_slice())
+}
+
+/// Those of the offset and of the records that begin and end the turns of the two sessions.
+fn refused_causes(
+    alloc: Global,
+    logs: &Logs<'_>,
+    offset: Option<Cause>,
+    marks: &[TurnMark],
+    opening: &[TurnMark],
+) -> Result<Vec<Cause>, AllocError>
+    ensures { IfOk result (λ found. found.items ≡ refused_causes logs.now offset marks.now opening.now) }
+{
+    let mut found = Vec::new(alloc);
+    push_cause(&mut found, offset)?;
+    push_cause(&mut found, session_over(marks))?;
+    push_cause(&mut found, never_broken(marks))?;
+    push_cause(&mut found, asked_too_early(logs, marks, opening))?;
+    Ok(found)
+}
+
+/// Where the client gave no offset, or one that the stream doesn't have.
+fn offset_cause(stream: &Stream<'_>, asked: &Asked) -> Option<Cause>
+    ensures { result ≡ offset_cause stream.now asked.now.offset }
+{
+    let Some(off) = &asked.offset else {
+        return Some(Cause::NoOffset { stay: 0 });
+    };
+    match stream.position(off.as_str()) {
+        Some(_) => None,
+        None => Some(Cause::UnknownOffset { stay: 0 }),
+    }
+}
+
+/// Where a node recorded the session's end.
+fn session_over(marks: &[TurnMark]) -> Option<Cause>
+    ensures { result ≡ session_over marks.now }
+{
+    for mark in marks {
+        if let Mark::Gone = mark.mark {
+            return Some(Cause::SessionOver { gone: mark.place });
+        }
+    }
+    None
+}
+
+/// Where a node opened the session, and none recorded a break of it.
+fn never_broken(marks: &[TurnMark]) -> Option<Cause>
+    ensures { result ≡ never_broken marks.now }
+{
+    if last_break(marks).is_some() {
+        return None;
+    }
+    Some(Cause::NeverBroken {
+        begin: first_open(marks)?,
+    })
+}
+
+/// The record that opened the session.
+fn first_open(marks: &[TurnMark]) -> Option<RecordPlace>
+    ensures { result ≡ first_open marks.now }
+{
+    for mark in marks {
+        if let Mark::Open = mark.mark {
+            return Some(mark.place);
+        }
+    }
+    None
+}
+
+/// The break of the last turn that has one.
+fn last_break(marks: &[TurnMark]) -> Option<RecordPlace>
+    ensures { result ≡ last_break 0 None marks.now }
+{
+    let mut last = None;
+    let mut turn = 0;
+    for mark in marks {
+        if let Mark::Break { turn: broken } = mark.mark {
+            if turn <= broken {
+                turn = broken;
+                last = Some(mark.place);
+            }
+        }
+    }
+    last
+}
+
+/// Where the session broke with its node's cursor past the one with which the session was opened that the client got.
+fn asked_too_early(logs: &Logs<'_>, marks: &[TurnMark], opening: &[TurnMark]) -> Option<Cause>
+    ensures { result ≡ asked_too_early logs.now marks.now opening.now }
+{
+    broke_past(logs, last_break(marks)?, first_open(opening)?)
+}
+
+/// The same of this break and this `open`.
+fn broke_past(logs: &Logs<'_>, broke: RecordPlace, begin: RecordPlace) -> Option<Cause>
+    ensures { result ≡ broke_past logs.now broke begin }
+{
+    let high = cursor_there(logs, broke)?;
+    let low = cursor_there(logs, begin)?;
+    if high <= low {
+        return None;
+    }
+    Some(Cause::AskedTooEarly {
+        broke,
+        begin,
+        high,
+        low,
+    })
+}
+
+/// The node's cursor after the record at this place.
+fn cursor_there(logs: &Logs<'_>, place: RecordPlace) -> Option<u64>
+    ensures { result ≡ cursor_there logs.now place }
+{
+    logs.node(place.node)?.cursor_after(place.number)
+}

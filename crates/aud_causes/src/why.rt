@@ -1,0 +1,259 @@
+//! What happened, in a sentence.
+ghost use Rattle.std.specs.Prelude.{◌≡◌, ◌++◌, IfOk, OnOk, map, string_bytes};
+ghost use Rattle.aud_causes.specs.Words.{piece_seen, piece_text, sentence_text, why_text};
+
+use crate::cause::Cause;
+use std::alloc::{AllocError, Global};
+
+/// A piece of a sentence.
+#[derive(Clone, Copy, Debug, PartialEq, Eq, Drop)]
+pub enum Piece<'t> {
+    Words(&'t str),
+    Number(u64),
+}
+
+/// What happened, where the node in question, if the cause speaks of one, has this name.
+pub(crate) fn why_text(alloc: Global, cause: Cause, node: &str) -> Result<String, AllocError>
+    ensures { IfOk result (λ text. string_bytes text ≡ why_text node.now cause) }
+{
+    match cause {
+        Cause::NodeBehindBreak { high, low, .. } => sentence(
+            alloc,
+            &[
+                Piece::Words(node),
+                Piece::Words(" took the session back with its cursor at "),
+                Piece::Number(low),
+                Piece::Words("; the break was at "),
+                Piece::Number(high),
+                Piece::Words("."),
+            ],
+        ),
+        Cause::SentAgainAfterReplay { low, .. } => sentence(
+            alloc,
+            &[
+                Piece::Words("The replay ran past the node's cursor at "),
+                Piece::Number(low),
+                Piece::Words(", and the node sent again what it took then."),
+            ],
+        ),
+        Cause::StaleOffset { after, .. } => sentence(
+            alloc,
+            &[
+                Piece::Words("The client asked to go on after entry "),
+                Piece::Number(after),
+                Piece::Words(", and had later ones already."),
+            ],
+        ),
+        Cause::OffsetOfAnotherSession { after, .. } => sentence(
+            alloc,
+            &[
+                Piece::Words("The client asked to go on after entry "),
+                Piece::Number(after),
+                Piece::Words(", which was not due to this session."),
+            ],
+        ),
+        Cause::UnknownOffset { .. } => sentence(
+            alloc,
+            &[Piece::Words(
+                "The client asked to go on after an offset that no entry of the stream has.",
+            )],
+        ),
+        Cause::NoOffset { .. } => sentence(
+            alloc,
+            &[Piece::Words("The client asked for the session and gave no offset.")],
+        ),
+        Cause::RoomsAtBreak { after, low, .. } => sentence(
+            alloc,
+            &[
+                Piece::Words("Of the entries after "),
+                Piece::Number(after),
+                Piece::Words(" up to "),
+                Piece::Number(low),
+                Piece::Words(", exactly those came that are for the rooms held at the break."),
+            ],
+        ),
+        Cause::SkippedInWindow { after, low, .. } => sentence(
+            alloc,
+            &[
+                Piece::Words("The entry is one of those to be sent again, after "),
+                Piece::Number(after),
+                Piece::Words(" up to "),
+                Piece::Number(low),
+                Piece::Words(", and was left out."),
+            ],
+        ),
+        Cause::LostLive { .. } => sentence(
+            alloc,
+            &[Piece::Words(
+                "The node took the entry while the client was connected, and no frame of it came.",
+            )],
+        ),
+        Cause::DoubledLive { .. } => sentence(
+            alloc,
+            &[Piece::Words(
+                "No recovery stands between the two frames: the entry came twice while the client was connected.",
+            )],
+        ),
+        Cause::SwappedLive { .. } => sentence(
+            alloc,
+            &[Piece::Words(
+                "No recovery stands between the two frames: they changed places while the client was connected.",
+            )],
+        ),
+        Cause::Altered { .. } => sentence(
+            alloc,
+            &[Piece::Words("The event is not the entry as the stream's tap has it.")],
+        ),
+        Cause::LogEndedEarly { high, .. } => sentence(
+            alloc,
+            &[
+                Piece::Words("The log of "),
+                Piece::Words(node),
+                Piece::Words(" ends in the session's last turn; the turns reach entry "),
+                Piece::Number(high),
+                Piece::Words("."),
+            ],
+        ),
+        Cause::LateLeave { .. } => sentence(
+            alloc,
+            &[Piece::Words(
+                "The session had left a room of the entry before it reached the entry.",
+            )],
+        ),
+        Cause::BeforeBirth { low, .. } => sentence(
+            alloc,
+            &[
+                Piece::Words(node),
+                Piece::Words(
+                    " had taken the entry when it opened the session, with its cursor at ",
+                ),
+                Piece::Number(low),
+                Piece::Words("."),
+            ],
+        ),
+        Cause::MissingBreak { turn, .. } => sentence(
+            alloc,
+            &[
+                Piece::Words("The client recovered the session after turn "),
+                Piece::Number(turn as u64),
+                Piece::Words(", so that turn broke; no log has its break."),
+            ],
+        ),
+        Cause::NodeNotTapped { turn } => sentence(
+            alloc,
+            &[
+                Piece::Words("No node's log has the begin of turn "),
+                Piece::Number(turn as u64),
+                Piece::Words("."),
+            ],
+        ),
+        Cause::RestartedInOldLog { .. } => sentence(
+            alloc,
+            &[
+                Piece::Words(node),
+                Piece::Words(" started again in its old log."),
+            ],
+        ),
+        Cause::EntriesSkippedByNode {
+            cursor,
+            position,
+            ..
+        } => sentence(
+            alloc,
+            &[
+                Piece::Words(node),
+                Piece::Words(" took entry "),
+                Piece::Number(position),
+                Piece::Words(" with its cursor at "),
+                Piece::Number(cursor),
+                Piece::Words("."),
+            ],
+        ),
+        Cause::NotInStream { .. } => sentence(
+            alloc,
+            &[
+                Piece::Words(node),
+                Piece::Words(" names an entry that the stream's tap doesn't have."),
+            ],
+        ),
+        Cause::TwoTaps { taps } => sentence(
+            alloc,
+            &[
+                Piece::Number(taps as u64),
+                Piece::Words(" taps of clients name the session."),
+            ],
+        ),
+        Cause::NoClientTap => sentence(
+            alloc,
+            &[Piece::Words("No tap of a client names the session.")],
+        ),
+        Cause::SidDiffers { .. } => sentence(
+            alloc,
+            &[Piece::Words("The reply has another sid than the session was opened with.")],
+        ),
+        Cause::NamespaceDiffers { .. } => sentence(
+            alloc,
+            &[Piece::Words("The reply is of another namespace than the session was opened in.")],
+        ),
+        Cause::NotAPacket => sentence(
+            alloc,
+            &[Piece::Words("A record of the client's tap is no packet.")],
+        ),
+        Cause::TapBeganLate { .. } => sentence(
+            alloc,
+            &[Piece::Words(
+                "Events came in a stay without a reply, and no session was asked for in it.",
+            )],
+        ),
+        Cause::CutBeforeReply { .. } => sentence(
+            alloc,
+            &[Piece::Words("The client asked for a session, and events came, but no reply did.")],
+        ),
+        Cause::ReplyWithoutPid { .. } => sentence(
+            alloc,
+            &[Piece::Words("The reply names no session: the server recovers none there.")],
+        ),
+        Cause::SessionOver { .. } => sentence(
+            alloc,
+            &[
+                Piece::Words("The log of "),
+                Piece::Words(node),
+                Piece::Words(" ends the session."),
+            ],
+        ),
+        Cause::NeverBroken { .. } => sentence(
+            alloc,
+            &[Piece::Words("No log has a break of the session.")],
+        ),
+        Cause::AskedTooEarly { high, low, .. } => sentence(
+            alloc,
+            &[
+                Piece::Words("The session broke with its node's cursor at "),
+                Piece::Number(high),
+                Piece::Words("; another was opened instead with the cursor at "),
+                Piece::Number(low),
+                Piece::Words("."),
+            ],
+        ),
+    }
+}
+
+/// The pieces, one after the other.
+fn sentence(alloc: Global, pieces: &[Piece<'_>]) -> Result<String, AllocError>
+    ensures { IfOk result (λ text. string_bytes text ≡ sentence_text (map piece_seen pieces.now)) }
+{
+    let mut text = String::new(alloc);
+    for piece in pieces {
+        push_piece(&mut text, *piece)?;
+    }
+    Ok(text)
+}
+
+fn push_piece(text: &mut String, piece: Piece<'_>) -> Result<(), AllocError>
+    ensures { OnOk result (string_bytes text.new ≡ string_bytes text.old ++ piece_text (piece_seen piece.entry)) }
+{
+    match piece {
+        Piece::Words(words) => text.push_str(words),
+        Piece::Number(number) => write!(text, "{number}"),
+    }
+}

@@ -1,0 +1,7 @@
+pub mod Only
+pub mod Numbers
+pub mod Due
+pub mod Shown
+pub mod Counts
+pub mod AlsoLemmas
+pub mod Reached

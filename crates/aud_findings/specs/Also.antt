@@ -1,0 +1,124 @@
+-- Other entries of a session with the same fault.
+use Rattle.std.specs.Prelude.{◌≡◌, ◌⊎◌, ◌++◌, ◌&&◌, not, ℕ, suc, Bool, true, false, List, [], ◌∷◌, map, take, count_by, nat_eq, nat_lt, option_to_list, Option, if◌then◌else◌}
+use Rattle.std.specs.List.{filter}
+use Rattle.std.specs.Option.{option_map, option_and_then}
+use Rattle.aud_node.specs.Cluster.{Cluster}
+use Rattle.aud_node.specs.Stream.{Text}
+use Rattle.aud_cert.specs.declared.fault.Fault.{Fault}
+use Rattle.aud_cert.specs.declared.fault.Fault.TheVariants as fault
+use Rattle.aud_evidence.specs.declared.difference.Difference.{Difference}
+use Rattle.aud_evidence.specs.declared.difference.Difference.TheVariants.{Extra, Doubled, Swapped, Lost}
+use Rattle.aud_evidence.specs.Difference.{IsDifference}
+use Rattle.aud_evidence.specs.Window.{positions_received}
+use Rattle.aud_lines.specs.TapLines.{TapLines}
+use Rattle.aud_report.specs.declared.verdict.Verdict.{Verdict}
+use Rattle.aud_report.specs.declared.verdict.Verdict.TheVariants.{Yes, No}
+use Rattle.aud_rows.specs.declared.row.Role.TheVariants.{Entry, Later}
+use Rattle.aud_rows.specs.Rows.{stream_row}
+use Rattle.aud_rows.specs.Seen.{RowSeen}
+use Rattle.aud_rows.specs.StayRows.{frame_row, stays_at}
+use Rattle.aud_shown.specs.declared.frame_place.FramePlace.{FramePlace}
+use Rattle.aud_shown.specs.FramePlaces.{frame_at}
+use Rattle.aud_shown.specs.ShowsDifference.{AreNumbersOf}
+use Rattle.aud_verdict.specs.Session.{SessionLogs, IsSession, own_stays, due_to}
+use Rattle.aud_findings.specs.declared.finding.AlsoShown.{AlsoShown}
+use Rattle.aud_findings.specs.Received.{greatest}
+use Rattle.aud_findings.specs.ShowsDelivery.{AreDueFirst}
+
+-- ---- which entries
+
+-- how often the position was received
+abbrev pub times : List ℕ → ℕ → ℕ
+times received p = count_by (λ q. nat_eq q p) received
+
+-- it was received again
+abbrev pub is_again : List ℕ → ℕ → Bool
+is_again received p = nat_lt 1 (times received p)
+
+-- it was passed over: it was not received, and one after it was
+abbrev pub is_passed : List ℕ → ℕ → Bool
+is_passed received p = not (nat_lt 0 (times received p)) && nat_lt p (greatest received)
+
+-- it has the fault of the difference too, and is another one
+abbrev pub is_also : List ℕ → Difference → ℕ → Bool
+is_also received (Doubled first again position) p = is_again received p && not (nat_eq p position)
+is_also received (Lost frame due) p = is_passed received p && not (nat_eq p due)
+is_also received _ p = false
+
+-- the first hundred of those due that have it, ascending: of an entry that came twice those that came twice, of one that was
+-- lost those that were passed over; of others none
+abbrev pub others : List ℕ → List ℕ → Difference → List ℕ
+others received due difference = take 100 (filter (is_also received difference) due)
+
+-- ---- their lines
+
+-- the line of a row, if there is one
+abbrev pub line_of : Option RowSeen → List ℕ
+line_of row = option_to_list (option_map (λ (r : RowSeen). r.line) row)
+
+-- the row of the frame with this number, over the stays of the client's tap at the place with these numbers
+abbrev pub frame_row_at : Cluster → List TapLines → ℕ → List ℕ → ℕ → Option RowSeen
+frame_row_at c lines place numbers frame =
+    option_and_then (λ (at : FramePlace). frame_row c lines place at.stay at.frame Later) (frame_at (stays_at c place) numbers frame)
+
+-- its line
+abbrev pub frame_line : Cluster → List TapLines → ℕ → List ℕ → ℕ → List ℕ
+frame_line c lines place numbers frame = line_of (frame_row_at c lines place numbers frame)
+
+-- those of the frames of the position, of which these frames are the first and on
+abbrev pub frame_lines : Cluster → List TapLines → ℕ → List ℕ → ℕ → ℕ → List ℕ → List ℕ
+frame_lines c lines place numbers p frame [] = []
+frame_lines c lines place numbers p frame (q ∷ received) =
+    (if nat_eq q p then frame_line c lines place numbers frame else []) ++ frame_lines c lines place numbers p (suc frame) received
+
+-- the lines that show the entry: that of the entry which was lost; those of all frames of one that came twice
+abbrev pub also_lines : Cluster → List TapLines → ℕ → List ℕ → List ℕ → Difference → ℕ → List ℕ
+also_lines c lines place numbers received (Lost frame due) p = line_of (stream_row c lines p Entry)
+also_lines c lines place numbers received _ p = frame_lines c lines place numbers p 0 received
+
+-- ---- both
+
+-- another entry: its position, and its lines
+pub record AlsoSeen : Type 0 where
+  pub position : ℕ
+  pub lines : List ℕ
+
+abbrev pub also_seen : AlsoShown → AlsoSeen
+also_seen also = record { position = also.position; lines = also.lines.items }
+
+abbrev pub also_at : Cluster → List TapLines → ℕ → List ℕ → List ℕ → Difference → ℕ → AlsoSeen
+also_at c lines place numbers received difference p = record { position = p; lines = also_lines c lines place numbers received difference p }
+
+-- these are the other entries with the fault of the difference between what was received of the session and what was due to it
+pub record AreOthers (c : Cluster) (lines : List TapLines) (pid : Text) (s : SessionLogs) (also : List AlsoSeen) : Type 0 where
+  pub difference : Difference
+  pub is_difference : IsDifference (positions_received (own_stays c s)) (due_to c s) difference
+  pub numbers : List ℕ
+  pub are_its_stays : AreNumbersOf c pid s.client numbers
+  pub are : also
+      ≡ map (also_at c lines s.client numbers (positions_received (own_stays c s)) difference)
+      (others (positions_received (own_stays c s)) (due_to c s) difference)
+
+-- these are those of the session with this pid; none where what was received doesn't part from what was due
+pub record AreAlso (c : Cluster) (lines : List TapLines) (pid : Text) (also : List AlsoSeen) : Type 0 where
+  pub session : SessionLogs
+  pub is_session : IsSession c pid session
+  pub are : AreOthers c lines pid session also ⊎ (AreDueFirst c session × (also ≡ []))
+
+-- ---- where they are told of
+
+-- the fault is that what was received parts from what was due
+abbrev pub is_parting : Fault → Bool
+is_parting (fault.Extra off) = true
+is_parting (fault.Doubled off) = true
+is_parting (fault.Swapped off) = true
+is_parting (fault.Lost off) = true
+is_parting _ = false
+
+abbrev pub is_parted : Verdict → Bool
+is_parted (Yes got tail turns) = false
+is_parted (No fault) = is_parting fault
+
+-- they are told of where they are asked for, and else there are none
+abbrev pub IsAlsoShown : Cluster → List TapLines → Text → Bool → List AlsoSeen → Type 0
+IsAlsoShown c lines pid asked also = (asked ≡ true → AreAlso c lines pid also) × (asked ≡ false → also ≡ [])

@@ -1,0 +1,15 @@
+pub use Rattle.aud_node.specs.Cluster
+pub use Rattle.aud_rows.specs.Seen
+pub use Rattle.aud_shown.specs.RowLists
+pub use Rattle.aud_account.specs.Account
+pub use Rattle.aud_recording_faults.specs.Prepared
+pub mod Behind
+pub mod RoomRows
+pub mod BesideRows
+pub mod ShowsDelivery
+pub mod Evidence
+pub mod ClientShown
+pub mod Received
+pub mod Also
+-- what private contracts alone cite
+pub mod Private

@@ -1,0 +1,89 @@
+-- What was received of what was due.
+use Rattle.std.specs.Prelude.{◌≡◌, ◌+◌, ◌&&◌, ℕ, Bool, true, false, List, [], ◌∷◌, length, max, count_by, nat_lt, Option, Some, None, MatchOption}
+use Rattle.aud_node.specs.Cluster.{Cluster}
+use Rattle.aud_node.specs.Stream.{Text}
+use Rattle.aud_cert.specs.declared.fault.Fault.{Fault}
+use Rattle.aud_cert.specs.declared.fault.Fault.TheVariants.{NoLog, Chain, Order, Client, Names, Frame, Orphan, Content, Extra, Doubled, Swapped, Lost, Window, Tail}
+use Rattle.aud_check.specs.Frames.{AreEntries, frames_in}
+use Rattle.aud_client.specs.StaySeen.{StaySeen}
+use Rattle.aud_evidence.specs.declared.content.Altered.{Altered}
+use Rattle.aud_evidence.specs.declared.difference.Difference.{Difference}
+use Rattle.aud_evidence.specs.declared.difference.Difference.TheVariants as difference
+use Rattle.aud_evidence.specs.Content.{IsAltered}
+use Rattle.aud_evidence.specs.Difference.{IsDifference}
+use Rattle.aud_evidence.specs.Window.{positions_received}
+use Rattle.aud_explanation.specs.declared.client.Account.{Account}
+use Rattle.aud_merge.specs.ByTurns.{IsPrefixOf}
+use Rattle.aud_report.specs.declared.verdict.Verdict.{Verdict}
+use Rattle.aud_report.specs.declared.verdict.Verdict.TheVariants.{Yes, No}
+use Rattle.aud_verdict.specs.Session.{SessionLogs, IsSession, own_stays, due_to}
+
+-- ---- where the delivery is judged
+
+abbrev pub is_delivery : Fault → Bool
+is_delivery (Content off) = true
+is_delivery (Extra off) = true
+is_delivery (Doubled off) = true
+is_delivery (Swapped off) = true
+is_delivery (Lost off) = true
+is_delivery (Window conn) = true
+is_delivery (Tail count) = true
+is_delivery _ = false
+
+-- the delivery was judged: the verdict is a yes, or a fault of the delivery
+abbrev pub is_judged : Verdict → Bool
+is_judged (Yes got tail turns) = true
+is_judged (No fault) = is_delivery fault
+
+-- ---- the figures
+
+-- the greatest of the positions, which count from 1; 0 where there are none
+abbrev pub greatest : List ℕ → ℕ
+greatest [] = 0
+greatest (p ∷ positions) = max p (greatest positions)
+
+-- how many of those due are past all that were received
+abbrev pub tail_of : List ℕ → List ℕ → ℕ
+tail_of received due = count_by (nat_lt (greatest received)) due
+
+-- the frame at which a difference shows
+abbrev pub frame_of : Difference → ℕ
+frame_of (difference.Extra frame position) = frame
+frame_of (difference.Doubled first again position) = again
+frame_of (difference.Swapped frame due later) = frame
+frame_of (difference.Lost frame due) = frame
+
+-- it is the frame, which counts from 1, at which these positions received part from those due
+pub record IsDifferenceFrame (received due : List ℕ) (at_frame : ℕ) : Type 0 where
+  pub found : Difference
+  pub is_difference : IsDifference received due found
+  pub at_is : at_frame ≡ frame_of found + 1
+
+-- it is the frame, which counts from 1, at which the difference shows, if there is one
+abbrev pub IsAtFrame : List ℕ → List ℕ → Fault → Option ℕ → Type 0
+IsAtFrame received due (Extra off) at_frame = MatchOption at_frame (IsPrefixOf received due) (IsDifferenceFrame received due)
+IsAtFrame received due (Doubled off) at_frame = MatchOption at_frame (IsPrefixOf received due) (IsDifferenceFrame received due)
+IsAtFrame received due (Swapped off) at_frame = MatchOption at_frame (IsPrefixOf received due) (IsDifferenceFrame received due)
+IsAtFrame received due (Lost off) at_frame = MatchOption at_frame (IsPrefixOf received due) (IsDifferenceFrame received due)
+IsAtFrame received due fault at_frame = at_frame ≡ None
+
+abbrev pub IsAtFrameOf : List ℕ → List ℕ → Verdict → Option ℕ → Type 0
+IsAtFrameOf received due (Yes got tail turns) at_frame = at_frame ≡ None
+IsAtFrameOf received due (No fault) at_frame = IsAtFrame received due fault at_frame
+
+-- these are the figures of what was received and what was due
+pub record AreFigures (received due : List ℕ) (verdict : Verdict) (figures : Account) : Type 0 where
+  pub got_is : figures.got ≡ length received
+  pub due_is : figures.due ≡ length due
+  pub tail_is : figures.tail ≡ tail_of received due
+  pub at_is : IsAtFrameOf received due verdict figures.at_frame
+
+-- these are those of the session with this pid
+pub record AreFiguresOf (c : Cluster) (pid : Text) (verdict : Verdict) (figures : Account) : Type 0 where
+  pub session : SessionLogs
+  pub is_session : IsSession c pid session
+  pub are_figures : AreFigures (positions_received (own_stays c session)) (due_to c session) verdict figures
+
+-- what is told of it: nothing, where its turns and its client aren't known, or the delivery was not judged
+abbrev pub IsReceivedShown : Cluster → Text → Bool → Verdict → Option Account → Type 0
+IsReceivedShown c pid known verdict figures = MatchOption figures ((known && is_judged verdict) ≡ false) (AreFiguresOf c pid verdict)

@@ -1,0 +1,266 @@
+//! The other entries that have the same fault, with the lines that show it.
+ghost use Rattle.std.specs.Prelude.{◌≡◌, ◌++◌, ◌&&◌, [], IfOk, IfSome, OnOk, if◌then◌else◌, is_some, map, option_map};
+ghost use Rattle.aud_account.specs.Account.{IsAccount};
+ghost use Rattle.aud_rows.specs.ClientPlaces.{AreOf};
+ghost use Rattle.aud_rows.specs.declared.row.Role.TheVariants.{Entry};
+ghost use Rattle.aud_rows.specs.Rows.{stream_row};
+ghost use Rattle.aud_rows.specs.Seen.{row_seen};
+ghost use Rattle.aud_rows.specs.StayRows.{stays_at};
+ghost use Rattle.aud_shown.specs.FramePlaces.{frame_at};
+ghost use Rattle.aud_recording_faults.specs.Prepared.{IsPreparedOf};
+ghost use Rattle.aud_findings.specs.Also.{AreAlso, IsAlsoShown, also_at, also_lines, also_seen, frame_line, frame_lines, frame_row_at, is_parted, is_parting, line_of};
+
+use crate::finding::AlsoShown;
+use crate::others::others;
+use aud_account::{Account, positions_received};
+use aud_cert::Fault;
+use aud_client::{IndexedTranscript, Recording};
+use aud_evidence::{Difference, first_difference};
+use aud_recording_faults::{Prepared, numbers_naming};
+use aud_report::Verdict;
+use aud_rows::{ClientPlaces, Role, Row, Sheet};
+use aud_shown::{FramePlace, frame_at};
+use std::alloc::{AllocError, Global};
+
+/// The other entries that have the fault, where the verdict is that what was received parts from what was due, and there is an
+/// account; else none. The tap of the client is read where it wasn't prepared.
+pub(crate) fn also_found<'r, 'a>(
+    alloc: Global,
+    sheet: &Sheet<'r, 'a>,
+    prepared: &Prepared,
+    pid: &str,
+    verdict: &Verdict,
+    account: Option<&Account<'r, 'a>>,
+) -> Result<Vec<AlsoShown>, AllocError>
+    requires prepared { IsPreparedOf sheet.now.recording.now prepared.now }
+    requires account { IfSome account (λ a. IsAccount sheet.now.recording.now pid.now a.now.client (map (λ stay. stay.now) a.now.stays.items) a.now.due.items) }
+    ensures { IfOk result (λ also. IsAlsoShown sheet.now.recording.now sheet.now.lines.now pid.now (is_some account.entry && is_parted verdict.now) (map also_seen also.items)) }
+{
+    match account {
+        Some(account) if is_parted(verdict) => also_in(alloc, sheet, prepared, pid, account),
+        _ => Ok(Vec::new(alloc)),
+    }
+}
+
+/// The same by the account.
+fn also_in<'r, 'a>(
+    alloc: Global,
+    sheet: &Sheet<'r, 'a>,
+    prepared: &Prepared,
+    pid: &str,
+    account: &Account<'r, 'a>,
+) -> Result<Vec<AlsoShown>, AllocError>
+    requires prepared { IsPreparedOf sheet.now.recording.now prepared.now }
+    requires account { IsAccount sheet.now.recording.now pid.now account.now.client (map (λ stay. stay.now) account.now.stays.items) account.now.due.items }
+    ensures { IfOk result (λ also. AreAlso sheet.now.recording.now sheet.now.lines.now pid.now (map also_seen also.items)) }
+{
+    match prepared.tap(account.client) {
+        Some(tap) => also_of(alloc, sheet, tap, pid, account),
+        None => {
+            let tap = ClientPlaces::read(alloc, sheet.recording.logs(), account.client)?;
+            also_of(alloc, sheet, &tap, pid, account)
+        }
+    }
+}
+
+/// Whether the verdict is that what was received parts from what was due.
+fn is_parted(verdict: &Verdict) -> bool
+    ensures { result ≡ is_parted verdict.now }
+{
+    match verdict {
+        Verdict::Yes { .. } => false,
+        Verdict::No(fault) => is_parting(fault),
+    }
+}
+
+fn is_parting(fault: &Fault) -> bool
+    ensures { result ≡ is_parting fault.now }
+{
+    match fault {
+        Fault::Extra(_) => true,
+        Fault::Doubled(_) => true,
+        Fault::Swapped(_) => true,
+        Fault::Lost(_) => true,
+        _ => false,
+    }
+}
+
+/// The other entries with the fault of the first difference between what was received of the session and what was due to it;
+/// none where there is no difference. Each of a hundred entries at most costs what was received.
+fn also_of<'r, 'a>(
+    alloc: Global,
+    sheet: &Sheet<'r, 'a>,
+    tap: &ClientPlaces,
+    pid: &str,
+    account: &Account<'r, 'a>,
+) -> Result<Vec<AlsoShown>, AllocError>
+    requires tap { AreOf sheet.now.recording.now tap.now }
+    requires place { tap.now.place ≡ account.now.client }
+    requires account { IsAccount sheet.now.recording.now pid.now account.now.client (map (λ stay. stay.now) account.now.stays.items) account.now.due.items }
+    ensures { IfOk result (λ also. AreAlso sheet.now.recording.now sheet.now.lines.now pid.now (map also_seen also.items)) }
+{
+    let numbers = numbers_naming(sheet.recording, tap.place, pid);
+    let stays = account.stays.as_slice();
+    let got = positions_received(alloc, stays)?;
+    let received = got.as_slice();
+    let due = account.due.as_slice();
+    let Some(difference) = first_difference(received, due) else {
+        return Ok(Vec::new(alloc));
+    };
+    let keys = sheet.recording.logs().keys();
+    let found = others(alloc, keys, received, due, difference)?;
+    let entries = found.as_slice();
+    all_shown(alloc, sheet, tap, numbers, received, difference, entries)
+}
+
+/// These entries, with their lines.
+fn all_shown(
+    alloc: Global,
+    sheet: &Sheet<'_, '_>,
+    tap: &ClientPlaces,
+    numbers: &[usize],
+    received: &[u64],
+    difference: Difference,
+    others: &[u64],
+) -> Result<Vec<AlsoShown>, AllocError>
+    requires { AreOf sheet.now.recording.now tap.now }
+    ensures { IfOk result (λ also. map also_seen also.items
+        ≡ map (also_at sheet.now.recording.now sheet.now.lines.now tap.now.place numbers.now received.now difference) others.now) }
+{
+    let mut also = Vec::new(alloc);
+    for position in others {
+        let shown = also_at(alloc, sheet, tap, numbers, received, difference, *position)?;
+        also.push(shown)?;
+    }
+    Ok(also)
+}
+
+/// The entry at this position, with its lines.
+fn also_at(
+    alloc: Global,
+    sheet: &Sheet<'_, '_>,
+    tap: &ClientPlaces,
+    numbers: &[usize],
+    received: &[u64],
+    difference: Difference,
+    position: u64,
+) -> Result<AlsoShown, AllocError>
+    requires { AreOf sheet.now.recording.now tap.now }
+    ensures { IfOk result (λ also. also_seen also ≡ also_at sheet.now.recording.now sheet.now.lines.now tap.now.place numbers.now received.now difference position) }
+{
+    let lines = lines_of(alloc, sheet, tap, numbers, received, difference, position)?;
+    Ok(AlsoShown { position, lines })
+}
+
+/// The lines that show it: that of an entry that was lost, and else those of its frames.
+fn lines_of(
+    alloc: Global,
+    sheet: &Sheet<'_, '_>,
+    tap: &ClientPlaces,
+    numbers: &[usize],
+    received: &[u64],
+    difference: Difference,
+    position: u64,
+) -> Result<Vec<u64>, AllocError>
+    requires { AreOf sheet.now.recording.now tap.now }
+    ensures { IfOk result (λ lines. lines.items ≡ also_lines sheet.now.recording.now sheet.now.lines.now tap.now.place numbers.now received.now difference position) }
+{
+    match difference {
+        Difference::Lost { .. } => entry_lines(alloc, sheet, position),
+        Difference::Extra { .. } => frame_lines(alloc, sheet, tap, numbers, received, position),
+        Difference::Doubled { .. } => frame_lines(alloc, sheet, tap, numbers, received, position),
+        Difference::Swapped { .. } => frame_lines(alloc, sheet, tap, numbers, received, position),
+    }
+}
+
+/// The line of the entry.
+fn entry_lines(alloc: Global, sheet: &Sheet<'_, '_>, position: u64) -> Result<Vec<u64>, AllocError>
+    ensures { IfOk result (λ lines. lines.items ≡ line_of (stream_row sheet.now.recording.now sheet.now.lines.now position Entry)) }
+{
+    let mut lines = Vec::new(alloc);
+    push_line(&mut lines, sheet.stream_row(position, Role::Entry))?;
+    Ok(lines)
+}
+
+/// The lines of all frames of the position, where these are the positions of all frames.
+fn frame_lines(
+    alloc: Global,
+    sheet: &Sheet<'_, '_>,
+    tap: &ClientPlaces,
+    numbers: &[usize],
+    received: &[u64],
+    position: u64,
+) -> Result<Vec<u64>, AllocError>
+    requires { AreOf sheet.now.recording.now tap.now }
+    ensures { IfOk result (λ lines. lines.items ≡ frame_lines sheet.now.recording.now sheet.now.lines.now tap.now.place numbers.now position 0 received.now) }
+{
+    let mut lines = Vec::new(alloc);
+    for (frame, other) in received.iter().enumerate() {
+        push_frame(&mut lines, sheet, tap, numbers, frame, *other == position)?;
+    }
+    Ok(lines)
+}
+
+/// Adds the line of the frame, where it is of the position.
+fn push_frame(
+    lines: &mut Vec<u64>,
+    sheet: &Sheet<'_, '_>,
+    tap: &ClientPlaces,
+    numbers: &[usize],
+    frame: usize,
+    is_of: bool,
+) -> Result<(), AllocError>
+    requires { AreOf sheet.now.recording.now tap.now }
+    ensures { OnOk result (lines.new.items ≡ lines.old.items ++ (if is_of then frame_line sheet.now.recording.now sheet.now.lines.now tap.now.place numbers.now frame else [])) }
+{
+    if !is_of {
+        return Ok(());
+    }
+    push_line(lines, frame_row(sheet, tap, numbers, frame))
+}
+
+/// Adds the line of the row, if there is one.
+fn push_line(lines: &mut Vec<u64>, row: Option<Row<'_>>) -> Result<(), AllocError>
+    ensures { OnOk result (lines.new.items ≡ lines.old.items ++ line_of (option_map row_seen row.entry)) }
+{
+    if let Some(row) = row {
+        lines.push(row.line)?;
+    }
+    Ok(())
+}
+
+/// The row of the frame with this number over these stays.
+fn frame_row<'r>(
+    sheet: &Sheet<'r, '_>,
+    tap: &ClientPlaces,
+    numbers: &[usize],
+    frame: usize,
+) -> Option<Row<'r>>
+    requires { AreOf sheet.now.recording.now tap.now }
+    ensures { option_map row_seen result ≡ frame_row_at sheet.now.recording.now sheet.now.lines.now tap.now.place numbers.now frame }
+{
+    let at = place_of(sheet.recording, tap.place, numbers, frame)?;
+    sheet.frame_row(tap, at.stay, at.frame, Role::Later)
+}
+
+/// Where that frame stands.
+#[tactic(auto, using(aud_recording_faults::proofs::Told::told_some, aud_shown::proofs::NoClient::no_frame))]
+fn place_of(
+    recording: &Recording<'_>,
+    place: usize,
+    numbers: &[usize],
+    frame: usize,
+) -> Option<FramePlace>
+    ensures { result ≡ frame_at (stays_at recording.now place) numbers.now frame }
+{
+    match recording.client(place) {
+        Some(client) => place_in(client, numbers, frame),
+        None => None,
+    }
+}
+
+fn place_in(client: &IndexedTranscript<'_>, numbers: &[usize], frame: usize) -> Option<FramePlace>
+    ensures { result ≡ frame_at client.now.stays numbers.now frame }
+{
+    frame_at(&client.transcript().stays, numbers, frame)
+}

@@ -1,0 +1,81 @@
+//! What shows that the node of a turn was behind the one before it.
+ghost use Rattle.std.specs.Prelude.{◌≡◌, ◌-◌, ◌<◌, ◌≤◌, ◌+◌, IfOk, IfSome, find, length, map, option_map, slice_get};
+ghost use Rattle.std.specs.Option.{option_copied};
+ghost use Rattle.aud_node.specs.Lists.{numbers_from};
+ghost use Rattle.aud_rows.specs.Seen.{row_seen};
+ghost use Rattle.aud_rows.specs.TrueRow.{IsTrueRow};
+ghost use Rattle.aud_shown.specs.RowLists.{AreTrueRows};
+ghost use Rattle.aud_findings.specs.Behind.{begun_row, behind_rows, behind_rows_at, broken_row, first_behind, is_behind, is_behind_at};
+
+use aud_cert::{Turn, turn_place};
+use aud_recording_faults::push_row;
+use aud_rows::{Row, Sheet};
+use std::alloc::{AllocError, Global};
+
+/// The rows of the `break` and the `back` of the first turn that began behind the one before it, with the position between;
+/// none where no turn did.
+pub(crate) fn behind_rows<'r>(
+    alloc: Global,
+    sheet: &Sheet<'r, '_>,
+    turns: &[Turn<'_>],
+    position: u64,
+) -> Result<Vec<Row<'r>>, AllocError>
+    ensures rows { IfOk result (λ rows. map row_seen rows.items ≡ behind_rows sheet.now.recording.now sheet.now.lines.now turns.now position) }
+    ensures truth { IfOk result (λ rows. AreTrueRows sheet.now.recording.now sheet.now.lines.now rows.items) }
+{
+    let mut rows = Vec::new(alloc);
+    let Some(number) = first_behind(turns, position) else {
+        return Ok(rows);
+    };
+    push_row(&mut rows, broken_row(sheet, turns, number - 1))?;
+    push_row(&mut rows, begun_row(sheet, turns, number))?;
+    Ok(rows)
+}
+
+/// The number of that turn.
+fn first_behind(turns: &[Turn<'_>], position: u64) -> Option<usize>
+    ensures found { result ≡ first_behind position turns.now }
+    ensures after { IfSome result (λ number. 1 ≤ number) }
+{
+    for number in 1..turns.len() {
+        if is_behind_at(turns, position, number) {
+            return Some(number);
+        }
+    }
+    None
+}
+
+/// Whether the turn with this number is such a one.
+fn is_behind_at(turns: &[Turn<'_>], position: u64, number: usize) -> bool
+    requires { 1 ≤ number }
+    ensures { result ≡ is_behind_at position turns.now number }
+{
+    is_behind(turns.get(number - 1), turns.get(number), position)
+}
+
+fn is_behind(before: Option<&Turn<'_>>, next: Option<&Turn<'_>>, position: u64) -> bool
+    ensures { result ≡ is_behind position (option_copied before.entry) (option_copied next.entry) }
+{
+    match (before, next) {
+        (Some(before), Some(next)) => position <= before.high && next.low < position,
+        _ => false,
+    }
+}
+
+/// The row of the `break` that ends the turn with this number.
+fn broken_row<'r>(sheet: &Sheet<'r, '_>, turns: &[Turn<'_>], number: usize) -> Option<Row<'r>>
+    ensures row { option_map row_seen result ≡ broken_row sheet.now.recording.now sheet.now.lines.now turns.now number }
+    ensures truth { IfSome result (IsTrueRow sheet.now.recording.now sheet.now.lines.now) }
+{
+    let turn = turns.get(number)?;
+    sheet.break_row(turn_place(sheet.recording.logs(), turn))
+}
+
+/// The row of the record that begins the turn with this number.
+fn begun_row<'r>(sheet: &Sheet<'r, '_>, turns: &[Turn<'_>], number: usize) -> Option<Row<'r>>
+    ensures row { option_map row_seen result ≡ begun_row sheet.now.recording.now sheet.now.lines.now turns.now number }
+    ensures truth { IfSome result (IsTrueRow sheet.now.recording.now sheet.now.lines.now) }
+{
+    let turn = turns.get(number)?;
+    sheet.begin_row(turn_place(sheet.recording.logs(), turn))
+}

@@ -1,0 +1,34 @@
+//! What an explanation finds of a session, by its pid and the verdict on it: the records that show the fault, the client that
+//! had the session, what that received of what was due, and other entries with the same fault.
+//!
+//! With the `sheet` of a recording in which client `c1`, at place 3, got the event of entry 2 twice in its session `P`, the
+//! verdict on which is `verdict`:
+//!
+//! ```
+//! use aud_account::account_of;
+//! use aud_findings::{Prepared, finding_of};
+//!
+//! let prepared = Prepared::read(&rt, alloc, 4, sheet.recording, &[3], false)?;
+//! let account = account_of(alloc, sheet.recording, "P")?;
+//! let finding = finding_of(alloc, sheet, &prepared, "P", &verdict, account.as_ref())?;
+//! let client = finding.client.ok_or("no one client")?;
+//! assert_eq!(rt; client.tap, "c1");
+//! assert_eq!(rt; client.conn, Some(2));
+//! ```
+#![tactic(auto)]
+
+mod account;
+mod also;
+mod behind;
+mod beside;
+mod client;
+mod delivery;
+mod evidence;
+mod finding;
+mod in_client;
+mod others;
+mod rooms;
+mod seen;
+
+pub use aud_recording_faults::{Prepared, PreparedTap};
+pub use finding::{AlsoShown, Finding, finding_of};

@@ -1,0 +1,4 @@
+pub mod Told
+pub mod Read
+pub mod Naming
+pub mod Nodes

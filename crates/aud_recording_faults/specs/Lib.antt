@@ -1,0 +1,20 @@
+pub use Rattle.aud_node.specs.Cluster
+pub use Rattle.aud_client.specs.Replies
+pub use Rattle.aud_rooms.specs.Turns
+pub use Rattle.aud_chain.specs.Misfit
+pub use Rattle.aud_rows.specs.Seen
+pub use Rattle.aud_rows.specs.ClientPlaces
+pub use Rattle.aud_rows.specs.StayRows
+pub use Rattle.aud_shown.specs.RowLists
+pub use Rattle.aud_shown.specs.ShowsDifference
+pub mod Prepared
+pub mod NamingReplies
+pub mod ShowsNoLog
+pub mod ShowsClient
+pub mod ShowsChain
+pub mod ShowsOrder
+pub mod ShowsNames
+pub mod ShowsFrame
+pub mod ShowsOrphan
+-- what private contracts alone cite
+pub mod Private

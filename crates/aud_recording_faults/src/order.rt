@@ -1,0 +1,66 @@
+//! What shows that a node on which a session was is out of order.
+ghost use Rattle.std.specs.Prelude.{◌≡◌, IfOk, IfSome, MatchOption, map};
+ghost use Rattle.std.specs.List.{All, Contains};
+ghost use Rattle.aud_node.specs.Cluster.{node_log};
+ghost use Rattle.aud_evidence.specs.Order.{AreInOrder, IsFirstOutOfOrder};
+ghost use Rattle.aud_rows.specs.Seen.{row_seen};
+ghost use Rattle.aud_shown.specs.RowLists.{AreTrueRows};
+ghost use Rattle.aud_recording_faults.specs.Prepared.{IsOrderRead, IsPreparedOf};
+ghost use Rattle.aud_recording_faults.specs.ShowsOrder.{AreOrdered, ShowsOrder};
+
+use crate::prepared::{Prepared, PreparedTap};
+use aud_chain::RecordPlace;
+use aud_evidence::first_unordered;
+use aud_node::Logs;
+use aud_rows::{Row, Sheet};
+use aud_shown::order_rows;
+use std::alloc::{AllocError, Global};
+
+/// The rows of the first record out of order of a node that has records of the session, the first such node in the order of
+/// the taps, and of the record before; none where the logs of all those nodes are in order. A log whose order wasn't prepared
+/// is gone through.
+pub fn order_shown<'r>(
+    alloc: Global,
+    sheet: &Sheet<'r, '_>,
+    prepared: &Prepared,
+    pid: &str,
+) -> Result<Option<Vec<Row<'r>>>, AllocError>
+    requires { IsPreparedOf sheet.now.recording.now prepared.now }
+    ensures shown { IfOk result (λ found. MatchOption found (AreOrdered sheet.now.recording.now pid.now)
+        (λ rows. ShowsOrder sheet.now.recording.now sheet.now.lines.now pid.now (map row_seen rows.items))) }
+    ensures truth { IfOk result (λ found. IfSome found (λ rows. AreTrueRows sheet.now.recording.now sheet.now.lines.now rows.items)) }
+{
+    let logs = sheet.recording.logs();
+    match first_of(prepared, logs, logs.nodes_of(pid)) {
+        Some(at) => Ok(Some(order_rows(alloc, sheet, at.node, at.number)?)),
+        None => Ok(None),
+    }
+}
+
+/// The first record out of order of the first of these nodes that has one.
+fn first_of(prepared: &Prepared, logs: &Logs<'_>, nodes: &[usize]) -> Option<RecordPlace>
+    requires { IsPreparedOf logs.now prepared.now }
+    ensures { MatchOption result (All (λ node. AreInOrder logs.now.stream (node_log logs.now node)) nodes.now)
+        (λ at. Contains nodes.now at.node × IsFirstOutOfOrder logs.now.stream (node_log logs.now at.node) at.number) }
+{
+    for node in nodes {
+        if let Some(number) = unordered_at(prepared, logs, *node) {
+            return Some(RecordPlace {
+                node: *node,
+                number,
+            });
+        }
+    }
+    None
+}
+
+/// The number of the first record out of order of the node at this place.
+fn unordered_at(prepared: &Prepared, logs: &Logs<'_>, node: usize) -> Option<usize>
+    requires { IsPreparedOf logs.now prepared.now }
+    ensures { IsOrderRead logs.now node result }
+{
+    match prepared.at(node) {
+        Some(PreparedTap::Order { unordered }) => *unordered,
+        _ => first_unordered(logs, node),
+    }
+}

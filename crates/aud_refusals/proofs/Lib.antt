@@ -1,0 +1,4 @@
+pub mod ItemsLemmas
+pub mod TextsLemmas
+pub mod LawLemmas
+pub mod KindsTold

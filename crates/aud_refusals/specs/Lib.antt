@@ -1,0 +1,10 @@
+pub mod Members
+pub mod Opened
+pub mod Excess
+pub mod TapName
+pub mod JsonHelp
+pub mod FieldHelp
+pub mod LimitHelp
+pub mod KindHelp
+pub mod Help
+pub mod Laws

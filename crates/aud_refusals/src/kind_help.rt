@@ -1,0 +1,120 @@
+//! Help on a line whose kind, header or offset does not fit in its tap.
+ghost use Rattle.std.specs.Prelude.{◌≡◌, ◌++◌, OnOk, option_map, string_bytes};
+ghost use Rattle.aud_fields.specs.View.{view};
+ghost use Rattle.aud_reader.specs.Record.{tap_of_kind};
+ghost use Rattle.aud_refusals.specs.KindHelp.{first_help, header_text, kind_help, nodes_text, offset_help, offset_text, owner_text, second_help, unknown_text, version_help};
+
+use crate::kinds::tap_of_kind;
+use crate::member::{number_at, text_at};
+use aud_fields::Fields;
+use aud_tap::limits::{MAX_OFFSET, fits};
+use aud_tap::{TapKind, is_id};
+use std::alloc::AllocError;
+
+/// Puts the line of the tap's first header at the end, where it is known.
+pub fn push_header(out: &mut String, header: Option<u64>) -> Result<(), AllocError>
+    ensures { OnOk result (string_bytes out.new ≡ string_bytes out.old ++ header_text header) }
+{
+    match header {
+        Some(line) => writeln!(out, "The header of this tap stands on line {line}."),
+        None => Ok(()),
+    }
+}
+
+/// The taps of nodes that have records of this kind.
+fn nodes_text(kind: &str) -> &'static str
+    ensures { result.now ≡ nodes_text kind.now }
+{
+    if kind == "takes" {
+        "Records of this kind stand in the taps of nodes that are written in version 2.\n"
+    } else {
+        "Records of this kind stand in the taps of nodes.\n"
+    }
+}
+
+/// The taps that have records of this kind.
+fn owner_text(kind: &str) -> &'static str
+    ensures { result.now ≡ owner_text kind.now (tap_of_kind kind.now) }
+{
+    match tap_of_kind(kind) {
+        None => "No tap has records of this kind.\n",
+        Some(TapKind::Stream) => "Records of this kind stand in the tap of the stream.\n",
+        Some(TapKind::Node) => nodes_text(kind),
+        Some(TapKind::Client) => "Records of this kind stand in the taps of clients.\n",
+    }
+}
+
+fn push_unknown(out: &mut String, kind: &str, header: Option<u64>) -> Result<(), AllocError>
+    ensures { OnOk result (string_bytes out.new ≡ string_bytes out.old ++ unknown_text kind.now header) }
+{
+    if kind == "tap" {
+        return out.push_str("The field of has to be stream, node or client.\n");
+    }
+    out.push_str(owner_text(kind))?;
+    push_header(out, header)
+}
+
+/// Puts help on the value of a line whose kind is unknown at the end.
+pub fn push_kind_help(
+    out: &mut String,
+    d: &Fields<'_>,
+    header: Option<u64>,
+) -> Result<(), AllocError>
+    ensures { OnOk result (string_bytes out.new ≡ string_bytes out.old ++ kind_help (view d.now) header) }
+{
+    match text_at("k", d) {
+        Some(kind) => push_unknown(out, kind, header),
+        None => Ok(()),
+    }
+}
+
+/// Puts help on a header of another version at the end.
+pub fn push_version_help(out: &mut String, d: &Fields<'_>) -> Result<(), AllocError>
+    ensures { OnOk result (string_bytes out.new ≡ string_bytes out.old ++ version_help (view d.now)) }
+{
+    match number_at("v", d) {
+        Some(v) => writeln!(out, "The field v is {v}; the versions 1 and 2 are read."),
+        None => Ok(()),
+    }
+}
+
+fn push_offset(out: &mut String, off: &str) -> Result<(), AllocError>
+    ensures { OnOk result (string_bytes out.new ≡ string_bytes out.old ++ offset_text (Some off.now)) }
+{
+    if is_id(off) && fits(MAX_OFFSET, off) {
+        return writeln!(out, "An earlier entry of the stream has the offset {off}.");
+    }
+    Ok(())
+}
+
+/// Puts help on an entry whose offset an earlier one has at the end.
+pub fn push_offset_help(out: &mut String, d: &Fields<'_>) -> Result<(), AllocError>
+    ensures { OnOk result (string_bytes out.new ≡ string_bytes out.old ++ offset_help (view d.now)) }
+{
+    match text_at("off", d) {
+        Some(off) => push_offset(out, off),
+        None => Ok(()),
+    }
+}
+
+/// Puts help on the header of a second stream at the end.
+pub fn push_second_help(out: &mut String, header: Option<u64>) -> Result<(), AllocError>
+    ensures { OnOk result (string_bytes out.new ≡ string_bytes out.old ++ second_help header) }
+{
+    match header {
+        Some(line) => writeln!(
+            out,
+            "A bundle may have one stream: its header stands on line {line}."
+        ),
+        None => out.push_str("A bundle may have one stream.\n"),
+    }
+}
+
+/// Puts help on a first line that is no header at the end.
+pub fn push_first_help(out: &mut String) -> Result<(), AllocError>
+    ensures { OnOk result (string_bytes out.new ≡ string_bytes out.old ++ first_help) }
+{
+    out.push_str(
+        "The first line of a tap is its header: k is tap, v is 1 or 2, and of is stream, node or client.\n",
+    )
+}

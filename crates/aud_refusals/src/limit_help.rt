@@ -1,0 +1,158 @@
+//! Help on a line of which a length, a number or a count is outside its limits.
+ghost use Rattle.std.specs.Prelude.{◌≡◌, ◌++◌, codes, OnOk, string_bytes};
+ghost use Rattle.aud_fields.specs.View.{view};
+ghost use Rattle.aud_tap.specs.Json.{text_at};
+ghost use Rattle.aud_refusals.specs.LimitHelp.{at_most_text, count_text, excess_text, item_text, kind_named, length_text, limit_help, node_text, records_text, taps_text};
+
+use crate::excess::{Excess, first_excess};
+use crate::kinds::{tap_kind, tap_of_kind};
+use crate::member::{Member, text_at};
+use crate::members::members_of;
+use aud_fields::Fields;
+use aud_tap::TapKind;
+use std::alloc::AllocError;
+
+/// The most node taps of a bundle.
+const MAX_NODE_TAPS: usize = 64;
+
+/// The most client taps of a bundle.
+const MAX_CLIENT_TAPS: usize = 4_096;
+
+/// The most entries of a stream.
+const MAX_ENTRIES: usize = 1_000_000;
+
+/// The most records of a node's tap or a client's.
+const MAX_RECORDS: usize = 4_000_000;
+
+/// The most different pids of the records of all nodes.
+const MAX_PIDS: usize = 65_536;
+
+fn push_length(out: &mut String, length: usize, most: usize) -> Result<(), AllocError>
+    ensures { OnOk result (string_bytes out.new ≡ string_bytes out.old ++ length_text length most) }
+{
+    writeln!(out, " has {length} bytes; it may have 1 to {most}.")
+}
+
+fn push_item(out: &mut String, member: Member, place: usize) -> Result<(), AllocError>
+    ensures { OnOk result (string_bytes out.new ≡ string_bytes out.old ++ item_text member place) }
+{
+    let key = member.key();
+    write!(out, "Item {place} of the field {key}")
+}
+
+fn push_excess(out: &mut String, excess: Excess) -> Result<(), AllocError>
+    ensures { OnOk result (string_bytes out.new ≡ string_bytes out.old ++ excess_text excess) }
+{
+    match excess {
+        Excess::Length {
+            member,
+            length,
+            most,
+        } => {
+            let key = member.key();
+            write!(out, "The field {key}")?;
+            push_length(out, length, most)
+        }
+        Excess::Count {
+            member,
+            count,
+            most,
+        } => {
+            let key = member.key();
+            writeln!(
+                out,
+                "The field {key} has {count} items; it may have at most {most}."
+            )
+        }
+        Excess::Item {
+            member,
+            place,
+            length,
+            most,
+        } => {
+            push_item(out, member, place)?;
+            push_length(out, length, most)
+        }
+        Excess::Number {
+            member,
+            number,
+            most,
+        } => {
+            let key = member.key();
+            writeln!(
+                out,
+                "The field {key} is {number}; it may be at most {most}."
+            )
+        }
+    }
+}
+
+/// Puts how many parts a whole may have at the end.
+pub fn push_at_most(
+    out: &mut String,
+    whole: &str,
+    most: usize,
+    parts: &str,
+) -> Result<(), AllocError>
+    ensures { OnOk result (string_bytes out.new ≡ string_bytes out.old ++ at_most_text whole.now most parts.now) }
+{
+    writeln!(out, "{whole} may have at most {most} {parts}.")
+}
+
+fn push_taps(out: &mut String, of: Option<TapKind>) -> Result<(), AllocError>
+    ensures { OnOk result (string_bytes out.new ≡ string_bytes out.old ++ taps_text of) }
+{
+    match of {
+        Some(TapKind::Node) => push_at_most(out, "A bundle", MAX_NODE_TAPS, "taps of nodes"),
+        Some(TapKind::Client) => push_at_most(out, "A bundle", MAX_CLIENT_TAPS, "taps of clients"),
+        Some(TapKind::Stream) | None => Ok(()),
+    }
+}
+
+fn push_node(out: &mut String, records: usize, pids: usize) -> Result<(), AllocError>
+    ensures { OnOk result (string_bytes out.new ≡ string_bytes out.old ++ node_text records pids) }
+{
+    push_at_most(out, "A tap", records, "records")?;
+    push_at_most(out, "The taps of nodes", pids, "different pids")
+}
+
+fn push_records(out: &mut String, of: Option<TapKind>) -> Result<(), AllocError>
+    ensures { OnOk result (string_bytes out.new ≡ string_bytes out.old ++ records_text of) }
+{
+    match of {
+        Some(TapKind::Stream) => push_at_most(out, "A stream", MAX_ENTRIES, "entries"),
+        Some(TapKind::Node) => push_node(out, MAX_RECORDS, MAX_PIDS),
+        Some(TapKind::Client) => push_at_most(out, "A tap", MAX_RECORDS, "records"),
+        None => Ok(()),
+    }
+}
+
+/// The kind of tap that a header names.
+fn kind_named(d: &Fields<'_>) -> Option<TapKind>
+    ensures { result ≡ kind_named (text_at (codes "of") (view d.now)) }
+{
+    tap_kind(text_at("of", d)?)
+}
+
+fn push_count(out: &mut String, kind: &str, d: &Fields<'_>) -> Result<(), AllocError>
+    ensures { OnOk result (string_bytes out.new ≡ string_bytes out.old ++ count_text kind.now (view d.now)) }
+{
+    if kind == "tap" {
+        push_taps(out, kind_named(d))
+    } else {
+        push_records(out, tap_of_kind(kind))
+    }
+}
+
+/// Puts help on the value of a line of which a length, a number or a count is outside its limits at the end.
+pub fn push_limit_help(out: &mut String, d: &Fields<'_>) -> Result<(), AllocError>
+    ensures { OnOk result (string_bytes out.new ≡ string_bytes out.old ++ limit_help (view d.now)) }
+{
+    let Some(kind) = text_at("k", d) else {
+        return Ok(());
+    };
+    match first_excess(members_of(kind), d) {
+        Some(excess) => push_excess(out, excess),
+        None => push_count(out, kind, d),
+    }
+}

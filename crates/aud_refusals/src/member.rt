@@ -1,0 +1,233 @@
+//! The members of a line's object.
+ghost use Rattle.std.specs.Prelude.{◌≡◌, is_some, IfOk, option_map, option_and_then};
+ghost use Rattle.aud_fields.specs.View.{field_view, list_view, text_view, view};
+ghost use Rattle.aud_tap.specs.Json.{text_at};
+ghost use Rattle.serde_json.specs.Find.{as_str};
+ghost use Rattle.aud_reader.specs.Fields.{all_items, as_blob, blobs_at, bytes_at, decoded, id_at, id_or_null, id_or_null_at, namespace_at, number_at, texts_at};
+ghost use Rattle.aud_refusals.specs.Members.{is_formed, key_of};
+
+use aud_fields::{Field, Fields};
+use aud_tap::{is_id, is_namespace};
+use base64::DecodeAllocError;
+use base64::engine::general_purpose::STANDARD;
+use std::alloc::{AllocError, Global};
+
+/// A member of the object of a line: docs/FORMAT.md has the forms of each.
+#[derive(Clone, Copy, Debug, PartialEq, Eq, Drop)]
+pub enum Member {
+    Kind,
+    Version,
+    Of,
+    Off,
+    /// The offset of a `start`, which may be null.
+    OffOrNull,
+    Nsp,
+    Text,
+    Rooms,
+    Except,
+    Bin,
+    Pid,
+    Sid,
+    Room,
+    Turn,
+    Connection,
+    Message,
+    Bytes,
+}
+
+impl Member {
+    /// The key of the member.
+    pub fn key(self) -> &'static str
+        ensures { result.now ≡ key_of self }
+    {
+        match self {
+            Member::Kind => "k",
+            Member::Version => "v",
+            Member::Of => "of",
+            Member::Off | Member::OffOrNull => "off",
+            Member::Nsp => "nsp",
+            Member::Text => "text",
+            Member::Rooms => "rooms",
+            Member::Except => "except",
+            Member::Bin => "bin",
+            Member::Pid => "pid",
+            Member::Sid => "sid",
+            Member::Room => "room",
+            Member::Turn => "turn",
+            Member::Connection => "c",
+            Member::Message => "t",
+            Member::Bytes => "b",
+        }
+    }
+}
+
+/// The text at a key.
+pub fn text_at<'a>(key: &str, d: &Fields<'a>) -> Option<&'a str>
+    ensures { option_map (λ s. s.now) result ≡ text_at key.now (view d.now) }
+{
+    d.get(key).and_then(Field::as_str)
+}
+
+/// The whole number at a key.
+pub fn number_at(key: &str, d: &Fields<'_>) -> Option<u64>
+    ensures { result ≡ number_at key.now (view d.now) }
+{
+    d.get(key).and_then(Field::as_u64)
+}
+
+fn has_text(key: &str, d: &Fields<'_>) -> bool
+    ensures { result ≡ is_some (text_at key.now (view d.now)) }
+{
+    text_at(key, d).is_some()
+}
+
+fn has_number(key: &str, d: &Fields<'_>) -> bool
+    ensures { result ≡ is_some (number_at key.now (view d.now)) }
+{
+    number_at(key, d).is_some()
+}
+
+fn has_id(key: &str, d: &Fields<'_>) -> bool
+    ensures { result ≡ is_some (id_at key.now (view d.now)) }
+{
+    match text_at(key, d) {
+        Some(text) => is_id(text),
+        None => false,
+    }
+}
+
+fn has_namespace(key: &str, d: &Fields<'_>) -> bool
+    ensures { result ≡ is_some (namespace_at key.now (view d.now)) }
+{
+    match text_at(key, d) {
+        Some(text) => is_namespace(text),
+        None => false,
+    }
+}
+
+fn is_id_or_null(field: &Field<'_>) -> bool
+    ensures { result ≡ is_some (id_or_null (field_view field.now)) }
+{
+    if field.is_null() {
+        return true;
+    }
+    match field.as_str() {
+        Some(text) => is_id(text),
+        None => false,
+    }
+}
+
+fn has_id_or_null(key: &str, d: &Fields<'_>) -> bool
+    ensures { result ≡ is_some (id_or_null_at key.now (view d.now)) }
+{
+    match d.get(key) {
+        Some(field) => is_id_or_null(field),
+        None => false,
+    }
+}
+
+/// Whether the text spells bytes in base64 (RFC 4648, section 4), padded.
+fn is_base64(alloc: Global, text: &str) -> Result<bool, AllocError>
+    ensures { IfOk result (λ is. is ≡ is_some (decoded text.now)) }
+{
+    match STANDARD.decode(alloc, text.as_bytes()) {
+        Ok(_) => Ok(true),
+        Err(DecodeAllocError::OutOfMemory) => Err(AllocError),
+        Err(DecodeAllocError::DecodeError(_)) => Ok(false),
+    }
+}
+
+/// Whether an item of a list is a text that spells bytes.
+fn is_blob_item(alloc: Global, item: Option<&str>) -> Result<bool, AllocError>
+    ensures { IfOk result (λ is. is ≡ is_some (as_blob (text_view item.entry))) }
+{
+    match item {
+        Some(text) => is_base64(alloc, text),
+        None => Ok(false),
+    }
+}
+
+fn is_blob(alloc: Global, field: &Field<'_>) -> Result<bool, AllocError>
+    ensures { IfOk result (λ is. is ≡ is_some (as_blob (field_view field.now))) }
+{
+    match field.as_str() {
+        Some(text) => is_base64(alloc, text),
+        None => Ok(false),
+    }
+}
+
+fn has_bytes(alloc: Global, key: &str, d: &Fields<'_>) -> Result<bool, AllocError>
+    ensures { IfOk result (λ is. is ≡ is_some (bytes_at key.now (view d.now))) }
+{
+    match d.get(key) {
+        Some(field) => is_blob(alloc, field),
+        None => Ok(false),
+    }
+}
+
+/// Whether each item is a text.
+fn are_texts(items: &[Option<&str>]) -> bool
+    ensures { result ≡ is_some (all_items as_str (list_view items.now)) }
+{
+    for item in items {
+        if item.is_none() {
+            return false;
+        }
+    }
+    true
+}
+
+/// Whether each item is a text that spells bytes.
+fn are_blobs(alloc: Global, items: &[Option<&str>]) -> Result<bool, AllocError>
+    ensures { IfOk result (λ is. is ≡ is_some (all_items as_blob (list_view items.now))) }
+{
+    for item in items {
+        if !is_blob_item(alloc, *item)? {
+            return Ok(false);
+        }
+    }
+    Ok(true)
+}
+
+fn has_texts(key: &str, d: &Fields<'_>) -> bool
+    ensures { result ≡ is_some (texts_at key.now (view d.now)) }
+{
+    let Some(field) = d.get(key) else {
+        return true;
+    };
+    match field.as_list() {
+        Some(items) => are_texts(items),
+        None => false,
+    }
+}
+
+fn has_blobs(alloc: Global, key: &str, d: &Fields<'_>) -> Result<bool, AllocError>
+    ensures { IfOk result (λ is. is ≡ is_some (blobs_at key.now (view d.now))) }
+{
+    let Some(field) = d.get(key) else {
+        return Ok(true);
+    };
+    match field.as_list() {
+        Some(items) => are_blobs(alloc, items),
+        None => Ok(false),
+    }
+}
+
+/// Whether the object has this member, of its type and form.
+pub fn is_formed(alloc: Global, member: Member, d: &Fields<'_>) -> Result<bool, AllocError>
+    ensures { IfOk result (λ is. is ≡ is_formed member (view d.now)) }
+{
+    let key = member.key();
+    match member {
+        Member::Kind | Member::Of | Member::Text | Member::Room | Member::Message => {
+            Ok(has_text(key, d))
+        }
+        Member::Version | Member::Turn | Member::Connection => Ok(has_number(key, d)),
+        Member::Off | Member::Pid | Member::Sid => Ok(has_id(key, d)),
+        Member::OffOrNull => Ok(has_id_or_null(key, d)),
+        Member::Nsp => Ok(has_namespace(key, d)),
+        Member::Rooms | Member::Except => Ok(has_texts(key, d)),
+        Member::Bin => has_blobs(alloc, key, d),
+        Member::Bytes => has_bytes(alloc, key, d),
+    }
+}

@@ -1,0 +1,107 @@
+//! Help on a line that does not begin with a tap's name and a blank.
+ghost use Rattle.std.specs.Prelude.{◌≡◌, ◌++◌, OnOk, option_map, string_bytes};
+ghost use Rattle.std.specs.List.{list_all};
+ghost use Rattle.aud_tap.specs.Limits.{fits};
+ghost use Rattle.aud_tap.specs.TapName.{is_name_byte, is_tap_name};
+ghost use Rattle.aud_reader.specs.Record.{cut_at_blank};
+ghost use Rattle.aud_refusals.specs.TapName.{blank_text, first_blank, first_strange, front_text, name_help, strange_text};
+
+use aud_tap::limits::MAX_NAME;
+use std::alloc::AllocError;
+
+fn is_name_byte(b: u8) -> bool
+    ensures { result ≡ is_name_byte b }
+{
+    matches!(b, b'0'..=b'9' | b'A'..=b'Z' | b'a'..=b'z' | b'_' | b'.' | b'-')
+}
+
+fn first_blank(line: &[u8]) -> Option<usize>
+    ensures { result ≡ first_blank line.now }
+{
+    line.iter().position(|b| *b == b' ')
+}
+
+fn first_strange(name: &[u8]) -> Option<usize>
+    ensures { result ≡ first_strange name.now }
+{
+    name.iter().position(|b| !is_name_byte(*b))
+}
+
+/// What stands before the first blank, and what stands after it.
+pub fn cut_at_blank(line: &[u8]) -> Option<(&[u8], &[u8])>
+    ensures { option_map (λ cut. (cut.0.now, cut.1.now)) result ≡ cut_at_blank line.now }
+{
+    match first_blank(line) {
+        Some(at) if at < line.len() => Some((&line[..at], &line[at + 1..])),
+        _ => None,
+    }
+}
+
+fn are_name_bytes(name: &[u8]) -> bool
+    ensures { result ≡ list_all is_name_byte name.now }
+{
+    name.iter().all(|b| is_name_byte(*b))
+}
+
+/// Whether a name has so many bytes.
+fn fits(name: &[u8]) -> bool
+    ensures { result ≡ fits MAX_NAME name.now }
+{
+    !name.is_empty() && name.len() <= MAX_NAME
+}
+
+/// Whether these bytes are a tap's name.
+pub fn is_tap_name(name: &[u8]) -> bool
+    ensures { result ≡ is_tap_name name.now }
+{
+    fits(name) && are_name_bytes(name)
+}
+
+fn push_strange(out: &mut String, name: &[u8]) -> Result<(), AllocError>
+    ensures { OnOk result (string_bytes out.new ≡ string_bytes out.old ++ strange_text name.now (first_strange name.now)) }
+{
+    match first_strange(name) {
+        Some(at) => {
+            let number = at.saturating_add(1);
+            writeln!(out, "Byte {number} of this line stands in no name.")
+        }
+        None if name.len() > MAX_NAME => {
+            let count = name.len();
+            writeln!(
+                out,
+                "Before the first blank of this line stand {count} bytes."
+            )
+        }
+        None => Ok(()),
+    }
+}
+
+fn push_front(out: &mut String, name: &[u8]) -> Result<(), AllocError>
+    ensures { OnOk result (string_bytes out.new ≡ string_bytes out.old ++ front_text name.now) }
+{
+    if name.is_empty() {
+        writeln!(out, "This line begins with a blank.")
+    } else {
+        push_strange(out, name)
+    }
+}
+
+fn push_blank(out: &mut String, line: &[u8]) -> Result<(), AllocError>
+    ensures { OnOk result (string_bytes out.new ≡ string_bytes out.old ++ blank_text line.now (first_blank line.now)) }
+{
+    match cut_at_blank(line) {
+        Some((name, _)) => push_front(out, name),
+        None => writeln!(out, "In this line stands no blank."),
+    }
+}
+
+/// Puts help on a line that does not begin with a tap's name at the end.
+pub fn push_name_help(out: &mut String, line: &[u8]) -> Result<(), AllocError>
+    ensures { OnOk result (string_bytes out.new ≡ string_bytes out.old ++ name_help line.now) }
+{
+    writeln!(
+        out,
+        "A line begins with the name of its tap, 1 to {MAX_NAME} bytes of A-Za-z0-9_.-, and a blank."
+    )?;
+    push_blank(out, line)
+}

@@ -1,0 +1,5 @@
+pub mod OrderLemmas
+pub mod RunLemmas
+pub mod NumberLemmas
+pub mod ChainLemmas
+pub mod KeptLemmas

@@ -1,0 +1,16 @@
+pub use Rattle.aud_cert.specs.Certificate
+pub use Rattle.aud_chain.specs.Marks
+pub use Rattle.aud_recoveries.specs.Missed
+pub use Rattle.aud_rows.specs.ClientPlaces
+pub use Rattle.aud_rows.specs.Seen
+pub use Rattle.aud_rows.specs.StayRows
+pub use Rattle.aud_rows.specs.EndRows
+pub use Rattle.aud_rows.specs.TrueRow
+pub mod InOrder
+pub mod ShownTurn
+pub mod SpanShown
+pub mod ChainTurns
+pub mod MarkedTurns
+pub mod Runs
+pub mod ClientEvents
+pub mod Refused
