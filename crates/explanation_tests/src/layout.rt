@@ -45,7 +45,7 @@ static EVIDENCE: [Row<'static>; 3] = [
 ];
 
 /// The explanation of the session, under this verdict.
-fn explained(verdict: &Verdict) -> Explanation<'_> {
+fn explained(verdict: &Verdict) -> Explanation<'_, '_, '_> {
     Explanation {
         pid: "P",
         verdict,

@@ -153,7 +153,7 @@ static CAUSES: [Cause<'static>; 1] = [Cause {
 }];
 
 /// The explanation of the session, under this verdict.
-fn explained(verdict: &Verdict) -> Explanation<'_> {
+fn explained(verdict: &Verdict) -> Explanation<'_, '_, '_> {
     Explanation {
         pid: "1RqzkODyftz2q3IhAAAC",
         verdict,

@@ -25,7 +25,7 @@ static MISSED: [Missed<'static>; 1] = [Missed {
 }];
 
 /// The recovery that was refused.
-fn recovery() -> RefusedRecovery<'static> {
+fn recovery() -> RefusedRecovery<'static, 'static> {
     RefusedRecovery {
         ask: Row {
             line: 28,
@@ -53,7 +53,10 @@ fn recovery() -> RefusedRecovery<'static> {
 }
 
 /// The explanation of the session, under this verdict.
-fn explained<'r>(verdict: &'r Verdict, refused: &'r [RefusedRecovery<'r>]) -> Explanation<'r> {
+fn explained<'r>(
+    verdict: &'r Verdict,
+    refused: &'r [RefusedRecovery<'r, 'r>],
+) -> Explanation<'r, 'r, 'r> {
     Explanation {
         pid: "YTMV",
         verdict,
