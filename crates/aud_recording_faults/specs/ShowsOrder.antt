@@ -10,12 +10,14 @@ use Rattle.aud_lines.specs.TapLines.{TapLines}
 use Rattle.aud_rows.specs.Seen.{RowSeen}
 use Rattle.aud_shown.specs.OrderRows.{order_rows}
 
--- a node has records of the session with this pid, this record is the first in its log that is out of order, and these are the
--- rows of the record before, which tells the cursor, and of that one
+-- the node of the record has records of the session with this pid, and it is the first in its log that is out of order
+abbrev pub IsUnordered : Cluster → Text → RecordPlace → Type 0
+IsUnordered c pid at = Contains (own_places c pid) at.node × IsFirstOutOfOrder c.stream (node_log c at.node) at.number
+
+-- there is such a record, and these are the rows of the record before, which tells the cursor, and of that one
 pub record ShowsOrder (c : Cluster) (lines : List TapLines) (pid : Text) (rows : List RowSeen) : Type 0 where
   pub at : RecordPlace
-  pub has_session : Contains (own_places c pid) at.node
-  pub is_first : IsFirstOutOfOrder c.stream (node_log c at.node) at.number
+  pub is_unordered : IsUnordered c pid at
   pub are_its_rows : rows ≡ order_rows c lines at.node at.number
 
 -- the log of each node that has records of the session is in order

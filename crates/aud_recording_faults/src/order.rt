@@ -6,7 +6,7 @@ ghost use Rattle.aud_evidence.specs.Order.{AreInOrder, IsFirstOutOfOrder};
 ghost use Rattle.aud_rows.specs.Seen.{row_seen};
 ghost use Rattle.aud_shown.specs.RowLists.{AreTrueRows};
 ghost use Rattle.aud_recording_faults.specs.Prepared.{IsOrderRead, IsPreparedOf};
-ghost use Rattle.aud_recording_faults.specs.ShowsOrder.{AreOrdered, ShowsOrder};
+ghost use Rattle.aud_recording_faults.specs.ShowsOrder.{AreOrdered, IsUnordered, ShowsOrder};
 
 use crate::prepared::{Prepared, PreparedTap};
 use aud_chain::RecordPlace;
@@ -30,11 +30,19 @@ pub fn order_shown<'r>(
         (λ rows. ShowsOrder sheet.now.recording.now sheet.now.lines.now pid.now (map row_seen rows.items))) }
     ensures truth { IfOk result (λ found. IfSome found (λ rows. AreTrueRows sheet.now.recording.now sheet.now.lines.now rows.items)) }
 {
-    let logs = sheet.recording.logs();
-    match first_of(prepared, logs, logs.nodes_of(pid)) {
+    match unordered_of(sheet.recording.logs(), prepared, pid) {
         Some(at) => Ok(Some(order_rows(alloc, sheet, at.node, at.number)?)),
         None => Ok(None),
     }
+}
+
+/// The first record out of order of a node that has records of the session, of the first such node in the order of the taps;
+/// none where the logs of all those nodes are in order. A log whose order wasn't prepared is gone through.
+pub fn unordered_of(logs: &Logs<'_>, prepared: &Prepared, pid: &str) -> Option<RecordPlace>
+    requires { IsPreparedOf logs.now prepared.now }
+    ensures { MatchOption result (AreOrdered logs.now pid.now) (IsUnordered logs.now pid.now) }
+{
+    first_of(prepared, logs, logs.nodes_of(pid))
 }
 
 /// The first record out of order of the first of these nodes that has one.

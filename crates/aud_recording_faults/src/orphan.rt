@@ -56,8 +56,9 @@ fn orphan_rows<'r>(
     Ok(rows)
 }
 
-/// The number of the first such stay of the client's tap at this place.
-fn orphan_in(recording: &Recording<'_>, prepared: &Prepared, place: usize) -> Option<usize>
+/// The number, in the client's tap at this place, of its first stay that has events and whose reply, if there is one, names
+/// nobody; none where there is no such stay. Stays count from 0. The stays of a tap that wasn't prepared are gone through.
+pub fn orphan_in(recording: &Recording<'_>, prepared: &Prepared, place: usize) -> Option<usize>
     requires { IsPreparedOf recording.now prepared.now }
     ensures { result ≡ first_index is_orphan (stays_at recording.now place) }
 {
