@@ -21,4 +21,5 @@ mod report;
 mod verdict;
 
 pub use output::{Output, Status, proving_on, refusal, report_on, status_of};
+pub use report::code_name;
 pub use verdict::{SessionVerdict, Verdict};

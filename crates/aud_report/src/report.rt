@@ -57,7 +57,7 @@ pub fn report_text(alloc: Global, entries: &[SessionVerdict]) -> Result<String, 
 }
 
 /// The name of a refusal.
-fn code_name(code: InputCode) -> &'static str
+pub fn code_name(code: InputCode) -> &'static str
     ensures { result.now ≡ code_text code }
 {
     match code {
