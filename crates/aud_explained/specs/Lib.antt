@@ -1,0 +1,14 @@
+pub use Rattle.aud_node.specs.Cluster
+pub use Rattle.aud_client.specs.Replies
+pub use Rattle.aud_rows.specs.ClientPlaces
+pub use Rattle.aud_rows.specs.Seen
+pub use Rattle.aud_account.specs.Account
+pub use Rattle.aud_recording_faults.specs.Prepared
+pub use Rattle.aud_findings.specs.ClientShown
+pub mod Noted
+pub mod Turns
+pub mod Events
+pub mod Refused
+pub mod Explained
+pub mod Lent
+pub mod Written

@@ -1,0 +1,77 @@
+//! What was noted of the taps of a session, for its causes.
+ghost use Rattle.std.specs.Prelude.{◌≡◌};
+ghost use Rattle.std.specs.Option.{option_copied, option_map};
+ghost use Rattle.aud_recording_faults.specs.Prepared.{IsPreparedOf};
+ghost use Rattle.aud_explained.specs.Noted.{IsOrphanNoted, IsUnorderedNoted, IsNoted};
+
+use aud_account::Account;
+use aud_causes::Noted;
+use aud_cert::Fault;
+use aud_chain::RecordPlace;
+use aud_client::Recording;
+use aud_recording_faults::{Prepared, orphan_in, unordered_of};
+use aud_report::Verdict;
+
+/// What was noted of the session with this pid: where the fault is `ORDER` the first record out of order of its nodes, and
+/// where it is `ORPHAN` the first stay of its client's tap with events of which nobody knows the session.
+pub(crate) fn noted_of(
+    recording: &Recording<'_>,
+    prepared: &Prepared,
+    pid: &str,
+    verdict: &Verdict,
+    account: Option<&Account<'_, '_>>,
+) -> Noted
+    requires { IsPreparedOf recording.now prepared.now }
+    ensures { IsNoted recording.now pid.now verdict.now (option_map (λ a. a.client) (option_copied account.entry)) result }
+{
+    match verdict {
+        Verdict::Yes { .. } => Noted {
+            unordered: None,
+            orphan: None,
+        },
+        Verdict::No(fault) => Noted {
+            unordered: unordered_noted(recording, prepared, pid, fault),
+            orphan: orphan_noted(recording, prepared, fault, place_of(account)),
+        },
+    }
+}
+
+/// The place of the client's tap, if there is an account.
+fn place_of(account: Option<&Account<'_, '_>>) -> Option<usize>
+    ensures { result ≡ option_map (λ a. a.client) (option_copied account.entry) }
+{
+    match account {
+        Some(account) => Some(account.client),
+        None => None,
+    }
+}
+
+fn unordered_noted(
+    recording: &Recording<'_>,
+    prepared: &Prepared,
+    pid: &str,
+    fault: &Fault,
+) -> Option<RecordPlace>
+    requires { IsPreparedOf recording.now prepared.now }
+    ensures { IsUnorderedNoted recording.now pid.now fault.now result }
+{
+    match fault {
+        Fault::Order => unordered_of(recording.logs(), prepared, pid),
+        _ => None,
+    }
+}
+
+fn orphan_noted(
+    recording: &Recording<'_>,
+    prepared: &Prepared,
+    fault: &Fault,
+    client: Option<usize>,
+) -> Option<usize>
+    requires { IsPreparedOf recording.now prepared.now }
+    ensures { IsOrphanNoted recording.now fault.now client result }
+{
+    match (fault, client) {
+        (Fault::Orphan, Some(client)) => orphan_in(recording, prepared, client),
+        _ => None,
+    }
+}
