@@ -26,11 +26,12 @@ use Rattle.aud_explanation.specs.declared.turn.TurnEnd.{TurnEnd}
 use Rattle.aud_explanation.specs.declared.turn.TurnEnd.TheVariants as end
 use Rattle.aud_explanation.specs.ExplainedClass.{class_of_explained}
 use Rattle.aud_explanation.specs.FaultEntry.{fault_off}
+use Rattle.aud_explanation.specs.ShownTail.{shown_tail}
 use Rattle.aud_explanation.specs.JsonValue.{text_or_null, number_or_null}
 use Rattle.aud_explanation.specs.JsonVerdict.{verdict_word, fault_data, off_data, class_data, with_fault, with_verdict}
 use Rattle.aud_explanation.specs.JsonAccount.{with_names, with_client, with_counts, with_account}
 use Rattle.aud_explanation.specs.JsonRow.{row_data, with_evidence}
-use Rattle.aud_explanation.specs.JsonTurn.{lines_data, took_data, turn_data, with_turns}
+use Rattle.aud_explanation.specs.JsonTurn.{high_at, lines_data, took_data, turn_data, with_turns}
 use Rattle.aud_explanation.specs.JsonAlso.{also_data, with_also}
 use Rattle.aud_explanation.specs.JsonCause.{cause_data, with_causes}
 use Rattle.aud_explanation.specs.JsonEvent.{after_data, from_data, to_data, event_data, with_events}
@@ -111,18 +112,19 @@ client-plain (Some c) ms rest =
     let m2 : Members = put (codes "nsp") (string c.nsp.now) m1 in
     put-plain (codes "conn") (number_or_null c.conn) m2 (number-plain c.conn) (put-plain (codes "nsp") (string c.nsp.now) m1 (refl) (put-plain (codes "client") (string c.tap.now) ms (refl) rest))
 
-account-plain : (a : Option Account) (ms : Members) → members_have_float ms ≡ false → members_have_float (with_account a ms) ≡ false
+account-plain : (v : Verdict) (a : Option Account) (ms : Members) → members_have_float ms ≡ false → members_have_float (with_account v a ms) ≡ false
 unfolding with_account with_counts
-account-plain None ms rest =
+account-plain v None ms rest =
     let m1 : Members = put (codes "got") (null) ms in
     let m2 : Members = put (codes "due") (null) m1 in
     let m3 : Members = put (codes "tail") (null) m2 in
     put-plain (codes "at_frame") (null) m3 (refl) (put-plain (codes "tail") (null) m2 (refl) (put-plain (codes "due") (null) m1 (refl) (put-plain (codes "got") (null) ms (refl) rest)))
-account-plain (Some a) ms rest =
+account-plain v (Some a) ms rest =
     let m1 : Members = put (codes "got") (whole a.got) ms in
     let m2 : Members = put (codes "due") (whole a.due) m1 in
-    let m3 : Members = put (codes "tail") (whole a.tail) m2 in
-    put-plain (codes "at_frame") (number_or_null a.at_frame) m3 (number-plain a.at_frame) (put-plain (codes "tail") (whole a.tail) m2 (refl) (put-plain (codes "due") (whole a.due) m1 (refl) (put-plain (codes "got") (whole a.got) ms (refl) rest)))
+    let tail : Option ℕ = shown_tail v a.tail in
+    let m3 : Members = put (codes "tail") (number_or_null tail) m2 in
+    put-plain (codes "at_frame") (number_or_null a.at_frame) m3 (number-plain a.at_frame) (put-plain (codes "tail") (number_or_null tail) m2 (number-plain tail) (put-plain (codes "due") (whole a.due) m1 (refl) (put-plain (codes "got") (whole a.got) ms (refl) rest)))
 
 -- ---- the lists
 
@@ -130,9 +132,9 @@ row-plain : (row : Row) → has_float (row_data row) ≡ false
 row-plain row = refl
 
 lines-plain : (begin : ℕ) (end : TurnEnd) → has_float (lines_data begin end) ≡ false
-lines-plain begin (end.Break line) = refl
-lines-plain begin (end.Gone line) = refl
-lines-plain begin (end.Log line) = refl
+lines-plain begin (end.Break line high) = refl
+lines-plain begin (end.Gone line high) = refl
+lines-plain begin (end.Log line high) = refl
 lines-plain begin end.Missing = refl
 
 took-plain : (took : Option (ℕ × ℕ)) → has_float (took_data took) ≡ false
@@ -140,7 +142,7 @@ took-plain None = refl
 took-plain (Some took) = refl
 
 turn-plain : (turn : TurnShown) → has_float (turn_data turn) ≡ false
-turn-plain turn = rw (lines-plain turn.begin_line turn.end, took-plain turn.took) refl
+turn-plain turn = rw (number-plain (high_at turn.end), lines-plain turn.begin_line turn.end, took-plain turn.took) refl
 
 also-plain : (also : Also) → has_float (also_data also) ≡ false
 also-plain also = rw (numbers-plain also.lines.now) refl
@@ -216,7 +218,7 @@ explanation-plain e =
     let class = class_of_explained e in
     let m1 : Members = with_verdict e.pid.now e.verdict.now class no_members in
     let m2 : Members = with_client e.client m1 in
-    let m3 : Members = with_account e.account m2 in
+    let m3 : Members = with_account e.verdict.now e.account m2 in
     let m4 : Members = with_turns e.turns.now m3 in
     let m5 : Members = with_evidence e.evidence.now m4 in
     let m6 : Members = with_also e.also.now m5 in
@@ -224,7 +226,7 @@ explanation-plain e =
     let m8 : Members = with_events e.events.now m7 in
     let p1 = verdict-plain e.pid.now e.verdict.now class no_members refl in
     let p2 = client-plain e.client m1 p1 in
-    let p3 = account-plain e.account m2 p2 in
+    let p3 = account-plain e.verdict.now e.account m2 p2 in
     let p4 = turns-plain e.turns.now m3 p3 in
     let p5 = evidence-plain e.evidence.now m4 p4 in
     let p6 = others-plain e.also.now m5 p5 in

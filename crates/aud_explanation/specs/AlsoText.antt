@@ -2,7 +2,7 @@
 use Rattle.std.specs.Prelude.{ℕ, List, ◌++◌, codes, decimal, flat_map}
 use Rattle.aud_explanation.specs.declared.also.Also.{Also}
 use Rattle.aud_explanation.specs.Page.{laid_line}
-use Rattle.aud_explanation.specs.Span.{listed}
+use Rattle.aud_explanation.specs.Span.{lines_listed}
 
 -- the words that come first
 unfoldable pub also_entry : List ℕ
@@ -10,11 +10,11 @@ also_entry = codes "    also entry "
 
 -- the entry
 abbrev pub entry_words : ℕ → List ℕ
-entry_words position = also_entry ++ decimal position ++ codes ", lines"
+entry_words position = also_entry ++ decimal position ++ codes ", "
 
 -- the entry, and the lines that show it
 abbrev pub also_line : Also → List ℕ
-also_line also = entry_words also.position ++ listed also.lines.now
+also_line also = entry_words also.position ++ lines_listed also.lines.now
 
 -- its line
 abbrev pub also_text : Also → List ℕ

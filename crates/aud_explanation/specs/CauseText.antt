@@ -2,7 +2,7 @@
 use Rattle.std.specs.Prelude.{ℕ, Bool, true, false, List, [], ◌∷◌, ◌++◌, codes, flat_map}
 use Rattle.aud_explanation.specs.declared.cause.Cause.{Cause}
 use Rattle.aud_explanation.specs.Page.{laid_line}
-use Rattle.aud_explanation.specs.Span.{listed}
+use Rattle.aud_explanation.specs.Span.{lines_listed}
 
 -- whether the records leave no other cause
 abbrev pub sure_word : Bool → List ℕ
@@ -12,7 +12,7 @@ sure_word false = codes "fits"
 -- the lines that say so, where there are any
 abbrev pub lines_words : List ℕ → List ℕ
 lines_words [] = []
-lines_words (n ∷ ns) = codes ", lines" ++ listed (n ∷ ns)
+lines_words (n ∷ ns) = codes ", " ++ lines_listed (n ∷ ns)
 
 -- what happened
 abbrev pub cause_line : Cause → List ℕ

@@ -15,7 +15,7 @@ use Rattle.aud_explanation.specs.JsonCause.{with_causes}
 
 -- the verdict, the client, and what it received
 abbrev pub head_members : Explanation → Members → Members
-head_members e ms = with_account e.account (with_client e.client (with_verdict e.pid.now e.verdict.now (class_of_explained e) ms))
+head_members e ms = with_account e.verdict.now e.account (with_client e.client (with_verdict e.pid.now e.verdict.now (class_of_explained e) ms))
 
 -- the turns, the evidence, and the other entries
 abbrev pub shown_members : Explanation → Members → Members

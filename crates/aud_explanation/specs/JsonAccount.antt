@@ -2,8 +2,10 @@
 use Rattle.std.specs.Prelude.{codes, Option, Some, None}
 use Rattle.serde_json.specs.Data.{null, string, Members, put}
 use Rattle.aud_cert_text.specs.Text.{whole}
+use Rattle.aud_report.specs.declared.verdict.Verdict.{Verdict}
 use Rattle.aud_explanation.specs.declared.client.Client.{Client}
 use Rattle.aud_explanation.specs.declared.client.Account.{Account}
+use Rattle.aud_explanation.specs.ShownTail.{shown_tail}
 use Rattle.aud_explanation.specs.JsonValue.{number_or_null}
 
 -- the tap, the namespace, and the connection
@@ -15,11 +17,11 @@ unfoldable pub with_client : Option Client → Members → Members
 with_client (Some c) ms = with_names c ms
 with_client None ms = put (codes "conn") null (put (codes "nsp") null (put (codes "client") null ms))
 
--- what was received of what was due
-unfoldable pub with_counts : Account → Members → Members
-with_counts a ms = put (codes "at_frame") (number_or_null a.at_frame) (put (codes "tail") (whole a.tail) (put (codes "due") (whole a.due) (put (codes "got") (whole a.got) ms)))
+-- what was received of what was due; the tail is `null` where it isn't shown
+unfoldable pub with_counts : Verdict → Account → Members → Members
+with_counts verdict a ms = put (codes "at_frame") (number_or_null a.at_frame) (put (codes "tail") (number_or_null (shown_tail verdict a.tail)) (put (codes "due") (whole a.due) (put (codes "got") (whole a.got) ms)))
 
 -- the same, `null` where the delivery was not judged
-unfoldable pub with_account : Option Account → Members → Members
-with_account (Some a) ms = with_counts a ms
-with_account None ms = put (codes "at_frame") null (put (codes "tail") null (put (codes "due") null (put (codes "got") null ms)))
+unfoldable pub with_account : Verdict → Option Account → Members → Members
+with_account verdict (Some a) ms = with_counts verdict a ms
+with_account verdict None ms = put (codes "at_frame") null (put (codes "tail") null (put (codes "due") null (put (codes "got") null ms)))

@@ -4,7 +4,7 @@ use Rattle.serde_json.specs.Data.{Data, string, array, object, Members, no_membe
 use Rattle.aud_cert_text.specs.Text.{items, whole}
 use Rattle.aud_rows.specs.declared.row.Row.{Row}
 use Rattle.aud_rows.specs.declared.row.Role.{Role}
-use Rattle.aud_rows.specs.declared.row.Role.TheVariants.{Fault, Earlier, Later, Entry, Reached, Room, Break, Back, Ask, Reply}
+use Rattle.aud_rows.specs.declared.row.Role.TheVariants.{Fault, Earlier, Later, Entry, Reached, Room, Left, Break, Back, Ask, Reply}
 use Rattle.aud_explanation.specs.Record.{record_text}
 
 -- what a record is shown for
@@ -15,6 +15,7 @@ role_word Later = codes "later"
 role_word Entry = codes "entry"
 role_word Reached = codes "reached"
 role_word Room = codes "room"
+role_word Left = codes "left"
 role_word Break = codes "break"
 role_word Back = codes "back"
 role_word Ask = codes "ask"

@@ -5,6 +5,7 @@ pub use Rattle.aud_evidence.specs.Class
 pub use Rattle.aud_evidence.specs.FaultWord
 pub mod ExplainedClass
 pub mod FaultEntry
+pub mod ShownTail
 pub mod Page
 pub mod Record
 pub mod Mark

@@ -21,7 +21,7 @@ fault_mark (Extra off) = codes "  <- not due"
 fault_mark (Doubled off) = codes "  <- again"
 fault_mark (Swapped off) = codes "  <- too early"
 fault_mark (Lost off) = codes "  <- passes it over"
-fault_mark (Window conn) = codes "  <- asks for another place"
+fault_mark (Window conn) = codes "  <- does not fit what came"
 fault_mark (Tail count) = codes "  <- the last received"
 
 -- the same under a verdict
@@ -37,6 +37,7 @@ mark role.Later verdict = codes "  later"
 mark role.Entry verdict = codes "  the entry"
 mark role.Reached verdict = codes "  reached here"
 mark role.Room verdict = codes "  decides"
+mark role.Left verdict = codes "  left after that"
 mark role.Break verdict = []
 mark role.Back verdict = []
 mark role.Ask verdict = []

@@ -2,7 +2,7 @@
 use Rattle.std.specs.Prelude.{ℕ, List, ◌++◌, codes, decimal, Option, Some, None}
 use Rattle.std.specs.Borrow.{Bor}
 use Rattle.aud_rows.specs.declared.row.Says.{Says}
-use Rattle.aud_rows.specs.declared.row.Says.TheVariants.{Entry, Start, Take, Open, Join, Leave, Break, Back, Gone, Asks, Reply, Got, Lost, NoPacket}
+use Rattle.aud_rows.specs.declared.row.Says.TheVariants.{Entry, Start, Take, Takes, Open, Join, Leave, Break, Back, Gone, Asks, Reply, Got, Lost, NoPacket}
 
 -- the session of a reply
 abbrev pub pid_words : Option (Bor (List ℕ)) → List ℕ
@@ -26,11 +26,20 @@ names_words sid pid = codes ", sid " ++ sid ++ pid_words pid
 abbrev pub reply_words : ℕ → List ℕ → Option (Bor (List ℕ)) → List ℕ
 reply_words conn sid pid = codes "conn " ++ decimal conn ++ codes " reply" ++ names_words sid pid
 
+-- the words that come first where a node takes several entries
+unfoldable pub takes_up : List ℕ
+takes_up = codes "takes up to "
+
+-- up to which entry a node takes
+abbrev pub takes_words : ℕ → List ℕ → List ℕ
+takes_words position off = takes_up ++ decimal position ++ codes " " ++ off
+
 -- what the record says
 abbrev pub record_text : Says → List ℕ
 record_text (Entry position off) = codes "entry " ++ decimal position ++ codes " " ++ off.now
 record_text (Start cursor) = codes "start, cursor " ++ decimal cursor
 record_text (Take position off) = codes "take " ++ decimal position ++ codes " " ++ off.now
+record_text (Takes position off) = takes_words position off.now
 record_text (Open sid nsp cursor) = codes "open, sid " ++ sid.now ++ codes ", namespace " ++ nsp.now ++ codes ", cursor " ++ decimal cursor
 record_text (Join room) = codes "join " ++ room.now
 record_text (Leave room) = codes "leave " ++ room.now

@@ -1,5 +1,5 @@
 -- Numbers, in words.
-use Rattle.std.specs.Prelude.{ℕ, List, ◌++◌, ◌==◌, codes, decimal, flat_map, if◌then◌else◌}
+use Rattle.std.specs.Prelude.{ℕ, List, [], ◌∷◌, ◌++◌, ◌==◌, codes, decimal, flat_map, if◌then◌else◌}
 
 -- the numbers from one to another
 abbrev pub span : ℕ → ℕ → List ℕ
@@ -12,3 +12,12 @@ one_listed n = codes " " ++ decimal n
 -- the numbers, a blank before each
 abbrev pub listed : List ℕ → List ℕ
 listed numbers = flat_map one_listed numbers
+
+-- the word for these lines
+abbrev pub line_word : List ℕ → List ℕ
+line_word (line ∷ []) = codes "line"
+line_word lines = codes "lines"
+
+-- the lines: `line 28`, or `lines 28 36`
+abbrev pub lines_listed : List ℕ → List ℕ
+lines_listed lines = line_word lines ++ listed lines

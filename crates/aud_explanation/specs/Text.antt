@@ -13,7 +13,7 @@ use Rattle.aud_explanation.specs.CauseText.{causes_text}
 
 -- the line of the verdict, that of the client, the evidence, and the other entries with the same fault
 abbrev pub shown_text : Explanation → List ℕ
-shown_text e = verdict_text e.pid.now e.verdict.now (class_of_explained e) ++ client_text e.client (length e.turns.now) e.account ++ evidence_text e.verdict.now e.evidence.now ++ others_text e.also.now
+shown_text e = verdict_text e.pid.now e.verdict.now (class_of_explained e) ++ client_text e.verdict.now e.client (length e.turns.now) e.account ++ evidence_text e.verdict.now e.evidence.now ++ others_text e.also.now
 
 -- the rows of the turns and of the client, the refused recoveries, and the causes
 abbrev pub told_text : Explanation → List ℕ

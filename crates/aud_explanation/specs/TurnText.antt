@@ -31,11 +31,11 @@ abbrev pub ending : ℕ → List ℕ → ℕ → List ℕ
 ending at how cursor = codes " " ++ decimal at ++ how ++ decimal cursor
 
 -- how it ends
-abbrev pub end_words : TurnEnd → ℕ → List ℕ
-end_words (Break at) cursor = ending at (codes " break, cursor ") cursor
-end_words (Gone at) cursor = ending at (codes " gone, cursor ") cursor
-end_words (Log at) cursor = ending at (codes " log ends, cursor ") cursor
-end_words Missing cursor = codes " no break  <- missing"
+abbrev pub end_words : TurnEnd → List ℕ
+end_words (Break at high) = ending at (codes " break, cursor ") high
+end_words (Gone at high) = ending at (codes " gone, cursor ") high
+end_words (Log at high) = ending at (codes " log ends, cursor ") high
+end_words Missing = codes " no break  <- missing"
 
 -- its number, and its node
 abbrev pub names_words : ℕ → TurnShown → List ℕ
@@ -43,7 +43,7 @@ names_words width t = codes "    turn " ++ decimal t.turn ++ codes "  " ++ to_le
 
 -- the turn
 abbrev pub turn_line : ℕ → TurnShown → List ℕ
-turn_line width t = names_words width t ++ begin_words t.begin t.begin_line t.low ++ took_words t.took ++ end_words t.end t.high
+turn_line width t = names_words width t ++ begin_words t.begin t.begin_line t.low ++ took_words t.took ++ end_words t.end
 
 -- its row
 abbrev pub turn_text : ℕ → TurnShown → List ℕ

@@ -36,7 +36,7 @@ fn put_head(
     let class = class_of_explained(explanation);
     put_verdict(alloc, members, explanation.pid, explanation.verdict, class)?;
     put_client(alloc, members, explanation.client)?;
-    put_account(alloc, members, explanation.account)
+    put_account(alloc, members, explanation.verdict, explanation.account)
 }
 
 /// Puts the turns, the evidence, and the other entries.

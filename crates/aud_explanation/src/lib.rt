@@ -35,6 +35,7 @@ mod explanation;
 mod fault;
 mod json_line;
 mod refused;
+mod tail;
 mod text;
 mod turn;
 

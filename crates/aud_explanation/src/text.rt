@@ -38,7 +38,14 @@ fn push_shown(
     let class = class_of_explained(explanation);
     let turns = explanation.turns.len();
     push_verdict(alloc, out, explanation.pid, explanation.verdict, class)?;
-    push_client(alloc, out, explanation.client, turns, explanation.account)?;
+    push_client(
+        alloc,
+        out,
+        explanation.verdict,
+        explanation.client,
+        turns,
+        explanation.account,
+    )?;
     push_evidence(alloc, out, explanation.verdict, explanation.evidence)?;
     push_also(alloc, out, explanation.also)
 }

@@ -12,10 +12,8 @@ pub struct TurnShown<'r> {
     pub begin_line: u64,
     /// The node's cursor after that record.
     pub low: u64,
-    /// The first and the last position that the node took in the turn, none where it took none.
+    /// The first and the last position that the node took in the turn; none where it took none, and where the end is missing.
     pub took: Option<(u64, u64)>,
-    /// The node's cursor at the turn's end.
-    pub high: u64,
     /// How it ends.
     pub end: TurnEnd,
 }
@@ -27,13 +25,13 @@ pub enum TurnBegin {
     Back,
 }
 
-/// How a turn ends. Lines count from 1.
+/// How a turn ends, on which line, and with which cursor of the node. Lines count from 1.
 #[derive(Clone, Copy, Debug, PartialEq, Eq, Drop)]
 pub enum TurnEnd {
-    Break { line: u64 },
-    Gone { line: u64 },
+    Break { line: u64, high: u64 },
+    Gone { line: u64, high: u64 },
     /// The node's log ends in the turn, with the record on this line.
-    Log { line: u64 },
+    Log { line: u64, high: u64 },
     /// Another turn follows, and no record says that this one ended.
     Missing,
 }

@@ -6,17 +6,17 @@ use Rattle.aud_tap.specs.declared.records.NodeRec.{NodeRec}
 use Rattle.aud_tap.specs.declared.records.NodeRec.TheVariants as tap
 use Rattle.aud_node.specs.Stream.{Text, position}
 use Rattle.aud_node.specs.Cursors.{cursor_at}
-use Rattle.aud_rows.specs.Seen.{SaysSeen, Start, Take, Open, Join, Leave, Break, Back, Gone}
+use Rattle.aud_rows.specs.Seen.{SaysSeen, Start, Take, Takes, Open, Join, Leave, Break, Back, Gone}
 
--- a node takes entries up to the one with this offset: its position, 0 where the stream has no such entry
-abbrev pub take_says : List StreamRec → Text → SaysSeen
-take_says stream off = Take (unwrap_or (position stream off) 0) off
+-- the position of the entry with this offset, 0 where the stream has no such entry
+abbrev pub position_of : List StreamRec → Text → ℕ
+position_of stream off = unwrap_or (position stream off) 0
 
 -- what the record says, where this is the stream, and this the node's cursor after the record
 abbrev pub node_says : List StreamRec → ℕ → NodeRec → SaysSeen
 node_says stream cursor (tap.Start off) = Start cursor
-node_says stream cursor (tap.Take off) = take_says stream off
-node_says stream cursor (tap.Takes off) = take_says stream off
+node_says stream cursor (tap.Take off) = Take (position_of stream off) off
+node_says stream cursor (tap.Takes off) = Takes (position_of stream off) off
 node_says stream cursor (tap.Opened pid sid nsp) = Open sid nsp cursor
 node_says stream cursor (tap.Join pid room) = Join room
 node_says stream cursor (tap.Leave pid room) = Leave room

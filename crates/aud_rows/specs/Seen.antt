@@ -12,6 +12,7 @@ pub data SaysSeen : Type 0 where
   Entry : ℕ → Text → SaysSeen
   Start : ℕ → SaysSeen
   Take : ℕ → Text → SaysSeen
+  Takes : ℕ → Text → SaysSeen
   Open : Text → Text → ℕ → SaysSeen
   Join : Text → SaysSeen
   Leave : Text → SaysSeen
@@ -36,6 +37,7 @@ abbrev pub says_seen : Says → SaysSeen
 says_seen (row.Entry position off) = Entry position off.now
 says_seen (row.Start cursor) = Start cursor
 says_seen (row.Take position off) = Take position off.now
+says_seen (row.Takes position off) = Takes position off.now
 says_seen (row.Open sid nsp cursor) = Open sid.now nsp.now cursor
 says_seen (row.Join room) = Join room.now
 says_seen (row.Leave room) = Leave room.now

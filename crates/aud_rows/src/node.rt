@@ -3,7 +3,7 @@ ghost use Rattle.std.specs.Prelude.{◌≡◌};
 ghost use Rattle.std.specs.Option.{option_map};
 ghost use Rattle.aud_node.specs.Cluster.{node_log};
 ghost use Rattle.aud_rows.specs.Seen.{says_seen};
-ghost use Rattle.aud_rows.specs.NodeSays.{node_says, node_says_at, take_says};
+ghost use Rattle.aud_rows.specs.NodeSays.{node_says, node_says_at, position_of};
 
 use crate::row::Says;
 use aud_node::{Logs, Stream};
@@ -25,8 +25,14 @@ fn node_says<'a>(stream: &Stream<'_>, cursor: u64, rec: &'a NodeRec) -> Says<'a>
 {
     match rec {
         NodeRec::Start { .. } => Says::Start { cursor },
-        NodeRec::Take { off } => take_says(stream, off),
-        NodeRec::Takes { off } => take_says(stream, off),
+        NodeRec::Take { off } => Says::Take {
+            position: position_of(stream, off),
+            off: off.as_str(),
+        },
+        NodeRec::Takes { off } => Says::Takes {
+            position: position_of(stream, off),
+            off: off.as_str(),
+        },
         NodeRec::Opened { sid, nsp, .. } => Says::Open {
             sid: sid.as_str(),
             nsp: nsp.as_str(),
@@ -50,12 +56,9 @@ fn node_says<'a>(stream: &Stream<'_>, cursor: u64, rec: &'a NodeRec) -> Says<'a>
     }
 }
 
-/// A node takes the entries up to the one with this offset.
-fn take_says<'a>(stream: &Stream<'_>, off: &'a Text) -> Says<'a>
-    ensures { says_seen result ≡ take_says stream.now off.now }
+/// The position of the entry with this offset, 0 where the stream has none.
+fn position_of(stream: &Stream<'_>, off: &Text) -> u64
+    ensures { result ≡ position_of stream.now off.now }
 {
-    Says::Take {
-        position: stream.position(off.as_str()).unwrap_or(0),
-        off: off.as_str(),
-    }
+    stream.position(off.as_str()).unwrap_or(0)
 }

@@ -26,9 +26,13 @@ pub enum Says<'r> {
     Start {
         cursor: u64,
     },
-    /// A node takes entries, up to this one: a `take` of one, or a `takes`. The position is 0 where the stream has no entry
-    /// of the offset.
+    /// A node takes the entry at this position. It is 0 where the stream has no entry of the offset.
     Take {
+        position: u64,
+        off: &'r str,
+    },
+    /// A node takes each entry from its cursor on, up to the one at this position: the same.
+    Takes {
         position: u64,
         off: &'r str,
     },
@@ -98,6 +102,8 @@ pub enum Role {
     Reached,
     /// The change of rooms that decides whether the entry was due.
     Room,
+    /// The leave after which the session no longer held a room of the entry.
+    Left,
     /// The end of a turn.
     Break,
     /// The beginning of a turn.

@@ -18,7 +18,7 @@ use Rattle.aud_explanation.specs.declared.event.ClientEvent.{ClientEvent}
 use Rattle.aud_explanation.specs.declared.event.Happens.{Happens}
 use Rattle.aud_explanation.specs.declared.event.Happens.TheVariants.{Asks, Got, Lost}
 use Rattle.aud_timeline.specs.InOrder.{put_in, in_order}
-use Rattle.aud_timeline.specs.ClientEvents.{answered, client_events, events_of_stays, first_line, frame_count, happens_of, row_events, stay_asks, stay_events, stay_row_events}
+use Rattle.aud_timeline.specs.ClientEvents.{answered, client_events, events_of_stays, first_line, frame_count, happens_of, may_be_of, received_events, row_events, stay_asks, stay_events, stay_row_events}
 use Rattle.aud_timeline.specs.Runs.{extended, extended_by, joined_as, joined_happens, one_or_two, positions_in, positions_told, run_on}
 
 -- so many numbers, and so many more, are all of them
@@ -162,14 +162,25 @@ row-up : (stream : List StreamRec) (pid : Text) (asked : Bool) (row : Option Row
 row-up stream pid asked None = tt
 row-up stream pid asked (Some row) = told-up row.line (happens_of stream pid asked row.says) (happens-up stream pid asked row.says)
 
+received-up : (c : Cluster) (lines : List TapLines) (place : ℕ) (pid : Text) (number : ℕ) → AllUp (received_events c lines place pid number)
+received-up c lines place pid number =
+    append-up _ _ (flat-up (λ frame. stay_row_events c place pid number (frame_row c lines place number frame role.Later))
+    (λ frame. row-up c.stream pid asked (frame_row c lines place number frame role.Later))
+    (numbers_from 0 (frame_count (slice_get (stays_at c place) number))))
+    (row-up c.stream pid asked (lost_row c lines place number role.Later))
+  where
+    asked : Bool
+    asked = stay_asks c place pid number
+
+if-up : (b : Bool) (events : List ClientEvent) → AllUp events → AllUp (if b then events else [])
+if-up true events up = up
+if-up false events up = tt
+
 stay-up : (c : Cluster) (lines : List TapLines) (place : ℕ) (pid : Text) (number : ℕ) → AllUp (stay_events c lines place pid number)
 stay-up c lines place pid number =
     append-up _ _ (row-up c.stream pid asked (ask_row c lines place number role.Ask))
     (append-up _ _ (row-up c.stream pid asked (reply_row c lines place number role.Reply))
-    (append-up _ _ (flat-up (λ frame. stay_row_events c place pid number (frame_row c lines place number frame role.Later))
-    (λ frame. row-up c.stream pid asked (frame_row c lines place number frame role.Later))
-    (numbers_from 0 (frame_count (slice_get (stays_at c place) number))))
-    (row-up c.stream pid asked (lost_row c lines place number role.Later))))
+    (if-up (may_be_of pid (slice_get (stays_at c place) number)) (received_events c lines place pid number) (received-up c lines place pid number)))
   where
     asked : Bool
     asked = stay_asks c place pid number

@@ -1,5 +1,5 @@
 -- What happened to the client of a session.
-use Rattle.std.specs.Prelude.{ℕ, Bool, true, false, List, ◌++◌, flat_map, length, Option, Some, None, option_to_list, if◌then◌else◌, slice_get}
+use Rattle.std.specs.Prelude.{ℕ, Bool, true, false, ◌||◌, List, [], ◌++◌, flat_map, length, Option, Some, None, is_none, option_to_list, if◌then◌else◌, slice_get}
 use Rattle.std.specs.Option.{option_map, option_and_then}
 use Rattle.std.specs.Str.{bytes_eq}
 use Rattle.aud_tap.specs.declared.records.StreamRec.{StreamRec}
@@ -7,6 +7,7 @@ use Rattle.aud_node.specs.Cluster.{Cluster}
 use Rattle.aud_node.specs.Lists.{numbers_from}
 use Rattle.aud_node.specs.Stream.{Text, position}
 use Rattle.aud_client.specs.Replies.{is_this}
+use Rattle.aud_client.specs.Received.{stay_names_pid}
 use Rattle.aud_client.specs.StaySeen.{AskedSeen, StaySeen}
 use Rattle.aud_lines.specs.TapLines.{TapLines}
 use Rattle.aud_rows.specs.declared.row.Role.TheVariants as role
@@ -31,6 +32,11 @@ is_asked pid (Some asked) = bytes_eq asked.pid pid
 abbrev pub asks_for : Text → Option StaySeen → Bool
 asks_for pid None = false
 asks_for pid (Some stay) = is_asked pid stay.asked
+
+-- there is a stay, and what came in it may be of the session: its answer names the session, or none came
+abbrev pub may_be_of : Text → Option StaySeen → Bool
+may_be_of pid None = false
+may_be_of pid (Some stay) = is_none stay.reply || stay_names_pid pid stay
 
 -- what the answer is, where the stay asked for the session or didn't, and the answer names it or doesn't
 abbrev pub answered : Bool → Bool → Option Happens
@@ -77,13 +83,22 @@ frame_events c lines place pid number =
     flat_map (λ frame. stay_row_events c place pid number (frame_row c lines place number frame role.Later))
     (numbers_from 0 (frame_count (slice_get (stays_at c place) number)))
 
+-- the entries that the client received in that stay, and the loss of the connection
+abbrev pub received_events : Cluster → List TapLines → ℕ → Text → ℕ → List ClientEvent
+received_events c lines place pid number =
+    frame_events c lines place pid number ++ stay_row_events c place pid number (lost_row c lines place number role.Later)
+
+-- the same where they may be of the session
+abbrev pub later_events : Cluster → List TapLines → ℕ → Text → ℕ → List ClientEvent
+later_events c lines place pid number =
+    if may_be_of pid (slice_get (stays_at c place) number) then received_events c lines place pid number else []
+
 -- what happened in that stay: what was asked, the answer, the entries, the loss of the connection
 abbrev pub stay_events : Cluster → List TapLines → ℕ → Text → ℕ → List ClientEvent
 stay_events c lines place pid number =
     stay_row_events c place pid number (ask_row c lines place number role.Ask)
     ++ (stay_row_events c place pid number (reply_row c lines place number role.Reply)
-    ++ (frame_events c lines place pid number
-    ++ stay_row_events c place pid number (lost_row c lines place number role.Later)))
+    ++ later_events c lines place pid number)
 
 -- what happened in the stays with these numbers, stay after stay
 abbrev pub events_of_stays : Cluster → List TapLines → ℕ → Text → List ℕ → List ClientEvent

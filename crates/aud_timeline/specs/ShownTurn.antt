@@ -5,8 +5,8 @@ use Rattle.aud_explanation.specs.declared.turn.TurnShown.{TurnShown}
 use Rattle.aud_explanation.specs.declared.turn.TurnBegin.{TurnBegin}
 use Rattle.aud_explanation.specs.declared.turn.TurnEnd.{TurnEnd}
 
--- a turn: its number and its node; by which record it begins, on which line; the node's cursor after that record and at the
--- turn's end, and the first and the last position that it took between; and how the turn ends
+-- a turn: its number and its node; by which record it begins, on which line, and the node's cursor after that; the first and
+-- the last position that the node took in it; and how it ends
 pub record ShownTurn : Type 0 where
   pub turn : ℕ
   pub node : Text
@@ -14,9 +14,7 @@ pub record ShownTurn : Type 0 where
   pub begin_line : ℕ
   pub low : ℕ
   pub took : Option (ℕ × ℕ)
-  pub high : ℕ
   pub end : TurnEnd
 
 abbrev pub turn_seen : TurnShown → ShownTurn
-turn_seen t =
-    record { turn = t.turn; node = t.node.now; begin = t.begin; begin_line = t.begin_line; low = t.low; took = t.took; high = t.high; end = t.end }
+turn_seen t = record { turn = t.turn; node = t.node.now; begin = t.begin; begin_line = t.begin_line; low = t.low; took = t.took; end = t.end }

@@ -5,7 +5,7 @@ ghost use Rattle.aud_client.specs.Replies.{is_this};
 ghost use Rattle.aud_node.specs.Stream.{position};
 ghost use Rattle.aud_rows.specs.ClientPlaces.{AreOf};
 ghost use Rattle.aud_rows.specs.Seen.{row_seen, says_seen};
-ghost use Rattle.aud_timeline.specs.ClientEvents.{answered, asks_for, client_events, event_of, events_of_stays, frame_count, frame_events, happens_of, is_asked, row_events, stay_events};
+ghost use Rattle.aud_timeline.specs.ClientEvents.{answered, asks_for, client_events, event_of, events_of_stays, frame_count, frame_events, happens_of, is_asked, may_be_of, received_events, row_events, stay_events};
 
 use crate::order::sort_events;
 use crate::record_at::stay_at;
@@ -18,8 +18,8 @@ use std::alloc::{AllocError, Global};
 
 /// What happened to the client of a session in the stays of its tap with these numbers, in the order of the lines: that it
 /// asked for the session, the answer, which is a refusal where it asked for the session and the reply names another one or
-/// nobody, the entries that it received, those of consecutive positions as one, and the loss of the connection. What has no
-/// known line is left out.
+/// nobody, the entries that it received, those of consecutive positions as one, and the loss of the connection. What came after
+/// a refusal is of another session or of none, and left out, as is what has no known line.
 ///
 /// The stays are those whose reply names the session, and those that asked for it in vain. It costs these stays.
 pub fn client_events(
@@ -66,12 +66,32 @@ fn push_stay(
     requires { AreOf sheet.now.recording.now tap.now }
     ensures { OnOk result (events.new.items ≡ events.old.items ++ stay_events sheet.now.recording.now sheet.now.lines.now tap.now.place pid.now number) }
 {
-    let asked = asks_for(pid, stay_at(sheet, tap.place, number));
+    let stay = stay_at(sheet, tap.place, number);
+    let asked = asks_for(pid, stay);
     let ask = sheet.ask_row(tap, number, Role::Ask);
     push_row(events, sheet, pid, asked, ask)?;
     let reply = sheet.reply_row(tap, number, Role::Reply);
     push_row(events, sheet, pid, asked, reply)?;
+    if may_be_of(pid, stay) {
+        push_received(events, sheet, tap, pid, number)
+    } else {
+        Ok(())
+    }
+}
+
+/// Adds the frames of the stay, and the loss of its connection.
+fn push_received(
+    events: &mut Vec<ClientEvent>,
+    sheet: &Sheet<'_, '_>,
+    tap: &ClientPlaces,
+    pid: &str,
+    number: usize,
+) -> Result<(), AllocError>
+    requires { AreOf sheet.now.recording.now tap.now }
+    ensures { OnOk result (events.new.items ≡ events.old.items ++ received_events sheet.now.recording.now sheet.now.lines.now tap.now.place pid.now number) }
+{
     push_frames(events, sheet, tap, pid, number)?;
+    let asked = asks_for(pid, stay_at(sheet, tap.place, number));
     let lost = sheet.lost_row(tap, number, Role::Later);
     push_row(events, sheet, pid, asked, lost)
 }
@@ -190,6 +210,16 @@ fn is_asked(pid: &str, asked: Option<&Asked>) -> bool
 {
     match asked {
         Some(asked) => asked.pid.as_str() == pid,
+        None => false,
+    }
+}
+
+/// Whether there is a stay, and what came in it may be of the session.
+fn may_be_of(pid: &str, stay: Option<&Stay<'_>>) -> bool
+    ensures { result ≡ may_be_of pid.now (option_copied stay.entry) }
+{
+    match stay {
+        Some(stay) => stay.reply.is_none() || stay.names(pid),
         None => false,
     }
 }

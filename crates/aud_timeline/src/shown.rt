@@ -2,7 +2,7 @@
 ghost use Rattle.std.specs.Prelude.{◌≡◌, ◌++◌, OnOk, map, option_to_list};
 ghost use Rattle.std.specs.Option.{option_map};
 ghost use Rattle.aud_timeline.specs.ShownTurn.{turn_seen};
-ghost use Rattle.aud_timeline.specs.SpanShown.{cursor_past, end_shown, span_shown, took_between};
+ghost use Rattle.aud_timeline.specs.SpanShown.{cursor_past, end_shown, span_shown, took_between, took_until};
 
 use crate::span::{Ends, TurnSpan};
 use aud_explanation::{TurnEnd, TurnShown};
@@ -18,16 +18,16 @@ pub(crate) fn span_shown<'r>(sheet: &Sheet<'r, '_>, span: TurnSpan) -> Option<Tu
     let tap = logs.taps().get(span.node)?;
     let begin_line = sheet.lines.line_of(span.node, span.first)?;
     let low = cursor_past(logs, span.node, span.first)?;
-    let high = cursor_past(logs, span.node, span.last)?;
-    let end = end_shown(span.ends, sheet.lines.line_of(span.node, span.last))?;
+    let last_line = sheet.lines.line_of(span.node, span.last);
+    let high = cursor_past(logs, span.node, span.last);
+    let end = end_shown(span.ends, last_line, high)?;
     Some(TurnShown {
         turn: span.turn,
         node: tap.name.as_str(),
         begin: span.begin,
         begin_line,
         low,
-        took: took_between(low, high),
-        high,
+        took: took_until(low, end),
         end,
     })
 }
@@ -50,14 +50,35 @@ fn took_between(low: u64, high: u64) -> Option<(u64, u64)>
     }
 }
 
-/// How a turn ends whose last record stands on this line, if that is known.
-fn end_shown(ends: Ends, line: Option<u64>) -> Option<TurnEnd>
-    ensures { result ≡ end_shown ends line }
+/// The first position and the last one that a node took in a turn that begins at this cursor and ends so.
+fn took_until(low: u64, end: TurnEnd) -> Option<(u64, u64)>
+    ensures { result ≡ took_until low end }
+{
+    match end {
+        TurnEnd::Break { high, .. } | TurnEnd::Gone { high, .. } | TurnEnd::Log { high, .. } => {
+            took_between(low, high)
+        }
+        TurnEnd::Missing => None,
+    }
+}
+
+/// How a turn ends whose last record stands on this line and leaves this cursor, if they are known.
+fn end_shown(ends: Ends, line: Option<u64>, high: Option<u64>) -> Option<TurnEnd>
+    ensures { result ≡ end_shown ends line high }
 {
     match ends {
-        Ends::ByBreak => Some(TurnEnd::Break { line: line? }),
-        Ends::ByGone => Some(TurnEnd::Gone { line: line? }),
-        Ends::ByLog => Some(TurnEnd::Log { line: line? }),
+        Ends::ByBreak => Some(TurnEnd::Break {
+            line: line?,
+            high: high?,
+        }),
+        Ends::ByGone => Some(TurnEnd::Gone {
+            line: line?,
+            high: high?,
+        }),
+        Ends::ByLog => Some(TurnEnd::Log {
+            line: line?,
+            high: high?,
+        }),
         Ends::Missing => Some(TurnEnd::Missing),
     }
 }

@@ -217,7 +217,7 @@ static OF_ROOMS: [(Asked, Wanted); 8] = [
         Some((
             10,
             "a",
-            Says::Take {
+            Says::Takes {
                 position: 2,
                 off: "o2",
             },

@@ -21,7 +21,7 @@ do: let the tap of a write each record at once; look for a full disk.
 ";
 
 const JSON: &str =
-    r#"{"also":[],"at_frame":null,"causes":[{"id":"missing-break","lines":[],"sure":true,"todo":"let the tap of a write each record at once; look for a full disk.","why":"the client lost and recovered turn 0, and no node recorded its end."}],"class":"recording","client":"c0","conn":null,"due":null,"events":[{"after":null,"from":null,"happens":"reply","lines":[240,240],"to":null},{"after":null,"from":null,"happens":"lost","lines":[251,251],"to":null},{"after":null,"from":null,"happens":"asks","lines":[254,254],"to":null},{"after":null,"from":null,"happens":"reply","lines":[259,259],"to":null}],"evidence":[{"line":54,"role":"earlier","says":"open, sid Kx1, namespace /, cursor 3","tap":"a"},{"line":128,"role":"fault","says":"back 1, cursor 5","tap":"b"}],"fault":"CHAIN","got":null,"nsp":"/","off":null,"pid":"g9WrVZnpmmxvKKbTAAAC","refused":[],"tail":null,"turns":[{"begin":"open","end":"missing","high":3,"lines":[54],"low":3,"node":"a","took":null,"turn":0},{"begin":"back","end":"break","high":5,"lines":[128,143],"low":5,"node":"b","took":null,"turn":1}],"v":1,"verdict":"no"}"#;
+    r#"{"also":[],"at_frame":null,"causes":[{"id":"missing-break","lines":[],"sure":true,"todo":"let the tap of a write each record at once; look for a full disk.","why":"the client lost and recovered turn 0, and no node recorded its end."}],"class":"recording","client":"c0","conn":null,"due":null,"events":[{"after":null,"from":null,"happens":"reply","lines":[240,240],"to":null},{"after":null,"from":null,"happens":"lost","lines":[251,251],"to":null},{"after":null,"from":null,"happens":"asks","lines":[254,254],"to":null},{"after":null,"from":null,"happens":"reply","lines":[259,259],"to":null}],"evidence":[{"line":54,"role":"earlier","says":"open, sid Kx1, namespace /, cursor 3","tap":"a"},{"line":128,"role":"fault","says":"back 1, cursor 5","tap":"b"}],"fault":"CHAIN","got":null,"nsp":"/","off":null,"pid":"g9WrVZnpmmxvKKbTAAAC","refused":[],"tail":null,"turns":[{"begin":"open","end":"missing","high":null,"lines":[54],"low":3,"node":"a","took":null,"turn":0},{"begin":"back","end":"break","high":5,"lines":[128,143],"low":5,"node":"b","took":null,"turn":1}],"v":1,"verdict":"no"}"#;
 
 static EVIDENCE: [Row<'static>; 2] = [
     Row {
@@ -50,7 +50,6 @@ static TURNS: [TurnShown<'static>; 2] = [
         begin_line: 54,
         low: 3,
         took: None,
-        high: 3,
         end: TurnEnd::Missing,
     },
     TurnShown {
@@ -60,8 +59,7 @@ static TURNS: [TurnShown<'static>; 2] = [
         begin_line: 128,
         low: 5,
         took: None,
-        high: 5,
-        end: TurnEnd::Break { line: 143 },
+        end: TurnEnd::Break { line: 143, high: 5 },
     },
 ];
 

@@ -10,7 +10,7 @@ use aud_tap::Text;
 use std::test::Fail;
 
 const TEXT: &str = "no l20Oco8Ltsjm-QpSAAAC DOUBLED 1795330265183-0 [delivery]
-client c1, namespace /, connection 2, turns 2, got 7, due 4, tail 0, differs at frame 5
+client c1, namespace /, connection 2, turns 2, got 7, due 4, differs at frame 5
     line tap  record
       13 a    break 0, cursor 4
       17 b    back 1, cursor 1
@@ -29,7 +29,7 @@ do: let the restore wait until the cursor is at the break's, or drop what the cl
 ";
 
 const JSON: &str =
-    r#"{"also":[{"lines":[28,36],"position":3},{"lines":[29,37],"position":4}],"at_frame":5,"causes":[{"id":"node-behind-break","lines":[13,17],"sure":true,"todo":"let the restore wait until the cursor is at the break's, or drop what the client has.","why":"b took the session back with its cursor at 1; the break was at 4."}],"class":"delivery","client":"c1","conn":2,"due":4,"events":[{"after":null,"from":null,"happens":"reply","lines":[25,25],"to":null},{"after":null,"from":1,"happens":"got","lines":[26,29],"to":4},{"after":null,"from":null,"happens":"lost","lines":[30,30],"to":null},{"after":4,"from":null,"happens":"asks","lines":[33,33],"to":null},{"after":null,"from":null,"happens":"reply","lines":[34,34],"to":null},{"after":null,"from":2,"happens":"got","lines":[35,37],"to":4}],"evidence":[{"line":13,"role":"break","says":"break 0, cursor 4","tap":"a"},{"line":17,"role":"back","says":"back 1, cursor 1","tap":"b"},{"line":18,"role":"reached","says":"take 2 1795330265183-0","tap":"b"},{"line":27,"role":"earlier","says":"conn 1 got 2 1795330265183-0","tap":"c1"},{"line":33,"role":"ask","says":"conn 2 asks l20Oco8Ltsjm-QpSAAAC after 1795330265185-1","tap":"c1"},{"line":35,"role":"fault","says":"conn 2 got 2 1795330265183-0","tap":"c1"}],"fault":"DOUBLED","got":7,"nsp":"/","off":"1795330265183-0","pid":"l20Oco8Ltsjm-QpSAAAC","refused":[],"tail":0,"turns":[{"begin":"open","end":"break","high":4,"lines":[8,13],"low":0,"node":"a","took":[1,4],"turn":0},{"begin":"back","end":"log","high":4,"lines":[17,20],"low":1,"node":"b","took":[2,4],"turn":1}],"v":1,"verdict":"no"}"#;
+    r#"{"also":[{"lines":[28,36],"position":3},{"lines":[29,37],"position":4}],"at_frame":5,"causes":[{"id":"node-behind-break","lines":[13,17],"sure":true,"todo":"let the restore wait until the cursor is at the break's, or drop what the client has.","why":"b took the session back with its cursor at 1; the break was at 4."}],"class":"delivery","client":"c1","conn":2,"due":4,"events":[{"after":null,"from":null,"happens":"reply","lines":[25,25],"to":null},{"after":null,"from":1,"happens":"got","lines":[26,29],"to":4},{"after":null,"from":null,"happens":"lost","lines":[30,30],"to":null},{"after":4,"from":null,"happens":"asks","lines":[33,33],"to":null},{"after":null,"from":null,"happens":"reply","lines":[34,34],"to":null},{"after":null,"from":2,"happens":"got","lines":[35,37],"to":4}],"evidence":[{"line":13,"role":"break","says":"break 0, cursor 4","tap":"a"},{"line":17,"role":"back","says":"back 1, cursor 1","tap":"b"},{"line":18,"role":"reached","says":"take 2 1795330265183-0","tap":"b"},{"line":27,"role":"earlier","says":"conn 1 got 2 1795330265183-0","tap":"c1"},{"line":33,"role":"ask","says":"conn 2 asks l20Oco8Ltsjm-QpSAAAC after 1795330265185-1","tap":"c1"},{"line":35,"role":"fault","says":"conn 2 got 2 1795330265183-0","tap":"c1"}],"fault":"DOUBLED","got":7,"nsp":"/","off":"1795330265183-0","pid":"l20Oco8Ltsjm-QpSAAAC","refused":[],"tail":null,"turns":[{"begin":"open","end":"break","high":4,"lines":[8,13],"low":0,"node":"a","took":[1,4],"turn":0},{"begin":"back","end":"log","high":4,"lines":[17,20],"low":1,"node":"b","took":[2,4],"turn":1}],"v":1,"verdict":"no"}"#;
 
 static EVIDENCE: [Row<'static>; 6] = [
     Row {
@@ -93,8 +93,7 @@ static TURNS: [TurnShown<'static>; 2] = [
         begin_line: 8,
         low: 0,
         took: Some((1, 4)),
-        high: 4,
-        end: TurnEnd::Break { line: 13 },
+        end: TurnEnd::Break { line: 13, high: 4 },
     },
     TurnShown {
         turn: 1,
@@ -103,8 +102,7 @@ static TURNS: [TurnShown<'static>; 2] = [
         begin_line: 17,
         low: 1,
         took: Some((2, 4)),
-        high: 4,
-        end: TurnEnd::Log { line: 20 },
+        end: TurnEnd::Log { line: 20, high: 4 },
     },
 ];
 

@@ -10,7 +10,7 @@ use aud_tap::Text;
 use std::test::Fail;
 
 const TEXT: &str = "no 1RqzkODyftz2q3IhAAAC LOST 1795330250465-0 [delivery]
-client c1, namespace /, connection 2, turns 2, got 3, due 4, tail 0, differs at frame 2
+client c1, namespace /, connection 2, turns 2, got 3, due 4, differs at frame 2
     line tap  record
        3 st   entry 2 1795330250465-0  the entry
        9 a    join r  decides
@@ -101,8 +101,7 @@ static TURNS: [TurnShown<'static>; 2] = [
         begin_line: 8,
         low: 0,
         took: Some((1, 3)),
-        high: 3,
-        end: TurnEnd::Break { line: 15 },
+        end: TurnEnd::Break { line: 15, high: 3 },
     },
     TurnShown {
         turn: 1,
@@ -111,8 +110,7 @@ static TURNS: [TurnShown<'static>; 2] = [
         begin_line: 22,
         low: 3,
         took: Some((4, 4)),
-        high: 4,
-        end: TurnEnd::Gone { line: 25 },
+        end: TurnEnd::Gone { line: 25, high: 4 },
     },
 ];
 

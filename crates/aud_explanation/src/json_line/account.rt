@@ -5,6 +5,8 @@ ghost use Rattle.aud_explanation.specs.JsonAccount.{with_names, with_client, wit
 
 use crate::client::{Account, Client};
 use crate::json_line::value::number_or_null;
+use crate::tail::shown_tail;
+use aud_report::Verdict;
 use serde_json::{Map, Value, put};
 use std::alloc::{AllocError, Global};
 
@@ -54,27 +56,30 @@ pub(crate) fn put_client(
 fn put_counts(
     alloc: Global,
     members: &mut Map<String, Value>,
+    verdict: &Verdict,
     account: &Account,
 ) -> Result<(), AllocError>
-    ensures { OnOk result (members_view members.new.entries ≡ with_counts account.now (members_view members.old.entries)) }
+    ensures { OnOk result (members_view members.new.entries ≡ with_counts verdict.now account.now (members_view members.old.entries)) }
 {
     put(members, alloc, "got", Value::from(account.got))?;
     put(members, alloc, "due", Value::from(account.due))?;
-    put(members, alloc, "tail", Value::from(account.tail))?;
+    let tail = shown_tail(verdict, account.tail);
+    put(members, alloc, "tail", number_or_null(tail))?;
     put(members, alloc, "at_frame", number_or_null(account.at_frame))
 }
 
-/// Puts what was received of what was due.
+/// Puts what was received of what was due; the tail is `null` where it isn't shown.
 #[tactic(auto, unfolding(crate::specs::JsonAccount::with_account))]
 pub(crate) fn put_account(
     alloc: Global,
     members: &mut Map<String, Value>,
+    verdict: &Verdict,
     account: Option<Account>,
 ) -> Result<(), AllocError>
-    ensures { OnOk result (members_view members.new.entries ≡ with_account account (members_view members.old.entries)) }
+    ensures { OnOk result (members_view members.new.entries ≡ with_account verdict.now account (members_view members.old.entries)) }
 {
     match account {
-        Some(account) => put_counts(alloc, members, &account),
+        Some(account) => put_counts(alloc, members, verdict, &account),
         None => {
             put(members, alloc, "got", Value::Null)?;
             put(members, alloc, "due", Value::Null)?;

@@ -20,6 +20,7 @@ fn role_word(role: Role) -> &'static str
         Role::Entry => "entry",
         Role::Reached => "reached",
         Role::Room => "room",
+        Role::Left => "left",
         Role::Break => "break",
         Role::Back => "back",
         Role::Ask => "ask",

@@ -2,9 +2,9 @@
 ghost use Rattle.std.specs.Prelude.{◌≡◌, IfOk, OnOk};
 ghost use Rattle.serde_json.specs.View.{view, items_view, members_view};
 ghost use Rattle.aud_cert_text.specs.Text.{items};
-ghost use Rattle.aud_explanation.specs.JsonTurn.{begin_word, end_word, lines_data, took_data, turn_data, with_turns};
+ghost use Rattle.aud_explanation.specs.JsonTurn.{begin_word, end_word, high_at, lines_data, took_data, turn_data, with_turns};
 
-use crate::json_line::value::numbers;
+use crate::json_line::value::{number_or_null, numbers};
 use crate::turn::{TurnBegin, TurnEnd, TurnShown};
 use serde_json::{Map, Value, json, put};
 use std::alloc::{AllocError, Global};
@@ -34,12 +34,24 @@ fn lines_value(alloc: Global, begin: u64, end: TurnEnd) -> Result<Value, AllocEr
     ensures { IfOk result (λ v. view v ≡ lines_data begin end) }
 {
     let values = match end {
-        TurnEnd::Break { line } | TurnEnd::Gone { line } | TurnEnd::Log { line } => {
+        TurnEnd::Break { line, .. } | TurnEnd::Gone { line, .. } | TurnEnd::Log { line, .. } => {
             numbers(alloc, &[begin, line])?
         }
         TurnEnd::Missing => numbers(alloc, &[begin])?,
     };
     Ok(Value::Array(values))
+}
+
+/// The node's cursor at the end of a turn.
+fn high_at(end: TurnEnd) -> Option<u64>
+    ensures { result ≡ high_at end }
+{
+    match end {
+        TurnEnd::Break { high, .. } | TurnEnd::Gone { high, .. } | TurnEnd::Log { high, .. } => {
+            Some(high)
+        }
+        TurnEnd::Missing => None,
+    }
 }
 
 /// The first and the last position that a node took in a turn.
@@ -58,10 +70,11 @@ fn turn_value(alloc: Global, turn: &TurnShown<'_>) -> Result<Value, AllocError>
 {
     let begin = begin_word(turn.begin);
     let end = end_word(turn.end);
+    let high = number_or_null(high_at(turn.end));
     let lines = lines_value(alloc, turn.begin_line, turn.end)?;
     let took = took_value(alloc, turn.took)?;
     let number = u64::from(turn.turn);
-    json!(in alloc; {"begin": begin, "end": end, "high": turn.high, "lines": lines, "low": turn.low, "node": turn.node, "took": took, "turn": number})
+    json!(in alloc; {"begin": begin, "end": end, "high": high, "lines": lines, "low": turn.low, "node": turn.node, "took": took, "turn": number})
 }
 
 fn turn_values(alloc: Global, turns: &[TurnShown<'_>]) -> Result<Vec<Value>, AllocError>

@@ -4,7 +4,7 @@ ghost use Rattle.aud_explanation.specs.AlsoText.{also_entry, entry_words, also_l
 
 use crate::also::Also;
 use crate::text::page::push_line;
-use crate::text::span::{push_listed, push_number};
+use crate::text::span::{push_lines, push_number};
 use std::alloc::{AllocError, Global};
 
 /// Puts the words that come first at the end.
@@ -21,14 +21,14 @@ fn push_entry(line: &mut String, position: u64) -> Result<(), AllocError>
 {
     push_also_entry(line)?;
     push_number(line, position)?;
-    line.push_str(", lines")
+    line.push_str(", ")
 }
 
 fn push_words(line: &mut String, also: &Also<'_>) -> Result<(), AllocError>
     ensures { OnOk result (string_bytes line.new ≡ string_bytes line.old ++ also_line also.now) }
 {
     push_entry(line, also.position)?;
-    push_listed(line, also.lines)
+    push_lines(line, also.lines)
 }
 
 fn push_one(alloc: Global, out: &mut String, also: &Also<'_>) -> Result<(), AllocError>

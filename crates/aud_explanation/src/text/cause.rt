@@ -4,7 +4,7 @@ ghost use Rattle.aud_explanation.specs.CauseText.{sure_word, lines_words, cause_
 
 use crate::cause::Cause;
 use crate::text::page::push_line;
-use crate::text::span::push_listed;
+use crate::text::span::push_lines;
 use std::alloc::{AllocError, Global};
 
 /// Whether the records leave no other cause, in a word.
@@ -15,14 +15,14 @@ fn sure_word(sure: bool) -> &'static str
 }
 
 /// Puts the lines that say so at the end.
-fn push_lines(line: &mut String, lines: &[u64]) -> Result<(), AllocError>
+fn push_where(line: &mut String, lines: &[u64]) -> Result<(), AllocError>
     ensures { OnOk result (string_bytes line.new ≡ string_bytes line.old ++ lines_words lines.now) }
 {
     if lines.is_empty() {
         Ok(())
     } else {
-        line.push_str(", lines")?;
-        push_listed(line, lines)
+        line.push_str(", ")?;
+        push_lines(line, lines)
     }
 }
 
@@ -34,7 +34,7 @@ fn push_why(line: &mut String, cause: &Cause<'_>) -> Result<(), AllocError>
     line.push_str(cause.id)?;
     line.push_str(" (")?;
     line.push_str(sure_word(cause.sure))?;
-    push_lines(line, cause.lines)?;
+    push_where(line, cause.lines)?;
     line.push_str("): ")?;
     line.push_str(cause.why)
 }

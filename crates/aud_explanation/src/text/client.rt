@@ -1,9 +1,11 @@
 //! The line of the client.
 ghost use Rattle.std.specs.Prelude.{◌≡◌, ◌++◌, OnOk, string_bytes};
-ghost use Rattle.aud_explanation.specs.Client.{conn_words, names_words, client_words, frame_words, account_words, client_text};
+ghost use Rattle.aud_explanation.specs.Client.{conn_words, names_words, client_words, tail_words, frame_words, counts_words, account_words, client_text};
 
 use crate::client::{Account, Client};
+use crate::tail::shown_tail;
 use crate::text::page::push_line;
+use aud_report::Verdict;
 use std::alloc::{AllocError, Global};
 
 /// Puts the connection at the end, where there is one.
@@ -35,6 +37,16 @@ fn push_words(line: &mut String, client: Option<Client<'_>>) -> Result<(), Alloc
     }
 }
 
+/// Puts the tail at the end, where it is shown.
+fn push_tail(line: &mut String, tail: Option<u64>) -> Result<(), AllocError>
+    ensures { OnOk result (string_bytes line.new ≡ string_bytes line.old ++ tail_words tail) }
+{
+    match tail {
+        Some(tail) => write!(line, ", tail {tail}"),
+        None => Ok(()),
+    }
+}
+
 /// Puts the frame at which what was received parts from what was due at the end, where it does.
 fn push_frame(line: &mut String, frame: Option<u64>) -> Result<(), AllocError>
     ensures { OnOk result (string_bytes line.new ≡ string_bytes line.old ++ frame_words frame) }
@@ -45,22 +57,26 @@ fn push_frame(line: &mut String, frame: Option<u64>) -> Result<(), AllocError>
     }
 }
 
-/// Puts what was received at the end.
-fn push_account(line: &mut String, account: Option<Account>) -> Result<(), AllocError>
-    ensures { OnOk result (string_bytes line.new ≡ string_bytes line.old ++ account_words account) }
+/// Puts what was received of what was due at the end.
+fn push_counts(line: &mut String, verdict: &Verdict, account: &Account) -> Result<(), AllocError>
+    ensures { OnOk result (string_bytes line.new ≡ string_bytes line.old ++ counts_words verdict.now account.now) }
+{
+    let (got, due) = (account.got, account.due);
+    write!(line, ", got {got}, due {due}")?;
+    push_tail(line, shown_tail(verdict, account.tail))?;
+    push_frame(line, account.at_frame)
+}
+
+/// Puts the same at the end, where the delivery was judged.
+fn push_account(
+    line: &mut String,
+    verdict: &Verdict,
+    account: Option<Account>,
+) -> Result<(), AllocError>
+    ensures { OnOk result (string_bytes line.new ≡ string_bytes line.old ++ account_words verdict.now account) }
 {
     match account {
-        Some(
-            Account {
-                got,
-                due,
-                tail,
-                at_frame,
-            },
-        ) => {
-            write!(line, ", got {got}, due {due}, tail {tail}")?;
-            push_frame(line, at_frame)
-        }
+        Some(account) => push_counts(line, verdict, &account),
         None => write!(line, ", delivery not judged"),
     }
 }
@@ -69,15 +85,16 @@ fn push_account(line: &mut String, account: Option<Account>) -> Result<(), Alloc
 pub(crate) fn push_client(
     alloc: Global,
     out: &mut String,
+    verdict: &Verdict,
     client: Option<Client<'_>>,
     turns: usize,
     account: Option<Account>,
 ) -> Result<(), AllocError>
-    ensures { OnOk result (string_bytes out.new ≡ string_bytes out.old ++ client_text client.entry turns account) }
+    ensures { OnOk result (string_bytes out.new ≡ string_bytes out.old ++ client_text verdict.now client.entry turns account) }
 {
     let mut line = String::new(alloc);
     push_words(&mut line, client)?;
     write!(&mut line, ", turns {turns}")?;
-    push_account(&mut line, account)?;
+    push_account(&mut line, verdict, account)?;
     push_line(out, line.as_str())
 }

@@ -23,7 +23,7 @@ fn fault_mark(fault: &Fault) -> &'static str
         Fault::Doubled(_) => "  <- again",
         Fault::Swapped(_) => "  <- too early",
         Fault::Lost(_) => "  <- passes it over",
-        Fault::Window(_) => "  <- asks for another place",
+        Fault::Window(_) => "  <- does not fit what came",
         Fault::Tail(_) => "  <- the last received",
     }
 }
@@ -48,6 +48,7 @@ pub(crate) fn mark(role: Role, verdict: &Verdict) -> &'static str
         Role::Entry => "  the entry",
         Role::Reached => "  reached here",
         Role::Room => "  decides",
+        Role::Left => "  left after that",
         Role::Break | Role::Back | Role::Ask | Role::Reply => "",
     }
 }

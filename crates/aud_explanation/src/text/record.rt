@@ -1,6 +1,6 @@
 //! What a record says, in words.
 ghost use Rattle.std.specs.Prelude.{◌≡◌, ◌++◌, OnOk, string_bytes};
-ghost use Rattle.aud_explanation.specs.Record.{record_text, pid_words, after_words, asks_words, names_words, reply_words};
+ghost use Rattle.aud_explanation.specs.Record.{record_text, pid_words, after_words, asks_words, names_words, reply_words, takes_up, takes_words};
 
 use aud_rows::Says;
 use std::alloc::AllocError;
@@ -49,6 +49,22 @@ fn push_reply(out: &mut String, conn: u64, sid: &str, pid: Option<&str>) -> Resu
     push_names(out, sid, pid)
 }
 
+/// Puts the words that come first where a node takes several entries at the end.
+#[tactic(auto, unfolding(crate::specs::Record::takes_up))]
+fn push_takes_up(out: &mut String) -> Result<(), AllocError>
+    ensures { OnOk result (string_bytes out.new ≡ string_bytes out.old ++ takes_up) }
+{
+    out.push_str("takes up to ")
+}
+
+/// Puts up to which entry a node takes at the end.
+fn push_takes(out: &mut String, position: u64, off: &str) -> Result<(), AllocError>
+    ensures { OnOk result (string_bytes out.new ≡ string_bytes out.old ++ takes_words position off.now) }
+{
+    push_takes_up(out)?;
+    write!(out, "{position} {off}")
+}
+
 /// Puts what a record says at the end.
 pub(crate) fn push_record(out: &mut String, says: Says<'_>) -> Result<(), AllocError>
     ensures { OnOk result (string_bytes out.new ≡ string_bytes out.old ++ record_text says.entry) }
@@ -57,6 +73,7 @@ pub(crate) fn push_record(out: &mut String, says: Says<'_>) -> Result<(), AllocE
         Says::Entry { position, off } => write!(out, "entry {position} {off}"),
         Says::Start { cursor } => write!(out, "start, cursor {cursor}"),
         Says::Take { position, off } => write!(out, "take {position} {off}"),
+        Says::Takes { position, off } => push_takes(out, position, off),
         Says::Open { sid, nsp, cursor } => {
             write!(out, "open, sid {sid}, namespace {nsp}, cursor {cursor}")
         }

@@ -1,6 +1,6 @@
 //! Numbers, in words.
 ghost use Rattle.std.specs.Prelude.{◌≡◌, ◌++◌, OnOk, decimal, string_bytes};
-ghost use Rattle.aud_explanation.specs.Span.{span, listed};
+ghost use Rattle.aud_explanation.specs.Span.{span, listed, line_word, lines_listed};
 
 use std::alloc::AllocError;
 
@@ -31,4 +31,22 @@ pub(crate) fn push_listed(out: &mut String, numbers: &[u64]) -> Result<(), Alloc
         write!(out, " {number}")?;
     }
     Ok(())
+}
+
+/// The word for these lines.
+fn line_word(lines: &[u64]) -> &'static str
+    ensures { result.now ≡ line_word lines.now }
+{
+    match lines {
+        [_] => "line",
+        _ => "lines",
+    }
+}
+
+/// Puts the lines at the end: `line 28`, or `lines 28 36`.
+pub(crate) fn push_lines(out: &mut String, lines: &[u64]) -> Result<(), AllocError>
+    ensures { OnOk result (string_bytes out.new ≡ string_bytes out.old ++ lines_listed lines.now) }
+{
+    out.push_str(line_word(lines))?;
+    push_listed(out, lines)
 }

@@ -64,13 +64,13 @@ fn push_ending(line: &mut String, at: u64, how: &str, cursor: u64) -> Result<(),
 }
 
 /// Puts how a turn ends at the end, and the cursor there.
-fn push_end(line: &mut String, end: TurnEnd, cursor: u64) -> Result<(), AllocError>
-    ensures { OnOk result (string_bytes line.new ≡ string_bytes line.old ++ end_words end cursor) }
+fn push_end(line: &mut String, end: TurnEnd) -> Result<(), AllocError>
+    ensures { OnOk result (string_bytes line.new ≡ string_bytes line.old ++ end_words end) }
 {
     match end {
-        TurnEnd::Break { line: at } => push_ending(line, at, " break, cursor ", cursor),
-        TurnEnd::Gone { line: at } => push_ending(line, at, " gone, cursor ", cursor),
-        TurnEnd::Log { line: at } => push_ending(line, at, " log ends, cursor ", cursor),
+        TurnEnd::Break { line: at, high } => push_ending(line, at, " break, cursor ", high),
+        TurnEnd::Gone { line: at, high } => push_ending(line, at, " gone, cursor ", high),
+        TurnEnd::Log { line: at, high } => push_ending(line, at, " log ends, cursor ", high),
         TurnEnd::Missing => line.push_str(" no break  <- missing"),
     }
 }
@@ -92,7 +92,7 @@ fn push_words(line: &mut String, width: usize, turn: &TurnShown<'_>) -> Result<(
     push_names(line, width, turn)?;
     push_begin(line, turn.begin, turn.begin_line, turn.low)?;
     push_took(line, turn.took)?;
-    push_end(line, turn.end, turn.high)
+    push_end(line, turn.end)
 }
 
 /// Puts the row of a turn at the end.
