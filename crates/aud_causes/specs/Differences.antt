@@ -1,6 +1,6 @@
 -- What a difference between what was received and what was due may come from.
 use Rattle.std.specs.Prelude.{◌≡◌, ℕ, not, ◌&&◌, ◌++◌, List, [], map, Option, option_to_list, nat_lt, nat_le}
-use Rattle.std.specs.Option.{option_and_then}
+use Rattle.std.specs.Option.{option_and_then, option_or}
 use Rattle.aud_node.specs.Cluster.{Cluster}
 use Rattle.aud_node.specs.Stream.{Text}
 use Rattle.aud_client.specs.StaySeen.{StaySeen}
@@ -19,7 +19,7 @@ use Rattle.aud_causes.specs.declared.facts.Facts.{Facts}
 use Rattle.aud_causes.specs.Facts.{facts_of}
 use Rattle.aud_causes.specs.Delivery.{cause_if, doubled_live, swapped_live, lost_live, sent_again, stale_offset, skipped_in_window}
 use Rattle.aud_causes.specs.Behind.{node_behind}
-use Rattle.aud_causes.specs.Extra.{log_ended_early, before_birth, late_leave}
+use Rattle.aud_causes.specs.Extra.{log_ended_early, before_birth, late_leave, extra_live}
 use Rattle.aud_causes.specs.AtBreak.{first_taken, rooms_at_break}
 
 -- ---- what is known of a session
@@ -81,16 +81,21 @@ lost_causes at_break due f =
 abbrev pub lost_in : Case → Facts → List Cause
 lost_in s f = lost_causes (rooms_at_break s.c s.who s.turns s.stays f) s.due f
 
--- of an entry that was not due, for this reason, and where this holds of the rooms at the break: the node was behind the
--- break; that of the rooms; the offset was another session's; a node's log ends early; a room of it was left; it was taken
--- before the session was opened
-abbrev pub extra_causes : Cluster → Text → List TurnSeen → Option Cause → List ℕ → Option Reason → Facts → List Cause
-extra_causes c pid turns at_break due why f =
-    cause_and (node_behind c turns f)
+-- of an entry that was not due, for this reason, and where this holds of the node that was behind the break, of the rooms at
+-- the break, and of a room that was left: the first; that of the rooms; the offset was another session's; a node's log ends
+-- early; a room of it was left; it was taken before the session was opened; it was sent to a session to which it wasn't addressed
+abbrev pub extra_by : Cluster → Text → List TurnSeen → Option Cause → Option Cause → Option Cause → List ℕ → Option Reason → Facts → List Cause
+extra_by c pid turns behind at_break left due why f =
+    cause_and behind
     (cause_and at_break
     (cause_and (other_session_before due f)
     (cause_and (log_ended_early c pid turns why)
-    (cause_and (late_leave c pid (map (turn_at c) turns) f.parted.position why) (cause_and (before_birth c turns why) [])))))
+    (cause_and left (cause_and (before_birth c turns why) (cause_and (extra_live (option_or behind left) why f) []))))))
+
+-- the same, where this holds of the rooms at the break
+abbrev pub extra_causes : Cluster → Text → List TurnSeen → Option Cause → List ℕ → Option Reason → Facts → List Cause
+extra_causes c pid turns at_break due why f =
+    extra_by c pid turns (node_behind c turns f) at_break (late_leave c pid (map (turn_at c) turns) f.parted.position why) due why f
 
 -- the same of a session's entry at this position
 abbrev pub extra_in : Case → Facts → ℕ → List Cause

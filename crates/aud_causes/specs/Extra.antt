@@ -1,5 +1,5 @@
 -- Why an event came that was not due, by the reason for which it wasn't.
-use Rattle.std.specs.Prelude.{ℕ, ◌-◌, Bool, false, not, List, [], ◌∷◌, length, Option, Some, None, if◌then◌else◌, slice_get}
+use Rattle.std.specs.Prelude.{ℕ, ◌-◌, Bool, true, false, not, ◌&&◌, List, [], ◌∷◌, length, Option, Some, None, if◌then◌else◌, slice_get}
 use Rattle.std.specs.Option.{option_map, option_and_then, option_or}
 use Rattle.aud_tap.specs.declared.records.NodeRec.{NodeRec}
 use Rattle.aud_tap.specs.declared.records.StreamRec.{StreamRec}
@@ -17,10 +17,12 @@ use Rattle.aud_reach.specs.declared.reach.Reach.{Reach}
 use Rattle.aud_reach.specs.declared.change.RoomChange.{RoomChange}
 use Rattle.aud_reach.specs.Changes.{last_change_before}
 use Rattle.aud_reach.specs.Reach.{first_turn_reaching}
-use Rattle.aud_reach.specs.Reasons.{Reason, BeforeBirth, InNoTurn, NoCommonRoom}
+use Rattle.aud_reach.specs.Reasons.{Reason, BeforeBirth, InNoTurn, OtherNamespace, NoCommonRoom, Excepted}
 use Rattle.aud_causes.specs.declared.cause.Cause.{Cause}
 use Rattle.aud_causes.specs.declared.cause.Cause.TheVariants as cause
+use Rattle.aud_causes.specs.declared.facts.Facts.{Facts}
 use Rattle.aud_causes.specs.Behind.{first_of, last_of}
+use Rattle.aud_causes.specs.Delivery.{cause_if, is_outside}
 
 -- ---- the log that ends early
 
@@ -86,3 +88,18 @@ late_leave c pid turns p (Some NoCommonRoom) =
     option_map cause.LateLeave
     (option_and_then (λ reach. first_left c pid turns reach (rooms_named (entry c.stream p))) (reached_at c turns p))
 late_leave c pid turns p _ = None
+
+-- ---- sent to a session to which it wasn't addressed
+
+-- it is an event of another namespace, or for no room that the session held, or it excepts one that the session held
+abbrev pub is_unaddressed : Option Reason → Bool
+is_unaddressed (Some OtherNamespace) = true
+is_unaddressed (Some NoCommonRoom) = true
+is_unaddressed (Some (Excepted room)) = true
+is_unaddressed _ = false
+
+-- the entry was not addressed to the session when the session reached it, and came in no replay; told where there is no cause
+-- that says how that came to be
+abbrev pub extra_live : Option Cause → Option Reason → Facts → Option Cause
+extra_live (Some told) why f = None
+extra_live None why f = cause_if (is_outside f && is_unaddressed why) (cause.ExtraLive f.parted.again)

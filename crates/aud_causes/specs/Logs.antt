@@ -1,5 +1,5 @@
 -- What a fault of the nodes' logs may come from.
-use Rattle.std.specs.Prelude.{ℕ, suc, List, [], ◌∷◌, Option, Some, None, if◌then◌else◌, nat_eq, nat_lt, slice_get}
+use Rattle.std.specs.Prelude.{ℕ, suc, ◌-◌, List, [], ◌∷◌, Option, Some, None, if◌then◌else◌, nat_eq, nat_le, nat_lt, not, slice_get}
 use Rattle.std.specs.Option.{option_map, option_and_then}
 use Rattle.aud_tap.specs.declared.records.StreamRec.{StreamRec}
 use Rattle.aud_tap.specs.declared.records.NodeRec.{NodeRec}
@@ -13,50 +13,63 @@ use Rattle.aud_chain.specs.declared.place.RecordPlace.{RecordPlace}
 use Rattle.aud_chain.specs.declared.misfit.Misfit.{Misfit}
 use Rattle.aud_chain.specs.declared.misfit.Misfit.TheVariants as misfit
 use Rattle.aud_causes.specs.declared.cause.Cause.{Cause}
-use Rattle.aud_causes.specs.declared.cause.Cause.TheVariants.{NodeNotTapped, MissingBreak, RestartedInOldLog, NotInStream, EntriesSkippedByNode}
+use Rattle.aud_causes.specs.declared.cause.Cause.TheVariants.{NodeNotTapped, MissingBreak, NoStart, RestartedInOldLog, NotInStream, EntriesSkippedByNode, EntryTakenAgain}
 
--- the number of the first of the stays that is a recovery; they count on from this number
-abbrev pub first_recovery : ℕ → List StaySeen → Option ℕ
-first_recovery number [] = None
-first_recovery number (stay ∷ stays) = if is_recovered stay then Some number else first_recovery (suc number) stays
+-- the number of the stay by which the client went on after this turn: the first recovery follows turn 0, the next one turn 1,
+-- and so on. Stays count on from this number
+abbrev pub recovery_after : ℕ → ℕ → List StaySeen → Option ℕ
+recovery_after turn number [] = None
+recovery_after turn number (stay ∷ stays) =
+    if not (is_recovered stay) then recovery_after turn (suc number) stays
+    else if nat_eq turn 0 then Some number
+    else recovery_after (turn - 1) (suc number) stays
 
--- of a misfit in the chain of turns, where the first recovery that the client was granted is in the stay with this number: no
--- log has the begin of a turn; the client went on after a turn of which no log has the break
-abbrev pub chain_cause : Misfit → Option ℕ → Option Cause
-chain_cause misfit.NeverOpened recovery = Some (NodeNotTapped 0)
-chain_cause (misfit.MissingTurn turn back) recovery = Some (NodeNotTapped turn)
-chain_cause (misfit.MissingBreak turn begin back) recovery = option_map (MissingBreak turn begin back) recovery
-chain_cause _ recovery = None
+-- of a misfit in the chain of turns, where these are the stays of the client's tap whose reply names the session: no log has the
+-- begin of a turn; the client went on after a turn of which no log has the break
+abbrev pub chain_cause : Misfit → List StaySeen → Option Cause
+chain_cause misfit.NeverOpened stays = Some (NodeNotTapped 0)
+chain_cause (misfit.MissingTurn turn back) stays = Some (NodeNotTapped turn)
+chain_cause (misfit.MissingBreak turn begin back) stays = option_map (MissingBreak turn begin back) (recovery_after turn 0 stays)
+chain_cause _ stays = None
 
 -- the stream doesn't have the position
 abbrev pub unknown : RecordPlace → Option ℕ → Option Cause
 unknown place None = Some (NotInStream place)
 unknown place (Some p) = None
 
--- of a `start` that is out of order: it isn't the log's first record; or the stream doesn't have its offset
-abbrev pub started_again : List StreamRec → RecordPlace → Option Text → Option Cause
-started_again stream place off =
-    if nat_eq place.number 0 then option_and_then (λ o. unknown place (position stream o)) off else Some (RestartedInOldLog place)
+-- of a log's first record: it is no `start`, or one after an entry that the stream doesn't have
+abbrev pub first_cause : List StreamRec → RecordPlace → NodeRec → Option Cause
+first_cause stream place (rec.Start off) = option_and_then (λ o. unknown place (position stream o)) off
+first_cause stream place _ = Some (NoStart place)
 
--- the entry stands past the next one
-abbrev pub skipping : RecordPlace → ℕ → ℕ → Option Cause
-skipping place cursor p = if nat_lt (suc cursor) p then Some (EntriesSkippedByNode place cursor p) else None
+-- the node has taken the entry
+abbrev pub taken_again : RecordPlace → ℕ → ℕ → Option Cause
+taken_again place cursor p = if nat_le p cursor then Some (EntryTakenAgain place cursor p) else None
 
--- of a record by which a node with this cursor takes this position, if the stream has it
-abbrev pub taken_past : RecordPlace → ℕ → Option ℕ → Option Cause
-taken_past place cursor None = Some (NotInStream place)
-taken_past place cursor (Some p) = skipping place cursor p
+-- it has, or the entry stands past the next one
+abbrev pub not_the_next : RecordPlace → ℕ → ℕ → Option Cause
+not_the_next place cursor p = if nat_lt (suc cursor) p then Some (EntriesSkippedByNode place cursor p) else taken_again place cursor p
 
--- the same of an offset: the stream doesn't have it, or it stands past the next one
-abbrev pub taken_out_of_order : List StreamRec → RecordPlace → ℕ → Text → Option Cause
-taken_out_of_order stream place cursor off = taken_past place cursor (position stream off)
+-- of a `take` of the entry at this position, if the stream has it, where the node has this cursor before it
+abbrev pub take_cause : RecordPlace → ℕ → Option ℕ → Option Cause
+take_cause place cursor None = Some (NotInStream place)
+take_cause place cursor (Some p) = not_the_next place cursor p
 
--- of this record, where the node has this cursor before it
+-- the same of a `takes`, which is of all entries up to that one
+abbrev pub takes_cause : RecordPlace → ℕ → Option ℕ → Option Cause
+takes_cause place cursor None = Some (NotInStream place)
+takes_cause place cursor (Some p) = taken_again place cursor p
+
+-- of a later record, where the node has this cursor before it: it is a `start`, or a `take` or `takes` out of order
+abbrev pub later_cause : List StreamRec → RecordPlace → ℕ → NodeRec → Option Cause
+later_cause stream place cursor (rec.Start off) = Some (RestartedInOldLog place)
+later_cause stream place cursor (rec.Take off) = take_cause place cursor (position stream off)
+later_cause stream place cursor (rec.Takes off) = takes_cause place cursor (position stream off)
+later_cause stream place cursor _ = None
+
+-- of a record
 abbrev pub record_cause : List StreamRec → RecordPlace → ℕ → NodeRec → Option Cause
-record_cause stream place cursor (rec.Start off) = started_again stream place off
-record_cause stream place cursor (rec.Take off) = taken_out_of_order stream place cursor off
-record_cause stream place cursor (rec.Takes off) = taken_out_of_order stream place cursor off
-record_cause stream place cursor _ = None
+record_cause stream place cursor r = if nat_eq place.number 0 then first_cause stream place r else later_cause stream place cursor r
 
 -- of the record of a node that is out of order
 abbrev pub order_cause : Cluster → RecordPlace → Option Cause

@@ -14,7 +14,7 @@ use Rattle.aud_chain.specs.Misfit.{HasChain, IsMisfit}
 use Rattle.aud_recoveries.specs.Recoveries.{stays_at}
 use Rattle.aud_causes.specs.declared.cause.Cause.{Cause}
 use Rattle.aud_causes.specs.declared.cause.Cause.TheVariants.{NodeNotTapped}
-use Rattle.aud_causes.specs.Logs.{chain_cause, first_recovery, order_cause}
+use Rattle.aud_causes.specs.Logs.{chain_cause, order_cause}
 use Rattle.aud_causes.specs.Names.{client_cause}
 
 -- the stays of the client's tap at this place, if there is one, whose reply names the session
@@ -24,7 +24,7 @@ stays_of_client c (Some client) pid = stays_naming pid (stays_at c client)
 
 -- the causes of this misfit, where this is the place of the session's client's tap
 abbrev pub misfit_causes : Cluster → Option ℕ → Text → Misfit → List Cause
-misfit_causes c client pid misfit = option_to_list (chain_cause misfit (first_recovery 0 (stays_of_client c client pid)))
+misfit_causes c client pid misfit = option_to_list (chain_cause misfit (stays_of_client c client pid))
 
 -- the session's records are a chain of turns, and there are no causes; or there is a misfit in them, and these are its causes
 abbrev pub AreChainCauses : Cluster → Option ℕ → Text → List Cause → Type 0

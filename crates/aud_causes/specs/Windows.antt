@@ -35,4 +35,4 @@ window_causes stream stays due window =
 
 -- of an event that isn't its entry
 abbrev pub altered_causes : AlteredFrame → List Cause
-altered_causes altered = Altered altered.frame ∷ []
+altered_causes altered = Altered altered.frame altered.part ∷ []

@@ -1,9 +1,11 @@
 -- The words of causes: their names, what to do, and what happened.
-use Rattle.std.specs.Prelude.{ℕ, List, [], ◌∷◌, codes, decimal, flat_map}
+use Rattle.std.specs.Prelude.{ℕ, suc, List, [], ◌∷◌, codes, decimal, flat_map}
+use Rattle.aud_evidence.specs.declared.content.Part.{Part}
+use Rattle.aud_evidence.specs.declared.content.Part.TheVariants as part
 use Rattle.aud_causes.specs.declared.why.Piece.{Piece}
-use Rattle.aud_causes.specs.declared.why.Piece.TheVariants.{Words, Number}
+use Rattle.aud_causes.specs.declared.why.Piece.TheVariants.{Words, Number, Nth}
 use Rattle.aud_causes.specs.declared.cause.Cause.{Cause}
-use Rattle.aud_causes.specs.declared.cause.Cause.TheVariants.{NodeBehindBreak, SentAgainAfterReplay, StaleOffset, OffsetOfAnotherSession, UnknownOffset, NoOffset, RoomsAtBreak, SkippedInWindow, LostLive, DoubledLive, SwappedLive, Altered, LogEndedEarly, LateLeave, BeforeBirth, MissingBreak, NodeNotTapped, RestartedInOldLog, EntriesSkippedByNode, NotInStream, TwoTaps, NoClientTap, SidDiffers, NamespaceDiffers, NotAPacket, TapBeganLate, CutBeforeReply, ReplyWithoutPid, SessionOver, NeverBroken, AskedTooEarly}
+use Rattle.aud_causes.specs.declared.cause.Cause.TheVariants.{NodeBehindBreak, SentAgainAfterReplay, StaleOffset, OffsetOfAnotherSession, UnknownOffset, NoOffset, RoomsAtBreak, SkippedInWindow, LostLive, DoubledLive, SwappedLive, Altered, LogEndedEarly, LateLeave, BeforeBirth, ExtraLive, MissingBreak, NodeNotTapped, NoStart, RestartedInOldLog, EntriesSkippedByNode, EntryTakenAgain, NotInStream, TwoTaps, NoClientTap, SidDiffers, NamespaceDiffers, NotAPacket, TapBeganLate, CutBeforeReply, ReplyWithoutPid, SessionOver, NeverBroken, AskedTooEarly}
 
 -- the name of the cause, for scripts
 abbrev pub id_text : Cause → List ℕ
@@ -18,14 +20,17 @@ id_text (SkippedInWindow stay after low) = codes "skipped-in-window"
 id_text (LostLive frame) = codes "lost-live"
 id_text (DoubledLive first again) = codes "doubled-live"
 id_text (SwappedLive frame later) = codes "swapped-live"
-id_text (Altered frame) = codes "altered"
+id_text (Altered frame part) = codes "altered"
 id_text (LogEndedEarly last high) = codes "log-ended-early"
 id_text (LateLeave leave) = codes "late-leave"
 id_text (BeforeBirth begin low) = codes "before-birth"
+id_text (ExtraLive frame) = codes "extra-live"
 id_text (MissingBreak turn begin back stay) = codes "missing-break"
 id_text (NodeNotTapped turn) = codes "node-not-tapped"
+id_text (NoStart first) = codes "no-start"
 id_text (RestartedInOldLog start) = codes "restarted-in-old-log"
 id_text (EntriesSkippedByNode taken cursor position) = codes "entries-skipped-by-node"
+id_text (EntryTakenAgain taken cursor position) = codes "entry-taken-again"
 id_text (NotInStream taken) = codes "not-in-stream"
 id_text (TwoTaps taps) = codes "two-taps"
 id_text NoClientTap = codes "no-client-tap"
@@ -52,14 +57,17 @@ todo_text (SkippedInWindow stay after low) = codes "look at how the node reads t
 todo_text (LostLive frame) = codes "look at what stands between the node and the client, and at what the node sent."
 todo_text (DoubledLive first again) = codes "look at what stands between the node and the client, and at what the node sent."
 todo_text (SwappedLive frame later) = codes "look at what stands between the node and the client, and at what the node sent."
-todo_text (Altered frame) = codes "look at what stands between the node and the client; let the stream's tap write as the nodes do."
+todo_text (Altered frame part) = codes "look at what stands between the node and the client; let the stream's tap write as the nodes do."
 todo_text (LogEndedEarly last high) = codes "write a node's log unbuffered, and stop the nodes after the clients."
 todo_text (LateLeave leave) = codes "send an entry by the rooms that the session holds when the node takes it."
 todo_text (BeforeBirth begin low) = codes "send a session nothing that the node took before it opened the session."
+todo_text (ExtraLive frame) = codes "look at how the node picks the sessions of a room."
 todo_text (MissingBreak turn begin back stay) = codes "write a node's log unbuffered; look at the disk and at how logs are rotated."
 todo_text (NodeNotTapped turn) = codes "tap each node, from its start."
+todo_text (NoStart first) = codes "begin a node's log with a `start`, when the node starts."
 todo_text (RestartedInOldLog start) = codes "begin a new log, of another name, each time that a node starts."
 todo_text (EntriesSkippedByNode taken cursor position) = codes "write a `take` for each entry before it is sent, unbuffered."
+todo_text (EntryTakenAgain taken cursor position) = codes "let a node take each entry once, in the order of the stream."
 todo_text (NotInStream taken) = codes "tap the stream before the nodes, and stop its tap after them."
 todo_text (TwoTaps taps) = codes "keep one name of a tap for a client's whole life."
 todo_text NoClientTap = codes "tap the client before its first connection."
@@ -83,6 +91,7 @@ pub data PieceSeen : Type 0 where
 abbrev pub piece_seen : Piece → PieceSeen
 piece_seen (Words words) = Spelled words.now
 piece_seen (Number number) = Counted number
+piece_seen (Nth number) = Counted (suc number)
 
 -- its text
 abbrev pub piece_text : PieceSeen → List ℕ
@@ -92,6 +101,13 @@ piece_text (Counted number) = decimal number
 -- the text of the pieces, one after the other
 abbrev pub sentence_text : List PieceSeen → List ℕ
 sentence_text pieces = flat_map piece_text pieces
+
+-- which part of an event isn't its entry's; bytes and attachments count from 1
+abbrev pub part_pieces : Part → List PieceSeen
+part_pieces part.NoEvent = Spelled (codes "The event is not the entry as the stream's tap has it.") ∷ []
+part_pieces (part.Text at) = Spelled (codes "The event's text parts from its entry's at byte ") ∷ Counted (suc at) ∷ Spelled (codes ".") ∷ []
+part_pieces part.Count = Spelled (codes "The event has another number of attachments than its entry.") ∷ []
+part_pieces (part.Attachment number at) = Spelled (codes "Attachment ") ∷ Counted (suc number) ∷ Spelled (codes " of the event parts from its entry's at byte ") ∷ Counted (suc at) ∷ Spelled (codes ".") ∷ []
 
 -- the sentence of a cause, where the node in question has this name
 abbrev pub why_pieces : List ℕ → Cause → List PieceSeen
@@ -106,14 +122,17 @@ why_pieces node (SkippedInWindow stay after low) = Spelled (codes "The entry is 
 why_pieces node (LostLive frame) = Spelled (codes "The node took the entry while the client was connected, and no frame of it came.") ∷ []
 why_pieces node (DoubledLive first again) = Spelled (codes "No recovery stands between the two frames: the entry came twice while the client was connected.") ∷ []
 why_pieces node (SwappedLive frame later) = Spelled (codes "No recovery stands between the two frames: they changed places while the client was connected.") ∷ []
-why_pieces node (Altered frame) = Spelled (codes "The event is not the entry as the stream's tap has it.") ∷ []
+why_pieces node (Altered frame part) = part_pieces part
 why_pieces node (LogEndedEarly last high) = Spelled (codes "The log of ") ∷ Spelled node ∷ Spelled (codes " ends in the session's last turn; the turns reach entry ") ∷ Counted high ∷ Spelled (codes ".") ∷ []
 why_pieces node (LateLeave leave) = Spelled (codes "The session had left a room of the entry before it reached the entry.") ∷ []
 why_pieces node (BeforeBirth begin low) = Spelled node ∷ Spelled (codes " had taken the entry when it opened the session, with its cursor at ") ∷ Counted low ∷ Spelled (codes ".") ∷ []
+why_pieces node (ExtraLive frame) = Spelled (codes "The node sent the session an entry that was not addressed to it.") ∷ []
 why_pieces node (MissingBreak turn begin back stay) = Spelled (codes "The client recovered the session after turn ") ∷ Counted turn ∷ Spelled (codes ", so that turn broke; no log has its break.") ∷ []
 why_pieces node (NodeNotTapped turn) = Spelled (codes "No node's log has the begin of turn ") ∷ Counted turn ∷ Spelled (codes ".") ∷ []
+why_pieces node (NoStart first) = Spelled (codes "The log of ") ∷ Spelled node ∷ Spelled (codes " does not begin with a `start`.") ∷ []
 why_pieces node (RestartedInOldLog start) = Spelled node ∷ Spelled (codes " started again in its old log.") ∷ []
 why_pieces node (EntriesSkippedByNode taken cursor position) = Spelled node ∷ Spelled (codes " took entry ") ∷ Counted position ∷ Spelled (codes " with its cursor at ") ∷ Counted cursor ∷ Spelled (codes ".") ∷ []
+why_pieces node (EntryTakenAgain taken cursor position) = Spelled node ∷ Spelled (codes " took entry ") ∷ Counted position ∷ Spelled (codes " again, with its cursor at ") ∷ Counted cursor ∷ Spelled (codes ".") ∷ []
 why_pieces node (NotInStream taken) = Spelled node ∷ Spelled (codes " names an entry that the stream's tap doesn't have.") ∷ []
 why_pieces node (TwoTaps taps) = Counted taps ∷ Spelled (codes " taps of clients name the session.") ∷ []
 why_pieces node NoClientTap = Spelled (codes "No tap of a client names the session.") ∷ []

@@ -3,6 +3,7 @@ ghost use Rattle.std.specs.Prelude.{◌≡◌};
 ghost use Rattle.aud_causes.specs.Words.{id_text, todo_text};
 
 use aud_chain::RecordPlace;
+use aud_evidence::Part;
 
 /// What a fault may come from, with what shows it. Positions of the stream count from 1; all else from 0: frames over all
 /// that was received of the session, in the order of the client's tap, and stays among those whose reply names it.
@@ -65,9 +66,10 @@ pub enum Cause {
         frame: usize,
         later: usize,
     },
-    /// An event's text or attachments are not the entry's.
+    /// An event's text or attachments are not the entry's, from this part on. Its sentence counts bytes and attachments from 1.
     Altered {
         frame: usize,
+        part: Part,
     },
     /// The log of the session's last turn ends in that turn, before the entry.
     LogEndedEarly {
@@ -83,6 +85,10 @@ pub enum Cause {
         begin: RecordPlace,
         low: u64,
     },
+    /// An entry that wasn't addressed to the session was sent while the client was connected.
+    ExtraLive {
+        frame: usize,
+    },
     /// The client went on after a turn of which no node has the `break`.
     MissingBreak {
         turn: usize,
@@ -94,12 +100,22 @@ pub enum Cause {
     NodeNotTapped {
         turn: usize,
     },
+    /// A log's first record is no `start`.
+    NoStart {
+        first: RecordPlace,
+    },
     /// A log goes on after a second `start`.
     RestartedInOldLog {
         start: RecordPlace,
     },
     /// A node took an entry that isn't the next one.
     EntriesSkippedByNode {
+        taken: RecordPlace,
+        cursor: u64,
+        position: u64,
+    },
+    /// A node took an entry that its cursor had passed.
+    EntryTakenAgain {
         taken: RecordPlace,
         cursor: u64,
         position: u64,
@@ -174,10 +190,13 @@ impl Cause {
             Cause::LogEndedEarly { .. } => "log-ended-early",
             Cause::LateLeave { .. } => "late-leave",
             Cause::BeforeBirth { .. } => "before-birth",
+            Cause::ExtraLive { .. } => "extra-live",
             Cause::MissingBreak { .. } => "missing-break",
             Cause::NodeNotTapped { .. } => "node-not-tapped",
+            Cause::NoStart { .. } => "no-start",
             Cause::RestartedInOldLog { .. } => "restarted-in-old-log",
             Cause::EntriesSkippedByNode { .. } => "entries-skipped-by-node",
+            Cause::EntryTakenAgain { .. } => "entry-taken-again",
             Cause::NotInStream { .. } => "not-in-stream",
             Cause::TwoTaps { .. } => "two-taps",
             Cause::NoClientTap => "no-client-tap",
@@ -226,13 +245,17 @@ impl Cause {
                 "send an entry by the rooms that the session holds when the node takes it.",
             Cause::BeforeBirth { .. } =>
                 "send a session nothing that the node took before it opened the session.",
+            Cause::ExtraLive { .. } => "look at how the node picks the sessions of a room.",
             Cause::MissingBreak { .. } =>
                 "write a node's log unbuffered; look at the disk and at how logs are rotated.",
             Cause::NodeNotTapped { .. } => "tap each node, from its start.",
+            Cause::NoStart { .. } => "begin a node's log with a `start`, when the node starts.",
             Cause::RestartedInOldLog { .. } =>
                 "begin a new log, of another name, each time that a node starts.",
             Cause::EntriesSkippedByNode { .. } =>
                 "write a `take` for each entry before it is sent, unbuffered.",
+            Cause::EntryTakenAgain { .. } =>
+                "let a node take each entry once, in the order of the stream.",
             Cause::NotInStream { .. } =>
                 "tap the stream before the nodes, and stop its tap after them.",
             Cause::TwoTaps { .. } => "keep one name of a tap for a client's whole life.",

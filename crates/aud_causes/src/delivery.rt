@@ -8,7 +8,7 @@ ghost use Rattle.aud_causes.specs.Differences.{case_of, difference_causes, doubl
 use crate::at_break::{first_taken, rooms_at_break};
 use crate::behind::node_behind;
 use crate::cause::Cause;
-use crate::extra::{before_birth, late_leave, log_ended_early};
+use crate::extra::{before_birth, extra_live, late_leave, log_ended_early};
 use crate::facts::{Facts, facts_of};
 use crate::list::push_cause;
 use crate::live::{
@@ -124,14 +124,16 @@ fn extra_causes(
 ) -> Result<Vec<Cause>, AllocError>
     ensures { IfOk result (λ found. found.items ≡ extra_causes logs.now pid.now turns.now at_break due.now (option_map reason_of why.now) facts) }
 {
+    let behind = node_behind(logs, turns, facts);
+    let left = late_leave(logs, pid, turns, facts.parted.position, why);
     let mut found = Vec::new(alloc);
-    push_cause(&mut found, node_behind(logs, turns, facts))?;
+    push_cause(&mut found, behind)?;
     push_cause(&mut found, at_break)?;
     push_cause(&mut found, other_session_before(due, facts))?;
     push_cause(&mut found, log_ended_early(logs, pid, turns, why))?;
-    let position = facts.parted.position;
-    push_cause(&mut found, late_leave(logs, pid, turns, position, why))?;
+    push_cause(&mut found, left)?;
     push_cause(&mut found, before_birth(logs, turns, why))?;
+    push_cause(&mut found, extra_live(behind.or(left), why, facts))?;
     Ok(found)
 }
 

@@ -3,10 +3,12 @@ ghost use Rattle.std.specs.Prelude.{◌≡◌, map, option_map};
 ghost use Rattle.std.specs.Option.{option_copied};
 ghost use Rattle.aud_cert.specs.Certificate.{turn_at};
 ghost use Rattle.aud_reach.specs.NotDue.{reason_of};
-ghost use Rattle.aud_causes.specs.Extra.{before_birth, ends_turn, first_left, goes_on, late_leave, left_before, log_ended_early, reached_at, rooms_named};
+ghost use Rattle.aud_causes.specs.Extra.{before_birth, ends_turn, extra_live, first_left, goes_on, is_unaddressed, late_leave, left_before, log_ended_early, reached_at, rooms_named};
 
 use crate::behind::{first_of, last_of};
 use crate::cause::Cause;
+use crate::facts::Facts;
+use crate::live::is_outside;
 use aud_cert::Turn;
 use aud_chain::RecordPlace;
 use aud_node::Logs;
@@ -145,4 +147,33 @@ fn reached_at(logs: &Logs<'_>, turns: &[Turn<'_>], position: u64) -> Option<Reac
     ensures { result ≡ reached_at logs.now (map (turn_at logs.now) turns.now) position }
 {
     first_reach(logs, turns, position)
+}
+
+/// Where the entry was not addressed to the session when the session reached it, and came in no replay; none where there is a
+/// cause that tells how that came to be.
+pub(crate) fn extra_live(
+    told: Option<Cause>,
+    why: &Option<NotDue<'_>>,
+    facts: Facts,
+) -> Option<Cause>
+    ensures { result ≡ extra_live told (option_map reason_of why.now) facts }
+{
+    if told.is_some() || !is_outside(facts) || !is_unaddressed(why) {
+        return None;
+    }
+    Some(Cause::ExtraLive {
+        frame: facts.parted.again,
+    })
+}
+
+/// Whether the entry was not addressed to the session.
+fn is_unaddressed(why: &Option<NotDue<'_>>) -> bool
+    ensures { result ≡ is_unaddressed (option_map reason_of why.now) }
+{
+    match why {
+        Some(NotDue::OtherNamespace) => true,
+        Some(NotDue::NoCommonRoom) => true,
+        Some(NotDue::Excepted { .. }) => true,
+        _ => false,
+    }
 }

@@ -92,6 +92,7 @@ fn altered_causes(
             alloc,
             Some(Cause::Altered {
                 frame: altered.frame,
+                part: altered.part,
             }),
         ),
         None => Ok(Vec::new(alloc)),

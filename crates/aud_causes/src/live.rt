@@ -13,7 +13,7 @@ pub(crate) fn is_replayed(replay: Replay, position: u64) -> bool
 }
 
 /// Whether the entry came in no replay, for sure: its stay is no recovery, or it isn't one that was to be replayed.
-fn is_outside(facts: Facts) -> bool
+pub(crate) fn is_outside(facts: Facts) -> bool
     ensures { result ≡ is_outside facts }
 {
     if !facts.recovered {

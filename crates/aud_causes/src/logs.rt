@@ -3,7 +3,8 @@ ghost use Rattle.std.specs.Prelude.{◌≡◌, ◌<◌, length, map, suc};
 ghost use Rattle.std.specs.Option.{option_copied};
 ghost use Rattle.aud_client.specs.Received.{is_recovered};
 ghost use Rattle.aud_node.specs.Cursors.{cursor_at};
-ghost use Rattle.aud_causes.specs.Logs.{chain_cause, first_recovery, order_cause, started_again, taken_out_of_order};
+ghost use Rattle.aud_node.specs.Stream.{position};
+ghost use Rattle.aud_causes.specs.Logs.{chain_cause, first_cause, later_cause, not_the_next, order_cause, recovery_after, take_cause, taken_again, takes_cause};
 
 use crate::cause::Cause;
 use aud_chain::{Misfit, RecordPlace};
@@ -11,10 +12,10 @@ use aud_client::Stay;
 use aud_node::{Logs, NodeLog, Stream};
 use aud_tap::{NodeRec, Text};
 
-/// The cause of this misfit in the chain of turns, where the first recovery that the client was granted is in the stay with
-/// this number.
-pub(crate) fn chain_cause(misfit: Misfit, recovery: Option<usize>) -> Option<Cause>
-    ensures { result ≡ chain_cause misfit recovery }
+/// The cause of this misfit in the chain of turns, where these are the stays of the client's tap whose reply names the
+/// session.
+pub(crate) fn chain_cause(misfit: Misfit, stays: &[&Stay<'_>]) -> Option<Cause>
+    ensures { result ≡ chain_cause misfit (map (λ stay. stay.now) stays.now) }
 {
     match misfit {
         Misfit::NeverOpened => Some(Cause::NodeNotTapped { turn: 0 }),
@@ -23,19 +24,23 @@ pub(crate) fn chain_cause(misfit: Misfit, recovery: Option<usize>) -> Option<Cau
             turn,
             begin,
             back,
-            stay: recovery?,
+            stay: recovery_after(stays, turn)?,
         }),
         _ => None,
     }
 }
 
-/// The number of the first of the stays that is a recovery.
-pub(crate) fn first_recovery(stays: &[&Stay<'_>]) -> Option<usize>
-    ensures { result ≡ first_recovery 0 (map (λ stay. stay.now) stays.now) }
+/// The number of the stay by which the client went on after this turn: the recoveries follow the turns in their order.
+fn recovery_after(stays: &[&Stay<'_>], turn: usize) -> Option<usize>
+    ensures { result ≡ recovery_after turn 0 (map (λ stay. stay.now) stays.now) }
 {
+    let mut left = turn;
     for (number, stay) in stays.iter().enumerate() {
         if is_recovered(*stay) {
-            return Some(number);
+            if left == 0 {
+                return Some(number);
+            }
+            left -= 1;
         }
     }
     None
@@ -53,13 +58,10 @@ pub(crate) fn order_cause(logs: &Logs<'_>, place: RecordPlace) -> Option<Cause>
 {
     let log = logs.node(place.node)?;
     let rec = log.recs().get(place.number)?;
-    let cursor = cursor_before(log, place.number);
-    match rec {
-        NodeRec::Start { off } => started_again(logs.stream(), place, off.as_ref()),
-        NodeRec::Take { off } => taken_out_of_order(logs.stream(), place, cursor, off),
-        NodeRec::Takes { off } => taken_out_of_order(logs.stream(), place, cursor, off),
-        _ => None,
+    if place.number == 0 {
+        return first_cause(logs.stream(), place, rec);
     }
+    later_cause(logs.stream(), place, cursor_before(log, place.number), rec)
 }
 
 /// The node's cursor before the record with this number.
@@ -81,36 +83,79 @@ fn cursor_after(log: &NodeLog<'_>, number: usize) -> u64
     log.cursor_after(number).unwrap_or(0)
 }
 
-/// Of a `start`: it is not the log's first record, or the stream doesn't have its offset.
-fn started_again(stream: &Stream<'_>, place: RecordPlace, off: Option<&Text>) -> Option<Cause>
-    ensures { result ≡ started_again stream.now place (option_copied off.entry) }
+/// Of a log's first record: it is no `start`, or one after an entry that the stream doesn't have.
+fn first_cause(stream: &Stream<'_>, place: RecordPlace, rec: &NodeRec) -> Option<Cause>
+    ensures { result ≡ first_cause stream.now place rec.now }
 {
-    if place.number != 0 {
-        return Some(Cause::RestartedInOldLog { start: place });
-    }
-    match stream.position(off?.as_str()) {
+    let NodeRec::Start { off } = rec else {
+        return Some(Cause::NoStart { first: place });
+    };
+    match position_of(stream, off.as_ref()?) {
         Some(_) => None,
         None => Some(Cause::NotInStream { taken: place }),
     }
 }
 
-/// Of a record by which a node with this cursor takes the entry of this offset: the stream doesn't have it, or it stands past
-/// the next one.
-fn taken_out_of_order(
-    stream: &Stream<'_>,
-    place: RecordPlace,
-    cursor: u64,
-    off: &Text,
-) -> Option<Cause>
-    ensures { result ≡ taken_out_of_order stream.now place cursor off.now }
+/// Of a later record, where the node has this cursor before it: it is a `start`, or a `take` or `takes` out of order.
+fn later_cause(stream: &Stream<'_>, place: RecordPlace, cursor: u64, rec: &NodeRec) -> Option<Cause>
+    ensures { result ≡ later_cause stream.now place cursor rec.now }
 {
-    let Some(position) = stream.position(off.as_str()) else {
-        return Some(Cause::NotInStream { taken: place });
-    };
+    match rec {
+        NodeRec::Start { .. } => Some(Cause::RestartedInOldLog { start: place }),
+        NodeRec::Take { off } => take_cause(place, cursor, position_of(stream, off)),
+        NodeRec::Takes { off } => takes_cause(place, cursor, position_of(stream, off)),
+        _ => None,
+    }
+}
+
+fn position_of(stream: &Stream<'_>, off: &Text) -> Option<u64>
+    ensures { result ≡ position stream.now off.now }
+{
+    stream.position(off.as_str())
+}
+
+/// Of a `take` of the entry at this position, if the stream has it.
+fn take_cause(place: RecordPlace, cursor: u64, position: Option<u64>) -> Option<Cause>
+    ensures { result ≡ take_cause place cursor position }
+{
+    match position {
+        Some(position) => not_the_next(place, cursor, position),
+        None => Some(Cause::NotInStream { taken: place }),
+    }
+}
+
+/// Of a `takes`, which is of all entries up to the one at this position.
+fn takes_cause(place: RecordPlace, cursor: u64, position: Option<u64>) -> Option<Cause>
+    ensures { result ≡ takes_cause place cursor position }
+{
+    match position {
+        Some(position) => taken_again(place, cursor, position),
+        None => Some(Cause::NotInStream { taken: place }),
+    }
+}
+
+/// Where the node has taken the entry, or it stands past the next one.
+fn not_the_next(place: RecordPlace, cursor: u64, position: u64) -> Option<Cause>
+    ensures { result ≡ not_the_next place cursor position }
+{
     if position <= cursor || position - cursor == 1 {
-        return None;
+        return taken_again(place, cursor, position);
     }
     Some(Cause::EntriesSkippedByNode {
+        taken: place,
+        cursor,
+        position,
+    })
+}
+
+/// Where the node has taken the entry.
+fn taken_again(place: RecordPlace, cursor: u64, position: u64) -> Option<Cause>
+    ensures { result ≡ taken_again place cursor position }
+{
+    if cursor < position {
+        return None;
+    }
+    Some(Cause::EntryTakenAgain {
         taken: place,
         cursor,
         position,

@@ -4,7 +4,7 @@ ghost use Rattle.aud_causes.specs.Recorded.{AreChainCauses, AreRecordedCauses, o
 
 use crate::cause::Cause;
 use crate::list::push_cause;
-use crate::logs::{chain_cause, first_recovery, order_cause};
+use crate::logs::{chain_cause, order_cause};
 use crate::names::client_cause;
 use aud_cert::Fault;
 use aud_chain::{RecordPlace, first_misfit};
@@ -56,7 +56,7 @@ fn chain_causes(
         return Ok(Vec::new(alloc));
     };
     let stays = stays_of_client(alloc, recording, client, pid)?;
-    one_cause(alloc, chain_cause(misfit, first_recovery(stays.as_slice())))
+    one_cause(alloc, chain_cause(misfit, stays.as_slice()))
 }
 
 /// The stays of the client's tap at this place whose reply names the session.

@@ -1,8 +1,9 @@
 //! What happened, in a sentence.
 ghost use Rattle.std.specs.Prelude.{◌≡◌, ◌++◌, IfOk, OnOk, map, string_bytes};
-ghost use Rattle.aud_causes.specs.Words.{piece_seen, piece_text, sentence_text, why_text};
+ghost use Rattle.aud_causes.specs.Words.{part_pieces, piece_seen, piece_text, sentence_text, why_text};
 
 use crate::cause::Cause;
+use aud_evidence::Part;
 use std::alloc::{AllocError, Global};
 
 /// A piece of a sentence.
@@ -10,6 +11,8 @@ use std::alloc::{AllocError, Global};
 pub enum Piece<'t> {
     Words(&'t str),
     Number(u64),
+    /// What has this number, counted from 0; written counting from 1.
+    Nth(usize),
 }
 
 /// What happened, where the node in question, if the cause speaks of one, has this name.
@@ -100,10 +103,7 @@ pub(crate) fn why_text(alloc: Global, cause: Cause, node: &str) -> Result<String
                 "No recovery stands between the two frames: they changed places while the client was connected.",
             )],
         ),
-        Cause::Altered { .. } => sentence(
-            alloc,
-            &[Piece::Words("The event is not the entry as the stream's tap has it.")],
-        ),
+        Cause::Altered { part, .. } => part_text(alloc, part),
         Cause::LogEndedEarly { high, .. } => sentence(
             alloc,
             &[
@@ -131,6 +131,10 @@ pub(crate) fn why_text(alloc: Global, cause: Cause, node: &str) -> Result<String
                 Piece::Words("."),
             ],
         ),
+        Cause::ExtraLive { .. } => sentence(
+            alloc,
+            &[Piece::Words("The node sent the session an entry that was not addressed to it.")],
+        ),
         Cause::MissingBreak { turn, .. } => sentence(
             alloc,
             &[
@@ -145,6 +149,14 @@ pub(crate) fn why_text(alloc: Global, cause: Cause, node: &str) -> Result<String
                 Piece::Words("No node's log has the begin of turn "),
                 Piece::Number(turn as u64),
                 Piece::Words("."),
+            ],
+        ),
+        Cause::NoStart { .. } => sentence(
+            alloc,
+            &[
+                Piece::Words("The log of "),
+                Piece::Words(node),
+                Piece::Words(" does not begin with a `start`."),
             ],
         ),
         Cause::RestartedInOldLog { .. } => sentence(
@@ -165,6 +177,21 @@ pub(crate) fn why_text(alloc: Global, cause: Cause, node: &str) -> Result<String
                 Piece::Words(" took entry "),
                 Piece::Number(position),
                 Piece::Words(" with its cursor at "),
+                Piece::Number(cursor),
+                Piece::Words("."),
+            ],
+        ),
+        Cause::EntryTakenAgain {
+            cursor,
+            position,
+            ..
+        } => sentence(
+            alloc,
+            &[
+                Piece::Words(node),
+                Piece::Words(" took entry "),
+                Piece::Number(position),
+                Piece::Words(" again, with its cursor at "),
                 Piece::Number(cursor),
                 Piece::Words("."),
             ],
@@ -238,6 +265,40 @@ pub(crate) fn why_text(alloc: Global, cause: Cause, node: &str) -> Result<String
     }
 }
 
+/// Which part of an event isn't its entry's.
+fn part_text(alloc: Global, part: Part) -> Result<String, AllocError>
+    ensures { IfOk result (λ text. string_bytes text ≡ sentence_text (part_pieces part)) }
+{
+    match part {
+        Part::NoEvent => sentence(
+            alloc,
+            &[Piece::Words("The event is not the entry as the stream's tap has it.")],
+        ),
+        Part::Text { at } => sentence(
+            alloc,
+            &[
+                Piece::Words("The event's text parts from its entry's at byte "),
+                Piece::Nth(at),
+                Piece::Words("."),
+            ],
+        ),
+        Part::Count => sentence(
+            alloc,
+            &[Piece::Words("The event has another number of attachments than its entry.")],
+        ),
+        Part::Attachment { number, at } => sentence(
+            alloc,
+            &[
+                Piece::Words("Attachment "),
+                Piece::Nth(number),
+                Piece::Words(" of the event parts from its entry's at byte "),
+                Piece::Nth(at),
+                Piece::Words("."),
+            ],
+        ),
+    }
+}
+
 /// The pieces, one after the other.
 fn sentence(alloc: Global, pieces: &[Piece<'_>]) -> Result<String, AllocError>
     ensures { IfOk result (λ text. string_bytes text ≡ sentence_text (map piece_seen pieces.now)) }
@@ -255,5 +316,6 @@ fn push_piece(text: &mut String, piece: Piece<'_>) -> Result<(), AllocError>
     match piece {
         Piece::Words(words) => text.push_str(words),
         Piece::Number(number) => write!(text, "{number}"),
+        Piece::Nth(number) => write!(text, "{}", number as u128 + 1),
     }
 }

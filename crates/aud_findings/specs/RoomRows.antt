@@ -1,5 +1,5 @@
 -- The rows of the changes of rooms that decide whether an entry was due to a session.
-use Rattle.std.specs.Prelude.{ℕ, Bool, true, false, List, [], ◌∷◌, map, Option, Some, None, if◌then◌else◌}
+use Rattle.std.specs.Prelude.{ℕ, Bool, true, false, List, [], ◌∷◌, map, Option, Some, None, if◌then◌else◌, is_some, slice_get}
 use Rattle.std.specs.Option.{option_map, option_and_then, option_or}
 use Rattle.aud_tap.specs.declared.records.StreamRec.{StreamRec}
 use Rattle.aud_tap.specs.declared.records.StreamRec.TheVariants.{Ev}
@@ -17,7 +17,7 @@ use Rattle.aud_reach.specs.NotDue.{why_not_due}
 use Rattle.aud_reach.specs.Reach.{first_turn_reaching}
 use Rattle.aud_reach.specs.Reasons.{Reason, NoCommonRoom, Excepted}
 use Rattle.aud_lines.specs.TapLines.{TapLines}
-use Rattle.aud_rows.specs.declared.row.Role.TheVariants.{Room}
+use Rattle.aud_rows.specs.declared.row.Role.TheVariants.{Left, Room}
 use Rattle.aud_rows.specs.Rows.{node_row}
 use Rattle.aud_rows.specs.Seen.{RowSeen}
 
@@ -48,6 +48,20 @@ room_row c lines pid turns joined rooms p =
     option_and_then (λ (change : RoomChange). node_row c lines change.node change.number Room)
     (option_and_then (λ reach. first_change c pid turns reach joined rooms) (reach_of c turns p))
 
+-- the end of the turn in which the position was reached: after its last record
+abbrev pub turn_end : List Turn → Reach → Option Reach
+turn_end turns reach = option_map (λ (t : Turn). record reach { number = t.to }) (slice_get turns reach.turn)
+
+-- of the first of the rooms that was held by a join at the reach, the last change before the end, if it is a leave
+abbrev pub left_between : Cluster → Text → List Turn → Reach → Reach → List Text → Option RoomChange
+left_between c pid turns reach end [] = None
+left_between c pid turns reach end (room ∷ rooms) =
+    if is_some (change_in c pid turns reach true room) then change_in c pid turns end false room else left_between c pid turns reach end rooms
+
+-- the same, where the end is that of the reach's turn
+abbrev pub left_after : Cluster → Text → List Turn → List Text → Reach → Option RoomChange
+left_after c pid turns rooms reach = option_and_then (λ end. left_between c pid turns reach end rooms) (turn_end turns reach)
+
 -- ---- of a session's certificate
 
 -- the rooms that an event is for; none of another entry
@@ -62,6 +76,12 @@ cert_row c lines cert joined rooms p = room_row c lines cert.pid (map (turn_at c
 -- why an entry that was due was: the row of the join of the first of its rooms that the session held by one
 abbrev pub due_row : Cluster → List TapLines → CertificateSeen → ℕ → Option RowSeen
 due_row c lines cert p = cert_row c lines cert true (rooms_in (entry c.stream p)) p
+
+-- the row of the leave of that room, where the session didn't hold it any more at the end of the turn in which it reached the entry
+abbrev pub left_row : Cluster → List TapLines → CertificateSeen → ℕ → Option RowSeen
+left_row c lines cert p =
+    option_and_then (λ (change : RoomChange). node_row c lines change.node change.number Left)
+    (option_and_then (left_after c cert.pid (map (turn_at c) cert.turns) (rooms_in (entry c.stream p))) (reach_of c (map (turn_at c) cert.turns) p))
 
 -- why the entry was not due, for this reason: the row of the leave of the first of its rooms that the session had left, or of
 -- the join of the excepted room

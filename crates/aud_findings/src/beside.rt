@@ -1,5 +1,5 @@
 //! What tells of a difference how it comes to be one.
-ghost use Rattle.std.specs.Prelude.{◌≡◌, IfOk, IfSome, List, map, option_map, option_to_list};
+ghost use Rattle.std.specs.Prelude.{◌≡◌, ◌++◌, IfOk, IfSome, List, map, option_map, option_to_list};
 ghost use Rattle.aud_node.specs.Cluster.{Cluster};
 ghost use Rattle.aud_lines.specs.TapLines.{TapLines};
 ghost use Rattle.aud_maker.specs.Made.{IsMade};
@@ -9,7 +9,7 @@ ghost use Rattle.aud_shown.specs.RowLists.{AreTrueRows};
 ghost use Rattle.aud_findings.specs.BesideRows.{beside_rows};
 
 use crate::behind::behind_rows;
-use crate::rooms::{due_row, not_due_row};
+use crate::rooms::{due_row, left_row, not_due_row};
 use aud_cert::Certificate;
 use aud_evidence::Difference;
 use aud_recording_faults::push_row;
@@ -34,7 +34,10 @@ pub(crate) fn beside_rows<'r>(
             behind_rows(alloc, sheet, cert.turns.as_slice(), position)
         }
         Difference::Swapped { due, .. } => one_row(alloc, due_row(sheet, cert, due)),
-        Difference::Lost { due, .. } => one_row(alloc, due_row(sheet, cert, due)),
+        Difference::Lost { due, .. } => {
+            let left = left_row(sheet, cert, due);
+            two_rows(alloc, due_row(sheet, cert, due), left)
+        }
     }
 }
 
@@ -45,5 +48,20 @@ fn one_row<'r>(alloc: Global, row: Option<Row<'r>>) -> Result<Vec<Row<'r>>, Allo
 {
     let mut rows = Vec::new(alloc);
     push_row(&mut rows, row)?;
+    Ok(rows)
+}
+
+/// Those of the two rows that there are.
+fn two_rows<'r>(
+    alloc: Global,
+    first: Option<Row<'r>>,
+    second: Option<Row<'r>>,
+) -> Result<Vec<Row<'r>>, AllocError>
+    ensures rows { IfOk result (λ rows. map row_seen rows.items ≡ option_to_list (option_map row_seen first.entry) ++ option_to_list (option_map row_seen second.entry)) }
+    ensures truth { (c : Cluster) (lines : List TapLines) → IfSome first.entry (IsTrueRow c lines) → IfSome second.entry (IsTrueRow c lines)
+        → IfOk result (λ rows. AreTrueRows c lines rows.items) }
+{
+    let mut rows = one_row(alloc, first)?;
+    push_row(&mut rows, second)?;
     Ok(rows)
 }

@@ -7,9 +7,9 @@ ghost use Rattle.aud_maker.specs.Made.{IsMade};
 ghost use Rattle.aud_rows.specs.Seen.{row_seen};
 ghost use Rattle.aud_rows.specs.TrueRow.{IsTrueRow};
 ghost use Rattle.aud_reach.specs.NotDue.{reason_of};
-ghost use Rattle.aud_findings.specs.RoomRows.{cert_row, change_in, due_row, first_change, not_due_row, not_due_row_for, only_if, reach_of, room_row, rooms_in};
+ghost use Rattle.aud_findings.specs.RoomRows.{cert_row, change_in, due_row, first_change, left_after, left_between, left_row, not_due_row, not_due_row_for, only_if, reach_of, room_row, rooms_in, turn_end};
 
-use aud_cert::{Certificate, Turn};
+use aud_cert::{Certificate, Turn, turn_place};
 use aud_node::Logs;
 use aud_reach::{NotDue, Reach, RoomChange, first_reach, last_change_of, why_not_due};
 use aud_rows::{Role, Row, Sheet};
@@ -27,6 +27,29 @@ pub(crate) fn due_row<'r>(
 {
     let rooms = rooms_at(sheet.recording.logs(), position);
     rooms_row(sheet, cert, true, rooms, position)
+}
+
+/// How the session came to hold that room no more: the row of its last leave before the end of the turn in which the session
+/// first reached the entry; none where it held the room to that end.
+pub(crate) fn left_row<'r>(
+    sheet: &Sheet<'r, '_>,
+    cert: &Certificate<'_>,
+    position: u64,
+) -> Option<Row<'r>>
+    ensures row { option_map row_seen result ≡ left_row sheet.now.recording.now sheet.now.lines.now cert.now position }
+    ensures truth { IfSome result (IsTrueRow sheet.now.recording.now sheet.now.lines.now) }
+{
+    let logs = sheet.recording.logs();
+    let turns = cert.turns.as_slice();
+    let reach = reach_of(logs, turns, position)?;
+    let change = left_after(
+        logs,
+        cert.pid.as_str(),
+        turns,
+        rooms_at(logs, position),
+        reach,
+    )?;
+    sheet.node_row(change.node, change.number, Role::Left)
 }
 
 /// Why the entry at the position was not due to the session: the row of the last leave of the first of its rooms that the
@@ -141,7 +164,59 @@ fn first_change(
     None
 }
 
-/// That of one room.
+/// Of the first of these rooms that was held by a join at the reach, the last change before the end of the reach's turn, if it is
+/// a leave.
+fn left_after(
+    logs: &Logs<'_>,
+    pid: &str,
+    turns: &[Turn<'_>],
+    rooms: &[Text],
+    reach: Reach,
+) -> Option<RoomChange>
+    ensures { result ≡ left_after logs.now pid.now (map (turn_at logs.now) turns.now) rooms.now reach }
+{
+    left_between(
+        logs,
+        pid,
+        turns,
+        reach,
+        turn_end(logs, turns, reach)?,
+        rooms,
+    )
+}
+
+/// The same before this end.
+fn left_between(
+    logs: &Logs<'_>,
+    pid: &str,
+    turns: &[Turn<'_>],
+    reach: Reach,
+    end: Reach,
+    rooms: &[Text],
+) -> Option<RoomChange>
+    ensures { result ≡ left_between logs.now pid.now (map (turn_at logs.now) turns.now) reach end rooms.now }
+{
+    for room in rooms {
+        if change_in(logs, pid, turns, reach, true, room.as_str()).is_some() {
+            return change_in(logs, pid, turns, end, false, room.as_str());
+        }
+    }
+    None
+}
+
+/// The end of the turn in which the position was reached: behind the turn's last record.
+fn turn_end(logs: &Logs<'_>, turns: &[Turn<'_>], reach: Reach) -> Option<Reach>
+    ensures { result ≡ turn_end (map (turn_at logs.now) turns.now) reach }
+{
+    let place = turn_place(logs, turns.get(reach.turn)?);
+    Some(Reach {
+        turn: reach.turn,
+        node: reach.node,
+        number: place.to,
+    })
+}
+
+/// That of one room, before the reach.
 fn change_in(
     logs: &Logs<'_>,
     pid: &str,
