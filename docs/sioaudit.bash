@@ -6,6 +6,7 @@ _sioaudit_options() {
     case $1 in
         '') echo '-h --help -V --version' ;;
         audit) echo '--whole --workers -h --help' ;;
+        explain) echo '--pid --only --json --fail-on --quiet --workers -h --help' ;;
         simulate) echo '--nodes --clients --acts --seed --fault -h --help' ;;
         prove | verify | order | upgrade) echo '-h --help' ;;
     esac
@@ -14,7 +15,10 @@ _sioaudit_options() {
 # the values of an option of a command, and whether it takes one: a status of 1 says that it doesn't
 _sioaudit_values() {
     case $1$2 in
-        audit--workers) echo '1 2 4 8 16 32 64' ;;
+        audit--workers | explain--workers) echo '1 2 4 8 16 32 64' ;;
+        explain--only) echo 'no delivery packets recording' ;;
+        explain--fail-on) echo 'delivery packets recording refused' ;;
+        explain--pid) ;;
         simulate--fault) echo 'drop double hold alter lag' ;;
         simulate--nodes | simulate--clients | simulate--acts | simulate--seed) ;;
         *) return 1 ;;
@@ -28,9 +32,9 @@ _sioaudit_files() {
 }
 
 _sioaudit() {
-    local commands='audit prove verify order upgrade simulate'
+    local commands='audit explain prove verify order upgrade simulate'
     local current=${COMP_WORDS[COMP_CWORD]} before=${COMP_WORDS[COMP_CWORD - 1]}
-    local command='' values i
+    local command='' values front i
     COMPREPLY=()
 
     for ((i = 1; i < COMP_CWORD; i++)); do
@@ -47,11 +51,15 @@ _sioaudit() {
     if [[ $before == [\<\>] ]]; then
         _sioaudit_files "$current"
     elif [[ -n $command ]] && values=$(_sioaudit_values "$command" "$before"); then
-        mapfile -t COMPREPLY < <(compgen -W "$values" -- "$current")
+        # of values that commas separate, the last one is completed
+        front=${current%"${current##*,}"}
+        mapfile -t COMPREPLY < <(compgen -P "$front" -W "$values" -- "${current#"$front"}")
     elif [[ $current == -* ]]; then
         mapfile -t COMPREPLY < <(compgen -W "$(_sioaudit_options "$command")" -- "$current")
     elif [[ -z $command ]]; then
         mapfile -t COMPREPLY < <(compgen -W "$commands" -- "$current")
+    elif [[ $command == explain ]]; then
+        _sioaudit_files "$current"
     fi
 }
 

@@ -59,6 +59,10 @@ const UPGRADE_LINES: &str = "\
 What a node took one by one it takes by one record, and no verdict changes. The numbers of records do:
 certificates of the old bundle don't fit the new one.";
 
+const EXPLAIN_ABOUT: &str = "Reads a bundle and tells of each session that is answered no why";
+
+const EXPLAIN_LINES: &str = "`sioaudit explain --help` has its options.";
+
 const SIMULATE_ABOUT: &str = "Writes the bundle of a simulated cluster";
 
 const SIMULATE_LINES: &str = "`sioaudit simulate --help` has its options.";
@@ -103,10 +107,11 @@ fn with_audit<'a>(alloc: Global) -> Result<Command<'a>, AllocError> {
         .subcommand(audit)
 }
 
-/// The parser of the words, with the commands that [`options`] understands, and with `simulate`, whose words it refuses:
-/// they are read by the crate of the simulated cluster.
+/// The parser of the words, with the commands that [`options`] understands, and with `explain` and `simulate`, whose words it
+/// refuses: they are read by the crates of these commands.
 fn command<'a>(alloc: Global) -> Result<Command<'a>, AllocError> {
     with_audit(alloc)?
+        .subcommand(described(alloc, "explain", EXPLAIN_ABOUT, EXPLAIN_LINES))?
         .subcommand(described(alloc, "prove", PROVE_ABOUT, PROVE_LINES))?
         .subcommand(described(alloc, "verify", VERIFY_ABOUT, VERIFY_LINES))?
         .subcommand(described(alloc, "order", ORDER_ABOUT, ORDER_LINES))?

@@ -1,9 +1,11 @@
-//! `sioaudit`: reads a bundle from standard input and writes the report on it, or writes a simulated one.
+//! `sioaudit`: reads a bundle from standard input and writes the report on it, explains one, or writes a simulated one.
 #![tactic(auto)]
 
+mod explain;
 mod progress;
 mod simulate;
 
+use crate::explain::{explanation, is_explain};
 use crate::progress::Progress;
 use crate::simulate::{is_simulation, simulation};
 use aud_app::{RunFault, Status, Watched, options, run};
@@ -74,12 +76,15 @@ fn main(rt: HostRuntime) -> ExitCode {
     if is_simulation(&words) {
         return simulation(&rt, alloc, &words, rt.stdout());
     }
+    let Ok(keys) = RandomState::new(&rt) else {
+        return fail(&rt, RunFault::Read);
+    };
+    if is_explain(&words) {
+        return explanation(&rt, &rt, alloc, keys, &words);
+    }
     let chosen = match options(alloc, &words) {
         Ok(chosen) => chosen,
         Err(error) => return refuse(&rt, &error),
-    };
-    let Ok(keys) = RandomState::new(&rt) else {
-        return fail(&rt, RunFault::Read);
     };
     let notes = rt.stderr();
     let is_shown = notes.is_terminal();

@@ -1,0 +1,121 @@
+-- What loops do, one step more.
+use Rattle.std.proofs.Common.{◌≡◌, ◌<◌, ◌+◌, ◌-◌, ◌++◌, ◌&&◌, ◌||◌, ℕ, zero, suc, Bool, true, false, not, cond, if◌then◌else◌, List, [], ◌∷◌, length, take, get_or, flat_map, map, Option, Some, option_to_list, slice_get, bytes_eq, refl, sym, ap, subst, ◌∙◌, append_assoc, append-nil, arith}
+use Rattle.std.specs.List.{All}
+use Rattle.std.proofs.lemmas.List.Folds.{list_any-append}
+use Rattle.std.proofs.lemmas.List.{take_more, map-append}
+use Rattle.std.proofs.lemmas.List.Elements.{All-append}
+use Rattle.std.proofs.lemmas.Grind.{flat_map-append}
+use Rattle.aud_base.specs.declared.places.Places.{Places}
+use Rattle.aud_base.specs.Places.{is_place, noted, places_of, places_where}
+use Rattle.aud_base.proofs.NotedPlaces.{noted-at}
+use Rattle.aud_node.specs.Cluster.{Cluster}
+use Rattle.aud_node.specs.Lists.{is_empty}
+use Rattle.aud_recording_faults.proofs.Read.{zip_append}
+use Rattle.aud_explained.specs.declared.written.Form.{Form}
+use Rattle.aud_lines.specs.TapLines.{TapLines}
+use Rattle.aud_report.specs.declared.verdict.SessionVerdict.{SessionVerdict}
+use Rattle.aud_explain_app.specs.Strangers.{AreAdded, AreKnown, IsJudged, asked_in_vain, has_pid, pid_in_vain, pids_of, with_pids}
+use Rattle.aud_explain_app.specs.Texts.{AddTexts, AddsFor, AddsText, IsTextOf}
+use Rattle.aud_explain_app.specs.Asked.{refused_of}
+use Rattle.aud_node.specs.Stream.{Text}
+use Rattle.aud_recoveries.specs.declared.asked.Recovery.{Recovery}
+
+-- an element is read alike, whatever is read where there is none
+same : {X : Type 0} (xs : List X) (i : ℕ) (d e : X) → i < length xs → get_or xs i d ≡ get_or xs i e
+same [] i d e h = absurd (omega arith)
+same (x ∷ xs) zero d e h = refl
+same (x ∷ xs) (suc i) d e h = same xs i d e (omega arith)
+
+-- a place that is noted by what stands there
+pub noted-get : {X : Type 0} (p : Option X → Bool) (xs : List X) (i : ℕ) (d : X) (old new : List ℕ) → i < length xs
+    → old ≡ places_where (λ k. p (slice_get xs k)) i → new ≡ noted i (p (Some (get_or xs i d))) old → new ≡ places_where (λ k. p (slice_get xs k)) (i + 1)
+noted-get p xs i d old new h was more = noted-at p xs i (get_or xs i d) old new h (same xs i d (get_or xs i d) h) was more
+
+-- ---- strangers
+
+-- pids that come after others
+with-append : (pids xs ys : List Text) → with_pids pids (xs ++ ys) ≡ with_pids (with_pids pids xs) ys
+with-append pids [] ys = refl
+with-append pids (x ∷ xs) ys = with-append (if has_pid pids x then pids else pids ++ x ∷ []) xs ys
+
+-- more verdicts
+added_more : (c : Cluster) (xs ys : List Text) (a b d : List SessionVerdict) → AreAdded c xs a b → AreAdded c ys b d → AreAdded c (xs ++ ys) a d
+added_more c xs ys a b d first next =
+    record {
+      others = first.others ++ next.others;
+      are_judged = All-append (IsJudged c) first.others next.others first.are_judged next.are_judged;
+      are_added = next.are_added ∙ ap (λ zs. zs ++ next.others) first.are_added ∙ append_assoc a first.others next.others;
+      are_asked = next.are_asked ∙ ap (λ pids. with_pids pids ys) first.are_asked ∙ sym (with-append (pids_of a) xs ys);
+    }
+
+-- the same in a loop
+pub added_item : (c : Cluster) (xs : List Recovery) (i : ℕ) (x : Recovery) (a b d : List SessionVerdict) → i < length xs
+    → AreAdded c (asked_in_vain c (take i xs)) a b → AreAdded c (option_to_list (pid_in_vain c (get_or xs i x))) b d → AreAdded c (asked_in_vain c (take (i + 1) xs)) a d
+added_item c xs i x a b d h was more =
+    subst (λ pids. AreAdded c pids a d)
+    (sym (ap (asked_in_vain c) (take_more xs i x h) ∙ flat_map-append of (take i xs) (get_or xs i x ∷ []) ∙ ap (λ t. asked_in_vain c (take i xs) ++ t) (append-nil (of (get_or xs i x)))))
+    (added_more c (asked_in_vain c (take i xs)) (of (get_or xs i x)) a b d was more)
+  where
+    of : Recovery → List Text
+    of r = option_to_list (pid_in_vain c r)
+
+-- ---- what is known
+
+-- a place is noted: then there is one
+noted-empty : (passes : Bool) (xs : List ℕ) → is_empty (noted 0 passes xs) ≡ not passes && is_empty xs
+noted-empty false xs = refl
+noted-empty true [] = refl
+noted-empty true (x ∷ xs) = go (is_place 0 (slice_get (x ∷ xs) (length (x ∷ xs) - 1)))
+  where
+    go : (b : Bool) → is_empty (cond b (x ∷ xs) ((x ∷ xs) ++ 0 ∷ [])) ≡ false
+    go true = refl
+    go false = refl
+
+both-not : (a b : Bool) → not b && not a ≡ not (a || (b || false))
+both-not true true = refl
+both-not true false = refl
+both-not false true = refl
+both-not false false = refl
+
+-- one pid more is noted
+pub known-more : (old new : Places) (sessions : List SessionVerdict) (s : SessionVerdict) → AreKnown old sessions
+    → ((q : Text) → places_of new q ≡ noted 0 (bytes_eq s.pid q) (places_of old q)) → AreKnown new (sessions ++ s ∷ [])
+known-more old new sessions s was more = λ q.
+    ap is_empty (more q) ∙ noted-empty (bytes_eq s.pid q) (places_of old q) ∙ ap (λ b. not (bytes_eq s.pid q) && b) (was q)
+    ∙ both-not (has_pid (pids_of sessions) q) (bytes_eq s.pid q)
+    ∙ sym (ap not (ap (λ pids. has_pid pids q) (map-append (λ (v : SessionVerdict). v.pid) sessions (s ∷ [])) ∙ list_any-append (λ other. bytes_eq other q) (pids_of sessions) (s.pid ∷ [])))
+
+-- the same in a loop
+pub known_item : (old new : Places) (xs : List SessionVerdict) (i : ℕ) (x : SessionVerdict) → i < length xs → x ≡ get_or xs i x → AreKnown old (take i xs)
+    → ((q : Text) → places_of new q ≡ noted 0 (bytes_eq x.pid q) (places_of old q)) → AreKnown new (take (i + 1) xs)
+known_item old new xs i x h is was more =
+    subst (λ ys. AreKnown new ys) (sym (take_more xs i x h))
+    (known-more old new (take i xs) (get_or xs i x) was (subst (λ y. (q : Text) → places_of new q ≡ noted 0 (bytes_eq y.pid q) (places_of old q)) is more))
+
+-- the text of one session more
+texts_more : (c : Cluster) (lines : List TapLines) (form : Form) (xs : List SessionVerdict) (x : SessionVerdict) (a b e : List ℕ)
+    → AddTexts c lines form xs a b → AddsText c lines form x b e → AddTexts c lines form (xs ++ x ∷ []) a e
+texts_more c lines form xs x a b e was more =
+    let one : List ℕ → List ℕ = λ text. text in
+    record {
+      texts = was.texts ++ more.text ∷ [];
+      are_texts = zip_append (IsTextOf c lines form) xs was.texts (x ∷ []) (more.text ∷ []) was.are_texts (more.is_text, tt);
+      added = more.added ∙ ap (λ t. t ++ more.text) was.added ∙ append_assoc a (flat_map one was.texts) more.text
+          ∙ ap (λ t. a ++ t) (ap (λ t. flat_map one was.texts ++ t) (sym (append-nil more.text)) ∙ sym (flat_map-append one was.texts (more.text ∷ [])));
+    }
+
+-- the same in a loop
+pub texts_item : {X : Type 0} (c : Cluster) (lines : List TapLines) (form : Form) (f : X → SessionVerdict) (xs : List X) (i : ℕ) (x : X) (a b e : List ℕ) → i < length xs
+    → x ≡ get_or xs i x → AddTexts c lines form (map f (take i xs)) a b → AddsText c lines form (f x) b e → AddTexts c lines form (map f (take (i + 1) xs)) a e
+texts_item c lines form f xs i x a b e h is was more =
+    subst (λ ys. AddTexts c lines form ys a e) (sym (ap (map f) (take_more xs i x h) ∙ map-append f (take i xs) (get_or xs i x ∷ [])))
+    (texts_more c lines form (map f (take i xs)) (f (get_or xs i x)) a b e was (subst (λ y. AddsText c lines form (f y) b e) is more))
+
+-- the text of a session by its pid and its refused recoveries
+pub adds_text : (c : Cluster) (lines : List TapLines) (form : Form) (session : SessionVerdict) (pid : Text) (refused : List Recovery) (old new : List ℕ) → pid ≡ session.pid
+    → refused ≡ refused_of c session.pid → AddsFor c lines form pid session.verdict refused old new → AddsText c lines form session old new
+adds_text c lines form session pid refused old new is are adds =
+    let it : AddsFor c lines form session.pid session.verdict (refused_of c session.pid) old new =
+    subst (λ p. AddsFor c lines form p session.verdict (refused_of c session.pid) old new) is
+    (subst (λ r. AddsFor c lines form pid session.verdict r old new) are adds) in
+    record { text = it.text; is_text = record { told = it.told; is_explained = it.is_explained; is_written = it.is_written }; added = it.added }

@@ -1,0 +1,8 @@
+use Rattle.std.proofs.Common.{◌≡◌, map, take}
+use Rattle.aud_node.specs.Cluster.{Cluster}
+use Rattle.aud_explain_app.specs.Asked.{AreAsked}
+use Rattle.aud_explain_app.specs.Chosen.{sessions_named}
+use Rattle.aud_explain_app.proofs.chosen.named.Given as goal
+
+abbrev pub invariant-loop-number : goal.invariant-loop-number
+invariant-loop-number l = (c : Cluster) → AreAsked c l.asked → map (λ s. s.now) l.found.items ≡ sessions_named c l.only l.sessions (take l.number l.pids)

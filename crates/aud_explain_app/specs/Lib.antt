@@ -1,0 +1,10 @@
+pub use Rattle.aud_node.specs.Names
+pub mod Asked
+pub mod Shown
+pub mod Chosen
+pub mod Strangers
+pub mod Texts
+pub mod Status
+pub mod RefusedLine
+pub mod Output
+pub mod Run

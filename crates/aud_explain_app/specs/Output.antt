@@ -1,0 +1,90 @@
+-- What `explain` writes, and how it ends.
+use Rattle.std.specs.Prelude.{◌≡◌, ◌-◌, ◌^◌, ◌⊎◌, ℕ, Bool, true, false, List, [], ◌++◌, codes, count_by, length, min, sum_by, Ok, Option, if◌then◌else◌}
+use Rattle.std.specs.List.{filter}
+use Rattle.aud_node.specs.Cluster.{Cluster, cluster_of}
+use Rattle.aud_node.specs.Recoverable.{is_recoverable}
+use Rattle.aud_explain.specs.declared.reading.Recorded.{Recorded}
+use Rattle.aud_explain.specs.declared.reading.Size.{Size}
+use Rattle.aud_explain.specs.declared.refusal.Refusal.{Refusal}
+use Rattle.aud_explain.specs.Files.{AreRecorded, IsRefused}
+use Rattle.aud_explain_words.specs.declared.options.ExplainOptions.{ExplainOptions}
+use Rattle.aud_explained.specs.declared.written.Form.{Form}
+use Rattle.aud_explained.specs.declared.written.Form.TheVariants.{Text as InText, Json}
+use Rattle.aud_lines.specs.TapLines.{TapLines}
+use Rattle.aud_maker.specs.Sessions.{sessions_of}
+use Rattle.aud_recoveries.specs.declared.asked.Recovery.{Recovery}
+use Rattle.aud_recoveries.specs.Recoveries.{is_granted, is_refused, recoveries_of}
+use Rattle.aud_report.specs.declared.verdict.SessionVerdict.{SessionVerdict}
+use Rattle.aud_report.specs.Output.{OutputSeen}
+use Rattle.aud_report.specs.Verdict.{is_yes}
+use Rattle.aud_summary.specs.declared.summary.Summary.{Summary}
+use Rattle.aud_summary.specs.Answers.{is_no, is_unobserved}
+use Rattle.aud_summary.specs.ByClass.{classes_of}
+use Rattle.aud_summary.specs.ByFault.{faults_of}
+use Rattle.aud_summary.specs.Json.{summary_json}
+use Rattle.aud_summary.specs.Tails.{has_tail, tail_of}
+use Rattle.aud_summary.specs.Text.{summary_text}
+use Rattle.aud_verdict.specs.Verdicts.{AreVerdicts}
+use Rattle.aud_explain_app.specs.RefusedLine.{refused_output}
+use Rattle.aud_explain_app.specs.Chosen.{sessions_chosen}
+use Rattle.aud_explain_app.specs.Status.{status_by}
+use Rattle.aud_explain_app.specs.declared.output.Figures.{Figures}
+use Rattle.aud_explain_app.specs.Strangers.{AreAdded, asked_in_vain}
+use Rattle.aud_explain_app.specs.Texts.{AddTexts}
+
+-- the form that the words ask for
+abbrev pub form_of : Bool → Form
+form_of json = if json then Json else InText
+
+-- the summary's lines, or its line of JSON
+abbrev pub summary_in : Form → Summary → List ℕ
+summary_in InText summary = summary_text summary
+summary_in Json summary = summary_json summary ++ codes "\n"
+
+-- the figures are those of the recording, of these verdicts on its sessions and of these recoveries, in files of this size
+pub record IsSummary (c : Cluster) (verdicts : List SessionVerdict) (recoveries : List Recovery) (size : Size) (s : Summary) : Type 0 where
+  pub sessions : s.sessions ≡ length verdicts
+  pub yes : s.yes ≡ count_by is_yes verdicts
+  pub no : s.no ≡ count_by is_no verdicts
+  pub unobserved : s.unobserved ≡ count_by (is_unobserved c) verdicts
+  pub classes : s.classes ≡ classes_of verdicts
+  pub faults : s.faults ≡ faults_of verdicts
+  pub tails : s.tails.sessions ≡ count_by has_tail verdicts
+  pub tail_events : s.tails.events ≡ min (sum_by tail_of verdicts) (2 ^ 64 - 1)
+  pub asked : s.recoveries.asked ≡ length recoveries
+  pub granted : s.recoveries.granted ≡ length (filter is_granted recoveries)
+  pub refused : s.recoveries.refused ≡ length (filter is_refused recoveries)
+  pub entries : s.entries.all ≡ length c.stream
+  pub recoverable : s.entries.recoverable ≡ count_by is_recoverable c.stream
+  pub lines : s.input.lines ≡ size.lines
+  pub bytes : s.input.bytes ≡ size.bytes
+
+-- the same figures with this time
+abbrev pub timed : Summary → ℕ → Summary
+timed s seconds = record s { input = record s.input { seconds = seconds } }
+
+-- the figures of the recording, and the status by the verdicts and the recoveries
+pub record AreFigures (options : ExplainOptions) (c : Cluster) (size : Size) (verdicts : List SessionVerdict) (figures : Figures) : Type 0 where
+  pub is_summary : IsSummary c verdicts (recoveries_of c) size figures.summary
+  pub status_is : figures.status ≡ status_by options.fail_on verdicts (recoveries_of c)
+
+-- the output over a recording, where these are the lines of its records: the explanation of each session that is shown, and the
+-- figures of all of it; sessions that clients asked for in vain and that no record names are shown too, and not counted
+pub record IsExplaining (options : ExplainOptions) (c : Cluster) (lines : List TapLines) (size : Size) (output : OutputSeen) : Type 0 where
+  pub verdicts : List SessionVerdict
+  pub are_verdicts : AreVerdicts c false (sessions_of c) verdicts
+  pub sessions : List SessionVerdict
+  pub are_sessions : AreAdded c (asked_in_vain c (recoveries_of c)) verdicts sessions
+  pub texts : List ℕ
+  pub are_texts : AddTexts c lines (form_of options.json) (sessions_chosen c options.only options.pids sessions) [] texts
+  pub figures : Figures
+  pub are_figures : AreFigures options c size verdicts figures
+  pub seconds : ℕ
+  pub text_is : output.text ≡ texts ++ summary_in (form_of options.json) (timed figures.summary seconds)
+  pub status_is : output.status ≡ figures.status
+
+-- the output over files, by what their readers have left: their recording explained, or their first refused line told
+abbrev pub IsExplanation : ExplainOptions → List (Option (List ℕ)) → OutputSeen → Type 0
+IsExplanation options lefts output =
+    ((read : Recorded) × AreRecorded lefts read × IsExplaining options (cluster_of read.taps) read.lines read.size output)
+    ⊎ ((refusal : Refusal) × IsRefused lefts refusal × (output ≡ refused_output (form_of options.json) options.files refusal))

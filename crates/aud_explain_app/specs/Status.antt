@@ -1,0 +1,30 @@
+-- How a run of `explain` ends.
+use Rattle.std.specs.Prelude.{Bool, false, not, ◌&&◌, ◌||◌, List, length, nat_lt}
+use Rattle.std.specs.List.{filter, list_any}
+use Rattle.aud_evidence.specs.Class.{class_of}
+use Rattle.aud_explain_words.specs.declared.fail_on.FailOn.{FailOn}
+use Rattle.aud_explain_words.specs.FailOn as words
+use Rattle.aud_recoveries.specs.declared.asked.Recovery.{Recovery}
+use Rattle.aud_recoveries.specs.Recoveries.{is_refused}
+use Rattle.aud_report.specs.declared.output.Status.{Status}
+use Rattle.aud_report.specs.declared.verdict.SessionVerdict.{SessionVerdict}
+use Rattle.aud_report.specs.declared.verdict.Verdict.{Verdict}
+use Rattle.aud_report.specs.declared.verdict.Verdict.TheVariants.{Yes, No}
+use Rattle.aud_report.specs.Output.{status_of}
+
+-- a session with this verdict makes status 1
+abbrev pub fails : FailOn → Verdict → Bool
+fails fail_on (Yes got tail turns) = false
+fails fail_on (No fault) = words.fails fail_on (class_of fault)
+
+-- one of the sessions does
+abbrev pub some_fails : FailOn → List SessionVerdict → Bool
+some_fails fail_on verdicts = list_any (λ (s : SessionVerdict). fails fail_on s.verdict) verdicts
+
+-- one of the recoveries was refused, and that makes status 1
+abbrev pub fails_refused : FailOn → List Recovery → Bool
+fails_refused fail_on recoveries = fail_on.refused && nat_lt 0 (length (filter is_refused recoveries))
+
+-- all is well where neither is so
+abbrev pub status_by : FailOn → List SessionVerdict → List Recovery → Status
+status_by fail_on verdicts recoveries = status_of (not (fails_refused fail_on recoveries || some_fails fail_on verdicts))

@@ -1,0 +1,135 @@
+//! The sessions that are shown.
+ghost use Rattle.std.specs.Prelude.{◌≡◌, ◌++◌, IfOk, OnOk, Some, map};
+ghost use Rattle.std.specs.Option.{option_copied};
+ghost use Rattle.aud_base.specs.Places.{places_of};
+ghost use Rattle.aud_node.specs.Cluster.{Cluster};
+ghost use Rattle.aud_node.specs.Stream.{Text};
+ghost use Rattle.aud_explain_app.specs.Asked.{AreAsked};
+ghost use Rattle.aud_explain_app.specs.Chosen.{numbers_of, session_of, sessions_chosen, sessions_named, sessions_told, within_of};
+
+use crate::asked::Asked;
+use crate::fault::Unexplained;
+use crate::shown::{is_told, is_within};
+use aud_base::Places;
+use aud_explain_words::{ExplainOptions, Only};
+use aud_report::SessionVerdict;
+use aud_tap::Text;
+use std::alloc::{AllocError, Global};
+use std::hash::RandomState;
+
+/// Those of the sessions that are shown: those that the words name, in their order, or all that have something to explain.
+/// The first pid of no session is the fault. Sessions are looked up by these keys.
+pub(crate) fn chosen<'s>(
+    alloc: Global,
+    keys: RandomState,
+    options: &ExplainOptions,
+    asked: &Asked,
+    sessions: &'s [SessionVerdict],
+) -> Result<Vec<&'s SessionVerdict>, Unexplained>
+    ensures { (c : Cluster) → AreAsked c asked.now → IfOk result (λ found. map (λ s. s.now) found.items ≡ sessions_chosen c options.now.only options.now.pids sessions.now) }
+{
+    let pids = options.pids.as_slice();
+    if pids.is_empty() {
+        return match told(alloc, options.only, asked, sessions) {
+            Ok(found) => Ok(found),
+            Err(_) => Err(Unexplained::Memory),
+        };
+    }
+    let Ok(index) = index_of(alloc, keys, sessions) else {
+        return Err(Unexplained::Memory);
+    };
+    named(alloc, options.only, asked, &index, sessions, pids)
+}
+
+/// Those that have something to explain.
+fn told<'s>(
+    alloc: Global,
+    only: Option<Only>,
+    asked: &Asked,
+    sessions: &'s [SessionVerdict],
+) -> Result<Vec<&'s SessionVerdict>, AllocError>
+    ensures { (c : Cluster) → AreAsked c asked.now → IfOk result (λ found. map (λ s. s.now) found.items ≡ sessions_told c only sessions.now) }
+{
+    let mut found = Vec::new(alloc);
+    for session in sessions {
+        if is_told(
+            only,
+            &session.verdict,
+            asked.is_refused(session.pid.as_str()),
+        ) {
+            found.push(session)?;
+        }
+    }
+    Ok(found)
+}
+
+/// The numbers of the sessions by their pids.
+fn index_of(
+    alloc: Global,
+    keys: RandomState,
+    sessions: &[SessionVerdict],
+) -> Result<Places, AllocError>
+    ensures { IfOk result (λ index. (pid : Text) → places_of index pid ≡ numbers_of sessions.now pid) }
+{
+    let mut index = Places::new(alloc, keys);
+    for (number, session) in sessions.iter().enumerate() {
+        index.note(number, session.pid.as_str())?;
+    }
+    Ok(index)
+}
+
+/// The first of the sessions with this pid.
+fn session_of<'s>(
+    index: &Places,
+    sessions: &'s [SessionVerdict],
+    pid: &str,
+) -> Option<&'s SessionVerdict>
+    requires { (pid : Text) → places_of index.now pid ≡ numbers_of sessions.now pid }
+    ensures { option_copied result ≡ session_of sessions.now pid.now }
+{
+    match index.of(pid) {
+        [] => None,
+        [number, ..] => sessions.get(*number),
+    }
+}
+
+/// Those with these pids, in their order.
+fn named<'s>(
+    alloc: Global,
+    only: Option<Only>,
+    asked: &Asked,
+    index: &Places,
+    sessions: &'s [SessionVerdict],
+    pids: &[Text],
+) -> Result<Vec<&'s SessionVerdict>, Unexplained>
+    requires { (pid : Text) → places_of index.now pid ≡ numbers_of sessions.now pid }
+    ensures { (c : Cluster) → AreAsked c asked.now → IfOk result (λ found. map (λ s. s.now) found.items ≡ sessions_named c only sessions.now pids.now) }
+{
+    let mut found = Vec::new(alloc);
+    for (number, pid) in pids.iter().enumerate() {
+        let Some(session) = session_of(index, sessions, pid.as_str()) else {
+            return Err(Unexplained::NoSession { number });
+        };
+        push_within(&mut found, only, asked, session)?;
+    }
+    Ok(found)
+}
+
+/// Adds the session, if it is within what `--only` says.
+fn push_within<'s>(
+    found: &mut Vec<&'s SessionVerdict>,
+    only: Option<Only>,
+    asked: &Asked,
+    session: &'s SessionVerdict,
+) -> Result<(), AllocError>
+    ensures { (c : Cluster) → AreAsked c asked.now → OnOk result (map (λ s. s.now) found.new.items ≡ map (λ s. s.now) found.old.items ++ within_of c only (Some session.now)) }
+{
+    if is_within(
+        only,
+        &session.verdict,
+        asked.is_refused(session.pid.as_str()),
+    ) {
+        found.push(session)?;
+    }
+    Ok(())
+}

@@ -1,0 +1,46 @@
+//! Why nothing was explained.
+use std::alloc::{AllocError, AllocFailed};
+
+/// Why there is no output, or after `Write` the front of one.
+#[derive(Clone, Copy, Debug, PartialEq, Eq, Drop)]
+pub enum ExplainFault {
+    /// Nothing was explained, and nothing written.
+    Unexplained(Unexplained),
+    /// The output could not be written.
+    Write,
+}
+
+/// Why nothing was explained.
+#[derive(Clone, Copy, Debug, PartialEq, Eq, Drop)]
+pub enum Unexplained {
+    /// This file could not be read; files count from 0.
+    Unread { file: usize },
+    /// Memory could not be had.
+    Memory,
+    /// A worker's thread could not be started.
+    Spawn,
+    /// No record names this session of the words, and no client asked for it; they count from 0.
+    NoSession { number: usize },
+}
+
+impl From<AllocError> for Unexplained {
+    ghost use Rattle.std.specs.Prelude.{◌≡◌};
+    ghost use Rattle.aud_explain_app.specs.declared.fault.Unexplained.TheVariants.{Memory};
+
+    ghost from_gives = { λ _ e. e ≡ Memory };
+
+    fn from(_: AllocError) -> Unexplained {
+        Unexplained::Memory
+    }
+}
+
+impl<T: Drop> From<AllocFailed<T>> for Unexplained {
+    ghost use Rattle.std.specs.Prelude.{◌≡◌};
+    ghost use Rattle.aud_explain_app.specs.declared.fault.Unexplained.TheVariants.{Memory};
+
+    ghost from_gives = { λ _ e. e ≡ Memory };
+
+    fn from(_: AllocFailed<T>) -> Unexplained {
+        Unexplained::Memory
+    }
+}

@@ -1,0 +1,30 @@
+//! The mode `explain` as one call: [`explain`] reads the files of a bundle, judges, and writes why sessions are answered no.
+//!
+//! With the bytes of a bundle as `bundle`, and `options` those of `aud_explain_words::explain_asked`:
+//!
+//! ```
+//! use aud_explain_app::explain;
+//! use aud_streams::Watched;
+//! use std::hash::RandomState;
+//!
+//! let keys = RandomState::new(&rt)?;
+//! let mut files = [Watched::new(bundle)];
+//! let mut output = Watched::new(Vec::new(alloc));
+//! let status = explain(&rt, alloc, keys, &mut files, &mut output, &options)?;
+//! ```
+#![tactic(auto)]
+
+mod asked;
+mod chosen;
+mod fault;
+mod output;
+mod prepared;
+mod program;
+mod refused;
+mod sessions;
+mod shown;
+mod status;
+mod strangers;
+
+pub use fault::{ExplainFault, Unexplained};
+pub use program::explain;

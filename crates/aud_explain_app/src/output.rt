@@ -1,0 +1,245 @@
+//! What is written for a recording.
+ghost use Rattle.std.specs.Prelude.{◌≡◌, ◌++◌, ◌<◌, ◌≤◌, [], IfOk, OnOk, string_bytes, false};
+ghost use Rattle.aud_node.specs.Cluster.{cluster_of};
+ghost use Rattle.aud_node.specs.Names.{AreNamedOnce};
+ghost use Rattle.aud_maker.specs.Sessions.{sessions_of};
+ghost use Rattle.aud_verdict.specs.Verdicts.{AreVerdicts};
+ghost use Rattle.aud_explain_app.specs.Asked.{AreAsked};
+ghost use Rattle.aud_explain_app.specs.Output.{AreFigures, IsExplaining, form_of, summary_in, timed};
+ghost use Rattle.aud_explain_app.specs.Chosen.{sessions_chosen};
+ghost use Rattle.aud_explain_app.specs.Texts.{AddTexts};
+
+use crate::asked::Asked;
+use crate::chosen::chosen;
+use crate::fault::Unexplained;
+use crate::prepared::prepared_for;
+use crate::sessions::push_sessions;
+use crate::status::status_by;
+use crate::strangers::add_strangers;
+use aud_client::Recording;
+use aud_desk::{AuditFault, OpenGate, Report, audit_with};
+use aud_explain::{Recorded, Size};
+use aud_explain_words::ExplainOptions;
+use aud_explained::Form;
+use aud_report::{Output, SessionVerdict, Status};
+use aud_rows::Sheet;
+use aud_summary::{Input, Summary, summary_json, summary_of, summary_text};
+use std::alloc::{AllocError, Global};
+use std::hash::RandomState;
+use std::sync::Wait;
+use std::thread::Threads;
+use std::time::{Clock, Instant};
+
+/// What the summary and the status tell of a recording.
+#[derive(Clone, Copy, Drop)]
+pub struct Figures {
+    pub summary: Summary,
+    pub status: Status,
+}
+
+/// The form that the words ask for.
+pub(crate) fn form_of(options: &ExplainOptions) -> Form
+    ensures { result ≡ form_of options.now.json }
+{
+    if options.json { Form::Json } else { Form::Text }
+}
+
+/// The verdicts, by so many workers.
+fn judged<H: Threads + Wait + Clock + Sync>(
+    rt: &H,
+    alloc: Global,
+    workers: u8,
+    recording: &Recording<'_>,
+) -> Result<Report, Unexplained>
+    requires { (0 < workers) × (workers ≤ 64) }
+    ensures { IfOk result (λ report. AreVerdicts recording.now false (sessions_of recording.now) report.verdicts.items) }
+{
+    match audit_with(rt, alloc, recording, workers as usize, false, &OpenGate) {
+        Ok(report) => Ok(report),
+        Err(AuditFault::Workers) => unreachable!(),
+        Err(AuditFault::Spawn) => Err(Unexplained::Spawn),
+        Err(AuditFault::Memory(_)) => Err(Unexplained::Memory),
+    }
+}
+
+/// Writes the summary at the end.
+fn push_summary(
+    alloc: Global,
+    out: &mut String,
+    form: Form,
+    summary: &Summary,
+) -> Result<(), AllocError>
+    ensures { OnOk result (string_bytes out.new ≡ string_bytes out.old ++ summary_in form summary.now) }
+{
+    match form {
+        Form::Text => {
+            let text = summary_text(alloc, summary)?;
+            out.push_str(text.as_str())
+        }
+        Form::Json => {
+            let line = summary_json(alloc, summary)?;
+            writeln!(out, "{line}")
+        }
+    }
+}
+
+/// How many whole seconds have gone by; 0 where the clock can't be read.
+fn seconds_since<H: Clock>(rt: &H, start: Option<Instant>) -> u64 {
+    match start {
+        Some(start) => match start.elapsed(rt) {
+            Ok(time) => time.as_secs(),
+            Err(_) => 0,
+        },
+        None => 0,
+    }
+}
+
+fn input_of(size: Size, seconds: u64) -> Input
+    ensures { (result.lines ≡ size.lines) × (result.bytes ≡ size.bytes) }
+{
+    Input {
+        lines: size.lines,
+        bytes: size.bytes,
+        seconds,
+    }
+}
+
+/// Writes the explanations of those of the sessions that are shown at the end.
+fn push_shown<H: Threads + Sync>(
+    rt: &H,
+    alloc: Global,
+    keys: RandomState,
+    out: &mut String,
+    options: &ExplainOptions,
+    sheet: Sheet<'_, '_>,
+    asked: &Asked,
+    sessions: &[SessionVerdict],
+) -> Result<(), Unexplained>
+    requires { AreAsked sheet.recording.now asked.now }
+    ensures { OnOk result (AddTexts sheet.entry.recording.now sheet.entry.lines.now (form_of options.now.json)
+        (sessions_chosen sheet.entry.recording.now options.now.only options.now.pids sessions.now) (string_bytes out.old) (string_bytes out.new)) }
+{
+    let shown = chosen(alloc, keys, options, asked, sessions)?;
+    let threads = options.workers as usize;
+    let prepared = prepared_for(rt, alloc, threads, sheet.recording, asked, &shown)?;
+    push_sessions(
+        alloc,
+        out,
+        form_of(options),
+        sheet,
+        &prepared,
+        asked,
+        &shown,
+    )?;
+    Ok(())
+}
+
+/// The explanations, and the summary of what was read since `start`.
+pub(crate) fn output_of<H: Threads + Wait + Clock + Sync>(
+    rt: &H,
+    alloc: Global,
+    keys: RandomState,
+    options: &ExplainOptions,
+    start: Option<Instant>,
+    recorded: &Recorded,
+) -> Result<Output, Unexplained>
+    requires names { AreNamedOnce recorded.now.taps }
+    requires workers { (0 < options.now.workers) × (options.now.workers ≤ 64) }
+    ensures { IfOk result (IsExplaining options.now (cluster_of recorded.now.taps) recorded.now.lines recorded.now.size) }
+{
+    let threads = options.workers as usize;
+    let recording = Recording::read(rt, alloc, keys, threads, &recorded.taps)?;
+    let sheet = Sheet {
+        recording: &recording,
+        lines: &recorded.lines,
+    };
+    let report = judged(rt, alloc, options.workers, &recording)?;
+    explaining(
+        rt,
+        alloc,
+        keys,
+        options,
+        start,
+        sheet,
+        recorded.size,
+        report.verdicts,
+    )
+}
+
+/// The same over the recording, of whose sessions these are the verdicts.
+fn explaining<H: Threads + Clock + Sync>(
+    rt: &H,
+    alloc: Global,
+    keys: RandomState,
+    options: &ExplainOptions,
+    start: Option<Instant>,
+    sheet: Sheet<'_, '_>,
+    size: Size,
+    verdicts: Vec<SessionVerdict>,
+) -> Result<Output, Unexplained>
+    requires { AreVerdicts sheet.recording.now false (sessions_of sheet.recording.now) verdicts.items }
+    ensures { IfOk result (IsExplaining options.now sheet.entry.recording.now sheet.entry.lines.now size) }
+{
+    let asked = Asked::read(alloc, keys, sheet.recording)?;
+    let figures = figures_of(options, sheet.recording, &asked, size, &verdicts);
+    let mut sessions = verdicts;
+    add_strangers(alloc, keys, sheet.recording, &asked, &mut sessions)?;
+    let told = told(rt, alloc, keys, options, sheet, &asked, &sessions)?;
+    let mut out = told;
+    let summary = timed(figures.summary, seconds_since(rt, start));
+    push_summary(alloc, &mut out, form_of(options), &summary)?;
+    Ok(Output {
+        status: figures.status,
+        text: out,
+    })
+}
+
+/// The figures of the recording, with no time yet, and how the run ends.
+fn figures_of(
+    options: &ExplainOptions,
+    recording: &Recording<'_>,
+    asked: &Asked,
+    size: Size,
+    verdicts: &[SessionVerdict],
+) -> Figures
+    requires { AreAsked recording.now asked.now }
+    ensures { AreFigures options.now recording.now size verdicts.now result }
+{
+    let summary = summary_of(recording, verdicts, &asked.all, input_of(size, 0));
+    Figures {
+        summary,
+        status: status_by(options.fail_on, verdicts, &asked.all),
+    }
+}
+
+/// The summary with this time.
+fn timed(summary: Summary, seconds: u64) -> Summary
+    ensures { result ≡ timed summary seconds }
+{
+    Summary {
+        input: Input {
+            seconds,
+            ..summary.input
+        },
+        ..summary
+    }
+}
+
+/// The explanations of those of the sessions that are shown.
+fn told<H: Threads + Sync>(
+    rt: &H,
+    alloc: Global,
+    keys: RandomState,
+    options: &ExplainOptions,
+    sheet: Sheet<'_, '_>,
+    asked: &Asked,
+    sessions: &[SessionVerdict],
+) -> Result<String, Unexplained>
+    requires { AreAsked sheet.recording.now asked.now }
+    ensures { IfOk result (λ text. AddTexts sheet.entry.recording.now sheet.entry.lines.now (form_of options.now.json)
+        (sessions_chosen sheet.entry.recording.now options.now.only options.now.pids sessions.now) [] (string_bytes text)) }
+{
+    let mut out = String::new(alloc);
+    push_shown(rt, alloc, keys, &mut out, options, sheet, asked, sessions)?;
+    Ok(out)
+}

@@ -1,0 +1,46 @@
+//! How a run of `explain` ends.
+ghost use Rattle.std.specs.Prelude.{◌≡◌};
+ghost use Rattle.aud_explain_app.specs.Status.{fails, fails_refused, some_fails, status_by};
+
+use aud_evidence::class_of;
+use aud_explain_words::FailOn;
+use aud_recoveries::{Recovery, refused};
+use aud_report::{SessionVerdict, Status, Verdict, status_of};
+
+/// Status 1 where a session is answered no with a fault of such a class, or a recovery was refused and is to be told so.
+pub(crate) fn status_by(
+    fail_on: FailOn,
+    verdicts: &[SessionVerdict],
+    recoveries: &[Recovery],
+) -> Status
+    ensures { result ≡ status_by fail_on verdicts.now recoveries.now }
+{
+    let is_bad = fails_refused(fail_on, recoveries) || some_fails(fail_on, verdicts);
+    status_of(!is_bad)
+}
+
+fn fails_refused(fail_on: FailOn, recoveries: &[Recovery]) -> bool
+    ensures { result ≡ fails_refused fail_on recoveries.now }
+{
+    if !fail_on.refused {
+        return false;
+    }
+    refused(recoveries) > 0
+}
+
+fn some_fails(fail_on: FailOn, verdicts: &[SessionVerdict]) -> bool
+    ensures { result ≡ some_fails fail_on verdicts.now }
+{
+    verdicts
+        .iter()
+        .any(|session| fails(fail_on, &session.verdict))
+}
+
+fn fails(fail_on: FailOn, verdict: &Verdict) -> bool
+    ensures { result ≡ fails fail_on verdict.now }
+{
+    match verdict {
+        Verdict::Yes { .. } => false,
+        Verdict::No(fault) => fail_on.fails(class_of(fault)),
+    }
+}
