@@ -1,5 +1,6 @@
 //! The command `explain`.
 ghost use Rattle.std.specs.Prelude.{◌<◌, IfOk, OnOk, length};
+
 use crate::progress::Progress;
 use crate::{fail, fail_for, refuse, status_code};
 use aud_app::{RunFault, Watched};
@@ -63,11 +64,7 @@ fn open(rt: &HostRuntime, name: &str) -> io::Result<Source> {
 }
 
 /// Opens the files that the words name, standard input where they name none.
-fn opened(
-    rt: &HostRuntime,
-    alloc: Global,
-    options: &ExplainOptions,
-) -> Result<Vec<Watch>, ExitCode>
+fn opened(rt: &HostRuntime, alloc: Global, options: &ExplainOptions) -> Result<Vec<Watch>, ExitCode>
     ensures { IfOk result (λ files. 0 < length files.items) }
 {
     let mut files = Vec::new(alloc);
