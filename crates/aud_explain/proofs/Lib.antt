@@ -1,3 +1,4 @@
 pub mod Takes
 pub mod TailLemmas
 pub mod Files
+pub mod Newlines

@@ -8,6 +8,7 @@ use crate::kept::Kept;
 use aud_input::{InputReader, Layout};
 use aud_lines::LineIndex;
 use aud_reader::ReadFault;
+use memchr::memchr_iter;
 use std::alloc::{AllocError, Global};
 use std::hash::RandomState;
 use std::thread::Threads;
@@ -37,7 +38,7 @@ pub struct Feeding {
 fn newlines_in(bytes: &[u8]) -> usize
     ensures { result ≡ count_by (λ b. b == 10) bytes.now }
 {
-    bytes.iter().filter(|b| **b == b'\n').count()
+    memchr_iter(b'\n', bytes).count()
 }
 
 /// Whether a line has begun after these bytes.
