@@ -15,3 +15,4 @@ pub mod ClientTaps
 pub mod KnownLemmas
 pub mod Mapped
 pub mod KeptRecords
+pub mod Payloads

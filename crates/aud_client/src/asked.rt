@@ -1,15 +1,15 @@
 //! What a client asks to recover.
 ghost use Rattle.std.specs.Prelude.{◌≡◌, IfOk};
 ghost use Rattle.std.specs.Option.{option_copied, option_map, option_and_then};
-ghost use Rattle.serde_json.specs.View.{view as data_of};
+ghost use Rattle.aud_fields.specs.View.{view};
 ghost use Rattle.aud_client.specs.Replies.{value_of};
 ghost use Rattle.aud_sio.specs.Packet.{packet_view};
 ghost use Rattle.aud_client.specs.StaySeen.{asked_in, asked_by};
 
-use crate::payload::{text_at, value_of};
+use crate::payload::{fields_of, text_at};
+use aud_fields::{Fields, Scratch};
 use aud_sio::{Packet, PacketKind};
 use aud_tap::Text;
-use serde_json::Value;
 use std::alloc::{AllocError, Global};
 use std::marker::Model;
 
@@ -45,22 +45,23 @@ pub fn asked_in(alloc: Global, packet: &Packet<'_>) -> Result<Option<Asked>, All
 fn asked_by_payload(alloc: Global, payload: Option<&str>) -> Result<Option<Asked>, AllocError>
     ensures { IfOk result (λ asked. asked ≡ option_and_then asked_by (value_of (option_map (λ text. text.now) payload.entry))) }
 {
-    match value_of(alloc, payload)? {
-        Some(json) => asked_by(alloc, &json),
+    let mut scratch = Scratch::new(alloc);
+    match fields_of(alloc, payload, &mut scratch)? {
+        Some(fields) => asked_by(alloc, &fields),
         None => Ok(None),
     }
 }
 
 /// What the value asks for: an object with a text `pid` does.
-fn asked_by(alloc: Global, json: &Value) -> Result<Option<Asked>, AllocError>
-    ensures { IfOk result (λ asked. asked ≡ asked_by (data_of json.now)) }
+fn asked_by(alloc: Global, fields: &Fields<'_>) -> Result<Option<Asked>, AllocError>
+    ensures { IfOk result (λ asked. asked ≡ asked_by (view fields.now)) }
 {
-    let Some(pid) = text_at(json, "pid") else {
+    let Some(pid) = text_at(fields, "pid") else {
         return Ok(None);
     };
     Ok(Some(Asked {
         pid: Text::new(alloc, pid)?,
-        offset: owned(alloc, text_at(json, "offset"))?,
+        offset: owned(alloc, text_at(fields, "offset"))?,
     }))
 }
 

@@ -1,13 +1,13 @@
 //! What the server's answer to a CONNECT tells.
 ghost use Rattle.std.specs.Prelude.{◌≡◌, IfOk, option_map};
-ghost use Rattle.serde_json.specs.View.{view as data_of};
+ghost use Rattle.aud_fields.specs.View.{view};
 ghost use Rattle.aud_sio.specs.Assembly.{whole_view};
 ghost use Rattle.aud_client.specs.Replies.{is_connect_kind, pid_in, reply_in, sid_in, reply_in_value, value_of};
 
-use crate::payload::{text_at, value_of};
+use crate::payload::{fields_of, text_at};
+use aud_fields::{Fields, Scratch};
 use aud_sio::{PacketKind, Whole};
 use aud_tap::{Text, is_session_id};
-use serde_json::Value;
 use std::alloc::{AllocError, Global};
 use std::marker::Model;
 
@@ -51,32 +51,33 @@ fn is_connect_kind(kind: PacketKind) -> bool
 fn reply_in_value(alloc: Global, payload: Option<&str>) -> Result<Reply, AllocError>
     ensures { IfOk result (λ reply. reply ≡ reply_in_value (value_of (option_map (λ text. text.now) payload.entry))) }
 {
-    let Some(json) = value_of(alloc, payload)? else {
+    let mut scratch = Scratch::new(alloc);
+    let Some(fields) = fields_of(alloc, payload, &mut scratch)? else {
         return Ok(Reply {
             pid: None,
             sid: Text::new(alloc, "")?,
         });
     };
-    let pid = pid_in(alloc, &json)?;
-    let sid = sid_in(alloc, &json)?;
+    let pid = pid_in(alloc, &fields)?;
+    let sid = sid_in(alloc, &fields)?;
     Ok(Reply { pid, sid })
 }
 
 /// The session that the value names.
-fn pid_in(alloc: Global, json: &Value) -> Result<Option<Text>, AllocError>
-    ensures { IfOk result (λ pid. pid ≡ pid_in (data_of json.now)) }
+fn pid_in(alloc: Global, fields: &Fields<'_>) -> Result<Option<Text>, AllocError>
+    ensures { IfOk result (λ pid. pid ≡ pid_in (view fields.now)) }
 {
-    match text_at(json, "pid") {
+    match text_at(fields, "pid") {
         Some(pid) if is_session_id(pid) => Ok(Some(Text::new(alloc, pid)?)),
         _ => Ok(None),
     }
 }
 
 /// The `sid` of the value, empty where there is none.
-fn sid_in(alloc: Global, json: &Value) -> Result<Text, AllocError>
-    ensures { IfOk result (λ sid. sid ≡ sid_in (data_of json.now)) }
+fn sid_in(alloc: Global, fields: &Fields<'_>) -> Result<Text, AllocError>
+    ensures { IfOk result (λ sid. sid ≡ sid_in (view fields.now)) }
 {
-    match text_at(json, "sid") {
+    match text_at(fields, "sid") {
         Some(sid) => Text::new(alloc, sid),
         None => Text::new(alloc, ""),
     }

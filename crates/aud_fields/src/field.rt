@@ -1,11 +1,21 @@
-//! A field of an object.
-ghost use Rattle.std.specs.Prelude.{◌≡◌, is_some, option_and_then, option_map};
+//! A field of an object, or a value by itself.
+ghost use Rattle.std.specs.Prelude.{◌≡◌, Err, IfOk, Some, None, is_some, option_and_then, option_map};
+ghost use Rattle.serde_json.specs.Data.{Data};
 ghost use Rattle.serde_json.specs.Find.{as_array, as_null, as_number, as_str, as_u64};
+ghost use Rattle.serde_json.specs.Read.{read};
+ghost use Rattle.aud_fields.specs.Shown.{shown_field};
 ghost use Rattle.aud_fields.specs.View.{field_view, list_view};
 
+use crate::fault::FieldsFault;
+use crate::members::next_field;
+use json::{Reader, Scratch};
 use serde_json::Number;
+use std::alloc::Global;
 
-/// A field of an object, lent from its text or, where a text has escapes, from the scratch.
+/// How deep `serde_json` lets lists and objects nest.
+pub const MAX_DEPTH: usize = 127;
+
+/// A field of an object, or a value by itself, lent from its text or, where a text has escapes, from the scratch.
 #[derive(Drop)]
 pub enum Field<'a> {
     /// `null`.
@@ -23,6 +33,27 @@ pub enum Field<'a> {
 }
 
 impl<'a> Field<'a> {
+    /// The value that `serde_json` reads from this text, as a field of an object would have it.
+    ///
+    /// It is lent from the text and from the scratch, as [`Fields::read`](crate::Fields::read) says. Exactly where
+    /// `serde_json` reads no value, `NotJson` is the answer, unless memory ran out.
+    pub fn read(
+        alloc: Global,
+        text: &'a str,
+        scratch: &'a mut Scratch,
+    ) -> Result<Field<'a>, FieldsFault>
+        ensures shows { IfOk result (λ field. (d : Data) × (read text.now ≡ Some d)
+            × (shown_field d ≡ field_view field)) }
+        ensures refused { result ≡ Err FieldsFault.NotJson → read text.now ≡ None }
+    {
+        let mut reader = Reader::new(text, scratch)?;
+        let field = next_field(alloc, &mut reader, MAX_DEPTH)?;
+        if reader.next().is_some() {
+            return Err(FieldsFault::NotJson);
+        }
+        Ok(field)
+    }
+
     /// Whether the field is `null`.
     pub fn is_null(&self) -> bool
         ensures { result ≡ is_some (as_null (field_view self.now)) }

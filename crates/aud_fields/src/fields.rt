@@ -8,14 +8,11 @@ ghost use Rattle.aud_fields.specs.Shown.{shown};
 ghost use Rattle.aud_fields.specs.View.{field_view, members_view, view};
 
 use crate::fault::FieldsFault;
-use crate::field::Field;
+use crate::field::{Field, MAX_DEPTH};
 use crate::members::all_members;
 use crate::pass::pass_from;
 use json::{Reader, Scratch, Token};
 use std::alloc::Global;
-
-/// How deep `serde_json` lets lists and objects nest.
-const MAX_DEPTH: usize = 127;
 
 /// The fields of the next value.
 fn next_fields<'a>(alloc: Global, reader: &mut Reader<'a>) -> Result<Fields<'a>, FieldsFault>

@@ -63,7 +63,7 @@ fn texts<'a>(
 
 /// The next field.
 #[inline(always)]
-fn next_field<'a>(
+pub fn next_field<'a>(
     alloc: Global,
     reader: &mut Reader<'a>,
     depth: usize,

@@ -4,7 +4,7 @@ ghost use Rattle.aud_sio.specs.Packet.{packet_view};
 ghost use Rattle.aud_node.specs.Recoverable.{is_recoverable, is_packet_of, is_event};
 
 use crate::rest::Rest;
-use aud_sio::{Packet, PacketKind, SioFault, decode, last_text};
+use aud_sio::{Packet, PacketKind, Scratch, SioFault, decode_with, last_text};
 use aud_tap::{Event, StreamRec};
 use std::alloc::{AllocError, Global};
 
@@ -13,21 +13,26 @@ pub fn recoverable_of(alloc: Global, entries: &Rest<'_, StreamRec>) -> Result<Ve
     ensures { IfOk result (λ flags. flags.items ≡ map is_recoverable entries.now) }
 {
     let mut flags = Vec::new(alloc);
+    let mut scratch = Scratch::new(alloc);
     for i in 0..entries.len() {
-        flags.push(is_recoverable(alloc, entries.at(i))?)?;
+        flags.push(is_recoverable(alloc, &mut scratch, entries.at(i))?)?;
     }
     Ok(flags)
 }
 
 /// Whether the entry is an event that a server sends again.
 #[tactic(auto, unfolding(crate::specs::Recoverable::is_recoverable))]
-fn is_recoverable(alloc: Global, entry: &StreamRec) -> Result<bool, AllocError>
+fn is_recoverable(
+    alloc: Global,
+    scratch: &mut Scratch,
+    entry: &StreamRec,
+) -> Result<bool, AllocError>
     ensures { IfOk result (λ answer. answer ≡ is_recoverable entry.now) }
 {
     let StreamRec::Ev(event) = entry else {
         return Ok(false);
     };
-    match decode(alloc, event.text.as_str()) {
+    match decode_with(alloc, scratch, event.text.as_str()) {
         Ok(packet) => Ok(is_packet_of(event, &packet)),
         Err(SioFault::Memory) => Err(AllocError),
         Err(_) => Ok(false),

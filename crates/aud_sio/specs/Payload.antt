@@ -19,12 +19,17 @@ last_item (item value (item next more)) = last_item (item next more)
 abbrev pub text_at_end : Data → Option (List ℕ)
 text_at_end json = option_and_then as_str (option_and_then last_item (as_array json))
 
--- the text at the end of a payload that is JSON, and an array where the kind wants one
+-- the text at the end of a value, which is an array where the kind wants one
+abbrev pub last_of_value : PacketKind → Data → Result (Option (List ℕ)) SioFault
+last_of_value kind json = do
+  shape ← guard Payload (not (wants_array kind) || is_some (as_array json))
+  Ok (text_at_end json)
+
+-- the text at the end of a payload, which has to be JSON
 unfoldable pub last_of_payload : PacketKind → List ℕ → Result (Option (List ℕ)) SioFault
 last_of_payload kind text = do
   json ← need Payload (read text)
-  shape ← guard Payload (not (wants_array kind) || is_some (as_array json))
-  Ok (text_at_end json)
+  last_of_value kind json
 
 -- all that is left is the payload; with it the text at its end
 unfoldable pub payload_at : PacketKind → List ℕ → Result (Option (List ℕ) × Option (List ℕ)) SioFault

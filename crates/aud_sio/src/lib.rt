@@ -33,9 +33,10 @@ mod whole;
 mod written;
 
 pub use assembler::Assembler;
+pub use aud_fields::Scratch;
 pub use fault::SioFault;
 pub use kind::PacketKind;
 pub use law::answers_are_wholes;
-pub use packet::{Packet, decode, last_text};
+pub use packet::{Packet, decode, decode_with, last_text};
 pub use whole::{Blob, Whole};
 pub use written::encode;

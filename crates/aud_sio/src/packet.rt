@@ -9,6 +9,7 @@ use crate::fault::SioFault;
 use crate::kind::{PacketKind, kind_at};
 use crate::namespace::namespace_at;
 use crate::payload::payload_at;
+use aud_fields::Scratch;
 use std::alloc::Global;
 
 /// A packet, whose namespace and payload are lent from the text that it was read from.
@@ -36,8 +37,22 @@ pub struct Packet<'a> {
 /// An error is of the first part that is refused, in the order type, count of attachments,
 /// acknowledgement id, payload; or `Memory`, at the payload. That there are at most 64 attachments and at most 18 digits of an id,
 /// and that CONNECT, DISCONNECT and CONNECT_ERROR take any JSON or none, is this crate's choice.
-#[tactic(auto, unfolding(crate::specs::Packet::packet_of, crate::specs::Packet::payload_text))]
 pub fn decode(alloc: Global, text: &str) -> Result<Packet<'_>, SioFault>
+    ensures value { Gives packet_view result (packet_of text.now) }
+    ensures spelled { IfOk result (λ packet. IsSpelled (packet_view packet)) }
+    ensures memory { result ≡ Err SioFault.Memory → has_payload text.now ≡ true }
+{
+    let mut scratch = Scratch::new(alloc);
+    decode_with(alloc, &mut scratch, text)
+}
+
+/// What [`decode`] gives, with memory that is kept for the next text: of 16 KiB, and of the length of the longest payload.
+#[tactic(auto, unfolding(crate::specs::Packet::packet_of, crate::specs::Packet::payload_text))]
+pub fn decode_with<'a>(
+    alloc: Global,
+    scratch: &mut Scratch,
+    text: &'a str,
+) -> Result<Packet<'a>, SioFault>
     ensures value { Gives packet_view result (packet_of text.now) }
     ensures spelled { IfOk result (λ packet. IsSpelled (packet_view packet)) }
     ensures memory { result ≡ Err SioFault.Memory → has_payload text.now ≡ true }
@@ -46,7 +61,7 @@ pub fn decode(alloc: Global, text: &str) -> Result<Packet<'_>, SioFault>
     let (attachments, rest) = attachments_at(kind, rest)?;
     let (nsp, rest) = namespace_at(rest);
     let (id, rest) = id_at(rest)?;
-    let (payload, last) = payload_at(alloc, kind, rest)?;
+    let (payload, last) = payload_at(alloc, scratch, kind, rest)?;
     Ok(Packet {
         kind,
         attachments,

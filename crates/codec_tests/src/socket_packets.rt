@@ -1,6 +1,6 @@
 //! The packet of a text: the examples of the Socket.IO protocol 5 document, section "Packet encoding", with the frames
 //! of its sample session; and the bounds of each part.
-use aud_sio::{Packet, decode, encode, last_text};
+use aud_sio::{Packet, Scratch, decode, decode_with, encode, last_text};
 use std::alloc::{AllocError, Global};
 use std::test::Fail;
 
@@ -177,6 +177,17 @@ static LAST_TEXTS: [(&str, Option<&str>); 8] = [
 fn last_texts(rt: HostRuntime) -> Result<(), Fail> {
     for (text, last) in &LAST_TEXTS {
         assert!(rt; ends_with(rt.alloc(), text, *last)?, "{text}");
+    }
+    Ok(())
+}
+
+/// The same, with memory that other texts were read with.
+#[test]
+fn last_texts_with_kept_memory(rt: HostRuntime) -> Result<(), Fail> {
+    let mut scratch = Scratch::new(rt.alloc());
+    for (text, last) in &LAST_TEXTS {
+        let packet = decode_with(rt.alloc(), &mut scratch, text)?;
+        assert!(rt; last_text(&packet) == *last, "{text}");
     }
     Ok(())
 }
