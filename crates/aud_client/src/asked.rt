@@ -35,18 +35,33 @@ impl Model for Asked {
 pub fn asked_in(alloc: Global, packet: &Packet<'_>) -> Result<Option<Asked>, AllocError>
     ensures { IfOk result (λ asked. asked ≡ asked_in (packet_view packet.now)) }
 {
+    let mut scratch = Scratch::new(alloc);
+    asked_with(alloc, &mut scratch, packet)
+}
+
+/// What [`asked_in`] gives, with memory that is kept for the next payload.
+pub(crate) fn asked_with(
+    alloc: Global,
+    scratch: &mut Scratch,
+    packet: &Packet<'_>,
+) -> Result<Option<Asked>, AllocError>
+    ensures { IfOk result (λ asked. asked ≡ asked_in (packet_view packet.now)) }
+{
     match packet.kind {
-        PacketKind::Connect => asked_by_payload(alloc, packet.payload),
+        PacketKind::Connect => asked_by_payload(alloc, scratch, packet.payload),
         _ => Ok(None),
     }
 }
 
 /// What the payload asks for.
-fn asked_by_payload(alloc: Global, payload: Option<&str>) -> Result<Option<Asked>, AllocError>
+fn asked_by_payload(
+    alloc: Global,
+    scratch: &mut Scratch,
+    payload: Option<&str>,
+) -> Result<Option<Asked>, AllocError>
     ensures { IfOk result (λ asked. asked ≡ option_and_then asked_by (value_of (option_map (λ text. text.now) payload.entry))) }
 {
-    let mut scratch = Scratch::new(alloc);
-    match fields_of(alloc, payload, &mut scratch)? {
+    match fields_of(alloc, payload, scratch)? {
         Some(fields) => asked_by(alloc, &fields),
         None => Ok(None),
     }

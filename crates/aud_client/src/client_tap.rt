@@ -5,6 +5,7 @@ ghost use Rattle.aud_client.specs.TapPackets.{tap_packets, numbered_records, bad
 ghost use Rattle.aud_client.specs.Private.ConnectionRead.{HasRead, inside};
 
 use crate::connection::{Placed, Reader};
+use aud_sio::Scratch;
 use aud_tap::ClientRec;
 use std::alloc::{AllocError, Global};
 use std::marker::Model;
@@ -144,7 +145,8 @@ fn read_connection<'a>(
     requires { first + length recs.now < 2 ^ 64 }
     ensures { IfOk result (HasRead first (inside recs.now)) }
 {
+    let mut scratch = Scratch::new(alloc);
     let mut reader = Reader::new(alloc, None);
-    reader.read_all(first, recs)?;
+    reader.read_all(&mut scratch, first, recs)?;
     Ok(reader)
 }

@@ -10,7 +10,7 @@ ghost use Rattle.aud_client.specs.Seen.{packet_seen, placed_seen};
 
 use aud_eio::{Eio, EioFault, decode_binary, decode_payload, decode_text};
 use aud_node::{KnownEvent, Stream};
-use aud_sio::{Assembler, Packet, PacketKind, SioFault, Whole, decode};
+use aud_sio::{Assembler, Packet, PacketKind, Scratch, SioFault, Whole, decode_with};
 use aud_tap::ClientRec;
 use std::alloc::{AllocError, Global};
 use std::mem::replace;
@@ -80,8 +80,14 @@ impl<'s, 'a> Reader<'s, 'a> {
         packets
     }
 
-    /// The connection's records, the first of which has this number: up to the next `conn` or `lost`.
-    pub fn read_all(&mut self, first: usize, recs: &'a [ClientRec]) -> Result<(), AllocError>
+    /// The connection's records, the first of which has this number: up to the next `conn` or `lost`. Payloads are read with
+    /// this memory.
+    pub fn read_all(
+        &mut self,
+        scratch: &mut Scratch,
+        first: usize,
+        recs: &'a [ClientRec],
+    ) -> Result<(), AllocError>
         requires { first + length recs.now < 2 ^ 64 }
         ensures { HasRead first [] self.old → OnOk result (HasRead first (inside recs.now) self.new) }
     {
@@ -89,31 +95,41 @@ impl<'s, 'a> Reader<'s, 'a> {
             if ends_connection(rec) {
                 return Ok(());
             }
-            self.read(first + i, rec)?;
+            self.read(scratch, first + i, rec)?;
         }
         Ok(())
     }
 
-    /// The connection's next record, which has this number.
-    pub fn read(&mut self, number: usize, rec: &'a ClientRec) -> Result<(), AllocError>
+    /// The connection's next record, which has this number. Payloads are read with this memory.
+    pub fn read(
+        &mut self,
+        scratch: &mut Scratch,
+        number: usize,
+        rec: &'a ClientRec,
+    ) -> Result<(), AllocError>
         ensures { OnOk result (ReadsRecord number rec.now self.old self.new) }
     {
         match rec {
-            ClientRec::TextIn { t } => self.read_text(number, t.as_str()),
-            ClientRec::BytesIn { b } => self.receive(number, decode_binary(b.as_slice())),
-            ClientRec::Poll { t } => self.read_body(number, t.as_str()),
-            ClientRec::TextOut { t } => self.read_sent(number, t.as_str()),
+            ClientRec::TextIn { t } => self.read_text(scratch, number, t.as_str()),
+            ClientRec::BytesIn { b } => self.receive(scratch, number, decode_binary(b.as_slice())),
+            ClientRec::Poll { t } => self.read_body(scratch, number, t.as_str()),
+            ClientRec::TextOut { t } => self.read_sent(scratch, number, t.as_str()),
             ClientRec::Conn { .. } => Ok(()),
             ClientRec::Lost => Ok(()),
         }
     }
 
     /// A text message from the server.
-    fn read_text(&mut self, number: usize, text: &'a str) -> Result<(), AllocError>
+    fn read_text(
+        &mut self,
+        scratch: &mut Scratch,
+        number: usize,
+        text: &'a str,
+    ) -> Result<(), AllocError>
         ensures { OnOk result (ReadsEngine number (one_of (engine_packet_of text.now)) self.old self.new) }
     {
         match decode_text(self.alloc, text) {
-            Ok(packet) => self.receive(number, packet),
+            Ok(packet) => self.receive(scratch, number, packet),
             Err(EioFault::Memory) => Err(AllocError),
             Err(_) => {
                 self.refuse(number);
@@ -123,11 +139,16 @@ impl<'s, 'a> Reader<'s, 'a> {
     }
 
     /// A polling body from the server.
-    fn read_body(&mut self, number: usize, body: &'a str) -> Result<(), AllocError>
+    fn read_body(
+        &mut self,
+        scratch: &mut Scratch,
+        number: usize,
+        body: &'a str,
+    ) -> Result<(), AllocError>
         ensures { OnOk result (ReadsEngine number (engine_packets_of body.now) self.old self.new) }
     {
         match decode_payload(self.alloc, body) {
-            Ok(packets) => self.receive_all(number, packets),
+            Ok(packets) => self.receive_all(scratch, number, packets),
             Err(EioFault::Memory) => Err(AllocError),
             Err(_) => {
                 self.refuse(number);
@@ -137,22 +158,32 @@ impl<'s, 'a> Reader<'s, 'a> {
     }
 
     /// Engine.IO packets of one record.
-    fn receive_all(&mut self, number: usize, packets: Vec<Eio<'a>>) -> Result<(), AllocError>
+    fn receive_all(
+        &mut self,
+        scratch: &mut Scratch,
+        number: usize,
+        packets: Vec<Eio<'a>>,
+    ) -> Result<(), AllocError>
         ensures { OnOk result (Reads number (flat_map messages_of (map engine_view packets.entry.items)) self.old self.new) }
     {
         for packet in packets {
-            self.receive(number, packet)?;
+            self.receive(scratch, number, packet)?;
         }
         Ok(())
     }
 
     /// An Engine.IO packet from the server. The text of a known event isn't decoded.
-    fn receive(&mut self, number: usize, packet: Eio<'a>) -> Result<(), AllocError>
+    fn receive(
+        &mut self,
+        scratch: &mut Scratch,
+        number: usize,
+        packet: Eio<'a>,
+    ) -> Result<(), AllocError>
         ensures { OnOk result (Reads number (messages_of (engine_view packet.entry)) self.old self.new) }
     {
         match self.known(&packet) {
             Some(known) => self.place(number, TapPacket::Known(known)),
-            None => self.feed(number, packet),
+            None => self.feed(scratch, number, packet),
         }
     }
 
@@ -171,10 +202,15 @@ impl<'s, 'a> Reader<'s, 'a> {
     }
 
     /// An Engine.IO packet from the server, to be decoded.
-    fn feed(&mut self, number: usize, packet: Eio<'a>) -> Result<(), AllocError>
+    fn feed(
+        &mut self,
+        scratch: &mut Scratch,
+        number: usize,
+        packet: Eio<'a>,
+    ) -> Result<(), AllocError>
         ensures { OnOk result (Reads number (messages_of (engine_view packet.entry)) self.old self.new) }
     {
-        match self.assembler.feed(packet) {
+        match self.assembler.feed_with(scratch, packet) {
             Ok(Some(whole)) => self.place(number, TapPacket::FromServer(whole)),
             Ok(None) => Ok(()),
             Err(fault) => self.refuse_packet(number, fault),
@@ -198,12 +234,17 @@ impl<'s, 'a> Reader<'s, 'a> {
     }
 
     /// The text of an Engine.IO packet of the client: all but a CONNECT or a DISCONNECT is read past.
-    fn read_sent(&mut self, number: usize, text: &'a str) -> Result<(), AllocError>
+    fn read_sent(
+        &mut self,
+        scratch: &mut Scratch,
+        number: usize,
+        text: &'a str,
+    ) -> Result<(), AllocError>
         ensures packets { OnOk result (packets_read self.new ≡ packets_read self.old ++ at number (client_packet_in (engine_packet_of text.now))) }
         ensures assembler { self.new.assembler ≡ self.old.assembler }
         ensures bad { self.new.bad ≡ self.old.bad }
     {
-        match sent(self.alloc, text)? {
+        match sent(self.alloc, scratch, text)? {
             Some(packet) => self.place(number, TapPacket::FromClient(packet)),
             None => Ok(()),
         }
@@ -238,21 +279,29 @@ pub fn ends_connection(rec: &ClientRec) -> bool
 }
 
 /// The CONNECT or DISCONNECT that an Engine.IO packet of the client carries.
-fn sent(alloc: Global, text: &str) -> Result<Option<Packet<'_>>, AllocError>
+fn sent<'a>(
+    alloc: Global,
+    scratch: &mut Scratch,
+    text: &'a str,
+) -> Result<Option<Packet<'a>>, AllocError>
     ensures { IfOk result (λ sent. sent_seen sent ≡ client_packet_in (engine_packet_of text.now)) }
 {
     match decode_text(alloc, text) {
-        Ok(Eio::Message(message)) => sent_packet(alloc, message),
+        Ok(Eio::Message(message)) => sent_packet(alloc, scratch, message),
         Err(EioFault::Memory) => Err(AllocError),
         _ => Ok(None),
     }
 }
 
 /// The packet of a message, if it is a CONNECT or a DISCONNECT.
-fn sent_packet(alloc: Global, message: &str) -> Result<Option<Packet<'_>>, AllocError>
+fn sent_packet<'a>(
+    alloc: Global,
+    scratch: &mut Scratch,
+    message: &'a str,
+) -> Result<Option<Packet<'a>>, AllocError>
     ensures { IfOk result (λ sent. sent_seen sent ≡ client_packet (packet_of message.now)) }
 {
-    match decode(alloc, message) {
+    match decode_with(alloc, scratch, message) {
         Ok(packet) if is_connection_kind(packet.kind) => Ok(Some(packet)),
         Err(SioFault::Memory) => Err(AllocError),
         _ => Ok(None),

@@ -34,10 +34,22 @@ impl Model for Reply {
 pub fn reply_of(alloc: Global, whole: &Whole<'_>) -> Result<Option<Reply>, AllocError>
     ensures { IfOk result (λ reply. reply ≡ reply_in (whole_view whole.now)) }
 {
+    let mut scratch = Scratch::new(alloc);
+    reply_with(alloc, &mut scratch, whole)
+}
+
+/// What [`reply_of`] gives, with memory that is kept for the next payload.
+pub(crate) fn reply_with(
+    alloc: Global,
+    scratch: &mut Scratch,
+    whole: &Whole<'_>,
+) -> Result<Option<Reply>, AllocError>
+    ensures { IfOk result (λ reply. reply ≡ reply_in (whole_view whole.now)) }
+{
     if !is_connect_kind(whole.packet.kind) {
         return Ok(None);
     }
-    let reply = reply_in_value(alloc, whole.packet.payload)?;
+    let reply = reply_in_value(alloc, scratch, whole.packet.payload)?;
     Ok(Some(reply))
 }
 
@@ -48,11 +60,14 @@ fn is_connect_kind(kind: PacketKind) -> bool
 }
 
 /// What the payload tells.
-fn reply_in_value(alloc: Global, payload: Option<&str>) -> Result<Reply, AllocError>
+fn reply_in_value(
+    alloc: Global,
+    scratch: &mut Scratch,
+    payload: Option<&str>,
+) -> Result<Reply, AllocError>
     ensures { IfOk result (λ reply. reply ≡ reply_in_value (value_of (option_map (λ text. text.now) payload.entry))) }
 {
-    let mut scratch = Scratch::new(alloc);
-    let Some(fields) = fields_of(alloc, payload, &mut scratch)? else {
+    let Some(fields) = fields_of(alloc, payload, scratch)? else {
         return Ok(Reply {
             pid: None,
             sid: Text::new(alloc, "")?,

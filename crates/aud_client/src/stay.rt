@@ -11,12 +11,12 @@ ghost use Rattle.aud_client.specs.Replies.{is_this, reply_in};
 ghost use Rattle.aud_client.specs.Received.{stay_names_pid, is_recovered};
 ghost use Rattle.aud_client.specs.Private.Kept.{empty_stay, grown};
 
-use crate::asked::{Asked, asked_in};
+use crate::asked::{Asked, asked_with};
 use crate::connection::TapPacket;
 use crate::frame::{Frame, frame_of, known_frame};
-use crate::replies::{Reply, reply_of};
+use crate::replies::{Reply, reply_with};
 use aud_node::Stream;
-use aud_sio::{Packet, Whole};
+use aud_sio::{Packet, Scratch, Whole};
 use aud_tap::Text;
 use std::alloc::{AllocError, Global};
 use std::marker::Model;
@@ -82,15 +82,16 @@ impl<'a> Stay<'a> {
     pub(crate) fn add(
         &mut self,
         alloc: Global,
+        scratch: &mut Scratch,
         stream: &Stream<'_>,
         packet: TapPacket<'a>,
     ) -> Result<(), AllocError>
         ensures { OnOk result (self.new ≡ grown stream.now self.old (packet_seen packet.entry)) }
     {
         match packet {
-            TapPacket::FromServer(whole) => self.receive(alloc, stream, whole),
+            TapPacket::FromServer(whole) => self.receive(alloc, scratch, stream, whole),
             TapPacket::Known(known) => self.keep(known_frame(alloc, stream, known)),
-            TapPacket::FromClient(packet) => self.ask(alloc, &packet),
+            TapPacket::FromClient(packet) => self.ask(alloc, scratch, &packet),
         }
     }
 
@@ -98,20 +99,26 @@ impl<'a> Stay<'a> {
     fn receive(
         &mut self,
         alloc: Global,
+        scratch: &mut Scratch,
         stream: &Stream<'_>,
         whole: Whole<'a>,
     ) -> Result<(), AllocError>
         ensures { OnOk result (self.new ≡ grown stream.now self.old (FromServer (whole_view whole.entry))) }
     {
-        self.note_reply(alloc, &whole)?;
+        self.note_reply(alloc, scratch, &whole)?;
         self.keep(frame_of(stream, whole))
     }
 
     /// What the packet of the server tells, if it is a reply.
-    fn note_reply(&mut self, alloc: Global, whole: &Whole<'_>) -> Result<(), AllocError>
+    fn note_reply(
+        &mut self,
+        alloc: Global,
+        scratch: &mut Scratch,
+        whole: &Whole<'_>,
+    ) -> Result<(), AllocError>
         ensures { OnOk result (self.new ≡ record self.old { reply = option_or (reply_in (whole_view whole.now)) self.old.reply }) }
     {
-        if let Some(reply) = reply_of(alloc, whole)? {
+        if let Some(reply) = reply_with(alloc, scratch, whole)? {
             self.reply = Some(reply);
         }
         Ok(())
@@ -128,10 +135,15 @@ impl<'a> Stay<'a> {
     }
 
     /// A packet of the client.
-    fn ask(&mut self, alloc: Global, packet: &Packet<'_>) -> Result<(), AllocError>
+    fn ask(
+        &mut self,
+        alloc: Global,
+        scratch: &mut Scratch,
+        packet: &Packet<'_>,
+    ) -> Result<(), AllocError>
         ensures { (stream : List StreamRec) → OnOk result (self.new ≡ grown stream self.old (FromClient (packet_view packet.now))) }
     {
-        if let Some(asked) = asked_in(alloc, packet)? {
+        if let Some(asked) = asked_with(alloc, scratch, packet)? {
             self.asked = Some(asked);
         }
         Ok(())

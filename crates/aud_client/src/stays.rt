@@ -14,7 +14,7 @@ ghost use Rattle.aud_client.specs.Private.Kept.{KeepsStays, packets_seen, Begins
 use crate::connection::{Placed, TapPacket};
 use crate::stay::Stay;
 use aud_node::Stream;
-use aud_sio::{Packet, PacketKind};
+use aud_sio::{Packet, PacketKind, Scratch};
 use std::alloc::{AllocError, Global};
 use std::collections::BTreeMap;
 
@@ -53,9 +53,10 @@ impl<'a> Stays<'a> {
         self.open.clear();
     }
 
-    /// The next packets of the connection with this number.
+    /// The next packets of the connection with this number. Payloads are read with this memory.
     pub fn packets(
         &mut self,
+        scratch: &mut Scratch,
         stream: &Stream<'_>,
         c: u64,
         packets: Vec<Placed<'a>>,
@@ -63,18 +64,24 @@ impl<'a> Stays<'a> {
         ensures { (done : List StaySeen) (before : List TapPacketSeen) → KeepsStays stream.now c self.old done before → OnOk result (KeepsStays stream.now c self.new done (before ++ packets_seen packets.entry.items)) }
     {
         for placed in packets {
-            self.take(stream, c, placed.packet)?;
+            self.take(scratch, stream, c, placed.packet)?;
         }
         Ok(())
     }
 
     /// The next packet of the connection with this number.
-    fn take(&mut self, stream: &Stream<'_>, c: u64, packet: TapPacket<'a>) -> Result<(), AllocError>
+    fn take(
+        &mut self,
+        scratch: &mut Scratch,
+        stream: &Stream<'_>,
+        c: u64,
+        packet: TapPacket<'a>,
+    ) -> Result<(), AllocError>
         ensures { (done : List StaySeen) (packets : List TapPacketSeen) → KeepsStays stream.now c self.old done packets → OnOk result (KeepsStays stream.now c self.new done (packets ++ packet_seen packet.entry ∷ [])) }
     {
         match self.place_for(&packet) {
-            Some(place) => self.go_on(stream, place, packet),
-            None => self.begin(stream, c, packet),
+            Some(place) => self.go_on(scratch, stream, place, packet),
+            None => self.begin(scratch, stream, c, packet),
         }
     }
 
@@ -101,6 +108,7 @@ impl<'a> Stays<'a> {
     /// The packet begins a stay.
     fn begin(
         &mut self,
+        scratch: &mut Scratch,
         stream: &Stream<'_>,
         c: u64,
         packet: TapPacket<'a>,
@@ -110,7 +118,7 @@ impl<'a> Stays<'a> {
     {
         let place = self.stays.len();
         self.open_stay(c, &packet)?;
-        self.grow(stream, place, packet)
+        self.grow(scratch, stream, place, packet)
     }
 
     /// A stay in the packet's namespace comes after the others. It goes on, unless the packet ends it.
@@ -142,6 +150,7 @@ impl<'a> Stays<'a> {
     /// The packet goes on with the stay at the place.
     fn go_on(
         &mut self,
+        scratch: &mut Scratch,
         stream: &Stream<'_>,
         place: usize,
         packet: TapPacket<'a>,
@@ -150,7 +159,7 @@ impl<'a> Stays<'a> {
         ensures open { OnOk result (GoesOn (packet_seen packet.entry) self.old self.new) }
     {
         self.end(&packet);
-        self.grow(stream, place, packet)
+        self.grow(scratch, stream, place, packet)
     }
 
     /// The stay that goes on in the packet's namespace does so no more, if the packet ends it.
@@ -166,6 +175,7 @@ impl<'a> Stays<'a> {
     /// The stay at the place has the packet too.
     fn grow(
         &mut self,
+        scratch: &mut Scratch,
         stream: &Stream<'_>,
         place: usize,
         packet: TapPacket<'a>,
@@ -174,7 +184,7 @@ impl<'a> Stays<'a> {
         ensures open { (n : List ℕ) → open_at self.new n ≡ open_at self.old n }
     {
         match self.stays.get_mut(place) {
-            Some(stay) => stay.add(self.alloc, stream, packet),
+            Some(stay) => stay.add(self.alloc, scratch, stream, packet),
             None => Ok(()),
         }
     }

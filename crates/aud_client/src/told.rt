@@ -12,6 +12,7 @@ ghost use Rattle.aud_client.specs.Private.Told.{HasKept};
 use crate::connection::{Reader, ends_connection};
 use crate::stays::Stays;
 use aud_node::Stream;
+use aud_sio::Scratch;
 use aud_tap::ClientRec;
 use std::alloc::{AllocError, Global};
 
@@ -32,12 +33,20 @@ pub fn told_by<'a>(
     ensures stays { IfOk result (λ told. told.stays.stays.items ≡ tap_stays stream.now recs.now) }
     ensures bad { IfOk result (λ told. told.bad ≡ (tap_packets recs.now).bad) }
 {
+    let mut scratch = Scratch::new(alloc);
     let mut told = Told {
         stays: Stays::new(alloc),
         bad: None,
     };
     for (number, rec) in recs.iter().enumerate() {
-        told.take(alloc, stream, number, rec, &recs[number + 1..])?;
+        told.take(
+            alloc,
+            &mut scratch,
+            stream,
+            number,
+            rec,
+            &recs[number + 1..],
+        )?;
     }
     Ok(told)
 }
@@ -47,6 +56,7 @@ impl<'a> Told<'a> {
     fn take(
         &mut self,
         alloc: Global,
+        scratch: &mut Scratch,
         stream: &Stream<'a>,
         number: usize,
         rec: &ClientRec,
@@ -57,7 +67,9 @@ impl<'a> Told<'a> {
         ensures bad { OnOk result (self.new.bad ≡ option_or self.old.bad (bad_of (begun number rec.now after.now))) }
     {
         match rec {
-            ClientRec::Conn { c } => self.connection(alloc, stream, *c, number + 1, after),
+            ClientRec::Conn { c } => {
+                self.connection(alloc, scratch, stream, *c, number + 1, after)
+            }
             _ => Ok(()),
         }
     }
@@ -66,6 +78,7 @@ impl<'a> Told<'a> {
     fn connection(
         &mut self,
         alloc: Global,
+        scratch: &mut Scratch,
         stream: &Stream<'a>,
         c: u64,
         first: usize,
@@ -77,7 +90,15 @@ impl<'a> Told<'a> {
     {
         self.stays.begin_connection();
         let mut reader = Reader::new(alloc, Some(stream));
-        read_records(&mut self.stays, &mut reader, stream, c, first, recs)?;
+        read_records(
+            &mut self.stays,
+            &mut reader,
+            scratch,
+            stream,
+            c,
+            first,
+            recs,
+        )?;
         self.bad = self.bad.or(reader.bad);
         Ok(())
     }
@@ -87,6 +108,7 @@ impl<'a> Told<'a> {
 fn read_records<'a>(
     stays: &mut Stays<'a>,
     reader: &mut Reader<'_, 'a>,
+    scratch: &mut Scratch,
     stream: &Stream<'_>,
     c: u64,
     first: usize,
@@ -99,7 +121,7 @@ fn read_records<'a>(
         if ends_connection(rec) {
             return Ok(());
         }
-        read_record(stays, reader, stream, c, first + i, rec)?;
+        read_record(stays, reader, scratch, stream, c, first + i, rec)?;
     }
     Ok(())
 }
@@ -108,6 +130,7 @@ fn read_records<'a>(
 fn read_record<'a>(
     stays: &mut Stays<'a>,
     reader: &mut Reader<'_, 'a>,
+    scratch: &mut Scratch,
     stream: &Stream<'_>,
     c: u64,
     number: usize,
@@ -115,6 +138,6 @@ fn read_record<'a>(
 ) -> Result<(), AllocError>
     ensures { (first : ℕ) (done : List StaySeen) (recs : List ClientRec) → number ≡ first + length recs → HasKept stream.now c first done recs reader.old stays.old → OnOk result (HasKept stream.now c first done (recs ++ rec.now ∷ []) reader.new stays.new) }
 {
-    reader.read(number, rec)?;
-    stays.packets(stream, c, reader.take_packets())
+    reader.read(scratch, number, rec)?;
+    stays.packets(scratch, stream, c, reader.take_packets())
 }

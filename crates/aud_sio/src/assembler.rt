@@ -8,9 +8,10 @@ ghost use Rattle.aud_sio.specs.Private.Awaited.{KeepsAwaited};
 
 use crate::fault::SioFault;
 use crate::half::Half;
-use crate::packet::decode;
+use crate::packet::decode_with;
 use crate::whole::{Blob, Whole};
 use aud_eio::Eio;
+use aud_fields::Scratch;
 use std::alloc::Global;
 use std::marker::Model;
 
@@ -52,11 +53,28 @@ impl<'a> Assembler<'a> {
     /// The next Engine.IO packet. A packet is given with its last attachment, or at once where it has none; it lends
     /// what the Engine.IO packets lend.
     ///
-    /// A text is refused as `TextWhileBinary` where attachments are awaited, and else as [`decode`] refuses it; bytes
+    /// A text is refused as `TextWhileBinary` where attachments are awaited, and else as [`decode`](crate::decode) refuses it; bytes
     /// as `StrayBinary` where none are. Control packets are read past. Memory is wanted for the payload of a text that
     /// comes at rest and for an attachment that is awaited, and for nothing else. After a refusal, want of memory too,
     /// the assembler is at rest: it holds nothing of the refused packet.
     pub fn feed(&mut self, packet: Eio<'a>) -> Result<Option<Whole<'a>>, SioFault>
+        ensures answers { Feeds self.old (messages_of (engine_view packet.entry)) result self.new }
+        ensures control { messages_of (engine_view packet.entry) ≡ [] → (result ≡ Ok None) × (self.new ≡ self.old) }
+        ensures waits { Waits self.new }
+        ensures rest_refused { IfErr result (λ _. self.new ≡ []) }
+        ensures rest_given { IfOk result (λ whole. IsSome whole → self.new ≡ []) }
+        ensures memory { result ≡ Err SioFault.Memory → takes_memory self.old (messages_of (engine_view packet.entry)) ≡ true }
+    {
+        let mut scratch = Scratch::new(self.alloc);
+        self.feed_with(&mut scratch, packet)
+    }
+
+    /// What [`feed`](Assembler::feed) gives, with memory that is kept for the next text, as [`decode_with`] keeps it.
+    pub fn feed_with(
+        &mut self,
+        scratch: &mut Scratch,
+        packet: Eio<'a>,
+    ) -> Result<Option<Whole<'a>>, SioFault>
         ensures answers { Feeds self.old (messages_of (engine_view packet.entry)) result self.new }
         ensures control { messages_of (engine_view packet.entry) ≡ [] → (result ≡ Ok None) × (self.new ≡ self.old) }
         ensures waits { Waits self.new }
@@ -70,7 +88,7 @@ impl<'a> Assembler<'a> {
                 self.half = half;
                 Ok(None)
             }
-            Eio::Message(text) => self.take_text(half, text),
+            Eio::Message(text) => self.take_text(scratch, half, text),
             Eio::Lent(bytes) => self.take_bytes(half, Blob::Lent(bytes)),
             Eio::Own(bytes) => self.take_bytes(half, Blob::Own(bytes)),
         }
@@ -78,6 +96,7 @@ impl<'a> Assembler<'a> {
 
     fn take_text(
         &mut self,
+        scratch: &mut Scratch,
         half: Option<Half<'a>>,
         text: &'a str,
     ) -> Result<Option<Whole<'a>>, SioFault>
@@ -91,10 +110,10 @@ impl<'a> Assembler<'a> {
         if half.is_some() {
             return Err(SioFault::TextWhileBinary);
         }
-        self.begin(text)
+        self.begin(scratch, text)
     }
 
-    fn begin(&mut self, text: &'a str) -> Result<Option<Whole<'a>>, SioFault>
+    fn begin(&mut self, scratch: &mut Scratch, text: &'a str) -> Result<Option<Whole<'a>>, SioFault>
         requires { self.old ≡ [] }
         ensures answers { Feeds [] (Text text.entry.now ∷ []) result self.new }
         ensures waits { Waits self.new }
@@ -102,7 +121,7 @@ impl<'a> Assembler<'a> {
         ensures rest_given { IfOk result (λ whole. IsSome whole → self.new ≡ []) }
         ensures memory { result ≡ Err SioFault.Memory → has_payload text.entry.now ≡ true }
     {
-        let packet = decode(self.alloc, text)?;
+        let packet = decode_with(self.alloc, scratch, text)?;
         let bin = Vec::new(self.alloc);
         Ok(self.keep(Whole { text, packet, bin }))
     }
