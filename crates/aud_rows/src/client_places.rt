@@ -23,7 +23,7 @@ pub struct ClientPlaces {
 }
 
 impl ClientPlaces {
-    /// Those of the tap at this place, each record of which is decoded once; no stays and no marks where that tap is no
+    /// Those of the tap at this place, each record of which is decoded once, but for the texts of the stream's events; no stays and no marks where that tap is no
     /// client's.
     pub fn read(alloc: Global, logs: &Logs<'_>, place: usize) -> Result<ClientPlaces, AllocError>
         ensures place { IfOk result (λ tap. tap.place ≡ place) }
@@ -36,7 +36,7 @@ impl ClientPlaces {
                 marks: Vec::new(alloc),
             });
         };
-        let tap = ClientTap::build(alloc, recs)?;
+        let tap = ClientTap::build_by(alloc, recs, logs.stream())?;
         Ok(ClientPlaces {
             place,
             stays: stay_places(alloc, logs.stream(), &tap)?,

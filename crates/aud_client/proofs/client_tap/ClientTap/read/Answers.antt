@@ -4,7 +4,7 @@ use Rattle.aud_client.specs.Private.ClientRead.{cut_seen, begun, bad_of}
 use Rattle.aud_client.specs.Seen.{connections_seen}
 use Rattle.std.specs.Option.{option_or}
 use Rattle.aud_client.proofs.ClientLemmas.{HasTaken-more, HasTaken-all}
-use Rattle.aud_client.proofs.client_tap.ClientTap.build.Goals as goal
+use Rattle.aud_client.proofs.client_tap.ClientTap.read.Goals as goal
 
 pub loop-number-preserved : goal.loop-number-preserved
 loop-number-preserved c =
