@@ -10,7 +10,7 @@ use Rattle.aud_client.proofs.connection.Reader.feed.Goals as goal
 
 pub returns-in-Ok-Some : goal.returns-in-Ok-Some
 returns-in-Ok-Some c =
-    let held = c.feed.new.self in
+    let held = c.feed_with.new.self in
     let messages = messages_of (engine_view c.args.packet) in
     let given : Continues c.args.self.now.assembler messages (answer_of (Some c.in-Ok-Some.whole)) held =
     subst (λ (o : Option Whole). Continues c.args.self.now.assembler messages (answer_of o) held) c.in-Ok-Some.field-0-is c.in-Ok-Some.ensures.answers in
@@ -21,7 +21,7 @@ returns-in-Ok-Some c =
 
 pub returns-in-Ok-None : goal.returns-in-Ok-None
 returns-in-Ok-None c =
-    let held = c.feed.new.self in
+    let held = c.feed_with.new.self in
     let messages = messages_of (engine_view c.args.packet) in
     let given : Continues c.args.self.now.assembler messages (answer_of None) held =
     subst (λ (o : Option Whole). Continues c.args.self.now.assembler messages (answer_of o) held) c.in-Ok-None.field-0-is c.in-Ok-None.ensures.answers in
@@ -30,7 +30,7 @@ returns-in-Ok-None c =
 
 pub returns-in-Err : goal.returns-in-Err
 returns-in-Err c =
-    let held = c.feed.new.self in
+    let held = c.feed_with.new.self in
     let messages = messages_of (engine_view c.args.packet) in
     OnOk-two c.refuse_packet.result _ _ (Reads c.args.number messages c.args.self.now c.refuse_packet.new.self)
     (λ memory bad. Reads-by c.args.number messages c.args.self.now c.refuse_packet.new.self held (Err c.in-Err.fault ∷ []) (c.in-Err.ensures.answers memory) c.refuse_packet.ensures.assembler
