@@ -167,12 +167,14 @@ pub fn explanation<H: Threads + Wait + Clock + Sync>(
     rt: &H,
     host: &HostRuntime,
     alloc: Global,
-    keys: RandomState,
     words: &[&str],
 ) -> ExitCode {
     let options = match explain_asked(alloc, words) {
         Ok(options) => options,
         Err(error) => return refuse(host, &error),
+    };
+    let Ok(keys) = RandomState::new(host) else {
+        return fail(host, RunFault::Read);
     };
     let mut files = match opened(host, alloc, &options) {
         Ok(files) => files,

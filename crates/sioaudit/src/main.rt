@@ -76,15 +76,15 @@ fn main(rt: HostRuntime) -> ExitCode {
     if is_simulation(&words) {
         return simulation(&rt, alloc, &words, rt.stdout());
     }
-    let Ok(keys) = RandomState::new(&rt) else {
-        return fail(&rt, RunFault::Read);
-    };
     if is_explain(&words) {
-        return explanation(&rt, &rt, alloc, keys, &words);
+        return explanation(&rt, &rt, alloc, &words);
     }
     let chosen = match options(alloc, &words) {
         Ok(chosen) => chosen,
         Err(error) => return refuse(&rt, &error),
+    };
+    let Ok(keys) = RandomState::new(&rt) else {
+        return fail(&rt, RunFault::Read);
     };
     let notes = rt.stderr();
     let is_shown = notes.is_terminal();
