@@ -31,6 +31,13 @@ pub noted-get : {X : Type 0} (p : Option X → Bool) (xs : List X) (i : ℕ) (d 
     → old ≡ places_where (λ k. p (slice_get xs k)) i → new ≡ noted i (p (Some (get_or xs i d))) old → new ≡ places_where (λ k. p (slice_get xs k)) (i + 1)
 noted-get p xs i d old new h was more = noted-at p xs i (get_or xs i d) old new h (same xs i d (get_or xs i d) h) was more
 
+-- what each element adds, one more
+pub flat_item : {X Y : Type 0} (f : X → List Y) (xs : List X) (i : ℕ) (d : X) (old new : List Y) → i < length xs → old ≡ flat_map f (take i xs)
+    → new ≡ old ++ f (get_or xs i d) → new ≡ flat_map f (take (i + 1) xs)
+flat_item f xs i d old new h was more =
+    more ∙ ap (λ ys. ys ++ f (get_or xs i d)) was
+    ∙ sym (ap (flat_map f) (take_more xs i d h) ∙ flat_map-append f (take i xs) (get_or xs i d ∷ []) ∙ ap (λ t. flat_map f (take i xs) ++ t) (append-nil (f (get_or xs i d))))
+
 -- ---- strangers
 
 -- pids that come after others

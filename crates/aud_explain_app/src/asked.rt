@@ -1,5 +1,5 @@
 //! The recoveries that clients asked for, and by session those that were refused.
-ghost use Rattle.std.specs.Prelude.{◌≡◌, ◌++◌, IfOk, OnOk, option_to_list, slice_get};
+ghost use Rattle.std.specs.Prelude.{◌≡◌, IfOk, OnOk};
 ghost use Rattle.std.specs.Option.{option_map};
 ghost use Rattle.aud_base.specs.Places.{noted, places_of};
 ghost use Rattle.aud_node.specs.Cluster.{Cluster};
@@ -57,29 +57,11 @@ fn numbered(alloc: Global, all: &[Recovery], numbers: &[usize]) -> Result<Vec<Re
 {
     let mut found = Vec::new(alloc);
     for number in numbers {
-        push_at(&mut found, all, *number)?;
+        if let Some(recovery) = all.get(*number) {
+            found.push(*recovery)?;
+        }
     }
     Ok(found)
-}
-
-/// Adds the recovery with this number, if there is one.
-fn push_at(found: &mut Vec<Recovery>, all: &[Recovery], number: usize) -> Result<(), AllocError>
-    ensures { OnOk result (found.new.items ≡ found.old.items ++ option_to_list (slice_get all.now number)) }
-{
-    push_some(found, all.get(number).copied())
-}
-
-/// Adds the recovery, if there is one.
-fn push_some(found: &mut Vec<Recovery>, recovery: Option<Recovery>) -> Result<(), AllocError>
-    ensures { OnOk result (found.new.items ≡ found.old.items ++ option_to_list recovery) }
-{
-    match recovery {
-        Some(recovery) => {
-            found.push(recovery)?;
-            Ok(())
-        }
-        None => Ok(()),
-    }
 }
 
 /// Of each session the numbers of those of the recoveries that were refused.

@@ -30,14 +30,9 @@ pub(crate) fn chosen<'s>(
 {
     let pids = options.pids.as_slice();
     if pids.is_empty() {
-        return match told(alloc, options.only, asked, sessions) {
-            Ok(found) => Ok(found),
-            Err(_) => Err(Unexplained::Memory),
-        };
+        return Ok(told(alloc, options.only, asked, sessions)?);
     }
-    let Ok(index) = index_of(alloc, keys, sessions) else {
-        return Err(Unexplained::Memory);
-    };
+    let index = index_of(alloc, keys, sessions)?;
     named(alloc, options.only, asked, &index, sessions, pids)
 }
 

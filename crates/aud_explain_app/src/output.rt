@@ -104,36 +104,6 @@ fn input_of(size: Size, seconds: u64) -> Input
     }
 }
 
-/// Writes the explanations of those of the sessions that are shown at the end.
-fn push_shown<H: Threads + Sync>(
-    rt: &H,
-    alloc: Global,
-    keys: RandomState,
-    out: &mut String,
-    options: &ExplainOptions,
-    sheet: Sheet<'_, '_>,
-    asked: &Asked,
-    sessions: &[SessionVerdict],
-) -> Result<(), Unexplained>
-    requires { AreAsked sheet.recording.now asked.now }
-    ensures { OnOk result (AddTexts sheet.entry.recording.now sheet.entry.lines.now (form_of options.now.json)
-        (sessions_chosen sheet.entry.recording.now options.now.only options.now.pids sessions.now) (string_bytes out.old) (string_bytes out.new)) }
-{
-    let shown = chosen(alloc, keys, options, asked, sessions)?;
-    let threads = options.workers as usize;
-    let prepared = prepared_for(rt, alloc, threads, sheet.recording, asked, &shown)?;
-    push_sessions(
-        alloc,
-        out,
-        form_of(options),
-        sheet,
-        &prepared,
-        asked,
-        &shown,
-    )?;
-    Ok(())
-}
-
 /// The explanations, and the summary of what was read since `start`.
 pub(crate) fn output_of<H: Threads + Wait + Clock + Sync>(
     rt: &H,
@@ -239,7 +209,11 @@ fn told<H: Threads + Sync>(
     ensures { IfOk result (λ text. AddTexts sheet.entry.recording.now sheet.entry.lines.now (form_of options.now.json)
         (sessions_chosen sheet.entry.recording.now options.now.only options.now.pids sessions.now) [] (string_bytes text)) }
 {
+    let shown = chosen(alloc, keys, options, asked, sessions)?;
+    let threads = options.workers as usize;
+    let prepared = prepared_for(rt, alloc, threads, sheet.recording, asked, &shown)?;
+    let form = form_of(options);
     let mut out = String::new(alloc);
-    push_shown(rt, alloc, keys, &mut out, options, sheet, asked, sessions)?;
+    push_sessions(alloc, &mut out, form, sheet, &prepared, asked, &shown)?;
     Ok(out)
 }

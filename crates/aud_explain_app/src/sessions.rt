@@ -58,8 +58,7 @@ fn push_session(
         pid,
         verdict,
         refused.as_slice(),
-    )?;
-    Ok(())
+    )
 }
 
 /// Writes that of the session with this pid at the end, of which these recoveries were refused.
@@ -77,6 +76,5 @@ fn push_told(
     ensures { OnOk result (AddsFor sheet.entry.recording.now sheet.entry.lines.now form pid.now verdict.now refused.now (string_bytes out.old) (string_bytes out.new)) }
 {
     let explained = explained_of(alloc, sheet, prepared, pid, verdict, refused)?;
-    push_explained(alloc, out, form, pid, verdict, &explained)?;
-    Ok(())
+    push_explained(alloc, out, form, pid, verdict, &explained)
 }
