@@ -3,6 +3,7 @@ pub mod Asked
 pub mod Shown
 pub mod Chosen
 pub mod Strangers
+pub mod Missing
 pub mod Texts
 pub mod Status
 pub mod RefusedLine

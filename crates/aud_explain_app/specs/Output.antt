@@ -1,5 +1,5 @@
 -- What `explain` writes, and how it ends.
-use Rattle.std.specs.Prelude.{◌≡◌, ◌-◌, ◌^◌, ◌⊎◌, ℕ, Bool, true, false, List, [], ◌++◌, codes, count_by, length, min, sum_by, Ok, Option, if◌then◌else◌}
+use Rattle.std.specs.Prelude.{◌≡◌, ◌-◌, ◌^◌, ◌⊎◌, ℕ, Bool, true, false, List, [], ◌++◌, codes, count_by, length, min, sum_by, None, Ok, Option, Some, if◌then◌else◌}
 use Rattle.std.specs.List.{filter}
 use Rattle.aud_node.specs.Cluster.{Cluster, cluster_of}
 use Rattle.aud_node.specs.Recoverable.{is_recoverable}
@@ -29,6 +29,7 @@ use Rattle.aud_explain_app.specs.RefusedLine.{refused_output}
 use Rattle.aud_explain_app.specs.Chosen.{sessions_chosen}
 use Rattle.aud_explain_app.specs.Status.{status_by}
 use Rattle.aud_explain_app.specs.declared.output.Figures.{Figures}
+use Rattle.aud_explain_app.specs.Missing.{first_missing, pids_known}
 use Rattle.aud_explain_app.specs.Strangers.{AreAdded, asked_in_vain}
 use Rattle.aud_explain_app.specs.Texts.{AddTexts}
 
@@ -69,12 +70,14 @@ pub record AreFigures (options : ExplainOptions) (c : Cluster) (size : Size) (ve
   pub status_is : figures.status ≡ status_by options.fail_on verdicts (recoveries_of c)
 
 -- the output over a recording, where these are the lines of its records: the explanation of each session that is shown, and the
--- figures of all of it; sessions that clients asked for in vain and that no record names are shown too, and not counted
+-- figures of all of it; sessions that clients asked for in vain and that no record names are shown too, and not counted; and
+-- each pid of the words is that of one of all these
 pub record IsExplaining (options : ExplainOptions) (c : Cluster) (lines : List TapLines) (size : Size) (output : OutputSeen) : Type 0 where
   pub verdicts : List SessionVerdict
   pub are_verdicts : AreVerdicts c false (sessions_of c) verdicts
   pub sessions : List SessionVerdict
   pub are_sessions : AreAdded c (asked_in_vain c (recoveries_of c)) verdicts sessions
+  pub none_missing : first_missing (pids_known c) options.pids ≡ None
   pub texts : List ℕ
   pub are_texts : AddTexts c lines (form_of options.json) (sessions_chosen c options.only options.pids sessions) [] texts
   pub figures : Figures
@@ -88,3 +91,7 @@ abbrev pub IsExplanation : ExplainOptions → List (Option (List ℕ)) → Outpu
 IsExplanation options lefts output =
     ((read : Recorded) × AreRecorded lefts read × IsExplaining options (cluster_of read.taps) read.lines read.size output)
     ⊎ ((refusal : Refusal) × IsRefused lefts refusal × (output ≡ refused_output (form_of options.json) options.files refusal))
+
+-- the files are recorded, and of the pids of the words the one with this number is the first that no session there has
+abbrev pub IsFirstMissing : ExplainOptions → List (Option (List ℕ)) → ℕ → Type 0
+IsFirstMissing options lefts number = (read : Recorded) × AreRecorded lefts read × (first_missing (pids_known (cluster_of read.taps)) options.pids ≡ Some number)

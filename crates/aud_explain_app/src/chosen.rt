@@ -1,11 +1,14 @@
 //! The sessions that are shown.
-ghost use Rattle.std.specs.Prelude.{◌≡◌, ◌++◌, IfOk, OnOk, Some, map};
+ghost use Rattle.std.specs.Prelude.{◌≡◌, ◌++◌, ℕ, IfOk, OnOk, Err, None, Some, map};
 ghost use Rattle.std.specs.Option.{option_copied};
 ghost use Rattle.aud_base.specs.Places.{places_of};
 ghost use Rattle.aud_node.specs.Cluster.{Cluster};
 ghost use Rattle.aud_node.specs.Stream.{Text};
 ghost use Rattle.aud_explain_app.specs.Asked.{AreAsked};
 ghost use Rattle.aud_explain_app.specs.Chosen.{numbers_of, session_of, sessions_chosen, sessions_named, sessions_told, within_of};
+ghost use Rattle.aud_explain_app.specs.Missing.{first_missing};
+ghost use Rattle.aud_explain_app.specs.Strangers.{pids_of};
+ghost use Rattle.aud_explain_app.specs.declared.fault.Unexplained.TheVariants.{NoSession};
 
 use crate::asked::Asked;
 use crate::fault::Unexplained;
@@ -26,7 +29,9 @@ pub(crate) fn chosen<'s>(
     asked: &Asked,
     sessions: &'s [SessionVerdict],
 ) -> Result<Vec<&'s SessionVerdict>, Unexplained>
-    ensures { (c : Cluster) → AreAsked c asked.now → IfOk result (λ found. map (λ s. s.now) found.items ≡ sessions_chosen c options.now.only options.now.pids sessions.now) }
+    ensures chosen { (c : Cluster) → AreAsked c asked.now → IfOk result (λ found. map (λ s. s.now) found.items ≡ sessions_chosen c options.now.only options.now.pids sessions.now) }
+    ensures none_missing { OnOk result (first_missing (pids_of sessions.now) options.now.pids ≡ None) }
+    ensures missing { (number : ℕ) → result ≡ Err (NoSession number) → first_missing (pids_of sessions.now) options.now.pids ≡ Some number }
 {
     let pids = options.pids.as_slice();
     if pids.is_empty() {
@@ -98,7 +103,9 @@ fn named<'s>(
     pids: &[Text],
 ) -> Result<Vec<&'s SessionVerdict>, Unexplained>
     requires { (pid : Text) → places_of index.now pid ≡ numbers_of sessions.now pid }
-    ensures { (c : Cluster) → AreAsked c asked.now → IfOk result (λ found. map (λ s. s.now) found.items ≡ sessions_named c only sessions.now pids.now) }
+    ensures named { (c : Cluster) → AreAsked c asked.now → IfOk result (λ found. map (λ s. s.now) found.items ≡ sessions_named c only sessions.now pids.now) }
+    ensures none_missing { OnOk result (first_missing (pids_of sessions.now) pids.now ≡ None) }
+    ensures missing { (number : ℕ) → result ≡ Err (NoSession number) → first_missing (pids_of sessions.now) pids.now ≡ Some number }
 {
     let mut found = Vec::new(alloc);
     for (number, pid) in pids.iter().enumerate() {

@@ -1,5 +1,5 @@
 //! What is written for a recording.
-ghost use Rattle.std.specs.Prelude.{◌≡◌, ◌++◌, ◌<◌, ◌≤◌, [], IfOk, OnOk, string_bytes, false};
+ghost use Rattle.std.specs.Prelude.{◌≡◌, ◌≢◌, ◌++◌, ◌<◌, ◌≤◌, ℕ, [], IfOk, OnOk, Err, None, Some, string_bytes, false};
 ghost use Rattle.aud_node.specs.Cluster.{cluster_of};
 ghost use Rattle.aud_node.specs.Names.{AreNamedOnce};
 ghost use Rattle.aud_maker.specs.Sessions.{sessions_of};
@@ -7,7 +7,10 @@ ghost use Rattle.aud_verdict.specs.Verdicts.{AreVerdicts};
 ghost use Rattle.aud_explain_app.specs.Asked.{AreAsked};
 ghost use Rattle.aud_explain_app.specs.Output.{AreFigures, IsExplaining, form_of, summary_in, timed};
 ghost use Rattle.aud_explain_app.specs.Chosen.{sessions_chosen};
+ghost use Rattle.aud_explain_app.specs.Missing.{first_missing, pids_known};
+ghost use Rattle.aud_explain_app.specs.Strangers.{pids_of};
 ghost use Rattle.aud_explain_app.specs.Texts.{AddTexts};
+ghost use Rattle.aud_explain_app.specs.declared.fault.Unexplained.TheVariants.{NoSession};
 
 use crate::asked::Asked;
 use crate::chosen::chosen;
@@ -52,7 +55,8 @@ fn judged<H: Threads + Wait + Clock + Sync>(
     recording: &Recording<'_>,
 ) -> Result<Report, Unexplained>
     requires { (0 < workers) × (workers ≤ 64) }
-    ensures { IfOk result (λ report. AreVerdicts recording.now false (sessions_of recording.now) report.verdicts.items) }
+    ensures verdicts { IfOk result (λ report. AreVerdicts recording.now false (sessions_of recording.now) report.verdicts.items) }
+    ensures fault { (number : ℕ) → result ≢ Err (NoSession number) }
 {
     match audit_with(rt, alloc, recording, workers as usize, false, &OpenGate) {
         Ok(report) => Ok(report),
@@ -115,7 +119,8 @@ pub(crate) fn output_of<H: Threads + Wait + Clock + Sync>(
 ) -> Result<Output, Unexplained>
     requires names { AreNamedOnce recorded.now.taps }
     requires workers { (0 < options.now.workers) × (options.now.workers ≤ 64) }
-    ensures { IfOk result (IsExplaining options.now (cluster_of recorded.now.taps) recorded.now.lines recorded.now.size) }
+    ensures explaining { IfOk result (IsExplaining options.now (cluster_of recorded.now.taps) recorded.now.lines recorded.now.size) }
+    ensures missing { (number : ℕ) → result ≡ Err (NoSession number) → first_missing (pids_known (cluster_of recorded.now.taps)) options.now.pids ≡ Some number }
 {
     let threads = options.workers as usize;
     let recording = Recording::read(rt, alloc, keys, threads, &recorded.taps)?;
@@ -148,7 +153,8 @@ fn explaining<H: Threads + Clock + Sync>(
     verdicts: Vec<SessionVerdict>,
 ) -> Result<Output, Unexplained>
     requires { AreVerdicts sheet.recording.now false (sessions_of sheet.recording.now) verdicts.items }
-    ensures { IfOk result (IsExplaining options.now sheet.entry.recording.now sheet.entry.lines.now size) }
+    ensures explaining { IfOk result (IsExplaining options.now sheet.entry.recording.now sheet.entry.lines.now size) }
+    ensures missing { (number : ℕ) → result ≡ Err (NoSession number) → first_missing (pids_known sheet.entry.recording.now) options.now.pids ≡ Some number }
 {
     let asked = Asked::read(alloc, keys, sheet.recording)?;
     let figures = figures_of(options, sheet.recording, &asked, size, &verdicts);
@@ -206,8 +212,10 @@ fn told<H: Threads + Sync>(
     sessions: &[SessionVerdict],
 ) -> Result<String, Unexplained>
     requires { AreAsked sheet.recording.now asked.now }
-    ensures { IfOk result (λ text. AddTexts sheet.entry.recording.now sheet.entry.lines.now (form_of options.now.json)
+    ensures told { IfOk result (λ text. AddTexts sheet.entry.recording.now sheet.entry.lines.now (form_of options.now.json)
         (sessions_chosen sheet.entry.recording.now options.now.only options.now.pids sessions.now) [] (string_bytes text)) }
+    ensures none_missing { OnOk result (first_missing (pids_of sessions.now) options.now.pids ≡ None) }
+    ensures missing { (number : ℕ) → result ≡ Err (NoSession number) → first_missing (pids_of sessions.now) options.now.pids ≡ Some number }
 {
     let shown = chosen(alloc, keys, options, asked, sessions)?;
     let threads = options.workers as usize;

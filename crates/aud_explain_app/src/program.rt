@@ -1,11 +1,13 @@
 //! A whole run of `explain`: files in, explanations out.
-ghost use Rattle.std.specs.Prelude.{◌≡◌, ◌≢◌, ◌<◌, ◌≤◌, true, IfOk, OnErr, Err, length, map};
+ghost use Rattle.std.specs.Prelude.{◌≡◌, ◌≢◌, ◌<◌, ◌≤◌, ℕ, true, IfOk, OnErr, Err, length, map};
 ghost use Rattle.std.specs.Io.KnownBytes.{Appends};
 ghost use Rattle.aud_streams.specs.Written.{AppendsFront};
 ghost use Rattle.aud_streams.specs.Watched.{inner_of, has_failed};
-ghost use Rattle.aud_explain_app.specs.Output.{IsExplanation};
+ghost use Rattle.aud_explain_app.specs.Output.{IsExplanation, IsFirstMissing};
 ghost use Rattle.aud_explain_app.specs.Run.{Writes, WritesFront};
+ghost use Rattle.aud_explain_app.specs.declared.fault.ExplainFault.TheVariants as fault;
 ghost use Rattle.aud_explain_app.specs.declared.fault.ExplainFault.TheVariants.{Write};
+ghost use Rattle.aud_explain_app.specs.declared.fault.Unexplained.TheVariants.{NoSession};
 
 use crate::fault::{ExplainFault, Unexplained};
 use crate::output::{form_of, output_of};
@@ -34,7 +36,8 @@ fn explained<H: Threads + Wait + Clock + Sync, R: Read>(
 ) -> Result<Output, Unexplained>
     requires files { 0 < length files.old }
     requires workers { (0 < options.now.workers) × (options.now.workers ≤ 64) }
-    ensures { IfOk result (IsExplanation options.now (map (λ file. R.remaining (inner_of file)) files.old)) }
+    ensures explanation { IfOk result (IsExplanation options.now (map (λ file. R.remaining (inner_of file)) files.old)) }
+    ensures missing { (number : ℕ) → result ≡ Err (NoSession number) → IsFirstMissing options.now (map (λ file. R.remaining (inner_of file)) files.old) number }
 {
     let start = Instant::now(rt).ok();
     match read_files(rt, READERS, alloc, keys, files) {
@@ -72,6 +75,9 @@ pub fn explain<H: Threads + Wait + Clock + Sync, R: Read, W: Write>(
     ensures write { result ≡ Err Write → has_failed output.new ≡ true }
     // After every other fault nothing was.
     ensures nothing { OnErr result (result ≢ Err Write → output.new ≡ output.old) }
+    // `NoSession` comes for the first pid of the words that no session has, and for no other; where there is one, nothing is
+    // explained.
+    ensures missing { (number : ℕ) → result ≡ Err (fault.Unexplained (NoSession number)) → IsFirstMissing options.now (map (λ file. R.remaining (inner_of file)) files.old) number }
 {
     match explained(rt, alloc, keys, files, options) {
         Ok(explained) => written(output, &explained),

@@ -1,8 +1,13 @@
-use Rattle.std.proofs.Common.{◌≡◌, map, take}
+use Rattle.std.proofs.Common.{◌≡◌, None, map, take}
 use Rattle.aud_node.specs.Cluster.{Cluster}
 use Rattle.aud_explain_app.specs.Asked.{AreAsked}
 use Rattle.aud_explain_app.specs.Chosen.{sessions_named}
+use Rattle.aud_explain_app.specs.Missing.{first_missing}
+use Rattle.aud_explain_app.specs.Strangers.{pids_of}
 use Rattle.aud_explain_app.proofs.chosen.named.Given as goal
 
 abbrev pub invariant-loop-number : goal.invariant-loop-number
-invariant-loop-number l = (c : Cluster) → AreAsked c l.asked → map (λ s. s.now) l.found.items ≡ sessions_named c l.only l.sessions (take l.number l.pids)
+invariant-loop-number l = record {
+  named : (c : Cluster) → AreAsked c l.asked → map (λ s. s.now) l.found.items ≡ sessions_named c l.only l.sessions (take l.number l.pids);
+  none_missing : first_missing (pids_of l.sessions) (take l.number l.pids) ≡ None;
+}
