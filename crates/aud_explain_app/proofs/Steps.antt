@@ -1,8 +1,8 @@
 -- What loops do, one step more.
-use Rattle.std.proofs.Common.{◌≡◌, ◌<◌, ◌+◌, ◌-◌, ◌++◌, ◌&&◌, ◌||◌, ℕ, zero, suc, Bool, true, false, not, cond, if◌then◌else◌, List, [], ◌∷◌, length, take, get_or, flat_map, map, Option, Some, option_to_list, slice_get, bytes_eq, refl, sym, ap, subst, ◌∙◌, append_assoc, append-nil, arith}
-use Rattle.std.specs.List.{All}
+use Rattle.std.proofs.Common.{◌≡◌, ◌<◌, ◌≤◌, ◌+◌, ◌-◌, ◌++◌, ◌&&◌, ◌||◌, ℕ, zero, suc, Bool, true, false, not, cond, if◌then◌else◌, List, [], ◌∷◌, length, take, drop, get_or, flat_map, map, Option, Some, option_to_list, slice_get, bytes_eq, refl, sym, ap, subst, ◌∙◌, append_assoc, append-nil, arith}
+use Rattle.std.specs.List.{AllZip}
 use Rattle.std.proofs.lemmas.List.Folds.{list_any-append}
-use Rattle.std.proofs.lemmas.List.{take_more, map-append}
+use Rattle.std.proofs.lemmas.List.{drop-drop, length-take-le, map-append, take-append-drop, take_more, take_rest}
 use Rattle.std.proofs.lemmas.List.Elements.{All-append}
 use Rattle.std.proofs.lemmas.Grind.{flat_map-append}
 use Rattle.aud_base.specs.declared.places.Places.{Places}
@@ -99,24 +99,64 @@ known_item old new xs i x h is was more =
     subst (λ ys. AreKnown new ys) (sym (take_more xs i x h))
     (known-more old new (take i xs) (get_or xs i x) was (subst (λ y. (q : Text) → places_of new q ≡ noted 0 (bytes_eq y.pid q) (places_of old q)) is more))
 
--- the text of one session more
-texts_more : (c : Cluster) (lines : List TapLines) (form : Form) (xs : List SessionVerdict) (x : SessionVerdict) (a b e : List ℕ)
-    → AddTexts c lines form xs a b → AddsText c lines form x b e → AddTexts c lines form (xs ++ x ∷ []) a e
-texts_more c lines form xs x a b e was more =
+-- ---- texts
+
+-- what code reads of a list from a place on
+abbrev from : {X : Type 0} → List X → ℕ → List X
+from xs i = take (length xs - i) (drop i xs)
+
+-- the texts of sessions, and then those of others
+texts_joined : (c : Cluster) (lines : List TapLines) (form : Form) (xs ys : List SessionVerdict) (a b e : List ℕ)
+    → AddTexts c lines form xs a b → AddTexts c lines form ys b e → AddTexts c lines form (xs ++ ys) a e
+texts_joined c lines form xs ys a b e first next =
     let one : List ℕ → List ℕ = λ text. text in
     record {
-      texts = was.texts ++ more.text ∷ [];
-      are_texts = zip_append (IsTextOf c lines form) xs was.texts (x ∷ []) (more.text ∷ []) was.are_texts (more.is_text, tt);
-      added = more.added ∙ ap (λ t. t ++ more.text) was.added ∙ append_assoc a (flat_map one was.texts) more.text
-          ∙ ap (λ t. a ++ t) (ap (λ t. flat_map one was.texts ++ t) (sym (append-nil more.text)) ∙ sym (flat_map-append one was.texts (more.text ∷ [])));
+      texts = first.texts ++ next.texts;
+      are_texts = zip_append (IsTextOf c lines form) xs first.texts ys next.texts first.are_texts next.are_texts;
+      added = next.added ∙ ap (λ t. t ++ flat_map one next.texts) first.added ∙ append_assoc a (flat_map one first.texts) (flat_map one next.texts)
+          ∙ ap (λ t. a ++ t) (sym (flat_map-append one first.texts next.texts));
     }
 
--- the same in a loop
-pub texts_item : {X : Type 0} (c : Cluster) (lines : List TapLines) (form : Form) (f : X → SessionVerdict) (xs : List X) (i : ℕ) (x : X) (a b e : List ℕ) → i < length xs
-    → x ≡ get_or xs i x → AddTexts c lines form (map f (take i xs)) a b → AddsText c lines form (f x) b e → AddTexts c lines form (map f (take (i + 1) xs)) a e
-texts_item c lines form f xs i x a b e h is was more =
-    subst (λ ys. AddTexts c lines form ys a e) (sym (ap (map f) (take_more xs i x h) ∙ map-append f (take i xs) (get_or xs i x ∷ [])))
-    (texts_more c lines form (map f (take i xs)) (f (get_or xs i x)) a b e was (subst (λ y. AddsText c lines form (f y) b e) is more))
+-- a list from a place on is its next part, and what comes after that
+part_of : {X : Type 0} (xs : List X) (i k : ℕ) → k ≤ length (from xs i) → take k (from xs i) ++ drop (i + length (take k (from xs i))) xs ≡ drop i xs
+part_of xs i k h =
+    let rest = take_rest xs i in
+    let others = ap (λ n. drop (i + n) xs) (length-take-le k (from xs i) h) ∙ sym (drop-drop k i xs) ∙ ap (drop k) (sym rest) in
+    ap (λ ys. take k (from xs i) ++ ys) others ∙ take-append-drop k (from xs i) ∙ rest
+
+-- the texts of the next part of a list, and then those of what comes after it
+pub texts_part : {X : Type 0} (c : Cluster) (lines : List TapLines) (form : Form) (f : X → SessionVerdict) (xs : List X) (i k : ℕ) (a b e : List ℕ) → k ≤ length (from xs i)
+    → AddTexts c lines form (map f (take k (from xs i))) a b → AddTexts c lines form (map f (drop (i + length (take k (from xs i))) xs)) b e
+    → AddTexts c lines form (map f (drop i xs)) a e
+texts_part c lines form f xs i k a b e h first next =
+    let part = take k (from xs i) in
+    let others = drop (i + length part) xs in
+    subst (λ ys. AddTexts c lines form ys a e) (sym (map-append f part others) ∙ ap (map f) (part_of xs i k h))
+    (texts_joined c lines form (map f part) (map f others) a b e first next)
+
+-- no texts
+pub texts_none : {X : Type 0} (c : Cluster) (lines : List TapLines) (form : Form) (f : X → SessionVerdict) (xs : List X) (a : List ℕ) → xs ≡ [] → AddTexts c lines form (map f xs) a a
+texts_none c lines form f xs a is =
+    subst (λ ys. AddTexts c lines form (map f ys) a a) (sym is) (record { texts = []; are_texts = tt; added = sym (append-nil a) })
+
+module _ {X T : Type 0} (c : Cluster) (lines : List TapLines) (form : Form) (f : X → SessionVerdict) (g : T → List ℕ) where
+  -- a text for each session, made apart from the others
+  abbrev AreMade : List X → List T → Type 0
+  AreMade = AllZip (λ x t. AddsText c lines form (f x) [] (g t))
+
+  each_text : (xs : List X) (ts : List T) → AreMade xs ts → AllZip (IsTextOf c lines form) (map f xs) (map g ts)
+  each_text [] [] h = tt
+  each_text [] (t ∷ ts) h = absurd h
+  each_text (x ∷ xs) [] h = absurd h
+  each_text (x ∷ xs) (t ∷ ts) h = (subst (IsTextOf c lines form (f x)) (sym h.0.added) h.0.is_text, each_text xs ts h.1)
+
+  all_texts : (ts : List T) → flat_map g ts ≡ flat_map (λ text. text) (map g ts)
+  all_texts [] = refl
+  all_texts (t ∷ ts) = ap (λ more. g t ++ more) (all_texts ts)
+
+  -- they are put one after the other
+  pub texts_put : (xs : List X) (ts : List T) (a b : List ℕ) → AreMade xs ts → b ≡ a ++ flat_map g ts → AddTexts c lines form (map f xs) a b
+  texts_put xs ts a b made put = record { texts = map g ts; are_texts = each_text xs ts made; added = put ∙ ap (λ t. a ++ t) (all_texts ts) }
 
 -- the text of a session by its pid and its refused recoveries
 pub adds_text : (c : Cluster) (lines : List TapLines) (form : Form) (session : SessionVerdict) (pid : Text) (refused : List Recovery) (old new : List ℕ) → pid ≡ session.pid

@@ -222,6 +222,8 @@ fn told<H: Threads + Sync>(
     let prepared = prepared_for(rt, alloc, threads, sheet.recording, asked, &shown)?;
     let form = form_of(options);
     let mut out = String::new(alloc);
-    push_sessions(alloc, &mut out, form, sheet, &prepared, asked, &shown)?;
+    push_sessions(
+        rt, alloc, threads, &mut out, form, sheet, &prepared, asked, &shown,
+    )?;
     Ok(out)
 }

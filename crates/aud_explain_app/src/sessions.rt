@@ -1,20 +1,29 @@
 //! The explanations of sessions.
-ghost use Rattle.std.specs.Prelude.{OnOk, map, string_bytes};
+ghost use Rattle.std.specs.Prelude.{◌≡◌, ◌++◌, [], IfOk, OnOk, flat_map, map, string_bytes};
+ghost use Rattle.std.specs.List.{AllZip};
 ghost use Rattle.aud_recording_faults.specs.Prepared.{IsPreparedOf};
 ghost use Rattle.aud_explain_app.specs.Asked.{AreAsked};
 ghost use Rattle.aud_explain_app.specs.Texts.{AddTexts, AddsFor, AddsText};
 
 use crate::asked::Asked;
 use aud_explained::{Form, explained_of, push_explained};
+use aud_parallel::try_map;
 use aud_recording_faults::Prepared;
 use aud_recoveries::Recovery;
 use aud_report::{SessionVerdict, Verdict};
 use aud_rows::Sheet;
 use std::alloc::{AllocError, Global};
+use std::thread::Threads;
 
-/// Writes the explanations of these sessions at the end.
-pub(crate) fn push_sessions(
+/// How many sessions' texts are held beside the output at most.
+const PART: usize = 1024;
+
+/// Writes the explanations of these sessions at the end, one after the other. They are made in parts, each shared out among
+/// at most so many threads.
+pub(crate) fn push_sessions<H: Threads + Sync>(
+    rt: &H,
     alloc: Global,
+    threads: usize,
     out: &mut String,
     form: Form,
     sheet: Sheet<'_, '_>,
@@ -26,10 +35,90 @@ pub(crate) fn push_sessions(
     requires asked { AreAsked sheet.recording.now asked.now }
     ensures { OnOk result (AddTexts sheet.entry.recording.now sheet.entry.lines.now form (map (λ s. s.now) sessions.now) (string_bytes out.old) (string_bytes out.new)) }
 {
-    for session in sessions {
-        push_session(alloc, out, form, sheet, prepared, asked, session)?;
+    let mut done = 0;
+    while done < sessions.len() {
+        let rest = &sessions[done..];
+        let part = &rest[..rest.len().min(PART)];
+        push_part(rt, alloc, threads, out, form, sheet, prepared, asked, part)?;
+        done += part.len();
     }
     Ok(())
+}
+
+/// Writes those of a part of them at the end.
+fn push_part<H: Threads + Sync>(
+    rt: &H,
+    alloc: Global,
+    threads: usize,
+    out: &mut String,
+    form: Form,
+    sheet: Sheet<'_, '_>,
+    prepared: &Prepared,
+    asked: &Asked,
+    sessions: &[&SessionVerdict],
+) -> Result<(), AllocError>
+    requires prepared { IsPreparedOf sheet.recording.now prepared.now }
+    requires asked { AreAsked sheet.recording.now asked.now }
+    ensures { OnOk result (AddTexts sheet.entry.recording.now sheet.entry.lines.now form (map (λ s. s.now) sessions.now) (string_bytes out.old) (string_bytes out.new)) }
+{
+    let texts = texts_of(rt, alloc, threads, form, sheet, prepared, asked, sessions)?;
+    push_all(out, &texts)
+}
+
+/// Writes the texts at the end, one after the other.
+fn push_all(out: &mut String, texts: &[String]) -> Result<(), AllocError>
+    ensures { OnOk result (string_bytes out.new ≡ string_bytes out.old ++ flat_map string_bytes texts.now) }
+{
+    for text in texts {
+        out.push_str(text.as_str())?;
+    }
+    Ok(())
+}
+
+/// The explanation of each of these sessions, in their order.
+fn texts_of<H: Threads + Sync>(
+    rt: &H,
+    alloc: Global,
+    threads: usize,
+    form: Form,
+    sheet: Sheet<'_, '_>,
+    prepared: &Prepared,
+    asked: &Asked,
+    sessions: &[&SessionVerdict],
+) -> Result<Vec<String>, AllocError>
+    requires prepared { IsPreparedOf sheet.recording.now prepared.now }
+    requires asked { AreAsked sheet.recording.now asked.now }
+    ensures { IfOk result (λ texts. AllZip (λ session text. AddsText sheet.entry.recording.now sheet.entry.lines.now form session.now [] (string_bytes text)) sessions.now texts.items) }
+{
+    try_map(
+        rt,
+        alloc,
+        threads,
+        sessions,
+        |session: &&SessionVerdict| -> Result<String, AllocError>
+            requires prepared { IsPreparedOf sheet.recording.now prepared.now }
+            requires asked { AreAsked sheet.recording.now asked.now }
+            ensures { IfOk result (λ text. AddsText sheet.entry.recording.now sheet.entry.lines.now form session.now.now [] (string_bytes text)) }
+        { text_of(alloc, form, sheet, prepared, asked, *session) },
+    )
+}
+
+/// The explanation of the session.
+fn text_of(
+    alloc: Global,
+    form: Form,
+    sheet: Sheet<'_, '_>,
+    prepared: &Prepared,
+    asked: &Asked,
+    session: &SessionVerdict,
+) -> Result<String, AllocError>
+    requires prepared { IsPreparedOf sheet.recording.now prepared.now }
+    requires asked { AreAsked sheet.recording.now asked.now }
+    ensures { IfOk result (λ text. AddsText sheet.entry.recording.now sheet.entry.lines.now form session.now [] (string_bytes text)) }
+{
+    let mut text = String::new(alloc);
+    push_session(alloc, &mut text, form, sheet, prepared, asked, session)?;
+    Ok(text)
 }
 
 /// Writes that of the session at the end.
