@@ -1,7 +1,10 @@
 //! Tests of what `explain` writes: for each fault the explanation of a session that has it, which sessions are shown, how a
-//! run ends, and what is said of a refused line. Each is a row of a table: words, a bundle, and the text of the answer.
+//! run ends, and what is said of a refused line. Each is a row of a table: words, a bundle, and the text of the answer. One
+//! is made by the calls below `explain` too.
 #![tactic(auto)]
 
+#[cfg(test)]
+mod calls;
 #[cfg(test)]
 mod choices;
 #[cfg(test)]

@@ -35,6 +35,25 @@ c1 {"k":"in","t":"40{\"sid\":\"s1\",\"pid\":\"P\"}"}
 c1 {"k":"in","t":"42[\"hi\",\"3-0\"]"}
 "#;
 
+/// What is told of its session.
+pub const DOUBLED_TEXT: &str = r#"no P DOUBLED 3-0 [delivery]
+client c1, namespace /, connection 2, turns 2, got 4, due 3, differs at frame 4
+    line tap  record
+      12 a    break 0, cursor 3
+      17 b    back 1, cursor 2
+       4 st   entry 3 3-0  the entry
+      24 c1   conn 1 got 3 3-0  earlier
+      27 c1   conn 2 asks P after 3-0
+      29 c1   conn 2 got 3 3-0  <- again
+    turn 0  a  7 open, cursor 0 == take 1-3 == 12 break, cursor 3
+    turn 1  b  17 back, cursor 2 == take 3 == 18 log ends, cursor 3
+    client  21 reply  22-24 got 1-3  25 lost  27 asks after 3  28 reply  29 got 3
+cause node-behind-break (certain, lines 12 17): b took the session back with its cursor at 2; the
+        break was at 3.
+do: let the restore wait until the cursor is at the break's, or drop what the client has.
+
+"#;
+
 /// The same of three entries.
 const BEHIND: &str = r#"st {"k":"tap","v":1,"of":"stream"}
 st {"k":"ev","off":"1795330264875-0","nsp":"/","text":"2[\"zero\",\"1795330264875-0\"]"}
@@ -80,23 +99,7 @@ static ROWS: [Row; 2] = [
     Row {
         words: &["explain"],
         bundle: DOUBLED,
-        text: r#"no P DOUBLED 3-0 [delivery]
-client c1, namespace /, connection 2, turns 2, got 4, due 3, differs at frame 4
-    line tap  record
-      12 a    break 0, cursor 3
-      17 b    back 1, cursor 2
-       4 st   entry 3 3-0  the entry
-      24 c1   conn 1 got 3 3-0  earlier
-      27 c1   conn 2 asks P after 3-0
-      29 c1   conn 2 got 3 3-0  <- again
-    turn 0  a  7 open, cursor 0 == take 1-3 == 12 break, cursor 3
-    turn 1  b  17 back, cursor 2 == take 3 == 18 log ends, cursor 3
-    client  21 reply  22-24 got 1-3  25 lost  27 asks after 3  28 reply  29 got 3
-cause node-behind-break (certain, lines 12 17): b took the session back with its cursor at 2; the
-        break was at 3.
-do: let the restore wait until the cursor is at the break's, or drop what the client has.
-
-"#,
+        text: DOUBLED_TEXT,
         after: "sessions: ",
         status: Status::SomeNo,
     },
