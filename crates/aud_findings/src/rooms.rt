@@ -204,7 +204,7 @@ fn left_between(
     None
 }
 
-/// The end of the turn in which the position was reached: behind the turn's last record.
+/// The end of the turn in which the position was reached: after the turn's last record.
 fn turn_end(logs: &Logs<'_>, turns: &[Turn<'_>], reach: Reach) -> Option<Reach>
     ensures { result ≡ turn_end (map (turn_at logs.now) turns.now) reach }
 {
