@@ -6,15 +6,21 @@ use Rattle.aud_tap.specs.declared.records.ClientRec.TheVariants.{TextIn}
 use Rattle.aud_tap.specs.declared.records.NodeRec.TheVariants as node
 use Rattle.aud_tap.specs.declared.records.Rec.TheVariants as rec
 use Rattle.aud_sim.specs.declared.act.Act.{Act}
-use Rattle.aud_sim.specs.declared.act.Act.TheVariants.{Emit, Volatile, Take, Connect, Join, Leave, Cut, Recover, RecoverLagging, Finish, DropNext, DoubleNext, HoldNext, AlterNext}
+use Rattle.aud_sim.specs.declared.act.Act.TheVariants.{Emit, Volatile, Take, Connect, ConnectUnanswered, ConnectMisnamed, Join, Leave, Cut, Recover, RecoverLagging, RecoverUnknown, Finish, DropNext, DoubleNext, HoldNext, AlterNext, GarbleNext, LoseLine, RepeatLine}
+use Rattle.aud_sim.specs.declared.bundle.LogFault.{LogFault}
+use Rattle.aud_sim.specs.declared.bundle.LogFault.TheVariants as log
 use Rattle.aud_sim.specs.declared.client.At.{At}
 use Rattle.aud_sim.specs.declared.client.At.TheVariants as at
 use Rattle.aud_sim.specs.declared.client.Injected.{Injected}
 use Rattle.aud_sim.specs.declared.client.Injected.TheVariants as injected
+use Rattle.aud_sim.specs.declared.client.Reply.{Reply}
+use Rattle.aud_sim.specs.declared.client.Reply.TheVariants as reply
+use Rattle.aud_sim.specs.declared.client.Asked.{Asked}
+use Rattle.aud_sim.specs.declared.client.Asked.TheVariants as asked
 use Rattle.aud_sim.specs.declared.client.Session.{Session}
 use Rattle.aud_sim.specs.declared.client.Client.{Client}
 use Rattle.aud_sim.specs.declared.entry.Entry.{Entry}
-use Rattle.aud_sim.specs.Bundle.{Lines, with_line}
+use Rattle.aud_sim.specs.Bundle.{Lines, with_line, with_log_fault}
 use Rattle.aud_sim.specs.Clients.{next_number}
 use Rattle.aud_sim.specs.Cluster.{State}
 use Rattle.aud_sim.specs.Delivery.{Sent, replayed, sent_to_guests}
@@ -66,9 +72,9 @@ took_and_sent index s = let s' = taken index s in option_map_or (λ n. sent_by n
 -- ---- sessions
 
 -- the client opens this session on the node: `open`, `conn`, the reply
-abbrev pub lines_opened : Client → NodeState → Session → Lines → Lines
-lines_opened client n session lines =
-    with_reply client.name session (with_connection client.name (next_number client.connections) (with_opened n.name session lines))
+abbrev pub lines_opened : Reply → Client → NodeState → Session → Lines → Lines
+lines_opened reply client n session lines =
+    with_reply reply client.name session (with_connection client.name (next_number client.connections) (with_opened n.name session lines))
 
 abbrev pub client_opened : Session → Client → Client
 client_opened session client = record client { connections = next_number client.connections; session = Some session }
@@ -78,8 +84,8 @@ abbrev pub node_joined : ℕ → ℕ → NodeState → NodeState
 node_joined session client n = record n { guests = with_guest (record { session = session; client = client }) n.guests }
 
 -- the lines where a client opens this session on a node, if there is such a node
-abbrev pub lines_connected : Option NodeState → Session → Client → Lines → Lines
-lines_connected host session client lines = option_map_or (λ n. lines_opened client n session lines) host lines
+abbrev pub lines_connected : Reply → Option NodeState → Session → Client → Lines → Lines
+lines_connected reply host session client lines = option_map_or (λ n. lines_opened reply client n session lines) host lines
 
 -- the client then
 abbrev pub client_connected_to : Option NodeState → Session → Client → Client
@@ -89,12 +95,12 @@ client_connected_to host session client = option_map_or (λ n. client_opened ses
 abbrev pub nodes_joined : ℕ → ℕ → ℕ → List NodeState → List NodeState
 nodes_joined session client index nodes = option_map_or (λ n. slice_set nodes index (node_joined session client n)) (slice_get nodes index) nodes
 
--- the client with an index opens the next session on the node with an index
-abbrev pub connected : ℕ → ℕ → State → State
-connected client index s =
+-- the client with an index opens the next session on the node with an index, and is told this of it
+abbrev pub connected : Reply → ℕ → ℕ → State → State
+connected reply client index s =
     let number = next_number s.sessions in
     option_map_or (λ c. record s {
-      lines = lines_connected (slice_get s.nodes index) (first_session number index) c s.lines;
+      lines = lines_connected reply (slice_get s.nodes index) (first_session number index) c s.lines;
       nodes = nodes_joined number client index s.nodes;
       clients = slice_set s.clients client (client_connected_to (slice_get s.nodes index) (first_session number index) c);
       sessions = number;
@@ -103,9 +109,9 @@ connected client index s =
 -- ---- recoveries
 
 -- `conn`, `out`, `back`; the session that comes back is the one after the break
-abbrev pub lines_asked : Client → NodeState → Session → Lines → Lines
-lines_asked client n session lines =
-    with_line n.name (rec.Node (node.Back session.pid session.turn)) (with_asking client.name session (with_connection client.name (next_number client.connections) lines))
+abbrev pub lines_asked : Asked → Client → NodeState → Session → Lines → Lines
+lines_asked asked client n session lines =
+    with_line n.name (rec.Node (node.Back session.pid session.turn)) (with_asking asked client.name session (with_connection client.name (next_number client.connections) lines))
 
 -- the cursor of the break
 abbrev pub break_cursor : At → NodeState → ℕ
@@ -117,17 +123,17 @@ client_back client session = record client { connections = next_number client.co
 
 -- the reply, after the replayed frames
 abbrev pub replied : Sent → Lines
-replied sent = option_map_or (λ (session : Session). with_reply sent.client.name session sent.lines) sent.client.session sent.lines
+replied sent = option_map_or (λ (session : Session). with_reply reply.Own sent.client.name session sent.lines) sent.client.session sent.lines
 
 -- the entries past the cursor of the break up to the node's that are addressed to the session are replayed
-abbrev pub replay : List Entry → Client → NodeState → Session → Session → Lines → Sent
-replay entries client n before back lines =
-    replayed entries (break_cursor before.at n) (n.cursor - break_cursor before.at n) (record { lines = lines_asked client n back lines; client = client_back client back })
+abbrev pub replay : Asked → List Entry → Client → NodeState → Session → Session → Lines → Sent
+replay asked entries client n before back lines =
+    replayed entries (break_cursor before.at n) (n.cursor - break_cursor before.at n) (record { lines = lines_asked asked client n back lines; client = client_back client back })
 
 -- the session of the client, if it has one, is recovered on the node with an index
-abbrev pub recovered_on : List Entry → ℕ → NodeState → Client → Lines → Sent
-recovered_on entries index n client lines = option_map_or
-    (λ session. replay entries client n session (session_back index session) lines)
+abbrev pub recovered_on : Asked → List Entry → ℕ → NodeState → Client → Lines → Sent
+recovered_on asked entries index n client lines = option_map_or
+    (λ session. replay asked entries client n session (session_back index session) lines)
     client.session (record { lines = lines; client = client })
 
 -- the node then
@@ -135,23 +141,23 @@ abbrev pub node_recovered : ℕ → Client → NodeState → NodeState
 node_recovered client_index client n = option_map_or (λ (session : Session). node_joined session.number client_index n) client.session n
 
 -- the lines where it is recovered, if there is such a node
-abbrev pub lines_recovered : List Entry → ℕ → List NodeState → Client → Lines → Lines
-lines_recovered entries index nodes client lines = option_map_or (λ n. replied (recovered_on entries index n client lines)) (slice_get nodes index) lines
+abbrev pub lines_recovered : Asked → List Entry → ℕ → List NodeState → Client → Lines → Lines
+lines_recovered asked entries index nodes client lines = option_map_or (λ n. replied (recovered_on asked entries index n client lines)) (slice_get nodes index) lines
 
 -- the client then
-abbrev pub client_recovered : List Entry → ℕ → List NodeState → Client → Lines → Client
-client_recovered entries index nodes client lines = option_map_or (λ n. (recovered_on entries index n client lines).client) (slice_get nodes index) client
+abbrev pub client_recovered : Asked → List Entry → ℕ → List NodeState → Client → Lines → Client
+client_recovered asked entries index nodes client lines = option_map_or (λ n. (recovered_on asked entries index n client lines).client) (slice_get nodes index) client
 
 -- the nodes then
 abbrev pub nodes_recovered : ℕ → ℕ → Client → List NodeState → List NodeState
 nodes_recovered client_index index client nodes = option_map_or (λ n. slice_set nodes index (node_recovered client_index client n)) (slice_get nodes index) nodes
 
--- the session of the client with an index is recovered on the node with an index
-abbrev pub recovered : ℕ → ℕ → State → State
-recovered client index s = option_map_or (λ c. record s {
-  lines = lines_recovered s.entries index s.nodes c s.lines;
+-- the session of the client with an index, which asks so, is recovered on the node with an index
+abbrev pub recovered : Asked → ℕ → ℕ → State → State
+recovered asked client index s = option_map_or (λ c. record s {
+  lines = lines_recovered asked s.entries index s.nodes c s.lines;
   nodes = nodes_recovered client index c s.nodes;
-  clients = slice_set s.clients client (client_recovered s.entries index s.nodes c s.lines);
+  clients = slice_set s.clients client (client_recovered asked s.entries index s.nodes c s.lines);
 }) (slice_get s.clients client) s
 
 -- ---- one client alone
@@ -216,20 +222,38 @@ client_injected fault client = record client { injected = fault }
 abbrev pub injected_in : ℕ → Injected → State → State
 injected_in index fault s = for_client index (λ c s. with_client index (client_injected fault c) s.nodes s.lines s) s
 
+-- ---- the nodes' logs
+
+-- a fault waits for the next line of a node's log
+abbrev pub spoilt : LogFault → State → State
+spoilt fault s = record s { lines = with_log_fault fault s.lines }
+
 -- ---- the table
 
+-- a fault waits, where the act says so
+abbrev pub awaited : Act → State → State
+awaited (DropNext client) s = injected_in (client - 1) injected.DropNext s
+awaited (DoubleNext client) s = injected_in (client - 1) injected.DoubleNext s
+awaited (HoldNext client) s = injected_in (client - 1) injected.HoldNext s
+awaited (AlterNext client) s = injected_in (client - 1) injected.AlterNext s
+awaited (GarbleNext client) s = injected_in (client - 1) injected.GarbleNext s
+awaited LoseLine s = spoilt log.LoseLine s
+awaited RepeatLine s = spoilt log.RepeatLine s
+awaited act s = s
+
+-- the state after an act: what it does at once, or that a fault waits
 abbrev pub after : Act → State → State
 after (Emit rooms except word bin) s = emitted rooms except word bin s
 after (Volatile client word) s = volatile_sent (client - 1) word s
 after (Take n) s = took_and_sent (n - 1) s
-after (Connect client n) s = connected (client - 1) (n - 1) s
+after (Connect client n) s = connected reply.Own (client - 1) (n - 1) s
+after (ConnectUnanswered client n) s = connected reply.Missing (client - 1) (n - 1) s
+after (ConnectMisnamed client n) s = connected reply.OtherSid (client - 1) (n - 1) s
 after (Join client room) s = joined (client - 1) room s
 after (Leave client room) s = parted (client - 1) room s
 after (Cut client) s = cut (client - 1) s
-after (Recover client n) s = recovered (client - 1) (n - 1) s
-after (RecoverLagging client n) s = recovered (client - 1) (n - 1) s
+after (Recover client n) s = recovered asked.LastReceived (client - 1) (n - 1) s
+after (RecoverLagging client n) s = recovered asked.LastReceived (client - 1) (n - 1) s
+after (RecoverUnknown client n) s = recovered asked.Unknown (client - 1) (n - 1) s
 after (Finish client) s = finished (client - 1) s
-after (DropNext client) s = injected_in (client - 1) injected.DropNext s
-after (DoubleNext client) s = injected_in (client - 1) injected.DoubleNext s
-after (HoldNext client) s = injected_in (client - 1) injected.HoldNext s
-after (AlterNext client) s = injected_in (client - 1) injected.AlterNext s
+after act s = awaited act s

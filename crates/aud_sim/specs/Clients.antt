@@ -5,7 +5,7 @@ use Rattle.aud_tap.specs.declared.records.Rec.TheVariants as rec
 use Rattle.aud_rooms.specs.Rooms.{is_addressed}
 use Rattle.aud_sim.specs.declared.entry.Entry.{Entry}
 use Rattle.aud_sim.specs.declared.client.Injected.{Injected}
-use Rattle.aud_sim.specs.declared.client.Injected.TheVariants.{Nothing, DropNext, DoubleNext, HoldNext, AlterNext, Holds}
+use Rattle.aud_sim.specs.declared.client.Injected.TheVariants.{Nothing, DropNext, DoubleNext, HoldNext, AlterNext, GarbleNext, Holds}
 use Rattle.aud_sim.specs.declared.client.Session.{Session}
 use Rattle.aud_sim.specs.declared.client.Client.{Client}
 use Rattle.aud_sim.specs.Bundle.{Lines, with_line}
@@ -31,6 +31,10 @@ with_own_frame name entry lines = with_frame name entry.frame (attachments_of en
 abbrev pub with_altered_frame : List ℕ → Entry → Lines → Lines
 with_altered_frame name entry lines = with_frame name entry.altered (attachments_of entry.event) lines
 
+-- the frame of an entry, as no packet
+abbrev pub with_garbled_frame : List ℕ → Entry → Lines → Lines
+with_garbled_frame name entry lines = with_frame name entry.garbled (attachments_of entry.event) lines
+
 -- the frame of the entry at a position
 abbrev pub with_held_frame : List ℕ → Option Entry → Lines → Lines
 with_held_frame name None lines = lines
@@ -43,6 +47,7 @@ with_sent name entries DropNext entry lines = lines
 with_sent name entries DoubleNext entry lines = with_own_frame name entry (with_own_frame name entry lines)
 with_sent name entries HoldNext entry lines = lines
 with_sent name entries AlterNext entry lines = with_altered_frame name entry lines
+with_sent name entries GarbleNext entry lines = with_garbled_frame name entry lines
 with_sent name entries (Holds position) entry lines = with_held_frame name (entry_at entries position) (with_own_frame name entry lines)
 
 -- ---- what is left of the fault, and the last offset received
@@ -56,6 +61,7 @@ fault_after fault position = Nothing
 abbrev pub last_after : Injected → ℕ → Option ℕ → Option ℕ
 last_after DropNext position last = last
 last_after HoldNext position last = last
+last_after GarbleNext position last = last
 last_after (Holds held) position last = Some held
 last_after fault position last = Some position
 

@@ -1,5 +1,5 @@
 -- The state of a simulated cluster.
-use Rattle.std.specs.Prelude.{ℕ, zero, suc, List, [], ◌∷◌, ◌++◌, None, true, codes}
+use Rattle.std.specs.Prelude.{ℕ, zero, suc, List, [], ◌∷◌, ◌++◌, None, codes}
 use Rattle.aud_tap.specs.declared.records.TapKind.{TapKind}
 use Rattle.aud_tap.specs.declared.records.TapKind.TheVariants as of
 use Rattle.aud_tap.specs.declared.records.NodeRec.TheVariants.{Start}
@@ -9,7 +9,7 @@ use Rattle.aud_sim.specs.declared.client.Client.{Client}
 use Rattle.aud_sim.specs.declared.client.Injected.TheVariants.{Nothing}
 use Rattle.aud_sim.specs.declared.cluster.Cluster.{Cluster}
 use Rattle.aud_sim.specs.declared.entry.Entry.{Entry}
-use Rattle.aud_sim.specs.Bundle.{Lines, with_line}
+use Rattle.aud_sim.specs.Bundle.{Lines, no_lines, with_line}
 use Rattle.aud_sim.specs.Nodes.{NodeState}
 use Rattle.aud_sim.specs.Texts.{name_of, stream_name}
 
@@ -65,7 +65,7 @@ with_starts (node ∷ nodes) lines = with_starts nodes (with_line node.name (rec
 -- all headers, and then the start of each node
 abbrev pub first_lines : List NodeState → List Client → Lines
 first_lines nodes clients =
-    with_starts nodes (with_client_headers clients (with_node_headers nodes (with_header of.Stream stream_name (record { text = []; is_whole = true }))))
+    with_starts nodes (with_client_headers clients (with_node_headers nodes (with_header of.Stream stream_name no_lines)))
 
 -- so many nodes and clients, before the first act
 abbrev pub first_state : ℕ → ℕ → State

@@ -4,7 +4,7 @@ use Rattle.aud_tap.specs.declared.records.Event.{Event}
 use Rattle.aud_tap.specs.declared.records.StreamRec.{StreamRec}
 use Rattle.aud_tap.specs.declared.records.StreamRec.TheVariants.{Ev, Other}
 use Rattle.aud_sim.specs.declared.entry.Entry.{Entry}
-use Rattle.aud_sim.specs.Texts.{offset_at, main_namespace, event_text, message}
+use Rattle.aud_sim.specs.Texts.{offset_at, main_namespace, event_text, message, garbled_message}
 
 -- the event that an emit at a position makes: everyone's namespace, its offset last in its text
 abbrev pub event_of : List (List ℕ) → List (List ℕ) → List ℕ → List (List ℕ) → ℕ → Event
@@ -17,12 +17,13 @@ event_of rooms except word bin position = record {
   bin = bin;
 }
 
--- the entry, its frame, and the frame with `x` at the end of its word
+-- the entry, its frame, the frame with `x` at the end of its word, and the frame with `x` in place of its digit
 abbrev pub entry_of : List (List ℕ) → List (List ℕ) → List ℕ → List (List ℕ) → ℕ → Entry
 entry_of rooms except word bin position = record {
   event = Ev (event_of rooms except word bin position);
   frame = message (event_text word (length bin) position);
   altered = message (event_text (word ++ codes "x") (length bin) position);
+  garbled = garbled_message (event_text word (length bin) position);
 }
 
 -- the attachments of an entry

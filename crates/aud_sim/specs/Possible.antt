@@ -5,13 +5,14 @@ use Rattle.std.specs.Option.{option_map_or}
 use Rattle.aud_tap.specs.Limits.{max_turn}
 use Rattle.aud_reader.specs.Bundle.{max_entries, max_pids}
 use Rattle.aud_sim.specs.declared.act.Act.{Act}
-use Rattle.aud_sim.specs.declared.act.Act.TheVariants.{Emit, Volatile, Take, Connect, Join, Leave, Cut, Recover, RecoverLagging, Finish, DropNext, DoubleNext, HoldNext, AlterNext}
+use Rattle.aud_sim.specs.declared.act.Act.TheVariants.{Emit, Volatile, Take, Connect, ConnectUnanswered, ConnectMisnamed, Join, Leave, Cut, Recover, RecoverLagging, RecoverUnknown, Finish, DropNext, DoubleNext, HoldNext, AlterNext, GarbleNext, LoseLine, RepeatLine}
 use Rattle.aud_sim.specs.declared.client.At.{At}
 use Rattle.aud_sim.specs.declared.client.At.TheVariants as at
 use Rattle.aud_sim.specs.declared.client.Injected.{Injected}
 use Rattle.aud_sim.specs.declared.client.Injected.TheVariants as injected
 use Rattle.aud_sim.specs.declared.client.Session.{Session}
 use Rattle.aud_sim.specs.declared.client.Client.{Client}
+use Rattle.aud_sim.specs.Bundle.{is_sound}
 use Rattle.aud_sim.specs.Cluster.{State}
 use Rattle.aud_sim.specs.Nodes.{NodeState}
 
@@ -79,19 +80,29 @@ can_recover_lagging s client node = option_map_or (λ cursor. option_map_or (λ 
 abbrev pub can_take : State → ℕ → Bool
 can_take s node = option_map_or (λ (n : NodeState). nat_lt n.cursor (length s.entries)) (numbered s.nodes node) false
 
+-- there is such a client, without a connection, and such a node, and a session more may be opened
+abbrev pub can_connect : State → ℕ → ℕ → Bool
+can_connect s client node = is_unconnected s.clients client && is_some (numbered s.nodes node) && nat_lt s.sessions max_pids
+
 -- the state allows the act
 abbrev pub can : Act → State → Bool
 can (Emit rooms except word bin) s = is_word word && nat_lt (length s.entries) max_entries
 can (Volatile client word) s = is_word word && is_connected s.clients client
 can (Take node) s = can_take s node
-can (Connect client node) s = is_unconnected s.clients client && is_some (numbered s.nodes node) && nat_lt s.sessions max_pids
+can (Connect client node) s = can_connect s client node
+can (ConnectUnanswered client node) s = can_connect s client node
+can (ConnectMisnamed client node) s = can_connect s client node
 can (Join client room) s = is_connected s.clients client
 can (Leave client room) s = is_connected s.clients client
 can (Cut client) s = is_connected s.clients client
 can (Recover client node) s = can_recover s client node
 can (RecoverLagging client node) s = can_recover_lagging s client node
+can (RecoverUnknown client node) s = can_recover s client node
 can (Finish client) s = is_connected s.clients client
 can (DropNext client) s = has_no_fault s.clients client
 can (DoubleNext client) s = has_no_fault s.clients client
 can (HoldNext client) s = has_no_fault s.clients client
 can (AlterNext client) s = has_no_fault s.clients client
+can (GarbleNext client) s = has_no_fault s.clients client
+can LoseLine s = is_sound s.lines.fault
+can RepeatLine s = is_sound s.lines.fault

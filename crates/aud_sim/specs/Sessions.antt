@@ -10,6 +10,10 @@ use Rattle.aud_rooms.specs.Rooms.{own_room}
 use Rattle.aud_sim.specs.declared.client.At.TheVariants as at
 use Rattle.aud_sim.specs.declared.client.Session.{Session}
 use Rattle.aud_sim.specs.declared.client.Client.{Client}
+use Rattle.aud_sim.specs.declared.client.Reply.{Reply}
+use Rattle.aud_sim.specs.declared.client.Reply.TheVariants.{Own, OtherSid, Missing}
+use Rattle.aud_sim.specs.declared.client.Asked.{Asked}
+use Rattle.aud_sim.specs.declared.client.Asked.TheVariants.{LastReceived, Unknown}
 use Rattle.aud_sim.specs.Bundle.{Lines, with_line}
 use Rattle.aud_sim.specs.Clients.{fault_after_connection, next_number, next_turn}
 use Rattle.aud_sim.specs.Nodes.{NodeState, place_after_break}
@@ -26,13 +30,25 @@ with_opened node session lines = with_line node (rec.Node (Opened session.pid se
 abbrev pub with_connection : List ℕ → ℕ → Lines → Lines
 with_connection client number lines = with_line client (rec.Client (Conn number)) lines
 
--- the server's CONNECT
-abbrev pub with_reply : List ℕ → Session → Lines → Lines
-with_reply client session lines = with_line client (rec.Client (TextIn (message (reply_text session.sid session.pid)))) lines
+-- the server's CONNECT, with this sid
+abbrev pub with_reply_of : List ℕ → List ℕ → Session → Lines → Lines
+with_reply_of client sid session lines = with_line client (rec.Client (TextIn (message (reply_text sid session.pid)))) lines
 
--- the client's CONNECT: it asks for its session, from the last offset that it received on
-abbrev pub with_asking : List ℕ → Session → Lines → Lines
-with_asking client session lines = option_map_or (λ last. with_line client (rec.Client (TextOut (message (asking_text session.pid last)))) lines) session.last lines
+-- the server's CONNECT, where there is one: with the session's sid, or with another
+abbrev pub with_reply : Reply → List ℕ → Session → Lines → Lines
+with_reply Own client session lines = with_reply_of client session.sid session lines
+with_reply OtherSid client session lines = with_reply_of client (name_of (codes "x") session.number) session lines
+with_reply Missing client session lines = lines
+
+-- the position of the entry after which the client asks to go on: of the last one whose offset it received, or 0, which no entry has
+abbrev pub asked_position : Asked → Option ℕ → Option ℕ
+asked_position LastReceived last = last
+asked_position Unknown last = Some 0
+
+-- the client's CONNECT: it asks for its session
+abbrev pub with_asking : Asked → List ℕ → Session → Lines → Lines
+with_asking asked client session lines =
+    option_map_or (λ position. with_line client (rec.Client (TextOut (message (asking_text session.pid position)))) lines) (asked_position asked session.last) lines
 
 -- a node's record, and then that the client's connection is lost
 abbrev pub with_departure : List ℕ → List ℕ → NodeRec → Lines → Lines

@@ -42,11 +42,11 @@ event_text word count position =
 abbrev pub volatile_text : List ℕ → List ℕ
 volatile_text word = codes "2[\"" ++ word ++ codes "\"]"
 
--- the server's CONNECT: the session's sid and pid
+-- the server's CONNECT: a sid and a pid
 abbrev pub reply_text : List ℕ → List ℕ → List ℕ
 reply_text sid pid = codes "0{\"sid\":\"" ++ sid ++ codes "\",\"pid\":\"" ++ pid ++ codes "\"}"
 
--- the client's CONNECT that asks for the session of a pid, from the last offset that it received on
+-- the client's CONNECT that asks for the session of a pid, from the offset at a position on
 abbrev pub asking_text : List ℕ → ℕ → List ℕ
 asking_text pid position = codes "0{\"pid\":\"" ++ pid ++ codes "\",\"offset\":\"" ++ offset_at position ++ codes "\"}"
 
@@ -55,3 +55,7 @@ asking_text pid position = codes "0{\"pid\":\"" ++ pid ++ codes "\",\"offset\":\
 -- a packet as a message: its type digit before it
 abbrev pub message : List ℕ → List ℕ
 message text = 52 ∷ text
+
+-- the same with `x` in place of the digit, which is no packet
+abbrev pub garbled_message : List ℕ → List ℕ
+garbled_message text = 120 ∷ text

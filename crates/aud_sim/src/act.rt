@@ -25,6 +25,16 @@ pub enum Act {
         client: usize,
         node: usize,
     },
+    /// The same, without a reply from the server.
+    ConnectUnanswered {
+        client: usize,
+        node: usize,
+    },
+    /// The same, with another sid in the reply.
+    ConnectMisnamed {
+        client: usize,
+        node: usize,
+    },
     /// The session of a connected client joins a room.
     Join {
         client: usize,
@@ -49,6 +59,11 @@ pub enum Act {
         client: usize,
         node: usize,
     },
+    /// As `Recover`, but the client asks with the offset `0-0`, which no entry has.
+    RecoverUnknown {
+        client: usize,
+        node: usize,
+    },
     /// The session of a connected client ends.
     Finish {
         client: usize,
@@ -69,4 +84,12 @@ pub enum Act {
     AlterNext {
         client: usize,
     },
+    /// The next frame of the client that carries an offset is written with `x` in place of Engine.IO's digit.
+    GarbleNext {
+        client: usize,
+    },
+    /// The next line of a node's log is not written.
+    LoseLine,
+    /// The next line of a node's log is written twice.
+    RepeatLine,
 }

@@ -1,7 +1,7 @@
 //! The text of a bundle, while it is written.
-ghost use Rattle.std.specs.Prelude.{◌≡◌, [], true, OnOk};
+ghost use Rattle.std.specs.Prelude.{◌≡◌, OnOk};
 ghost use Rattle.aud_tap.specs.declared.records.Rec.TheVariants.{Node, Client};
-ghost use Rattle.aud_sim.specs.Bundle.{with_line};
+ghost use Rattle.aud_sim.specs.Bundle.{no_lines, is_sound, with_log_fault, with_text, with_text_by, with_text_of, with_line};
 
 use aud_reader::ReadFault;
 use aud_tap::{ClientRec, NodeRec, Rec, is_tap_name};
@@ -9,12 +9,25 @@ use aud_writer::{is_well_formed, write_line};
 use std::alloc::{AllocError, Global};
 use std::marker::Model;
 
-/// The lines so far, and whether each line that was to be written could be a bundle's.
+/// A fault of the nodes' logs.
+#[derive(Clone, Copy, Drop)]
+pub enum LogFault {
+    /// None: lines are written as they are.
+    Nothing,
+    /// The next line is not written.
+    LoseLine,
+    /// The next line is written twice.
+    RepeatLine,
+}
+
+/// The lines so far, whether each line that was to be written could be a bundle's, and the fault that waits for the next
+/// line of a node's log.
 #[derive(Drop)]
 pub struct Bundle {
     alloc: Global,
     text: Vec<u8>,
     is_whole: bool,
+    fault: LogFault,
 }
 
 impl Model for Bundle {
@@ -22,18 +35,19 @@ impl Model for Bundle {
 
     ghost Value = { Lines };
 
-    ghost view = { λ b. record { text = b.text.items; is_whole = b.is_whole } };
+    ghost view = { λ b. record { text = b.text.items; is_whole = b.is_whole; fault = b.fault } };
 }
 
 impl Bundle {
     /// No line.
     pub fn new(alloc: Global) -> Bundle
-        ensures { result ≡ record { text = []; is_whole = true } }
+        ensures { result ≡ no_lines }
     {
         Bundle {
             alloc,
             text: Vec::new(alloc),
             is_whole: true,
+            fault: LogFault::Nothing,
         }
     }
 
@@ -56,8 +70,60 @@ impl Bundle {
         self.text
     }
 
-    /// Puts the line of a record at the end. One that can't be a bundle's is left out, and the text is not whole from
-    /// then on.
+    /// Whether no fault waits for the next line of a node's log.
+    pub fn is_sound(&self) -> bool
+        ensures { result ≡ is_sound self.now.fault }
+    {
+        match self.fault {
+            LogFault::Nothing => true,
+            _ => false,
+        }
+    }
+
+    /// The fault waits for the next line of a node's log.
+    pub fn spoil(&mut self, fault: LogFault)
+        ensures { self.new ≡ with_log_fault fault self.old }
+    {
+        self.fault = fault;
+    }
+
+    /// Puts a line of this text at the end.
+    fn push(&mut self, line: &[u8]) -> Result<(), AllocError>
+        ensures { OnOk result (self.new ≡ with_text line.now self.old) }
+    {
+        self.text.extend_from_slice(line)?;
+        self.text.push(b'\n')?;
+        Ok(())
+    }
+
+    /// Puts a line of a node's log with this fault at the end.
+    fn push_by(&mut self, fault: LogFault, line: &[u8]) -> Result<(), AllocError>
+        ensures { OnOk result (self.new ≡ with_text_by fault line.now self.old) }
+    {
+        match fault {
+            LogFault::Nothing => self.push(line),
+            LogFault::LoseLine => Ok(()),
+            LogFault::RepeatLine => {
+                self.push(line)?;
+                self.push(line)
+            }
+        }
+    }
+
+    /// Puts the line of a record, which is this text, at the end, unless a fault takes it.
+    fn push_of(&mut self, rec: &Rec, line: &[u8]) -> Result<(), AllocError>
+        ensures { OnOk result (self.new ≡ with_text_of rec.now line.now self.old) }
+    {
+        let Rec::Node(_) = rec else {
+            return self.push(line);
+        };
+        let fault = self.fault;
+        self.fault = LogFault::Nothing;
+        self.push_by(fault, line)
+    }
+
+    /// Puts the line of a record at the end, by the fault that waits if it is a node's. One that can't be a bundle's is left
+    /// out, and the text is not whole from then on.
     pub fn line(&mut self, name: &str, rec: &Rec) -> Result<(), AllocError>
         ensures { OnOk result (self.new ≡ with_line name.now rec.now self.old) }
     {
@@ -66,10 +132,7 @@ impl Bundle {
             return Ok(());
         }
         match write_line(self.alloc, name, rec) {
-            Ok(line) => {
-                self.text.extend_from_slice(line.as_slice())?;
-                self.text.push(b'\n')?;
-            }
+            Ok(line) => self.push_of(rec, line.as_slice())?,
             Err(ReadFault::Input(_, _)) => self.is_whole = false,
             Err(ReadFault::Memory) => return Err(AllocError),
         }

@@ -24,8 +24,30 @@ pub enum Injected {
     HoldNext,
     /// The next frame is written with another word.
     AlterNext,
+    /// The next frame is written as no packet.
+    GarbleNext,
     /// The frame of the entry at this position is written after the next one.
     Holds(usize),
+}
+
+/// What a client that opens a session is told of it.
+#[derive(Clone, Copy, Drop)]
+pub enum Reply {
+    /// Its sid and its pid.
+    Own,
+    /// Another sid, and its pid.
+    OtherSid,
+    /// Nothing: there is no reply.
+    Missing,
+}
+
+/// With which offset a client asks for its session.
+#[derive(Clone, Copy, Drop)]
+pub enum Asked {
+    /// The last that it received in it.
+    LastReceived,
+    /// One that no entry has.
+    Unknown,
 }
 
 /// A session that is not over.

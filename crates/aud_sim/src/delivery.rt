@@ -26,7 +26,7 @@ fn last_after(fault: Injected, position: usize, last: Option<usize>) -> Option<u
     ensures { result ≡ last_after fault position last }
 {
     match fault {
-        Injected::DropNext | Injected::HoldNext => last,
+        Injected::DropNext | Injected::HoldNext | Injected::GarbleNext => last,
         Injected::Holds(held) => Some(held),
         _ => Some(position),
     }

@@ -1,12 +1,12 @@
 //! What an act does.
 ghost use Rattle.std.specs.Prelude.{◌≡◌, ◌-◌, IfOk, OnOk};
-ghost use Rattle.aud_sim.specs.Acts.{emitted, lines_taken, node_taken, taken, took_and_sent, connected, recovered, volatile_sent, joined, parted, cut, finished, injected_in, after};
+ghost use Rattle.aud_sim.specs.Acts.{emitted, lines_taken, node_taken, taken, took_and_sent, connected, recovered, volatile_sent, joined, parted, cut, finished, injected_in, awaited, after};
 ghost use Rattle.aud_sim.specs.Cluster.{seen};
 ghost use Rattle.aud_tap.specs.RecordFields.{offset_of};
 
 use crate::act::Act;
-use crate::bundle::Bundle;
-use crate::client::Injected;
+use crate::bundle::{Bundle, LogFault};
+use crate::client::{Asked, Injected, Reply};
 use crate::cluster::Cluster;
 use crate::delivery::deliver_to_all;
 use crate::entry::{Entry, event};
@@ -16,6 +16,13 @@ use crate::sessions::{self, open_on};
 use crate::texts::copied;
 use aud_tap::{Bytes, NodeRec, Rec, StreamRec, Text};
 use std::alloc::{AllocError, Global};
+
+/// The index of what has this number, from 1.
+fn index(number: usize) -> usize
+    ensures { result ≡ number - 1 }
+{
+    number.saturating_sub(1)
+}
 
 /// An event is put into the stream.
 fn emit(
@@ -105,9 +112,14 @@ fn take_and_send(cluster: &mut Cluster, index: usize) -> Result<(), AllocError>
     }
 }
 
-/// A client opens a session on a node.
-fn connect(cluster: &mut Cluster, client: usize, node: usize) -> Result<(), AllocError>
-    ensures { OnOk result (seen cluster.new ≡ connected client node (seen cluster.old)) }
+/// A client opens a session on a node, both by number, and is told this of it.
+fn connect(
+    cluster: &mut Cluster,
+    reply: Reply,
+    client: usize,
+    node: usize,
+) -> Result<(), AllocError>
+    ensures { OnOk result (seen cluster.new ≡ connected reply (client - 1) (node - 1) (seen cluster.old)) }
 {
     let Cluster {
         bundle,
@@ -116,18 +128,24 @@ fn connect(cluster: &mut Cluster, client: usize, node: usize) -> Result<(), Allo
         sessions,
         ..
     } = cluster;
+    let (client, node) = (index(client), index(node));
     let number = sessions.saturating_add(1);
     match clients.get_mut(client) {
-        Some(who) => open_on(bundle, who, client, nodes, node, number)?,
+        Some(who) => open_on(bundle, reply, who, client, nodes, node, number)?,
         None => return Ok(()),
     }
     *sessions = number;
     Ok(())
 }
 
-/// The session of a client is recovered on a node.
-fn recover(cluster: &mut Cluster, client: usize, node: usize) -> Result<(), AllocError>
-    ensures { OnOk result (seen cluster.new ≡ recovered client node (seen cluster.old)) }
+/// The session of a client, which asks so, is recovered on a node, both by number.
+fn recover(
+    cluster: &mut Cluster,
+    asked: Asked,
+    client: usize,
+    node: usize,
+) -> Result<(), AllocError>
+    ensures { OnOk result (seen cluster.new ≡ recovered asked (client - 1) (node - 1) (seen cluster.old)) }
 {
     let Cluster {
         bundle,
@@ -136,8 +154,9 @@ fn recover(cluster: &mut Cluster, client: usize, node: usize) -> Result<(), Allo
         clients,
         ..
     } = cluster;
+    let (client, node) = (index(client), index(node));
     match clients.get_mut(client) {
-        Some(who) => recover_on(bundle, entries, who, client, nodes, node),
+        Some(who) => recover_on(bundle, asked, entries, who, client, nodes, node),
         None => Ok(()),
     }
 }
@@ -230,11 +249,20 @@ fn inject(cluster: &mut Cluster, index: usize, fault: Injected)
     }
 }
 
-/// The index of what has this number, from 1.
-fn index(number: usize) -> usize
-    ensures { result ≡ number - 1 }
+/// A fault waits, where the act says so.
+fn await_fault(cluster: &mut Cluster, act: &Act)
+    ensures { seen cluster.new ≡ awaited act.now (seen cluster.old) }
 {
-    number.saturating_sub(1)
+    match act {
+        Act::DropNext { client } => inject(cluster, index(*client), Injected::DropNext),
+        Act::DoubleNext { client } => inject(cluster, index(*client), Injected::DoubleNext),
+        Act::HoldNext { client } => inject(cluster, index(*client), Injected::HoldNext),
+        Act::AlterNext { client } => inject(cluster, index(*client), Injected::AlterNext),
+        Act::GarbleNext { client } => inject(cluster, index(*client), Injected::GarbleNext),
+        Act::LoseLine => cluster.bundle.spoil(LogFault::LoseLine),
+        Act::RepeatLine => cluster.bundle.spoil(LogFault::RepeatLine),
+        _ => {}
+    }
 }
 
 /// Does an act that the state allows.
@@ -253,27 +281,24 @@ pub fn perform(cluster: &mut Cluster, act: &Act) -> Result<(), AllocError>
         }
         Act::Volatile { client, word } => send_volatile(cluster, index(*client), word.as_str()),
         Act::Take { node } => take_and_send(cluster, index(*node)),
-        Act::Connect { client, node } => connect(cluster, index(*client), index(*node)),
+        Act::Connect { client, node } => connect(cluster, Reply::Own, *client, *node),
+        Act::ConnectUnanswered { client, node } => {
+            connect(cluster, Reply::Missing, *client, *node)
+        }
+        Act::ConnectMisnamed { client, node } => {
+            connect(cluster, Reply::OtherSid, *client, *node)
+        }
         Act::Join { client, room } => join(cluster, index(*client), room.as_str()),
         Act::Leave { client, room } => leave(cluster, index(*client), room.as_str()),
         Act::Cut { client } => cut(cluster, index(*client)),
-        Act::Recover { client, node } => recover(cluster, index(*client), index(*node)),
-        Act::RecoverLagging { client, node } => recover(cluster, index(*client), index(*node)),
+        Act::Recover { client, node } => recover(cluster, Asked::LastReceived, *client, *node),
+        Act::RecoverLagging { client, node } => {
+            recover(cluster, Asked::LastReceived, *client, *node)
+        }
+        Act::RecoverUnknown { client, node } => recover(cluster, Asked::Unknown, *client, *node),
         Act::Finish { client } => finish(cluster, index(*client)),
-        Act::DropNext { client } => {
-            inject(cluster, index(*client), Injected::DropNext);
-            Ok(())
-        }
-        Act::DoubleNext { client } => {
-            inject(cluster, index(*client), Injected::DoubleNext);
-            Ok(())
-        }
-        Act::HoldNext { client } => {
-            inject(cluster, index(*client), Injected::HoldNext);
-            Ok(())
-        }
-        Act::AlterNext { client } => {
-            inject(cluster, index(*client), Injected::AlterNext);
+        _ => {
+            await_fault(cluster, act);
             Ok(())
         }
     }

@@ -1,19 +1,20 @@
 //! The entries of the stream.
 ghost use Rattle.std.specs.Prelude.{◌≡◌, ◌++◌, IfOk, codes};
 ghost use Rattle.std.specs.Option.{option_copied};
-ghost use Rattle.aud_sim.specs.Texts.{event_text, message};
+ghost use Rattle.aud_sim.specs.Texts.{event_text, message, garbled_message};
 ghost use Rattle.aud_sim.specs.Entries.{entry_of, entry_at, event_of, attachments_of};
 
 use crate::texts::{copied, event_text, offset_at};
 use aud_tap::{Blobs, Bytes, Event, StreamRec, Text, Texts};
 use std::alloc::{AllocError, Global};
 
-/// An entry of the stream, and its frame, with its own word and with another.
+/// An entry of the stream, and its frame: as it is, with another word, and as no packet.
 #[derive(Drop)]
 pub struct Entry {
     pub event: StreamRec,
     pub frame: Text,
     pub altered: Text,
+    pub garbled: Text,
 }
 
 fn copied_texts(alloc: Global, texts: &[Text]) -> Result<Texts, AllocError>
@@ -65,6 +66,20 @@ fn altered_frame(
     frame(alloc, word.as_str(), count, position)
 }
 
+/// The frame of an event with `x` in place of Engine.IO's digit.
+fn garbled_frame(
+    alloc: Global,
+    word: &str,
+    count: usize,
+    position: usize,
+) -> Result<Text, AllocError>
+    ensures { IfOk result (λ frame. frame ≡ garbled_message (event_text word.now count position)) }
+{
+    let text = event_text(alloc, word, count, position)?;
+    let text = format!(in alloc; "x{text}")?;
+    Text::new(alloc, text.as_str())
+}
+
 /// The event that is put into the stream at a position.
 pub fn event(
     alloc: Global,
@@ -103,6 +118,7 @@ impl Entry {
             event: StreamRec::Ev(event(alloc, rooms, except, word, bin, position)?),
             frame: frame(alloc, word, bin.len(), position)?,
             altered: altered_frame(alloc, word, bin.len(), position)?,
+            garbled: garbled_frame(alloc, word, bin.len(), position)?,
         })
     }
 

@@ -1,6 +1,6 @@
 //! What is written where a client is sent an entry.
 ghost use Rattle.std.specs.Prelude.{◌≡◌, OnOk};
-ghost use Rattle.aud_sim.specs.Clients.{with_attachments, with_frame, with_own_frame, with_altered_frame, with_held_frame, with_sent};
+ghost use Rattle.aud_sim.specs.Clients.{with_attachments, with_frame, with_own_frame, with_altered_frame, with_garbled_frame, with_held_frame, with_sent};
 ghost use Rattle.aud_sim.specs.Entries.{entry_at};
 
 use crate::bundle::Bundle;
@@ -42,6 +42,12 @@ fn altered_frame(bundle: &mut Bundle, name: &str, entry: &Entry) -> Result<(), A
     frame(bundle, name, entry.altered.as_str(), entry.attachments())
 }
 
+fn garbled_frame(bundle: &mut Bundle, name: &str, entry: &Entry) -> Result<(), AllocError>
+    ensures { OnOk result (bundle.new ≡ with_garbled_frame name.now entry.now bundle.old) }
+{
+    frame(bundle, name, entry.garbled.as_str(), entry.attachments())
+}
+
 /// The frame that was held, of the entry at a position.
 fn held_frame(
     bundle: &mut Bundle,
@@ -75,6 +81,7 @@ pub fn sent(
             own_frame(bundle, name, entry)
         }
         Injected::AlterNext => altered_frame(bundle, name, entry),
+        Injected::GarbleNext => garbled_frame(bundle, name, entry),
         Injected::Holds(position) => {
             own_frame(bundle, name, entry)?;
             held_frame(bundle, name, entries, position)

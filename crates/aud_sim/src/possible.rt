@@ -3,7 +3,7 @@ ghost use Rattle.std.specs.Prelude.{◌≡◌, ◌&&◌, nat_lt, is_some, length
 ghost use Rattle.std.specs.Option.{option_copied};
 ghost use Rattle.std.specs.List.{list_all};
 ghost use Rattle.aud_sim.specs.Cluster.{seen};
-ghost use Rattle.aud_sim.specs.Possible.{numbered, is_letter, is_word, is_on_node, has_connection, is_connected, is_unconnected, is_nothing, has_no_fault, break_at, break_of, can_recover, can_recover_lagging, can_take, can};
+ghost use Rattle.aud_sim.specs.Possible.{numbered, is_letter, is_word, is_on_node, has_connection, is_connected, is_unconnected, is_nothing, has_no_fault, break_at, break_of, can_recover, can_recover_lagging, can_take, can_connect, can};
 
 use crate::act::Act;
 use crate::client::{At, Client, Injected, Session};
@@ -192,7 +192,7 @@ fn can_emit(cluster: &Cluster, word: &str) -> bool
 }
 
 fn can_connect(cluster: &Cluster, client: usize, node: usize) -> bool
-    ensures { result ≡ (is_unconnected (seen cluster.now).clients client && is_some (numbered (seen cluster.now).nodes node) && nat_lt (seen cluster.now).sessions 65536) }
+    ensures { result ≡ can_connect (seen cluster.now) client node }
 {
     is_unconnected(&cluster.clients, client)
         && has_node(&cluster.nodes, node)
@@ -209,15 +209,21 @@ pub fn can(act: &Act, cluster: &Cluster) -> bool
         Act::Volatile { client, word } => is_word(word.as_str()) && is_connected(clients, *client),
         Act::Take { node } => can_take(cluster, *node),
         Act::Connect { client, node } => can_connect(cluster, *client, *node),
+        Act::ConnectUnanswered { client, node } => can_connect(cluster, *client, *node),
+        Act::ConnectMisnamed { client, node } => can_connect(cluster, *client, *node),
         Act::Join { client, .. } => is_connected(clients, *client),
         Act::Leave { client, .. } => is_connected(clients, *client),
         Act::Cut { client } => is_connected(clients, *client),
         Act::Recover { client, node } => can_recover(cluster, *client, *node),
         Act::RecoverLagging { client, node } => can_recover_lagging(cluster, *client, *node),
+        Act::RecoverUnknown { client, node } => can_recover(cluster, *client, *node),
         Act::Finish { client } => is_connected(clients, *client),
         Act::DropNext { client } => has_no_fault(clients, *client),
         Act::DoubleNext { client } => has_no_fault(clients, *client),
         Act::HoldNext { client } => has_no_fault(clients, *client),
         Act::AlterNext { client } => has_no_fault(clients, *client),
+        Act::GarbleNext { client } => has_no_fault(clients, *client),
+        Act::LoseLine => cluster.bundle.is_sound(),
+        Act::RepeatLine => cluster.bundle.is_sound(),
     }
 }

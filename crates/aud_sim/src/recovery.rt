@@ -1,10 +1,10 @@
 //! Recoveries.
 ghost use Rattle.std.specs.Prelude.{◌≡◌, OnOk};
 ghost use Rattle.aud_sim.specs.Acts.{lines_asked, break_cursor, client_back, replied, replay, node_joined, recovered_on, node_recovered, lines_recovered, client_recovered, nodes_recovered};
-ghost use Rattle.aud_sim.specs.Sessions.{with_asking, session_back, client_connected};
+ghost use Rattle.aud_sim.specs.Sessions.{asked_position, with_asking, session_back, client_connected};
 
 use crate::bundle::Bundle;
-use crate::client::{At, Client, Session};
+use crate::client::{Asked, At, Client, Reply, Session};
 use crate::delivery;
 use crate::entry::Entry;
 use crate::node::Node;
@@ -13,13 +13,23 @@ use crate::texts::{asking_text, copied};
 use aud_tap::{ClientRec, NodeRec};
 use std::alloc::AllocError;
 
-/// The client asks for its session, from the last offset that it received on.
-fn ask(bundle: &mut Bundle, name: &str, session: &Session) -> Result<(), AllocError>
-    ensures { OnOk result (bundle.new ≡ with_asking name.now session.now bundle.old) }
+/// The position of the entry after which a client asks to go on.
+fn asked_position(asked: Asked, last: Option<usize>) -> Option<usize>
+    ensures { result ≡ asked_position asked last }
 {
-    match session.last {
-        Some(last) => {
-            let t = asking_text(bundle.alloc(), session.pid.as_str(), last)?;
+    match asked {
+        Asked::LastReceived => last,
+        Asked::Unknown => Some(0),
+    }
+}
+
+/// The client asks for its session.
+fn ask(bundle: &mut Bundle, asked: Asked, name: &str, session: &Session) -> Result<(), AllocError>
+    ensures { OnOk result (bundle.new ≡ with_asking asked name.now session.now bundle.old) }
+{
+    match asked_position(asked, session.last) {
+        Some(position) => {
+            let t = asking_text(bundle.alloc(), session.pid.as_str(), position)?;
             bundle.client(name, ClientRec::TextOut { t })
         }
         None => Ok(()),
@@ -29,15 +39,16 @@ fn ask(bundle: &mut Bundle, name: &str, session: &Session) -> Result<(), AllocEr
 /// What is written before a replay: the connection, the client's CONNECT, and that the session is back.
 fn write_asking(
     bundle: &mut Bundle,
+    asked: Asked,
     client: &mut Client,
     node: &Node,
     session: &Session,
 ) -> Result<(), AllocError>
-    ensures lines { OnOk result (bundle.new ≡ lines_asked client.old node.now session.now bundle.old) }
+    ensures lines { OnOk result (bundle.new ≡ lines_asked asked client.old node.now session.now bundle.old) }
     ensures client { OnOk result (client.new ≡ client_connected client.old) }
 {
     connect(bundle, client)?;
-    ask(bundle, client.name.as_str(), session)?;
+    ask(bundle, asked, client.name.as_str(), session)?;
     let pid = copied(bundle.alloc(), session.pid.as_str())?;
     let turn = session.turn;
     bundle.node(node.name.as_str(), NodeRec::Back { pid, turn })
@@ -58,7 +69,7 @@ fn answer(bundle: &mut Bundle, client: &Client) -> Result<(), AllocError>
     ensures { OnOk result (bundle.new ≡ replied (record { lines = bundle.old; client = client.now })) }
 {
     match &client.session {
-        Some(session) => reply(bundle, client.name.as_str(), session),
+        Some(session) => reply(bundle, Reply::Own, client.name.as_str(), session),
         None => Ok(()),
     }
 }
@@ -67,6 +78,7 @@ fn answer(bundle: &mut Bundle, client: &Client) -> Result<(), AllocError>
 /// the node that are addressed to it, and then the reply.
 fn recover(
     bundle: &mut Bundle,
+    asked: Asked,
     entries: &[Entry],
     client: &mut Client,
     mut session: Session,
@@ -74,15 +86,15 @@ fn recover(
     node: &mut Node,
     node_index: usize,
 ) -> Result<(), AllocError>
-    ensures lines { OnOk result (bundle.new ≡ replied (replay entries.now client.old node.old session (session_back node_index session) bundle.old)) }
-    ensures client { OnOk result (client.new ≡ (replay entries.now client.old node.old session (session_back node_index session) bundle.old).client) }
+    ensures lines { OnOk result (bundle.new ≡ replied (replay asked entries.now client.old node.old session (session_back node_index session) bundle.old)) }
+    ensures client { OnOk result (client.new ≡ (replay asked entries.now client.old node.old session (session_back node_index session) bundle.old).client) }
     ensures node { OnOk result (node.new ≡ node_joined session.number client_index node.old) }
 {
     let from = break_cursor(session.at, node);
     let number = session.number;
     session.turn = session.turn.saturating_add(1);
     session.at = At::Node(node_index);
-    write_asking(bundle, client, node, &session)?;
+    write_asking(bundle, asked, client, node, &session)?;
     client.session = Some(session);
     delivery::replay(bundle, entries, from, node.cursor, client)?;
     answer(bundle, client)?;
@@ -92,18 +104,28 @@ fn recover(
 /// The session of a client, if it has one, is recovered on a node.
 fn recover_session(
     bundle: &mut Bundle,
+    asked: Asked,
     entries: &[Entry],
     client: &mut Client,
     client_index: usize,
     node: &mut Node,
     index: usize,
 ) -> Result<(), AllocError>
-    ensures lines { OnOk result (bundle.new ≡ replied (recovered_on entries.now index node.old client.old bundle.old)) }
-    ensures client { OnOk result (client.new ≡ (recovered_on entries.now index node.old client.old bundle.old).client) }
+    ensures lines { OnOk result (bundle.new ≡ replied (recovered_on asked entries.now index node.old client.old bundle.old)) }
+    ensures client { OnOk result (client.new ≡ (recovered_on asked entries.now index node.old client.old bundle.old).client) }
     ensures node { OnOk result (node.new ≡ node_recovered client_index client.old node.old) }
 {
     match client.session.take() {
-        Some(session) => recover(bundle, entries, client, session, client_index, node, index),
+        Some(session) => recover(
+            bundle,
+            asked,
+            entries,
+            client,
+            session,
+            client_index,
+            node,
+            index,
+        ),
         None => Ok(()),
     }
 }
@@ -111,18 +133,19 @@ fn recover_session(
 /// The session of a client is recovered on the node with an index, if there is one.
 pub fn recover_on(
     bundle: &mut Bundle,
+    asked: Asked,
     entries: &[Entry],
     client: &mut Client,
     client_index: usize,
     nodes: &mut Vec<Node>,
     index: usize,
 ) -> Result<(), AllocError>
-    ensures lines { OnOk result (bundle.new ≡ lines_recovered entries.now index nodes.old.items client.old bundle.old) }
-    ensures client { OnOk result (client.new ≡ client_recovered entries.now index nodes.old.items client.old bundle.old) }
+    ensures lines { OnOk result (bundle.new ≡ lines_recovered asked entries.now index nodes.old.items client.old bundle.old) }
+    ensures client { OnOk result (client.new ≡ client_recovered asked entries.now index nodes.old.items client.old bundle.old) }
     ensures nodes { OnOk result (nodes.new.items ≡ nodes_recovered client_index index client.old nodes.old.items) }
 {
     match nodes.get_mut(index) {
-        Some(node) => recover_session(bundle, entries, client, client_index, node, index),
+        Some(node) => recover_session(bundle, asked, entries, client, client_index, node, index),
         None => Ok(()),
     }
 }

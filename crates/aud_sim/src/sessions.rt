@@ -4,10 +4,10 @@ ghost use Rattle.std.specs.Option.{option_copied};
 ghost use Rattle.aud_sim.specs.Acts.{lines_opened, lines_connected, client_connected_to, nodes_joined, with_volatile, lines_joined, lines_parted, lines_cut, lines_finished, client_opened, client_joined, client_parted, nodes_after_leaving, node_joined};
 ghost use Rattle.aud_sim.specs.Clients.{fault_after_connection, next_number};
 ghost use Rattle.aud_sim.specs.Nodes.{host, node_left, nodes_left, place_after_break};
-ghost use Rattle.aud_sim.specs.Sessions.{with_opened, with_connection, with_reply, with_departure, with_left, with_change, first_session, session_joined, session_parted, session_cut, client_connected, client_cut, client_finished};
+ghost use Rattle.aud_sim.specs.Sessions.{with_opened, with_connection, with_reply_of, with_reply, with_departure, with_left, with_change, first_session, session_joined, session_parted, session_cut, client_connected, client_cut, client_finished};
 
 use crate::bundle::Bundle;
-use crate::client::{At, Client, Injected, Session};
+use crate::client::{At, Client, Injected, Reply, Session};
 use crate::guest::{Guest, insert_guest, remove_guest};
 use crate::node::Node;
 use crate::rooms::HeldRooms;
@@ -35,12 +35,31 @@ pub fn connect(bundle: &mut Bundle, client: &mut Client) -> Result<(), AllocErro
     bundle.client(client.name.as_str(), ClientRec::Conn { c })
 }
 
-/// The server's answer to the client's CONNECT.
-pub fn reply(bundle: &mut Bundle, name: &str, session: &Session) -> Result<(), AllocError>
-    ensures { OnOk result (bundle.new ≡ with_reply name.now session.now bundle.old) }
+/// The server's answer to the client's CONNECT, with this sid.
+fn reply_of(bundle: &mut Bundle, name: &str, sid: &str, session: &Session) -> Result<(), AllocError>
+    ensures { OnOk result (bundle.new ≡ with_reply_of name.now sid.now session.now bundle.old) }
 {
-    let t = reply_text(bundle.alloc(), session.sid.as_str(), session.pid.as_str())?;
+    let t = reply_text(bundle.alloc(), sid, session.pid.as_str())?;
     bundle.client(name, ClientRec::TextIn { t })
+}
+
+/// The server's answer to the client's CONNECT.
+pub fn reply(
+    bundle: &mut Bundle,
+    reply: Reply,
+    name: &str,
+    session: &Session,
+) -> Result<(), AllocError>
+    ensures { OnOk result (bundle.new ≡ with_reply reply name.now session.now bundle.old) }
+{
+    match reply {
+        Reply::Own => reply_of(bundle, name, session.sid.as_str(), session),
+        Reply::OtherSid => {
+            let sid = name_of(bundle.alloc(), "x", session.number)?;
+            reply_of(bundle, name, sid.as_str(), session)
+        }
+        Reply::Missing => Ok(()),
+    }
 }
 
 /// The session of a number, opened on the node with an index.
@@ -81,53 +100,56 @@ pub fn arrive(node: &mut Node, session: usize, client: usize) -> Result<(), Allo
 /// A client opens this session on a node: what is written.
 fn write_opening(
     bundle: &mut Bundle,
+    answer: Reply,
     client: &mut Client,
     node: &Node,
     session: &Session,
 ) -> Result<(), AllocError>
-    ensures lines { OnOk result (bundle.new ≡ lines_opened client.old node.now session.now bundle.old) }
+    ensures lines { OnOk result (bundle.new ≡ lines_opened answer client.old node.now session.now bundle.old) }
     ensures client { OnOk result (client.new ≡ client_connected client.old) }
 {
     opened(bundle, node.name.as_str(), session)?;
     connect(bundle, client)?;
-    reply(bundle, client.name.as_str(), session)
+    reply(bundle, answer, client.name.as_str(), session)
 }
 
-/// A client opens the session of a number on a node.
+/// A client opens the session of a number on a node, and is told this of it.
 fn open(
     bundle: &mut Bundle,
+    answer: Reply,
     client: &mut Client,
     client_index: usize,
     node: &mut Node,
     node_index: usize,
     number: usize,
 ) -> Result<(), AllocError>
-    ensures lines { OnOk result (bundle.new ≡ lines_opened client.old node.old (first_session number node_index) bundle.old) }
+    ensures lines { OnOk result (bundle.new ≡ lines_opened answer client.old node.old (first_session number node_index) bundle.old) }
     ensures client { OnOk result (client.new ≡ client_opened (first_session number node_index) client.old) }
     ensures node { OnOk result (node.new ≡ node_joined number client_index node.old) }
 {
     let session = first_session(bundle.alloc(), number, node_index)?;
-    write_opening(bundle, client, node, &session)?;
+    write_opening(bundle, answer, client, node, &session)?;
     arrive(node, number, client_index)?;
     client.session = Some(session);
     Ok(())
 }
 
-/// A client opens the session of a number on the node with an index, if there is one.
+/// A client opens the session of a number on the node with an index, if there is one, and is told this of it.
 pub fn open_on(
     bundle: &mut Bundle,
+    answer: Reply,
     client: &mut Client,
     client_index: usize,
     nodes: &mut Vec<Node>,
     index: usize,
     number: usize,
 ) -> Result<(), AllocError>
-    ensures lines { OnOk result (bundle.new ≡ lines_connected (slice_get nodes.old.items index) (first_session number index) client.old bundle.old) }
+    ensures lines { OnOk result (bundle.new ≡ lines_connected answer (slice_get nodes.old.items index) (first_session number index) client.old bundle.old) }
     ensures client { OnOk result (client.new ≡ client_connected_to (slice_get nodes.old.items index) (first_session number index) client.old) }
     ensures nodes { OnOk result (nodes.new.items ≡ nodes_joined number client_index index nodes.old.items) }
 {
     match nodes.get_mut(index) {
-        Some(node) => open(bundle, client, client_index, node, index, number),
+        Some(node) => open(bundle, answer, client, client_index, node, index, number),
         None => Ok(()),
     }
 }

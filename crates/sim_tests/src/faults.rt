@@ -5,7 +5,7 @@ use aud_sim::{SimFault, simulate};
 use std::test::Fail;
 
 /// How many nodes there are, the schedule of one client, and what an audit says of its session.
-static VERDICTS: [(usize, &str, &str); 17] = [
+static VERDICTS: [(usize, &str, &str); 47] = [
     (
         1,
         "c1@1 j1:r e:hi:r e:ho:r t1 t1",
@@ -95,6 +95,151 @@ static VERDICTS: [(usize, &str, &str); 17] = [
         "c1@1 drop1 f1 c1@1 e:a e:b t1 t1",
         "yes p1 got=0 tail=0 turns=1\nno p2 LOST 1-0\nsessions=2 yes=1 no=1\n",
     ),
+    // a frame that is no packet: live, in a replay, with attachments
+    (
+        1,
+        "c1@1 j1:r e:hi:r e:ho:r garble1 t1 t1",
+        "no p1 FRAME\nsessions=1 yes=0 no=1\n",
+    ),
+    (
+        2,
+        "c1@1 e:a t1 garble1 x1 e:b e:c t2 t2 t2 r1@2",
+        "no p1 FRAME\nsessions=1 yes=0 no=1\n",
+    ),
+    (
+        1,
+        "c1@1 e:a:::2 e:b:::1 garble1 t1 t1",
+        "no p1 FRAME\nsessions=1 yes=0 no=1\n",
+    ),
+    // a line of a node's log that is lost: `open`, `join`, `leave`, `break`, `back`, `take`, `gone`
+    (
+        1,
+        "lose c1@1 e:a t1",
+        "no p1 NOLOG\nsessions=1 yes=0 no=1\n",
+    ),
+    (
+        1,
+        "c1@1 lose j1:r e:a:r t1",
+        "no p1 EXTRA 1-0\nsessions=1 yes=0 no=1\n",
+    ),
+    (
+        1,
+        "c1@1 j1:r lose l1:r e:a:r e:b t1 t1",
+        "no p1 LOST 1-0\nsessions=1 yes=0 no=1\n",
+    ),
+    (
+        2,
+        "c1@1 e:a t1 lose x1 t2 r1@2",
+        "no p1 CHAIN\nsessions=1 yes=0 no=1\n",
+    ),
+    (
+        2,
+        "c1@1 e:a t1 x1 t2 lose r1@2 e:b t2",
+        "no p1 EXTRA 2-0\nsessions=1 yes=0 no=1\n",
+    ),
+    (
+        1,
+        "c1@1 e:a e:b lose t1 t1",
+        "no p1 ORDER\nsessions=1 yes=0 no=1\n",
+    ),
+    (
+        1,
+        "c1@1 e:a t1 lose f1",
+        "yes p1 got=1 tail=0 turns=1\nsessions=1 yes=1 no=0\n",
+    ),
+    // and one that is written twice
+    (
+        1,
+        "repeat c1@1 e:a t1",
+        "no p1 CHAIN\nsessions=1 yes=0 no=1\n",
+    ),
+    (
+        1,
+        "c1@1 repeat j1:r e:a:r t1",
+        "yes p1 got=1 tail=0 turns=1\nsessions=1 yes=1 no=0\n",
+    ),
+    (
+        1,
+        "c1@1 j1:r repeat l1:r e:a:r e:b t1 t1",
+        "yes p1 got=1 tail=0 turns=1\nsessions=1 yes=1 no=0\n",
+    ),
+    (
+        2,
+        "c1@1 e:a t1 repeat x1 t2 r1@2",
+        "no p1 CHAIN\nsessions=1 yes=0 no=1\n",
+    ),
+    (
+        2,
+        "c1@1 e:a t1 x1 t2 repeat r1@2",
+        "no p1 CHAIN\nsessions=1 yes=0 no=1\n",
+    ),
+    (
+        1,
+        "c1@1 e:a repeat t1",
+        "no p1 ORDER\nsessions=1 yes=0 no=1\n",
+    ),
+    (
+        1,
+        "c1@1 e:a t1 repeat f1",
+        "no p1 CHAIN\nsessions=1 yes=0 no=1\n",
+    ),
+    // lines of the stream and of a client leave such a fault waiting, and after one another may come
+    (
+        1,
+        "lose e:a c1@1 t1",
+        "no p1 NOLOG\nsessions=1 yes=0 no=1\n",
+    ),
+    (
+        1,
+        "c1@1 e:a repeat v1:hi t1",
+        "no p1 ORDER\nsessions=1 yes=0 no=1\n",
+    ),
+    (
+        1,
+        "c1@1 repeat j1:r lose l1:r e:a:r e:b t1 t1",
+        "no p1 LOST 1-0\nsessions=1 yes=0 no=1\n",
+    ),
+    // a session without a reply, without events and with them; what comes after it in its client's tap
+    (1, "u1@1", "no p1 CLIENT\nsessions=1 yes=0 no=1\n"),
+    (1, "u1@1 e:a t1", "no p1 CLIENT\nsessions=1 yes=0 no=1\n"),
+    (
+        1,
+        "u1@1 f1 c1@1 e:a t1",
+        "no p1 CLIENT\nyes p2 got=1 tail=0 turns=1\nsessions=2 yes=1 no=1\n",
+    ),
+    (
+        1,
+        "u1@1 e:a t1 f1 c1@1",
+        "no p1 CLIENT\nno p2 ORPHAN\nsessions=2 yes=0 no=2\n",
+    ),
+    (
+        1,
+        "u1@1 e:a t1 x1 r1@1",
+        "no p1 ORPHAN\nsessions=1 yes=0 no=1\n",
+    ),
+    // a reply with another sid, and after it one with the session's own
+    (1, "m1@1 e:a t1", "no p1 NAMES\nsessions=1 yes=0 no=1\n"),
+    (
+        1,
+        "m1@1 e:a t1 x1 r1@1",
+        "no p1 NAMES\nsessions=1 yes=0 no=1\n",
+    ),
+    // a recovery that is asked for with an offset that no entry has, without a replay and with one; and one that is not
+    (
+        2,
+        "c1@1 e:a t1 x1 t2 o1@2",
+        "no p1 WINDOW 2\nsessions=1 yes=0 no=1\n",
+    ),
+    (
+        2,
+        "c1@1 e:a t1 x1 e:b t2 t2 o1@2",
+        "no p1 WINDOW 2\nsessions=1 yes=0 no=1\n",
+    ),
+    (
+        2,
+        "c1@1 e:a t1 x1 t2 r1@2 x1 o1@2",
+        "no p1 WINDOW 3\nsessions=1 yes=0 no=1\n",
+    ),
 ];
 
 #[test]
@@ -108,7 +253,7 @@ fn verdicts(rt: HostRuntime) -> Result<(), Fail> {
 }
 
 /// Schedules of two nodes and two clients, and the number of the act that is not possible.
-static REFUSED: [(&str, usize); 27] = [
+static REFUSED: [(&str, usize); 46] = [
     ("c1@1 j1:r e:hi:r t1 x1 r1@2 t2", 5),
     ("t1", 0),
     ("e:a t1 t1", 2),
@@ -136,6 +281,25 @@ static REFUSED: [(&str, usize); 27] = [
     ("e:h1", 0),
     ("e:abcdefghijklmnopqrstuvwxyzabcdefg", 0),
     ("e:a:::65", 0),
+    ("u1@0", 0),
+    ("u3@1", 0),
+    ("c1@1 u1@1", 1),
+    ("u1@1 c1@1", 1),
+    ("m1@3", 0),
+    ("m0@1", 0),
+    ("c1@1 m1@2", 1),
+    ("o1@1", 0),
+    ("c1@1 x1 o1@1", 2),
+    ("c1@1 e:a t1 o1@1", 3),
+    ("c1@1 e:a t1 x1 o1@2", 4),
+    ("c1@1 e:a garble1 t1 x1 r1@1", 5),
+    ("garble1 drop1", 1),
+    ("hold1 garble1", 1),
+    ("garble3", 0),
+    ("lose lose", 1),
+    ("repeat lose", 1),
+    ("lose e:a lose", 2),
+    ("lose c1@1 repeat lose", 3),
 ];
 
 #[test]

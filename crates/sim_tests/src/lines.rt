@@ -54,14 +54,74 @@ n1 {"k":"take","off":"3-0"}
 c1 {"k":"in","t":"42[\"hx\",\"3-0\"]"}
 "#;
 
+/// Lines of a node's log that are lost, `open` and `take`, and that are written twice, `join` and `break`.
+const LOGS: &str = r#"st {"k":"tap","of":"stream","v":1}
+n1 {"k":"tap","of":"node","v":1}
+c1 {"k":"tap","of":"client","v":1}
+n1 {"k":"start","off":null}
+c1 {"c":1,"k":"conn"}
+c1 {"k":"in","t":"40{\"sid\":\"s1\",\"pid\":\"p1\"}"}
+n1 {"k":"join","pid":"p1","room":"r"}
+n1 {"k":"join","pid":"p1","room":"r"}
+st {"k":"ev","nsp":"/","off":"1-0","text":"2[\"a\",\"1-0\"]"}
+c1 {"k":"in","t":"42[\"v\"]"}
+c1 {"k":"in","t":"42[\"a\",\"1-0\"]"}
+n1 {"k":"break","pid":"p1","turn":0}
+n1 {"k":"break","pid":"p1","turn":0}
+c1 {"k":"lost"}
+"#;
+
+/// A session without a reply, recovered with an offset that no entry has; one whose reply has another sid; and a frame with
+/// `x` in place of its digit, after which the offset of the one before is still the last that was received.
+const REPLIES: &str = r#"st {"k":"tap","of":"stream","v":1}
+n1 {"k":"tap","of":"node","v":1}
+c1 {"k":"tap","of":"client","v":1}
+n1 {"k":"start","off":null}
+n1 {"k":"open","nsp":"/","pid":"p1","sid":"s1"}
+c1 {"c":1,"k":"conn"}
+st {"k":"ev","nsp":"/","off":"1-0","text":"2[\"a\",\"1-0\"]"}
+n1 {"k":"take","off":"1-0"}
+c1 {"k":"in","t":"42[\"a\",\"1-0\"]"}
+n1 {"k":"break","pid":"p1","turn":0}
+c1 {"k":"lost"}
+c1 {"c":2,"k":"conn"}
+c1 {"k":"out","t":"40{\"pid\":\"p1\",\"offset\":\"0-0\"}"}
+n1 {"k":"back","pid":"p1","turn":1}
+c1 {"k":"in","t":"40{\"sid\":\"s1\",\"pid\":\"p1\"}"}
+n1 {"k":"gone","pid":"p1"}
+c1 {"k":"lost"}
+n1 {"k":"open","nsp":"/","pid":"p2","sid":"s2"}
+c1 {"c":3,"k":"conn"}
+c1 {"k":"in","t":"40{\"sid\":\"x2\",\"pid\":\"p2\"}"}
+st {"k":"ev","nsp":"/","off":"2-0","text":"2[\"b\",\"2-0\"]"}
+n1 {"k":"take","off":"2-0"}
+c1 {"k":"in","t":"42[\"b\",\"2-0\"]"}
+st {"bin":["AA=="],"k":"ev","nsp":"/","off":"3-0","text":"51-[\"c\",{\"_placeholder\":true,\"num\":0},\"3-0\"]"}
+n1 {"k":"take","off":"3-0"}
+c1 {"k":"in","t":"x51-[\"c\",{\"_placeholder\":true,\"num\":0},\"3-0\"]"}
+c1 {"b":"AA==","k":"inb"}
+n1 {"k":"break","pid":"p2","turn":0}
+c1 {"k":"lost"}
+c1 {"c":4,"k":"conn"}
+c1 {"k":"out","t":"40{\"pid\":\"p2\",\"offset\":\"2-0\"}"}
+n1 {"k":"back","pid":"p2","turn":1}
+c1 {"k":"in","t":"40{\"sid\":\"s2\",\"pid\":\"p2\"}"}
+"#;
+
 /// How many nodes there are, the schedule of one client, and its bundle.
-static BUNDLES: [(usize, &str, &str); 2] = [
+static BUNDLES: [(usize, &str, &str); 4] = [
     (
         2,
         "c1@1 j1:r e:hi:r t1 x1 t2 e:ho:r:q t2 r1@2 l1:r v1:v f1",
         RECOVERY,
     ),
     (1, "c1@1 e:f:::2 e:g hold1 t1 t1 e:h alter1 t1", ATTACHMENTS),
+    (1, "lose c1@1 repeat j1:r lose e:a v1:v t1 repeat x1", LOGS),
+    (
+        1,
+        "u1@1 e:a t1 x1 o1@1 f1 m1@1 e:b t1 e:c:::1 garble1 t1 x1 r1@1",
+        REPLIES,
+    ),
 ];
 
 #[test]

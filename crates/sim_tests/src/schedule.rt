@@ -5,9 +5,11 @@
 //! | an event of a word; for rooms; without others; with attachments of one byte | `e:hi`, `e:hi:r,q`, `e:hi:r:s1`, `e:hi:::2` |
 //! | an event that isn't in the stream, to client 1 | `v1:hi` |
 //! | node 1 takes an entry | `t1` |
-//! | client 1 opens a session on node 2, is cut, is recovered on node 1 or on a node that isn't so far, ends | `c1@2`, `x1`, `r1@1`, `g1@1`, `f1` |
+//! | client 1 opens a session on node 2; without a reply; with another sid in it | `c1@2`, `u1@2`, `m1@2` |
+//! | client 1 is cut; is recovered on node 1; on a node that isn't so far; with an offset that no entry has; ends | `x1`, `r1@1`, `g1@1`, `o1@1`, `f1` |
 //! | client 1 joins and leaves a room | `j1:r`, `l1:r` |
-//! | a fault for client 1: its next frame dropped, doubled, held, altered | `drop1`, `double1`, `hold1`, `alter1` |
+//! | a fault for client 1: its next frame dropped, doubled, held, altered, garbled | `drop1`, `double1`, `hold1`, `alter1`, `garble1` |
+//! | a fault of the nodes' logs: the next line lost, repeated | `lose`, `repeat` |
 use aud_sim::Act;
 use aud_tap::{Blobs, Bytes, Text, Texts};
 use std::alloc::{AllocError, Global};
@@ -85,24 +87,46 @@ fn fault(head: &str) -> Result<Act, Fail> {
             client: number(client)?,
         });
     }
-    let client = head.strip_prefix("alter").ok_or("no act")?;
-    Ok(Act::AlterNext {
+    if let Some(client) = head.strip_prefix("alter") {
+        return Ok(Act::AlterNext {
+            client: number(client)?,
+        });
+    }
+    let client = head.strip_prefix("garble").ok_or("no act")?;
+    Ok(Act::GarbleNext {
         client: number(client)?,
     })
 }
 
-/// The act of a client and a node.
-fn at_node(head: &str) -> Result<Act, Fail> {
+/// The act of a client that opens a session on a node.
+fn opening(head: &str) -> Result<Act, Fail> {
     if let Some(numbers) = head.strip_prefix("c") {
         let (client, node) = pair(numbers)?;
         return Ok(Act::Connect { client, node });
     }
+    if let Some(numbers) = head.strip_prefix("u") {
+        let (client, node) = pair(numbers)?;
+        return Ok(Act::ConnectUnanswered { client, node });
+    }
+    let (client, node) = pair(head.strip_prefix("m").ok_or("no act")?)?;
+    Ok(Act::ConnectMisnamed { client, node })
+}
+
+/// The act of a client and a node.
+fn at_node(head: &str) -> Result<Act, Fail> {
     if let Some(numbers) = head.strip_prefix("r") {
         let (client, node) = pair(numbers)?;
         return Ok(Act::Recover { client, node });
     }
-    let (client, node) = pair(head.strip_prefix("g").ok_or("no act")?)?;
-    Ok(Act::RecoverLagging { client, node })
+    if let Some(numbers) = head.strip_prefix("g") {
+        let (client, node) = pair(numbers)?;
+        return Ok(Act::RecoverLagging { client, node });
+    }
+    if let Some(numbers) = head.strip_prefix("o") {
+        let (client, node) = pair(numbers)?;
+        return Ok(Act::RecoverUnknown { client, node });
+    }
+    opening(head)
 }
 
 /// The act of a client alone.
@@ -140,8 +164,11 @@ fn act(alloc: Global, word: &str) -> Result<Act, Fail> {
     let parts: Vec<&str> = word.split(':').collect(alloc)?;
     let head = parts.first().copied().unwrap_or("");
     let more = parts.get(1).copied().unwrap_or("");
-    if head == "e" {
-        return emit(alloc, &parts);
+    match head {
+        "e" => return emit(alloc, &parts),
+        "lose" => return Ok(Act::LoseLine),
+        "repeat" => return Ok(Act::RepeatLine),
+        _ => {}
     }
     if let Some(node) = head.strip_prefix("t") {
         return Ok(Act::Take {
