@@ -19,7 +19,7 @@ _sioaudit_values() {
         explain--only) echo 'no delivery packets recording' ;;
         explain--fail-on) echo 'delivery packets recording refused' ;;
         explain--pid) ;;
-        simulate--fault) echo 'drop double hold alter lag' ;;
+        simulate--fault) echo 'drop double hold alter garble lag unknown-offset no-reply other-sid no-open no-join no-break take-twice' ;;
         simulate--nodes | simulate--clients | simulate--acts | simulate--seed) ;;
         *) return 1 ;;
     esac

@@ -4,9 +4,8 @@ use Rattle.std.proofs.lemmas.List.{append_assoc, append-nil, length-append}
 use Rattle.std.specs.List.{All}
 use Rattle.std.proofs.lemmas.List.Elements.{All-append, All-cons, All-nil}
 use Rattle.aud_sim.specs.declared.act.Act.{Act}
-use Rattle.aud_schedule.specs.declared.plan.Fault.{Fault}
 use Rattle.aud_schedule.specs.declared.course.Size.{Size}
-use Rattle.aud_schedule.specs.Acts.{fault_of, faults, IsWithin, IsQuiet}
+use Rattle.aud_schedule.specs.Acts.{Kind, fault_of, faults, IsWithin, IsQuiet}
 use Rattle.aud_schedule.specs.Private.Grown.{Grown}
 
 -- the faults of acts and of those after them, in their order
@@ -34,7 +33,7 @@ pub grown-none : (size : Size) (a : List Act) → Grown size 0 [] a a
 grown-none size a = record { at_most = omega arith; gains = sym (append-nil (faults a)); within = λ all. all }
 
 -- acts, and acts after them
-pub grown-then : (size : Size) (m n : ℕ) (g h : List Fault) (a b c : List Act) → Grown size m g a b → Grown size n h b c → Grown size (m + n) (g ++ h) a c
+pub grown-then : (size : Size) (m n : ℕ) (g h : List Kind) (a b c : List Act) → Grown size m g a b → Grown size n h b c → Grown size (m + n) (g ++ h) a c
 grown-then size m n g h a b c first second = record {
   at_most = omega arith;
   gains = second.gains ∙ ap (λ fs. fs ++ h) first.gains ∙ append_assoc (faults a) g h;
@@ -42,20 +41,20 @@ grown-then size m n g h a b c first second = record {
 }
 
 -- at most so many acts, and so at most more
-pub grown-more : (size : Size) (m n : ℕ) (g : List Fault) (a b : List Act) → m ≤ n → Grown size m g a b → Grown size n g a b
+pub grown-more : (size : Size) (m n : ℕ) (g : List Kind) (a b : List Act) → m ≤ n → Grown size m g a b → Grown size n g a b
 grown-more size m n g a b more grown = record { at_most = omega arith; gains = grown.gains; within = grown.within }
 
 -- acts, and acts after them that are no faults
-pub grown-on : (size : Size) (m n : ℕ) (g : List Fault) (a b c : List Act) → Grown size m g a b → Grown size n [] b c → Grown size (m + n) g a c
+pub grown-on : (size : Size) (m n : ℕ) (g : List Kind) (a b c : List Act) → Grown size m g a b → Grown size n [] b c → Grown size (m + n) g a c
 grown-on size m n g a b c first second =
     subst (λ h. Grown size (m + n) h a c) (append-nil g) (grown-then size m n g [] a b c first second)
 
 -- the same size under another name
-pub grown-at : (s t : Size) (m : ℕ) (g : List Fault) (a b : List Act) → s ≡ t → Grown s m g a b → Grown t m g a b
+pub grown-at : (s t : Size) (m : ℕ) (g : List Kind) (a b : List Act) → s ≡ t → Grown s m g a b → Grown t m g a b
 grown-at s t m g a b same grown = subst (λ size. Grown size m g a b) same grown
 
 -- a schedule from nothing: its first acts, with these faults among them, and its other acts
-pub grown-whole : (size : Size) (n : ℕ) (g : List Fault) (a b c : List Act) → a ≡ [] → Grown size n g a b → Grown size n [] b c
+pub grown-whole : (size : Size) (n : ℕ) (g : List Kind) (a b c : List Act) → a ≡ [] → Grown size n g a b → Grown size n [] b c
     → (faults c ≡ g) × All (IsWithin size.nodes size.clients) c
 grown-whole size n g a b c empty first second =
     let all = grown-on size n n g a b c first second in

@@ -12,11 +12,8 @@ least_acts (Some fault) = 32
 -- how many nodes a schedule needs for its fault: two where a node is to lag behind another
 abbrev pub least_nodes : Option Fault → ℕ
 least_nodes None = 1
-least_nodes (Some fault.Drop) = 1
-least_nodes (Some fault.Double) = 1
-least_nodes (Some fault.Hold) = 1
-least_nodes (Some fault.Alter) = 1
 least_nodes (Some fault.Lag) = 2
+least_nodes (Some fault) = 1
 
 -- a plan within the limits of a cluster, with room for its fault
 pub record IsPossible (plan : Plan) : Type 0 where

@@ -1,5 +1,5 @@
 //! The cluster as the acts so far leave it: enough to choose a next act that is possible.
-ghost use Rattle.std.specs.Prelude.{◌≡◌, ◌<◌, true, IfOk, vec_len};
+ghost use Rattle.std.specs.Prelude.{◌≡◌, ◌<◌, true, IfOk, IfSome, vec_len};
 ghost use Rattle.aud_schedule.specs.Size.{IsCluster, IsUpTo};
 
 use crate::audience::{Audience, Place, Session};
@@ -162,10 +162,12 @@ impl Course {
     }
 
     /// The node that a client is connected to.
-    pub fn node_of(&self, client: usize) -> Option<usize> {
+    pub fn node_of(&self, client: usize) -> Option<usize>
+        ensures { IfSome result (IsUpTo self.now.size.nodes) }
+    {
         match self.session(client)?.place {
-            Place::On(node) => Some(node),
-            Place::Away(_) => None,
+            Place::On(node) if 1 <= node && node <= self.size.nodes => Some(node),
+            _ => None,
         }
     }
 
@@ -228,6 +230,15 @@ impl Course {
     {
         if let Some(session) = self.session(client) {
             self.set_session(client, Some(Session { rooms, ..session }));
+        }
+    }
+
+    /// The client's session holds these rooms too from now on.
+    pub fn hold_more(&mut self, client: usize, rooms: u8)
+        ensures { self.new.size ≡ self.old.size }
+    {
+        if let Some(session) = self.session(client) {
+            self.hold(client, session.rooms | rooms);
         }
     }
 

@@ -1,14 +1,14 @@
-//! A fault, and the acts around it that make it show.
-ghost use Rattle.std.specs.Prelude.{◌≡◌, ◌+◌, length, ℕ, [], ◌∷◌, ◌≤◌, None, Some, IfOk, IfSome, OnOk, option_to_list};
+//! A fault, and the acts around it that make it show: of one client, 25 at most.
+ghost use Rattle.std.specs.Prelude.{◌≡◌, ◌+◌, length, [], ◌∷◌, ◌≤◌, IfOk, OnOk, option_to_list};
 ghost use Rattle.aud_schedule.specs.declared.course.Size.{Size};
 ghost use Rattle.aud_schedule.specs.declared.plan.Fault.TheVariants as brought;
 ghost use Rattle.aud_schedule.specs.Size.{IsUpTo};
-ghost use Rattle.aud_schedule.specs.Acts.{fault_of, IsWithin};
+ghost use Rattle.aud_schedule.specs.Acts.{Lagging, Unknown, Unanswered, Misnamed, LostLine, fault_of, kind_of, IsWithin};
 ghost use Rattle.aud_schedule.specs.Private.Grown.{Grown};
 
-use crate::audience::{ALL, Place};
+use crate::audience::{ALL, Audience, Place, ROOMS};
 use crate::course::Course;
-use crate::emits::emit;
+use crate::emits::{emit, text};
 use crate::plan::Fault;
 use aud_sim::Act;
 use std::alloc::AllocError;
@@ -48,36 +48,62 @@ fn catch_up(course: &mut Course, acts: &mut Vec<Act>, node: usize) -> Result<(),
     Ok(())
 }
 
-/// A client that is connected, and its node.
-#[derive(Clone, Copy, Drop)]
-struct Connected {
-    client: usize,
-    node: usize,
-}
-
-/// One of the clients: where it has no connection, it opens a session.
-fn connect_some(course: &mut Course, acts: &mut Vec<Act>) -> Result<Connected, AllocError>
+/// The node of a client, which opens a session where it has no connection.
+fn connect(course: &mut Course, acts: &mut Vec<Act>, client: usize) -> Result<usize, AllocError>
+    requires { IsUpTo course.old.size.clients client }
     ensures size { course.new.size ≡ course.old.size }
-    ensures client { IfOk result (λ c. IsUpTo course.old.size.clients c.client) }
+    ensures node { IfOk result (IsUpTo course.old.size.nodes) }
     ensures acts { OnOk result (Grown course.old.size 1 [] acts.old.items acts.new.items) }
 {
-    let client = course.some_client();
     if let Some(node) = course.node_of(client) {
-        return Ok(Connected { client, node });
+        return Ok(node);
     }
     let node = course.some_node();
     course.connect(client, node);
     add(acts, Act::Connect { client, node })?;
-    Ok(Connected { client, node })
+    Ok(node)
 }
 
-/// An act that spoils the next event of a client that is connected to this node, and then two events for everyone, which
-/// the node takes.
-fn spoil(course: &mut Course, acts: &mut Vec<Act>, node: usize, act: Act) -> Result<(), AllocError>
-    requires { IsWithin course.old.size.nodes course.old.size.clients act }
+/// Where a client has a connection, its session ends.
+fn disconnect(course: &mut Course, acts: &mut Vec<Act>, client: usize) -> Result<(), AllocError>
+    requires { IsUpTo course.old.size.clients client }
     ensures size { course.new.size ≡ course.old.size }
-    ensures acts { OnOk result (Grown course.old.size 23 (option_to_list (fault_of act)) acts.old.items acts.new.items) }
+    ensures acts { OnOk result (Grown course.old.size 1 [] acts.old.items acts.new.items) }
 {
+    if course.node_of(client).is_some() {
+        course.finish(client);
+        add(acts, Act::Finish { client })?;
+    }
+    Ok(())
+}
+
+/// The node of a client that has received an event in its session.
+fn receive(course: &mut Course, acts: &mut Vec<Act>, client: usize) -> Result<usize, AllocError>
+    requires { IsUpTo course.old.size.clients client }
+    ensures size { course.new.size ≡ course.old.size }
+    ensures node { IfOk result (IsUpTo course.old.size.nodes) }
+    ensures acts { OnOk result (Grown course.old.size 12 [] acts.old.items acts.new.items) }
+{
+    let node = connect(course, acts, client)?;
+    emit_to_all(course, acts)?;
+    catch_up(course, acts, node)?;
+    Ok(node)
+}
+
+/// An act that spoils the next event that a client is sent, or the next record of its node, and then two events for
+/// everyone, which the node takes.
+fn spoil(
+    course: &mut Course,
+    acts: &mut Vec<Act>,
+    client: usize,
+    act: Act,
+) -> Result<(), AllocError>
+    requires client { IsUpTo course.old.size.clients client }
+    requires act { IsWithin course.old.size.nodes course.old.size.clients act }
+    ensures size { course.new.size ≡ course.old.size }
+    ensures acts { OnOk result (Grown course.old.size 25 (option_to_list (fault_of act)) acts.old.items acts.new.items) }
+{
+    let node = connect(course, acts, client)?;
     add(acts, act)?;
     emit_to_all(course, acts)?;
     emit_to_all(course, acts)?;
@@ -97,15 +123,13 @@ fn other_node(course: &mut Course, node: usize) -> usize
 }
 
 /// An event that a client receives, and then its break, and its recovery on a node that comes to the event after it.
-fn lag(course: &mut Course, acts: &mut Vec<Act>, connected: Connected) -> Result<(), AllocError>
+fn lag(course: &mut Course, acts: &mut Vec<Act>, client: usize) -> Result<(), AllocError>
     requires nodes { 2 ≤ course.old.size.nodes }
-    requires client { IsUpTo course.old.size.clients connected.client }
+    requires client { IsUpTo course.old.size.clients client }
     ensures size { course.new.size ≡ course.old.size }
-    ensures acts { OnOk result (Grown course.old.size 23 (brought.Lag ∷ []) acts.old.items acts.new.items) }
+    ensures acts { OnOk result (Grown course.old.size 25 (Lagging ∷ []) acts.old.items acts.new.items) }
 {
-    let Connected { client, node } = connected;
-    emit_to_all(course, acts)?;
-    catch_up(course, acts, node)?;
+    let node = receive(course, acts, client)?;
     add(acts, Act::Cut { client })?;
     let other = other_node(course, node);
     course.move_to(client, Place::On(other));
@@ -120,37 +144,106 @@ fn lag(course: &mut Course, acts: &mut Vec<Act>, connected: Connected) -> Result
     Ok(())
 }
 
-/// The act that spoils the next event of a client, where the fault is such an act.
-fn spoiling(fault: Fault, client: usize) -> Option<Act>
-    ensures none { result ≡ None → fault ≡ brought.Lag }
-    ensures act { IfSome result (λ act. (fault_of act ≡ Some fault)
-        × ((nodes clients : ℕ) → IsUpTo clients client → IsWithin nodes clients act)) }
+/// An event that a client receives, and then its break, and its recovery, for which it asks with an offset that no entry has.
+fn ask_unknown(course: &mut Course, acts: &mut Vec<Act>, client: usize) -> Result<(), AllocError>
+    requires { IsUpTo course.old.size.clients client }
+    ensures size { course.new.size ≡ course.old.size }
+    ensures acts { OnOk result (Grown course.old.size 25 (Unknown ∷ []) acts.old.items acts.new.items) }
 {
-    match fault {
-        Fault::Drop => Some(Act::DropNext { client }),
-        Fault::Double => Some(Act::DoubleNext { client }),
-        Fault::Hold => Some(Act::HoldNext { client }),
-        Fault::Alter => Some(Act::AlterNext { client }),
-        Fault::Lag => None,
-    }
+    let node = receive(course, acts, client)?;
+    add(acts, Act::Cut { client })?;
+    add(acts, Act::RecoverUnknown { client, node })?;
+    Ok(())
 }
 
-/// The fault, once, and what makes it show, where a client is connected.
-fn bring(
+/// A session of which the client is told nothing, and which is over at once.
+fn leave_unanswered(
     course: &mut Course,
     acts: &mut Vec<Act>,
-    connected: Connected,
-    fault: Fault,
+    client: usize,
 ) -> Result<(), AllocError>
-    requires nodes { fault ≡ brought.Lag → 2 ≤ course.old.size.nodes }
-    requires client { IsUpTo course.old.size.clients connected.client }
+    requires { IsUpTo course.old.size.clients client }
     ensures size { course.new.size ≡ course.old.size }
-    ensures acts { OnOk result (Grown course.old.size 23 (fault ∷ []) acts.old.items acts.new.items) }
+    ensures acts { OnOk result (Grown course.old.size 25 (Unanswered ∷ []) acts.old.items acts.new.items) }
 {
-    match spoiling(fault, connected.client) {
-        Some(act) => spoil(course, acts, connected.node, act)?,
-        None => lag(course, acts, connected)?,
-    }
+    disconnect(course, acts, client)?;
+    let node = course.some_node();
+    course.connect(client, node);
+    add(acts, Act::ConnectUnanswered { client, node })?;
+    course.finish(client);
+    add(acts, Act::Finish { client })?;
+    Ok(())
+}
+
+/// A session of which the client is told another sid.
+fn misname(course: &mut Course, acts: &mut Vec<Act>, client: usize) -> Result<(), AllocError>
+    requires { IsUpTo course.old.size.clients client }
+    ensures size { course.new.size ≡ course.old.size }
+    ensures acts { OnOk result (Grown course.old.size 25 (Misnamed ∷ []) acts.old.items acts.new.items) }
+{
+    disconnect(course, acts, client)?;
+    let node = course.some_node();
+    course.connect(client, node);
+    add(acts, Act::ConnectMisnamed { client, node })?;
+    Ok(())
+}
+
+/// A session whose `open` is lost.
+fn lose_open(course: &mut Course, acts: &mut Vec<Act>, client: usize) -> Result<(), AllocError>
+    requires { IsUpTo course.old.size.clients client }
+    ensures size { course.new.size ≡ course.old.size }
+    ensures acts { OnOk result (Grown course.old.size 25 (LostLine ∷ []) acts.old.items acts.new.items) }
+{
+    disconnect(course, acts, client)?;
+    add(acts, Act::LoseLine)?;
+    connect(course, acts, client)?;
+    Ok(())
+}
+
+/// A room that a session leaves and joins again, whose `join` is lost, and an event for the room; all that came before was
+/// taken, so that this is the first that the record of the node does not tell of.
+fn lose_join(course: &mut Course, acts: &mut Vec<Act>, client: usize) -> Result<(), AllocError>
+    requires { IsUpTo course.old.size.clients client }
+    ensures size { course.new.size ≡ course.old.size }
+    ensures acts { OnOk result (Grown course.old.size 25 (LostLine ∷ []) acts.old.items acts.new.items) }
+{
+    let node = connect(course, acts, client)?;
+    catch_up(course, acts, node)?;
+    lose_room(course, acts, client)?;
+    catch_up(course, acts, node)?;
+    Ok(())
+}
+
+/// The acts of that room, up to the event.
+fn lose_room(course: &mut Course, acts: &mut Vec<Act>, client: usize) -> Result<(), AllocError>
+    requires { IsUpTo course.old.size.clients client }
+    ensures size { course.new.size ≡ course.old.size }
+    ensures acts { OnOk result (Grown course.old.size 4 (LostLine ∷ []) acts.old.items acts.new.items) }
+{
+    let alloc = course.alloc;
+    let index = course.below(4);
+    let room = text(alloc, ROOMS[index as usize])?;
+    add(acts, Act::Leave { client, room })?;
+    add(acts, Act::LoseLine)?;
+    let room = text(alloc, ROOMS[index as usize])?;
+    add(acts, Act::Join { client, room })?;
+    let rooms = 1u8 << index;
+    course.hold_more(client, rooms);
+    let act = emit(course, Audience { rooms, ..ALL })?;
+    add(acts, act)?;
+    Ok(())
+}
+
+/// An event that a client receives, and then its break, of which the `break` is lost, and its recovery.
+fn lose_break(course: &mut Course, acts: &mut Vec<Act>, client: usize) -> Result<(), AllocError>
+    requires { IsUpTo course.old.size.clients client }
+    ensures size { course.new.size ≡ course.old.size }
+    ensures acts { OnOk result (Grown course.old.size 25 (LostLine ∷ []) acts.old.items acts.new.items) }
+{
+    let node = receive(course, acts, client)?;
+    add(acts, Act::LoseLine)?;
+    add(acts, Act::Cut { client })?;
+    add(acts, Act::Recover { client, node })?;
     Ok(())
 }
 
@@ -158,9 +251,22 @@ fn bring(
 pub fn inject(course: &mut Course, acts: &mut Vec<Act>, fault: Fault) -> Result<(), AllocError>
     requires { fault ≡ brought.Lag → 2 ≤ course.old.size.nodes }
     ensures size { course.new.size ≡ course.old.size }
-    ensures acts { OnOk result (Grown course.old.size 24 (fault ∷ []) acts.old.items acts.new.items) }
+    ensures acts { OnOk result (Grown course.old.size 25 (kind_of fault ∷ []) acts.old.items acts.new.items) }
 {
-    let connected = connect_some(course, acts)?;
-    bring(course, acts, connected, fault)?;
-    Ok(())
+    let client = course.some_client();
+    match fault {
+        Fault::Drop => spoil(course, acts, client, Act::DropNext { client }),
+        Fault::Double => spoil(course, acts, client, Act::DoubleNext { client }),
+        Fault::Hold => spoil(course, acts, client, Act::HoldNext { client }),
+        Fault::Alter => spoil(course, acts, client, Act::AlterNext { client }),
+        Fault::Garble => spoil(course, acts, client, Act::GarbleNext { client }),
+        Fault::TakeTwice => spoil(course, acts, client, Act::RepeatLine),
+        Fault::Lag => lag(course, acts, client),
+        Fault::UnknownOffset => ask_unknown(course, acts, client),
+        Fault::NoReply => leave_unanswered(course, acts, client),
+        Fault::OtherSid => misname(course, acts, client),
+        Fault::NoOpen => lose_open(course, acts, client),
+        Fault::NoJoin => lose_join(course, acts, client),
+        Fault::NoBreak => lose_break(course, acts, client),
+    }
 }

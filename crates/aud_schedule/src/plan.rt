@@ -14,8 +14,24 @@ pub enum Fault {
     Hold,
     /// An event is sent with another word.
     Alter,
+    /// An event is sent as no packet.
+    Garble,
     /// A session is taken back by a node that has not come as far as the one that it broke off from.
     Lag,
+    /// A session is asked for with an offset that no entry has.
+    UnknownOffset,
+    /// A session is opened, and its client is not told.
+    NoReply,
+    /// A session is opened, and its client is told another sid.
+    OtherSid,
+    /// A node does not record that it opened a session.
+    NoOpen,
+    /// A node does not record that a session joined a room, for which an event comes then.
+    NoJoin,
+    /// A node does not record that a connection broke, though the session is taken back.
+    NoBreak,
+    /// A node records twice that it took an entry.
+    TakeTwice,
 }
 
 /// What a schedule is made from. A schedule with a fault has [`FAULT_ACTS`] acts or more, and one with `Fault::Lag` two

@@ -1,8 +1,8 @@
 //! The schedule of a plan.
-ghost use Rattle.std.specs.Prelude.{◌≡◌, ◌≤◌, [], ◌∷◌, Some, length, IfOk, OnOk, option_to_list};
+ghost use Rattle.std.specs.Prelude.{◌≡◌, ◌≤◌, [], ◌∷◌, Some, length, map, IfOk, OnOk, option_to_list};
 ghost use Rattle.std.specs.List.{All};
 ghost use Rattle.aud_schedule.specs.declared.plan.Fault.TheVariants as brought;
-ghost use Rattle.aud_schedule.specs.Acts.{faults, IsWithin};
+ghost use Rattle.aud_schedule.specs.Acts.{faults, kind_of, IsWithin};
 ghost use Rattle.aud_schedule.specs.Plans.{IsPossible, least_acts, least_nodes};
 ghost use Rattle.aud_schedule.specs.Private.Grown.{Grown};
 
@@ -39,7 +39,7 @@ fn begin_with(
     requires nodes { fault ≡ brought.Lag → 2 ≤ course.old.size.nodes }
     ensures size { course.new.size ≡ course.old.size }
     ensures length { OnOk result (length acts.new.items ≤ count) }
-    ensures acts { OnOk result (Grown course.old.size count (fault ∷ []) acts.old.items acts.new.items) }
+    ensures acts { OnOk result (Grown course.old.size count (kind_of fault ∷ []) acts.old.items acts.new.items) }
 {
     let before = course.below(count - FAULT_ACTS + 1);
     fill(course, acts, before as usize)?;
@@ -59,7 +59,7 @@ fn begin(
     requires nodes { least_nodes fault ≤ course.old.size.nodes }
     ensures size { course.new.size ≡ course.old.size }
     ensures length { OnOk result (length acts.new.items ≤ count) }
-    ensures acts { OnOk result (Grown course.old.size count (option_to_list fault) acts.old.items acts.new.items) }
+    ensures acts { OnOk result (Grown course.old.size count (map kind_of (option_to_list fault)) acts.old.items acts.new.items) }
 {
     match fault {
         Some(fault) => begin_with(course, acts, fault, count)?,
@@ -74,7 +74,7 @@ fn begin(
 pub fn schedule(alloc: Global, plan: &Plan) -> Result<Vec<Act>, AllocError>
     requires { IsPossible plan.now }
     ensures length { IfOk result (λ acts. length acts.items ≡ plan.now.acts) }
-    ensures faults { IfOk result (λ acts. faults acts.items ≡ option_to_list plan.now.fault) }
+    ensures faults { IfOk result (λ acts. faults acts.items ≡ map kind_of (option_to_list plan.now.fault)) }
     ensures within { IfOk result (λ acts. All (IsWithin plan.now.nodes plan.now.clients) acts.items) }
 {
     let size = Size {

@@ -16,13 +16,35 @@ by the seed: the same words give the same bytes on every machine. Without a faul
 receives what is due to it.
 
 The faults, each of which comes once; it takes 32 acts or more, and lag 2 nodes or more:
-  drop    an event is not sent
-  double  an event is sent twice
-  hold    an event is sent after the one that follows it
-  alter   an event is sent with another word
-  lag     a session is taken back by a node that has not come as far as its client has";
+  drop            an event is not sent
+  double          an event is sent twice
+  hold            an event is sent after the one that follows it
+  alter           an event is sent with another word
+  garble          an event is sent as no packet
+  lag             a session is taken back by a node that has not come as far as its client has
+  unknown-offset  a session is asked for with an offset that no entry has
+  no-reply        a session is opened, and its client is not told
+  other-sid       a session is opened, and its client is told another sid
+  no-open         a node does not record that it opened a session
+  no-join         a node does not record that a session joined a room
+  no-break        a node does not record that a connection broke
+  take-twice      a node records twice that it took an entry";
 
-const FAULTS: [&str; 5] = ["drop", "double", "hold", "alter", "lag"];
+const FAULTS: [&str; 13] = [
+    "drop",
+    "double",
+    "hold",
+    "alter",
+    "garble",
+    "lag",
+    "unknown-offset",
+    "no-reply",
+    "other-sid",
+    "no-open",
+    "no-join",
+    "no-break",
+    "take-twice",
+];
 
 const NO_ROOM: &str =
     "a fault takes 32 acts or more, and the fault lag 2 nodes or more\n\nFor more information, try '--help'.";
@@ -112,7 +134,15 @@ fn fault_named(name: &str) -> Option<Fault> {
         "double" => Some(Fault::Double),
         "hold" => Some(Fault::Hold),
         "alter" => Some(Fault::Alter),
+        "garble" => Some(Fault::Garble),
         "lag" => Some(Fault::Lag),
+        "unknown-offset" => Some(Fault::UnknownOffset),
+        "no-reply" => Some(Fault::NoReply),
+        "other-sid" => Some(Fault::OtherSid),
+        "no-open" => Some(Fault::NoOpen),
+        "no-join" => Some(Fault::NoJoin),
+        "no-break" => Some(Fault::NoBreak),
+        "take-twice" => Some(Fault::TakeTwice),
         _ => None,
     }
 }

@@ -12,13 +12,13 @@ use std::thread::Threads;
 use std::time::Clock;
 
 /// Words, a bundle, what is written first, what follows it, and how the run ends.
-pub struct Row {
-    pub words: &'static [&'static str],
-    pub bundle: &'static str,
+pub struct Row<'a> {
+    pub words: &'a [&'a str],
+    pub bundle: &'a str,
     /// The explanations, each with the empty line after it.
-    pub text: &'static str,
+    pub text: &'a str,
     /// The front of the rest, which has the seconds that the run took.
-    pub after: &'static str,
+    pub after: &'a str,
     pub status: Status,
 }
 
@@ -63,7 +63,7 @@ pub fn explained_of_two<H: Threads + Wait + Clock + RandomSource + Sync>(
 pub fn differing<H: Threads + Wait + Clock + RandomSource + Sync>(
     rt: &H,
     alloc: Global,
-    rows: &[Row],
+    rows: &[Row<'_>],
 ) -> Result<String, Fail> {
     let mut found = String::new(alloc);
     for row in rows {
@@ -76,7 +76,7 @@ pub fn differing<H: Threads + Wait + Clock + RandomSource + Sync>(
 /// Writes how the run ended and what it wrote at the end, where the row says otherwise.
 fn push_other(
     found: &mut String,
-    row: &Row,
+    row: &Row<'_>,
     written: &[u8],
     outcome: &Outcome,
 ) -> Result<(), AllocError> {
@@ -90,7 +90,7 @@ fn push_other(
 }
 
 /// Whether the text stands first, and the rest begins as the row says.
-fn is_told(written: &str, row: &Row) -> bool {
+fn is_told(written: &str, row: &Row<'_>) -> bool {
     match written.strip_prefix(row.text) {
         Some(rest) => rest.starts_with(row.after),
         None => false,

@@ -11,12 +11,20 @@ use std::thread::Threads;
 use std::time::Clock;
 
 /// The faults, and what an audit answers on the session of each at least.
-const FAULTS: [(Fault, &str); 5] = [
+const FAULTS: [(Fault, &str); 13] = [
     (Fault::Drop, " LOST "),
     (Fault::Double, " DOUBLED "),
     (Fault::Hold, " SWAPPED "),
     (Fault::Alter, " CONTENT "),
+    (Fault::Garble, " FRAME\n"),
     (Fault::Lag, " DOUBLED "),
+    (Fault::UnknownOffset, " WINDOW "),
+    (Fault::NoReply, " CLIENT\n"),
+    (Fault::OtherSid, " NAMES\n"),
+    (Fault::NoOpen, " NOLOG\n"),
+    (Fault::NoJoin, " EXTRA "),
+    (Fault::NoBreak, " CHAIN\n"),
+    (Fault::TakeTwice, " ORDER\n"),
 ];
 
 /// The size of a cluster, and how long its schedule is.
