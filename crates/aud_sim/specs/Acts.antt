@@ -14,9 +14,9 @@ use Rattle.aud_sim.specs.declared.client.At.TheVariants as at
 use Rattle.aud_sim.specs.declared.client.Injected.{Injected}
 use Rattle.aud_sim.specs.declared.client.Injected.TheVariants as injected
 use Rattle.aud_sim.specs.declared.client.Reply.{Reply}
-use Rattle.aud_sim.specs.declared.client.Reply.TheVariants as reply
+use Rattle.aud_sim.specs.declared.client.Reply.TheVariants.{Own, OtherSid, Missing}
 use Rattle.aud_sim.specs.declared.client.Asked.{Asked}
-use Rattle.aud_sim.specs.declared.client.Asked.TheVariants as asked
+use Rattle.aud_sim.specs.declared.client.Asked.TheVariants.{LastReceived, Unknown}
 use Rattle.aud_sim.specs.declared.client.Session.{Session}
 use Rattle.aud_sim.specs.declared.client.Client.{Client}
 use Rattle.aud_sim.specs.declared.entry.Entry.{Entry}
@@ -123,7 +123,7 @@ client_back client session = record client { connections = next_number client.co
 
 -- the reply, after the replayed frames
 abbrev pub replied : Sent → Lines
-replied sent = option_map_or (λ (session : Session). with_reply reply.Own sent.client.name session sent.lines) sent.client.session sent.lines
+replied sent = option_map_or (λ (session : Session). with_reply Own sent.client.name session sent.lines) sent.client.session sent.lines
 
 -- the entries past the cursor of the break up to the node's that are addressed to the session are replayed
 abbrev pub replay : Asked → List Entry → Client → NodeState → Session → Session → Lines → Sent
@@ -246,14 +246,14 @@ abbrev pub after : Act → State → State
 after (Emit rooms except word bin) s = emitted rooms except word bin s
 after (Volatile client word) s = volatile_sent (client - 1) word s
 after (Take n) s = took_and_sent (n - 1) s
-after (Connect client n) s = connected reply.Own (client - 1) (n - 1) s
-after (ConnectUnanswered client n) s = connected reply.Missing (client - 1) (n - 1) s
-after (ConnectMisnamed client n) s = connected reply.OtherSid (client - 1) (n - 1) s
+after (Connect client n) s = connected Own (client - 1) (n - 1) s
+after (ConnectUnanswered client n) s = connected Missing (client - 1) (n - 1) s
+after (ConnectMisnamed client n) s = connected OtherSid (client - 1) (n - 1) s
 after (Join client room) s = joined (client - 1) room s
 after (Leave client room) s = parted (client - 1) room s
 after (Cut client) s = cut (client - 1) s
-after (Recover client n) s = recovered asked.LastReceived (client - 1) (n - 1) s
-after (RecoverLagging client n) s = recovered asked.LastReceived (client - 1) (n - 1) s
-after (RecoverUnknown client n) s = recovered asked.Unknown (client - 1) (n - 1) s
+after (Recover client n) s = recovered LastReceived (client - 1) (n - 1) s
+after (RecoverLagging client n) s = recovered LastReceived (client - 1) (n - 1) s
+after (RecoverUnknown client n) s = recovered Unknown (client - 1) (n - 1) s
 after (Finish client) s = finished (client - 1) s
 after act s = awaited act s
