@@ -12,6 +12,7 @@ use std::thread::Threads;
 use std::time::Clock;
 
 /// Words, a bundle, what is written first, what follows it, and how the run ends.
+#[derive(Drop)]
 pub struct Row<'a> {
     pub words: &'a [&'a str],
     pub bundle: &'a str,

@@ -260,14 +260,14 @@ fn each_fault_that_a_simulated_cluster_makes(rt: HostRuntime) -> Result<(), Fail
         assert!(rt; 1 <= case.nodes && case.nodes <= 64);
         let acts = acts(rt.alloc(), case.schedule)?;
         let bundle = simulate(rt.alloc(), case.nodes, 1, &acts)?;
-        let row = Row {
+        let rows = [Row {
             words: &["explain", "--pid", case.pid],
             bundle: str::from_utf8(&bundle)?,
             text: case.text,
             after: "sessions: ",
             status: Status::SomeNo,
-        };
-        let found = differing(&rt, rt.alloc(), &[row])?;
+        }];
+        let found = differing(&rt, rt.alloc(), &rows)?;
         assert_eq!(rt; found.as_str(), "", "{}", case.schedule);
     }
     Ok(())
