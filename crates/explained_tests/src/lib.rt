@@ -1,11 +1,6 @@
-<<<<<<< HEAD
-//! Tests of what `explain` writes: for each fault the explanation of a session that has it, which sessions are shown, how a
-//! run ends, and what is said of a refused line. Each is a row of a table: words, a bundle, and the text of the answer. One
-//! is made by the calls below `explain` too.
-=======
-//! Tests of what `explain` writes: for each fault the explanation of a session that has it, in a written bundle and in one of a simulated cluster, which sessions are shown, how a
-//! run ends, and what is said of a refused line. Each is a row of a table: words, a bundle, and the text of the answer.
->>>>>>> eb2218c (aud_schedule, aud_simulation: faults of replies, of offsets that are unknown and of node logs; explained_tests: the thirteen faults of simulated clusters)
+//! Tests of what `explain` writes: for each fault the explanation of a session that has it, in a bundle that is written out
+//! and in one of a simulated cluster; which sessions are shown, how a run ends, and what is said of a refused line. Each is
+//! a row of a table: words, a bundle, and the text of the answer. One is made by the calls below `explain` too.
 #![tactic(auto)]
 
 #[cfg(test)]
