@@ -1,5 +1,6 @@
 -- The faults of a schedule, and the numbers of its acts.
-use Rattle.std.specs.Prelude.{◌≡◌, ℕ, ⊤, List, [], ◌++◌, ◌∷◌, Option, Some, None, option_to_list}
+use Rattle.std.specs.Prelude.{◌≡◌, ℕ, ⊤, List, [], ◌∷◌, ◌++◌, Option, Some, None, option_to_list}
+use Rattle.std.specs.Option.{option_map_or}
 use Rattle.aud_sim.specs.declared.act.Act.{Act}
 use Rattle.aud_sim.specs.declared.act.Act.TheVariants.{Emit, Volatile, Take, Connect, ConnectUnanswered, ConnectMisnamed, Join, Leave, Cut, Recover, RecoverLagging, RecoverUnknown, Finish, DropNext, DoubleNext, HoldNext, AlterNext, GarbleNext, LoseLine, RepeatLine}
 use Rattle.aud_schedule.specs.declared.plan.Fault.{Fault}
@@ -21,39 +22,52 @@ pub data Kind : Type 0 where
   -- in the reply to a client that opens a session
   Unanswered : Kind
   Misnamed : Kind
-  -- to the next line of a node's log
-  LostLine : Kind
-  RepeatedLine : Kind
+  -- to the line of the act after it
+  LostOpen : Kind
+  LostJoin : Kind
+  LostBreak : Kind
+  LostOther : Kind
+  RepeatedTake : Kind
+  RepeatedOther : Kind
 
--- the same of an act, if it is a fault
-abbrev pub fault_of : Act → Option Kind
-fault_of (Emit rooms except word bin) = None
-fault_of (Volatile client word) = None
-fault_of (Take node) = None
-fault_of (Connect client node) = None
-fault_of (ConnectUnanswered client node) = Some Unanswered
-fault_of (ConnectMisnamed client node) = Some Misnamed
-fault_of (Join client room) = None
-fault_of (Leave client room) = None
-fault_of (Cut client) = None
-fault_of (Recover client node) = None
-fault_of (RecoverLagging client node) = Some Lagging
-fault_of (RecoverUnknown client node) = Some Unknown
-fault_of (Finish client) = None
-fault_of (DropNext client) = Some Dropped
-fault_of (DoubleNext client) = Some Doubled
-fault_of (HoldNext client) = Some Held
-fault_of (AlterNext client) = Some Altered
-fault_of (GarbleNext client) = Some Garbled
-fault_of LoseLine = Some LostLine
-fault_of RepeatLine = Some RepeatedLine
+-- where the line of this act is lost
+abbrev pub lost_by : Act → Kind
+lost_by (Connect client node) = LostOpen
+lost_by (Join client room) = LostJoin
+lost_by (Cut client) = LostBreak
+lost_by act = LostOther
+
+-- where the line of this act is written twice
+abbrev pub repeated_by : Act → Kind
+repeated_by (Take node) = RepeatedTake
+repeated_by act = RepeatedOther
+
+-- the first of the acts, where there is one
+abbrev pub next_act : List Act → Option Act
+next_act [] = None
+next_act (act ∷ acts) = Some act
+
+-- what an act does wrong, if it is a fault; a fault of the nodes' logs by the act after it
+abbrev pub fault_of : Act → Option Act → Option Kind
+fault_of (ConnectUnanswered client node) next = Some Unanswered
+fault_of (ConnectMisnamed client node) next = Some Misnamed
+fault_of (RecoverLagging client node) next = Some Lagging
+fault_of (RecoverUnknown client node) next = Some Unknown
+fault_of (DropNext client) next = Some Dropped
+fault_of (DoubleNext client) next = Some Doubled
+fault_of (HoldNext client) next = Some Held
+fault_of (AlterNext client) next = Some Altered
+fault_of (GarbleNext client) next = Some Garbled
+fault_of LoseLine next = Some (option_map_or lost_by next LostOther)
+fault_of RepeatLine next = Some (option_map_or repeated_by next RepeatedOther)
+fault_of act next = None
 
 -- the faults of acts, in their order
 abbrev pub faults : List Act → List Kind
 faults [] = []
-faults (act ∷ acts) = option_to_list (fault_of act) ++ faults acts
+faults (act ∷ acts) = option_to_list (fault_of act (next_act acts)) ++ faults acts
 
--- what the act does wrong by which a fault comes; which line is lost is not said
+-- what the act does wrong by which a fault comes
 abbrev pub kind_of : Fault → Kind
 kind_of fault.Drop = Dropped
 kind_of fault.Double = Doubled
@@ -64,10 +78,10 @@ kind_of fault.Lag = Lagging
 kind_of fault.UnknownOffset = Unknown
 kind_of fault.NoReply = Unanswered
 kind_of fault.OtherSid = Misnamed
-kind_of fault.NoOpen = LostLine
-kind_of fault.NoJoin = LostLine
-kind_of fault.NoBreak = LostLine
-kind_of fault.TakeTwice = RepeatedLine
+kind_of fault.NoOpen = LostOpen
+kind_of fault.NoJoin = LostJoin
+kind_of fault.NoBreak = LostBreak
+kind_of fault.TakeTwice = RepeatedTake
 
 -- the act names no client and no node but those of a cluster of so many nodes and clients
 abbrev pub IsWithin : ℕ → ℕ → Act → Type 0
@@ -94,5 +108,5 @@ IsWithin nodes clients RepeatLine = ⊤
 
 -- an act of a cluster of this size that is no fault
 pub record IsQuiet (size : Size) (act : Act) : Type 0 where
-  pub no_fault : fault_of act ≡ None
+  pub no_fault : fault_of act None ≡ None
   pub within : IsWithin size.nodes size.clients act

@@ -1,10 +1,10 @@
 //! A fault, and the acts around it that make it show: of one client, 25 at most.
-ghost use Rattle.std.specs.Prelude.{◌≡◌, ◌+◌, length, [], ◌∷◌, ◌≤◌, IfOk, OnOk, option_to_list};
+ghost use Rattle.std.specs.Prelude.{◌≡◌, ◌+◌, true, length, [], ◌∷◌, ◌≤◌, None, Some, IfOk, OnOk, option_to_list};
 ghost use Rattle.aud_schedule.specs.declared.course.Size.{Size};
 ghost use Rattle.aud_schedule.specs.declared.plan.Fault.TheVariants as brought;
 ghost use Rattle.aud_schedule.specs.Size.{IsUpTo};
-ghost use Rattle.aud_schedule.specs.Acts.{Lagging, Unknown, Unanswered, Misnamed, LostLine, fault_of, kind_of, IsWithin};
-ghost use Rattle.aud_schedule.specs.Private.Grown.{Grown};
+ghost use Rattle.aud_schedule.specs.Acts.{Lagging, Unknown, Unanswered, Misnamed, LostOpen, LostJoin, LostBreak, RepeatedTake, fault_of, kind_of, IsWithin, IsQuiet};
+ghost use Rattle.aud_schedule.specs.Private.Grown.{is_settled, Grown};
 
 use crate::audience::{ALL, Audience, Place, ROOMS};
 use crate::course::Course;
@@ -16,9 +16,19 @@ use std::alloc::AllocError;
 /// Puts an act at the end.
 pub fn add(acts: &mut Vec<Act>, act: Act) -> Result<(), AllocError>
     ensures length { OnOk result (length acts.new.items ≡ length acts.old.items + 1) }
-    ensures grown { OnOk result ((size : Size) → IsWithin size.nodes size.clients act
-        → Grown size 1 (option_to_list (fault_of act)) acts.old.items acts.new.items) }
+    ensures grown { OnOk result ((size : Size) → is_settled act ≡ true → IsWithin size.nodes size.clients act
+        → Grown size 1 (option_to_list (fault_of act None)) acts.old.items acts.new.items) }
 {
+    acts.push(act)?;
+    Ok(())
+}
+
+/// Puts a fault of the nodes' logs at the end, and the act whose line it takes.
+fn add_two(acts: &mut Vec<Act>, fault: Act, act: Act) -> Result<(), AllocError>
+    ensures { OnOk result ((size : Size) → IsWithin size.nodes size.clients fault → IsQuiet size act
+        → Grown size 2 (option_to_list (fault_of fault (Some act))) acts.old.items acts.new.items) }
+{
+    acts.push(fault)?;
     acts.push(act)?;
     Ok(())
 }
@@ -90,8 +100,7 @@ fn receive(course: &mut Course, acts: &mut Vec<Act>, client: usize) -> Result<us
     Ok(node)
 }
 
-/// An act that spoils the next event that a client is sent, or the next record of its node, and then two events for
-/// everyone, which the node takes.
+/// An act that spoils the next event that a client is sent, and then two events for everyone, which its node takes.
 fn spoil(
     course: &mut Course,
     acts: &mut Vec<Act>,
@@ -99,9 +108,10 @@ fn spoil(
     act: Act,
 ) -> Result<(), AllocError>
     requires client { IsUpTo course.old.size.clients client }
-    requires act { IsWithin course.old.size.nodes course.old.size.clients act }
+    requires settled { is_settled act ≡ true }
+    requires within { IsWithin course.old.size.nodes course.old.size.clients act }
     ensures size { course.new.size ≡ course.old.size }
-    ensures acts { OnOk result (Grown course.old.size 25 (option_to_list (fault_of act)) acts.old.items acts.new.items) }
+    ensures acts { OnOk result (Grown course.old.size 25 (option_to_list (fault_of act None)) acts.old.items acts.new.items) }
 {
     let node = connect(course, acts, client)?;
     add(acts, act)?;
@@ -192,11 +202,12 @@ fn misname(course: &mut Course, acts: &mut Vec<Act>, client: usize) -> Result<()
 fn lose_open(course: &mut Course, acts: &mut Vec<Act>, client: usize) -> Result<(), AllocError>
     requires { IsUpTo course.old.size.clients client }
     ensures size { course.new.size ≡ course.old.size }
-    ensures acts { OnOk result (Grown course.old.size 25 (LostLine ∷ []) acts.old.items acts.new.items) }
+    ensures acts { OnOk result (Grown course.old.size 25 (LostOpen ∷ []) acts.old.items acts.new.items) }
 {
     disconnect(course, acts, client)?;
-    add(acts, Act::LoseLine)?;
-    connect(course, acts, client)?;
+    let node = course.some_node();
+    course.connect(client, node);
+    add_two(acts, Act::LoseLine, Act::Connect { client, node })?;
     Ok(())
 }
 
@@ -205,7 +216,7 @@ fn lose_open(course: &mut Course, acts: &mut Vec<Act>, client: usize) -> Result<
 fn lose_join(course: &mut Course, acts: &mut Vec<Act>, client: usize) -> Result<(), AllocError>
     requires { IsUpTo course.old.size.clients client }
     ensures size { course.new.size ≡ course.old.size }
-    ensures acts { OnOk result (Grown course.old.size 25 (LostLine ∷ []) acts.old.items acts.new.items) }
+    ensures acts { OnOk result (Grown course.old.size 25 (LostJoin ∷ []) acts.old.items acts.new.items) }
 {
     let node = connect(course, acts, client)?;
     catch_up(course, acts, node)?;
@@ -218,15 +229,14 @@ fn lose_join(course: &mut Course, acts: &mut Vec<Act>, client: usize) -> Result<
 fn lose_room(course: &mut Course, acts: &mut Vec<Act>, client: usize) -> Result<(), AllocError>
     requires { IsUpTo course.old.size.clients client }
     ensures size { course.new.size ≡ course.old.size }
-    ensures acts { OnOk result (Grown course.old.size 4 (LostLine ∷ []) acts.old.items acts.new.items) }
+    ensures acts { OnOk result (Grown course.old.size 4 (LostJoin ∷ []) acts.old.items acts.new.items) }
 {
     let alloc = course.alloc;
     let index = course.below(4);
     let room = text(alloc, ROOMS[index as usize])?;
     add(acts, Act::Leave { client, room })?;
-    add(acts, Act::LoseLine)?;
     let room = text(alloc, ROOMS[index as usize])?;
-    add(acts, Act::Join { client, room })?;
+    add_two(acts, Act::LoseLine, Act::Join { client, room })?;
     let rooms = 1u8 << index;
     course.hold_more(client, rooms);
     let act = emit(course, Audience { rooms, ..ALL })?;
@@ -238,12 +248,24 @@ fn lose_room(course: &mut Course, acts: &mut Vec<Act>, client: usize) -> Result<
 fn lose_break(course: &mut Course, acts: &mut Vec<Act>, client: usize) -> Result<(), AllocError>
     requires { IsUpTo course.old.size.clients client }
     ensures size { course.new.size ≡ course.old.size }
-    ensures acts { OnOk result (Grown course.old.size 25 (LostLine ∷ []) acts.old.items acts.new.items) }
+    ensures acts { OnOk result (Grown course.old.size 25 (LostBreak ∷ []) acts.old.items acts.new.items) }
 {
     let node = receive(course, acts, client)?;
-    add(acts, Act::LoseLine)?;
-    add(acts, Act::Cut { client })?;
+    add_two(acts, Act::LoseLine, Act::Cut { client })?;
     add(acts, Act::Recover { client, node })?;
+    Ok(())
+}
+
+/// An event for everyone, and the node of a client takes its next one, of which the `take` is written twice.
+fn repeat_take(course: &mut Course, acts: &mut Vec<Act>, client: usize) -> Result<(), AllocError>
+    requires { IsUpTo course.old.size.clients client }
+    ensures size { course.new.size ≡ course.old.size }
+    ensures acts { OnOk result (Grown course.old.size 25 (RepeatedTake ∷ []) acts.old.items acts.new.items) }
+{
+    let node = connect(course, acts, client)?;
+    emit_to_all(course, acts)?;
+    course.take(node);
+    add_two(acts, Act::RepeatLine, Act::Take { node })?;
     Ok(())
 }
 
@@ -260,7 +282,6 @@ pub fn inject(course: &mut Course, acts: &mut Vec<Act>, fault: Fault) -> Result<
         Fault::Hold => spoil(course, acts, client, Act::HoldNext { client }),
         Fault::Alter => spoil(course, acts, client, Act::AlterNext { client }),
         Fault::Garble => spoil(course, acts, client, Act::GarbleNext { client }),
-        Fault::TakeTwice => spoil(course, acts, client, Act::RepeatLine),
         Fault::Lag => lag(course, acts, client),
         Fault::UnknownOffset => ask_unknown(course, acts, client),
         Fault::NoReply => leave_unanswered(course, acts, client),
@@ -268,5 +289,6 @@ pub fn inject(course: &mut Course, acts: &mut Vec<Act>, fault: Fault) -> Result<
         Fault::NoOpen => lose_open(course, acts, client),
         Fault::NoJoin => lose_join(course, acts, client),
         Fault::NoBreak => lose_break(course, acts, client),
+        Fault::TakeTwice => repeat_take(course, acts, client),
     }
 }

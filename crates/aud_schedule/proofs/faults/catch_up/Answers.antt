@@ -1,4 +1,4 @@
-use Rattle.std.proofs.Common.{[], rules, subst, true, ◌≡◌}
+use Rattle.std.proofs.Common.{[], rules, subst, true, ◌≡◌, refl}
 use Rattle.aud_schedule.specs.declared.course.Size.{Size}
 use Rattle.aud_schedule.specs.Size.{IsUpTo}
 use Rattle.aud_schedule.proofs.Growing.{grown-then}
@@ -11,5 +11,5 @@ loop-taken-preserved c =
     record {
       size = search rules;
       grown = grown-then c.args.course.now.size c.loop-taken.taken 1 [] [] c.args.acts.now.items c.loop-taken.acts.items c.add.new.acts.items
-          c.loop-taken.invariant.grown (c.in_ok-add.ensures.grown c.args.course.now.size there);
+          c.loop-taken.invariant.grown (c.in_ok-add.ensures.grown c.args.course.now.size refl there);
     }

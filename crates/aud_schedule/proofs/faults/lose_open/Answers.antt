@@ -1,6 +1,8 @@
-use Rattle.std.proofs.Common.{[], ◌∷◌, arith}
-use Rattle.aud_schedule.specs.Acts.{LostLine}
-use Rattle.aud_schedule.proofs.Growing.{grown-then, grown-at, grown-more}
+use Rattle.std.proofs.Common.{[], ◌∷◌, refl, arith, subst}
+use Rattle.aud_schedule.specs.declared.course.Size.{Size}
+use Rattle.aud_schedule.specs.Acts.{LostOpen}
+use Rattle.aud_schedule.specs.Size.{IsUpTo}
+use Rattle.aud_schedule.proofs.Growing.{grown-then, grown-more}
 use Rattle.aud_schedule.proofs.faults.lose_open.Goals as goal
 
 pub returns-clause-acts : goal.returns-clause-acts
@@ -8,9 +10,7 @@ returns-clause-acts c =
     let size = c.args.course.now.size in
     let start = c.args.acts.now.items in
     let free = c.disconnect.new.acts.items in
-    let lost = c.add.new.acts.items in
-    let end = c.connect.new.acts.items in
-    let first = c.in_ok-add.ensures.grown size tt in
-    let second = grown-at c.disconnect.new.course.size size 1 [] lost end c.disconnect.ensures.size c.in_ok-connect.ensures.acts in
-    let from_line = grown-then size 1 1 (LostLine ∷ []) [] free lost end first second in
-    grown-more size 3 25 (LostLine ∷ []) start end (omega arith) (grown-then size 1 2 [] (LostLine ∷ []) start free end c.in_ok-disconnect.ensures.acts from_line)
+    let end = c.add_two.new.acts.items in
+    let there = subst (λ (s : Size). IsUpTo s.nodes c.some_node-node.result) c.disconnect.ensures.size c.some_node-node.ensures.node in
+    let lost = c.in_ok-add_two.ensures size tt (record { no_fault = refl; within = (c.requires, there) }) in
+    grown-more size 3 25 (LostOpen ∷ []) start end (omega arith) (grown-then size 1 2 [] (LostOpen ∷ []) start free end c.in_ok-disconnect.ensures.acts lost)

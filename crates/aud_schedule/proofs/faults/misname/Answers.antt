@@ -1,4 +1,4 @@
-use Rattle.std.proofs.Common.{[], ◌∷◌, arith, subst}
+use Rattle.std.proofs.Common.{[], ◌∷◌, refl, arith, subst}
 use Rattle.aud_schedule.specs.declared.course.Size.{Size}
 use Rattle.aud_schedule.specs.Acts.{Misnamed}
 use Rattle.aud_schedule.specs.Size.{IsUpTo}
@@ -12,5 +12,5 @@ returns-clause-acts c =
     let free = c.disconnect.new.acts.items in
     let end = c.add.new.acts.items in
     let there = subst (λ (s : Size). IsUpTo s.nodes c.some_node-node.result) c.disconnect.ensures.size c.some_node-node.ensures.node in
-    let opened = c.in_ok-add.ensures.grown size (c.requires, there) in
+    let opened = c.in_ok-add.ensures.grown size refl (c.requires, there) in
     grown-more size 2 25 (Misnamed ∷ []) start end (omega arith) (grown-then size 1 1 [] (Misnamed ∷ []) start free end c.in_ok-disconnect.ensures.acts opened)
