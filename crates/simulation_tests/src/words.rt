@@ -78,6 +78,36 @@ fn words_that_are_accepted(rt: HostRuntime) -> Result<(), Fail> {
     Ok(())
 }
 
+/// The names of the faults.
+const NAMES: [(&str, Fault); 13] = [
+    ("drop", Fault::Drop),
+    ("double", Fault::Double),
+    ("hold", Fault::Hold),
+    ("alter", Fault::Alter),
+    ("garble", Fault::Garble),
+    ("lag", Fault::Lag),
+    ("unknown-offset", Fault::UnknownOffset),
+    ("no-reply", Fault::NoReply),
+    ("other-sid", Fault::OtherSid),
+    ("no-open", Fault::NoOpen),
+    ("no-join", Fault::NoJoin),
+    ("no-break", Fault::NoBreak),
+    ("take-twice", Fault::TakeTwice),
+];
+
+#[test]
+fn names_of_faults(rt: HostRuntime) -> Result<(), Fail> {
+    for (name, fault) in NAMES {
+        let plan = plan_asked(rt.alloc(), &["simulate", "--fault", name])?;
+        assert!(rt; plan.fault == Some(fault), "{name}");
+        assert!(rt;
+            is_refused(rt.alloc(), &["simulate", "--help"], name, true)?,
+            "{name}"
+        );
+    }
+    Ok(())
+}
+
 /// Whether these words are refused with a text that has this in it, which goes to standard error but where it is help.
 fn is_refused(alloc: Global, words: &[&str], text: &str, is_help: bool) -> Result<bool, Fail> {
     match plan_asked(alloc, words) {
