@@ -28,13 +28,7 @@ const FAULTS: [(Fault, &str); 13] = [
 ];
 
 /// The size of a cluster, and how long its schedule is; the fourth is that of the bundles in `examples/`.
-const SIZES: [(u8, u16, u32); 5] = [
-    (1, 1, 0),
-    (2, 1, 32),
-    (1, 4, 120),
-    (3, 2, 32),
-    (3, 6, 200),
-];
+const SIZES: [(u8, u16, u32); 5] = [(1, 1, 0), (2, 1, 32), (1, 4, 120), (3, 2, 32), (3, 6, 200)];
 
 /// The bundle of a plan.
 fn bundle(alloc: Global, plan: &Plan) -> Result<Vec<u8>, Fail> {
