@@ -12,14 +12,13 @@ use std::thread::Threads;
 use std::time::Clock;
 
 /// Words, a bundle, what is written first, what follows it, and how the run ends.
-#[derive(Drop)]
-pub struct Row<'a> {
-    pub words: &'a [&'a str],
-    pub bundle: &'a str,
+pub struct Row {
+    pub words: &'static [&'static str],
+    pub bundle: &'static str,
     /// The explanations, each with the empty line after it.
-    pub text: &'a str,
+    pub text: &'static str,
     /// The front of the rest, which has the seconds that the run took.
-    pub after: &'a str,
+    pub after: &'static str,
     pub status: Status,
 }
 
@@ -64,36 +63,46 @@ pub fn explained_of_two<H: Threads + Wait + Clock + RandomSource + Sync>(
 pub fn differing<H: Threads + Wait + Clock + RandomSource + Sync>(
     rt: &H,
     alloc: Global,
-    rows: &[Row<'_>],
+    rows: &[Row],
 ) -> Result<String, Fail> {
     let mut found = String::new(alloc);
     for row in rows {
         let (written, outcome) = explained(rt, alloc, row.words, row.bundle)?;
-        push_other(&mut found, row, written.as_slice(), &outcome)?;
+        push_other(
+            &mut found,
+            row.text,
+            row.after,
+            row.status,
+            written.as_slice(),
+            &outcome,
+        )?;
     }
     Ok(found)
 }
 
-/// Writes how the run ended and what it wrote at the end, where the row says otherwise.
-fn push_other(
+/// Writes how the run ended and what it wrote at the end, unless it wrote the text first, then what begins as `after`, and
+/// ended with this status.
+pub fn push_other(
     found: &mut String,
-    row: &Row<'_>,
+    text: &str,
+    after: &str,
+    status: Status,
     written: &[u8],
     outcome: &Outcome,
 ) -> Result<(), AllocError> {
     let Ok(written) = std::str::from_utf8(written) else {
         return writeln!(found, "no UTF-8");
     };
-    if is_told(written, row) && *outcome == Ok(row.status) {
+    if is_told(written, text, after) && *outcome == Ok(status) {
         return Ok(());
     }
     writeln!(found, "{outcome:?}\n{written}")
 }
 
-/// Whether the text stands first, and the rest begins as the row says.
-fn is_told(written: &str, row: &Row<'_>) -> bool {
-    match written.strip_prefix(row.text) {
-        Some(rest) => rest.starts_with(row.after),
+/// Whether the text stands first, and the rest begins as `after`.
+fn is_told(written: &str, text: &str, after: &str) -> bool {
+    match written.strip_prefix(text) {
+        Some(rest) => rest.starts_with(after),
         None => false,
     }
 }

@@ -2,17 +2,22 @@
 //!
 //! Of one node a bundle begins with the headers of `st`, `n1` and `c1` and with the `start` of the node, lines 1 to 4; of two
 //! with those of `n2` too, lines 1 to 6. Above each case stands what the lines after these are.
-use crate::over::{Row, differing};
+use crate::over::{explained, push_other};
 use crate::schedule::acts;
 use aud_report::Status;
 use aud_sim::simulate;
+use std::alloc::Global;
+use std::random::RandomSource;
+use std::sync::Wait;
 use std::test::Fail;
+use std::thread::Threads;
+use std::time::Clock;
 
-/// How many nodes there are, the schedule of one client, the session that is shown, and its explanation.
+/// How many nodes there are, the schedule of one client, the words that ask for a session, and its explanation.
 struct Case {
     nodes: usize,
     schedule: &'static str,
-    pid: &'static str,
+    words: &'static [&'static str],
     text: &'static str,
 }
 
@@ -21,7 +26,7 @@ static CASES: [Case; 13] = [
     Case {
         nodes: 1,
         schedule: "lose c@1 e:a t1 x",
-        pid: "p1",
+        words: &["explain", "--pid", "p1"],
         text: r#"no p1 NOLOG [recording]
 client c1, namespace /, connection 1, turns 0, delivery not judged
     line tap  record
@@ -38,7 +43,7 @@ do: tap each node, from its start.
     Case {
         nodes: 2,
         schedule: "c@1 e:a t1 lose x t2 r@2",
-        pid: "p1",
+        words: &["explain", "--pid", "p1"],
         text: r#"no p1 CHAIN [recording]
 client c1, namespace /, turns 2, delivery not judged
     line tap  record
@@ -57,7 +62,7 @@ do: write a node's log unbuffered; look at the disk and at how logs are rotated.
     Case {
         nodes: 1,
         schedule: "c@1 e:a repeat t1",
-        pid: "p1",
+        words: &["explain", "--pid", "p1"],
         text: r#"no p1 ORDER [recording]
 client c1, namespace /, turns 1, delivery not judged
     line tap  record
@@ -74,7 +79,7 @@ do: let a node take each entry once, in the order of the stream.
     Case {
         nodes: 1,
         schedule: "u@1 e:a t1",
-        pid: "p1",
+        words: &["explain", "--pid", "p1"],
         text: r#"no p1 CLIENT [recording]
 no one client, turns 1, delivery not judged
     turn 0  n1  5 open, cursor 0 == take 1 == 8 log ends, cursor 1
@@ -87,7 +92,7 @@ do: tap the client before its first connection.
     Case {
         nodes: 1,
         schedule: "m@1 e:a t1",
-        pid: "p1",
+        words: &["explain", "--pid", "p1"],
         text: r#"no p1 NAMES [recording]
 client c1, namespace /, connection 1, turns 1, delivery not judged
     line tap  record
@@ -105,7 +110,7 @@ do: write the session's sid into the node's log, not that of the transport.
     Case {
         nodes: 1,
         schedule: "c@1 e:a e:b garble t1 t1",
-        pid: "p1",
+        words: &["explain", "--pid", "p1"],
         text: r#"no p1 FRAME [packets]
 client c1, namespace /, connection 1, turns 1, delivery not judged
     line tap  record
@@ -122,7 +127,7 @@ do: record bodies of polling as they came, and of answers with status 200 alone.
     Case {
         nodes: 1,
         schedule: "u@1 e:a t1 f c@1 e:b t1",
-        pid: "p2",
+        words: &["explain", "--pid", "p2"],
         text: r#"no p2 ORPHAN [packets]
 client c1, namespace /, connection 1, turns 1, delivery not judged
     line tap  record
@@ -140,7 +145,7 @@ do: begin a client's tap before its first packet.
     Case {
         nodes: 1,
         schedule: "c@1 e:hi alter t1",
-        pid: "p1",
+        words: &["explain", "--pid", "p1"],
         text: r#"no p1 CONTENT 1-0 [delivery]
 client c1, namespace /, connection 1, turns 1, got 1, due 1
     line tap  record
@@ -157,7 +162,7 @@ do: look at what stands between the node and the client; let the stream's tap wr
     Case {
         nodes: 1,
         schedule: "c@1 lose j:r e:a:r t1",
-        pid: "p1",
+        words: &["explain", "--pid", "p1"],
         text: r#"no p1 EXTRA 1-0 [delivery]
 client c1, namespace /, connection 1, turns 1, got 1, due 0, differs at frame 1
     line tap  record
@@ -176,7 +181,7 @@ do: look at how the node picks the sessions of a room.
     Case {
         nodes: 1,
         schedule: "c@1 e:a e:b double t1 t1",
-        pid: "p1",
+        words: &["explain", "--pid", "p1"],
         text: r#"no p1 DOUBLED 1-0 [delivery]
 client c1, namespace /, connection 1, turns 1, got 3, due 2, differs at frame 2
     line tap  record
@@ -195,7 +200,7 @@ do: look at what stands between the node and the client, and at what the node se
     Case {
         nodes: 1,
         schedule: "c@1 e:a e:b hold t1 t1",
-        pid: "p1",
+        words: &["explain", "--pid", "p1"],
         text: r#"no p1 SWAPPED 1-0 [delivery]
 client c1, namespace /, connection 1, turns 1, got 2, due 2, differs at frame 1
     line tap  record
@@ -216,7 +221,7 @@ do: look at what stands between the node and the client, and at what the node se
     Case {
         nodes: 1,
         schedule: "c@1 j:r e:a:r e:b drop t1 t1",
-        pid: "p1",
+        words: &["explain", "--pid", "p1"],
         text: r#"no p1 LOST 1-0 [delivery]
 client c1, namespace /, connection 1, turns 1, got 1, due 2, differs at frame 1
     line tap  record
@@ -237,7 +242,7 @@ do: look at what stands between the node and the client, and at what the node se
     Case {
         nodes: 2,
         schedule: "c@1 e:a t1 x e:b t2 t2 o@2",
-        pid: "p1",
+        words: &["explain", "--pid", "p1"],
         text: r#"no p1 WINDOW 2 [delivery]
 client c1, namespace /, connection 2, turns 2, got 2, due 2
     line tap  record
@@ -254,21 +259,36 @@ do: take as offset only what a server that recovers put at the end of an event.
     },
 ];
 
+/// Writes what is explained of the bundle and how the run ended, where the case says otherwise.
+fn push_differing<H: Threads + Wait + Clock + RandomSource + Sync>(
+    rt: &H,
+    alloc: Global,
+    found: &mut String,
+    case: &Case,
+    bundle: &str,
+) -> Result<(), Fail> {
+    let (written, outcome) = explained(rt, alloc, case.words, bundle)?;
+    push_other(
+        found,
+        case.text,
+        "sessions: ",
+        Status::SomeNo,
+        written.as_slice(),
+        &outcome,
+    )?;
+    Ok(())
+}
+
 #[test]
 fn each_fault_that_a_simulated_cluster_makes(rt: HostRuntime) -> Result<(), Fail> {
+    let alloc = rt.alloc();
+    let mut found = String::new(alloc);
     for case in &CASES {
         assert!(rt; 1 <= case.nodes && case.nodes <= 64);
-        let acts = acts(rt.alloc(), case.schedule)?;
-        let bundle = simulate(rt.alloc(), case.nodes, 1, &acts)?;
-        let rows = [Row {
-            words: &["explain", "--pid", case.pid],
-            bundle: str::from_utf8(&bundle)?,
-            text: case.text,
-            after: "sessions: ",
-            status: Status::SomeNo,
-        }];
-        let found = differing(&rt, rt.alloc(), &rows)?;
-        assert_eq!(rt; found.as_str(), "", "{}", case.schedule);
+        let acts = acts(alloc, case.schedule)?;
+        let bundle = simulate(alloc, case.nodes, 1, &acts)?;
+        push_differing(&rt, alloc, &mut found, case, str::from_utf8(&bundle)?)?;
     }
+    assert_eq!(rt; found.as_str(), "");
     Ok(())
 }
