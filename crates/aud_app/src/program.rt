@@ -17,9 +17,6 @@ use std::sync::Wait;
 use std::thread::Threads;
 use std::time::Clock;
 
-/// How many threads read the lines. More were slower where other work has the processors.
-const READERS: usize = 1;
-
 /// Reads the input to its end, decides, and only then writes. The input is read in pieces of at most 65,536 bytes, and
 /// each line is let go once it was read, but for certificates; it is read to its end where a line is refused too. An
 /// audit starts `options.workers` workers, each in a thread of its own; all else is shared out among at most so many
@@ -55,7 +52,8 @@ pub fn run<H: Threads + Wait + Clock + Sync, R: Read, W: Write>(
     ensures read { result ≡ Err RunFault.Read → (has_failed input.new ≡ true) ⊎ (READ_LIMIT ≤ calls_of input.new) }
     ensures write { result ≡ Err RunFault.Write → has_failed output.new ≡ true }
 {
-    let read = read_input(rt, READERS, alloc, keys, layout_of(options.mode), input)?;
+    let threads = options.workers as usize;
+    let read = read_input(rt, threads, alloc, keys, layout_of(options.mode), input)?;
     let Written { status, bytes } = output_of(rt, alloc, keys, options, read)?;
     write_out(output, bytes.as_slice())?;
     Ok(status)

@@ -1,5 +1,5 @@
 -- What `explain` writes, and how it ends.
-use Rattle.std.specs.Prelude.{◌≡◌, ◌-◌, ◌^◌, ◌⊎◌, ℕ, Bool, true, false, List, [], ◌++◌, codes, count_by, length, min, sum_by, None, Ok, Option, Some, if◌then◌else◌}
+use Rattle.std.specs.Prelude.{◌≡◌, ◌-◌, ◌^◌, ◌⊎◌, ℕ, Bool, false, List, [], ◌++◌, codes, count_by, length, min, sum_by, None, Option, Some, if◌then◌else◌}
 use Rattle.std.specs.List.{filter}
 use Rattle.aud_node.specs.Cluster.{Cluster, cluster_of}
 use Rattle.aud_node.specs.Recoverable.{is_recoverable}

@@ -1,6 +1,6 @@
 -- What is written where a line is refused.
 use Rattle.std.specs.Prelude.{ℕ, List, [], ◌++◌, codes, decimal, length, nat_lt, Option, Some, None, slice_get, if◌then◌else◌}
-use Rattle.serde_json.specs.Data.{Data, Members, member, no_members, null, object, string}
+use Rattle.serde_json.specs.Data.{Data, member, no_members, null, object, string}
 use Rattle.serde_json.specs.Written.{compact_text}
 use Rattle.aud_cert_text.specs.Text.{whole}
 use Rattle.aud_node.specs.Stream.{Text}

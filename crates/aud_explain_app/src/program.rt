@@ -23,9 +23,6 @@ use std::sync::Wait;
 use std::thread::Threads;
 use std::time::{Clock, Instant};
 
-/// How many threads read the lines.
-const READERS: usize = 1;
-
 /// What is written for the files.
 fn explained<H: Threads + Wait + Clock + Sync, R: Read>(
     rt: &H,
@@ -40,7 +37,7 @@ fn explained<H: Threads + Wait + Clock + Sync, R: Read>(
     ensures missing { (number : ℕ) → result ≡ Err (NoSession number) → IsFirstMissing options.now (map (λ file. R.remaining (inner_of file)) files.old) number }
 {
     let start = Instant::now(rt).ok();
-    match read_files(rt, READERS, alloc, keys, files) {
+    match read_files(rt, options.workers as usize, alloc, keys, files) {
         Ok(recorded) => output_of(rt, alloc, keys, options, start, &recorded),
         Err(ReadingFault::Refused(refusal)) => {
             let names = options.files.as_slice();

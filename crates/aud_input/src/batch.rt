@@ -6,10 +6,10 @@ use std::alloc::{AllocError, Global};
 use std::marker::Model;
 
 /// So many lines are enough for several threads.
-const MAX_LINES: usize = 8_192;
+const MAX_LINES: usize = 32_768;
 
 /// So many bytes are enough, however few the lines are.
-const MAX_BYTES: usize = 1_048_576;
+const MAX_BYTES: usize = 4_194_304;
 
 /// Lines that wait, in their order, until there are enough of them to be read together.
 #[derive(Drop)]
@@ -54,7 +54,7 @@ impl Batch {
     /// Whether the lines are to wait no longer. For a single thread each line is enough.
     pub fn is_full(&self, threads: usize) -> bool
         ensures one { threads < 2 → result ≡ true }
-        ensures many { 8192 ≤ length self.now → result ≡ true }
+        ensures many { 32768 ≤ length self.now → result ≡ true }
     {
         threads < 2 || MAX_LINES <= self.lines.len() || MAX_BYTES <= self.bytes
     }

@@ -15,7 +15,7 @@ use std::marker::Model;
 use std::thread::Threads;
 
 /// Reads an input that comes in pieces: for one thread each line once it is whole; for several the lines of the bundle
-/// wait until there are 8,192 of them, or 1 MiB, and are read together.
+/// wait until there are 32,768 of them, or 4 MiB, and are read together.
 ///
 /// It keeps the line that has begun, the lines that wait, the certificates, and what the records of the other lines tell.
 /// After a refusal, want of memory too, it gives that refusal from then on, and looks at no more bytes.

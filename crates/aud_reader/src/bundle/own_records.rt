@@ -19,7 +19,7 @@ use std::hash::RandomState;
 use std::thread::Threads;
 
 /// How many lines are read in one piece of work.
-const PART: usize = 256;
+const PART: usize = 1_024;
 
 /// The name and the record of a line. None where the line has no bytes, or is refused for what it says by itself.
 pub type OwnRecord = Option<(Text, Rec)>;
@@ -69,6 +69,18 @@ fn own_record(
     }
 }
 
+/// How much a thread's heap is to grow at once.
+const ROOM: usize = 8_388_608;
+
+/// Asks for a large block and gives it back, so that this thread's heap has room for the records of a part, where there is
+/// memory for it. A heap of glibc's that many small blocks are asked of grows by one page a time, and each time all threads
+/// are interrupted; and what they give back goes to the system in small steps, unless a block of this size was given back.
+fn make_room(alloc: Global) {
+    if let Ok(block) = Vec::<u8>::with_capacity(alloc, ROOM) {
+        drop(block);
+    }
+}
+
 /// What each line says by itself. They share their texts.
 fn own_records(
     alloc: Global,
@@ -77,6 +89,7 @@ fn own_records(
 ) -> Result<Vec<OwnRecord>, AllocError>
     ensures { IfOk result (λ own. AreOfLines lines.now own.items) }
 {
+    make_room(alloc);
     let mut pool = TextPool::new(alloc, keys);
     let mut scratch = Scratch::new(alloc);
     let mut own = Vec::with_capacity(alloc, lines.len())?;
