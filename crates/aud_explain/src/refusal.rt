@@ -12,7 +12,7 @@ pub struct Refusal {
     pub code: InputCode,
     /// Where it stands.
     pub at: FileLine,
-    /// Its bytes, without the line's end; none where the line is too long, or 6 MiB of other lines came after it before it
+    /// Its bytes, without the line's end; none where the line is too long, or 8 MiB of other lines came after it before it
     /// was refused.
     pub line: Bytes,
     /// The first line with the name that it begins with, where the files are read as one input: that of the tap's header, or

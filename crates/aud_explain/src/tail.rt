@@ -7,8 +7,9 @@ use aud_tap::limits::MAX_LINE;
 use memchr::memchr;
 use std::alloc::{AllocError, Global};
 
-/// So many bytes are kept, if there are as many: a line, and those that the reader of a bundle may let wait.
-const KEPT: usize = MAX_LINE + 2_097_152;
+/// So many bytes are kept, if there are as many: a line, the 4 MiB of lines that the reader of a bundle may let wait before
+/// it, and a piece.
+const KEPT: usize = MAX_LINE + 4_194_304 + 65_536;
 
 /// At most so many are kept between two pieces.
 const MOST: usize = 2 * KEPT;
