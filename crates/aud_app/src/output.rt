@@ -13,7 +13,7 @@ use aud_answers::{answers, verification_on};
 use aud_client::Recording;
 use aud_input::{Input, Layout};
 use aud_options::{Mode, Options};
-use aud_reader::ReadFault;
+use aud_reader::{Line, ReadFault};
 use aud_report::{Output, proving_on, refusal};
 use aud_streams::RunFault;
 use aud_tap::Taps;
@@ -52,7 +52,19 @@ fn proved<H: Threads + Sync>(
     ensures { IfOk result (λ o. IsProving (cluster_of taps.now) o) }
 {
     let recording = Recording::read(rt, alloc, keys, threads, taps)?;
-    let proofs = prove(rt, alloc, threads, &recording)?;
+    proved_sessions(rt, alloc, threads, &recording)
+}
+
+/// The certificates of the recording's sessions.
+fn proved_sessions<H: Threads + Sync>(
+    rt: &H,
+    alloc: Global,
+    threads: usize,
+    recording: &Recording<'_>,
+) -> Result<Output, AllocError>
+    ensures { IfOk result (λ o. IsProving recording.now o) }
+{
+    let proofs = prove(rt, alloc, threads, recording)?;
     proving_on(alloc, &proofs)
 }
 
@@ -68,7 +80,20 @@ fn verified<H: Threads + Sync>(
     ensures { IfOk result (λ o. IsVerification (cluster_of input.now.taps) input.now.certificates o) }
 {
     let recording = Recording::read(rt, alloc, keys, threads, &input.taps)?;
-    let all = answers(rt, alloc, threads, &recording, &input.certificates)?;
+    verified_lines(rt, alloc, threads, &recording, &input.certificates)
+}
+
+/// The answers on these certificates over the recording.
+fn verified_lines<H: Threads + Sync>(
+    rt: &H,
+    alloc: Global,
+    threads: usize,
+    recording: &Recording<'_>,
+    certificates: &[Line],
+) -> Result<Output, AllocError>
+    ensures { IfOk result (λ o. IsVerification recording.now certificates.now o) }
+{
+    let all = answers(rt, alloc, threads, recording, certificates)?;
     verification_on(alloc, &all)
 }
 

@@ -1,3 +1,4 @@
+pub mod FirstTexts
 pub mod SameText
 pub mod Truth
 pub mod Numbers

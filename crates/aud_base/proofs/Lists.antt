@@ -1,5 +1,5 @@
 -- Elements of lists by their index.
-use Rattle.std.proofs.Common.{◌≡◌, ◌<◌, ◌≤◌, ◌-◌, ◌+◌, ℕ, zero, suc, Bool, true, false, cond, ◌&&◌, ◌||◌, true≢false, List, [], ◌∷◌, length, map, take, drop, Option, Some, None, option_map, unwrap_or, slice_get, refl, sym, ap, ◌∙◌, arith, Bor, MatchOption, option_copied}
+use Rattle.std.proofs.Common.{◌≡◌, ◌<◌, ◌≤◌, ◌-◌, ◌+◌, ℕ, zero, suc, Bool, true, false, cond, ◌&&◌, ◌||◌, true≢false, List, [], ◌∷◌, ◌++◌, length, map, take, drop, Option, Some, None, option_map, unwrap_or, slice_get, refl, sym, ap, ◌∙◌, arith, Bor, MatchOption, option_copied}
 use Rattle.std.specs.List.{Contains, list_all, list_any, HoldsAt}
 use Rattle.std.proofs.lemmas.Option.{same_Some, none-some, slice_get_past, slice_get_read}
 use Rattle.aud_base.specs.Lists.{between}
@@ -9,6 +9,11 @@ pub element_at : {X : Type 0} (xs : List X) (i : ℕ) → i < length xs → (x :
 element_at [] i h = absurd (omega arith)
 element_at (x ∷ xs) zero h = (x, refl)
 element_at (x ∷ xs) (suc i) h = element_at xs i (omega arith)
+
+-- the element after the first ones
+pub after_these : {X : Type 0} (xs ys : List X) (y : X) → slice_get (xs ++ y ∷ ys) (length xs) ≡ Some y
+after_these [] ys y = refl
+after_these (x ∷ xs) ys y = after_these xs ys y
 
 -- what is left from the index of an element on begins with that element
 pub drop_at : {X : Type 0} (xs : List X) (i : ℕ) (x : X) → slice_get xs i ≡ Some x → drop i xs ≡ x ∷ drop (suc i) xs

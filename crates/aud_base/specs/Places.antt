@@ -1,14 +1,18 @@
 -- Places by the texts that stand there.
-use Rattle.std.specs.Prelude.{ℕ, ◌-◌, List, [], ◌∷◌, ◌++◌, length, Bool, false, Option, Some, None, nat_eq, slice_get, if◌then◌else◌}
+use Rattle.std.specs.Prelude.{ℕ, ◌-◌, List, [], ◌∷◌, ◌++◌, length, map, string_bytes, Bool, false, Option, Some, None, nat_eq, slice_get, if◌then◌else◌}
 use Rattle.std.specs.List.{filter}
 use Rattle.std.specs.Option.{option_map_or}
-use Rattle.std.specs.HashMap.{get_by_text}
+use Rattle.std.specs.HashMap.{get_by_text, keys}
 pub use Rattle.aud_base.specs.Lists.{numbers_from}
 use Rattle.aud_base.specs.declared.places.Places.{Places}
 
 -- the places that the index has for the text
 abbrev pub places_of : Places → List ℕ → List ℕ
 places_of index text = option_map_or (λ places. places.items) (get_by_text index.by_text text) []
+
+-- the texts that stand somewhere, in the order in which they were first noted
+abbrev pub texts_of : Places → List (List ℕ)
+texts_of index = map string_bytes (keys index.by_text)
 
 -- the places, ascending, of those before a number that pass; places count from 0
 abbrev pub places_where : (ℕ → Bool) → ℕ → List ℕ

@@ -1,5 +1,5 @@
 //! Long lists, kept in pages.
-ghost use Rattle.std.specs.Prelude.{◌≡◌, ◌<◌, ◌==◌, ◌++◌, ◌∷◌, [], OnErr, OnOk, Some, length, slice_get, slice_index_or};
+ghost use Rattle.std.specs.Prelude.{◌≡◌, ◌<◌, ◌==◌, ◌++◌, ◌∷◌, [], IfOk, OnErr, OnOk, Some, length, slice_get, slice_index_or};
 ghost use Rattle.std.specs.Option.{option_copied};
 ghost use Rattle.aud_base.specs.Private.Pages.{are_full, elements};
 
@@ -91,6 +91,33 @@ impl<T: Drop> Paged<T> {
         self.len = len;
         Ok(())
     }
+
+    /// The elements, in a vector with room for no others. Each page is let go once its elements are moved there.
+    pub fn into_vec(self) -> Result<Vec<T>, AllocError>
+        ensures { IfOk result (λ all. all.items ≡ self) }
+    {
+        let Paged {
+            alloc,
+            full,
+            last,
+            len,
+        } = self;
+        let mut all = Vec::with_capacity(alloc, len)?;
+        for page in full {
+            move_to(&mut all, page)?;
+        }
+        move_to(&mut all, last)?;
+        Ok(all)
+    }
+}
+
+/// Moves the elements of the page after all others.
+fn move_to<T: Drop>(all: &mut Vec<T>, page: Vec<T>) -> Result<(), AllocError>
+    ensures { OnOk result (all.new.items ≡ all.old.items ++ page.items) }
+{
+    let mut page = page;
+    all.append(&mut page)?;
+    Ok(())
 }
 
 impl<T> Index<usize> for Paged<T> {

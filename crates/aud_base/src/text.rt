@@ -1,24 +1,60 @@
 //! Texts that contracts see as their bytes.
 ghost use Rattle.std.specs.Prelude.{◌≡◌, IfOk};
+ghost use Rattle.std.specs.Arc.{arc_value};
+ghost use Rattle.aud_base.specs.Private.Block.{block_bytes};
 
+use arrayvec::ArrayString;
 use std::alloc::{AllocError, Global};
 use std::hash::{Hash, Hasher};
 use std::marker::Model;
-use std::sync::ArcStr;
+use std::sync::Arc;
+
+/// The most bytes of a short text: with these a block takes 64 bytes of glibc's memory.
+const SHORT: usize = 32;
+
+/// The bytes of a text. Those of a short one stand in the block that is shared, so that it takes a single block.
+#[derive(Drop)]
+pub(crate) enum Block {
+    Short(ArrayString<SHORT>),
+    Long(String),
+}
+
+impl Block {
+    /// A copy of the text.
+    fn new(alloc: Global, text: &str) -> Result<Block, AllocError>
+        ensures { IfOk result (λ block. block_bytes block ≡ text.now) }
+    {
+        match ArrayString::from(text) {
+            Ok(short) => Ok(Block::Short(short)),
+            Err(_) => Ok(Block::Long(String::from_str(alloc, text)?)),
+        }
+    }
+
+    /// The text, lent.
+    fn as_str(&self) -> &str
+        ensures { result.now ≡ block_bytes self.now }
+    {
+        match self {
+            Block::Short(short) => short.as_str(),
+            Block::Long(long) => long.as_str(),
+        }
+    }
+}
 
 /// A name, an offset, a pid, a room or any other text of a record, seen as its bytes. What shares it has the same copy.
 #[derive(Drop)]
 pub struct Text {
-    text: ArcStr,
+    block: Arc<Block>,
 }
 
 impl Model for Text {
     ghost use Rattle.std.specs.Prelude.{List, ℕ};
-    ghost use Rattle.std.specs.Arc.{arc_str_bytes};
+    ghost use Rattle.std.specs.Arc.{arc_value};
+    ghost use Rattle.aud_base.specs.Private.Block.{block_bytes};
 
     ghost Value = { List ℕ };
 
-    ghost view = { λ t. arc_str_bytes t.text };
+    ghost view = { λ t. block_bytes (arc_value t.block) };
 }
 
 impl Text {
@@ -26,23 +62,25 @@ impl Text {
     pub fn new(alloc: Global, text: &str) -> Result<Text, AllocError>
         ensures { IfOk result (λ copy. copy ≡ text.now) }
     {
-        let text = ArcStr::from_str(alloc, text)?;
-        Ok(Text { text })
+        let block = Block::new(alloc, text)?;
+        Ok(Text {
+            block: Arc::new(alloc, block)?,
+        })
     }
 
     /// The same text again, of which nothing is copied.
     pub fn share(&self) -> Result<Text, AllocError>
         ensures { IfOk result (λ same. same ≡ self.now) }
     {
-        let text = self.text.clone()?;
-        Ok(Text { text })
+        let block = Arc::try_clone(&self.block)?;
+        Ok(Text { block })
     }
 
     /// The text, lent.
     pub fn as_str(&self) -> &str
         ensures { result.now ≡ self.now }
     {
-        self.text.as_str()
+        self.block.as_str()
     }
 }
 

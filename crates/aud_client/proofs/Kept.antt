@@ -15,7 +15,7 @@ use Rattle.aud_client.proofs.OnePass.{stays-begins, stays-goes_on}
 use Rattle.aud_client.proofs.Steps.{open-none, open-some, open-begins, open-goes_on}
 use Rattle.aud_client.proofs.Telling.{has_reply, stay_of-first, stay_of-more}
 use Rattle.aud_client.proofs.Maps.{get_after, set_after, set_last}
-use Rattle.aud_client.proofs.Numbers.{after_these}
+use Rattle.aud_base.proofs.Lists.{after_these}
 
 -- a stay that grows at its place
 pub grown_at : {T E : Type 0} (stream : List StreamRec) (r : Result T E) (items : List StaySeen) (place : ℕ) (s new : StaySeen) (p : TapPacket) (t : StaySeen)

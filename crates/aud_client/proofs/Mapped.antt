@@ -2,7 +2,7 @@
 use Rattle.std.proofs.Common.{◌≡◌, ◌++◌, ℕ, suc, List, [], ◌∷◌, map, length, refl, sym, ap, ◌∙◌, arith, append_assoc, length-append, Option, Some, slice_get}
 use Rattle.std.specs.List.{AllZip}
 use Rattle.aud_base.specs.Lists.{numbers_from}
-use Rattle.aud_client.proofs.Numbers.{after_these}
+use Rattle.aud_base.proofs.Lists.{after_these}
 
 -- what a function gives at each element
 pub mapped : {A B : Type 0} (f : A → B) (R : A → B → Type 0) → ((x : A) (y : B) → R x y → y ≡ f x)

@@ -1,18 +1,14 @@
 -- What an index keeps of a list: the numbers, ascending, of the elements that pass a test.
-use Rattle.std.proofs.Common.{◌≡◌, ℕ, ◌+◌, ◌<◌, suc, Bool, false, List, [], ◌∷◌, ◌++◌, length, take, get_or, refl, sym, ap, ◌∙◌, arith, append_assoc, length-append, Option, Some, slice_get}
+use Rattle.std.proofs.Common.{◌≡◌, ℕ, ◌+◌, ◌<◌, suc, Bool, false, List, [], ◌∷◌, ◌++◌, length, take, get_or, refl, sym, ap, ◌∙◌, arith, append_assoc, length-append, Option, slice_get}
 use Rattle.std.specs.List.{filter, filter_map, cons_option}
 use Rattle.std.specs.Option.{option_map_or}
 use Rattle.std.proofs.lemmas.List.{take_more}
 use Rattle.std.proofs.lemmas.List.Elements.{filter_map-append}
 use Rattle.aud_base.specs.Lists.{numbers_from}
 use Rattle.aud_base.specs.Places.{places_where}
+use Rattle.aud_base.proofs.Lists.{after_these}
 
 module _ {X : Type 0} where
-  -- the element after the first ones
-  pub after_these : (xs ys : List X) (y : X) → slice_get (xs ++ y ∷ ys) (length xs) ≡ Some y
-  after_these [] ys y = refl
-  after_these (x ∷ xs) ys y = after_these xs ys y
-
   -- the elements with the numbers kept are those that pass: of the last ones, which stand after n others
   numbered : (p : X → Bool) (all xs ys : List X) (n : ℕ) → xs ++ ys ≡ all → length xs ≡ n
       → filter_map (slice_get all) (filter (λ k. option_map_or p (slice_get all k) false) (numbers_from n (length ys))) ≡ filter p ys

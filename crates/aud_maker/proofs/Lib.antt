@@ -4,4 +4,3 @@ pub mod EndedLemmas
 pub mod SweptLemmas
 pub mod FirstFault
 pub mod Over
-pub mod MentionLemmas

@@ -2,4 +2,3 @@
 pub mod Opening
 pub mod Begun
 pub mod Ended
-pub mod Mentioned

@@ -1,6 +1,6 @@
 //! Sessions in the order of their first mentions.
 ghost use Rattle.std.specs.Prelude.{◌≡◌, IfOk, OnOk, [], map, string_bytes};
-ghost use Rattle.aud_maker.specs.Private.Mentioned.{with_mention};
+ghost use Rattle.aud_base.specs.FirstTexts.{with_text};
 
 use indexmap::IndexSet;
 use std::alloc::{AllocError, Global};
@@ -35,7 +35,7 @@ impl Mentioned {
 
     /// The session is mentioned; one that was before keeps its place.
     pub(crate) fn mention(&mut self, pid: &str) -> Result<(), AllocError>
-        ensures { OnOk result (self.new ≡ with_mention self.old pid.now) }
+        ensures { OnOk result (self.new ≡ with_text self.old pid.now) }
     {
         if self.pids.contains(pid) {
             return Ok(());

@@ -1,54 +1,29 @@
 //! The sessions that the logs mention.
 ghost use Rattle.std.specs.Prelude.{◌≡◌, IfOk, OnOk, map, option_map, string_bytes};
 ghost use Rattle.std.specs.List.{filter_map};
-ghost use Rattle.aud_node.specs.TurnRecords.{pid_of};
+ghost use Rattle.aud_base.specs.FirstTexts.{with_texts};
 ghost use Rattle.aud_node.specs.NodeTaps.{client_at};
-ghost use Rattle.aud_maker.specs.Sessions.{node_pids, stay_pid, reply_pids, sessions_of};
-ghost use Rattle.aud_maker.specs.Private.Mentioned.{with_mentions};
+ghost use Rattle.aud_maker.specs.Sessions.{stay_pid, reply_pids, sessions_of};
 
 use crate::mentioned::Mentioned;
 use aud_client::{Recording, Stay};
-use aud_node::pid;
-use aud_tap::{NodeRecs, Records, Tap};
 use std::alloc::{AllocError, Global};
 
 /// The pids of the sessions, each once, by first mention: in the nodes' taps, in the order of their headers and then of
 /// their records, and then in the clients' taps, in the order of their headers and then of the stays whose replies
-/// name them. Each node's record is looked at once, and each stay: no client's tap is read again.
+/// name them. Each stay is looked at once; no tap is read again.
 pub fn sessions(alloc: Global, recording: &Recording<'_>) -> Result<Vec<String>, AllocError>
     ensures { IfOk result (λ pids. map string_bytes pids.items ≡ sessions_of recording.now) }
 {
     let logs = recording.logs();
     let mut mentioned = Mentioned::new(alloc, logs.keys());
-    let taps = logs.taps();
-    for tap in taps {
-        mention_node(&mut mentioned, tap)?;
+    for number in 0..logs.named_count() {
+        mentioned.mention(logs.named_pid(number))?;
     }
-    for place in 0..taps.len() {
+    for place in 0..logs.taps().len() {
         mention_client(&mut mentioned, recording, place)?;
     }
     mentioned.into_pids()
-}
-
-/// The pids that the tap's records name, if it is a node's.
-fn mention_node(mentioned: &mut Mentioned, tap: &Tap) -> Result<(), AllocError>
-    ensures { OnOk result (mentioned.new ≡ with_mentions mentioned.old (node_pids tap.now)) }
-{
-    match &tap.records {
-        Records::Node(recs) => mention_records(mentioned, recs),
-        _ => Ok(()),
-    }
-}
-
-fn mention_records(mentioned: &mut Mentioned, recs: &NodeRecs) -> Result<(), AllocError>
-    ensures { OnOk result (mentioned.new ≡ with_mentions mentioned.old (filter_map pid_of recs.now)) }
-{
-    for number in 0..recs.len() {
-        if let Some(named) = pid(&recs[number]) {
-            mentioned.mention(named)?;
-        }
-    }
-    Ok(())
 }
 
 /// The pids that the replies of the tap at this place name, if it is a client's.
@@ -57,7 +32,7 @@ fn mention_client(
     recording: &Recording<'_>,
     place: usize,
 ) -> Result<(), AllocError>
-    ensures { OnOk result (mentioned.new ≡ with_mentions mentioned.old (reply_pids recording.now.stream (client_at recording.now place))) }
+    ensures { OnOk result (mentioned.new ≡ with_texts mentioned.old (reply_pids recording.now.stream (client_at recording.now place))) }
 {
     match recording.client(place) {
         Some(transcript) => mention_replies(mentioned, &transcript.transcript().stays),
@@ -66,7 +41,7 @@ fn mention_client(
 }
 
 fn mention_replies(mentioned: &mut Mentioned, stays: &[Stay<'_>]) -> Result<(), AllocError>
-    ensures { OnOk result (mentioned.new ≡ with_mentions mentioned.old (filter_map stay_pid stays.now)) }
+    ensures { OnOk result (mentioned.new ≡ with_texts mentioned.old (filter_map stay_pid stays.now)) }
 {
     for stay in stays {
         if let Some(named) = reply_pid(stay) {

@@ -8,3 +8,4 @@ pub mod NodeLemmas
 pub mod NameLemmas
 pub mod AddresseeLemmas
 pub mod KnownLemmas
+pub mod NodePids

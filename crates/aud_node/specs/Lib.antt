@@ -12,5 +12,6 @@ pub mod AtPosition
 pub mod Known
 pub mod OwnRecords
 pub mod OwnPlaces
+pub mod NamedPids
 pub mod Addressees
 pub mod Private

@@ -9,3 +9,4 @@ pub mod CursorIndex
 pub mod StreamIndex
 pub mod TurnIndex
 pub mod OffsetIndex
+pub mod NodePids

@@ -1,9 +1,10 @@
 //! The cluster's logs.
-ghost use Rattle.std.specs.Prelude.{◌≡◌, IfOk, map, option_map};
+ghost use Rattle.std.specs.Prelude.{◌≡◌, ◌<◌, IfOk, Some, length, map, option_map, slice_get};
 ghost use Rattle.std.specs.Option.{option_copied};
 ghost use Rattle.aud_node.specs.Cluster.{cluster_of, stream_of, stream_place};
 ghost use Rattle.aud_node.specs.NodeTaps.{node_at, node_tap, client_at, client_recs};
 ghost use Rattle.aud_node.specs.Names.{place_of};
+ghost use Rattle.aud_node.specs.NamedPids.{named_pids};
 ghost use Rattle.aud_node.specs.OwnPlaces.{own_places};
 
 use crate::by_name::{nodes_by_pid, taps_by_name};
@@ -51,7 +52,7 @@ impl<'a> Logs<'a> {
         let names = taps_by_name(alloc, keys, taps)?;
         let stream = Stream::build(alloc, keys, entries_of(taps))?;
         let nodes = nodes_of(alloc, keys, &stream, taps)?;
-        let own = nodes_by_pid(alloc, keys, taps)?;
+        let own = nodes_by_pid(alloc, keys, &nodes)?;
         Ok(Logs {
             keys,
             taps,
@@ -111,6 +112,22 @@ impl<'a> Logs<'a> {
         ensures { result.now ≡ own_places self.now pid.now }
     {
         self.own.of(pid)
+    }
+
+    /// How many sessions the nodes' records name.
+    pub fn named_count(&self) -> usize
+        ensures { result ≡ length (named_pids self.now.taps) }
+    {
+        self.own.len()
+    }
+
+    /// The pid of the session with this number, lent. These sessions count from 0 in the order in which records first name
+    /// them: in the nodes' taps, in the order of their headers, and then of their records.
+    pub fn named_pid(&self, number: usize) -> &str
+        requires { number < length (named_pids self.now.taps) }
+        ensures { slice_get (named_pids self.now.taps) number ≡ Some result.now }
+    {
+        self.own.text(number)
     }
 
     /// The records of the client's tap at this place, lent; none where that tap is no client's.

@@ -1,7 +1,10 @@
 //! A node's log.
-ghost use Rattle.std.specs.Prelude.{◌≡◌, ◌<◌, ◌≤◌, IfOk, IfSome, length, option_map};
+ghost use Rattle.std.specs.Prelude.{◌≡◌, ◌<◌, ◌≤◌, [], IfOk, IfSome, length, option_map};
+ghost use Rattle.std.specs.List.{filter_map};
+ghost use Rattle.aud_base.specs.FirstTexts.{with_texts};
 ghost use Rattle.aud_base.specs.Lists.{between};
-ghost use Rattle.aud_node.specs.TurnRecords.{turn_records, turn_range};
+ghost use Rattle.aud_base.specs.Places.{texts_of};
+ghost use Rattle.aud_node.specs.TurnRecords.{pid_of, turn_records, turn_range};
 ghost use Rattle.aud_node.specs.Ordered.{is_ordered};
 ghost use Rattle.aud_node.specs.OwnRecords.{own_numbers};
 ghost use Rattle.aud_node.specs.NodeTap.{cursor_after};
@@ -107,6 +110,13 @@ impl<'a> NodeLog<'a> {
             Some(span) => Some(span.from..span.to),
             None => None,
         }
+    }
+
+    /// The records by the pids that they name, lent.
+    pub(crate) fn pids(&self) -> &Places
+        ensures { texts_of result.now ≡ with_texts [] (filter_map pid_of self.now.recs) }
+    {
+        &self.own
     }
 
     /// The numbers, ascending, of the records that name the pid.

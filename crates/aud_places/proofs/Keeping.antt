@@ -10,7 +10,7 @@ use Rattle.aud_client.specs.Stays.{namespace, is_connect, is_disconnect, is_repl
 use Rattle.aud_client.specs.Private.Open.{place, open_place}
 use Rattle.aud_client.proofs.Steps.{open-none, open-some, open-begins, open-goes_on}
 use Rattle.aud_client.proofs.Maps.{get_after, set_after, set_last}
-use Rattle.aud_client.proofs.Numbers.{after_these}
+use Rattle.aud_base.proofs.Lists.{after_these}
 use Rattle.aud_places.specs.PlacedStays.{PlacedPacket, forgotten, goes_on_placed, placed_after, begins_placed, placed_stays}
 use Rattle.aud_places.specs.StayPlaces.{PlacesSeen, places_of}
 use Rattle.aud_places.specs.Private.Noted.{Keeps, open_at, place_for, no_places, grown}

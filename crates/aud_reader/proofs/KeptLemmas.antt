@@ -64,6 +64,16 @@ tap-at name (u ∷ us) (suc i) place = tap-at name us i (at_later (bytes_eq u.na
 pub place-bound : (name : List ℕ) (ts : List Tap) (i : ℕ) → place_of ts name ≡ Some i → i < length ts
 place-bound name ts i place = let (t, at) = tap-at name ts i place in (at-place name t.records ts i t place at).0
 
+-- more taps after the others leave the places that names have
+pub place_of-more : (name : List ℕ) (ts us : List Tap) (i : ℕ) → place_of ts name ≡ Some i → place_of (ts ++ us) name ≡ Some i
+place_of-more name [] us i place = cc
+place_of-more name (t ∷ ts) us zero place =
+    let first = index_is_first (bytes_eq t.name name) (place_of ts name) place in
+    rw first refl
+place_of-more name (t ∷ ts) us (suc i) place =
+    let later = at_later (bytes_eq t.name name) (place_of ts name) i place in
+    rw (later.0, place_of-more name ts us i later.1) refl
+
 -- where no name has a place, the first hasn't either
 none_of : (b : Bool) (o : Option ℕ) → cond b (Some 0) (option_map suc o) ≡ None → (b ≡ false) × (o ≡ None)
 none_of true o e = cc
@@ -80,7 +90,7 @@ named-none name (u ∷ us) place =
 -- ---- one tap in another's place
 
 -- another tap of the same name, in its place, leaves the places of all names
-place_of-set : (name : List ℕ) (ts : List Tap) (i : ℕ) (t t' : Tap) → i < length ts → get_or ts i t ≡ t → t'.name ≡ t.name → place_of (set ts i t') name ≡ place_of ts name
+pub place_of-set : (name : List ℕ) (ts : List Tap) (i : ℕ) (t t' : Tap) → i < length ts → get_or ts i t ≡ t → t'.name ≡ t.name → place_of (set ts i t') name ≡ place_of ts name
 place_of-set name [] i t t' short at same = absurd (omega arith)
 place_of-set name (u ∷ us) zero t t' short at same =
     ap (λ n. cond (bytes_eq n name) (Some 0) (option_map suc (place_of us name))) (same ∙ ap (λ (x : Tap). x.name) (sym at))

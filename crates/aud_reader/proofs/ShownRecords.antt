@@ -22,13 +22,15 @@ use Rattle.aud_reader.specs.declared.fault.InputCode.{InputCode}
 use Rattle.aud_reader.specs.declared.fault.InputCode.TheVariants.{UnknownKind}
 use Rattle.aud_reader.specs.declared.fault.LineFault.{LineFault}
 use Rattle.aud_reader.specs.declared.fault.LineFault.TheVariants as fault
-use Rattle.aud_reader.specs.Steps.{Fails, Gives}
+use Rattle.aud_reader.specs.declared.bundle.own_records.OwnRecord.{OwnRecord}
+use Rattle.aud_reader.specs.Steps.{Fails}
 use Rattle.aud_reader.specs.Fields.{number_at, id_at, bounded_id_at, namespace_at, id_or_null, id_or_null_at, decoded, as_blob, bytes_at, all_items, list_or_empty, texts_at, blobs_at}
 use Rattle.aud_reader.specs.Header.{header_of}
 use Rattle.aud_reader.specs.StreamRecord.{lists_of, event_of, stream_record_of}
 use Rattle.aud_reader.specs.NodeRecord.{start_of, open_of, member_of, pid_and_turn, node_record_of}
 use Rattle.aud_reader.specs.ClientRecord.{client_record_of}
 use Rattle.aud_reader.specs.Record.{opened_line, kind_named, tap_of_kind, record_in, record_of, value_record, line_record}
+use Rattle.aud_reader.specs.Private.OwnRecords.{IsOwnOf, with_name}
 use Rattle.aud_reader.specs.Bundle.{with_entry, with_node_record, with_client_record, with_tap_record, pids_of, tap_named, with_header, with_later, with_kind, with_named, with_value, with_line}
 
 -- a step that is followed by the same
@@ -223,9 +225,9 @@ module _ (text name : List ℕ) (d v : Data) (opened : opened_line text ≡ Ok (
   record-read (Err fault.Memory) read = tt
   record-read (Err (fault.Code code)) read = rw (opened, record-is, read)
 
-  -- the same of a record that shares its texts
-  pub shared-read : (r : Result (List ℕ × Rec) LineFault) → MatchResult r (λ p. (p.0 ≡ name) × (value_record v ≡ Ok p.1)) (λ e. Fails e (value_record v)) → Gives r (line_record text)
+  -- the same of a record that is kept with its tap's place, or with its name
+  pub own-read : (ts : List Tap) (r : Result OwnRecord LineFault) → MatchResult r (IsOwnOf ts (with_name name (value_record v))) (λ e. Fails e (value_record v)) → MatchResult r (IsOwnOf ts (line_record text)) (λ e. Fails e (line_record text))
   unfolding line_record
-  shared-read (Ok (own, rec)) read = rw (opened, record-is, read.1, read.0)
-  shared-read (Err fault.Memory) read = tt
-  shared-read (Err (fault.Code code)) read = rw (opened, record-is, read)
+  own-read ts (Ok own) read = rw (opened, record-is) read
+  own-read ts (Err fault.Memory) read = tt
+  own-read ts (Err (fault.Code code)) read = rw (opened, record-is, read) refl

@@ -11,6 +11,7 @@ mod stream_log;
 ghost use Rattle.std.specs.Prelude.{◌≡◌, ◌≢◌, ◌++◌, ◌∷◌, [], List, IfOk, IfErr, IfSome, Ok, Err, Some, None};
 ghost use Rattle.std.specs.List.{AllZip, flat_map};
 ghost use Rattle.aud_tap.specs.Names.{AreNamedOnce};
+ghost use Rattle.aud_reader.specs.declared.bundle.own_records.OwnRecord.TheVariants.{Placed};
 ghost use Rattle.aud_reader.specs.declared.line.Line.{Line};
 ghost use Rattle.aud_reader.specs.Lines.{result_of};
 ghost use Rattle.aud_reader.specs.Bundle.{taps_of};
@@ -22,7 +23,7 @@ use crate::fault::{LineFault, ReadFault, refuse};
 use crate::line::Line;
 use aud_base::TextPool;
 use aud_fields::Scratch;
-use aud_tap::Taps;
+use aud_tap::{Rec, Taps};
 use open_taps::OpenTaps;
 use own_records::{OwnRecord, own_records_of, parts_of};
 use std::alloc::Global;
@@ -153,8 +154,9 @@ impl BundleReader {
         let Ok(parts) = parts_of(self.alloc, lines) else {
             return refuse(&mut self.fault, ReadFault::Memory);
         };
-        match own_records_of(rt, self.alloc, self.keys, threads, parts.as_slice()) {
-            Ok(own) => self.join(parts.as_slice(), own),
+        let parts = parts.as_slice();
+        match own_records_of(rt, self.alloc, self.keys, threads, &self.taps, parts) {
+            Ok(own) => self.join(parts, own),
             Err(_) => refuse(&mut self.fault, ReadFault::Memory),
         }
     }
@@ -162,7 +164,7 @@ impl BundleReader {
     /// Adds the records of all parts, in their order.
     fn join(&mut self, parts: &[&[Line]], own: Vec<Vec<OwnRecord>>) -> Result<(), ReadFault>
         requires open { self.old.fault ≡ None }
-        requires own { AllZip (λ part records. AreOfLines part.now records.items) parts.now own.items }
+        requires own { AllZip (λ part records. AreOfLines self.old.taps part.now records.items) parts.now own.items }
         ensures value { result ≡ result_of self.new.fault }
         ensures taps { (more : List Line) → result ≢ Err ReadFault.Memory → taps_to_come self.new more ≡ taps_to_come self.old (flat_map (λ part. part.now) parts.now ++ more) }
     {
@@ -177,7 +179,7 @@ impl BundleReader {
     /// Adds the records of a part's lines, in their order.
     fn join_part(&mut self, lines: &[Line], own: Vec<OwnRecord>) -> Result<(), ReadFault>
         requires open { self.old.fault ≡ None }
-        requires own { AreOfLines lines.now own.items }
+        requires own { AreOfLines self.old.taps lines.now own.items }
         ensures value { result ≡ result_of self.new.fault }
         ensures taps { (more : List Line) → result ≢ Err ReadFault.Memory → taps_to_come self.new more ≡ taps_to_come self.old (lines.now ++ more) }
     {
@@ -192,16 +194,27 @@ impl BundleReader {
     /// Reads the next line, whose record is added where it is known and the tap is there.
     fn parsed_line(&mut self, line: &Line, own: OwnRecord) -> Result<(), ReadFault>
         requires open { self.old.fault ≡ None }
-        requires own { IsOfLine line.now own }
+        requires own { IsOfLine self.old.taps line.now own }
         ensures value { result ≡ result_of self.new.fault }
         ensures taps { (more : List Line) → result ≢ Err ReadFault.Memory → taps_to_come self.new more ≡ taps_to_come self.old (line.now ∷ more) }
     {
-        let Some((name, rec)) = own else {
-            return self.line(line);
-        };
-        let Some(place) = self.taps.place(name.as_str()) else {
-            return self.line(line);
-        };
+        match own {
+            OwnRecord::Placed { place, rec } => self.add_record(line, place, rec),
+            OwnRecord::Named { name, rec } => match self.taps.place(name.as_str()) {
+                Some(place) => self.add_record(line, place, rec),
+                None => self.line(line),
+            },
+            OwnRecord::NoRecord => self.line(line),
+        }
+    }
+
+    /// Adds the record of the next line to the tap at this place, which is the line's.
+    fn add_record(&mut self, line: &Line, place: usize, rec: Rec) -> Result<(), ReadFault>
+        requires open { self.old.fault ≡ None }
+        requires own { IsOfLine self.old.taps line.now (Placed place rec) }
+        ensures value { result ≡ result_of self.new.fault }
+        ensures taps { (more : List Line) → result ≢ Err ReadFault.Memory → taps_to_come self.new more ≡ taps_to_come self.old (line.now ∷ more) }
+    {
         match self.taps.push_record(place, rec) {
             Ok(()) => Ok(()),
             Err(LineFault::Code(code)) => {

@@ -18,7 +18,8 @@ use Rattle.aud_node.specs.Ordered.{is_ordered}
 use Rattle.aud_node.specs.NodeTaps.{client_recs}
 use Rattle.aud_node.specs.TurnRecords.{pid_of}
 use Rattle.aud_client.specs.Replies.{is_naming}
-use Rattle.aud_maker.specs.Sessions.{node_pids, reply_pids, mentions, first_mentions, sessions_of}
+use Rattle.aud_base.specs.FirstTexts.{first_texts}
+use Rattle.aud_maker.specs.Sessions.{node_pids, reply_pids, mentions, sessions_of}
 use Rattle.aud_verdict.specs.Verdict.{IsVerdict}
 use Rattle.aud_upgrade.specs.Upgraded.{upgraded_log, upgraded_records, upgraded_tap, upgraded}
 use Rattle.aud_upgrade.specs.Kept.{UpgradesKeepVerdicts}
@@ -153,7 +154,7 @@ upgrades_keep_verdicts taps =
     let stream = stream_of taps in
     let same : cluster_of (upgraded taps) ≡ over stream (upgraded taps) = ap (λ entries. over entries (upgraded taps)) (stream-kept stream taps) in
     record {
-      sessions = ap sessions_of same ∙ ap first_mentions (mentioned stream taps);
+      sessions = ap sessions_of same ∙ ap first_texts (mentioned stream taps);
       kept = λ whole pid verdict is. subst (λ c. IsVerdict c whole pid verdict) (sym same) (same_verdict stream taps (upgraded taps) (alike stream taps) whole pid verdict is);
       not_new = λ whole pid verdict is.
           same_verdict stream (upgraded taps) taps (turned_round stream taps (upgraded taps) (alike stream taps)) whole pid verdict (subst (λ c. IsVerdict c whole pid verdict) same is);

@@ -1,11 +1,18 @@
-//! Texts, lists of them, attachments, places and pools, over the public calls of `aud_base`.
-use aud_base::{Blobs, Bytes, Places, Text, TextPool, Texts};
+//! Texts, lists of them, attachments, lists in pages, places and pools, over the public calls of `aud_base`.
+use aud_base::{Blobs, Bytes, Paged, Places, Text, TextPool, Texts};
 use std::alloc::{AllocError, Global};
 use std::hash::RandomState;
 use std::process::Abort;
 use std::test::Fail;
 
-static TEXTS: [&str; 3] = ["r", "", "\u{20ac}"];
+/// Texts, the last two of 32 and of 33 bytes.
+static TEXTS: [&str; 5] = [
+    "r",
+    "",
+    "\u{20ac}",
+    "thirty-two bytes in one block...",
+    "thirty-three bytes in two blocks.",
+];
 
 fn texts(alloc: Global) -> Result<Texts, AllocError> {
     let mut texts = Vec::new(alloc);
@@ -34,7 +41,9 @@ fn are_texts(alloc: Global, expected: &str) -> Result<bool, Fail> {
 
 #[test]
 fn texts_in_their_order(rt: HostRuntime) -> Result<(), Fail> {
-    assert!(rt; are_texts(rt.alloc(), "r||\u{20ac}|")?);
+    let expected =
+        "r||\u{20ac}|thirty-two bytes in one block...|thirty-three bytes in two blocks.|";
+    assert!(rt; are_texts(rt.alloc(), expected)?);
     Ok(())
 }
 
@@ -94,6 +103,52 @@ fn assert_places(rt: &impl Abort, index: &Places) {
 fn places_of_texts(rt: HostRuntime) -> Result<(), Fail> {
     let keys = RandomState::new(&rt)?;
     assert_places(&rt, &index(rt.alloc(), keys)?);
+    Ok(())
+}
+
+/// The texts, each with a bar after it, in the order in which they were first noted.
+fn noted_told(alloc: Global, index: &Places) -> Result<String, AllocError> {
+    let mut told = String::new(alloc);
+    for number in 0..index.len() {
+        told.push_str(index.text(number))?;
+        told.push('|')?;
+    }
+    Ok(told)
+}
+
+#[test]
+fn noted_texts_in_their_order(rt: HostRuntime) -> Result<(), Fail> {
+    let index = index(rt.alloc(), RandomState::new(&rt)?)?;
+    assert_eq!(rt; noted_told(rt.alloc(), &index)?.as_str(), "r|q||");
+    Ok(())
+}
+
+/// So many numbers, from 0 on, moved out of their pages.
+fn numbers(alloc: Global, count: usize) -> Result<Vec<usize>, AllocError> {
+    let mut pages = Paged::new(alloc);
+    for number in 0..count {
+        pages.push(number)?;
+    }
+    pages.into_vec()
+}
+
+/// Whether the numbers are those from 0 on.
+fn are_numbers(numbers: &[usize]) -> bool {
+    for (place, number) in numbers.iter().enumerate() {
+        if *number != place {
+            return false;
+        }
+    }
+    true
+}
+
+#[test]
+fn elements_moved_out_of_their_pages(rt: HostRuntime) -> Result<(), Fail> {
+    for count in [0, 1, 4_096, 4_097, 9_000] {
+        let numbers = numbers(rt.alloc(), count)?;
+        assert_eq!(rt; numbers.len(), count);
+        assert!(rt; are_numbers(&numbers));
+    }
     Ok(())
 }
 

@@ -105,6 +105,15 @@ fn nodes_told(alloc: Global, logs: &Logs<'_>, pid: &str) -> Result<String, Fail>
     Ok(format!(in alloc; "{places:?}")?)
 }
 
+/// The pids that nodes name, each with a blank after it.
+fn named_told(alloc: Global, logs: &Logs<'_>) -> Result<String, Fail> {
+    let mut told = String::new(alloc);
+    for number in 0..logs.named_count() {
+        write!(told, "{} ", logs.named_pid(number))?;
+    }
+    Ok(told)
+}
+
 fn place_told(alloc: Global, logs: &Logs<'_>, name: &str) -> Result<String, Fail> {
     let place = logs.place_of(name);
     Ok(format!(in alloc; "{place:?}")?)
@@ -128,6 +137,8 @@ enum Asked {
     Place(&'static str),
     /// The places of the nodes that name a pid.
     Nodes(&'static str),
+    /// The pids that nodes name.
+    Named,
 }
 
 impl Question for Asked {
@@ -137,12 +148,13 @@ impl Question for Asked {
             Asked::Turn(name, turn) => turn_told(alloc, log_of(logs, name)?, *turn),
             Asked::Place(name) => place_told(alloc, logs, name),
             Asked::Nodes(pid) => nodes_told(alloc, logs, pid),
+            Asked::Named => named_told(alloc, logs),
         }
     }
 }
 
 /// A node is of a session that one of its records names, whichever that is, and stands in the order of the taps.
-static ANSWERS: [(Asked, &str); 13] = [
+static ANSWERS: [(Asked, &str); 14] = [
     (Asked::Place("a"), "Some(1)"),
     (Asked::Place("d"), "Some(4)"),
     (Asked::Place("e"), "None"),
@@ -159,6 +171,7 @@ static ANSWERS: [(Asked, &str); 13] = [
     (Asked::Nodes("P"), "[1, 2, 4]"),
     (Asked::Nodes("Q"), "[3, 4]"),
     (Asked::Nodes("R"), "[]"),
+    (Asked::Named, "P Q "),
 ];
 
 #[test]

@@ -1,5 +1,5 @@
 //! The records of a client tap, while they are read.
-ghost use Rattle.std.specs.Prelude.{◌≡◌, ◌∷◌, ◌++◌, [], Ok};
+ghost use Rattle.std.specs.Prelude.{◌≡◌, ◌∷◌, ◌++◌, [], IfOk, Ok};
 ghost use Rattle.aud_fields.specs.View.{view};
 ghost use Rattle.aud_reader.specs.Connections.{may_follow};
 ghost use Rattle.aud_reader.specs.Private.Connected.{Connected};
@@ -10,17 +10,17 @@ ghost use Rattle.aud_reader.specs.Private.NewRecord.{with_new_client_record};
 use super::node_log::MAX_RECORDS;
 use crate::fault::{FIELD, LIMIT, LineFault};
 use crate::read::client::client_record;
-use aud_base::TextPool;
+use aud_base::{Paged, TextPool};
 use aud_fields::Fields;
 use aud_tap::{ClientRec, ClientRecs};
-use std::alloc::Global;
+use std::alloc::{AllocError, Global};
 use std::marker::Model;
 
-/// The records so far, the number of the connection that began last, and whether one is open.
+/// The records so far, in pages, the number of the connection that began last, and whether one is open.
 #[derive(Drop)]
 pub struct ClientLog {
     alloc: Global,
-    records: Vec<ClientRec>,
+    records: Paged<ClientRec>,
     last: Option<u64>,
     is_open: bool,
 }
@@ -32,9 +32,9 @@ impl Model for ClientLog {
 
     ghost Value = { List ClientRec };
 
-    ghost view = { λ s. s.records.items };
+    ghost view = { λ s. s.records };
 
-    ghost invariant = { λ s. Connected s.records.items s.last s.is_open };
+    ghost invariant = { λ s. Connected s.records s.last s.is_open };
 }
 
 impl ClientLog {
@@ -45,7 +45,7 @@ impl ClientLog {
     {
         ClientLog {
             alloc,
-            records: Vec::new(alloc),
+            records: Paged::new(alloc),
             last: None,
             is_open: false,
         }
@@ -118,10 +118,10 @@ impl ClientLog {
         self.push(rec)
     }
 
-    /// The records, at the end.
-    pub fn close(self) -> ClientRecs
-        ensures { result ≡ self }
+    /// The records, at the end, moved out of their pages.
+    pub fn close(self) -> Result<ClientRecs, AllocError>
+        ensures { IfOk result (λ records. records ≡ self) }
     {
-        ClientRecs::new(self.records)
+        Ok(ClientRecs::new(self.records.into_vec()?))
     }
 }

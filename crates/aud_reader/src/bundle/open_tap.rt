@@ -1,5 +1,5 @@
 //! A tap, while it is read.
-ghost use Rattle.std.specs.Prelude.{◌≡◌, ◌++◌, List, ℕ, OnOk};
+ghost use Rattle.std.specs.Prelude.{◌≡◌, ◌++◌, List, ℕ, IfOk, OnOk};
 ghost use Rattle.std.specs.List.{filter_map};
 ghost use Rattle.aud_fields.specs.View.{view};
 ghost use Rattle.aud_reader.specs.Private.Changes.{Becomes};
@@ -15,7 +15,7 @@ use crate::fault::{HEADER_TWICE, LineFault, UNKNOWN_KIND};
 use aud_base::TextPool;
 use aud_fields::Fields;
 use aud_tap::{NodeRecs, Rec, Records, Tap, TapKind, Text, Version};
-use std::alloc::Global;
+use std::alloc::{AllocError, Global};
 use std::collections::HashSet;
 use std::hash::RandomState;
 
@@ -85,13 +85,13 @@ impl OpenLog {
         }
     }
 
-    fn close(self) -> Records
-        ensures { result ≡ records_so_far self }
+    fn close(self) -> Result<Records, AllocError>
+        ensures { IfOk result (λ records. records ≡ records_so_far self) }
     {
         match self {
-            OpenLog::Stream(entries) => Records::Stream(entries.close()),
-            OpenLog::Node(records) => Records::Node(records),
-            OpenLog::Client(records) => Records::Client(records.close()),
+            OpenLog::Stream(entries) => Ok(Records::Stream(entries.close())),
+            OpenLog::Node(records) => Ok(Records::Node(records)),
+            OpenLog::Client(records) => Ok(Records::Client(records.close()?)),
         }
     }
 }
@@ -155,14 +155,14 @@ impl OpenTap {
     }
 
     /// The tap, at the end.
-    pub fn close(self) -> Tap
-        ensures { result ≡ tap_so_far self }
+    pub fn close(self) -> Result<Tap, AllocError>
+        ensures { IfOk result (λ tap. tap ≡ tap_so_far self) }
     {
         let OpenTap { name, version, log } = self;
-        Tap {
+        Ok(Tap {
             name,
             version,
-            records: log.close(),
-        }
+            records: log.close()?,
+        })
     }
 }

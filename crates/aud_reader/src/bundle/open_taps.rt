@@ -166,7 +166,7 @@ impl OpenTaps {
     {
         let mut taps = Vec::new(self.alloc);
         for tap in self.taps {
-            taps.push(tap.close())?;
+            taps.push(tap.close()?)?;
         }
         Ok(Taps::new(taps))
     }

@@ -1,11 +1,14 @@
 //! What lines say by themselves, read in many threads.
-ghost use Rattle.std.specs.Prelude.{◌≡◌, IfOk, MatchResult, Ok, map};
+ghost use Rattle.std.specs.Prelude.{◌≡◌, IfOk, MatchResult};
 ghost use Rattle.std.specs.List.{AllZip, flat_map};
 ghost use Rattle.aud_fields.specs.View.{view};
 ghost use Rattle.aud_reader.specs.Record.{line_record, value_record};
-ghost use Rattle.aud_reader.specs.Steps.{Fails, Gives};
-ghost use Rattle.aud_reader.specs.Private.OwnRecords.{AreOfLines, IsOfLine};
+ghost use Rattle.aud_reader.specs.Steps.{Fails};
+ghost use Rattle.aud_reader.specs.Private.Kept.{KeepsTaps};
+ghost use Rattle.aud_reader.specs.Private.OwnRecords.{AreOfLines, IsOfLine, IsOwnOf, with_name};
+ghost use Rattle.aud_reader.specs.SoFar.{taps_so_far};
 
+use super::open_taps::OpenTaps;
 use crate::fault::LineFault;
 use crate::line::Line;
 use crate::read::line::opened_line;
@@ -21,50 +24,73 @@ use std::thread::Threads;
 /// How many lines are read in one piece of work.
 const PART: usize = 1_024;
 
-/// The name and the record of a line. None where the line has no bytes, or is refused for what it says by itself.
-pub type OwnRecord = Option<(Text, Rec)>;
+/// What a line says by itself.
+#[derive(Drop)]
+pub enum OwnRecord {
+    /// The record of a line whose tap stands at this place.
+    Placed { place: usize, rec: Rec },
+    /// The name and the record of a line whose tap was not there when the lines were parsed.
+    Named { name: Text, rec: Rec },
+    /// The line has no bytes, or is refused for what it says by itself.
+    NoRecord,
+}
 
-/// The name and the record of the fields after it, of which the texts are shared with the pool.
-fn shared_record(
+/// The record of the fields after a tap's name, of which the texts are shared with the pool. The name is kept only where it
+/// is none of the taps'.
+fn placed_record(
     alloc: Global,
+    taps: &OpenTaps,
     pool: &mut TextPool,
     name: &str,
     d: &Fields<'_>,
-) -> Result<(Text, Rec), LineFault>
+) -> Result<OwnRecord, LineFault>
+    requires { KeepsTaps taps.now }
     ensures { MatchResult result
-        (λ p. (p.0 ≡ name.now) × (value_record (view d.now) ≡ Ok p.1))
+        (IsOwnOf (taps_so_far taps.now) (with_name name.now (value_record (view d.now))))
         (λ e. Fails e (value_record (view d.now))) }
 {
-    let name = pool.text(name)?;
-    Ok((name, value_record(alloc, pool, d)?))
+    let rec = value_record(alloc, pool, d)?;
+    match taps.place(name) {
+        Some(place) => Ok(OwnRecord::Placed { place, rec }),
+        None => {
+            let name = pool.text(name)?;
+            Ok(OwnRecord::Named { name, rec })
+        }
+    }
 }
 
-/// The name and the record of a line, of which the texts are shared with the pool.
+/// The record of a line that is not refused for what it says by itself. Its texts are shared with the pool.
 #[tactic(auto, unfolding(crate::specs::Record::line_record))]
-fn named_record(
+fn opened_record(
     alloc: Global,
+    taps: &OpenTaps,
     pool: &mut TextPool,
     scratch: &mut Scratch,
     line: &[u8],
-) -> Result<(Text, Rec), LineFault>
-    ensures { Gives result (line_record line.now) }
+) -> Result<OwnRecord, LineFault>
+    requires { KeepsTaps taps.now }
+    ensures { MatchResult result
+        (IsOwnOf (taps_so_far taps.now) (line_record line.now))
+        (λ e. Fails e (line_record line.now)) }
 {
     let (name, d) = opened_line(alloc, scratch, line)?;
-    shared_record(alloc, pool, name, &d)
+    placed_record(alloc, taps, pool, name, &d)
 }
 
 /// What a line says by itself. Its texts are shared with the pool.
 fn own_record(
     alloc: Global,
+    taps: &OpenTaps,
     pool: &mut TextPool,
     scratch: &mut Scratch,
     line: &Line,
 ) -> Result<OwnRecord, AllocError>
-    ensures { IfOk result (IsOfLine line.now) }
+    requires { KeepsTaps taps.now }
+    ensures { IfOk result (IsOfLine (taps_so_far taps.now) line.now) }
 {
-    match named_record(alloc, pool, scratch, line.bytes.as_slice()) {
-        Ok(parts) => Ok(Some(parts)),
-        Err(LineFault::Code(_)) => Ok(None),
+    match opened_record(alloc, taps, pool, scratch, line.bytes.as_slice()) {
+        Ok(own) => Ok(own),
+        Err(LineFault::Code(_)) => Ok(OwnRecord::NoRecord),
         Err(LineFault::Memory) => Err(AllocError),
     }
 }
@@ -85,16 +111,18 @@ fn make_room(alloc: Global) {
 fn own_records(
     alloc: Global,
     keys: RandomState,
+    taps: &OpenTaps,
     lines: &[Line],
 ) -> Result<Vec<OwnRecord>, AllocError>
-    ensures { IfOk result (λ own. AreOfLines lines.now own.items) }
+    requires { KeepsTaps taps.now }
+    ensures { IfOk result (λ own. AreOfLines (taps_so_far taps.now) lines.now own.items) }
 {
     make_room(alloc);
     let mut pool = TextPool::new(alloc, keys);
     let mut scratch = Scratch::new(alloc);
     let mut own = Vec::with_capacity(alloc, lines.len())?;
     for line in lines {
-        let record = own_record(alloc, &mut pool, &mut scratch, line)?;
+        let record = own_record(alloc, taps, &mut pool, &mut scratch, line)?;
         own.push(record)?;
     }
     Ok(own)
@@ -111,15 +139,17 @@ pub fn parts_of<'a>(alloc: Global, lines: &'a [Line]) -> Result<Vec<&'a [Line]>,
     Ok(parts)
 }
 
-/// What the lines of each part say by themselves, in at most so many threads.
+/// What the lines of each part say by themselves, in at most so many threads, which look these taps up by their names.
 pub fn own_records_of<H: Threads + Sync>(
     rt: &H,
     alloc: Global,
     keys: RandomState,
     threads: usize,
+    taps: &OpenTaps,
     parts: &[&[Line]],
 ) -> Result<Vec<Vec<OwnRecord>>, AllocError>
-    ensures { IfOk result (λ own. AllZip (λ part records. AreOfLines part.now records.items) parts.now own.items) }
+    requires { KeepsTaps taps.now }
+    ensures { IfOk result (λ own. AllZip (λ part records. AreOfLines (taps_so_far taps.now) part.now records.items) parts.now own.items) }
 {
     try_map(
         rt,
@@ -127,7 +157,8 @@ pub fn own_records_of<H: Threads + Sync>(
         threads,
         parts,
         |part: &&[Line]| -> Result<Vec<OwnRecord>, AllocError>
-            ensures { IfOk result (λ own. AreOfLines part.now.now own.items) }
-        { own_records(alloc, keys, *part) },
+            requires { KeepsTaps taps.now }
+            ensures { IfOk result (λ own. AreOfLines (taps_so_far taps.entry.now) part.now.now own.items) }
+        { own_records(alloc, keys, taps, *part) },
     )
 }

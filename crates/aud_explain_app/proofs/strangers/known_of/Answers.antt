@@ -8,4 +8,4 @@ pub loop-session-preserved : goal.loop-session-preserved
 loop-session-preserved c =
     known_item c.loop-session.known c.note.new.self c.args.sessions.now c.loop-session.session-index c.session-item.result
     c.loop-session-test.true c.session-item.is c.loop-session.invariant
-    (λ q. subst (λ pid. places_of c.note.new.self q ≡ noted 0 (bytes_eq pid q) (places_of c.loop-session.known q)) c.as_str.ensures (c.in_ok-note.ensures q))
+    (λ q. subst (λ pid. places_of c.note.new.self q ≡ noted 0 (bytes_eq pid q) (places_of c.loop-session.known q)) c.as_str.ensures (c.in_ok-note.ensures.places q))

@@ -1,9 +1,9 @@
 use Rattle.std.proofs.Common.{◌≡◌, drop}
 use Rattle.std.specs.List.{filter_map}
 use Rattle.aud_maker.specs.Sessions.{stay_pid}
-use Rattle.aud_maker.specs.Private.Mentioned.{with_mentions}
+use Rattle.aud_base.specs.FirstTexts.{with_texts}
 use Rattle.aud_maker.proofs.mentions.mention_replies.Given as goal
 
 abbrev pub invariant-loop-stay : goal.invariant-loop-stay
 invariant-loop-stay l =
-    with_mentions l.mentioned (filter_map stay_pid (drop l.stay-index l.stays)) ≡ with_mentions l.initial.mentioned (filter_map stay_pid l.stays)
+    with_texts l.mentioned (filter_map stay_pid (drop l.stay-index l.stays)) ≡ with_texts l.initial.mentioned (filter_map stay_pid l.stays)

@@ -10,4 +10,4 @@ loop-room-preserved c = λ q.
     noted-item c.args.position (λ (room : Text). bytes_eq room q) c.args.rooms.now c.loop-room.room-index c.room-item.result
     (places_of c.args.positions.now q) (places_of c.loop-room.positions q) (places_of c.note.new.self q)
     c.loop-room-test.true c.room-item.is (c.loop-room.invariant q)
-    (c.in_ok-note.ensures q ∙ ap (λ (t : Text). noted c.args.position (bytes_eq t q) (places_of c.loop-room.positions q)) c.as_str.ensures)
+    (c.in_ok-note.ensures.places q ∙ ap (λ (t : Text). noted c.args.position (bytes_eq t q) (places_of c.loop-room.positions q)) c.as_str.ensures)

@@ -12,7 +12,7 @@ pub loop-place-preserved : goal.loop-place-preserved
 loop-place-preserved c = λ q.
     noted-at (λ o. option_map_or (λ (tap : Tap). bytes_eq tap.name q) o false) c.args.taps.now c.loop-place.place c.index-taps-place.result
     (places_of c.loop-place.places q) (places_of c.note.new.self q) (omega arith) c.index-taps-place.is (c.loop-place.invariant q)
-    (c.in_ok-note.ensures q ∙ ap (λ (t : Text). noted c.loop-place.place (bytes_eq t q) (places_of c.loop-place.places q)) c.as_str.ensures)
+    (c.in_ok-note.ensures.places q ∙ ap (λ (t : Text). noted c.loop-place.place (bytes_eq t q) (places_of c.loop-place.places q)) c.as_str.ensures)
 
 pub returns : goal.returns
 returns c = λ q.

@@ -9,6 +9,6 @@ use Rattle.aud_reader.proofs.bundle.BundleReader.join.Given as goal
 abbrev pub invariant-loop-records : goal.invariant-loop-records
 invariant-loop-records l = record {
   going : l.self.fault ≡ None;
-  own : AllZip (λ part records. AreOfLines part.now records.items) (drop l.number l.parts) l.records-iterator.rest.items;
+  own : AllZip (λ part records. AreOfLines l.self.taps part.now records.items) (drop l.number l.parts) l.records-iterator.rest.items;
   taps : (more : List Line) → taps_to_come l.self (flat_map (λ part. part.now) (drop l.number l.parts) ++ more) ≡ taps_to_come l.initial.self (flat_map (λ part. part.now) l.parts ++ more);
 }

@@ -8,6 +8,6 @@ use Rattle.aud_reader.proofs.bundle.BundleReader.join_part.Given as goal
 abbrev pub invariant-loop-record : goal.invariant-loop-record
 invariant-loop-record l = record {
   going : l.self.fault ≡ None;
-  own : AreOfLines (drop l.number l.lines) l.record-iterator.rest.items;
+  own : AreOfLines l.self.taps (drop l.number l.lines) l.record-iterator.rest.items;
   taps : (more : List Line) → taps_to_come l.self (drop l.number l.lines ++ more) ≡ taps_to_come l.initial.self (l.lines ++ more);
 }
