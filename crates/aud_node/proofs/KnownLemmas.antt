@@ -1,5 +1,5 @@
 -- The texts that are known, and what each of them spells.
-use Rattle.std.proofs.Common.{◌≡◌, ℕ, ◌+◌, ◌-◌, ◌<◌, suc, Bool, true, false, cond, ◌&&◌, List, length, get_or, drop, refl, sym, ap, ◌∙◌, arith, Option, Some, None, option_map, slice_get, Result, Ok, Err, is_none, nat_eq, ◌==◌}
+use Rattle.std.proofs.Common.{◌≡◌, ℕ, suc, true, cond, ◌&&◌, List, length, refl, sym, ap, ◌∙◌, arith, Option, Some, None, slice_get, Result, Ok, Err, is_none, nat_eq, ◌==◌}
 use Rattle.std.specs.Str.{bytes_eq}
 use Rattle.std.proofs.lemmas.Bool.{and_parts, false≢true}
 use Rattle.std.proofs.lemmas.Bool.Decides.{nat_tests}
@@ -10,48 +10,12 @@ use Rattle.aud_tap.specs.declared.records.StreamRec.{StreamRec}
 use Rattle.aud_tap.specs.declared.records.StreamRec.TheVariants.{Ev}
 use Rattle.aud_sio.specs.declared.fault.SioFault.{SioFault}
 use Rattle.aud_sio.specs.Packet.{PacketSeen, packet_of}
-use Rattle.aud_node.specs.Lists.{first_index}
 use Rattle.aud_node.specs.Recoverable.{is_event, is_packet_of, is_recoverable, reads_as, ends_in}
 use Rattle.aud_node.specs.Known.{is_sent_alone, is_sent_as, known_entry, packet_read}
-use Rattle.aud_node.specs.Private.KnownIndex.{kept_entry, HoldsKnown}
 use Rattle.aud_node.specs.Cursors.{is_position}
 use Rattle.aud_node.specs.Private.NextPosition.{next_position}
 use Rattle.aud_node.specs.Stream.{Text, position}
-use Rattle.aud_node.specs.declared.known.KnownTexts.{KnownTexts}
-use Rattle.aud_node.proofs.ListLemmas.{drop-read, first_index-found}
-
--- ---- the index
-
--- the known entries from one on
-abbrev pub KnownFrom : List StreamRec → ℕ → KnownTexts → Type 0
-KnownFrom stream i known = (text : Text) → kept_entry known text ≡ option_map (λ k. i + k) (first_index (is_sent_as text) (drop i stream))
-
--- an event that is recoverable and has no attachments is known by its text
-pub known-here : (text key : Text) (rec : StreamRec) (e : Event) (flag : Bool) → rec ≡ Ev e → key ≡ e.text → flag ≡ is_recoverable rec → flag ≡ true → (length e.bin == 0) ≡ true
-    → bytes_eq key text ≡ is_sent_as text rec
-known-here text key rec e flag is spells kept recoverable alone = grind (arith, is, spells, kept, recoverable, alone)
-
--- one entry more in front
-pub KnownFrom-step : (stream : List StreamRec) (n : ℕ) (e : StreamRec) (old new : KnownTexts) → 0 < n → n - 1 < length stream → e ≡ get_or stream (n - 1) e → KnownFrom stream n old
-    → ((text : Text) → kept_entry new text ≡ cond (is_sent_as text e) (Some (n - 1)) (kept_entry old text)) → KnownFrom stream (n - 1) new
-KnownFrom-step stream n e old new some within read held noted text =
-    let front = drop-read stream n e some within read in
-    noted text ∙ ap (cond (is_sent_as text e) (Some (n - 1))) (held text)
-    ∙ first_next n (is_sent_as text e) (first_index (is_sent_as text) (drop n stream)) some
-    ∙ ap (λ es. option_map (λ k. n - 1 + k) (first_index (is_sent_as text) es)) (sym front)
-  where
-    first_next : (n : ℕ) (b : Bool) (o : Option ℕ) → 0 < n → cond b (Some (n - 1)) (option_map (λ k. n + k) o) ≡ option_map (λ k. n - 1 + k) (cond b (Some 0) (option_map suc o))
-    first_next n true o some = let e : n - 1 ≡ n - 1 + 0 = omega arith in ap Some e
-    first_next n false None some = refl
-    first_next n false (Some k) some = let e : n + k ≡ n - 1 + suc k = omega arith in ap Some e
-
--- the entries from the first on are all
-pub KnownFrom-all : (stream : List StreamRec) (known : KnownTexts) → KnownFrom stream 0 known → HoldsKnown stream known
-KnownFrom-all stream known held text = held text ∙ same (first_index (is_sent_as text) stream)
-  where
-    same : (o : Option ℕ) → option_map (λ k. 0 + k) o ≡ o
-    same None = refl
-    same (Some k) = let e : 0 + k ≡ k = omega arith in ap Some e
+use Rattle.aud_node.proofs.ListLemmas.{first_index-found}
 
 -- ---- a known entry
 
@@ -92,7 +56,8 @@ none_there : {X : Type 0} (o : Option X) → is_none o ≡ true → o ≡ None
 none_there None e = refl
 none_there (Some x) e = absurd (false≢true e)
 
-ends_there : (o : Option (List ℕ)) (off : List ℕ) → ends_in o off ≡ true → o ≡ Some off
+-- a text that is the ending
+pub ends_there : (o : Option (List ℕ)) (off : List ℕ) → ends_in o off ≡ true → o ≡ Some off
 ends_there None off e = absurd (false≢true e)
 ends_there (Some last) off e = ap Some ((bytes_eq-Decides last off).0 e)
 

@@ -8,4 +8,6 @@ pub mod NodeLemmas
 pub mod NameLemmas
 pub mod AddresseeLemmas
 pub mod KnownLemmas
+pub mod KnownIndexLemmas
+pub mod EndingLemmas
 pub mod NodePids

@@ -1,11 +1,12 @@
 -- Positions in the stream from an entry on.
-use Rattle.std.proofs.Common.{◌≡◌, ℕ, ◌+◌, ◌-◌, ◌<◌, zero, suc, Bool, true, false, cond, List, [], ◌∷◌, length, get_or, drop, ap, ◌∙◌, arith, Option, Some, None, option_map, unwrap_or, map, slice_get}
+use Rattle.std.proofs.Common.{◌≡◌, ℕ, ◌+◌, ◌-◌, ◌<◌, zero, suc, Bool, true, false, cond, List, [], ◌∷◌, length, get_or, drop, refl, ap, ◌∙◌, arith, Option, Some, None, option_map, unwrap_or, map, slice_get}
 use Rattle.std.specs.Str.{bytes_eq}
 use Rattle.std.proofs.lemmas.List.{at_drop_more}
 use Rattle.std.proofs.lemmas.Bool.Decides.{nat_tests}
 use Rattle.std.proofs.lemmas.Slice.Eq.{bytes_eq-Decides}
 use Rattle.std.proofs.lemmas.Option.{slice_get-map}
 use Rattle.aud_tap.specs.declared.records.StreamRec.{StreamRec}
+use Rattle.aud_node.specs.Lists.{first_index}
 use Rattle.aud_node.specs.Recoverable.{is_recoverable}
 use Rattle.aud_node.specs.AtPosition.{is_recoverable_at}
 use Rattle.aud_node.specs.Private.NextPosition.{next_position}
@@ -35,6 +36,20 @@ not_there stream off other i none same there =
 pub AreFirst-cons : (e : StreamRec) (stream : List StreamRec) → position stream (offset_of e) ≡ None → AreFirst stream → AreFirst (e ∷ stream)
 AreFirst-cons e stream none first zero x is = grind (arith, (bytes_eq-Decides (offset_of e) (offset_of x)).1)
 AreFirst-cons e stream none first (suc i) x is = grind (arith, not_there stream (offset_of e) (offset_of x) i none, first i x is)
+
+-- the entry has the offset
+abbrev pub has_this_offset : Text → StreamRec → Bool
+has_this_offset off e = bytes_eq (offset_of e) off
+
+-- an offset's position is one more than the index of the first entry that has it
+pub position-first_index : (stream : List StreamRec) (off : Text) → position stream off ≡ option_map suc (first_index (has_this_offset off) stream)
+position-first_index [] off = refl
+position-first_index (e ∷ es) off = go (has_this_offset off e) (position-first_index es off)
+  where
+    go : (b : Bool) → position es off ≡ option_map suc (first_index (has_this_offset off) es)
+        → cond b (Some 1) (option_map suc (position es off)) ≡ option_map suc (cond b (Some 0) (option_map suc (first_index (has_this_offset off) es)))
+    go true ih = refl
+    go false ih = ap (option_map suc) ih
 
 -- the positions of the entries after so many
 pub record HoldsAfter (stream : List StreamRec) (i : ℕ) (offsets : Offsets) : Type 0 where

@@ -1,9 +1,12 @@
 //! The events of the stream that are known by their text.
 ghost use Rattle.std.specs.Prelude.{◌≡◌, ◌&&◌, IfOk, OnOk, Some, map, true, if◌then◌else◌};
+ghost use Rattle.std.specs.Option.{option_copied};
 ghost use Rattle.aud_node.specs.Known.{is_sent_alone, is_sent_as};
 ghost use Rattle.aud_node.specs.Recoverable.{is_recoverable};
 ghost use Rattle.aud_node.specs.Stream.{Text};
+ghost use Rattle.aud_node.specs.Private.KnownIndex.{ending, spells_its_offset};
 
+use crate::offsets::Offsets;
 use crate::rest::Rest;
 use aud_tap::{Event, StreamRec};
 use std::alloc::{AllocError, Global};
@@ -21,7 +24,9 @@ pub struct KnownEvent<'a> {
     pub ghost sent_alone: { is_sent_alone event.now ≡ true },
 }
 
-/// Of each text, the first entry that is such an event and has this text; entries count from 0.
+/// Of a text, the first entry that is such an event and has this text; entries count from 0. A text is kept only where the
+/// offset that its ending spells wouldn't find that entry: where it has escapes, or two entries have the same offset. So of
+/// most streams none are kept.
 #[derive(Drop)]
 pub struct KnownTexts<'a> {
     entries: HashMap<&'a str, usize, RandomState>,
@@ -29,31 +34,42 @@ pub struct KnownTexts<'a> {
 
 impl<'a> KnownTexts<'a> {
     ghost use Rattle.aud_node.specs.Private.KnownIndex.{HoldsKnown, kept_entry};
+    ghost use Rattle.aud_node.specs.Private.OffsetIndex.{HoldsOffsets};
 
     /// The texts of these entries, of which the flags say whether they are recoverable. They are read from the last on:
-    /// of several with one text the first is kept.
+    /// of several with one text the first is kept. Where no two entries have the same offset, those are left out whose
+    /// text spells theirs.
     pub fn build(
         alloc: Global,
         keys: RandomState,
         entries: &Rest<'a, StreamRec>,
         recoverable: &[bool],
+        offsets: &Offsets<'a>,
     ) -> Result<KnownTexts<'a>, AllocError>
-        requires { recoverable.now ≡ map is_recoverable entries.now }
+        requires flags { recoverable.now ≡ map is_recoverable entries.now }
+        requires offsets { HoldsOffsets entries.now offsets.now }
         ensures { IfOk result (HoldsKnown entries.now) }
     {
         let mut known = KnownTexts {
-            entries: HashMap::with_capacity_and_hasher(alloc, entries.len(), keys)?,
+            entries: HashMap::with_hasher(alloc, keys),
         };
         for i in (0..entries.len()).rev() {
-            known.note(entries.at(i), recoverable[i], i)?;
+            let entry = entries.at(i);
+            if offsets.distinct() && spells_its_offset(entry) {
+                continue;
+            }
+            known.note(entry, recoverable[i], i)?;
         }
         Ok(known)
     }
 
-    /// The entry that is known by the text.
+    /// The entry that is kept for the text. Where none are kept, the text isn't hashed.
     pub fn get(&self, text: &str) -> Option<usize>
         ensures { result ≡ kept_entry self.now text.now }
     {
+        if self.entries.is_empty() {
+            return None;
+        }
         self.entries.get(text).copied()
     }
 
@@ -76,4 +92,35 @@ impl<'a> KnownTexts<'a> {
         }
         Ok(())
     }
+}
+
+/// Whether the entry is an event that is sent again as this text alone; the flag says whether it is recoverable.
+pub fn is_sent_as(entry: &StreamRec, recoverable: bool, text: &str) -> bool
+    requires { recoverable ≡ is_recoverable entry.now }
+    ensures { result ≡ is_sent_as text.now entry.now }
+{
+    let StreamRec::Ev(event) = entry else {
+        return false;
+    };
+    recoverable && event.bin.as_slice().is_empty() && event.text.as_str() == text
+}
+
+/// Whether the entry is an event whose text's ending is its offset.
+fn spells_its_offset(entry: &StreamRec) -> bool
+    ensures { result ≡ spells_its_offset entry.now }
+{
+    let StreamRec::Ev(event) = entry else {
+        return false;
+    };
+    ending(event.text.as_str()) == Some(event.off.as_str())
+}
+
+/// What stands between the last two quotes of a text that ends in a quote and a bracket, escapes and all. Of an event that
+/// is sent again this is its offset, where that needs no escapes.
+pub fn ending(text: &str) -> Option<&str>
+    ensures { option_copied result ≡ ending text.now }
+{
+    let front = text.strip_suffix("\"]")?;
+    let (_, last) = front.rsplit_once('"')?;
+    Some(last)
 }

@@ -6,11 +6,12 @@ ghost use Rattle.aud_node.specs.AtPosition.{is_recoverable_at};
 ghost use Rattle.aud_node.specs.Private.NextPosition.{next_position};
 ghost use Rattle.aud_node.specs.Addressees.{positions_to_all, positions_to_room};
 ghost use Rattle.aud_node.specs.Known.{known_entry};
+ghost use Rattle.aud_node.specs.Private.KnownIndex.{found_by_offset};
 ghost use Rattle.aud_tap.specs.declared.records.StreamRec.TheVariants.{Ev};
 
 use crate::addressees::Addressees;
 use crate::fields::offset;
-use crate::known::{KnownEvent, KnownTexts};
+use crate::known::{KnownEvent, KnownTexts, ending, is_sent_as};
 use crate::offsets::Offsets;
 use crate::recoverable::recoverable_of;
 use crate::rest::Rest;
@@ -53,7 +54,7 @@ impl<'a> Stream<'a> {
         let offsets = Offsets::build(alloc, keys, &entries)?;
         let recoverable = recoverable_of(alloc, &entries)?;
         let addressees = Addressees::build(alloc, keys, &entries, &recoverable)?;
-        let known = KnownTexts::build(alloc, keys, &entries, &recoverable)?;
+        let known = KnownTexts::build(alloc, keys, &entries, &recoverable, &offsets)?;
         Ok(Stream {
             entries,
             offsets,
@@ -107,11 +108,35 @@ impl<'a> Stream<'a> {
         ensures entry { IfSome result (λ known. slice_get self.now known.before ≡ Some (Ev known.event.now)) }
         ensures text { IfSome result (λ known. known.event.now.text ≡ text.now) }
     {
-        let before = self.known.get(text)?;
+        let before = self.known_before(text)?;
         match self.entries.get(before)? {
             StreamRec::Ev(event) => Some(KnownEvent { before, event }),
             StreamRec::Other { .. } => None,
         }
+    }
+
+    /// How many entries stand before that event. Mostly it is found by the offset in which the text ends; else the whole
+    /// text is looked up.
+    fn known_before(&self, text: &str) -> Option<usize>
+        ensures { result ≡ known_entry self.now text.now }
+    {
+        match self.found_by_offset(text) {
+            Some(before) => Some(before),
+            None => self.known.get(text),
+        }
+    }
+
+    /// The same by the first entry that has the text's ending as its offset; none where that isn't such an event of this
+    /// text.
+    fn found_by_offset(&self, text: &str) -> Option<usize>
+        ensures { result ≡ found_by_offset self.now text.now }
+    {
+        let position = self.position(ending(text)?)?;
+        let entry = self.entry(position)?;
+        if !is_sent_as(entry, self.recoverable(position), text) {
+            return None;
+        }
+        Some(position as usize - 1)
     }
 
     /// The position, from 1 on, of the first entry that has the event's offset. It is looked up only where two entries

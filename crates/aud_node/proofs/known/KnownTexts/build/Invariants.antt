@@ -1,4 +1,4 @@
-use Rattle.aud_node.proofs.KnownLemmas.{KnownFrom}
+use Rattle.aud_node.proofs.KnownIndexLemmas.{KnownFrom}
 use Rattle.aud_node.proofs.known.KnownTexts.build.Given as goal
 
 abbrev pub invariant-loop-i : goal.invariant-loop-i

@@ -1,7 +1,7 @@
 use Rattle.std.proofs.Common.{◌≡◌, ◌==◌, cond, length, sym, ap, ◌∙◌, true, Some}
 use Rattle.std.proofs.lemmas.Map.Text.{hash_map_updates_str}
 use Rattle.aud_node.specs.Private.KnownIndex.{kept_entry}
-use Rattle.aud_node.proofs.KnownLemmas.{known-here}
+use Rattle.aud_node.proofs.KnownIndexLemmas.{known-here}
 use Rattle.aud_node.proofs.known.KnownTexts.note.Goals as goal
 
 pub returns-in_ok-insert : goal.returns-in_ok-insert
