@@ -4,9 +4,13 @@ ghost use Rattle.std.specs.Prelude.{◌≡◌, IfOk, IfSome};
 use crate::Text;
 use std::alloc::{AllocError, Global};
 use std::collections::HashMap;
-use std::hash::{BuildHasher, RandomState};
+use std::hash::{BuildHasher, Hasher, RandomState};
 
-/// Texts that are to be shared, each by its hash. Of two texts that have one hash the later is kept.
+/// The most bytes at the end of a text that are hashed. What tells long texts apart mostly stands there: an event's text
+/// ends in its offset.
+const HASHED: usize = 40;
+
+/// Texts that are to be shared, each by the hash of its last bytes. Of two texts that have one hash the later is kept.
 #[derive(Drop)]
 pub struct TextPool {
     alloc: Global,
@@ -28,7 +32,15 @@ impl TextPool {
     pub fn find(&self, text: &str) -> Option<&Text>
         ensures { IfSome result (λ found. found.now ≡ text.now) }
     {
-        self.find_at(self.keys.hash_one(text), text)
+        self.find_at(self.hash_of(text), text)
+    }
+
+    /// The hash under which the text is kept.
+    fn hash_of(&self, text: &str) -> u64 {
+        let bytes = text.as_bytes();
+        let mut hasher = self.keys.build_hasher();
+        hasher.write(&bytes[bytes.len() - bytes.len().min(HASHED)..]);
+        hasher.finish()
     }
 
     /// The pool's own text that is the same, under its hash.
@@ -45,7 +57,7 @@ impl TextPool {
     pub fn text(&mut self, text: &str) -> Result<Text, AllocError>
         ensures { IfOk result (λ shared. shared ≡ text.now) }
     {
-        let hash = self.keys.hash_one(text);
+        let hash = self.hash_of(text);
         match self.find_at(hash, text) {
             Some(found) => found.share(),
             None => self.keep(hash, text),

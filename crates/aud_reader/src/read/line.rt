@@ -35,7 +35,7 @@ fn json<'a>(
         (λ fields. (d : Data) × (json_of bytes.now ≡ Ok d) × (shown d ≡ view fields))
         (λ e. Fails e (json_of bytes.now)) }
 {
-    let Ok(text) = str::from_utf8(bytes) else {
+    let Ok(text) = simdutf8::compat::from_utf8(bytes) else {
         return Err(NOT_JSON);
     };
     match Fields::read(alloc, text, scratch) {
