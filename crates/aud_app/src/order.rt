@@ -9,6 +9,7 @@ use aud_run::{Order, order, order_text};
 use aud_tap::Taps;
 use std::alloc::{AllocError, Global};
 use std::hash::RandomState;
+use std::mem::ManuallyDrop;
 
 /// How a run ends that shows this.
 fn order_status(order: &Order) -> Status
@@ -25,8 +26,15 @@ pub fn ordered(alloc: Global, keys: RandomState, taps: &Taps) -> Result<Output, 
     ensures { IfOk result (IsOrdering (cluster_of taps.now)) }
 {
     let logs = Logs::build(alloc, keys, taps)?;
-    let shown = order(alloc, &logs)?;
-    let text = order_text(alloc, &logs, &shown)?;
+    ordered_logs(alloc, &ManuallyDrop::new(logs))
+}
+
+/// The steps of a run of these logs, or the records that block every run.
+fn ordered_logs(alloc: Global, logs: &Logs<'_>) -> Result<Output, AllocError>
+    ensures { IfOk result (IsOrdering logs.now) }
+{
+    let shown = order(alloc, logs)?;
+    let text = order_text(alloc, logs, &shown)?;
     let status = order_status(&shown);
     Ok(Output { status, text })
 }

@@ -19,6 +19,7 @@ use aud_streams::RunFault;
 use aud_tap::Taps;
 use std::alloc::{AllocError, Global};
 use std::hash::RandomState;
+use std::mem::ManuallyDrop;
 use std::sync::Wait;
 use std::thread::Threads;
 use std::time::Clock;
@@ -37,7 +38,13 @@ fn audited_taps<H: Threads + Wait + Clock + Sync>(
     ensures err { OnErr result ((result ≡ Err RunFault.Memory) ⊎ (result ≡ Err RunFault.Spawn)) }
 {
     let recording = Recording::read(rt, alloc, keys, options.workers as usize, taps)?;
-    audited(rt, alloc, options.workers, options.whole, &recording)
+    audited(
+        rt,
+        alloc,
+        options.workers,
+        options.whole,
+        &ManuallyDrop::new(recording),
+    )
 }
 
 /// The certificates of the sessions of these taps.
@@ -52,7 +59,7 @@ fn proved<H: Threads + Sync>(
     ensures { IfOk result (λ o. IsProving (cluster_of taps.now) o) }
 {
     let recording = Recording::read(rt, alloc, keys, threads, taps)?;
-    proved_sessions(rt, alloc, threads, &recording)
+    proved_sessions(rt, alloc, threads, &ManuallyDrop::new(recording))
 }
 
 /// The certificates of the recording's sessions.
@@ -80,7 +87,13 @@ fn verified<H: Threads + Sync>(
     ensures { IfOk result (λ o. IsVerification (cluster_of input.now.taps) input.now.certificates o) }
 {
     let recording = Recording::read(rt, alloc, keys, threads, &input.taps)?;
-    verified_lines(rt, alloc, threads, &recording, &input.certificates)
+    verified_lines(
+        rt,
+        alloc,
+        threads,
+        &ManuallyDrop::new(recording),
+        &input.certificates,
+    )
 }
 
 /// The answers on these certificates over the recording.
@@ -144,7 +157,7 @@ pub fn output_of<H: Threads + Wait + Clock + Sync>(
     ensures err { OnErr result ((result ≡ Err RunFault.Memory) ⊎ (result ≡ Err RunFault.Spawn)) }
 {
     match read {
-        Ok(input) => output_over(rt, alloc, keys, options, &input),
+        Ok(input) => output_over(rt, alloc, keys, options, &ManuallyDrop::new(input)),
         Err(ReadFault::Input(line, code)) => Ok(Written::of(refusal(alloc, line, code)?)),
         Err(ReadFault::Memory) => Err(RunFault::Memory),
     }

@@ -22,6 +22,9 @@ use std::time::Clock;
 /// audit starts `options.workers` workers, each in a thread of its own; all else is shared out among at most so many
 /// threads, this one among them, as `aud_parallel::try_map` says. How many they are changes nothing in what is written,
 /// and nor do the keys, by which names are looked up: whoever picked the names of the input is not to know them.
+///
+/// The process is to end after it: memory of what was read, and of what was made of it, isn't given back. A service calls
+/// the crates below instead (docs/EMBED.md).
 #[tactic(auto, using(crate::proofs::Pieces::output_read))]
 pub fn run<H: Threads + Wait + Clock + Sync, R: Read, W: Write>(
     rt: &H,
