@@ -4,6 +4,7 @@ use aud_client::Recording;
 use aud_desk::{Gate, audit_with};
 use aud_report::report_on;
 use std::hash::RandomState;
+use std::mem::ManuallyDrop;
 use std::sync::Wait;
 use std::sync::atomic::AtomicBool;
 use std::sync::atomic::Ordering::SeqCst;
@@ -45,8 +46,8 @@ impl Gate for Held {
 fn two_workers_are_at_work_at_once(rt: HostRuntime) -> Result<(), Fail> {
     let alloc = rt.alloc();
     let keys = RandomState::new(&rt)?;
-    let taps = taps(alloc, keys)?;
-    let recording = Recording::read(&rt, alloc, keys, 4, &taps)?;
+    let taps = ManuallyDrop::new(taps(alloc, keys)?);
+    let recording = ManuallyDrop::new(Recording::read(&rt, alloc, keys, 4, &taps)?);
     let gate = Held {
         began: AtomicBool::new(false),
         kept: AtomicBool::new(false),

@@ -5,6 +5,7 @@ use aud_desk::{OpenGate, Tickets, gather, work};
 use aud_maker::sessions;
 use aud_report::Verdict;
 use std::hash::RandomState;
+use std::mem::ManuallyDrop;
 use std::test::Fail;
 
 /// How many events were received, where the verdict is yes.
@@ -19,8 +20,8 @@ fn got(verdict: &Verdict) -> Option<usize> {
 fn one_worker_decides_all(rt: HostRuntime) -> Result<(), Fail> {
     let alloc = rt.alloc();
     let keys = RandomState::new(&rt)?;
-    let taps = taps(alloc, keys)?;
-    let recording = Recording::read(&rt, alloc, keys, 4, &taps)?;
+    let taps = ManuallyDrop::new(taps(alloc, keys)?);
+    let recording = ManuallyDrop::new(Recording::read(&rt, alloc, keys, 4, &taps)?);
     let pids = sessions(alloc, &recording)?;
     let (tickets, mut seats) = Tickets::new(alloc, pids.len(), 1)?;
     let seat = seats.pop().ok_or("a seat")?;

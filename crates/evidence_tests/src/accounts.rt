@@ -5,6 +5,7 @@ use aud_client::Recording;
 use aud_evidence::Difference;
 use aud_reader::read_bundle;
 use std::hash::RandomState;
+use std::mem::ManuallyDrop;
 use std::test::Fail;
 
 /// Two events are due to session `P`; its client, at place 2, receives the first of them twice.
@@ -27,8 +28,8 @@ fn accounts(rt: HostRuntime) -> Result<(), Fail> {
     let alloc = rt.alloc();
     let keys = RandomState::new(&rt)?;
     let lines = lines_of(alloc, TWICE)?;
-    let taps = read_bundle(alloc, keys, lines.as_slice())?;
-    let recording = Recording::read(&rt, alloc, keys, 4, &taps)?;
+    let taps = ManuallyDrop::new(read_bundle(alloc, keys, lines.as_slice())?);
+    let recording = ManuallyDrop::new(Recording::read(&rt, alloc, keys, 4, &taps)?);
     let account = account_of(alloc, &recording, "P")?.ok_or("no account")?;
     assert_eq!(rt; account.client, 2);
     assert_eq!(rt; account.due.as_slice(), [1, 2].as_slice());

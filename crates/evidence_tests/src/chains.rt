@@ -4,6 +4,7 @@ use aud_chain::{Mark, Misfit, RecordPlace, TurnMark, first_misfit, turn_marks};
 use aud_node::Logs;
 use aud_reader::read_bundle;
 use std::hash::RandomState;
+use std::mem::ManuallyDrop;
 use std::test::Fail;
 
 /// Two nodes, at the places 1 and 2. The session is opened at record 1 of the first.
@@ -84,8 +85,8 @@ fn marks(rt: HostRuntime) -> Result<(), Fail> {
     let (records, _) = CASES[0];
     let bundle = format!(in alloc; "{NODES}{records}")?;
     let lines = lines_of(alloc, bundle.as_str())?;
-    let taps = read_bundle(alloc, keys, lines.as_slice())?;
-    let logs = Logs::build(alloc, keys, &taps)?;
+    let taps = ManuallyDrop::new(read_bundle(alloc, keys, lines.as_slice())?);
+    let logs = ManuallyDrop::new(Logs::build(alloc, keys, &taps)?);
     let found = turn_marks(alloc, &logs, "P")?;
     assert_eq!(rt; found.as_slice(), MARKS.as_slice());
     Ok(())
@@ -98,8 +99,8 @@ fn chains(rt: HostRuntime) -> Result<(), Fail> {
         let keys = RandomState::new(&rt)?;
         let bundle = format!(in alloc; "{NODES}{records}")?;
         let lines = lines_of(alloc, bundle.as_str())?;
-        let taps = read_bundle(alloc, keys, lines.as_slice())?;
-        let logs = Logs::build(alloc, keys, &taps)?;
+        let taps = ManuallyDrop::new(read_bundle(alloc, keys, lines.as_slice())?);
+        let logs = ManuallyDrop::new(Logs::build(alloc, keys, &taps)?);
         let found = first_misfit(alloc, &logs, "P")?;
         assert_eq!(rt; found, *misfit);
     }

@@ -5,6 +5,7 @@ use aud_client::Recording;
 use aud_evidence::{Altered, Part, first_altered};
 use aud_reader::read_bundle;
 use std::hash::RandomState;
+use std::mem::ManuallyDrop;
 use std::test::Fail;
 
 /// Two entries, of which the second has two attachments; the client's tap is at place 1.
@@ -54,8 +55,8 @@ fn contents(rt: HostRuntime) -> Result<(), Fail> {
         let keys = RandomState::new(&rt)?;
         let bundle = format!(in alloc; "{STREAM}{records}")?;
         let lines = lines_of(alloc, bundle.as_str())?;
-        let taps = read_bundle(alloc, keys, lines.as_slice())?;
-        let recording = Recording::read(&rt, alloc, keys, 4, &taps)?;
+        let taps = ManuallyDrop::new(read_bundle(alloc, keys, lines.as_slice())?);
+        let recording = ManuallyDrop::new(Recording::read(&rt, alloc, keys, 4, &taps)?);
         let client = recording.client(1).ok_or("no client")?;
         let stays = client.naming(alloc, "P")?;
         let frames = frames_in(alloc, stays.as_slice())?;

@@ -5,6 +5,7 @@ use aud_recoveries::{Recovery, granted, missed, recoveries, refused, stay_of};
 use aud_tap::{Bytes, Text};
 use std::alloc::{AllocError, Global};
 use std::hash::RandomState;
+use std::mem::ManuallyDrop;
 use std::process::Abort;
 use std::random::RandomSource;
 use std::test::Fail;
@@ -29,8 +30,8 @@ fn recoveries_over(
 ) -> Result<String, Fail> {
     let keys = RandomState::new(rt)?;
     let lines = lines_of(alloc, bundle)?;
-    let taps = read_bundle(alloc, keys, lines.as_slice())?;
-    let recording = Recording::read(rt, alloc, keys, 4, &taps)?;
+    let taps = ManuallyDrop::new(read_bundle(alloc, keys, lines.as_slice())?);
+    let recording = ManuallyDrop::new(Recording::read(rt, alloc, keys, 4, &taps)?);
     recoveries_text(alloc, &recording)
 }
 

@@ -7,6 +7,7 @@ use aud_places::{StayPlaces, stay_places};
 use aud_reader::read_bundle;
 use std::alloc::Global;
 use std::hash::RandomState;
+use std::mem::ManuallyDrop;
 use std::random::RandomSource;
 use std::test::Fail;
 
@@ -72,8 +73,8 @@ fn places_over(
 ) -> Result<Vec<StayPlaces>, Fail> {
     let keys = RandomState::new(rt)?;
     let lines = lines_of(alloc, bundle)?;
-    let taps = read_bundle(alloc, keys, lines.as_slice())?;
-    let logs = Logs::build(alloc, keys, &taps)?;
+    let taps = ManuallyDrop::new(read_bundle(alloc, keys, lines.as_slice())?);
+    let logs = ManuallyDrop::new(Logs::build(alloc, keys, &taps)?);
     let place = logs.place_of("c1").ok_or("no such tap")?;
     let recs = logs.client(place).ok_or("no client")?;
     let tap = ClientTap::build(alloc, recs)?;

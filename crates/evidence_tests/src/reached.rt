@@ -11,6 +11,7 @@ use aud_reach::{Reach, first_reach, last_change_of, rooms_held, why_not_due};
 use aud_reader::read_bundle;
 use std::alloc::{AllocError, Global};
 use std::hash::RandomState;
+use std::mem::ManuallyDrop;
 use std::test::Fail;
 
 /// A position, a room, and the text of what is known of session `P` there. The nodes `a` and `b` stand at the places 1 and
@@ -76,8 +77,8 @@ fn reached(rt: HostRuntime) -> Result<(), Fail> {
     let alloc = rt.alloc();
     let keys = RandomState::new(&rt)?;
     let lines = lines_of(alloc, CHANGES)?;
-    let taps = read_bundle(alloc, keys, lines.as_slice())?;
-    let recording = Recording::read(&rt, alloc, keys, 1, &taps)?;
+    let taps = ManuallyDrop::new(read_bundle(alloc, keys, lines.as_slice())?);
+    let recording = ManuallyDrop::new(Recording::read(&rt, alloc, keys, 1, &taps)?);
     let Ok(cert) = make(alloc, &recording, "P") else {
         return Err("P has no certificate")?;
     };

@@ -8,6 +8,7 @@ use aud_rooms::TurnPlace;
 use aud_rows::{ClientPlaces, Role, Row, Says, Sheet};
 use std::alloc::{AllocError, Global};
 use std::hash::RandomState;
+use std::mem::ManuallyDrop;
 use std::process::Abort;
 use std::random::RandomSource;
 use std::test::Fail;
@@ -272,8 +273,8 @@ fn assert_rows(
 ) -> Result<(), Fail> {
     let keys = RandomState::new(rt)?;
     let lines = lines_of(alloc, bundle)?;
-    let taps = read_bundle(alloc, keys, lines.as_slice())?;
-    let recording = Recording::read(rt, alloc, keys, 4, &taps)?;
+    let taps = ManuallyDrop::new(read_bundle(alloc, keys, lines.as_slice())?);
+    let recording = ManuallyDrop::new(Recording::read(rt, alloc, keys, 4, &taps)?);
     let lines = record_lines(alloc, keys, bundle)?;
     let sheet = Sheet {
         recording: &recording,

@@ -8,6 +8,7 @@ use aud_evidence::{
 };
 use aud_reader::read_bundle;
 use std::hash::RandomState;
+use std::mem::ManuallyDrop;
 use std::test::Fail;
 
 /// The stream and one node, at place 1; the client's tap is at place 2.
@@ -94,8 +95,8 @@ fn windows(rt: HostRuntime) -> Result<(), Fail> {
         let keys = RandomState::new(&rt)?;
         let bundle = format!(in alloc; "{LOGS}{records}")?;
         let lines = lines_of(alloc, bundle.as_str())?;
-        let taps = read_bundle(alloc, keys, lines.as_slice())?;
-        let recording = Recording::read(&rt, alloc, keys, 4, &taps)?;
+        let taps = ManuallyDrop::new(read_bundle(alloc, keys, lines.as_slice())?);
+        let recording = ManuallyDrop::new(Recording::read(&rt, alloc, keys, 4, &taps)?);
         let client = recording.client(2).ok_or("no client")?;
         let stays = client.naming(alloc, "P")?;
         let positions = positions_received(alloc, stays.as_slice())?;
@@ -115,8 +116,8 @@ fn odd_stays(rt: HostRuntime) -> Result<(), Fail> {
     let keys = RandomState::new(&rt)?;
     let bundle = format!(in alloc; "{LOGS}{ODD}")?;
     let lines = lines_of(alloc, bundle.as_str())?;
-    let taps = read_bundle(alloc, keys, lines.as_slice())?;
-    let recording = Recording::read(&rt, alloc, keys, 4, &taps)?;
+    let taps = ManuallyDrop::new(read_bundle(alloc, keys, lines.as_slice())?);
+    let recording = ManuallyDrop::new(Recording::read(&rt, alloc, keys, 4, &taps)?);
     let client = recording.client(2).ok_or("no client")?;
     let stays = client.transcript().stays.as_slice();
     assert_eq!(rt; first_naming(stays, "P"), Some(0));

@@ -17,6 +17,7 @@ use aud_shown::{
 };
 use std::alloc::Global;
 use std::hash::RandomState;
+use std::mem::ManuallyDrop;
 use std::process::Abort;
 use std::test::Fail;
 
@@ -88,8 +89,8 @@ fn rows_of_faults(rt: HostRuntime) -> Result<(), Fail> {
     let alloc = rt.alloc();
     let keys = RandomState::new(&rt)?;
     let lines = lines_of(alloc, GRANTED)?;
-    let taps = read_bundle(alloc, keys, lines.as_slice())?;
-    let recording = Recording::read(&rt, alloc, keys, 4, &taps)?;
+    let taps = ManuallyDrop::new(read_bundle(alloc, keys, lines.as_slice())?);
+    let recording = ManuallyDrop::new(Recording::read(&rt, alloc, keys, 4, &taps)?);
     let mut index = LineIndex::new(alloc, keys);
     index.feed(GRANTED.as_bytes())?;
     let lines = index.finish()?;

@@ -14,6 +14,7 @@ use aud_tap::Text;
 use aud_verdict::decide;
 use std::alloc::{AllocError, Global};
 use std::hash::RandomState;
+use std::mem::ManuallyDrop;
 use std::process::Abort;
 use std::random::RandomSource;
 use std::test::Fail;
@@ -115,8 +116,8 @@ fn assert_summary(
 ) -> Result<(), Fail> {
     let keys = RandomState::new(rt)?;
     let lines = lines_of(alloc, bundle)?;
-    let taps = read_bundle(alloc, keys, lines.as_slice())?;
-    let recording = Recording::read(rt, alloc, keys, 4, &taps)?;
+    let taps = ManuallyDrop::new(read_bundle(alloc, keys, lines.as_slice())?);
+    let recording = ManuallyDrop::new(Recording::read(rt, alloc, keys, 4, &taps)?);
     let verdicts = verdicts_on(alloc, &recording)?;
     let found = recoveries(alloc, &recording)?;
     let input = Input {

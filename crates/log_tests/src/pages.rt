@@ -1,8 +1,10 @@
 //! A stream and a node's log, each longer than two pages of records.
-use aud_node::Logs;
+use aud_node::{Logs, Stream};
 use aud_tap::{NodeRec, NodeRecs, Records, StreamRec, StreamRecs, Tap, Taps, Text, Version};
 use std::alloc::Global;
 use std::hash::RandomState;
+use std::mem::ManuallyDrop;
+use std::process::Abort;
 use std::test::Fail;
 
 /// The entries of the stream, each of which the node takes.
@@ -47,11 +49,8 @@ fn taken(rec: Option<&NodeRec>) -> &str {
     }
 }
 
-#[test]
-fn records_run_over_the_ends_of_pages(rt: HostRuntime) -> Result<(), Fail> {
-    let keys = RandomState::new(&rt)?;
-    let taps = long_taps(rt.alloc())?;
-    let logs = Logs::build(rt.alloc(), keys, &taps)?;
+/// Asserts that the records on both sides of an end of a page are lent as one list.
+fn assert_records(rt: &impl Abort, logs: &Logs<'_>) -> Result<(), Fail> {
     let log = logs.node(1).ok_or("no node")?;
     assert!(rt; log.ordered());
     assert_eq!(rt; log.recs().len(), 9_001);
@@ -74,11 +73,15 @@ fn records_run_over_the_ends_of_pages(rt: HostRuntime) -> Result<(), Fail> {
 }
 
 #[test]
-fn entries_run_over_the_ends_of_pages(rt: HostRuntime) -> Result<(), Fail> {
+fn records_run_over_the_ends_of_pages(rt: HostRuntime) -> Result<(), Fail> {
     let keys = RandomState::new(&rt)?;
-    let taps = long_taps(rt.alloc())?;
-    let logs = Logs::build(rt.alloc(), keys, &taps)?;
-    let stream = logs.stream();
+    let taps = ManuallyDrop::new(long_taps(rt.alloc())?);
+    let logs = ManuallyDrop::new(Logs::build(rt.alloc(), keys, &taps)?);
+    assert_records(&rt, &logs)
+}
+
+/// Asserts that the entries on both sides of an end of a page stand at their positions.
+fn assert_entries(rt: &impl Abort, stream: &Stream<'_>) -> Result<(), Fail> {
     assert_eq!(rt; stream.entries().len(), 9_000);
     for (number, off) in ["4096-0", "4097-0", "8192-0", "8193-0", "9000-0"]
         .iter()
@@ -93,4 +96,12 @@ fn entries_run_over_the_ends_of_pages(rt: HostRuntime) -> Result<(), Fail> {
     }
     assert!(rt; stream.entry(9_001).is_none());
     Ok(())
+}
+
+#[test]
+fn entries_run_over_the_ends_of_pages(rt: HostRuntime) -> Result<(), Fail> {
+    let keys = RandomState::new(&rt)?;
+    let taps = ManuallyDrop::new(long_taps(rt.alloc())?);
+    let logs = ManuallyDrop::new(Logs::build(rt.alloc(), keys, &taps)?);
+    assert_entries(&rt, logs.stream())
 }

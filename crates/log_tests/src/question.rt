@@ -4,6 +4,7 @@ use aud_reader::{Line, read_bundle};
 use aud_tap::{Bytes, Taps};
 use std::alloc::Global;
 use std::hash::RandomState;
+use std::mem::ManuallyDrop;
 use std::process::Abort;
 use std::random::RandomSource;
 use std::test::Fail;
@@ -22,8 +23,8 @@ pub fn assert_answers<Q: Question>(
     answers: &[(Q, &str)],
 ) -> Result<(), Fail> {
     let keys = RandomState::new(rt)?;
-    let taps = taps_of(alloc, keys, bundle)?;
-    let logs = Logs::build(alloc, keys, &taps)?;
+    let taps = ManuallyDrop::new(taps_of(alloc, keys, bundle)?);
+    let logs = ManuallyDrop::new(Logs::build(alloc, keys, &taps)?);
     for (question, answer) in answers {
         let given = question.answer(alloc, &logs)?;
         assert_eq!(rt; given.as_str(), *answer);
