@@ -6,6 +6,7 @@ pub mod Unique
 pub mod Times
 pub mod RoomMaps
 pub mod Sweep
+pub mod ExceptedRooms
 pub mod Kept
 pub mod Parts
 pub mod Merged

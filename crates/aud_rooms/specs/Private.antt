@@ -1,6 +1,7 @@
 -- What contracts of private functions alone cite: what the code keeps, and its steps. No public clause rests on these words.
 pub mod Building
 pub mod Candidates
+pub mod Excepted
 pub mod Merge
 pub mod Reached
 pub mod RoomMap

@@ -5,13 +5,16 @@ ghost use Rattle.std.specs.List.Sorted.{IsNonDecreasing, IsPermutation};
 ghost use Rattle.aud_node.specs.Stream.{entry};
 ghost use Rattle.aud_rooms.specs.Spans.{due_by_spans};
 ghost use Rattle.aud_rooms.specs.Private.Candidates.{is_spared, is_spared_by};
+ghost use Rattle.aud_rooms.specs.Private.Excepted.{is_of_room};
 ghost use Rattle.aud_rooms.specs.Private.Reached.{AreByFirst, is_spared_at};
 
 use crate::addressee::{Holds, excepts_held};
 use crate::candidates::candidates_of;
 use crate::cut::cut_before;
+use crate::excepted::excepted_at;
 use crate::interval::Interval;
 use crate::reached::Reached;
+use crate::room_set::RoomSet;
 use crate::span::Span;
 use aud_node::Stream;
 use aud_tap::StreamRec;
@@ -19,8 +22,8 @@ use std::alloc::{AllocError, Global};
 
 /// The recoverable positions past `birth` up to `high` that are addressed to the namespace and to the rooms whose spans
 /// hold them, ascending; positions count from 1. The spans may stand in any order and overlap. The entries that are for
-/// one of the rooms or for the whole namespace are found by the stream's index, and no others are looked at. The one
-/// error is want of memory.
+/// one of the rooms or for the whole namespace are found by the stream's index, and no others are looked at; the rooms
+/// held there matter where they are excepted. The one error is want of memory.
 pub fn due_of(
     alloc: Global,
     spans: &[Span],
@@ -36,25 +39,39 @@ pub fn due_of(
         last: high,
     };
     let found = candidates_of(alloc, spans, stream, nsp, within)?;
-    let begins = by_first(alloc, spans)?;
+    let excepted = excepted_at(alloc, stream, &found)?;
+    let begins = by_first(alloc, spans, &excepted)?;
     due_by_first(alloc, &begins, &found, stream)
 }
 
-/// The spans in the order of their first positions.
-fn by_first<'s, 'a>(alloc: Global, spans: &'s [Span<'a>]) -> Result<Vec<&'s Span<'a>>, AllocError>
-    ensures permutation { IfOk result (λ begins. IsPermutation spans.now (map (λ s. s.now) begins.items)) }
+/// The spans of these rooms, in the order of their first positions.
+fn by_first<'s, 'a>(
+    alloc: Global,
+    spans: &'s [Span<'a>],
+    rooms: &RoomSet,
+) -> Result<Vec<&'s Span<'a>>, AllocError>
+    ensures permutation { IfOk result (λ begins. IsPermutation (filter (is_of_room rooms.now) spans.now) (map (λ s. s.now) begins.items)) }
     ensures sorted { IfOk result (λ begins. AreByFirst (map (λ s. s.now) begins.items)) }
 {
-    let mut begins = lent(alloc, spans)?;
+    let mut begins = of_rooms(alloc, spans, rooms)?;
     begins.sort_by_key(|span| span.first)?;
     Ok(begins)
 }
 
-/// The spans, lent.
-fn lent<'s, 'a>(alloc: Global, spans: &'s [Span<'a>]) -> Result<Vec<&'s Span<'a>>, AllocError>
-    ensures { IfOk result (λ lent. map (λ s. s.now) lent.items ≡ spans.now) }
+/// The spans of these rooms, lent.
+fn of_rooms<'s, 'a>(
+    alloc: Global,
+    spans: &'s [Span<'a>],
+    rooms: &RoomSet,
+) -> Result<Vec<&'s Span<'a>>, AllocError>
+    ensures { IfOk result (λ lent. map (λ s. s.now) lent.items ≡ filter (is_of_room rooms.now) spans.now) }
 {
-    let lent = spans.iter().collect(alloc)?;
+    let mut lent = Vec::new(alloc);
+    for span in spans {
+        if rooms.contains(span.room.as_str()) {
+            lent.push(span)?;
+        }
+    }
     Ok(lent)
 }
 

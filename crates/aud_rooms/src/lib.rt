@@ -25,6 +25,7 @@ mod building;
 mod candidates;
 mod cut;
 mod due;
+mod excepted;
 mod holding;
 mod interval;
 mod laws;
