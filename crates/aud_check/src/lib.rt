@@ -1,6 +1,7 @@
 //! Checks certificates: whether a session received exactly what was due to it, in every run of the logs.
 //!
-//! Begin at [`check`]; [`Refusal`] says what it looks for, and in which order.
+//! Begin at [`check`]; [`Refusal`] says what it looks for, and in which order. [`check_delivery`] is its end, for
+//! certificates that were made here.
 //!
 //! With the `recording` of `examples/bundle_a.jsonl`:
 //!
@@ -34,6 +35,6 @@ mod turn_end;
 mod window;
 mod words;
 
-pub use certificate::{Accepted, check};
+pub use certificate::{Accepted, check, check_delivery};
 pub use refusal::Refusal;
 pub use stays::frames_in;

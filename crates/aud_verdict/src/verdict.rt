@@ -8,7 +8,7 @@ ghost use Rattle.aud_verdict.specs.Verdict.{IsVerdict, asked_so};
 
 use crate::laws::{verdict_by_certificate, verdict_in_every_run, verdict_of_whole};
 use aud_cert::{Certificate, Fault};
-use aud_check::{Accepted, Refusal, check};
+use aud_check::{Accepted, Refusal, check_delivery};
 use aud_client::Recording;
 use aud_maker::{MakeFault, made_is_over, make};
 use aud_report::Verdict;
@@ -37,8 +37,8 @@ fn fault_found(refusal: Refusal) -> Result<Fault, AllocError>
     }
 }
 
-/// The verdict on the session for which this certificate was made, where the whole isn't asked for. It costs the session's own records and stays, and
-/// what is due to it.
+/// The verdict on the session for which this certificate was made, where the whole isn't asked for. It costs the
+/// session's stays, and what is due to it.
 pub fn judge_made(
     alloc: Global,
     recording: &Recording<'_>,
@@ -51,7 +51,7 @@ pub fn judge_made(
     verdict_in_every_run();
     recording.named_once();
     made_is_over();
-    match check(alloc, recording, cert) {
+    match check_delivery(alloc, recording, cert) {
         Ok(counts) => Ok(Verdict::Yes {
             got: counts.got,
             tail: counts.tail,
