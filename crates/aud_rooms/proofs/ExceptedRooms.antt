@@ -7,6 +7,7 @@ use Rattle.std.specs.FinSet as set
 use Rattle.std.proofs.lemmas.Bool.{and_parts}
 use Rattle.aud_base.proofs.Truth.{or_none}
 use Rattle.std.proofs.lemmas.Grind.{flat_map-append}
+use Rattle.std.proofs.lemmas.List.{take_more}
 use Rattle.std.proofs.lemmas.List.Folds.{list_any-append}
 use Rattle.std.proofs.lemmas.Map.Views.{any-filter_same}
 use Rattle.aud_tap.specs.declared.records.StreamRec.{StreamRec}
@@ -15,7 +16,7 @@ use Rattle.aud_node.specs.Stream.{Text, entry}
 use Rattle.aud_rooms.specs.Rooms.{Rooms}
 use Rattle.aud_rooms.specs.Spans.{RoomSpan, is_within, rooms_by_spans}
 use Rattle.aud_rooms.specs.Private.Candidates.{is_spared, is_spared_by}
-use Rattle.aud_rooms.specs.Private.Excepted.{excepted, excepted_at, is_of_room, with_rooms}
+use Rattle.aud_rooms.specs.Private.Excepted.{excepted, excepted_at, is_of_room}
 use Rattle.aud_rooms.proofs.RoomMaps.{same_text, same_rooms, itself}
 use Rattle.aud_rooms.proofs.Sweep.{contains-rooms_by_spans}
 
@@ -25,16 +26,37 @@ is_one_of rooms room = list_any (eq_by_cmp (slice_cmp nat_cmp) room) rooms
 
 -- ---- the set of the rooms
 
--- the set with the rooms of a list contains those, too
-contains-with_rooms : (s : Rooms) (xs : List Text) (q : Text) → set.contains (with_rooms s xs) q ≡ (set.contains s q || is_one_of xs q)
-contains-with_rooms s [] q = sym (or_none (set.contains s q))
-contains-with_rooms s (x ∷ xs) q = grind (arith, contains-with_rooms (set.insert s x) xs q, set.contains-insert nat_list_cmp_total s x q)
+-- the set, and that of a list
+abbrev with_list : Rooms → List Text → Rooms
+with_list s xs = set.union s (set.from_list xs)
 
--- the set of a list, with the rooms of another
-listed_more : (xs ys : List Text) → with_rooms (set.from_list xs) ys ≡ set.from_list (xs ++ ys)
+-- it contains the rooms of both
+contains-with_list : (s : Rooms) (xs : List Text) (q : Text) → set.contains (with_list s xs) q ≡ (set.contains s q || is_one_of xs q)
+contains-with_list s xs q =
+    set.contains-union nat_list_cmp_total s (set.from_list xs) q ∙ ap (λ b. set.contains s q || b) (set.contains-from_list nat_list_cmp_total xs q)
+
+-- no rooms added
+pub added_none : (s : Rooms) → s ≡ with_list s []
+added_none s = same_rooms _ _ (λ q. sym (contains-with_list s [] q ∙ or_none (set.contains s q)))
+
+-- one more room is among those that were added
+one_more : (xs : List Text) (i : ℕ) (x q : Text) → i < length xs → x ≡ get_or xs i x → is_one_of (take (i + 1) xs) q ≡ (is_one_of (take i xs) q || eq_by_cmp (slice_cmp nat_cmp) q x)
+one_more xs i x q within is =
+    ap (λ (ys : List Text). is_one_of ys q) (take_more xs i x within)
+    ∙ list_any-append (eq_by_cmp (slice_cmp nat_cmp) q) (take i xs) (get_or xs i x ∷ [])
+    ∙ ap (λ b. is_one_of (take i xs) q || b) (or_none _ ∙ ap (eq_by_cmp (slice_cmp nat_cmp) q) (sym is))
+
+-- one more room added
+pub added_more : (s : Rooms) (xs : List Text) (i : ℕ) (x : Text) → i < length xs → x ≡ get_or xs i x → set.insert (with_list s (take i xs)) x ≡ with_list s (take (i + 1) xs)
+added_more s xs i x within is =
+    same_rooms _ _ (λ q.
+    grind (arith, one_more xs i x q within is, set.contains-insert nat_list_cmp_total (with_list s (take i xs)) x q, contains-with_list s (take i xs) q, contains-with_list s (take (i + 1) xs) q))
+
+-- the set of a list, and that of another
+listed_more : (xs ys : List Text) → with_list (set.from_list xs) ys ≡ set.from_list (xs ++ ys)
 listed_more xs ys =
     same_rooms _ _ (λ q.
-    grind (arith, contains-with_rooms (set.from_list xs) ys q, set.contains-from_list nat_list_cmp_total xs q, set.contains-from_list nat_list_cmp_total (xs ++ ys) q, list_any-append (eq_by_cmp (slice_cmp nat_cmp) q) xs ys))
+    grind (arith, contains-with_list (set.from_list xs) ys q, set.contains-from_list nat_list_cmp_total xs q, set.contains-from_list nat_list_cmp_total (xs ++ ys) q, list_any-append (eq_by_cmp (slice_cmp nat_cmp) q) xs ys))
 
 -- what the entries except at the positions up to one, and then what the entry there excepts
 listed_at : (stream : List StreamRec) (positions : List ℕ) (i : ℕ) → i < length positions
@@ -44,10 +66,10 @@ listed_at stream positions i within =
 
 -- the set of what they except, with what the entry at the next position excepts
 pub excepted_more : (stream : List StreamRec) (positions : List ℕ) (i : ℕ) → i < length positions → (rooms : Rooms) → rooms ≡ set.from_list (excepted_at stream (take i positions))
-    → with_rooms rooms (excepted (entry stream (get_or positions i 0))) ≡ set.from_list (excepted_at stream (take (i + 1) positions))
+    → with_list rooms (excepted (entry stream (get_or positions i 0))) ≡ set.from_list (excepted_at stream (take (i + 1) positions))
 excepted_more stream positions i within rooms was =
     let here = excepted (entry stream (get_or positions i 0)) in
-    ap (λ (s : Rooms). with_rooms s here) was
+    ap (λ (s : Rooms). with_list s here) was
     ∙ listed_more (excepted_at stream (take i positions)) here
     ∙ ap (λ (xs : List Text). set.from_list xs) (listed_at stream positions i within)
 

@@ -22,8 +22,8 @@ use std::alloc::{AllocError, Global};
 
 /// The recoverable positions past `birth` up to `high` that are addressed to the namespace and to the rooms whose spans
 /// hold them, ascending; positions count from 1. The spans may stand in any order and overlap. The entries that are for
-/// one of the rooms or for the whole namespace are found by the stream's index, and no others are looked at; the rooms
-/// held there matter where they are excepted. The one error is want of memory.
+/// one of the rooms or for the whole namespace are found by the stream's index, and no others are looked at. The one
+/// error is want of memory.
 pub fn due_of(
     alloc: Global,
     spans: &[Span],

@@ -2,7 +2,7 @@
 ghost use Rattle.std.specs.Prelude.{◌≡◌, IfOk, OnOk};
 ghost use Rattle.std.specs.FinSet as set;
 ghost use Rattle.std.specs.Option.{option_copied};
-ghost use Rattle.aud_rooms.specs.Private.Excepted.{excepted, excepted_at, with_rooms};
+ghost use Rattle.aud_rooms.specs.Private.Excepted.{excepted, excepted_at};
 
 use crate::room_set::RoomSet;
 use aud_node::Stream;
@@ -35,9 +35,9 @@ fn excepted(entry: Option<&StreamRec>) -> &[Text]
     }
 }
 
-/// These rooms are held from now on, too.
+/// Adds these rooms.
 fn join_all<'a>(rooms: &mut RoomSet<'a>, more: &'a [Text]) -> Result<(), AllocError>
-    ensures { OnOk result (rooms.new ≡ with_rooms rooms.old more.now) }
+    ensures { OnOk result (rooms.new ≡ set.union rooms.old (set.from_list more.now)) }
 {
     for room in more {
         rooms.join(room.as_str())?;

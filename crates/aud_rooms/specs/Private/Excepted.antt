@@ -1,5 +1,5 @@
 -- The rooms that entries except, and the spans of them.
-use Rattle.std.specs.Prelude.{ℕ, Bool, List, [], ◌∷◌, Option, Some, None}
+use Rattle.std.specs.Prelude.{ℕ, Bool, List, [], Option, Some, None}
 use Rattle.std.specs.List.{flat_map}
 use Rattle.std.specs.FinSet as set
 use Rattle.aud_tap.specs.declared.records.StreamRec.{StreamRec}
@@ -21,8 +21,3 @@ excepted_at stream positions = flat_map (λ p. excepted (entry stream p)) positi
 -- the span is of one of these rooms
 abbrev pub is_of_room : Rooms → RoomSpan → Bool
 is_of_room rooms s = set.contains rooms s.room
-
--- these rooms, and then those of the list
-abbrev pub with_rooms : Rooms → List Text → Rooms
-with_rooms rooms [] = rooms
-with_rooms rooms (room ∷ more) = with_rooms (set.insert rooms room) more

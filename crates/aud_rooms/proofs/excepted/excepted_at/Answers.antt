@@ -1,5 +1,6 @@
 use Rattle.std.proofs.Common.{ap, ◌∙◌}
-use Rattle.aud_rooms.specs.Private.Excepted.{excepted, with_rooms}
+use Rattle.std.specs.FinSet as set
+use Rattle.aud_rooms.specs.Private.Excepted.{excepted}
 use Rattle.aud_rooms.proofs.ExceptedRooms.{excepted_more}
 use Rattle.aud_rooms.proofs.excepted.excepted_at.Goals as goal
 
@@ -7,5 +8,5 @@ pub loop-position-preserved : goal.loop-position-preserved
 loop-position-preserved c =
     let rooms = c.loop-position.rooms in
     c.in_ok-join_all.ensures
-    ∙ ap (λ xs. with_rooms rooms xs) (c.excepted.ensures ∙ ap (λ o. excepted o) c.entry-entry.ensures)
+    ∙ ap (λ xs. set.union rooms (set.from_list xs)) (c.excepted.ensures ∙ ap (λ o. excepted o) c.entry-entry.ensures)
     ∙ excepted_more c.args.stream.now c.args.positions.now c.loop-position.position-index c.loop-position-test.true rooms c.loop-position.invariant
