@@ -20,10 +20,6 @@ use Rattle.aud_check.proofs.Prefixes.{prefix_of_prefix}
 use Rattle.aud_check.proofs.Ranks.{no_mismatch}
 use Rattle.aud_check.proofs.Agreed.{mismatch-none}
 
--- what holds of the logs that were lent, and of a certificate's parts
-pub carried : (P : Cluster → CertificateSeen → Type 0) {lent c : Cluster} {parts cert : CertificateSeen} → lent ≡ c → parts ≡ cert → P lent parts → P c cert
-carried P {lent} {c} {parts} {cert} same is holds = subst (λ l. P l cert) same (subst (P lent) is holds)
-
 module _ (c : Cluster) (cert : CertificateSeen) where
   -- the received positions are a prefix of what is due in every run
   pub in_every_run : ((c : Cluster) (run : List Step) (who : Who) (turns : List Turn) → IsRun c run → AreTurns c who 0 turns → IsPrefixOf (turns_due c.stream who (map (slice_of c) turns)) (due c run who.pid))

@@ -1,5 +1,7 @@
--- The first refusal of a certificate, by what was found before it.
-use Rattle.std.proofs.Common.{arith, ◌≡◌, ℕ, true, List, sym, ap, subst, ◌∙◌, true≢false}
+-- The first refusal of a certificate, by what was found before it; and what is said of a certificate by its parts.
+use Rattle.std.proofs.Common.{arith, ◌≡◌, ◌+◌, ◌-◌, ◌++◌, ℕ, List, length, sym, ap, ◌∙◌, true≢false}
+use Rattle.std.proofs.lemmas.List.{length-append, length-map}
+use Rattle.aud_client.specs.StaySeen.{FrameSeen}
 use Rattle.aud_node.specs.Stream.{Text}
 use Rattle.aud_node.specs.Cluster.{Cluster}
 use Rattle.aud_rooms.specs.Turns.{Who}
@@ -7,17 +9,15 @@ use Rattle.aud_rooms.specs.TurnsDue.{turns_due}
 use Rattle.aud_rooms.specs.Spans.{RoomSpan, AreSpansOfTurns}
 use Rattle.aud_cert.specs.Certificate.{CertificateSeen, TurnSeen}
 use Rattle.aud_check.specs.declared.refusal.Refusal.{Refusal}
-use Rattle.aud_check.specs.declared.refusal.Refusal.TheVariants.{Span, Names, Received, Memory}
+use Rattle.aud_check.specs.declared.refusal.Refusal.TheVariants.{Names, Received, Memory}
 use Rattle.aud_check.specs.Client.{case_for}
 use Rattle.aud_check.specs.Private.ClientCheck.{IsClientRefusal}
-use Rattle.aud_check.specs.Faults.{Case, IsReceived}
-use Rattle.aud_check.specs.NamedStays.{are_of_session}
-use Rattle.aud_check.specs.Shown.{slices_at, slices_of, who_in, who_of, shown_due}
+use Rattle.aud_check.specs.Faults.{Case, IsReceived, positions_in}
+use Rattle.aud_check.specs.Shown.{slices_at, slices_of, who_of, shown_due}
 use Rattle.aud_check.specs.TurnRefusals.{AreTurnsAccepted}
 use Rattle.aud_check.specs.Private.TurnCheck.{IsFirstOfTurns}
-use Rattle.aud_check.specs.Refusals.{RefusesFirst, IsFirstRefusal, IsAccepted, certificate_case}
-use Rattle.aud_check.specs.Private.Parts.{seen_as}
-use Rattle.aud_check.proofs.Ranks.{first_of_turns, first_span, first_names, first_fault}
+use Rattle.aud_check.specs.Refusals.{RefusesFirst, IsFirstRefusal, certificate_case}
+use Rattle.aud_check.proofs.Ranks.{first_of_turns, first_names, first_fault}
 
 -- a refusal that comes before all others is the first
 pub first_refusal : (c : Cluster) (cert : CertificateSeen) (refusal : Refusal) → RefusesFirst c cert refusal → IsFirstRefusal c cert refusal
@@ -35,52 +35,33 @@ client_first c cert turns spans (Received f) (named, first) = first_fault c cert
 client_first c cert turns spans Memory h = tt
 client_first c cert turns spans _ h = absurd h
 
-module _ (c : Cluster) (who : Who) (client : Text) (turns : List TurnSeen) (spans : List RoomSpan) (named : who ≡ who_in who.pid turns) where
-  -- the certificate with these parts
-  abbrev cert : CertificateSeen
-  cert = seen_as who.pid client turns spans
+-- what is said of the parts of a certificate, lent, is so of the certificate
+module _ (c : Cluster) (cert : CertificateSeen) {lent : Cluster} {who : Who} {turns : List TurnSeen} (logs_are : lent ≡ c) (who_is : who ≡ who_of cert) (turns_are : turns ≡ cert.turns) where
+  -- whether its turns are accepted
+  pub turns_same : AreTurnsAccepted lent who.pid turns ≡ AreTurnsAccepted c cert.pid cert.turns
+  turns_same = λ i. AreTurnsAccepted (logs_are i) (who_is i).pid (turns_are i)
 
-  -- spans of the session's turns are those of the certificate's session
-  spans_are : AreSpansOfTurns c.stream who (slices_at c turns) spans → AreSpansOfTurns c.stream (who_of cert) (slices_of c cert) spans
-  spans_are = subst (λ (w : Who). AreSpansOfTurns c.stream w (slices_at c turns) spans) named
+  -- whether a refusal is the first of its turns
+  pub first_same : (refusal : Refusal) → IsFirstOfTurns lent who.pid turns refusal ≡ IsFirstOfTurns c cert.pid cert.turns refusal
+  first_same refusal = λ i. IsFirstOfTurns (logs_are i) (who_is i).pid (turns_are i) refusal
 
-  -- where the turns are right and the spans aren't, that is the first refusal
-  pub span_first : AreTurnsAccepted c who.pid turns → (AreSpansOfTurns c.stream who (slices_at c turns) spans → ⊥) → IsFirstRefusal c cert Span
-  span_first accepted not =
-      first_span c cert accepted (λ are. not (subst (λ (w : Who). AreSpansOfTurns c.stream w (slices_at c turns) spans) (sym named) are))
+  -- whether its spans are those of its turns
+  pub spans_same : {spans : List RoomSpan} → spans ≡ cert.spans → AreSpansOfTurns lent.stream who (slices_at lent turns) spans ≡ AreSpansOfTurns c.stream (who_of cert) (slices_of c cert) cert.spans
+  spans_same spans_are = λ i. AreSpansOfTurns (logs_are i).stream (who_is i) (slices_at (logs_are i) (turns_are i)) (spans_are i)
 
-  module _ (due : List ℕ) (is : due ≡ turns_due c.stream who (slices_at c turns)) where
-    -- the positions are those due by the shown turns
-    due_is : due ≡ shown_due c cert
-    due_is = is ∙ ap (λ (w : Who). turns_due c.stream w (slices_at c turns)) named
+  -- what is due by its turns
+  pub due_same : {due : List ℕ} → due ≡ turns_due lent.stream who (slices_at lent turns) → due ≡ shown_due c cert
+  due_same due_is = due_is ∙ (λ i. turns_due (logs_are i).stream (who_is i) (slices_at (logs_are i) (turns_are i)))
 
-    -- the client's case is that of the certificate
-    case_same : case_for c client who.pid due ≡ certificate_case c cert
-    case_same = ap (case_for c client who.pid) due_is
+  -- what its client received against that
+  pub case_same : {client : Text} {due : List ℕ} → client ≡ cert.client → due ≡ turns_due lent.stream who (slices_at lent turns) → case_for lent client who.pid due ≡ certificate_case c cert
+  case_same client_is due_is = λ i. case_for (logs_are i) (client_is i) (who_is i).pid (due_same due_is i)
 
-    -- a refusal of the client's tap is the first of the certificate
-    pub refused_first : AreTurnsAccepted c who.pid turns → AreSpansOfTurns c.stream who (slices_at c turns) spans
-        → (refusal : Refusal) → IsClientRefusal who (case_for c client who.pid due) refusal → IsFirstRefusal c cert refusal
-    refused_first accepted are refusal h =
-        client_first c cert accepted (spans_are are) refusal
-        (subst (λ (w : Who). IsClientRefusal w (certificate_case c cert) refusal) named (subst (λ (case : Case). IsClientRefusal who case refusal) case_same h))
-
-    -- where nothing was refused, the certificate is accepted
-    pub judged : AreTurnsAccepted c who.pid turns → AreSpansOfTurns c.stream who (slices_at c turns) spans
-        → are_of_session who (case_for c client who.pid due).stays ≡ true → IsReceived (case_for c client who.pid due) → IsAccepted c cert
-    judged accepted are of_session received =
-        record {
-          are_turns = accepted;
-          are_spans = spans_are are;
-          are_named = subst (λ (w : Who). are_of_session w (certificate_case c cert).stays ≡ true) named (subst (λ (case : Case). are_of_session who case.stays ≡ true) case_same of_session);
-          is_received = subst IsReceived case_same received;
-        }
-
--- a certificate by its parts, as they stand in the value that it is read from
-pub same_cert : {cert inner : CertificateSeen} {who : Who} {client : Text} {turns : List TurnSeen} {spans : List RoomSpan}
-    → who ≡ who_of cert → inner ≡ cert → client ≡ inner.client → turns ≡ inner.turns → spans ≡ inner.spans → seen_as who.pid client turns spans ≡ cert
-same_cert {cert} {inner} {who} {client} {turns} {spans} named view a b d =
-    ap (λ x. seen_as x client turns spans) (ap (λ (w : Who). w.pid) named)
-    ∙ ap (λ x. seen_as cert.pid x turns spans) (a ∙ ap (λ (x : CertificateSeen). x.client) view)
-    ∙ ap (λ x. seen_as cert.pid cert.client x spans) (b ∙ ap (λ (x : CertificateSeen). x.turns) view)
-    ∙ ap (seen_as cert.pid cert.client cert.turns) (d ∙ ap (λ (x : CertificateSeen). x.spans) view)
+-- the due positions after those received are the tail
+pub tail_is : (case : Case) (got len : ℕ) → IsReceived case → got ≡ length case.frames → len ≡ length case.due → got + (len - got) ≡ length case.due
+tail_is case got len received got_is len_is =
+    let (rest, whole) = received.is_prefix in
+    let long = ap (λ (ps : List ℕ). length ps) whole in
+    let front : length (positions_in case) ≡ length case.frames = length-map case.frames (λ (frame : FrameSeen). frame.position) in
+    let both : length (positions_in case ++ rest) ≡ length (positions_in case) + length rest = length-append (positions_in case) rest in
+    omega (arith, long, front, both, got_is, len_is)

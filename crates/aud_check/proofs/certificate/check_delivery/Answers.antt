@@ -1,32 +1,65 @@
-use Rattle.std.specs.Result.{OnOk, IfOk, IfErr}
-use Rattle.std.proofs.Common.{◌≡◌, ◌+◌, length, refl, sym, ap, subst, ◌∙◌}
+use Rattle.std.proofs.Common.{◌≡◌, ℕ, true, List, length, sym, ap, subst, ◌∙◌}
+use Rattle.std.proofs.lemmas.List.Kept.{AllPairs-from_increasing}
+use Rattle.std.proofs.lemmas.Result.{err_from_is_err_and}
 use Rattle.aud_rooms.specs.Turns.{Who}
+use Rattle.aud_rooms.specs.TurnsDue.{is_turn_due}
+use Rattle.aud_rooms.proofs.Ascending.{filter-ascends}
 use Rattle.aud_cert.specs.Certificate.{CertificateSeen}
-use Rattle.aud_check.specs.declared.certificate.Accepted.{Accepted}
-use Rattle.aud_check.specs.Shown.{frames_received, shown_due}
-use Rattle.aud_check.specs.Refusals.{IsAccepted, IsFirstRefusal}
-use Rattle.aud_check.specs.TurnRefusals.{AreTurnsAccepted}
-use Rattle.aud_check.proofs.Headline.{carried}
-use Rattle.aud_check.proofs.Judged.{same_cert}
+use Rattle.aud_check.specs.Private.Ascending.{IsAscending}
+use Rattle.aud_check.specs.Private.ClientCheck.{IsClientRefusal}
+use Rattle.aud_check.specs.Faults.{Case, IsReceived}
+use Rattle.aud_check.specs.NamedStays.{are_of_session}
+use Rattle.aud_check.specs.Refusals.{certificate_case}
+use Rattle.aud_check.specs.Shown.{slices_at}
+use Rattle.aud_check.proofs.Judged.{client_first, turns_same, due_same, case_same, tail_is}
 use Rattle.aud_check.proofs.certificate.check_delivery.Goals as goal
 
-pub judge_delivery-requires-clause-turns : goal.judge_delivery-requires-clause-turns
-judge_delivery-requires-clause-turns c =
-    let C = c.args.recording.now in
-    let turns : c.as_slice-turns.result.now ≡ c.args.cert.now.turns = c.as_slice-turns.ensures.value ∙ ap (λ (x : CertificateSeen). x.turns) c.cert.view_is in
-    let named = ap (λ (w : Who). w.pid) c.session_of-session.ensures in
-    subst (λ l. AreTurnsAccepted l c.session_of-session.result.pid c.as_slice-turns.result.now) (sym c.logs-logs.ensures)
-    (subst (λ pid. AreTurnsAccepted C pid c.as_slice-turns.result.now) (sym named) (subst (AreTurnsAccepted C c.args.cert.now.pid) (sym turns) c.requires.turns))
+pub shown_due-requires-clause-accepted : goal.shown_due-requires-clause-accepted
+shown_due-requires-clause-accepted c =
+    let turns_are = c.as_slice.ensures.value ∙ ap (λ (x : CertificateSeen). x.turns) c.cert.view_is in
+    let same = turns_same c.args.recording.now c.args.cert.now c.logs-logs.ensures c.session_of-session.ensures turns_are in
+    subst (λ (X : Type 0). X) (sym same) c.requires.accepted_turns
 
-pub returns : goal.returns
-returns c =
-    let result = c.judge_delivery.result in
-    let same = c.logs-logs.ensures in
-    let parts = same_cert c.session_of-session.ensures c.cert.view_is refl c.as_slice-turns.ensures.value c.as_slice-spans.ensures.value in
+pub check_client-requires-clause-ascending : goal.check_client-requires-clause-ascending
+check_client-requires-clause-ascending c =
+    let stream = c.logs-logs.result.now.stream in
+    subst IsAscending (sym (c.as_slice-3.ensures.value ∙ c.in_ok-due.ensures))
+    (AllPairs-from_increasing _ (filter-ascends (is_turn_due stream c.session_of-session.result (slices_at c.logs-logs.result.now c.as_slice.result.now)) 1 (length stream)))
+
+pub returns-in_err-got-clause-refused : goal.returns-in_err-got-clause-refused
+returns-in_err-got-clause-refused c =
+    let C = c.args.recording.now in
+    let cert = c.args.cert.now in
+    let p = err_from_is_err_and c.from_residual-in_err-got.result c.from_residual-in_err-got.ensures.1 in
+    let refusal = c.in_err-got.field-0.0 in
+    let who = c.session_of-session.result in
+    let who_is = c.session_of-session.ensures in
+    let turns_are = c.as_slice.ensures.value ∙ ap (λ (x : CertificateSeen). x.turns) c.cert.view_is in
+    let same = case_same C cert c.logs-logs.ensures who_is turns_are (ap (λ (x : CertificateSeen). x.client) c.cert.view_is) (c.as_slice-3.ensures.value ∙ c.in_ok-due.ensures) in
+    rw p.1
+    (rw p.2
+    (client_first C cert c.requires.accepted_turns c.requires.own_spans refusal
+    (subst (λ (w : Who). IsClientRefusal w (certificate_case C cert) refusal) who_is (subst (λ (case : Case). IsClientRefusal who case refusal) same c.in_err-got.ensures.refused))))
+
+pub returns-clause-accepted : goal.returns-clause-accepted
+returns-clause-accepted c =
+    let C = c.args.recording.now in
+    let cert = c.args.cert.now in
+    let who = c.session_of-session.result in
+    let who_is = c.session_of-session.ensures in
+    let turns_are = c.as_slice.ensures.value ∙ ap (λ (x : CertificateSeen). x.turns) c.cert.view_is in
+    let same = case_same C cert c.logs-logs.ensures who_is turns_are (ap (λ (x : CertificateSeen). x.client) c.cert.view_is) (c.as_slice-3.ensures.value ∙ c.in_ok-due.ensures) in
     record {
-      accepted = carried (λ l x. OnOk result (IsAccepted l x)) same parts c.judge_delivery.ensures.accepted;
-      refused = carried (λ l x. IfErr result (IsFirstRefusal l x)) same parts c.judge_delivery.ensures.refused;
-      got = carried (λ l x. IfOk result (λ (a : Accepted). a.got ≡ length (frames_received l x))) same parts c.judge_delivery.ensures.got;
-      tail = carried (λ l x. IfOk result (λ (a : Accepted). a.got + a.tail ≡ length (shown_due l x))) same parts c.judge_delivery.ensures.tail;
-      turns_are = carried (λ l x. IfOk result (λ (a : Accepted). a.turns ≡ length x.turns)) same parts c.judge_delivery.ensures.turns_are;
+      are_turns = c.requires.accepted_turns;
+      are_spans = c.requires.own_spans;
+      are_named = subst (λ (w : Who). are_of_session w (certificate_case C cert).stays ≡ true) who_is (subst (λ (case : Case). are_of_session who case.stays ≡ true) same c.in_ok-got.ensures.named);
+      is_received = subst IsReceived same c.in_ok-got.ensures.received;
     }
+
+pub returns-clause-tail : goal.returns-clause-tail
+returns-clause-tail c =
+    let turns_are = c.as_slice.ensures.value ∙ ap (λ (x : CertificateSeen). x.turns) c.cert.view_is in
+    let received = c.in_ok-got.ensures.received in
+    let due_is = c.as_slice-3.ensures.value ∙ c.in_ok-due.ensures in
+    tail_is _ c.in_ok-got.got c.len.result received c.in_ok-got.ensures.got (c.len.ensures ∙ sym c.as_slice-3.ensures.len)
+    ∙ ap (λ (ps : List ℕ). length ps) (due_same c.args.recording.now c.args.cert.now c.logs-logs.ensures c.session_of-session.ensures turns_are due_is)

@@ -9,7 +9,7 @@ returns-in-Ok c =
     let counts = c.in-Ok.counts in
     let cert = c.args.cert.now in
     let yes = c.verdict_by_certificate.ensures.accepted c.args.recording.now cert.pid cert counts.got counts.tail counts.turns c.named_once.ensures c.requires
-    answer.accepted answer.got answer.tail answer.turns_are in
+    answer.accepted answer.got answer.tail answer.turns in
     (c.requires, answer.accepted, yes, c.verdict_in_every_run.ensures.all c.args.recording.now false cert.pid (Yes counts.got counts.tail counts.turns) yes)
 
 pub check_delivery-requires-clause-over : goal.check_delivery-requires-clause-over
@@ -17,11 +17,11 @@ check_delivery-requires-clause-over c =
     let cert = c.args.cert.now in
     c.made_is_over.ensures.over c.args.recording.now cert.pid cert c.named_once.ensures c.requires
 
-pub check_delivery-requires-clause-turns : goal.check_delivery-requires-clause-turns
-check_delivery-requires-clause-turns c = turns_accepted c.args.recording.now c.args.cert.now.pid c.args.cert.now c.named_once.ensures c.requires
+pub check_delivery-requires-clause-accepted_turns : goal.check_delivery-requires-clause-accepted_turns
+check_delivery-requires-clause-accepted_turns c = turns_accepted c.args.recording.now c.args.cert.now.pid c.args.cert.now c.named_once.ensures c.requires
 
-pub check_delivery-requires-clause-spans : goal.check_delivery-requires-clause-spans
-check_delivery-requires-clause-spans c = spans_accepted c.args.recording.now c.args.cert.now.pid c.args.cert.now c.named_once.ensures c.requires
+pub check_delivery-requires-clause-own_spans : goal.check_delivery-requires-clause-own_spans
+check_delivery-requires-clause-own_spans c = spans_accepted c.args.recording.now c.args.cert.now.pid c.args.cert.now c.named_once.ensures c.requires
 
 pub fault_found-requires : goal.fault_found-requires
 fault_found-requires c =
