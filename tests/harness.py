@@ -6,6 +6,7 @@ import difflib
 import functools
 import os
 import subprocess
+import sys
 from pathlib import Path
 from typing import Optional
 
@@ -18,7 +19,12 @@ MOST_COLUMNS = 160
 def program() -> str:
     """The program under test: SIOAUDIT, or else the one that `./sioaudit` runs."""
     given = os.environ.get("SIOAUDIT")
-    return given or subprocess.run([TOP / "tools/program"], stdout=subprocess.PIPE, text=True, check=True).stdout.strip()
+    if given:
+        return given
+    done = subprocess.run([TOP / "tools/program"], stdout=subprocess.PIPE, text=True)
+    if done.returncode:
+        sys.exit(done.returncode)
+    return done.stdout.strip()
 
 
 def difference(expected: str, written: str) -> str:
