@@ -6,43 +6,37 @@ released=dist/sioaudit-linux-x86_64
 manifest=dist/MANIFEST
 built=crates/sioaudit/out/sioaudit
 
-# Prints the crates that the program depends on by crates.txt, and its own: a name a line.
-program_crates() {
+# Sets `crates` to the crates that the program depends on by crates.txt, and its own, and `folders` to those of their sources.
+find_sources() {
     local -A below=() found=([sioaudit]=1)
-    local line name left=(sioaudit)
+    local line name part left=(sioaudit)
     while read -r line || [[ -n $line ]]; do
         line=${line%%#*}
         [[ ! $line =~ ^([[:alnum:]_-]+)[^:]*:?(.*) ]] || below[${BASH_REMATCH[1]}]=${BASH_REMATCH[2]//,/ }
     done <crates.txt || return
+    crates=() folders=()
     while ((${#left[@]})); do
-        line=${below[${left[-1]}]}
+        line=${left[-1]}
         unset 'left[-1]'
-        for name in $line; do
-            # a library of the kit has no line
+        crates+=("crates/$line")
+        for name in ${below[$line]}; do
+            # (a library of the kit has no line)
             if [[ -n ${below[$name]+is} && -z ${found[$name]-} ]]; then
                 found[$name]=1
                 left+=("$name")
             fi
         done
     done
-    printf '%s\n' "${!found[@]}" | sort
-}
-
-# Prints the folders of these crates' sources: a path a line.
-source_folders() {
-    local crate part
-    program_crates | while read -r crate; do
+    for name in "${crates[@]}"; do
         for part in src specs proofs; do
-            [[ ! -d crates/$crate/$part ]] || printf '%s\n' "crates/$crate/$part"
+            [[ ! -d $name/$part ]] || folders+=("$name/$part")
         done
     done
 }
 
 # Prints the one sum over all sources, in the order of the bytes of their paths.
 source_sum() {
-    local folders sum
-    folders=$(source_folders) || return
-    mapfile -t folders <<<"$folders"
+    local sum
     sum=$(find crates.txt HANDLES "${folders[@]}" ! -type d -print0 | sort -z | xargs -0 sha256sum | sha256sum) || return
     printf '%s\n' "${sum%% *}"
 }
@@ -56,8 +50,6 @@ sum_of() {
 
 # Returns whether there is a built program, and no source is newer.
 is_built() {
-    local folders newer
-    [[ -x $built ]] && folders=$(source_folders) || return
-    mapfile -t folders <<<"$folders"
-    newer=$(find crates.txt HANDLES "${folders[@]}" -newer "$built" -print -quit) && [[ -z $newer ]]
+    local newer
+    [[ -x $built ]] && newer=$(find crates.txt HANDLES "${folders[@]}" -newer "$built" -print -quit) && [[ -z $newer ]]
 }
