@@ -67,14 +67,14 @@ pub fn read_cert<'a>(
     ensures sound { IfOk result (λ cert. IsSound logs.now cert) }
 {
     let d = json(alloc, text)?;
-    certificate_in(alloc, &d, logs)
+    certificate_in(alloc, logs, &d)
 }
 
 /// The certificate that JSON tells, over the logs.
 fn certificate_in<'a>(
     alloc: Global,
-    d: &Value,
     logs: &'a Logs<'_>,
+    d: &Value,
 ) -> Result<Certificate<'a>, CertFault>
     ensures { Gives (λ cert. cert) result (certificate_in logs.now (view d.now)) }
 {

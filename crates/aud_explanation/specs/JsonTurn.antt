@@ -40,17 +40,22 @@ abbrev pub took_data : Option (ℕ × ℕ) → Data
 took_data (Some took) = array (items whole (took.0 ∷ took.1 ∷ []))
 took_data None = null
 
+-- how a turn begins and ends, in front of other members
+abbrev pub turn_ends : TurnShown → Members → Members
+turn_ends t others =
+    member (codes "begin") (string (begin_word t.begin))
+    (member (codes "end") (string (end_word t.end))
+    (member (codes "high") (number_or_null (high_at t.end))
+    (member (codes "lines") (lines_data t.begin_line t.end) others)))
+
 -- `{"begin":..,"end":..,"high":..,"lines":..,"low":..,"node":..,"took":..,"turn":..}`
 abbrev pub turn_data : TurnShown → Data
 turn_data t =
-    object (member (codes "begin") (string (begin_word t.begin))
-    (member (codes "end") (string (end_word t.end))
-    (member (codes "high") (number_or_null (high_at t.end))
-    (member (codes "lines") (lines_data t.begin_line t.end)
+    object (turn_ends t
     (member (codes "low") (whole t.low)
     (member (codes "node") (string t.node.now)
     (member (codes "took") (took_data t.took)
-    (member (codes "turn") (whole t.turn) no_members))))))))
+    (member (codes "turn") (whole t.turn) no_members)))))
 
 -- the turns
 unfoldable pub with_turns : List TurnShown → Members → Members

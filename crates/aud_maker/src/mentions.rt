@@ -21,15 +21,15 @@ pub fn sessions(alloc: Global, recording: &Recording<'_>) -> Result<Vec<String>,
         mentioned.mention(logs.named_pid(number))?;
     }
     for place in 0..logs.taps().len() {
-        mention_client(&mut mentioned, recording, place)?;
+        mention_client(recording, &mut mentioned, place)?;
     }
     mentioned.into_pids()
 }
 
 /// The pids that the replies of the tap at this place name, if it is a client's.
 fn mention_client(
-    mentioned: &mut Mentioned,
     recording: &Recording<'_>,
+    mentioned: &mut Mentioned,
     place: usize,
 ) -> Result<(), AllocError>
     ensures { OnOk result (mentioned.new ≡ with_texts mentioned.old (reply_pids recording.now.stream (client_at recording.now place))) }

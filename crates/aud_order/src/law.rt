@@ -38,7 +38,8 @@ pub fn neighbours_in_any_order()
 {}
 
 /// Inputs that are the same but for the order of their lines have the same output, or a line of each is refused: a law
-/// of [`run`](aud_app::run) in the modes without certificates, `audit` and `prove`, with equal `whole`.
+/// of [`run`](aud_app::run) in the modes that read no certificates: `audit`, with equal `whole`, `prove`, `order` and
+/// `upgrade`.
 pub fn outputs_in_any_order()
     ensures { (mode : Mode) (whole : Bool) (bytes others : List ℕ) → layout_of mode ≡ Bundle
         → AreSameButForOrder (line_texts bytes) (line_texts others) → AreWrittenAlike mode whole bytes others }

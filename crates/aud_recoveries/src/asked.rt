@@ -24,7 +24,7 @@ pub fn recoveries(alloc: Global, recording: &Recording<'_>) -> Result<Vec<Recove
 {
     let mut found = Vec::new(alloc);
     for place in 0..recording.logs().taps().len() {
-        push_client(&mut found, recording, place)?;
+        push_client(recording, &mut found, place)?;
     }
     Ok(found)
 }
@@ -41,8 +41,8 @@ pub fn stay_of<'r, 'a>(recording: &'r Recording<'a>, recovery: &Recovery) -> Opt
 
 /// Adds the recoveries that the client at this place asked for, if the tap there is a client's.
 fn push_client(
-    found: &mut Vec<Recovery>,
     recording: &Recording<'_>,
+    found: &mut Vec<Recovery>,
     place: usize,
 ) -> Result<(), AllocError>
     ensures { OnOk result (found.new.items ≡ found.old.items ++ recoveries_at recording.now place) }

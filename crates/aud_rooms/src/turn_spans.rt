@@ -32,7 +32,7 @@ pub fn spans_of_turns<'a>(
 {
     let mut builder = SpanBuilder::new(alloc, sid, lowest(logs, turns))?;
     for turn in turns {
-        walk_turn(&mut builder, logs, pid, turn)?;
+        walk_turn(logs, &mut builder, pid, turn)?;
     }
     builder.finish()
 }
@@ -49,8 +49,8 @@ fn lowest(logs: &Logs<'_>, turns: &[TurnPlace]) -> u64
 }
 
 fn walk_turn<'a>(
-    builder: &mut SpanBuilder<'a>,
     logs: &Logs<'a>,
+    builder: &mut SpanBuilder<'a>,
     pid: &str,
     turn: &TurnPlace,
 ) -> Result<(), AllocError>
@@ -59,15 +59,15 @@ fn walk_turn<'a>(
 {
     builder.upto(turn.low(logs))?;
     for number in turn.own(logs, pid) {
-        walk_record(builder, logs, turn.node, pid, *number)?;
+        walk_record(logs, builder, turn.node, pid, *number)?;
     }
     builder.upto(turn.high(logs))
 }
 
 /// The positions up to the cursor at the record take the rooms held so far; then the record changes them.
 fn walk_record<'a>(
-    builder: &mut SpanBuilder<'a>,
     logs: &Logs<'a>,
+    builder: &mut SpanBuilder<'a>,
     node: usize,
     pid: &str,
     number: usize,

@@ -1,1 +1,2 @@
 pub use Rattle.aud_schedule.specs.Plans
+pub mod Bundles

@@ -1,5 +1,6 @@
 //! The bundle of a plan.
 ghost use Rattle.aud_schedule.specs.Plans.{IsPossible};
+ghost use Rattle.aud_simulation.specs.Bundles.{IsSimulationOf};
 
 use aud_schedule::{Plan, schedule};
 use aud_sim::{SimFault, simulate};
@@ -9,6 +10,7 @@ use std::alloc::Global;
 /// possible where they stand.
 pub fn simulated(alloc: Global, plan: &Plan) -> Result<Vec<u8>, SimFault>
     requires { IsPossible plan.now }
+    ensures { IsSimulationOf plan.now result }
 {
     let acts = schedule(alloc, plan)?;
     simulate(

@@ -51,20 +51,28 @@ recoveries_data r = object (figure (codes "asked") r.asked (figure (codes "grant
 abbrev pub tails_data : Tails → Data
 tails_data t = object (figure (codes "events") t.events (figure (codes "sessions") t.sessions no_members))
 
-abbrev pub figures_data : Summary → Data
-figures_data s =
-    object (figure (codes "bytes") s.input.bytes
+-- the figures up to `lines`, in front of others
+abbrev pub first_figures : Summary → Members → Members
+first_figures s others =
+    figure (codes "bytes") s.input.bytes
     (member (codes "class") (classes_data s.classes)
     (member (codes "entries") (entries_data s.entries)
     (member (codes "fault") (faults_data s.faults)
-    (figure (codes "lines") s.input.lines
-    (figure (codes "no") s.no
+    (figure (codes "lines") s.input.lines others))))
+
+-- the figures after it
+abbrev pub other_figures : Summary → Members
+other_figures s =
+    figure (codes "no") s.no
     (member (codes "recoveries") (recoveries_data s.recoveries)
     (figure (codes "seconds") s.input.seconds
     (figure (codes "sessions") s.sessions
     (member (codes "tail") (tails_data s.tails)
     (figure (codes "unobserved") s.unobserved
-    (figure (codes "yes") s.yes no_members))))))))))))
+    (figure (codes "yes") s.yes no_members))))))
+
+abbrev pub figures_data : Summary → Data
+figures_data s = object (first_figures s (other_figures s))
 
 -- `{"summary":{..},"v":1}`
 abbrev pub summary_data : Summary → Data

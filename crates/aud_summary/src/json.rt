@@ -2,7 +2,7 @@
 ghost use Rattle.std.specs.Prelude.{◌≡◌, IfOk, OnOk, string_bytes};
 ghost use Rattle.serde_json.specs.Data.{no_members, number, put, unsigned};
 ghost use Rattle.serde_json.specs.View.{members_view, view};
-ghost use Rattle.aud_summary.specs.Json.{classes_data, entries_data, faults_data, figures_data, first_faults, recoveries_data, summary_data, summary_json, tails_data};
+ghost use Rattle.aud_summary.specs.Json.{classes_data, entries_data, faults_data, figures_data, first_faults, first_figures, recoveries_data, summary_data, summary_json, tails_data};
 
 use crate::classes::Classes;
 use crate::entries::Entries;
@@ -10,7 +10,7 @@ use crate::faults::Faults;
 use crate::recoveries::Recoveries;
 use crate::summary::Summary;
 use crate::tails::Tails;
-use serde_json::{Map, Value, json};
+use serde_json::{Map, Value, json, put};
 use std::alloc::{AllocError, Global};
 
 /// The summary as one line of JSON without blanks and without a newline: `{"summary":{..},"v":1}`, where `v` is the
@@ -32,20 +32,53 @@ fn summary_value(alloc: Global, summary: &Summary) -> Result<Value, AllocError>
 fn figures_value(alloc: Global, summary: &Summary) -> Result<Value, AllocError>
     ensures { IfOk result (λ value. view value ≡ figures_data summary.now) }
 {
-    json!(in alloc; {
-        "bytes": summary.input.bytes,
-        "class": classes_value(alloc, &summary.classes)?,
-        "entries": entries_value(alloc, &summary.entries)?,
-        "fault": faults_value(alloc, &summary.faults)?,
-        "lines": summary.input.lines,
-        "no": summary.no,
-        "recoveries": recoveries_value(alloc, &summary.recoveries)?,
-        "seconds": summary.input.seconds,
-        "sessions": summary.sessions,
-        "tail": tails_value(alloc, &summary.tails)?,
-        "unobserved": summary.unobserved,
-        "yes": summary.yes
-    })
+    let mut map = first_figures(alloc, summary)?;
+    put_figure(&mut map, alloc, "no", summary.no)?;
+    put(
+        &mut map,
+        alloc,
+        "recoveries",
+        recoveries_value(alloc, &summary.recoveries)?,
+    )?;
+    put(
+        &mut map,
+        alloc,
+        "seconds",
+        Value::from(summary.input.seconds),
+    )?;
+    put_figure(&mut map, alloc, "sessions", summary.sessions)?;
+    put(&mut map, alloc, "tail", tails_value(alloc, &summary.tails)?)?;
+    put_figure(&mut map, alloc, "unobserved", summary.unobserved)?;
+    put_figure(&mut map, alloc, "yes", summary.yes)?;
+    Ok(Value::Object(map))
+}
+
+/// The members of the figures up to `lines`.
+fn first_figures(alloc: Global, summary: &Summary) -> Result<Map<String, Value>, AllocError>
+    ensures { IfOk result (λ map. members_view map.entries ≡ first_figures summary.now no_members) }
+{
+    let mut map = Map::new(alloc);
+    put(&mut map, alloc, "bytes", Value::from(summary.input.bytes))?;
+    put(
+        &mut map,
+        alloc,
+        "class",
+        classes_value(alloc, &summary.classes)?,
+    )?;
+    put(
+        &mut map,
+        alloc,
+        "entries",
+        entries_value(alloc, &summary.entries)?,
+    )?;
+    put(
+        &mut map,
+        alloc,
+        "fault",
+        faults_value(alloc, &summary.faults)?,
+    )?;
+    put(&mut map, alloc, "lines", Value::from(summary.input.lines))?;
+    Ok(map)
 }
 
 fn classes_value(alloc: Global, classes: &Classes) -> Result<Value, AllocError>
@@ -98,7 +131,7 @@ fn put_figure(
 ) -> Result<(), AllocError>
     ensures { OnOk result (members_view map.new.entries ≡ put name.now (number (unsigned figure)) (members_view map.old.entries)) }
 {
-    serde_json::put(map, alloc, name, Value::from(figure))
+    put(map, alloc, name, Value::from(figure))
 }
 
 fn recoveries_value(alloc: Global, recoveries: &Recoveries) -> Result<Value, AllocError>

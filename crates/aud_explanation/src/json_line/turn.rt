@@ -1,12 +1,13 @@
 //! The member of the turns.
 ghost use Rattle.std.specs.Prelude.{◌≡◌, IfOk, OnOk};
+ghost use Rattle.serde_json.specs.Data.{no_members};
 ghost use Rattle.serde_json.specs.View.{view, items_view, members_view};
 ghost use Rattle.aud_cert_text.specs.Text.{items};
-ghost use Rattle.aud_explanation.specs.JsonTurn.{begin_word, end_word, high_at, lines_data, took_data, turn_data, with_turns};
+ghost use Rattle.aud_explanation.specs.JsonTurn.{begin_word, end_word, high_at, lines_data, took_data, turn_data, turn_ends, with_turns};
 
 use crate::json_line::value::{number_or_null, numbers};
 use crate::turn::{TurnBegin, TurnEnd, TurnShown};
-use serde_json::{Map, Value, json, put};
+use serde_json::{Map, Value, put};
 use std::alloc::{AllocError, Global};
 
 fn begin_word(begin: TurnBegin) -> &'static str
@@ -64,17 +65,58 @@ fn took_value(alloc: Global, took: Option<(u64, u64)>) -> Result<Value, AllocErr
     }
 }
 
+/// The members of how a turn begins and ends.
+fn turn_ends(alloc: Global, turn: &TurnShown<'_>) -> Result<Map<String, Value>, AllocError>
+    ensures { IfOk result (λ map. members_view map.entries ≡ turn_ends turn.now no_members) }
+{
+    let mut members = Map::new(alloc);
+    put(
+        &mut members,
+        alloc,
+        "begin",
+        Value::try_from_str(alloc, begin_word(turn.begin))?,
+    )?;
+    put(
+        &mut members,
+        alloc,
+        "end",
+        Value::try_from_str(alloc, end_word(turn.end))?,
+    )?;
+    put(
+        &mut members,
+        alloc,
+        "high",
+        number_or_null(high_at(turn.end)),
+    )?;
+    put(
+        &mut members,
+        alloc,
+        "lines",
+        lines_value(alloc, turn.begin_line, turn.end)?,
+    )?;
+    Ok(members)
+}
+
 /// `{"begin":..,"end":..,"high":..,"lines":..,"low":..,"node":..,"took":..,"turn":..}`.
 fn turn_value(alloc: Global, turn: &TurnShown<'_>) -> Result<Value, AllocError>
     ensures { IfOk result (λ v. view v ≡ turn_data turn.now) }
 {
-    let begin = begin_word(turn.begin);
-    let end = end_word(turn.end);
-    let high = number_or_null(high_at(turn.end));
-    let lines = lines_value(alloc, turn.begin_line, turn.end)?;
-    let took = took_value(alloc, turn.took)?;
-    let number = u64::from(turn.turn);
-    json!(in alloc; {"begin": begin, "end": end, "high": high, "lines": lines, "low": turn.low, "node": turn.node, "took": took, "turn": number})
+    let mut members = turn_ends(alloc, turn)?;
+    put(&mut members, alloc, "low", Value::from(turn.low))?;
+    put(
+        &mut members,
+        alloc,
+        "node",
+        Value::try_from_str(alloc, turn.node)?,
+    )?;
+    put(&mut members, alloc, "took", took_value(alloc, turn.took)?)?;
+    put(
+        &mut members,
+        alloc,
+        "turn",
+        Value::from(u64::from(turn.turn)),
+    )?;
+    Ok(Value::Object(members))
 }
 
 fn turn_values(alloc: Global, turns: &[TurnShown<'_>]) -> Result<Vec<Value>, AllocError>
