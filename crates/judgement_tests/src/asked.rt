@@ -1,4 +1,7 @@
 //! What a test asks of a bundle, and the text of the answer.
+ghost use Rattle.std.specs.Prelude.{IfOk};
+ghost use Rattle.aud_tap.specs.Names.{AreNamedOnce};
+
 use crate::{certificates, clients, node_logs, orders, packets, rooms, runs, stream, turns};
 use aud_client::Recording;
 use aud_merge::Step;
@@ -135,7 +138,7 @@ fn tell(
         Asked::Walked(steps) => rooms::tell_walked(alloc, steps, out),
         Asked::Addressed(nsp, left) => rooms::tell_addressed(logs.stream(), alloc, nsp, left, out),
         Asked::Due(held, nsp, after, upto) => {
-            rooms::tell_due(logs.stream(), alloc, held, nsp, *after, *upto, out)
+            rooms::tell_due(logs.stream(), alloc, *held, nsp, *after, *upto, out)
         }
         Asked::Run(steps) => runs::tell_run(logs, alloc, steps, out),
         Asked::After(steps, step) => runs::tell_after(logs, alloc, steps, step, out),
@@ -154,9 +157,12 @@ fn tell(
 }
 
 /// The taps of the bundle.
-fn taps_of(alloc: Global, keys: RandomState, bundle: &[&str]) -> Result<Taps, Fail> {
+fn taps_of(alloc: Global, keys: RandomState, bundle: &[&str]) -> Result<Taps, Fail>
+    ensures { IfOk result (λ taps. AreNamedOnce taps) }
+{
     let lines = lines_of(alloc, bundle)?;
-    Ok(read_bundle(alloc, keys, lines.as_slice())?)
+    let taps = read_bundle(alloc, keys, lines.as_slice())?;
+    Ok(taps)
 }
 
 /// The lines of the bundle.
