@@ -1,27 +1,31 @@
 //! What clients' taps tell, as texts.
-use aud_client::{Frame, IndexedTranscript, Recording, Stay, Transcript};
+use aud_client::{Frame, IndexedTranscript, Recording, Reply, Stay, Transcript};
 use aud_tap::Text;
 use std::alloc::{AllocError, Global};
-use std::test::Fail;
 
 /// What the client's tap with this name tells.
-fn received<'r, 'a>(recording: &'r Recording<'a>, name: &str) -> Result<&'r Transcript<'a>, Fail> {
-    let place = recording.logs().place_of(name).ok_or("no such tap")?;
-    let transcript = recording.client(place).ok_or("no client")?;
-    Ok(transcript.transcript())
+fn client_named<'r, 'a>(
+    recording: &'r Recording<'a>,
+    name: &str,
+) -> Option<&'r IndexedTranscript<'a>> {
+    recording.client(recording.logs().place_of(name)?)
 }
 
 /// A line for each stay of the tap with this name, and then whether it has an orphan, and its first bad record.
-pub fn stays(alloc: Global, recording: &Recording<'_>, name: &str) -> Result<String, Fail> {
-    let transcript = received(recording, name)?;
-    let mut out = String::new(alloc);
-    write_stays(&mut out, transcript)?;
-    Ok(out)
+pub fn tell_stays(
+    recording: &Recording<'_>,
+    name: &str,
+    out: &mut String,
+) -> Result<(), AllocError> {
+    match client_named(recording, name) {
+        Some(client) => tell_transcript(client.transcript(), out),
+        None => write!(out, "no client"),
+    }
 }
 
-fn write_stays(out: &mut String, transcript: &Transcript<'_>) -> Result<(), AllocError> {
+fn tell_transcript(transcript: &Transcript<'_>, out: &mut String) -> Result<(), AllocError> {
     for stay in transcript.stays.iter() {
-        write_stay(out, stay)?;
+        tell_stay(stay, out)?;
     }
     if transcript.orphan {
         writeln!(out, "orphan")?;
@@ -32,24 +36,12 @@ fn write_stays(out: &mut String, transcript: &Transcript<'_>) -> Result<(), Allo
     Ok(())
 }
 
-/// The text, or these words where there is none.
-fn text_or<'a>(text: Option<&'a Text>, words: &'a str) -> &'a str {
-    match text {
-        Some(text) => text.as_str(),
-        None => words,
-    }
-}
-
-/// The connection, the namespace, the reply's pid and sid, the pid and the offset that were asked for, and the
-/// positions of the frames.
-fn write_stay(out: &mut String, stay: &Stay<'_>) -> Result<(), AllocError> {
+/// The connection, the namespace, the reply, the pid and the offset that were asked for, and the positions of the
+/// frames.
+fn tell_stay(stay: &Stay<'_>, out: &mut String) -> Result<(), AllocError> {
     let (c, nsp) = (stay.c, stay.nsp);
     write!(out, "{c} {nsp}")?;
-    if let Some(reply) = stay.reply.as_ref() {
-        let pid = text_or(reply.pid.as_ref(), "nobody");
-        let sid = reply.sid.as_str();
-        write!(out, " reply {pid} {sid}")?;
-    }
+    tell_reply(stay.reply.as_ref(), out)?;
     if let Some(asked) = stay.asked.as_ref() {
         let pid = asked.pid.as_str();
         let offset = text_or(asked.offset.as_ref(), "nowhere");
@@ -62,18 +54,41 @@ fn write_stay(out: &mut String, stay: &Stay<'_>) -> Result<(), AllocError> {
     writeln!(out, "")
 }
 
-/// A line for each frame of the tap with this name.
-pub fn frames(alloc: Global, recording: &Recording<'_>, name: &str) -> Result<String, Fail> {
-    let transcript = received(recording, name)?;
-    let mut out = String::new(alloc);
-    for stay in transcript.stays.iter() {
-        write_frames(&mut out, stay.frames.as_slice())?;
+/// The pid and the sid that the reply tells, if there is one.
+pub fn tell_reply(reply: Option<&Reply>, out: &mut String) -> Result<(), AllocError> {
+    let Some(reply) = reply else {
+        return Ok(());
+    };
+    let pid = text_or(reply.pid.as_ref(), "nobody");
+    let sid = reply.sid.as_str();
+    write!(out, " reply {pid} {sid}")
+}
+
+/// The text, or these words where there is none.
+fn text_or<'a>(text: Option<&'a Text>, words: &'a str) -> &'a str {
+    match text {
+        Some(text) => text.as_str(),
+        None => words,
     }
-    Ok(out)
+}
+
+/// A line for each frame of the tap with this name.
+pub fn tell_frames(
+    recording: &Recording<'_>,
+    name: &str,
+    out: &mut String,
+) -> Result<(), AllocError> {
+    let Some(client) = client_named(recording, name) else {
+        return write!(out, "no client");
+    };
+    for stay in client.transcript().stays.iter() {
+        tell_frames_of(stay.frames.as_slice(), out)?;
+    }
+    Ok(())
 }
 
 /// Of each frame its position, its text, and how many bytes each attachment has, and which is the first.
-fn write_frames(out: &mut String, frames: &[Frame<'_>]) -> Result<(), AllocError> {
+fn tell_frames_of(frames: &[Frame<'_>], out: &mut String) -> Result<(), AllocError> {
     for frame in frames {
         let (position, text) = (frame.position, frame.text);
         write!(out, "{position} {text}")?;
@@ -87,46 +102,24 @@ fn write_frames(out: &mut String, frames: &[Frame<'_>]) -> Result<(), AllocError
     Ok(())
 }
 
-/// A line for each stay of the tap with this name: whether its reply names the session, and whether it is recovered.
-pub fn recovered(
-    alloc: Global,
+/// Of each stay of the tap with this name its connection, whether its reply names the session, and whether it is
+/// recovered; and the connections of the stays that name the session.
+pub fn tell_naming(
     recording: &Recording<'_>,
+    alloc: Global,
     name: &str,
     pid: &str,
-) -> Result<String, Fail> {
-    let transcript = received(recording, name)?;
-    let mut out = String::new(alloc);
-    for stay in transcript.stays.iter() {
-        let (names, recovered) = (stay.names(pid), stay.is_recovered());
-        writeln!(&mut out, "{names} {recovered}")?;
-    }
-    Ok(out)
-}
-
-/// How many stays the tap at this place has, and the connections of those that name the session.
-pub fn naming(
-    alloc: Global,
-    recording: &Recording<'_>,
-    place: usize,
-    pid: &str,
-) -> Result<String, Fail> {
-    let mut out = String::new(alloc);
-    match recording.client(place) {
-        Some(transcript) => write_naming(&mut out, alloc, transcript, pid)?,
-        None => write!(&mut out, "no client")?,
-    }
-    Ok(out)
-}
-
-fn write_naming(
     out: &mut String,
-    alloc: Global,
-    transcript: &IndexedTranscript<'_>,
-    pid: &str,
-) -> Result<(), Fail> {
-    let count = transcript.transcript().stays.len();
-    write!(out, "{count} stays:")?;
-    for stay in transcript.naming(alloc, pid)? {
+) -> Result<(), AllocError> {
+    let Some(client) = client_named(recording, name) else {
+        return write!(out, "no client");
+    };
+    for stay in client.transcript().stays.iter() {
+        let (c, names, recovered) = (stay.c, stay.names(pid), stay.is_recovered());
+        write!(out, "{c} {names} {recovered}, ")?;
+    }
+    write!(out, "naming")?;
+    for stay in client.naming(alloc, pid)? {
         let c = stay.c;
         write!(out, " {c}")?;
     }

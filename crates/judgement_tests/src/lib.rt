@@ -1,5 +1,8 @@
-//! Tests of what the crates from `aud_client` to `aud_verdict` make of a bundle: packets, stays and frames, certificates,
-//! the answers on them, and verdicts. Each is a row of a table: a bundle, what is asked of it, and the text of the answer.
+//! Tests of what the crates from `aud_node` to `aud_verdict` make of a bundle: positions, cursors and turns, rooms and
+//! what is due, runs, packets and stays, certificates, the answers on them, and verdicts. The values are those that the
+//! rules of docs/FORMAT.md and docs/MODEL.md give.
+//!
+//! Begin at [`asked`]: each other module has bundles, and a table of what is asked of them, each with the text of the answer.
 #![tactic(auto)]
 
 #[cfg(test)]
@@ -7,26 +10,28 @@ mod asked;
 #[cfg(test)]
 mod certificates;
 #[cfg(test)]
-mod checks;
-#[cfg(test)]
-mod client_taps;
-#[cfg(test)]
 mod clients;
 #[cfg(test)]
 mod cluster;
 #[cfg(test)]
-mod judgements;
+mod node_logs;
 #[cfg(test)]
-mod makers;
+mod orders;
 #[cfg(test)]
 mod packets;
 #[cfg(test)]
 mod recordings;
 #[cfg(test)]
-mod replies;
+mod rooms;
+#[cfg(test)]
+mod runs;
+#[cfg(test)]
+mod sessions;
 #[cfg(test)]
 mod stays;
 #[cfg(test)]
-mod verdicts;
+mod stream;
 #[cfg(test)]
-mod words;
+mod turns;
+#[cfg(test)]
+mod verdicts;

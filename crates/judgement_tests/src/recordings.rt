@@ -1,6 +1,6 @@
 //! Taps recorded from clients of python-socketio 5.7.2, over python-engineio 4.3.4, each with the stream. Of longer
 //! recordings some records are left out; those that stand here are as they were recorded.
-use crate::asked::{Asked, assert_answer};
+use crate::asked::{Asked, Case, assert_answers};
 use std::test::Fail;
 
 // The connection is reset after the replay and before the reply; the client comes back and gets all.
@@ -220,64 +220,6 @@ c0 {"k":"out","t":"40{\"pid\":\"plehF2lTedo8zKHAAAAC\",\"offset\":\"179533023836
 c0 {"k":"poll","t":"42[\"missed\",3,\"1795330240472-0\"]\u001e42[\"missed\",4,\"1795330240473-0\"]\u001e42[\"missed\",5,\"1795330240474-0\"]\u001e40{\"sid\":\"1bq7b7WUT7dOKZxAAAAB\",\"pid\":\"plehF2lTedo8zKHAAAAC\"}"}
 c0 {"k":"poll","t":"42[\"ev\",6,\"\\u2028\\u2029\",\"1795330240536-0\"]"}"#;
 
-/// The bundles, the name of a client's tap, and its stays.
-const STAYS: [(&str, &str, &str); 7] = [
-    (
-        CUT,
-        "c1",
-        "1 / reply cbS2sT6BbP06hmrJAAAC GB0CEt-cBIpvr_utAAAB 1\n\
-         1 /n reply MB1_RtSJsAPusgWpAAAE Mcn6so0ua25i5ECDAAAD 2\n\
-         2 / asked cbS2sT6BbP06hmrJAAAC 1795330267423-0 3\n\
-         2 /n asked MB1_RtSJsAPusgWpAAAE 1795330267423-1\n\
-         3 / reply cbS2sT6BbP06hmrJAAAC GB0CEt-cBIpvr_utAAAB asked cbS2sT6BbP06hmrJAAAC 1795330267753-0 4\n\
-         3 /n reply MB1_RtSJsAPusgWpAAAE Mcn6so0ua25i5ECDAAAD asked MB1_RtSJsAPusgWpAAAE 1795330267423-1\n\
-         orphan\n",
-    ),
-    (
-        RESTARTED,
-        "c1",
-        "1 / reply SHMj6xTkus8_bz8KAAAC Z0bITn9SxXcUQG8sAAAB 1\n\
-         2 / reply ny_MMuhUIkdYjQiXAAAC ejcoRBI2n6pwqnaiAAAB asked SHMj6xTkus8_bz8KAAAC 1795330279318-0 2\n",
-    ),
-    (
-        POLLING,
-        "c0",
-        "1 / reply glprlgA_o5Xe5jBVAAAC wx8cjrxfwiuhPoauAAAB 1 2 3 4 5 6 7 8 9\n",
-    ),
-    (
-        UPGRADED,
-        "c1",
-        "1 / reply uUgnImfQPzApJbbCAAAC sIn-nQ_XkmRsDHtmAAAB 1 2 3\n",
-    ),
-    (
-        NAMESPACES,
-        "c0",
-        "1 / reply SluOS0QmyboGFfkiAAAC CvgPOOkgXiRpqVLjAAAB 1 3\n\
-         1 /n reply N6UiAxjnKQdkqGnAAAAE Q_Ubi-8bB7e19WS4AAAD 2 4\n\
-         1 /nope\n",
-    ),
-    (
-        RECOVERED,
-        "c0",
-        "1 / reply g9WrVZnpmmxvKKbTAAAC 5sbYOEj1-wFxrchCAAAB 1 2 3 4 5\n\
-         2 / reply g9WrVZnpmmxvKKbTAAAC 5sbYOEj1-wFxrchCAAAB asked g9WrVZnpmmxvKKbTAAAC 1795330239242-0 6 7 8 9 10\n",
-    ),
-    (
-        RECOVERED_BY_POLLING,
-        "c0",
-        "1 / reply plehF2lTedo8zKHAAAAC 1bq7b7WUT7dOKZxAAAAB 1 2\n\
-         2 / reply plehF2lTedo8zKHAAAAC 1bq7b7WUT7dOKZxAAAAB asked plehF2lTedo8zKHAAAAC 1795330238365-0 3 4 5 6\n",
-    ),
-];
-
-#[test]
-fn stays_of_recorded_taps(rt: HostRuntime) -> Result<(), Fail> {
-    for (lines, name, stays) in &STAYS {
-        assert_answer(&rt, rt.alloc(), &[lines], Asked::Stays(name), stays)?;
-    }
-    Ok(())
-}
-
 /// The events with attachments, each with its position, and the bytes of each attachment and the first of them.
 const EVENTS: &str = r#"1 51-["bin",{"_placeholder":true,"num":0},"1795330236365-0"] 50:241
 2 54-["nest",{"a":[{"_placeholder":true,"num":0},{"b":{"_placeholder":true,"num":1}}],"c":{"_placeholder":true,"num":2}},"\u00e9",{"_placeholder":true,"num":3},"1795330236399-0"] 1:187 2:191 0:0 3:224
@@ -285,35 +227,94 @@ const EVENTS: &str = r#"1 51-["bin",{"_placeholder":true,"num":0},"1795330236365
 4 52-["two",{"_placeholder":true,"num":0},{"_placeholder":true,"num":1},{"_placeholder":"no"},"1795330236469-0"] 2:66 1:129
 "#;
 
-#[test]
-fn attachments_by_both_ways(rt: HostRuntime) -> Result<(), Fail> {
-    for name in ["c0", "c1"] {
-        assert_answer(&rt, rt.alloc(), &[BINARY], Asked::Frames(name), EVENTS)?;
-    }
-    Ok(())
-}
-
 const RECOVERED_PID: &str = "g9WrVZnpmmxvKKbTAAAC";
 
 const RESTARTED_PID: &str = "ny_MMuhUIkdYjQiXAAAC";
 
-/// The bundles, the name of a client's tap, a session, and of each stay whether it names the session and is recovered.
-const ARE_RECOVERED: [(&str, &str, &str, &str); 3] = [
-    (RECOVERED, "c0", RECOVERED_PID, "true false\ntrue true\n"),
-    (RECOVERED, "c0", RESTARTED_PID, "false false\nfalse true\n"),
-    (RESTARTED, "c1", RESTARTED_PID, "false false\ntrue false\n"),
+static CASES: [Case; 8] = [
+    (
+        &[CUT],
+        &[(
+            Asked::Stays("c1"),
+            "1 / reply cbS2sT6BbP06hmrJAAAC GB0CEt-cBIpvr_utAAAB 1\n\
+                 1 /n reply MB1_RtSJsAPusgWpAAAE Mcn6so0ua25i5ECDAAAD 2\n\
+                 2 / asked cbS2sT6BbP06hmrJAAAC 1795330267423-0 3\n\
+                 2 /n asked MB1_RtSJsAPusgWpAAAE 1795330267423-1\n\
+                 3 / reply cbS2sT6BbP06hmrJAAAC GB0CEt-cBIpvr_utAAAB asked cbS2sT6BbP06hmrJAAAC 1795330267753-0 4\n\
+                 3 /n reply MB1_RtSJsAPusgWpAAAE Mcn6so0ua25i5ECDAAAD asked MB1_RtSJsAPusgWpAAAE 1795330267423-1\n\
+                 orphan\n",
+        )],
+    ),
+    (
+        &[RESTARTED],
+        &[
+            (
+                Asked::Stays("c1"),
+                "1 / reply SHMj6xTkus8_bz8KAAAC Z0bITn9SxXcUQG8sAAAB 1\n\
+                 2 / reply ny_MMuhUIkdYjQiXAAAC ejcoRBI2n6pwqnaiAAAB asked SHMj6xTkus8_bz8KAAAC 1795330279318-0 2\n",
+            ),
+            (
+                Asked::Naming("c1", RESTARTED_PID),
+                "1 false false, 2 true false, naming 2",
+            ),
+        ],
+    ),
+    (
+        &[POLLING],
+        &[(
+            Asked::Stays("c0"),
+            "1 / reply glprlgA_o5Xe5jBVAAAC wx8cjrxfwiuhPoauAAAB 1 2 3 4 5 6 7 8 9\n",
+        )],
+    ),
+    (
+        &[UPGRADED],
+        &[(
+            Asked::Stays("c1"),
+            "1 / reply uUgnImfQPzApJbbCAAAC sIn-nQ_XkmRsDHtmAAAB 1 2 3\n",
+        )],
+    ),
+    (
+        &[NAMESPACES],
+        &[(
+            Asked::Stays("c0"),
+            "1 / reply SluOS0QmyboGFfkiAAAC CvgPOOkgXiRpqVLjAAAB 1 3\n\
+                 1 /n reply N6UiAxjnKQdkqGnAAAAE Q_Ubi-8bB7e19WS4AAAD 2 4\n\
+                 1 /nope\n",
+        )],
+    ),
+    (
+        &[RECOVERED],
+        &[
+            (
+                Asked::Stays("c0"),
+                "1 / reply g9WrVZnpmmxvKKbTAAAC 5sbYOEj1-wFxrchCAAAB 1 2 3 4 5\n\
+                 2 / reply g9WrVZnpmmxvKKbTAAAC 5sbYOEj1-wFxrchCAAAB asked g9WrVZnpmmxvKKbTAAAC 1795330239242-0 6 7 8 9 10\n",
+            ),
+            (
+                Asked::Naming("c0", RECOVERED_PID),
+                "1 true false, 2 true true, naming 1 2",
+            ),
+            (
+                Asked::Naming("c0", RESTARTED_PID),
+                "1 false false, 2 false true, naming",
+            ),
+        ],
+    ),
+    (
+        &[RECOVERED_BY_POLLING],
+        &[(
+            Asked::Stays("c0"),
+            "1 / reply plehF2lTedo8zKHAAAAC 1bq7b7WUT7dOKZxAAAAB 1 2\n\
+                 2 / reply plehF2lTedo8zKHAAAAC 1bq7b7WUT7dOKZxAAAAB asked plehF2lTedo8zKHAAAAC 1795330238365-0 3 4 5 6\n",
+        )],
+    ),
+    (
+        &[BINARY],
+        &[(Asked::Frames("c0"), EVENTS), (Asked::Frames("c1"), EVENTS)],
+    ),
 ];
 
 #[test]
-fn which_stays_are_recovered(rt: HostRuntime) -> Result<(), Fail> {
-    for (lines, name, pid, recovered) in &ARE_RECOVERED {
-        assert_answer(
-            &rt,
-            rt.alloc(),
-            &[lines],
-            Asked::Recovered(name, pid),
-            recovered,
-        )?;
-    }
-    Ok(())
+fn stays_of_recorded_taps(rt: HostRuntime) -> Result<(), Fail> {
+    assert_answers(&rt, rt.alloc(), &CASES)
 }

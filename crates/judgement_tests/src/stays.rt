@@ -1,5 +1,5 @@
 //! The stays of a client's tap, and their frames: the values are those that the rules of stays and frames give.
-use crate::asked::{Asked, assert_answer};
+use crate::asked::{Asked, Case, assert_answers};
 use std::test::Fail;
 
 /// Three events of `/`, one of `/n`, an event with an attachment, an entry of another kind, and the tap of a client.
@@ -44,29 +44,42 @@ const ACKNOWLEDGEMENT: &str = r#"c1 {"k":"in","t":"431[]"}"#;
 
 const BAD: &str = r#"c1 {"k":"in","t":"42"}"#;
 
-/// Bundles, and the stays of the client's tap.
-const STAYS: [(&[&str], &str); 12] = [
+const RETURNED: &str = "1 / reply P s1 1\n1 / asked P 1-0 2\norphan\n";
+
+/// What is told where the last record is no frame.
+const NO_MORE: &[(Asked, &str)] = &[(Asked::Stays("c1"), "1 / reply P s1 2\n")];
+
+static CASES: [Case; 28] = [
     (
         &[STREAM, FIRST, REPLY, EVENT_1, EVENT_2],
-        "1 / reply P s1 1 2\n",
+        &[(Asked::Stays("c1"), "1 / reply P s1 1 2\n")],
     ),
     // Frames before the reply are the stay's too.
     (
         &[
             STREAM, FIRST, REPLY, EVENT_1, LOST, SECOND, ASK, EVENT_2, REPLY, EVENT_3,
         ],
-        "1 / reply P s1 1\n2 / reply P s1 asked P 1-0 2 3\n",
+        &[(
+            Asked::Stays("c1"),
+            "1 / reply P s1 1\n2 / reply P s1 asked P 1-0 2 3\n",
+        )],
     ),
     // A replay without its reply is an orphan.
     (
         &[STREAM, FIRST, REPLY, EVENT_1, SECOND, ASK, EVENT_2],
-        "1 / reply P s1 1\n2 / asked P 1-0 2\norphan\n",
+        &[(
+            Asked::Stays("c1"),
+            "1 / reply P s1 1\n2 / asked P 1-0 2\norphan\n",
+        )],
     ),
     // So is a reply that names nobody, where events came.
-    (&[STREAM, FIRST, BARE_REPLY], "1 / reply nobody s1\n"),
+    (
+        &[STREAM, FIRST, BARE_REPLY],
+        &[(Asked::Stays("c1"), "1 / reply nobody s1\n")],
+    ),
     (
         &[STREAM, FIRST, BARE_REPLY, EVENT_1],
-        "1 / reply nobody s1 1\norphan\n",
+        &[(Asked::Stays("c1"), "1 / reply nobody s1 1\norphan\n")],
     ),
     (
         &[
@@ -75,7 +88,7 @@ const STAYS: [(&[&str], &str); 12] = [
             EVENT_1,
             r#"c1 {"k":"in","t":"40{\"pid\":\"P Q\"}"}"#,
         ],
-        "1 / reply nobody  1\norphan\n",
+        &[(Asked::Stays("c1"), "1 / reply nobody  1\norphan\n")],
     ),
     // Namespaces have stays of their own.
     (
@@ -87,10 +100,16 @@ const STAYS: [(&[&str], &str); 12] = [
             r#"c1 {"k":"in","t":"40/n,{\"sid\":\"s2\",\"pid\":\"Q\"}"}"#,
             EVENT_1,
         ],
-        "1 / reply P s1 5 1\n1 /n reply Q s2 4\n",
+        &[(
+            Asked::Stays("c1"),
+            "1 / reply P s1 5 1\n1 /n reply Q s2 4\n",
+        )],
     ),
     // The last CONNECT that asks counts.
-    (&[STREAM, FIRST, BARE_CONNECT, REPLY], "1 / reply P s1\n"),
+    (
+        &[STREAM, FIRST, BARE_CONNECT, REPLY],
+        &[(Asked::Stays("c1"), "1 / reply P s1\n")],
+    ),
     (
         &[
             STREAM,
@@ -99,7 +118,7 @@ const STAYS: [(&[&str], &str); 12] = [
             r#"c1 {"k":"out","t":"40{\"pid\":7,\"offset\":\"2-0\"}"}"#,
             BARE_CONNECT,
         ],
-        "1 / asked P 1-0\n",
+        &[(Asked::Stays("c1"), "1 / asked P 1-0\n")],
     ),
     (
         &[
@@ -109,12 +128,12 @@ const STAYS: [(&[&str], &str); 12] = [
             r#"c1 {"k":"out","t":"40{\"pid\":\"no pid\",\"offset\":5}"}"#,
             REPLY,
         ],
-        "1 / reply P s1 asked no pid nowhere\n",
+        &[(Asked::Stays("c1"), "1 / reply P s1 asked no pid nowhere\n")],
     ),
     // The first bad record is kept, and what comes after it.
     (
         &[STREAM, FIRST, REPLY, BAD, EVENT_1, BAD],
-        "1 / reply P s1 1\nbad 2\n",
+        &[(Asked::Stays("c1"), "1 / reply P s1 1\nbad 2\n")],
     ),
     // An offset of another namespace is a frame.
     (
@@ -124,37 +143,26 @@ const STAYS: [(&[&str], &str); 12] = [
             REPLY,
             r#"c1 {"k":"in","t":"42[\"other text\",\"4-0\"]"}"#,
         ],
-        "1 / reply P s1 4\n",
+        &[(Asked::Stays("c1"), "1 / reply P s1 4\n")],
     ),
-];
-
-#[test]
-fn stays(rt: HostRuntime) -> Result<(), Fail> {
-    for (bundle, stays) in &STAYS {
-        assert_answer(&rt, rt.alloc(), bundle, Asked::Stays("c1"), stays)?;
-    }
-    Ok(())
-}
-
-const RETURNED: &str = "1 / reply P s1 1\n1 / asked P 1-0 2\norphan\n";
-
-/// Bundles, and the stays that end and begin in the client's tap.
-const ENDS: [(&[&str], &str); 7] = [
     // A CONNECT of the client after the reply ends a stay.
-    (&[STREAM, FIRST, REPLY, EVENT_1, ASK, EVENT_2], RETURNED),
+    (
+        &[STREAM, FIRST, REPLY, EVENT_1, ASK, EVENT_2],
+        &[(Asked::Stays("c1"), RETURNED)],
+    ),
     // So does one of the server.
     (
         &[STREAM, FIRST, REPLY, EVENT_1, REPLY, EVENT_2],
-        "1 / reply P s1 1\n1 / reply P s1 2\n",
+        &[(Asked::Stays("c1"), "1 / reply P s1 1\n1 / reply P s1 2\n")],
     ),
     // So does a DISCONNECT of either, which also is a stay alone.
     (
         &[STREAM, FIRST, REPLY, EVENT_1, SERVER_LEAVES, ASK, EVENT_2],
-        RETURNED,
+        &[(Asked::Stays("c1"), RETURNED)],
     ),
     (
         &[STREAM, FIRST, REPLY, EVENT_1, CLIENT_LEAVES, ASK, EVENT_2],
-        RETURNED,
+        &[(Asked::Stays("c1"), RETURNED)],
     ),
     (
         &[
@@ -165,7 +173,7 @@ const ENDS: [(&[&str], &str); 7] = [
             ACKNOWLEDGEMENT,
             REPLY,
         ],
-        "1 /\n1 /\n1 / reply P s1\n",
+        &[(Asked::Stays("c1"), "1 /\n1 /\n1 / reply P s1\n")],
     ),
     (
         &[
@@ -176,7 +184,7 @@ const ENDS: [(&[&str], &str); 7] = [
             ACKNOWLEDGEMENT,
             REPLY,
         ],
-        "1 /\n1 /\n1 / reply P s1\n",
+        &[(Asked::Stays("c1"), "1 /\n1 /\n1 / reply P s1\n")],
     ),
     // A CONNECT_ERROR doesn't.
     (
@@ -189,83 +197,116 @@ const ENDS: [(&[&str], &str); 7] = [
             REPLY,
             EVENT_2,
         ],
-        "1 / reply P s1 asked P 1-0 2\n",
+        &[(Asked::Stays("c1"), "1 / reply P s1 asked P 1-0 2\n")],
+    ),
+    // Records that are no frames.
+    (
+        &[
+            STREAM,
+            FIRST,
+            REPLY,
+            EVENT_2,
+            r#"c1 {"k":"in","t":"42[\"v\",\"hello\"]"}"#,
+        ],
+        NO_MORE,
+    ),
+    (
+        &[
+            STREAM,
+            FIRST,
+            REPLY,
+            EVENT_2,
+            r#"c1 {"k":"in","t":"42[\"v\",1]"}"#,
+        ],
+        NO_MORE,
+    ),
+    (
+        &[
+            STREAM,
+            FIRST,
+            REPLY,
+            EVENT_2,
+            r#"c1 {"k":"in","t":"421[\"hi\",\"1-0\"]"}"#,
+        ],
+        NO_MORE,
+    ),
+    (
+        &[
+            STREAM,
+            FIRST,
+            REPLY,
+            EVENT_2,
+            r#"c1 {"k":"in","t":"431[\"hi\",\"1-0\"]"}"#,
+        ],
+        NO_MORE,
+    ),
+    (
+        &[
+            STREAM,
+            FIRST,
+            REPLY,
+            EVENT_2,
+            r#"c1 {"k":"in","t":"42[\"o\",\"6-0\"]"}"#,
+        ],
+        NO_MORE,
+    ),
+    (
+        &[
+            STREAM,
+            FIRST,
+            REPLY,
+            EVENT_2,
+            r#"c1 {"k":"out","t":"42[\"hi\",\"1-0\"]"}"#,
+        ],
+        NO_MORE,
+    ),
+    (
+        &[
+            STREAM,
+            FIRST,
+            REPLY,
+            EVENT_2,
+            r#"c1 {"k":"in","t":"451-[\"f\",\"5-0\"]"}"#,
+        ],
+        NO_MORE,
+    ),
+    // An event with two attachments, the first of which comes over WebSocket and the last in the body of a poll.
+    (
+        &[
+            STREAM,
+            FIRST,
+            r#"c1 {"k":"in","t":"452-[\"g\",\"5-0\"]"}"#,
+            r#"c1 {"k":"inb","b":"AQI="}"#,
+            r#"c1 {"k":"poll","t":"bBA=="}"#,
+        ],
+        &[(Asked::Frames("c1"), "5 52-[\"g\",\"5-0\"] 2:1 1:4\n")],
+    ),
+    // Two sessions one after the other, the first of which comes back.
+    (
+        &[
+            STREAM, FIRST, REPLY, EVENT_1, LOST, SECOND, REPLY_Q, EVENT_2, LOST, THIRD, ASK,
+            EVENT_2, REPLY,
+        ],
+        &[
+            (
+                Asked::Naming("c1", "P"),
+                "1 true false, 2 false false, 3 true true, naming 1 3",
+            ),
+            (
+                Asked::Naming("c1", "Q"),
+                "1 false false, 2 true false, 3 false true, naming 2",
+            ),
+            (
+                Asked::Naming("c1", "R"),
+                "1 false false, 2 false false, 3 false true, naming",
+            ),
+            (Asked::Naming("st", "P"), "no client"),
+            (Asked::Naming("c2", "P"), "no client"),
+        ],
     ),
 ];
 
 #[test]
-fn stays_end(rt: HostRuntime) -> Result<(), Fail> {
-    for (bundle, stays) in &ENDS {
-        assert_answer(&rt, rt.alloc(), bundle, Asked::Stays("c1"), stays)?;
-    }
-    Ok(())
-}
-
-/// Records that are no frames.
-const OTHERS: [&str; 7] = [
-    r#"c1 {"k":"in","t":"42[\"v\",\"hello\"]"}"#,
-    r#"c1 {"k":"in","t":"42[\"v\",1]"}"#,
-    r#"c1 {"k":"in","t":"421[\"hi\",\"1-0\"]"}"#,
-    r#"c1 {"k":"in","t":"431[\"hi\",\"1-0\"]"}"#,
-    r#"c1 {"k":"in","t":"42[\"o\",\"6-0\"]"}"#,
-    r#"c1 {"k":"out","t":"42[\"hi\",\"1-0\"]"}"#,
-    r#"c1 {"k":"in","t":"451-[\"f\",\"5-0\"]"}"#,
-];
-
-#[test]
-fn what_is_no_frame(rt: HostRuntime) -> Result<(), Fail> {
-    for other in OTHERS {
-        let bundle = [STREAM, FIRST, REPLY, EVENT_2, other];
-        assert_answer(
-            &rt,
-            rt.alloc(),
-            &bundle,
-            Asked::Stays("c1"),
-            "1 / reply P s1 2\n",
-        )?;
-    }
-    Ok(())
-}
-
-/// An event with two attachments, the first of which comes over WebSocket and the last in the body of a poll.
-const IN_PARTS: [&str; 5] = [
-    STREAM,
-    FIRST,
-    r#"c1 {"k":"in","t":"452-[\"g\",\"5-0\"]"}"#,
-    r#"c1 {"k":"inb","b":"AQI="}"#,
-    r#"c1 {"k":"poll","t":"bBA=="}"#,
-];
-
-#[test]
-fn frames_are_lent_as_they_came(rt: HostRuntime) -> Result<(), Fail> {
-    let frames = "5 52-[\"g\",\"5-0\"] 2:1 1:4\n";
-    assert_answer(&rt, rt.alloc(), &IN_PARTS, Asked::Frames("c1"), frames)
-}
-
-/// Two sessions one after the other, the first of which comes back.
-const TWO_SESSIONS: [&str; 13] = [
-    STREAM, FIRST, REPLY, EVENT_1, LOST, SECOND, REPLY_Q, EVENT_2, LOST, THIRD, ASK, EVENT_2, REPLY,
-];
-
-/// The place of a tap, a session, and what names it there.
-const NAMING: [(usize, &str, &str); 5] = [
-    (1, "P", "3 stays: 1 3"),
-    (1, "Q", "3 stays: 2"),
-    (1, "R", "3 stays:"),
-    (0, "P", "no client"),
-    (2, "P", "no client"),
-];
-
-#[test]
-fn stays_by_session(rt: HostRuntime) -> Result<(), Fail> {
-    for (place, pid, naming) in &NAMING {
-        assert_answer(
-            &rt,
-            rt.alloc(),
-            &TWO_SESSIONS,
-            Asked::Naming(*place, pid),
-            naming,
-        )?;
-    }
-    Ok(())
+fn stays_and_frames(rt: HostRuntime) -> Result<(), Fail> {
+    assert_answers(&rt, rt.alloc(), &CASES)
 }

@@ -1,5 +1,6 @@
-//! Verdicts on the sessions of small bundles: yes with its numbers, and of several faults the first.
-use crate::asked::{Asked, assert_answer};
+//! Verdicts on the sessions of small bundles: yes with its numbers, and of several faults the first. What never came is a
+//! fault of the whole.
+use crate::asked::{Asked, Case, assert_answers};
 use std::test::Fail;
 
 const ONE_EVENT: &str = r#"st {"k":"tap","v":1,"of":"stream"}
@@ -77,82 +78,109 @@ c1 {"k":"in","t":"40{\"sid\":\"s1\",\"pid\":\"P\"}"}"#;
 const SECOND_AND_THIRD: &str = r#"c1 {"k":"in","t":"42[\"hi\",\"2-0\"]"}
 c1 {"k":"in","t":"42[\"hi\",\"3-0\"]"}"#;
 
-/// What a bundle begins with, and what follows; the session, and its verdict.
-static VERDICTS: [(&[&str], &str, &str); 15] = [
-    (&[ONE_EVENT, HI], "P", "yes got=1 tail=0 turns=1"),
-    (&[ONE_EVENT], "P", "yes got=0 tail=1 turns=1"),
-    (&[ONE_EVENT, HI], "Q", "no NOLOG"),
-    (&[ONE_EVENT, HI, OPENED_AGAIN], "P", "no CHAIN"),
-    (&[ONE_EVENT, HI, OTHER_SID], "P", "no NAMES"),
-    (&[ONE_EVENT, HI, HI], "P", "no DOUBLED 1-0"),
-    (&[ONE_EVENT, HI, HI, NO_PACKET], "P", "no FRAME"),
-    (&[ONE_EVENT, HI, NO_PACKET, OTHER_SID], "P", "no NAMES"),
+const LATER: &str = r#"c1 {"k":"in","t":"42[\"hi\",\"2-0\"]"}"#;
+
+static CASES: [Case; 19] = [
+    (
+        &[ONE_EVENT, HI],
+        &[
+            (Asked::Verdict("P"), "yes got=1 tail=0 turns=1"),
+            (Asked::Whole("P"), "yes got=1 tail=0 turns=1"),
+            (Asked::Verdict("Q"), "no NOLOG"),
+        ],
+    ),
+    (
+        &[ONE_EVENT],
+        &[
+            (Asked::Verdict("P"), "yes got=0 tail=1 turns=1"),
+            (Asked::Whole("P"), "no TAIL 1"),
+            (Asked::Verdict("Q"), "no NOLOG"),
+            (Asked::Whole("Q"), "no NOLOG"),
+        ],
+    ),
+    (
+        &[ONE_EVENT, HI, OPENED_AGAIN],
+        &[(Asked::Verdict("P"), "no CHAIN")],
+    ),
+    (
+        &[ONE_EVENT, HI, OTHER_SID],
+        &[(Asked::Verdict("P"), "no NAMES")],
+    ),
+    (
+        &[ONE_EVENT, HI, HI],
+        &[(Asked::Verdict("P"), "no DOUBLED 1-0")],
+    ),
+    (
+        &[ONE_EVENT, HI, HI, NO_PACKET],
+        &[(Asked::Verdict("P"), "no FRAME")],
+    ),
+    (
+        &[ONE_EVENT, HI, NO_PACKET, OTHER_SID],
+        &[(Asked::Verdict("P"), "no NAMES")],
+    ),
     (
         &[ONE_EVENT, HI, NO_PACKET, OTHER_SID, OPENED_AGAIN],
-        "P",
-        "no CHAIN",
+        &[(Asked::Verdict("P"), "no CHAIN")],
     ),
-    (&[ONE_EVENT_TAKEN, HI], "P", "yes got=1 tail=0 turns=1"),
-    (&[ONE_EVENT_TAKEN, HI, TAKEN_AGAIN], "P", "no ORDER"),
-    (&[JOINED_AFTER_TWO, HI], "P", "no EXTRA 1-0"),
-    (&[JOINED_AFTER_TWO], "P", "yes got=0 tail=0 turns=1"),
+    (
+        &[ONE_EVENT_TAKEN, HI],
+        &[(Asked::Verdict("P"), "yes got=1 tail=0 turns=1")],
+    ),
+    (
+        &[ONE_EVENT_TAKEN, HI, TAKEN_AGAIN],
+        &[(Asked::Verdict("P"), "no ORDER")],
+    ),
+    (
+        &[JOINED_AFTER_TWO, HI],
+        &[(Asked::Verdict("P"), "no EXTRA 1-0")],
+    ),
+    (
+        &[JOINED_AFTER_TWO],
+        &[(Asked::Verdict("P"), "yes got=0 tail=0 turns=1")],
+    ),
     (
         &[JOINED_BEFORE_TWO, SECOND_AND_THIRD],
-        "P",
-        "yes got=2 tail=0 turns=1",
+        &[(Asked::Verdict("P"), "yes got=2 tail=0 turns=1")],
     ),
-    (&[JOINED_BEFORE_TWO, HI], "P", "no EXTRA 1-0"),
+    (
+        &[JOINED_BEFORE_TWO, HI],
+        &[(Asked::Verdict("P"), "no EXTRA 1-0")],
+    ),
+    (
+        &[ONE_EVENT, SECOND_EVENT],
+        &[
+            (Asked::Verdict("P"), "yes got=0 tail=2 turns=1"),
+            (Asked::Whole("P"), "no TAIL 2"),
+        ],
+    ),
+    (
+        &[ONE_EVENT, SECOND_EVENT, HI],
+        &[
+            (Asked::Verdict("P"), "yes got=1 tail=1 turns=1"),
+            (Asked::Whole("P"), "no TAIL 1"),
+        ],
+    ),
+    (
+        &[ONE_EVENT, SECOND_EVENT, HI, HI],
+        &[
+            (Asked::Verdict("P"), "no DOUBLED 1-0"),
+            (Asked::Whole("P"), "no DOUBLED 1-0"),
+        ],
+    ),
+    (
+        &[ONE_EVENT, SECOND_EVENT, LATER],
+        &[(Asked::Verdict("P"), "no LOST 1-0")],
+    ),
+    (
+        &[ONE_EVENT, ASKED_WRONGLY],
+        &[
+            (Asked::Verdict("P"), "no WINDOW 2"),
+            (Asked::Whole("P"), "no WINDOW 2"),
+        ],
+    ),
 ];
 
 #[test]
 fn verdicts(rt: HostRuntime) -> Result<(), Fail> {
-    for (bundle, pid, verdict) in &VERDICTS {
-        assert_answer(&rt, rt.alloc(), bundle, Asked::Verdict(pid), verdict)?;
-    }
-    Ok(())
-}
-
-/// What follows the one event, the session, its verdict, and the verdict where the whole is asked for.
-static WHOLE: [(&[&str], &str, &str, &str); 7] = [
-    (
-        &[ONE_EVENT, HI],
-        "P",
-        "yes got=1 tail=0 turns=1",
-        "yes got=1 tail=0 turns=1",
-    ),
-    (&[ONE_EVENT], "P", "yes got=0 tail=1 turns=1", "no TAIL 1"),
-    (
-        &[ONE_EVENT, SECOND_EVENT],
-        "P",
-        "yes got=0 tail=2 turns=1",
-        "no TAIL 2",
-    ),
-    (
-        &[ONE_EVENT, SECOND_EVENT, HI],
-        "P",
-        "yes got=1 tail=1 turns=1",
-        "no TAIL 1",
-    ),
-    (
-        &[ONE_EVENT, SECOND_EVENT, HI, HI],
-        "P",
-        "no DOUBLED 1-0",
-        "no DOUBLED 1-0",
-    ),
-    (
-        &[ONE_EVENT, ASKED_WRONGLY],
-        "P",
-        "no WINDOW 2",
-        "no WINDOW 2",
-    ),
-    (&[ONE_EVENT], "Q", "no NOLOG", "no NOLOG"),
-];
-
-#[test]
-fn what_never_came_is_a_fault_of_the_whole(rt: HostRuntime) -> Result<(), Fail> {
-    for (bundle, pid, verdict, of_whole) in &WHOLE {
-        assert_answer(&rt, rt.alloc(), bundle, Asked::Verdict(pid), verdict)?;
-        assert_answer(&rt, rt.alloc(), bundle, Asked::Whole(pid), of_whole)?;
-    }
-    Ok(())
+    assert_answers(&rt, rt.alloc(), &CASES)
 }

@@ -1,8 +1,8 @@
 //! Runs that are shown, and records that block.
-use crate::question::{Question, assert_answers};
+use crate::asked::{Asked, Case, assert_answers};
 use aud_node::Logs;
 use aud_run::{order, order_text};
-use std::alloc::Global;
+use std::alloc::{AllocError, Global};
 use std::test::Fail;
 
 /// One entry, and a node on which the session `P` takes it.
@@ -79,51 +79,37 @@ st {"k":"ev","off":"1-0","nsp":"/","rooms":["r"],"text":"2[\"hi\",\"1-0\"]"}
 st {"k":"ev","off":"2-0","nsp":"/","rooms":["r"],"text":"2[\"hi\",\"2-0\"]"}
 "#;
 
-/// What is asked: the text of what is shown.
-#[derive(Clone, Copy)]
-struct Shown;
-
-impl Question for Shown {
-    fn answer(&self, alloc: Global, logs: &Logs<'_>) -> Result<String, Fail> {
-        let shown = order(alloc, logs)?;
-        Ok(order_text(alloc, logs, &shown)?)
-    }
-}
-
-static SHOWN_RUN: [(Shown, &str); 1] = [(Shown, "st 0\na 0\na 1\na 2\na 3\nsteps=5\n")];
-
-static NO_STEPS: [(Shown, &str); 1] = [(Shown, "steps=0\n")];
-
-static TWO_BLOCK: [(Shown, &str); 1] = [(Shown, "blocked a 7\nblocked b 6\nblocked=2\n")];
-
-static ONE_BLOCKS: [(Shown, &str); 1] = [(Shown, "blocked b 2\nblocked=1\n")];
-
-static WOKEN: [(Shown, &str); 1] = [(
-    Shown,
-    "b 0\nb 1\nst 0\na 0\nb 2\nb 3\na 1\nst 1\na 2\nsteps=9\n",
-)];
-
-#[test]
-fn a_run_is_shown(rt: HostRuntime) -> Result<(), Fail> {
-    assert_answers(&rt, rt.alloc(), RUN, &SHOWN_RUN)
-}
+static CASES: [Case; 5] = [
+    (
+        &[RUN],
+        &[(Asked::Order, "st 0\na 0\na 1\na 2\na 3\nsteps=5\n")],
+    ),
+    (&[], &[(Asked::Order, "steps=0\n")]),
+    (
+        &[LOST_BREAK],
+        &[(Asked::Order, "blocked a 7\nblocked b 6\nblocked=2\n")],
+    ),
+    (
+        &[OUT_OF_ORDER],
+        &[(Asked::Order, "blocked b 2\nblocked=1\n")],
+    ),
+    (
+        &[WAITING],
+        &[(
+            Asked::Order,
+            "b 0\nb 1\nst 0\na 0\nb 2\nb 3\na 1\nst 1\na 2\nsteps=9\n",
+        )],
+    ),
+];
 
 #[test]
-fn an_empty_run_is_shown(rt: HostRuntime) -> Result<(), Fail> {
-    assert_answers(&rt, rt.alloc(), "", &NO_STEPS)
+fn runs_and_what_blocks(rt: HostRuntime) -> Result<(), Fail> {
+    assert_answers(&rt, rt.alloc(), &CASES)
 }
 
-#[test]
-fn a_lost_break_blocks(rt: HostRuntime) -> Result<(), Fail> {
-    assert_answers(&rt, rt.alloc(), LOST_BREAK, &TWO_BLOCK)
-}
-
-#[test]
-fn a_node_out_of_order_blocks(rt: HostRuntime) -> Result<(), Fail> {
-    assert_answers(&rt, rt.alloc(), OUT_OF_ORDER, &ONE_BLOCKS)
-}
-
-#[test]
-fn logs_are_woken(rt: HostRuntime) -> Result<(), Fail> {
-    assert_answers(&rt, rt.alloc(), WAITING, &WOKEN)
+/// The run that is shown, or the records that block.
+pub fn tell_order(logs: &Logs<'_>, alloc: Global, out: &mut String) -> Result<(), AllocError> {
+    let shown = order(alloc, logs)?;
+    let text = order_text(alloc, logs, &shown)?;
+    out.push_str(text.as_str())
 }
