@@ -1,13 +1,14 @@
 //! What no explanation calls: the rooms that a session held, the first reply that names it and the first that names it
 //! otherwise, and the rows of a misfit alone.
+use aud_cert::Certificate;
 use aud_chain::{Misfit, RecordPlace};
-use aud_client::Recording;
+use aud_client::{Recording, Stay};
 use aud_evidence::{first_naming, first_other_named};
 use aud_explain::read_files;
 use aud_lines::RecordLines;
 use aud_maker::make;
 use aud_reach::rooms_held;
-use aud_rows::{Row, Sheet};
+use aud_rows::Sheet;
 use aud_shown::misfit_rows;
 use aud_streams::Watched;
 use std::alloc::{AllocError, Global};
@@ -17,8 +18,9 @@ use std::random::RandomSource;
 use std::test::Fail;
 use std::thread::Threads;
 
-/// A session that holds `q` and `r` when its node takes entry 1, and its own room alone when it takes entry 2. The first reply
-/// of the client's second connection names it with another sid.
+/// A session that holds `q` and `r` when its node takes entry 1, and its own room alone when it takes entry 2. Of the
+/// replies on the client's three connections the first names no session, the second this one, and the third this one with
+/// another sid.
 const BUNDLE: &str = r#"st {"k":"tap","v":1,"of":"stream"}
 st {"k":"ev","off":"o1","nsp":"/","text":"2[\"m\",\"o1\"]"}
 st {"k":"ev","off":"o2","nsp":"/","text":"2[\"m\",\"o2\"]"}
@@ -50,51 +52,55 @@ const MISFIT: Misfit = Misfit::StrayBreak {
     back: RecordPlace { node: 1, number: 9 },
 };
 
-const ANSWERS: &str = "held: q r s1
-held: s1
-named: Some(1), otherwise: Some(2)
+const ANSWERS: &str = "named: Some(1), otherwise: Some(2)
 6 a Earlier
 13 a Break
 14 a Fault
+held at 1: q r s1
+held at 2: s1
 ";
 
-/// Adds the rooms that the session held when it reached the position.
-fn push_held(out: &mut String, rooms: &[&str]) -> Result<(), AllocError> {
-    write!(out, "held:")?;
-    for room in rooms {
-        write!(out, " {room}")?;
-    }
-    writeln!(out, "")
+/// Adds the numbers of the first stay whose reply names the session, and of the first that names it otherwise.
+fn push_stays(out: &mut String, stays: &[Stay<'_>]) -> Result<(), AllocError> {
+    let named = first_naming(stays, "P");
+    let otherwise = first_other_named(stays, "P", "s1", "/");
+    writeln!(out, "named: {named:?}, otherwise: {otherwise:?}")
 }
 
-/// Adds the line, the tap and the role of each row.
-fn push_rows(out: &mut String, rows: &[Row<'_>]) -> Result<(), AllocError> {
-    for row in rows {
+/// Adds the line, the tap and the role of each row of the misfit.
+fn push_misfit(alloc: Global, out: &mut String, sheet: &Sheet<'_, '_>) -> Result<(), AllocError> {
+    for row in &misfit_rows(alloc, sheet, MISFIT)? {
         let (line, tap, role) = (row.line, row.tap, row.role);
         writeln!(out, "{line} {tap} {role:?}")?;
     }
     Ok(())
 }
 
+/// Adds the rooms that the session held when it reached the position.
+fn push_held(
+    alloc: Global,
+    out: &mut String,
+    cert: &Certificate<'_>,
+    position: u64,
+) -> Result<(), AllocError> {
+    write!(out, "held at {position}:")?;
+    for room in &rooms_held(alloc, cert, position)? {
+        write!(out, " {room}")?;
+    }
+    writeln!(out, "")
+}
+
 /// The answers over a recording, where these are the lines of its records.
 fn answers(alloc: Global, recording: &Recording<'_>, lines: &RecordLines) -> Result<String, Fail> {
+    let mut out = String::new(alloc);
     let client = recording.client(2).ok_or("no client")?;
-    let stays = client.transcript().stays.as_slice();
+    push_stays(&mut out, client.transcript().stays.as_slice())?;
+    push_misfit(alloc, &mut out, &Sheet { recording, lines })?;
     let Ok(cert) = make(alloc, recording, "P") else {
         return Err("no certificate")?;
     };
-    let mut out = String::new(alloc);
-    push_held(&mut out, rooms_held(alloc, &cert, 1)?.as_slice())?;
-    push_held(&mut out, rooms_held(alloc, &cert, 2)?.as_slice())?;
-    let (named, otherwise) = (
-        first_naming(stays, "P"),
-        first_other_named(stays, "P", "s1", "/"),
-    );
-    writeln!(out, "named: {named:?}, otherwise: {otherwise:?}")?;
-    push_rows(
-        &mut out,
-        &misfit_rows(alloc, &Sheet { recording, lines }, MISFIT)?,
-    )?;
+    push_held(alloc, &mut out, &cert, 1)?;
+    push_held(alloc, &mut out, &cert, 2)?;
     Ok(out)
 }
 

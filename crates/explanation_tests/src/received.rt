@@ -1,5 +1,5 @@
-//! What a client received, by the rooms of its session; attachments; recoveries that are asked for where they do not fit; what is no
-//! packet, and an event of no known session.
+//! What a client received, by the rooms of its session; attachments; recoveries that are asked for where they do not
+//! fit; what is no packet, and an event of no known session.
 use crate::cases::{Case, Input, assert_cases};
 use aud_report::Status;
 use std::test::Fail;

@@ -1,5 +1,6 @@
 //! Taps that contradict each other or that lack something.
 use crate::cases::{Case, Input, assert_cases};
+use crate::runs::YES;
 use aud_report::Status;
 use std::test::Fail;
 
@@ -108,7 +109,7 @@ node-number-one {"k":"join","pid":"Q","room":"0123456789-0123456789-0123456789-0
 "#;
 
 /// What is written of each of them; what a log has after the common lines stands in a second file.
-static CASES: [Case; 12] = [
+static CASES: [Case; 13] = [
     // A session of which no node has a record.
     Case {
         arguments: &["explain"],
@@ -332,6 +333,27 @@ no one client, turns 1, delivery not judged
     turn 0  a  4 open, cursor 0 == 7 log ends, cursor 0
 cause not-in-stream (certain, line 7): a names an entry that the stream's tap doesn't have.
 do: tap the stream before the nodes, and stop its tap after them.
+
+sessions: *"#,
+        outcome: Ok(Status::SomeNo),
+    },
+    // The taps of two clients have a reply that names it.
+    Case {
+        arguments: &["explain"],
+        input: Input::Files(&[
+            YES,
+            r#"c2 {"k":"tap","v":1,"of":"client"}
+c2 {"k":"conn","c":1}
+c2 {"k":"in","t":"40{\"sid\":\"s1\",\"pid\":\"P\"}"}"#,
+        ]),
+        text: r#"no P CLIENT [recording]
+no one client, turns 1, delivery not judged
+    line tap  record
+      10 c1   conn 1 reply, sid s1, pid P  <- names the session
+      14 c2   conn 1 reply, sid s1, pid P  <- names the session
+    turn 0  a  5 open, cursor 0 == take 1 == 7 log ends, cursor 1
+cause two-taps (certain): 2 taps of clients name the session.
+do: keep one name of a tap for a client's whole life.
 
 sessions: *"#,
         outcome: Ok(Status::SomeNo),

@@ -8,7 +8,7 @@ use aud_report::Status;
 use std::test::Fail;
 
 /// A session that is answered yes.
-const YES: &str = r#"st {"k":"tap","v":1,"of":"stream"}
+pub const YES: &str = r#"st {"k":"tap","v":1,"of":"stream"}
 st {"k":"ev","off":"1-0","nsp":"/","rooms":["r"],"text":"2[\"hi\",\"1-0\"]"}
 a {"k":"tap","v":1,"of":"node"}
 a {"k":"start","off":null}
