@@ -1,13 +1,29 @@
-//! Tests of explanations: the texts and the JSON of four sessions, written by hand.
+//! Tests of what `explain` writes: whole explanations, of bundles that are written out and of simulated clusters; which
+//! sessions are shown, in which form, and how a run ends; its arguments, the help on a refused line, and the figures. Each is
+//! a row of a table. What no explanation calls is asked by itself.
 #![tactic(auto)]
 
 #[cfg(test)]
-mod chain;
+mod arguments;
 #[cfg(test)]
-mod doubled;
+mod asked;
 #[cfg(test)]
-mod layout;
+mod called;
 #[cfg(test)]
-mod lost;
+mod cases;
 #[cfg(test)]
-mod refused;
+mod delivery;
+#[cfg(test)]
+mod figures;
+#[cfg(test)]
+mod help;
+#[cfg(test)]
+mod received;
+#[cfg(test)]
+mod recordings;
+#[cfg(test)]
+mod runs;
+#[cfg(test)]
+mod schedule;
+#[cfg(test)]
+mod simulated;

@@ -2,31 +2,16 @@
 //!
 //! Of one node a bundle begins with the headers of `st`, `n1` and `c1` and with the `start` of the node, lines 1 to 4; of two
 //! with those of `n2` too, lines 1 to 6. Above each case stands what the lines after these are.
-use crate::over::{explained, push_other};
-use crate::schedule::acts;
+use crate::cases::{Case, Input, assert_cases};
 use aud_report::Status;
-use aud_sim::simulate;
-use std::alloc::Global;
-use std::random::RandomSource;
-use std::sync::Wait;
 use std::test::Fail;
-use std::thread::Threads;
-use std::time::Clock;
 
-/// How many nodes there are, the schedule of one client, the words that ask for a session, and its explanation.
-struct Case {
-    nodes: usize,
-    schedule: &'static str,
-    words: &'static [&'static str],
-    text: &'static str,
-}
-
+/// The schedule of one client, and the explanation of a session.
 static CASES: [Case; 13] = [
     // The `open` is lost. 5 conn, 6 reply, 7 entry 1, 8 take, 9 the frame, 10 break, 11 lost.
     Case {
-        nodes: 1,
-        schedule: "lose c@1 e:a t1 x",
-        words: &["explain", "--pid", "p1"],
+        arguments: &["explain", "--pid", "p1"],
+        input: Input::Simulated(1, "lose c@1 e:a t1 x"),
         text: r#"no p1 NOLOG [recording]
 client c1, namespace /, connection 1, turns 0, delivery not judged
     line tap  record
@@ -36,14 +21,14 @@ client c1, namespace /, connection 1, turns 0, delivery not judged
 cause node-not-tapped (certain): No node's log has the begin of turn 0.
 do: tap each node, from its start.
 
-"#,
+sessions: *"#,
+        outcome: Ok(Status::SomeNo),
     },
     // The `break` is lost. 7 open, 8 conn, 9 reply, 10 entry 1, 11 take on n1, 12 the frame, 13 lost, 14 take on n2, 15 conn,
     // 16 asks after 1-0, 17 back on n2, 18 reply.
     Case {
-        nodes: 2,
-        schedule: "c@1 e:a t1 lose x t2 r@2",
-        words: &["explain", "--pid", "p1"],
+        arguments: &["explain", "--pid", "p1"],
+        input: Input::Simulated(2, "c@1 e:a t1 lose x t2 r@2"),
         text: r#"no p1 CHAIN [recording]
 client c1, namespace /, turns 2, delivery not judged
     line tap  record
@@ -56,13 +41,13 @@ cause missing-break (certain, lines 7 17 16 18): The client recovered the sessio
         that turn broke; no log has its break.
 do: write a node's log unbuffered; look at the disk and at how logs are rotated.
 
-"#,
+sessions: *"#,
+        outcome: Ok(Status::SomeNo),
     },
     // The `take` is written twice. 5 open, 6 conn, 7 reply, 8 entry 1, 9 and 10 take, 11 the frame.
     Case {
-        nodes: 1,
-        schedule: "c@1 e:a repeat t1",
-        words: &["explain", "--pid", "p1"],
+        arguments: &["explain", "--pid", "p1"],
+        input: Input::Simulated(1, "c@1 e:a repeat t1"),
         text: r#"no p1 ORDER [recording]
 client c1, namespace /, turns 1, delivery not judged
     line tap  record
@@ -73,26 +58,26 @@ client c1, namespace /, turns 1, delivery not judged
 cause entry-taken-again (certain, line 10): n1 took entry 1 again, with its cursor at 1.
 do: let a node take each entry once, in the order of the stream.
 
-"#,
+sessions: *"#,
+        outcome: Ok(Status::SomeNo),
     },
     // There is no reply. 5 open, 6 conn, 7 entry 1, 8 take, 9 the frame.
     Case {
-        nodes: 1,
-        schedule: "u@1 e:a t1",
-        words: &["explain", "--pid", "p1"],
+        arguments: &["explain", "--pid", "p1"],
+        input: Input::Simulated(1, "u@1 e:a t1"),
         text: r#"no p1 CLIENT [recording]
 no one client, turns 1, delivery not judged
     turn 0  n1  5 open, cursor 0 == take 1 == 8 log ends, cursor 1
 cause no-client-tap (certain): No tap of a client names the session.
 do: tap the client before its first connection.
 
-"#,
+sessions: *"#,
+        outcome: Ok(Status::SomeNo),
     },
     // The reply has the sid x1. 5 open, 6 conn, 7 reply, 8 entry 1, 9 take, 10 the frame.
     Case {
-        nodes: 1,
-        schedule: "m@1 e:a t1",
-        words: &["explain", "--pid", "p1"],
+        arguments: &["explain", "--pid", "p1"],
+        input: Input::Simulated(1, "m@1 e:a t1"),
         text: r#"no p1 NAMES [recording]
 client c1, namespace /, connection 1, turns 1, delivery not judged
     line tap  record
@@ -103,14 +88,14 @@ client c1, namespace /, connection 1, turns 1, delivery not judged
 cause sid-differs (certain, line 7): The reply has another sid than the session was opened with.
 do: write the session's sid into the node's log, not that of the transport.
 
-"#,
+sessions: *"#,
+        outcome: Ok(Status::SomeNo),
     },
     // The frame of entry 1 begins with `x`. 5 open, 6 conn, 7 reply, 8 entry 1, 9 entry 2, 10 take, 11 what is no packet, 12 take,
     // 13 the frame of entry 2.
     Case {
-        nodes: 1,
-        schedule: "c@1 e:a e:b garble t1 t1",
-        words: &["explain", "--pid", "p1"],
+        arguments: &["explain", "--pid", "p1"],
+        input: Input::Simulated(1, "c@1 e:a e:b garble t1 t1"),
         text: r#"no p1 FRAME [packets]
 client c1, namespace /, connection 1, turns 1, delivery not judged
     line tap  record
@@ -120,14 +105,14 @@ client c1, namespace /, connection 1, turns 1, delivery not judged
 cause not-a-packet (certain, line 11): A record of the client's tap is no packet.
 do: record bodies of polling as they came, and of answers with status 200 alone.
 
-"#,
+sessions: *"#,
+        outcome: Ok(Status::SomeNo),
     },
     // A session without a reply, and another one after it. 5 open of p1, 6 conn, 7 entry 1, 8 take, 9 its frame, 10 gone, 11 lost,
     // 12 open of p2, 13 conn, 14 reply, 15 entry 2, 16 take, 17 its frame.
     Case {
-        nodes: 1,
-        schedule: "u@1 e:a t1 f c@1 e:b t1",
-        words: &["explain", "--pid", "p2"],
+        arguments: &["explain", "--pid", "p2"],
+        input: Input::Simulated(1, "u@1 e:a t1 f c@1 e:b t1"),
         text: r#"no p2 ORPHAN [packets]
 client c1, namespace /, connection 1, turns 1, delivery not judged
     line tap  record
@@ -139,13 +124,13 @@ cause tap-began-late (certain, line 9): Events came in a stay without a reply, a
         asked for in it.
 do: begin a client's tap before its first packet.
 
-"#,
+sessions: *"#,
+        outcome: Ok(Status::SomeNo),
     },
     // The frame has the word hix. 5 open, 6 conn, 7 reply, 8 entry 1, 9 take, 10 the frame.
     Case {
-        nodes: 1,
-        schedule: "c@1 e:hi alter t1",
-        words: &["explain", "--pid", "p1"],
+        arguments: &["explain", "--pid", "p1"],
+        input: Input::Simulated(1, "c@1 e:hi alter t1"),
         text: r#"no p1 CONTENT 1-0 [delivery]
 client c1, namespace /, connection 1, turns 1, got 1, due 1
     line tap  record
@@ -156,13 +141,13 @@ client c1, namespace /, connection 1, turns 1, got 1, due 1
 cause altered (certain, line 10): The event's text parts from its entry's at byte 6.
 do: look at what stands between the node and the client; let the stream's tap write as the nodes do.
 
-"#,
+sessions: *"#,
+        outcome: Ok(Status::SomeNo),
     },
     // The `join` of the entry's room is lost. 5 open, 6 conn, 7 reply, 8 entry 1, 9 take, 10 the frame.
     Case {
-        nodes: 1,
-        schedule: "c@1 lose j:r e:a:r t1",
-        words: &["explain", "--pid", "p1"],
+        arguments: &["explain", "--pid", "p1"],
+        input: Input::Simulated(1, "c@1 lose j:r e:a:r t1"),
         text: r#"no p1 EXTRA 1-0 [delivery]
 client c1, namespace /, connection 1, turns 1, got 1, due 0, differs at frame 1
     line tap  record
@@ -175,13 +160,13 @@ cause extra-live (certain, line 10): The node sent the session an entry that was
         it.
 do: look at how the node picks the sessions of a room.
 
-"#,
+sessions: *"#,
+        outcome: Ok(Status::SomeNo),
     },
     // 5 open, 6 conn, 7 reply, 8 entry 1, 9 entry 2, 10 take, 11 and 12 the frame of entry 1, 13 take, 14 the frame of entry 2.
     Case {
-        nodes: 1,
-        schedule: "c@1 e:a e:b double t1 t1",
-        words: &["explain", "--pid", "p1"],
+        arguments: &["explain", "--pid", "p1"],
+        input: Input::Simulated(1, "c@1 e:a e:b double t1 t1"),
         text: r#"no p1 DOUBLED 1-0 [delivery]
 client c1, namespace /, connection 1, turns 1, got 3, due 2, differs at frame 2
     line tap  record
@@ -194,13 +179,13 @@ cause doubled-live (certain, lines 11 12): No recovery stands between the two fr
         twice while the client was connected.
 do: look at what stands between the node and the client, and at what the node sent.
 
-"#,
+sessions: *"#,
+        outcome: Ok(Status::SomeNo),
     },
     // 5 open, 6 conn, 7 reply, 8 entry 1, 9 entry 2, 10 take, 11 take, 12 the frame of entry 2, 13 the frame of entry 1.
     Case {
-        nodes: 1,
-        schedule: "c@1 e:a e:b hold t1 t1",
-        words: &["explain", "--pid", "p1"],
+        arguments: &["explain", "--pid", "p1"],
+        input: Input::Simulated(1, "c@1 e:a e:b hold t1 t1"),
         text: r#"no p1 SWAPPED 1-0 [delivery]
 client c1, namespace /, connection 1, turns 1, got 2, due 2, differs at frame 1
     line tap  record
@@ -214,14 +199,14 @@ cause swapped-live (certain, lines 12 13): No recovery stands between the two fr
         places while the client was connected.
 do: look at what stands between the node and the client, and at what the node sent.
 
-"#,
+sessions: *"#,
+        outcome: Ok(Status::SomeNo),
     },
     // The frame of entry 1 is dropped. 5 open, 6 conn, 7 reply, 8 join, 9 entry 1, 10 entry 2, 11 take, 12 take, 13 the frame of
     // entry 2.
     Case {
-        nodes: 1,
-        schedule: "c@1 j:r e:a:r e:b drop t1 t1",
-        words: &["explain", "--pid", "p1"],
+        arguments: &["explain", "--pid", "p1"],
+        input: Input::Simulated(1, "c@1 j:r e:a:r e:b drop t1 t1"),
         text: r#"no p1 LOST 1-0 [delivery]
 client c1, namespace /, connection 1, turns 1, got 1, due 2, differs at frame 1
     line tap  record
@@ -235,14 +220,14 @@ cause lost-live (certain, line 13): The node took the entry while the client was
         frame of it came.
 do: look at what stands between the node and the client, and at what the node sent.
 
-"#,
+sessions: *"#,
+        outcome: Ok(Status::SomeNo),
     },
     // 7 open, 8 conn, 9 reply, 10 entry 1, 11 take on n1, 12 its frame, 13 break, 14 lost, 15 entry 2, 16 and 17 take on n2,
     // 18 conn, 19 asks after 0-0, 20 back on n2, 21 the frame of entry 2, 22 reply.
     Case {
-        nodes: 2,
-        schedule: "c@1 e:a t1 x e:b t2 t2 o@2",
-        words: &["explain", "--pid", "p1"],
+        arguments: &["explain", "--pid", "p1"],
+        input: Input::Simulated(2, "c@1 e:a t1 x e:b t2 t2 o@2"),
         text: r#"no p1 WINDOW 2 [delivery]
 client c1, namespace /, connection 2, turns 2, got 2, due 2
     line tap  record
@@ -255,40 +240,12 @@ cause unknown-offset (certain, line 19): The client asked to go on after an offs
         the stream has.
 do: take as offset only what a server that recovers put at the end of an event.
 
-"#,
+sessions: *"#,
+        outcome: Ok(Status::SomeNo),
     },
 ];
 
-/// Writes what is explained of the bundle and how the run ended, where the case says otherwise.
-fn push_differing<H: Threads + Wait + Clock + RandomSource + Sync>(
-    rt: &H,
-    alloc: Global,
-    found: &mut String,
-    case: &Case,
-    bundle: &str,
-) -> Result<(), Fail> {
-    let (written, outcome) = explained(rt, alloc, case.words, bundle)?;
-    push_other(
-        found,
-        case.text,
-        "sessions: ",
-        Status::SomeNo,
-        written.as_slice(),
-        &outcome,
-    )?;
-    Ok(())
-}
-
 #[test]
 fn each_fault_that_a_simulated_cluster_makes(rt: HostRuntime) -> Result<(), Fail> {
-    let alloc = rt.alloc();
-    let mut found = String::new(alloc);
-    for case in &CASES {
-        assert!(rt; 1 <= case.nodes && case.nodes <= 64);
-        let acts = acts(alloc, case.schedule)?;
-        let bundle = simulate(alloc, case.nodes, 1, &acts)?;
-        push_differing(&rt, alloc, &mut found, case, str::from_utf8(&bundle)?)?;
-    }
-    assert_eq!(rt; found.as_str(), "");
-    Ok(())
+    assert_cases(&rt, rt.alloc(), &CASES)
 }

@@ -1,0 +1,128 @@
+//! What no explanation calls: the rooms that a session held, the first reply that names it and the first that names it
+//! otherwise, and the rows of a misfit alone.
+use aud_cert::Certificate;
+use aud_chain::{Misfit, RecordPlace};
+use aud_client::{Recording, Stay};
+use aud_evidence::{first_naming, first_other_named};
+use aud_explain::read_files;
+use aud_lines::RecordLines;
+use aud_maker::make;
+use aud_reach::rooms_held;
+use aud_rows::Sheet;
+use aud_shown::misfit_rows;
+use aud_streams::Watched;
+use std::alloc::{AllocError, Global};
+use std::hash::RandomState;
+use std::mem::ManuallyDrop;
+use std::random::RandomSource;
+use std::test::Fail;
+use std::thread::Threads;
+
+/// A session that holds `q` and `r` when its node takes entry 1, and its own room alone when it takes entry 2. Of the
+/// replies on the client's three connections the first names no session, the second this one, and the third this one with
+/// another sid.
+const BUNDLE: &str = r#"st {"k":"tap","v":1,"of":"stream"}
+st {"k":"ev","off":"o1","nsp":"/","text":"2[\"m\",\"o1\"]"}
+st {"k":"ev","off":"o2","nsp":"/","text":"2[\"m\",\"o2\"]"}
+a {"k":"tap","v":1,"of":"node"}
+a {"k":"start","off":null}
+a {"k":"open","pid":"P","sid":"s1","nsp":"/"}
+a {"k":"join","pid":"P","room":"r"}
+a {"k":"join","pid":"P","room":"q"}
+a {"k":"take","off":"o1"}
+a {"k":"leave","pid":"P","room":"q"}
+a {"k":"leave","pid":"P","room":"r"}
+a {"k":"take","off":"o2"}
+a {"k":"break","pid":"P","turn":0}
+a {"k":"back","pid":"P","turn":1}
+c1 {"k":"tap","v":1,"of":"client"}
+c1 {"k":"conn","c":1}
+c1 {"k":"in","t":"40{\"sid\":\"s7\"}"}
+c1 {"k":"conn","c":2}
+c1 {"k":"in","t":"40{\"sid\":\"s1\",\"pid\":\"P\"}"}
+c1 {"k":"conn","c":3}
+c1 {"k":"in","t":"40{\"sid\":\"s2\",\"pid\":\"P\"}"}
+"#;
+
+/// The `open`, the `break` and the `back` of the session, at the place of `a`.
+const MISFIT: Misfit = Misfit::StrayBreak {
+    turn: 0,
+    begin: RecordPlace { node: 1, number: 1 },
+    broke: RecordPlace { node: 1, number: 8 },
+    back: RecordPlace { node: 1, number: 9 },
+};
+
+const ANSWERS: &str = "named: Some(1), otherwise: Some(2)
+6 a Earlier
+13 a Break
+14 a Fault
+held at 1: q r s1
+held at 2: s1
+";
+
+/// Adds the numbers of the first stay whose reply names the session, and of the first that names it otherwise.
+fn push_stays(out: &mut String, stays: &[Stay<'_>]) -> Result<(), AllocError> {
+    let named = first_naming(stays, "P");
+    let otherwise = first_other_named(stays, "P", "s1", "/");
+    writeln!(out, "named: {named:?}, otherwise: {otherwise:?}")
+}
+
+/// Adds the line, the tap and the role of each row of the misfit.
+fn push_misfit(alloc: Global, out: &mut String, sheet: &Sheet<'_, '_>) -> Result<(), AllocError> {
+    for row in &misfit_rows(alloc, sheet, MISFIT)? {
+        let (line, tap, role) = (row.line, row.tap, row.role);
+        writeln!(out, "{line} {tap} {role:?}")?;
+    }
+    Ok(())
+}
+
+/// Adds the rooms that the session held when it reached the position.
+fn push_held(
+    alloc: Global,
+    out: &mut String,
+    cert: &Certificate<'_>,
+    position: u64,
+) -> Result<(), AllocError> {
+    write!(out, "held at {position}:")?;
+    for room in &rooms_held(alloc, cert, position)? {
+        write!(out, " {room}")?;
+    }
+    writeln!(out, "")
+}
+
+/// The answers over a recording, where these are the lines of its records.
+fn answers(alloc: Global, recording: &Recording<'_>, lines: &RecordLines) -> Result<String, Fail> {
+    let mut out = String::new(alloc);
+    let client = recording.client(2).ok_or("no client")?;
+    push_stays(&mut out, client.transcript().stays.as_slice())?;
+    push_misfit(alloc, &mut out, &Sheet { recording, lines })?;
+    let Ok(cert) = make(alloc, recording, "P") else {
+        return Err("no certificate")?;
+    };
+    push_held(alloc, &mut out, &cert, 1)?;
+    push_held(alloc, &mut out, &cert, 2)?;
+    Ok(out)
+}
+
+/// The same over a bundle.
+fn answers_over(
+    rt: &(impl RandomSource + Threads + Sync),
+    alloc: Global,
+    bundle: &str,
+) -> Result<String, Fail> {
+    let keys = RandomState::new(rt)?;
+    let mut files = [Watched::new(bundle.as_bytes())];
+    let Ok(recorded) = read_files(rt, 1, alloc, keys, &mut files) else {
+        return Err("the bundle is refused")?;
+    };
+    let recorded = ManuallyDrop::new(recorded);
+    let recording = ManuallyDrop::new(Recording::read(rt, alloc, keys, 1, &recorded.taps)?);
+    answers(alloc, &recording, &recorded.lines)
+}
+
+#[test]
+fn what_no_explanation_calls(rt: HostRuntime) -> Result<(), Fail> {
+    let found = answers_over(&rt, rt.alloc(), BUNDLE)?;
+    assert_eq!(rt; found.as_str(), ANSWERS);
+    Ok(())
+}

@@ -1,0 +1,337 @@
+//! Events that came twice, too late or never, that were not due, or were not what their entry says.
+use crate::cases::{Case, Input, assert_cases};
+use aud_report::Status;
+use std::test::Fail;
+
+/// A node that takes a session back when it is three entries behind the break.
+pub const BEHIND: &str = r#"st {"k":"tap","v":1,"of":"stream"}
+st {"k":"ev","off":"1795330264875-0","nsp":"/","text":"2[\"zero\",\"1795330264875-0\"]"}
+st {"k":"ev","off":"1795330265183-0","nsp":"/","text":"2[\"m\",0,\"1795330265183-0\"]"}
+st {"k":"ev","off":"1795330265185-0","nsp":"/","text":"2[\"m\",1,\"1795330265185-0\"]"}
+st {"k":"ev","off":"1795330265185-1","nsp":"/","text":"2[\"m\",2,\"1795330265185-1\"]"}
+a {"k":"tap","v":1,"of":"node"}
+a {"k":"start","off":null}
+a {"k":"open","pid":"l20Oco8Ltsjm-QpSAAAC","sid":"IK6c5q7SCNG3_XOeAAAB","nsp":"/"}
+a {"k":"take","off":"1795330264875-0"}
+a {"k":"take","off":"1795330265183-0"}
+a {"k":"take","off":"1795330265185-0"}
+a {"k":"take","off":"1795330265185-1"}
+a {"k":"break","pid":"l20Oco8Ltsjm-QpSAAAC","turn":0}
+b {"k":"tap","v":1,"of":"node"}
+b {"k":"start","off":null}
+b {"k":"take","off":"1795330264875-0"}
+b {"k":"back","pid":"l20Oco8Ltsjm-QpSAAAC","turn":1}
+b {"k":"take","off":"1795330265183-0"}
+b {"k":"take","off":"1795330265185-0"}
+b {"k":"take","off":"1795330265185-1"}
+c1 {"k":"tap","v":1,"of":"client"}
+c1 {"k":"conn","c":1}
+c1 {"k":"in","t":"0{\"sid\":\"9qbNYqcKlmYHRNb3AAAA\",\"upgrades\":[],\"pingTimeout\":25000,\"pingInterval\":25000}"}
+c1 {"k":"out","t":"40{}"}
+c1 {"k":"in","t":"40{\"sid\":\"IK6c5q7SCNG3_XOeAAAB\",\"pid\":\"l20Oco8Ltsjm-QpSAAAC\"}"}
+c1 {"k":"in","t":"42[\"zero\",\"1795330264875-0\"]"}
+c1 {"k":"in","t":"42[\"m\",0,\"1795330265183-0\"]"}
+c1 {"k":"in","t":"42[\"m\",1,\"1795330265185-0\"]"}
+c1 {"k":"in","t":"42[\"m\",2,\"1795330265185-1\"]"}
+c1 {"k":"lost"}
+c1 {"k":"conn","c":2}
+c1 {"k":"in","t":"0{\"sid\":\"vd7O-Tx-vVRTaRXZAAAA\",\"upgrades\":[],\"pingTimeout\":25000,\"pingInterval\":25000}"}
+c1 {"k":"out","t":"40{\"pid\":\"l20Oco8Ltsjm-QpSAAAC\",\"offset\":\"1795330265185-1\"}"}
+c1 {"k":"in","t":"40{\"sid\":\"IK6c5q7SCNG3_XOeAAAB\",\"pid\":\"l20Oco8Ltsjm-QpSAAAC\"}"}
+c1 {"k":"in","t":"42[\"m\",0,\"1795330265183-0\"]"}
+c1 {"k":"in","t":"42[\"m\",1,\"1795330265185-0\"]"}
+c1 {"k":"in","t":"42[\"m\",2,\"1795330265185-1\"]"}
+"#;
+
+/// A session that leaves a room before its break, of which one event is yet to come.
+const LEFT: &str = r#"st {"k":"tap","v":1,"of":"stream"}
+st {"k":"ev","off":"1795330250158-0","nsp":"/","rooms":["r"],"text":"2[\"one\",\"1795330250158-0\"]"}
+st {"k":"ev","off":"1795330250465-0","nsp":"/","rooms":["r"],"text":"2[\"to-r\",\"1795330250465-0\"]"}
+st {"k":"ev","off":"1795330250779-0","nsp":"/","rooms":["q"],"text":"2[\"to-q2\",\"1795330250779-0\"]"}
+st {"k":"ev","off":"1795330251119-0","nsp":"/","rooms":["q","r"],"text":"2[\"end\",\"1795330251119-0\"]"}
+a {"k":"tap","v":1,"of":"node"}
+a {"k":"start","off":null}
+a {"k":"open","pid":"1RqzkODyftz2q3IhAAAC","sid":"F17kRACUZs3DDAJOAAAB","nsp":"/"}
+a {"k":"join","pid":"1RqzkODyftz2q3IhAAAC","room":"r"}
+a {"k":"take","off":"1795330250158-0"}
+a {"k":"take","off":"1795330250465-0"}
+a {"k":"leave","pid":"1RqzkODyftz2q3IhAAAC","room":"r"}
+a {"k":"join","pid":"1RqzkODyftz2q3IhAAAC","room":"q"}
+a {"k":"take","off":"1795330250779-0"}
+a {"k":"break","pid":"1RqzkODyftz2q3IhAAAC","turn":0}
+a {"k":"take","off":"1795330251119-0"}
+b {"k":"tap","v":1,"of":"node"}
+b {"k":"start","off":null}
+b {"k":"take","off":"1795330250158-0"}
+b {"k":"take","off":"1795330250465-0"}
+b {"k":"take","off":"1795330250779-0"}
+b {"k":"back","pid":"1RqzkODyftz2q3IhAAAC","turn":1}
+b {"k":"take","off":"1795330251119-0"}
+c1 {"k":"tap","v":1,"of":"client"}
+c1 {"k":"conn","c":1}
+c1 {"k":"in","t":"0{\"sid\":\"N9h_W7XoQP4adVSpAAAA\",\"upgrades\":[],\"pingTimeout\":25000,\"pingInterval\":25000}"}
+c1 {"k":"out","t":"40{}"}
+c1 {"k":"in","t":"40{\"sid\":\"F17kRACUZs3DDAJOAAAB\",\"pid\":\"1RqzkODyftz2q3IhAAAC\"}"}
+c1 {"k":"out","t":"421[\"join\",\"r\"]"}
+c1 {"k":"in","t":"431[\"ok\",\"r\"]"}
+c1 {"k":"in","t":"42[\"one\",\"1795330250158-0\"]"}
+c1 {"k":"lost"}
+c1 {"k":"conn","c":2}
+c1 {"k":"in","t":"0{\"sid\":\"5iDHDY9XljjW8GycAAAA\",\"upgrades\":[],\"pingTimeout\":25000,\"pingInterval\":25000}"}
+c1 {"k":"out","t":"40{\"pid\":\"1RqzkODyftz2q3IhAAAC\",\"offset\":\"1795330250158-0\"}"}
+c1 {"k":"in","t":"42[\"to-q2\",\"1795330250779-0\"]"}
+c1 {"k":"in","t":"40{\"sid\":\"F17kRACUZs3DDAJOAAAB\",\"pid\":\"1RqzkODyftz2q3IhAAAC\"}"}
+c1 {"k":"in","t":"42[\"end\",\"1795330251119-0\"]"}
+"#;
+
+/// A recovery that leaves one entry out.
+const LOST: &str = r#"st {"k":"tap","v":1,"of":"stream"}
+st {"k":"ev","off":"1-0","nsp":"/","rooms":["r"],"text":"2[\"hi\",\"1-0\"]"}
+st {"k":"ev","off":"2-0","nsp":"/","rooms":["r"],"text":"2[\"hi\",\"2-0\"]"}
+st {"k":"ev","off":"3-0","nsp":"/","rooms":["r"],"text":"2[\"hi\",\"3-0\"]"}
+a {"k":"tap","v":1,"of":"node"}
+a {"k":"start","off":null}
+a {"k":"open","pid":"P","sid":"s1","nsp":"/"}
+a {"k":"join","pid":"P","room":"r"}
+a {"k":"take","off":"1-0"}
+a {"k":"break","pid":"P","turn":0}
+b {"k":"tap","v":1,"of":"node"}
+b {"k":"start","off":null}
+b {"k":"take","off":"1-0"}
+b {"k":"take","off":"2-0"}
+b {"k":"take","off":"3-0"}
+b {"k":"back","pid":"P","turn":1}
+c1 {"k":"tap","v":1,"of":"client"}
+c1 {"k":"conn","c":1}
+c1 {"k":"in","t":"40{\"sid\":\"s1\",\"pid\":\"P\"}"}
+c1 {"k":"in","t":"42[\"hi\",\"1-0\"]"}
+c1 {"k":"lost"}
+c1 {"k":"conn","c":2}
+c1 {"k":"out","t":"40{\"pid\":\"P\",\"offset\":\"1-0\"}"}
+c1 {"k":"in","t":"42[\"hi\",\"3-0\"]"}
+c1 {"k":"in","t":"40{\"sid\":\"s1\",\"pid\":\"P\"}"}
+"#;
+
+/// Two events that change places.
+const SWAPPED: &str = r#"st {"k":"tap","v":1,"of":"stream"}
+st {"k":"ev","off":"1-0","nsp":"/","rooms":["r"],"text":"2[\"hi\",\"1-0\"]"}
+st {"k":"ev","off":"2-0","nsp":"/","rooms":["r"],"text":"2[\"hi\",\"2-0\"]"}
+a {"k":"tap","v":1,"of":"node"}
+a {"k":"start","off":null}
+a {"k":"open","pid":"P","sid":"s1","nsp":"/"}
+a {"k":"join","pid":"P","room":"r"}
+a {"k":"take","off":"1-0"}
+a {"k":"take","off":"2-0"}
+c1 {"k":"tap","v":1,"of":"client"}
+c1 {"k":"conn","c":1}
+c1 {"k":"in","t":"40{\"sid\":\"s1\",\"pid\":\"P\"}"}
+c1 {"k":"in","t":"42[\"hi\",\"2-0\"]"}
+c1 {"k":"in","t":"42[\"hi\",\"1-0\"]"}
+"#;
+
+/// A session that joins the room of an entry after that was taken.
+const EXTRA: &str = r#"st {"k":"tap","v":1,"of":"stream"}
+st {"k":"ev","off":"1-0","nsp":"/","rooms":["r"],"text":"2[\"hi\",\"1-0\"]"}
+a {"k":"tap","v":1,"of":"node"}
+a {"k":"start","off":null}
+a {"k":"open","pid":"P","sid":"s1","nsp":"/"}
+a {"k":"take","off":"1-0"}
+a {"k":"join","pid":"P","room":"r"}
+c1 {"k":"tap","v":1,"of":"client"}
+c1 {"k":"conn","c":1}
+c1 {"k":"in","t":"40{\"sid\":\"s1\",\"pid\":\"P\"}"}
+c1 {"k":"in","t":"42[\"hi\",\"1-0\"]"}
+"#;
+
+/// An event of an entry before the session.
+const BEFORE_BIRTH: &str = r#"st {"k":"tap","v":1,"of":"stream"}
+st {"k":"ev","off":"1-0","nsp":"/","rooms":["r"],"text":"2[\"hi\",\"1-0\"]"}
+st {"k":"ev","off":"2-0","nsp":"/","rooms":["r"],"text":"2[\"hi\",\"2-0\"]"}
+a {"k":"tap","v":1,"of":"node"}
+a {"k":"start","off":"1-0"}
+a {"k":"open","pid":"P","sid":"s1","nsp":"/"}
+a {"k":"join","pid":"P","room":"r"}
+a {"k":"take","off":"2-0"}
+c1 {"k":"tap","v":1,"of":"client"}
+c1 {"k":"conn","c":1}
+c1 {"k":"in","t":"40{\"sid\":\"s1\",\"pid\":\"P\"}"}
+c1 {"k":"in","t":"42[\"hi\",\"1-0\"]"}
+"#;
+
+/// An event with another name than its entry's.
+const CONTENT: &str = r#"st {"k":"tap","v":1,"of":"stream"}
+st {"k":"ev","off":"1-0","nsp":"/","rooms":["r"],"text":"2[\"hi\",\"1-0\"]"}
+a {"k":"tap","v":1,"of":"node"}
+a {"k":"start","off":null}
+a {"k":"open","pid":"P","sid":"s1","nsp":"/"}
+a {"k":"join","pid":"P","room":"r"}
+a {"k":"take","off":"1-0"}
+c1 {"k":"tap","v":1,"of":"client"}
+c1 {"k":"conn","c":1}
+c1 {"k":"in","t":"40{\"sid\":\"s1\",\"pid\":\"P\"}"}
+c1 {"k":"in","t":"42[\"v\",\"1-0\"]"}
+"#;
+
+/// What is written of each of them.
+static CASES: [Case; 8] = [
+    Case {
+        arguments: &["explain"],
+        input: Input::Files(&[BEHIND]),
+        text: r#"no l20Oco8Ltsjm-QpSAAAC DOUBLED 1795330265183-0 [delivery]
+client c1, namespace /, connection 2, turns 2, got 7, due 4, differs at frame 5
+    line tap  record
+      13 a    break 0, cursor 4
+      17 b    back 1, cursor 1
+       3 st   entry 2 1795330265183-0  the entry
+      27 c1   conn 1 got 2 1795330265183-0  earlier
+      33 c1   conn 2 asks l20Oco8Ltsjm-QpSAAAC after 1795330265185-1
+      35 c1   conn 2 got 2 1795330265183-0  <- again
+    also entry 3, lines 28 36
+    also entry 4, lines 29 37
+    turn 0  a  8 open, cursor 0 == take 1-4 == 13 break, cursor 4
+    turn 1  b  17 back, cursor 1 == take 2-4 == 20 log ends, cursor 4
+    client  25 reply  26-29 got 1-4  30 lost  33 asks after 4  34 reply  35-37 got 2-4
+cause node-behind-break (certain, lines 13 17): b took the session back with its cursor at 1; the
+        break was at 4.
+do: let the restore wait until the cursor is at the break's, or drop what the client has.
+
+sessions: 1, yes: 0, no: 1
+  delivery 1: DOUBLED 1
+sessions that no client named: 0
+sessions with a tail: 0, events in tails: 0
+recoveries asked for: 1, granted: 1, refused: 0
+entries of the stream: 4, recoverable: 4
+lines: 37, bytes: 1997, seconds: *
+"#,
+        outcome: Ok(Status::SomeNo),
+    },
+    Case {
+        arguments: &["explain", "--json"],
+        input: Input::Files(&[BEHIND]),
+        text: r#"{"also":[{"lines":[28,36],"position":3},{"lines":[29,37],"position":4}],"at_frame":5,"causes":[{"id":"node-behind-break","lines":[13,17],"sure":true,"todo":"let the restore wait until the cursor is at the break's, or drop what the client has.","why":"b took the session back with its cursor at 1; the break was at 4."}],"class":"delivery","client":"c1","conn":2,"due":4,"events":[{"after":null,"from":null,"happens":"reply","lines":[25,25],"to":null},{"after":null,"from":1,"happens":"got","lines":[26,29],"to":4},{"after":null,"from":null,"happens":"lost","lines":[30,30],"to":null},{"after":4,"from":null,"happens":"asks","lines":[33,33],"to":null},{"after":null,"from":null,"happens":"reply","lines":[34,34],"to":null},{"after":null,"from":2,"happens":"got","lines":[35,37],"to":4}],"evidence":[{"line":13,"role":"break","says":"break 0, cursor 4","tap":"a"},{"line":17,"role":"back","says":"back 1, cursor 1","tap":"b"},{"line":3,"role":"entry","says":"entry 2 1795330265183-0","tap":"st"},{"line":27,"role":"earlier","says":"conn 1 got 2 1795330265183-0","tap":"c1"},{"line":33,"role":"ask","says":"conn 2 asks l20Oco8Ltsjm-QpSAAAC after 1795330265185-1","tap":"c1"},{"line":35,"role":"fault","says":"conn 2 got 2 1795330265183-0","tap":"c1"}],"fault":"DOUBLED","got":7,"nsp":"/","off":"1795330265183-0","pid":"l20Oco8Ltsjm-QpSAAAC","refused":[],"tail":null,"turns":[{"begin":"open","end":"break","high":4,"lines":[8,13],"low":0,"node":"a","took":[1,4],"turn":0},{"begin":"back","end":"log","high":4,"lines":[17,20],"low":1,"node":"b","took":[2,4],"turn":1}],"v":1,"verdict":"no"}
+{"summary":{"bytes":1997,"class":{"delivery":1,"packets":0,"recording":0},"entries":{"all":4,"recoverable":4},"fault":{"CHAIN":0,"CLIENT":0,"CONTENT":0,"DOUBLED":1,"EXTRA":0,"FRAME":0,"LOST":0,"NAMES":0,"NOLOG":0,"ORDER":0,"ORPHAN":0,"SWAPPED":0,"TAIL":0,"WINDOW":0},"lines":37,"no":1,"recoveries":{"asked":1,"granted":1,"refused":0},"seconds":*,"sessions":1,"tail":{"events":0,"sessions":0},"unobserved":0,"yes":0},"v":1}
+"#,
+        outcome: Ok(Status::SomeNo),
+    },
+    Case {
+        arguments: &["explain"],
+        input: Input::Files(&[LEFT]),
+        text: r#"no 1RqzkODyftz2q3IhAAAC LOST 1795330250465-0 [delivery]
+client c1, namespace /, connection 2, turns 2, got 3, due 4, differs at frame 2
+    line tap  record
+       9 a    join r  decides
+      12 a    leave r  left after that
+       3 st   entry 2 1795330250465-0  the entry
+      11 a    take 2 1795330250465-0  reached here
+      36 c1   conn 2 got 3 1795330250779-0  <- passes it over
+    turn 0  a  8 open, cursor 0 == take 1-3 == 15 break, cursor 3
+    turn 1  b  22 back, cursor 3 == take 4 == 23 log ends, cursor 4
+    client  28 reply  31 got 1  32 lost  35 asks after 1  36 got 3  37 reply  38 got 4
+cause rooms-at-break (fits, lines 35 37): Of the entries after 1 up to 3, exactly those came that
+        are for the rooms held at the break.
+do: join again after a recovery, or accept it: public adapters replay by the rooms at the break.
+cause skipped-in-window (fits, lines 35 37): The entry is one of those to be sent again, after 1 up
+        to 3, and was left out.
+do: look at how the node reads the stream for the replay.
+
+sessions: *"#,
+        outcome: Ok(Status::SomeNo),
+    },
+    Case {
+        arguments: &["explain"],
+        input: Input::Files(&[LOST]),
+        text: r#"no P LOST 2-0 [delivery]
+client c1, namespace /, connection 2, turns 2, got 2, due 3, differs at frame 2
+    line tap  record
+       8 a    join r  decides
+       3 st   entry 2 2-0  the entry
+      16 b    back 1, cursor 3  reached here
+      24 c1   conn 2 got 3 3-0  <- passes it over
+    turn 0  a  7 open, cursor 0 == take 1 == 10 break, cursor 1
+    turn 1  b  16 back, cursor 3 == 16 log ends, cursor 3
+    client  19 reply  20 got 1  21 lost  23 asks after 1  24 got 3  25 reply
+cause skipped-in-window (certain, lines 23 25): The entry is one of those to be sent again, after 1
+        up to 3, and was left out.
+do: look at how the node reads the stream for the replay.
+
+sessions: *"#,
+        outcome: Ok(Status::SomeNo),
+    },
+    Case {
+        arguments: &["explain"],
+        input: Input::Files(&[SWAPPED]),
+        text: r#"no P SWAPPED 1-0 [delivery]
+client c1, namespace /, connection 1, turns 1, got 2, due 2, differs at frame 1
+    line tap  record
+       7 a    join r  decides
+       2 st   entry 1 1-0  the entry
+       8 a    take 1 1-0  reached here
+      13 c1   conn 1 got 2 2-0  <- too early
+      14 c1   conn 1 got 1 1-0  later
+    turn 0  a  6 open, cursor 0 == take 1-2 == 9 log ends, cursor 2
+    client  12 reply  13 got 2  14 got 1
+cause swapped-live (certain, lines 13 14): No recovery stands between the two frames: they changed
+        places while the client was connected.
+do: look at what stands between the node and the client, and at what the node sent.
+
+sessions: *"#,
+        outcome: Ok(Status::SomeNo),
+    },
+    Case {
+        arguments: &["explain"],
+        input: Input::Files(&[EXTRA]),
+        text: r#"no P EXTRA 1-0 [delivery]
+client c1, namespace /, connection 1, turns 1, got 1, due 0, differs at frame 1
+    line tap  record
+       2 st   entry 1 1-0  the entry
+       6 a    take 1 1-0  reached here
+      11 c1   conn 1 got 1 1-0  <- not due
+    turn 0  a  5 open, cursor 0 == take 1 == 7 log ends, cursor 1
+    client  10 reply  11 got 1
+cause extra-live (certain, line 11): The node sent the session an entry that was not addressed to
+        it.
+do: look at how the node picks the sessions of a room.
+
+sessions: *"#,
+        outcome: Ok(Status::SomeNo),
+    },
+    Case {
+        arguments: &["explain"],
+        input: Input::Files(&[BEFORE_BIRTH]),
+        text: r#"no P EXTRA 1-0 [delivery]
+client c1, namespace /, connection 1, turns 1, got 1, due 1, differs at frame 1
+    line tap  record
+       2 st   entry 1 1-0  the entry
+       6 a    open, sid s1, namespace /, cursor 1  reached here
+      12 c1   conn 1 got 1 1-0  <- not due
+    turn 0  a  6 open, cursor 1 == take 2 == 8 log ends, cursor 2
+    client  11 reply  12 got 1
+cause before-birth (certain, line 6): a had taken the entry when it opened the session, with its
+        cursor at 1.
+do: send a session nothing that the node took before it opened the session.
+
+sessions: *"#,
+        outcome: Ok(Status::SomeNo),
+    },
+    Case {
+        arguments: &["explain"],
+        input: Input::Files(&[CONTENT]),
+        text: r#"no P CONTENT 1-0 [delivery]
+client c1, namespace /, connection 1, turns 1, got 1, due 1
+    line tap  record
+       2 st   entry 1 1-0  the entry
+      11 c1   conn 1 got 1 1-0  <- not as the entry has it
+    turn 0  a  5 open, cursor 0 == take 1 == 7 log ends, cursor 1
+    client  10 reply  11 got 1
+cause altered (certain, line 11): The event's text parts from its entry's at byte 4.
+do: look at what stands between the node and the client; let the stream's tap write as the nodes do.
+
+sessions: *"#,
+        outcome: Ok(Status::SomeNo),
+    },
+];
+
+#[test]
+fn what_came_and_what_was_due(rt: HostRuntime) -> Result<(), Fail> {
+    assert_cases(&rt, rt.alloc(), &CASES)
+}
