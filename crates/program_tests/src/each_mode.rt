@@ -1,71 +1,8 @@
-//! What comes of a bundle in each mode.
-use crate::bundles::{BUNDLE_A, BUNDLE_B, PROOF_B};
-use crate::inputs::Part::{self, Lines, Text};
-use aud_app::{Mode, Status};
-
-/// A mode, an input, and what is written for it.
-pub struct Row {
-    pub mode: Mode,
-    pub input: &'static [Part],
-    pub output: &'static str,
-    pub status: Status,
-}
-
-pub static ROWS: [Row; 8] = [
-    Row {
-        mode: Mode::Audit,
-        input: &[Text(BUNDLE_B)],
-        output: "yes P got=2 tail=0 turns=2\nsessions=1 yes=1 no=0\n",
-        status: Status::AllYes,
-    },
-    Row {
-        mode: Mode::Prove,
-        input: &[Text(BUNDLE_B)],
-        output: PROOF_B,
-        status: Status::AllYes,
-    },
-    Row {
-        mode: Mode::Verify,
-        input: &[Text(BUNDLE_B), Text(PROOF_B)],
-        output: "ok 24 P got=2 tail=0 turns=2\ncerts=1 ok=1 bad=0\n",
-        status: Status::AllYes,
-    },
-    Row {
-        mode: Mode::Order,
-        input: &[Text(BUNDLE_B)],
-        output: "st 0\nst 1\na 0\na 1\na 2\na 3\na 4\nb 0\nb 1\nb 2\nb 3\nsteps=11\n",
-        status: Status::AllYes,
-    },
-    Row {
-        mode: Mode::Upgrade,
-        input: &[Text(BUNDLE_B)],
-        output: UPGRADED_B,
-        status: Status::AllYes,
-    },
-    // The stream doesn't have the entry that the node takes.
-    Row {
-        mode: Mode::Order,
-        input: &[Lines(BUNDLE_B, 1, 8), Text(TAKES_THIRD)],
-        output: "blocked a 4\nblocked=1\n",
-        status: Status::SomeNo,
-    },
-    // A session that no client names.
-    Row {
-        mode: Mode::Verify,
-        input: &[Lines(BUNDLE_A, 1, 8), Text("{\n{}\n")],
-        output: "bad 9 K1 Syntax\nbad 10 K1 Syntax\ncerts=2 ok=0 bad=2\n",
-        status: Status::SomeNo,
-    },
-    Row {
-        mode: Mode::Upgrade,
-        input: &[Lines(BUNDLE_A, 1, 6), Text("a {")],
-        output: "line 7: NotJson\n",
-        status: Status::Refused,
-    },
-];
-
-const TAKES_THIRD: &str = r#"a {"k":"take","off":"3-0"}
-"#;
+//! Each mode on a bundle of two turns, and inputs that are blocked, bad or refused in it.
+use crate::bundles::{BUNDLE_A, BUNDLE_B, PROOF_B, REPORT_B};
+use crate::case::{AUDIT, Case, ORDER, PROVE, UPGRADE, VERIFY};
+use crate::inputs::Part::{Lines, Text};
+use aud_app::Status::{AllYes, Refused, SomeNo};
 
 /// `BUNDLE_B` in version 2 of the format.
 const UPGRADED_B: &str = r#"st {"k":"tap","of":"stream","v":2}
@@ -91,3 +28,65 @@ c1 {"k":"out","t":"40{\"pid\":\"P\",\"offset\":\"1-0\"}"}
 c1 {"k":"in","t":"42[\"hi\",\"2-0\"]"}
 c1 {"k":"in","t":"40{\"sid\":\"s1\",\"pid\":\"P\"}"}
 "#;
+
+/// In each mode at least one.
+pub static EACH_MODE: [Case; 8] = [
+    Case {
+        name: "bundle_b_replay_before_reply",
+        options: AUDIT,
+        input: &[Text(BUNDLE_B)],
+        text: REPORT_B,
+        status: AllYes,
+    },
+    Case {
+        name: "prove_b",
+        options: PROVE,
+        input: &[Text(BUNDLE_B)],
+        text: PROOF_B,
+        status: AllYes,
+    },
+    Case {
+        name: "verify_b_without_third_event",
+        options: VERIFY,
+        input: &[Text(BUNDLE_B), Text(PROOF_B)],
+        text: "ok 24 P got=2 tail=0 turns=2\ncerts=1 ok=1 bad=0\n",
+        status: AllYes,
+    },
+    Case {
+        name: "order_b",
+        options: ORDER,
+        input: &[Text(BUNDLE_B)],
+        text: "st 0\nst 1\na 0\na 1\na 2\na 3\na 4\nb 0\nb 1\nb 2\nb 3\nsteps=11\n",
+        status: AllYes,
+    },
+    Case {
+        name: "upgrade_b",
+        options: UPGRADE,
+        input: &[Text(BUNDLE_B)],
+        text: UPGRADED_B,
+        status: AllYes,
+    },
+    // The stream doesn't have the entry that the node takes.
+    Case {
+        name: "order_of_a_take_without_entry",
+        options: ORDER,
+        input: &[Lines(BUNDLE_B, 1, 8), Text(r#"a {"k":"take","off":"3-0"}"#)],
+        text: "blocked a 4\nblocked=1\n",
+        status: SomeNo,
+    },
+    // A session that no client names.
+    Case {
+        name: "two_certificates_cut",
+        options: VERIFY,
+        input: &[Lines(BUNDLE_A, 1, 8), Text("{\n{}\n")],
+        text: "bad 9 K1 Syntax\nbad 10 K1 Syntax\ncerts=2 ok=0 bad=2\n",
+        status: SomeNo,
+    },
+    Case {
+        name: "upgrade_last_line_cut",
+        options: UPGRADE,
+        input: &[Lines(BUNDLE_A, 1, 6), Text("a {")],
+        text: "line 7: NotJson\n",
+        status: Refused,
+    },
+];

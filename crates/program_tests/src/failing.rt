@@ -1,5 +1,6 @@
 //! Runs whose reader or writer fails, at each of its calls in turn, and that give or take few bytes a call.
-use crate::each_mode::{ROWS, Row};
+use crate::case::Case;
+use crate::each_mode::EACH_MODE;
 use crate::inputs::assembled;
 use crate::streams::{Failure, Plan, TestReader, TestWriter};
 use aud_app::{Options, RunFault, Status, Watched, run};
@@ -13,7 +14,7 @@ use std::thread::Threads;
 use std::time::Clock;
 
 /// What is seen of a run.
-#[derive(Clone, Copy, Debug, PartialEq, Eq, Drop)]
+#[derive(Clone, Copy, PartialEq, Drop)]
 struct Seen {
     outcome: Result<Status, RunFault>,
     reads: u64,
@@ -22,8 +23,8 @@ struct Seen {
     write_failed: bool,
     calls_after_failure: u64,
     os_error: Option<i32>,
-    /// Whether a front of the output was written, and of how many bytes.
-    is_front: bool,
+    /// Whether a prefix of the output was written, and of how many bytes.
+    is_prefix: bool,
     written: usize,
 }
 
@@ -32,7 +33,7 @@ fn watched_run<H: Threads + Wait + Clock + Sync>(
     rt: &H,
     alloc: Global,
     keys: RandomState,
-    row: &Row,
+    case: &Case,
     input: &[u8],
     reads: Plan,
     writes: Plan,
@@ -40,9 +41,8 @@ fn watched_run<H: Threads + Wait + Clock + Sync>(
     let mut reader = Watched::new(TestReader::new(input, reads));
     let mut writer = Watched::new(TestWriter::new(alloc, writes));
     let options = Options {
-        mode: row.mode,
         workers: 4,
-        whole: false,
+        ..case.options
     };
     let outcome = run(rt, alloc, keys, &mut reader, &mut writer, options);
     let seen = Seen {
@@ -53,7 +53,7 @@ fn watched_run<H: Threads + Wait + Clock + Sync>(
         write_failed: writer.failed(),
         calls_after_failure: 0,
         os_error: reader.os_error().or(writer.os_error()),
-        is_front: false,
+        is_prefix: false,
         written: 0,
     };
     let reader = reader.into_inner();
@@ -62,24 +62,24 @@ fn watched_run<H: Threads + Wait + Clock + Sync>(
         calls_after_failure: reader
             .calls_after_failure()
             .saturating_add(writer.calls_after_failure()),
-        is_front: row.output.as_bytes().starts_with(writer.written()),
+        is_prefix: case.text.as_bytes().starts_with(writer.written()),
         written: writer.written().len(),
         ..seen
     }
 }
 
 /// What is seen where nothing fails, in so many calls.
-fn without_fault(row: &Row, reads: u64, writes: u64) -> Seen {
+fn without_fault(case: &Case, reads: u64, writes: u64) -> Seen {
     Seen {
-        outcome: Ok(row.status),
+        outcome: Ok(case.status),
         reads,
         read_failed: false,
         writes,
         write_failed: false,
         calls_after_failure: 0,
         os_error: None,
-        is_front: true,
-        written: row.output.len(),
+        is_prefix: true,
+        written: case.text.len(),
     }
 }
 
@@ -96,24 +96,21 @@ fn fail_each_read<H: Abort + Threads + Wait + Clock + Sync>(
     rt: &H,
     alloc: Global,
     keys: RandomState,
-    row: &Row,
+    case: &Case,
     input: &[u8],
     most: usize,
 ) {
     let all = Plan::unfailing(usize::MAX);
-    let unfailed = watched_run(rt, alloc, keys, row, input, Plan::unfailing(most), all);
-    assert_eq!(rt; unfailed, without_fault(row, unfailed.reads, 1));
+    let unfailed = watched_run(rt, alloc, keys, case, input, Plan::unfailing(most), all);
+    assert!(rt;
+        unfailed == without_fault(case, unfailed.reads, 1),
+        "{}",
+        case.name
+    );
     for k in 1..=unfailed.reads {
         for failure in READ_FAILURES {
-            let failed = watched_run(
-                rt,
-                alloc,
-                keys,
-                row,
-                input,
-                Plan::failing(most, k, failure),
-                all,
-            );
+            let plan = Plan::failing(most, k, failure);
+            let failed = watched_run(rt, alloc, keys, case, input, plan, all);
             let wanted = Seen {
                 outcome: Err(RunFault::Read),
                 reads: k,
@@ -123,7 +120,11 @@ fn fail_each_read<H: Abort + Threads + Wait + Clock + Sync>(
                 written: 0,
                 ..unfailed
             };
-            assert_eq!(rt; failed, wanted, "read {k}, {most} bytes a call");
+            assert!(rt;
+                failed == wanted,
+                "{}: read {k}, {most} bytes a call",
+                case.name
+            );
         }
     }
 }
@@ -142,28 +143,22 @@ fn fail_each_write<H: Abort + Threads + Wait + Clock + Sync>(
     rt: &H,
     alloc: Global,
     keys: RandomState,
-    row: &Row,
+    case: &Case,
     input: &[u8],
     most: usize,
 ) {
     let all = Plan::unfailing(65_536);
-    let unfailed = watched_run(rt, alloc, keys, row, input, all, Plan::unfailing(most));
-    assert_eq!(rt;
-        unfailed,
-        without_fault(row, unfailed.reads, unfailed.writes)
+    let unfailed = watched_run(rt, alloc, keys, case, input, all, Plan::unfailing(most));
+    assert!(rt;
+        unfailed == without_fault(case, unfailed.reads, unfailed.writes),
+        "{}",
+        case.name
     );
     for k in 1..=unfailed.writes {
         let before = (k as usize).saturating_sub(1).saturating_mul(most);
         for failure in WRITE_FAILURES {
-            let failed = watched_run(
-                rt,
-                alloc,
-                keys,
-                row,
-                input,
-                all,
-                Plan::failing(most, k, failure),
-            );
+            let plan = Plan::failing(most, k, failure);
+            let failed = watched_run(rt, alloc, keys, case, input, all, plan);
             let wanted = Seen {
                 outcome: Err(RunFault::Write),
                 writes: k,
@@ -172,7 +167,11 @@ fn fail_each_write<H: Abort + Threads + Wait + Clock + Sync>(
                 written: before,
                 ..unfailed
             };
-            assert_eq!(rt; failed, wanted, "write {k}, {most} bytes a call");
+            assert!(rt;
+                failed == wanted,
+                "{}: write {k}, {most} bytes a call",
+                case.name
+            );
         }
     }
 }
@@ -183,10 +182,10 @@ static PIECES: [usize; 3] = [1, 100, 65_536];
 #[test]
 fn a_reader_fails_at_each_call(rt: HostRuntime) -> Result<(), Fail> {
     let keys = RandomState::new(&rt)?;
-    for row in &ROWS {
-        let input = assembled(rt.alloc(), row.input)?;
+    for case in &EACH_MODE {
+        let input = assembled(rt.alloc(), case.input)?;
         for most in PIECES {
-            fail_each_read(&rt, rt.alloc(), keys, row, input.as_bytes(), most);
+            fail_each_read(&rt, rt.alloc(), keys, case, input.as_bytes(), most);
         }
     }
     Ok(())
@@ -195,10 +194,10 @@ fn a_reader_fails_at_each_call(rt: HostRuntime) -> Result<(), Fail> {
 #[test]
 fn a_writer_fails_at_each_call(rt: HostRuntime) -> Result<(), Fail> {
     let keys = RandomState::new(&rt)?;
-    for row in &ROWS {
-        let input = assembled(rt.alloc(), row.input)?;
+    for case in &EACH_MODE {
+        let input = assembled(rt.alloc(), case.input)?;
         for most in PIECES {
-            fail_each_write(&rt, rt.alloc(), keys, row, input.as_bytes(), most);
+            fail_each_write(&rt, rt.alloc(), keys, case, input.as_bytes(), most);
         }
     }
     Ok(())

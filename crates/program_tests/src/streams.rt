@@ -5,7 +5,7 @@ use std::alloc::Global;
 use std::io::{self, ErrorKind, Read, Write};
 
 /// What a call does that fails.
-#[derive(Clone, Copy, Debug, PartialEq, Eq, Drop)]
+#[derive(Clone, Copy, Drop)]
 pub enum Failure {
     /// It gives the system's error of this number.
     System(i32),
@@ -35,7 +35,7 @@ impl Failure {
 }
 
 /// How many bytes a stream gives or takes a call, and at which of its calls it fails.
-#[derive(Clone, Copy, Debug, Drop)]
+#[derive(Clone, Copy, Drop)]
 pub struct Plan {
     pub most: usize,
     /// Counted from 1; a stream that never fails has none.
@@ -64,7 +64,7 @@ impl Plan {
 }
 
 /// The calls of a stream.
-#[derive(Clone, Copy, Debug, Drop)]
+#[derive(Clone, Copy, Drop)]
 struct Calls {
     plan: Plan,
     count: u64,

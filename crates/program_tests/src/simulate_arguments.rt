@@ -1,7 +1,8 @@
-//! The words of `simulate`.
+//! The arguments of `simulate`.
+use crate::arguments::Shown::{self, Help, Why};
+use crate::arguments::{Command, is_refused};
 use aud_schedule::{Fault, Plan};
 use aud_simulation::plan_asked;
-use std::alloc::Global;
 use std::test::Fail;
 
 /// What `simulate` alone asks for.
@@ -13,8 +14,8 @@ const DEFAULT: Plan = Plan {
     fault: None,
 };
 
-/// Words that are understood, and what they ask for.
-const ACCEPTED: [(&[&str], Plan); 9] = [
+/// Arguments that are understood, and what they ask for.
+static ACCEPTED: [(&[&str], Plan); 9] = [
     (&["simulate"], DEFAULT),
     (
         &["simulate", "--nodes", "64"],
@@ -71,15 +72,15 @@ const ACCEPTED: [(&[&str], Plan); 9] = [
 ];
 
 #[test]
-fn words_that_are_accepted(rt: HostRuntime) -> Result<(), Fail> {
-    for (words, plan) in ACCEPTED {
-        assert_eq!(rt; plan_asked(rt.alloc(), words)?, plan);
+fn simulate_arguments_that_are_accepted(rt: HostRuntime) -> Result<(), Fail> {
+    for &(arguments, plan) in &ACCEPTED {
+        assert_eq!(rt; plan_asked(rt.alloc(), arguments)?, plan);
     }
     Ok(())
 }
 
 /// The names of the faults.
-const NAMES: [(&str, Fault); 13] = [
+static NAMES: [(&str, Fault); 13] = [
     ("drop", Fault::Drop),
     ("double", Fault::Double),
     ("hold", Fault::Hold),
@@ -97,67 +98,63 @@ const NAMES: [(&str, Fault); 13] = [
 
 #[test]
 fn names_of_faults(rt: HostRuntime) -> Result<(), Fail> {
-    for (name, fault) in NAMES {
+    for &(name, fault) in &NAMES {
         let plan = plan_asked(rt.alloc(), &["simulate", "--fault", name])?;
         assert!(rt; plan.fault == Some(fault), "{name}");
         assert!(rt;
-            is_refused(rt.alloc(), &["simulate", "--help"], name, true)?,
+            is_refused(
+                rt.alloc(),
+                Command::Simulate,
+                &["simulate", "--help"],
+                Help,
+                name,
+            )?,
             "{name}"
         );
     }
     Ok(())
 }
 
-/// Whether these words are refused with a text that has this in it, which goes to standard error but where it is help.
-fn is_refused(alloc: Global, words: &[&str], text: &str, is_help: bool) -> Result<bool, Fail> {
-    match plan_asked(alloc, words) {
-        Ok(_) => Ok(false),
-        Err(error) => {
-            let shown = format!(in alloc; "{error}")?;
-            Ok(shown.as_str().contains(text) && error.use_stderr() != is_help)
-        }
-    }
-}
-
-/// Words that are refused, and a part of the text that says why.
-const REFUSED: [(&[&str], &str); 15] = [
-    (&["simulate", "--nodes", "0"], "0"),
-    (&["simulate", "--nodes", "65"], "65"),
-    (&["simulate", "--nodes"], "--nodes"),
-    (&["simulate", "--clients", "0"], "0"),
-    (&["simulate", "--clients", "4097"], "4097"),
-    (&["simulate", "--acts", "1000001"], "1000001"),
-    (&["simulate", "--acts", "-1"], "-1"),
+/// Arguments that are refused, where the text goes, and a part of it.
+static REFUSED: [(&[&str], Shown, &str); 18] = [
+    (&["simulate", "--nodes", "0"], Why, "0"),
+    (&["simulate", "--nodes", "65"], Why, "65"),
+    (&["simulate", "--nodes"], Why, "--nodes"),
+    (&["simulate", "--clients", "0"], Why, "0"),
+    (&["simulate", "--clients", "4097"], Why, "4097"),
+    (&["simulate", "--acts", "1000001"], Why, "1000001"),
+    (&["simulate", "--acts", "-1"], Why, "-1"),
     (
         &["simulate", "--seed", "18446744073709551616"],
+        Why,
         "18446744073709551616",
     ),
-    (&["simulate", "--seed", "x"], "x"),
-    (&["simulate", "--fault", "lose"], "lose"),
-    (&["simulate", "--fault", "drop", "--acts", "31"], "32 acts"),
-    (&["simulate", "--fault", "lag", "--nodes", "1"], "2 nodes"),
-    (&["simulate", "--seed", "1", "--seed", "2"], "--seed"),
-    (&["simulate", "--workers", "4"], "--workers"),
-    (&["simulate", "audit"], "audit"),
+    (&["simulate", "--seed", "x"], Why, "x"),
+    (&["simulate", "--fault", "lose"], Why, "lose"),
+    (
+        &["simulate", "--fault", "drop", "--acts", "31"],
+        Why,
+        "32 acts",
+    ),
+    (
+        &["simulate", "--fault", "lag", "--nodes", "1"],
+        Why,
+        "2 nodes",
+    ),
+    (&["simulate", "--seed", "1", "--seed", "2"], Why, "--seed"),
+    (&["simulate", "--workers", "4"], Why, "--workers"),
+    (&["simulate", "audit"], Why, "audit"),
+    (&["simulate", "--help"], Help, "--fault"),
+    (&["simulate", "--help"], Help, "standard output"),
+    (&["simulate", "--help"], Help, "lag"),
 ];
 
 #[test]
-fn words_that_are_refused(rt: HostRuntime) -> Result<(), Fail> {
-    for (words, text) in REFUSED {
+fn simulate_arguments_that_are_refused(rt: HostRuntime) -> Result<(), Fail> {
+    for &(arguments, shown, part) in &REFUSED {
         assert!(rt;
-            is_refused(rt.alloc(), words, text, false)?,
-            "{words:?}: {text}"
-        );
-    }
-    Ok(())
-}
-
-#[test]
-fn help_that_is_asked_for(rt: HostRuntime) -> Result<(), Fail> {
-    for text in ["--fault", "standard output", "lag"] {
-        assert!(rt;
-            is_refused(rt.alloc(), &["simulate", "--help"], text, true)?,
-            "{text}"
+            is_refused(rt.alloc(), Command::Simulate, arguments, shown, part)?,
+            "{arguments:?}: {part}"
         );
     }
     Ok(())

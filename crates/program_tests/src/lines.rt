@@ -1,7 +1,5 @@
-//! Bundles line by line.
-use crate::schedule::acts;
-use aud_sim::simulate;
-use std::test::Fail;
+//! Bundles of simulated clusters, line by line.
+use crate::clusters::Schedule;
 
 /// A recovery on another node: the replayed frame stands before the reply.
 const RECOVERY: &str = r#"st {"k":"tap","of":"stream","v":1}
@@ -108,29 +106,29 @@ n1 {"k":"back","pid":"p2","turn":1}
 c1 {"k":"in","t":"40{\"sid\":\"s2\",\"pid\":\"p2\"}"}
 "#;
 
-/// How many nodes there are, the schedule of one client, and its bundle.
-static BUNDLES: [(usize, &str, &str); 4] = [
+pub static BUNDLES: [Schedule; 4] = [
     (
         2,
+        1,
         "c1@1 j1:r e:hi:r t1 x1 t2 e:ho:r:q t2 r1@2 l1:r v1:v f1",
         RECOVERY,
     ),
-    (1, "c1@1 e:f:::2 e:g hold1 t1 t1 e:h alter1 t1", ATTACHMENTS),
-    (1, "lose c1@1 repeat j1:r lose e:a v1:v t1 repeat x1", LOGS),
     (
+        1,
+        1,
+        "c1@1 e:f:::2 e:g hold1 t1 t1 e:h alter1 t1",
+        ATTACHMENTS,
+    ),
+    (
+        1,
+        1,
+        "lose c1@1 repeat j1:r lose e:a v1:v t1 repeat x1",
+        LOGS,
+    ),
+    (
+        1,
         1,
         "u1@1 e:a t1 x1 o1@1 f1 m1@1 e:b t1 e:c:::1 garble1 t1 x1 r1@1",
         REPLIES,
     ),
 ];
-
-#[test]
-fn lines(rt: HostRuntime) -> Result<(), Fail> {
-    for &(nodes, schedule, text) in &BUNDLES {
-        assert!(rt; 1 <= nodes && nodes <= 64);
-        let acts = acts(rt.alloc(), schedule)?;
-        let bundle = simulate(rt.alloc(), nodes, 1, &acts)?;
-        assert_eq!(rt; str::from_utf8(&bundle)?, text, "{schedule}");
-    }
-    Ok(())
-}

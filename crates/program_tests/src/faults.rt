@@ -1,79 +1,89 @@
 //! Injected faults, and acts that are not possible.
-use crate::audited::report;
-use crate::schedule::acts;
-use aud_sim::{SimFault, simulate};
-use std::test::Fail;
+use crate::clusters::Schedule;
 
-/// How many nodes there are, the schedule of one client, and what an audit says of its session.
-static VERDICTS: [(usize, &str, &str); 47] = [
+pub static FAULTS: [Schedule; 47] = [
     (
+        1,
         1,
         "c1@1 j1:r e:hi:r e:ho:r t1 t1",
         "yes p1 got=2 tail=0 turns=1\nsessions=1 yes=1 no=0\n",
     ),
     (
         1,
+        1,
         "c1@1 j1:r e:hi:r e:ho:r drop1 t1 t1",
         "no p1 LOST 1-0\nsessions=1 yes=0 no=1\n",
     ),
     (
+        1,
         1,
         "c1@1 j1:r e:hi:r e:ho:r double1 t1 t1",
         "no p1 DOUBLED 1-0\nsessions=1 yes=0 no=1\n",
     ),
     (
         1,
+        1,
         "c1@1 j1:r e:hi:r e:ho:r hold1 t1 t1",
         "no p1 SWAPPED 1-0\nsessions=1 yes=0 no=1\n",
     ),
     (
+        1,
         1,
         "c1@1 j1:r e:hi:r e:ho:r alter1 t1 t1",
         "no p1 CONTENT 1-0\nsessions=1 yes=0 no=1\n",
     ),
     (
         2,
+        1,
         "c1@1 j1:r e:hi:r t1 x1 g1@2 t2",
         "no p1 DOUBLED 1-0\nsessions=1 yes=0 no=1\n",
     ),
     // in a replay
     (
         2,
+        1,
         "c1@1 e:a t1 drop1 x1 e:b e:c t2 t2 t2 r1@2",
         "no p1 LOST 2-0\nsessions=1 yes=0 no=1\n",
     ),
     (
         2,
+        1,
         "c1@1 e:a t1 double1 x1 e:b e:c t2 t2 t2 r1@2",
         "no p1 DOUBLED 2-0\nsessions=1 yes=0 no=1\n",
     ),
     (
         2,
+        1,
         "c1@1 e:a t1 hold1 x1 e:b e:c t2 t2 t2 r1@2",
         "no p1 SWAPPED 2-0\nsessions=1 yes=0 no=1\n",
     ),
     (
         2,
+        1,
         "c1@1 e:a t1 alter1 x1 e:b e:c t2 t2 t2 r1@2",
         "no p1 CONTENT 2-0\nsessions=1 yes=0 no=1\n",
     ),
     // with attachments
     (
         1,
+        1,
         "c1@1 e:a:::2 e:b:::1 drop1 t1 t1",
         "no p1 LOST 1-0\nsessions=1 yes=0 no=1\n",
     ),
     (
+        1,
         1,
         "c1@1 e:a:::2 e:b:::1 double1 t1 t1",
         "no p1 DOUBLED 1-0\nsessions=1 yes=0 no=1\n",
     ),
     (
         1,
+        1,
         "c1@1 e:a:::2 e:b:::1 hold1 t1 t1",
         "no p1 SWAPPED 1-0\nsessions=1 yes=0 no=1\n",
     ),
     (
+        1,
         1,
         "c1@1 e:a:::2 e:b:::1 alter1 t1 t1",
         "no p1 CONTENT 1-0\nsessions=1 yes=0 no=1\n",
@@ -81,16 +91,19 @@ static VERDICTS: [(usize, &str, &str); 47] = [
     // a frame without an offset between, and a frame that is held when its connection ends
     (
         1,
+        1,
         "c1@1 e:a e:b hold1 t1 v1:hi t1",
         "no p1 SWAPPED 1-0\nsessions=1 yes=0 no=1\n",
     ),
     (
         2,
+        1,
         "c1@1 e:z t1 e:a e:b hold1 t1 x1 t2 t2 t2 r1@2",
         "no p1 LOST 2-0\nsessions=1 yes=0 no=1\n",
     ),
     // a fault that waits over the end of a connection
     (
+        1,
         1,
         "c1@1 drop1 f1 c1@1 e:a e:b t1 t1",
         "yes p1 got=0 tail=0 turns=1\nno p2 LOST 1-0\nsessions=2 yes=1 no=1\n",
@@ -98,15 +111,18 @@ static VERDICTS: [(usize, &str, &str); 47] = [
     // a frame that is no packet: live, in a replay, with attachments
     (
         1,
+        1,
         "c1@1 j1:r e:hi:r e:ho:r garble1 t1 t1",
         "no p1 FRAME\nsessions=1 yes=0 no=1\n",
     ),
     (
         2,
+        1,
         "c1@1 e:a t1 garble1 x1 e:b e:c t2 t2 t2 r1@2",
         "no p1 FRAME\nsessions=1 yes=0 no=1\n",
     ),
     (
+        1,
         1,
         "c1@1 e:a:::2 e:b:::1 garble1 t1 t1",
         "no p1 FRAME\nsessions=1 yes=0 no=1\n",
@@ -114,35 +130,42 @@ static VERDICTS: [(usize, &str, &str); 47] = [
     // a line of a node's log that is lost: `open`, `join`, `leave`, `break`, `back`, `take`, `gone`
     (
         1,
+        1,
         "lose c1@1 e:a t1",
         "no p1 NOLOG\nsessions=1 yes=0 no=1\n",
     ),
     (
+        1,
         1,
         "c1@1 lose j1:r e:a:r t1",
         "no p1 EXTRA 1-0\nsessions=1 yes=0 no=1\n",
     ),
     (
         1,
+        1,
         "c1@1 j1:r lose l1:r e:a:r e:b t1 t1",
         "no p1 LOST 1-0\nsessions=1 yes=0 no=1\n",
     ),
     (
         2,
+        1,
         "c1@1 e:a t1 lose x1 t2 r1@2",
         "no p1 CHAIN\nsessions=1 yes=0 no=1\n",
     ),
     (
         2,
+        1,
         "c1@1 e:a t1 x1 t2 lose r1@2 e:b t2",
         "no p1 EXTRA 2-0\nsessions=1 yes=0 no=1\n",
     ),
     (
         1,
+        1,
         "c1@1 e:a e:b lose t1 t1",
         "no p1 ORDER\nsessions=1 yes=0 no=1\n",
     ),
     (
+        1,
         1,
         "c1@1 e:a t1 lose f1",
         "yes p1 got=1 tail=0 turns=1\nsessions=1 yes=1 no=0\n",
@@ -150,35 +173,42 @@ static VERDICTS: [(usize, &str, &str); 47] = [
     // and one that is written twice
     (
         1,
+        1,
         "repeat c1@1 e:a t1",
         "no p1 CHAIN\nsessions=1 yes=0 no=1\n",
     ),
     (
+        1,
         1,
         "c1@1 repeat j1:r e:a:r t1",
         "yes p1 got=1 tail=0 turns=1\nsessions=1 yes=1 no=0\n",
     ),
     (
         1,
+        1,
         "c1@1 j1:r repeat l1:r e:a:r e:b t1 t1",
         "yes p1 got=1 tail=0 turns=1\nsessions=1 yes=1 no=0\n",
     ),
     (
         2,
+        1,
         "c1@1 e:a t1 repeat x1 t2 r1@2",
         "no p1 CHAIN\nsessions=1 yes=0 no=1\n",
     ),
     (
         2,
+        1,
         "c1@1 e:a t1 x1 t2 repeat r1@2",
         "no p1 CHAIN\nsessions=1 yes=0 no=1\n",
     ),
     (
         1,
+        1,
         "c1@1 e:a repeat t1",
         "no p1 ORDER\nsessions=1 yes=0 no=1\n",
     ),
     (
+        1,
         1,
         "c1@1 e:a t1 repeat f1",
         "no p1 CHAIN\nsessions=1 yes=0 no=1\n",
@@ -186,40 +216,47 @@ static VERDICTS: [(usize, &str, &str); 47] = [
     // lines of the stream and of a client leave such a fault waiting, and after one another may come
     (
         1,
+        1,
         "lose e:a c1@1 t1",
         "no p1 NOLOG\nsessions=1 yes=0 no=1\n",
     ),
     (
+        1,
         1,
         "c1@1 e:a repeat v1:hi t1",
         "no p1 ORDER\nsessions=1 yes=0 no=1\n",
     ),
     (
         1,
+        1,
         "c1@1 repeat j1:r lose l1:r e:a:r e:b t1 t1",
         "no p1 LOST 1-0\nsessions=1 yes=0 no=1\n",
     ),
     // a session without a reply, without events and with them; what comes after it in its client's tap
-    (1, "u1@1", "no p1 CLIENT\nsessions=1 yes=0 no=1\n"),
-    (1, "u1@1 e:a t1", "no p1 CLIENT\nsessions=1 yes=0 no=1\n"),
+    (1, 1, "u1@1", "no p1 CLIENT\nsessions=1 yes=0 no=1\n"),
+    (1, 1, "u1@1 e:a t1", "no p1 CLIENT\nsessions=1 yes=0 no=1\n"),
     (
+        1,
         1,
         "u1@1 f1 c1@1 e:a t1",
         "no p1 CLIENT\nyes p2 got=1 tail=0 turns=1\nsessions=2 yes=1 no=1\n",
     ),
     (
         1,
+        1,
         "u1@1 e:a t1 f1 c1@1",
         "no p1 CLIENT\nno p2 ORPHAN\nsessions=2 yes=0 no=2\n",
     ),
     (
         1,
+        1,
         "u1@1 e:a t1 x1 r1@1",
         "no p1 ORPHAN\nsessions=1 yes=0 no=1\n",
     ),
     // a reply with another sid, and after it one with the session's own
-    (1, "m1@1 e:a t1", "no p1 NAMES\nsessions=1 yes=0 no=1\n"),
+    (1, 1, "m1@1 e:a t1", "no p1 NAMES\nsessions=1 yes=0 no=1\n"),
     (
+        1,
         1,
         "m1@1 e:a t1 x1 r1@1",
         "no p1 NAMES\nsessions=1 yes=0 no=1\n",
@@ -227,33 +264,26 @@ static VERDICTS: [(usize, &str, &str); 47] = [
     // a recovery that is asked for with an offset that no entry has, without a replay and with one; and one that is not
     (
         2,
+        1,
         "c1@1 e:a t1 x1 t2 o1@2",
         "no p1 WINDOW 2\nsessions=1 yes=0 no=1\n",
     ),
     (
         2,
+        1,
         "c1@1 e:a t1 x1 e:b t2 t2 o1@2",
         "no p1 WINDOW 2\nsessions=1 yes=0 no=1\n",
     ),
     (
         2,
+        1,
         "c1@1 e:a t1 x1 t2 r1@2 x1 o1@2",
         "no p1 WINDOW 3\nsessions=1 yes=0 no=1\n",
     ),
 ];
 
-#[test]
-fn verdicts(rt: HostRuntime) -> Result<(), Fail> {
-    for &(nodes, schedule, text) in &VERDICTS {
-        assert!(rt; 1 <= nodes && nodes <= 64);
-        let written = report(&rt, rt.alloc(), nodes, 1, schedule)?;
-        assert_eq!(rt; str::from_utf8(&written)?, text, "{schedule}");
-    }
-    Ok(())
-}
-
 /// Schedules of two nodes and two clients, and the number of the act that is not possible.
-static REFUSED: [(&str, usize); 46] = [
+pub static NOT_POSSIBLE: [(&str, usize); 46] = [
     ("c1@1 j1:r e:hi:r t1 x1 r1@2 t2", 5),
     ("t1", 0),
     ("e:a t1 t1", 2),
@@ -301,13 +331,3 @@ static REFUSED: [(&str, usize); 46] = [
     ("lose e:a lose", 2),
     ("lose c1@1 repeat lose", 3),
 ];
-
-#[test]
-fn acts_that_are_not_possible(rt: HostRuntime) -> Result<(), Fail> {
-    for &(schedule, act) in &REFUSED {
-        let acts = acts(rt.alloc(), schedule)?;
-        let refused = simulate(rt.alloc(), 2, 2, &acts).err();
-        assert_eq!(rt; refused, Some(SimFault::Act(act)), "{schedule}");
-    }
-    Ok(())
-}

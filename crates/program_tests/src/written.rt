@@ -1,9 +1,7 @@
 //! Schedules without faults, with recoveries: each is audited yes for every session.
-use crate::audited::report;
-use std::test::Fail;
+use crate::clusters::Schedule;
 
-/// How many nodes and clients there are, the schedule, and what an audit of its bundle says.
-static SCHEDULES: [(usize, usize, &str, &str); 50] = [
+pub static WITHOUT_FAULTS: [Schedule; 50] = [
     (
         2,
         1,
@@ -305,14 +303,3 @@ static SCHEDULES: [(usize, usize, &str, &str); 50] = [
         "yes p1 got=1 tail=0 turns=2\nyes p2 got=2 tail=0 turns=1\nsessions=2 yes=2 no=0\n",
     ),
 ];
-
-#[test]
-fn schedules_without_faults_are_audited_yes(rt: HostRuntime) -> Result<(), Fail> {
-    for &(nodes, clients, schedule, text) in &SCHEDULES {
-        assert!(rt; 1 <= nodes && nodes <= 64);
-        assert!(rt; 1 <= clients && clients <= 4096);
-        let written = report(&rt, rt.alloc(), nodes, clients, schedule)?;
-        assert_eq!(rt; str::from_utf8(&written)?, text, "{schedule}");
-    }
-    Ok(())
-}

@@ -1,0 +1,104 @@
+//! The bundles of plans: what an audit answers on them, and that a plan has one.
+use crate::case::{AUDIT, ran};
+use aud_app::Options;
+use aud_app::Status::{self, AllYes, SomeNo};
+use aud_schedule::{Fault, Plan};
+use aud_simulation::simulated;
+use std::alloc::Global;
+use std::hash::RandomState;
+use std::process::Abort;
+use std::test::Fail;
+
+/// Nodes, clients and acts; (3, 2, 32) is that of the bundles in `examples/`.
+type Size = (u8, u16, u32);
+
+const SIZES: &[Size] = &[(1, 1, 0), (2, 1, 32), (1, 4, 120), (3, 2, 32), (3, 6, 200)];
+
+/// Those that have room for a fault, and those that have room for one that takes two nodes.
+const WITH_ROOM: &[Size] = &[(2, 1, 32), (1, 4, 120), (3, 2, 32), (3, 6, 200)];
+
+const OF_MORE_NODES: &[Size] = &[(2, 1, 32), (3, 2, 32), (3, 6, 200)];
+
+/// A fault, sizes, how many seeds, and how an audit ends and what its report has in it.
+static OUTCOMES: [(Option<Fault>, &[Size], u64, Status, &str); 14] = [
+    (None, SIZES, 5, AllYes, " no=0\n"),
+    (Some(Fault::Drop), WITH_ROOM, 2, SomeNo, " LOST "),
+    (Some(Fault::Double), WITH_ROOM, 2, SomeNo, " DOUBLED "),
+    (Some(Fault::Hold), WITH_ROOM, 2, SomeNo, " SWAPPED "),
+    (Some(Fault::Alter), WITH_ROOM, 2, SomeNo, " CONTENT "),
+    (Some(Fault::Garble), WITH_ROOM, 2, SomeNo, " FRAME\n"),
+    (Some(Fault::Lag), OF_MORE_NODES, 2, SomeNo, " DOUBLED "),
+    (Some(Fault::UnknownOffset), WITH_ROOM, 2, SomeNo, " WINDOW "),
+    (Some(Fault::NoReply), WITH_ROOM, 2, SomeNo, " CLIENT\n"),
+    (Some(Fault::OtherSid), WITH_ROOM, 2, SomeNo, " NAMES\n"),
+    (Some(Fault::NoOpen), WITH_ROOM, 2, SomeNo, " NOLOG\n"),
+    (Some(Fault::NoJoin), WITH_ROOM, 2, SomeNo, " EXTRA "),
+    (Some(Fault::NoBreak), WITH_ROOM, 2, SomeNo, " CHAIN\n"),
+    (Some(Fault::TakeTwice), WITH_ROOM, 2, SomeNo, " ORDER\n"),
+];
+
+/// The bundle of a plan.
+fn bundle_of<H: Abort>(rt: &H, alloc: Global, plan: &Plan) -> Result<Vec<u8>, Fail> {
+    assert!(rt; plan.is_possible());
+    Ok(simulated(alloc, plan)?)
+}
+
+/// Whether the text has this in it.
+fn has(text: &[u8], word: &str) -> bool {
+    match str::from_utf8(text) {
+        Ok(text) => text.contains(word),
+        Err(_) => false,
+    }
+}
+
+#[test]
+fn plans_are_audited(rt: HostRuntime) -> Result<(), Fail> {
+    let keys = RandomState::new(&rt)?;
+    let options = Options {
+        workers: 1,
+        ..AUDIT
+    };
+    for &(fault, sizes, seeds, status, report) in &OUTCOMES {
+        for &(nodes, clients, acts) in sizes {
+            for seed in 0..seeds {
+                let plan = Plan {
+                    nodes,
+                    clients,
+                    acts,
+                    seed,
+                    fault,
+                };
+                let bundle = bundle_of(&rt, rt.alloc(), &plan)?;
+                let ran = ran(&rt, rt.alloc(), keys, options, bundle.as_slice());
+                assert!(rt;
+                    ran.outcome == Ok(status) && has(&ran.written, report),
+                    "{plan:?}"
+                );
+            }
+        }
+    }
+    Ok(())
+}
+
+/// The plan of a seed.
+fn plan_of(seed: u64) -> Plan {
+    Plan {
+        nodes: 2,
+        clients: 4,
+        acts: 200,
+        seed,
+        fault: None,
+    }
+}
+
+#[test]
+fn a_plan_has_one_bundle(rt: HostRuntime) -> Result<(), Fail> {
+    for seed in [0, 1, u64::MAX] {
+        let first = bundle_of(&rt, rt.alloc(), &plan_of(seed))?;
+        let again = bundle_of(&rt, rt.alloc(), &plan_of(seed))?;
+        let other = bundle_of(&rt, rt.alloc(), &plan_of(seed ^ 4))?;
+        assert!(rt; first.as_slice() == again.as_slice());
+        assert!(rt; first.as_slice() != other.as_slice());
+    }
+    Ok(())
+}
