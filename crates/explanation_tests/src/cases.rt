@@ -39,18 +39,50 @@ pub fn assert_cases<H: Abort + Threads + Wait + Clock + RandomSource + Sync>(
     alloc: Global,
     cases: &[Case],
 ) -> Result<(), Fail> {
-    let mut found = String::new(alloc);
-    for case in cases {
-        match case.input {
-            Input::Files(texts) => push_differing(rt, alloc, &mut found, case, texts)?,
-            Input::Simulated(nodes, schedule) => {
-                let bundle = bundle_of(alloc, nodes, schedule)?;
-                push_differing(rt, alloc, &mut found, case, &[str::from_utf8(&bundle)?])?
-            }
-        }
-    }
+    let found = differing(rt, alloc, cases)?;
     assert_eq!(rt; found.as_str(), "");
     Ok(())
+}
+
+/// How the runs of those cases end and what they write that say otherwise.
+fn differing<H: Threads + Wait + Clock + RandomSource + Sync>(
+    rt: &H,
+    alloc: Global,
+    cases: &[Case],
+) -> Result<String, Fail> {
+    let mut found = String::new(alloc);
+    for case in cases {
+        push_case(rt, alloc, &mut found, case)?;
+    }
+    Ok(found)
+}
+
+/// Adds how the run of the case ends and what it writes, where the case says otherwise.
+fn push_case<H: Threads + Wait + Clock + RandomSource + Sync>(
+    rt: &H,
+    alloc: Global,
+    found: &mut String,
+    case: &Case,
+) -> Result<(), Fail> {
+    match case.input {
+        Input::Files(texts) => push_differing(rt, alloc, found, case, texts),
+        Input::Simulated(nodes, schedule) => {
+            push_simulated(rt, alloc, found, case, nodes, schedule)
+        }
+    }
+}
+
+/// The same over the bundle of a simulated cluster.
+fn push_simulated<H: Threads + Wait + Clock + RandomSource + Sync>(
+    rt: &H,
+    alloc: Global,
+    found: &mut String,
+    case: &Case,
+    nodes: usize,
+    schedule: &str,
+) -> Result<(), Fail> {
+    let bundle = bundle_of(alloc, nodes, schedule)?;
+    push_differing(rt, alloc, found, case, &[str::from_utf8(&bundle)?])
 }
 
 /// The bundle of a simulated cluster.
@@ -62,7 +94,7 @@ fn bundle_of(alloc: Global, nodes: usize, schedule: &str) -> Result<Vec<u8>, Fai
     Ok(simulate(alloc, nodes, 1, &acts)?)
 }
 
-/// Adds how the run of the case ends and what it writes, where the case says otherwise.
+/// The same over files with these texts.
 fn push_differing<H: Threads + Wait + Clock + RandomSource + Sync>(
     rt: &H,
     alloc: Global,
