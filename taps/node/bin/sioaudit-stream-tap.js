@@ -3,8 +3,6 @@
 
 const path = require("node:path");
 const { parseArgs } = require("node:util");
-const { createClient } = require("redis");
-const { Tap, TapError, readKey, tapStream } = require("../lib/index.js");
 const { version } = require("../package.json");
 
 const HELP = `Usage: sioaudit-stream-tap --out FILE [options]
@@ -51,6 +49,9 @@ function words() {
 }
 
 async function main(options) {
+  // not before the words are known to be right: this takes the most of a start
+  const { createClient } = require("redis");
+  const { Tap, TapError, readKey, tapStream } = require("../lib/index.js");
   let connected = false;
   const redis = createClient({
     ...(options.redis.startsWith("unix:") ? {} : { url: options.redis }),
