@@ -193,6 +193,11 @@ export type NodeOptions = (
   | (NamedTap & { /** a mark of the boot follows `name`, so that each process has a tap of its own */ dir: string; tap?: undefined })
   | { tap: Tap<"node">; dir?: undefined; name?: undefined; redact?: undefined }
 ) & {
+  /**
+   * Has the node send its own events when they come back from the stream, in the stream's order, and not as soon as they
+   * are stored. It changes the order in which clients get events, to the one that is audited; alone false.
+   */
+  inOrder?: boolean;
   /** is told, once, what ended the tap; alone `process.emitWarning` */
   onError?: (error: TapError) => void;
 } & (

@@ -15,6 +15,7 @@ function tapped(create, options) {
   function TappedAdapter(nsp) {
     const adapter = new create(nsp);
     watch(adapter, node);
+    if (options.inOrder) sendInOrder(adapter);
     return adapter;
   }
   TappedAdapter.tap = node.tap;
@@ -197,6 +198,34 @@ function watch(adapter, node) {
   adapter.onRawMessage = (message, offset) => {
     node.entry(offset);
     return real.onRawMessage(message, offset);
+  };
+}
+
+// Has a node send its own events when they come back from the stream, as it sends those of others, and not as soon as
+// they are stored: its clients get all events in the stream's order then.
+function sendInOrder(adapter) {
+  if (typeof adapter.broadcast !== "function" || typeof adapter.apply !== "function") {
+    throw new TapError("Adapter", "the adapter has no broadcast or no apply: its own events can't be sent in order");
+  }
+  const broadcast = adapter.broadcast.bind(adapter);
+  const apply = adapter.apply.bind(adapter);
+  const onRawMessage = adapter.onRawMessage; // with its tap
+  const stored = new WeakSet(); // the options of events that are only stored
+
+  adapter.broadcast = (packet, opts) => {
+    if (!opts.flags?.local) stored.add(opts);
+    return broadcast(packet, opts);
+  };
+
+  // where the adapter chooses the sockets
+  adapter.apply = (opts, send) => {
+    if (!stored.has(opts)) apply(opts, send);
+  };
+
+  // an event of its own comes in as one of an emitter's, which is no node
+  adapter.onRawMessage = (message, offset) => {
+    const own = message.uid === adapter.uid && message.type === "3";
+    return onRawMessage(own ? { ...message, uid: "emitter" } : message, offset);
   };
 }
 

@@ -17,7 +17,7 @@ const KEY = "socket.io";
 const failsWith = (code) => (error) => error instanceof TapError && error.code === code;
 
 // a cluster with its taps in `dir`; `stop` ends it in the right order
-async function cluster(t, { nodes = ["a", "b"], redact, adapter = {}, middleware, before } = {}) {
+async function cluster(t, { nodes = ["a", "b"], redact, adapter = {}, middleware, before, inOrder } = {}) {
   const server = await startRedis(t);
   const redis = await server.connect();
   const dir = directory(t);
@@ -29,7 +29,7 @@ async function cluster(t, { nodes = ["a", "b"], redact, adapter = {}, middleware
   for (const name of nodes) {
     const io = new Server(["/", "/chat"], middleware);
     t.after(() => io.close());
-    const create = tapped(createAdapter(redis, { streamName: KEY, ...adapter }), { dir, name, redact, redis, key: KEY, before, onError: (error) => made.errors.push(error) });
+    const create = tapped(createAdapter(redis, { streamName: KEY, ...adapter }), { dir, name, redact, redis, key: KEY, before, inOrder, onError: (error) => made.errors.push(error) });
     io.adapter(create);
     made.nodes[name] = { io, create, url: await io.url() };
   }
@@ -123,7 +123,8 @@ test("two nodes, three clients, a cut, two namespaces, attachments", { skip: noP
 test("the start is the entry before the first that the node is given", { skip: noProgram }, async (t) => {
   // entries are added between the node's boot and its first read: they are none of its own
   let begin;
-  const it = await cluster(t, { nodes: ["a"], adapter: { reads: new Promise((resolve) => (begin = resolve)) } });
+  const started = new Promise((resolve) => (begin = resolve));
+  const it = await cluster(t, { nodes: ["a"], adapter: { reads: () => started } });
   const newest = await it.event("before the client");
   await sleep(50);
   const client = await it.client("a");
@@ -183,6 +184,41 @@ test("a node that drops an event behind its tap", { skip: noProgram }, async (t)
   await until(() => client.socket.got.length === 2, "another event");
   await it.stop();
   assert.equal(audit(it.dir)[0], `no ${client.socket.pid} LOST ${lost}`);
+});
+
+// a node sends an event of its own while it hasn't read the one before it
+async function ownEvent(t, inOrder) {
+  let gate;
+  const it = await cluster(t, { nodes: ["a"], adapter: { reads: () => gate }, inOrder });
+  await it.heartbeat();
+  const c1 = await it.client("a");
+  const c2 = await it.client("a");
+  for (const client of [c1, c2]) await joined(it.nodes.a, client, "r");
+  await it.event("first");
+  await until(() => c1.socket.got.length === 1, "an event");
+  let open;
+  gate = new Promise((resolve) => (open = resolve));
+  await it.event("may be read yet");
+  await sleep(100);
+  const length = await it.redis.xLen(KEY);
+  await it.event("waits to be read");
+  c1.socket.send("say", "r", "said", "by the first");
+  await until(async () => (await it.redis.xLen(KEY)) === length + 2, "what the node stores");
+  await sleep(50);
+  gate = undefined;
+  open();
+  await until(() => c2.socket.got.length === 4, "all events");
+  await it.stop();
+  return { words: c2.socket.got.map(([, word]) => word), verdicts: audit(it.dir, "audit", "--whole") };
+}
+
+test("a node's own events, sent as soon as they are stored and in order", { skip: noProgram }, async (t) => {
+  const asItIs = await ownEvent(t, false);
+  assert.deepEqual(asItIs.words, ["first", "may be read yet", "by the first", "waits to be read"]);
+  assert.match(asItIs.verdicts[0], /^no \S+ SWAPPED /);
+  const inOrder = await ownEvent(t, true);
+  assert.deepEqual(inOrder.words, ["first", "may be read yet", "waits to be read", "by the first"]);
+  assert.equal(inOrder.verdicts.at(-1), "sessions=2 yes=2 no=0");
 });
 
 test("middleware that joins a room, and that refuses", { skip: noProgram }, async (t) => {

@@ -49,9 +49,16 @@ class Adapter extends EventEmitter {
   broadcast(packet, opts) {
     packet.nsp = this.nsp.name;
     const encoded = this.encoder.encode(packet);
+    this.apply(opts, (socket) => socket.write(encoded));
+  }
+
+  apply(opts, send) {
     const except = new Set([...opts.except].flatMap((room) => [...(this.rooms.get(room) ?? [])]));
     const ids = opts.rooms.size === 0 ? this.sids.keys() : new Set([...opts.rooms].flatMap((room) => [...(this.rooms.get(room) ?? [])]));
-    for (const id of ids) if (!except.has(id)) this.nsp.sockets.get(id)?.write(encoded);
+    for (const id of ids) {
+      const socket = except.has(id) ? undefined : this.nsp.sockets.get(id);
+      if (socket) send(socket);
+    }
   }
 }
 
@@ -68,6 +75,7 @@ class RedisStreamsAdapter extends Adapter {
 
   // stored and sent at once, and passed over when it comes back
   async broadcast(packet, opts) {
+    if (opts.flags?.local) return super.broadcast(packet, opts);
     const options = { rooms: [...opts.rooms], except: [...opts.except], flags: opts.flags };
     const offset = await publish(this.#redis, this.#key, { uid: this.uid, nsp: this.nsp.name, data: { packet, opts: options } });
     if (packet.id === undefined && opts.flags?.volatile === undefined) packet.data.push(offset);
@@ -108,13 +116,13 @@ function publish(redis, key, { uid = "emitter", nsp = "/", type = "3", data }) {
   return redis.xAdd(key, "*", { uid, nsp, type, ...(data === undefined ? {} : { data: stored }) });
 }
 
-// `reads` is awaited before the first read, and says when a test lets the node begin
-function createAdapter(redis, { streamName, reads = Promise.resolve() }) {
+// `reads` is awaited before each read: a test says so when the node may begin, or go on
+function createAdapter(redis, { streamName, reads = () => undefined }) {
   const adapters = new Map();
   let last = "$";
   let polling = false;
   async function poll() {
-    await reads;
+    await reads();
     const reader = redis.duplicate();
     await reader.connect();
     while (adapters.size > 0) {
@@ -123,6 +131,7 @@ function createAdapter(redis, { streamName, reads = Promise.resolve() }) {
         if (message.nsp) adapters.get(message.nsp)?.onRawMessage(message, id);
         last = id;
       }
+      await reads();
     }
     await reader.disconnect();
   }
