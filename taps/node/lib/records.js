@@ -50,16 +50,20 @@ function whole(name, value) {
   if (!Number.isSafeInteger(value) || value < 0) throw field(name, "is no whole number");
 }
 
-function base64(name, value) {
-  if (typeof value !== "string") throw field(name, "is no text");
+function isBase64(value) {
   const body = value.replace(/={1,2}$/, "");
   const padding = value.length - body.length;
-  const ok =
+  return (
     value.length % 4 === 0 &&
     !NOT_BASE64.test(body) &&
     (padding !== 2 || TAIL_OF_ONE.test(body)) &&
-    (padding !== 1 || TAIL_OF_TWO.test(body));
-  if (!ok) throw field(name, "is no base64");
+    (padding !== 1 || TAIL_OF_TWO.test(body))
+  );
+}
+
+function base64(name, value) {
+  if (typeof value !== "string") throw field(name, "is no text");
+  if (!isBase64(value)) throw field(name, "is no base64");
 }
 
 function list(name, value, most, check) {
@@ -141,4 +145,4 @@ function checkName(name) {
   }
 }
 
-module.exports = { KINDS, LIMITS, checkName, checked };
+module.exports = { KINDS, LIMITS, checkName, checked, isBase64 };

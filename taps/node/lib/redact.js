@@ -6,6 +6,7 @@
 const { createHmac } = require("node:crypto");
 const fs = require("node:fs");
 const { TapError } = require("./errors");
+const { isBase64 } = require("./records");
 const json = require("./json");
 
 const KEY = 16; // bytes at least
@@ -75,9 +76,9 @@ class Redactor {
   /** What stands for the text of an Engine.IO packet. */
   message(text) {
     if (text.startsWith("4")) return `4${this.packet(text.slice(1))}`;
-    if (text.startsWith("b")) return `b${this.attachment(text.slice(1))}`;
-    if (text.length < 2) return text;
-    return /^[0-6]/.test(text) ? `${text[0]}${JSON.stringify([this.hash(text.slice(1))])}` : this.#noPacket(text);
+    if (text.startsWith("b")) return isBase64(text.slice(1)) ? `b${this.attachment(text.slice(1))}` : this.#noPacket(text);
+    if (!/^[0-6]/.test(text)) return this.#noPacket(text);
+    return text.length === 1 ? text : `${text[0]}["${this.hash(text.slice(1))}"]`; // it is read past, whatever it says
   }
 
   /** What stands for a record, whole and of any tap. */
@@ -102,7 +103,7 @@ class Redactor {
     if (ACK.test(front) || payload.members === undefined || !front.startsWith("0")) return this.#all(payload);
     return {
       members: payload.members.map(([name, it]) => {
-        if (name === "offset") return [name, it];
+        if (name === "offset" && it.text !== undefined) return [name, it];
         if (name === "pid" || name === "sid") return [name, this.#all(it)];
         return [this.hash(name), this.#all(it)];
       }),
