@@ -1,0 +1,145 @@
+"use strict";
+
+const { isUtf8 } = require("node:buffer");
+const { Injector } = require("./inject");
+
+const SEPARATOR = "\x1e";
+
+/** One connection of Engine.IO, over polling, WebSocket, or the one and then the other, as the journal has it. */
+class Connection {
+  /** @param {import("./proxy").Proxy} proxy */
+  constructor(proxy, node, via) {
+    this.proxy = proxy;
+    this.node = node;
+    this.via = via;
+    this.at = proxy.journal.now(); // of the handshake
+    this.number = 0; // in the journal, from its first record on
+    this.sid = undefined;
+    this.count = 0; // its `in` and `inb` records
+    this.acked = 0; // how many of them the client has surely taken
+    this.over = false; // nothing is recorded any more
+    this.injector = undefined;
+    this.users = 0; // requests and sockets
+    this.touched = this.at;
+    this.body = undefined; // the last body of a GET: how many records there were after it, and whether it went out whole
+  }
+
+  /** What came from the server, in the order in which it goes on to the client: a list of `{ text }` and `{ bytes }`. */
+  fromServer(packet) {
+    if (!this.proxy.faults.length) {
+      this.#record(packet);
+      return { packets: [packet], cut: false };
+    }
+    if (this.number === 0) this.#begin(packet.text);
+    this.injector ??= new Injector(this.proxy.faults, this.proxy.seed, this.number);
+    const { packets, note, cut } = this.injector.push(packet);
+    if (note) this.#put(`"note","c":${this.number},"inject":"${note.kind}","t":${JSON.stringify(this.#hidden(note.text))}`);
+    for (const it of packets) this.#record(it);
+    return { packets, cut };
+  }
+
+  /** A body of a GET with status 200: what goes on, undefined where the connection is to be cut. */
+  body200(bytes, headers) {
+    const why = unreadable(bytes, headers);
+    if (why !== undefined) {
+      this.gap(why);
+      return bytes;
+    }
+    const texts = bytes.toString("utf8").split(SEPARATOR);
+    const on = [];
+    for (const text of texts) {
+      const { packets, cut } = this.fromServer({ text });
+      for (const packet of packets) on.push(packet.text);
+      if (cut) return undefined;
+      if (text === "1") this.lost();
+    }
+    if (!this.proxy.faults.length) return bytes;
+    return Buffer.from(on.length ? on.join(SEPARATOR) : "6"); // an empty body is no answer: a noop
+  }
+
+  #record(packet) {
+    if (this.over) return;
+    if (this.number === 0) this.#begin(packet.text);
+    if (packet.text !== undefined) this.#put(`"in","c":${this.number},"t":${JSON.stringify(this.#hidden(packet.text))}`);
+    else {
+      const base64 = packet.bytes.toString("base64");
+      this.#put(`"inb","c":${this.number},"b":"${this.proxy.redactor?.attachment(base64) ?? base64}"`);
+    }
+    this.count++;
+    this.proxy.counts.frames++;
+  }
+
+  /** A packet of the client: CONNECT and DISCONNECT alone are kept. */
+  fromClient(text) {
+    if (this.over || !(text.startsWith("40") || text.startsWith("41"))) return;
+    if (this.number === 0) this.#begin(undefined);
+    this.#put(`"out","c":${this.number},"t":${JSON.stringify(this.#hidden(text))}`);
+  }
+
+  /** A body of a POST. */
+  posted(bytes) {
+    if (this.over) return;
+    if (!isUtf8(bytes)) return;
+    for (const text of bytes.toString("utf8").split(SEPARATOR)) {
+      this.fromClient(text);
+      if (text === "1") this.lost();
+    }
+  }
+
+  ack(count) {
+    if (this.over || count <= this.acked || count > this.count) return;
+    this.acked = count;
+    this.#put(`"ack","c":${this.number},"n":${count}`);
+  }
+
+  lost() {
+    if (this.over) return;
+    this.over = true;
+    if (this.number !== 0) this.#put(`"lost","c":${this.number}`);
+  }
+
+  /** Tells that from here on the connection isn't recorded. */
+  gap(why) {
+    if (this.over) return;
+    if (this.number === 0) this.#begin(undefined);
+    this.#put(`"gap","c":${this.number},"why":${JSON.stringify(why)}`);
+    this.over = true;
+    this.proxy.counts.gaps++;
+  }
+
+  // its first packet tells its id; a server that begins with another is none that is known here
+  #begin(first) {
+    let sid;
+    if (first?.startsWith("0")) {
+      try {
+        sid = JSON.parse(first.slice(1)).sid;
+      } catch {
+        // told below
+      }
+    }
+    this.number = ++this.proxy.counts.connections;
+    this.sid = typeof sid === "string" ? sid : undefined;
+    if (this.sid !== undefined) this.proxy.connections.set(this.sid, this);
+    const eio = this.sid === undefined ? "" : (this.proxy.redactor?.hash(this.sid) ?? this.sid);
+    this.#put(`"conn","c":${this.number},"at":${this.at},"eio":${JSON.stringify(eio)},"via":"${this.via}"`);
+    if (first !== undefined && this.sid === undefined) this.gap("the server's first packet isn't that of Engine.IO 4");
+  }
+
+  #put(fields) {
+    this.proxy.journal.put(`{"k":${fields}}`);
+  }
+
+  #hidden(text) {
+    return this.proxy.redactor === undefined ? text : this.proxy.redactor.message(text);
+  }
+}
+
+function unreadable(bytes, headers) {
+  const encoding = headers["content-encoding"];
+  if (encoding !== undefined && encoding !== "identity") return `a body came compressed (${encoding}), though it wasn't asked to`;
+  if (/javascript/.test(headers["content-type"] ?? "")) return "polling by JSONP isn't read";
+  if (!isUtf8(bytes)) return "a body isn't UTF-8";
+  return undefined;
+}
+
+module.exports = { Connection };
