@@ -163,6 +163,7 @@ async function startProxy(options) {
   const proxy = new Proxy(options);
   try {
     const address = await proxy.listen();
+    proxy.port = address.port;
     proxy.url = `http://${address.family === "IPv6" ? `[${address.address}]` : address.address}:${address.port}`;
   } catch (error) {
     proxy.journal.end();
