@@ -109,7 +109,7 @@ class Journal {
  * @param {import("./index").JoinOptions} options
  * @returns {import("./index").JoinReport}
  */
-function join({ journals: files, into, nodes = [], onlyTapped = false, redact, prefix = "c" }) {
+function join({ journals: files, into, nodes = [], onlyTapped = false, redact, prefix = "c", trimming = true }) {
   if (files.length === 0) throw new TypeError("no journal is given");
   const report = {
     journals: files.length,
@@ -127,7 +127,7 @@ function join({ journals: files, into, nodes = [], onlyTapped = false, redact, p
   };
   const found = firstPass(files, redact, report);
   const clients = clientsOf(found, report);
-  trim(clients, report);
+  if (trimming) trim(clients);
   if (clients.length > 4096) report.warnings.push(`${clients.length} clients: a bundle has at most 4096 taps of clients`);
   const targets = nodes.map((file) => path.join(into, path.basename(file)));
   fs.mkdirSync(into, { recursive: true });
@@ -232,7 +232,7 @@ function clientsOf(found, report) {
 }
 
 // What isn't acknowledged goes where the client's next CONNECT in that namespace asks with an offset before it.
-function trim(clients, report) {
+function trim(clients) {
   for (const connections of clients) {
     const next = new Map();
     for (const connection of [...connections].reverse()) {

@@ -12,9 +12,10 @@ Both take lines of JSON on standard input, {"id":1,"op":"..",..}, answer {"id":1
 import asyncio, base64, json, os, random, re, sys
 import aiohttp
 from aiohttp import web
-import socketio
+import engineio, socketio
 from socketio import packet as sio_packet
 
+engineio.payload.Payload.max_decode_packets = 1 << 20    # a burst is more than 16 packets in a body
 KEY = 'events'
 NAMESPACES = ['/', '/chat', '/n']
 OFFSET = re.compile(r'^[0-9]+-[0-9]+$')

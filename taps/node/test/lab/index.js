@@ -149,7 +149,12 @@ class Lab {
 
   /** Connects, or comes back, by the proxy of a node. */
   async connect(client, node, proxy = 0) {
-    client.way.port = this.proxies[proxy][node].port;
+    const { port } = this.proxies[proxy][node];
+    if (client.way.sockets.size > 0 && client.way.port !== port) {
+      client.way.cut(); // a connection that was kept leads to the old one
+      await sleep(100);
+    }
+    client.way.port = port;
     const { name, transports, namespaces } = client;
     await this.driver.ask("connect", { name, url: client.way.url, transports, namespaces });
   }
@@ -220,6 +225,13 @@ class Lab {
     const report = join({ journals, into: at, nodes, ...options });
     for (const file of nodes) fs.copyFileSync(file, path.join(this.dir, "truth", path.basename(file)));
     return { report, truth: audit(path.join(this.dir, "truth"), "audit", ...words), joined: audit(at, "audit", ...words) };
+  }
+
+  /** Joins once more, with other options. */
+  again(options) {
+    const into = fs.mkdtempSync(path.join(this.dir, "again-"));
+    const report = join({ journals: this.journals, into, nodes: this.nodeTaps, ...options });
+    return { report, joined: audit(into, "audit") };
   }
 }
 
