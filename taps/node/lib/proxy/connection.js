@@ -58,8 +58,8 @@ class Connection {
   }
 
   #record(packet) {
+    if (this.number === 0 && !this.over) this.#begin(packet.text);
     if (this.over) return;
-    if (this.number === 0) this.#begin(packet.text);
     if (packet.text !== undefined) this.#put(`"in","c":${this.number},"t":${JSON.stringify(this.#hidden(packet.text))}`);
     else {
       const base64 = packet.bytes.toString("base64");

@@ -27,7 +27,7 @@ function writeHead(bytes, at, opcode, size) {
 }
 
 /**
- * @param {[data: Buffer | string, binary: boolean][]} messages
+ * @param {[data: Buffer, binary: boolean][]} messages
  * @param {string} [ping] what a ping after them carries
  * @returns {Buffer[]}
  */
@@ -39,8 +39,6 @@ function encode(messages, ping) {
     let to = from;
     let size = 0;
     for (; to < messages.length && size < COPIED; to++) {
-      const [data] = messages[to];
-      if (typeof data === "string") messages[to][0] = Buffer.from(data);
       const { length } = messages[to][0];
       if (length > COPIED) break;
       size += headSize(length) + length;

@@ -6,6 +6,7 @@ const { Connection } = require("./connection");
 const { answered, endToEnd, forwarded } = require("./headers");
 
 const CONNECTING = 10_000; // ms that a node has to take a connection
+const LINGER = 1000; // ms
 const NOT_REACHED = new Set(["ECONNREFUSED", "EHOSTUNREACH", "ENETUNREACH", "EHOSTDOWN", "ETIMEDOUT", "ENOTFOUND", "EAI_AGAIN"]);
 
 class TooLarge extends Error {}
@@ -21,13 +22,15 @@ function collect(message, most) {
   return new Promise((resolve, reject) => {
     const pieces = [];
     let size = 0;
-    message.on("data", (piece) => {
+    const take = (piece) => {
       size += piece.length;
-      if (size > most) {
-        message.pause();
-        reject(new TooLarge(`a body has more than ${most} bytes`));
-      } else pieces.push(piece);
-    });
+      pieces.push(piece);
+      if (size <= most) return;
+      message.off("data", take);
+      message.pause();
+      reject(new TooLarge(`a body has more than ${most} bytes`));
+    };
+    message.on("data", take);
     message.on("end", () => resolve(Buffer.concat(pieces)));
     message.on("error", reject);
     message.on("close", () => reject(new Error("the body ended early")));
@@ -221,8 +224,11 @@ async function post(proxy, req, res, connection) {
     if (error instanceof TooLarge) {
       connection.lost();
       proxy.journal.after(() => {
-        res.on("finish", () => req.destroy());
+        // a client that is still sending hears of it if what it sends is read for a while
+        res.setHeader("Connection", "close");
         refuse(res, 413, `${error.message}\n`);
+        req.resume();
+        setTimeout(() => req.destroy(), LINGER).unref();
       });
     } else if (!res.destroyed) {
       connection.lost();

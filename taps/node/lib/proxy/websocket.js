@@ -109,15 +109,69 @@ function open(proxy, node, req, socket) {
   });
 }
 
+// One direction of a bridge: what waits for the end of the turn, and then for the side that it goes to. Where that one is
+// slow, the side that it comes from isn't read meanwhile; where it takes nothing for long, `stalled` is called.
+class Lane {
+  #messages = [];
+  #bytes = 0;
+  #timer;
+
+  constructor(from, socket, { most, patience, stalled }) {
+    this.from = from;
+    this.socket = socket; // that it goes to
+    this.most = most;
+    this.patience = patience;
+    this.stalled = stalled;
+  }
+
+  get empty() {
+    return this.#messages.length === 0;
+  }
+
+  push(data, binary) {
+    this.#messages.push([data, binary]);
+    this.#bytes += data.length;
+    if (this.#bytes > this.most) this.from.pause();
+  }
+
+  /** All that has waited for the end of the turn. */
+  take() {
+    const messages = this.#messages;
+    this.#messages = [];
+    this.#bytes = 0;
+    return messages;
+  }
+
+  /** After it was handed to the socket. */
+  settle() {
+    if (this.#timer !== undefined) return;
+    if (this.socket.writableLength <= this.most) {
+      if (this.from.isPaused) this.from.resume();
+      return;
+    }
+    this.from.pause();
+    this.#timer = setTimeout(this.stalled, this.patience);
+    const goesOn = () => {
+      clearTimeout(this.#timer);
+      this.#timer = undefined;
+      this.socket.off("drain", goesOn);
+      this.socket.off("close", goesOn);
+      this.from.resume();
+    };
+    this.socket.on("drain", goesOn);
+    this.socket.on("close", goesOn);
+  }
+}
+
 /** Both sides of a WebSocket of Engine.IO. */
 class Bridge {
-  #toClient = [];
-  #toServer = [];
   #scheduled = false;
   #pinged = 0; // the count in the last ping
   #onItsWay = false; // a ping without its pong
   #end; // how the client's side is to be closed once all has been sent
   #upEnd;
+  #toClient;
+  #toServer;
 
   constructor(proxy, connection, { up, upSocket, down, downSocket, probes }) {
     this.proxy = proxy;
@@ -127,6 +181,17 @@ class Bridge {
     this.down = down;
     this.downSocket = downSocket;
     this.probes = probes; // until the client's `5` the connection is that of polling
+    const words = {
+      most: proxy.maxWaiting,
+      patience: proxy.stall,
+      stalled: () => {
+        proxy.counts.stalled++;
+        connection.lost();
+        this.terminate();
+      },
+    };
+    this.#toClient = new Lane(up, downSocket, words);
+    this.#toServer = new Lane(down, upSocket, words);
   }
 
   start({ packets, collect }) {
@@ -151,8 +216,8 @@ class Bridge {
     const packet = isBinary ? { bytes: data } : { text: data.toString() };
     const { packets, cut } = connection.fromServer(packet);
     // without faults the bytes go on as they came
-    if (packets.length === 1 && packets[0] === packet) this.#toClient.push([data, isBinary]);
-    else for (const it of packets) this.#toClient.push([it.bytes ?? it.text, it.bytes !== undefined]);
+    if (packets.length === 1 && packets[0] === packet) this.#toClient.push(data, isBinary);
+    else for (const it of packets) this.#toClient.push(it.bytes ?? Buffer.from(it.text), it.bytes !== undefined);
     if (packet.text === "1") connection.lost();
     if (cut) {
       connection.lost();
@@ -174,7 +239,7 @@ class Bridge {
       }
       if (text === "1") connection.lost();
     }
-    this.#toServer.push([data, isBinary]);
+    this.#toServer.push(data, isBinary);
     this.#schedule();
   }
 
@@ -183,7 +248,7 @@ class Bridge {
     if (text !== String(this.#pinged) || !this.#onItsWay) return; // one that nobody asked for
     this.#onItsWay = false;
     this.connection.ack(this.#pinged);
-    if (this.#toClient.length > 0 || this.down.readyState !== WebSocket.OPEN) return;
+    if (!this.#toClient.empty || this.down.readyState !== WebSocket.OPEN) return;
     for (const bytes of encode([], this.#ping())) this.downSocket.write(bytes);
   }
 
@@ -209,47 +274,22 @@ class Bridge {
   // all of it stands in the journal by now
   #send() {
     const { up, down, upSocket, downSocket } = this;
-    if (this.#toServer.length > 0) {
-      const messages = this.#toServer;
-      this.#toServer = [];
-      if (up.readyState === WebSocket.OPEN) {
-        upSocket.cork();
-        for (const [data, binary] of messages) up.send(data, { binary });
-        upSocket.uncork();
-        this.#await(upSocket, down);
-      }
+    const toServer = this.#toServer.take();
+    if (toServer.length > 0 && up.readyState === WebSocket.OPEN) {
+      upSocket.cork();
+      for (const [data, binary] of toServer) up.send(data, { binary });
+      upSocket.uncork();
+      this.#toServer.settle();
     }
-    if (this.#toClient.length > 0) {
-      const messages = this.#toClient;
-      this.#toClient = [];
-      if (down.readyState === WebSocket.OPEN && this.#end?.[0] !== 1006) {
-        downSocket.cork();
-        for (const bytes of encode(messages, this.#ping())) downSocket.write(bytes);
-        downSocket.uncork();
-        this.#await(downSocket, up);
-      }
+    const toClient = this.#toClient.take();
+    if (toClient.length > 0 && down.readyState === WebSocket.OPEN && this.#end?.[0] !== 1006) {
+      downSocket.cork();
+      for (const bytes of encode(toClient, this.#ping())) downSocket.write(bytes);
+      downSocket.uncork();
+      this.#toClient.settle();
     }
     if (this.#end) close(down, ...this.#end);
     if (this.#upEnd) close(up, ...this.#upEnd);
-  }
-
-  // A side that is slow makes the other one wait; where it takes nothing for long, the connection is ended.
-  #await(socket, other) {
-    if (socket.writableLength <= this.proxy.maxWaiting || other.isPaused) return;
-    other.pause();
-    const stalled = setTimeout(() => {
-      this.proxy.counts.stalled++;
-      this.connection.lost();
-      this.terminate();
-    }, this.proxy.stall);
-    const goesOn = () => {
-      clearTimeout(stalled);
-      socket.off("drain", goesOn);
-      socket.off("close", goesOn);
-      other.resume();
-    };
-    socket.on("drain", goesOn);
-    socket.on("close", goesOn);
   }
 
   #closed(code, reason, byServer) {
@@ -257,6 +297,7 @@ class Bridge {
     if (!this.probes) connection.lost(); // a probe that failed ends nothing
     if (byServer) this.#end ??= [code, reason];
     else this.#upEnd ??= [code, reason];
+    (byServer ? this.down : this.up).resume(); // or it would never hear of the end
     this.#schedule();
     if (!proxy.bridges.delete(this)) return;
     connection.users--;
