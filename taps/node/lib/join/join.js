@@ -297,7 +297,7 @@ function secondPass(files, found, clients, { redact, prefix, writer, report }) {
         break;
       case "in":
       case "inb": {
-        if (isLeftOut(connection)) {
+        if (isLeftOut(connection, record.k === "inb" || record.t.startsWith("b"))) {
           report.trimmed += connection.leftOut[connection.left][0] === connection.seen ? 1 : 0;
           return;
         }
@@ -345,13 +345,16 @@ function secondPass(files, found, clients, { redact, prefix, writer, report }) {
   return tapped;
 }
 
-// whether the record that is just seen is of a frame that is trimmed; they come in their order
-function isLeftOut(connection) {
+// Whether the record that is just seen is of a frame that is trimmed; they come in their order. Between a frame and its
+// attachments others may stand.
+function isLeftOut(connection, attachment) {
   const { leftOut, seen } = connection;
   if (leftOut === undefined) return false;
   connection.left ??= 0;
   while (connection.left < leftOut.length && leftOut[connection.left][1] < seen) connection.left++;
-  return connection.left < leftOut.length && leftOut[connection.left][0] <= seen;
+  if (connection.left === leftOut.length) return false;
+  const [from] = leftOut[connection.left];
+  return seen === from || (seen > from && attachment);
 }
 
 // The taps of nodes, without the records of sessions that no client's tap has; the stream's goes through.
