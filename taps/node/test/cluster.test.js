@@ -269,6 +269,26 @@ test("redacted taps have the same verdicts, and no payload", { skip: noProgram }
   for (const secret of ["secret", "the room", "c2VjcmV0", c1.socket.pid, c1.socket.id, c2.socket.pid]) assert.ok(!all.includes(secret), secret);
 });
 
+test("a client that goes on with its pid after a restart", { skip: noProgram }, async (t) => {
+  const it = await cluster(t);
+  await it.heartbeat();
+  const { manager, socket } = await it.client("a");
+  await it.event("1", []);
+  await until(() => socket.got.length === 1, "an event");
+  await it.cut({ manager });
+  await it.event("2", []);
+  await sleep(50);
+  const again = new Manager(it.nodes.b.url);
+  const tap = tapClient(again, { dir: it.dir, name: "c1", resume: true });
+  assert.equal(tap.connection, 1);
+  it.clients[0] = again;
+  const restarted = Object.assign(again.socket("/"), { pid: socket.pid, offset: socket.offset }).connect();
+  await until(() => restarted.recovered, "a recovery");
+  await it.stop();
+  assert.deepEqual(records(tap.file).filter(({ k }) => k === "conn").map(({ c }) => c), [1, 2]);
+  assert.equal(audit(it.dir, "audit", "--whole")[0], `yes ${socket.pid} got=2 tail=0 turns=2`);
+});
+
 test("sessions without a pid, or without their turn, are left out, and that is told", { skip: noProgram }, async (t) => {
   const it = await cluster(t);
   await it.heartbeat();
