@@ -60,7 +60,7 @@ export class TapError extends Error {
   /**
    * Of a record: `Field`, `Limit`, `UnknownKind`, `LineTooLong`, `NotJson`, `OffsetTwice`, as the auditor refuses it.
    * Of a file: `Exists`, `Write`, `Header` (it isn't this tap's). Of a stream: `Trimmed`, `Redis`, `Ended`.
-   * Of what is tapped: `Adapter`, `Start`, `Late`. Of the words: `Name`, `Version`, `Key`.
+   * Of what is tapped: `Adapter`, `Start`, `Late`, `Pid`, `Turn`. Of the words: `Name`, `Version`, `Key`.
    */
   readonly code: string;
   /** the record that couldn't be written */
@@ -198,7 +198,9 @@ export type NodeOptions = (
    * are stored. It changes the order in which clients get events, to the one that is audited; alone false.
    */
   inOrder?: boolean;
-  /** is told, once, what ended the tap; alone `process.emitWarning` */
+  /**
+   * is told, once, what ended the tap, and why sessions are left out of it (`Pid`, `Turn`); alone `process.emitWarning`
+   */
   onError?: (error: TapError) => void;
 } & (
     | { redis: RedisClient; /** alone `socket.io` */ key?: string; before?: undefined; newest?: undefined }

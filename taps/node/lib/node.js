@@ -34,9 +34,11 @@ class NodeTap {
   #newest;
   #begun; // resolves when `start` is written
   #onError;
+  #told = new Set();
 
   constructor({ tap, dir, name, redact, redis, key = "socket.io", before, newest, onError = (error) => process.emitWarning(error) }) {
     if (before === undefined && redis === undefined) throw new TapError("Field", "tapped needs redis, or before and newest");
+    if (redis !== undefined && typeof redis.xRevRange !== "function") throw new TapError("Field", "redis is no client of the package redis: give before");
     this.#before = before ?? ((off) => entryBefore(redis, key, off));
     const ask = newest ?? (before === undefined ? () => newestEntry(redis, key) : async () => null);
     this.#onError = onError;
@@ -73,6 +75,13 @@ class NodeTap {
     const held = this.#held;
     this.#held = undefined;
     for (const record of held) this.#put(record);
+  }
+
+  // what keeps sessions out of the tap, told once
+  leftOut(code, message) {
+    if (this.#told.has(code)) return;
+    this.#told.add(code);
+    this.#onError(new TapError(code, message));
   }
 
   // never throws: what a tap can't do is no matter of the node's
@@ -131,9 +140,12 @@ function watch(adapter, node) {
   // A socket joins the rooms that were given back before the node sends to it. The node does so from when the socket
   // stands in nsp.sockets, and has it join its own room in the same step: so this is called in time.
   function arrive(sid) {
-    const pid = adapter.nsp.sockets.get(sid)?.pid;
+    const socket = adapter.nsp.sockets.get(sid);
+    if (socket === undefined) return;
+    const { pid } = socket;
+    if (pid === undefined) return node.leftOut("Pid", "a session has no pid, and is left out: set connectionStateRecovery of the server");
     const back = coming.get(sid);
-    if (pid === undefined || back === null) return;
+    if (back === null) return node.leftOut("Turn", "a session was recovered without its turn, and is left out: tap the node that stored it, too");
     coming.delete(sid);
     const session = { pid, turn: back?.turn ?? 0, rooms: new Set(back?.rooms ?? [sid]) };
     here.set(sid, session);

@@ -11,6 +11,7 @@ const { Tap, TapError, tapClient, tapStream, tapped } = require("..");
 const { audit, directory, noProgram, records, sleep, startRedis, until } = require("./helpers");
 const { createAdapter, publish } = require("./standin/adapter");
 const { Manager } = require("./standin/client");
+const { pack } = require("./standin/pack");
 const { Server } = require("./standin/server");
 
 const KEY = "socket.io";
@@ -268,9 +269,61 @@ test("redacted taps have the same verdicts, and no payload", { skip: noProgram }
   for (const secret of ["secret", "the room", "c2VjcmV0", c1.socket.pid, c1.socket.id, c2.socket.pid]) assert.ok(!all.includes(secret), secret);
 });
 
+test("a client that goes on with its pid after a restart", { skip: noProgram }, async (t) => {
+  const it = await cluster(t);
+  await it.heartbeat();
+  const { manager, socket } = await it.client("a");
+  await it.event("1", []);
+  await until(() => socket.got.length === 1, "an event");
+  await it.cut({ manager });
+  await it.event("2", []);
+  await sleep(50);
+  const again = new Manager(it.nodes.b.url);
+  const tap = tapClient(again, { dir: it.dir, name: "c1", resume: true });
+  assert.equal(tap.connection, 1);
+  it.clients[0] = again;
+  const restarted = Object.assign(again.socket("/"), { pid: socket.pid, offset: socket.offset }).connect();
+  await until(() => restarted.recovered, "a recovery");
+  await it.stop();
+  assert.deepEqual(records(tap.file).filter(({ k }) => k === "conn").map(({ c }) => c), [1, 2]);
+  assert.equal(audit(it.dir, "audit", "--whole")[0], `yes ${socket.pid} got=2 tail=0 turns=2`);
+});
+
+test("sessions without a pid, or without their turn, are left out, and that is told", { skip: noProgram }, async (t) => {
+  const it = await cluster(t);
+  await it.heartbeat();
+  const { io } = it.nodes.a;
+  io.middleware = (socket, next) => {
+    delete socket.pid;
+    next();
+  };
+  const none = await it.client("a");
+  await it.client("a");
+  io.middleware = (socket, next) => next();
+  const client = await it.client("a");
+  await it.event("1", []);
+  await until(() => client.socket.got.length === 1 && none.socket.got.length === 1, "an event");
+  const { adapter } = io.nsps.get("/");
+  const persist = adapter.persistSession;
+  adapter.persistSession = (session) => {
+    persist(session);
+    const key = `sio:session:${session.pid}`;
+    const { turn, ...others } = session; // as a node without a tap stores it
+    it.redis.set(key, pack(others).toString("base64"));
+  };
+  await it.cut(client);
+  adapter.persistSession = persist;
+  await it.recover(client, "b");
+  await it.stop();
+  assert.deepEqual(it.errors.map(({ code }) => code), ["Pid", "Turn"]);
+  assert.deepEqual(it.tap("a").filter(({ pid }) => pid).map(({ k }) => k), ["open", "break"]);
+  assert.deepEqual(it.tap("b").filter(({ pid }) => pid), []);
+});
+
 test("what can't be tapped is refused, and what goes wrong is told once and no matter of the node's", async (t) => {
   const dir = directory(t);
   assert.throws(() => tapped(createAdapter({}, {}), { dir, name: "a" }), failsWith("Field"));
+  assert.throws(() => tapped(createAdapter({}, {}), { dir, name: "a", redis: { xrevrange() {} } }), failsWith("Field"));
   const redis = { xRevRange: async () => [], sendCommand: async () => [] };
   const inMemory = tapped(class { addAll() {} }, { dir, name: "a", redis });
   assert.throws(() => new inMemory({ name: "/" }), failsWith("Adapter"));

@@ -111,6 +111,10 @@ test("refuses what the auditor would, and ends", () => {
   const longest = kept("stream");
   longest.tap.write({ k: "ev", off: "2", nsp: "/", text: "x".repeat(4_194_304 - front) });
   assert.equal(longest.lines[1].length, 4_194_305); // with its newline
+  const many = kept("node", { stream: { write() {} } });
+  for (let i = 0; i < 65_536; i++) many.tap.write({ k: "gone", pid: `p${i}` });
+  many.tap.write({ k: "gone", pid: "p0" });
+  assert.throws(() => many.tap.write({ k: "gone", pid: "p65536" }), failsWith("Limit"));
   const { tap } = kept("node", { version: 1 });
   assert.throws(() => tap.write({ k: "takes", off: "1" }), failsWith("UnknownKind"));
 });

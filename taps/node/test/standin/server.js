@@ -79,10 +79,13 @@ class Server {
     return `ws://127.0.0.1:${this.sockets.address().port}`;
   }
 
-  close() {
+  close(done) {
+    for (const nsp of this.nsps.values()) {
+      for (const socket of nsp.sockets.values()) socket._onclose(true);
+      nsp.adapter.close();
+    }
     for (const ws of this.sockets.clients) ws.terminate();
-    for (const nsp of this.nsps.values()) nsp.adapter.close();
-    this.sockets.close();
+    this.sockets.close(done);
   }
 
   #client(ws) {
