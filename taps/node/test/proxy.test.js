@@ -11,6 +11,7 @@ const net = require("node:net");
 const path = require("node:path");
 const { test } = require("node:test");
 const { WebSocket, WebSocketServer } = require("ws");
+const { join } = require("../lib/join");
 const { startProxy } = require("../lib/proxy");
 const { encode } = require("../lib/proxy/frames");
 const { parseFault, splitmix64 } = require("../lib/proxy/inject");
@@ -163,6 +164,54 @@ test("a WebSocket is recorded, before what is recorded is sent on", async (t) =>
   const [conn] = records(1);
   assert.deepEqual([conn.k, conn.eio, conn.via], ["conn", "e1", "websocket"]);
   assert.ok(Math.abs(conn.at - Date.now()) < 60_000);
+});
+
+test("nothing is sent on that isn't in the journal", async (t) => {
+  const engine = polling();
+  const seen = [];
+  let side;
+  const node = await serve(t, {
+    request: engine.request,
+    socket: (it) => {
+      side = it;
+      it.send(OPEN("e"));
+      it.on("message", (data) => seen.push(data.toString()));
+    },
+  });
+  const { proxy, url, records } = await proxied(t, [node]);
+  const socket = await connect(t, url);
+  await until(() => records(1).at(-1)?.k === "ack", "open");
+  await fetched(url + POLL);
+  const { journal } = proxy;
+  const flush = journal.flush.bind(journal);
+  journal.flush = () => {};
+  side.send('42["m","1-0"]');
+  socket.send("40");
+  engine.push('42["n","1-0"]');
+  let polled;
+  const answered = fetched(`${url}${POLL}&sid=p1`).then((it) => (polled = it.body.toString()));
+  const posted = fetched(`${url}${POLL}&sid=p1`, { method: "POST", body: "40/chat," });
+  await sleep(150);
+  assert.deepEqual([socket.got.length, seen, polled, engine.posts], [1, [], undefined, []]);
+  journal.flush = flush;
+  flush();
+  await Promise.all([answered, posted]);
+  await until(() => socket.got.length === 2 && seen.length === 1, "all");
+  assert.deepEqual([polled, engine.posts], ['42["n","1-0"]', ["40/chat,"]]);
+});
+
+test("a body that is longer than a line of a tap is no gap", async (t) => {
+  const engine = polling();
+  const node = await serve(t, { request: engine.request });
+  const { proxy, url } = await proxied(t, [node]);
+  await fetched(url + POLL);
+  engine.push(['40{"sid":"S","pid":"P"}', ...[1, 2, 3].map((it) => `42["${"x".repeat(2_000_000)}","${it}-0"]`)].join("\x1e"));
+  await fetched(`${url}${POLL}&sid=p1`);
+  await proxy.close();
+  const into = directory(t);
+  assert.deepEqual(join({ journals: [proxy.journal.file], into }).gaps, []);
+  const lines = fs.readFileSync(path.join(into, "c1.tap"), "utf8").split("\n");
+  assert.ok(lines.length === 9 && lines.every((it) => it.length <= 4_194_304));
 });
 
 test("the node's close and its refusal reach the client", async (t) => {
@@ -417,6 +466,23 @@ test("a slow client has its node wait, blocks no other, and is ended in the end"
   await until(() => quick.got.at(-1) === "2", "the quick one");
 });
 
+test("sessions that aren't read stay on their nodes too", async (t) => {
+  const nodes = [];
+  for (const name of ["a", "b"]) {
+    const request = (req, res) => {
+      if (req.url.includes("sid=")) return res.end(name);
+      const open = `0${JSON.stringify({ sid: `${name}${Math.random()}`, upgrades: [] })}`;
+      return res.end(req.url.includes("j=") ? `___eio[0](${JSON.stringify(open)});` : `${open.length}:${open}`);
+    };
+    nodes.push(await serve(t, { request }));
+  }
+  const { url } = await proxied(t, nodes);
+  for (const query of [`${POLL}&j=0`, "/socket.io/?EIO=3&transport=polling", POLL, POLL]) {
+    const [, sid] = /sid\\?":\\?"([^"\\]+)/.exec((await fetched(url + query)).body);
+    for (let i = 0; i < 3; i++) assert.equal((await fetched(`${url}${query}&sid=${sid}`)).body.toString(), sid[0]);
+  }
+});
+
 test("what can't be read is a gap, and goes through", async (t) => {
   const node = await serve(t, {
     request: (req, res) => {
@@ -516,7 +582,7 @@ test("a redacted journal has nothing that was said", async (t) => {
   const text = JSON.stringify(records());
   for (const word of ["engine-sid", "socket-sid", "the-pid", "said", "a secret", Buffer.from("attached bytes").toString("base64")]) assert.ok(!text.includes(word), word);
   assert.ok(text.includes(redact.hash("the-pid")) && text.includes("1-0") && text.includes("0-0"));
-  assert.equal(socket.got.at(-1).toString(), "attached bytes");
+  await until(() => socket.got.at(-1).toString() === "attached bytes", "what the client gets");
 });
 
 test("a proxy that is killed has in its journal all that it sent on; one that is ended closes it", async (t) => {

@@ -4,6 +4,7 @@ const { isUtf8 } = require("node:buffer");
 const { Injector } = require("./inject");
 
 const SEPARATOR = "\x1e";
+const SID = /"sid\\*"\s*:\s*\\*"([^"\\]{1,128})/; // in JSON, and in JSON within a text of JavaScript
 
 /** One connection of Engine.IO, over polling, WebSocket, or the one and then the other, as the journal has it. */
 class Connection {
@@ -18,6 +19,7 @@ class Connection {
     this.count = 0; // its `in` and `inb` records
     this.acked = 0; // how many of them the client has surely taken
     this.over = false; // nothing is recorded any more
+    this.ended = false; // nobody comes back to it
     this.injector = undefined;
     this.users = 0; // requests and sockets
     this.touched = this.at;
@@ -42,7 +44,7 @@ class Connection {
   body200(bytes, headers) {
     const why = unreadable(bytes, headers);
     if (why !== undefined) {
-      this.gap(why);
+      this.gap(why, bytes.toString("latin1"));
       return bytes;
     }
     const texts = bytes.toString("utf8").split(SEPARATOR);
@@ -93,36 +95,34 @@ class Connection {
   }
 
   lost() {
+    this.ended = true;
     if (this.over) return;
     this.over = true;
     if (this.number !== 0) this.#put(`"lost","c":${this.number}`);
   }
 
-  /** Tells that from here on the connection isn't recorded. */
-  gap(why) {
+  /**
+   * Tells that from here on the connection isn't recorded; its requests go to its node all the same.
+   *
+   * @param {string} why
+   * @param {string} [first] what the server sent first, where that is it
+   */
+  gap(why, first) {
     if (this.over) return;
-    if (this.number === 0) this.#begin(undefined);
+    if (this.number === 0) this.#begin(first, false);
     this.#put(`"gap","c":${this.number},"why":${JSON.stringify(why)}`);
     this.over = true;
     this.proxy.counts.gaps++;
   }
 
-  // its first packet tells its id; a server that begins with another is none that is known here
-  #begin(first) {
-    let sid;
-    if (first?.startsWith("0")) {
-      try {
-        sid = JSON.parse(first.slice(1)).sid;
-      } catch {
-        // told below
-      }
-    }
+  // what came first tells the id, also where it isn't read
+  #begin(first, read = true) {
     this.number = ++this.proxy.counts.connections;
-    this.sid = typeof sid === "string" ? sid : undefined;
+    this.sid = SID.exec(first ?? "")?.[1];
     if (this.sid !== undefined) this.proxy.connections.set(this.sid, this);
     const eio = this.sid === undefined ? "" : (this.proxy.redactor?.hash(this.sid) ?? this.sid);
     this.#put(`"conn","c":${this.number},"at":${this.at},"eio":${JSON.stringify(eio)},"via":"${this.via}"`);
-    if (first !== undefined && this.sid === undefined) this.gap("the server's first packet isn't that of Engine.IO 4");
+    if (read && first !== undefined && (this.sid === undefined || !first.startsWith("0{"))) this.gap("the server's first packet isn't that of Engine.IO 4");
   }
 
   #put(fields) {

@@ -160,7 +160,7 @@ async function poll(proxy, req, res, known, query) {
       proxy.journal.after(() => reply(res, answer, bytes));
       return;
     }
-    if (known === undefined && query.get("EIO") !== "4") connection.gap(`Engine.IO ${query.get("EIO") ?? "without EIO"}: protocol 4 alone is read`);
+    if (known === undefined && query.get("EIO") !== "4") connection.gap(`Engine.IO ${query.get("EIO") ?? "without EIO"}: protocol 4 alone is read`, bytes.toString("latin1"));
     const on = connection.body200(bytes, answer.headers);
     if (on === undefined) {
       connection.lost();
@@ -198,8 +198,12 @@ function reply(res, answer, bytes) {
   if (res.destroyed) return;
   const headers = answered(answer, ["content-length"]);
   headers["Content-Length"] = bytes.length;
-  res.writeHead(answer.statusCode, answer.statusMessage, headers);
-  res.end(bytes);
+  try {
+    res.writeHead(answer.statusCode, answer.statusMessage, headers);
+    res.end(bytes);
+  } catch {
+    res.destroy(); // a head that node:http reads, but doesn't write
+  }
 }
 
 async function post(proxy, req, res, connection) {
@@ -263,8 +267,9 @@ async function pass(proxy, req, res, node) {
       });
     const answer = node === undefined && !hasBody ? await anyNode(proxy, tried) : await tried(node ?? proxy.turn().next().value);
     res.writeHead(answer.statusCode, answer.statusMessage, answered(answer));
+    res.flushHeaders();
     answer.on("error", () => res.destroy());
-    answer.on("aborted", () => res.destroy());
+    answer.on("close", () => answer.complete || res.destroy());
     answer.pipe(res);
   } catch (error) {
     refuse(res, 502, `${error.message}\n`);

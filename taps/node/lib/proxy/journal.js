@@ -15,18 +15,21 @@ class Journal {
   #last = 0; // the time of the last line that tells one
   #told = 0;
   #onFailure;
+  #onFault;
 
   /**
    * @param {string} file which isn't there yet
-   * @param {{ redacted?: boolean, onFailure?: (error: Error) => void }} [options]
+   * @param {{ redacted?: boolean, onFailure?: (error: Error) => void, onFault?: (error: Error) => void }} [options]
+   *   `onFailure` is told once what ended the journal, `onFault` what was thrown by what waited for it
    */
-  constructor(file, { redacted = false, onFailure } = {}) {
+  constructor(file, { redacted = false, onFailure, onFault } = {}) {
     this.file = file;
     this.id = randomBytes(8).toString("hex");
     /** what ended it before its time */
     this.error = undefined;
     this.bytes = 0;
     this.#onFailure = onFailure;
+    this.#onFault = onFault;
     this.#fd = fs.openSync(file, "ax", 0o600); // it has what sessions can be taken over with
     const header = { k: "proxy", v: 1, id: this.id, started: new Date().toISOString() };
     if (redacted) header.redacted = true;
@@ -66,7 +69,13 @@ class Journal {
     const waiting = this.#waiting;
     if (waiting.length === 0) return;
     this.#waiting = [];
-    for (const then of waiting) then();
+    for (const then of waiting) {
+      try {
+        then();
+      } catch (error) {
+        this.#onFault?.(error); // one connection's fault is not the others'
+      }
+    }
   }
 
   /** Writes the last line and closes the file. */

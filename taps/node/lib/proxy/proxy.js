@@ -59,6 +59,7 @@ class Proxy {
     this.journal = new Journal(journal, {
       redacted: redact !== undefined,
       onFailure: (error) => log(`the journal ${journal} has ended, the proxy goes on without it: ${error.message}`),
+      onFault: (error) => log(`what was to be sent could not be: ${error.stack}`),
     });
     if (this.faults.length) {
       this.journal.put(JSON.stringify({ k: "note", inject: this.faults.map((it) => `${it.kind}:${it.probability}`).join(" "), seed: String(this.seed) }));
@@ -132,7 +133,7 @@ class Proxy {
   #sweep() {
     const now = this.journal.now();
     for (const [sid, connection] of this.connections) {
-      if (connection.users > 0 || now - connection.touched < (connection.over ? SWEEP : this.idle)) continue;
+      if (connection.users > 0 || now - connection.touched < (connection.ended ? SWEEP : this.idle)) continue;
       connection.lost();
       this.connections.delete(sid);
     }
