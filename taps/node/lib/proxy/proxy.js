@@ -81,7 +81,7 @@ class Proxy {
       server.once("error", reject);
       server.listen(this.port, this.host, resolve);
     });
-    this.#sweeping = setInterval(() => this.#sweep(), SWEEP);
+    this.#sweeping = setInterval(() => this.sweep(), SWEEP);
     this.#sweeping.unref();
     return server.address();
   }
@@ -129,9 +129,8 @@ class Proxy {
     node.awayUntil = now + AWAY;
   }
 
-  // what nobody uses any more: sessions of polling simply end, and nothing tells
-  #sweep() {
-    const now = this.journal.now();
+  /** Forgets what nobody uses any more: sessions of polling simply end, and nothing tells. */
+  sweep(now = this.journal.now()) {
     for (const [sid, connection] of this.connections) {
       if (connection.users > 0 || now - connection.touched < (connection.ended ? SWEEP : this.idle)) continue;
       connection.lost();
