@@ -4,6 +4,7 @@
 
 const assert = require("node:assert/strict");
 const { test } = require("node:test");
+const { redactor } = require("../lib/redact");
 const { noProgram, sleep, until } = require("./helpers");
 const { Lab } = require("./lab");
 
@@ -38,6 +39,10 @@ test("the proxy's taps have the verdicts of taps in the clients", { skip, timeou
   assert.match(joined.at(-1), /^sessions=6 yes=6 no=0$/);
   for (const line of joined.slice(0, -1)) assert.match(line, /got=22 tail=0 turns=2/);
   assert.deepEqual([report.clients, report.connections, report.nobody, report.trimmed, report.gaps], [6, 12, 0, 0, []]);
+  // redacted, with all pids hashed
+  const redact = redactor(Buffer.from("a key of 32 bytes, no less, here"));
+  const hidden = lab.again({ redact }).joined;
+  assert.deepEqual(hidden, joined.map((line) => line.replace(/^(yes|no) (\S+)/, (_, word, pid) => `${word} ${redact.hash(pid)}`)));
 });
 
 test("three namespaces on one connection, one of which is a new session after the cut", { skip, timeout: 240_000 }, async (t) => {
@@ -123,6 +128,40 @@ test("what the cluster does wrong shows as it does in the client", { skip, timeo
   assert.deepEqual(joined, truth);
   assert.match(joined.join("\n"), new RegExp(`^no ${pidOf(lab, "doubled")} DOUBLED `, "m"));
   assert.match(joined.join("\n"), new RegExp(`^no ${pidOf(lab, "lost")} LOST ${forgotten}$`, "m"));
+});
+
+test("faults that a proxy injects show, in the proxy's taps and in the client's", { skip, timeout: 240_000 }, async (t) => {
+  const faults = { drop: "LOST", double: "DOUBLED", hold: "SWAPPED" };
+  const lab = await Lab.start(t, { proxies: 3, options: Object.keys(faults).map((kind) => ({ inject: [`${kind}:0.15`], seed: 3 })) });
+  for (const [i, kind] of Object.keys(faults).entries()) {
+    const client = await lab.client(kind, i % 2 ? ["polling"] : ["websocket"]);
+    await lab.connect(client, "a", i);
+    await lab.join(client, "r");
+  }
+  await lab.publish(...events(40), ...Array(5).fill({ rooms: ["r"], data: ["bytes", { $b: "AAEC" }] }));
+  const { report, truth, joined } = await lab.judge();
+  assert.deepEqual(joined, truth);
+  assert.ok(report.notes > 6);
+  for (const [kind, verdict] of Object.entries(faults)) assert.match(joined.join("\n"), new RegExp(`^no ${pidOf(lab, kind)} ${verdict} `, "m"));
+});
+
+test("connections that a proxy cuts are recovered", { skip, timeout: 240_000 }, async (t) => {
+  const lab = await Lab.start(t, { options: { inject: ["cut:0.08"], seed: 9 } });
+  const client = await lab.client("cut");
+  await lab.connect(client, "a");
+  await lab.join(client, "r");
+  for (let i = 0; i < 10; i++) {
+    await lab.publish(...events(5));
+    await lab.quiet();
+    if ((await lab.info(client)).connected) continue;
+    await lab.cut(client);
+    await lab.connect(client, "b");
+  }
+  const { report, truth, joined } = await lab.judge();
+  assert.ok(lab.infos[0].recovered >= 3);
+  assert.ok(report.notes > 1);
+  assert.deepEqual(joined, truth);
+  assert.match(joined.at(-1), /^sessions=1 yes=1 no=0$/);
 });
 
 const untilGot = (lab, client, count) => until(async () => (await lab.info(client)).got >= count, `${count} events`);

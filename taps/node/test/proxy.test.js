@@ -3,15 +3,13 @@
 // The proxy by itself, in front of servers that are made for each test.
 
 const assert = require("node:assert/strict");
-const { spawn } = require("node:child_process");
+const { fork, spawn } = require("node:child_process");
 const { once } = require("node:events");
 const fs = require("node:fs");
 const http = require("node:http");
 const net = require("node:net");
 const path = require("node:path");
 const { test } = require("node:test");
-const v8 = require("node:v8");
-const vm = require("node:vm");
 const { WebSocket, WebSocketServer } = require("ws");
 const { join } = require("../lib/join");
 const { startProxy } = require("../lib/proxy");
@@ -654,42 +652,45 @@ test("the proxy's words", async (t) => {
 });
 
 test("memory doesn't grow with connections, nor with frames", { timeout: 120_000 }, async (t) => {
-  v8.setFlagsFromString("--expose_gc");
-  const collected = () => {
-    vm.runInNewContext("gc")();
-    return process.memoryUsage().heapUsed;
-  };
   let all = 0;
   const node = await serve(t, {
     request: (req, res) => res.end(req.url.includes("sid=") ? '42["m","1-0"]' : OPEN(`p${++all}`)),
     socket: (it) => {
       it.on("error", () => {});
       it.send(OPEN(`w${++all}`));
-      for (let i = 0; i < 300; i++) it.send(`42["m","${"x".repeat(300)}","1-${i}"]`);
+      for (let i = 0; i < 100; i++) it.send(`42["m","${"x".repeat(300)}","1-${i}"]`);
     },
   });
-  const { proxy, url } = await proxied(t, [node]);
+  const journal = path.join(directory(t), "journal");
+  const proxy = fork(path.join(__dirname, "lab/measured.js"), [journal, node.url], { execArgv: ["--expose-gc"] });
+  t.after(() => proxy.connected && proxy.disconnect());
+  const [url] = await once(proxy, "message");
   const agent = new http.Agent({ keepAlive: true });
   t.after(() => agent.destroy());
   const round = async () => {
     for (let i = 0; i < 50; i++) {
       const socket = new WebSocket(url.replace("http", "ws") + WS);
       let got = 0;
-      socket.on("message", () => ++got === 301 && socket.close());
+      socket.on("message", () => ++got === 101 && socket.close());
       await once(socket, "close");
       const { sid } = JSON.parse((await fetched(url + POLL, { agent })).body.toString().slice(1));
       await fetched(`${url}${POLL}&sid=${sid}`, { agent });
     }
-    await until(() => proxy.bridges.size === 0, "the ends");
-    proxy.sweep(Infinity);
-    assert.equal(proxy.connections.size, 0);
-    return collected();
+    let heap;
+    await until(async () => {
+      proxy.send("measure");
+      const [answer] = await once(proxy, "message");
+      heap = answer.heap;
+      return answer.kept === 0;
+    }, "the ends");
+    return heap;
   };
   for (let i = 0; i < 4; i++) await round();
   const before = await round();
   for (let i = 0; i < 4; i++) await round();
   const after = await round();
-  assert.ok(after - before < 200 * 1024, `${after - before} bytes more after 500 connections and 75,000 frames`);
+  assert.ok(after - before < 256 * 1024, `${after - before} bytes more after 500 connections and 25,000 frames`);
+  assert.ok(fs.statSync(journal).size > 10_000_000);
 });
 
 test("frames are those of RFC 6455", () => {

@@ -110,6 +110,7 @@ class Lab {
   clients = [];
   proxies = [];
 
+  /** `options` are those of each proxy, or a list with those of each. */
   static async start(t, { nodes = ["a", "b"], proxies = 1, latency = 0, options = {} } = {}) {
     const lab = new Lab();
     lab.t = t;
@@ -126,7 +127,7 @@ class Lab {
       const made = {};
       for (const name of [...nodes, "all"]) {
         const urls = (name === "all" ? nodes : [name]).map((it) => `http://127.0.0.1:${lab.nodes[it].hello.port}`);
-        made[name] = await startProxy({ nodes: urls, journal: path.join(lab.dir, `${name}${i}.journal`), log: (text) => lab.log?.(text), ...options });
+        made[name] = await startProxy({ nodes: urls, journal: path.join(lab.dir, `${name}${i}.journal`), ...(Array.isArray(options) ? options[i] : options) });
         t.after(() => made[name].close());
       }
       lab.proxies.push(made);
