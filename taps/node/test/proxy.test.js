@@ -419,12 +419,14 @@ test("what is past the limit, and garbage, ends one connection and not the proxy
   assert.equal((await fetched(`${url}${POLL}&sid=p2`)).status, 502);
   assert.equal(records(3).at(-1).k, "lost");
   // messages
-  for (const fault of ["client", "server", "garbage"]) {
+  for (const fault of ["client", "server", "garbage", "no UTF-8", "no UTF-8 of the server"]) {
     const socket = await connect(t, url);
     await until(() => socket.got.length === 1, "open");
     const closed = once(socket, "close");
     if (fault === "client") socket.send("x".repeat(1001));
     else if (fault === "server") side.send("x".repeat(1001));
+    else if (fault === "no UTF-8") socket.send(Buffer.from([0x34, 0xff]), { binary: false });
+    else if (fault === "no UTF-8 of the server") side.send(Buffer.from([0x34, 0xff]), { binary: false });
     else socket._socket.write(Buffer.from([0xff, 0xff, 0xff, 0xff]));
     await closed;
     await until(() => records(records().filter((it) => it.k === "conn").length).at(-1).k === "lost", "lost");

@@ -26,17 +26,31 @@ class Connection {
     this.body = undefined; // the last body of a GET: how many records there were after it, and whether it went out whole
   }
 
-  /** What came from the server, in the order in which it goes on to the client: a list of `{ text }` and `{ bytes }`. */
-  fromServer(packet) {
-    if (!this.proxy.faults.length) {
-      this.#record(packet);
-      return { packets: [packet], cut: false };
+  /** A packet of the server, a text or bytes, where no faults are injected: it goes on as it is. */
+  record(packet) {
+    if (this.over) return;
+    if (typeof packet === "string") {
+      if (this.number === 0) {
+        this.#begin(packet);
+        if (this.over) return;
+      }
+      this.proxy.journal.put(`{"k":"in","c":${this.number},"t":${JSON.stringify(this.#hidden(packet))}}`);
+    } else {
+      if (this.number === 0) this.#begin(undefined);
+      const base64 = packet.toString("base64");
+      this.#put(`"inb","c":${this.number},"b":"${this.proxy.redactor?.attachment(base64) ?? base64}"`);
     }
+    this.count++;
+    this.proxy.counts.frames++;
+  }
+
+  /** The same where faults may be: what goes on to the client, a list of `{ text }` and `{ bytes }`. */
+  disturbed(packet) {
     if (this.number === 0) this.#begin(packet.text);
     this.injector ??= new Injector(this.proxy.faults, this.proxy.seed, this.number);
     const { packets, note, cut } = this.injector.push(packet);
     if (note) this.#put(`"note","c":${this.number},"inject":"${note.kind}","t":${JSON.stringify(this.#hidden(note.text))}`);
-    for (const it of packets) this.#record(it);
+    for (const it of packets) this.record(it.text ?? it.bytes);
     return { packets, cut };
   }
 
@@ -47,28 +61,18 @@ class Connection {
       this.gap(why, bytes.toString("latin1"));
       return bytes;
     }
-    const texts = bytes.toString("utf8").split(SEPARATOR);
+    const disturbed = this.proxy.faults.length > 0;
     const on = [];
-    for (const text of texts) {
-      const { packets, cut } = this.fromServer({ text });
-      for (const packet of packets) on.push(packet.text);
-      if (cut) return undefined;
+    for (const text of bytes.toString("utf8").split(SEPARATOR)) {
+      if (disturbed) {
+        const { packets, cut } = this.disturbed({ text });
+        for (const packet of packets) on.push(packet.text);
+        if (cut) return undefined;
+      } else this.record(text);
       if (text === "1") this.lost();
     }
-    if (!this.proxy.faults.length) return bytes;
+    if (!disturbed) return bytes;
     return Buffer.from(on.length ? on.join(SEPARATOR) : "6"); // an empty body is no answer: a noop
-  }
-
-  #record(packet) {
-    if (this.number === 0 && !this.over) this.#begin(packet.text);
-    if (this.over) return;
-    if (packet.text !== undefined) this.#put(`"in","c":${this.number},"t":${JSON.stringify(this.#hidden(packet.text))}`);
-    else {
-      const base64 = packet.bytes.toString("base64");
-      this.#put(`"inb","c":${this.number},"b":"${this.proxy.redactor?.attachment(base64) ?? base64}"`);
-    }
-    this.count++;
-    this.proxy.counts.frames++;
   }
 
   /** A packet of the client: CONNECT and DISCONNECT alone are kept. */

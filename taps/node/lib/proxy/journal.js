@@ -7,6 +7,8 @@
 const { randomBytes } = require("node:crypto");
 const fs = require("node:fs");
 
+const BATCH = 1 << 17; // characters after which it isn't waited for the turn's end
+
 class Journal {
   #fd;
   #batch = "";
@@ -56,6 +58,7 @@ class Journal {
       this.#schedule();
     }
     this.#batch += `${json}\n`;
+    if (this.#batch.length > BATCH) this.#write();
   }
 
   /** Calls `then` once all that was put is in the file. */

@@ -2,6 +2,7 @@
 
 // WebSocket ends in the proxy, on both sides, so that nothing is compressed and each message is seen whole.
 
+const { isUtf8 } = require("node:buffer");
 const { WebSocket, WebSocketServer } = require("ws");
 const { Connection } = require("./connection");
 const { encode } = require("./frames");
@@ -16,6 +17,7 @@ function createServer(maxPayload) {
     noServer: true,
     clientTracking: false,
     perMessageDeflate: false,
+    skipUTF8Validation: true, // it is looked at here, and quicker
     maxPayload,
     handleProtocols: (_, req) => req.answer.protocol || false,
   });
@@ -89,6 +91,7 @@ function open(proxy, node, req, socket) {
     const up = new WebSocket(url, protocols, {
       headers: forwarded(req, LEAVE_OUT),
       perMessageDeflate: false,
+      skipUTF8Validation: true,
       maxPayload: proxy.maxBody,
       handshakeTimeout: OPENING,
     });
@@ -212,23 +215,29 @@ class Bridge {
 
   #fromServer(data, isBinary) {
     if (this.#end) return;
-    const { connection } = this;
-    const packet = isBinary ? { bytes: data } : { text: data.toString() };
-    const { packets, cut } = connection.fromServer(packet);
-    // without faults the bytes go on as they came
-    if (packets.length === 1 && packets[0] === packet) this.#toClient.push(data, isBinary);
-    else for (const it of packets) this.#toClient.push(it.bytes ?? Buffer.from(it.text), it.bytes !== undefined);
-    if (packet.text === "1") connection.lost();
-    if (cut) {
-      connection.lost();
-      this.#end = [1006];
+    const { connection, proxy } = this;
+    if (!isBinary && !isUtf8(data)) return this.#refuse(this.up);
+    const packet = isBinary ? data : data.toString();
+    if (proxy.faults.length === 0) {
+      connection.record(packet);
+      this.#toClient.push(data, isBinary);
+    } else {
+      const { packets, cut } = connection.disturbed(isBinary ? { bytes: data } : { text: packet });
+      for (const it of packets) this.#toClient.push(it.bytes ?? Buffer.from(it.text), it.bytes !== undefined);
+      if (cut) {
+        connection.lost();
+        this.#end = [1006];
+      }
     }
+    if (packet === "1") connection.lost();
     this.#schedule();
+    return undefined;
   }
 
   #fromClient(data, isBinary) {
     const { connection } = this;
     if (!isBinary) {
+      if (!isUtf8(data)) return this.#refuse(this.down);
       const text = data.toString();
       connection.fromClient(text);
       if (text === "5" && this.probes) {
@@ -241,6 +250,12 @@ class Bridge {
     }
     this.#toServer.push(data, isBinary);
     this.#schedule();
+    return undefined;
+  }
+
+  // a text that isn't UTF-8
+  #refuse(side) {
+    side.close(1007);
   }
 
   #pong(data) {
