@@ -88,17 +88,25 @@ async function tapStream({ redis, key = "socket.io", tap, decode: read, signal, 
     done.last = id;
   };
 
+  // what Redis answers; a fault that will pass is told apart from all others
+  const ask = async (question) => {
+    try {
+      return await question();
+    } catch (error) {
+      if (/no such key/.test(error.message) || error.replies?.some((it) => /no such key/.test(it?.message))) return undefined; // it is empty
+      throw client.isOpen && !isReply(error) ? new Away(error) : error;
+    }
+  };
+
   // one turn: false where there is nothing more to do
   const turn = async () => {
-    if (signal?.aborted) goal ??= infoOf(await client.sendCommand(["XINFO", "STREAM", key]).catch(noKey))?.newest ?? BEGIN;
+    if (signal?.aborted) goal ??= infoOf(await ask(() => client.sendCommand(["XINFO", "STREAM", key])))?.newest ?? BEGIN;
     if (goal !== undefined && compare(place.last, goal) >= 0) return false;
-    if (goal === undefined && !busy && !(await client.xRead({ key, id: place.last }, { BLOCK: block, COUNT: 1 }))) return true;
-    const answer = await client
-      .multi()
-      .addCommand(["XINFO", "STREAM", key])
-      .addCommand(["XRANGE", key, `(${place.last}`, "+", "COUNT", String(count)])
-      .exec()
-      .catch(noKey);
+    if (goal === undefined && !busy && !(await ask(() => client.xRead({ key, id: place.last }, { BLOCK: block, COUNT: 1 })))) return true;
+    const both = client.multi();
+    both.addCommand(["XINFO", "STREAM", key]);
+    both.addCommand(["XRANGE", key, `(${place.last}`, "+", "COUNT", String(count)]);
+    const answer = await ask(() => both.exec());
     const info = infoOf(answer?.[0]);
     const entries = entriesOf(answer?.[1] ?? []);
     place.look(info, tap);
@@ -119,7 +127,7 @@ async function tapStream({ redis, key = "socket.io", tap, decode: read, signal, 
         if (!(await turn())) return done;
         since = undefined;
       } catch (error) {
-        if (error instanceof TapError || isReply(error) || !client.isOpen) throw error;
+        if (!(error instanceof Away)) throw error;
         if (signal?.aborted) since ??= Date.now();
         if (since !== undefined && Date.now() - since > patience) {
           throw new TapError("Redis", `the stream's end could not be read: ${error.message}`, { cause: error });
@@ -190,10 +198,11 @@ function entriesOf(answer) {
   });
 }
 
-// a stream that isn't there yet is empty
-function noKey(error) {
-  if (/no such key/.test(error.message) || error.replies?.some((it) => /no such key/.test(it?.message))) return undefined;
-  throw error;
+// Redis can't be asked at the moment
+class Away extends Error {
+  constructor(cause) {
+    super(cause.message, { cause });
+  }
 }
 
 // whether Redis answered, and not that it will do so in a moment

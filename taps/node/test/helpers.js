@@ -1,6 +1,6 @@
 "use strict";
 
-const { execFileSync, spawn, spawnSync } = require("node:child_process");
+const { spawn, spawnSync } = require("node:child_process");
 const { once } = require("node:events");
 const fs = require("node:fs");
 const os = require("node:os");
@@ -49,14 +49,18 @@ async function until(holds, what, patience = 30_000) {
 
 const sleep = (ms) => new Promise((resolve) => setTimeout(resolve, ms));
 
-/** The path of the auditor; undefined where it isn't built. */
+let found;
+
+/** The path of the auditor, `SIOAUDIT` or else the one that ./sioaudit runs; undefined where there is none. */
 function program() {
-  if (process.env.SIOAUDIT) return process.env.SIOAUDIT;
-  const tool = path.join(ROOT, "tools/program");
-  return fs.existsSync(tool) ? execFileSync(tool, { encoding: "utf8" }).trim() : undefined;
+  if (found === undefined) {
+    const tool = path.join(ROOT, "tools/program");
+    found = process.env.SIOAUDIT || (fs.existsSync(tool) && spawnSync(tool, { encoding: "utf8" }).stdout.trim()) || null;
+  }
+  return found ?? undefined;
 }
 
-const noProgram = program() === undefined ? "the auditor isn't built: set SIOAUDIT" : false;
+const noProgram = program() === undefined ? "there is no auditor: set SIOAUDIT to its path" : false;
 
 /** What the auditor answers on the taps of a directory. */
 function audit(dir, ...words) {

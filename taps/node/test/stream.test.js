@@ -149,6 +149,15 @@ test("a key that is no stream, and a tap that is no stream's", async (t) => {
   await assert.rejects(tapStream({ redis, tap }), failsWith("UnknownKind"));
 });
 
+test("what a callback throws ends it", async (t) => {
+  const redis = await (await startRedis(t)).connect();
+  await redis.xAdd("s", "*", { uid: "u", type: "3", nsp: "/", data: "no MessagePack" });
+  const onUndecoded = () => {
+    throw new RangeError("enough");
+  };
+  await assert.rejects(begin(redis, "s", directory(t), { onUndecoded }).done, RangeError);
+});
+
 test("goes on when Redis is back, and ends when it isn't", async (t) => {
   const server = await startRedis(t);
   const redis = await server.connect();
