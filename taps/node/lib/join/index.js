@@ -1,3 +1,5 @@
 "use strict";
 
-module.exports = { ...require("./join") };
+const { join } = require("./join");
+
+module.exports = { join };

@@ -1,3 +1,5 @@
 "use strict";
 
-module.exports = { ...require("./proxy") };
+const { startProxy } = require("./proxy");
+
+module.exports = { startProxy };
