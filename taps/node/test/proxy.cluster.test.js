@@ -166,7 +166,7 @@ test("connections that a proxy cuts are recovered", { skip, timeout: 240_000 }, 
 
 const untilGot = (lab, client, count) => until(async () => (await lab.info(client)).got >= count, `${count} events`);
 
-for (const [name, transports] of Object.entries(TRANSPORTS).slice(0, 2)) {
+for (const [name, transports] of Object.entries(TRANSPORTS)) {
   test(`30 cuts in bursts over ${name} show no doubled event`, { skip, timeout: 400_000 }, async (t) => {
     const lab = await Lab.start(t, { latency: 15 });
     const clients = [];
@@ -180,7 +180,7 @@ for (const [name, transports] of Object.entries(TRANSPORTS).slice(0, 2)) {
       const burst = lab.nodes.b.ask("burst", { n: 60, rooms: ["r"], size: 400 });
       await Promise.all(
         clients.map(async (client) => {
-          await sleep(20 + Math.random() * 300);
+          await sleep(20 + Math.random() * 250);
           await lab.cut(client);
           await lab.connect(client, "ba"[round % 2]);
         }),

@@ -10,6 +10,7 @@ const http = require("node:http");
 const net = require("node:net");
 const path = require("node:path");
 const { test } = require("node:test");
+const zlib = require("node:zlib");
 const { WebSocket, WebSocketServer } = require("ws");
 const { join } = require("../lib/join");
 const { startProxy } = require("../lib/proxy");
@@ -280,6 +281,25 @@ test("polling: a record for each packet, acknowledged by the next GET", async (t
   }
 });
 
+test("a session of polling that simply stops is lost, and forgotten", async (t) => {
+  const engine = polling();
+  const node = await serve(t, { request: engine.request });
+  const { proxy, url, records } = await proxied(t, [node], { idle: 1000 });
+  await fetched(url + POLL);
+  const waits = fetched(`${url}${POLL}&sid=p1`);
+  await until(() => records(1).at(-1).k === "ack", "the GET");
+  proxy.sweep(Date.now() + 5000);
+  assert.equal(proxy.connections.size, 1, "a GET that waits is no stop");
+  engine.push("2");
+  await waits;
+  await sleep(20);
+  proxy.sweep(Date.now() + 900);
+  assert.equal(records(1).at(-1).k, "in");
+  proxy.sweep(Date.now() + 1100);
+  await until(() => records(1).at(-1).k === "lost", "lost");
+  assert.equal(proxy.connections.size, 0);
+});
+
 test("a GET that its client gives up is given up at the node, and nothing is recorded of it", async (t) => {
   let gone = 0;
   const node = await serve(t, {
@@ -474,15 +494,30 @@ test("sessions that aren't read stay on their nodes too", async (t) => {
     const request = (req, res) => {
       if (req.url.includes("sid=")) return res.end(name);
       const open = `0${JSON.stringify({ sid: `${name}${Math.random()}`, upgrades: [] })}`;
+      if (req.url.includes("zip")) return res.setHeader("Content-Encoding", "gzip").end(zlib.gzipSync(open));
       return res.end(req.url.includes("j=") ? `___eio[0](${JSON.stringify(open)});` : `${open.length}:${open}`);
     };
     nodes.push(await serve(t, { request }));
   }
   const { url } = await proxied(t, nodes);
-  for (const query of [`${POLL}&j=0`, "/socket.io/?EIO=3&transport=polling", POLL, POLL]) {
-    const [, sid] = /sid\\?":\\?"([^"\\]+)/.exec((await fetched(url + query)).body);
+  for (const query of [`${POLL}&j=0`, "/socket.io/?EIO=3&transport=polling", `${POLL}&zip`, POLL, POLL]) {
+    const { body } = await fetched(url + query);
+    const [, sid] = /sid\\?":\\?"([^"\\]+)/.exec(query.endsWith("zip") ? zlib.gunzipSync(body) : body);
     for (let i = 0; i < 3; i++) assert.equal((await fetched(`${url}${query}&sid=${sid}`)).body.toString(), sid[0]);
   }
+});
+
+test("a session that the proxy hasn't seen begin doesn't go on unrecorded", async (t) => {
+  let reached = 0;
+  const node = await serve(t, { request: (_, res) => (reached++, res.end("2")), socket: () => reached++ });
+  const { proxy, url, records } = await proxied(t, [node]);
+  const got = await fetched(`${url}${POLL}&sid=elsewhere`);
+  assert.deepEqual([got.status, JSON.parse(got.body)], [400, { code: 1, message: "Session ID unknown" }]);
+  assert.equal((await fetched(`${url}${POLL}&sid=elsewhere`, { method: "POST", body: "40" })).status, 400);
+  const socket = new WebSocket(`${url.replace("http", "ws")}${WS}&sid=elsewhere`);
+  socket.on("error", () => {});
+  assert.equal((await once(socket, "unexpected-response"))[1].statusCode, 400);
+  assert.deepEqual([reached, proxy.counts.unknown, records().length], [0, 3, 1]);
 });
 
 test("what can't be read is a gap, and goes through", async (t) => {

@@ -1,6 +1,7 @@
 "use strict";
 
 const { isUtf8 } = require("node:buffer");
+const { brotliDecompressSync, gunzipSync, inflateSync } = require("node:zlib");
 const { Injector } = require("./inject");
 
 const SEPARATOR = "\x1e";
@@ -58,7 +59,7 @@ class Connection {
   body200(bytes, headers) {
     const why = unreadable(bytes, headers);
     if (why !== undefined) {
-      this.gap(why, bytes.toString("latin1"));
+      this.gap(why, plain(bytes, headers));
       return bytes;
     }
     const disturbed = this.proxy.faults.length > 0;
@@ -146,4 +147,14 @@ function unreadable(bytes, headers) {
   return undefined;
 }
 
-module.exports = { Connection };
+/** A body's text, as far as its session's id can be found in it. */
+function plain(bytes, headers) {
+  const decompress = { gzip: gunzipSync, deflate: inflateSync, br: brotliDecompressSync }[headers["content-encoding"]];
+  try {
+    return (decompress === undefined ? bytes : decompress(bytes, { maxOutputLength: 1 << 20 })).toString("latin1");
+  } catch {
+    return "";
+  }
+}
+
+module.exports = { Connection, plain };

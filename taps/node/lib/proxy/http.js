@@ -2,12 +2,15 @@
 
 const http = require("node:http");
 const https = require("node:https");
-const { Connection } = require("./connection");
+const { Connection, plain } = require("./connection");
 const { answered, endToEnd, forwarded } = require("./headers");
 
 const CONNECTING = 10_000; // ms that a node has to take a connection
 const LINGER = 1000; // ms
 const NOT_REACHED = new Set(["ECONNREFUSED", "EHOSTUNREACH", "ENETUNREACH", "EHOSTDOWN", "ETIMEDOUT", "ENOTFOUND", "EAI_AGAIN"]);
+
+// What Engine.IO answers. A session that this proxy hasn't seen begin would go on unrecorded; so its client connects anew.
+const UNKNOWN = '{"code":1,"message":"Session ID unknown"}';
 
 class TooLarge extends Error {}
 
@@ -98,20 +101,24 @@ async function anyNode(proxy, tried) {
   throw failure;
 }
 
-function refuse(res, status, why) {
+function refuse(res, status, why, type = "text/plain; charset=utf-8") {
   if (res.headersSent || res.destroyed) return res.destroy();
-  res.writeHead(status, { "Content-Type": "text/plain; charset=utf-8", "Content-Length": Buffer.byteLength(why) });
-  res.end(why);
+  res.writeHead(status, { "Content-Type": type, "Content-Length": Buffer.byteLength(why) });
+  return res.end(why);
 }
 
 /** Every request but an upgrade. */
-function request(proxy, req, res) {
+async function request(proxy, req, res) {
   res.sendDate = false;
   const { path, query } = target(req.url);
   const known = proxy.isEngine(path) ? proxy.connections.get(query.get("sid")) : undefined;
   const polls = proxy.isEngine(path) && query.get("transport") === "polling";
   if (polls && req.method === "GET" && (known !== undefined || !query.has("sid"))) return poll(proxy, req, res, known, query);
   if (polls && req.method === "POST" && known !== undefined) return post(proxy, req, res, known);
+  if (polls && (req.method === "GET" || req.method === "POST")) {
+    proxy.unknown();
+    return refuse(res, 400, UNKNOWN, "application/json");
+  }
   return pass(proxy, req, res, known?.node);
 }
 
@@ -160,7 +167,7 @@ async function poll(proxy, req, res, known, query) {
       proxy.journal.after(() => reply(res, answer, bytes));
       return;
     }
-    if (known === undefined && query.get("EIO") !== "4") connection.gap(`Engine.IO ${query.get("EIO") ?? "without EIO"}: protocol 4 alone is read`, bytes.toString("latin1"));
+    if (known === undefined && query.get("EIO") !== "4") connection.gap(`Engine.IO ${query.get("EIO") ?? "without EIO"}: protocol 4 alone is read`, plain(bytes, answer.headers));
     const on = connection.body200(bytes, answer.headers);
     if (on === undefined) {
       connection.lost();
@@ -329,4 +336,4 @@ function refuseRaw(socket, status, why) {
   socket.end(Buffer.concat([headOf({ statusCode: status, statusMessage: http.STATUS_CODES[status] }, raw), Buffer.from(why)]));
 }
 
-module.exports = { NOT_REACHED, anyNode, answerRaw, refuseRaw, request, target, tunnel };
+module.exports = { NOT_REACHED, UNKNOWN, anyNode, answerRaw, refuseRaw, request, target, tunnel };

@@ -36,7 +36,7 @@ export interface ProxyOptions {
 export interface Proxy {
   readonly url: string;
   readonly port: number;
-  readonly counts: Readonly<{ connections: number; frames: number; gaps: number; stalled: number }>;
+  readonly counts: Readonly<{ connections: number; frames: number; gaps: number; stalled: number; unknown: number }>;
   /** `error` is what ended it before its time */
   readonly journal: Readonly<{ file: string; id: string; bytes: number; error?: Error }>;
   /** Ends all connections and the journal. */

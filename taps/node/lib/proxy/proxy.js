@@ -52,7 +52,7 @@ class Proxy {
     this.seed = words.seed;
     this.nodes = nodes.map(nodeOf);
     this.redactor = redact;
-    this.counts = { connections: 0, frames: 0, gaps: 0, stalled: 0 };
+    this.counts = { connections: 0, frames: 0, gaps: 0, stalled: 0, unknown: 0 };
     this.connections = new Map(); // by Engine.IO's sid
     this.bridges = new Set();
     this.websockets = createServer(this.maxBody);
@@ -81,6 +81,7 @@ class Proxy {
       server.once("error", reject);
       server.listen(this.port, this.host, resolve);
     });
+    server.on("error", (error) => this.#log(error.message));
     this.#sweeping = setInterval(() => this.sweep(), SWEEP);
     this.#sweeping.unref();
     return server.address();
@@ -127,6 +128,11 @@ class Proxy {
     const now = this.journal.now();
     if (node.awayUntil <= now) this.#log(`${node.url.origin} takes no connection: ${error.message}`);
     node.awayUntil = now + AWAY;
+  }
+
+  /** Counts a request of a session that began elsewhere. */
+  unknown() {
+    if (this.counts.unknown++ === 0) this.#log("a session that didn't begin here was refused: all requests of one have to come through one proxy");
   }
 
   /** Forgets what nobody uses any more: sessions of polling simply end, and nothing tells. */

@@ -7,7 +7,7 @@ const { WebSocket, WebSocketServer } = require("ws");
 const { Connection } = require("./connection");
 const { encode } = require("./frames");
 const { endToEnd, forwarded } = require("./headers");
-const { NOT_REACHED, answerRaw, refuseRaw, target, tunnel } = require("./http");
+const { NOT_REACHED, UNKNOWN, answerRaw, refuseRaw, target, tunnel } = require("./http");
 
 const OPENING = 10_000; // ms
 const LEAVE_OUT = ["sec-websocket-key", "sec-websocket-version", "sec-websocket-extensions", "sec-websocket-accept", "sec-websocket-protocol"];
@@ -31,11 +31,13 @@ function createServer(maxPayload) {
 async function upgrade(proxy, req, socket, head) {
   const { path, query } = target(req.url);
   const engine = proxy.isEngine(path);
-  const sid = query.get("sid");
-  const known = engine ? proxy.connections.get(sid) : undefined;
+  const known = engine ? proxy.connections.get(query.get("sid")) : undefined;
   const websocket = /^websocket$/i.test(req.headers.upgrade ?? "");
-  if (!engine || !websocket || query.get("transport") !== "websocket" || (sid !== null && known === undefined)) {
-    return tunnel(proxy, req, socket, head, known?.node);
+  if (!engine || !websocket || query.get("transport") !== "websocket") return tunnel(proxy, req, socket, head, known?.node);
+  if (query.has("sid") && known === undefined) {
+    socket.on("error", () => socket.destroy());
+    proxy.unknown();
+    return refuseRaw(socket, 400, UNKNOWN);
   }
   const failed = () => socket.destroy();
   socket.on("error", failed);

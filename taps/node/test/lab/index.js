@@ -200,12 +200,13 @@ class Lab {
       await until(async () => place((await node.ask("info")).last) >= place(last), "the nodes");
     }
     let before;
+    let same = 0;
     await until(async () => {
-      await sleep(150 + 3 * this.latency);
+      await sleep(100 + 2 * this.latency);
       const now = JSON.stringify(await Promise.all(this.clients.map((it) => this.info(it))));
-      const same = now === before;
+      same = now === before ? same + 1 : 0;
       before = now;
-      return same;
+      return same === 2;
     }, "the clients");
   }
 
