@@ -3,6 +3,9 @@
 // The proxy's taps against taps in the clients, in the same run, on real software: python-socketio's servers and clients.
 
 const assert = require("node:assert/strict");
+const { spawnSync } = require("node:child_process");
+const fs = require("node:fs");
+const path = require("node:path");
 const { test } = require("node:test");
 const { redactor } = require("../lib/redact");
 const { noProgram, sleep, until } = require("./helpers");
@@ -39,6 +42,13 @@ test("the proxy's taps have the verdicts of taps in the clients", { skip, timeou
   assert.match(joined.at(-1), /^sessions=6 yes=6 no=0$/);
   for (const line of joined.slice(0, -1)) assert.match(line, /got=22 tail=0 turns=2/);
   assert.deepEqual([report.clients, report.connections, report.nobody, report.trimmed, report.gaps], [6, 12, 0, 0, []]);
+  // the program makes the same taps
+  const into = path.join(lab.dir, "program");
+  const { status, stdout } = spawnSync(process.execPath, [path.join(__dirname, "../bin/sioaudit-join.js"), ...lab.journals, "--into", into, "--nodes", ...lab.nodeTaps, "--only-tapped"], { encoding: "utf8" });
+  assert.deepEqual([status, stdout.split("\n")[0]], [0, `journals=${lab.journals.length} connections=12 clients=6 nobody=0 sessions=6 left-out=0`]);
+  for (const name of fs.readdirSync(path.join(lab.dir, "joined"))) {
+    assert.ok(fs.readFileSync(path.join(into, name)).equals(fs.readFileSync(path.join(lab.dir, "joined", name))), name);
+  }
   // redacted, with all pids hashed
   const redact = redactor(Buffer.from("a key of 32 bytes, no less, here"));
   const hidden = lab.again({ redact }).joined;

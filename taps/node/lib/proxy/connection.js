@@ -86,7 +86,10 @@ class Connection {
   /** A body of a POST. */
   posted(bytes) {
     if (this.over) return;
-    if (!isUtf8(bytes)) return;
+    if (!isUtf8(bytes)) {
+      this.gap("a body of the client isn't UTF-8");
+      return;
+    }
     for (const text of bytes.toString("utf8").split(SEPARATOR)) {
       this.fromClient(text);
       if (text === "1") this.lost();
