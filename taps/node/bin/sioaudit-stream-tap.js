@@ -71,8 +71,10 @@ async function main(options) {
   });
   try {
     await redis.connect();
+    await redis.xLen(options.key); // no file is made where the stream can't be read
   } catch (error) {
-    say(`no connection to Redis: ${(fault ?? error).message}`);
+    say(`Redis: ${(fault ?? error).message}`);
+    if (redis.isOpen) await redis.disconnect();
     return 1;
   }
   connected = true;
@@ -90,7 +92,7 @@ async function main(options) {
     say(`reading ${options.key} into ${options.out}${tap.last === undefined ? "" : ` after ${tap.last}`}`);
     const { entries, last, undecoded } = await tapStream({ redis, key: options.key, tap, signal: ending.signal });
     tap.end();
-    say(`${entries} entries${last === null ? "" : `, the last is ${last}`}`);
+    say(`${entries === 1 ? "1 entry" : `${entries} entries`}${last === null ? "" : `, the last is ${last}`}`);
     if (undecoded > 0) say(`${undecoded} of them could not be decoded, and are recorded as no events`);
     return 0;
   } catch (error) {

@@ -163,7 +163,7 @@ class Place {
         throw new TapError("Trimmed", `the entry ${this.last} was trimmed, and what followed it may have been: the tap ${tap.name} can't go on`);
       }
       if (this.position < gone) {
-        throw new TapError("Trimmed", `${gone - this.position} entries after ${this.last} were trimmed before they were read: the tap ${tap.name} ends there`);
+        throw new TapError("Trimmed", `entries trimmed before they were read: ${gone - this.position}, after ${this.last}; the tap ${tap.name} ends there`);
       }
     }
     if (!this.begun) this.position = gone; // it begins at the oldest

@@ -70,9 +70,10 @@ function audit(dir, ...words) {
   return (stdout + stderr).trimEnd().split("\n");
 }
 
-/** The records of a tap's file, its header first. */
+/** The records of a tap's file, its header first; it may be at work, so only whole lines count. */
 function records(file) {
-  return fs.readFileSync(file, "utf8").trimEnd().split("\n").map((line) => JSON.parse(line.slice(line.indexOf(" ") + 1)));
+  const whole = fs.readFileSync(file, "utf8").split("\n").slice(0, -1);
+  return whole.map((line) => JSON.parse(line.slice(line.indexOf(" ") + 1)));
 }
 
 module.exports = { ROOT, audit, directory, noProgram, program, records, sleep, startRedis, until };

@@ -75,8 +75,6 @@ test("JSON is read as the auditor reads it, and kept as it is written", () => {
   assert.equal(json.write(json.parse(long)), long);
 });
 
-const VECTORS = path.join(ROOT, "taps/redaction-vectors.json");
-
 // a bundle, line by line
 function redactBundle(bundle) {
   return bundle.replace(/^(\S+ )(.+)$/gm, (_, name, line) => {

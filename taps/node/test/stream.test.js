@@ -115,7 +115,7 @@ test("entries that were trimmed before they were read end the tap", async (t) =>
   for (let i = 15; i < 20; i++) offs.push(await publish(redis, "s", ev(i)));
   await until(() => tapping.tap.records === 17, "17 entries");
   await redis.multi().xAdd("s", "*", { a: "1" }).xAdd("s", "*", { a: "2" }).xAdd("s", "*", { a: "3" }).xTrim("s", "MAXLEN", 1).exec();
-  await assert.rejects(tapping.done, (error) => failsWith("Trimmed")(error) && error.message.startsWith(`2 entries after ${offs[19]} were trimmed`));
+  await assert.rejects(tapping.done, (error) => failsWith("Trimmed")(error) && error.message.startsWith(`entries trimmed before they were read: 2, after ${offs[19]};`));
   assert.equal(tapping.tap.ended, true);
   assert.deepEqual(records(tapping.file).slice(1).map((it) => it.off), offs.slice(3));
   // and where all of them were
@@ -210,7 +210,7 @@ test("the program", async (t) => {
   await until(() => fs.existsSync(path.join(dir, "s2.tap")) && records(path.join(dir, "s2.tap")).length === 4, "three entries");
   await redis.multi().xAdd("k", "*", { a: "1" }).xAdd("k", "*", { a: "2" }).xTrim("k", "MAXLEN", 1).exec();
   assert.equal(await redacted.status, 1, redacted.said());
-  assert.match(redacted.said(), /Trimmed: 1 entries after/);
+  assert.match(redacted.said(), /Trimmed: entries trimmed before they were read: 1, after/);
   assert.doesNotMatch(fs.readFileSync(path.join(dir, "s2.tap"), "utf8"), /hi|"r"/);
 });
 
@@ -223,8 +223,6 @@ test("the program's words", async (t) => {
   for (const words of [[], ["--out"], ["--no"], ["word", "--out", "f"]]) assert.equal((await node(...words)).code, 2, words.join(" "));
   const gone = await node("--redis", `unix:${dir}/none`, "--out", path.join(dir, "st.tap"));
   assert.equal(gone.code, 1);
-  assert.match(gone.stderr, /no connection to Redis: .*ENOENT/);
+  assert.match(gone.stderr, /Redis: .*ENOENT/);
   assert.equal(fs.existsSync(path.join(dir, "st.tap")), false);
-  const short = path.join(dir, "key");
-  fs.writeFileSync(short, "short\n");
 });
