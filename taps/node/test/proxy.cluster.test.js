@@ -9,10 +9,10 @@ const path = require("node:path");
 const { test } = require("node:test");
 const { redactor } = require("../lib/redact");
 const { noProgram, sleep, until } = require("./helpers");
-const { Lab } = require("./lab");
+const { Lab, lacks } = require("./lab");
 
 const TRANSPORTS = { WebSocket: ["websocket"], polling: ["polling"], upgrade: ["polling", "websocket"] };
-const skip = noProgram;
+const skip = noProgram || lacks();
 const events = (count, name = "m", more = {}) => Array.from({ length: count }, (_, i) => ({ rooms: ["r"], data: [name, i, "é\"\\"], ...more }));
 
 test("the proxy's taps have the verdicts of taps in the clients", { skip, timeout: 240_000 }, async (t) => {

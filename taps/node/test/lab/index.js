@@ -3,7 +3,7 @@
 // Runs a cluster of real software (cluster.py) behind recording proxies, with a tap in each client beside the proxies'.
 
 const assert = require("node:assert/strict");
-const { spawn } = require("node:child_process");
+const { spawn, spawnSync } = require("node:child_process");
 const { once } = require("node:events");
 const fs = require("node:fs");
 const net = require("node:net");
@@ -11,11 +11,16 @@ const path = require("node:path");
 const readline = require("node:readline");
 const { join } = require("../../lib/join");
 const { startProxy } = require("../../lib/proxy");
-const { directory, sleep, startRedis, until } = require("../helpers");
-const { audit } = require("../helpers");
+const { audit, directory, sleep, startRedis, until } = require("../helpers");
 
 const PYTHON = fs.existsSync("/usr/bin/python3") ? "/usr/bin/python3" : "python3";
 const NSPS = ["/"];
+
+/** Why there is no cluster here; false where there is one. */
+function lacks() {
+  if (spawnSync(PYTHON, ["-c", "import aiohttp, redis.asyncio, socketio"]).status !== 0) return "python3-socketio, python3-aiohttp or python3-redis isn't there";
+  return spawnSync("redis-server", ["--version"]).status === 0 ? false : "redis-server isn't there";
+}
 
 /** A process of cluster.py, that is told what to do. */
 class Ops {
@@ -242,4 +247,4 @@ function place(off) {
   return ms * 1e6 + n;
 }
 
-module.exports = { Lab, Ops, Way };
+module.exports = { Lab, lacks };
