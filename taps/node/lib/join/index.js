@@ -1,0 +1,5 @@
+"use strict";
+
+const { join } = require("./join");
+
+module.exports = { join };

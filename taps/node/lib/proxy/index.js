@@ -1,0 +1,5 @@
+"use strict";
+
+const { startProxy } = require("./proxy");
+
+module.exports = { startProxy };

@@ -1,0 +1,41 @@
+"use strict";
+
+const assert = require("node:assert/strict");
+const { execFileSync, spawnSync } = require("node:child_process");
+const fs = require("node:fs");
+const path = require("node:path");
+const { test } = require("node:test");
+
+const HERE = path.join(__dirname, "..");
+const about = require("../package.json");
+
+test("both module systems have the same names", async () => {
+  const required = require("sioaudit-taps");
+  const imported = await import("sioaudit-taps");
+  assert.deepEqual(Object.keys(imported).sort(), Object.keys(required).sort());
+  for (const name of Object.keys(required)) assert.equal(imported[name], required[name]);
+  const types = fs.readFileSync(path.join(HERE, about.types), "utf8");
+  for (const name of Object.keys(required)) assert.match(types, new RegExp(`export (?:function|class) ${name}\\b`));
+});
+
+test("what package.json names is there, and is loaded by nothing else", () => {
+  const named = [about.main, about.module, about.types, ...Object.values(about.exports["."].import), ...Object.values(about.exports["."].require)];
+  for (const file of named) assert.ok(fs.existsSync(path.join(HERE, file)), file);
+  for (const [name, file] of Object.entries(about.bin)) {
+    if (!fs.existsSync(path.join(HERE, file))) continue;
+    assert.ok(fs.readFileSync(path.join(HERE, file), "utf8").startsWith("#!/usr/bin/env node\n"), name);
+    assert.ok(fs.statSync(path.join(HERE, file)).mode & 0o100, name);
+  }
+  const sources = execFileSync("find", ["lib", "bin", "-name", "*.js"], { cwd: HERE, encoding: "utf8" }).trim().split("\n");
+  const loaded = sources.flatMap((file) => [...fs.readFileSync(path.join(HERE, file), "utf8").matchAll(/require\("([^"]+)"\)/g)].map(([, name]) => name));
+  const others = new Set(loaded.filter((name) => !name.startsWith(".") && !name.startsWith("node:")));
+  for (const name of others) assert.ok(name in about.dependencies, name);
+});
+
+const noCompiler = spawnSync("tsc", ["--version"]).status === 0 ? false : "tsc isn't installed";
+
+test("the types are what they say", { skip: noCompiler }, () => {
+  const words = ["--noEmit", "--strict", "--target", "es2022", "--module", "nodenext", "--moduleResolution", "nodenext", "--typeRoots", "none", "--lib", "es2022,dom"];
+  const { stdout, status } = spawnSync("tsc", [...words, "test/types/use.mts", "test/types/use.cts"], { cwd: HERE, encoding: "utf8" });
+  assert.equal(status, 0, stdout);
+});

@@ -1,0 +1,93 @@
+"use strict";
+
+const assert = require("node:assert/strict");
+const { spawnSync } = require("node:child_process");
+const { createHmac } = require("node:crypto");
+const fs = require("node:fs");
+const path = require("node:path");
+const { test } = require("node:test");
+const { TapError, readKey, redactor } = require("..");
+const json = require("../lib/json");
+const { ROOT, directory, noProgram, program } = require("./helpers");
+
+const KEY = Buffer.from("sixteen bytes, or more");
+const it = redactor(KEY);
+const h = (text, digits) => createHmac("sha256", KEY).update(text).digest("hex").slice(0, digits);
+const b = (hex) => Buffer.from(hex, "hex");
+
+test("keys", (t) => {
+  const file = path.join(directory(t), "key");
+  fs.writeFileSync(file, "0123456789abcdef\n\n");
+  assert.deepEqual(Buffer.from(readKey(file)), Buffer.from("0123456789abcdef\n"));
+  fs.writeFileSync(file, "0123456789abcdef");
+  assert.equal(readKey(file).length, 16);
+  assert.throws(() => readKey(`${file}.not`), (error) => error instanceof TapError && error.code === "Key");
+  for (const key of [Buffer.from("0123456789abcde"), "0123456789abcdef", null]) assert.throws(() => redactor(key), (error) => error.code === "Key");
+});
+
+test("hashes have the length of what they stand for, from 8 digits to 32", () => {
+  assert.equal(it.hash("a"), h("a", 8));
+  assert.equal(it.hash(""), h("", 8));
+  assert.equal(it.hash("é€😀 and so"), h("é€😀 and so", 10));
+  assert.equal(it.hash("x".repeat(33)), h("x".repeat(33), 32));
+  assert.equal(it.hash("a"), it.hash("a"));
+  for (let i = 0; i < 10_000; i++) it.hash(`room ${i}`);
+  assert.equal(it.hash("a"), h("a", 8));
+  for (const bytes of ["", "00", "ff".repeat(32), "ff".repeat(33)]) {
+    const whole = createHmac("sha256", KEY).update(b(bytes)).digest();
+    assert.equal(it.attachment(b(bytes).toString("base64")), whole.subarray(0, Math.min(bytes.length / 2, 32)).toString("base64"));
+  }
+});
+
+test("packets stay what they are", () => {
+  const same = ["40", "40/n,", "41", "41/n,", "2", "3", "6", "42[]", '42["1-0"]', "42[1,true,null,1.50,1e5,-0]", "430[]", '42/n,17["1-0"]'];
+  for (const text of same) assert.equal(it.message(text), text);
+  const cases = [
+    ['42["hi",{"a":[1.50,"é"],"b":null},"1-0"]', `42["${h("hi", 8)}",{"${h("a", 8)}":[1.50,"${h("é", 8)}"],"${h("b", 8)}":null},"1-0"]`],
+    ['42 [ "hi" , 10000000000000000000001 , "1-0" ] ', `42["${h("hi", 8)}",10000000000000000000001,"1-0"]`],
+    ['42["hi",{"a":"b"}]', `42["${h("hi", 8)}",{"${h("a", 8)}":"${h("b", 8)}"}]`], // the last argument is no offset
+    ['452-/n,7["b",{"_placeholder":true,"num":0},{"num":"x"},"1-0"]', `452-/n,7["${h("b", 8)}",{"_placeholder":true,"num":0},{"${h("num", 8)}":"${h("x", 8)}"},"1-0"]`],
+    ['431["done"]', `431["${h("done", 8)}"]`],
+    ['40/n,{"pid":"P","offset":"1-0","token":"t"}', `40/n,{"pid":"${h("P", 8)}","offset":"1-0","${h("token", 8)}":"${h("t", 8)}"}`],
+    ['40{"sid":"S","pid":"P"}', `40{"sid":"${h("S", 8)}","pid":"${h("P", 8)}"}`],
+    ['44{"message":"m"}', `44{"${h("message", 8)}":"${h("m", 8)}"}`],
+    ['44"m"', `44"${h("m", 8)}"`],
+  ];
+  for (const [text, redacted] of cases) assert.equal(it.message(text), redacted);
+  assert.equal(it.record({ k: "poll", t: '42["a","1-0"]\x1ebAAE=' }).t, `42["${h("a", 8)}","1-0"]\x1eb${it.attachment("AAE=")}`);
+});
+
+test("what is no packet stays none", () => {
+  for (const text of ["", "4", "4x", "9", "42", '42{"a":1}', '42["a"', '42["\\ud800"]', "42[1e999]", '45["a"]', '4565-["a"]', `42${"[".repeat(128)}${"]".repeat(128)}`, '421234567890123456789["a"]', "b!", "bAA=", "x"]) {
+    const redacted = it.message(text);
+    assert.doesNotMatch(redacted, /"a"|"\]$/);
+    assert.ok(redacted === "" || /^[0-9]*\["[0-9a-f]+$/.test(redacted), `${text} became ${redacted}`);
+  }
+});
+
+test("JSON is read as the auditor reads it, and kept as it is written", () => {
+  for (const text of ["[]", "{}", '{"a":1,"a":2}', "[1.0,1e5,-0,1E+2]", '"\\u0000\\"\\\\é"', '{"__proto__":[]}', "-1.5e-3", '["\u2028"]']) assert.equal(json.write(json.parse(text)), text);
+  assert.equal(json.write(json.parse(' [ "\\u00e9\\/" , { "a" : 1 } ] ')), '["é/",{"a":1}]');
+  for (const text of ["", "[", "]", "[1,]", "[1 2]", "{1:2}", '{"a"}', '{"a":1,}', "01", "1.", ".5", "+1", "NaN", "tru", "nulll", '"\t"', '"\\x"', '"a', "[]x", '"\\udc00"', "1e400", "'a'", "[".repeat(129)]) {
+    assert.equal(json.parse(text), undefined, text);
+  }
+  const long = JSON.stringify(["x\\\"".repeat(100_000), "\\".repeat(100_001)]);
+  assert.equal(json.write(json.parse(long)), long);
+});
+
+// a bundle, line by line
+function redactBundle(bundle) {
+  return bundle.replace(/^(\S+ )(.+)$/gm, (_, name, line) => {
+    const record = JSON.parse(line);
+    return name + JSON.stringify(record.k === "tap" ? record : it.record(record));
+  });
+}
+
+test("verdicts are the same", { skip: noProgram }, () => {
+  const answers = (input) => spawnSync(program(), ["audit", "--whole"], { input, encoding: "utf8" }).stdout;
+  for (const name of ["bundle_b", "content", "frame", "names", "orphan", "window", "fault_garble", "refused_recovery"]) {
+    const bundle = fs.readFileSync(path.join(ROOT, `examples/${name}.jsonl`), "utf8");
+    const plain = answers(bundle).replace(/^(yes|no) (\S+)/gm, (_, verdict, pid) => `${verdict} ${it.hash(pid)}`);
+    assert.equal(answers(redactBundle(bundle)), plain, name);
+  }
+});
