@@ -1,52 +1,43 @@
 //! The packet of a text: the examples of the Socket.IO protocol 5 document, section "Packet encoding", with the frames
 //! of its sample session; and the bounds of each part.
+ghost use Rattle.aud_sio.specs.Packet.{IsSpelled, packet_view};
+
 use aud_sio::{Packet, Scratch, decode, decode_with, encode, last_text};
-use std::alloc::{AllocError, Global};
+use std::alloc::Global;
 use std::test::Fail;
 
-/// The kind of a packet, the count of its attachments, its namespace, its acknowledgement id and its payload.
-fn parts_of(alloc: Global, packet: &Packet<'_>) -> Result<String, AllocError> {
+/// Whether the packet has this kind, count of attachments, namespace, acknowledgement id and payload, and is written so.
+fn is_packet(alloc: Global, packet: &Packet<'_>, parts: &str, written: &str) -> Result<bool, Fail>
+    requires { IsSpelled (packet_view packet.now) }
+{
     let payload = packet.payload.unwrap_or("None");
-    format!(in alloc;
+    let read = format!(in alloc;
         "{:?} {} {} {:?} {payload}",
         packet.kind, packet.attachments, packet.nsp, packet.id
-    )
+    )?;
+    let text = encode(alloc, packet)?;
+    Ok(read.as_str() == parts && text.as_str() == written)
 }
 
-/// The parts of a text's packet, or why it is none.
-fn read(alloc: Global, text: &str) -> Result<String, AllocError> {
+/// Whether a text's packet has these parts and is written so, or the text is refused for this.
+fn is_read(alloc: Global, text: &str, parts: &str, written: &str) -> Result<bool, Fail> {
     match decode(alloc, text) {
-        Ok(packet) => parts_of(alloc, &packet),
-        Err(fault) => format!(in alloc; "{fault:?}"),
+        Ok(packet) => is_packet(alloc, &packet, parts, written),
+        Err(fault) => Ok(format!(in alloc; "{fault:?}")?.as_str() == parts),
     }
 }
 
-/// Whether a text's packet has these parts, or the text is refused for this.
-fn is_read(alloc: Global, text: &str, parts: &str) -> Result<bool, Fail> {
-    let read = read(alloc, text)?;
-    Ok(read.as_str() == parts)
-}
-
-/// Whether the packet that was read from a text is written as expected.
-fn is_written(alloc: Global, text: &str, expected: &str) -> Result<bool, Fail> {
-    let packet = decode(alloc, text)?;
-    let written = encode(alloc, &packet)?;
-    Ok(written.as_str() == expected)
-}
-
-fn is_read_and_back(alloc: Global, text: &str, parts: &str) -> Result<bool, Fail> {
-    if !is_read(alloc, text, parts)? {
-        return Ok(false);
-    }
-    is_written(alloc, text, text)
-}
-
-/// Those of the document, which come back as they are.
-static PACKETS: [(&str, &str); 15] = [
+/// Texts, and the parts of their packets, or why they are refused.
+static PACKETS: [(&str, &str); 32] = [
+    // those of the document
     (r#"0{"token":"123"}"#, r#"Connect 0 / None {"token":"123"}"#),
     (
         r#"0{"sid":"CjdVH4TQvovi1VvgAC5Z"}"#,
         r#"Connect 0 / None {"sid":"CjdVH4TQvovi1VvgAC5Z"}"#,
+    ),
+    (
+        r#"0/admin,{"sid":"oSO0OpakMV_3jnilAAAA"}"#,
+        r#"Connect 0 /admin None {"sid":"oSO0OpakMV_3jnilAAAA"}"#,
     ),
     ("0/admin,", "Connect 0 /admin None None"),
     (
@@ -56,13 +47,19 @@ static PACKETS: [(&str, &str); 15] = [
     ("1/admin,", "Disconnect 0 /admin None None"),
     (r#"2["foo"]"#, r#"Event 0 / None ["foo"]"#),
     (r#"2["hey","Jude"]"#, r#"Event 0 / None ["hey","Jude"]"#),
+    (r#"2["hello",1]"#, r#"Event 0 / None ["hello",1]"#),
     (r#"2/admin,["bar"]"#, r#"Event 0 /admin None ["bar"]"#),
     (r#"212["foo"]"#, r#"Event 0 / Some(12) ["foo"]"#),
     (
         r#"2/admin,1["tellme"]"#,
         r#"Event 0 /admin Some(1) ["tellme"]"#,
     ),
+    (
+        r#"2/admin,456["project:delete",123]"#,
+        r#"Event 0 /admin Some(456) ["project:delete",123]"#,
+    ),
     (r#"3/admin,13["bar"]"#, r#"Ack 0 /admin Some(13) ["bar"]"#),
+    ("3/admin,456[]", "Ack 0 /admin Some(456) []"),
     (
         r#"51-["baz",{"_placeholder":true,"num":0}]"#,
         r#"BinaryEvent 1 / None ["baz",{"_placeholder":true,"num":0}]"#,
@@ -79,27 +76,15 @@ static PACKETS: [(&str, &str); 15] = [
         r#"61-/admin,1[{"_placeholder":true,"num":0}]"#,
         r#"BinaryAck 1 /admin Some(1) [{"_placeholder":true,"num":0}]"#,
     ),
-];
-
-#[test]
-fn packets(rt: HostRuntime) -> Result<(), Fail> {
-    for (text, parts) in &PACKETS {
-        assert!(rt; is_read_and_back(rt.alloc(), text, parts)?, "{text}");
-    }
-    Ok(())
-}
-
-/// The bounds of each part, and refusals in their order.
-static BOUNDS: [(&str, &str); 15] = [
-    ("1/admin", "Disconnect 0 /admin None None"),
-    ("2/,[]", "Event 0 / None []"),
+    // the bounds of each part
+    ("0", "Connect 0 / None None"),
     (r#"2/n,7["a"]"#, r#"Event 0 /n Some(7) ["a"]"#),
     (
-        r#"2/admin,456["project:delete",123]"#,
-        r#"Event 0 /admin Some(456) ["project:delete",123]"#,
+        "2123456789012345678[]",
+        "Event 0 / Some(123456789012345678) []",
     ),
-    ("3/admin,456[]", "Ack 0 /admin Some(456) []"),
     ("564-[]", "BinaryEvent 64 / None []"),
+    // refusals in their order
     ("", "Empty"),
     ("7", "UnknownType"),
     ("5[]", "Attachments"),
@@ -111,54 +96,27 @@ static BOUNDS: [(&str, &str); 15] = [
     ("2/n[]", "Payload"),
 ];
 
-#[test]
-fn bounds(rt: HostRuntime) -> Result<(), Fail> {
-    for (text, parts) in &BOUNDS {
-        assert!(rt; is_read(rt.alloc(), text, parts)?, "{text}");
-    }
-    Ok(())
-}
-
-/// The first five lose what need not be written; the others come back as they are.
-static WRITTEN: [(&str, &str); 12] = [
-    ("0", "0"),
-    ("1/admin", "1/admin,"),
-    ("2/,[]", "2[]"),
-    (r#"2007["b"]"#, r#"27["b"]"#),
-    ("601-/admin,456[]", "61-/admin,456[]"),
+/// Texts of which the packet is written without what need not be written.
+static SHORTENED: [(&str, &str, &str); 4] = [
+    ("1/admin", "Disconnect 0 /admin None None", "1/admin,"),
+    ("2/,[]", "Event 0 / None []", "2[]"),
+    (r#"2007["b"]"#, r#"Event 0 / Some(7) ["b"]"#, r#"27["b"]"#),
     (
-        r#"0/admin,{"sid":"oSO0OpakMV_3jnilAAAA"}"#,
-        r#"0/admin,{"sid":"oSO0OpakMV_3jnilAAAA"}"#,
-    ),
-    (r#"2["hello",1]"#, r#"2["hello",1]"#),
-    (r#"2/n,7["a"]"#, r#"2/n,7["a"]"#),
-    (
-        r#"2/admin,456["project:delete",123]"#,
-        r#"2/admin,456["project:delete",123]"#,
-    ),
-    ("2123456789012345678[]", "2123456789012345678[]"),
-    (
-        r#"4/admin,{"message":"Not authorized"}"#,
-        r#"4/admin,{"message":"Not authorized"}"#,
-    ),
-    (
-        r#"51-["hello",{"_placeholder":true,"num":0}]"#,
-        r#"51-["hello",{"_placeholder":true,"num":0}]"#,
+        "601-/admin,456[]",
+        "BinaryAck 1 /admin Some(456) []",
+        "61-/admin,456[]",
     ),
 ];
 
 #[test]
-fn written(rt: HostRuntime) -> Result<(), Fail> {
-    for (text, written) in &WRITTEN {
-        assert!(rt; is_written(rt.alloc(), text, written)?, "{text}");
+fn packets(rt: HostRuntime) -> Result<(), Fail> {
+    for (text, parts) in &PACKETS {
+        assert!(rt; is_read(rt.alloc(), text, parts, text)?, "{text}");
+    }
+    for (text, parts, written) in &SHORTENED {
+        assert!(rt; is_read(rt.alloc(), text, parts, written)?, "{text}");
     }
     Ok(())
-}
-
-/// Whether a text's packet has this text at the end.
-fn ends_with(alloc: Global, text: &str, last: Option<&str>) -> Result<bool, Fail> {
-    let packet = decode(alloc, text)?;
-    Ok(last_text(&packet) == last)
 }
 
 /// The text at the end, decoded; none where something else stands there.
@@ -173,21 +131,22 @@ static LAST_TEXTS: [(&str, Option<&str>); 8] = [
     ("1", None),
 ];
 
-#[test]
-fn last_texts(rt: HostRuntime) -> Result<(), Fail> {
-    for (text, last) in &LAST_TEXTS {
-        assert!(rt; ends_with(rt.alloc(), text, *last)?, "{text}");
-    }
-    Ok(())
+/// Whether a text's packet, read with memory that other texts were read with, has this text at the end.
+fn ends_with(
+    alloc: Global,
+    scratch: &mut Scratch,
+    text: &str,
+    last: Option<&str>,
+) -> Result<bool, Fail> {
+    let packet = decode_with(alloc, scratch, text)?;
+    Ok(last_text(&packet) == last)
 }
 
-/// The same, with memory that other texts were read with.
 #[test]
-fn last_texts_with_kept_memory(rt: HostRuntime) -> Result<(), Fail> {
+fn last_texts(rt: HostRuntime) -> Result<(), Fail> {
     let mut scratch = Scratch::new(rt.alloc());
     for (text, last) in &LAST_TEXTS {
-        let packet = decode_with(rt.alloc(), &mut scratch, text)?;
-        assert!(rt; last_text(&packet) == *last, "{text}");
+        assert!(rt; ends_with(rt.alloc(), &mut scratch, text, *last)?, "{text}");
     }
     Ok(())
 }
