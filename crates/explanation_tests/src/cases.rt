@@ -40,7 +40,8 @@ pub fn assert_cases<H: Abort + Threads + Wait + Clock + RandomSource + Sync>(
     cases: &[Case],
 ) -> Result<(), Fail> {
     let found = differing(rt, alloc, cases)?;
-    assert_eq!(rt; found.as_str(), "");
+    let found = found.as_str();
+    assert!(rt; found.is_empty(), "{found}");
     Ok(())
 }
 
