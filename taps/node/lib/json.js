@@ -1,10 +1,9 @@
 "use strict";
 
-// JSON as a tree that keeps what the text says: numbers as they are written, and members that stand twice. What comes
-// back is written as JSON.stringify writes it, without blanks and with no escapes but those that JSON needs.
+// Where the texts of a JSON text stand. It is read as the auditor reads it (docs/FORMAT.md, "Which JSON is read").
 //
-// A node is { text }, { items }, { members: [[name, node], ..] } or { token } (a number, true, false or null).
-// Read is what the auditor reads (docs/FORMAT.md, "Which JSON is read").
+// A node is a text, { text, from, to }, its quotes at `from` and before `to`; { items }; { members: [[name, node], ..] },
+// where names are texts; or { token } (a number, true, false or null).
 
 const DEPTH = 127;
 const HALF_PAIR = /\p{Surrogate}/u;
@@ -48,15 +47,17 @@ class Parser {
     do end = this.json.indexOf('"', end + 1);
     while (end !== -1 && this.escaped(end));
     if (end === -1) throw new SyntaxError("no end of a text");
-    const text = JSON.parse(this.json.slice(this.at, end + 1)); // throws a SyntaxError of its own
-    this.at = end + 1;
+    const from = this.at;
+    const to = end + 1;
+    const text = JSON.parse(this.json.slice(from, to)); // throws a SyntaxError of its own
+    this.at = to;
     if (HALF_PAIR.test(text)) throw new SyntaxError("half a surrogate pair");
-    return text;
+    return { text, from, to };
   }
 
   value(depth) {
     const first = this.json[this.at];
-    if (first === '"') return { text: this.text() };
+    if (first === '"') return this.text();
     if (first === "[" || first === "{") {
       if (depth === DEPTH) throw new SyntaxError("nested too deep");
       return first === "[" ? this.items(depth + 1) : this.members(depth + 1);
@@ -104,11 +105,4 @@ function parse(json) {
   }
 }
 
-function write(node) {
-  if (node.text !== undefined) return JSON.stringify(node.text);
-  if (node.items !== undefined) return `[${node.items.map(write).join(",")}]`;
-  if (node.members !== undefined) return `{${node.members.map(([name, it]) => `${JSON.stringify(name)}:${write(it)}`).join(",")}}`;
-  return node.token;
-}
-
-module.exports = { parse, write };
+module.exports = { parse };

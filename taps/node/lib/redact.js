@@ -12,8 +12,9 @@ const json = require("./json");
 const KEY = 16; // bytes at least
 const KEPT = 4096; // hashes of short texts: a pid or room stands in many records
 const EVENT = /^[25]/;
-const ACK = /^[36]/;
-const PLACEHOLDER = new Set(["_placeholder", "num"]);
+const CONNECT = /^0/;
+const STAY = new Set(["pid", "sid", "offset"]); // names of a CONNECT's payload
+const IDENTIFIER = /^[\x21-\x7e]{1,128}$/;
 
 /**
  * The key in a file: its bytes without a last newline.
@@ -69,8 +70,16 @@ class Redactor {
   packet(text) {
     const packet = split(text);
     if (packet === undefined) return this.#noPacket(text);
-    if (packet.payload === undefined) return text;
-    return packet.front + json.write(this.#payload(packet.front, packet.payload));
+    const { front, payload, rest } = packet;
+    if (payload === undefined) return text;
+    // texts are replaced where they stand, and all else stays as it is, so that what differs still does
+    let made = front;
+    let at = 0;
+    for (const { from, to, by } of this.#changes(front, payload, rest)) {
+      made += `${rest.slice(at, from)}"${by}"`;
+      at = to;
+    }
+    return made + rest.slice(at);
   }
 
   /** What stands for the text of an Engine.IO packet. */
@@ -94,28 +103,35 @@ class Redactor {
     return made;
   }
 
-  #payload(front, payload) {
+  *#changes(front, payload, rest) {
     if (EVENT.test(front)) {
-      // the offset is the last argument
+      // the last argument is the offset
       const last = payload.items.length - 1;
-      return { items: payload.items.map((it, i) => (i === last && it.text !== undefined ? it : this.#all(it))) };
-    }
-    if (ACK.test(front) || payload.members === undefined || !front.startsWith("0")) return this.#all(payload);
-    return {
-      members: payload.members.map(([name, it]) => {
-        if (name === "offset" && it.text !== undefined) return [name, it];
-        if (name === "pid" || name === "sid") return [name, this.#all(it)];
-        return [this.hash(name), this.#all(it)];
-      }),
-    };
+      for (const [i, it] of payload.items.entries()) if (i !== last || it.text === undefined) yield* this.#all(it, rest);
+    } else if (CONNECT.test(front) && payload.members !== undefined) {
+      for (const [name, it] of payload.members) {
+        if (!STAY.has(name.text)) yield this.#one(name, rest);
+        if (it.text === undefined || !STAY.has(name.text)) yield* this.#all(it, rest);
+        else if (name.text !== "offset") yield { ...it, by: this.hash(it.text) + (IDENTIFIER.test(it.text) ? "" : " ") };
+      }
+    } else yield* this.#all(payload, rest);
   }
 
   // each text in it, at any depth
-  #all(node) {
-    if (node.text !== undefined) return { text: this.hash(node.text) };
-    if (node.items !== undefined) return { items: node.items.map((it) => this.#all(it)) };
-    if (node.members === undefined || isPlaceholder(node)) return node;
-    return { members: node.members.map(([name, it]) => [this.hash(name), this.#all(it)]) };
+  *#all(node, rest) {
+    if (node.text !== undefined) yield this.#one(node, rest);
+    for (const it of node.items ?? []) yield* this.#all(it, rest);
+    if (node.members === undefined || isPlaceholder(node)) return;
+    for (const [name, it] of node.members) {
+      yield this.#one(name, rest);
+      yield* this.#all(it, rest);
+    }
+  }
+
+  // a text that is written in another way than it needs to be stays another one
+  #one({ text, from, to }, rest) {
+    const token = rest.slice(from, to);
+    return { from, to, by: this.hash(token === JSON.stringify(text) ? text : token) };
   }
 
   // of what is no packet comes no packet
@@ -124,12 +140,9 @@ class Redactor {
   }
 }
 
-function isPlaceholder(node) {
-  return (
-    node.members.length === 2 &&
-    node.members.every(([name]) => PLACEHOLDER.has(name)) &&
-    node.members.some(([name, it]) => name === "_placeholder" && it.token === "true")
-  );
+function isPlaceholder({ members }) {
+  const has = (wanted, token) => members.some(([name, it]) => name.text === wanted && token.test(it.token ?? ""));
+  return members.length === 2 && has("_placeholder", /^true$/) && has("num", /^[-0-9]/);
 }
 
 // up to `most`
@@ -148,7 +161,7 @@ function split(text) {
   if (rest === "") return array ? undefined : { front: front[0] };
   const payload = json.parse(rest);
   if (payload === undefined || (array && payload.items === undefined)) return undefined;
-  return { front: front[0], payload };
+  return { front: front[0], payload, rest };
 }
 
 module.exports = { readKey, redactor };

@@ -44,7 +44,8 @@ test("packets stay what they are", () => {
   for (const text of same) assert.equal(it.message(text), text);
   const cases = [
     ['42["hi",{"a":[1.50,"é"],"b":null},"1-0"]', `42["${h("hi", 8)}",{"${h("a", 8)}":[1.50,"${h("é", 8)}"],"${h("b", 8)}":null},"1-0"]`],
-    ['42 [ "hi" , 10000000000000000000001 , "1-0" ] ', `42["${h("hi", 8)}",10000000000000000000001,"1-0"]`],
+    ['42 [ "hi" , 10000000000000000000001 , "1-0" ] ', `42 [ "${h("hi", 8)}" , 10000000000000000000001 , "1-0" ] `],
+    ['42["\\u00e9","\\u0001","1-0"]', `42["${h('"\\u00e9"', 8)}","${h("\u0001", 8)}","1-0"]`],
     ['42["hi",{"a":"b"}]', `42["${h("hi", 8)}",{"${h("a", 8)}":"${h("b", 8)}"}]`], // the last argument is no offset
     ['452-/n,7["b",{"_placeholder":true,"num":0},{"num":"x"},"1-0"]', `452-/n,7["${h("b", 8)}",{"_placeholder":true,"num":0},{"${h("num", 8)}":"${h("x", 8)}"},"1-0"]`],
     ['431["done"]', `431["${h("done", 8)}"]`],
@@ -65,14 +66,24 @@ test("what is no packet stays none", () => {
   }
 });
 
-test("JSON is read as the auditor reads it, and kept as it is written", () => {
-  for (const text of ["[]", "{}", '{"a":1,"a":2}', "[1.0,1e5,-0,1E+2]", '"\\u0000\\"\\\\é"', '{"__proto__":[]}', "-1.5e-3", '["\u2028"]']) assert.equal(json.write(json.parse(text)), text);
-  assert.equal(json.write(json.parse(' [ "\\u00e9\\/" , { "a" : 1 } ] ')), '["é/",{"a":1}]');
+test("JSON is read as the auditor reads it", () => {
+  const long = JSON.stringify(["x\\\"".repeat(100_000), "\\".repeat(100_001)]);
+  for (const text of ["[]", "{}", '{"a":1,"a":2}', "[1.0,1e5,-0,1E+2]", '"\\u0000\\"\\\\é"', '{"__proto__":[]}', "-1.5e-3", '["\u2028"]', ' [ "\\u00e9\\/" , { "a" : 1 } ] ', long]) {
+    assert.notEqual(json.parse(text), undefined, text);
+  }
+  assert.deepEqual(json.parse(' {"a" : "b"}'), { members: [[{ text: "a", from: 2, to: 5 }, { text: "b", from: 8, to: 11 }]] });
   for (const text of ["", "[", "]", "[1,]", "[1 2]", "{1:2}", '{"a"}', '{"a":1,}', "01", "1.", ".5", "+1", "NaN", "tru", "nulll", '"\t"', '"\\x"', '"a', "[]x", '"\\udc00"', "1e400", "'a'", "[".repeat(129)]) {
     assert.equal(json.parse(text), undefined, text);
   }
-  const long = JSON.stringify(["x\\\"".repeat(100_000), "\\".repeat(100_001)]);
-  assert.equal(json.write(json.parse(long)), long);
+});
+
+// what the taps in other languages do, too
+const VECTORS = path.join(ROOT, "taps/redaction-vectors.json");
+
+test("the vectors that all packages share", { skip: fs.existsSync(VECTORS) ? false : "they aren't there" }, () => {
+  const { key, vectors } = JSON.parse(fs.readFileSync(VECTORS, "utf8"));
+  const redact = redactor(Buffer.from(key));
+  for (const { about, of, in: text, out } of vectors) assert.deepEqual(redact[of](text), out, `${about}: ${JSON.stringify(text)}`);
 });
 
 // a bundle, line by line

@@ -90,7 +90,7 @@ class RedisStreamsAdapter extends Adapter {
   }
 
   persistSession(session) {
-    this.#redis.set(`sio:session:${session.pid}`, pack(session).toString("base64"), { PX: 60_000 });
+    this.#redis.set(`sio:session:${session.pid}`, pack(session).toString("base64"), { PX: 60_000 }).catch(() => {});
   }
 
   async restoreSession(pid, offset) {
@@ -141,7 +141,7 @@ function createAdapter(redis, { streamName, reads = () => undefined }) {
     adapter.close = () => adapters.delete(nsp.name);
     if (!polling) {
       polling = true;
-      poll();
+      poll().catch(() => {}); // Redis went first
     }
     return adapter;
   };
