@@ -56,6 +56,49 @@ pub const PROOF_B: &str =
     r#"{"client":"c1","pid":"P","spans":[["r",1,2],["s1",1,2]],"turns":[["a",1,5,0,1],["b",3,4,2,2]]}
 "#;
 
+/// `BUNDLE_B` with an event more, which no node takes.
+pub const THREE_EVENTS: &str = r#"st {"k":"tap","v":1,"of":"stream"}
+st {"k":"ev","off":"1-0","nsp":"/","rooms":["r"],"text":"2[\"hi\",\"1-0\"]"}
+st {"k":"ev","off":"2-0","nsp":"/","rooms":["r"],"text":"2[\"hi\",\"2-0\"]"}
+st {"k":"ev","off":"3-0","nsp":"/","rooms":["r"],"text":"2[\"hi\",\"3-0\"]"}
+a {"k":"tap","v":1,"of":"node"}
+a {"k":"start","off":null}
+a {"k":"open","pid":"P","sid":"s1","nsp":"/"}
+a {"k":"join","pid":"P","room":"r"}
+a {"k":"take","off":"1-0"}
+a {"k":"break","pid":"P","turn":0}
+b {"k":"tap","v":1,"of":"node"}
+b {"k":"start","off":null}
+b {"k":"take","off":"1-0"}
+b {"k":"take","off":"2-0"}
+b {"k":"back","pid":"P","turn":1}
+c1 {"k":"tap","v":1,"of":"client"}
+c1 {"k":"conn","c":1}
+c1 {"k":"in","t":"40{\"sid\":\"s1\",\"pid\":\"P\"}"}
+c1 {"k":"in","t":"42[\"hi\",\"1-0\"]"}
+c1 {"k":"lost"}
+c1 {"k":"conn","c":2}
+c1 {"k":"out","t":"40{\"pid\":\"P\",\"offset\":\"1-0\"}"}
+c1 {"k":"in","t":"42[\"hi\",\"2-0\"]"}
+c1 {"k":"in","t":"40{\"sid\":\"s1\",\"pid\":\"P\"}"}
+"#;
+
+/// `BUNDLE_A` with an event more, which the node takes too, and which the client does not receive.
+pub const TWO_TAKES: &str = r#"st {"k":"tap","v":1,"of":"stream"}
+st {"k":"ev","off":"1-0","nsp":"/","rooms":["r"],"text":"2[\"hi\",\"1-0\"]"}
+st {"k":"ev","off":"2-0","nsp":"/","rooms":["r"],"text":"2[\"hi\",\"2-0\"]"}
+a {"k":"tap","v":1,"of":"node"}
+a {"k":"start","off":null}
+a {"k":"open","pid":"P","sid":"s1","nsp":"/"}
+a {"k":"join","pid":"P","room":"r"}
+a {"k":"take","off":"1-0"}
+a {"k":"take","off":"2-0"}
+c1 {"k":"tap","v":1,"of":"client"}
+c1 {"k":"conn","c":1}
+c1 {"k":"in","t":"40{\"sid\":\"s1\",\"pid\":\"P\"}"}
+c1 {"k":"in","t":"42[\"hi\",\"1-0\"]"}
+"#;
+
 /// Two sessions, of which the event leaves out the first.
 pub const TWO_SESSIONS: &str = r#"st {"k":"tap","v":1,"of":"stream"}
 st {"k":"ev","off":"1-0","nsp":"/","rooms":[],"except":["s1"],"text":"2[\"hi\",\"1-0\"]"}
@@ -140,13 +183,3 @@ b {"k":"take","off":"1-0"}
 /// What an audit of `UNORDERED_NODE` writes.
 pub const REPORT_OF_UNORDERED: &str =
     "yes P got=1 tail=0 turns=1\nno Q ORDER\nsessions=2 yes=1 no=1\n";
-
-/// A second and a third event like that of `BUNDLE_A`.
-pub const EVENT_2: &str =
-    r#"st {"k":"ev","off":"2-0","nsp":"/","rooms":["r"],"text":"2[\"hi\",\"2-0\"]"}"#;
-
-pub const EVENT_3: &str =
-    r#"st {"k":"ev","off":"3-0","nsp":"/","rooms":["r"],"text":"2[\"hi\",\"3-0\"]"}"#;
-
-/// Node `a` takes the second.
-pub const TAKE_2: &str = r#"a {"k":"take","off":"2-0"}"#;

@@ -1,7 +1,7 @@
 //! Runs over memory, and what has to come of them.
 ghost use Rattle.std.specs.Prelude.{◌<◌, ◌≤◌};
 
-use crate::inputs::Part;
+use crate::inputs::Input;
 use aud_app::{Mode, Options, RunFault, Status, Watched, run};
 use std::alloc::Global;
 use std::hash::RandomState;
@@ -45,7 +45,7 @@ pub const UPGRADE: Options = Options {
 pub struct Case {
     pub name: &'static str,
     pub options: Options,
-    pub input: &'static [Part],
+    pub input: Input,
     pub text: &'static str,
     pub status: Status,
 }
@@ -65,7 +65,7 @@ impl Ran {
 }
 
 /// Runs over an input, and keeps what is written.
-pub fn ran<H: Threads + Wait + Clock + Sync, R: Read + Drop>(
+pub fn run_over<H: Threads + Wait + Clock + Sync, R: Read + Drop>(
     rt: &H,
     alloc: Global,
     keys: RandomState,

@@ -1,7 +1,7 @@
 //! Simulated clusters that run written schedules.
 ghost use Rattle.std.specs.Prelude.{◌≤◌};
 
-use crate::case::{AUDIT, ran};
+use crate::case::{AUDIT, run_over};
 use crate::faults::{FAULTS, NOT_POSSIBLE};
 use crate::lines::BUNDLES;
 use crate::schedule::acts;
@@ -29,7 +29,7 @@ fn schedules_are_audited(rt: HostRuntime) -> Result<(), Fail> {
     let keys = RandomState::new(&rt)?;
     for schedule in FAULTS.iter().chain(&WITHOUT_FAULTS) {
         let bundle = bundle_of(&rt, rt.alloc(), schedule)?;
-        let ran = ran(&rt, rt.alloc(), keys, AUDIT, bundle.as_slice());
+        let ran = run_over(&rt, rt.alloc(), keys, AUDIT, bundle.as_slice());
         assert_eq!(rt; str::from_utf8(&ran.written)?, schedule.3, "{}", schedule.2);
     }
     Ok(())

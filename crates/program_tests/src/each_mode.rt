@@ -1,7 +1,7 @@
 //! Each mode on a bundle of two turns, and inputs that are blocked, bad or refused in it.
 use crate::bundles::{BUNDLE_A, BUNDLE_B, PROOF_B, REPORT_B};
 use crate::case::{AUDIT, Case, ORDER, PROVE, UPGRADE, VERIFY};
-use crate::inputs::Part::{Lines, Text};
+use crate::inputs::Input::Lines;
 use aud_app::Status::{AllYes, Refused, SomeNo};
 
 /// `BUNDLE_B` in version 2 of the format.
@@ -29,63 +29,77 @@ c1 {"k":"in","t":"42[\"hi\",\"2-0\"]"}
 c1 {"k":"in","t":"40{\"sid\":\"s1\",\"pid\":\"P\"}"}
 "#;
 
-/// In each mode at least one.
 pub static EACH_MODE: [Case; 8] = [
     Case {
         name: "bundle_b_replay_before_reply",
         options: AUDIT,
-        input: &[Text(BUNDLE_B)],
+        input: Lines(BUNDLE_B, "@1-23"),
         text: REPORT_B,
         status: AllYes,
     },
     Case {
         name: "prove_b",
         options: PROVE,
-        input: &[Text(BUNDLE_B)],
+        input: Lines(BUNDLE_B, "@1-23"),
         text: PROOF_B,
         status: AllYes,
     },
     Case {
         name: "verify_b_without_third_event",
         options: VERIFY,
-        input: &[Text(BUNDLE_B), Text(PROOF_B)],
+        input: Lines(
+            BUNDLE_B,
+            r#"@1-23
+{"client":"c1","pid":"P","spans":[["r",1,2],["s1",1,2]],"turns":[["a",1,5,0,1],["b",3,4,2,2]]}"#,
+        ),
         text: "ok 24 P got=2 tail=0 turns=2\ncerts=1 ok=1 bad=0\n",
         status: AllYes,
     },
     Case {
         name: "order_b",
         options: ORDER,
-        input: &[Text(BUNDLE_B)],
+        input: Lines(BUNDLE_B, "@1-23"),
         text: "st 0\nst 1\na 0\na 1\na 2\na 3\na 4\nb 0\nb 1\nb 2\nb 3\nsteps=11\n",
         status: AllYes,
     },
     Case {
         name: "upgrade_b",
         options: UPGRADE,
-        input: &[Text(BUNDLE_B)],
+        input: Lines(BUNDLE_B, "@1-23"),
         text: UPGRADED_B,
         status: AllYes,
     },
-    // The stream doesn't have the entry that the node takes.
     Case {
         name: "order_of_a_take_without_entry",
         options: ORDER,
-        input: &[Lines(BUNDLE_B, 1, 8), Text(r#"a {"k":"take","off":"3-0"}"#)],
+        input: Lines(
+            BUNDLE_B,
+            r#"@1-8
+a {"k":"take","off":"3-0"}"#,
+        ),
         text: "blocked a 4\nblocked=1\n",
         status: SomeNo,
     },
-    // A session that no client names.
     Case {
         name: "two_certificates_cut",
         options: VERIFY,
-        input: &[Lines(BUNDLE_A, 1, 8), Text("{\n{}\n")],
+        input: Lines(
+            BUNDLE_A,
+            r#"@1-8
+{
+{}"#,
+        ),
         text: "bad 9 K1 Syntax\nbad 10 K1 Syntax\ncerts=2 ok=0 bad=2\n",
         status: SomeNo,
     },
     Case {
-        name: "upgrade_last_line_cut",
+        name: "upgrade_refused",
         options: UPGRADE,
-        input: &[Lines(BUNDLE_A, 1, 6), Text("a {")],
+        input: Lines(
+            BUNDLE_A,
+            r#"@1-6
+a {"#,
+        ),
         text: "line 7: NotJson\n",
         status: Refused,
     },

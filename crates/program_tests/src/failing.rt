@@ -1,7 +1,7 @@
 //! Runs whose reader or writer fails, at each of its calls in turn, and that give or take few bytes a call.
 use crate::case::Case;
 use crate::each_mode::EACH_MODE;
-use crate::inputs::assembled;
+use crate::inputs::text_of;
 use crate::streams::{Failure, Plan, TestReader, TestWriter};
 use aud_app::{Options, RunFault, Status, Watched, run};
 use std::alloc::Global;
@@ -183,7 +183,7 @@ static PIECES: [usize; 3] = [1, 100, 65_536];
 fn a_reader_fails_at_each_call(rt: HostRuntime) -> Result<(), Fail> {
     let keys = RandomState::new(&rt)?;
     for case in &EACH_MODE {
-        let input = assembled(rt.alloc(), case.input)?;
+        let input = text_of(rt.alloc(), &case.input)?;
         for most in PIECES {
             fail_each_read(&rt, rt.alloc(), keys, case, input.as_bytes(), most);
         }
@@ -195,7 +195,7 @@ fn a_reader_fails_at_each_call(rt: HostRuntime) -> Result<(), Fail> {
 fn a_writer_fails_at_each_call(rt: HostRuntime) -> Result<(), Fail> {
     let keys = RandomState::new(&rt)?;
     for case in &EACH_MODE {
-        let input = assembled(rt.alloc(), case.input)?;
+        let input = text_of(rt.alloc(), &case.input)?;
         for most in PIECES {
             fail_each_write(&rt, rt.alloc(), keys, case, input.as_bytes(), most);
         }

@@ -1,77 +1,60 @@
-//! The inputs of the tests, put together from parts.
+//! The inputs of the tests.
 use std::alloc::{AllocError, Global};
+
+/// How an input is made.
+pub enum Input {
+    /// Lines, among which `@2-4 7` stands for the second to the fourth line of a bundle and its seventh.
+    Lines(&'static str, &'static str),
+    /// Parts, one after the other.
+    Parts(&'static [Part]),
+}
 
 /// A part of an input.
 pub enum Part {
     Text(&'static str),
-    /// The lines of a text from one to another, counted from 1.
-    Lines(&'static str, u32, u32),
-    /// The lines of a text with these numbers, in this order.
-    Picked(&'static str, &'static [u32]),
-    /// The lines of a text, each changed where an edit is for it.
-    Edited(&'static str, &'static [Edit]),
+    /// The lines of a bundle from one to another, counted from 1.
+    Between(&'static str, u32, u32),
     /// A text so many times, each with its number, from 1 on, in place of each `#`.
     Times(&'static str, u32),
 }
 
-/// What happens to a line, counted from 1.
-#[derive(Clone, Copy, Drop)]
-pub enum Edit {
-    Without(u32),
-    /// These lines stand in its place.
-    At(u32, &'static str),
-    /// These lines stand after it.
-    After(u32, &'static str),
-}
-
-impl Edit {
-    fn line(self) -> u32 {
-        match self {
-            Edit::Without(line) | Edit::At(line, _) | Edit::After(line, _) => line,
-        }
-    }
-}
-
-/// Puts lines at the end, if there are any; a newline after the last may be missing.
-fn push_lines(input: &mut String, lines: &str) -> Result<(), AllocError> {
-    if lines.is_empty() {
-        return Ok(());
-    }
-    input.push_str(lines.trim_end_matches('\n'))?;
+/// Puts a line at the end.
+fn push_line(input: &mut String, line: &str) -> Result<(), AllocError> {
+    input.push_str(line)?;
     input.push('\n')
 }
 
-/// Puts the lines of a text that are counted by one of these numbers at the end.
-fn push_between(input: &mut String, text: &str, first: u32, last: u32) -> Result<(), AllocError> {
-    for (number, line) in (1u32..).zip(text.lines()) {
+/// Puts the lines of a bundle from one to another at the end, counted from 1.
+fn push_between(input: &mut String, bundle: &str, first: u32, last: u32) -> Result<(), AllocError> {
+    for (number, line) in (1u32..).zip(bundle.lines()) {
         if first <= number && number <= last {
-            push_lines(input, line)?;
+            push_line(input, line)?;
         }
     }
     Ok(())
 }
 
-/// The edit of a line, if there is one.
-fn edit_of(edits: &[Edit], number: u32) -> Option<Edit> {
-    for edit in edits {
-        if edit.line() == number {
-            return Some(*edit);
-        }
-    }
-    None
+/// The number that these digits are; 0, which no line has, where they are none.
+fn number(digits: &str) -> u32 {
+    digits.parse::<u32>().unwrap_or(0)
 }
 
-/// Puts the lines of a text at the end, changed.
-fn push_edited(input: &mut String, text: &str, edits: &[Edit]) -> Result<(), AllocError> {
-    for (number, line) in (1u32..).zip(text.lines()) {
-        let (in_place, after) = match edit_of(edits, number) {
-            None => (line, ""),
-            Some(Edit::Without(_)) => ("", ""),
-            Some(Edit::At(_, lines)) => (lines, ""),
-            Some(Edit::After(_, lines)) => (line, lines),
-        };
-        push_lines(input, in_place)?;
-        push_lines(input, after)?;
+/// Puts the lines of a bundle at the end that stand in these ranges, with blanks between them.
+fn push_ranges(input: &mut String, bundle: &str, ranges: &str) -> Result<(), AllocError> {
+    for range in ranges.split(' ') {
+        let (first, last) = range.split_once('-').unwrap_or((range, range));
+        push_between(input, bundle, number(first), number(last))?;
+    }
+    Ok(())
+}
+
+/// Puts lines at the end, some of which stand for those of a bundle.
+fn push_lines(input: &mut String, bundle: &str, lines: &str) -> Result<(), AllocError> {
+    for line in lines.lines() {
+        match line.strip_prefix('@') {
+            Some(ranges) => push_ranges(input, bundle, ranges)?,
+            None => push_line(input, line)?,
+        }
     }
     Ok(())
 }
@@ -88,31 +71,32 @@ fn push_numbered(input: &mut String, text: &str, number: u32) -> Result<(), Allo
     Ok(())
 }
 
-/// Puts a part at the end.
-fn push(input: &mut String, part: &Part) -> Result<(), AllocError> {
-    match *part {
-        Part::Text(text) => input.push_str(text)?,
-        Part::Lines(text, first, last) => push_between(input, text, first, last)?,
-        Part::Picked(text, numbers) => {
-            for number in numbers {
-                push_between(input, text, *number, *number)?;
-            }
-        }
-        Part::Edited(text, edits) => push_edited(input, text, edits)?,
-        Part::Times(text, times) => {
-            for number in 1..=times {
-                push_numbered(input, text, number)?;
-            }
+/// Puts a text at the end so many times.
+fn push_times(input: &mut String, text: &str, times: u32) -> Result<(), AllocError> {
+    for number in 1..=times {
+        push_numbered(input, text, number)?;
+    }
+    Ok(())
+}
+
+/// Puts parts at the end.
+fn push_parts(input: &mut String, parts: &[Part]) -> Result<(), AllocError> {
+    for part in parts {
+        match *part {
+            Part::Text(text) => input.push_str(text)?,
+            Part::Between(bundle, first, last) => push_between(input, bundle, first, last)?,
+            Part::Times(text, times) => push_times(input, text, times)?,
         }
     }
     Ok(())
 }
 
-/// The parts one after the other.
-pub fn assembled(alloc: Global, parts: &[Part]) -> Result<String, AllocError> {
-    let mut input = String::new(alloc);
-    for part in parts {
-        push(&mut input, part)?;
+/// The text of an input.
+pub fn text_of(alloc: Global, input: &Input) -> Result<String, AllocError> {
+    let mut text = String::new(alloc);
+    match *input {
+        Input::Lines(bundle, lines) => push_lines(&mut text, bundle, lines)?,
+        Input::Parts(parts) => push_parts(&mut text, parts)?,
     }
-    Ok(input)
+    Ok(text)
 }

@@ -1,7 +1,8 @@
 //! Long lines, and many of them.
 use crate::bundles::{BUNDLE_A, TWO_SESSIONS};
 use crate::case::{AUDIT, Case, PROVE, VERIFY};
-use crate::inputs::Part::{self, Lines, Text, Times};
+use crate::inputs::Input::Parts;
+use crate::inputs::Part::{self, Between, Text, Times};
 use aud_app::Status::{AllYes, Refused, SomeNo};
 
 /// The header of a stream, of 34 bytes, and that of a later version.
@@ -22,11 +23,11 @@ const PROOF_OF_TWO: &str =
 
 /// `BUNDLE_A` with 9,000 events, more than a page of records holds.
 const NINE_THOUSAND: &[Part] = &[
-    Lines(BUNDLE_A, 1, 1),
+    Between(BUNDLE_A, 1, 1),
     Times(EVENT, 9_000),
-    Lines(BUNDLE_A, 3, 6),
+    Between(BUNDLE_A, 3, 6),
     Times(TAKE, 9_000),
-    Lines(BUNDLE_A, 8, 10),
+    Between(BUNDLE_A, 8, 10),
     Times(FRAME, 9_000),
 ];
 
@@ -43,60 +44,60 @@ pub static LARGE: [Case; 8] = [
     Case {
         name: "longest_line",
         options: AUDIT,
-        input: &[Text(STREAM_HEADER), Times(" ", 4_194_304 - 34)],
+        input: Parts(&[Text(STREAM_HEADER), Times(" ", 4_194_304 - 34)]),
         text: "sessions=0 yes=0 no=0\n",
         status: AllYes,
     },
     Case {
         name: "line_too_long",
         options: AUDIT,
-        input: &[Text(STREAM_HEADER), Times(" ", 4_194_305 - 34)],
+        input: Parts(&[Text(STREAM_HEADER), Times(" ", 4_194_305 - 34)]),
         text: "line 1: LineTooLong\n",
         status: Refused,
     },
     Case {
         name: "certificate_too_long",
         options: AUDIT,
-        input: &[Text("{"), Times(" ", 4_194_304)],
+        input: Parts(&[Text("{"), Times(" ", 4_194_304)]),
         text: "line 1: LineTooLong\n",
         status: Refused,
     },
     Case {
         name: "version_3_before_a_line_too_long",
         options: AUDIT,
-        input: &[Text(LATER_HEADER), Text("{"), Times(" ", 4_194_304)],
+        input: Parts(&[Text(LATER_HEADER), Text("{"), Times(" ", 4_194_304)]),
         text: "line 1: Version\n",
         status: Refused,
     },
     Case {
         name: "three_thousand_idle_sessions_prove",
         options: PROVE,
-        input: &[Text(TWO_SESSIONS), Times(IDLE_SESSION, 3_000)],
+        input: Parts(&[Text(TWO_SESSIONS), Times(IDLE_SESSION, 3_000)]),
         text: PROOF_OF_TWO,
         status: SomeNo,
     },
     Case {
         name: "three_thousand_idle_sessions_verify",
         options: VERIFY,
-        input: &[
+        input: Parts(&[
             Text(TWO_SESSIONS),
             Times(IDLE_SESSION, 3_000),
             Text(PROOF_OF_TWO),
-        ],
+        ]),
         text: "ok 3015 P got=0 tail=0 turns=1\nok 3016 Q got=1 tail=0 turns=1\ncerts=2 ok=2 bad=0\n",
         status: AllYes,
     },
     Case {
         name: "nine_thousand_entries",
         options: AUDIT,
-        input: NINE_THOUSAND,
+        input: Parts(NINE_THOUSAND),
         text: "yes P got=9000 tail=0 turns=1\nsessions=1 yes=1 no=0\n",
         status: AllYes,
     },
     Case {
         name: "nine_thousand_entries_prove",
         options: PROVE,
-        input: NINE_THOUSAND,
+        input: Parts(NINE_THOUSAND),
         text: "{\"client\":\"c1\",\"pid\":\"P\",\"spans\":[[\"r\",1,9000],[\"s1\",1,9000]],\"turns\":[[\"a\",1,9003,0,9000]]}\n",
         status: AllYes,
     },

@@ -1,5 +1,5 @@
 //! The bundles of plans: what an audit answers on them, and that a plan has one.
-use crate::case::{AUDIT, ran};
+use crate::case::{AUDIT, run_over};
 use aud_app::Options;
 use aud_app::Status::{self, AllYes, SomeNo};
 use aud_schedule::{Fault, Plan};
@@ -69,7 +69,7 @@ fn plans_are_audited(rt: HostRuntime) -> Result<(), Fail> {
                     fault,
                 };
                 let bundle = bundle_of(&rt, rt.alloc(), &plan)?;
-                let ran = ran(&rt, rt.alloc(), keys, options, bundle.as_slice());
+                let ran = run_over(&rt, rt.alloc(), keys, options, bundle.as_slice());
                 assert!(rt;
                     ran.outcome == Ok(status) && has(&ran.written, report),
                     "{plan:?}"

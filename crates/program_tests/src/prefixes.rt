@@ -1,7 +1,7 @@
 //! Each prefix of an input, in each mode: one refused line or a report, and never both.
-use crate::case::{Case, Ran, ran};
+use crate::case::{Case, Ran, run_over};
 use crate::each_mode::EACH_MODE;
-use crate::inputs::assembled;
+use crate::inputs::text_of;
 use aud_app::{Options, Status};
 use std::alloc::{AllocError, Global};
 use std::hash::RandomState;
@@ -32,14 +32,14 @@ fn look_at_each_prefix<H: Abort + Threads + Wait + Clock + Sync>(
     keys: RandomState,
     case: &Case,
 ) -> Result<(), AllocError> {
-    let input = assembled(alloc, case.input)?;
+    let input = text_of(alloc, &case.input)?;
     let whole = input.as_bytes();
     let options = Options {
         workers: 4,
         ..case.options
     };
     for end in 0..=whole.len() {
-        let ran = ran(rt, alloc, keys, options, &whole[..end]);
+        let ran = run_over(rt, alloc, keys, options, &whole[..end]);
         assert!(rt; is_line_or_report(&ran), "{} of {end} bytes", case.name);
     }
     Ok(())

@@ -1,10 +1,11 @@
 //! What comes of an input, in whichever pieces it is read, by any number of workers.
 use crate::audits::AUDITS;
-use crate::case::{Case, ran};
+use crate::case::{Case, run_over};
 use crate::certificates::CERTIFICATES;
 use crate::each_mode::EACH_MODE;
-use crate::inputs::assembled;
+use crate::inputs::text_of;
 use crate::large::LARGE;
+use crate::limits::LIMITS;
 use crate::refused::REFUSED;
 use crate::reordered::REORDERED;
 use crate::streams::{Plan, TestReader};
@@ -42,7 +43,7 @@ fn look_at<H: Abort + Threads + Wait + Clock + Sync>(
     ways: &[Way],
     case: &Case,
 ) -> Result<(), AllocError> {
-    let input = assembled(alloc, case.input)?;
+    let input = text_of(alloc, &case.input)?;
     for &(most, workers) in ways {
         assert!(rt; 0 < workers && workers <= 64);
         let options = Options {
@@ -50,7 +51,7 @@ fn look_at<H: Abort + Threads + Wait + Clock + Sync>(
             ..case.options
         };
         let reader = TestReader::new(input.as_bytes(), Plan::unfailing(most));
-        let ran = ran(rt, alloc, keys, options, reader);
+        let ran = run_over(rt, alloc, keys, options, reader);
         assert!(rt;
             ran.is(case.status, case.text),
             "{}: {most} bytes a call, {workers} workers",
@@ -87,6 +88,11 @@ fn audits(rt: HostRuntime) -> Result<(), Fail> {
 #[test]
 fn refused_lines(rt: HostRuntime) -> Result<(), Fail> {
     look_at_all(&rt, rt.alloc(), &WAYS, &REFUSED)
+}
+
+#[test]
+fn limits(rt: HostRuntime) -> Result<(), Fail> {
+    look_at_all(&rt, rt.alloc(), &WAYS, &LIMITS)
 }
 
 #[test]
