@@ -10,6 +10,8 @@ import tempfile
 import unittest
 from pathlib import Path
 
+from . import lab
+
 SRC = Path(__file__).resolve().parents[1] / "src"
 sys.path.insert(0, str(SRC))
 
@@ -192,6 +194,38 @@ class Collect(unittest.TestCase):
                 self.assertEqual(kept[name], text)
             else:
                 self.assertTrue(text.startswith(kept.get(name, b"")))
+
+    @unittest.skipUnless(lab.program(), "needs the program")
+    def test_lines_are_refused_as_the_auditor_does(self):
+        node = 'a {"k":"tap","v":2,"of":"node"}'
+        client = 'c {"k":"tap","v":1,"of":"client"}'
+        stream = 's {"k":"tap","v":1,"of":"stream"}'
+        for lines in (
+            ["a"], ["é {}"], [" {}"], ["a  "], ["a []"], ["a {}"], ['a {"k":1}'], ['a {"k":"start","off":null}'], ['a {"k":"tap"}'],
+            ['a {"k":"tap","v":1.0,"of":"node"}'], ['a {"k":"tap","v":3,"of":"node"}'], ['a {"k":"tap","v":1,"of":"proxy"}'], ['a {"k":"tap","v":true,"of":"node"}'],
+            [node, node], [node, 'a {"k":"other","off":"1-0"}'], [node, 'a {"k":"start"}'], [node, 'a {"k":"take","off":""}'], [node, 'a {"k":"take","off":"a b"}'],
+            [node, 'a {"k":"break","pid":"P","turn":-0}'], [node, 'a {"k":"break","pid":"P","turn":1e0}'], [node, 'a {"k":"break","pid":"P","turn":65536}'],
+            [node, 'a {"k":"break","pid":"P","turn":18446744073709551616}'], [node, 'a {"k":"gone","pid":"P","x":1e400}'], [node, 'a {"k":"gone","pid":"P","x":-1e400}'],
+            [node, 'a {"k":"gone","pid":"P","x":' + "9" * 400 + "}"], [node, 'a {"k":"gone","pid":"P","x":"\\ud800"}'], [node, 'a {"k":"gone","pid":"P","x":NaN}'],
+            [node, 'a {"k":"gone","pid":"P","x":' + "[" * 127 + "]" * 127 + "}"], [node, 'a {"k":"gone","pid":"P","x":' + "[" * 126 + "]" * 126 + "}"],
+            [node, 'a {"k":"gone","pid":"P","pid":7}'], [node, ' a {"k":"gone","pid":"P"}'], [node, 'a {"k":"gone","pid":"P"} x'], [node, 'a \t{"k" : "gone","pid":"P"} \r'],
+            [node, 'a {"k":"join","pid":"P","room":""}'], [node, 'a {"k":"join","pid":"P","room":"' + "é" * 129 + '"}'], [node, 'a {"k":"open","pid":"P","sid":"S","nsp":"n"}'],
+            [client, 'c {"k":"in","t":"2"}'], [client, 'c {"k":"conn","c":1}', 'c {"k":"conn","c":1}'], [client, 'c {"k":"conn","c":0}', 'c {"k":"inb","b":"AAF="}'],
+            [client, 'c {"k":"conn","c":0}', 'c {"k":"lost"}', 'c {"k":"lost"}'], [client, 'c {"k":"conn","c":0}', 'c {"k":"in","t":"' + "x" * 4_194_304 + '"}'],
+            [stream, 's {"k":"other","off":"1-0"}', 's {"k":"other","off":"1-0"}'], [stream, 's {"k":"ev","off":"1-0","nsp":"/","text":"","rooms":null}'],
+            [stream, 's {"k":"ev","off":"1-0","nsp":"/","text":"","bin":["="]}'], [stream, 's {"k":"ev","off":"1-0","nsp":"/a,b","text":""}'], [stream, 's {"k":"ev","off":"1-0","nsp":"/"}'],
+        ):
+            text = "".join(f"{line}\n" for line in lines)
+            said = lab.audit(text)
+            expected = said[0].removeprefix("line ") if said[0].startswith("line ") else None
+            store = Store(into=self.into)
+            kept = store.claim(lines[0].split(" ")[0] if lines[0][:1] in "acs" else "a", "m")
+            store.keep(lines[0].split(" ")[0] if lines[0][:1] in "acs" else "a", kept, text.encode())
+            store.close()
+            Path(self.into).unlink()
+            Path(f"{self.into}.senders").unlink()
+            got = f"{kept.refused['line']}: {kept.refused['refused']}" if kept.refused else None
+            self.assertEqual(got, expected, [line[:200] for line in lines])
 
     def test_a_slow_sender_blocks_no_other(self):
         write_taps(self.taps)

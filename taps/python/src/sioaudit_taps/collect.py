@@ -7,38 +7,63 @@ import asyncio
 import contextlib
 import fcntl
 import json
+import math
 import os
 import signal
+import socket
 import sys
 from collections.abc import Iterator
 from dataclasses import dataclass, field
 from typing import Any
 
 from . import records
-from .errors import FieldError, HeaderError, LimitError, LineTooLongError, NotJsonError, TapError, UnknownKindError
+from .errors import FieldError, HeaderError, LimitError, LineTooLongError, NotJsonError, TapError, TapNameError, UnknownKindError
 from .protocol import CHUNK, HEAD, LONGEST, VERSION, ProtocolError, message, receive
 from .tap import Follower
 
 NESTED = 127
 
 
-def _refuse_constant(name: str) -> None:
+def _constant(name: str) -> None:
     raise ValueError(f"{name} is no JSON")
+
+
+def _float(token: str) -> float:
+    number = float(token)
+    if not math.isfinite(number):
+        raise ValueError(f"no 64-bit float holds {token[:20]}")
+    return number
+
+
+def _int(token: str) -> int | float:
+    # a whole number has no sign
+    return int(token) if len(token) < 300 and token[0] != "-" else _float(token)
+
+
+_decoder = json.JSONDecoder(parse_constant=_constant, parse_float=_float, parse_int=_int)
+
+
+def _depth(value: Any) -> int:
+    inner = value.values() if isinstance(value, dict) else value if isinstance(value, list) else None
+    return 0 if inner is None else 1 + max(map(_depth, inner), default=0)
 
 
 def read_line(line: bytes) -> tuple[str, dict[str, Any]]:
     """A tap's name and a record of a line without its newline; raises a TapError where the auditor would refuse it."""
+    line = line.removesuffix(b"\r")
     if len(line) > records.LINE:
         raise LineTooLongError(f"a line has at most {records.LINE} bytes")
     front, blank, rest = line.partition(b" ")
-    if not blank or not front.isascii():
-        error = FieldError("a line begins with its tap's name and a blank")
-        error.code = "NoTapName"
-        raise error
-    name = records.check_name(front.decode())
     try:
-        record = json.loads(rest.decode(), parse_constant=_refuse_constant)
-        json.dumps(record, ensure_ascii=False).encode()  # half a surrogate pair
+        name = records.check_name(front.decode("ascii", "replace") if blank else None)
+    except TapNameError as error:
+        raise TapError("a line begins with its tap's name and a blank", code="NoTapName") from error
+    try:
+        record = _decoder.decode(rest.decode())
+        if b"\\u" in rest:
+            json.dumps(record, ensure_ascii=False).encode()  # half a surrogate pair
+        if rest.count(b"[") + rest.count(b"{") > NESTED and _depth(record) > NESTED:
+            raise ValueError(f"nested past {NESTED}")
     except (ValueError, RecursionError) as error:
         raise NotJsonError(f"what follows the name is no JSON: {error}") from error
     if not isinstance(record, dict) or not isinstance(record.get("k"), str):
@@ -112,9 +137,7 @@ class Store:
             if self.dir is not None:
                 kept.fd = self._opened(os.path.join(self.dir, f"{name}.tap"))
         elif kept.sender != sender:
-            error = TapError(f"the tap {name} is of the sender {kept.sender}")
-            error.code = "NameTaken"
-            raise error
+            raise TapError(f"the tap {name} is of the sender {kept.sender}", code="NameTaken")
         return kept
 
     def keep(self, name: str, kept: Kept, lines: bytes) -> None:
@@ -147,29 +170,21 @@ class Store:
             raise HeaderError(f"the line is of the tap {of_line}")
         if kept.follower is not None:
             if record["k"] == "tap":
-                error = HeaderError("a second header")
-                error.code = "HeaderTwice"
-                raise error
+                raise HeaderError("a second header", code="HeaderTwice")
             kept.follower.follow(record)
             return
         if record["k"] != "tap":
-            error = HeaderError("the first line is no header")
-            error.code = "NoHeader"
-            raise error
+            raise HeaderError("the first line is no header", code="NoHeader")
         version, of = record.get("v"), record.get("of")
         if not isinstance(version, int) or isinstance(version, bool) or not isinstance(of, str):
             raise FieldError("a header has v, a whole number, and of, a text")
         if version not in (1, 2):
-            error = FieldError(f"version {version} is neither 1 nor 2")
-            error.code = "Version"
-            raise error
+            raise FieldError(f"version {version} is neither 1 nor 2", code="Version")
         if of not in records.KINDS:
             raise UnknownKindError(f"a tap is of a stream, node or client, not {of}")
         others = sum(it.follower is not None and it.follower.of == of for it in self.taps.values())
         if of == "stream" and others:
-            error = LimitError("there is a stream's tap already")
-            error.code = "SecondStream"
-            raise error
+            raise LimitError("there is a stream's tap already", code="SecondStream")
         if others == {"node": records.NODES, "client": records.CLIENTS}.get(of):
             raise LimitError(f"there are {others} {of}s' taps already")
         kept.follower = Follower(of, version)
@@ -238,6 +253,7 @@ class Collector:
 
     async def _serve(self, reader: asyncio.StreamReader, writer: asyncio.StreamWriter) -> None:
         self._writers.add(writer)
+        writer.get_extra_info("socket").setsockopt(socket.SOL_SOCKET, socket.SO_KEEPALIVE, 1)
         sender = "?"
         try:
             hello = await asyncio.wait_for(receive(reader), 30)

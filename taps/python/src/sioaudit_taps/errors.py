@@ -8,6 +8,11 @@ class TapError(Exception):
 
     code = "Tap"
 
+    def __init__(self, message: str, *, code: str | None = None) -> None:
+        super().__init__(message)
+        if code is not None:
+            self.code = code
+
 
 class FieldError(TapError):
     """A field is missing, or of another type or form."""

@@ -31,6 +31,8 @@ class _Tap:
     def lines(self) -> bytes:
         """Whole lines from where the collector is, some."""
         assert self.at is not None
+        if os.stat(self.file).st_size == self.at:
+            return b""
         with open(self.file, "rb") as opened:
             size = opened.seek(0, os.SEEK_END)
             if size < self.at:
