@@ -1,0 +1,156 @@
+"""Taps in a real cluster: python-socketio, aiohttp, Redis."""
+
+import asyncio
+import importlib.util
+import re
+import shutil
+import unittest
+
+from . import lab
+from sioaudit_taps import Redactor, TapError, tap_client
+
+KEY = b"the key of a test, thirty bytes"
+NEEDED = lab.program() is not None and shutil.which("redis-server") is not None
+THREADS = all(importlib.util.find_spec(it) for it in ("requests", "websocket"))
+
+
+async def burst(cluster, count):
+    for number in range(count):
+        await cluster.publish("tick", number, "é ⬢", {"n": 1e16, "b": number % 2 == 0}, nsp="/chat" if number % 3 == 0 else "/")
+        if number % 4 == 0:
+            await cluster.publish("bytes", bytes([number]) * 40, {"in": [b"\x00\xff"]}["in"][0], rooms=["r"])
+    await cluster.redis.xadd(lab.KEY, {"beat": "1"})
+
+
+async def wait_until(true):
+    for _ in range(500):
+        if true():
+            return
+        await asyncio.sleep(0.01)
+    raise AssertionError("it never came")
+
+
+async def recorded(transports, redact=None, drop=False):
+    """A recording in which an asyncio client loses its connection in bursts, and comes back on the other node."""
+    async with lab.Lab(redact) as cluster:
+        client = cluster.tapped(lab.AsyncClient(), "c1")
+        for turn in range(3):
+            await client.connect(cluster.nodes[turn % 2].url, transports=transports, namespaces=lab.NAMESPACES, wait_timeout=10)
+            if turn == 0:
+                await client.call("join", "r")
+            await burst(cluster, 30)
+            if turn < 2:
+                await asyncio.sleep(0.02 * turn)
+                await cluster.nodes[turn % 2].cut()
+                await wait_until(lambda: client.eio.state == "disconnected")
+                await burst(cluster, 10)
+        await cluster.publish("end")
+        await cluster.caught_up(client.kept)
+        await cluster.publish("end", nsp="/chat")
+        await cluster.caught_up(client.kept)
+        await client.disconnect()
+        client.tap.end()
+        return await cluster.bundle()
+
+
+@unittest.skipUnless(NEEDED, "needs the program and redis-server")
+class Cluster(unittest.TestCase):
+    def whole(self, bundle, sessions=2, turns=3):
+        report = lab.audit(bundle, "--whole")
+        self.assertEqual(len(report), sessions + 1, report)
+        for line in report[:-1]:
+            self.assertRegex(line, rf"^yes \S+ got=[1-9]\d+ tail=0 turns={turns}$")
+
+    def test_asyncio(self):
+        for transports in (["websocket"], ["polling"], ["polling", "websocket"]):
+            with self.subTest(transports=transports):
+                self.whole(asyncio.run(recorded(transports)))
+
+    def test_redacted(self):
+        bundle = asyncio.run(recorded(["websocket"], redact=KEY))
+        self.whole(bundle)
+        for secret in ("tick", "bytes", "⬢", "u2b22", '"r"'):
+            self.assertNotIn(secret, bundle)
+
+    def test_plain_and_redacted_are_judged_alike(self):
+        it = Redactor(KEY)
+        plain = asyncio.run(recorded(["polling"]))
+        for bundle in (plain, *broken(plain)):
+            expected = [re.sub(r"^(yes|no) (\S+)", lambda m: f"{m[1]} {it.hash(m[2])}", line) for line in lab.audit(bundle, "--whole")]
+            self.assertEqual(lab.audit(redacted(bundle, it), "--whole"), expected)
+
+    @unittest.skipUnless(THREADS, "needs requests and websocket-client")
+    def test_threads(self):
+        for transports in (["websocket"], ["polling"], ["polling", "websocket"]):
+            with self.subTest(transports=transports):
+                self.whole(asyncio.run(self.threads(transports)), turns=2)
+
+    async def threads(self, transports):
+        async with lab.Lab() as cluster:
+            client = cluster.tapped(lab.ThreadClient(), "c1")
+            for turn in range(2):
+                await asyncio.to_thread(client.connect, cluster.nodes[turn].url, transports=transports, namespaces=lab.NAMESPACES, wait_timeout=10)
+                await burst(cluster, 20)
+                if turn == 0:
+                    await cluster.publish("mark")
+                    await cluster.caught_up(client.kept)
+                    await cluster.nodes[0].cut()
+                    await wait_until(lambda: client.eio.state == "disconnected")
+                    await burst(cluster, 10)
+            await cluster.publish("end")
+            await cluster.caught_up(client.kept)
+            await cluster.publish("end", nsp="/chat")
+            await cluster.caught_up(client.kept)
+            await asyncio.to_thread(client.disconnect)
+            client.tap.end()
+            return await cluster.bundle()
+
+    def test_a_fault_shows(self):
+        bundle = asyncio.run(recorded(["websocket"]))
+        lines = bundle.splitlines(keepends=True)
+        # what the client never got
+        gone = next(i for i, line in enumerate(lines) if line.startswith("c1 ") and "tick" in line)
+        report = lab.audit("".join(lines[:gone] + lines[gone + 1 :]))
+        self.assertTrue(any(re.match(r"no \S+ LOST ", line) for line in report), report)
+
+    def test_late(self):
+        async def late():
+            async with lab.Lab() as cluster:
+                client = lab.AsyncClient()
+                await client.connect(cluster.nodes[0].url, transports=["websocket"])
+                try:
+                    with self.assertRaises(TapError):
+                        tap_client(client, name="c1", dir=cluster.taps)
+                finally:
+                    await client.disconnect()
+                    await cluster.bundle()
+
+        asyncio.run(late())
+
+
+def broken(bundle):
+    """The recording with faults in the client's frames: lost, doubled, swapped, and written in other ways."""
+    lines = bundle.splitlines(keepends=True)
+    at = [i for i, line in enumerate(lines) if line.startswith("c1 ") and "tick" in line]
+    one, two = at[3], at[4]
+    yield "".join(lines[:one] + lines[one + 1 :])
+    yield "".join(lines[: one + 1] + lines[one:])
+    swapped = list(lines)
+    swapped[one], swapped[two] = lines[two], lines[one]
+    yield "".join(swapped)
+    for old, new in (("tick", "tock"), ('\\"tick\\",', '\\"tick\\", '), ("tick", "t\\\\u0069ck"), ("1e+16", "1e16"), ("1e+16", "1e400"), ("\\\\u00e9", "é")):
+        assert old in lines[one], lines[one]
+        yield "".join([*lines[:one], lines[one].replace(old, new), *lines[one + 1 :]])
+    reply = next(i for i, line in enumerate(lines) if line.startswith("c1 ") and '40{' in line and '"in"' in line)
+    yield "".join([*lines[:reply], re.sub(r'\\"pid\\":\\"[^"]*\\"', r'\\"pid\\":\\"\\"', lines[reply]), *lines[reply + 1 :]])
+
+
+def redacted(bundle, it):
+    import json
+
+    made = []
+    for line in bundle.splitlines():
+        name, _, text = line.partition(" ")
+        record = json.loads(text)
+        made.append(f"{name} {json.dumps(record if record['k'] == 'tap' else it.record(record), ensure_ascii=False)}\n")
+    return "".join(made)

@@ -1,0 +1,144 @@
+import os
+import stat
+import tempfile
+import threading
+import unittest
+from pathlib import Path
+from unittest import mock
+
+from . import lab  # noqa: F401
+from sioaudit_taps import NodeTap, StreamTap, Tap, TapError, encode
+
+
+class Taps(unittest.TestCase):
+    def setUp(self):
+        it = tempfile.TemporaryDirectory()
+        self.addCleanup(it.cleanup)
+        self.dir = Path(it.name)
+        self.count = 0
+
+    def tap(self, of):
+        self.count += 1
+        it = Tap(f"t{self.count}", of, dir=self.dir)
+        self.addCleanup(it.end)
+        return it
+
+    def refused(self, code, call, *args, **kwargs):
+        with self.assertRaises(TapError) as refused:
+            call(*args, **kwargs)
+        self.assertEqual(refused.exception.code, code)
+
+    def test_file(self):
+        with Tap("c.1", "client", dir=self.dir) as tap:
+            self.assertEqual(Path(tap.file).read_text(), 'c.1 {"k":"tap","v":1,"of":"client"}\n')
+            self.assertTrue(tap.write({"k": "conn", "c": 1, "more": 2}))
+            self.assertTrue(tap.write({"k": "in", "t": "é\x1e\n"}))
+            self.assertEqual(Path(tap.file).read_text().split("\n")[1:], ['c.1 {"k":"conn","c":1}', 'c.1 {"k":"in","t":"é\\u001e\\n"}', ""])
+        self.assertEqual(stat.S_IMODE(os.stat(tap.file).st_mode), 0o600)
+        self.assertFalse(tap.write({"k": "lost"}))
+        self.refused("Exists", Tap, "c.1", "client", dir=self.dir)
+        for name in ("", "é", "a b", "x" * 33, "a\n", None):
+            self.refused("Name", Tap, name, "client", dir=self.dir)
+        self.refused("UnknownKind", Tap, "a", "proxy", dir=self.dir)
+        self.refused("Write", Tap, "a", "node", dir=self.dir / "none")
+
+    def test_limits(self):
+        pid = {"k": "open", "pid": "P", "sid": "S", "nsp": "/"}
+        ev = {"k": "ev", "off": "1-0", "nsp": "/", "text": "2[]"}
+        cases = [
+            ("node", "Field", {**pid, "pid": "a b"}),
+            ("node", "Limit", {**pid, "pid": ""}),
+            ("node", "Limit", {**pid, "sid": "x" * 129}),
+            ("node", "Field", {**pid, "nsp": "n"}),
+            ("node", "Field", {**pid, "nsp": "/a,b"}),
+            ("node", "Limit", {**pid, "nsp": "/" + "é" * 128}),
+            ("node", "Limit", {"k": "join", "pid": "P", "room": "x" * 257}),
+            ("node", "NotJson", {"k": "join", "pid": "P", "room": "\ud800"}),
+            ("node", "Field", {"k": "join", "pid": "P"}),
+            ("node", "Limit", {"k": "break", "pid": "P", "turn": 65536}),
+            ("node", "Field", {"k": "break", "pid": "P", "turn": True}),
+            ("node", "Field", {"k": "break", "pid": "P", "turn": -1}),
+            ("node", "Limit", {"k": "take", "off": "x" * 65}),
+            ("node", "UnknownKind", {"k": "ev", "off": "1-0"}),
+            ("node", "UnknownKind", {"k": ["take"]}),
+            ("stream", "Limit", {**ev, "rooms": ["r"] * 257}),
+            ("stream", "Field", {**ev, "rooms": "r"}),
+            ("stream", "Limit", {**ev, "bin": [""] * 65}),
+            ("stream", "Field", {**ev, "bin": ["AAF="]}),
+            ("stream", "LineTooLong", {**ev, "text": "x" * 4_194_304}),
+            ("client", "Field", {"k": "in", "t": "2"}),
+            ("client", "Field", {"k": "conn", "c": 2**64}),
+        ]
+        for of, code, record in cases:
+            tap = self.tap(of)
+            self.refused(code, tap.write, record)
+            self.assertTrue(tap.ended and tap.error is not None)
+            self.assertFalse(tap.write(record))
+        stream = self.tap("stream")
+        stream.write({**ev, "rooms": [], "bin": ["AAE="], "except": ["r"]})
+        self.assertIn('{"k":"ev","off":"1-0","nsp":"/","except":["r"],"text":"2[]","bin":["AAE="]}', Path(stream.file).read_text())
+        self.refused("OffsetTwice", stream.write, ev)
+        client = self.tap("client")
+        client.write({"k": "conn", "c": 1})
+        self.refused("Field", client.write, {"k": "conn", "c": 1})
+        self.refused("UnknownKind", Tap("old", "node", dir=self.dir, version=1).write, {"k": "takes", "off": "1-0"})
+
+    def test_a_full_disk_ends_it(self):
+        tap = self.tap("client")
+        with mock.patch("os.write", side_effect=OSError(28, "no space")):
+            self.refused("Write", tap.write, {"k": "conn", "c": 1})
+        self.assertFalse(tap.write({"k": "conn", "c": 1}))
+
+    def test_threads(self):
+        tap = self.tap("client")
+        tap.write({"k": "conn", "c": 1})
+        threads = [threading.Thread(target=lambda: [tap.write({"k": "in", "t": "2" * 100}) for _ in range(200)]) for _ in range(8)]
+        for it in threads:
+            it.start()
+        for it in threads:
+            it.join()
+        lines = Path(tap.file).read_text().splitlines()
+        self.assertEqual(len(lines), 1602)
+        self.assertEqual(len(set(lines)), 3)
+
+    def test_moments(self):
+        node = NodeTap("a", dir=self.dir)
+        self.addCleanup(node.end)
+        self.assertRegex(node.tap.name, r"^a\.[0-9a-z]+$")
+        for call in (lambda: node.take("1-0"), lambda: node.open("P", "S"), lambda: node.back("P", 0), lambda: node.gone("P")):
+            self.refused("Moment", call)
+        node.start(None)
+        self.refused("Moment", node.start, None)
+        for call in (node.break_, node.gone):
+            self.refused("Moment", call, "P")
+        self.refused("Moment", node.join, "P", "r")
+        node.open("P", "S")
+        self.refused("Moment", node.open, "P", "S")
+        self.refused("Moment", node.back, "P", 0)
+        node.join("P", "r")
+        node.take("1-0")
+        self.refused("Moment", node.take, "1-0")
+        self.assertEqual(node.break_("P"), 0)
+        for call in (node.break_, node.gone):
+            self.refused("Moment", call, "P")
+        self.refused("Moment", node.leave, "P", "r")
+        self.refused("Moment", node.open, "P", "S")
+        self.assertEqual(node.back("P", 0), 1)
+        self.assertEqual(node.break_("P"), 1)
+        self.refused("Moment", node.back, "P", 0)
+        self.assertEqual(node.back("P", 3), 4)
+        node.gone("P")
+        self.refused("Moment", node.back, "P", 4)
+        self.assertFalse(node.tap.ended)
+        kinds = [line.split('"')[3] for line in Path(node.tap.file).read_text().splitlines()]
+        self.assertEqual(kinds, ["tap", "start", "open", "join", "take", "break", "back", "break", "back", "gone"])
+
+    def test_stream(self):
+        stream = StreamTap("st", dir=self.dir)
+        self.addCleanup(stream.end)
+        text, attachments = encode(["b", b"\x00\x01", {"é": 1e16}], "2-1", "/n")
+        self.assertEqual(text, '51-/n,["b",{"_placeholder":true,"num":0},{"\\u00e9":1e+16},"2-1"]')
+        stream.event("2-1", "/n", text, rooms={"r"}, attachments=attachments)
+        stream.other("10-0")
+        self.refused("Moment", stream.other, "9-5")
+        self.assertIn('"bin":["AAE="]', Path(stream.tap.file).read_text())
