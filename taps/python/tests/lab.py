@@ -111,7 +111,7 @@ class Node:
         self.last = "0-0"
         self.lock = asyncio.Lock()
         self.tap = NodeTap(name, dir=lab.taps, redact=redact)
-        self.sio = Server(async_mode="aiohttp", namespaces=NAMESPACES, ping_interval=1, ping_timeout=1)
+        self.sio = Server(async_mode="aiohttp", namespaces=NAMESPACES, ping_interval=5, ping_timeout=5)
         self.sio.node = self
         for nsp in NAMESPACES:
             self.sio.on("join", self.on_join(nsp), namespace=nsp)
@@ -294,7 +294,7 @@ class Lab:
     async def caught_up(self, *kept):
         """Waits until the last event has come to all."""
         newest = (await self.redis.xrevrange(KEY, count=1))[0][0]
-        for _ in range(500):
+        for _ in range(2000):
             if all(newest in it.got for it in kept):
                 return
             await asyncio.sleep(0.01)

@@ -23,7 +23,7 @@ async def burst(cluster, count):
 
 
 async def wait_until(true):
-    for _ in range(500):
+    for _ in range(2000):
         if true():
             return
         await asyncio.sleep(0.01)
@@ -35,7 +35,7 @@ async def recorded(transports, redact=None, drop=False):
     async with lab.Lab(redact) as cluster:
         client = cluster.tapped(lab.AsyncClient(), "c1")
         for turn in range(3):
-            await client.connect(cluster.nodes[turn % 2].url, transports=transports, namespaces=lab.NAMESPACES, wait_timeout=10)
+            await client.connect(cluster.nodes[turn % 2].url, transports=transports, namespaces=lab.NAMESPACES, wait_timeout=30)
             if turn == 0:
                 await client.call("join", "r")
             await burst(cluster, 30)
@@ -89,7 +89,7 @@ class Cluster(unittest.TestCase):
         async with lab.Lab() as cluster:
             client = cluster.tapped(lab.ThreadClient(), "c1")
             for turn in range(2):
-                await asyncio.to_thread(client.connect, cluster.nodes[turn].url, transports=transports, namespaces=lab.NAMESPACES, wait_timeout=10)
+                await asyncio.to_thread(client.connect, cluster.nodes[turn].url, transports=transports, namespaces=lab.NAMESPACES, wait_timeout=30)
                 await burst(cluster, 20)
                 if turn == 0:
                     await cluster.publish("mark")
