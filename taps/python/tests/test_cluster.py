@@ -40,6 +40,8 @@ async def recorded(transports, redact=None, drop=False):
                 await client.call("join", "r")
             await burst(cluster, 30)
             if turn < 2:
+                # (a client that has no offset yet is given another session)
+                await wait_until(lambda: client.kept.offsets.keys() >= set(lab.NAMESPACES))
                 await asyncio.sleep(0.02 * turn)
                 await cluster.nodes[turn % 2].cut()
                 await wait_until(lambda: client.eio.state == "disconnected")
