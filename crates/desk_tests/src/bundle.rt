@@ -1,60 +1,39 @@
-//! The bundle of the tests: two sessions, of which the event leaves out the first.
-ghost use Rattle.std.specs.Prelude.{IfOk};
-ghost use Rattle.aud_tap.specs.Names.{AreNamedOnce};
+//! The bundle of `examples/bundle_a.jsonl`: its lines, each without the name of its tap, and the report on it.
 
-use aud_reader::{Line, read_bundle};
-use aud_tap::{Bytes, Taps};
-use std::alloc::{AllocError, Global};
-use std::hash::RandomState;
-use std::test::Fail;
+/// The lines of the stream's tap.
+pub const STREAM: [&[u8]; 2] = [
+    br#"{"k":"tap","v":1,"of":"stream"}"#,
+    br#"{"k":"ev","off":"1-0","nsp":"/","rooms":["r"],"text":"2[\"hi\",\"1-0\"]"}"#,
+];
 
-const TWO_SESSIONS: &str = r#"st {"k":"tap","v":1,"of":"stream"}
-st {"k":"ev","off":"1-0","nsp":"/","rooms":[],"except":["s1"],"text":"2[\"hi\",\"1-0\"]"}
-a {"k":"tap","v":1,"of":"node"}
-a {"k":"start","off":null}
-a {"k":"open","pid":"P","sid":"s1","nsp":"/"}
-a {"k":"open","pid":"Q","sid":"s2","nsp":"/"}
-a {"k":"take","off":"1-0"}
-c1 {"k":"tap","v":1,"of":"client"}
-c1 {"k":"conn","c":1}
-c1 {"k":"in","t":"40{\"sid\":\"s1\",\"pid\":\"P\"}"}
-c2 {"k":"tap","v":1,"of":"client"}
-c2 {"k":"conn","c":1}
-c2 {"k":"in","t":"40{\"sid\":\"s2\",\"pid\":\"Q\"}"}
-c2 {"k":"in","t":"42[\"hi\",\"1-0\"]"}"#;
+/// Those of the node's.
+pub const NODE: [&[u8]; 5] = [
+    br#"{"k":"tap","v":1,"of":"node"}"#,
+    br#"{"k":"start","off":null}"#,
+    br#"{"k":"open","pid":"P","sid":"s1","nsp":"/"}"#,
+    br#"{"k":"join","pid":"P","room":"r"}"#,
+    br#"{"k":"take","off":"1-0"}"#,
+];
+
+/// Those of the client's.
+pub const CLIENT: [&[u8]; 4] = [
+    br#"{"k":"tap","v":1,"of":"client"}"#,
+    br#"{"k":"conn","c":1}"#,
+    br#"{"k":"in","t":"40{\"sid\":\"s1\",\"pid\":\"P\"}"}"#,
+    br#"{"k":"in","t":"42[\"hi\",\"1-0\"]"}"#,
+];
+
+/// The names of the taps of the bundle, in the order of their first lines.
+pub const NAMES: [&str; 3] = ["st", "a", "c1"];
 
 /// What is written for the bundle.
-pub const REPORT: &str =
-    "yes P got=0 tail=0 turns=1\nyes Q got=1 tail=0 turns=1\nsessions=2 yes=2 no=0\n";
+pub const REPORT: &str = "yes P got=1 tail=0 turns=1\nsessions=1 yes=1 no=0\n";
 
-/// What is written for the bundle without its last line, the event that the second session was due, where the whole is
-/// asked for.
-pub const REPORT_OF_WHOLE: &str =
-    "yes P got=0 tail=0 turns=1\nno Q TAIL 1\nsessions=2 yes=1 no=1\n";
-
-/// So many lines of the bundle, which has 14.
-fn lines(alloc: Global, count: usize) -> Result<Vec<Line>, AllocError> {
-    let mut lines = Vec::new(alloc);
-    for text in TWO_SESSIONS.lines().take(count) {
-        let number = lines.len() as u64 + 1;
-        let bytes = Bytes::new(text.as_bytes().to_vec(alloc)?);
-        lines.push(Line { number, bytes })?;
+/// The lines of the tap at this place.
+pub fn lines_of(place: usize) -> &'static [&'static [u8]] {
+    match place {
+        0 => &STREAM,
+        1 => &NODE,
+        _ => &CLIENT,
     }
-    Ok(lines)
-}
-
-/// The taps of the bundle.
-pub fn taps(alloc: Global, keys: RandomState) -> Result<Taps, Fail>
-    ensures { IfOk result (λ taps. AreNamedOnce taps) }
-{
-    taps_of(alloc, keys, 14)
-}
-
-/// The taps of so many lines of the bundle.
-pub fn taps_of(alloc: Global, keys: RandomState, count: usize) -> Result<Taps, Fail>
-    ensures { IfOk result (λ taps. AreNamedOnce taps) }
-{
-    let lines = lines(alloc, count)?;
-    let taps = read_bundle(alloc, keys, lines.as_slice())?;
-    Ok(taps)
 }

@@ -1,8 +1,7 @@
 //! A gate that opens only where two workers are at work at once.
-use crate::bundle::{REPORT, taps};
-use aud_client::Recording;
-use aud_desk::{Gate, audit_with};
-use aud_report::report_on;
+use crate::reports::reported;
+use crate::two_sessions::{REPORT, taps_of};
+use aud_desk::Gate;
 use std::hash::RandomState;
 use std::mem::ManuallyDrop;
 use std::sync::Wait;
@@ -45,17 +44,14 @@ impl Gate for Held {
 #[test]
 fn two_workers_are_at_work_at_once(rt: HostRuntime) -> Result<(), Fail> {
     let alloc = rt.alloc();
-    let keys = RandomState::new(&rt)?;
-    let taps = ManuallyDrop::new(taps(alloc, keys)?);
-    let recording = ManuallyDrop::new(Recording::read(&rt, alloc, keys, 4, &taps)?);
+    let taps = ManuallyDrop::new(taps_of(alloc, RandomState::new(&rt)?, 14)?);
     let gate = Held {
         began: AtomicBool::new(false),
         kept: AtomicBool::new(false),
         gave_up: AtomicBool::new(false),
     };
-    let report = audit_with(&rt, alloc, &recording, 2, false, &gate)?;
+    let (_, _, text) = reported(&rt, alloc, &taps, 2, false, &gate)?;
     assert!(rt; gate.began.load(SeqCst) && gate.kept.load(SeqCst) && !gate.gave_up.load(SeqCst));
-    let output = report_on(alloc, report.verdicts.as_slice())?;
-    assert_eq!(rt; output.text.as_str(), REPORT);
+    assert_eq!(rt; text.as_str(), REPORT);
     Ok(())
 }

@@ -1,16 +1,30 @@
-//! Tests of the workers: tickets drawn in turn, one worker's entries, reports by 1, 2 and 64 workers, a gate that shows
-//! that two workers are at work at once, and work that is shared out among threads.
+//! Tests of what stands around a verdict: the workers (tickets drawn in turn, one worker's entries, reports by 1, 2 and 64
+//! workers, a gate that shows that two are at work at once, work shared out among threads), the desk that takes posts (what
+//! is posted and refused, the history, seats out of order, want of memory, a bundle that three threads post), and the tap
+//! of a socket, over memory and over loopback, with the verdict on a session whose client's tap wrote its records.
 #![tactic(auto)]
 
 #[cfg(test)]
-mod audits;
+mod books;
 #[cfg(test)]
 mod bundle;
 #[cfg(test)]
 mod gates;
 #[cfg(test)]
+mod history;
+#[cfg(test)]
+mod posted;
+#[cfg(test)]
+mod posts;
+#[cfg(test)]
+mod reports;
+#[cfg(test)]
 mod shared_out;
 #[cfg(test)]
-mod tickets;
+mod sockets;
+#[cfg(test)]
+mod two_sessions;
+#[cfg(test)]
+mod visits;
 #[cfg(test)]
 mod workers;

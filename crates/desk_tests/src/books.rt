@@ -1,7 +1,7 @@
-//! Want of memory: whatever allocation fails once (`rt try --test --fail-alloc N`), the call that it is refused in leaves
-//! all as it was, and succeeds when it is made again.
+//! A book without a desk, and want of memory: whatever allocation fails once (`rt try --test --fail-alloc N`), the call
+//! that it is refused in leaves all as it was, and succeeds when it is made again.
 use crate::bundle::NODE;
-use crate::opened::{Visit, are_lines, at_desk, closed, ensure};
+use crate::visits::{Visit, are_lines, at_desk, closed, ensure};
 use aud_book::{BackFault, Book, Desk, DeskFault, PostFault, Posted, Posts, TapSeat};
 use std::alloc::Global;
 use std::sync::Wait;
@@ -58,6 +58,18 @@ fn a_post_that_wants_memory_may_be_tried_again(rt: HostRuntime) -> Result<(), Fa
         Ok(visited) => ensure(visited?.history.len() == NODE.len(), "each line once"),
         Err(fault) => ensure(fault == DeskFault::Memory, "want of memory alone"),
     }
+}
+
+#[test]
+fn each_line_has_the_next_place(rt: HostRuntime) -> Result<(), Fail> {
+    let alloc = rt.alloc();
+    let mut book = Book::new(alloc, &["st", "a"])?;
+    assert_eq!(rt; book.append(1, b"node")?, 0);
+    assert_eq!(rt; book.append(0, b"stream")?, 1);
+    assert_eq!(rt; book.len(), 2);
+    let lines = book.lines_of(alloc, 1)?;
+    assert!(rt; matches!(lines.as_slice(), [line] if *line == b"node".as_slice()));
+    Ok(())
 }
 
 #[test]

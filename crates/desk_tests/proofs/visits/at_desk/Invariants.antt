@@ -1,4 +1,4 @@
-use Rattle.book_tests.proofs.opened.at_desk.Given as goal
+use Rattle.desk_tests.proofs.visits.at_desk.Given as goal
 
 abbrev pub ghosts-visited-L-Ledger : goal.ghosts-visited-L-Ledger
 ghosts-visited-L-Ledger g a = record { name = a.blank.name; parts = a.blank.parts }

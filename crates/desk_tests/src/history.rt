@@ -2,7 +2,7 @@
 ghost use Rattle.std.specs.Prelude.{◌≡◌, length};
 
 use crate::bundle::{NODE, STREAM};
-use crate::opened::{Visit, are_lines, at_desk, closed, ensure, last_two, post_all};
+use crate::visits::{Visit, are_lines, at_desk, closed, ensure, last_two, post_all};
 use aud_book::{Desk, Posted, Posts, TapSeat};
 use std::alloc::Global;
 use std::marker::Brand;

@@ -1,4 +1,4 @@
-use Rattle.book_tests.proofs.audited.posted_by_three.Given as goal
+use Rattle.desk_tests.proofs.posted.posted_by_three.Given as goal
 
 abbrev pub ghosts-three_threads-L-Ledger : goal.ghosts-three_threads-L-Ledger
 ghosts-three_threads-L-Ledger g a = record { name = a.blank.name; parts = a.blank.parts }

@@ -1,6 +1,6 @@
-//! What is posted, what is refused, and seats out of order.
-use crate::opened::{Visit, are_lines, at_desk, closed, ensure, last_two};
-use aud_book::{Desk, PostFault, Posted, Posts, Strayed, TapSeat};
+//! What is posted, what is refused, seats out of order, and names that no desk has.
+use crate::visits::{Visit, are_lines, at_desk, closed, ensure, last_two};
+use aud_book::{Desk, DeskFault, PostFault, Posted, Posts, Strayed, TapSeat};
 use std::alloc::Global;
 use std::sync::Wait;
 use std::test::Fail;
@@ -65,6 +65,34 @@ fn lines_up_to_the_limit_are_posted(rt: HostRuntime) -> Result<(), Fail> {
             assert!(rt; stream.lines.is_empty() && are_lines(&node.lines, &[&lengths.longest]));
         }
         _ => return Err(Fail::new("two taps")),
+    }
+    Ok(())
+}
+
+/// Posts nothing.
+struct Nothing;
+
+impl Visit for Nothing {
+    fn visit<'a, L: Posts, R: Wait>(
+        &'a self,
+        _rt: &R,
+        _alloc: Global,
+        desk: Desk<'a, L>,
+        seats: Vec<TapSeat<'a, L>>,
+    ) -> Result<Posted<'a>, Fail> {
+        closed(desk, seats)
+    }
+}
+
+#[test]
+fn a_name_stands_once(rt: HostRuntime) -> Result<(), Fail> {
+    let names: [&[&str]; 4] = [&["a", "a"], &["st", "a", "b", "a"], &["st", ""], &[]];
+    for names in names {
+        match at_desk(&rt, rt.alloc(), names, &Nothing) {
+            Err(fault) => assert_eq!(rt; fault, DeskFault::Names),
+            Ok(Ok(_)) => return Err(Fail::new("the names are refused")),
+            Ok(Err(fail)) => return Err(fail),
+        }
     }
     Ok(())
 }

@@ -2,11 +2,10 @@
 ghost use Rattle.std.specs.Prelude.{◌≡◌, length};
 
 use crate::bundle::{CLIENT, NAMES, NODE, REPORT, STREAM, lines_of};
-use crate::opened::{Visit, at_desk, closed, ensure, last_two, post_all};
+use crate::reports::reported;
+use crate::visits::{Visit, at_desk, closed, ensure, last_two, post_all};
 use aud_book::{Desk, Posted, Posts, TapSeat, read_posted};
-use aud_client::Recording;
-use aud_desk::{OpenGate, audit_with};
-use aud_report::report_on;
+use aud_desk::OpenGate;
 use std::alloc::Global;
 use std::hash::RandomState;
 use std::marker::Brand;
@@ -23,12 +22,9 @@ fn audit<R: Threads + Wait + Clock + RandomSource + Sync>(
     alloc: Global,
     posted: &Posted<'_>,
 ) -> Result<(), Fail> {
-    let keys = RandomState::new(rt)?;
-    let taps = read_posted(alloc, keys, posted)?;
-    let recording = Recording::read(rt, alloc, keys, 2, &taps)?;
-    let report = audit_with(rt, alloc, &recording, 2, false, &OpenGate)?;
-    let output = report_on(alloc, report.verdicts.as_slice())?;
-    ensure(output.text.as_str() == REPORT, "the report on the bundle")
+    let taps = read_posted(alloc, RandomState::new(rt)?, posted)?;
+    let (_, _, text) = reported(rt, alloc, &taps, 2, false, &OpenGate)?;
+    ensure(text.as_str() == REPORT, "the report on the bundle")
 }
 
 /// What three threads post, one for each tap.
