@@ -293,6 +293,7 @@ class Sources:
     def __init__(self) -> None:
         self.below = crates()
         self.functions: List[Function] = []
+        self.named: List[Named] = []
         self.implementations: List[Implementation] = []
         program = self.all_below(PROGRAM)
         self.roots = {it: self.module(it, root_of(it), None) for it in self.below if it in program}
@@ -372,6 +373,7 @@ class Sources:
 
     def declare(self, at: Cursor, kind: str, module: Module) -> None:
         made = Named(module, at.next(), at.generics())
+        self.named.append(made)
         module.names[made.name].append(made)
         at.until("{", "(", ";", "=")
         if at.take("="):
@@ -481,10 +483,11 @@ def part(of: Optional[Type], number: int) -> Optional[Type]:
 
 
 class Body:
-    """The calls of a function, in their order, and the names of methods that are left out."""
+    """The calls of a function, in their order, and the names of methods that are left out. Of an enum of which cases are given, only
+    the arms of these cases are looked at."""
 
-    def __init__(self, sources: Sources, function: Function) -> None:
-        self.sources, self.function = sources, function
+    def __init__(self, sources: Sources, function: Function, cases: Dict[str, Set[str]]) -> None:
+        self.sources, self.function, self.cases = sources, function, cases
         self.at = Cursor(function.body)
         self.scopes: List[Fields] = [{}]
         self.calls: List[Function] = []
@@ -694,18 +697,32 @@ class Body:
     def arms(self, of: Optional[Type]) -> Optional[Type]:
         outer = self.within(self.at.inside())
         result: Optional[Type] = None
+        is_over = False
         while self.at.text():
             self.scopes.append({})
-            self.bind(self.at.until("if", "=>"), of)
-            if self.at.take("if"):
+            pattern = self.at.until("if", "=>")
+            fits = self.fits(pattern)
+            calls, left_out = list(self.calls), list(self.left_out)
+            self.bind(pattern, of)
+            is_guarded = self.at.take("if")
+            if is_guarded:
                 self.expression()
             self.at.need("=>")
             given = self.statement() if self.at.text() == "{" else self.expression()
             result = result or given
             self.at.take(",")
             self.scopes.pop()
+            if fits is False or is_over:
+                self.calls, self.left_out = calls, left_out
+            is_over = is_over or (fits is True and not is_guarded)
         self.at = outer
         return result
+
+    def fits(self, pattern: List[Token]) -> Optional[bool]:
+        """Whether a pattern names one of the cases that are given, or only others; None where it names none of their enums."""
+        texts = [it.text for it in pattern]
+        named = {(texts[at - 1], texts[at + 1]) for at, it in enumerate(texts) if it == "::" and texts[at - 1] in self.cases}
+        return any(variant in self.cases[of] for of, variant in named) if named else None
 
     def closure(self, takes: Optional[Type]) -> Type:
         """A closure; what its parameters are where they aren't declared."""
