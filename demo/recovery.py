@@ -43,12 +43,8 @@ def place(off: str) -> tuple[int, int]:
 
 
 def event_of(fields: Mapping[str, str]) -> Event | None:
-    """The event of an entry; None where it carries none."""
-    return json.loads(fields["event"]) if "event" in fields else None
-
-
-def args_of(event: Event) -> list[Any]:
-    return [bytes.fromhex(it["hex"]) if isinstance(it, dict) and "hex" in it else it for it in event["args"]]
+    """The event of an entry; None where it carries none. Bytes stand there in hexadecimal digits."""
+    return json.loads(fields["event"], object_hook=lambda it: bytes.fromhex(it["hex"]) if it.keys() == {"hex"} else it) if "event" in fields else None
 
 
 def record_of(off: str, fields: Mapping[str, str]) -> dict[str, Any]:
@@ -56,7 +52,7 @@ def record_of(off: str, fields: Mapping[str, str]) -> dict[str, Any]:
     event = event_of(fields)
     if event is None:
         return {"k": "other", "off": off}
-    text, attachments = encode(args_of(event), off, event["nsp"])
+    text, attachments = encode(event["args"], off, event["nsp"])
     bin = [base64.b64encode(it).decode() for it in attachments]
     return {"k": "ev", "off": off, "nsp": event["nsp"], "rooms": event["rooms"], "except": event["except"], "text": text, "bin": bin}
 
@@ -69,8 +65,8 @@ def is_for(event: Event, rooms: Iterable[str]) -> bool:
 
 async def publish(redis: Any, *args: Any, nsp: str = "/", rooms: Iterable[str] = ()) -> str:
     """Puts an event into the stream, and gives its offset."""
-    shown = [{"hex": it.hex()} if isinstance(it, bytes) else it for it in args]
-    return await redis.xadd(KEY, {"event": json.dumps({"nsp": nsp, "rooms": list(rooms), "except": [], "args": shown})})
+    event = {"nsp": nsp, "rooms": list(rooms), "except": [], "args": args}
+    return await redis.xadd(KEY, {"event": json.dumps(event, default=lambda it: {"hex": it.hex()})})
 
 
 @dataclass
@@ -188,8 +184,8 @@ class Node:
         return self.sio.manager.get_rooms(sid, self.sessions[sid].nsp)
 
     async def send(self, eio_sid: str, off: str, event: Event) -> None:
-        args = args_of(event)
-        await self.sio._emit_internal(eio_sid, args[0], (*args[1:], off), namespace=event["nsp"])
+        name, *args = event["args"]
+        await self.sio._emit_internal(eio_sid, name, (*args, off), namespace=event["nsp"])
 
     async def live(self, session: Session, off: str, event: Event) -> None:
         """Sends what the node has just taken."""
@@ -240,10 +236,14 @@ class Node:
             await asyncio.sleep(0.005)
         return None
 
+    async def replayed_to(self) -> str:
+        """The entry up to which events are sent again: those after it the node has still to take, and sends then."""
+        return self.last
+
     async def missed(self, kept: Event, offset: str) -> list[tuple[str, Event]]:
         """What a session is sent again: up to its break what was sent to it, and then what is for the rooms that it had there."""
         found = []
-        for off, fields in await self.redis.xrange(KEY, f"({offset}", self.last):
+        for off, fields in await self.redis.xrange(KEY, f"({offset}", await self.replayed_to()):
             event = event_of(fields)
             if event is None or event["nsp"] != kept["nsp"]:
                 continue
