@@ -5,6 +5,7 @@ import importlib.util
 import re
 import shutil
 import unittest
+from unittest import mock
 
 from . import lab
 from sioaudit_taps import Redactor, TapError, tap_client
@@ -106,6 +107,34 @@ class Cluster(unittest.TestCase):
             await asyncio.to_thread(client.disconnect)
             client.tap.end()
             return await cluster.bundle()
+
+    def test_a_client_that_goes_on_with_its_pids_after_a_restart(self):
+        async def restarted():
+            async with lab.Lab() as cluster:
+                kept = lab.Kept()
+                for turn in range(2):
+                    client = lab.AsyncClient()
+                    client.kept = kept
+                    client.tap = tap_client(client, name="c1", dir=cluster.taps, resume=turn > 0)
+                    self.assertEqual(client.tap.connection, 1 if turn else None)
+                    await client.connect(cluster.nodes[turn].url, transports=["websocket"], namespaces=lab.NAMESPACES, wait_timeout=30)
+                    await burst(cluster, 10)
+                    await cluster.publish("last")
+                    await cluster.caught_up(kept)
+                    await cluster.publish("last", nsp="/chat")
+                    await cluster.caught_up(kept)
+                    if turn == 0:
+                        # the tap isn't ended, and a line of it is half there
+                        with open(client.tap.file, "a") as file:
+                            file.write('c1 {"k":"in","t":"42[')
+                        client.eio._trigger_event = client.eio._send_packet = mock.AsyncMock()
+                        await cluster.nodes[0].cut()
+                        await wait_until(lambda: not cluster.nodes[0].sessions)
+                        await burst(cluster, 10)
+                await client.disconnect()
+                return await cluster.bundle()
+
+        self.whole(asyncio.run(restarted()), turns=2)
 
     def test_a_fault_shows(self):
         bundle = asyncio.run(recorded(["websocket"]))

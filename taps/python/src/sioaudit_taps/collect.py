@@ -7,68 +7,17 @@ import asyncio
 import contextlib
 import fcntl
 import json
-import math
 import os
 import signal
 import socket
 import sys
-from collections.abc import Iterator
 from dataclasses import dataclass, field
 from typing import Any
 
 from . import records
-from .errors import FieldError, HeaderError, LimitError, LineTooLongError, NotJsonError, TapError, TapNameError, UnknownKindError
+from .errors import HeaderError, LimitError, TapError
 from .protocol import CHUNK, HEAD, LONGEST, VERSION, ProtocolError, message, receive
-from .tap import Follower
-
-NESTED = 127
-
-
-def _constant(name: str) -> None:
-    raise ValueError(f"{name} is no JSON")
-
-
-def _float(token: str) -> float:
-    number = float(token)
-    if not math.isfinite(number):
-        raise ValueError(f"no 64-bit float holds {token[:20]}")
-    return number
-
-
-def _int(token: str) -> int | float:
-    # a whole number has no sign
-    return int(token) if len(token) < 300 and token[0] != "-" else _float(token)
-
-
-_decoder = json.JSONDecoder(parse_constant=_constant, parse_float=_float, parse_int=_int)
-
-
-def _depth(value: Any) -> int:
-    inner = value.values() if isinstance(value, dict) else value if isinstance(value, list) else None
-    return 0 if inner is None else 1 + max(map(_depth, inner), default=0)
-
-
-def read_line(line: bytes) -> tuple[str, dict[str, Any]]:
-    """A tap's name and a record of a line without its newline; raises a TapError where the auditor would refuse it."""
-    line = line.removesuffix(b"\r")
-    if len(line) > records.LINE:
-        raise LineTooLongError(f"a line has at most {records.LINE} bytes")
-    front, blank, rest = line.partition(b" ")
-    try:
-        name = records.check_name(front.decode("ascii", "replace") if blank else None)
-    except TapNameError as error:
-        raise TapError("a line begins with its tap's name and a blank", code="NoTapName") from error
-    try:
-        record = _decoder.decode(rest.decode())
-        if b"\\u" in rest:
-            json.dumps(record, ensure_ascii=False).encode()  # half a surrogate pair
-        if rest.count(b"[") + rest.count(b"{") > NESTED and _depth(record) > NESTED:
-            raise ValueError(f"nested past {NESTED}")
-    except (ValueError, RecursionError) as error:
-        raise NotJsonError(f"what follows the name is no JSON: {error}") from error
-    if not isinstance(record, dict) or not isinstance(record.get("k"), str):
-        raise FieldError("the JSON text is no object with a k")
-    return name, record
+from .tap import Follower, whole_lines
 
 
 @dataclass
@@ -107,17 +56,17 @@ class Store:
         except OSError as error:
             os.close(self._senders)
             raise BlockingIOError(f"{senders}: another collector has it") from error
-        for line in self._whole_lines(self._senders):
+        for line in whole_lines(self._senders):
             tap = json.loads(line)
             self.taps[tap["tap"]] = Kept(tap["sender"])
         if self.into is not None:
             self._into_fd = self._opened(self.into)
-            for line in self._whole_lines(self._into_fd):
+            for line in whole_lines(self._into_fd):
                 self._recall(line)
         else:
             for name, kept in self.taps.items():
                 kept.fd = self._opened(os.path.join(self.dir or ".", f"{name}.tap"))
-                for line in self._whole_lines(kept.fd):
+                for line in whole_lines(kept.fd):
                     self._recall(line)
 
     def close(self) -> None:
@@ -165,7 +114,7 @@ class Store:
                 os.fsync(fd)
 
     def _follow(self, name: str, kept: Kept, line: bytes) -> None:
-        of_line, record = read_line(line)
+        of_line, record = records.read_line(line)
         if of_line != name:
             raise HeaderError(f"the line is of the tap {of_line}")
         if kept.follower is not None:
@@ -173,15 +122,7 @@ class Store:
                 raise HeaderError("a second header", code="HeaderTwice")
             kept.follower.follow(record)
             return
-        if record["k"] != "tap":
-            raise HeaderError("the first line is no header", code="NoHeader")
-        version, of = record.get("v"), record.get("of")
-        if not isinstance(version, int) or isinstance(version, bool) or not isinstance(of, str):
-            raise FieldError("a header has v, a whole number, and of, a text")
-        if version not in (1, 2):
-            raise FieldError(f"version {version} is neither 1 nor 2", code="Version")
-        if of not in records.KINDS:
-            raise UnknownKindError(f"a tap is of a stream, node or client, not {of}")
+        of, version = records.read_header(record)
         others = sum(it.follower is not None and it.follower.of == of for it in self.taps.values())
         if of == "stream" and others:
             raise LimitError("there is a stream's tap already", code="SecondStream")
@@ -212,19 +153,6 @@ class Store:
         except OSError:
             os.ftruncate(fd, size)  # whole or not at all
             raise
-
-    @staticmethod
-    def _whole_lines(fd: int) -> Iterator[bytes]:
-        """The lines of a file; what a crash left of a last one is cut off."""
-        whole = 0
-        with os.fdopen(os.dup(fd), "rb", buffering=1 << 20) as opened:
-            opened.seek(0)
-            for line in opened:
-                if not line.endswith(b"\n"):
-                    break
-                whole += len(line)
-                yield line[:-1]
-        os.ftruncate(fd, whole)
 
 
 class Collector:
