@@ -20,6 +20,7 @@ from typing import Any
 
 sys.path.insert(0, str(Path(__file__).resolve().parents[1] / "taps/python/src"))
 
+import aiohttp  # noqa: E402
 import engineio  # noqa: E402
 import socketio  # noqa: E402
 from aiohttp import web  # noqa: E402
@@ -307,11 +308,35 @@ class Kept:
             self.got.append(data[-1])
 
 
+class WholeBodies:
+    """A session of aiohttp that gives an answer once its body is whole. engineio's client reads it later, and where it was
+    cut off then, goes on as connected for ever."""
+
+    closed = False  # it opens again where it was closed
+
+    def __init__(self) -> None:
+        self._session: aiohttp.ClientSession | None = None
+
+    def __getattr__(self, name: str) -> Any:
+        if self._session is None or self._session.closed:
+            self._session = aiohttp.ClientSession()
+        return getattr(self._session, name)
+
+    async def get(self, url: str, **words: Any) -> aiohttp.ClientResponse:
+        answer = await self.request("GET", url, **words)
+        await answer.read()
+        return answer
+
+    async def close(self) -> None:
+        if self._session is not None:
+            await self._session.close()
+
+
 class AsyncClient(socketio.AsyncClient):
     """The library's client, that asks for a recovery."""
 
     def __init__(self) -> None:
-        super().__init__(reconnection=False, handle_sigint=False)
+        super().__init__(reconnection=False, handle_sigint=False, http_session=WholeBodies())
         self.kept = Kept()
 
     async def _handle_eio_connect(self) -> None:
@@ -328,11 +353,26 @@ class AsyncClient(socketio.AsyncClient):
         await super()._handle_event(namespace, id, data)
 
 
+def session_of_whole_bodies() -> Any:
+    """A session of requests that refuses a body that was cut off. With urllib3 before version 2 it gives what came of it, and
+    the client takes half a packet for one."""
+    import requests.adapters
+
+    class Adapter(requests.adapters.HTTPAdapter):
+        def build_response(self, request: Any, response: Any) -> Any:
+            response.enforce_content_length = True
+            return super().build_response(request, response)
+
+    session = requests.Session()
+    session.mount("http://", Adapter())
+    return session
+
+
 class ThreadClient(socketio.Client):
     """The same with threads, in which events can reach handlers in another order than they came."""
 
     def __init__(self) -> None:
-        super().__init__(reconnection=False, handle_sigint=False)
+        super().__init__(reconnection=False, handle_sigint=False, http_session=session_of_whole_bodies())
         self.kept = Kept()
         self.keeping = threading.Lock()
 

@@ -86,6 +86,39 @@ test("the vectors that all packages share", { skip: fs.existsSync(VECTORS) ? fal
   for (const { about, of, in: text, out } of vectors) assert.deepEqual(redact[of](text), out, `${about}: ${JSON.stringify(text)}`);
 });
 
+// what a bundle's lines are, each redacted by the Redactor of taps/python
+const PYTHON = `
+import json, sys
+sys.path.insert(0, sys.argv[1])
+from sioaudit_taps import Redactor, read_key
+it = Redactor(read_key(sys.argv[2]))
+for line in sys.stdin.buffer:
+    name, _, text = line.decode().rstrip("\\n").partition(" ")
+    record = json.loads(text)
+    print(name + " " + json.dumps(record if record["k"] == "tap" else it.record(record)))
+`;
+const noPython = spawnSync("python3", ["-c", "import sys; assert sys.version_info >= (3, 11)"]).status === 0 ? false : "Python 3.11 isn't there";
+
+test("taps in Python redact recordings of real software alike", { skip: noPython }, (t) => {
+  const key = path.join(directory(t), "key");
+  fs.writeFileSync(key, KEY);
+  const kinds = new Set();
+  for (const folder of ["examples", "tests/recordings"]) {
+    for (const name of fs.readdirSync(path.join(ROOT, folder)).filter((it) => it.endsWith(".jsonl"))) {
+      const bundle = fs.readFileSync(path.join(ROOT, folder, name), "utf8");
+      if (bundle.split("\n").some((line) => line.startsWith("{"))) continue; // certificates
+      const { status, stdout, stderr } = spawnSync("python3", ["-c", PYTHON, path.join(ROOT, "taps/python/src"), key], { input: bundle, encoding: "utf8", maxBuffer: 1 << 26 });
+      assert.equal(status, 0, stderr);
+      const read = (text) => text.trimEnd().split("\n").map((line) => [line.slice(0, line.indexOf(" ")), JSON.parse(line.slice(line.indexOf(" ") + 1))]);
+      const records = read(redactBundle(bundle));
+      assert.deepEqual(read(stdout), records, name);
+      for (const [, record] of records) for (const field of Object.keys(record)) kinds.add(`${record.k} ${field}`);
+    }
+  }
+  // pids, sids, rooms, texts and attachments were among them
+  for (const it of ["open pid", "open sid", "join room", "leave room", "ev rooms", "ev except", "ev text", "ev bin", "in t", "inb b", "poll t", "out t"]) assert.ok(kinds.has(it), it);
+});
+
 // a bundle, line by line
 function redactBundle(bundle) {
   return bundle.replace(/^(\S+ )(.+)$/gm, (_, name, line) => {

@@ -2,15 +2,21 @@
 
 import asyncio
 import importlib.util
+import itertools
+import logging
+import random
 import re
 import shutil
 import unittest
+from pathlib import Path
 from unittest import mock
 
 from . import lab
+from .relay import Relay
 from sioaudit_taps import Redactor, TapError, tap_client
 
 KEY = b"the key of a test, thirty bytes"
+logging.getLogger("aiohttp.server").setLevel(logging.CRITICAL)  # requests of sessions that were cut
 NEEDED = lab.program() is not None and shutil.which("redis-server") is not None
 THREADS = all(importlib.util.find_spec(it) for it in ("requests", "websocket"))
 
@@ -24,7 +30,7 @@ async def burst(cluster, count):
 
 
 async def wait_until(true):
-    for _ in range(2000):
+    for _ in range(6000):
         if true():
             return
         await asyncio.sleep(0.01)
@@ -52,6 +58,51 @@ async def recorded(transports, redact=None, drop=False):
         await cluster.publish("end", nsp="/chat")
         await cluster.caught_up(client.kept)
         await client.disconnect()
+        client.tap.end()
+        return await cluster.bundle()
+
+
+async def cut_at_random(transport, threads, seed, cuts=30):
+    """A recording in which a client's connection is cut that many times, after a number of bytes by chance in a burst."""
+    chance = random.Random(seed)
+    async with lab.Lab() as cluster, Relay(None) as way:
+        client = cluster.tapped(lab.ThreadClient() if threads else lab.AsyncClient(), "c1")
+
+        async def do(method, *args, **kwargs):
+            await (asyncio.to_thread(method, *args, **kwargs) if threads else method(*args, **kwargs))
+
+        for node in cluster.nodes:
+            node.sio.eio.ping_timeout = 60  # no other end than the cuts, on a busy machine too
+
+        def handled():
+            # in threads of their own, maybe after the connection was lost: who asks before that asks with an offset that is too low
+            events = sum('"t":"42' in line for line in Path(client.tap.file).read_text().splitlines())
+            return client.eio.state == "disconnected" and (not threads or events == len(client.kept.got))
+
+        for turn in range(cuts + 1):
+            node = cluster.nodes[turn % 2]
+            way.cut()  # what the client has kept leads to the other node
+            await asyncio.sleep(0.02)
+            way.port, way.back = node.port, None
+            await do(client.connect, f"http://127.0.0.1:{way.at}", transports=[transport], namespaces=lab.NAMESPACES, wait_timeout=30)
+            if turn == 0:
+                for nsp in lab.NAMESPACES:
+                    await cluster.publish("first", nsp=nsp)
+                    await cluster.caught_up(client.kept)
+                if not threads:  # (there an attachment may be handled before its event)
+                    await client.call("join", "r")
+            if turn < cuts:
+                way.back = chance.randrange(1, 4000)
+                await burst(cluster, 40)
+                await asyncio.sleep(chance.random() * 0.02)
+            else:
+                for nsp in lab.NAMESPACES:
+                    await cluster.publish("last", nsp=nsp)
+                    await cluster.caught_up(client.kept)
+            way.cut()  # at the latest
+            await node.cut()
+            await wait_until(lambda: handled() and not node.sessions)
+        await do(client.eio.http.close)
         client.tap.end()
         return await cluster.bundle()
 
@@ -108,10 +159,16 @@ class Cluster(unittest.TestCase):
             client.tap.end()
             return await cluster.bundle()
 
+    def test_random_cuts_in_bursts(self):
+        for seed, (threads, transport) in enumerate(itertools.product((False, True) if THREADS else (False,), ("websocket", "polling"))):
+            with self.subTest(threads=threads, transport=transport):
+                bundle = asyncio.run(cut_at_random(transport, threads, seed))
+                self.whole(bundle, turns=31)
+
     def test_a_client_that_goes_on_with_its_pids_after_a_restart(self):
         async def restarted():
             async with lab.Lab() as cluster:
-                kept = lab.Kept()
+                kept = lab.recovery.Kept()
                 for turn in range(2):
                     client = lab.AsyncClient()
                     client.kept = kept

@@ -1,6 +1,7 @@
 "use strict";
 
-// Runs a cluster of real software (cluster.py) behind recording proxies, with a tap in each client beside the proxies'.
+// Runs a cluster of real software (cluster.py) behind recording proxies, with the tap of taps/python in each client beside
+// the proxies'.
 
 const assert = require("node:assert/strict");
 const { spawn, spawnSync } = require("node:child_process");
@@ -123,7 +124,7 @@ class Lab {
     lab.dir = directory(t);
     for (const it of ["nodes", "truth", "joined"]) fs.mkdirSync(path.join(lab.dir, it));
     lab.redis = await startRedis(t);
-    const all = [...nodes.map((name) => Ops.start(t, "node", name, lab.redis.socket, lab.file("nodes", name))), Ops.start(t, "clients")];
+    const all = [...nodes.map((name) => Ops.start(t, "node", name, lab.redis.socket, path.join(lab.dir, "nodes"))), Ops.start(t, "clients")];
     const started = await Promise.all(all);
     lab.driver = started.pop();
     lab.nodes = Object.fromEntries(nodes.map((name, i) => [name, started[i]]));
@@ -183,11 +184,11 @@ class Lab {
 
   /** Cuts the connection, and waits until all have noticed. */
   async cut(client) {
-    const { eio, st } = await this.info(client);
+    const { eio, pids: had } = await this.info(client);
     client.way.cut();
     await this.driver.ask("gone", { name: client.name });
     for (const node of Object.values(this.nodes)) if (node.process.exitCode === null && node.process.signalCode === null) await node.ask("abort", { eio });
-    const pids = Object.values(st).map((it) => it.pid);
+    const pids = Object.values(had);
     await until(async () => {
       for (const node of Object.values(this.nodes)) {
         if (node.process.exitCode !== null || node.process.signalCode !== null) continue;

@@ -11,6 +11,7 @@ import os
 import signal
 import socket
 import sys
+from collections.abc import Iterator
 from dataclasses import dataclass, field
 from typing import Any
 
@@ -29,7 +30,6 @@ class Kept:
     at: int = 0  # bytes of whole lines
     lines: int = 0
     refused: dict[str, Any] | None = None
-    fd: int | None = None
 
 
 @dataclass
@@ -64,13 +64,13 @@ class Store:
             for line in whole_lines(self._into_fd):
                 self._recall(line)
         else:
-            for name, kept in self.taps.items():
-                kept.fd = self._opened(os.path.join(self.dir or ".", f"{name}.tap"))
-                for line in whole_lines(kept.fd):
-                    self._recall(line)
+            for name in list(self.taps):
+                with self._file(name) as fd:
+                    for line in whole_lines(fd):
+                        self._recall(line)
 
     def close(self) -> None:
-        for fd in (self._senders, self._into_fd, *(it.fd for it in self.taps.values())):
+        for fd in (self._senders, self._into_fd):
             if fd is not None:
                 os.close(fd)
         self.taps = {}
@@ -83,8 +83,6 @@ class Store:
             self._append(self._senders, message(tap=name, sender=sender))
             os.fsync(self._senders)
             kept = self.taps[name] = Kept(sender)
-            if self.dir is not None:
-                kept.fd = self._opened(os.path.join(self.dir, f"{name}.tap"))
         elif kept.sender != sender:
             raise TapError(f"the tap {name} is of the sender {kept.sender}", code="NameTaken")
         return kept
@@ -102,15 +100,15 @@ class Store:
         except TapError as error:
             kept.refused = {"refused": error.code, "line": kept.lines + count + 1, "why": str(error)}
         if good:
-            fd = self._into_fd if self._into_fd is not None else kept.fd
-            assert fd is not None
-            self._append(fd, lines[:good])
+            with self._file(name) as fd:
+                self._append(fd, lines[:good])
             kept.at += good
             kept.lines += count
 
     def sync(self) -> None:
-        for fd in (self._into_fd, *(it.fd for it in self.taps.values())):
-            if fd is not None:
+        """Has all of it on the disk."""
+        for name in self.taps if self.into is None else [""]:
+            with self._file(name) as fd:
                 os.fsync(fd)
 
     def _follow(self, name: str, kept: Kept, line: bytes) -> None:
@@ -138,6 +136,18 @@ class Store:
         self._follow(name, kept, line)
         kept.at += len(line) + 1
         kept.lines += 1
+
+    @contextlib.contextmanager
+    def _file(self, name: str) -> Iterator[int]:
+        """The file that has a tap. One a tap is opened each time: there may be more than a process may hold open."""
+        if self._into_fd is not None:
+            yield self._into_fd
+            return
+        fd = self._opened(os.path.join(self.dir or ".", f"{name}.tap"))
+        try:
+            yield fd
+        finally:
+            os.close(fd)
 
     @staticmethod
     def _opened(path: str) -> int:

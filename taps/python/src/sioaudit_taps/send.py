@@ -61,6 +61,7 @@ class Sender:
         """Seconds in which, once it was asked to stop, it still looks for the collector."""
         self._log = log or (lambda text: None)
         self._told: set[str] = set()
+        self._pause = 0.1  # until it looks for the collector again
 
     @property
     def refused(self) -> list[str]:
@@ -68,7 +69,7 @@ class Sender:
 
     async def run(self) -> bool:
         """Sends until `stop` is set, and then what the files have by then. Whether all of it is with the collector."""
-        pause, since = 0.1, None
+        since = None
         loop = asyncio.get_running_loop()
         while True:
             try:
@@ -85,14 +86,15 @@ class Sender:
                 await asyncio.sleep(0.1)
             else:
                 with contextlib.suppress(TimeoutError):
-                    await asyncio.wait_for(self.stop.wait(), pause)
-                pause = min(pause * 2, 5.0)
+                    await asyncio.wait_for(self.stop.wait(), self._pause)
+                self._pause = min(self._pause * 2, 5.0)
 
     async def _connection(self) -> None:
         reader, writer = await asyncio.open_connection(self.host, self.port, limit=HEAD)
         try:
             await self._ask(reader, writer, message(sioaudit=VERSION, sender=self.name))
             self._told.clear()
+            self._pause = 0.1
             while True:
                 ending = self.stop.is_set()
                 self._look()
