@@ -178,6 +178,8 @@ test("connections that a proxy cuts are recovered", { skip, timeout: 240_000 }, 
   const client = await lab.client("cut");
   await lab.connect(client, "a");
   await lab.join(client, "r");
+  await lab.publish(...events(1)); // without an offset it could not be recovered
+  await lab.quiet();
   for (let i = 0; i < 10; i++) {
     await lab.publish(...events(5));
     await lab.quiet();
