@@ -4,7 +4,7 @@ const fs = require("node:fs");
 const path = require("node:path");
 const { TapError } = require("./errors");
 const { KINDS, LIMITS, checkName, checked } = require("./records");
-const { redactor } = require("./redact");
+const { redactorOf } = require("./redact");
 
 const PIECE = 1 << 20;
 
@@ -42,7 +42,7 @@ class Tap {
     this.connection = undefined;
     /** what ended it, if anything did */
     this.error = undefined;
-    this.#redact = redact === undefined ? undefined : typeof redact === "object" && "record" in redact ? redact : redactor(redact);
+    this.#redact = redactorOf(redact);
 
     if (stream !== undefined) {
       this.#stream = stream;
