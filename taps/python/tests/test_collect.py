@@ -200,6 +200,27 @@ class Collect(unittest.TestCase):
             got = f"{kept.refused['line']}: {kept.refused['refused']}" if kept.refused else None
             self.assertEqual(got, expected, [line[:200] for line in lines])
 
+    def test_what_cannot_be_sent_is_told(self):
+        write_taps(self.taps)
+        (self.taps / "text.tap").write_text("x" * 40)
+        (self.taps / "again.tap").write_text((self.taps / "c1.tap").read_text())
+        (self.taps / "begun.tap").write_text("be")  # what has no whole line yet is nothing to send
+
+        async def run():
+            told = []
+            collector = Collector(Store(into=self.into))
+            port = await collector.listen("127.0.0.1", 0)
+            for paths in ([str(self.taps)], [str(self.taps / "c1.tap"), str(self.dir / "none.tap")], [str(self.taps / "c1.tap")]):
+                sender = Sender("m1", paths, "127.0.0.1", port, log=told.append)
+                sender.stop.set()
+                self.assertEqual(await sender.run(), len(paths) == 1 and paths != [str(self.taps)])
+            await collector.close()
+            return [it.removeprefix(f"{self.dir}/") for it in told]
+
+        told = asyncio.run(run())
+        self.assertEqual(told, ["taps/c1.tap: there is another file of the tap c1", "taps/text.tap: it is no tap", "none.tap: No such file or directory"])
+        self.assertEqual(set(self.collected()), {"st", "a.1", "c1"})
+
     def test_a_slow_sender_blocks_no_other(self):
         write_taps(self.taps)
 

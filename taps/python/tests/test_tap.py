@@ -1,15 +1,18 @@
+import importlib
 import os
 import stat
 import subprocess
 import sys
 import tempfile
 import threading
+import tomllib
 import unittest
 from pathlib import Path
 from unittest import mock
 
 from . import lab
-from sioaudit_taps import NodeTap, StreamTap, Tap, TapError, encode
+import sioaudit_taps
+from sioaudit_taps import NodeTap, StreamTap, Tap, TapError, encode, tap_client
 
 
 class Taps(unittest.TestCase):
@@ -135,6 +138,28 @@ class Taps(unittest.TestCase):
             self.python(tapped + f"sioaudit_taps.tap_client(socketio.{made}, name='c', dir={str(self.dir)!r}).end()")
             self.assertEqual((self.dir / "c.tap").read_text(), 'c {"k":"tap","v":1,"of":"client"}\n')
             (self.dir / "c.tap").unlink()
+
+    def test_the_package(self):
+        at = lab.ROOT / "taps/python"
+        about = tomllib.loads((at / "pyproject.toml").read_text())
+        self.assertEqual(about["project"]["dependencies"], [])
+        for program in about["project"]["scripts"].values():
+            module, _, name = program.partition(":")
+            self.assertTrue(callable(getattr(importlib.import_module(module), name)))
+        for name in about["tool"]["setuptools"]["package-data"]["sioaudit_taps"]:
+            self.assertTrue((at / "src/sioaudit_taps" / name).exists())
+        self.assertEqual(sorted(sioaudit_taps.__all__), sorted(it for it in vars(sioaudit_taps) if not it.startswith("_") and not isinstance(getattr(sioaudit_taps, it), type(os))))
+
+    def test_what_a_tap_is_given(self):
+        for made in (StreamTap, NodeTap):
+            for words in ({}, {"name": "a"}, {"dir": self.dir}, {"name": "a", "dir": self.dir, "tap": self.tap("stream")}):
+                self.refused("Field", made, **words)
+            self.refused("UnknownKind", made, tap=self.tap("client"))
+        client = mock.Mock()
+        client.eio.state = "disconnected"
+        for words in ({}, {"name": "a"}, {"dir": self.dir}, {"name": "a", "dir": self.dir, "tap": self.tap("client")}):
+            self.refused("Field", tap_client, client, **words)
+        self.refused("UnknownKind", tap_client, client, tap=self.tap("stream"))
 
     def python(self, code):
         done = subprocess.run([sys.executable, "-c", code], capture_output=True, text=True)

@@ -10,7 +10,7 @@ import warnings
 from collections.abc import Callable
 from typing import Any
 
-from .errors import LateError, TapError, UnknownKindError
+from .errors import FieldError, LateError, TapError, UnknownKindError
 from .redact import Redactor
 from .tap import Tap
 
@@ -81,6 +81,8 @@ def tap_client(
     eio = client.eio
     if eio.state != "disconnected":
         raise LateError("the client connects already: tap it before")
+    if (tap is None) == (name is None or dir is None):
+        raise FieldError("a client's tap is given name and dir, or tap")
     into = tap if tap is not None else Tap(str(name), "client", dir=dir, resume=resume, redact=redact)
     if into.of != "client":
         raise UnknownKindError(f"the tap {into.name} is a {into.of}'s")

@@ -60,6 +60,8 @@ class Sender:
         self.patience = 10.0
         """Seconds in which, once it was asked to stop, it still looks for the collector."""
         self._log = log or (lambda text: None)
+        self.left_out: set[str] = set()
+        """Files that could not be read, or are no taps, and directories that could not be looked into."""
         self._told: set[str] = set()
         self._pause = 0.1  # until it looks for the collector again
 
@@ -74,7 +76,7 @@ class Sender:
         while True:
             try:
                 await self._connection()
-                return not self.refused
+                return not self.refused and not self.left_out
             except (OSError, EOFError, TimeoutError) as error:
                 self._tell(f"no collector: {error}")
             for tap in self.taps.values():
@@ -152,11 +154,12 @@ class Sender:
         return False
 
     def _look(self) -> None:
+        self.left_out.clear()
         for path in self.paths:
             try:
                 files = sorted(os.path.join(path, it) for it in os.listdir(path) if it.endswith(".tap")) if os.path.isdir(path) else [path]
             except OSError as error:
-                self._tell(f"{path}: {error.strerror}")
+                self._leave_out(path, str(error.strerror))
                 continue
             for file in files:
                 if file not in self.taps:
@@ -167,17 +170,21 @@ class Sender:
             with open(file, "rb") as opened:
                 front = opened.read(33)
         except OSError as error:
-            return self._tell(f"{file}: {error.strerror}")
+            return self._leave_out(file, str(error.strerror))
         found = _FRONT.match(front)
         if found is None:
             if len(front) == 33:
-                self._tell(f"{file}: it is no tap")
+                self._leave_out(file, "it is no tap")
             return None
         name = found[1].decode()
         if any(it.name == name for it in self.taps.values()):
-            return self._tell(f"{file}: there is another file of the tap {name}")
+            return self._leave_out(file, f"there is another file of the tap {name}")
         self.taps[file] = _Tap(file, name)
         return None
+
+    def _leave_out(self, path: str, why: str) -> None:
+        self.left_out.add(path)
+        self._tell(f"{path}: {why}")
 
     def _tell(self, text: str) -> None:
         if text not in self._told:

@@ -10,7 +10,7 @@ from collections.abc import Callable, Iterable, Mapping, Sequence
 from types import TracebackType
 from typing import TYPE_CHECKING, Any, Self
 
-from .errors import EndedError, MomentError, TrimmedError
+from .errors import EndedError, FieldError, MomentError, TrimmedError, UnknownKindError
 from .records import Record
 from .redact import Redactor
 from .tap import Tap
@@ -51,10 +51,10 @@ class StreamTap:
         redact: bytes | Redactor | None = None,
     ) -> None:
         if (tap is None) == (name is None or dir is None):
-            raise MomentError("a stream's tap is given name and dir, or tap")
+            raise FieldError("a stream's tap is given name and dir, or tap")
         self.tap = tap if tap is not None else Tap(str(name), "stream", dir=dir, resume=resume, redact=redact)
         if self.tap.of != "stream":
-            raise MomentError(f"the tap {self.tap.name} is a {self.tap.of}'s")
+            raise UnknownKindError(f"the tap {self.tap.name} is a {self.tap.of}'s")
 
     def event(
         self,
