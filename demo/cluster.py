@@ -15,15 +15,14 @@ import json
 import os
 import random
 import sys
-from collections.abc import Awaitable, Callable
-from pathlib import Path
+from collections.abc import Callable
 from typing import Any
 
 import recovery
 from recovery import Event, Node, Session
 
 import redis.asyncio
-from sioaudit_taps import StreamTap, tap_stream
+from sioaudit_taps import NodeTap, StreamTap, tap_stream
 
 ROOMS = ["red", "green", "blue"]
 PICTURE = bytes(range(256))
@@ -72,8 +71,8 @@ async def until(holds: Callable[[], bool], what: str, patience: float = 60.0) ->
 class Faulty(Node):
     """A node that can be broken. What is wrong with it is in `fault`; without it, it is the node that it should be."""
 
-    def __init__(self, name: str, redis: Any, taps: Path) -> None:
-        super().__init__(name, redis, taps)
+    def __init__(self, redis: Any, tap: NodeTap) -> None:
+        super().__init__(redis, tap)
         self.fault = ""
         self.victim = ""
         self.dropped: str | None = None
@@ -138,7 +137,7 @@ class Faulty(Node):
 class Stream:
     """The tap of the stream."""
 
-    def __init__(self, redis: Any, taps: Path) -> None:
+    def __init__(self, redis: Any, taps: str) -> None:
         self.ending = asyncio.Event()
         self.tap = StreamTap("st", dir=taps)
         self.work = asyncio.create_task(tap_stream(self.tap, redis, recovery.KEY, recovery.record_of, stop=self.ending))
@@ -357,12 +356,12 @@ async def main() -> None:
     *name, socket, taps = words
     client = redis.asyncio.Redis(unix_socket_path=socket, decode_responses=True)
     if role == "node":
-        node = Faulty(name[0], client, Path(taps))
+        node = Faulty(client, NodeTap(name[0], dir=taps))
         await node.boot()
         tell(role=role, port=node.port)
         await serve(node)
     else:
-        stream = Stream(client, Path(taps))
+        stream = Stream(client, taps)
         tell(role=role)
         await serve(stream)
     await client.close()

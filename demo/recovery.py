@@ -132,15 +132,15 @@ class Server(socketio.AsyncServer):
 class Node:
     """A node: sends what it takes from the stream, and gives sessions back that broke here or elsewhere."""
 
-    def __init__(self, name: str, redis: Any, taps: Path, redact: bytes | None = None) -> None:
+    def __init__(self, redis: Any, tap: NodeTap) -> None:
         self.redis = redis
+        self.tap = tap
         self.sessions: dict[str, Session] = {}  # by sid
         self.last = "0-0"
         self.lock = asyncio.Lock()
         self.running = asyncio.Event()
         self.running.set()
         self.tasks: set[asyncio.Task[None]] = set()
-        self.tap = NodeTap(name, dir=taps, redact=redact)
         self.sio = Server(async_mode="aiohttp", namespaces=NAMESPACES, ping_interval=5, ping_timeout=5)
         self.sio.node = self
         for nsp in NAMESPACES:

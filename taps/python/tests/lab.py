@@ -15,7 +15,7 @@ import recovery  # noqa: E402
 import redis.asyncio  # noqa: E402
 from recovery import KEY, NAMESPACES, AsyncClient, Node, ThreadClient, record_of  # noqa: E402, F401
 
-from sioaudit_taps import StreamTap, tap_client, tap_stream  # noqa: E402
+from sioaudit_taps import NodeTap, StreamTap, tap_client, tap_stream  # noqa: E402
 
 
 def program():
@@ -50,7 +50,7 @@ class Lab:
         self.stop_stream = asyncio.Event()
         self.stream = StreamTap("st", dir=self.taps, redact=self.redact)
         self.streaming = asyncio.create_task(tap_stream(self.stream, self.redis, KEY, record_of, stop=self.stop_stream))
-        self.nodes = [Node(name, self.redis, self.taps, self.redact) for name in ("a", "b")]
+        self.nodes = [Node(self.redis, NodeTap(name, dir=self.taps, redact=self.redact)) for name in ("a", "b")]
         for node in self.nodes:
             await node.boot()
         return self
