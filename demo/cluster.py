@@ -22,6 +22,7 @@ import recovery
 from recovery import Event, Node, Session
 
 import redis.asyncio
+import socketio
 from sioaudit_taps import NodeTap, StreamTap, tap_stream
 
 ROOMS = ["red", "green", "blue"]
@@ -97,8 +98,10 @@ class Faulty(Node):
         return self.fault == "lag" or super().is_far_enough(kept)
 
     async def replayed_to(self) -> str:
-        newest = await self.redis.xrevrange(recovery.KEY, count=1)
-        return newest[0][0] if self.fault == "double" else await super().replayed_to()
+        if self.fault != "double":
+            return await super().replayed_to()
+        ((newest, _),) = await self.redis.xrevrange(recovery.KEY, count=1)
+        return str(newest)
 
     async def missed(self, kept: Event, offset: str) -> list[tuple[str, Event]]:
         if self.fault == "leave":
@@ -217,7 +220,7 @@ class Talker:
 
     @property
     def here(self) -> bool:
-        return self.client.eio.state == "connected" and all(it in self.client.namespaces for it in self.namespaces)
+        return bool(self.client.eio.state == "connected") and all(it in self.client.namespaces for it in self.namespaces)
 
     @property
     def known(self) -> bool:
@@ -237,7 +240,7 @@ class Talker:
                 try:
                     await self.client.connect(self.line.url, transports=self.transports, namespaces=self.namespaces, wait=False)
                     await until(lambda: self.here or self.client.eio.state == "disconnected", "a connection", recovery.PATIENCE + 5)
-                except (recovery.socketio.exceptions.ConnectionError, TimeoutError) as why:
+                except (socketio.exceptions.ConnectionError, TimeoutError) as why:
                     print(f"{self.name}: {why}", file=sys.stderr, flush=True)
                     await self.cut()
                     await asyncio.sleep(self.random.uniform(SHORT, LONG))
@@ -354,7 +357,7 @@ async def main() -> None:
         await serve(Clients(port, count, seed))
         return
     *name, socket, taps = words
-    client = redis.asyncio.Redis(unix_socket_path=socket, decode_responses=True)
+    client: redis.asyncio.Redis[str] = redis.asyncio.Redis(unix_socket_path=socket, decode_responses=True)
     if role == "node":
         node = Faulty(client, NodeTap(name[0], dir=taps))
         await node.boot()

@@ -67,7 +67,8 @@ def is_for(event: Event, rooms: Iterable[str]) -> bool:
 async def publish(redis: Any, *args: Any, nsp: str = "/", rooms: Iterable[str] = ()) -> str:
     """Puts an event into the stream, and gives its offset."""
     event = {"nsp": nsp, "rooms": list(rooms), "except": [], "args": args}
-    return await redis.xadd(KEY, {"event": json.dumps(event, default=lambda it: {"hex": it.hex()})})
+    off: str = await redis.xadd(KEY, {"event": json.dumps(event, default=lambda it: {"hex": it.hex()})})
+    return off
 
 
 @dataclass
@@ -155,7 +156,7 @@ class Node:
         await self.runner.setup()
         site = web.TCPSite(self.runner, "127.0.0.1", 0, shutdown_timeout=0.1)
         await site.start()
-        self.port = site._server.sockets[0].getsockname()[1]
+        self.port: int = self.runner.addresses[0][1]
         self.url = f"http://127.0.0.1:{self.port}"
         self.stopping = False
         self.reader = asyncio.create_task(self.read())
@@ -182,7 +183,8 @@ class Node:
         return "ok"
 
     def rooms(self, sid: str) -> list[str]:
-        return self.sio.manager.get_rooms(sid, self.sessions[sid].nsp)
+        rooms: list[str] = self.sio.manager.get_rooms(sid, self.sessions[sid].nsp)
+        return rooms
 
     async def send(self, eio_sid: str, off: str, event: Event) -> None:
         name, *args = event["args"]
@@ -203,9 +205,9 @@ class Node:
                     self.tap.take(off)
                     self.last = off
                     event = event_of(fields)
-                    to = [it for sid, it in self.sessions.items() if event and it.nsp == event["nsp"] and is_for(event, self.rooms(sid))]
-                    for session in to:
-                        await self.live(session, off, event)
+                    if event is not None:
+                        for session in [it for sid, it in self.sessions.items() if it.nsp == event["nsp"] and is_for(event, self.rooms(sid))]:
+                            await self.live(session, off, event)
                     for session in self.sessions.values():
                         if session.pid == fields.get("break"):
                             self.later(self.cut(session.eio_sid, abort=True))
