@@ -265,11 +265,9 @@ class Talker:
             self.said += 1
 
     async def lose(self, loses: asyncio.Event) -> None:
-        most = 2.0  # each loses its connection soon, and now and then after that
-        while True:
-            await asyncio.sleep(self.random.uniform(SHORT, most))
+        while True:  # each loses its connection soon, and now and then after that
+            await asyncio.sleep(self.random.uniform(SHORT, 8.0 if self.cuts else 1.0))
             await loses.wait()
-            most = 8.0
             if not self.known:
                 continue
             self.stays_away = True

@@ -21,7 +21,7 @@ sys.path.insert(0, str(Path(__file__).resolve().parents[4] / "demo"))
 import recovery  # noqa: E402
 import redis.asyncio  # noqa: E402
 
-from sioaudit_taps import StreamTap, Tap, tap_client, tap_stream  # noqa: E402
+from sioaudit_taps import NodeTap, StreamTap, Tap, tap_client, tap_stream  # noqa: E402
 
 recovery.NAMESPACES.append("/n")
 recovery.PATIENCE = 5  # the tests wait until all have noticed a cut
@@ -59,8 +59,8 @@ async def serve(ops):
 class Node(recovery.Node):
     """A node that can be made to forget events, and to take sessions back before it has come as far as their break."""
 
-    def __init__(self, *words):
-        super().__init__(*words)
+    def __init__(self, redis, tap):
+        super().__init__(redis, tap)
         self.forget, self.wait = set(), True
         self.sio.eio.ping_interval, self.sio.eio.ping_timeout = 25, 60  # on a busy machine too a cut is the test's
 
@@ -158,7 +158,7 @@ class Clients:
 async def main(role, *words):
     if role == "node":
         name, socket, taps = words
-        node = Node(name, redis.asyncio.Redis(unix_socket_path=socket, decode_responses=True), Path(taps))
+        node = Node(redis.asyncio.Redis(unix_socket_path=socket, decode_responses=True), NodeTap(name, dir=taps))
         await node.boot()
         print(json.dumps({"port": node.port}), flush=True)
         await serve(node)
