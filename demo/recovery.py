@@ -338,7 +338,8 @@ class AsyncClient(socketio.AsyncClient):
     """The library's client, that asks for a recovery."""
 
     def __init__(self) -> None:
-        super().__init__(reconnection=False, handle_sigint=False, http_session=WholeBodies())
+        # a POST is answered when what it carries is done: a CONNECT too, which may wait for its session
+        super().__init__(reconnection=False, handle_sigint=False, request_timeout=2 * PATIENCE, http_session=WholeBodies())
         self.kept = Kept()
 
     async def _handle_eio_connect(self) -> None:
@@ -374,7 +375,7 @@ class ThreadClient(socketio.Client):
     """The same with threads, in which events can reach handlers in another order than they came."""
 
     def __init__(self) -> None:
-        super().__init__(reconnection=False, handle_sigint=False, http_session=session_of_whole_bodies())
+        super().__init__(reconnection=False, handle_sigint=False, request_timeout=2 * PATIENCE, http_session=session_of_whole_bodies())
         self.kept = Kept()
         self.keeping = threading.Lock()
 
