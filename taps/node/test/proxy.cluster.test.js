@@ -17,7 +17,8 @@ const skip = noProgram || lacks();
 const events = (count, name = "m", more = {}) => Array.from({ length: count }, (_, i) => ({ rooms: ["r"], data: [name, i, "é\"\\"], ...more }));
 
 test("the proxy's taps have the verdicts of taps in the clients", { skip, timeout: 240_000 }, async (t) => {
-  const lab = await Lab.start(t);
+  const redact = redactor(Buffer.from("a key of 32 bytes, no less, here"));
+  const lab = await Lab.start(t, { redact });
   const clients = [];
   for (const [name, transports] of Object.entries(TRANSPORTS)) {
     for (const node of ["a", "all"]) {
@@ -50,10 +51,14 @@ test("the proxy's taps have the verdicts of taps in the clients", { skip, timeou
   for (const name of fs.readdirSync(path.join(lab.dir, "joined"))) {
     assert.ok(fs.readFileSync(path.join(into, name)).equals(fs.readFileSync(path.join(lab.dir, "joined", name))), name);
   }
-  // redacted, with all pids hashed
-  const redact = redactor(Buffer.from("a key of 32 bytes, no less, here"));
-  const hidden = lab.again({ redact }).joined;
-  assert.deepEqual(hidden, joined.map((line) => line.replace(/^(yes|no) (\S+)/, (_, word, pid) => `${word} ${redact.hash(pid)}`)));
+  // redacted when they are joined, with all pids hashed
+  const hidden = lab.again({ redact });
+  assert.deepEqual(hidden.joined, joined.map((line) => line.replace(/^(yes|no) (\S+)/, (_, word, pid) => `${word} ${redact.hash(pid)}`)));
+  // proxies that redacted the same run as they recorded it make the same taps, but for packets that crossed between the two
+  const direct = lab.again({ journals: lab.redacted, nodes: lab.nodeTaps.map((it) => path.join(hidden.into, path.basename(it))) });
+  assert.deepEqual(direct.joined, hidden.joined);
+  const ways = (file) => fs.readFileSync(file, "utf8").split("\n").sort((a, b) => a.includes('{"k":"out",') - b.includes('{"k":"out",'));
+  for (let i = 1; i <= 6; i++) assert.deepEqual(ways(path.join(direct.into, `c${i}.tap`)), ways(path.join(hidden.into, `c${i}.tap`)));
 });
 
 test("three namespaces on one connection, one of which is a new session after the cut", { skip, timeout: 240_000 }, async (t) => {

@@ -129,9 +129,13 @@ class Cluster(unittest.TestCase):
     def test_plain_and_redacted_are_judged_alike(self):
         it = Redactor(KEY)
         plain = asyncio.run(recorded(["polling"]))
+        faults = set()
         for bundle in (plain, *broken(plain)):
-            expected = [re.sub(r"^(yes|no) (\S+)", lambda m: f"{m[1]} {it.hash(m[2])}", line) for line in lab.audit(bundle, "--whole")]
+            report = lab.audit(bundle, "--whole")
+            expected = [re.sub(r"^(yes|no) (\S+)", lambda m: f"{m[1]} {it.hash(m[2])}", line) for line in report]
             self.assertEqual(lab.audit(redacted(bundle, it), "--whole"), expected)
+            faults |= {line.split()[2] for line in report if line.startswith("no ")}
+        self.assertGreaterEqual(faults, {"LOST", "DOUBLED", "SWAPPED", "CONTENT", "FRAME", "EXTRA", "CLIENT"})
 
     @unittest.skipUnless(THREADS, "needs requests and websocket-client")
     def test_threads(self):
@@ -229,6 +233,10 @@ def broken(bundle):
     for old, new in (("tick", "tock"), ('\\"tick\\",', '\\"tick\\", '), ("tick", "t\\\\u0069ck"), ("1e+16", "1e16"), ("1e+16", "1e400"), ("\\\\u00e9", "é")):
         assert old in lines[one], lines[one]
         yield "".join([*lines[:one], lines[one].replace(old, new), *lines[one + 1 :]])
+    attachment = next(i for i, line in enumerate(lines) if line.startswith('c1 {"k":"inb"'))
+    yield "".join([*lines[:attachment], re.sub('"b":"....', '"b":"////', lines[attachment]), *lines[attachment + 1 :]])
+    # the room was never joined
+    yield "".join(line for line in lines if '"k":"join"' not in line)
     reply = next(i for i, line in enumerate(lines) if line.startswith("c1 ") and '40{' in line and '"in"' in line)
     yield "".join([*lines[:reply], re.sub(r'\\"pid\\":\\"[^"]*\\"', r'\\"pid\\":\\"\\"', lines[reply]), *lines[reply + 1 :]])
 

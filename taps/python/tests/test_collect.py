@@ -292,6 +292,15 @@ class Collect(unittest.TestCase):
         self.assertEqual(running.wait(60), 0)
         self.assertEqual(self.collected(), self.each())
 
+    def test_the_programs_words(self):
+        for program, words in (("collect", ["--into", self.into, "--listen"]), ("send", [str(self.taps), "--to"])):
+            for word in ("here", "here:", "here:65536", "[::1]", "::1:80", ":80", "here:x"):
+                done = subprocess.run([sys.executable, "-m", f"sioaudit_taps.{program}", *words, word], env={**os.environ, "PYTHONPATH": str(SRC)}, capture_output=True, text=True)
+                self.assertEqual(done.returncode, 2)
+                self.assertIn(f"{word} is no HOST:PORT", done.stderr)
+        self.assertEqual(protocol.address("[::1]:7431"), ("::1", 7431))
+        self.assertEqual(protocol.address("web1.example:80"), ("web1.example", 80))
+
     def until(self, true):
         for _ in range(6000):
             if true():

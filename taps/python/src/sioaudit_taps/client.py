@@ -29,7 +29,7 @@ class _Recorder:
         self._tap = tap
         self._on_error = on_error
         self._open = False
-        self._lock = threading.Lock()
+        self._lock = threading.RLock()  # `on_error` may end the connection
 
     def event(self, event: str, data: Any) -> None:
         with self._lock:

@@ -17,7 +17,7 @@ from typing import Any
 
 from . import records
 from .errors import HeaderError, LimitError, TapError
-from .protocol import CHUNK, HEAD, LONGEST, VERSION, ProtocolError, message, receive
+from .protocol import CHUNK, HEAD, LONGEST, VERSION, ProtocolError, address, message, receive
 from .tap import Follower, whole_lines
 
 
@@ -245,8 +245,9 @@ async def _run(words: argparse.Namespace) -> int:
     loop = asyncio.get_running_loop()
     for number in (signal.SIGINT, signal.SIGTERM):
         loop.add_signal_handler(number, collector.done.set)
-    host, _, port = words.listen.rpartition(":")
-    print(f"sioaudit-collect: listening on {host}:{await collector.listen(host.strip('[]'), int(port))}", flush=True)
+    host, port = words.listen
+    port = await collector.listen(host, port)
+    print(f"sioaudit-collect: listening on {f'[{host}]' if ':' in host else host}:{port}", flush=True)
     await collector.done.wait()
     store.sync()
     await collector.close()
@@ -258,7 +259,7 @@ async def _run(words: argparse.Namespace) -> int:
 
 def main() -> int:
     parser = argparse.ArgumentParser(prog="sioaudit-collect", description="Collects the taps that sioaudit-send sends, from many machines.")
-    parser.add_argument("--listen", default="127.0.0.1:7431", metavar="HOST:PORT", help="where to listen (%(default)s); port 0 takes a free one")
+    parser.add_argument("--listen", default="127.0.0.1:7431", type=address, metavar="HOST:PORT", help="where to listen (%(default)s); port 0 takes a free one")
     to = parser.add_mutually_exclusive_group(required=True)
     to.add_argument("--into", metavar="FILE", help="append all taps to this file, which is a bundle")
     to.add_argument("--dir", metavar="DIR", help="a file a tap in this directory")

@@ -13,7 +13,7 @@ from collections.abc import Callable, Iterable
 from typing import Any
 
 from . import records
-from .protocol import CHUNK, HEAD, LONGEST, VERSION, ProtocolError, message, receive
+from .protocol import CHUNK, HEAD, LONGEST, VERSION, ProtocolError, address, message, receive
 
 _FRONT = re.compile(rb"([A-Za-z0-9_.-]{1,32}) ")
 PAUSE = 0.2
@@ -193,8 +193,7 @@ class Sender:
 
 
 async def _run(words: argparse.Namespace) -> int:
-    host, _, port = words.to.rpartition(":")
-    sender = Sender(words.sender, words.paths, host.strip("[]"), int(port), log=lambda text: print(f"sioaudit-send: {text}", file=sys.stderr, flush=True))
+    sender = Sender(words.sender, words.paths, *words.to, log=lambda text: print(f"sioaudit-send: {text}", file=sys.stderr, flush=True))
     loop = asyncio.get_running_loop()
     for number in (signal.SIGINT, signal.SIGTERM):
         loop.add_signal_handler(number, sender.stop.set)
@@ -208,7 +207,7 @@ def main() -> int:
         prog="sioaudit-send",
         description="Sends taps to sioaudit-collect as they grow. At SIGINT or SIGTERM it sends what they have by then, and ends.",
     )
-    parser.add_argument("--to", required=True, metavar="HOST:PORT", help="where the collector listens")
+    parser.add_argument("--to", required=True, type=address, metavar="HOST:PORT", help="where the collector listens")
     parser.add_argument("--sender", default=os.uname().nodename, metavar="NAME", help="the name of this machine, another for each (%(default)s)")
     parser.add_argument("--once", action="store_true", help="send what the files have now, and end")
     parser.add_argument("paths", nargs="+", metavar="PATH", help="a tap's file, or a directory, of which each *.tap is sent")
