@@ -1,12 +1,16 @@
 """Taps in a real cluster: python-socketio, aiohttp, Redis."""
 
+import ast
 import asyncio
 import importlib.util
 import itertools
+import json
 import logging
 import random
 import re
 import shutil
+import tempfile
+import types
 import unittest
 from pathlib import Path
 from unittest import mock
@@ -58,6 +62,7 @@ async def recorded(transports, redact=None, drop=False):
         await cluster.publish("end", nsp="/chat")
         await cluster.caught_up(client.kept)
         await client.disconnect()
+        await client.eio.http.close()
         client.tap.end()
         return await cluster.bundle()
 
@@ -135,7 +140,7 @@ class Cluster(unittest.TestCase):
             expected = [re.sub(r"^(yes|no) (\S+)", lambda m: f"{m[1]} {it.hash(m[2])}", line) for line in report]
             self.assertEqual(lab.audit(redacted(bundle, it), "--whole"), expected)
             faults |= {line.split()[2] for line in report if line.startswith("no ")}
-        self.assertGreaterEqual(faults, {"LOST", "DOUBLED", "SWAPPED", "CONTENT", "FRAME", "EXTRA", "CLIENT"})
+        self.assertGreaterEqual(faults, {"LOST", "DOUBLED", "SWAPPED", "CONTENT", "FRAME", "EXTRA", "ORPHAN"})
 
     @unittest.skipUnless(THREADS, "needs requests and websocket-client")
     def test_threads(self):
@@ -160,6 +165,7 @@ class Cluster(unittest.TestCase):
             await cluster.publish("end", nsp="/chat")
             await cluster.caught_up(client.kept)
             await asyncio.to_thread(client.disconnect)
+            client.eio.http.close()
             client.tap.end()
             return await cluster.bundle()
 
@@ -192,7 +198,9 @@ class Cluster(unittest.TestCase):
                         await cluster.nodes[0].cut()
                         await wait_until(lambda: not cluster.nodes[0].sessions)
                         await burst(cluster, 10)
+                        await client.eio.http.close()
                 await client.disconnect()
+                await client.eio.http.close()
                 return await cluster.bundle()
 
         self.whole(asyncio.run(restarted()), turns=2)
@@ -205,6 +213,48 @@ class Cluster(unittest.TestCase):
         report = lab.audit("".join(lines[:gone] + lines[gone + 1 :]))
         self.assertTrue(any(re.match(r"no \S+ LOST ", line) for line in report), report)
 
+    def test_what_the_readme_shows(self):
+        """Its blocks are run as they stand there, in a cluster: a client, a node's moments, and a stream's tap."""
+        readme = (lab.ROOT / "taps/python/README.md").read_text()
+        client, node, stream = re.findall(r"^```python\n(.*?)^```", readme, re.M | re.S)
+
+        async def run(block, dir, **names):
+            block = block.replace('"taps"', repr(str(dir)))
+            made = eval(compile(block, "README.md", "exec", ast.PyCF_ALLOW_TOP_LEVEL_AWAIT), names)
+            if made is not None:
+                await made
+            return names
+
+        async def all_of_them():
+            async with lab.Lab() as cluster:
+                got = asyncio.Event()
+
+                class Waiting(lab.AsyncClient):
+                    """Its `disconnect` waits, in place of what is left out."""
+
+                    async def disconnect(self):
+                        for number in range(10):
+                            await cluster.publish("hi", number)
+                        await cluster.caught_up(self.kept)
+                        got.set()
+                        await super().disconnect()
+                        await self.eio.http.close()
+
+                await run(client, cluster.taps, socketio=types.SimpleNamespace(AsyncClient=Waiting), url=cluster.nodes[0].url)
+                self.assertTrue(got.is_set())
+                bundle = await cluster.bundle()
+                with tempfile.TemporaryDirectory() as dir:
+                    names = await run(node, dir, pid="P", sid="S", off="1-0")
+                    names["tap"].end()
+                    self.assertIn(' {"k":"back","pid":"P","turn":1}\n', Path(names["tap"].tap.file).read_text())
+                    begin = "stop = asyncio.Event()\n"
+                    self.assertIn(begin, stream)
+                    await run(stream.replace(begin, f"{begin}stop.set()\n"), dir, asyncio=asyncio, json=json, redis=cluster.redis)
+                    self.assertEqual((Path(dir) / "st.tap").read_text(), (cluster.taps / "st.tap").read_text())
+                return bundle
+
+        self.whole(asyncio.run(all_of_them()), sessions=1, turns=1)
+
     def test_late(self):
         async def late():
             async with lab.Lab() as cluster:
@@ -215,6 +265,7 @@ class Cluster(unittest.TestCase):
                         tap_client(client, name="c1", dir=cluster.taps)
                 finally:
                     await client.disconnect()
+                    await client.eio.http.close()
                     await cluster.bundle()
 
         asyncio.run(late())
@@ -224,7 +275,7 @@ def broken(bundle):
     """The recording with faults in the client's frames: lost, doubled, swapped, and written in other ways."""
     lines = bundle.splitlines(keepends=True)
     at = [i for i, line in enumerate(lines) if line.startswith("c1 ") and "tick" in line]
-    one, two = at[3], at[4]
+    one, two = at[4], at[5]  # of one namespace
     yield "".join(lines[:one] + lines[one + 1 :])
     yield "".join(lines[: one + 1] + lines[one:])
     swapped = list(lines)
@@ -242,8 +293,6 @@ def broken(bundle):
 
 
 def redacted(bundle, it):
-    import json
-
     made = []
     for line in bundle.splitlines():
         name, _, text = line.partition(" ")
