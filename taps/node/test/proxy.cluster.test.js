@@ -179,22 +179,30 @@ test("faults that a proxy injects show, in the proxy's taps and in the client's"
 });
 
 test("connections that a proxy cuts are recovered", { skip, timeout: 240_000 }, async (t) => {
-  const lab = await Lab.start(t, { options: { inject: ["cut:0.08"], seed: 9 } });
+  const lab = await Lab.start(t, { proxies: 2, options: [{ inject: ["cut:0.1"], seed: 9 }, {}] });
   const client = await lab.client("cut");
-  await lab.connect(client, "a");
+  // by the other proxy, first and whenever events were missed: without an offset there is no recovery, and an event that
+  // comes again, and is cut off before the reply to the CONNECT, is nobody's (ORPHAN)
+  await lab.connect(client, "a", 1);
   await lab.join(client, "r");
-  await lab.publish(...events(1)); // without an offset it could not be recovered
-  await lab.quiet();
+  await lab.publish(...events(1));
   for (let i = 0; i < 10; i++) {
-    await lab.publish(...events(5));
     await lab.quiet();
-    if ((await lab.info(client)).connected) continue;
-    await lab.cut(client);
-    await lab.connect(client, "b");
+    if (i === 0 || !(await lab.info(client)).connected) {
+      await lab.cut(client);
+      await lab.connect(client, "b", 1);
+      await lab.quiet();
+      await lab.cut(client);
+      await lab.connect(client, "a");
+    }
+    await lab.publish(...events(5));
   }
+  await lab.quiet();
+  if (!(await lab.info(client)).connected) await lab.connect(client, "b", 1);
   const { report, truth, joined } = await lab.judge();
-  assert.ok(lab.infos[0].recovered >= 3);
-  assert.ok(report.notes > 1);
+  const cuts = report.notes - 3; // each of three journals has one of what is injected
+  assert.ok(cuts >= 3);
+  assert.ok(lab.infos[0].recovered >= 2 * cuts);
   assert.deepEqual(joined, truth);
   assert.match(joined.at(-1), /^sessions=1 yes=1 no=0$/);
 });

@@ -100,7 +100,8 @@ class Node(recovery.Node):
 
     async def op_abort(self, eio):
         """Notices that a connection is lost, which polling tells only by a missing pong."""
-        await self.cut(eio, abort=True)
+        if eio is not None:
+            await self.cut(eio, abort=True)
 
     async def op_stream(self, tap):
         """Writes the stream's tap, of what the stream has now."""

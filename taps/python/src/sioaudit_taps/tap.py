@@ -107,7 +107,7 @@ class Tap:
         self.file = os.fspath(file) if file is not None else os.path.join(os.fspath(dir or "."), f"{name}.tap")
         self.error: TapError | None = None
         """What ended it, if anything did."""
-        self._redactor = Redactor(redact) if isinstance(redact, bytes) else redact
+        self._redactor = redact if redact is None or isinstance(redact, Redactor) else Redactor(redact)
         self._follower = Follower(of, self.version)
         self._lock = threading.RLock()
         self._fd: int | None = None
