@@ -1,6 +1,5 @@
 """Taps in a real cluster: python-socketio, aiohttp, Redis."""
 
-import ast
 import asyncio
 import importlib.util
 import itertools
@@ -9,8 +8,6 @@ import logging
 import random
 import re
 import shutil
-import tempfile
-import types
 import unittest
 from pathlib import Path
 from unittest import mock
@@ -212,48 +209,6 @@ class Cluster(unittest.TestCase):
         gone = next(i for i, line in enumerate(lines) if line.startswith("c1 ") and "tick" in line)
         report = lab.audit("".join(lines[:gone] + lines[gone + 1 :]))
         self.assertTrue(any(re.match(r"no \S+ LOST ", line) for line in report), report)
-
-    def test_what_the_readme_shows(self):
-        """Its blocks are run as they stand there, in a cluster: a client, a node's moments, and a stream's tap."""
-        readme = (lab.ROOT / "taps/python/README.md").read_text()
-        client, node, stream = re.findall(r"^```python\n(.*?)^```", readme, re.M | re.S)
-
-        async def run(block, dir, **names):
-            block = block.replace('"taps"', repr(str(dir)))
-            made = eval(compile(block, "README.md", "exec", ast.PyCF_ALLOW_TOP_LEVEL_AWAIT), names)
-            if made is not None:
-                await made
-            return names
-
-        async def all_of_them():
-            async with lab.Lab() as cluster:
-                got = asyncio.Event()
-
-                class Waiting(lab.AsyncClient):
-                    """Its `disconnect` waits, in place of what is left out."""
-
-                    async def disconnect(self):
-                        for number in range(10):
-                            await cluster.publish("hi", number)
-                        await cluster.caught_up(self.kept)
-                        got.set()
-                        await super().disconnect()
-                        await self.eio.http.close()
-
-                await run(client, cluster.taps, socketio=types.SimpleNamespace(AsyncClient=Waiting), url=cluster.nodes[0].url)
-                self.assertTrue(got.is_set())
-                bundle = await cluster.bundle()
-                with tempfile.TemporaryDirectory() as dir:
-                    names = await run(node, dir, pid="P", sid="S", off="1-0")
-                    names["tap"].end()
-                    self.assertIn(' {"k":"back","pid":"P","turn":1}\n', Path(names["tap"].tap.file).read_text())
-                    begin = "stop = asyncio.Event()\n"
-                    self.assertIn(begin, stream)
-                    await run(stream.replace(begin, f"{begin}stop.set()\n"), dir, asyncio=asyncio, json=json, redis=cluster.redis)
-                    self.assertEqual((Path(dir) / "st.tap").read_text(), (cluster.taps / "st.tap").read_text())
-                return bundle
-
-        self.whole(asyncio.run(all_of_them()), sessions=1, turns=1)
 
     def test_late(self):
         async def late():
