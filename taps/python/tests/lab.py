@@ -32,6 +32,7 @@ def audit(bundle, *options):
 class Lab:
     def __init__(self, redact=None):
         self.redact = redact
+        self.clients = []
 
     async def __aenter__(self):
         self.dir = tempfile.TemporaryDirectory()
@@ -64,8 +65,9 @@ class Lab:
     async def publish(self, *args, nsp="/", rooms=()):
         return await recovery.publish(self.redis, *args, nsp=nsp, rooms=rooms)
 
-    def tapped(self, client, name):
-        client.tap = tap_client(client, name=name, dir=self.taps, redact=self.redact)
+    def tapped(self, client, name, **words):
+        client.tap = tap_client(client, name=name, dir=self.taps, redact=self.redact, **words)
+        self.clients.append(client)
         return client
 
     async def caught_up(self, *kept):
@@ -80,6 +82,10 @@ class Lab:
     async def bundle(self):
         for node in self.nodes:
             await node.stop()
+        for client in self.clients:  # engineio leaves their sessions open
+            closing = client.eio.http.close()
+            if closing is not None:
+                await closing
         self.stop_stream.set()
         await self.streaming
         self.stream.end()

@@ -17,7 +17,8 @@ from .relay import Relay
 from sioaudit_taps import Redactor, TapError, tap_client
 
 KEY = b"the key of a test, thirty bytes"
-logging.getLogger("aiohttp.server").setLevel(logging.CRITICAL)  # requests of sessions that were cut
+for name in ("aiohttp.server", "engineio.server"):
+    logging.getLogger(name).setLevel(logging.CRITICAL)  # requests of sessions that were cut
 NEEDED = lab.program() is not None and shutil.which("redis-server") is not None
 THREADS = all(importlib.util.find_spec(it) for it in ("requests", "websocket"))
 
@@ -59,7 +60,6 @@ async def recorded(transports, redact=None, drop=False):
         await cluster.publish("end", nsp="/chat")
         await cluster.caught_up(client.kept)
         await client.disconnect()
-        await client.eio.http.close()
         client.tap.end()
         return await cluster.bundle()
 
@@ -104,7 +104,6 @@ async def cut_at_random(transport, threads, seed, cuts=30):
             way.cut()  # at the latest
             await node.cut()
             await wait_until(lambda: handled() and not node.sessions)
-        await do(client.eio.http.close)
         client.tap.end()
         return await cluster.bundle()
 
@@ -162,7 +161,6 @@ class Cluster(unittest.TestCase):
             await cluster.publish("end", nsp="/chat")
             await cluster.caught_up(client.kept)
             await asyncio.to_thread(client.disconnect)
-            client.eio.http.close()
             client.tap.end()
             return await cluster.bundle()
 
@@ -179,7 +177,7 @@ class Cluster(unittest.TestCase):
                 for turn in range(2):
                     client = lab.AsyncClient()
                     client.kept = kept
-                    client.tap = tap_client(client, name="c1", dir=cluster.taps, resume=turn > 0)
+                    cluster.tapped(client, "c1", resume=turn > 0)
                     self.assertEqual(client.tap.connection, 1 if turn else None)
                     await client.connect(cluster.nodes[turn].url, transports=["websocket"], namespaces=lab.NAMESPACES, wait_timeout=30)
                     await burst(cluster, 10)
@@ -195,9 +193,7 @@ class Cluster(unittest.TestCase):
                         await cluster.nodes[0].cut()
                         await wait_until(lambda: not cluster.nodes[0].sessions)
                         await burst(cluster, 10)
-                        await client.eio.http.close()
                 await client.disconnect()
-                await client.eio.http.close()
                 return await cluster.bundle()
 
         self.whole(asyncio.run(restarted()), turns=2)
