@@ -27,7 +27,7 @@ async def burst(cluster, count):
     for number in range(count):
         await cluster.publish("tick", number, "é ⬢", {"n": 1e16, "b": number % 2 == 0}, nsp="/chat" if number % 3 == 0 else "/")
         if number % 4 == 0:
-            await cluster.publish("bytes", bytes([number]) * 40, {"in": [b"\x00\xff"]}["in"][0], rooms=["r"])
+            await cluster.publish("bytes", bytes([number]) * 40, {"in": [b"\x00\xff"]}, rooms=["r"])
     await cluster.redis.xadd(lab.KEY, {"beat": "1"})
 
 
@@ -39,7 +39,7 @@ async def wait_until(true):
     raise AssertionError("it never came")
 
 
-async def recorded(transports, redact=None, drop=False):
+async def recorded(transports, redact=None):
     """A recording in which an asyncio client loses its connection in bursts, and comes back on the other node."""
     async with lab.Lab(redact) as cluster:
         client = cluster.tapped(lab.AsyncClient(), "c1")
@@ -65,7 +65,7 @@ async def recorded(transports, redact=None, drop=False):
 
 
 async def cut_at_random(transport, threads, seed, cuts=30):
-    """A recording in which a client's connection is cut that many times, after a number of bytes by chance in a burst."""
+    """A recording in which a client's connection is cut that many times in bursts, after a number of bytes by chance or a while."""
     chance = random.Random(seed)
     async with lab.Lab() as cluster, Relay(None) as way:
         client = cluster.tapped(lab.ThreadClient() if threads else lab.AsyncClient(), "c1")
@@ -94,7 +94,7 @@ async def cut_at_random(transport, threads, seed, cuts=30):
                 if not threads:  # (there an attachment may be handled before its event)
                     await client.call("join", "r")
             if turn < cuts:
-                way.back = chance.randrange(1, 4000)
+                way.back = chance.randrange(1, 2500)
                 await burst(cluster, 40)
                 await asyncio.sleep(chance.random() * 0.02)
             else:
