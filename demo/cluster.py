@@ -77,13 +77,20 @@ class Faulty(Node):
         self.fault = ""
         self.victim = ""
         self.dropped: str | None = None
+        self.publishing = 0  # how many words of clients are on their way into the stream
         for nsp in recovery.NAMESPACES:
             self.sio.on("say", self.on_say, namespace=nsp)
+            self.sio.on("over", self.on_over, namespace=nsp)
 
     async def on_say(self, sid: str, rooms: list[str], *args: Any) -> None:
         session = self.sessions.get(sid)
         if session is not None:
+            self.publishing += 1
             await recovery.publish(self.redis, "said", *args, nsp=session.nsp, rooms=rooms)
+            self.publishing -= 1
+
+    async def on_over(self, sid: str) -> bool:
+        return True
 
     # the faults
 
@@ -111,7 +118,7 @@ class Faulty(Node):
     # what it is told
 
     async def info(self) -> Event:
-        return {"last": self.last, "dropped": self.dropped, "pids": [it.pid for it in self.sessions.values()]}
+        return {"last": self.last, "dropped": self.dropped, "publishing": self.publishing, "pids": [it.pid for it in self.sessions.values()]}
 
     async def set_fault(self, fault: str, victim: str) -> None:
         self.fault, self.victim = fault, victim
@@ -216,6 +223,7 @@ class Talker:
         self.namespaces = recovery.NAMESPACES[: 1 + number % 2]
         self.moves = number > 0
         self.stays_away = False
+        self.speaks = asyncio.Lock()
         self.cuts = self.said = 0
 
     @property
@@ -259,10 +267,16 @@ class Talker:
                 words.append(("say", (to, self.said, PICTURE[: self.random.randrange(257)], {"of": PICTURE[:5]})))
             if self.moves:
                 words.append((self.random.choice(["join", "join", "leave"]), (self.random.choice(ROOMS),)))
-            for word, args in words:
-                if self.here:
-                    await self.client.emit(word, args if word == "say" else args[0], namespace=nsp)
+            async with self.speaks:
+                for word, args in words:
+                    if self.here and talks.is_set():
+                        await self.client.emit(word, args, namespace=nsp)
             self.said += 1
+
+    async def over(self) -> None:
+        """Waits until its node has heard all that it said."""
+        async with self.speaks:
+            await self.client.call("over", namespace="/", timeout=60)
 
     async def lose(self, loses: asyncio.Event) -> None:
         while True:  # each loses its connection soon, and now and then after that
@@ -315,8 +329,9 @@ class Clients:
         await until(lambda: all(it.known and not it.stays_away for it in self.all), "the clients' return")
 
     async def hush(self) -> None:
-        """They say nothing any more."""
+        """They say nothing any more, and their nodes have heard all that they said."""
         self.talks.clear()
+        await asyncio.gather(*(it.over() for it in self.all))
 
     async def wait(self, marks: dict[str, str]) -> None:
         """Until each has the last event of each of its namespaces."""

@@ -142,7 +142,7 @@ class Node:
         self.running = asyncio.Event()
         self.running.set()
         self.tasks: set[asyncio.Task[None]] = set()
-        self.sio = Server(async_mode="aiohttp", namespaces=NAMESPACES, ping_interval=5, ping_timeout=5)
+        self.sio = Server(async_mode="aiohttp", namespaces=NAMESPACES, ping_interval=5, ping_timeout=20)
         self.sio.node = self
         for nsp in NAMESPACES:
             self.sio.on("join", self.join, namespace=nsp)
@@ -344,6 +344,7 @@ class AsyncClient(socketio.AsyncClient):
 
     async def _handle_eio_connect(self) -> None:
         self.sid = self.eio.sid
+        self._binary_packet = None  # an event of the last connection, whose attachments never came
         for nsp in self.connection_namespaces:
             await self._send_packet(self.packet_class(sio_packet.CONNECT, data=self.kept.ask(nsp), namespace=nsp))
 
@@ -381,6 +382,7 @@ class ThreadClient(socketio.Client):
 
     def _handle_eio_connect(self) -> None:
         self.sid = self.eio.sid
+        self._binary_packet = None  # an event of the last connection, whose attachments never came
         for nsp in self.connection_namespaces:
             self._send_packet(self.packet_class(sio_packet.CONNECT, data=self.kept.ask(nsp), namespace=nsp))
 
