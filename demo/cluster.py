@@ -214,7 +214,8 @@ class Line:
 class Talker:
     """A client that talks, changes its rooms, loses its connection and comes back. The first one is in no room."""
 
-    def __init__(self, number: int, port: int, seed: int) -> None:
+    def __init__(self, number: int, count: int, port: int, seed: int) -> None:
+        self.slowness = max(1.0, count / 20) ** 2  # twice as many clients have four times as much to read
         self.random = random.Random(f"{seed} {number}")
         self.name = f"client {number}"
         self.client = recovery.AsyncClient()
@@ -258,7 +259,7 @@ class Talker:
 
     async def talk(self, talks: asyncio.Event) -> None:
         while True:
-            await asyncio.sleep(self.random.uniform(SHORT, LONG))
+            await asyncio.sleep(self.random.uniform(SHORT, LONG) * self.slowness)
             await talks.wait()
             nsp = self.random.choice(self.namespaces)
             to = self.random.choice([[], [self.random.choice(ROOMS)], self.random.sample(ROOMS, 2)])
@@ -276,7 +277,13 @@ class Talker:
     async def over(self) -> None:
         """Waits until its node has heard all that it said."""
         async with self.speaks:
-            await self.client.call("over", namespace="/", timeout=60)
+            while True:
+                await until(lambda: self.here, f"{self.name}: its return")
+                try:
+                    await self.client.call("over", namespace="/", timeout=15)
+                    return
+                except (socketio.exceptions.SocketIOError, asyncio.TimeoutError):
+                    pass  # its connection was lost meanwhile
 
     async def lose(self, loses: asyncio.Event) -> None:
         while True:  # each loses its connection soon, and now and then after that
@@ -306,7 +313,7 @@ class Clients:
     """All clients, and what is done with one of them, the victim of a fault."""
 
     def __init__(self, port: int, count: int, seed: int) -> None:
-        self.all = [Talker(number, port, seed) for number in range(count)]
+        self.all = [Talker(number, count, port, seed) for number in range(count)]
         self.victim = self.all[0]
         self.talks, self.loses = asyncio.Event(), asyncio.Event()
         self.work: list[asyncio.Task[None]] = []
