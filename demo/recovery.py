@@ -365,7 +365,10 @@ def session_of_whole_bodies() -> Any:
     class Adapter(requests.adapters.HTTPAdapter):
         def build_response(self, request: Any, response: Any) -> Any:
             response.enforce_content_length = True
-            return super().build_response(request, response)
+            try:
+                return super().build_response(request, response)
+            except AttributeError as error:  # a header that was cut off within `charset=`
+                raise requests.exceptions.ConnectionError("the answer was cut off in its headers") from error
 
     session = requests.Session()
     session.mount("http://", Adapter())
