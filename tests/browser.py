@@ -100,8 +100,11 @@ class Browser:
         value = "dark" if is_dark else "light"
         self.call("Emulation.setEmulatedMedia", features=[{"name": "prefers-color-scheme", "value": value}])
 
-    def screenshot(self, path: str, whole: bool = False) -> None:
-        done = self.call("Page.captureScreenshot", format="png", captureBeyondViewport=whole)
+    def screenshot(self, path: str, what: str) -> None:
+        """Writes a picture of the element that a selector names."""
+        box = self.run(f"(() => {{ const {{ x, y, width, height }} = document.querySelector({json.dumps(what)}).getBoundingClientRect(); "
+                       "return { x, y, width, height, scale: 1 }; })()")
+        done = self.call("Page.captureScreenshot", format="png", clip=box)
         with open(path, "wb") as file:
             file.write(base64.b64decode(done["data"]))
 
