@@ -16,7 +16,16 @@ Event = dict[str, Any]
 
 def installed() -> Optional[str]:
     """The browser's path: CHROMIUM, or the first of the usual names."""
-    return os.environ.get("CHROMIUM") or next((path for path in map(shutil.which, NAMES) if path), None)
+    return os.environ.get("CHROMIUM") or next((path for name in NAMES if (path := shutil.which(name))), None)
+
+
+def started() -> Optional[Browser]:
+    """A browser, where one is installed and starts."""
+    path = installed()
+    try:
+        return Browser(path) if path else None
+    except (EOFError, OSError):
+        return None
 
 
 class Browser:
@@ -26,12 +35,27 @@ class Browser:
         self.profile = tempfile.TemporaryDirectory(ignore_cleanup_errors=True)
         read_in, self.write = os.pipe()
         read_out, write_out = os.pipe()
-        words = [path, "--headless", "--remote-debugging-pipe", "--disable-gpu", "--no-first-run", "--disable-extensions",
-                 "--disable-background-networking", "--disable-component-update", "--hide-scrollbars", f"--user-data-dir={self.profile.name}"]
+        words = [
+            path,
+            "--headless",
+            "--remote-debugging-pipe",
+            "--disable-gpu",
+            "--no-first-run",
+            "--disable-extensions",
+            "--disable-background-networking",
+            "--disable-component-update",
+            "--disable-dev-shm-usage",
+            "--hide-scrollbars",
+            f"--user-data-dir={self.profile.name}",
+        ]
         words += ["--no-sandbox"] if os.geteuid() == 0 else []
-        self.process = subprocess.Popen(["bash", "-c", f'exec "$0" "$@" 3<&{read_in} 4>&{write_out}', *words],
-                                        pass_fds=(read_in, write_out), stdin=subprocess.DEVNULL, stdout=subprocess.DEVNULL,
-                                        stderr=subprocess.DEVNULL)
+        self.process = subprocess.Popen(
+            ["bash", "-c", f'exec "$0" "$@" 3<&{read_in} 4>&{write_out}', *words],
+            pass_fds=(read_in, write_out),
+            stdin=subprocess.DEVNULL,
+            stdout=subprocess.DEVNULL,
+            stderr=subprocess.DEVNULL,
+        )
         os.close(read_in)
         os.close(write_out)
         self.messages = os.fdopen(read_out, "rb")
@@ -62,7 +86,7 @@ class Browser:
             command["sessionId"] = self.session
         text = memoryview(json.dumps(command).encode() + b"\0")
         while text:
-            text = text[os.write(self.write, text):]
+            text = text[os.write(self.write, text) :]
         while True:
             it = self.message()
             if it.get("id") == self.number:
@@ -102,8 +126,10 @@ class Browser:
 
     def screenshot(self, path: str, what: str) -> None:
         """Writes a picture of the element that a selector names."""
-        box = self.run(f"(() => {{ const {{ x, y, width, height }} = document.querySelector({json.dumps(what)}).getBoundingClientRect(); "
-                       "return { x, y, width, height, scale: 1 }; })()")
+        box = self.run(
+            f"(() => {{ const {{ x, y, width, height }} = document.querySelector({json.dumps(what)}).getBoundingClientRect(); "
+            "return { x, y, width, height, scale: 1 }; })()"
+        )
         done = self.call("Page.captureScreenshot", format="png", clip=box)
         with open(path, "wb") as file:
             file.write(base64.b64decode(done["data"]))
