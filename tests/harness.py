@@ -5,6 +5,7 @@ from __future__ import annotations
 import difflib
 import functools
 import os
+import shutil
 import subprocess
 import sys
 from pathlib import Path
@@ -25,6 +26,25 @@ def program() -> str:
     if done.returncode:
         sys.exit(done.returncode)
     return done.stdout.strip()
+
+
+@functools.lru_cache(maxsize=None)
+def python_with(*modules: str) -> Optional[str]:
+    """A Python of 3.11 or later that has these modules: this one, or else the system's; None where there is none."""
+    asks = f"import sys; assert sys.version_info >= (3, 11); import {', '.join(modules)}"
+    for it in (sys.executable, "/usr/bin/python3"):
+        if os.path.exists(it) and subprocess.run([it, "-c", asks], stderr=subprocess.DEVNULL).returncode == 0:
+            return it
+    return None
+
+
+def node_environment(*packages: str) -> Optional[dict[str, str]]:
+    """The environment in which node has these packages for taps/node: its own, or Debian's; None where there is none."""
+    asks = ["node", "-e", ";".join(f"require('{it}')" for it in packages)]
+    for it in (os.environ, {**os.environ, "NODE_PATH": "/usr/share/nodejs"}):
+        if shutil.which("node") and subprocess.run(asks, cwd=TOP / "taps/node", env=it, stderr=subprocess.DEVNULL).returncode == 0:
+            return dict(it)
+    return None
 
 
 def difference(expected: str, written: str) -> str:

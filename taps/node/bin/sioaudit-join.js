@@ -3,7 +3,7 @@
 
 const { parseArgs } = require("node:util");
 const { join } = require("../lib/join");
-const { readKey, redactor } = require("../lib/redact");
+const { readKey } = require("../lib/redact");
 const { version } = require("../package.json");
 
 const HELP = `Usage: sioaudit-join JOURNAL.. --into FOLDER [options]
@@ -60,7 +60,7 @@ function words() {
     into: values.into,
     nodes: values.nodes,
     onlyTapped: values["only-tapped"],
-    redact: values.redact === undefined ? undefined : redactor(readKey(values.redact)),
+    redact: values.redact === undefined ? undefined : readKey(values.redact),
     prefix: values.prefix,
     json: values.json,
   };

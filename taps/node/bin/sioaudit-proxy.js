@@ -3,7 +3,7 @@
 
 const { parseArgs } = require("node:util");
 const { startProxy } = require("../lib/proxy");
-const { readKey, redactor } = require("../lib/redact");
+const { readKey } = require("../lib/redact");
 const { version } = require("../package.json");
 
 const HELP = `Usage: sioaudit-proxy --journal FILE [options] NODE..
@@ -69,7 +69,7 @@ function words() {
     maxWaiting: number("max-waiting", values["max-waiting"]),
     stall: stall && stall * 1000,
     acknowledged: !values["no-ack"],
-    redact: values.redact === undefined ? undefined : redactor(readKey(values.redact)),
+    redact: values.redact === undefined ? undefined : readKey(values.redact),
     inject: values.inject,
     seed: values.seed,
     log: say,

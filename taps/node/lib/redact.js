@@ -38,6 +38,16 @@ function redactor(key) {
   return new Redactor(key);
 }
 
+/**
+ * What `redact` is given as: a key, or what was made of one.
+ *
+ * @param {Uint8Array | import("./index").Redactor | undefined} redact
+ */
+function redactorOf(redact) {
+  if (redact === undefined) return undefined;
+  return redact !== null && typeof redact === "object" && "record" in redact ? redact : redactor(redact);
+}
+
 class Redactor {
   #key;
   #known = new Map();
@@ -164,4 +174,4 @@ function split(text) {
   return { front: front[0], payload, rest };
 }
 
-module.exports = { readKey, redactor };
+module.exports = { readKey, redactor, redactorOf };

@@ -4,7 +4,7 @@ const fs = require("node:fs");
 const path = require("node:path");
 const { TapError } = require("./errors");
 const { KINDS, LIMITS, checkName, checked } = require("./records");
-const { redactor } = require("./redact");
+const { redactorOf } = require("./redact");
 
 const PIECE = 1 << 20;
 
@@ -42,7 +42,7 @@ class Tap {
     this.connection = undefined;
     /** what ended it, if anything did */
     this.error = undefined;
-    this.#redact = redact === undefined ? undefined : typeof redact === "object" && "record" in redact ? redact : redactor(redact);
+    this.#redact = redactorOf(redact);
 
     if (stream !== undefined) {
       this.#stream = stream;
@@ -165,23 +165,16 @@ class Tap {
   }
 
   #recall(line, number) {
-    const refuse = (why) => new TapError("Header", `${this.file}: line ${number} ${why}`);
     const prefix = `${this.name} `;
-    let record;
     try {
-      record = line.startsWith(prefix) ? JSON.parse(line.slice(prefix.length)) : undefined;
-    } catch {
-      // told below
+      const record = line.startsWith(prefix) ? JSON.parse(line.slice(prefix.length)) : undefined;
+      if (record === null || typeof record !== "object") throw new SyntaxError("it is no record");
+      if (number > 1) this.#follow(checked(this.of, this.version, record));
+      else if (record.k !== "tap" || record.of !== this.of || (record.v !== 1 && record.v !== 2)) throw new SyntaxError("it is no header");
+      else this.version = record.v;
+    } catch (error) {
+      throw new TapError("Header", `${this.file}: line ${number} is no line of the ${this.of}'s tap ${this.name}: ${error.message}`, { cause: error });
     }
-    if (record === undefined) throw refuse(`is no line of the tap ${this.name}`);
-    if (number === 1) {
-      if (record.k !== "tap" || record.of !== this.of) throw refuse(`is no header of a ${this.of}'s tap`);
-      this.version = record.v;
-      return;
-    }
-    this.records++;
-    if (typeof record.off === "string") this.last = record.off;
-    if (record.k === "conn") this.connection = record.c;
   }
 }
 

@@ -41,7 +41,7 @@ async function startRedis(t, { socket } = {}) {
   return { socket: at, connect, stop };
 }
 
-async function until(holds, what, patience = 30_000) {
+async function until(holds, what, patience = 60_000) {
   for (const end = Date.now() + patience; !(await holds()); await sleep(5)) {
     if (Date.now() > end) throw new Error(`it took too long: ${what}`);
   }

@@ -161,8 +161,9 @@ test("nodes' taps keep the sessions that a client's tap has", (t) => {
   assert.deepEqual(some.taps.n.map((it) => it.pid ?? it.k), ["tap", "start", "P", "takes", "P"]);
   assert.equal(some.report.leftOut, 1);
   assert.equal(fs.readFileSync(path.join(some.into, "st.tap"), "utf8"), fs.readFileSync(stream, "utf8"));
-  const redact = redactor(Buffer.alloc(16, 1));
-  const hidden = joined(t, [file], { nodes: [node, stream], onlyTapped: true, redact });
+  const key = Buffer.alloc(16, 1);
+  const redact = redactor(key);
+  const hidden = joined(t, [file], { nodes: [node, stream], onlyTapped: true, redact: key });
   assert.deepEqual(hidden.taps.n.map((it) => it.pid ?? it.k), ["tap", "start", redact.hash("P"), "takes", redact.hash("P")]);
   assert.equal(hidden.taps.st[1].text, `2["${redact.hash("m")}","1-0"]`);
   assert.equal(hidden.taps.c1[2].t, `40{"sid":"${redact.hash("s-P")}","pid":"${redact.hash("P")}"}`);

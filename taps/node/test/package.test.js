@@ -5,6 +5,7 @@ const { execFileSync, spawnSync } = require("node:child_process");
 const fs = require("node:fs");
 const path = require("node:path");
 const { test } = require("node:test");
+const { directory } = require("./helpers");
 
 const HERE = path.join(__dirname, "..");
 const about = require("../package.json");
@@ -38,4 +39,33 @@ test("the types are what they say", { skip: noCompiler }, () => {
   const words = ["--noEmit", "--strict", "--target", "es2022", "--module", "nodenext", "--moduleResolution", "nodenext", "--typeRoots", "none", "--lib", "es2022,dom"];
   const { stdout, status } = spawnSync("tsc", [...words, "test/types/use.mts", "test/types/use.cts"], { cwd: HERE, encoding: "utf8" });
   assert.equal(status, 0, stdout);
+});
+
+test("the package where it is installed, and the types as older compilers look for them", (t) => {
+  const dir = directory(t);
+  fs.mkdirSync(path.join(dir, "node_modules"));
+  fs.symlinkSync(HERE, path.join(dir, "node_modules/sioaudit-taps"));
+  const parts = { "sioaudit-taps": "tapClient", "sioaudit-taps/proxy": "startProxy", "sioaudit-taps/join": "join" };
+  for (const [part, name] of Object.entries(parts)) {
+    const required = `if (typeof require("${part}").${name} !== "function") process.exit(1)`;
+    const imported = `import { ${name} } from "${part}"; if (typeof ${name} !== "function") process.exit(1)`;
+    assert.equal(spawnSync(process.execPath, ["--input-type=commonjs", "-e", required], { cwd: dir }).status, 0, required);
+    assert.equal(spawnSync(process.execPath, ["--input-type=module", "-e", imported], { cwd: dir }).status, 0, imported);
+  }
+  const inside = spawnSync(process.execPath, ["-e", 'require("sioaudit-taps/lib/tap.js")'], { cwd: dir, encoding: "utf8" });
+  assert.match(inside.stderr, /ERR_PACKAGE_PATH_NOT_EXPORTED/);
+  if (noCompiler) return;
+  fs.copyFileSync(path.join(__dirname, "types/use.cts"), path.join(dir, "use.ts"));
+  const words = ["--noEmit", "--strict", "--target", "es2022", "--module", "commonjs", "--moduleResolution", "node", "--typeRoots", "none", "--lib", "es2022,dom"];
+  const { stdout, status } = spawnSync("tsc", [...words, "use.ts"], { cwd: dir, encoding: "utf8" });
+  assert.equal(status, 0, stdout);
+});
+
+const noNpm = spawnSync("npm", ["--version"]).status === 0 ? false : "npm isn't installed";
+
+test("what npm packs", { skip: noNpm }, () => {
+  const { stdout } = spawnSync("npm", ["pack", "--dry-run", "--json", "--offline"], { cwd: HERE, encoding: "utf8" });
+  const packed = JSON.parse(stdout)[0].files.map((it) => it.path).sort();
+  const there = execFileSync("find", ["lib", "bin", "-type", "f"], { cwd: HERE, encoding: "utf8" }).trim().split("\n");
+  assert.deepEqual(packed, ["PROXY.md", "README.md", "package.json", ...there].sort());
 });

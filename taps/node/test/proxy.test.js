@@ -610,8 +610,9 @@ test("faults in bodies of polling", async (t) => {
 
 test("a redacted journal has nothing that was said", async (t) => {
   const node = await serve(t, { socket: (it) => (it.send(OPEN("engine-sid")), it.on("message", () => (it.send('40{"sid":"socket-sid","pid":"the-pid"}'), it.send('451-["said",{"_placeholder":true,"num":0},"1-0"]'), it.send(Buffer.from("attached bytes"))))) });
-  const redact = redactor(Buffer.alloc(32, 7));
-  const { url, records } = await proxied(t, [node], { redact });
+  const key = Buffer.alloc(32, 7);
+  const redact = redactor(key);
+  const { url, records } = await proxied(t, [node], { redact: key });
   const socket = await connect(t, url);
   socket.send('40{"pid":"the-pid","offset":"0-0","token":"a secret"}');
   await until(() => records(1).filter((it) => it.k === "inb").length === 1, "all");

@@ -86,6 +86,42 @@ test("the vectors that all packages share", { skip: fs.existsSync(VECTORS) ? fal
   for (const { about, of, in: text, out } of vectors) assert.deepEqual(redact[of](text), out, `${about}: ${JSON.stringify(text)}`);
 });
 
+// what a bundle's lines are, each redacted by the Redactor of taps/python
+const PYTHON = `
+import json, sys
+sys.path.insert(0, sys.argv[1])
+from sioaudit_taps import Redactor, read_key
+it = Redactor(read_key(sys.argv[2]))
+for line in sys.stdin.buffer:
+    name, _, text = line.decode().rstrip("\\n").partition(" ")
+    record = json.loads(text)
+    print(name + " " + json.dumps(record if record["k"] == "tap" else it.record(record)))
+`;
+const noPython = spawnSync("python3", ["-c", "import sys; assert sys.version_info >= (3, 11)"]).status === 0 ? false : "Python 3.11 isn't there";
+
+// made up and of real software
+function* bundles() {
+  for (const folder of ["examples", "tests/recordings"]) {
+    for (const name of fs.readdirSync(path.join(ROOT, folder)).filter((it) => it.endsWith(".jsonl"))) {
+      const bundle = fs.readFileSync(path.join(ROOT, folder, name), "utf8");
+      if (!bundle.split("\n").some((line) => line.startsWith("{"))) yield [name, bundle]; // one with certificates is no tap's
+    }
+  }
+}
+
+test("taps in Python redact alike", { skip: noPython }, (t) => {
+  const key = path.join(directory(t), "key");
+  fs.writeFileSync(key, KEY);
+  const input = [...bundles()].map(([, bundle]) => bundle).join("");
+  const { status, stdout, stderr } = spawnSync("python3", ["-c", PYTHON, path.join(ROOT, "taps/python/src"), key], { input, encoding: "utf8", maxBuffer: 1 << 28 });
+  assert.equal(status, 0, stderr);
+  const read = (text) => text.trimEnd().split("\n").map((line) => [line.slice(0, line.indexOf(" ")), JSON.parse(line.slice(line.indexOf(" ") + 1))]);
+  const records = read(redactBundle(input));
+  assert.deepEqual(read(stdout), records);
+  const kinds = new Set(records.flatMap(([, record]) => Object.keys(record).map((field) => `${record.k} ${field}`)));
+  for (const it of ["open pid", "open sid", "join room", "leave room", "ev rooms", "ev except", "ev text", "ev bin", "in t", "inb b", "poll t", "out t"]) assert.ok(kinds.has(it), it);
+});
+
 // a bundle, line by line
 function redactBundle(bundle) {
   return bundle.replace(/^(\S+ )(.+)$/gm, (_, name, line) => {
@@ -96,9 +132,11 @@ function redactBundle(bundle) {
 
 test("verdicts are the same", { skip: noProgram }, () => {
   const answers = (input) => spawnSync(program(), ["audit", "--whole"], { input, encoding: "utf8" }).stdout;
-  for (const name of ["bundle_b", "content", "frame", "names", "orphan", "window", "fault_garble", "refused_recovery"]) {
-    const bundle = fs.readFileSync(path.join(ROOT, `examples/${name}.jsonl`), "utf8");
-    const plain = answers(bundle).replace(/^(yes|no) (\S+)/gm, (_, verdict, pid) => `${verdict} ${it.hash(pid)}`);
-    assert.equal(answers(redactBundle(bundle)), plain, name);
+  const faults = new Set();
+  for (const [name, bundle] of bundles()) {
+    const plain = answers(bundle);
+    assert.equal(answers(redactBundle(bundle)), plain.replace(/^(yes|no) (\S+)/gm, (_, verdict, pid) => `${verdict} ${it.hash(pid)}`), name);
+    for (const [, fault] of plain.matchAll(/^no \S+ (\w+)/gm)) faults.add(fault);
   }
+  for (const fault of ["NOLOG", "CHAIN", "CLIENT", "NAMES", "FRAME", "ORPHAN", "CONTENT", "EXTRA", "DOUBLED", "SWAPPED", "LOST", "WINDOW", "TAIL"]) assert.ok(faults.has(fault), fault);
 });

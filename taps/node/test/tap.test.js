@@ -170,6 +170,12 @@ test("goes on in its file, after what a killed process left of a line", (t) => {
   assert.throws(() => new Tap({ name: "c2", of: "client", file, resume: true }), failsWith("Header"));
   assert.throws(() => new Tap({ name: "c1", of: "stream", file, resume: true }), failsWith("Header"));
   assert.throws(() => new Tap({ name: "c1", of: "node", file, resume: true }), failsWith("Field"));
+  const [header] = whole.split("\n");
+  for (const text of ["text", "c1 null", header.replace("1,", "3,"), `${header}\n${header}`, `${header}\nc1 {"k":"lost"}`, `${header}\nc1 nothing`]) {
+    fs.writeFileSync(file, `${text}\nc1 {`);
+    assert.throws(() => new Tap({ name: "c1", of: "client", file, resume: true }), failsWith("Header"), text);
+    assert.equal(fs.readFileSync(file, "utf8"), `${text}\nc1 {`);
+  }
 });
 
 test("goes on where no whole header was written", (t) => {

@@ -3,14 +3,17 @@
 import asyncio
 import contextlib
 import os
+import resource
 import signal
 import subprocess
 import sys
 import tempfile
+import time
 import unittest
 from pathlib import Path
 
 from . import lab
+from .relay import Relay
 
 SRC = Path(__file__).resolve().parents[1] / "src"
 sys.path.insert(0, str(SRC))
@@ -32,41 +35,6 @@ def write_taps(to):
         tap.write({"k": "conn", "c": 1})
         for number in range(6):
             tap.write({"k": "in", "t": f'42["é ⬢",{number},"1-{number}"]'})
-
-
-class Relay:
-    """Passes on so many bytes from senders to the collector, and then cuts; `back` is whether answers pass too."""
-
-    def __init__(self, port):
-        self.port, self.left, self.back = port, 0, True
-
-    async def start(self):
-        self.server = await asyncio.start_server(self.serve, "127.0.0.1", 0)
-        return self.server.sockets[0].getsockname()[1]
-
-    async def serve(self, reader, writer):
-        there, to = await asyncio.open_connection("127.0.0.1", self.port)
-
-        async def answers():
-            with contextlib.suppress(ConnectionError):
-                while data := await there.read(65536):
-                    if self.back:
-                        writer.write(data)
-
-        task = asyncio.create_task(answers())
-        with contextlib.suppress(ConnectionError):
-            while data := await reader.read(65536):
-                if self.left is not None:
-                    data = data[: self.left]
-                    self.left -= len(data)
-                to.write(data)
-                await to.drain()
-                if self.left == 0:
-                    await asyncio.sleep(0.003)
-                    break
-        task.cancel()
-        for it in (to, writer):
-            it.transport.abort()
 
 
 class Collect(unittest.TestCase):
@@ -94,32 +62,37 @@ class Collect(unittest.TestCase):
             sender.stop.set()
         return await asyncio.wait_for(sender.run(), 20), sender
 
-    def test_cut_everywhere(self):
-        """The connection is cut after every 37th byte of what is said, and the collector restarted: all is there once."""
+    def test_connection_cut_at_every_line(self):
+        """Before the end of each line that a sender says, after it, and in the next one; also so that what was kept was never
+        answered. The collector is restarted then, and all is there once."""
         write_taps(self.taps)
 
-        async def one(cut):
-            Path(self.into).unlink(missing_ok=True)
-            Path(f"{self.into}.senders").unlink(missing_ok=True)
+        async def said(cut, deaf):
+            """What a sender says up to there, over a connection that is cut there, and then what it does with a new one."""
+            for file in (self.into, f"{self.into}.senders"):
+                Path(file).unlink(missing_ok=True)
             collector = Collector(Store(into=self.into))
-            relay = Relay(await collector.listen("127.0.0.1", 0))
-            port = await relay.start()
-            relay.left, relay.back = cut, cut % 2 == 0
-            sender = Sender("m1", [str(self.taps)], "127.0.0.1", port)
-            sender.stop.set()
-            with contextlib.suppress(OSError, EOFError, TimeoutError):
-                await asyncio.wait_for(sender._connection(), 0.1)
+            async with Relay(await collector.listen("127.0.0.1", 0)) as relay:
+                relay.there, relay.deaf = cut, deaf
+                sender = Sender("m1", [str(self.taps)], "127.0.0.1", relay.at)
+                sender.stop.set()
+                with contextlib.suppress(OSError, EOFError, TimeoutError):
+                    await asyncio.wait_for(sender._connection(), 0.1 if deaf else 60)
             await collector.close()
             collector = Collector(Store(into=self.into))
-            relay.port, relay.left, relay.back = await collector.listen("127.0.0.1", 0), None, True
-            self.assertTrue((await self.send(port))[0])
-            relay.server.close()
+            self.assertTrue((await self.send(await collector.listen("127.0.0.1", 0)))[0])
             await collector.close()
-            self.assertEqual(self.collected(), self.each(), cut)
+            self.assertEqual(self.collected(), self.each(), (cut, deaf))
+            return relay.passed
 
         async def all_of_them():
-            for cut in range(1, 1300, 37):
-                await one(cut)
+            whole = await said(None, False)
+            ends = [at for at, byte in enumerate(whole) if byte == 10]
+            self.assertGreater(len(ends), 25)
+            for end in ends:
+                for cut in (end, end + 1, end + 7):
+                    self.assertEqual(len(await said(cut, False)), min(cut, len(whole)))
+                await said(end + 1, True)
 
         asyncio.run(all_of_them())
 
@@ -227,6 +200,27 @@ class Collect(unittest.TestCase):
             got = f"{kept.refused['line']}: {kept.refused['refused']}" if kept.refused else None
             self.assertEqual(got, expected, [line[:200] for line in lines])
 
+    def test_what_cannot_be_sent_is_told(self):
+        write_taps(self.taps)
+        (self.taps / "text.tap").write_text("x" * 40)
+        (self.taps / "again.tap").write_text((self.taps / "c1.tap").read_text())
+        (self.taps / "begun.tap").write_text("be")  # what has no whole line yet is nothing to send
+
+        async def run():
+            told = []
+            collector = Collector(Store(into=self.into))
+            port = await collector.listen("127.0.0.1", 0)
+            for paths in ([str(self.taps)], [str(self.taps / "c1.tap"), str(self.dir / "none.tap")], [str(self.taps / "c1.tap")]):
+                sender = Sender("m1", paths, "127.0.0.1", port, log=told.append)
+                sender.stop.set()
+                self.assertEqual(await sender.run(), len(paths) == 1 and paths != [str(self.taps)])
+            await collector.close()
+            return [it.removeprefix(f"{self.dir}/") for it in told]
+
+        told = asyncio.run(run())
+        self.assertEqual(told, ["taps/c1.tap: there is another file of the tap c1", "taps/text.tap: it is no tap", "none.tap: No such file or directory"])
+        self.assertEqual(set(self.collected()), {"st", "a.1", "c1"})
+
     def test_a_slow_sender_blocks_no_other(self):
         write_taps(self.taps)
 
@@ -260,8 +254,9 @@ class Collect(unittest.TestCase):
 
         asyncio.run(run())
 
-    def test_programs(self):
-        """The programs, with a tap that grows, and a collector that is killed meanwhile."""
+    def test_collector_killed_at_every_line(self):
+        """The programs, with a tap that grows: the collector is killed after each of its first lines, once they are there and
+        before, and in the middle of many."""
         environ = {**os.environ, "PYTHONPATH": str(SRC)}
 
         def collector(port=0):
@@ -270,22 +265,68 @@ class Collect(unittest.TestCase):
             self.addCleanup(started.stdout.close)
             return started, int(started.stdout.readline().rsplit(":", 1)[1])
 
-        first, port = collector()
+        def killed(it):
+            os.kill(it.pid, signal.SIGKILL)
+            it.wait()
+
+        running, port = collector()
         words = [sys.executable, "-m", "sioaudit_taps.send", "--to", f"127.0.0.1:{port}", "--sender", "m1", str(self.taps)]
         sender = subprocess.Popen(words, env=environ, stderr=subprocess.DEVNULL)
+        self.addCleanup(sender.kill)
         with Tap("c1", "client", dir=self.taps) as tap:
             tap.write({"k": "conn", "c": 1})
-            for number in range(3000):
+            for number in range(12):
                 tap.write({"k": "in", "t": f'42["x",{number}]'})
+                if number % 2 == 0:
+                    self.until(lambda: self.collected().get("c1") == self.each()["c1"])
+                killed(running)
+                running, _ = collector(port)
+            for number in range(3000):
+                tap.write({"k": "in", "t": f'42["y",{number}]'})
                 if number == 1500:
-                    os.kill(first.pid, signal.SIGKILL)
-                    first.wait()
-        second, _ = collector(port)
+                    killed(running)
+                    running, _ = collector(port)
         sender.send_signal(signal.SIGTERM)
-        self.assertEqual(sender.wait(20), 0)
-        second.send_signal(signal.SIGTERM)
-        self.assertEqual(second.wait(20), 0)
+        self.assertEqual(sender.wait(60), 0)
+        running.send_signal(signal.SIGTERM)
+        self.assertEqual(running.wait(60), 0)
         self.assertEqual(self.collected(), self.each())
+
+    def test_the_programs_words(self):
+        for program, words in (("collect", ["--into", self.into, "--listen"]), ("send", [str(self.taps), "--to"])):
+            for word in ("here", "here:", "here:65536", "[::1]", "::1:80", ":80", "here:x"):
+                done = subprocess.run([sys.executable, "-m", f"sioaudit_taps.{program}", *words, word], env={**os.environ, "PYTHONPATH": str(SRC)}, capture_output=True, text=True)
+                self.assertEqual(done.returncode, 2)
+                self.assertIn(f"{word} is no HOST:PORT", done.stderr)
+        self.assertEqual(protocol.address("[::1]:7431"), ("::1", 7431))
+        self.assertEqual(protocol.address("web1.example:80"), ("web1.example", 80))
+
+    def until(self, true):
+        for _ in range(6000):
+            if true():
+                return
+            time.sleep(0.01)
+        self.fail("it never came")
+
+    def test_more_taps_than_files_may_be_open(self):
+        for number in range(120):
+            with Tap(f"c{number}", "client", dir=self.taps) as tap:
+                tap.write({"k": "conn", "c": 1})
+        limits = resource.getrlimit(resource.RLIMIT_NOFILE)
+        resource.setrlimit(resource.RLIMIT_NOFILE, (80, limits[1]))
+        self.addCleanup(resource.setrlimit, resource.RLIMIT_NOFILE, limits)
+        to = self.dir / "to"
+
+        async def run():
+            for _ in range(2):
+                store = Store(dir=str(to))
+                collector = Collector(store)
+                self.assertTrue((await self.send(await collector.listen("127.0.0.1", 0)))[0])
+                store.sync()
+                await collector.close()
+
+        asyncio.run(run())
+        self.assertEqual({it.stem: it.read_bytes() for it in to.iterdir() if it.suffix == ".tap"}, self.each())
 
 
 if __name__ == "__main__":

@@ -6,7 +6,7 @@ import unittest
 from pathlib import Path
 
 from . import lab  # noqa: F401
-from sioaudit_taps import Redactor, TapError, read_key
+from sioaudit_taps import Redactor, Tap, TapError, read_key
 
 VECTORS = json.loads((Path(__file__).resolve().parents[2] / "redaction-vectors.json").read_text())
 
@@ -47,6 +47,9 @@ class Redaction(unittest.TestCase):
             with self.assertRaises(TapError) as refused:
                 read_key(Path(to) / "none")
             self.assertEqual(refused.exception.code, "Key")
-        for key in (b"0123456789abcde", "0123456789abcdef"):
-            with self.assertRaises(TapError):
-                Redactor(key)
+            for key in (b"0123456789abcde", "0123456789abcdef"):
+                for made in (lambda: Redactor(key), lambda: Tap("c1", "client", dir=to, redact=key)):
+                    with self.assertRaises(TapError) as refused:
+                        made()
+                    self.assertEqual(refused.exception.code, "Key")
+            self.assertEqual([it.name for it in Path(to).iterdir()], ["key"])

@@ -1,13 +1,18 @@
+import importlib
 import os
 import stat
+import subprocess
+import sys
 import tempfile
 import threading
+import tomllib
 import unittest
 from pathlib import Path
 from unittest import mock
 
-from . import lab  # noqa: F401
-from sioaudit_taps import NodeTap, StreamTap, Tap, TapError, encode
+from . import lab
+import sioaudit_taps
+from sioaudit_taps import NodeTap, StreamTap, Tap, TapError, encode, tap_client
 
 
 class Taps(unittest.TestCase):
@@ -82,6 +87,84 @@ class Taps(unittest.TestCase):
         client.write({"k": "conn", "c": 1})
         self.refused("Field", client.write, {"k": "conn", "c": 1})
         self.refused("UnknownKind", Tap("old", "node", dir=self.dir, version=1).write, {"k": "takes", "off": "1-0"})
+
+    def test_goes_on_after_what_a_killed_process_left(self):
+        first = Tap("c1", "client", dir=self.dir, resume=True)
+        first.write({"k": "conn", "c": 3})
+        first.write({"k": "in", "t": '40{"sid":"s","pid":"P"}'})
+        first.end()
+        file = Path(first.file)
+        whole = file.read_text()
+        file.write_text(whole + '\nc1 {"k":"in","t":"42[')  # (a line without bytes is none)
+        second = Tap("c1", "client", dir=self.dir, resume=True)
+        self.assertEqual((file.read_text(), second.connection, second.records), (whole + "\n", 3, 2))
+        self.refused("Field", second.write, {"k": "in", "t": "2"})  # its connection was lost
+        with Tap("c1", "client", file=file, resume=True) as third:
+            third.write({"k": "conn", "c": 4})
+            third.write({"k": "lost"})
+        self.assertEqual(file.read_text(), whole + '\nc1 {"k":"conn","c":4}\nc1 {"k":"lost"}\n')
+        with Tap("c1", "client", file=file, resume=True) as fourth:
+            self.refused("Field", fourth.write, {"k": "conn", "c": 4})
+
+    def test_goes_on_where_no_whole_header_was_written(self):
+        file = self.dir / "st.tap"
+        file.write_text('st {"k":"ta')
+        with Tap("st", "stream", file=file, resume=True) as tap:
+            self.assertIsNone(tap.last)
+            tap.write({"k": "other", "off": "1-0"})
+        self.assertEqual(file.read_text(), 'st {"k":"tap","v":1,"of":"stream"}\nst {"k":"other","off":"1-0"}\n')
+        with Tap("st", "stream", file=file, resume=True) as tap:
+            self.assertEqual(tap.last, "1-0")
+            self.refused("OffsetTwice", tap.write, {"k": "other", "off": "1-0"})
+
+    def test_a_file_that_is_another_taps_stays_as_it_is(self):
+        header = 'c1 {"k":"tap","v":1,"of":"client"}\n'
+        for text in ("text\n", "c1 null\n", "c2" + header[2:], header.replace("client", "stream"), header.replace("1,", "3,"), header + header, header + 'c1 {"k":"lost"}\n', header + "c1 nothing\n"):
+            file = self.dir / "c1.tap"
+            file.write_text(text + "c1 {")
+            self.refused("Header", Tap, "c1", "client", dir=self.dir, resume=True)
+            self.assertEqual(file.read_text(), text + "c1 {")
+        self.refused("Field", Tap, "a", "node", dir=self.dir, resume=True)
+        self.refused("Write", Tap, "a", "client", dir=self.dir / "none", resume=True)
+
+    def test_nothing_else_is_imported(self):
+        """Who has only a client's tap needs neither redis nor aiohttp, and who collects not even python-socketio."""
+        others = ("redis", "aiohttp", "socketio", "engineio", "requests", "websocket", "msgpack")
+        code = f"import sys; sys.path.insert(0, {str(lab.ROOT / 'taps/python/src')!r})\n"
+        loaded = code + f"import sioaudit_taps, sioaudit_taps.collect, sioaudit_taps.send; print(sorted(sys.modules.keys() & set({others})))"
+        self.assertEqual(self.python(loaded), "[]\n")
+        tapped = code + "sys.modules.update(redis=None, aiohttp=None)\nimport socketio, sioaudit_taps\n"
+        for made in ("Client()", "AsyncClient()"):
+            self.python(tapped + f"sioaudit_taps.tap_client(socketio.{made}, name='c', dir={str(self.dir)!r}).end()")
+            self.assertEqual((self.dir / "c.tap").read_text(), 'c {"k":"tap","v":1,"of":"client"}\n')
+            (self.dir / "c.tap").unlink()
+
+    def test_the_package(self):
+        at = lab.ROOT / "taps/python"
+        about = tomllib.loads((at / "pyproject.toml").read_text())
+        self.assertEqual(about["project"]["dependencies"], [])
+        for program in about["project"]["scripts"].values():
+            module, _, name = program.partition(":")
+            self.assertTrue(callable(getattr(importlib.import_module(module), name)))
+        for name in about["tool"]["setuptools"]["package-data"]["sioaudit_taps"]:
+            self.assertTrue((at / "src/sioaudit_taps" / name).exists())
+        self.assertEqual(sorted(sioaudit_taps.__all__), sorted(it for it in vars(sioaudit_taps) if not it.startswith("_") and not isinstance(getattr(sioaudit_taps, it), type(os))))
+
+    def test_what_a_tap_is_given(self):
+        for made in (StreamTap, NodeTap):
+            for words in ({}, {"name": "a"}, {"dir": self.dir}, {"name": "a", "dir": self.dir, "tap": self.tap("stream")}):
+                self.refused("Field", made, **words)
+            self.refused("UnknownKind", made, tap=self.tap("client"))
+        client = mock.Mock()
+        client.eio.state = "disconnected"
+        for words in ({}, {"name": "a"}, {"dir": self.dir}, {"name": "a", "dir": self.dir, "tap": self.tap("client")}):
+            self.refused("Field", tap_client, client, **words)
+        self.refused("UnknownKind", tap_client, client, tap=self.tap("stream"))
+
+    def python(self, code):
+        done = subprocess.run([sys.executable, "-c", code], capture_output=True, text=True)
+        self.assertEqual((done.returncode, done.stderr), (0, ""))
+        return done.stdout
 
     def test_a_full_disk_ends_it(self):
         tap = self.tap("client")

@@ -9,8 +9,8 @@ export interface JoinOptions {
   nodes?: string[];
   /** leaves out of the nodes' taps the sessions that no client's tap has */
   onlyTapped?: boolean;
-  /** made by `redactor(key)`; for all taps that are written */
-  redact?: Redactor;
+  /** a key of 16 bytes at least, or what `redactor` made of it; for all taps that are written */
+  redact?: Uint8Array | Redactor;
   /** what the names of the clients' taps begin with (c) */
   prefix?: string;
   /** whether what a client can't have taken is left out (true) */

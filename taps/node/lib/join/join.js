@@ -11,6 +11,7 @@ const path = require("node:path");
 const { TapError } = require("../errors");
 const { connectOf, frameOf } = require("../proxy/packets");
 const { LIMITS } = require("../records");
+const { redactorOf } = require("../redact");
 const { Lines } = require("./lines");
 const { Writer } = require("./writer");
 
@@ -109,8 +110,9 @@ class Journal {
  * @param {import("./index").JoinOptions} options
  * @returns {import("./index").JoinReport}
  */
-function join({ journals: files, into, nodes = [], onlyTapped = false, redact, prefix = "c", trimming = true }) {
+function join({ journals: files, into, nodes = [], onlyTapped = false, redact: given, prefix = "c", trimming = true }) {
   if (files.length === 0) throw new TypeError("no journal is given");
+  const redact = redactorOf(given);
   const report = {
     journals: files.length,
     connections: 0,

@@ -23,8 +23,8 @@ export interface ProxyOptions {
   idle?: number;
   /** whether pings tell what clients have taken (true) */
   acknowledged?: boolean;
-  /** made by `redactor(key)` */
-  redact?: Redactor;
+  /** a key of 16 bytes at least, the same for all taps of a recording; or what `redactor` made of it */
+  redact?: Uint8Array | Redactor;
   /** faults on purpose, as `drop:0.01` */
   inject?: (string | { kind: FaultKind; probability: number })[];
   /** what the faults are chosen by (1) */

@@ -4,6 +4,7 @@ const http = require("node:http");
 const https = require("node:https");
 const { request } = require("./http");
 const { parseFault } = require("./inject");
+const { redactorOf } = require("../redact");
 const { Journal } = require("./journal");
 const { createServer, upgrade } = require("./websocket");
 
@@ -51,7 +52,7 @@ class Proxy {
     this.faults = words.inject.map((it) => (typeof it === "string" ? parseFault(it) : it));
     this.seed = words.seed;
     this.nodes = nodes.map(nodeOf);
-    this.redactor = redact;
+    this.redactor = redactorOf(redact);
     this.counts = { connections: 0, frames: 0, gaps: 0, stalled: 0, unknown: 0 };
     this.connections = new Map(); // by Engine.IO's sid
     this.bridges = new Set();

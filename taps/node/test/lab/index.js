@@ -1,6 +1,7 @@
 "use strict";
 
-// Runs a cluster of real software (cluster.py) behind recording proxies, with a tap in each client beside the proxies'.
+// Runs a cluster of real software (cluster.py) behind recording proxies, with the tap of taps/python in each client beside
+// the proxies'.
 
 const assert = require("node:assert/strict");
 const { spawn, spawnSync } = require("node:child_process");
@@ -114,26 +115,42 @@ class Way {
 class Lab {
   clients = [];
   proxies = [];
+  behind = [];
 
-  /** `options` are those of each proxy, or a list with those of each. */
-  static async start(t, { nodes = ["a", "b"], proxies = 1, latency = 0, options = {} } = {}) {
+  /**
+   * `options` are those of each proxy, or a list with those of each. With `redact` another proxy stands between them and
+   * each node, which redacts its journal (`redacted`): so a run is recorded plain and redacted.
+   */
+  static async start(t, { nodes = ["a", "b"], proxies = 1, latency = 0, options = {}, redact } = {}) {
     const lab = new Lab();
     lab.t = t;
     lab.latency = latency;
     lab.dir = directory(t);
     for (const it of ["nodes", "truth", "joined"]) fs.mkdirSync(path.join(lab.dir, it));
     lab.redis = await startRedis(t);
-    const all = [...nodes.map((name) => Ops.start(t, "node", name, lab.redis.socket, lab.file("nodes", name))), Ops.start(t, "clients")];
+    const all = [...nodes.map((name) => Ops.start(t, "node", name, lab.redis.socket, path.join(lab.dir, "nodes"))), Ops.start(t, "clients")];
     const started = await Promise.all(all);
     lab.driver = started.pop();
     lab.nodes = Object.fromEntries(nodes.map((name, i) => [name, started[i]]));
+    const start = async (words) => {
+      const proxy = await startProxy(words);
+      t.after(() => proxy.close());
+      return proxy;
+    };
+    const ways = {};
+    for (const name of nodes) {
+      ways[name] = `http://127.0.0.1:${lab.nodes[name].hello.port}`;
+      if (redact === undefined) continue;
+      const proxy = await start({ nodes: [ways[name]], journal: path.join(lab.dir, `${name}.redacted.journal`), redact });
+      lab.behind.push(proxy);
+      ways[name] = proxy.url;
+    }
     // a proxy for each node alone, so that the test decides where a client goes, and one for all
     for (let i = 0; i < proxies; i++) {
       const made = {};
       for (const name of [...nodes, "all"]) {
-        const urls = (name === "all" ? nodes : [name]).map((it) => `http://127.0.0.1:${lab.nodes[it].hello.port}`);
-        made[name] = await startProxy({ nodes: urls, journal: path.join(lab.dir, `${name}${i}.journal`), ...(Array.isArray(options) ? options[i] : options) });
-        t.after(() => made[name].close());
+        const urls = (name === "all" ? nodes : [name]).map((it) => ways[it]);
+        made[name] = await start({ nodes: urls, journal: path.join(lab.dir, `${name}${i}.journal`), ...(Array.isArray(options) ? options[i] : options) });
       }
       lab.proxies.push(made);
     }
@@ -183,11 +200,11 @@ class Lab {
 
   /** Cuts the connection, and waits until all have noticed. */
   async cut(client) {
-    const { eio, st } = await this.info(client);
+    const { eio, pids: had } = await this.info(client);
     client.way.cut();
     await this.driver.ask("gone", { name: client.name });
     for (const node of Object.values(this.nodes)) if (node.process.exitCode === null && node.process.signalCode === null) await node.ask("abort", { eio });
-    const pids = Object.values(st).map((it) => it.pid);
+    const pids = Object.values(had);
     await until(async () => {
       for (const node of Object.values(this.nodes)) {
         if (node.process.exitCode !== null || node.process.signalCode !== null) continue;
@@ -222,12 +239,13 @@ class Lab {
     await this.live().ask("stream", { tap: this.file("nodes", "st") });
     for (const client of this.clients) client.way.cut();
     await this.driver.stop();
-    for (const it of this.proxies) for (const proxy of Object.values(it)) await proxy.close();
+    for (const proxy of [...this.proxies.flatMap((it) => Object.values(it)), ...this.behind]) await proxy.close();
     for (const node of Object.values(this.nodes)) await node.stop("SIGKILL");
     const at = path.join(this.dir, "joined");
     const journals = this.proxies.flatMap((it) => Object.values(it).map((proxy) => proxy.journal.file));
     const nodes = fs.readdirSync(path.join(this.dir, "nodes")).map((it) => path.join(this.dir, "nodes", it));
     this.journals = journals;
+    this.redacted = this.behind.map((it) => it.journal.file);
     this.nodeTaps = nodes;
     const report = join({ journals, into: at, nodes, ...options });
     for (const file of nodes) fs.copyFileSync(file, path.join(this.dir, "truth", path.basename(file)));
@@ -238,7 +256,7 @@ class Lab {
   again(options) {
     const into = fs.mkdtempSync(path.join(this.dir, "again-"));
     const report = join({ journals: this.journals, into, nodes: this.nodeTaps, ...options });
-    return { report, joined: audit(into, "audit") };
+    return { report, into, joined: audit(into, "audit") };
   }
 }
 

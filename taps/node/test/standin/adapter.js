@@ -124,6 +124,7 @@ function createAdapter(redis, { streamName, reads = () => undefined }) {
   async function poll() {
     await reads();
     const reader = redis.duplicate();
+    reader.on("error", () => {}); // told by the reads that fail
     await reader.connect();
     while (adapters.size > 0) {
       const answer = await reader.xRead({ key: streamName, id: last }, { BLOCK: 50, COUNT: 100 });

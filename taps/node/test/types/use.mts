@@ -1,6 +1,8 @@
 // What a user in TypeScript writes, and what is to be refused: compiled by package.test.js.
 import { Tap, TapError, decode, readKey, recordOf, redactor, tapClient, tapStream, tapped } from "sioaudit-taps";
 import type { Broadcast, NodeRecord, StreamDone } from "sioaudit-taps";
+import { join } from "sioaudit-taps/join";
+import { startProxy } from "sioaudit-taps/proxy";
 
 declare const redis: any;
 declare const manager: { on(event: string, listener: (...args: any[]) => void): void; engine: object };
@@ -23,6 +25,10 @@ client.write({ k: "conn", c: 1 });
 client.end();
 new Tap({ name: "a", of: "node", stream: { write: (line: string) => line.length } }).write({ k: "start", off: null });
 
+const proxy = await startProxy({ nodes: ["http://127.0.0.1:3000"], journal: "p.journal", inject: ["drop:0.01", { kind: "cut", probability: 0.1 }], log: (text: string) => text });
+await proxy.close();
+const gaps: string[] = join({ journals: [proxy.journal.file], into: "joined", nodes: ["st.tap"], onlyTapped: true, redact: new Uint8Array(16) }).gaps.map((it) => it.why);
+
 const record: NodeRecord = { k: "takes", off: last ?? "0-0" };
 const error: TapError | undefined = client.error;
 
@@ -37,4 +43,7 @@ tapped(createAdapter(redis, { streamName: "s" }), { dir: ".", name: "a" });
 // @ts-expect-error: a node's tap
 await tapStream({ redis, tap: node.tap });
 
-export { broken, error };
+// @ts-expect-error: no kind of fault
+await startProxy({ nodes: [], journal: "p.journal", inject: [{ kind: "lose", probability: 1 }] });
+
+export { broken, error, gaps };

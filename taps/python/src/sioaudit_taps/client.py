@@ -10,11 +10,12 @@ import warnings
 from collections.abc import Callable
 from typing import Any
 
-from engineio import packet as eio_packet
-
-from .errors import LateError, TapError, UnknownKindError
+from .errors import FieldError, LateError, TapError, UnknownKindError
 from .redact import Redactor
 from .tap import Tap
+
+
+_MESSAGE = 4  # the packets of Engine.IO that carry Socket.IO's
 
 
 def _warn(error: TapError) -> None:
@@ -28,7 +29,7 @@ class _Recorder:
         self._tap = tap
         self._on_error = on_error
         self._open = False
-        self._lock = threading.Lock()
+        self._lock = threading.RLock()  # `on_error` may end the connection
 
     def event(self, event: str, data: Any) -> None:
         with self._lock:
@@ -50,7 +51,7 @@ class _Recorder:
 
     def sending(self, packet: Any) -> None:
         # CONNECT and DISCONNECT: no other packet of a client is looked at
-        if packet.packet_type == eio_packet.MESSAGE and isinstance(packet.data, str) and packet.data[:1] in ("0", "1"):
+        if packet.packet_type == _MESSAGE and isinstance(packet.data, str) and packet.data[:1] in ("0", "1"):
             with self._lock:
                 if self._open:
                     self._write({"k": "out", "t": f"4{packet.data}"})
@@ -68,17 +69,21 @@ def tap_client(
     name: str | None = None,
     dir: str | os.PathLike[str] | None = None,
     tap: Tap | None = None,
+    resume: bool = False,
     redact: bytes | Redactor | None = None,
     on_error: Callable[[TapError], None] = _warn,
 ) -> Tap:
     """Taps a `socketio.AsyncClient` or `socketio.Client`: all its namespaces, over all its connections, whatever carries them.
 
-    To be called before it connects. Gives the tap, to be ended with the client.
+    To be called before it connects. Gives the tap, to be ended with the client. With `resume` it goes on in the tap's
+    file, for a client that keeps its pids and offsets over a restart.
     """
     eio = client.eio
     if eio.state != "disconnected":
         raise LateError("the client connects already: tap it before")
-    into = tap if tap is not None else Tap(str(name), "client", dir=dir, redact=redact)
+    if (tap is None) == (name is None or dir is None):
+        raise FieldError("a client's tap is given name and dir, or tap")
+    into = tap if tap is not None else Tap(str(name), "client", dir=dir, resume=resume, redact=redact)
     if into.of != "client":
         raise UnknownKindError(f"the tap {into.name} is a {into.of}'s")
     recorder = _Recorder(into, on_error)

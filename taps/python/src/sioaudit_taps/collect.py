@@ -7,7 +7,6 @@ import asyncio
 import contextlib
 import fcntl
 import json
-import math
 import os
 import signal
 import socket
@@ -17,58 +16,9 @@ from dataclasses import dataclass, field
 from typing import Any
 
 from . import records
-from .errors import FieldError, HeaderError, LimitError, LineTooLongError, NotJsonError, TapError, TapNameError, UnknownKindError
-from .protocol import CHUNK, HEAD, LONGEST, VERSION, ProtocolError, message, receive
-from .tap import Follower
-
-NESTED = 127
-
-
-def _constant(name: str) -> None:
-    raise ValueError(f"{name} is no JSON")
-
-
-def _float(token: str) -> float:
-    number = float(token)
-    if not math.isfinite(number):
-        raise ValueError(f"no 64-bit float holds {token[:20]}")
-    return number
-
-
-def _int(token: str) -> int | float:
-    # a whole number has no sign
-    return int(token) if len(token) < 300 and token[0] != "-" else _float(token)
-
-
-_decoder = json.JSONDecoder(parse_constant=_constant, parse_float=_float, parse_int=_int)
-
-
-def _depth(value: Any) -> int:
-    inner = value.values() if isinstance(value, dict) else value if isinstance(value, list) else None
-    return 0 if inner is None else 1 + max(map(_depth, inner), default=0)
-
-
-def read_line(line: bytes) -> tuple[str, dict[str, Any]]:
-    """A tap's name and a record of a line without its newline; raises a TapError where the auditor would refuse it."""
-    line = line.removesuffix(b"\r")
-    if len(line) > records.LINE:
-        raise LineTooLongError(f"a line has at most {records.LINE} bytes")
-    front, blank, rest = line.partition(b" ")
-    try:
-        name = records.check_name(front.decode("ascii", "replace") if blank else None)
-    except TapNameError as error:
-        raise TapError("a line begins with its tap's name and a blank", code="NoTapName") from error
-    try:
-        record = _decoder.decode(rest.decode())
-        if b"\\u" in rest:
-            json.dumps(record, ensure_ascii=False).encode()  # half a surrogate pair
-        if rest.count(b"[") + rest.count(b"{") > NESTED and _depth(record) > NESTED:
-            raise ValueError(f"nested past {NESTED}")
-    except (ValueError, RecursionError) as error:
-        raise NotJsonError(f"what follows the name is no JSON: {error}") from error
-    if not isinstance(record, dict) or not isinstance(record.get("k"), str):
-        raise FieldError("the JSON text is no object with a k")
-    return name, record
+from .errors import HeaderError, LimitError, TapError
+from .protocol import CHUNK, HEAD, LONGEST, VERSION, ProtocolError, address, message, receive
+from .tap import Follower, whole_lines
 
 
 @dataclass
@@ -80,7 +30,6 @@ class Kept:
     at: int = 0  # bytes of whole lines
     lines: int = 0
     refused: dict[str, Any] | None = None
-    fd: int | None = None
 
 
 @dataclass
@@ -107,21 +56,21 @@ class Store:
         except OSError as error:
             os.close(self._senders)
             raise BlockingIOError(f"{senders}: another collector has it") from error
-        for line in self._whole_lines(self._senders):
+        for line in whole_lines(self._senders):
             tap = json.loads(line)
             self.taps[tap["tap"]] = Kept(tap["sender"])
         if self.into is not None:
             self._into_fd = self._opened(self.into)
-            for line in self._whole_lines(self._into_fd):
+            for line in whole_lines(self._into_fd):
                 self._recall(line)
         else:
-            for name, kept in self.taps.items():
-                kept.fd = self._opened(os.path.join(self.dir or ".", f"{name}.tap"))
-                for line in self._whole_lines(kept.fd):
-                    self._recall(line)
+            for name in list(self.taps):
+                with self._file(name) as fd:
+                    for line in whole_lines(fd):
+                        self._recall(line)
 
     def close(self) -> None:
-        for fd in (self._senders, self._into_fd, *(it.fd for it in self.taps.values())):
+        for fd in (self._senders, self._into_fd):
             if fd is not None:
                 os.close(fd)
         self.taps = {}
@@ -134,8 +83,6 @@ class Store:
             self._append(self._senders, message(tap=name, sender=sender))
             os.fsync(self._senders)
             kept = self.taps[name] = Kept(sender)
-            if self.dir is not None:
-                kept.fd = self._opened(os.path.join(self.dir, f"{name}.tap"))
         elif kept.sender != sender:
             raise TapError(f"the tap {name} is of the sender {kept.sender}", code="NameTaken")
         return kept
@@ -153,19 +100,19 @@ class Store:
         except TapError as error:
             kept.refused = {"refused": error.code, "line": kept.lines + count + 1, "why": str(error)}
         if good:
-            fd = self._into_fd if self._into_fd is not None else kept.fd
-            assert fd is not None
-            self._append(fd, lines[:good])
+            with self._file(name) as fd:
+                self._append(fd, lines[:good])
             kept.at += good
             kept.lines += count
 
     def sync(self) -> None:
-        for fd in (self._into_fd, *(it.fd for it in self.taps.values())):
-            if fd is not None:
+        """Has all of it on the disk."""
+        for name in self.taps if self.into is None else [""]:
+            with self._file(name) as fd:
                 os.fsync(fd)
 
     def _follow(self, name: str, kept: Kept, line: bytes) -> None:
-        of_line, record = read_line(line)
+        of_line, record = records.read_line(line)
         if of_line != name:
             raise HeaderError(f"the line is of the tap {of_line}")
         if kept.follower is not None:
@@ -173,15 +120,7 @@ class Store:
                 raise HeaderError("a second header", code="HeaderTwice")
             kept.follower.follow(record)
             return
-        if record["k"] != "tap":
-            raise HeaderError("the first line is no header", code="NoHeader")
-        version, of = record.get("v"), record.get("of")
-        if not isinstance(version, int) or isinstance(version, bool) or not isinstance(of, str):
-            raise FieldError("a header has v, a whole number, and of, a text")
-        if version not in (1, 2):
-            raise FieldError(f"version {version} is neither 1 nor 2", code="Version")
-        if of not in records.KINDS:
-            raise UnknownKindError(f"a tap is of a stream, node or client, not {of}")
+        of, version = records.read_header(record)
         others = sum(it.follower is not None and it.follower.of == of for it in self.taps.values())
         if of == "stream" and others:
             raise LimitError("there is a stream's tap already", code="SecondStream")
@@ -198,6 +137,18 @@ class Store:
         kept.at += len(line) + 1
         kept.lines += 1
 
+    @contextlib.contextmanager
+    def _file(self, name: str) -> Iterator[int]:
+        """The file that has a tap. One a tap is opened each time: there may be more than a process may hold open."""
+        if self._into_fd is not None:
+            yield self._into_fd
+            return
+        fd = self._opened(os.path.join(self.dir or ".", f"{name}.tap"))
+        try:
+            yield fd
+        finally:
+            os.close(fd)
+
     @staticmethod
     def _opened(path: str) -> int:
         return os.open(path, os.O_RDWR | os.O_APPEND | os.O_CREAT | os.O_CLOEXEC, 0o600)
@@ -212,19 +163,6 @@ class Store:
         except OSError:
             os.ftruncate(fd, size)  # whole or not at all
             raise
-
-    @staticmethod
-    def _whole_lines(fd: int) -> Iterator[bytes]:
-        """The lines of a file; what a crash left of a last one is cut off."""
-        whole = 0
-        with os.fdopen(os.dup(fd), "rb", buffering=1 << 20) as opened:
-            opened.seek(0)
-            for line in opened:
-                if not line.endswith(b"\n"):
-                    break
-                whole += len(line)
-                yield line[:-1]
-        os.ftruncate(fd, whole)
 
 
 class Collector:
@@ -307,8 +245,9 @@ async def _run(words: argparse.Namespace) -> int:
     loop = asyncio.get_running_loop()
     for number in (signal.SIGINT, signal.SIGTERM):
         loop.add_signal_handler(number, collector.done.set)
-    host, _, port = words.listen.rpartition(":")
-    print(f"sioaudit-collect: listening on {host}:{await collector.listen(host.strip('[]'), int(port))}", flush=True)
+    host, port = words.listen
+    port = await collector.listen(host, port)
+    print(f"sioaudit-collect: listening on {f'[{host}]' if ':' in host else host}:{port}", flush=True)
     await collector.done.wait()
     store.sync()
     await collector.close()
@@ -320,7 +259,7 @@ async def _run(words: argparse.Namespace) -> int:
 
 def main() -> int:
     parser = argparse.ArgumentParser(prog="sioaudit-collect", description="Collects the taps that sioaudit-send sends, from many machines.")
-    parser.add_argument("--listen", default="127.0.0.1:7431", metavar="HOST:PORT", help="where to listen (%(default)s); port 0 takes a free one")
+    parser.add_argument("--listen", default="127.0.0.1:7431", type=address, metavar="HOST:PORT", help="where to listen (%(default)s); port 0 takes a free one")
     to = parser.add_mutually_exclusive_group(required=True)
     to.add_argument("--into", metavar="FILE", help="append all taps to this file, which is a bundle")
     to.add_argument("--dir", metavar="DIR", help="a file a tap in this directory")

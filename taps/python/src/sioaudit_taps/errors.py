@@ -57,7 +57,7 @@ class TapNameError(TapError):
 
 
 class HeaderError(TapError):
-    """A tap's first line is no header, or a later one is."""
+    """A tap's first line is no header, or a later one is, or the file is another tap's."""
 
     code = "Header"
 

@@ -8,7 +8,7 @@ from collections.abc import Iterable
 from types import TracebackType
 from typing import Self
 
-from .errors import ExistsError, MomentError
+from .errors import ExistsError, FieldError, MomentError, UnknownKindError
 from .redact import Redactor
 from .tap import Tap
 
@@ -29,10 +29,10 @@ class NodeTap:
         redact: bytes | Redactor | None = None,
     ) -> None:
         if (tap is None) == (name is None or dir is None):
-            raise MomentError("a node's tap is given name and dir, or tap")
+            raise FieldError("a node's tap is given name and dir, or tap")
         self.tap = tap if tap is not None else _booted(str(name), os.fspath(dir or "."), redact)
         if self.tap.of != "node":
-            raise MomentError(f"the tap {self.tap.name} is a {self.tap.of}'s")
+            raise UnknownKindError(f"the tap {self.tap.name} is a {self.tap.of}'s")
         self._started = False
         self._here: dict[str, int] = {}  # the turn of each session that this node sends to
         self._was: dict[str, int] = {}  # the last turn that others ended here

@@ -2,8 +2,10 @@
 
 from __future__ import annotations
 
+import argparse
 import asyncio
 import json
+import re
 from typing import Any, Final
 
 from . import records
@@ -12,6 +14,14 @@ VERSION: Final = 1
 CHUNK: Final = 256 * 1024  # bytes of lines in one message, where a line isn't longer
 LONGEST: Final = records.LINE + 1
 HEAD: Final = 64 * 1024  # bytes of a message's own line
+
+
+def address(word: str) -> tuple[str, int]:
+    """HOST:PORT, as an argument."""
+    found = re.fullmatch(r"(\[[^\[\]]+\]|[^:\[\]]+):([0-9]{1,5})", word)
+    if found is None or int(found[2]) > 65_535:
+        raise argparse.ArgumentTypeError(f"{word} is no HOST:PORT")
+    return found[1].strip("[]"), int(found[2])
 
 
 class ProtocolError(Exception):

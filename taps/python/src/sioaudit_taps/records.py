@@ -2,11 +2,13 @@
 
 from __future__ import annotations
 
+import json
+import math
 import re
 from collections.abc import Callable, Mapping
 from typing import Any, Final, Literal
 
-from .errors import FieldError, LimitError, TapNameError, NotJsonError, UnknownKindError
+from .errors import FieldError, HeaderError, LimitError, LineTooLongError, NotJsonError, TapError, TapNameError, UnknownKindError
 
 Kind = Literal["stream", "node", "client"]
 Record = Mapping[str, Any]
@@ -25,6 +27,7 @@ ENTRIES: Final = 1_000_000
 RECORDS: Final = 4_000_000
 NODES: Final = 64
 CLIENTS: Final = 4_096
+NESTED: Final = 127
 
 _NAME = re.compile(r"[A-Za-z0-9_.-]{1,32}")
 _PRINTABLE = re.compile(r"[\x21-\x7e]*")
@@ -178,3 +181,64 @@ def checked(of: str, version: int, record: Record) -> dict[str, Any]:
             continue
         made[name] = value
     return made
+
+
+def _constant(name: str) -> None:
+    raise ValueError(f"{name} is no JSON")
+
+
+def _float(token: str) -> float:
+    number = float(token)
+    if not math.isfinite(number):
+        raise ValueError(f"no 64-bit float holds {token[:20]}")
+    return number
+
+
+def _int(token: str) -> int | float:
+    # a whole number has no sign
+    return int(token) if len(token) < 300 and token[0] != "-" else _float(token)
+
+
+_decoder = json.JSONDecoder(parse_constant=_constant, parse_float=_float, parse_int=_int)
+
+
+def _depth(value: Any) -> int:
+    inner = value.values() if isinstance(value, dict) else value if isinstance(value, list) else None
+    return 0 if inner is None else 1 + max(map(_depth, inner), default=0)
+
+
+def read_line(line: bytes) -> tuple[str, dict[str, Any]]:
+    """A tap's name and a record, of a line without its newline; raises a TapError where the auditor would refuse it."""
+    line = line.removesuffix(b"\r")
+    if len(line) > LINE:
+        raise LineTooLongError(f"a line has at most {LINE} bytes")
+    front, blank, rest = line.partition(b" ")
+    try:
+        name = check_name(front.decode("ascii", "replace") if blank else None)
+    except TapNameError as error:
+        raise TapError("a line begins with its tap's name and a blank", code="NoTapName") from error
+    try:
+        record = _decoder.decode(rest.decode())
+        if b"\\u" in rest:
+            json.dumps(record, ensure_ascii=False).encode()  # half a surrogate pair
+        if rest.count(b"[") + rest.count(b"{") > NESTED and _depth(record) > NESTED:
+            raise ValueError(f"nested past {NESTED}")
+    except (ValueError, RecursionError) as error:
+        raise NotJsonError(f"what follows the name is no JSON: {error}") from error
+    if not isinstance(record, dict) or not isinstance(record.get("k"), str):
+        raise FieldError("the JSON text is no object with a k")
+    return name, record
+
+
+def read_header(record: Record) -> tuple[Kind, int]:
+    """What a tap is of, and its version, by its first record; raises a TapError where the auditor would refuse it."""
+    if record.get("k") != "tap":
+        raise HeaderError("the first line is no header", code="NoHeader")
+    version, of = record.get("v"), record.get("of")
+    if not isinstance(version, int) or isinstance(version, bool) or not isinstance(of, str):
+        raise FieldError("a header has v, a whole number, and of, a text")
+    if version not in (1, 2):
+        raise FieldError(f"version {version} is neither 1 nor 2", code="Version")
+    if of not in KINDS:
+        raise UnknownKindError(f"a tap is of a stream, node or client, not {of}")
+    return of, version  # type: ignore[return-value]

@@ -13,7 +13,7 @@ from collections.abc import Callable, Iterable
 from typing import Any
 
 from . import records
-from .protocol import CHUNK, HEAD, LONGEST, VERSION, ProtocolError, message, receive
+from .protocol import CHUNK, HEAD, LONGEST, VERSION, ProtocolError, address, message, receive
 
 _FRONT = re.compile(rb"([A-Za-z0-9_.-]{1,32}) ")
 PAUSE = 0.2
@@ -60,7 +60,10 @@ class Sender:
         self.patience = 10.0
         """Seconds in which, once it was asked to stop, it still looks for the collector."""
         self._log = log or (lambda text: None)
+        self.left_out: set[str] = set()
+        """Files that could not be read, or are no taps, and directories that could not be looked into."""
         self._told: set[str] = set()
+        self._pause = 0.1  # until it looks for the collector again
 
     @property
     def refused(self) -> list[str]:
@@ -68,12 +71,12 @@ class Sender:
 
     async def run(self) -> bool:
         """Sends until `stop` is set, and then what the files have by then. Whether all of it is with the collector."""
-        pause, since = 0.1, None
+        since = None
         loop = asyncio.get_running_loop()
         while True:
             try:
                 await self._connection()
-                return not self.refused
+                return not self.refused and not self.left_out
             except (OSError, EOFError, TimeoutError) as error:
                 self._tell(f"no collector: {error}")
             for tap in self.taps.values():
@@ -85,14 +88,15 @@ class Sender:
                 await asyncio.sleep(0.1)
             else:
                 with contextlib.suppress(TimeoutError):
-                    await asyncio.wait_for(self.stop.wait(), pause)
-                pause = min(pause * 2, 5.0)
+                    await asyncio.wait_for(self.stop.wait(), self._pause)
+                self._pause = min(self._pause * 2, 5.0)
 
     async def _connection(self) -> None:
         reader, writer = await asyncio.open_connection(self.host, self.port, limit=HEAD)
         try:
             await self._ask(reader, writer, message(sioaudit=VERSION, sender=self.name))
             self._told.clear()
+            self._pause = 0.1
             while True:
                 ending = self.stop.is_set()
                 self._look()
@@ -150,11 +154,12 @@ class Sender:
         return False
 
     def _look(self) -> None:
+        self.left_out.clear()
         for path in self.paths:
             try:
                 files = sorted(os.path.join(path, it) for it in os.listdir(path) if it.endswith(".tap")) if os.path.isdir(path) else [path]
             except OSError as error:
-                self._tell(f"{path}: {error.strerror}")
+                self._leave_out(path, str(error.strerror))
                 continue
             for file in files:
                 if file not in self.taps:
@@ -165,17 +170,21 @@ class Sender:
             with open(file, "rb") as opened:
                 front = opened.read(33)
         except OSError as error:
-            return self._tell(f"{file}: {error.strerror}")
+            return self._leave_out(file, str(error.strerror))
         found = _FRONT.match(front)
         if found is None:
             if len(front) == 33:
-                self._tell(f"{file}: it is no tap")
+                self._leave_out(file, "it is no tap")
             return None
         name = found[1].decode()
         if any(it.name == name for it in self.taps.values()):
-            return self._tell(f"{file}: there is another file of the tap {name}")
+            return self._leave_out(file, f"there is another file of the tap {name}")
         self.taps[file] = _Tap(file, name)
         return None
+
+    def _leave_out(self, path: str, why: str) -> None:
+        self.left_out.add(path)
+        self._tell(f"{path}: {why}")
 
     def _tell(self, text: str) -> None:
         if text not in self._told:
@@ -184,8 +193,7 @@ class Sender:
 
 
 async def _run(words: argparse.Namespace) -> int:
-    host, _, port = words.to.rpartition(":")
-    sender = Sender(words.sender, words.paths, host.strip("[]"), int(port), log=lambda text: print(f"sioaudit-send: {text}", file=sys.stderr, flush=True))
+    sender = Sender(words.sender, words.paths, *words.to, log=lambda text: print(f"sioaudit-send: {text}", file=sys.stderr, flush=True))
     loop = asyncio.get_running_loop()
     for number in (signal.SIGINT, signal.SIGTERM):
         loop.add_signal_handler(number, sender.stop.set)
@@ -199,7 +207,7 @@ def main() -> int:
         prog="sioaudit-send",
         description="Sends taps to sioaudit-collect as they grow. At SIGINT or SIGTERM it sends what they have by then, and ends.",
     )
-    parser.add_argument("--to", required=True, metavar="HOST:PORT", help="where the collector listens")
+    parser.add_argument("--to", required=True, type=address, metavar="HOST:PORT", help="where the collector listens")
     parser.add_argument("--sender", default=os.uname().nodename, metavar="NAME", help="the name of this machine, another for each (%(default)s)")
     parser.add_argument("--once", action="store_true", help="send what the files have now, and end")
     parser.add_argument("paths", nargs="+", metavar="PATH", help="a tap's file, or a directory, of which each *.tap is sent")

@@ -5,11 +5,12 @@ from __future__ import annotations
 import json
 import os
 import threading
+from collections.abc import Iterator
 from types import TracebackType
 from typing import Any, Self
 
 from . import records
-from .errors import ExistsError, FieldError, LimitError, LineTooLongError, OffsetTwiceError, TapError, UnknownKindError, WriteError
+from .errors import ExistsError, FieldError, HeaderError, LimitError, LineTooLongError, OffsetTwiceError, TapError, UnknownKindError, WriteError
 from .records import Kind, Record
 from .redact import Redactor
 
@@ -58,11 +59,27 @@ class Follower:
         return made
 
 
+def whole_lines(fd: int) -> Iterator[bytes]:
+    """The lines of a file, without their newlines; what a crash left of a last one is cut off in the end."""
+    whole = 0
+    with os.fdopen(os.dup(fd), "rb", buffering=1 << 20) as opened:
+        opened.seek(0)
+        for line in opened:
+            if not line.endswith(b"\n"):
+                break
+            whole += len(line)
+            yield line[:-1]
+    os.ftruncate(fd, whole)
+
+
 class Tap:
     """A tap in a file of its own.
 
     A record that is refused, or that can't be written, ends the tap: `write` raises a TapError then, and from then on
     writes nothing and answers False. A tap that ends is complete up to its end; one with a hole contradicts itself.
+
+    With `resume` it goes on in a file that is there, after its last whole line: for a stream, and for a client that keeps
+    its pids over a restart. A node that is started again needs a new tap.
     """
 
     def __init__(
@@ -73,6 +90,7 @@ class Tap:
         file: str | os.PathLike[str] | None = None,
         dir: str | os.PathLike[str] | None = None,
         version: int | None = None,
+        resume: bool = False,
         redact: bytes | Redactor | None = None,
     ) -> None:
         self.name = records.check_name(name)
@@ -84,21 +102,28 @@ class Tap:
         self.version = (2 if of == "node" else 1) if version is None else version
         if self.version not in (1, 2):
             raise FieldError(f"version {version} is neither 1 nor 2")
+        if resume and of == "node":
+            raise FieldError("a node that is started again needs a new tap")
         self.file = os.fspath(file) if file is not None else os.path.join(os.fspath(dir or "."), f"{name}.tap")
         self.error: TapError | None = None
         """What ended it, if anything did."""
-        self._redactor = Redactor(redact) if isinstance(redact, bytes) else redact
+        self._redactor = redact if redact is None or isinstance(redact, Redactor) else Redactor(redact)
         self._follower = Follower(of, self.version)
         self._lock = threading.RLock()
         self._fd: int | None = None
         try:
             # it has what sessions can be taken over with: for its owner alone
-            self._fd = os.open(self.file, os.O_WRONLY | os.O_APPEND | os.O_CREAT | os.O_EXCL | os.O_CLOEXEC, 0o600)
+            self._fd = os.open(self.file, os.O_RDWR | os.O_APPEND | os.O_CREAT | os.O_CLOEXEC | (0 if resume else os.O_EXCL), 0o600)
         except FileExistsError as error:
             raise ExistsError(f"{self.file} is there already: a tap's name is used once") from error
         except OSError as error:
             raise WriteError(f"{self.file}: {error.strerror}") from error
-        self._put({"k": "tap", "v": self.version, "of": of})
+        try:
+            if not (resume and self._recall(self._fd)):
+                self._put({"k": "tap", "v": self.version, "of": of})
+        except BaseException:
+            self.end()
+            raise
 
     @property
     def ended(self) -> bool:
@@ -147,6 +172,29 @@ class Tap:
 
     def __exit__(self, kind: type[BaseException] | None, error: BaseException | None, trace: TracebackType | None) -> None:
         self.end()
+
+    def _recall(self, fd: int) -> bool:
+        """Takes in what the file has; False where it hasn't even a whole header."""
+        begun = False
+        for number, line in enumerate(whole_lines(fd), 1):
+            if line == b"":
+                continue
+            try:
+                name, record = records.read_line(line)
+                if name != self.name:
+                    raise HeaderError(f"it is of the tap {name}")
+                if begun:
+                    self._follower.follow(record)
+                    continue
+                of, self.version = records.read_header(record)
+                if of != self.of:
+                    raise HeaderError(f"it is a {of}'s")
+            except TapError as error:
+                raise HeaderError(f"{self.file}: line {number} is no line of the {self.of}'s tap {self.name}: {error}") from error
+            self._follower = Follower(of, self.version)
+            begun = True
+        self._follower.connected = False  # whatever connection stood was lost with the process
+        return begun
 
     # one write a record, so that a line is there whole or not at all
     def _put(self, record: Record) -> None:
