@@ -16,9 +16,9 @@ use Rattle.aud_input.specs.Input.{InputSeen, input_of}
 use Rattle.aud_report.specs.declared.output.Status.{Status}
 use Rattle.aud_report.specs.declared.verdict.SessionVerdict.{SessionVerdict}
 use Rattle.aud_report.specs.Output.{OutputSeen, report_of, proving_of, refusal_of}
-use Rattle.aud_answers.specs.declared.answer.Answered.{Answered}
-use Rattle.aud_answers.specs.Lines.{verification_of}
-use Rattle.aud_answers.specs.Verified.{AreAnswered}
+use Rattle.aud_app.specs.declared.answer.Answered.{Answered}
+use Rattle.aud_app.specs.Lines.{verification_of}
+use Rattle.aud_app.specs.Verified.{AreAnswered}
 use Rattle.aud_streams.specs.Written.{AppendsFront}
 use Rattle.aud_verdict.specs.Verdicts.{AreVerdicts}
 use Rattle.aud_upgrade.specs.Upgraded.{upgraded}

@@ -19,19 +19,36 @@
 //! let written = str::from_utf8(&report)?;
 //! assert_eq!(rt; written, "yes P got=1 tail=0 turns=1\nsessions=1 yes=1 no=0\n");
 //! ```
+//!
+//! [`answers`] is what `verify` finds: it reads each certificate of an input over the recording and checks it, several at a
+//! time. With the `recording` of `examples/bundle_a.jsonl`, and as `lines` the one with its certificate, line 12:
+//!
+//! ```
+//! use aud_app::{answers, verification_on};
+//!
+//! let all = answers(&rt, alloc, 4, recording, lines)?;
+//! let output = verification_on(alloc, &all)?;
+//! assert_eq!(rt; output.text.as_str(), "ok 12 P got=1 tail=0 turns=1\ncerts=1 ok=1 bad=0\n");
+//! ```
 #![tactic(auto)]
 
+mod answer;
 mod audit;
 mod certificates;
+mod lines;
 mod order;
 mod output;
 mod program;
 mod reading;
 mod upgraded;
+mod verify;
 mod written;
 
+pub use answer::{Answer, Answered};
 pub use aud_options::{Mode, Options, options};
 pub use aud_report::Status;
 pub use aud_streams::{RunFault, Watched};
+pub use lines::verification_on;
 pub use program::run;
 pub use reading::READ_LIMIT;
+pub use verify::answers;

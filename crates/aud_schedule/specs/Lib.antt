@@ -1,4 +1,5 @@
 pub mod Size
 pub mod Acts
 pub mod Plans
+pub mod Bundles
 pub mod Private

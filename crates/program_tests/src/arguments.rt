@@ -1,7 +1,7 @@
 //! The arguments of the command line.
 use Shown::{Help, Why};
 use aud_app::{Mode, Options, options};
-use aud_simulation::plan_asked;
+use aud_schedule::plan_asked;
 use std::alloc::Global;
 use std::test::Fail;
 

@@ -2,8 +2,7 @@
 use crate::case::{AUDIT, run_over};
 use aud_app::Options;
 use aud_app::Status::{self, AllYes, SomeNo};
-use aud_schedule::{Fault, Plan};
-use aud_simulation::simulated;
+use aud_schedule::{Fault, Plan, simulated};
 use std::alloc::Global;
 use std::hash::RandomState;
 use std::process::Abort;

@@ -1,8 +1,7 @@
 //! The arguments of `simulate`.
 use crate::arguments::Shown::{self, Help, Why};
 use crate::arguments::{Command, is_refused};
-use aud_schedule::{Fault, Plan};
-use aud_simulation::plan_asked;
+use aud_schedule::{Fault, Plan, plan_asked};
 use std::test::Fail;
 
 /// What `simulate` alone asks for.

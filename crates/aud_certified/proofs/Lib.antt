@@ -1,7 +1,0 @@
-pub mod Pids
-pub mod Cursors
-pub mod Sound
-pub mod TextBack
-pub mod Bundles
-pub mod Accepted
-pub mod AllAccepted

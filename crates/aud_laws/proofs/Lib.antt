@@ -1,0 +1,4 @@
+pub mod Recovered
+pub mod AnyOrder
+pub mod ReadBack
+pub mod OfABundle

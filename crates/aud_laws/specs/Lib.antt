@@ -1,0 +1,11 @@
+pub use Rattle.aud_merge.specs.ByTurns
+pub use Rattle.aud_check.specs.Refusals
+pub use Rattle.aud_reader.specs.Bundle
+pub use Rattle.aud_writer.specs.OfABundle
+pub use Rattle.aud_upgrade.specs.Upgraded
+pub mod Recovery
+pub mod RecoveredCertificate
+pub mod Order
+pub mod Inputs
+pub mod Outputs
+pub mod Proven

@@ -1,8 +1,0 @@
-pub mod Formed
-pub mod Versions
-pub mod Follows
-pub mod Counts
-pub mod Records
-pub mod ReadTaps
-pub mod UpgradedLogs
-pub mod UpgradedTaps

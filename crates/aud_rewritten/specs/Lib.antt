@@ -1,3 +1,0 @@
-pub use Rattle.aud_reader.specs.Bundle
-pub use Rattle.aud_writer.specs.OfABundle
-pub use Rattle.aud_upgrade.specs.Upgraded

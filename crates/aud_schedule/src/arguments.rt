@@ -1,0 +1,184 @@
+//! The arguments of `simulate`.
+ghost use Rattle.std.specs.Prelude.{IfOk, IfSome};
+ghost use Rattle.aud_schedule.specs.Plans.{IsPossible};
+
+use crate::plan::{Fault, Plan};
+use clap::builder::ValueParser;
+use clap::error::ErrorKind;
+use clap::{Arg, ArgMatches, Command, Error, value_parser};
+use std::alloc::{AllocError, Global};
+
+const ABOUT: &str = "Writes the bundle of a simulated cluster";
+
+const LINES: &str = "\
+The bundle goes to standard output, and `audit` reads it. What happens in the cluster is chosen
+by the seed: the same words give the same bytes on every machine. Without a fault every session
+receives what is due to it.
+
+The faults, each of which comes once; it takes 32 acts or more, and lag 2 nodes or more:
+  drop            an event is not sent
+  double          an event is sent twice
+  hold            an event is sent after the one that follows it
+  alter           an event is sent with another word
+  garble          an event is sent as no packet
+  lag             a session is taken back by a node that has not come as far as its client has
+  unknown-offset  a session is asked for with an offset that no entry has
+  no-reply        a session is opened, and its client is not told
+  other-sid       a session is opened, and its client is told another sid
+  no-open         a node does not record that it opened a session
+  no-join         a node does not record that a session joined a room
+  no-break        a node does not record that a connection broke
+  take-twice      a node records twice that it took an entry";
+
+const FAULTS: [&str; 13] = [
+    "drop",
+    "double",
+    "hold",
+    "alter",
+    "garble",
+    "lag",
+    "unknown-offset",
+    "no-reply",
+    "other-sid",
+    "no-open",
+    "no-join",
+    "no-break",
+    "take-twice",
+];
+
+const NO_ROOM: &str =
+    "a fault takes 32 acts or more, and the fault lag 2 nodes or more\n\nFor more information, try '--help'.";
+
+/// An option that takes a value.
+fn option<'a>(
+    alloc: Global,
+    name: &'a str,
+    value: &'a str,
+    help: &'a str,
+    parser: ValueParser<'a>,
+) -> Arg<'a> {
+    Arg::new(alloc, name)
+        .long(name)
+        .value_name(value)
+        .help(help)
+        .value_parser(parser)
+}
+
+/// The command, with the options for the size of the cluster.
+fn sized<'a>(alloc: Global) -> Result<Command<'a>, AllocError> {
+    let nodes = option(
+        alloc,
+        "nodes",
+        "N",
+        "Nodes of the cluster, 1 to 64",
+        value_parser!(u8).range(1..65),
+    )
+    .default_value("2");
+    let clients = option(
+        alloc,
+        "clients",
+        "C",
+        "Clients, 1 to 4096",
+        value_parser!(u16).range(1..4097),
+    )
+    .default_value("4");
+    Command::new(alloc, "simulate")
+        .about(ABOUT)
+        .after_help(LINES)
+        .arg(nodes)?
+        .arg(clients)
+}
+
+/// The command and its options.
+fn simulate<'a>(alloc: Global) -> Result<Command<'a>, AllocError> {
+    let acts = option(
+        alloc,
+        "acts",
+        "K",
+        "Acts of the schedule, at most 1000000",
+        value_parser!(u32).range(0..1_000_001),
+    )
+    .default_value("200");
+    let seed = option(
+        alloc,
+        "seed",
+        "S",
+        "What the schedule is chosen by",
+        value_parser!(u64),
+    )
+    .default_value("1");
+    let fault = option(
+        alloc,
+        "fault",
+        "FAULT",
+        "What goes wrong once",
+        ValueParser::Names(&FAULTS),
+    );
+    sized(alloc)?.arg(acts)?.arg(seed)?.arg(fault)
+}
+
+/// The parser of the words.
+fn command<'a>(alloc: Global) -> Result<Command<'a>, AllocError> {
+    let simulate = simulate(alloc)?;
+    Command::new(alloc, "sioaudit")
+        .no_binary_name(true)
+        .subcommand_required(true)
+        .subcommand(simulate)?
+        .bin_name("sioaudit")
+}
+
+/// The fault of this name.
+fn fault_named(name: &str) -> Option<Fault> {
+    match name {
+        "drop" => Some(Fault::Drop),
+        "double" => Some(Fault::Double),
+        "hold" => Some(Fault::Hold),
+        "alter" => Some(Fault::Alter),
+        "garble" => Some(Fault::Garble),
+        "lag" => Some(Fault::Lag),
+        "unknown-offset" => Some(Fault::UnknownOffset),
+        "no-reply" => Some(Fault::NoReply),
+        "other-sid" => Some(Fault::OtherSid),
+        "no-open" => Some(Fault::NoOpen),
+        "no-join" => Some(Fault::NoJoin),
+        "no-break" => Some(Fault::NoBreak),
+        "take-twice" => Some(Fault::TakeTwice),
+        _ => None,
+    }
+}
+
+/// The plan of these values, where a schedule can be made for it.
+fn plan_of(matches: &ArgMatches<'_>) -> Option<Plan>
+    ensures { IfSome result IsPossible }
+{
+    let plan = Plan {
+        nodes: matches.get_one("nodes")?,
+        clients: matches.get_one("clients")?,
+        acts: matches.get_one("acts")?,
+        seed: matches.get_one("seed")?,
+        fault: fault_named(matches.get_str("fault").unwrap_or("")),
+    };
+    if plan.is_possible() { Some(plan) } else { None }
+}
+
+/// The error on words that the parser lets pass, and that no schedule can be made for.
+fn no_room(alloc: Global) -> Result<Error, AllocError> {
+    command(alloc)?.error(ErrorKind::ValueValidation, NO_ROOM)
+}
+
+/// What the words after the program's name ask for, of which the first is `simulate`: the plan keeps to the limits of a
+/// cluster, and has room for its fault. The error has the text to print: help that was asked for, or why the words are
+/// refused; where memory ran out its kind is `OutOfMemory`.
+pub fn plan_asked<'a>(alloc: Global, words: &'a [&'a str]) -> Result<Plan, Error>
+    ensures { IfOk result IsPossible }
+{
+    let matches = command(alloc)?.try_get_matches_from(words)?;
+    let plan = match matches.subcommand_matches("simulate") {
+        Some(asked) => plan_of(asked),
+        None => None,
+    };
+    match plan {
+        Some(plan) => Ok(plan),
+        None => Err(no_room(alloc)?),
+    }
+}

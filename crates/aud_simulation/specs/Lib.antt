@@ -1,2 +1,0 @@
-pub use Rattle.aud_schedule.specs.Plans
-pub mod Bundles
