@@ -6,11 +6,11 @@ ghost use Rattle.aud_app.specs.Output.{IsReport, IsProving, IsVerification, IsOu
 
 use crate::audit::audited;
 use crate::certificates::prove;
+use crate::lines::verification_on;
 use crate::order::ordered;
 use crate::upgraded::upgraded;
-use crate::written::Written;
-use crate::lines::verification_on;
 use crate::verify::answers;
+use crate::written::Written;
 use aud_client::Recording;
 use aud_input::{Input, Layout};
 use aud_options::{Mode, Options};

@@ -1,8 +1,8 @@
 //! The command `simulate`.
 use crate::{fail, fail_for, refuse};
 use aud_app::{RunFault, Watched};
-use aud_sim::SimFault;
 use aud_schedule::{plan_asked, simulated};
+use aud_sim::SimFault;
 use aud_streams::write_out;
 use std::alloc::Global;
 use std::io::Write;
