@@ -1,5 +1,6 @@
 -- What a line begins with that does not begin with a tap's name and a blank.
-use Rattle.std.specs.Prelude.{ℕ, ◌+◌, ◌==◌, nat_lt, List, [], ◌++◌, codes, decimal, length, position, take, not, Option, Some, None, if◌then◌else◌}
+use Rattle.std.specs.Prelude.{ℕ, ◌+◌, ◌==◌, ◌||◌, nat_eq, nat_lt, List, [], ◌∷◌, ◌++◌, codes, decimal, length, position, take, not, Option, Some, None, if◌then◌else◌}
+use Rattle.std.specs.List.{starts_with}
 use Rattle.aud_tap.specs.Limits.{max_name}
 use Rattle.aud_tap.specs.TapName.{is_name_byte}
 
@@ -25,6 +26,21 @@ abbrev pub blank_text : List ℕ → Option ℕ → List ℕ
 blank_text line None = codes "In this line stands no blank.\n"
 blank_text line (Some at) = front_text (take at line)
 
+-- what a line is that begins as no line of a bundle does, where that is known: a file by gzip (RFC 1952, 2.3.1), a byte order
+-- mark in UTF-8 or UTF-16 (the Unicode Standard, 23.8), or a record without its tap's name
+abbrev pub known_text : List ℕ → Option (List ℕ)
+known_text line =
+    if starts_with nat_eq line (31 ∷ 139 ∷ []) then Some (codes "This is compressed by gzip: gzip -dc gives the lines.\n")
+    else (if starts_with nat_eq line (239 ∷ 187 ∷ 191 ∷ []) then Some (codes "This line begins with a byte order mark, which no bundle has: remove it.\n")
+    else (if starts_with nat_eq line (255 ∷ 254 ∷ []) || starts_with nat_eq line (254 ∷ 255 ∷ []) then Some (codes "This is UTF-16: a bundle is UTF-8.\n")
+    else (if starts_with nat_eq line (123 ∷ []) then Some (codes "The name of the tap is missing before this record.\n")
+    else None)))
+
+-- what is wrong with what a line begins with
+abbrev pub begin_text : List ℕ → Option (List ℕ) → List ℕ
+begin_text line (Some known) = known
+begin_text line None = blank_text line (first_blank line)
+
 -- help on a line that does not begin with a tap's name
 abbrev pub name_help : List ℕ → List ℕ
-name_help line = codes "A line begins with the name of its tap, 1 to " ++ decimal max_name ++ codes " bytes of A-Za-z0-9_.-, and a blank.\n" ++ blank_text line (first_blank line)
+name_help line = codes "A line begins with the name of its tap, 1 to " ++ decimal max_name ++ codes " bytes of A-Za-z0-9_.-, and a blank.\n" ++ begin_text line (known_text line)

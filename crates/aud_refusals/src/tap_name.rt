@@ -4,7 +4,7 @@ ghost use Rattle.std.specs.List.{list_all};
 ghost use Rattle.aud_tap.specs.Limits.{fits};
 ghost use Rattle.aud_tap.specs.TapName.{is_name_byte, is_tap_name};
 ghost use Rattle.aud_reader.specs.Record.{cut_at_blank};
-ghost use Rattle.aud_refusals.specs.TapName.{blank_text, first_blank, first_strange, front_text, name_help, strange_text};
+ghost use Rattle.aud_refusals.specs.TapName.{begin_text, blank_text, first_blank, first_strange, front_text, known_text, name_help, strange_text};
 
 use aud_tap::limits::MAX_NAME;
 use std::alloc::AllocError;
@@ -95,6 +95,32 @@ fn push_blank(out: &mut String, line: &[u8]) -> Result<(), AllocError>
     }
 }
 
+/// What a line is that begins as no line of a bundle does, where that is known.
+fn known(line: &[u8]) -> Option<&'static str>
+    ensures { option_map (λ s. s.now) result ≡ known_text line.now }
+{
+    if line.starts_with(b"\x1f\x8b") {
+        Some("This is compressed by gzip: gzip -dc gives the lines.\n")
+    } else if line.starts_with(b"\xef\xbb\xbf") {
+        Some("This line begins with a byte order mark, which no bundle has: remove it.\n")
+    } else if line.starts_with(b"\xff\xfe") || line.starts_with(b"\xfe\xff") {
+        Some("This is UTF-16: a bundle is UTF-8.\n")
+    } else if line.starts_with(b"{") {
+        Some("The name of the tap is missing before this record.\n")
+    } else {
+        None
+    }
+}
+
+fn push_begin(out: &mut String, line: &[u8]) -> Result<(), AllocError>
+    ensures { OnOk result (string_bytes out.new ≡ string_bytes out.old ++ begin_text line.now (known_text line.now)) }
+{
+    match known(line) {
+        Some(text) => out.push_str(text),
+        None => push_blank(out, line),
+    }
+}
+
 /// Puts help on a line that does not begin with a tap's name at the end.
 pub fn push_name_help(out: &mut String, line: &[u8]) -> Result<(), AllocError>
     ensures { OnOk result (string_bytes out.new ≡ string_bytes out.old ++ name_help line.now) }
@@ -103,5 +129,5 @@ pub fn push_name_help(out: &mut String, line: &[u8]) -> Result<(), AllocError>
         out,
         "A line begins with the name of its tap, 1 to {MAX_NAME} bytes of A-Za-z0-9_.-, and a blank."
     )?;
-    push_blank(out, line)
+    push_begin(out, line)
 }

@@ -252,6 +252,30 @@ static LINES: [Refused; 40] = [
     ),
 ];
 
+/// Lines that no tap wrote.
+static NO_LINES: [(&[u8], &str); 5] = [
+    (
+        b"\x1f\x8b\x08\x00",
+        "This is compressed by gzip: gzip -dc gives the lines.\n",
+    ),
+    (
+        b"\xef\xbb\xbfst {\"k\":\"tap\",\"v\":1,\"of\":\"stream\"}",
+        "This line begins with a byte order mark, which no bundle has: remove it.\n",
+    ),
+    (
+        b"\xff\xfes\x00t\x00",
+        "This is UTF-16: a bundle is UTF-8.\n",
+    ),
+    (
+        b"\xfe\xff\x00s\x00t",
+        "This is UTF-16: a bundle is UTF-8.\n",
+    ),
+    (
+        b"{\"k\":\"start\",\"off\":null}",
+        "The name of the tap is missing before this record.\n",
+    ),
+];
+
 /// Asserts that each line has its help.
 fn assert_help(rt: &impl Abort, alloc: Global, lines: &[Refused]) -> Result<(), Fail> {
     for &(line, code, header, help) in lines {
@@ -259,6 +283,20 @@ fn assert_help(rt: &impl Abort, alloc: Global, lines: &[Refused]) -> Result<(), 
         assert_eq!(rt; said.as_str(), help);
     }
     Ok(())
+}
+
+/// Asserts that the help on each of these lines, none of which begins with a name, ends so.
+fn assert_ends(rt: &impl Abort, alloc: Global, lines: &[(&[u8], &str)]) -> Result<(), Fail> {
+    for &(line, end) in lines {
+        let said = refusal_help(alloc, line, InputCode::NoTapName, None)?;
+        assert!(rt; said.ends_with(end), "{said}");
+    }
+    Ok(())
+}
+
+#[test]
+fn lines_that_no_tap_wrote_are_known(rt: HostRuntime) -> Result<(), Fail> {
+    assert_ends(&rt, rt.alloc(), &NO_LINES)
 }
 
 #[test]

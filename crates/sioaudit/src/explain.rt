@@ -2,7 +2,7 @@
 ghost use Rattle.std.specs.Prelude.{◌<◌, IfOk, OnOk, length};
 
 use crate::progress::Progress;
-use crate::{fail, fail_for, refuse, status_code};
+use crate::{fail, fail_for, refuse, status_code, stdin};
 use aud_app::{RunFault, Watched};
 use aud_explain_app::{ExplainFault, Unexplained, explain};
 use aud_explain_words::{ExplainOptions, explain_asked};
@@ -56,9 +56,9 @@ fn unread(rt: &impl Eprint, name: &str, os_error: Option<i32>) -> ExitCode {
 }
 
 /// Opens the file of this name, `-` for standard input.
-fn open(rt: &HostRuntime, name: &str) -> io::Result<Source> {
+fn open(rt: &HostRuntime, name: &str, quiet: bool) -> io::Result<Source> {
     if name == "-" {
-        return Ok(Source::Stdin(rt.stdin()));
+        return Ok(Source::Stdin(stdin(rt, quiet)));
     }
     Ok(Source::File(fs::open(rt, name)?))
 }
@@ -71,12 +71,15 @@ fn opened(rt: &HostRuntime, alloc: Global, options: &ExplainOptions) -> Result<V
     let is_shown = !options.quiet && rt.stderr().is_terminal();
     match options.files.as_slice().split_first() {
         Some((first, others)) => {
-            push_named(rt, &mut files, first.as_str(), is_shown)?;
+            push_named(rt, &mut files, first.as_str(), options.quiet)?;
             for name in others {
-                push_named(rt, &mut files, name.as_str(), is_shown)?;
+                push_named(rt, &mut files, name.as_str(), options.quiet)?;
             }
         }
-        None => push_source(rt, &mut files, Source::Stdin(rt.stdin()), is_shown)?,
+        None => {
+            let input = stdin(rt, options.quiet);
+            push_source(rt, &mut files, Source::Stdin(input), is_shown)?;
+        }
     }
     Ok(files)
 }
@@ -86,11 +89,12 @@ fn push_named(
     rt: &HostRuntime,
     files: &mut Vec<Watch>,
     name: &str,
-    is_shown: bool,
+    quiet: bool,
 ) -> Result<(), ExitCode>
     ensures { OnOk result (0 < length files.new.items) }
 {
-    match open(rt, name) {
+    let is_shown = !quiet && rt.stderr().is_terminal();
+    match open(rt, name, quiet) {
         Ok(source) => push_source(rt, files, source, is_shown),
         Err(error) => Err(unread(rt, name, error.raw_os_error())),
     }

@@ -11,9 +11,21 @@ use crate::simulate::{is_simulation, simulation};
 use aud_app::{RunFault, Status, Watched, options, run};
 use clap::error::ErrorKind;
 use std::hash::RandomState;
-use std::io::IsTerminal;
+use std::io::{IsTerminal, Stdin};
 use std::process::ExitCode;
 use std::{env, io};
+
+/// The system's number of a write to a pipe that nobody reads any more (`EPIPE`).
+const CLOSED_PIPE: i32 = 32;
+
+/// Standard input. Where it is a terminal, a line on standard error says so, unless that isn't wanted.
+fn stdin(rt: &HostRuntime, quiet: bool) -> Stdin {
+    let input = rt.stdin();
+    if !quiet && input.is_terminal() {
+        let _ = eprintln!(rt; "sioaudit: the bundle is read from the terminal; Ctrl-D ends it");
+    }
+    input
+}
 
 /// The exit status of a run that wrote its output.
 fn status_code(status: Status) -> ExitCode {
@@ -30,11 +42,15 @@ fn fail(rt: &impl Eprint, fault: RunFault) -> ExitCode {
     ExitCode::from(3)
 }
 
-/// Says why there is no report, after a read or a write that failed, with the system's reason where there is one.
+/// Says why there is no report, after a read or a write that failed, with the system's reason where there is one. Nothing is
+/// said where whoever read the output has closed it.
 fn fail_for(rt: &impl Eprint, fault: RunFault, os_error: Option<i32>) -> ExitCode {
     let Some(number) = os_error else {
         return fail(rt, fault);
     };
+    if number == CLOSED_PIPE {
+        return ExitCode::from(3);
+    }
     let reason = io::Error::from_raw_os_error(number);
     let _ = eprintln!(rt; "sioaudit: {fault}: {reason}");
     ExitCode::from(3)
@@ -88,7 +104,7 @@ fn main(rt: HostRuntime) -> ExitCode {
     };
     let notes = rt.stderr();
     let is_shown = notes.is_terminal();
-    let mut input = Watched::new(Progress::new(rt.stdin(), notes, is_shown));
+    let mut input = Watched::new(Progress::new(stdin(&rt, false), notes, is_shown));
     let mut output = Watched::new(rt.stdout());
     match run(&rt, alloc, keys, &mut input, &mut output, chosen) {
         Ok(status) => status_code(status),
