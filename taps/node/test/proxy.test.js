@@ -723,11 +723,13 @@ test("memory doesn't grow with connections, nor with frames", { timeout: 120_000
     }, "the ends");
     return heap;
   };
+  // what is at hand when it is measured differs by some 100 KB from round to round: the least of three counts
+  const least = async () => Math.min(await round(), await round(), await round());
   for (let i = 0; i < 4; i++) await round();
-  const before = await round();
+  const before = await least();
   for (let i = 0; i < 4; i++) await round();
-  const after = await round();
-  assert.ok(after - before < 200 * 1024, `${after - before} bytes more after 300 connections and 15,000 frames`);
+  const after = await least();
+  assert.ok(after - before < 200 * 1024, `${after - before} bytes more after 420 connections and 21,000 frames`);
   assert.ok(fs.statSync(journal).size > 5_000_000);
 });
 
