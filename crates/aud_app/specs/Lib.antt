@@ -18,6 +18,6 @@ pub mod Upgrades
 pub mod Output
 pub mod Headline
 pub mod Lines
-pub mod EveryRun
+pub mod AnswersInEveryRun
 pub mod Verified
 pub mod Private

@@ -13,7 +13,7 @@ use Rattle.aud_app.specs.declared.answer.Answer.{Answer}
 use Rattle.aud_app.specs.declared.answer.Answer.TheVariants.{Accepted, Unread, Refused}
 use Rattle.aud_app.specs.declared.answer.Answered.{Answered}
 use Rattle.aud_report.specs.OneForEach.{OneForEach}
-use Rattle.aud_app.specs.EveryRun.{AnswerHoldsInEveryRun}
+use Rattle.aud_app.specs.AnswersInEveryRun.{AnswerHoldsInEveryRun}
 
 -- how much of what is due by the shown turns the session received
 abbrev pub counts_of : Cluster → CertificateSeen → check.Accepted

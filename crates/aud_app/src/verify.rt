@@ -2,7 +2,7 @@
 ghost use Rattle.std.specs.Prelude.{◌≡◌, ◌<◌, length, IfOk};
 ghost use Rattle.aud_cert.specs.Certificate.{IsOver};
 ghost use Rattle.aud_cert_text.specs.Reading.{certificate_of};
-ghost use Rattle.aud_app.specs.EveryRun.{AnswerHoldsInEveryRun};
+ghost use Rattle.aud_app.specs.AnswersInEveryRun.{AnswerHoldsInEveryRun};
 ghost use Rattle.aud_app.specs.Verified.{IsAnswerOn, IsAnswerTo, IsAnswered, AreAnswered};
 
 use crate::answer::{Answer, Answered};
