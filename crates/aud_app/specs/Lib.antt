@@ -9,9 +9,7 @@ pub use Rattle.aud_verdict.specs.EveryRun
 pub use Rattle.aud_node.specs.Cluster
 pub use Rattle.aud_cert_text.specs.Reading
 pub use Rattle.aud_merge.specs.Runs
-pub use Rattle.aud_check.specs.Words
 pub use Rattle.aud_report.specs.OneForEach
-pub use Rattle.aud_report.specs.Output
 pub mod Proofs
 pub mod Orders
 pub mod Upgrades
