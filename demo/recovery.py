@@ -92,6 +92,7 @@ class Server(socketio.AsyncServer):
         ask = data if isinstance(data, dict) else {}
         kept = await node.claim(ask.get("pid"), ask.get("offset"), nsp)
         async with node.lock:
+            missed: list[tuple[str, Event]] = []
             if kept is not None:
                 sid, pid = kept["sid"], ask["pid"]
                 for room in (None, *kept["rooms"]):
@@ -99,8 +100,6 @@ class Server(socketio.AsyncServer):
                 missed = await node.missed(kept, ask["offset"])
                 node.sessions[sid] = Session(pid, nsp, eio_sid, [off for off, _ in missed])
                 node.tap.back(pid, kept["turn"])
-                for off, event in missed:
-                    await node.send(eio_sid, off, event)
             else:
                 sid = self.manager.connect(eio_sid, nsp)
                 pid = self.eio.generate_id()
@@ -108,6 +107,9 @@ class Server(socketio.AsyncServer):
                 node.tap.open(pid, sid, nsp)
             await node.redis.set(f"session:{pid}", json.dumps({"nsp": nsp}))
             await self._send_packet(eio_sid, self.packet_class(sio_packet.CONNECT, {"sid": sid, "pid": pid}, namespace=nsp))
+            # after the reply: of what comes before it nobody could tell whose it is, where the connection is lost in between
+            for off, event in missed:
+                await node.send(eio_sid, off, event)
         socket = self.eio.sockets.get(eio_sid)
         if socket is None or socket.closed:  # it went meanwhile
             node.later(node.broke(eio_sid))
