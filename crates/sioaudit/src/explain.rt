@@ -68,7 +68,6 @@ fn opened(rt: &HostRuntime, alloc: Global, options: &ExplainOptions) -> Result<V
     ensures { IfOk result (λ files. 0 < length files.items) }
 {
     let mut files = Vec::new(alloc);
-    let is_shown = !options.quiet && rt.stderr().is_terminal();
     match options.files.as_slice().split_first() {
         Some((first, others)) => {
             push_named(rt, &mut files, first.as_str(), options.quiet)?;
@@ -76,10 +75,7 @@ fn opened(rt: &HostRuntime, alloc: Global, options: &ExplainOptions) -> Result<V
                 push_named(rt, &mut files, name.as_str(), options.quiet)?;
             }
         }
-        None => {
-            let input = stdin(rt, options.quiet);
-            push_source(rt, &mut files, Source::Stdin(input), is_shown)?;
-        }
+        None => push_named(rt, &mut files, "-", options.quiet)?,
     }
     Ok(files)
 }
@@ -93,9 +89,8 @@ fn push_named(
 ) -> Result<(), ExitCode>
     ensures { OnOk result (0 < length files.new.items) }
 {
-    let is_shown = !quiet && rt.stderr().is_terminal();
     match open(rt, name, quiet) {
-        Ok(source) => push_source(rt, files, source, is_shown),
+        Ok(source) => push_source(rt, files, source, quiet),
         Err(error) => Err(unread(rt, name, error.raw_os_error())),
     }
 }
@@ -105,11 +100,13 @@ fn push_source(
     rt: &HostRuntime,
     files: &mut Vec<Watch>,
     source: Source,
-    is_shown: bool,
+    quiet: bool,
 ) -> Result<(), ExitCode>
     ensures { OnOk result (0 < length files.new.items) }
 {
-    let watched = Watched::new(Progress::new(source, rt.stderr(), is_shown));
+    let notes = rt.stderr();
+    let is_shown = !quiet && notes.is_terminal();
+    let watched = Watched::new(Progress::new(source, notes, is_shown));
     match files.push(watched) {
         Ok(()) => Ok(()),
         Err(_) => Err(fail(rt, RunFault::Memory)),

@@ -15,9 +15,6 @@ use std::io::{IsTerminal, Stdin};
 use std::process::ExitCode;
 use std::{env, io};
 
-/// The system's number of a write to a pipe that nobody reads any more (`EPIPE`).
-const CLOSED_PIPE: i32 = 32;
-
 /// Standard input. Where it is a terminal, a line on standard error says so, unless that isn't wanted.
 fn stdin(rt: &HostRuntime, quiet: bool) -> Stdin {
     let input = rt.stdin();
@@ -48,11 +45,10 @@ fn fail_for(rt: &impl Eprint, fault: RunFault, os_error: Option<i32>) -> ExitCod
     let Some(number) = os_error else {
         return fail(rt, fault);
     };
-    if number == CLOSED_PIPE {
-        return ExitCode::from(3);
-    }
     let reason = io::Error::from_raw_os_error(number);
-    let _ = eprintln!(rt; "sioaudit: {fault}: {reason}");
+    if reason.kind() != io::ErrorKind::BrokenPipe {
+        let _ = eprintln!(rt; "sioaudit: {fault}: {reason}");
+    }
     ExitCode::from(3)
 }
 
