@@ -5,10 +5,10 @@
 _sioaudit_options() {
     case $1 in
         '') echo '-h --help -V --version' ;;
-        audit) echo '--whole --workers -h --help' ;;
-        explain) echo '--pid --only --json --fail-on --quiet --workers -h --help' ;;
-        simulate) echo '--nodes --clients --acts --seed --fault -h --help' ;;
-        prove | verify | order | upgrade) echo '-h --help' ;;
+        audit) echo '--whole --workers --quiet -h --help -V --version' ;;
+        explain) echo '--pid --only --json --html --fail-on --workers --quiet -h --help -V --version' ;;
+        simulate) echo '--nodes --clients --acts --seed --fault -h --help -V --version' ;;
+        prove | verify | order | upgrade) echo '--quiet -h --help -V --version' ;;
     esac
 }
 
@@ -58,7 +58,7 @@ _sioaudit() {
         mapfile -t COMPREPLY < <(compgen -W "$(_sioaudit_options "$command")" -- "$current")
     elif [[ -z $command ]]; then
         mapfile -t COMPREPLY < <(compgen -W "$commands" -- "$current")
-    elif [[ $command == explain ]]; then
+    elif [[ $command != simulate ]]; then
         _sioaudit_files "$current"
     fi
 }

@@ -12,6 +12,8 @@ from pathlib import Path
 from typing import Optional
 
 TOP = Path(__file__).resolve().parent.parent
+NOBODY_JUDGED = b"sioaudit: nothing was judged: no session was recorded\n"
+NOTHING_JUDGED = b"sioaudit: a yes says nothing here: no entry of the stream is recoverable\n"
 MOST_LINES = 12
 MOST_COLUMNS = 160
 

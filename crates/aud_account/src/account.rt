@@ -21,21 +21,26 @@ pub struct Account<'r, 'a> {
     /// The place of the one client tap with a reply that names the session; places count from 0, in the order of the
     /// headers.
     pub client: usize,
-    /// The stays of that tap whose reply names the session, in the tap's order, lent. Their frames are what was received.
+    /// The stays of that tap whose reply names the session, in the tap's order, borrowed. Their frames are what was
+    /// received.
     pub stays: Vec<&'r Stay<'a>>,
     /// The positions that were due to the session by its turns, ascending. They count from 1.
     pub due: Vec<u64>,
 }
 
-/// The account of the session with this pid; none where it has one of the faults `NoLog`, `Chain`, `Order` and `Client`,
-/// so that its turns or its client are not known. It costs the session's own records and stays, and what is due to it.
+/// The account of the session with this pid; none where it has one of the faults `NoLog`, `Chain`, `Order` and
+/// `Client`, so that its turns or its client are not known. It costs the session's own records and stays, and what is
+/// due to it.
 pub fn account_of<'r, 'a>(
     alloc: Global,
     recording: &'r Recording<'a>,
     pid: &str,
 ) -> Result<Option<Account<'r, 'a>>, AllocError>
-    ensures { IfOk result (λ found. MatchOption found ((fault : Fault) × HasMakeFault recording.now pid.now fault)
-        (λ a. IsMade recording.now pid.now a.cert × IsAccount recording.now pid.now a.client (map (λ stay. stay.now) a.stays.items) a.due.items)) }
+    ensures { IfOk result (λ found. MatchOption found
+        ((fault : Fault) × HasMakeFault recording.now pid.now fault)
+        (λ a. IsMade recording.now pid.now a.cert
+        × IsAccount recording.now pid.now a.client
+        (map (λ stay. stay.now) a.stays.items) a.due.items)) }
 {
     let cert = match make(alloc, recording, pid) {
         Ok(cert) => cert,
@@ -54,7 +59,8 @@ fn made_account<'r, 'a>(
 ) -> Result<Account<'r, 'a>, AllocError>
     requires { IsMade recording.now cert.pid cert }
     ensures cert { IfOk result (λ a. a.cert ≡ cert.entry) }
-    ensures account { IfOk result (λ a. IsAccount recording.now cert.entry.pid a.client (map (λ stay. stay.now) a.stays.items) a.due.items) }
+    ensures account { IfOk result (λ a. IsAccount recording.now cert.entry.pid a.client
+        (map (λ stay. stay.now) a.stays.items) a.due.items) }
 {
     let due = due_by_turns(alloc, recording, &cert)?;
     let Some(client) = first_naming(recording, cert.pid.as_str()) else {
@@ -76,14 +82,15 @@ fn first_naming(recording: &Recording<'_>, pid: &str) -> Option<usize>
     recording.naming(pid).first().copied()
 }
 
-/// The stays of the client's tap at this place whose reply names the session, lent.
+/// The stays of the client's tap at this place whose reply names the session, borrowed.
 fn stays_naming<'r, 'a>(
     alloc: Global,
     recording: &'r Recording<'a>,
     client: usize,
     pid: &str,
 ) -> Result<Vec<&'r Stay<'a>>, AllocError>
-    ensures { IfOk result (λ stays. map (λ stay. stay.now) stays.items ≡ stays_at_place recording.now client pid.now) }
+    ensures { IfOk result (λ stays. map (λ stay. stay.now) stays.items
+        ≡ stays_at_place recording.now client pid.now) }
 {
     match recording.client(client) {
         Some(transcript) => transcript.naming(alloc, pid),

@@ -19,10 +19,11 @@ pub fn difference_in(
     account: &Account<'_, '_>,
 ) -> Result<Option<Difference>, AllocError>
     ensures { (c : Cluster) (pid : Text)
-        → IsAccount c pid account.now.client (map (λ stay. stay.now) account.now.stays.items) account.now.due.items
+        → IsAccount c pid account.now.client
+        (map (λ stay. stay.now) account.now.stays.items) account.now.due.items
         → IfOk result (λ found. MatchOption found
-        (IsPrefixOf (positions_received (map (λ stay. stay.now) account.now.stays.items)) account.now.due.items)
-        (IsDifferenceOf c pid)) }
+        (IsPrefixOf (positions_received (map (λ stay. stay.now) account.now.stays.items))
+        account.now.due.items) (IsDifferenceOf c pid)) }
 {
     let received = positions_received(alloc, account.stays.as_slice())?;
     Ok(first_difference(received.as_slice(), account.due.as_slice()))
@@ -30,7 +31,8 @@ pub fn difference_in(
 
 /// The positions of the frames in stays, stay after stay.
 pub fn positions_received(alloc: Global, stays: &[&Stay<'_>]) -> Result<Vec<u64>, AllocError>
-    ensures { IfOk result (λ positions. positions.items ≡ positions_received (map (λ stay. stay.now) stays.now)) }
+    ensures { IfOk result (λ positions. positions.items
+        ≡ positions_received (map (λ stay. stay.now) stays.now)) }
 {
     let mut positions = Vec::new(alloc);
     for stay in stays {
@@ -41,7 +43,8 @@ pub fn positions_received(alloc: Global, stays: &[&Stay<'_>]) -> Result<Vec<u64>
 
 /// Adds those of one stay.
 fn push_positions(positions: &mut Vec<u64>, stay: &Stay<'_>) -> Result<(), AllocError>
-    ensures { OnOk result (positions.new.items ≡ positions.old.items ++ map (λ (frame : FrameSeen). frame.position) stay.now.frames) }
+    ensures { OnOk result (positions.new.items
+        ≡ positions.old.items ++ map (λ (frame : FrameSeen). frame.position) stay.now.frames) }
 {
     for frame in &stay.frames {
         positions.push(frame.position)?;

@@ -1,7 +1,7 @@
 //! What a client received of a session against what was due to it: what an explanation of a verdict goes by.
 //!
-//! Begin at [`account_of`]. With the `recording` of a session `P` to which two events were due, and whose client received the
-//! first of them twice:
+//! Begin at [`account_of`]. With the `recording` of a session `P` to which two events were due, and whose client
+//! received the first of them twice:
 //!
 //! ```
 //! use aud_account::{account_of, difference_in};

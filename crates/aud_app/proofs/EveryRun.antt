@@ -6,15 +6,15 @@ use Rattle.aud_reader.specs.declared.fault.ReadFault.TheVariants.{Input, Memory}
 use Rattle.aud_node.specs.Stream.{Text}
 use Rattle.aud_node.specs.Cluster.{Cluster, cluster_of}
 use Rattle.aud_maker.specs.Sessions.{sessions_of}
-use Rattle.aud_options.specs.declared.choice.Mode.{Mode}
-use Rattle.aud_options.specs.declared.choice.Mode.TheVariants.{Audit}
+use Rattle.aud_cli.specs.declared.choice.Mode.{Mode}
+use Rattle.aud_cli.specs.declared.choice.Mode.TheVariants.{Audit}
 use Rattle.aud_input.specs.declared.input.Layout.TheVariants.{Bundle}
 use Rattle.aud_input.specs.Input.{InputSeen, input_of}
-use Rattle.aud_report.specs.declared.output.Status.{Status}
-use Rattle.aud_report.specs.declared.verdict.Verdict.{Verdict}
-use Rattle.aud_report.specs.declared.verdict.Verdict.TheVariants.{Yes, No}
-use Rattle.aud_report.specs.declared.verdict.SessionVerdict.{SessionVerdict}
-use Rattle.aud_report.specs.Output.{OutputSeen}
+use Rattle.aud_verdict.specs.declared.output.Status.{Status}
+use Rattle.aud_verdict.specs.declared.verdict.Verdict.{Verdict}
+use Rattle.aud_verdict.specs.declared.verdict.Verdict.TheVariants.{Yes, No}
+use Rattle.aud_verdict.specs.declared.verdict.SessionVerdict.{SessionVerdict}
+use Rattle.aud_verdict.specs.Output.{OutputSeen}
 use Rattle.aud_verdict.specs.EveryRun.{HoldsInEveryRun}
 use Rattle.aud_verdict.specs.Verdict.{IsVerdict}
 use Rattle.aud_verdict.specs.Verdicts.{AreVerdicts}

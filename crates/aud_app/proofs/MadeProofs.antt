@@ -7,10 +7,10 @@ use Rattle.aud_cert.specs.declared.fault.Fault.{Fault}
 use Rattle.aud_cert.specs.Certificate.{CertificateSeen}
 use Rattle.aud_maker.specs.Faults.{IsFirstMakeFault}
 use Rattle.aud_maker.specs.Made.{IsMade}
-use Rattle.aud_many.specs.Makings.{IsMadeOf, AreMadeOf}
-use Rattle.aud_report.specs.OneForEach.{OneForEach}
-use Rattle.aud_report.specs.declared.verdict.Verdict.TheVariants.{No}
-use Rattle.aud_report.proofs.EachLemmas.{by_way_of, each-All}
+use Rattle.aud_maker.specs.Makings.{IsMadeOf, AreMadeOf}
+use Rattle.aud_base.specs.OneForEach.{OneForEach}
+use Rattle.aud_verdict.specs.declared.verdict.Verdict.TheVariants.{No}
+use Rattle.aud_base.proofs.EachLemmas.{by_way_of, each-All}
 use Rattle.aud_verdict.specs.Verdict.{IsVerdict}
 use Rattle.aud_app.specs.Proofs.{IsProof, AreProofs}
 use Rattle.aud_app.specs.Private.Proven.{IsOfItsSession, IsProofBy}

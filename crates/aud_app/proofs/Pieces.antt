@@ -4,12 +4,12 @@ use Rattle.std.specs.Io.KnownBytes.{Consumes, IsAtEnd}
 use Rattle.std.proofs.KnownBytes.{Consumes-nil, Consumes-trans, Consumes-whole}
 use Rattle.aud_reader.specs.declared.fault.ReadFault.{ReadFault}
 use Rattle.aud_reader.specs.declared.fault.ReadFault.TheVariants.{Input, Memory}
-use Rattle.aud_options.specs.declared.choice.Mode.{Mode}
+use Rattle.aud_cli.specs.declared.choice.Mode.{Mode}
 use Rattle.aud_input.specs.declared.input.Layout.{Layout}
 use Rattle.aud_input.specs.Input.{InputSeen, input_of}
 use Rattle.aud_input.specs.Reader.{InputSoFar, input_to_come}
 use Rattle.aud_input.proofs.PiecesLemmas.{answer-is}
-use Rattle.aud_report.specs.Output.{OutputSeen}
+use Rattle.aud_verdict.specs.Output.{OutputSeen}
 use Rattle.aud_app.specs.Output.{IsOutputOver, IsOutputOf, layout_of}
 use Rattle.aud_app.specs.Private.Reading.{IsInputOf}
 

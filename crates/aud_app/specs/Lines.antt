@@ -1,8 +1,8 @@
 -- The lines on certificates.
 use Rattle.std.specs.Prelude.{ℕ, ◌-◌, List, ◌++◌, codes, decimal, flat_map, length, count_by, Bool, true, false}
 use Rattle.std.specs.List.{list_all}
-use Rattle.aud_report.specs.Output.{OutputSeen, status_of}
-use Rattle.aud_cert_text.specs.Fault.{cert_fault_text}
+use Rattle.aud_verdict.specs.Output.{OutputSeen, status_of}
+use Rattle.aud_cert.specs.TextFault.{cert_fault_text}
 use Rattle.aud_check.specs.Words.{refusal_text, accepted_text}
 use Rattle.aud_app.specs.declared.answer.Answer.{Answer}
 use Rattle.aud_app.specs.declared.answer.Answer.TheVariants.{Accepted, Unread, Refused}

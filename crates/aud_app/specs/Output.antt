@@ -1,25 +1,30 @@
 -- What a run writes for its input, and how it ends.
-use Rattle.std.specs.Prelude.{◌≡◌, ℕ, Bool, List, Option, IfSome, Result, Ok, Err}
+use Rattle.std.specs.Prelude.{◌≡◌, ℕ, Bool, if◌then◌else◌, List, Option, IfSome, Result, Ok, Err}
+use Rattle.std.specs.List.{list_any}
 use Rattle.std.specs.Io.KnownBytes.{Appends}
 use Rattle.aud_reader.specs.declared.fault.ReadFault.{ReadFault}
 use Rattle.aud_reader.specs.declared.fault.ReadFault.TheVariants.{Input, Memory}
 use Rattle.aud_reader.specs.declared.line.Line.{Line}
 use Rattle.aud_tap.specs.declared.taps.Tap.{Tap}
+use Rattle.aud_node.specs.Lists.{is_empty}
+use Rattle.aud_node.specs.Recoverable.{is_recoverable}
 use Rattle.aud_node.specs.Stream.{Text}
 use Rattle.aud_node.specs.Cluster.{Cluster, cluster_of}
 use Rattle.aud_maker.specs.Sessions.{sessions_of}
-use Rattle.aud_options.specs.declared.choice.Mode.{Mode}
-use Rattle.aud_options.specs.declared.choice.Mode.TheVariants.{Audit, Prove, Verify, Order, Upgrade}
+use Rattle.aud_cli.specs.declared.choice.Mode.{Mode}
+use Rattle.aud_cli.specs.declared.choice.Mode.TheVariants.{Audit, Prove, Verify, Order, Upgrade}
 use Rattle.aud_input.specs.declared.input.Layout.{Layout}
 use Rattle.aud_input.specs.declared.input.Layout.TheVariants.{Bundle, BundleAndCertificates}
 use Rattle.aud_input.specs.Input.{InputSeen, input_of}
-use Rattle.aud_report.specs.declared.output.Status.{Status}
-use Rattle.aud_report.specs.declared.verdict.SessionVerdict.{SessionVerdict}
-use Rattle.aud_report.specs.Output.{OutputSeen, report_of, proving_of, refusal_of}
+use Rattle.aud_verdict.specs.declared.output.Status.{Status}
+use Rattle.aud_verdict.specs.declared.output.Status.TheVariants.{AllYes, NoSession, NoneRecoverable}
+use Rattle.aud_verdict.specs.declared.verdict.SessionVerdict.{SessionVerdict}
+use Rattle.aud_reader.specs.Codes.{code_text}
+use Rattle.aud_verdict.specs.Output.{OutputSeen, report_of, proving_of, refusal_of}
 use Rattle.aud_app.specs.declared.answer.Answered.{Answered}
 use Rattle.aud_app.specs.Lines.{verification_of}
 use Rattle.aud_app.specs.Verified.{AreAnswered}
-use Rattle.aud_streams.specs.Written.{AppendsFront}
+use Rattle.aud_base.specs.Written.{AppendsFront}
 use Rattle.aud_verdict.specs.Verdicts.{AreVerdicts}
 use Rattle.aud_upgrade.specs.Upgraded.{upgraded}
 use Rattle.aud_writer.specs.WrittenBundle.{written_bundle}
@@ -27,10 +32,24 @@ use Rattle.aud_app.specs.Proofs.{AreProofs}
 use Rattle.aud_app.specs.Orders.{IsOrdering}
 use Rattle.aud_app.specs.Upgrades.{upgrade_output}
 
--- the output of an audit, where the whole is asked for or isn't: the report of the verdicts on all sessions, in the order
+-- how an audit ends that answers yes for each session: it tells where that says nothing, since no session was recorded
+-- or no entry of the stream is recoverable
+abbrev pub yes_status : Cluster → Status
+yes_status c = if is_empty (sessions_of c) then NoSession else (if list_any is_recoverable c.stream then AllYes else NoneRecoverable)
+
+-- how an audit ends whose report ends so
+abbrev pub status_over : Cluster → Status → Status
+status_over c AllYes = yes_status c
+status_over c status = status
+
+-- the report of these verdicts on the sessions of the cluster, and how the audit ends
+abbrev pub report_over : Cluster → List SessionVerdict → OutputSeen
+report_over c entries = record (report_of entries) { status = status_over c (report_of entries).status }
+
+-- the output of an audit, with or without `--whole`: the report of the verdicts on all sessions, in the order
 -- of their first mentions
 abbrev pub IsReport : Bool → Cluster → OutputSeen → Type 0
-IsReport whole c output = (entries : List SessionVerdict) × AreVerdicts c whole (sessions_of c) entries × (output ≡ report_of entries)
+IsReport whole c output = (entries : List SessionVerdict) × AreVerdicts c whole (sessions_of c) entries × (output ≡ report_over c entries)
 
 -- the certificates of all sessions that are answered yes, in the order of their first mentions
 abbrev pub IsProving : Cluster → OutputSeen → Type 0
@@ -55,7 +74,7 @@ IsOutputOn Upgrade whole c certificates output = IsUpgrade c.taps output
 -- the output of a mode over what was read
 abbrev pub IsOutputOver : Mode → Bool → Result InputSeen ReadFault → OutputSeen → Type 0
 IsOutputOver mode whole (Ok input) output = IsOutputOn mode whole (cluster_of input.taps) input.certificates output
-IsOutputOver mode whole (Err (Input n code)) output = output ≡ refusal_of n code
+IsOutputOver mode whole (Err (Input n code)) output = output ≡ refusal_of n (code_text code)
 IsOutputOver mode whole (Err Memory) output = ⊥
 
 -- what the lines of a mode's input are

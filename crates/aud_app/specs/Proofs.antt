@@ -4,10 +4,10 @@ use Rattle.aud_node.specs.Stream.{Text}
 use Rattle.aud_node.specs.Cluster.{Cluster}
 use Rattle.aud_cert.specs.declared.fault.Fault.{Fault}
 use Rattle.aud_cert.specs.Certificate.{CertificateSeen}
-use Rattle.aud_cert_text.specs.Text.{certificate_text}
+use Rattle.aud_cert.specs.Text.{certificate_text}
 use Rattle.aud_check.specs.declared.certificate.Accepted.{Accepted}
-use Rattle.aud_report.specs.declared.verdict.Verdict.TheVariants.{No}
-use Rattle.aud_report.specs.OneForEach.{OneForEach}
+use Rattle.aud_verdict.specs.declared.verdict.Verdict.TheVariants.{No}
+use Rattle.aud_base.specs.OneForEach.{OneForEach}
 use Rattle.aud_verdict.specs.Verdict.{IsVerdict}
 use Rattle.aud_verdict.specs.Judged.{IsShown}
 

@@ -2,17 +2,17 @@
 use Rattle.std.specs.Prelude.{◌≡◌, ◌-◌, List, length, Result, Ok, Err}
 use Rattle.aud_reader.specs.declared.line.Line.{Line}
 use Rattle.aud_node.specs.Cluster.{Cluster}
-use Rattle.aud_cert_text.specs.declared.fault.CertFault.{CertFault}
-use Rattle.aud_cert_text.specs.declared.fault.CertFault.TheVariants.{Memory}
+use Rattle.aud_cert.specs.declared.text_fault.CertFault.{CertFault}
+use Rattle.aud_cert.specs.declared.text_fault.CertFault.TheVariants.{Memory}
 use Rattle.aud_cert.specs.Certificate.{CertificateSeen}
-use Rattle.aud_cert_text.specs.Reading.{certificate_of}
+use Rattle.aud_cert.specs.Reading.{certificate_of}
 use Rattle.aud_check.specs.declared.certificate.Accepted as check
 use Rattle.aud_check.specs.Shown.{shown_due, frames_received}
 use Rattle.aud_check.specs.Refusals.{RefusesFirst, IsAccepted}
 use Rattle.aud_app.specs.declared.answer.Answer.{Answer}
 use Rattle.aud_app.specs.declared.answer.Answer.TheVariants.{Accepted, Unread, Refused}
 use Rattle.aud_app.specs.declared.answer.Answered.{Answered}
-use Rattle.aud_report.specs.OneForEach.{OneForEach}
+use Rattle.aud_base.specs.OneForEach.{OneForEach}
 use Rattle.aud_app.specs.AnswersInEveryRun.{AnswerHoldsInEveryRun}
 
 -- how much of what is due by the shown turns the session received
@@ -29,7 +29,7 @@ IsAnswerOn c cert (Accepted pid counts) = IsAccepted c cert × (pid ≡ cert.pid
 IsAnswerOn c cert (Refused refusal) = RefusesFirst c cert refusal
 IsAnswerOn c cert (Unread fault) = ⊥
 
--- the answer on the text's reading, and what it says holds in every run; want of memory is none
+-- the answer on the text's reading, and what it says holds in every run; running out of memory is none
 abbrev pub IsAnswerTo : Cluster → Result CertificateSeen CertFault → Answer → Type 0
 IsAnswerTo c (Ok cert) answer = IsAnswerOn c cert answer × AnswerHoldsInEveryRun c cert answer
 IsAnswerTo c (Err Memory) answer = ⊥

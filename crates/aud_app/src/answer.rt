@@ -1,7 +1,7 @@
 //! The answer on a certificate.
 ghost use Rattle.std.specs.Prelude.{◌≡◌};
 
-use aud_cert_text::CertFault;
+use aud_cert::CertFault;
 use aud_check::{Accepted, Refusal};
 use aud_tap::Text;
 

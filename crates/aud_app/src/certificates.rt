@@ -2,16 +2,14 @@
 ghost use Rattle.std.specs.Prelude.{All, IfOk};
 ghost use Rattle.aud_maker.specs.Made.{IsMade};
 ghost use Rattle.aud_maker.specs.Sessions.{sessions_of};
-ghost use Rattle.aud_report.specs.OneForEach.{OneForEach};
+ghost use Rattle.aud_base.specs.OneForEach.{OneForEach};
 ghost use Rattle.aud_app.specs.Proofs.{IsProof, AreProofs};
 ghost use Rattle.aud_app.specs.Private.Proven.{IsOfItsSession, IsProofBy};
 
-use aud_cert::{Certificate, Fault};
-use aud_cert_text::write_cert;
+use aud_base::try_map;
+use aud_cert::{Certificate, Fault, write_cert};
 use aud_client::Recording;
-use aud_maker::sessions;
-use aud_many::make_all;
-use aud_parallel::try_map;
+use aud_maker::{make_all, sessions};
 use aud_tap::Text;
 use aud_verdict::{Verdict, judge_made, verdict_by_certificate};
 use std::alloc::{AllocError, Global};

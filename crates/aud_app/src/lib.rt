@@ -20,8 +20,8 @@
 //! assert_eq!(rt; written, "yes P got=1 tail=0 turns=1\nsessions=1 yes=1 no=0\n");
 //! ```
 //!
-//! [`answers`] is what `verify` finds: it reads each certificate of an input over the recording and checks it, several at a
-//! time. With the `recording` of `examples/bundle_a.jsonl`, and as `lines` the one with its certificate, line 12:
+//! [`answers`] is what `verify` finds: it reads each certificate of an input over the recording and checks it, several
+//! at a time. With the `recording` of `examples/bundle_a.jsonl`, and as `lines` the one with its certificate, line 12:
 //!
 //! ```
 //! use aud_app::{answers, verification_on};
@@ -45,9 +45,9 @@ mod verify;
 mod written;
 
 pub use answer::{Answer, Answered};
-pub use aud_options::{Mode, Options, options};
-pub use aud_report::Status;
-pub use aud_streams::{RunFault, Watched};
+pub use aud_base::{RunFault, Watched};
+pub use aud_cli::{InputFiles, Mode, Options, files, options};
+pub use aud_verdict::Status;
 pub use lines::verification_on;
 pub use program::run;
 pub use reading::READ_LIMIT;

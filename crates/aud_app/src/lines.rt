@@ -4,12 +4,13 @@ ghost use Rattle.std.specs.List.{list_all};
 ghost use Rattle.aud_app.specs.Lines.{is_ok, answer_line, counts_line, verify_text, verification_of};
 
 use crate::answer::{Answer, Answered};
-use aud_report::{Output, status_of};
+use aud_verdict::{Output, status_of};
 use std::alloc::{AllocError, Global};
 
 /// Puts the line on a certificate at the end.
 fn push_answer(out: &mut String, answered: &Answered) -> Result<(), AllocError>
-    ensures { OnOk result (string_bytes out.new ≡ string_bytes out.old ++ answer_line answered.now) }
+    ensures { OnOk result (string_bytes out.new
+        ≡ string_bytes out.old ++ answer_line answered.now) }
 {
     let line = answered.line;
     match &answered.answer {

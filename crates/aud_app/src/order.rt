@@ -3,10 +3,10 @@ ghost use Rattle.std.specs.Prelude.{◌≡◌, IfOk};
 ghost use Rattle.aud_node.specs.Cluster.{cluster_of};
 ghost use Rattle.aud_app.specs.Orders.{IsOrdering, order_status};
 
+use aud_merge::{Order, order, order_text};
 use aud_node::Logs;
-use aud_report::{Output, Status};
-use aud_run::{Order, order, order_text};
 use aud_tap::Taps;
+use aud_verdict::{Output, Status};
 use std::alloc::{AllocError, Global};
 use std::hash::RandomState;
 use std::mem::ManuallyDrop;

@@ -11,13 +11,13 @@ use crate::order::ordered;
 use crate::upgraded::upgraded;
 use crate::verify::answers;
 use crate::written::Written;
+use aud_base::RunFault;
+use aud_cli::{Mode, Options};
 use aud_client::Recording;
 use aud_input::{Input, Layout};
-use aud_options::{Mode, Options};
 use aud_reader::{Line, ReadFault};
-use aud_report::{Output, proving_on, refusal};
-use aud_streams::RunFault;
 use aud_tap::Taps;
+use aud_verdict::{Output, proving_on, refusal};
 use std::alloc::{AllocError, Global};
 use std::hash::RandomState;
 use std::mem::ManuallyDrop;
@@ -85,7 +85,8 @@ fn verified<H: Threads + Sync>(
     input: &Input,
 ) -> Result<Output, AllocError>
     requires { AreNamedOnce input.now.taps }
-    ensures { IfOk result (λ o. IsVerification (cluster_of input.now.taps) input.now.certificates o) }
+    ensures { IfOk result (λ o. IsVerification
+        (cluster_of input.now.taps) input.now.certificates o) }
 {
     let recording = Recording::read(rt, alloc, keys, threads, &input.taps)?;
     verified_lines(
@@ -159,7 +160,7 @@ pub fn output_of<H: Threads + Wait + Clock + Sync>(
 {
     match read {
         Ok(input) => output_over(rt, alloc, keys, options, &ManuallyDrop::new(input)),
-        Err(ReadFault::Input(line, code)) => Ok(Written::of(refusal(alloc, line, code)?)),
+        Err(ReadFault::Input(line, code)) => Ok(Written::of(refusal(alloc, line, code.name())?)),
         Err(ReadFault::Memory) => Err(RunFault::Memory),
     }
 }

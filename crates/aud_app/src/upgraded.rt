@@ -8,9 +8,9 @@ ghost use Rattle.aud_app.specs.Upgrades.{upgrade_output};
 use crate::written::Written;
 use aud_node::Logs;
 use aud_reader::ReadFault;
-use aud_report::{Status, refusal};
 use aud_tap::Taps;
 use aud_upgrade::upgrade;
+use aud_verdict::{Status, refusal};
 use aud_writer::write_bundle;
 use std::alloc::{AllocError, Global};
 use std::hash::RandomState;
@@ -41,7 +41,7 @@ fn written(alloc: Global, taps: &Taps) -> Result<Written, AllocError>
             status: Status::AllYes,
             bytes,
         }),
-        Err(ReadFault::Input(line, code)) => Ok(Written::of(refusal(alloc, line, code)?)),
+        Err(ReadFault::Input(line, code)) => Ok(Written::of(refusal(alloc, line, code.name())?)),
         Err(ReadFault::Memory) => Err(AllocError),
     }
 }

@@ -1,16 +1,15 @@
 //! The answers on the certificates of an input.
 ghost use Rattle.std.specs.Prelude.{◌≡◌, ◌<◌, length, IfOk};
 ghost use Rattle.aud_cert.specs.Certificate.{IsOver};
-ghost use Rattle.aud_cert_text.specs.Reading.{certificate_of};
+ghost use Rattle.aud_cert.specs.Reading.{certificate_of};
 ghost use Rattle.aud_app.specs.AnswersInEveryRun.{AnswerHoldsInEveryRun};
 ghost use Rattle.aud_app.specs.Verified.{IsAnswerOn, IsAnswerTo, IsAnswered, AreAnswered};
 
 use crate::answer::{Answer, Answered};
-use aud_cert::Certificate;
-use aud_cert_text::{CertFault, read_cert};
+use aud_base::try_map;
+use aud_cert::{CertFault, Certificate, read_cert};
 use aud_check::{Refusal, check};
 use aud_client::Recording;
-use aud_parallel::try_map;
 use aud_reader::Line;
 use aud_tap::Text;
 use std::alloc::{AllocError, Global};
@@ -25,7 +24,8 @@ fn answer_on(
     requires over { IsOver recording.now cert.now }
     requires some { 0 < length cert.now.turns }
     ensures answer { IfOk result (λ answer. IsAnswerOn recording.now cert.now answer) }
-    ensures every_run { IfOk result (λ answer. AnswerHoldsInEveryRun recording.now cert.now answer) }
+    ensures every_run { IfOk result (λ answer.
+        AnswerHoldsInEveryRun recording.now cert.now answer) }
 {
     match check(alloc, recording, cert) {
         Ok(counts) => Ok(Answer::Accepted {
@@ -39,7 +39,8 @@ fn answer_on(
 
 /// The answer on a certificate's text.
 fn answer_to(alloc: Global, recording: &Recording<'_>, text: &[u8]) -> Result<Answer, AllocError>
-    ensures { IfOk result (λ answer. IsAnswerTo recording.now (certificate_of recording.now text.now) answer) }
+    ensures { IfOk result (λ answer. IsAnswerTo recording.now
+        (certificate_of recording.now text.now) answer) }
 {
     match read_cert(alloc, text, recording.logs()) {
         Ok(cert) => answer_on(alloc, recording, &cert),

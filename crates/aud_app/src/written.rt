@@ -1,7 +1,7 @@
 //! What a run writes, whichever mode it has.
 ghost use Rattle.std.specs.Prelude.{◌≡◌};
 
-use aud_report::{Output, Status};
+use aud_verdict::{Output, Status};
 use std::marker::Model;
 
 /// How a run ends, and all bytes that it writes.
@@ -12,7 +12,7 @@ pub struct Written {
 }
 
 impl Model for Written {
-    ghost use Rattle.aud_report.specs.Output.{OutputSeen};
+    ghost use Rattle.aud_verdict.specs.Output.{OutputSeen};
 
     ghost Value = { OutputSeen };
 

@@ -6,4 +6,7 @@ pub mod Options
 pub mod Lists
 pub mod StepLemmas
 pub mod NotedPlaces
+pub mod EachLemmas
 mod PageLemmas
+pub mod Answered
+pub mod Bytes

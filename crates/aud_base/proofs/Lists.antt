@@ -45,7 +45,7 @@ slice_get-drop (suc n) [] j k e = refl
 slice_get-drop (suc n) (x ∷ xs) j zero e = absurd (omega arith)
 slice_get-drop (suc n) (x ∷ xs) j (suc k) e = slice_get-drop n xs j k (omega arith)
 
--- what a look-up by index lent is the element there: the clause of `get`
+-- what a look-up by index borrowed is the element there: the clause of `get`
 pub got : {X : Type 0} (xs : List X) (i : ℕ) (r : Option (Bor X)) → MatchOption r (length xs ≤ i) (λ x. (i < length xs) × HoldsAt (λ y. x.now ≡ y) xs i) → option_copied r ≡ slice_get xs i
 got xs i None past = sym (slice_get_past xs i past)
 got xs i (Some x) here = sym (slice_get_read xs (length xs) i x.now refl here.0 (here.1 x.now))

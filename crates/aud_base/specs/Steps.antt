@@ -16,7 +16,7 @@ need fault (Some x) = Ok x
 abbrev pub guard : {E : Type 0} → E → Bool → Result (Unit {0}) E
 guard fault holds = if holds then Ok tt else Err fault
 
--- what a function returned, seen by view, is what the reading gives, unless this fault came: want of memory
+-- what a function returned, seen by view, is what the reading gives, unless this fault came: running out of memory
 abbrev pub GivesUnless : {X Y E : Type 0} → E → (X → Y) → Result X E → Result Y E → Type 0
 GivesUnless memory view (Ok x) reading = reading ≡ Ok (view x)
 GivesUnless memory view (Err e) reading = ¬ (e ≡ memory) → reading ≡ Err e

@@ -29,7 +29,7 @@ impl<T> Listed<T> {
         Listed { items }
     }
 
-    /// The elements, lent.
+    /// The elements, borrowed.
     pub fn as_slice(&self) -> &[T]
         ensures { result.now ≡ self.now }
     {

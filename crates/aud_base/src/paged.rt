@@ -92,7 +92,7 @@ impl<T: Drop> Paged<T> {
         Ok(())
     }
 
-    /// The elements, in a vector with room for no others. Each page is let go once its elements are moved there.
+    /// The elements, in a vector with room for no others. Each page is dropped once its elements are moved there.
     pub fn into_vec(self) -> Result<Vec<T>, AllocError>
         ensures { IfOk result (λ all. all.items ≡ self) }
     {

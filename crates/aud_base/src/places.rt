@@ -43,7 +43,7 @@ impl Places {
         self.by_text.len()
     }
 
-    /// The text with this number, lent. Texts count from 0 in the order in which they were first noted.
+    /// The text with this number, borrowed. Texts count from 0 in the order in which they were first noted.
     pub fn text(&self, number: usize) -> &str
         requires { number < length (texts_of self.now) }
         ensures { slice_get (texts_of self.now) number ≡ Some result.now }
@@ -54,7 +54,7 @@ impl Places {
         }
     }
 
-    /// The places of the text, lent, in the order in which they were noted.
+    /// The places of the text, borrowed, in the order in which they were noted.
     pub fn of(&self, text: &str) -> &[usize]
         ensures { result.now ≡ places_of self.now text.now }
     {
@@ -67,7 +67,9 @@ impl Places {
     /// The text stands at this place, the last so far; it is noted once, however often it stands there. The text is
     /// copied where it stood nowhere before.
     pub fn note(&mut self, place: usize, text: &str) -> Result<(), AllocError>
-        ensures places { OnOk result ((other : List ℕ) → places_of self.new other ≡ noted place (bytes_eq text.now other) (places_of self.old other)) }
+        ensures places { OnOk result ((other : List ℕ)
+            → places_of self.new other
+            ≡ noted place (bytes_eq text.now other) (places_of self.old other)) }
         ensures texts { OnOk result (texts_of self.new ≡ with_text (texts_of self.old) text.now) }
     {
         match self.by_text.get_mut(text) {
@@ -80,7 +82,9 @@ impl Places {
     /// Notes the place under a copy of the text, which stood nowhere before.
     fn keep(&mut self, place: usize, text: &str) -> Result<(), AllocError>
         requires { get_by_text self.old.by_text text.now ≡ None }
-        ensures places { OnOk result ((other : List ℕ) → places_of self.new other ≡ noted place (bytes_eq text.now other) (places_of self.old other)) }
+        ensures places { OnOk result ((other : List ℕ)
+            → places_of self.new other
+            ≡ noted place (bytes_eq text.now other) (places_of self.old other)) }
         ensures texts { OnOk result (texts_of self.new ≡ with_text (texts_of self.old) text.now) }
     {
         let own = String::from_str(self.alloc, text)?;

@@ -6,8 +6,8 @@ use std::alloc::{AllocError, Global};
 use std::collections::HashMap;
 use std::hash::{BuildHasher, Hasher, RandomState};
 
-/// The most bytes at the end of a text that are hashed. What tells long texts apart mostly stands there: an event's text
-/// ends in its offset.
+/// The most bytes at the end of a text that are hashed. What tells long texts apart mostly stands there: an event's
+/// text ends in its offset.
 const HASHED: usize = 40;
 
 /// Texts that are to be shared, each by the hash of its last bytes. Of two texts that have one hash the later is kept.
@@ -28,7 +28,7 @@ impl TextPool {
         }
     }
 
-    /// The pool's own text that is the same, lent.
+    /// The pool's own text that is the same, borrowed.
     pub fn find(&self, text: &str) -> Option<&Text>
         ensures { IfSome result (λ found. found.now ≡ text.now) }
     {

@@ -30,7 +30,7 @@ impl Block {
         }
     }
 
-    /// The text, lent.
+    /// The text, borrowed.
     fn as_str(&self) -> &str
         ensures { result.now ≡ block_bytes self.now }
     {
@@ -76,7 +76,7 @@ impl Text {
         Ok(Text { block })
     }
 
-    /// The text, lent.
+    /// The text, borrowed.
     pub fn as_str(&self) -> &str
         ensures { result.now ≡ self.now }
     {

@@ -15,11 +15,11 @@ use Rattle.aud_book.specs.Names.{stand_once}
 abbrev Name : Type 0
 Name = Bor (List ℕ)
 
--- there are as many texts as lent texts
+-- there are as many texts as borrowed texts
 pub text_count : (names : List Name) → length (texts names) ≡ length names
 text_count names = length-map names (λ (n : Name). n.now)
 
--- lent texts are names of taps where the texts are
+-- borrowed texts are names of taps where the texts are
 pub tap_names : (names : List Name) → list_all is_tap_name (texts names) ≡ list_all (λ (name : Name). is_tap_name name.now) names
 tap_names names = list_all-map is_tap_name (λ (n : Name). n.now) names
 

@@ -18,14 +18,15 @@ abbrev pub project : ℕ → List (ℕ × List ℕ) → List (List ℕ)
 project place [] = []
 project place (p ∷ ps) = if p.0 == place then p.1 ∷ project place ps else project place ps
 
--- the history is a merging of the taps' lines: for each place it has the lines of the tap there, in their order, and no others
+-- the history is a merging of the taps' lines: for each place it has the lines of the tap there, in their order, and no
+-- others
 abbrev pub IsMergingOf : List PostedTap → List (ℕ × List ℕ) → Type 0
 IsMergingOf taps history = (place : ℕ) → lines_at taps place ≡ project place history
 
--- the bytes of lent lines
+-- the bytes of borrowed lines
 abbrev pub texts : List (Bor (List ℕ)) → List (List ℕ)
 texts ls = map (λ l. l.now) ls
 
--- the places and the bytes of a history of lent lines
+-- the places and the bytes of a history of borrowed lines
 abbrev pub pairs : List (ℕ × Bor (List ℕ)) → List (ℕ × List ℕ)
 pairs ps = map (λ p. (p.0, p.1.now)) ps

@@ -6,7 +6,7 @@ ghost use Rattle.aud_book.specs.Taps.{seen, seen_taps, names_of, unposted};
 use crate::lines::{copied, same_lines};
 use std::alloc::{AllocError, Global};
 
-/// A tap's lines, in the order in which they were posted, without its name and the blank after it. All are lent.
+/// A tap's lines, in the order in which they were posted, without its name and the blank after it. All are borrowed.
 #[derive(Drop)]
 pub struct TapLines<'a> {
     /// The tap's name.
@@ -49,7 +49,8 @@ impl<'a> Book<'a> {
     pub fn append(&mut self, tap: usize, line: &'a [u8]) -> Result<usize, AllocError>
         requires { tap < vec_len self.old.taps }
         ensures place { IfOk result (λ n. n ≡ vec_len self.old.history) }
-        ensures ok { OnOk result (pairs self.new.history.items ≡ pairs self.old.history.items ++ (tap, line.now) ∷ []) }
+        ensures ok { OnOk result (pairs self.new.history.items
+            ≡ pairs self.old.history.items ++ (tap, line.now) ∷ []) }
         ensures err { OnErr result (pairs self.new.history.items ≡ pairs self.old.history.items) }
         ensures taps { vec_len self.new.taps ≡ vec_len self.old.taps }
         ensures names { names_of self.new.taps.items ≡ names_of self.old.taps.items }
@@ -82,8 +83,10 @@ impl<'a> Book<'a> {
 
 /// Whether the tap has this name and these lines.
 pub fn is_tap_of(tap: &TapLines<'_>, name: &str, lines: &[&[u8]]) -> bool
-    ensures same { result ≡ true → seen tap.now ≡ record { name = name.now; lines = texts lines.now } }
-    ensures other { result ≡ false → seen tap.now ≢ record { name = name.now; lines = texts lines.now } }
+    ensures same { result ≡ true
+        → seen tap.now ≡ record { name = name.now; lines = texts lines.now } }
+    ensures other { result ≡ false
+        → seen tap.now ≢ record { name = name.now; lines = texts lines.now } }
 {
     if tap.name != name {
         return false;

@@ -33,8 +33,8 @@ pub struct Strayed<'a, L: Posts> {
 impl<'a, L: Posts> Desk<'a, L> {
     ghost use Rattle.aud_book.specs.Seats.{seen_seats, lines_of, counted_of, IsOfSameTap, IsUnchanged};
 
-    /// A desk, and an empty seat for each name, in their order. The names are lent, and are those of taps: 1 to 4,161,
-    /// each once. The blank ledger has as many parts as there are names; a refusal doesn't hand it back.
+    /// A desk, and an empty seat for each name, in their order. The names are borrowed, and are those of taps: 1 to
+    /// 4,161, each once. The blank ledger has as many parts as there are names; a refusal doesn't hand it back.
     pub fn new(
         alloc: Global,
         blank: Blank,
@@ -42,11 +42,14 @@ impl<'a, L: Posts> Desk<'a, L> {
     ) -> Result<(Desk<'a, L>, Vec<TapSeat<'a, L>>), DeskFault>
         requires name { blank.name ≡ L.name }
         requires parts { blank.parts ≡ L.parts }
-        requires count { 0 < length names.now → (blank.parts ≡ length names.now) × (L.count ≡ length names.now) }
+        requires count { 0 < length names.now
+            → (blank.parts ≡ length names.now) × (L.count ≡ length names.now) }
         ensures seats { IfOk result (λ r. seen_seats r.1.items ≡ map unposted names.now) }
         ensures ok { IfOk result (λ _. IsTrue (are_desk_names (texts names.now))) }
-        ensures names { IfErr result (λ e. e ≢ DeskFault.Memory → are_desk_names (texts names.now) ≡ false) }
-        ensures memory { IfErr result (λ e. e ≡ DeskFault.Memory → IsTrue (are_desk_names (texts names.now))) }
+        ensures names { IfErr result (λ e. e ≢ DeskFault.Memory
+            → are_desk_names (texts names.now) ≡ false) }
+        ensures memory { IfErr result (λ e. e ≡ DeskFault.Memory
+            → IsTrue (are_desk_names (texts names.now))) }
     {
         if !are_desk_names(names) {
             return Err(DeskFault::Names);
@@ -81,10 +84,10 @@ impl<'a, L: Posts> Desk<'a, L> {
     }
 
     /// Posts a line from a seat, which comes back with it. The bytes are the line without the tap's name and the blank
-    /// after it, and are lent until the desk is closed.
+    /// after it, and are borrowed until the desk is closed.
     ///
     /// A line that is too long, has a newline in it, or is one too many is refused by the first of these reasons, and
-    /// else only for want of memory; after a refusal the seat and the book are as they were. It waits while another
+    /// else only when out of memory; after a refusal the seat and the book are as they were. It waits while another
     /// thread posts or reads back.
     pub fn post<R: Wait>(
         &self,
@@ -96,9 +99,12 @@ impl<'a, L: Posts> Desk<'a, L> {
         ensures counted { IfOk result (λ s. counted_of s ≡ counted_of seat.entry + 1) }
         ensures tap { IfOk result (λ s. IsOfSameTap seat.entry s) }
         ensures unchanged { IfErr result (λ e. IsUnchanged seat.entry e.0) }
-        ensures taken { OnOk result (refusal seat.entry.name.now (length (lines_of seat.entry)) line.now ≡ None) }
-        ensures refused { IfErr result (λ e. e.1 ≢ PostFault.Memory → refusal seat.entry.name.now (length (lines_of seat.entry)) line.now ≡ Some e.1) }
-        ensures memory { IfErr result (λ e. e.1 ≡ PostFault.Memory → refusal seat.entry.name.now (length (lines_of seat.entry)) line.now ≡ None) }
+        ensures taken { OnOk result (refusal seat.entry.name.now
+            (length (lines_of seat.entry)) line.now ≡ None) }
+        ensures refused { IfErr result (λ e. e.1 ≢ PostFault.Memory
+            → refusal seat.entry.name.now (length (lines_of seat.entry)) line.now ≡ Some e.1) }
+        ensures memory { IfErr result (λ e. e.1 ≡ PostFault.Memory
+            → refusal seat.entry.name.now (length (lines_of seat.entry)) line.now ≡ None) }
     {
         match refusal(seat.name, seat.lines.len(), line) {
             Some(fault) => Err((seat, fault)),
@@ -129,7 +135,8 @@ impl<'a, L: Posts> Desk<'a, L> {
     /// It is refused where the seats aren't all those of the desk, in the order of its taps; desk and seats come back.
     pub fn close(self, seats: Vec<TapSeat<'a, L>>) -> Result<Posted<'a>, Strayed<'a, L>>
         ensures taps { IfOk result (λ p. seen_taps p.taps.items ≡ seen_seats seats.entry.items) }
-        ensures history { IfOk result (λ p. IsMergingOf (seen_seats seats.entry.items) (pairs p.history.items)) }
+        ensures history { IfOk result (λ p. IsMergingOf (seen_seats seats.entry.items)
+            (pairs p.history.items)) }
         ensures back { IfErr result (λ s. s.seats ≡ seats.entry) }
     {
         let Desk { shelf } = self;

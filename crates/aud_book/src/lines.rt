@@ -1,4 +1,4 @@
-//! Lists of lent lines.
+//! Lists of borrowed lines.
 ghost use Rattle.std.specs.Prelude.{◌≡◌, ◌≢◌, true, false, IfOk};
 ghost use Rattle.aud_book.specs.History.{texts};
 
@@ -20,7 +20,7 @@ pub fn same_lines(left: &[&[u8]], right: &[&[u8]]) -> bool
     true
 }
 
-/// The same lines, lent as they were, in a list of their own.
+/// The same lines, borrowed as they were, in a list of their own.
 pub fn copied<'a>(alloc: Global, lines: &[&'a [u8]]) -> Result<Vec<&'a [u8]>, AllocError>
     ensures { IfOk result (λ v. v.items ≡ lines.now) }
 {

@@ -14,7 +14,7 @@ use aud_tap::{Bytes, Taps};
 use std::alloc::{AllocError, Global};
 use std::hash::RandomState;
 
-/// What was posted at a desk. All lines are lent.
+/// What was posted at a desk. All lines are borrowed.
 #[derive(Drop)]
 pub struct Posted<'a> {
     /// The taps in the order of the desk's names.
@@ -25,7 +25,8 @@ pub struct Posted<'a> {
 
 /// A line of a bundle: the tap's name, a blank, and the line that was posted.
 fn named_line(alloc: Global, number: u64, name: &str, line: &[u8]) -> Result<Line, AllocError>
-    ensures { IfOk result (λ l. l ≡ record { number = number; bytes = named_line name.now line.now }) }
+    ensures { IfOk result (λ l. l
+        ≡ record { number = number; bytes = named_line name.now line.now }) }
 {
     let mut bytes = Vec::with_capacity(alloc, name.len() + 1 + line.len())?;
     bytes.extend_from_slice(name.as_bytes())?;
@@ -45,8 +46,13 @@ fn read_line(
     name: &str,
     line: &[u8],
 ) -> Result<(), ReadFault>
-    ensures ok { OnOk result ((more : List Line) → taps_to_come reader.new more ≡ taps_to_come reader.old (record { number = number; bytes = named_line name.now line.now } ∷ more)) }
-    ensures refused { IfErr result (λ e. e ≢ ReadFault.Memory → (more : List Line) → taps_to_come reader.old (record { number = number; bytes = named_line name.now line.now } ∷ more) ≡ Err e) }
+    ensures ok { OnOk result ((more : List Line)
+        → taps_to_come reader.new more
+        ≡ taps_to_come reader.old (record { number = number; bytes = named_line name.now line.now }
+        ∷ more)) }
+    ensures refused { IfErr result (λ e. e ≢ ReadFault.Memory → (more : List Line)
+        → taps_to_come reader.old
+        (record { number = number; bytes = named_line name.now line.now } ∷ more) ≡ Err e) }
 {
     match named_line(alloc, number, name, line) {
         Ok(line) => reader.line(&line),
@@ -74,8 +80,11 @@ fn read_tap(
     tap: &TapLines<'_>,
 ) -> Result<u64, ReadFault>
     ensures number { IfOk result (λ n. n ≡ first + length tap.now.lines.items) }
-    ensures ok { OnOk result ((more : List Line) → taps_to_come reader.new more ≡ taps_to_come reader.old (numbered first (named_lines (seen tap.now)) ++ more)) }
-    ensures refused { IfErr result (λ e. e ≢ ReadFault.Memory → (more : List Line) → taps_to_come reader.old (numbered first (named_lines (seen tap.now)) ++ more) ≡ Err e) }
+    ensures ok { OnOk result ((more : List Line)
+        → taps_to_come reader.new more
+        ≡ taps_to_come reader.old (numbered first (named_lines (seen tap.now)) ++ more)) }
+    ensures refused { IfErr result (λ e. e ≢ ReadFault.Memory → (more : List Line)
+        → taps_to_come reader.old (numbered first (named_lines (seen tap.now)) ++ more) ≡ Err e) }
 {
     let mut number = first;
     for i in 0..tap.lines.len() {
@@ -89,13 +98,17 @@ fn read_tap(
 /// after tap, counted from 1. The order in which the lines were posted plays no part in it. A line is copied for the
 /// time in which it is read. Texts are found again by their hashes under these keys.
 pub fn read_posted(alloc: Global, keys: RandomState, posted: &Posted<'_>) -> Result<Taps, ReadFault>
-    ensures read { IfOk result (λ taps. taps_of (lines_of_taps (seen_taps posted.now.taps.items)) ≡ Ok taps) }
+    ensures read { IfOk result (λ taps. taps_of (lines_of_taps (seen_taps posted.now.taps.items))
+        ≡ Ok taps) }
     ensures names { IfOk result (λ taps. AreNamedOnce taps) }
     ensures stream { IfOk result (λ taps. HasOneStreamAtMost taps) }
     ensures offsets { IfOk result (λ taps. HasEachOffsetOnce taps) }
-    ensures own_lines { IfOk result (λ taps. HaveTheirOwnLines (lines_of_taps (seen_taps posted.now.taps.items)) taps) }
-    ensures each_line { IfOk result (λ taps. EachLineIsOfOneTap (lines_of_taps (seen_taps posted.now.taps.items)) taps) }
-    ensures refused { IfErr result (λ e. e ≢ ReadFault.Memory → taps_of (lines_of_taps (seen_taps posted.now.taps.items)) ≡ Err e) }
+    ensures own_lines { IfOk result (λ taps. HaveTheirOwnLines
+        (lines_of_taps (seen_taps posted.now.taps.items)) taps) }
+    ensures each_line { IfOk result (λ taps. EachLineIsOfOneTap
+        (lines_of_taps (seen_taps posted.now.taps.items)) taps) }
+    ensures refused { IfErr result (λ e. e ≢ ReadFault.Memory
+        → taps_of (lines_of_taps (seen_taps posted.now.taps.items)) ≡ Err e) }
 {
     let mut reader = BundleReader::new(alloc, keys);
     let mut number = 1u64;

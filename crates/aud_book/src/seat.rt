@@ -5,8 +5,8 @@ use crate::posts::Posts;
 use std::alloc::Global;
 use std::sync::ledger::Share;
 
-/// The right to post the lines of one tap, with those that were posted, which are lent. It is a value of one owner: a
-/// thread gives it to [`post`](crate::Desk::post) and gets it back.
+/// The right to post the lines of one tap, with those that were posted, which are borrowed. It is a value of one owner:
+/// a thread gives it to [`post`](crate::Desk::post) and gets it back.
 #[derive(Drop)]
 pub struct TapSeat<'a, L: Posts> {
     pub(crate) place: usize,
@@ -44,7 +44,7 @@ impl<'a, L: Posts> TapSeat<'a, L> {
     ghost use Rattle.aud_book.specs.History.{texts};
     ghost use Rattle.aud_book.specs.Seats.{lines_of};
 
-    /// The name of its tap, lent.
+    /// The name of its tap, borrowed.
     pub fn name(&self) -> &'a str
         ensures { result.now ≡ self.now.name.now }
     {

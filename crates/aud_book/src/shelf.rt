@@ -38,8 +38,10 @@ impl<'a, L: Posts> Shelf<'a, L> {
         ensures ok { OnOk result (mine.new.amount ≡ mine.old.amount + 1) }
         ensures err { OnErr result (mine.new.amount ≡ mine.old.amount) }
         ensures parts { mine.new.parts ≡ mine.old.parts }
-        ensures history { OnOk result (pairs self.new.book.history.items ≡ pairs self.old.book.history.items ++ (place, line.now) ∷ []) }
-        ensures same { OnErr result (pairs self.new.book.history.items ≡ pairs self.old.book.history.items) }
+        ensures history { OnOk result (pairs self.new.book.history.items
+            ≡ pairs self.old.book.history.items ++ (place, line.now) ∷ []) }
+        ensures same { OnErr result (pairs self.new.book.history.items
+            ≡ pairs self.old.book.history.items) }
     {
         let Shelf { book, tally } = self;
         book.append(place, line)?;
@@ -58,8 +60,10 @@ impl<'a, L: Posts> Shelf<'a, L> {
         ensures counted { IfOk result (λ s. counted_of s ≡ counted_of seat.entry + 1) }
         ensures tap { IfOk result (λ s. IsOfSameTap seat.entry s) }
         ensures unchanged { IfErr result (λ s. IsUnchanged seat.entry s) }
-        ensures history { OnOk result (pairs self.new.book.history.items ≡ pairs self.old.book.history.items ++ (seat.entry.place, line.now) ∷ []) }
-        ensures same { OnErr result (pairs self.new.book.history.items ≡ pairs self.old.book.history.items) }
+        ensures history { OnOk result (pairs self.new.book.history.items
+            ≡ pairs self.old.book.history.items ++ (seat.entry.place, line.now) ∷ []) }
+        ensures same { OnErr result (pairs self.new.book.history.items
+            ≡ pairs self.old.book.history.items) }
     {
         let TapSeat {
             place,
@@ -93,14 +97,16 @@ impl<'a, L: Posts> Shelf<'a, L> {
         })
     }
 
-    /// The lines that the book has for a seat's tap, in a list of their own. It is refused where they aren't the seat's.
+    /// The lines that the book has for a seat's tap, in a list of their own. It is refused where they aren't the
+    /// seat's.
     pub fn read_back(
         &self,
         alloc: Global,
         seat: &TapSeat<'a, L>,
     ) -> Result<Vec<&'a [u8]>, BackFault>
         ensures lines { IfOk result (λ v. texts v.items ≡ lines_of seat.now) }
-        ensures strayed { IfErr result (λ e. e ≢ BackFault.Memory → lines_at (seen_taps self.now.book.taps.items) seat.now.place ≢ lines_of seat.now) }
+        ensures strayed { IfErr result (λ e. e ≢ BackFault.Memory
+            → lines_at (seen_taps self.now.book.taps.items) seat.now.place ≢ lines_of seat.now) }
     {
         let lines = self
             .book
@@ -115,7 +121,8 @@ impl<'a, L: Posts> Shelf<'a, L> {
     /// Whether the seat is that of the tap at this place, with the same name and lines.
     fn is_seat_of(place: usize, tap: &TapLines<'a>, seat: &TapSeat<'a, L>) -> bool
         ensures same { result ≡ true → seen tap.now ≡ seen_seat seat.now }
-        ensures other { result ≡ false → seat.now.place ≡ place → seen tap.now ≢ seen_seat seat.now }
+        ensures other { result ≡ false → seat.now.place ≡ place
+            → seen tap.now ≢ seen_seat seat.now }
     {
         seat.place == place && is_tap_of(tap, seat.name, &seat.lines)
     }
@@ -123,7 +130,8 @@ impl<'a, L: Posts> Shelf<'a, L> {
     /// Whether the seats are those of the taps, in their order, with the same names and lines.
     fn are_seats_of(taps: &[TapLines<'a>], seats: &[TapSeat<'a, L>]) -> bool
         ensures same { result ≡ true → seen_taps taps.now ≡ seen_seats seats.now }
-        ensures other { result ≡ false → AreInOrder seats.now → seen_taps taps.now ≢ seen_seats seats.now }
+        ensures other { result ≡ false → AreInOrder seats.now
+            → seen_taps taps.now ≢ seen_seats seats.now }
     {
         if seats.len() != taps.len() {
             return false;
@@ -142,10 +150,12 @@ impl<'a, L: Posts> Shelf<'a, L> {
         seats: Vec<TapSeat<'a, L>>,
     ) -> Result<Posted<'a>, (Shelf<'a, L>, Vec<TapSeat<'a, L>>)>
         ensures taps { IfOk result (λ p. seen_taps p.taps.items ≡ seen_seats seats.entry.items) }
-        ensures merging { IfOk result (λ p. IsMergingOf (seen_seats seats.entry.items) (pairs p.history.items)) }
+        ensures merging { IfOk result (λ p. IsMergingOf (seen_seats seats.entry.items)
+            (pairs p.history.items)) }
         ensures history { IfOk result (λ p. p.history.items ≡ self.entry.book.history.items) }
         ensures back { IfErr result (λ b. (b.0 ≡ self.entry) × (b.1 ≡ seats.entry)) }
-        ensures strayed { OnErr result (AreInOrder seats.entry.items → seen_taps self.entry.book.taps.items ≢ seen_seats seats.entry.items) }
+        ensures strayed { OnErr result (AreInOrder seats.entry.items
+            → seen_taps self.entry.book.taps.items ≢ seen_seats seats.entry.items) }
     {
         if !Self::are_seats_of(&self.book.taps, &seats) {
             return Err((self, seats));

@@ -11,7 +11,7 @@ use Rattle.aud_cert.specs.Certificate.{CertificateSeen, TurnSeen, turn_at}
 use Rattle.aud_maker.specs.Made.{IsMade}
 use Rattle.aud_recoveries.specs.Missed.{rooms_at_break}
 use Rattle.aud_recoveries.specs.Opened.{opened_in}
-use Rattle.aud_recoveries.specs.Private.Held.{walked_turns}
+use Rattle.aud_recoveries.specs.Held.{walked_turns}
 use Rattle.aud_recoveries.proofs.HeldLemmas.{turns_held}
 use Rattle.aud_recoveries.proofs.MissedLemmas.{opened_is, due_is_missed}
 use Rattle.aud_causes.specs.declared.facts.Replay.{Replay}

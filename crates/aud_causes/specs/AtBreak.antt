@@ -13,8 +13,8 @@ use Rattle.aud_causes.specs.declared.facts.Replay.{Replay}
 use Rattle.aud_causes.specs.declared.facts.Facts.{Facts}
 use Rattle.aud_causes.specs.Delivery.{cause_if, is_replayed}
 
--- of the entries that were to be replayed, those that are recoverable and addressed to the rooms that the session held after
--- so many of its turns, with which the last of these breaks left it
+-- of the entries that were to be replayed, those that are recoverable and addressed to the rooms that the session held
+-- after so many of its turns, with which the last of these breaks left it
 abbrev pub due_at_break : Cluster → Who → List Turn → ℕ → Replay → List ℕ
 due_at_break c who turns count replay = missed_between c.stream who.nsp (rooms_held_after c who (take count turns)) replay.after replay.low
 
@@ -27,7 +27,8 @@ came_within (Some stay) replay = filter (is_replayed replay) (map (λ (frame : F
 abbrev pub is_by_rooms_at_break : Cluster → Who → List Turn → List StaySeen → ℕ → Replay → Bool
 is_by_rooms_at_break c who turns stays later replay = pointwise nat_eq (came_within (slice_get stays later) replay) (due_at_break c who turns later replay)
 
--- the entry was to be replayed, and of all those that were exactly those came that are addressed to the rooms at the break
+-- the entry was to be replayed, and of all those that were exactly those came that are addressed to the rooms at the
+-- break
 abbrev pub rooms_at_break : Cluster → Who → List Turn → List StaySeen → Facts → Option Cause
 rooms_at_break c who turns stays f =
     option_and_then

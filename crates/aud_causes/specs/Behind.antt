@@ -8,8 +8,8 @@ use Rattle.aud_causes.specs.declared.cause.Cause.{Cause}
 use Rattle.aud_causes.specs.declared.cause.Cause.TheVariants.{NodeBehindBreak}
 use Rattle.aud_causes.specs.declared.facts.Facts.{Facts}
 
--- the first of the turns that begins with the node's cursor before the position, where the turn before it ended at it or past
--- it; this is the cursor at which the turn before these ended, and turns count on from this number
+-- the first of the turns that begins with the node's cursor before the position, where the turn before it ended at it
+-- or past it; this is the cursor at which the turn before these ended, and turns count on from this number
 abbrev pub first_behind : ℕ → ℕ → ℕ → List TurnSeen → Option ℕ
 first_behind p high number [] = None
 first_behind p high number (t ∷ later) = if nat_lt t.low p && nat_le p high then Some number else first_behind p t.high (suc number) later

@@ -5,9 +5,9 @@ use Rattle.aud_node.specs.Stream.{Text}
 use Rattle.aud_client.specs.Received.{stays_naming, stays_numbered}
 use Rattle.aud_cert.specs.declared.fault.Fault.{Fault}
 use Rattle.aud_maker.specs.Made.{IsMade}
-use Rattle.aud_report.specs.declared.verdict.Verdict.{Verdict}
-use Rattle.aud_report.specs.declared.verdict.Verdict.TheVariants.{Yes, No}
-use Rattle.aud_lines.specs.TapLines.{TapLines}
+use Rattle.aud_verdict.specs.declared.verdict.Verdict.{Verdict}
+use Rattle.aud_verdict.specs.declared.verdict.Verdict.TheVariants.{Yes, No}
+use Rattle.aud_input.specs.TapLines.{TapLines}
 use Rattle.aud_recoveries.specs.Recoveries.{stays_at}
 use Rattle.aud_account.specs.declared.account.Account.{Account}
 use Rattle.aud_account.specs.Account.{IsAccount}
@@ -19,8 +19,8 @@ use Rattle.aud_causes.specs.Found.{cause_seen, shown_causes}
 use Rattle.aud_causes.specs.Judged.{AreJudgedCauses}
 use Rattle.aud_causes.specs.Recorded.{AreRecordedCauses, stays_of_client}
 
--- these are the causes of the fault of the session with this pid: by what it has on the nodes and in its client's tap, where it
--- has no account; else by its account
+-- these are the causes of the fault of the session with this pid: by what it has on the nodes and in its client's tap,
+-- where it has no account; else by its account
 abbrev pub AreFound : Cluster → Option ℕ → Text → Noted → Option Account → Fault → List Cause → Type 0
 AreFound c client pid noted None fault found = AreRecordedCauses c client pid noted.unordered fault found
 AreFound c client pid noted (Some a) fault found =

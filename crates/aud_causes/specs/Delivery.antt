@@ -19,7 +19,8 @@ abbrev pub is_not_replayed : Option Replay → ℕ → Bool
 is_not_replayed None p = false
 is_not_replayed (Some replay) p = not (is_replayed replay p)
 
--- the entry came in no replay, for sure: the later stay is no recovery, or the entry isn't one that was to be replayed in it
+-- the entry came in no replay, for sure: the later stay is no recovery, or the entry isn't one that was to be replayed
+-- in it
 abbrev pub is_outside : Facts → Bool
 is_outside f = not f.recovered || is_not_replayed f.replay f.parted.position
 
@@ -52,8 +53,8 @@ abbrev pub is_this : Option ℕ → ℕ → Bool
 is_this None p = false
 is_this (Some q) p = nat_eq q p
 
--- both frames stand in one stay whose replay is known, and the entry that came twice is the first past the node's cursor at
--- the `back`: the replay ran on past the cursor, and then the node sent what it took itself
+-- both frames stand in one stay whose replay is known, and the entry that came twice is the first past the node's
+-- cursor at the `back`: the replay ran on past the cursor, and then the node sent what it took itself
 abbrev pub sent_again : Facts → Option ℕ → Option Cause
 sent_again f past =
     option_and_then

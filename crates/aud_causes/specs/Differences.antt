@@ -24,8 +24,8 @@ use Rattle.aud_causes.specs.AtBreak.{first_taken, rooms_at_break}
 
 -- ---- what is known of a session
 
--- a session, as its `open` names it; its turns in the nodes' logs, and as its certificate has them; the stays of its client's
--- tap whose reply names it; and the positions that were due to it
+-- a session, as its `open` names it; its turns in the nodes' logs, and as its certificate has them; the stays of its
+-- client's tap whose reply names it; and the positions that were due to it
 pub record Case : Type 0 where
   pub c : Cluster
   pub who : Who
@@ -71,8 +71,8 @@ doubled_causes c turns stays f =
 abbrev pub swapped_causes : Cluster → List TurnSeen → Facts → List Cause
 swapped_causes c turns f = cause_and (node_behind c turns f) (cause_and (swapped_live f) [])
 
--- of an entry that was lost, where this holds of the rooms at the break: that; it was left out of the replay; the offset
--- was another session's; it was left out while the client was connected
+-- of an entry that was lost, where this holds of the rooms at the break: that; it was left out of the replay; the
+-- offset was another session's; it was left out while the client was connected
 abbrev pub lost_causes : Option Cause → List ℕ → Facts → List Cause
 lost_causes at_break due f =
     cause_and at_break (cause_and (skipped_in_window f) (cause_and (other_session_after due f) (cause_and (lost_live f) [])))
@@ -81,9 +81,10 @@ lost_causes at_break due f =
 abbrev pub lost_in : Case → Facts → List Cause
 lost_in s f = lost_causes (rooms_at_break s.c s.who s.turns s.stays f) s.due f
 
--- of an entry that was not due, for this reason, and where this holds of the node that was behind the break, of the rooms at
--- the break, and of a room that was left: the first; that of the rooms; the offset was another session's; a node's log ends
--- early; a room of it was left; it was taken before the session was opened; it was sent to a session to which it wasn't addressed
+-- of an entry that was not due, for this reason, and where this holds of the node that was behind the break, of the
+-- rooms at the break, and of a room that was left: the first; that of the rooms; the offset was another session's; a
+-- node's log ends early; a room of it was left; it was taken before the session was opened; it was sent to a session to
+-- which it wasn't addressed
 abbrev pub extra_by : Cluster → Text → List TurnSeen → Option Cause → Option Cause → Option Cause → List ℕ → Option Reason → Facts → List Cause
 extra_by c pid turns behind at_break left due why f =
     cause_and behind

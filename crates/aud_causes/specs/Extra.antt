@@ -98,8 +98,8 @@ is_unaddressed (Some NoCommonRoom) = true
 is_unaddressed (Some (Excepted room)) = true
 is_unaddressed _ = false
 
--- the entry was not addressed to the session when the session reached it, and came in no replay; told where there is no cause
--- that says how that came to be
+-- the entry was not addressed to the session when the session reached it, and came in no replay; told where there is no
+-- cause that says how that came to be
 abbrev pub extra_live : Option Cause → Option Reason → Facts → Option Cause
 extra_live (Some told) why f = None
 extra_live None why f = cause_if (is_outside f && is_unaddressed why) (cause.ExtraLive f.parted.again)

@@ -12,22 +12,23 @@ use Rattle.aud_causes.specs.declared.facts.Parted.{Parted}
 use Rattle.aud_causes.specs.declared.facts.Replay.{Replay}
 use Rattle.aud_causes.specs.declared.facts.Facts.{Facts}
 
--- the entry in question, and two frames: of an entry that came twice both; of one that came late the one in its place, and
--- its own; of one that was lost the one in its place; of one that was not due the first of all, and its own
+-- the entry in question, and two frames: of an entry that came twice both; of one that came late the one in its place,
+-- and its own; of one that was lost the one in its place; of one that was not due the first of all, and its own
 abbrev pub parted_at : Difference → Parted
 parted_at (Extra frame position) = record { position = position; first = 0; again = frame }
 parted_at (Doubled first again position) = record { position = position; first = first; again = again }
 parted_at (Swapped frame due later) = record { position = due; first = frame; again = later }
 parted_at (Lost frame due) = record { position = due; first = frame; again = frame }
 
--- the number of the stay in which the frame stands, over the frames of the stays, stay after stay; stays count on from this
--- number
+-- the number of the stay in which the frame stands, over the frames of the stays, stay after stay; stays count on from
+-- this number
 abbrev pub stay_of_frame : List StaySeen → ℕ → ℕ → ℕ
 stay_of_frame [] number frame = number
 stay_of_frame (stay ∷ stays) number frame =
     if nat_lt frame (length stay.frames) then number else stay_of_frame stays (suc number) (frame - length stay.frames)
 
--- the stay that the later one is held against: that of the first frame; the session's first of an entry that was not due
+-- the stay that the later one is held against: that of the first frame; the session's first of an entry that was not
+-- due
 abbrev pub earlier_stay : List StaySeen → Difference → ℕ
 earlier_stay stays (Extra frame position) = 0
 earlier_stay stays (Doubled first again position) = stay_of_frame stays 0 first
@@ -44,8 +45,8 @@ abbrev pub asked_after : List StreamRec → Option StaySeen → Option ℕ
 asked_after stream None = None
 asked_after stream (Some stay) = if is_recovered stay then asked_position stream stay.asked else None
 
--- the cursor of the node at the begin of the turn of the session's stay with this number, of so many. Stays and turns are
--- told apart by their order alone, so the turn is known where there are as many
+-- the cursor of the node at the begin of the turn of the session's stay with this number, of so many. Stays and turns
+-- are told apart by their order alone, so the turn is known where there are as many
 abbrev pub low_of_turn : List TurnSeen → ℕ → ℕ → Option ℕ
 low_of_turn turns stays number = if nat_eq (length turns) stays then option_map (λ (t : TurnSeen). t.low) (slice_get turns number) else None
 

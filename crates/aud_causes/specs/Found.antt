@@ -2,14 +2,14 @@
 use Rattle.std.specs.Prelude.{ℕ, Bool, List, length, map, nat_eq, string_bytes, Option}
 use Rattle.aud_node.specs.Cluster.{Cluster}
 use Rattle.aud_node.specs.Stream.{Text}
-use Rattle.aud_lines.specs.TapLines.{TapLines}
+use Rattle.aud_input.specs.TapLines.{TapLines}
 use Rattle.aud_causes.specs.declared.cause.Cause.{Cause}
 use Rattle.aud_causes.specs.declared.found.CauseFound.{CauseFound}
 use Rattle.aud_causes.specs.Words.{id_text, todo_text, why_text}
 use Rattle.aud_causes.specs.Records.{lines_at, name_of, node_of, records_of}
 
--- what is told of a cause: its name, whether it is the only one, the lines of the records that show it, what happened, and
--- what to do
+-- what is told of a cause: its name, whether it is the only one, the lines of the records that show it, what happened,
+-- and what to do
 pub record CauseSeen : Type 0 where
   pub id : Text
   pub sure : Bool
@@ -20,8 +20,8 @@ pub record CauseSeen : Type 0 where
 abbrev pub cause_seen : CauseFound → CauseSeen
 cause_seen f = record { id = f.id.now; sure = f.sure; lines = f.lines.items; why = string_bytes f.why; todo = f.todo.now }
 
--- what is told of this cause, where these are the lines of the input, this is the place of the session's client's tap, if there
--- is one, and these are the numbers of its stays there
+-- what is told of this cause, where these are the lines of the input, this is the place of the session's client's tap,
+-- if there is one, and these are the numbers of its stays there
 abbrev pub shown_cause : Cluster → List TapLines → Option ℕ → List ℕ → Bool → Cause → CauseSeen
 shown_cause c lines client numbers sure cause =
     record {

@@ -37,8 +37,8 @@ abbrev pub AreAlteredCauses : List StreamRec → List StaySeen → List Cause �
 AreAlteredCauses stream stays found =
     (AreEntries stream (frames_in stays) × (found ≡ [])) ⊎ ((altered : Altered) × IsAltered stream (frames_in stays) altered × (found ≡ altered_causes altered))
 
--- each recovery was asked for where it fits, and there are no causes; or this is the first that wasn't, and these are the causes
--- of that
+-- each recovery was asked for where it fits, and there are no causes; or this is the first that wasn't, and these are
+-- the causes of that
 abbrev pub AreWindowCauses : List StreamRec → List StaySeen → List ℕ → List Cause → Type 0
 AreWindowCauses stream stays due found =
     ((wrong_window stream [] stays ≡ None) × (found ≡ []))
@@ -71,8 +71,8 @@ names_causes turns stays = names_by (opened_in turns) stays
 abbrev pub orphan_at : Cluster → ℕ → Option ℕ → Option Cause
 orphan_at c client orphan = option_and_then (orphan_cause (stays_at c client)) orphan
 
--- the causes of a fault of this session, whose client's tap is at this place and has its first events of which nobody knows the
--- session in the stay with this number, if it has any; none of another fault
+-- the causes of a fault of this session, whose client's tap is at this place and has its first events of which nobody
+-- knows the session in the stay with this number, if it has any; none of another fault
 abbrev pub AreJudgedCauses : Case → ℕ → Option ℕ → Fault → List Cause → Type 0
 AreJudgedCauses s client orphan fault.Names found = found ≡ names_causes s.seen s.stays
 AreJudgedCauses s client orphan fault.Frame found = found ≡ NotAPacket ∷ []

@@ -15,8 +15,8 @@ use Rattle.aud_chain.specs.declared.misfit.Misfit.TheVariants as misfit
 use Rattle.aud_causes.specs.declared.cause.Cause.{Cause}
 use Rattle.aud_causes.specs.declared.cause.Cause.TheVariants.{NodeNotTapped, MissingBreak, NoStart, RestartedInOldLog, NotInStream, EntriesSkippedByNode, EntryTakenAgain}
 
--- the number of the stay by which the client went on after this turn: the first recovery follows turn 0, the next one turn 1,
--- and so on. Stays count on from this number
+-- the number of the stay by which the client went on after this turn: the first recovery follows turn 0, the next one
+-- turn 1, and so on. Stays count on from this number
 abbrev pub recovery_after : ℕ → ℕ → List StaySeen → Option ℕ
 recovery_after turn number [] = None
 recovery_after turn number (stay ∷ stays) =
@@ -24,8 +24,8 @@ recovery_after turn number (stay ∷ stays) =
     else if nat_eq turn 0 then Some number
     else recovery_after (turn - 1) (suc number) stays
 
--- of a misfit in the chain of turns, where these are the stays of the client's tap whose reply names the session: no log has the
--- begin of a turn; the client went on after a turn of which no log has the break
+-- of a misfit in the chain of turns, where these are the stays of the client's tap whose reply names the session: no
+-- log has the begin of a turn; the client went on after a turn of which no log has the break
 abbrev pub chain_cause : Misfit → List StaySeen → Option Cause
 chain_cause misfit.NeverOpened stays = Some (NodeNotTapped 0)
 chain_cause (misfit.MissingTurn turn back) stays = Some (NodeNotTapped turn)

@@ -26,7 +26,8 @@ stays_of_client c (Some client) pid = stays_naming pid (stays_at c client)
 abbrev pub misfit_causes : Cluster → Option ℕ → Text → Misfit → List Cause
 misfit_causes c client pid misfit = option_to_list (chain_cause misfit (stays_of_client c client pid))
 
--- the session's records are a chain of turns, and there are no causes; or there is a misfit in them, and these are its causes
+-- the session's records are a chain of turns, and there are no causes; or there is a misfit in them, and these are its
+-- causes
 abbrev pub AreChainCauses : Cluster → Option ℕ → Text → List Cause → Type 0
 AreChainCauses c client pid found =
     (HasChain c pid × (found ≡ [])) ⊎ ((misfit : Misfit) × IsMisfit c pid misfit × (found ≡ misfit_causes c client pid misfit))
@@ -35,8 +36,8 @@ AreChainCauses c client pid found =
 abbrev pub order_at : Cluster → Option RecordPlace → Option Cause
 order_at c unordered = option_and_then (order_cause c) unordered
 
--- the causes of a fault for which the session with this pid has no certificate, where this is the place of its client's tap, if
--- it has one, and this record of a node is out of order, if one is; none of another fault
+-- the causes of a fault for which the session with this pid has no certificate, where this is the place of its client's
+-- tap, if it has one, and this record of a node is out of order, if one is; none of another fault
 abbrev pub AreRecordedCauses : Cluster → Option ℕ → Text → Option RecordPlace → Fault → List Cause → Type 0
 AreRecordedCauses c client pid unordered fault.NoLog found = found ≡ NodeNotTapped 0 ∷ []
 AreRecordedCauses c client pid unordered fault.Chain found = AreChainCauses c client pid found

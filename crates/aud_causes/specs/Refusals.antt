@@ -78,16 +78,16 @@ broke_past c broke begin =
     (λ high. option_and_then (λ low. cause_if (nat_lt low high) (AskedTooEarly broke begin high low)) (cursor_there c begin))
     (cursor_there c broke)
 
--- the session broke with its node's cursor past the one with which the session was opened that the client got: the server
--- noticed the break after the client had come back
+-- the session broke with its node's cursor past the one with which the session was opened that the client got: the
+-- server noticed the break after the client had come back
 abbrev pub asked_too_early : Cluster → List TurnMark → List TurnMark → Option Cause
 asked_too_early c marks opening =
     option_and_then (λ broke. option_and_then (broke_past c broke) (first_open opening)) (last_break 0 None marks)
 
 -- ---- the causes, in their order
 
--- the offset; the session was over; it had not broken; the client asked too early. These are the records that begin and end the
--- turns of the session that was asked for, and of the one that the client got
+-- the offset; the session was over; it had not broken; the client asked too early. These are the records that begin and
+-- end the turns of the session that was asked for, and of the one that the client got
 abbrev pub refused_causes : Cluster → Option Cause → List TurnMark → List TurnMark → List Cause
 refused_causes c offset marks opening =
     cause_and offset (cause_and (session_over marks) (cause_and (never_broken marks) (cause_and (asked_too_early c marks opening) [])))

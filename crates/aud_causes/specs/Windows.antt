@@ -12,8 +12,8 @@ use Rattle.aud_causes.specs.declared.cause.Cause.TheVariants.{NoOffset, UnknownO
 use Rattle.aud_causes.specs.Facts.{asked_after}
 use Rattle.aud_causes.specs.Differences.{cause_and, offset_of_another}
 
--- what such a misfit of this stay says, where the client asked to go on after this position: it gave no offset; or one that
--- the stream doesn't have; or one before a frame that it had
+-- what such a misfit of this stay says, where the client asked to go on after this position: it gave no offset; or one
+-- that the stream doesn't have; or one before a frame that it had
 abbrev pub misfit_cause : ℕ → Option ℕ → Misfit → Option Cause
 misfit_cause stay asked misfit.NoOffset = Some (NoOffset stay)
 misfit_cause stay asked misfit.Unknown = Some (UnknownOffset stay)

@@ -6,17 +6,16 @@ ghost use Rattle.aud_causes.specs.AtBreak.{came_within, due_at_break, first_past
 
 use crate::cause::Cause;
 use crate::facts::{Facts, Replay, stay_at};
-use crate::held::spans_held;
 use crate::live::is_replayed;
 use aud_cert::{Certificate, Turn};
 use aud_client::{Frame, Recording, Stay};
 use aud_maker::made_is_over;
-use aud_recoveries::opened_in;
+use aud_recoveries::{opened_in, spans_held};
 use aud_rooms::due_of;
 use std::alloc::{AllocError, Global};
 
-/// Where the entry was to be replayed, and of all those that were exactly those came in the stay that are addressed to the
-/// rooms held at the break. It costs the session's own records, and what is addressed to these rooms.
+/// Where the entry was to be replayed, and of all those that were exactly those came in the stay that are addressed to
+/// the rooms held at the break. It costs the session's own records, and what is addressed to these rooms.
 pub(crate) fn rooms_at_break(
     alloc: Global,
     recording: &Recording<'_>,
@@ -26,7 +25,8 @@ pub(crate) fn rooms_at_break(
 ) -> Result<Option<Cause>, AllocError>
     requires { IsMade recording.now cert.now.pid cert.now }
     ensures { IfOk result (λ found. (made : IsMade recording.now cert.now.pid cert.now)
-        → found ≡ rooms_at_break recording.now made.who made.turns (map (λ stay. stay.now) stays.now) facts) }
+        → found ≡ rooms_at_break recording.now made.who made.turns
+        (map (λ stay. stay.now) stays.now) facts) }
 {
     let Some(replay) = facts.replay else {
         return Ok(None);
@@ -55,7 +55,8 @@ fn is_by_rooms_at_break(
 ) -> Result<bool, AllocError>
     requires { IsMade recording.now cert.now.pid cert.now }
     ensures { IfOk result (λ is. (made : IsMade recording.now cert.now.pid cert.now)
-        → is ≡ is_by_rooms_at_break recording.now made.who made.turns (map (λ stay. stay.now) stays.now) later replay) }
+        → is ≡ is_by_rooms_at_break recording.now made.who made.turns
+        (map (λ stay. stay.now) stays.now) later replay) }
 {
     let due = due_at_break(alloc, recording, cert, later, replay)?;
     let came = came_within(alloc, stays, later, replay)?;
@@ -123,7 +124,8 @@ fn came_within(
     number: usize,
     replay: Replay,
 ) -> Result<Vec<u64>, AllocError>
-    ensures { IfOk result (λ came. came.items ≡ came_within (slice_get (map (λ stay. stay.now) stays.now) number) replay) }
+    ensures { IfOk result (λ came. came.items
+        ≡ came_within (slice_get (map (λ stay. stay.now) stays.now) number) replay) }
 {
     match stay_at(stays, number) {
         Some(stay) => came_in(alloc, stay, replay),

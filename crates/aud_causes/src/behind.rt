@@ -8,8 +8,8 @@ use aud_cert::{Turn, turn_place};
 use aud_chain::RecordPlace;
 use aud_node::Logs;
 
-/// Where the two frames stand in two stays, and a turn begins before the entry that the turn before it had reached. It costs
-/// the turns.
+/// Where the two frames stand in two stays, and a turn begins before the entry that the turn before it had reached. It
+/// costs the turns.
 pub(crate) fn node_behind(logs: &Logs<'_>, turns: &[Turn<'_>], facts: Facts) -> Option<Cause>
     ensures { result ≡ node_behind logs.now turns.now facts }
 {
@@ -20,8 +20,8 @@ pub(crate) fn node_behind(logs: &Logs<'_>, turns: &[Turn<'_>], facts: Facts) -> 
     behind_at(logs, turns, number)
 }
 
-/// The number of the first turn that begins with the cursor before the position, where the turn before it ended at it or past
-/// it.
+/// The number of the first turn that begins with the cursor before the position, where the turn before it ended at it
+/// or past it.
 fn first_behind(turns: &[Turn<'_>], position: u64) -> Option<usize>
     ensures { result ≡ first_behind position 0 0 turns.now }
 {

@@ -5,8 +5,8 @@ ghost use Rattle.aud_causes.specs.Words.{id_text, todo_text};
 use aud_chain::RecordPlace;
 use aud_evidence::Part;
 
-/// What a fault may come from, with what shows it. Positions of the stream count from 1; all else from 0: frames over all
-/// that was received of the session, in the order of the client's tap, and stays among those whose reply names it.
+/// What a fault may come from, with what shows it. Positions of the stream count from 1; all else from 0: frames over
+/// all that was received of the session, in the order of the client's tap, and stays among those whose reply names it.
 #[derive(Clone, Copy, Debug, PartialEq, Eq, Drop)]
 pub enum Cause {
     /// The node that took the session back was at a lower cursor than the one on which it had broken.
@@ -66,7 +66,8 @@ pub enum Cause {
         frame: usize,
         later: usize,
     },
-    /// An event's text or attachments are not the entry's, from this part on. Its sentence counts bytes and attachments from 1.
+    /// An event's text or attachments are not the entry's, from this part on. Its sentence counts bytes and attachments
+    /// from 1.
     Altered {
         frame: usize,
         part: Part,

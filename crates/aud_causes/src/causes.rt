@@ -15,8 +15,8 @@ use aud_account::Account;
 use aud_cert::Fault;
 use aud_chain::RecordPlace;
 use aud_client::Recording;
-use aud_report::Verdict;
 use aud_rows::{ClientPlaces, Sheet};
+use aud_verdict::Verdict;
 use std::alloc::{AllocError, Global};
 
 /// What was noted of the taps, once for all sessions.
@@ -24,14 +24,14 @@ use std::alloc::{AllocError, Global};
 pub struct Noted {
     /// Of a session whose verdict is `ORDER`: the first record out of order of a node that it was on.
     pub unordered: Option<RecordPlace>,
-    /// Of one whose verdict is `ORPHAN`: the number, in its client's tap, of the first stay with events whose reply names
-    /// nobody.
+    /// Of one whose verdict is `ORPHAN`: the number, in its client's tap, of the first stay with events whose reply
+    /// names nobody.
     pub orphan: Option<usize>,
 }
 
-/// What the fault of the session with this pid may come from: of the causes that such a fault can have those that hold, in a
-/// fixed order. One is sure exactly where it is the only one. `tap` is that of the session's client, if one alone names it; the
-/// account is the session's, if it has one.
+/// What the fault of the session with this pid may come from: of the causes that such a fault can have those that hold,
+/// in a fixed order. One is sure exactly where it is the only one. `tap` is that of the session's client, if one alone
+/// names it; the account is the session's, if it has one.
 ///
 /// It costs the session's own records and stays, and what was due to it.
 pub fn causes_of<'r, 'a>(
@@ -44,11 +44,16 @@ pub fn causes_of<'r, 'a>(
     noted: Noted,
 ) -> Result<Vec<CauseFound>, AllocError>
     requires tap { IfSome (option_copied tap) (AreOf sheet.recording.now) }
-    requires account { IfSome (option_copied account) (λ a. IsMade sheet.recording.now pid.now a.cert
-        × IsAccount sheet.recording.now pid.now a.client (map (λ stay. stay.now) a.stays.items) a.due.items) }
-    ensures causes { IfOk result (λ causes. AreCauses sheet.entry.recording.now sheet.entry.lines.now (place_of (option_copied tap.entry)) pid.now noted
+    requires account { IfSome (option_copied account)
+        (λ a. IsMade sheet.recording.now pid.now a.cert
+        × IsAccount sheet.recording.now pid.now a.client
+        (map (λ stay. stay.now) a.stays.items) a.due.items) }
+    ensures causes { IfOk result (λ causes.
+        AreCauses sheet.entry.recording.now sheet.entry.lines.now
+        (place_of (option_copied tap.entry)) pid.now noted
         (option_copied account.entry) verdict.now causes.items) }
-    ensures sure { IfOk result (λ causes. All (λ cause. cause.sure ≡ is_sure causes.items) causes.items) }
+    ensures sure { IfOk result (λ causes. All
+        (λ cause. cause.sure ≡ is_sure causes.items) causes.items) }
 {
     let Verdict::No(fault) = verdict else {
         return Ok(Vec::new(alloc));
@@ -71,8 +76,10 @@ fn causes_found(
     noted: Noted,
 ) -> Result<Vec<Cause>, AllocError>
     requires { IfSome (option_copied account) (λ a. IsMade recording.now pid.now a.cert
-        × IsAccount recording.now pid.now a.client (map (λ stay. stay.now) a.stays.items) a.due.items) }
-    ensures { IfOk result (λ found. AreFound recording.now client pid.now noted (option_copied account.entry) fault.now found.items) }
+        × IsAccount recording.now pid.now a.client
+        (map (λ stay. stay.now) a.stays.items) a.due.items) }
+    ensures { IfOk result (λ found. AreFound recording.now client pid.now noted
+        (option_copied account.entry) fault.now found.items) }
 {
     match account {
         Some(account) => judged_causes(alloc, recording, account, fault, noted.orphan),

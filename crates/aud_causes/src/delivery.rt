@@ -30,7 +30,8 @@ pub(crate) fn difference_causes(
     difference: Difference,
 ) -> Result<Vec<Cause>, AllocError>
     requires { IsMade recording.now account.now.cert.pid account.now.cert }
-    ensures { IfOk result (λ found. (made : IsMade recording.now account.now.cert.pid account.now.cert)
+    ensures { IfOk result (λ found.
+        (made : IsMade recording.now account.now.cert.pid account.now.cert)
         → found.items ≡ difference_causes (case_of recording.now account.now made) difference) }
 {
     let logs = recording.logs();
@@ -53,7 +54,8 @@ fn doubled_causes(
     stays: &[&Stay<'_>],
     facts: Facts,
 ) -> Result<Vec<Cause>, AllocError>
-    ensures { IfOk result (λ found. found.items ≡ doubled_causes logs.now turns.now (map (λ stay. stay.now) stays.now) facts) }
+    ensures { IfOk result (λ found. found.items
+        ≡ doubled_causes logs.now turns.now (map (λ stay. stay.now) stays.now) facts) }
 {
     let mut found = Vec::new(alloc);
     push_cause(&mut found, node_behind(logs, turns, facts))?;
@@ -103,7 +105,8 @@ fn lost_of(
     facts: Facts,
 ) -> Result<Vec<Cause>, AllocError>
     requires { IsMade recording.now account.now.cert.pid account.now.cert }
-    ensures { IfOk result (λ found. (made : IsMade recording.now account.now.cert.pid account.now.cert)
+    ensures { IfOk result (λ found.
+        (made : IsMade recording.now account.now.cert.pid account.now.cert)
         → found.items ≡ lost_in (case_of recording.now account.now made) facts) }
 {
     let stays = account.stays.as_slice();
@@ -122,7 +125,9 @@ fn extra_causes(
     why: &Option<NotDue<'_>>,
     facts: Facts,
 ) -> Result<Vec<Cause>, AllocError>
-    ensures { IfOk result (λ found. found.items ≡ extra_causes logs.now pid.now turns.now at_break due.now (option_map reason_of why.now) facts) }
+    ensures { IfOk result (λ found. found.items
+        ≡ extra_causes logs.now pid.now turns.now at_break due.now
+        (option_map reason_of why.now) facts) }
 {
     let behind = node_behind(logs, turns, facts);
     let left = late_leave(logs, pid, turns, facts.parted.position, why);
@@ -146,7 +151,8 @@ fn extra_of(
     position: u64,
 ) -> Result<Vec<Cause>, AllocError>
     requires { IsMade recording.now account.now.cert.pid account.now.cert }
-    ensures { IfOk result (λ found. (made : IsMade recording.now account.now.cert.pid account.now.cert)
+    ensures { IfOk result (λ found.
+        (made : IsMade recording.now account.now.cert.pid account.now.cert)
         → found.items ≡ extra_in (case_of recording.now account.now made) facts position) }
 {
     let stays = account.stays.as_slice();
@@ -165,8 +171,8 @@ fn extra_of(
     )
 }
 
-/// Where the client asked in the later stay to go on after an entry that was not due to the session, and stands before the
-/// one in question.
+/// Where the client asked in the later stay to go on after an entry that was not due to the session, and stands before
+/// the one in question.
 fn other_session_before(due: &[u64], facts: Facts) -> Option<Cause>
     ensures { result ≡ other_session_before due.now facts }
 {

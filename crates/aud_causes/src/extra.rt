@@ -82,7 +82,8 @@ pub(crate) fn first_left(
     reach: Reach,
     rooms: &[Text],
 ) -> Option<RecordPlace>
-    ensures { result ≡ first_left logs.now pid.now (map (turn_at logs.now) turns.now) reach rooms.now }
+    ensures { result ≡ first_left logs.now pid.now
+        (map (turn_at logs.now) turns.now) reach rooms.now }
 {
     for room in rooms {
         if let Some(place) = left_before(logs, pid, turns, reach, room.as_str()) {
@@ -100,7 +101,8 @@ fn left_before(
     reach: Reach,
     room: &str,
 ) -> Option<RecordPlace>
-    ensures { result ≡ left_before logs.now pid.now (map (turn_at logs.now) turns.now) reach room.now }
+    ensures { result ≡ left_before logs.now pid.now
+        (map (turn_at logs.now) turns.now) reach room.now }
 {
     let change = last_change_of(logs, pid, turns, reach, room)?;
     if change.joined {
@@ -130,7 +132,8 @@ pub(crate) fn late_leave(
     position: u64,
     why: &Option<NotDue<'_>>,
 ) -> Option<Cause>
-    ensures { result ≡ late_leave logs.now pid.now (map (turn_at logs.now) turns.now) position (option_map reason_of why.now) }
+    ensures { result ≡ late_leave logs.now pid.now (map (turn_at logs.now) turns.now) position
+        (option_map reason_of why.now) }
 {
     if !matches!(why, Some(NotDue::NoCommonRoom)) {
         return None;
@@ -149,8 +152,8 @@ fn reached_at(logs: &Logs<'_>, turns: &[Turn<'_>], position: u64) -> Option<Reac
     first_reach(logs, turns, position)
 }
 
-/// Where the entry was not addressed to the session when the session reached it, and came in no replay; none where there is a
-/// cause that tells how that came to be.
+/// Where the entry was not addressed to the session when the session reached it, and came in no replay; none where
+/// there is a cause that tells how that came to be.
 pub(crate) fn extra_live(
     told: Option<Cause>,
     why: &Option<NotDue<'_>>,

@@ -9,9 +9,9 @@ use aud_client::{Asked, Stay};
 use aud_evidence::Difference;
 use aud_node::Stream;
 
-/// The entry at which what was received parts from what was due, and two frames: of an entry that came twice both; of one
-/// that came late the one in its place, and its own; of one that was lost the one in its place; of one that was not due the
-/// first of all, and its own. Frames count from 0 over all that was received of the session.
+/// The entry at which what was received parts from what was due, and two frames: of an entry that came twice both; of
+/// one that came late the one in its place, and its own; of one that was lost the one in its place; of one that was not
+/// due the first of all, and its own. Frames count from 0 over all that was received of the session.
 #[derive(Clone, Copy, Debug, PartialEq, Eq, Drop)]
 pub struct Parted {
     pub position: u64,
@@ -19,7 +19,8 @@ pub struct Parted {
     pub again: usize,
 }
 
-/// The entries that a node had to send again: those after this position, up to its cursor where it took the session back.
+/// The entries that a node had to send again: those after this position, up to its cursor where it took the session
+/// back.
 #[derive(Clone, Copy, Debug, PartialEq, Eq, Drop)]
 pub struct Replay {
     pub after: u64,
@@ -97,8 +98,8 @@ fn parted_at(difference: Difference) -> Parted
     }
 }
 
-/// The number of the stay that the later one is held against: that of the first frame; the session's first of an entry that was
-/// not due.
+/// The number of the stay that the later one is held against: that of the first frame; the session's first of an entry
+/// that was not due.
 fn earlier_stay(stays: &[&Stay<'_>], difference: Difference) -> usize
     ensures { result ≡ earlier_stay (map (λ stay. stay.now) stays.now) difference }
 {
@@ -150,7 +151,8 @@ fn is_recovery(stays: &[&Stay<'_>], number: usize) -> bool
 
 /// The position after which the client asked to go on in the stay with this number, if that is a recovery.
 pub(crate) fn asked_after(stream: &Stream<'_>, stays: &[&Stay<'_>], number: usize) -> Option<u64>
-    ensures { result ≡ asked_after stream.now (slice_get (map (λ stay. stay.now) stays.now) number) }
+    ensures { result ≡ asked_after stream.now
+        (slice_get (map (λ stay. stay.now) stays.now) number) }
 {
     asked_in(stream, stay_at(stays, number)?)
 }
@@ -172,8 +174,8 @@ fn asked_position(stream: &Stream<'_>, asked: &Asked) -> Option<u64>
     stream.position(asked.offset.as_ref()?.as_str())
 }
 
-/// The cursor of the node at the begin of the turn of the stay with this number. The turn is known where there are as many
-/// stays as turns.
+/// The cursor of the node at the begin of the turn of the stay with this number. The turn is known where there are as
+/// many stays as turns.
 fn low_of_turn(turns: &[Turn<'_>], stays: usize, number: usize) -> Option<u64>
     ensures { result ≡ low_of_turn turns.now stays number }
 {

@@ -38,7 +38,8 @@ pub(crate) fn shown_causes(
 ) -> Result<Vec<CauseFound>, AllocError>
     requires { IfSome (option_copied tap) (AreOf sheet.now.recording.now) }
     ensures { IfOk result (λ causes. map cause_seen causes.items
-        ≡ shown_causes sheet.now.recording.now sheet.now.lines.now (place_of (option_copied tap.entry)) numbers.now found.now) }
+        ≡ shown_causes sheet.now.recording.now sheet.now.lines.now
+        (place_of (option_copied tap.entry)) numbers.now found.now) }
 {
     let sure = found.len() == 1;
     let mut causes = Vec::new(alloc);
@@ -58,7 +59,8 @@ fn shown_cause(
 ) -> Result<CauseFound, AllocError>
     requires { IfSome (option_copied tap) (AreOf sheet.now.recording.now) }
     ensures { IfOk result (λ shown. cause_seen shown
-        ≡ shown_cause sheet.now.recording.now sheet.now.lines.now (place_of (option_copied tap.entry)) numbers.now sure cause) }
+        ≡ shown_cause sheet.now.recording.now sheet.now.lines.now
+        (place_of (option_copied tap.entry)) numbers.now sure cause) }
 {
     let mut records = Vec::new(alloc);
     push_records(&mut records, cause)?;

@@ -22,8 +22,8 @@ use aud_node::Stream;
 use aud_recoveries::opened_in;
 use std::alloc::{AllocError, Global};
 
-/// The causes of such a fault. The account is the session's; where its client's tap has events of which nobody knows the
-/// session, they stand in the stay with this number.
+/// The causes of such a fault. The account is the session's; where its client's tap has events of which nobody knows
+/// the session, they stand in the stay with this number.
 pub(crate) fn judged_causes(
     alloc: Global,
     recording: &Recording<'_>,
@@ -32,9 +32,12 @@ pub(crate) fn judged_causes(
     orphan: Option<usize>,
 ) -> Result<Vec<Cause>, AllocError>
     requires { IsMade recording.now account.now.cert.pid account.now.cert }
-    ensures { IfOk result (λ found. (made : IsMade recording.now account.now.cert.pid account.now.cert)
-        → IsAccount recording.now account.now.cert.pid account.now.client (map (λ stay. stay.now) account.now.stays.items) account.now.due.items
-        → AreJudgedCauses (case_of recording.now account.now made) account.now.client orphan fault.now found.items) }
+    ensures { IfOk result (λ found.
+        (made : IsMade recording.now account.now.cert.pid account.now.cert)
+        → IsAccount recording.now account.now.cert.pid account.now.client
+        (map (λ stay. stay.now) account.now.stays.items) account.now.due.items
+        → AreJudgedCauses
+        (case_of recording.now account.now made) account.now.client orphan fault.now found.items) }
 {
     match fault {
         Fault::Names => names_of(alloc, account),
@@ -57,8 +60,10 @@ fn delivery_of(
     account: &Account<'_, '_>,
 ) -> Result<Vec<Cause>, AllocError>
     requires { IsMade recording.now account.now.cert.pid account.now.cert }
-    ensures { IfOk result (λ found. (made : IsMade recording.now account.now.cert.pid account.now.cert)
-        → IsAccount recording.now account.now.cert.pid account.now.client (map (λ stay. stay.now) account.now.stays.items) account.now.due.items
+    ensures { IfOk result (λ found.
+        (made : IsMade recording.now account.now.cert.pid account.now.cert)
+        → IsAccount recording.now account.now.cert.pid account.now.client
+        (map (λ stay. stay.now) account.now.stays.items) account.now.due.items
         → AreDifferenceCauses (case_of recording.now account.now made) found.items) }
 {
     match difference_in(alloc, account)? {
@@ -73,7 +78,8 @@ fn content_of(
     recording: &Recording<'_>,
     account: &Account<'_, '_>,
 ) -> Result<Vec<Cause>, AllocError>
-    ensures { IfOk result (λ found. AreAlteredCauses recording.now.stream (map (λ stay. stay.now) account.now.stays.items) found.items) }
+    ensures { IfOk result (λ found. AreAlteredCauses recording.now.stream
+        (map (λ stay. stay.now) account.now.stays.items) found.items) }
 {
     altered_causes(alloc, recording.logs().stream(), account.stays.as_slice())
 }
@@ -84,7 +90,8 @@ fn altered_causes(
     stream: &Stream<'_>,
     stays: &[&Stay<'_>],
 ) -> Result<Vec<Cause>, AllocError>
-    ensures { IfOk result (λ found. AreAlteredCauses stream.now (map (λ stay. stay.now) stays.now) found.items) }
+    ensures { IfOk result (λ found. AreAlteredCauses stream.now
+        (map (λ stay. stay.now) stays.now) found.items) }
 {
     let frames = frames_in(alloc, stays)?;
     match first_altered(stream, frames.as_slice()) {
@@ -105,8 +112,10 @@ fn window_of(
     recording: &Recording<'_>,
     account: &Account<'_, '_>,
 ) -> Result<Vec<Cause>, AllocError>
-    ensures { IfOk result (λ found. IsAscending (positions_received (map (λ stay. stay.now) account.now.stays.items))
-        → AreWindowCauses recording.now.stream (map (λ stay. stay.now) account.now.stays.items) account.now.due.items found.items) }
+    ensures { IfOk result (λ found. IsAscending
+        (positions_received (map (λ stay. stay.now) account.now.stays.items))
+        → AreWindowCauses recording.now.stream
+        (map (λ stay. stay.now) account.now.stays.items) account.now.due.items found.items) }
 {
     first_window_causes(
         alloc,
@@ -123,7 +132,8 @@ fn first_window_causes(
     stays: &[&Stay<'_>],
     due: &[u64],
 ) -> Result<Vec<Cause>, AllocError>
-    ensures { IfOk result (λ found. IsAscending (positions_received (map (λ stay. stay.now) stays.now))
+    ensures { IfOk result (λ found. IsAscending
+        (positions_received (map (λ stay. stay.now) stays.now))
         → AreWindowCauses stream.now (map (λ stay. stay.now) stays.now) due.now found.items) }
 {
     let positions = positions_received(alloc, stays)?;
@@ -135,7 +145,8 @@ fn first_window_causes(
 
 /// What differs between the session's `open` and the first reply that names it otherwise.
 fn names_of(alloc: Global, account: &Account<'_, '_>) -> Result<Vec<Cause>, AllocError>
-    ensures { IfOk result (λ found. found.items ≡ names_causes account.now.cert.turns (map (λ stay. stay.now) account.now.stays.items)) }
+    ensures { IfOk result (λ found. found.items
+        ≡ names_causes account.now.cert.turns (map (λ stay. stay.now) account.now.stays.items)) }
 {
     names_causes(
         alloc,
@@ -150,7 +161,8 @@ fn names_causes(
     turns: &[Turn<'_>],
     stays: &[&Stay<'_>],
 ) -> Result<Vec<Cause>, AllocError>
-    ensures { IfOk result (λ found. found.items ≡ names_causes turns.now (map (λ stay. stay.now) stays.now)) }
+    ensures { IfOk result (λ found. found.items
+        ≡ names_causes turns.now (map (λ stay. stay.now) stays.now)) }
 {
     match opened_in(turns) {
         Some(opened) => other_causes(alloc, stays, opened.sid, opened.nsp),
@@ -165,7 +177,8 @@ fn other_causes(
     sid: &str,
     nsp: &str,
 ) -> Result<Vec<Cause>, AllocError>
-    ensures { IfOk result (λ found. found.items ≡ other_causes sid.now nsp.now (map (λ stay. stay.now) stays.now)) }
+    ensures { IfOk result (λ found. found.items
+        ≡ other_causes sid.now nsp.now (map (λ stay. stay.now) stays.now)) }
 {
     let Some(number) = first_other(stays, sid, nsp) else {
         return Ok(Vec::new(alloc));

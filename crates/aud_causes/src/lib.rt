@@ -1,8 +1,10 @@
-//! What a fault may come from: of the causes that such a fault can have those that hold over the records of the session,
-//! in a fixed order; a cause is sure exactly where it is the only one. The same of a recovery that was refused.
+//! What a fault may come from: of the causes that such a fault can have those that hold over the records of the
+//! session, in a fixed order; a cause is sure exactly where it is the only one. The same of a recovery that was
+//! refused.
 //!
-//! With the `sheet` of a recording in which the client of session `P` got entry 2 again from node `b`, which took the session
-//! back with its cursor at 1, where node `a` had broken at 4, in the lines 17 and 13; `tap` is that of the client:
+//! With the `sheet` of a recording in which the client of session `P` got entry 2 again from node `b`, which took the
+//! session back with its cursor at 1, where node `a` had broken at 4, in the lines 17 and 13; `tap` is that of the
+//! client:
 //!
 //! ```
 //! use aud_causes::{Noted, causes_of};
@@ -27,7 +29,6 @@ mod delivery;
 mod extra;
 mod facts;
 mod found;
-mod held;
 mod judged;
 mod lines;
 mod list;

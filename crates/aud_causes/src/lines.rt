@@ -22,7 +22,9 @@ pub(crate) fn lines_at(
     records: &[RecordAt],
 ) -> Result<Vec<u64>, AllocError>
     requires { IfSome (option_copied tap) (AreOf sheet.now.recording.now) }
-    ensures { IfOk result (λ found. found.items ≡ lines_at sheet.now.recording.now sheet.now.lines.now (place_of (option_copied tap.entry)) numbers.now records.now) }
+    ensures { IfOk result (λ found. found.items
+        ≡ lines_at sheet.now.recording.now sheet.now.lines.now
+        (place_of (option_copied tap.entry)) numbers.now records.now) }
 {
     let mut found = Vec::new(alloc);
     for record in records {
@@ -40,8 +42,8 @@ fn push_line(found: &mut Vec<u64>, line: Option<u64>) -> Result<(), AllocError>
     Ok(())
 }
 
-/// The line of this record, if it is known. Those of clients are looked for in this tap, where these are the numbers of the
-/// session's stays.
+/// The line of this record, if it is known. Those of clients are looked for in this tap, where these are the numbers of
+/// the session's stays.
 fn line_at(
     sheet: &Sheet<'_, '_>,
     tap: Option<&ClientPlaces>,
@@ -49,7 +51,8 @@ fn line_at(
     at: RecordAt,
 ) -> Option<u64>
     requires { IfSome (option_copied tap) (AreOf sheet.now.recording.now) }
-    ensures { result ≡ line_at sheet.now.recording.now sheet.now.lines.now (place_of (option_copied tap.entry)) numbers.now at }
+    ensures { result ≡ line_at sheet.now.recording.now sheet.now.lines.now
+        (place_of (option_copied tap.entry)) numbers.now at }
 {
     match tap {
         Some(tap) => line_of(client_row(sheet, tap, numbers, at)),
@@ -65,7 +68,8 @@ fn line_of(row: Option<Row<'_>>) -> Option<u64>
 
 /// The row of a node's record.
 fn node_row_of<'r>(sheet: &Sheet<'r, '_>, at: RecordAt) -> Option<Row<'r>>
-    ensures { option_map row_seen result ≡ node_row_of sheet.now.recording.now sheet.now.lines.now at }
+    ensures { option_map row_seen result
+        ≡ node_row_of sheet.now.recording.now sheet.now.lines.now at }
 {
     match at {
         RecordAt::Node(place) => sheet.node_row(place.node, place.number, Role::Fault),
@@ -81,7 +85,8 @@ fn client_row<'r>(
     at: RecordAt,
 ) -> Option<Row<'r>>
     requires { AreOf sheet.now.recording.now tap.now }
-    ensures { option_map row_seen result ≡ client_row sheet.now.recording.now sheet.now.lines.now tap.now.place numbers.now at }
+    ensures { option_map row_seen result
+        ≡ client_row sheet.now.recording.now sheet.now.lines.now tap.now.place numbers.now at }
 {
     match at {
         RecordAt::Node(place) => sheet.node_row(place.node, place.number, Role::Fault),

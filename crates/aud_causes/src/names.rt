@@ -21,7 +21,8 @@ pub(crate) fn client_cause(recording: &Recording<'_>, pid: &str) -> Option<Cause
     }
 }
 
-/// What differs between this stay, whose reply names the session, and the session's `open`, which has this sid and namespace.
+/// What differs between this stay, whose reply names the session, and the session's `open`, which has this sid and
+/// namespace.
 pub(crate) fn named_causes(
     alloc: Global,
     number: usize,

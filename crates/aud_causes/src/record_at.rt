@@ -6,7 +6,8 @@ use crate::cause::Cause;
 use aud_chain::RecordPlace;
 use std::alloc::AllocError;
 
-/// A record of the bundle: of a node, or of the session's client. Stays and frames are those of the session, but for `First`.
+/// A record of the bundle: of a node, or of the session's client. Stays and frames are those of the session, but for
+/// `First`.
 #[derive(Clone, Copy, Debug, PartialEq, Eq, Drop)]
 pub enum RecordAt {
     Node(RecordPlace),

@@ -12,8 +12,8 @@ use aud_client::{Recording, Stay};
 use aud_node::Logs;
 use std::alloc::{AllocError, Global};
 
-/// The causes of such a fault of the session with this pid, whose one client's tap is at this place, if it has one, where this
-/// record of a node is out of order, if one is.
+/// The causes of such a fault of the session with this pid, whose one client's tap is at this place, if it has one,
+/// where this record of a node is out of order, if one is.
 pub(crate) fn recorded_causes(
     alloc: Global,
     recording: &Recording<'_>,
@@ -22,7 +22,8 @@ pub(crate) fn recorded_causes(
     fault: &Fault,
     unordered: Option<RecordPlace>,
 ) -> Result<Vec<Cause>, AllocError>
-    ensures { IfOk result (λ found. AreRecordedCauses recording.now client pid.now unordered fault.now found.items) }
+    ensures { IfOk result (λ found.
+        AreRecordedCauses recording.now client pid.now unordered fault.now found.items) }
 {
     match fault {
         Fault::NoLog => one_cause(alloc, Some(Cause::NodeNotTapped { turn: 0 })),
@@ -66,7 +67,8 @@ fn stays_of_client<'r, 'a>(
     client: Option<usize>,
     pid: &str,
 ) -> Result<Vec<&'r Stay<'a>>, AllocError>
-    ensures { IfOk result (λ stays. map (λ stay. stay.now) stays.items ≡ stays_of_client recording.now client pid.now) }
+    ensures { IfOk result (λ stays. map (λ stay. stay.now) stays.items
+        ≡ stays_of_client recording.now client pid.now) }
 {
     let Some(client) = client else {
         return Ok(Vec::new(alloc));

@@ -15,9 +15,9 @@ use aud_recoveries::{Recovery, stay_of};
 use aud_rows::{ClientPlaces, Sheet};
 use std::alloc::{AllocError, Global};
 
-/// What the refusal of this recovery may come from: of the causes that it can have those that hold, in a fixed order. One is
-/// sure exactly where it is the only one. `tap` is that of the client. It costs the records that begin and end the turns of two
-/// sessions: of the one that was asked for, and of the one that the client got.
+/// What the refusal of this recovery may come from: of the causes that it can have those that hold, in a fixed order.
+/// One is sure exactly where it is the only one. `tap` is that of the client. It costs the records that begin and end
+/// the turns of two sessions: of the one that was asked for, and of the one that the client got.
 pub fn causes_of_refusal<'r>(
     alloc: Global,
     sheet: &Sheet<'r, '_>,
@@ -26,8 +26,9 @@ pub fn causes_of_refusal<'r>(
 ) -> Result<Vec<CauseFound>, AllocError>
     requires { AreOf sheet.now.recording.now tap.now }
     ensures { IfOk result (λ causes. map cause_seen causes.items
-        ≡ shown_causes sheet.now.recording.now sheet.now.lines.now (Some tap.now.place) (recovery.now.stay ∷ [])
-        (refusal_causes sheet.now.recording.now (slice_get (stays_at sheet.now.recording.now recovery.now.client) recovery.now.stay))) }
+        ≡ shown_causes sheet.now.recording.now sheet.now.lines.now (Some tap.now.place)
+        (recovery.now.stay ∷ []) (refusal_causes sheet.now.recording.now
+        (slice_get (stays_at sheet.now.recording.now recovery.now.client) recovery.now.stay))) }
 {
     let Some(stay) = stay_of(sheet.recording, recovery) else {
         return Ok(Vec::new(alloc));
@@ -83,7 +84,8 @@ fn refused_causes(
     marks: &[TurnMark],
     opening: &[TurnMark],
 ) -> Result<Vec<Cause>, AllocError>
-    ensures { IfOk result (λ found. found.items ≡ refused_causes logs.now offset marks.now opening.now) }
+    ensures { IfOk result (λ found. found.items
+        ≡ refused_causes logs.now offset marks.now opening.now) }
 {
     let mut found = Vec::new(alloc);
     push_cause(&mut found, offset)?;

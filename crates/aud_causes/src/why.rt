@@ -311,7 +311,8 @@ fn sentence(alloc: Global, pieces: &[Piece<'_>]) -> Result<String, AllocError>
 }
 
 fn push_piece(text: &mut String, piece: Piece<'_>) -> Result<(), AllocError>
-    ensures { OnOk result (string_bytes text.new ≡ string_bytes text.old ++ piece_text (piece_seen piece.entry)) }
+    ensures { OnOk result (string_bytes text.new
+        ≡ string_bytes text.old ++ piece_text (piece_seen piece.entry)) }
 {
     match piece {
         Piece::Words(words) => text.push_str(words),

@@ -11,8 +11,8 @@ use aud_evidence::{BadWindow, Misfit};
 use aud_node::Stream;
 use std::alloc::{AllocError, Global};
 
-/// The causes of a recovery that was asked for where it doesn't fit, where these are the session's stays, and these positions
-/// were due to it.
+/// The causes of a recovery that was asked for where it doesn't fit, where these are the session's stays, and these
+/// positions were due to it.
 pub(crate) fn window_causes(
     alloc: Global,
     stream: &Stream<'_>,
@@ -20,7 +20,8 @@ pub(crate) fn window_causes(
     due: &[u64],
     window: BadWindow,
 ) -> Result<Vec<Cause>, AllocError>
-    ensures { IfOk result (λ found. found.items ≡ window_causes stream.now (map (λ stay. stay.now) stays.now) due.now window) }
+    ensures { IfOk result (λ found. found.items
+        ≡ window_causes stream.now (map (λ stay. stay.now) stays.now) due.now window) }
 {
     let asked = asked_after(stream, stays, window.stay);
     let mut found = Vec::new(alloc);

@@ -3,3 +3,11 @@ pub use Rattle.aud_rooms.specs.Turns
 pub use Rattle.aud_node.specs.Cluster
 pub mod Certificate
 pub mod Fault
+pub mod TextFault
+pub mod Text
+pub mod Steps
+pub mod Parsed
+pub mod Reading
+pub mod Sound
+pub mod Class
+pub mod FaultWord

@@ -3,8 +3,8 @@ use aud_node::Recs;
 use aud_rooms::Span;
 use std::marker::Model;
 
-/// A session's turn on a node: consecutive records of the node's log, lent, and the node's cursor after the first and
-/// after the last of them.
+/// A session's turn on a node: consecutive records of the node's log, borrowed, and the node's cursor after the first
+/// and after the last of them.
 #[derive(Drop)]
 pub struct Turn<'a> {
     /// The name of the node's tap.
@@ -17,7 +17,7 @@ pub struct Turn<'a> {
     pub low: u64,
     /// The last position that the node had taken after the last record.
     pub high: u64,
-    /// The records, lent for as long as the logs.
+    /// The records, borrowed for as long as the logs.
     pub recs: Recs<'a>,
 }
 

@@ -15,7 +15,7 @@ use Rattle.aud_rooms.specs.Turns.{Who, Turn, beginning, HasNoTurn, IsTurn, IsCha
 use Rattle.aud_rooms.proofs.Turns.{Stands, stands, begins_there, beginning-begins}
 use Rattle.aud_maker.specs.Chain.{HasNoChain}
 use Rattle.aud_maker.specs.Begun.{turn_begun, AreBegun}
-use Rattle.aud_maker.specs.Private.Ended.{end_by, may_end, is_ended, are_ended}
+use Rattle.aud_maker.specs.Ended.{end_by, may_end, is_ended, are_ended}
 use Rattle.aud_maker.proofs.Turns.{first_there, found, turn-to}
 use Rattle.aud_maker.proofs.BegunLemmas.{IsIndexed, chain-begun}
 use Rattle.aud_maker.proofs.EndedLemmas.{turns-ended}

@@ -15,9 +15,9 @@ use Rattle.aud_node.specs.TurnRecords.{begins_turn, ends_any_turn, turn_range}
 use Rattle.aud_base.proofs.SameText.{same_text, itself_text}
 use Rattle.aud_rooms.specs.Turns.{Turn, Who, HasNoTurn, IsChain}
 use Rattle.aud_maker.specs.Begun.{turn_begun, AreAllBegun}
-use Rattle.aud_maker.specs.Private.Ended.{end_by, may_end, is_ended, are_ended}
+use Rattle.aud_maker.specs.Ended.{end_by, may_end, is_ended, are_ended}
 use Rattle.aud_maker.specs.InTurn.{is_swept}
-use Rattle.aud_maker.specs.Private.Opening.{names_opened, opening_of}
+use Rattle.aud_maker.specs.Opening.{names_opened, opening_of}
 use Rattle.aud_maker.proofs.BegunLemmas.{IsIndexed, begun-is, own_number, own_place}
 use Rattle.aud_maker.proofs.FirstFault.{is_chain}
 use Rattle.std.specs.List.{list_all, list_any}

@@ -17,8 +17,8 @@ use aud_node::Logs;
 use aud_rooms::TurnPlace;
 use aud_tap::NodeRec;
 
-/// A record of the session that does not stand in the turn that goes on there, by its number; and that turn, where there
-/// is one.
+/// A record of the session that does not stand in the turn that goes on there, by its number; and that turn, where
+/// there is one.
 #[derive(Clone, Copy)]
 pub(crate) struct Astray {
     pub number: usize,
@@ -34,7 +34,8 @@ pub(crate) fn first_astray(
     turns: &[TurnPlace],
 ) -> Option<Misfit>
     requires { AreAllBegun logs.now pid.now turns.now }
-    ensures { MatchOption result (list_all (is_swept logs.now turns.now pid.now) nodes.now ≡ true) (IsMisfit logs.now pid.now) }
+    ensures { MatchOption result (list_all (is_swept logs.now turns.now pid.now) nodes.now ≡ true)
+        (IsMisfit logs.now pid.now) }
 {
     for node in nodes {
         if let Some(misfit) = misfit_on(logs, *node, pid, turns) {
@@ -47,7 +48,8 @@ pub(crate) fn first_astray(
 /// The same for one node.
 fn misfit_on(logs: &Logs<'_>, node: usize, pid: &str, turns: &[TurnPlace]) -> Option<Misfit>
     requires { AreAllBegun logs.now pid.now turns.now }
-    ensures { MatchOption result (is_swept logs.now turns.now pid.now node ≡ true) (IsMisfit logs.now pid.now) }
+    ensures { MatchOption result (is_swept logs.now turns.now pid.now node ≡ true)
+        (IsMisfit logs.now pid.now) }
 {
     match astray_on(logs, node, pid, turns) {
         Some(astray) => Some(misfit_of(logs, node, pid, turns, astray)),
@@ -57,7 +59,8 @@ fn misfit_on(logs: &Logs<'_>, node: usize, pid: &str, turns: &[TurnPlace]) -> Op
 
 /// The first record of the session on this node that doesn't stand in the turn that goes on there.
 fn astray_on(logs: &Logs<'_>, node: usize, pid: &str, turns: &[TurnPlace]) -> Option<Astray>
-    ensures { result ≡ astray_from (node_log logs.now node) turns.now node (own_numbers (node_log logs.now node) pid.now) None }
+    ensures { result ≡ astray_from (node_log logs.now node) turns.now node
+        (own_numbers (node_log logs.now node) pid.now) None }
 {
     let Some(log) = logs.node(node) else {
         return None;
@@ -88,7 +91,8 @@ fn begun_by(rec: Option<&NodeRec>) -> Option<u16>
 /// What does not fit at a record that stands astray.
 fn misfit_of(logs: &Logs<'_>, node: usize, pid: &str, turns: &[TurnPlace], astray: Astray) -> Misfit
     requires begun { AreAllBegun logs.now pid.now turns.now }
-    requires out { astray_from (node_log logs.now node) turns.now node (own_numbers (node_log logs.now node) pid.now) None ≡ Some astray }
+    requires out { astray_from (node_log logs.now node) turns.now node
+        (own_numbers (node_log logs.now node) pid.now) None ≡ Some astray }
     ensures { IsMisfit logs.now pid.now result }
 {
     let here = RecordPlace {

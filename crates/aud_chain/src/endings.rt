@@ -4,7 +4,7 @@ ghost use Rattle.std.specs.Option.{option_copied};
 ghost use Rattle.aud_node.specs.Cluster.{node_log};
 ghost use Rattle.aud_node.specs.OwnPlaces.{own_places};
 ghost use Rattle.aud_maker.specs.Begun.{turn_begun, AreAllBegun};
-ghost use Rattle.aud_maker.specs.Private.Ended.{is_ended, are_ended};
+ghost use Rattle.aud_maker.specs.Ended.{is_ended, are_ended};
 ghost use Rattle.aud_chain.specs.Misfit.{IsMisfit};
 ghost use Rattle.aud_chain.specs.Places.{Breaks, HasNoBreak};
 ghost use Rattle.aud_chain.specs.Private.Unended.{IsOpenEnd, IsNext, HasNoBreakOn, is_break_at};
@@ -25,7 +25,8 @@ pub(crate) fn first_unended(
 ) -> Option<Misfit>
     requires nodes { nodes.now ≡ own_places logs.now pid.now }
     requires begun { AreAllBegun logs.now pid.now turns.now }
-    ensures { MatchOption result (are_ended logs.now pid.now 0 turns.now ≡ true) (IsMisfit logs.now pid.now) }
+    ensures { MatchOption result (are_ended logs.now pid.now 0 turns.now ≡ true)
+        (IsMisfit logs.now pid.now) }
 {
     for (number, turn) in turns.iter().enumerate() {
         if let Some(misfit) = misfit_at_end(logs, nodes, pid, number, turn, turns.get(number + 1)) {
@@ -45,9 +46,12 @@ fn misfit_at_end(
     next: Option<&TurnPlace>,
 ) -> Option<Misfit>
     requires nodes { nodes.now ≡ own_places logs.now pid.now }
-    requires begun { turn_begun logs.now (own_places logs.now pid.now) pid.now number ≡ Some turn.now }
+    requires begun { turn_begun logs.now (own_places logs.now pid.now) pid.now number
+        ≡ Some turn.now }
     requires next { IsNext logs.now pid.now number (option_copied next) }
-    ensures { MatchOption result (is_ended logs.now pid.now number turn.now (is_none (option_copied next.entry)) ≡ true) (IsMisfit logs.now pid.now) }
+    ensures { MatchOption result
+        (is_ended logs.now pid.now number turn.now (is_none (option_copied next.entry)) ≡ true)
+        (IsMisfit logs.now pid.now) }
 {
     let last = RecordPlace {
         node: turn.node,
@@ -92,7 +96,9 @@ fn misfit_without_end(
     requires nodes { nodes.now ≡ own_places logs.now pid.now }
     requires lasting { IsOpenEnd logs.now pid.now number turn.now }
     requires next { IsNext logs.now pid.now number (option_copied next) }
-    ensures { MatchOption result (is_ended logs.now pid.now number turn.now (is_none (option_copied next.entry)) ≡ true) (IsMisfit logs.now pid.now) }
+    ensures { MatchOption result
+        (is_ended logs.now pid.now number turn.now (is_none (option_copied next.entry)) ≡ true)
+        (IsMisfit logs.now pid.now) }
 {
     match next {
         Some(next) => Some(unbroken(logs, nodes, pid, number, turn, next)),
@@ -103,7 +109,8 @@ fn misfit_without_end(
 /// What does not fit where the last turn goes on to this end: another begins there, unless the log ends.
 fn inside(logs: &Logs<'_>, pid: &str, number: usize, turn: &TurnPlace) -> Option<Misfit>
     requires { IsOpenEnd logs.now pid.now number turn.now }
-    ensures { MatchOption result (turn.now.to ≡ length (node_log logs.now turn.now.node)) (IsMisfit logs.now pid.now) }
+    ensures { MatchOption result (turn.now.to ≡ length (node_log logs.now turn.now.node))
+        (IsMisfit logs.now pid.now) }
 {
     let place = RecordPlace {
         node: turn.node,
@@ -129,7 +136,8 @@ fn unbroken(
 ) -> Misfit
     requires nodes { nodes.now ≡ own_places logs.now pid.now }
     requires lasting { IsOpenEnd logs.now pid.now number turn.now }
-    requires next { turn_begun logs.now (own_places logs.now pid.now) pid.now (suc number) ≡ Some next.now }
+    requires next { turn_begun logs.now (own_places logs.now pid.now) pid.now (suc number)
+        ≡ Some next.now }
     ensures { IsMisfit logs.now pid.now result }
 {
     let begin = first_of(turn);
@@ -152,7 +160,8 @@ fn unbroken(
 /// The first `break` of the session's turn `number`, node after node.
 fn break_of(logs: &Logs<'_>, nodes: &[usize], pid: &str, number: usize) -> Option<RecordPlace>
     requires { nodes.now ≡ own_places logs.now pid.now }
-    ensures { MatchOption result (HasNoBreak logs.now pid.now number) (Breaks logs.now pid.now number) }
+    ensures { MatchOption result (HasNoBreak logs.now pid.now number)
+        (Breaks logs.now pid.now number) }
 {
     for node in nodes {
         if let Some(place) = break_on(logs, *node, pid, number) {
@@ -164,7 +173,8 @@ fn break_of(logs: &Logs<'_>, nodes: &[usize], pid: &str, number: usize) -> Optio
 
 /// The first on one node.
 fn break_on(logs: &Logs<'_>, node: usize, pid: &str, number: usize) -> Option<RecordPlace>
-    ensures { MatchOption result (HasNoBreakOn logs.now node pid.now number) (Breaks logs.now pid.now number) }
+    ensures { MatchOption result (HasNoBreakOn logs.now node pid.now number)
+        (Breaks logs.now pid.now number) }
 {
     let Some(log) = logs.node(node) else {
         return None;

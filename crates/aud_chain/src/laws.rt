@@ -7,5 +7,6 @@ ghost use Rattle.aud_chain.specs.Misfit.{IsMisfit};
 
 /// Where something does not fit, the session's records are no chain of turns: it has the fault `CHAIN`, or `NOLOG`.
 pub fn misfit_breaks_the_chain()
-    ensures { (c : Cluster) (pid : Text) (misfit : Misfit) → IsMisfit c pid misfit → HasNoChain c pid }
+    ensures { (c : Cluster) (pid : Text) (misfit : Misfit) → IsMisfit c pid misfit
+        → HasNoChain c pid }
 {}

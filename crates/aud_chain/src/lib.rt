@@ -1,5 +1,5 @@
-//! What shows the fault `CHAIN`: the records of a session that begin or end its turns on any node, and what does not fit
-//! in them.
+//! What shows the fault `CHAIN`: the records of a session that begin or end its turns on any node, and what does not
+//! fit in them.
 //!
 //! With the `logs` of two nodes, where `a` has the session's `open` and no `break`, and `b` its `back` of turn 1:
 //!

@@ -49,7 +49,8 @@ fn add_marks(
     pid: &str,
     marks: &mut Vec<TurnMark>,
 ) -> Result<(), AllocError>
-    ensures { IfOk result (λ _. marks.new.items ≡ marks.old.items ++ marks_on logs.now pid.now node) }
+    ensures { IfOk result (λ _. marks.new.items
+        ≡ marks.old.items ++ marks_on logs.now pid.now node) }
 {
     let Some(log) = logs.node(node) else {
         return Ok(());

@@ -70,7 +70,8 @@ pub enum Misfit {
 /// begins with the first record that begins it, in the order of the nodes; and turn after turn, an end that may not be
 /// there. It looks at the session's own records, and at no others.
 pub fn first_misfit(alloc: Global, logs: &Logs<'_>, pid: &str) -> Result<Option<Misfit>, AllocError>
-    ensures { IfOk result (λ found. MatchOption found (HasChain logs.now pid.now) (IsMisfit logs.now pid.now)) }
+    ensures { IfOk result (λ found. MatchOption found (HasChain logs.now pid.now)
+        (IsMisfit logs.now pid.now)) }
 {
     let nodes = logs.nodes_of(pid);
     let turns = begun_turns(alloc, logs, nodes, pid)?;

@@ -15,7 +15,7 @@ pub struct RecordPlace {
     pub number: usize,
 }
 
-/// The record at this place, lent; none where there is none.
+/// The record at this place, borrowed; none where there is none.
 pub(crate) fn record_at<'a>(logs: &Logs<'a>, place: RecordPlace) -> Option<&'a NodeRec>
     ensures { option_copied result ≡ record_at logs.now place }
 {

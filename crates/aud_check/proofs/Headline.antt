@@ -50,6 +50,6 @@ module _ (c : Cluster) (cert : CertificateSeen) where
       let same = law c run (who_of cert) (turns_of c cert) of_logs chain in
       no_mismatch (certificate_case c cert) ((mismatch-none (positions_in (certificate_case c cert)) (shown_due c cert)).1 (subst (IsPrefixOf (positions_in (certificate_case c cert))) same prefix)) f found
 
--- a mismatch is no want of memory
+-- a mismatch is no running out of memory
 pub first_of_all : (c : Cluster) (cert : CertificateSeen) (refusal : Refusal) → IsMismatch refusal → IsFirstRefusal c cert refusal → RefusesFirst c cert refusal
 first_of_all c cert refusal about is = grind arith

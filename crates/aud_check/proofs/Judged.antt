@@ -35,7 +35,7 @@ client_first c cert turns spans (Received f) (named, first) = first_fault c cert
 client_first c cert turns spans Memory h = tt
 client_first c cert turns spans _ h = absurd h
 
--- what is said of the parts of a certificate, lent, is so of the certificate
+-- what is said of the parts of a certificate, borrowed, is so of the certificate
 module _ (c : Cluster) (cert : CertificateSeen) {lent : Cluster} {who : Who} {turns : List TurnSeen} (logs_are : lent ≡ c) (who_is : who ≡ who_of cert) (turns_are : turns ≡ cert.turns) where
   -- whether its turns are accepted
   pub turns_same : AreTurnsAccepted lent who.pid turns ≡ AreTurnsAccepted c cert.pid cert.turns

@@ -38,10 +38,10 @@ pub struct Accepted {
 /// Accepts a certificate over this recording exactly where nothing refuses it: the turns are the session's, from its
 /// `open` on; the spans are those of the turns; the named client's tap tells of this session; and what the client
 /// received is what was due to it by these turns, up to the last event received. Else the first refusal is answered, in
-/// the order of [`Refusal`], or want of memory.
+/// the order of [`Refusal`], or running out of memory.
 ///
-/// Where the logs have no run, what is said of every run says nothing. It costs the session's own records and stays, and
-/// what is due to it.
+/// Where the logs have no run, what is said of every run says nothing. It costs the session's own records and stays,
+/// and what is due to it.
 pub fn check(
     alloc: Global,
     recording: &Recording<'_>,
@@ -52,7 +52,8 @@ pub fn check(
 
     // Exactly: nothing refuses what is accepted, and what is refused is refused by this first.
     ensures accepted { OnOk result (IsAccepted recording.now cert.now) }
-    ensures not_refused { OnOk result ((place : Place) (refusal : Refusal) → Refuses recording.now cert.now place refusal → ⊥) }
+    ensures not_refused { OnOk result ((place : Place) (refusal : Refusal)
+        → Refuses recording.now cert.now place refusal → ⊥) }
     ensures refused { IfErr result (IsFirstRefusal recording.now cert.now) }
 
     ensures got { IfOk result (λ a. a.got ≡ length (frames_received recording.now cert.now)) }
@@ -60,18 +61,23 @@ pub fn check(
     ensures turns { IfOk result (λ a. a.turns ≡ length cert.now.turns) }
 
     // The turns are the session's, from turn 0 on.
-    ensures are_turns { OnOk result (AreTurns recording.now (who_of cert.now) 0 (turns_of recording.now cert.now)) }
+    ensures are_turns { OnOk result (AreTurns recording.now (who_of cert.now) 0
+        (turns_of recording.now cert.now)) }
 
     // Delivery in every run.
     ensures in_every_run { OnOk result ((run : List Step) → IsRun recording.now run
-        → IsPrefixOf (positions_in (certificate_case recording.now cert.now)) (due recording.now run cert.now.pid)) }
-    ensures frames_are_entries { OnOk result (AreEntries recording.now.stream (frames_received recording.now cert.now)) }
-    ensures counts_in_every_run { IfOk result (λ a. IsChain recording.now (who_of cert.now) (turns_of recording.now cert.now)
-        → (run : List Step) → IsRun recording.now run → a.got + a.tail ≡ length (due recording.now run cert.now.pid)) }
+        → IsPrefixOf (positions_in (certificate_case recording.now cert.now))
+        (due recording.now run cert.now.pid)) }
+    ensures frames_are_entries { OnOk result (AreEntries recording.now.stream
+        (frames_received recording.now cert.now)) }
+    ensures counts_in_every_run { IfOk result (λ a. IsChain recording.now (who_of cert.now)
+        (turns_of recording.now cert.now) → (run : List Step) → IsRun recording.now run
+        → a.got + a.tail ≡ length (due recording.now run cert.now.pid)) }
     ensures in_no_run { IfErr result (λ refusal. IsMismatch refusal
         → IsChain recording.now (who_of cert.now) (turns_of recording.now cert.now)
         → (run : List Step) → IsRun recording.now run
-        → IsPrefixOf (positions_in (certificate_case recording.now cert.now)) (due recording.now run cert.now.pid) → ⊥) }
+        → IsPrefixOf (positions_in (certificate_case recording.now cert.now))
+        (due recording.now run cert.now.pid) → ⊥) }
 {
     due_by_turns();
     check_shown(alloc, recording, cert)?;
@@ -87,7 +93,8 @@ fn check_shown(
 ) -> Result<(), Refusal>
     requires { IsOver recording.now cert.now }
     ensures turns { OnOk result (AreTurnsAccepted recording.now cert.now.pid cert.now.turns) }
-    ensures spans { OnOk result (AreSpansOfTurns recording.now.stream (who_of cert.now) (slices_of recording.now cert.now) cert.now.spans) }
+    ensures spans { OnOk result (AreSpansOfTurns recording.now.stream (who_of cert.now)
+        (slices_of recording.now cert.now) cert.now.spans) }
     ensures refused { IfErr result (IsFirstRefusal recording.now cert.now) }
 {
     let logs = recording.logs();
@@ -100,9 +107,9 @@ fn check_shown(
     Ok(())
 }
 
-/// The answer of [`check`] on a certificate whose turns and spans are known to be right, as those of a made one are: they
-/// aren't looked at, so the one refusal is for the client's names or for what it received. It costs the session's stays,
-/// and what is due to it.
+/// The answer of [`check`] on a certificate whose turns and spans are known to be right, as those of a made one are:
+/// they aren't looked at, so the one refusal is for the client's names or for what it received. It costs the session's
+/// stays, and what is due to it.
 pub fn check_delivery(
     alloc: Global,
     recording: &Recording<'_>,
@@ -110,7 +117,8 @@ pub fn check_delivery(
 ) -> Result<Accepted, Refusal>
     requires over { IsOver recording.now cert.now }
     requires accepted_turns { AreTurnsAccepted recording.now cert.now.pid cert.now.turns }
-    requires own_spans { AreSpansOfTurns recording.now.stream (who_of cert.now) (slices_of recording.now cert.now) cert.now.spans }
+    requires own_spans { AreSpansOfTurns recording.now.stream (who_of cert.now)
+        (slices_of recording.now cert.now) cert.now.spans }
     ensures accepted { OnOk result (IsAccepted recording.now cert.now) }
     ensures refused { IfErr result (IsFirstRefusal recording.now cert.now) }
     ensures got { IfOk result (λ a. a.got ≡ length (frames_received recording.now cert.now)) }

@@ -27,10 +27,14 @@ pub(crate) fn check_client(
 ) -> Result<usize, Refusal>
     requires transcript { option_copied transcript ≡ transcript_named logs.now client.now }
     requires ascending { IsAscending due.now }
-    ensures named { OnOk result (are_of_session session.now (case_for logs.now client.now session.now.pid due.now).stays ≡ true) }
-    ensures received { OnOk result (IsReceived (case_for logs.now client.now session.now.pid due.now)) }
-    ensures got { IfOk result (λ got. got ≡ length (case_for logs.now client.now session.now.pid due.now).frames) }
-    ensures refused { IfErr result (IsClientRefusal session.now (case_for logs.now client.now session.now.pid due.now)) }
+    ensures named { OnOk result (are_of_session session.now
+        (case_for logs.now client.now session.now.pid due.now).stays ≡ true) }
+    ensures received { OnOk result (IsReceived (case_for logs.now client.now session.now.pid
+        due.now)) }
+    ensures got { IfOk result (λ got. got
+        ≡ length (case_for logs.now client.now session.now.pid due.now).frames) }
+    ensures refused { IfErr result (IsClientRefusal session.now
+        (case_for logs.now client.now session.now.pid due.now)) }
 {
     match transcript {
         Some(transcript) => check_transcript(alloc, logs, session, client, transcript, due),
@@ -49,10 +53,14 @@ fn check_transcript(
 ) -> Result<usize, Refusal>
     requires transcript { Some transcript.now ≡ transcript_named logs.now client.now }
     requires ascending { IsAscending due.now }
-    ensures named { OnOk result (are_of_session session.now (case_for logs.now client.now session.now.pid due.now).stays ≡ true) }
-    ensures received { OnOk result (IsReceived (case_for logs.now client.now session.now.pid due.now)) }
-    ensures got { IfOk result (λ got. got ≡ length (case_for logs.now client.now session.now.pid due.now).frames) }
-    ensures refused { IfErr result (IsClientRefusal session.now (case_for logs.now client.now session.now.pid due.now)) }
+    ensures named { OnOk result (are_of_session session.now
+        (case_for logs.now client.now session.now.pid due.now).stays ≡ true) }
+    ensures received { OnOk result (IsReceived (case_for logs.now client.now session.now.pid
+        due.now)) }
+    ensures got { IfOk result (λ got. got
+        ≡ length (case_for logs.now client.now session.now.pid due.now).frames) }
+    ensures refused { IfErr result (IsClientRefusal session.now
+        (case_for logs.now client.now session.now.pid due.now)) }
 {
     received_by_stays();
     let named = transcript.naming(alloc, session.pid)?;

@@ -21,8 +21,10 @@ pub(crate) fn shown_due(
     spans: &[Span<'_>],
 ) -> Result<Vec<u64>, AllocError>
     requires accepted { AreTurnsAccepted logs.now session.now.pid turns.now }
-    requires spans { AreSpansOfTurns logs.now.stream session.now (slices_at logs.now turns.now) spans.now }
-    ensures { IfOk result (λ due. due.items ≡ turns_due logs.now.stream session.now (slices_at logs.now turns.now)) }
+    requires spans { AreSpansOfTurns logs.now.stream session.now
+        (slices_at logs.now turns.now) spans.now }
+    ensures { IfOk result (λ due. due.items
+        ≡ turns_due logs.now.stream session.now (slices_at logs.now turns.now)) }
 {
     due_by_spans_of_turns();
     let birth = first_shown_low(turns);

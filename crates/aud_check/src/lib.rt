@@ -6,7 +6,7 @@
 //! With the `recording` of `examples/bundle_a.jsonl`:
 //!
 //! ```
-//! use aud_cert_text::read_cert;
+//! use aud_cert::read_cert;
 //! use aud_check::check;
 //!
 //! let text = r#"{"client":"c1","pid":"P","spans":[["r",1,1],["s1",1,1]],"turns":[["a",1,4,0,1]]}"#;

@@ -23,9 +23,10 @@ pub(crate) fn places_of(
     Ok(places)
 }
 
-/// The records of the node whose tap is at this place, lent by the logs; none where that tap is no node's.
+/// The records of the node whose tap is at this place, borrowed from the logs; none where that tap is no node's.
 pub(crate) fn records_at<'a>(logs: &Logs<'a>, node: usize) -> Option<Recs<'a>>
-    ensures { MatchOption result (node_log logs.now node ≡ []) (λ recs. recs ≡ node_log logs.now node) }
+    ensures { MatchOption result (node_log logs.now node ≡ []) (λ recs. recs
+        ≡ node_log logs.now node) }
 {
     match logs.node(node) {
         Some(log) => Some(log.recs()),

@@ -28,9 +28,11 @@ pub(crate) fn check_received(
     due: &[u64],
 ) -> Result<usize, Refusal>
     requires { IsAscending due.now }
-    ensures received { OnOk result (IsReceived (by_stays stream.now received.now (map (λ stay. stay.now) stays.now) due.now)) }
+    ensures received { OnOk result (IsReceived (by_stays stream.now received.now
+        (map (λ stay. stay.now) stays.now) due.now)) }
     ensures got { IfOk result (λ got. got ≡ length (frames_in (map (λ stay. stay.now) stays.now))) }
-    ensures refused { IfErr result (IsReceivedRefusal (by_stays stream.now received.now (map (λ stay. stay.now) stays.now) due.now)) }
+    ensures refused { IfErr result (IsReceivedRefusal (by_stays stream.now received.now
+        (map (λ stay. stay.now) stays.now) due.now)) }
 {
     if received.bad.is_some() {
         return Err(Refusal::Received(Fault::Frame));
@@ -54,7 +56,7 @@ pub(crate) fn check_received(
     }
 }
 
-/// The refusal for this frame, which isn't its entry, or for want of memory.
+/// The refusal for this frame, which isn't its entry, or when out of memory.
 fn altered(alloc: Global, stream: &Stream<'_>, frame: &Frame<'_>) -> Refusal
     ensures { NamesFault (Content (offset_at stream.now frame.now.position)) result }
 {
@@ -64,7 +66,7 @@ fn altered(alloc: Global, stream: &Stream<'_>, frame: &Frame<'_>) -> Refusal
     }
 }
 
-/// The refusal for this mismatch, or for want of memory.
+/// The refusal for this mismatch, or when out of memory.
 fn mismatched(alloc: Global, stream: &Stream<'_>, mismatch: Mismatch) -> Refusal
     ensures { NamesFault (fault_of stream.now mismatch) result }
 {
@@ -76,7 +78,8 @@ fn mismatched(alloc: Global, stream: &Stream<'_>, mismatch: Mismatch) -> Refusal
 
 /// The positions of the frames.
 fn positions_of(alloc: Global, frames: &[&Frame<'_>]) -> Result<Vec<u64>, AllocError>
-    ensures { IfOk result (λ positions. positions.items ≡ map (λ (frame : FrameSeen). frame.position) (map (λ frame. frame.now) frames.now)) }
+    ensures { IfOk result (λ positions. positions.items
+        ≡ map (λ (frame : FrameSeen). frame.position) (map (λ frame. frame.now) frames.now)) }
 {
     let mut positions = Vec::new(alloc);
     for frame in frames {

@@ -13,7 +13,7 @@ use aud_rooms::TurnPlace;
 use aud_tap::NodeRec;
 use std::marker::Model;
 
-/// The session that a certificate shows, as its `open` in the logs names it; lent.
+/// The session that a certificate shows, as its `open` in the logs names it; borrowed.
 #[derive(Drop)]
 pub(crate) struct ShownSession<'s, 'a> {
     pub(crate) pid: &'s str,
@@ -48,7 +48,7 @@ pub(crate) fn session_of<'s, 'a>(logs: &Logs<'a>, cert: &'s Certificate<'_>) -> 
     }
 }
 
-/// The first record of the first turn, lent by the logs.
+/// The first record of the first turn, borrowed from the logs.
 fn first_record<'a>(logs: &Logs<'a>, turns: &[Turn<'_>]) -> Option<&'a NodeRec>
     requires { All (IsTurnOver logs.now) turns.now }
     ensures { option_copied result ≡ first_record turns.now }
@@ -59,7 +59,7 @@ fn first_record<'a>(logs: &Logs<'a>, turns: &[Turn<'_>]) -> Option<&'a NodeRec>
     first_at(logs, &turn_place(logs, turn))
 }
 
-/// The first of the records at this place, lent by the logs.
+/// The first of the records at this place, borrowed from the logs.
 fn first_at<'a>(logs: &Logs<'a>, place: &TurnPlace) -> Option<&'a NodeRec>
     ensures { option_copied result ≡ slice_get (slice_of logs.now place.now).recs 0 }
 {

@@ -23,7 +23,8 @@ pub(crate) fn are_spans<'a>(
 ) -> Result<bool, AllocError>
     requires over { All (IsTurnOver logs.now) turns.now }
     requires accepted { AreTurnsAccepted logs.now session.now.pid turns.now }
-    ensures { IfOk result (λ answer. IsTrue answer ↔ AreSpansOfTurns logs.now.stream session.now (slices_at logs.now turns.now) spans.now) }
+    ensures { IfOk result (λ answer. IsTrue answer ↔ AreSpansOfTurns logs.now.stream session.now
+        (slices_at logs.now turns.now) spans.now) }
 {
     spans_are_unique();
     let places = places_of(alloc, logs, turns)?;

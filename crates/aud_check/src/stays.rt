@@ -41,12 +41,14 @@ fn has_sid(sid: &str, reply: &Option<Reply>) -> bool
     }
 }
 
-/// The frames of the stays, stay after stay, lent: over the stays whose reply names a session all that was received of it.
+/// The frames of the stays, stay after stay, borrowed: over the stays whose reply names a session all that was received
+/// of it.
 pub fn frames_in<'s, 'a>(
     alloc: Global,
     stays: &[&'s Stay<'a>],
 ) -> Result<Vec<&'s Frame<'a>>, AllocError>
-    ensures { IfOk result (λ frames. map (λ frame. frame.now) frames.items ≡ frames_in (map (λ stay. stay.now) stays.now)) }
+    ensures { IfOk result (λ frames. map (λ frame. frame.now) frames.items
+        ≡ frames_in (map (λ stay. stay.now) stays.now)) }
 {
     let mut frames = Vec::new(alloc);
     for stay in stays {
@@ -60,7 +62,8 @@ fn push_frames<'s, 'a>(
     frames: &mut Vec<&'s Frame<'a>>,
     stay: &'s Stay<'a>,
 ) -> Result<(), AllocError>
-    ensures { OnOk result (map (λ frame. frame.now) frames.new.items ≡ map (λ frame. frame.now) frames.old.items ++ stay.now.frames) }
+    ensures { OnOk result (map (λ frame. frame.now) frames.new.items
+        ≡ map (λ frame. frame.now) frames.old.items ++ stay.now.frames) }
 {
     for frame in &stay.frames {
         frames.push(frame)?;

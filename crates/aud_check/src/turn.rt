@@ -80,7 +80,8 @@ fn is_begun_by(rec: Option<&NodeRec>, pid: &str, turn: usize) -> bool
 
 /// Whether the turn ends within the log of its node, and may end so before these.
 fn may_end(logs: &Logs<'_>, place: &TurnPlace, end: End, later: &[Turn<'_>]) -> bool
-    ensures { IsTrue result ↔ ((place.now.to ≤ length (node_log logs.now place.now.node)) × MayEnd logs.now place.now (map (turn_at logs.now) later.now) (end_seen end)) }
+    ensures { IsTrue result ↔ ((place.now.to ≤ length (node_log logs.now place.now.node))
+        × MayEnd logs.now place.now (map (turn_at logs.now) later.now) (end_seen end)) }
 {
     let len = count_of(logs, place.node);
     match end {
@@ -104,7 +105,8 @@ fn count_of(logs: &Logs<'_>, node: usize) -> usize
 fn has_cursors(logs: &Logs<'_>, place: &TurnPlace, turn: &Turn<'_>) -> bool
     requires place { place.now ≡ turn_at logs.now turn.now }
     requires within { IsWithin logs.now place.now }
-    ensures { IsTrue result ↔ HasCursors logs.now.stream (log_named logs.now turn.now.node) turn.now }
+    ensures { IsTrue result ↔ HasCursors logs.now.stream
+        (log_named logs.now turn.now.node) turn.now }
 {
     if !is_ordered(logs, place.node) {
         return false;

@@ -59,7 +59,8 @@ pub(crate) fn turn_end(logs: &Logs<'_>, place: &TurnPlace, pid: &str, turn: usiz
 /// The numbers, ascending, of the records at this place after the first one and before `last` that name the pid.
 fn own_after_first<'l>(logs: &'l Logs<'_>, place: &TurnPlace, last: usize, pid: &str) -> &'l [usize]
     requires { place.now.from < place.now.to }
-    ensures { result.now ≡ own_between (node_log logs.now place.now.node) pid.now (suc place.now.from) last }
+    ensures { result.now ≡ own_between (node_log logs.now place.now.node) pid.now
+        (suc place.now.from) last }
 {
     let after_first = TurnPlace {
         node: place.node,

@@ -17,7 +17,9 @@ pub(crate) fn wrong_window(
     stays: &[&Stay<'_>],
     positions: &[u64],
 ) -> Option<u64>
-    requires positions { positions.now ≡ map (λ (frame : FrameSeen). frame.position) (frames_in (map (λ stay. stay.now) stays.now)) }
+    requires positions { positions.now
+        ≡ map (λ (frame : FrameSeen). frame.position)
+        (frames_in (map (λ stay. stay.now) stays.now)) }
     requires ascending { IsAscending positions.now }
     ensures { result ≡ wrong_window stream.now [] (map (λ stay. stay.now) stays.now) }
 {
@@ -36,7 +38,8 @@ pub(crate) fn wrong_window(
 fn is_asked_wrongly(stream: &Stream<'_>, stay: &Stay<'_>, positions: &[u64], count: usize) -> bool
     requires within { count ≤ length positions.now }
     requires ascending { IsAscending positions.now }
-    ensures { result ≡ (is_recovered stay.now && not (is_cut_or_not positions.now count (asked_position stream.now stay.now.asked))) }
+    ensures { result ≡ (is_recovered stay.now
+        && not (is_cut_or_not positions.now count (asked_position stream.now stay.now.asked))) }
 {
     if !stay.is_recovered() {
         return false;

@@ -12,7 +12,7 @@ use Rattle.aud_tap.specs.declared.records.ClientRec.{ClientRec}
 use Rattle.aud_node.specs.Stream.{Text}
 use Rattle.aud_client.specs.TapPackets.{TapPacket, Connection, tap_packets}
 use Rattle.aud_client.specs.Stays.{namespace, in_namespace, goes_on, whole_stay, stay_after, stay_at, begins_stay, stays_from, stays}
-use Rattle.aud_client.specs.Private.Open.{of_namespace}
+use Rattle.aud_client.specs.Open.{of_namespace}
 use Rattle.aud_client.specs.StaySeen.{FrameSeen, StaySeen, stay_of, frame_of, frames_of}
 use Rattle.aud_client.specs.Received.{connection_packets, stays_of, stay_names_pid, stays_naming, frames_by_stay, received_from, received_list, transcript_of, are_in_namespace}
 use Rattle.aud_base.proofs.SameText.{same_text, itself_text}

@@ -1,5 +1,5 @@
 -- The connections of a tap, record after record.
-use Rattle.std.proofs.Common.{◌≡◌, ◌+◌, ℕ, suc, List, [], ◌∷◌, ◌++◌, map, flat_map, refl, sym, ap, ◌∙◌, Option, Some, None, append-nil, append_assoc, drop, length, ◌≤◌, arith}
+use Rattle.std.proofs.Common.{◌≡◌, ◌+◌, ℕ, suc, List, [], ◌∷◌, ◌++◌, map, flat_map, refl, sym, ap, ◌∙◌, Option, Some, None, append-nil, append_assoc, drop, length, length-append, ◌≤◌, arith}
 use Rattle.aud_base.proofs.Options.{or_none}
 use Rattle.aud_tap.specs.declared.records.StreamRec.{StreamRec}
 use Rattle.aud_tap.specs.declared.records.ClientRec.{ClientRec}
@@ -9,12 +9,16 @@ use Rattle.std.specs.List.{filter}
 use Rattle.aud_client.specs.TapPackets.{TapPacket, Connection, numbered_records, until_end, connections_in, messages_at, answers_in, packets_at, packets_in, tap_packets, is_bad, bad_in, first_of}
 use Rattle.aud_client.specs.Private.ConnectionRead.{HasGiven, inside}
 use Rattle.aud_client.specs.Private.ClientRead.{begun, bad_of, cut_seen}
-use Rattle.aud_client.specs.StaySeen.{StaySeen}
+use Rattle.aud_client.specs.StaySeen.{StaySeen, stay_of}
+use Rattle.aud_client.specs.Stays.{stays}
+use Rattle.aud_client.specs.PlacedStays.{forgotten, placed_stays}
+use Rattle.aud_client.specs.StayPlaces.{PlacesSeen, places_of, places_in, tap_places}
 use Rattle.aud_client.specs.Received.{stays_of, tap_stays}
 use Rattle.std.specs.Option.{option_or}
-use Rattle.std.proofs.lemmas.List.{map-append, drop_all}
+use Rattle.std.proofs.lemmas.List.{map-append, drop_all, length-map}
 use Rattle.std.proofs.lemmas.Grind.{flat_map-append}
 use Rattle.aud_client.specs.declared.connection.Reader.{Reader}
+use Rattle.aud_client.proofs.Forgetting.{forgotten-stays}
 
 -- what stands before the next end
 pub until_end-numbered : (n : ℕ) (recs : List ClientRec) → until_end (numbered_records n recs) ≡ numbered_records n (inside recs)
@@ -93,31 +97,54 @@ HasTaken-all recs i seen bad end held =
       sym (or_none bad) ∙ sym (ap (λ r. option_or bad (bad_of (connections_in (numbered_records i r)))) none) ∙ held.bad_is,
     )
 
--- what the first records tell: their stays, and the first bad one
-pub record HasTold (stream : List StreamRec) (recs : List ClientRec) (i : ℕ) (stays : List StaySeen) (bad : Option ℕ) : Type 0 where
+-- what the first records tell: their stays with their records, and the first bad one
+pub record HasTold (stream : List StreamRec) (recs : List ClientRec) (i : ℕ) (stays : List StaySeen) (places : List PlacesSeen) (bad : Option ℕ) : Type 0 where
   pub seen : List Connection
   pub taken : HasTaken recs i seen bad
   pub stays_are : stays ≡ flat_map (stays_of stream) seen
+  pub places_are : places ≡ flat_map (places_in stream) seen
+
+-- there are as many records as stays
+as_many_in : (stream : List StreamRec) (connection : Connection) → length (places_in stream connection) ≡ length (stays_of stream connection)
+as_many_in stream connection =
+    length-map (placed_stays connection.packets) (places_of stream) ∙ sym (length-map (placed_stays connection.packets) forgotten)
+    ∙ ap length (forgotten-stays connection.packets) ∙ sym (length-map (stays (forgotten connection.packets)) (stay_of stream connection.c))
+
+as_many_seen : (stream : List StreamRec) (seen : List Connection) → length (flat_map (places_in stream) seen) ≡ length (flat_map (stays_of stream) seen)
+as_many_seen stream [] = refl
+as_many_seen stream (connection ∷ seen) =
+    length-append (places_in stream connection) (flat_map (places_in stream) seen)
+    ∙ ap (λ k. length (places_in stream connection) + k) (as_many_seen stream seen) ∙ ap (λ k. k + length (flat_map (stays_of stream) seen)) (as_many_in stream connection)
+    ∙ sym (length-append (stays_of stream connection) (flat_map (stays_of stream) seen))
+
+pub HasTold-as_many : (stream : List StreamRec) (recs : List ClientRec) (i : ℕ) (stays : List StaySeen) (places : List PlacesSeen) (bad : Option ℕ)
+    → HasTold stream recs i stays places bad → length places ≡ length stays
+HasTold-as_many stream recs i stays places bad held = ap length held.places_are ∙ as_many_seen stream held.seen ∙ sym (ap length held.stays_are)
 
 -- no record
-pub HasTold-none : (stream : List StreamRec) (recs : List ClientRec) (stays : List StaySeen) → stays ≡ [] → HasTold stream recs 0 stays None
-HasTold-none stream recs stays none = record { seen = []; taken = record { connections_are = refl; bad_is = refl }; stays_are = none }
+pub HasTold-none : (stream : List StreamRec) (recs : List ClientRec) (stays : List StaySeen) (places : List PlacesSeen) → stays ≡ [] → places ≡ [] → HasTold stream recs 0 stays places None
+HasTold-none stream recs stays places none no_places =
+    record { seen = []; taken = record { connections_are = refl; bad_is = refl }; stays_are = none; places_are = no_places }
 
 -- one record more was taken
-pub HasTold-more : (stream : List StreamRec) (recs : List ClientRec) (i : ℕ) (rec : ClientRec) (stays after : List StaySeen) (bad first : Option ℕ) → drop i recs ≡ rec ∷ drop (i + 1) recs
-    → after ≡ stays ++ flat_map (stays_of stream) (map cut_seen (begun i rec (drop (i + 1) recs))) → first ≡ option_or bad (bad_of (begun i rec (drop (i + 1) recs)))
-    → HasTold stream recs i stays bad → HasTold stream recs (i + 1) after first
-HasTold-more stream recs i rec stays after bad first front after_is bad_is held =
+pub HasTold-more : (stream : List StreamRec) (recs : List ClientRec) (i : ℕ) (rec : ClientRec) (stays after : List StaySeen) (places later : List PlacesSeen) (bad first : Option ℕ)
+    → drop i recs ≡ rec ∷ drop (i + 1) recs
+    → after ≡ stays ++ flat_map (stays_of stream) (map cut_seen (begun i rec (drop (i + 1) recs)))
+    → later ≡ places ++ flat_map (places_in stream) (map cut_seen (begun i rec (drop (i + 1) recs)))
+    → first ≡ option_or bad (bad_of (begun i rec (drop (i + 1) recs)))
+    → HasTold stream recs i stays places bad → HasTold stream recs (i + 1) after later first
+HasTold-more stream recs i rec stays after places later bad first front after_is later_is bad_is held =
     let begins = map cut_seen (begun i rec (drop (i + 1) recs)) in
     record {
       seen = held.seen ++ begins;
       taken = HasTaken-more recs i rec held.seen (held.seen ++ begins) bad first front refl bad_is held.taken;
       stays_are = after_is ∙ ap (λ ss. ss ++ flat_map (stays_of stream) begins) held.stays_are ∙ sym (flat_map-append (stays_of stream) held.seen begins);
+      places_are = later_is ∙ ap (λ ps. ps ++ flat_map (places_in stream) begins) held.places_are ∙ sym (flat_map-append (places_in stream) held.seen begins);
     }
 
 -- all records were taken
-pub HasTold-all : (stream : List StreamRec) (recs : List ClientRec) (i : ℕ) (stays : List StaySeen) (bad : Option ℕ) → length recs ≤ i → HasTold stream recs i stays bad
-    → (stays ≡ tap_stays stream recs) × (bad ≡ (tap_packets recs).bad)
-HasTold-all stream recs i stays bad end held =
+pub HasTold-all : (stream : List StreamRec) (recs : List ClientRec) (i : ℕ) (stays : List StaySeen) (places : List PlacesSeen) (bad : Option ℕ) → length recs ≤ i
+    → HasTold stream recs i stays places bad → (stays ≡ tap_stays stream recs) × (places ≡ tap_places stream recs) × (bad ≡ (tap_packets recs).bad)
+HasTold-all stream recs i stays places bad end held =
     let all = HasTaken-all recs i held.seen bad end held.taken in
-    (held.stays_are ∙ ap (flat_map (stays_of stream)) all.0, all.1)
+    (held.stays_are ∙ ap (flat_map (stays_of stream)) all.0, held.places_are ∙ ap (flat_map (places_in stream)) all.0, all.1)

@@ -8,7 +8,7 @@ use Rattle.aud_tap.specs.declared.records.StreamRec.{StreamRec}
 use Rattle.aud_client.specs.TapPackets.{TapPacket}
 use Rattle.aud_client.specs.declared.stays.Stays.{Stays}
 use Rattle.aud_client.specs.Stays.{namespace, is_disconnect, goes_on, stay_after, begins_stay, stays}
-use Rattle.aud_client.specs.Private.Open.{open_place}
+use Rattle.aud_client.specs.Open.{open_place}
 use Rattle.aud_client.specs.StaySeen.{StaySeen, stay_of}
 use Rattle.aud_client.specs.Private.Kept.{KeepsStays, open_at, place_for, empty_stay, grown}
 use Rattle.aud_client.proofs.OnePass.{stays-begins, stays-goes_on}
@@ -17,27 +17,32 @@ use Rattle.aud_client.proofs.Telling.{has_reply, stay_of-first, stay_of-more}
 use Rattle.aud_client.proofs.Maps.{get_after, set_after, set_last}
 use Rattle.aud_base.proofs.Lists.{after_these}
 
--- a stay that grows at its place
-pub grown_at : {T E : Type 0} (stream : List StreamRec) (r : Result T E) (items : List StaySeen) (place : ℕ) (s new : StaySeen) (p : TapPacket) (t : StaySeen)
-    → place < length items → s ≡ get_or items place s → slice_get items place ≡ Some t
-    → OnOk r (new ≡ grown stream s p) → OnOk r (set items place new ≡ set items place (grown stream t p))
-grown_at stream (Err e) items place s new p t h at is w = tt
-grown_at stream (Ok x) items place s new p t h at is w =
-    let here : s ≡ t = same_Some s t (sym (slice_get_read items (length items) place s refl h at) ∙ is) in
-    ap (set items place) (w ∙ ap (λ u. grown stream u p) here)
+-- what holds, holds where all went well
+pub always : {T E : Type 0} {P : Type 0} (r : Result T E) → P → OnOk r P
+always (Err e) h = tt
+always (Ok x) h = h
 
--- a stay that grows at the end
-pub grown_last : {T E : Type 0} (stream : List StreamRec) (r : Result T E) (items begun grew : List StaySeen) (place : ℕ) (t : StaySeen) (p : TapPacket)
+-- an element that changes at its place
+pub changed_at : {X : Type 0} {T E : Type 0} (r : Result T E) (items : List X) (place : ℕ) (s new t : X) (f : X → X)
+    → place < length items → s ≡ get_or items place s → slice_get items place ≡ Some t
+    → OnOk r (new ≡ f s) → OnOk r (set items place new ≡ set items place (f t))
+changed_at (Err e) items place s new t f h at is w = tt
+changed_at (Ok x) items place s new t f h at is w =
+    let here : s ≡ t = same_Some s t (sym (slice_get_read items (length items) place s refl h at) ∙ is) in
+    ap (set items place) (w ∙ ap f here)
+
+-- an element that changes at the end
+pub changed_last : {X : Type 0} {T E : Type 0} (r : Result T E) (items begun changed : List X) (place : ℕ) (t v : X)
     → place ≡ length items → begun ≡ items ++ t ∷ []
-    → ((u : StaySeen) → slice_get begun place ≡ Some u → OnOk r (grew ≡ set begun place (grown stream u p))) → OnOk r (grew ≡ items ++ grown stream t p ∷ [])
-grown_last stream (Err e) items begun grew place t p at is w = tt
-grown_last stream (Ok x) items begun grew place t p at is w =
-    w t (ap (slice_get begun) at ∙ ap (λ l. slice_get l (length items)) is ∙ after_these items [] t)
-    ∙ ap (λ i. set begun i (grown stream t p)) at ∙ ap (λ l. set l (length items) (grown stream t p)) is ∙ set_last items t (grown stream t p)
+    → (slice_get begun place ≡ Some t → OnOk r (changed ≡ set begun place v)) → OnOk r (changed ≡ items ++ v ∷ [])
+changed_last (Err e) items begun changed place t v at is w = tt
+changed_last (Ok x) items begun changed place t v at is w =
+    w (ap (slice_get begun) at ∙ ap (λ l. slice_get l (length items)) is ∙ after_these items [] t)
+    ∙ ap (λ i. set begun i v) at ∙ ap (λ l. set l (length items) v) is ∙ set_last items t v
 
 module _ (stream : List StreamRec) (c : ℕ) where
   -- the stay that stands open in the packet's namespace
-  open_stay : (st : Stays) (done : List StaySeen) (l : List TapPacket) (p : TapPacket) (k : ℕ) → KeepsStays stream c st done l → open_place (namespace p) l ≡ Some k
+  pub open_stay : (st : Stays) (done : List StaySeen) (l : List TapPacket) (p : TapPacket) (k : ℕ) → KeepsStays stream c st done l → open_place (namespace p) l ≡ Some k
       → slice_get st.stays.items (length done + k) ≡ Some (stay_of stream c (stay_after (namespace p) l))
   open_stay st done l p k keeps at =
       ap (λ ts. slice_get ts (length done + k)) keeps.stays_are ∙ get_after done (map (stay_of stream c) (stays l)) k ∙ slice_get-map (stay_of stream c) (stays l) k ∙ ap (option_map (stay_of stream c)) (open-some l p k at).0
@@ -52,11 +57,11 @@ module _ (stream : List StreamRec) (c : ℕ) where
       go (Some k) at = grind (arith, keeps.open_are (namespace p), open_stay st done l p k keeps at, open-some l p k at, has_reply (stay_after (namespace p) l))
 
   -- where it finds none, the packet begins a stay
-  none-begins : (st : Stays) (done : List StaySeen) (l : List TapPacket) (p : TapPacket) → KeepsStays stream c st done l → place_for st p ≡ None → begins_stay l p ≡ true
+  pub none-begins : (st : Stays) (done : List StaySeen) (l : List TapPacket) (p : TapPacket) → KeepsStays stream c st done l → place_for st p ≡ None → begins_stay l p ≡ true
   none-begins st done l p keeps e = grind (arith, place_for-is st done l p keeps, open-none l p)
 
   -- where it finds one, the packet goes on with the stay there
-  some-goes_on : (st : Stays) (done : List StaySeen) (l : List TapPacket) (p : TapPacket) (place : ℕ) → KeepsStays stream c st done l → place_for st p ≡ Some place
+  pub some-goes_on : (st : Stays) (done : List StaySeen) (l : List TapPacket) (p : TapPacket) (place : ℕ) → KeepsStays stream c st done l → place_for st p ≡ Some place
       → (begins_stay l p ≡ false) × ((k : ℕ) × (open_place (namespace p) l ≡ Some k) × (length done + k ≡ place))
   some-goes_on st done l p place keeps e = grind (arith, place_for-is st done l p keeps)
 

@@ -1,5 +1,5 @@
 -- What a text gives that is known.
-use Rattle.std.proofs.Common.{◌≡◌, ◌∷◌, ◌++◌, [], true, false, ◌&&◌, cond, refl, sym, ap, ◌∙◌, Ok, Some, None, is_none, List, ℕ, map}
+use Rattle.std.proofs.Common.{◌≡◌, ◌∷◌, ◌++◌, [], true, false, ◌&&◌, cond, refl, sym, ap, ◌∙◌, Ok, Option, Some, None, is_none, is_some, List, ℕ, map}
 use Rattle.std.specs.List.{cons_option}
 use Rattle.std.specs.Option.{option_map, option_and_then, option_or}
 use Rattle.aud_tap.specs.declared.records.Event.{Event}
@@ -14,10 +14,11 @@ use Rattle.aud_node.specs.Recoverable.{is_event}
 use Rattle.aud_node.specs.Known.{is_sent_alone, spelled}
 use Rattle.aud_node.proofs.KnownLemmas.{sent_alone}
 use Rattle.aud_client.specs.TapPackets.{FromServer}
-use Rattle.aud_client.specs.Replies.{is_connect_kind}
+use Rattle.aud_client.specs.Replies.{ReplySeen, is_connect_kind}
 use Rattle.aud_client.specs.Stays.{is_disconnect_kind}
 use Rattle.aud_client.specs.StaySeen.{FrameSeen, StaySeen, frame_at, frame_of, offset_in, recoverable_position, reply_at}
-use Rattle.aud_client.specs.Private.Kept.{grown}
+use Rattle.aud_client.specs.declared.part.Part.TheVariants as part
+use Rattle.aud_client.specs.Private.Kept.{grown, part_of}
 use Rattle.aud_client.proofs.Telling.{no_reply_at}
 
 -- an event is no CONNECT, and no DISCONNECT
@@ -70,3 +71,11 @@ module _ (event : Event) (alone : is_sent_alone event ≡ true) where
       let connects = event_begins_nothing (spelled event.text).packet.kind (sent_alone event alone).kind_is in
       let none : reply_at (FromServer (spelled event.text)) ≡ None = no_reply_at (FromServer (spelled event.text)) (ap (λ b. b && true) connects) in
       ap (λ reply. record t { reply = option_or reply t.reply; frames = t.frames ++ cons_option (frame_of stream (FromServer (spelled event.text))) [] }) (sym none)
+
+  -- it is a frame, or nothing to its stay
+  pub known_part : (stream : List StreamRec)
+      → cond (is_some (frame_of stream (FromServer (spelled event.text)))) part.Frame part.Other ≡ part_of stream (FromServer (spelled event.text))
+  known_part stream =
+      let connects = event_begins_nothing (spelled event.text).packet.kind (sent_alone event alone).kind_is in
+      let none : reply_at (FromServer (spelled event.text)) ≡ None = no_reply_at (FromServer (spelled event.text)) (ap (λ b. b && true) connects) in
+      ap (λ (reply : Option ReplySeen). cond (is_some reply) part.Reply (cond (is_some (frame_of stream (FromServer (spelled event.text)))) part.Frame part.Other)) (sym none)

@@ -16,3 +16,9 @@ pub mod KnownLemmas
 pub mod Mapped
 pub mod KeptRecords
 pub mod Payloads
+pub mod PlacedIn
+pub mod PlacedOnePass
+pub mod Forgetting
+pub mod TellingPlaces
+pub mod KeptPlaces
+pub mod Giving

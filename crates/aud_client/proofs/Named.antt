@@ -11,7 +11,7 @@ use Rattle.aud_base.proofs.Lists.{any-map}
 use Rattle.aud_client.specs.TapPackets.{TapPacket, FromServer, FromClient, Connection, tap_packets}
 use Rattle.aud_client.specs.Replies.{reply_names, packet_names, connection_names, tap_names}
 use Rattle.aud_client.specs.Stays.{namespace, goes_on, stay_after, begins_stay, stays}
-use Rattle.aud_client.specs.Private.Open.{has_stay}
+use Rattle.aud_client.specs.Open.{has_stay}
 use Rattle.aud_client.specs.StaySeen.{reply_at, reply_of, stay_of}
 use Rattle.aud_client.specs.Received.{connection_packets, stays_of, stay_names_pid, transcript_of}
 use Rattle.aud_client.proofs.OnePass.{grow, last_in, last_in-none, last_in-stays, stays-begins, stays-goes_on}

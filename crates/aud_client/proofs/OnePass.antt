@@ -7,7 +7,7 @@ use Rattle.std.proofs.lemmas.List.Folds.{list_any-append}
 use Rattle.std.proofs.lemmas.Option.{none-some}
 use Rattle.aud_client.specs.TapPackets.{TapPacket}
 use Rattle.aud_client.specs.Stays.{namespace, in_namespace, goes_on, whole_stay, stay_after, stay_at, begins_stay, stays_from, stays}
-use Rattle.aud_client.specs.Private.Open.{of_namespace, has_stay, place}
+use Rattle.aud_client.specs.Open.{of_namespace, has_stay, place}
 use Rattle.aud_base.proofs.SameText.{same_text, itself_text}
 use Rattle.aud_client.proofs.Places.{swap_text, in_namespace-same, in_namespace-other, begun, of_stay_at, passed}
 

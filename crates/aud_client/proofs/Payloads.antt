@@ -2,8 +2,8 @@
 use Rattle.std.proofs.Common.{◌≡◌, ℕ, List, Option, Some, None, option_map, option_and_then, codes, refl, ap, ◌∙◌}
 use Rattle.serde_json.specs.Data.{Data}
 use Rattle.serde_json.specs.Find.{as_str}
-use Rattle.aud_fields.specs.Shown.{shown}
-use Rattle.aud_fields.proofs.Shown.{at-shown, as_str-shown_field}
+use Rattle.aud_json.specs.Shown.{shown}
+use Rattle.aud_json.proofs.Shown.{at-shown, as_str-shown_field}
 use Rattle.aud_tap.specs.Json.{text_at}
 use Rattle.aud_client.specs.Replies.{reply_in_value}
 use Rattle.aud_client.specs.StaySeen.{asked_by}

@@ -6,7 +6,7 @@ use Rattle.std.proofs.lemmas.List.{append_assoc, append-nil}
 use Rattle.std.proofs.lemmas.List.Elements.{filter-append}
 use Rattle.aud_base.proofs.SameText.{same_text, itself_text, other_text}
 use Rattle.aud_client.specs.TapPackets.{TapPacket}
-use Rattle.aud_client.specs.Private.Open.{of_namespace, has_stay}
+use Rattle.aud_client.specs.Open.{of_namespace, has_stay}
 use Rattle.aud_client.specs.Stays.{namespace, in_namespace, goes_on, whole_stay, last_stay, stay_after, stay_at, begins_stay, stays_from}
 
 -- texts that differ, the other way round

@@ -5,7 +5,7 @@ use Rattle.std.specs.Str.{bytes_eq}
 use Rattle.std.proofs.lemmas.List.Folds.{list_any-append}
 use Rattle.aud_client.specs.TapPackets.{TapPacket}
 use Rattle.aud_client.specs.Stays.{namespace, is_connect, is_disconnect, is_reply, stay_after, begins_stay, stays}
-use Rattle.aud_client.specs.Private.Open.{has_stay, place, open_place}
+use Rattle.aud_client.specs.Open.{has_stay, place, open_place}
 use Rattle.aud_base.proofs.SameText.{same_text}
 use Rattle.aud_client.proofs.Places.{stay_after-same, stay_after-other}
 use Rattle.aud_client.proofs.OnePass.{grow, last_in-none, last_in-stays, stays-begins, stays-goes_on, place-grow, place-push, grow-set}

@@ -27,7 +27,7 @@ reply_at-some (FromClient packet) e = grind arith
 reply_at-some (FromServer whole) e = grind arith
 
 -- a reply asks for nothing, nor does what is no CONNECT
-no_ask-reply : (p : TapPacket) → is_reply p ≡ true → ask_of p ≡ None
+pub no_ask-reply : (p : TapPacket) → is_reply p ≡ true → ask_of p ≡ None
 no_ask-reply (FromServer whole) e = refl
 no_ask-reply (FromClient packet) e = grind arith
 

@@ -1,6 +1,6 @@
--- What contracts of private functions alone cite: what the code keeps, and its steps. No public clause rests on these words.
+-- What contracts of private functions alone cite: what the code keeps, and its steps. No public clause rests on these
+-- words.
 pub mod Kept
-pub mod Open
 pub mod IndexedTranscript
 pub mod ClientRead
 pub mod ConnectionRead

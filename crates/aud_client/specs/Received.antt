@@ -9,14 +9,17 @@ use Rattle.aud_client.specs.TapPackets.{TapPacket, Connection, tap_packets}
 use Rattle.aud_client.specs.Replies.{ReplySeen, reply_names}
 use Rattle.aud_client.specs.Stays.{stays, stay_at}
 use Rattle.aud_client.specs.StaySeen.{AskedSeen, FrameSeen, StaySeen, stay_of, reply_of, frames_of}
+use Rattle.aud_client.specs.StayPlaces.{PlacesSeen, tap_places}
 use Rattle.aud_node.specs.Cluster.{Cluster}
 use Rattle.aud_node.specs.NodeTaps.{client_at}
 
--- what a tap tells: the number of its first record that doesn't decode, whether it has an orphan, and its stays
+-- what a tap tells: the number of its first record that doesn't decode, whether it has an orphan, its stays, and the
+-- records at which the packets of each stand
 pub record TranscriptSeen : Type 0 where
   pub bad : Option ℕ
   pub orphan : Bool
   pub stays : List StaySeen
+  pub places : List PlacesSeen
 
 -- ---- stays
 
@@ -47,7 +50,12 @@ is_orphan stay = not (names_somebody stay.reply) && has_frame stay.frames
 -- what the tap tells, where this is the stream
 abbrev pub transcript_of : List StreamRec → List ClientRec → TranscriptSeen
 transcript_of stream recs =
-    record { bad = (tap_packets recs).bad; orphan = list_any is_orphan (tap_stays stream recs); stays = tap_stays stream recs }
+    record {
+      bad = (tap_packets recs).bad;
+      orphan = list_any is_orphan (tap_stays stream recs);
+      stays = tap_stays stream recs;
+      places = tap_places stream recs;
+    }
 
 -- ---- sessions
 

@@ -1,13 +1,13 @@
 //! What a client asks to recover.
 ghost use Rattle.std.specs.Prelude.{◌≡◌, IfOk};
 ghost use Rattle.std.specs.Option.{option_copied, option_map, option_and_then};
-ghost use Rattle.aud_fields.specs.View.{view};
+ghost use Rattle.aud_json.specs.View.{view};
 ghost use Rattle.aud_client.specs.Replies.{value_of};
 ghost use Rattle.aud_sio.specs.Packet.{packet_view};
 ghost use Rattle.aud_client.specs.StaySeen.{asked_in, asked_by};
 
 use crate::payload::{fields_of, text_at};
-use aud_fields::{Fields, Scratch};
+use aud_json::{Fields, Scratch};
 use aud_sio::{Packet, PacketKind};
 use aud_tap::Text;
 use std::alloc::{AllocError, Global};
@@ -31,16 +31,8 @@ impl Model for Asked {
     ghost view = { λ a. record { pid = a.pid; offset = a.offset } };
 }
 
-/// What a packet of the client asks for, if it is a CONNECT that does.
-pub fn asked_in(alloc: Global, packet: &Packet<'_>) -> Result<Option<Asked>, AllocError>
-    ensures { IfOk result (λ asked. asked ≡ asked_in (packet_view packet.now)) }
-{
-    let mut scratch = Scratch::new(alloc);
-    asked_with(alloc, &mut scratch, packet)
-}
-
-/// What [`asked_in`] gives, with memory that is kept for the next payload.
-pub(crate) fn asked_with(
+/// What a packet of the client asks for, if it is a CONNECT that does. The payload is read with this memory.
+pub(crate) fn asked_in(
     alloc: Global,
     scratch: &mut Scratch,
     packet: &Packet<'_>,
@@ -59,7 +51,8 @@ fn asked_by_payload(
     scratch: &mut Scratch,
     payload: Option<&str>,
 ) -> Result<Option<Asked>, AllocError>
-    ensures { IfOk result (λ asked. asked ≡ option_and_then asked_by (value_of (option_map (λ text. text.now) payload.entry))) }
+    ensures { IfOk result (λ asked. asked
+        ≡ option_and_then asked_by (value_of (option_map (λ text. text.now) payload.entry))) }
 {
     match fields_of(alloc, payload, scratch)? {
         Some(fields) => asked_by(alloc, &fields),

@@ -17,7 +17,8 @@ pub fn by_session(
     keys: RandomState,
     stays: &[Stay<'_>],
 ) -> Result<Places, AllocError>
-    ensures { IfOk result (λ kept. (pid : Text) → stays_numbered stays.now (places_of kept pid) ≡ stays_naming pid stays.now) }
+    ensures { IfOk result (λ kept. (pid : Text)
+        → stays_numbered stays.now (places_of kept pid) ≡ stays_naming pid stays.now) }
 {
     let mut kept = Places::new(alloc, keys);
     for (number, stay) in stays.iter().enumerate() {
@@ -28,7 +29,9 @@ pub fn by_session(
 
 /// Notes at the place the sessions that the replies of these stays name.
 pub fn note_stays(naming: &mut Places, place: usize, stays: &[Stay<'_>]) -> Result<(), AllocError>
-    ensures { OnOk result ((q : Text) → places_of naming.new q ≡ noted place (list_any (stay_names_pid q) stays.now) (places_of naming.old q)) }
+    ensures { OnOk result ((q : Text)
+        → places_of naming.new q
+        ≡ noted place (list_any (stay_names_pid q) stays.now) (places_of naming.old q)) }
 {
     for stay in stays {
         note_stay(naming, place, stay)?;
@@ -38,7 +41,9 @@ pub fn note_stays(naming: &mut Places, place: usize, stays: &[Stay<'_>]) -> Resu
 
 /// Notes at the place the session that the stay's reply names, if it names one.
 fn note_stay(naming: &mut Places, place: usize, stay: &Stay<'_>) -> Result<(), AllocError>
-    ensures { OnOk result ((q : Text) → places_of naming.new q ≡ noted place (stay_names_pid q stay.now) (places_of naming.old q)) }
+    ensures { OnOk result ((q : Text)
+        → places_of naming.new q
+        ≡ noted place (stay_names_pid q stay.now) (places_of naming.old q)) }
 {
     let Some(reply) = &stay.reply else {
         return Ok(());

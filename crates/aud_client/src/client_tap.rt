@@ -5,7 +5,6 @@ ghost use Rattle.aud_client.specs.TapPackets.{tap_packets, numbered_records, bad
 ghost use Rattle.aud_client.specs.Private.ConnectionRead.{HasRead, inside};
 
 use crate::connection::{Placed, Reader};
-use aud_node::Stream;
 use aud_sio::Scratch;
 use aud_tap::ClientRec;
 use std::alloc::{AllocError, Global};
@@ -27,7 +26,7 @@ pub struct Connections<'a> {
     bad: Option<usize>,
 }
 
-/// The records of a client's tap, lent, with what they give: decoded once.
+/// The records of a client's tap, borrowed, with what they give: decoded once.
 #[derive(Drop)]
 pub struct ClientTap<'a> {
     recs: &'a [ClientRec],
@@ -54,54 +53,25 @@ impl<'a> ClientTap<'a> {
     pub fn build(alloc: Global, recs: &'a [ClientRec]) -> Result<ClientTap<'a>, AllocError>
         ensures { IfOk result (λ tap. tap ≡ recs.now) }
     {
-        ClientTap::read(alloc, recs, None)
-    }
-
-    /// What [`build`](ClientTap::build) gives. The texts of this stream's events aren't decoded.
-    pub fn build_by(
-        alloc: Global,
-        recs: &'a [ClientRec],
-        stream: &Stream<'a>,
-    ) -> Result<ClientTap<'a>, AllocError>
-        ensures { IfOk result (λ tap. tap ≡ recs.now) }
-    {
-        ClientTap::read(alloc, recs, Some(stream))
-    }
-
-    /// What the records give. The events of this stream are known by their texts, if there is one.
-    fn read(
-        alloc: Global,
-        recs: &'a [ClientRec],
-        stream: Option<&Stream<'a>>,
-    ) -> Result<ClientTap<'a>, AllocError>
-        ensures { IfOk result (λ tap. tap ≡ recs.now) }
-    {
         let mut scratch = Scratch::new(alloc);
         let mut read = Connections {
             list: Vec::new(alloc),
             bad: None,
         };
         for (number, rec) in recs.iter().enumerate() {
-            read.take(
-                alloc,
-                &mut scratch,
-                stream,
-                number,
-                rec,
-                &recs[number + 1..],
-            )?;
+            read.take(alloc, &mut scratch, number, rec, &recs[number + 1..])?;
         }
         Ok(ClientTap { recs, read })
     }
 
-    /// The records, lent.
+    /// The records, borrowed.
     pub fn recs(&self) -> &'a [ClientRec]
         ensures { result.now ≡ self.now }
     {
         self.recs
     }
 
-    /// The connections in their order, lent.
+    /// The connections in their order, borrowed.
     pub fn connections(&self) -> &[Connection<'a>]
         ensures { connections_seen result.now ≡ (tap_packets self.now).connections }
     {
@@ -134,17 +104,19 @@ impl<'a> Connections<'a> {
         &mut self,
         alloc: Global,
         scratch: &mut Scratch,
-        stream: Option<&Stream<'a>>,
         number: usize,
         rec: &ClientRec,
         after: &'a [ClientRec],
     ) -> Result<(), AllocError>
         requires { number + 1 + length after.now < 2 ^ 64 }
-        ensures connections { OnOk result (connections_seen self.new.list.items ≡ connections_seen self.old.list.items ++ map cut_seen (begun number rec.now after.now)) }
-        ensures bad { OnOk result (self.new.bad ≡ option_or self.old.bad (bad_of (begun number rec.now after.now))) }
+        ensures connections { OnOk result (connections_seen self.new.list.items
+            ≡ connections_seen self.old.list.items
+            ++ map cut_seen (begun number rec.now after.now)) }
+        ensures bad { OnOk result (self.new.bad
+            ≡ option_or self.old.bad (bad_of (begun number rec.now after.now))) }
     {
         match rec {
-            ClientRec::Conn { c } => self.begin(alloc, scratch, stream, *c, number + 1, after),
+            ClientRec::Conn { c } => self.begin(alloc, scratch, *c, number + 1, after),
             _ => Ok(()),
         }
     }
@@ -154,16 +126,19 @@ impl<'a> Connections<'a> {
         &mut self,
         alloc: Global,
         scratch: &mut Scratch,
-        stream: Option<&Stream<'a>>,
         c: u64,
         first: usize,
         recs: &'a [ClientRec],
     ) -> Result<(), AllocError>
         requires { first + length recs.now < 2 ^ 64 }
-        ensures connections { OnOk result (connections_seen self.new.list.items ≡ connections_seen self.old.list.items ++ cut_seen (c, numbered_records first (inside recs.now)) ∷ []) }
-        ensures bad { OnOk result (self.new.bad ≡ option_or self.old.bad (first_of (bad_in (numbered_records first (inside recs.now))))) }
+        ensures connections { OnOk result (connections_seen self.new.list.items
+            ≡ connections_seen self.old.list.items
+            ++ cut_seen (c, numbered_records first (inside recs.now)) ∷ []) }
+        ensures bad { OnOk result (self.new.bad
+            ≡ option_or self.old.bad (first_of (bad_in (numbered_records first
+            (inside recs.now))))) }
     {
-        let reader = read_connection(alloc, scratch, stream, first, recs)?;
+        let reader = read_connection(alloc, scratch, first, recs)?;
         self.bad = self.bad.or(reader.bad);
         let packets = reader.into_packets();
         self.list.push(Connection { c, packets })?;
@@ -172,17 +147,16 @@ impl<'a> Connections<'a> {
 }
 
 /// Reads the records, the first of which has this number, up to the next `conn` or `lost`.
-fn read_connection<'s, 'a>(
+fn read_connection<'a>(
     alloc: Global,
     scratch: &mut Scratch,
-    stream: Option<&'s Stream<'a>>,
     first: usize,
     recs: &'a [ClientRec],
-) -> Result<Reader<'s, 'a>, AllocError>
+) -> Result<Reader<'a, 'a>, AllocError>
     requires { first + length recs.now < 2 ^ 64 }
     ensures { IfOk result (HasRead first (inside recs.now)) }
 {
-    let mut reader = Reader::new(alloc, stream);
+    let mut reader = Reader::new(alloc, None);
     reader.read_all(scratch, first, recs)?;
     Ok(reader)
 }

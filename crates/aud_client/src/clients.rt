@@ -9,9 +9,8 @@ ghost use Rattle.aud_client.specs.Private.Clients.{AreRead, has_naming_stay, nam
 
 use crate::by_session::note_stays;
 use crate::indexed_transcript::IndexedTranscript;
-use aud_base::Places;
+use aud_base::{Places, try_map};
 use aud_node::Logs;
-use aud_parallel::try_map;
 use aud_tap::Tap;
 use std::alloc::{AllocError, Global};
 use std::hash::RandomState;
@@ -54,7 +53,8 @@ fn transcripts_of<'a, H: Threads + Sync>(
     threads: usize,
     logs: &Logs<'a>,
 ) -> Result<Vec<Option<IndexedTranscript<'a>>>, AllocError>
-    ensures { IfOk result (λ transcripts. transcripts.items ≡ map (transcript_in logs.now.stream) logs.now.taps) }
+    ensures { IfOk result (λ transcripts. transcripts.items
+        ≡ map (transcript_in logs.now.stream) logs.now.taps) }
 {
     let places = places_of_all(alloc, logs.taps())?;
     try_map(
@@ -63,7 +63,8 @@ fn transcripts_of<'a, H: Threads + Sync>(
         threads,
         places.as_slice(),
         |place: &usize| -> Result<Option<IndexedTranscript<'_>>, AllocError>
-            ensures { IfOk result (λ transcript. transcript ≡ transcript_at logs.entry.now place.now) }
+            ensures { IfOk result (λ transcript. transcript
+                ≡ transcript_at logs.entry.now place.now) }
         { transcript_at(alloc, keys, logs, *place) },
     )
 }
@@ -103,7 +104,8 @@ fn naming_of(
     keys: RandomState,
     transcripts: &[Option<IndexedTranscript<'_>>],
 ) -> Result<Places, AllocError>
-    ensures { IfOk result (λ naming. (pid : Text) → places_of naming pid ≡ naming_transcripts transcripts.now pid) }
+    ensures { IfOk result (λ naming. (pid : Text)
+        → places_of naming pid ≡ naming_transcripts transcripts.now pid) }
 {
     let mut naming = Places::new(alloc, keys);
     for (place, transcript) in transcripts.iter().enumerate() {
@@ -118,7 +120,10 @@ fn note_transcript(
     place: usize,
     transcript: Option<&IndexedTranscript<'_>>,
 ) -> Result<(), AllocError>
-    ensures { OnOk result ((q : Text) → places_of naming.new q ≡ noted place (has_naming_stay q (option_copied transcript.entry)) (places_of naming.old q)) }
+    ensures { OnOk result ((q : Text)
+        → places_of naming.new q
+        ≡ noted place (has_naming_stay q (option_copied transcript.entry))
+        (places_of naming.old q)) }
 {
     match transcript {
         Some(transcript) => note_stays(naming, place, transcript.transcript().stays.as_slice()),

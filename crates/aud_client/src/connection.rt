@@ -80,8 +80,8 @@ impl<'s, 'a> Reader<'s, 'a> {
         packets
     }
 
-    /// The connection's records, the first of which has this number: up to the next `conn` or `lost`. Payloads are read with
-    /// this memory.
+    /// The connection's records, the first of which has this number: up to the next `conn` or `lost`. Payloads are read
+    /// with this memory.
     pub fn read_all(
         &mut self,
         scratch: &mut Scratch,
@@ -89,7 +89,8 @@ impl<'s, 'a> Reader<'s, 'a> {
         recs: &'a [ClientRec],
     ) -> Result<(), AllocError>
         requires { first + length recs.now < 2 ^ 64 }
-        ensures { HasRead first [] self.old → OnOk result (HasRead first (inside recs.now) self.new) }
+        ensures { HasRead first [] self.old
+            → OnOk result (HasRead first (inside recs.now) self.new) }
     {
         for (i, rec) in recs.iter().enumerate() {
             if ends_connection(rec) {
@@ -126,7 +127,8 @@ impl<'s, 'a> Reader<'s, 'a> {
         number: usize,
         text: &'a str,
     ) -> Result<(), AllocError>
-        ensures { OnOk result (ReadsEngine number (one_of (engine_packet_of text.now)) self.old self.new) }
+        ensures { OnOk result (ReadsEngine number
+            (one_of (engine_packet_of text.now)) self.old self.new) }
     {
         match decode_text(self.alloc, text) {
             Ok(packet) => self.receive(scratch, number, packet),
@@ -164,7 +166,8 @@ impl<'s, 'a> Reader<'s, 'a> {
         number: usize,
         packets: Vec<Eio<'a>>,
     ) -> Result<(), AllocError>
-        ensures { OnOk result (Reads number (flat_map messages_of (map engine_view packets.entry.items)) self.old self.new) }
+        ensures { OnOk result (Reads number
+            (flat_map messages_of (map engine_view packets.entry.items)) self.old self.new) }
     {
         for packet in packets {
             self.receive(scratch, number, packet)?;
@@ -179,7 +182,8 @@ impl<'s, 'a> Reader<'s, 'a> {
         number: usize,
         packet: Eio<'a>,
     ) -> Result<(), AllocError>
-        ensures { OnOk result (Reads number (messages_of (engine_view packet.entry)) self.old self.new) }
+        ensures { OnOk result (Reads number
+            (messages_of (engine_view packet.entry)) self.old self.new) }
     {
         match self.known(&packet) {
             Some(known) => self.place(number, TapPacket::Known(known)),
@@ -190,7 +194,8 @@ impl<'s, 'a> Reader<'s, 'a> {
     /// The event whose text the packet carries, where one is known by it and no attachment is awaited.
     fn known(&self, packet: &Eio<'_>) -> Option<KnownEvent<'a>>
         ensures rest { OnSome result (self.now.assembler ≡ []) }
-        ensures text { IfSome result (λ known. messages_of (engine_view packet.now) ≡ Text known.event.now.text ∷ []) }
+        ensures text { IfSome result (λ known. messages_of (engine_view packet.now)
+            ≡ Text known.event.now.text ∷ []) }
     {
         if !self.assembler.is_at_rest() {
             return None;
@@ -208,7 +213,8 @@ impl<'s, 'a> Reader<'s, 'a> {
         number: usize,
         packet: Eio<'a>,
     ) -> Result<(), AllocError>
-        ensures { OnOk result (Reads number (messages_of (engine_view packet.entry)) self.old self.new) }
+        ensures { OnOk result (Reads number
+            (messages_of (engine_view packet.entry)) self.old self.new) }
     {
         match self.assembler.feed_with(scratch, packet) {
             Ok(Some(whole)) => self.place(number, TapPacket::FromServer(whole)),
@@ -240,7 +246,8 @@ impl<'s, 'a> Reader<'s, 'a> {
         number: usize,
         text: &'a str,
     ) -> Result<(), AllocError>
-        ensures packets { OnOk result (packets_read self.new ≡ packets_read self.old ++ at number (client_packet_in (engine_packet_of text.now))) }
+        ensures packets { OnOk result (packets_read self.new
+            ≡ packets_read self.old ++ at number (client_packet_in (engine_packet_of text.now))) }
         ensures assembler { self.new.assembler ≡ self.old.assembler }
         ensures bad { self.new.bad ≡ self.old.bad }
     {
@@ -251,7 +258,8 @@ impl<'s, 'a> Reader<'s, 'a> {
     }
 
     fn place(&mut self, number: usize, packet: TapPacket<'a>) -> Result<(), AllocError>
-        ensures packets { OnOk result (packets_read self.new ≡ packets_read self.old ++ (number, packet_seen packet.entry) ∷ []) }
+        ensures packets { OnOk result (packets_read self.new
+            ≡ packets_read self.old ++ (number, packet_seen packet.entry) ∷ []) }
         ensures assembler { self.new.assembler ≡ self.old.assembler }
         ensures bad { self.new.bad ≡ self.old.bad }
     {

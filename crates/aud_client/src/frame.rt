@@ -1,22 +1,20 @@
 //! The events of the stream that came.
 ghost use Rattle.std.specs.Prelude.{◌≡◌};
-ghost use Rattle.std.specs.Option.{option_and_then, option_copied, option_map};
+ghost use Rattle.std.specs.Option.{option_and_then, option_copied};
 ghost use Rattle.aud_tap.specs.Forms.{passing};
 ghost use Rattle.aud_node.specs.AtPosition.{is_recoverable_at};
 ghost use Rattle.aud_node.specs.Known.{spelled};
 ghost use Rattle.aud_sio.specs.Packet.{packet_view};
 ghost use Rattle.aud_sio.specs.Assembly.{whole_view};
 ghost use Rattle.aud_client.specs.TapPackets.{FromServer};
-ghost use Rattle.aud_client.specs.Seen.{packet_seen};
 ghost use Rattle.aud_client.specs.StaySeen.{frame_of, offset_in, recoverable_position};
 
-use crate::connection::TapPacket;
 use aud_node::{KnownEvent, Stream, is_event};
 use aud_sio::{Blob, Packet, Whole, last_text};
 use std::alloc::Global;
 use std::marker::Model;
 
-/// An event that came. Its text is lent from the records of the taps, and so are its attachments where a record has
+/// An event that came. Its text is borrowed from the records of the taps, and so are its attachments where a record has
 /// their bytes as they are.
 #[derive(Drop)]
 pub struct Frame<'a> {
@@ -51,7 +49,7 @@ pub(crate) fn frame_of<'a>(stream: &Stream<'_>, whole: Whole<'a>) -> Option<Fram
     })
 }
 
-/// The frame that a known event is: its text is lent from the stream's tap.
+/// The frame that a known event is: its text is borrowed from the stream's tap.
 pub(crate) fn known_frame<'a>(
     alloc: Global,
     stream: &Stream<'_>,
@@ -69,20 +67,10 @@ pub(crate) fn known_frame<'a>(
     }
 }
 
-/// The position of the frame that a packet is, if it is one.
-pub fn frame_position(stream: &Stream<'_>, packet: &TapPacket<'_>) -> Option<u64>
-    ensures { result ≡ option_map (λ frame. frame.position) (frame_of stream.now (packet_seen packet.now)) }
-{
-    match packet {
-        TapPacket::FromServer(whole) => position_of(stream, &whole.packet),
-        TapPacket::Known(known) => known_position(stream, known),
-        TapPacket::FromClient(_) => None,
-    }
-}
-
 /// The position of the recoverable entry whose offset ends the event, if the packet is one.
 fn position_of(stream: &Stream<'_>, packet: &Packet<'_>) -> Option<u64>
-    ensures { result ≡ option_and_then (recoverable_position stream.now) (offset_in (packet_view packet.now)) }
+    ensures { result ≡ option_and_then (recoverable_position stream.now)
+        (offset_in (packet_view packet.now)) }
 {
     recoverable_position(stream, offset_in(packet)?)
 }

@@ -52,35 +52,38 @@ impl<'a> IndexedTranscript<'a> {
         })
     }
 
-    /// What the tap tells, lent.
+    /// What the tap tells, borrowed.
     pub fn transcript(&self) -> &Transcript<'a>
         ensures { result.now ≡ self.now }
     {
         &self.transcript
     }
 
-    /// The numbers, ascending, of the stays whose reply names the session, lent; stays count from 0 in the tap's order.
+    /// The numbers, ascending, of the stays whose reply names the session, borrowed; stays count from 0 in the tap's
+    /// order.
     pub fn numbers_naming(&self, pid: &str) -> &[usize]
         ensures { stays_numbered self.now.stays result.now ≡ stays_naming pid.now self.now.stays }
     {
         self.by_session.of(pid)
     }
 
-    /// The stays whose reply names the session, in the tap's order, lent. No other stay is looked at.
+    /// The stays whose reply names the session, in the tap's order, borrowed. No other stay is looked at.
     pub fn naming<'s>(&'s self, alloc: Global, pid: &str) -> Result<Vec<&'s Stay<'a>>, AllocError>
-        ensures { IfOk result (λ naming. map (λ stay. stay.now) naming.items ≡ stays_naming pid.now self.now.stays) }
+        ensures { IfOk result (λ naming. map (λ stay. stay.now) naming.items
+            ≡ stays_naming pid.now self.now.stays) }
     {
         stays_at(alloc, &self.transcript.stays, self.numbers_naming(pid))
     }
 }
 
-/// The stays with these numbers, lent.
+/// The stays with these numbers, borrowed.
 fn stays_at<'s, 'a>(
     alloc: Global,
     stays: &'s [Stay<'a>],
     numbers: &[usize],
 ) -> Result<Vec<&'s Stay<'a>>, AllocError>
-    ensures { IfOk result (λ at. map (λ stay. stay.now) at.items ≡ stays_numbered stays.now numbers.now) }
+    ensures { IfOk result (λ at. map (λ stay. stay.now) at.items
+        ≡ stays_numbered stays.now numbers.now) }
 {
     let mut at = Vec::new(alloc);
     for number in numbers {

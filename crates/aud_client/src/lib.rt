@@ -17,6 +17,9 @@
 //! let frame = stay.frames.first().ok_or("no frame")?;
 //! assert_eq!(rt; frame.position, 1);
 //! assert_eq!(rt; frame.text, r#"2["hi","1-0"]"#);
+//! let places = client.transcript().places.first().ok_or("no stay")?;
+//! assert_eq!(rt; places.reply, Some(1)); // its records are `conn`, the reply and the event
+//! assert_eq!(rt; places.frames.as_slice(), [2].as_slice());
 //! ```
 #![tactic(auto)]
 
@@ -28,24 +31,26 @@ mod connection;
 mod frame;
 mod indexed_transcript;
 mod laws;
+mod part;
 mod payload;
 mod recording;
 mod replies;
 mod stay;
+mod stay_places;
 mod stays;
 mod tap;
 mod told;
 mod transcript;
 
-pub use asked::{Asked, asked_in};
+pub use asked::Asked;
 pub use client_tap::{ClientTap, Connection};
 pub use connection::{Placed, TapPacket};
-pub use frame::{Frame, frame_position};
+pub use frame::Frame;
 pub use indexed_transcript::IndexedTranscript;
-pub use laws::received_by_stays;
+pub use laws::{placed_stays_are_stays, places_are_of_stays, received_by_stays};
 pub use recording::Recording;
 pub use replies::{Reply, reply_of};
 pub use stay::Stay;
-pub use stays::{is_connect, is_disconnect, namespace};
+pub use stay_places::StayPlaces;
 pub use tap::read_transcript;
 pub use transcript::Transcript;

@@ -1,12 +1,12 @@
 //! The fields of a packet's payload.
 ghost use Rattle.std.specs.Prelude.{◌≡◌, IfOk, option_map};
 ghost use Rattle.std.specs.Option.{option_copied};
-ghost use Rattle.aud_fields.specs.Shown.{shown};
-ghost use Rattle.aud_fields.specs.View.{view};
+ghost use Rattle.aud_json.specs.Shown.{shown};
+ghost use Rattle.aud_json.specs.View.{view};
 ghost use Rattle.aud_tap.specs.Json.{text_at};
 ghost use Rattle.aud_client.specs.Replies.{value_of};
 
-use aud_fields::{Fields, FieldsFault, Scratch};
+use aud_json::{Fields, FieldsFault, Scratch};
 use std::alloc::{AllocError, Global};
 
 /// The fields of the payload's value; none where there is no payload, or it is no JSON text (RFC 8259).
@@ -28,7 +28,7 @@ pub fn fields_of<'a>(
     }
 }
 
-/// The text at the key of an object, lent; none where the value is no object, or has no text there.
+/// The text at the key of an object, borrowed; none where the value is no object, or has no text there.
 pub fn text_at<'a>(fields: &Fields<'a>, key: &str) -> Option<&'a str>
     ensures { option_copied result ≡ text_at key.now (view fields.now) }
 {

@@ -15,9 +15,9 @@ use std::hash::RandomState;
 use std::marker::Model;
 use std::thread::Threads;
 
-/// The taps, lent, with all that was made of them, each read once: the logs of the stream and of the nodes, and what
-/// each client's tap tells. Seen as the cluster. A tap is named by its place, which counts from 0 in the order of the
-/// headers, and no two have one name.
+/// The taps, borrowed, with all that was made of them, each read once: the logs of the stream and of the nodes, and
+/// what each client's tap tells. Seen as the cluster. A tap is named by its place, which counts from 0 in the order of
+/// the headers, and no two have one name.
 #[derive(Drop)]
 pub struct Recording<'a> {
     logs: Logs<'a>,
@@ -37,7 +37,7 @@ impl<'a> Model for Recording<'a> {
 
 impl<'a> Recording<'a> {
     /// Reads the taps, those of clients in at most so many threads: with 0 or 1 none is started. How many there are
-    /// changes nothing in what is read. A client's packets are let go record after record: what the stays keep of them
+    /// changes nothing in what is read. A client's packets are dropped record after record: what the stays keep of them
     /// is moved out. Names, pids and offsets are hashed with these keys.
     pub fn read<H: Threads + Sync>(
         rt: &H,
@@ -54,7 +54,7 @@ impl<'a> Recording<'a> {
         Ok(Recording { logs, clients })
     }
 
-    /// The logs of the stream and of the nodes, lent.
+    /// The logs of the stream and of the nodes, borrowed.
     pub fn logs(&self) -> &Logs<'a>
         ensures { result.now ≡ self.now }
     {
@@ -68,7 +68,7 @@ impl<'a> Recording<'a> {
         let _logs = &self.logs;
     }
 
-    /// What the tap at this place tells, lent; none where it is no client's.
+    /// What the tap at this place tells, borrowed; none where it is no client's.
     pub fn client(&self, place: usize) -> Option<&IndexedTranscript<'a>>
         ensures { option_copied result ≡ transcript_at self.now place }
     {

@@ -1,11 +1,11 @@
 //! What the server's answer to a CONNECT tells.
 ghost use Rattle.std.specs.Prelude.{◌≡◌, IfOk, option_map};
-ghost use Rattle.aud_fields.specs.View.{view};
+ghost use Rattle.aud_json.specs.View.{view};
 ghost use Rattle.aud_sio.specs.Assembly.{whole_view};
 ghost use Rattle.aud_client.specs.Replies.{is_connect_kind, pid_in, reply_in, sid_in, reply_in_value, value_of};
 
 use crate::payload::{fields_of, text_at};
-use aud_fields::{Fields, Scratch};
+use aud_json::{Fields, Scratch};
 use aud_sio::{PacketKind, Whole};
 use aud_tap::{Text, is_session_id};
 use std::alloc::{AllocError, Global};
@@ -65,7 +65,8 @@ fn reply_in_value(
     scratch: &mut Scratch,
     payload: Option<&str>,
 ) -> Result<Reply, AllocError>
-    ensures { IfOk result (λ reply. reply ≡ reply_in_value (value_of (option_map (λ text. text.now) payload.entry))) }
+    ensures { IfOk result (λ reply. reply
+        ≡ reply_in_value (value_of (option_map (λ text. text.now) payload.entry))) }
 {
     let Some(fields) = fields_of(alloc, payload, scratch)? else {
         return Ok(Reply {

@@ -1,19 +1,21 @@
 //! A stay of a client in a namespace.
-ghost use Rattle.std.specs.Prelude.{◌≡◌, ◌++◌, List, [], OnOk};
+ghost use Rattle.std.specs.Prelude.{◌≡◌, ◌++◌, List, [], IfOk, OnOk, if◌then◌else◌, is_some};
 ghost use Rattle.std.specs.List.{cons_option};
-ghost use Rattle.std.specs.Option.{option_copied, option_or};
+ghost use Rattle.std.specs.Option.{option_copied};
 ghost use Rattle.aud_tap.specs.declared.records.StreamRec.{StreamRec};
 ghost use Rattle.aud_sio.specs.Packet.{packet_view};
 ghost use Rattle.aud_sio.specs.Assembly.{whole_view};
 ghost use Rattle.aud_client.specs.TapPackets.{FromServer, FromClient};
 ghost use Rattle.aud_client.specs.Seen.{packet_seen};
-ghost use Rattle.aud_client.specs.Replies.{is_this, reply_in};
+ghost use Rattle.aud_client.specs.Replies.{is_this};
 ghost use Rattle.aud_client.specs.Received.{stay_names_pid, is_recovered};
-ghost use Rattle.aud_client.specs.Private.Kept.{empty_stay, grown};
+ghost use Rattle.aud_client.specs.declared.part.Part.TheVariants as part;
+ghost use Rattle.aud_client.specs.Private.Kept.{empty_stay, grown, part_of};
 
-use crate::asked::{Asked, asked_with};
+use crate::asked::{Asked, asked_in};
 use crate::connection::TapPacket;
 use crate::frame::{Frame, frame_of, known_frame};
+use crate::part::Part;
 use crate::replies::{Reply, reply_with};
 use aud_node::Stream;
 use aud_sio::{Packet, Scratch, Whole};
@@ -78,15 +80,17 @@ impl<'a> Stay<'a> {
         }
     }
 
-    /// One packet more.
+    /// One packet more; gives what it is to the stay.
     pub(crate) fn add(
         &mut self,
         alloc: Global,
         scratch: &mut Scratch,
         stream: &Stream<'_>,
         packet: TapPacket<'a>,
-    ) -> Result<(), AllocError>
-        ensures { OnOk result (self.new ≡ grown stream.now self.old (packet_seen packet.entry)) }
+    ) -> Result<Part, AllocError>
+        ensures stay { OnOk result (self.new
+            ≡ grown stream.now self.old (packet_seen packet.entry)) }
+        ensures part { IfOk result (λ part. part ≡ part_of stream.now (packet_seen packet.entry)) }
     {
         match packet {
             TapPacket::FromServer(whole) => self.receive(alloc, scratch, stream, whole),
@@ -102,36 +106,35 @@ impl<'a> Stay<'a> {
         scratch: &mut Scratch,
         stream: &Stream<'_>,
         whole: Whole<'a>,
-    ) -> Result<(), AllocError>
-        ensures { OnOk result (self.new ≡ grown stream.now self.old (FromServer (whole_view whole.entry))) }
+    ) -> Result<Part, AllocError>
+        ensures stay { OnOk result (self.new
+            ≡ grown stream.now self.old (FromServer (whole_view whole.entry))) }
+        ensures part { IfOk result (λ part. part
+            ≡ part_of stream.now (FromServer (whole_view whole.entry))) }
     {
-        self.note_reply(alloc, scratch, &whole)?;
-        self.keep(frame_of(stream, whole))
-    }
-
-    /// What the packet of the server tells, if it is a reply.
-    fn note_reply(
-        &mut self,
-        alloc: Global,
-        scratch: &mut Scratch,
-        whole: &Whole<'_>,
-    ) -> Result<(), AllocError>
-        ensures { OnOk result (self.new ≡ record self.old { reply = option_or (reply_in (whole_view whole.now)) self.old.reply }) }
-    {
-        if let Some(reply) = reply_with(alloc, scratch, whole)? {
-            self.reply = Some(reply);
+        match reply_with(alloc, scratch, &whole)? {
+            Some(reply) => {
+                self.reply = Some(reply);
+                Ok(Part::Reply)
+            }
+            None => self.keep(frame_of(stream, whole)),
         }
-        Ok(())
     }
 
     /// The frame, if there is one, comes after the others.
-    fn keep(&mut self, frame: Option<Frame<'a>>) -> Result<(), AllocError>
-        ensures { OnOk result (self.new ≡ record self.old { frames = self.old.frames ++ cons_option frame.entry [] }) }
+    fn keep(&mut self, frame: Option<Frame<'a>>) -> Result<Part, AllocError>
+        ensures stay { OnOk result (self.new
+            ≡ record self.old { frames = self.old.frames ++ cons_option frame.entry [] }) }
+        ensures part { IfOk result (λ is. is ≡ (if is_some frame.entry then part.Frame
+            else part.Other)) }
     {
-        if let Some(frame) = frame {
-            self.frames.push(frame)?;
+        match frame {
+            Some(frame) => {
+                self.frames.push(frame)?;
+                Ok(Part::Frame)
+            }
+            None => Ok(Part::Other),
         }
-        Ok(())
     }
 
     /// A packet of the client.
@@ -140,13 +143,19 @@ impl<'a> Stay<'a> {
         alloc: Global,
         scratch: &mut Scratch,
         packet: &Packet<'_>,
-    ) -> Result<(), AllocError>
-        ensures { (stream : List StreamRec) → OnOk result (self.new ≡ grown stream self.old (FromClient (packet_view packet.now))) }
+    ) -> Result<Part, AllocError>
+        ensures stay { (stream : List StreamRec)
+            → OnOk result (self.new ≡ grown stream self.old (FromClient (packet_view packet.now))) }
+        ensures part { (stream : List StreamRec)
+            → IfOk result (λ part. part ≡ part_of stream (FromClient (packet_view packet.now))) }
     {
-        if let Some(asked) = asked_with(alloc, scratch, packet)? {
-            self.asked = Some(asked);
+        match asked_in(alloc, scratch, packet)? {
+            Some(asked) => {
+                self.asked = Some(asked);
+                Ok(Part::Ask)
+            }
+            None => Ok(Part::Other),
         }
-        Ok(())
     }
 }
 

@@ -1,54 +1,64 @@
 //! The stays of a tap, as its packets come.
-ghost use Rattle.std.specs.Prelude.{◌≡◌, ℕ, ◌++◌, ◌∷◌, List, [], IfSome, OnOk, length, None, Some, slice_get, set, true};
+ghost use Rattle.std.specs.Prelude.{◌≡◌, ℕ, ◌++◌, ◌∷◌, List, [], IfOk, IfSome, OnOk, length, map, None, Some, slice_get, set, true};
 ghost use Rattle.std.specs.Option.{option_and_then};
 ghost use Rattle.aud_tap.specs.declared.records.StreamRec.{StreamRec};
-ghost use Rattle.aud_client.specs.TapPackets.{TapPacket as TapPacketSeen};
-ghost use Rattle.aud_client.specs.Seen.{packet_seen};
+ghost use Rattle.aud_client.specs.Seen.{packet_seen, placed_seen};
 ghost use Rattle.aud_client.specs.Stays.{is_connect, is_disconnect, namespace, packet_in};
 ghost use Rattle.aud_sio.specs.Packet.{packet_view};
 ghost use Rattle.aud_client.specs.StaySeen.{StaySeen};
+ghost use Rattle.aud_client.specs.PlacedStays.{PlacedPacket};
+ghost use Rattle.aud_client.specs.StayPlaces.{PlacesSeen};
 ghost use Rattle.aud_node.specs.Recoverable.{is_event};
 ghost use Rattle.aud_node.specs.Stream.{Text};
-ghost use Rattle.aud_client.specs.Private.Kept.{KeepsStays, packets_seen, BeginsAt, GoesOn, open_at, place_for, unless_replied, empty_stay, grown};
+ghost use Rattle.aud_client.specs.Private.Kept.{Keeps, BeginsAt, GoesOn, open_at, place_for, unless_replied, empty_stay, grown, no_places, grown_places, part_of, with_part};
 
 use crate::connection::{Placed, TapPacket};
+use crate::part::Part;
 use crate::stay::Stay;
+use crate::stay_places::{StayPlaces, in_four_bytes};
 use aud_node::Stream;
 use aud_sio::{Packet, PacketKind, Scratch};
 use std::alloc::{AllocError, Global};
 use std::collections::BTreeMap;
 
-/// The stays so far, and for each namespace of the connection the place of the stay that goes on.
+/// The stays so far with their records, and for each namespace of the connection the place of the stay that goes on.
 #[derive(Drop)]
 pub struct Stays<'a> {
     alloc: Global,
     stays: Vec<Stay<'a>>,
+    /// Of each stay.
+    places: Vec<StayPlaces>,
     open: BTreeMap<&'a str, usize>,
 }
 
 impl<'a> Stays<'a> {
     /// No stay.
     pub fn new(alloc: Global) -> Stays<'a>
-        ensures { result.stays.items ≡ [] }
+        ensures stays { result.stays.items ≡ [] }
+        ensures places { result.places.items ≡ [] }
     {
         Stays {
             alloc,
             stays: Vec::new(alloc),
+            places: Vec::new(alloc),
             open: BTreeMap::new(alloc),
         }
     }
 
-    /// The stays, in the order of their first packets.
-    pub fn into_stays(self) -> Vec<Stay<'a>>
-        ensures { result.items ≡ self.entry.stays.items }
+    /// The stays, in the order of their first packets, and their records.
+    pub fn into_parts(self) -> (Vec<Stay<'a>>, Vec<StayPlaces>)
+        ensures stays { result.0.items ≡ self.entry.stays.items }
+        ensures places { result.1.items ≡ self.entry.places.items }
     {
-        let Stays { stays, .. } = self;
-        stays
+        let Stays { stays, places, .. } = self;
+        (stays, places)
     }
 
     /// No stay goes on.
     pub fn begin_connection(&mut self)
-        ensures { (stream : List StreamRec) (c : ℕ) → KeepsStays stream c self.new self.old.stays.items [] }
+        requires { length self.old.places.items ≡ length self.old.stays.items }
+        ensures { (stream : List StreamRec) (c : ℕ)
+            → Keeps stream c self.new self.old.stays.items self.old.places.items [] }
     {
         self.open.clear();
     }
@@ -61,10 +71,13 @@ impl<'a> Stays<'a> {
         c: u64,
         packets: Vec<Placed<'a>>,
     ) -> Result<(), AllocError>
-        ensures { (done : List StaySeen) (before : List TapPacketSeen) → KeepsStays stream.now c self.old done before → OnOk result (KeepsStays stream.now c self.new done (before ++ packets_seen packets.entry.items)) }
+        ensures { (done : List StaySeen) (told : List PlacesSeen) (before : List PlacedPacket)
+            → Keeps stream.now c self.old done told before
+            → OnOk result (Keeps stream.now c self.new done told (before
+            ++ map placed_seen packets.entry.items)) }
     {
         for placed in packets {
-            self.take(scratch, stream, c, placed.packet)?;
+            self.take(scratch, stream, c, placed)?;
         }
         Ok(())
     }
@@ -75,13 +88,16 @@ impl<'a> Stays<'a> {
         scratch: &mut Scratch,
         stream: &Stream<'_>,
         c: u64,
-        packet: TapPacket<'a>,
+        placed: Placed<'a>,
     ) -> Result<(), AllocError>
-        ensures { (done : List StaySeen) (packets : List TapPacketSeen) → KeepsStays stream.now c self.old done packets → OnOk result (KeepsStays stream.now c self.new done (packets ++ packet_seen packet.entry ∷ [])) }
+        ensures { (done : List StaySeen) (told : List PlacesSeen) (packets : List PlacedPacket)
+            → Keeps stream.now c self.old done told packets
+            → OnOk result (Keeps stream.now c self.new done told (packets
+            ++ placed_seen placed.entry ∷ [])) }
     {
-        match self.place_for(&packet) {
-            Some(place) => self.go_on(scratch, stream, place, packet),
-            None => self.begin(scratch, stream, c, packet),
+        match self.place_for(&placed.packet) {
+            Some(place) => self.go_on(scratch, stream, place, placed),
+            None => self.begin(scratch, stream, c, placed),
         }
     }
 
@@ -95,7 +111,8 @@ impl<'a> Stays<'a> {
 
     /// The place, unless the packet is a CONNECT and the stay there has a reply.
     fn unless_replied(&self, place: usize, packet: &TapPacket<'_>) -> Option<usize>
-        ensures { result ≡ option_and_then (unless_replied (packet_seen packet.now) place) (slice_get self.now.stays.items place) }
+        ensures { result ≡ option_and_then (unless_replied (packet_seen packet.now) place)
+            (slice_get self.now.stays.items place) }
     {
         let stay = self.stays.get(place)?;
         if is_connect(packet) && stay.reply.is_some() {
@@ -111,31 +128,45 @@ impl<'a> Stays<'a> {
         scratch: &mut Scratch,
         stream: &Stream<'_>,
         c: u64,
-        packet: TapPacket<'a>,
+        placed: Placed<'a>,
     ) -> Result<(), AllocError>
-        ensures stays { OnOk result (self.new.stays.items ≡ self.old.stays.items ++ grown stream.now (empty_stay c (namespace (packet_seen packet.entry))) (packet_seen packet.entry) ∷ []) }
-        ensures open { OnOk result (BeginsAt (packet_seen packet.entry) (length self.old.stays.items) self.old self.new) }
+        ensures stays { OnOk result (self.new.stays.items
+            ≡ self.old.stays.items
+            ++ grown stream.now (empty_stay c (namespace (packet_seen placed.entry.packet)))
+            (packet_seen placed.entry.packet) ∷ []) }
+        ensures places { length self.old.places.items ≡ length self.old.stays.items
+            → OnOk result (self.new.places.items
+            ≡ self.old.places.items ++ grown_places stream.now no_places (placed_seen placed.entry)
+            ∷ []) }
+        ensures open { OnOk result (BeginsAt (packet_seen placed.entry.packet)
+            (length self.old.stays.items) self.old self.new) }
     {
         let place = self.stays.len();
-        self.open_stay(c, &packet)?;
-        self.grow(scratch, stream, place, packet)
+        self.open_stay(c, &placed.packet)?;
+        self.grow(scratch, stream, place, placed)
     }
 
     /// A stay in the packet's namespace comes after the others. It goes on, unless the packet ends it.
     fn open_stay(&mut self, c: u64, packet: &TapPacket<'a>) -> Result<(), AllocError>
-        ensures stays { OnOk result (self.new.stays.items ≡ self.old.stays.items ++ empty_stay c (namespace (packet_seen packet.now)) ∷ []) }
-        ensures open { OnOk result (BeginsAt (packet_seen packet.now) (length self.old.stays.items) self.old self.new) }
+        ensures stays { OnOk result (self.new.stays.items
+            ≡ self.old.stays.items ++ empty_stay c (namespace (packet_seen packet.now)) ∷ []) }
+        ensures places { OnOk result (self.new.places.items
+            ≡ self.old.places.items ++ no_places ∷ []) }
+        ensures open { OnOk result (BeginsAt (packet_seen packet.now)
+            (length self.old.stays.items) self.old self.new) }
     {
         let place = self.stays.len();
         self.mark(packet, place)?;
         self.stays
             .push(Stay::new(self.alloc, c, namespace(packet)))?;
+        self.places.push(StayPlaces::new(self.alloc))?;
         Ok(())
     }
 
     /// The stay at the place goes on in the packet's namespace, unless the packet ends it.
     fn mark(&mut self, packet: &TapPacket<'a>, place: usize) -> Result<(), AllocError>
         ensures stays { self.new.stays.items ≡ self.old.stays.items }
+        ensures places { self.new.places.items ≡ self.old.places.items }
         ensures open { OnOk result (BeginsAt (packet_seen packet.now) place self.old self.new) }
     {
         let nsp = namespace(packet);
@@ -153,18 +184,28 @@ impl<'a> Stays<'a> {
         scratch: &mut Scratch,
         stream: &Stream<'_>,
         place: usize,
-        packet: TapPacket<'a>,
+        placed: Placed<'a>,
     ) -> Result<(), AllocError>
-        ensures stays { (t : StaySeen) → slice_get self.old.stays.items place ≡ Some t → OnOk result (self.new.stays.items ≡ set self.old.stays.items place (grown stream.now t (packet_seen packet.entry))) }
-        ensures open { OnOk result (GoesOn (packet_seen packet.entry) self.old self.new) }
+        ensures stays { (s : StaySeen) → slice_get self.old.stays.items place ≡ Some s
+            → OnOk result (self.new.stays.items
+            ≡ set self.old.stays.items place (grown stream.now s
+            (packet_seen placed.entry.packet))) }
+        ensures places { (s : StaySeen) (t : PlacesSeen)
+            → slice_get self.old.stays.items place ≡ Some s
+            → slice_get self.old.places.items place ≡ Some t
+            → OnOk result (self.new.places.items
+            ≡ set self.old.places.items place (grown_places stream.now t
+            (placed_seen placed.entry))) }
+        ensures open { OnOk result (GoesOn (packet_seen placed.entry.packet) self.old self.new) }
     {
-        self.end(&packet);
-        self.grow(scratch, stream, place, packet)
+        self.end(&placed.packet);
+        self.grow(scratch, stream, place, placed)
     }
 
     /// The stay that goes on in the packet's namespace does so no more, if the packet ends it.
     fn end(&mut self, packet: &TapPacket<'_>)
         ensures stays { self.new.stays.items ≡ self.old.stays.items }
+        ensures places { self.new.places.items ≡ self.old.places.items }
         ensures open { GoesOn (packet_seen packet.now) self.old self.new }
     {
         if is_disconnect(packet) {
@@ -172,19 +213,64 @@ impl<'a> Stays<'a> {
         }
     }
 
-    /// The stay at the place has the packet too.
+    /// The stay at the place has the packet too, and its records that of the packet.
     fn grow(
         &mut self,
         scratch: &mut Scratch,
         stream: &Stream<'_>,
         place: usize,
-        packet: TapPacket<'a>,
+        placed: Placed<'a>,
     ) -> Result<(), AllocError>
-        ensures stays { (t : StaySeen) → slice_get self.old.stays.items place ≡ Some t → OnOk result (self.new.stays.items ≡ set self.old.stays.items place (grown stream.now t (packet_seen packet.entry))) }
+        ensures stays { (s : StaySeen) → slice_get self.old.stays.items place ≡ Some s
+            → OnOk result (self.new.stays.items
+            ≡ set self.old.stays.items place (grown stream.now s
+            (packet_seen placed.entry.packet))) }
+        ensures places { (s : StaySeen) (t : PlacesSeen)
+            → slice_get self.old.stays.items place ≡ Some s
+            → slice_get self.old.places.items place ≡ Some t
+            → OnOk result (self.new.places.items
+            ≡ set self.old.places.items place (grown_places stream.now t
+            (placed_seen placed.entry))) }
+        ensures open { (n : List ℕ) → open_at self.new n ≡ open_at self.old n }
+    {
+        let Placed { number, packet } = placed;
+        let short = in_four_bytes(number)?;
+        let part = self.add(scratch, stream, place, packet)?;
+        self.note(place, short, part)
+    }
+
+    /// The stay at the place has the packet too; gives what it is to the stay.
+    fn add(
+        &mut self,
+        scratch: &mut Scratch,
+        stream: &Stream<'_>,
+        place: usize,
+        packet: TapPacket<'a>,
+    ) -> Result<Part, AllocError>
+        ensures stays { (s : StaySeen) → slice_get self.old.stays.items place ≡ Some s
+            → OnOk result (self.new.stays.items
+            ≡ set self.old.stays.items place (grown stream.now s (packet_seen packet.entry))) }
+        ensures part { (s : StaySeen) → slice_get self.old.stays.items place ≡ Some s
+            → IfOk result (λ part. part ≡ part_of stream.now (packet_seen packet.entry)) }
+        ensures places { self.new.places.items ≡ self.old.places.items }
         ensures open { (n : List ℕ) → open_at self.new n ≡ open_at self.old n }
     {
         match self.stays.get_mut(place) {
             Some(stay) => stay.add(self.alloc, scratch, stream, packet),
+            None => Ok(Part::Other),
+        }
+    }
+
+    /// The records of the stay at the place have this number too, of a packet that is this to the stay.
+    fn note(&mut self, place: usize, number: u32, part: Part) -> Result<(), AllocError>
+        ensures places { (t : PlacesSeen) → slice_get self.old.places.items place ≡ Some t
+            → OnOk result (self.new.places.items
+            ≡ set self.old.places.items place (with_part t number part)) }
+        ensures stays { self.new.stays.items ≡ self.old.stays.items }
+        ensures open { (n : List ℕ) → open_at self.new n ≡ open_at self.old n }
+    {
+        match self.places.get_mut(place) {
+            Some(places) => places.add(number, part),
             None => Ok(()),
         }
     }
@@ -192,7 +278,8 @@ impl<'a> Stays<'a> {
 
 /// The packet itself, without its attachments and its way; none where it is a known event, which wasn't decoded.
 fn packet_in<'a, 'b>(packet: &'b TapPacket<'a>) -> Option<&'b Packet<'a>>
-    ensures decoded { IfSome result (λ it. packet_view it.now ≡ packet_in (packet_seen packet.now)) }
+    ensures decoded { IfSome result (λ it. packet_view it.now
+        ≡ packet_in (packet_seen packet.now)) }
     ensures known { result ≡ None → is_event (packet_in (packet_seen packet.now)).kind ≡ true }
 {
     match packet {
@@ -202,8 +289,8 @@ fn packet_in<'a, 'b>(packet: &'b TapPacket<'a>) -> Option<&'b Packet<'a>>
     }
 }
 
-/// The packet's namespace, lent from the taps' records.
-pub fn namespace<'a>(packet: &TapPacket<'a>) -> &'a str
+/// The packet's namespace, borrowed from the taps' records.
+fn namespace<'a>(packet: &TapPacket<'a>) -> &'a str
     ensures { result.now ≡ namespace (packet_seen packet.now) }
 {
     match packet {
@@ -214,7 +301,7 @@ pub fn namespace<'a>(packet: &TapPacket<'a>) -> &'a str
 }
 
 /// Whether the packet is a CONNECT, in either direction.
-pub fn is_connect(packet: &TapPacket<'_>) -> bool
+fn is_connect(packet: &TapPacket<'_>) -> bool
     ensures { result ≡ is_connect (packet_seen packet.now) }
 {
     match packet_in(packet) {
@@ -224,7 +311,7 @@ pub fn is_connect(packet: &TapPacket<'_>) -> bool
 }
 
 /// Whether the packet is a DISCONNECT, in either direction.
-pub fn is_disconnect(packet: &TapPacket<'_>) -> bool
+fn is_disconnect(packet: &TapPacket<'_>) -> bool
     ensures { result ≡ is_disconnect (packet_seen packet.now) }
 {
     match packet_in(packet) {

@@ -12,8 +12,9 @@ use aud_node::Stream;
 use aud_tap::ClientRec;
 use std::alloc::{AllocError, Global};
 
-/// The stays of a client's tap with these records, with the frames that are recoverable in this stream. Packets are let
-/// go record after record: what the frames keep of them is moved out. The texts of the stream's events aren't decoded.
+/// The stays of a client's tap with these records, with the frames that are recoverable in this stream, and the records
+/// at which their packets stand. Packets are dropped record after record: what the frames keep of them is moved out.
+/// The texts of the stream's events aren't decoded.
 pub fn read_transcript<'a>(
     alloc: Global,
     recs: &'a [ClientRec],
@@ -22,9 +23,14 @@ pub fn read_transcript<'a>(
     ensures { IfOk result (λ r. r ≡ transcript_of stream.now recs.now) }
 {
     let Told { bad, stays } = told_by(alloc, recs, stream)?;
-    let stays = stays.into_stays();
+    let (stays, places) = stays.into_parts();
     let orphan = has_orphan(stays.as_slice());
-    Ok(Transcript { bad, orphan, stays })
+    Ok(Transcript {
+        bad,
+        orphan,
+        stays,
+        places,
+    })
 }
 
 /// Whether any of the stays is an orphan's.

@@ -4,6 +4,7 @@ ghost use Rattle.std.specs.Option.{option_or};
 ghost use Rattle.aud_tap.specs.declared.records.ClientRec.{ClientRec};
 ghost use Rattle.aud_client.specs.TapPackets.{tap_packets, numbered_records, bad_in, first_of};
 ghost use Rattle.aud_client.specs.StaySeen.{StaySeen};
+ghost use Rattle.aud_client.specs.StayPlaces.{PlacesSeen, places_in, tap_places};
 ghost use Rattle.aud_client.specs.Received.{stays_of, tap_stays};
 ghost use Rattle.aud_client.specs.Private.ConnectionRead.{inside};
 ghost use Rattle.aud_client.specs.Private.ClientRead.{begun, bad_of, cut_seen};
@@ -31,6 +32,8 @@ pub fn told_by<'a>(
     stream: &Stream<'a>,
 ) -> Result<Told<'a>, AllocError>
     ensures stays { IfOk result (λ told. told.stays.stays.items ≡ tap_stays stream.now recs.now) }
+    ensures places { IfOk result (λ told. told.stays.places.items
+        ≡ tap_places stream.now recs.now) }
     ensures bad { IfOk result (λ told. told.bad ≡ (tap_packets recs.now).bad) }
 {
     let mut scratch = Scratch::new(alloc);
@@ -62,9 +65,16 @@ impl<'a> Told<'a> {
         rec: &ClientRec,
         after: &'a [ClientRec],
     ) -> Result<(), AllocError>
-        requires { number + 1 + length after.now < 2 ^ 64 }
-        ensures stays { OnOk result (self.new.stays.stays.items ≡ self.old.stays.stays.items ++ flat_map (stays_of stream.now) (map cut_seen (begun number rec.now after.now))) }
-        ensures bad { OnOk result (self.new.bad ≡ option_or self.old.bad (bad_of (begun number rec.now after.now))) }
+        requires fits { number + 1 + length after.now < 2 ^ 64 }
+        requires as_many { length self.old.stays.places.items ≡ length self.old.stays.stays.items }
+        ensures stays { OnOk result (self.new.stays.stays.items
+            ≡ self.old.stays.stays.items
+            ++ flat_map (stays_of stream.now) (map cut_seen (begun number rec.now after.now))) }
+        ensures places { OnOk result (self.new.stays.places.items
+            ≡ self.old.stays.places.items
+            ++ flat_map (places_in stream.now) (map cut_seen (begun number rec.now after.now))) }
+        ensures bad { OnOk result (self.new.bad
+            ≡ option_or self.old.bad (bad_of (begun number rec.now after.now))) }
     {
         match rec {
             ClientRec::Conn { c } => {
@@ -84,9 +94,19 @@ impl<'a> Told<'a> {
         first: usize,
         recs: &'a [ClientRec],
     ) -> Result<(), AllocError>
-        requires { first + length recs.now < 2 ^ 64 }
-        ensures stays { OnOk result (self.new.stays.stays.items ≡ self.old.stays.stays.items ++ flat_map (stays_of stream.now) (cut_seen (c, numbered_records first (inside recs.now)) ∷ [])) }
-        ensures bad { OnOk result (self.new.bad ≡ option_or self.old.bad (first_of (bad_in (numbered_records first (inside recs.now))))) }
+        requires fits { first + length recs.now < 2 ^ 64 }
+        requires as_many { length self.old.stays.places.items ≡ length self.old.stays.stays.items }
+        ensures stays { OnOk result (self.new.stays.stays.items
+            ≡ self.old.stays.stays.items
+            ++ flat_map (stays_of stream.now)
+            (cut_seen (c, numbered_records first (inside recs.now)) ∷ [])) }
+        ensures places { OnOk result (self.new.stays.places.items
+            ≡ self.old.stays.places.items
+            ++ flat_map (places_in stream.now)
+            (cut_seen (c, numbered_records first (inside recs.now)) ∷ [])) }
+        ensures bad { OnOk result (self.new.bad
+            ≡ option_or self.old.bad (first_of (bad_in (numbered_records first
+            (inside recs.now))))) }
     {
         self.stays.begin_connection();
         let mut reader = Reader::new(alloc, Some(stream));
@@ -115,7 +135,10 @@ fn read_records<'a>(
     recs: &'a [ClientRec],
 ) -> Result<(), AllocError>
     requires { first + length recs.now < 2 ^ 64 }
-    ensures { (done : List StaySeen) → HasKept stream.now c first done [] reader.old stays.old → OnOk result (HasKept stream.now c first done (inside recs.now) reader.new stays.new) }
+    ensures { (done : List StaySeen) (told : List PlacesSeen)
+        → HasKept stream.now c first done told [] reader.old stays.old
+        → OnOk result (HasKept stream.now c first done told
+        (inside recs.now) reader.new stays.new) }
 {
     for (i, rec) in recs.iter().enumerate() {
         if ends_connection(rec) {
@@ -136,7 +159,11 @@ fn read_record<'a>(
     number: usize,
     rec: &'a ClientRec,
 ) -> Result<(), AllocError>
-    ensures { (first : ℕ) (done : List StaySeen) (recs : List ClientRec) → number ≡ first + length recs → HasKept stream.now c first done recs reader.old stays.old → OnOk result (HasKept stream.now c first done (recs ++ rec.now ∷ []) reader.new stays.new) }
+    ensures { (first : ℕ) (done : List StaySeen) (told : List PlacesSeen) (recs : List ClientRec)
+        → number ≡ first + length recs
+        → HasKept stream.now c first done told recs reader.old stays.old
+        → OnOk result (HasKept stream.now c first done told
+        (recs ++ rec.now ∷ []) reader.new stays.new) }
 {
     reader.read(scratch, number, rec)?;
     stays.packets(scratch, stream, c, reader.take_packets())

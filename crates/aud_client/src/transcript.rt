@@ -1,5 +1,6 @@
 //! What a client's tap tells.
 use crate::stay::Stay;
+use crate::stay_places::StayPlaces;
 use std::marker::Model;
 
 /// What a client's tap tells.
@@ -11,6 +12,8 @@ pub struct Transcript<'a> {
     pub orphan: bool,
     /// The stays, connection after connection, in each in the order of their first packets.
     pub stays: Vec<Stay<'a>>,
+    /// Of each stay the records at which its packets stand.
+    pub places: Vec<StayPlaces>,
 }
 
 impl<'a> Model for Transcript<'a> {
@@ -18,5 +21,5 @@ impl<'a> Model for Transcript<'a> {
 
     ghost Value = { TranscriptSeen };
 
-    ghost view = { λ r. record { bad = r.bad; orphan = r.orphan; stays = r.stays.items } };
+    ghost view = { λ r. record { bad = r.bad; orphan = r.orphan; stays = r.stays.items; places = r.places.items } };
 }

@@ -3,7 +3,7 @@ use Rattle.std.proofs.Common.{◌≡◌, ◌≢◌, ℕ, zero, suc, ◌<◌, ◌
 use Rattle.std.specs.Prelude.{slice_get}
 use mathlib.Core.Logic.{dite}
 use native.Mathlib.Decide.{ℕ_discrete}
-use Rattle.aud_report.specs.declared.verdict.Verdict.{Verdict}
+use Rattle.aud_verdict.specs.declared.verdict.Verdict.{Verdict}
 use Rattle.aud_desk.specs.declared.entry.Entry.{Entry}
 use Rattle.aud_desk.specs.Draws.{is_same, times, below}
 use Rattle.aud_desk.specs.Slots.{HasVerdict, IsFull}

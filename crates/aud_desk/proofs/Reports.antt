@@ -3,9 +3,9 @@ use Rattle.std.proofs.Common.{◌≡◌, ◌≤◌, ℕ, suc, Bool, List, [], �
 use Rattle.std.proofs.lemmas.List.Sums.{count_by-le-length}
 use Rattle.std.specs.Prelude.{count_by, slice_get, string_bytes}
 use Rattle.aud_node.specs.Cluster.{Cluster}
-use Rattle.aud_report.specs.declared.verdict.Verdict.{Verdict}
-use Rattle.aud_report.specs.declared.verdict.SessionVerdict.{SessionVerdict}
-use Rattle.aud_report.specs.Verdict.{is_yes}
+use Rattle.aud_verdict.specs.declared.verdict.Verdict.{Verdict}
+use Rattle.aud_verdict.specs.declared.verdict.SessionVerdict.{SessionVerdict}
+use Rattle.aud_verdict.specs.YesOf.{is_yes}
 use Rattle.aud_verdict.specs.Verdicts.{IsVerdictOn, IsVerdictAt, AreVerdicts}
 use Rattle.aud_desk.specs.Named.{session_verdict}
 

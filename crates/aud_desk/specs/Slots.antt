@@ -1,6 +1,6 @@
 -- A place for each session's verdict.
 use Rattle.std.specs.Prelude.{◌≡◌, ℕ, List, Option, Some, slice_get}
-use Rattle.aud_report.specs.declared.verdict.Verdict.{Verdict}
+use Rattle.aud_verdict.specs.declared.verdict.Verdict.{Verdict}
 
 -- this verdict is at the place
 abbrev pub HasVerdict : List (Option Verdict) → ℕ → Verdict → Type 0

@@ -3,7 +3,7 @@ use Rattle.std.specs.Prelude.{ℕ, List, All, Contains, map}
 use Rattle.aud_desk.specs.declared.entry.Entry.{Entry}
 use Rattle.aud_desk.specs.declared.tickets.Tickets.{Tickets}
 use Rattle.aud_desk.specs.declared.worker.Worker.{Worker}
-use Rattle.aud_report.specs.declared.verdict.Verdict.{Verdict}
+use Rattle.aud_verdict.specs.declared.verdict.Verdict.{Verdict}
 use Rattle.aud_desk.specs.Views.{IsSeatOf}
 
 -- each entry has what is so of its index

@@ -47,7 +47,8 @@ fn start<'s, E, T: Decide + Sync, G: Gate + Sync, R: Threads + Wait + Clock + Sy
 ) -> Result<PromisedHandle<Result<Worker, AuditFault>, Job<'s, T>>, AuditFault>
     requires seat { IsSeatOf tickets.now seat × (drawn seat ≡ []) }
     requires count { tickets.now.n ≡ T.count task.now }
-    ensures job { IfOk result (λ h. (h.promise.tickets.now ≡ tickets.now) × (h.promise.task.now ≡ task.now)) }
+    ensures job { IfOk result (λ h. (h.promise.tickets.now ≡ tickets.now)
+        × (h.promise.task.now ≡ task.now)) }
     ensures err { IfErr result IsNotWorkers }
 {
     match scope.spawn_with(
@@ -77,7 +78,8 @@ fn start_all<'s, E, T: Decide + Sync, G: Gate + Sync, R: Threads + Wait + Clock 
     requires seats { All (λ s. IsSeatOf tickets.now s × (drawn s ≡ [])) seats.items }
     requires count { tickets.now.n ≡ T.count task.now }
     ensures len { IfOk result (λ all. vec_len all ≡ vec_len seats) }
-    ensures jobs { IfOk result (λ all. All (λ h. (h.promise.tickets.now ≡ tickets.now) × (h.promise.task.now ≡ task.now)) all.items) }
+    ensures jobs { IfOk result (λ all. All
+        (λ h. (h.promise.tickets.now ≡ tickets.now) × (h.promise.task.now ≡ task.now)) all.items) }
     ensures err { IfErr result IsNotWorkers }
 {
     let Ok(mut handles) = Vec::with_capacity(alloc, seats.len()) else {
@@ -90,8 +92,8 @@ fn start_all<'s, E, T: Decide + Sync, G: Gate + Sync, R: Threads + Wait + Clock 
     Ok(handles)
 }
 
-/// What these workers hand back. Where memory could not be had, all of them are waited for, and the fault has the number
-/// of entries that they had made.
+/// What these workers hand back. Where memory could not be had, all of them are waited for, and the fault has the
+/// number of entries that they had made.
 fn wait_for_all<'s, T: Decide, R: Threads>(
     rt: &R,
     alloc: Global,
@@ -150,7 +152,8 @@ pub fn decide_all<T: Decide + Sync, G: Gate + Sync, R: Threads + Wait + Clock + 
             requires seats { All (λ s. IsSeatOf tickets.now s × (drawn s ≡ [])) seats.items }
             requires count { tickets.now.n ≡ T.count task.now }
             ensures len { IfOk result (λ ws. vec_len ws ≡ vec_len seats) }
-            ensures work { IfOk result (λ ws. All (IsWorkOf tickets.entry.now (T.is_verdict task.entry.now)) ws.items) }
+            ensures work { IfOk result (λ ws. All
+                (IsWorkOf tickets.entry.now (T.is_verdict task.entry.now)) ws.items) }
             ensures err { IfErr result IsNotWorkers }
         {
             match start_all(scope, rt, alloc, tickets, task, seats, gate) {

@@ -29,7 +29,8 @@ pub fn work<G: Gate, R: Wait + Clock>(
 ) -> Result<Worker, AuditFault>
     requires seat { IsSeatOf tickets.now seat × (drawn seat ≡ []) }
     requires sessions { tickets.now.n ≡ length sessions.now }
-    ensures worker { IfOk result (IsWorkOf tickets.now (IsVerdictAt recording.now whole (map string_bytes sessions.now))) }
+    ensures worker { IfOk result (IsWorkOf tickets.now (IsVerdictAt recording.now whole
+        (map string_bytes sessions.now))) }
     ensures err { IfErr result IsMemory }
 {
     let sessions = Sessions {

@@ -1,7 +1,7 @@
 //! The audit of all sessions, by several workers.
 ghost use Rattle.std.specs.Prelude.{◌≡◌, ◌+◌, ◌<◌, ◌≤◌, ◌⊎◌, ℕ, [], IfOk, IfErr, IsErrOf, All, count_by, length, map, slice_get, string_bytes, vec_len, zip, Some};
-ghost use Rattle.aud_report.specs.declared.verdict.Verdict.{Verdict};
-ghost use Rattle.aud_report.specs.Verdict.{is_yes};
+ghost use Rattle.aud_verdict.specs.declared.verdict.Verdict.{Verdict};
+ghost use Rattle.aud_verdict.specs.YesOf.{is_yes};
 ghost use Rattle.aud_maker.specs.Sessions.{sessions_of};
 ghost use Rattle.aud_desk.specs.Faults.{IsNotWorkers};
 ghost use Rattle.aud_verdict.specs.Verdicts.{AreVerdicts, IsVerdictAt};
@@ -15,8 +15,8 @@ use crate::slots::gather;
 use crate::tickets::Tickets;
 use aud_client::Recording;
 use aud_maker::sessions;
-use aud_report::{SessionVerdict, Verdict};
 use aud_tap::Text;
+use aud_verdict::{SessionVerdict, Verdict};
 use std::alloc::{AllocError, Global};
 use std::sync::Wait;
 use std::thread::Threads;
@@ -57,7 +57,9 @@ fn verdicts<G: Gate + Sync, R: Threads + Wait + Clock + Sync>(
 ) -> Result<Vec<Verdict>, AuditFault>
     requires { (0 < workers) × (workers ≤ 64) }
     ensures len { IfOk result (λ all. vec_len all ≡ length pids.now) }
-    ensures each { IfOk result (λ all. (i : ℕ) (verdict : Verdict) → slice_get all.items i ≡ Some verdict → IsVerdictAt recording.now whole (map string_bytes pids.now) i verdict) }
+    ensures each { IfOk result (λ all. (i : ℕ) (verdict : Verdict)
+        → slice_get all.items i ≡ Some verdict
+        → IsVerdictAt recording.now whole (map string_bytes pids.now) i verdict) }
     ensures err { IfErr result IsNotWorkers }
 {
     let Ok((tickets, seats)) = Tickets::new(alloc, pids.len(), workers) else {
@@ -109,7 +111,8 @@ pub fn audit_with<G: Gate + Sync, R: Threads + Wait + Clock + Sync>(
     gate: &G,
 ) -> Result<Report, AuditFault>
     // The workers' promise: for every number of workers and every gate.
-    ensures verdicts { IfOk result (λ report. AreVerdicts recording.now whole (sessions_of recording.now) report.verdicts.items) }
+    ensures verdicts { IfOk result (λ report. AreVerdicts recording.now whole
+        (sessions_of recording.now) report.verdicts.items) }
     ensures yes { IfOk result (λ report. report.yes ≡ count_by is_yes report.verdicts.items) }
     ensures all { IfOk result (λ report. report.yes + report.no ≡ vec_len report.verdicts) }
     // The number of workers is refused only where it is none that can be.

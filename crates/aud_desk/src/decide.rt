@@ -9,7 +9,7 @@ use std::alloc::{AllocError, Global};
 /// What can be decided by index.
 pub trait Decide {
     ghost use Rattle.std.specs.Prelude.{ℕ};
-    ghost use Rattle.aud_report.specs.declared.verdict.Verdict.{Verdict};
+    ghost use Rattle.aud_verdict.specs.declared.verdict.Verdict.{Verdict};
 
     /// How many indices there are.
     ghost count: { Self → ℕ };

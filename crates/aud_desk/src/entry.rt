@@ -25,7 +25,8 @@ impl Entry {
     ) -> Result<Entry, AllocError>
         requires { index < length sessions.now }
         ensures index { IfOk result (λ entry. entry.index ≡ index) }
-        ensures verdict { IfOk result (λ entry. IsVerdictAt recording.now whole (map string_bytes sessions.now) index entry.verdict) }
+        ensures verdict { IfOk result (λ entry. IsVerdictAt recording.now whole
+            (map string_bytes sessions.now) index entry.verdict) }
     {
         let verdict = decide(alloc, recording, sessions[index].as_str(), whole)?;
         Ok(Entry { index, verdict })

@@ -1,6 +1,6 @@
 //! The verdicts of all workers, by index.
 ghost use Rattle.std.specs.Prelude.{◌≡◌, ◌<◌, ◌⊎◌, ℕ, Some, IfOk, All, Contains, IsSome, map, slice_get, slice_set, vec_len};
-ghost use Rattle.aud_report.specs.declared.verdict.Verdict.{Verdict};
+ghost use Rattle.aud_verdict.specs.declared.verdict.Verdict.{Verdict};
 ghost use Rattle.aud_desk.specs.Draws.{late_count, times};
 ghost use Rattle.aud_desk.specs.Slots.{HasVerdict, IsFull};
 ghost use Rattle.aud_desk.specs.Views.{IsSeatOf, drawn};
@@ -9,7 +9,7 @@ ghost use Rattle.aud_desk.specs.Workers.{HasEntry, entry_of, indices};
 use crate::entry::Entry;
 use crate::tickets::{TicketSeat, Tickets};
 use crate::worker::Worker;
-use aud_report::Verdict;
+use aud_verdict::Verdict;
 use std::alloc::{AllocError, Global};
 
 /// Puts the entry's verdict at its index.
@@ -25,7 +25,8 @@ fn put(slots: &mut Vec<Option<Verdict>>, entry: Entry)
 fn place(slots: &mut Vec<Option<Verdict>>, mut entries: Vec<Entry>)
     requires { All (λ e. e.index < vec_len slots.old) entries.items }
     ensures len { vec_len slots.new ≡ vec_len slots.old }
-    ensures found { (i : ℕ) (verdict : Verdict) → HasVerdict slots.new.items i verdict → HasVerdict slots.old.items i verdict ⊎ Contains entries.items (entry_of i verdict) }
+    ensures found { (i : ℕ) (verdict : Verdict) → HasVerdict slots.new.items i verdict
+        → HasVerdict slots.old.items i verdict ⊎ Contains entries.items (entry_of i verdict) }
     ensures kept { (i : ℕ) → IsFull slots.old.items i → IsFull slots.new.items i }
     ensures full { (i : ℕ) → 0 < times i (indices entries.items) → IsFull slots.new.items i }
 {
@@ -37,11 +38,15 @@ fn place(slots: &mut Vec<Option<Verdict>>, mut entries: Vec<Entry>)
 /// Puts the verdicts of a worker at their places, and gives back its seat.
 fn settle(slots: &mut Vec<Option<Verdict>>, worker: Worker) -> TicketSeat
     requires { worker.seat.seat.me.0.n ≡ vec_len slots.old }
-    ensures seat { (result ≡ worker.seat) × (0 < late_count (vec_len slots.old) (drawn worker.seat)) }
+    ensures seat { (result ≡ worker.seat)
+        × (0 < late_count (vec_len slots.old) (drawn worker.seat)) }
     ensures len { vec_len slots.new ≡ vec_len slots.old }
-    ensures found { (i : ℕ) (verdict : Verdict) → HasVerdict slots.new.items i verdict → HasVerdict slots.old.items i verdict ⊎ Contains worker.entries.items (entry_of i verdict) }
+    ensures found { (i : ℕ) (verdict : Verdict) → HasVerdict slots.new.items i verdict
+        → HasVerdict slots.old.items i verdict
+        ⊎ Contains worker.entries.items (entry_of i verdict) }
     ensures kept { (i : ℕ) → IsFull slots.old.items i → IsFull slots.new.items i }
-    ensures full { (i : ℕ) → i < vec_len slots.old → 0 < times i (drawn worker.seat) → IsFull slots.new.items i }
+    ensures full { (i : ℕ) → i < vec_len slots.old → 0 < times i (drawn worker.seat)
+        → IsFull slots.new.items i }
 {
     let Worker { seat, entries } = worker;
     place(slots, entries);
@@ -51,7 +56,8 @@ fn settle(slots: &mut Vec<Option<Verdict>>, worker: Worker) -> TicketSeat
 /// So many places, with no verdict.
 fn places(alloc: Global, n: usize) -> Result<Vec<Option<Verdict>>, AllocError>
     ensures len { IfOk result (λ v. vec_len v ≡ n) }
-    ensures empty { IfOk result (λ v. (i : ℕ) (verdict : Verdict) → HasVerdict v.items i verdict → ⊥) }
+    ensures empty { IfOk result (λ v. (i : ℕ) (verdict : Verdict) → HasVerdict v.items i verdict
+        → ⊥) }
 {
     let mut slots = Vec::with_capacity(alloc, n)?;
     for _ in 0..n {
@@ -82,7 +88,8 @@ pub fn gather(
     requires seats { All (λ w. IsSeatOf tickets w.seat) workers.items }
     requires all { vec_len workers ≡ tickets.seats }
     ensures len { IfOk result (λ verdicts. vec_len verdicts ≡ tickets.n) }
-    ensures each { IfOk result (λ verdicts. (i : ℕ) (verdict : Verdict) → slice_get verdicts.items i ≡ Some verdict → HasEntry workers.items i verdict) }
+    ensures each { IfOk result (λ verdicts. (i : ℕ) (verdict : Verdict)
+        → slice_get verdicts.items i ≡ Some verdict → HasEntry workers.items i verdict) }
 {
     let mut slots = places(alloc, tickets.count())?;
     let Some(first) = workers.pop() else {

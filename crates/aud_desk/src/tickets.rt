@@ -100,7 +100,8 @@ impl Tickets {
     ) -> Result<(Tickets, Vec<TicketSeat>), AllocError>
         requires seats { (0 < seats) × (seats ≤ 64) }
         requires room { n + 64 < 2 ^ 64 }
-        ensures counts { IfOk result (λ r. (r.0.n ≡ n) × (r.0.seats ≡ seats) × (vec_len r.1 ≡ seats)) }
+        ensures counts { IfOk result (λ r. (r.0.n ≡ n) × (r.0.seats ≡ seats)
+            × (vec_len r.1 ≡ seats)) }
         ensures fresh { IfOk result (λ r. All (λ s. IsSeatOf r.0 s × (drawn s ≡ [])) r.1.items) }
     {
         let about = Bound {
@@ -129,8 +130,11 @@ impl Tickets {
     pub fn claim(&self, held: TicketSeat) -> (Option<usize>, TicketSeat)
         requires { IsSeatOf self.now held }
         ensures same { IsSeatOf self.now result.1 }
-        ensures some { IfSome result.0 (λ x. (x < self.now.n) × (drawn result.1 ≡ drawn held ++ x ∷ []) × (past_all (drawn held) ≤ x)) }
-        ensures none { IfNone result.0 ((below self.now.n (drawn result.1) ≡ below self.now.n (drawn held)) × (0 < late_count self.now.n (drawn result.1))) }
+        ensures some { IfSome result.0 (λ x. (x < self.now.n)
+            × (drawn result.1 ≡ drawn held ++ x ∷ []) × (past_all (drawn held) ≤ x)) }
+        ensures none { IfNone result.0
+            ((below self.now.n (drawn result.1) ≡ below self.now.n (drawn held))
+            × (0 < late_count self.now.n (drawn result.1))) }
         ensures over { IfNone result.0 (result.1.over ≡ true) }
         ensures again { held.over ≡ true → (result.0 ≡ None) × (result.1 ≡ held) }
     {

@@ -18,7 +18,8 @@ impl Worker {
     /// A worker that was told that there is none left.
     pub(crate) fn done(seat: TicketSeat, entries: Vec<Entry>) -> Worker
         requires past { 0 < late_count seat.seat.me.0.n seat.seat.me.0.drawn }
-        requires each { map (λ e. e.index) entries.items ≡ below seat.seat.me.0.n seat.seat.me.0.drawn }
+        requires each { map (λ e. e.index) entries.items
+            ≡ below seat.seat.me.0.n seat.seat.me.0.drawn }
         ensures { (result.seat ≡ seat) × (result.entries ≡ entries) }
     {
         Worker { seat, entries }

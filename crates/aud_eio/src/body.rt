@@ -10,8 +10,8 @@ use crate::{Eio, EioFault};
 use std::alloc::{AllocError, Global};
 
 /// The packets of a body of HTTP long-polling, cut at every byte 0x1e (Engine.IO protocol 4, section "HTTP
-/// long-polling"); their texts are lent from it. The fault is that of the first piece that is no packet, or `Memory`.
-/// A body without a byte is one empty piece, and refused as `Empty`.
+/// long-polling"); their texts are borrowed from it. The fault is that of the first piece that is no packet, or
+/// `Memory`. A body without a byte is one empty piece, and refused as `Empty`.
 pub fn decode_payload(alloc: Global, body: &str) -> Result<Vec<Eio<'_>>, EioFault>
     ensures { Gives (λ packets. map engine_view packets.items) result (engine_packets_of body.now) }
 {
@@ -29,7 +29,8 @@ pub fn encode_payload(alloc: Global, packets: &[Eio<'_>]) -> Result<String, EioF
     requires some { 0 < length packets.now }
     requires fit { All (λ packet. FitsBody (engine_view packet)) packets.now }
     ensures body { IfOk result (λ body. string_bytes body ≡ body_of (map engine_view packets.now)) }
-    ensures reads_back { IfOk result (λ body. engine_packets_of (string_bytes body) ≡ Ok (map delivered (map engine_view packets.now))) }
+    ensures reads_back { IfOk result (λ body. engine_packets_of (string_bytes body)
+        ≡ Ok (map delivered (map engine_view packets.now))) }
     ensures memory { IfErr result (λ e. e ≡ EioFault.Memory) }
 {
     let mut body = String::new(alloc);
@@ -39,7 +40,8 @@ pub fn encode_payload(alloc: Global, packets: &[Eio<'_>]) -> Result<String, EioF
 
 /// Writes packets after a text, of which memory may leave a part.
 fn push_packets(packets: &[Eio<'_>], body: &mut String) -> Result<(), AllocError>
-    ensures body { OnOk result (string_bytes body.new ≡ string_bytes body.old ++ body_of (map engine_view packets.now)) }
+    ensures body { OnOk result (string_bytes body.new
+        ≡ string_bytes body.old ++ body_of (map engine_view packets.now)) }
     ensures read_back { OnOk result (All (λ packet. ReadsBack (engine_view packet)) packets.now) }
 {
     let mut between = "";

@@ -19,7 +19,7 @@ pub enum Control {
     Noop,
 }
 
-/// A packet. Texts, without the type digit, are lent from the text or body that the packet was read from.
+/// A packet. Texts, without the type digit, are borrowed from the text or body that the packet was read from.
 #[derive(Debug, PartialEq, Eq, Drop)]
 pub enum Eio<'a> {
     /// Any packet that is no message, with its payload.
@@ -32,7 +32,7 @@ pub enum Eio<'a> {
     Own(Vec<u8>),
 }
 
-/// Why a text is no packet; or want of memory.
+/// Why a text is no packet; or running out of memory.
 #[derive(Clone, Copy, Debug, PartialEq, Eq, Drop, Error)]
 pub enum EioFault {
     /// The text has no byte.

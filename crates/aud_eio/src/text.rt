@@ -42,7 +42,8 @@ pub fn decode_binary(bytes: &[u8]) -> Eio<'_>
 /// The text of a packet; bytes are written as `b` and base64, and read back as own bytes. The one error is `Memory`.
 pub fn encode_text(alloc: Global, packet: &Eio<'_>) -> Result<String, EioFault>
     ensures text { IfOk result (λ text. string_bytes text ≡ engine_text (engine_view packet.now)) }
-    ensures reads_back { IfOk result (λ text. engine_packet_of (string_bytes text) ≡ Ok (delivered (engine_view packet.now))) }
+    ensures reads_back { IfOk result (λ text. engine_packet_of (string_bytes text)
+        ≡ Ok (delivered (engine_view packet.now))) }
     ensures memory { IfErr result (λ e. e ≡ EioFault.Memory) }
 {
     let mut text = String::new(alloc);
@@ -52,7 +53,8 @@ pub fn encode_text(alloc: Global, packet: &Eio<'_>) -> Result<String, EioFault>
 
 /// Writes a packet after a text, of which memory may leave a part.
 pub(crate) fn push_packet(packet: &Eio<'_>, text: &mut String) -> Result<(), AllocError>
-    ensures text { OnOk result (string_bytes text.new ≡ string_bytes text.old ++ engine_text (engine_view packet.now)) }
+    ensures text { OnOk result (string_bytes text.new
+        ≡ string_bytes text.old ++ engine_text (engine_view packet.now)) }
     ensures reads_back { ReadsBack (engine_view packet.now) }
 {
     match packet {
@@ -72,7 +74,8 @@ fn push_typed(digit: char, payload: &str, text: &mut String) -> Result<(), Alloc
 }
 
 fn push_base64(bytes: &[u8], text: &mut String) -> Result<(), AllocError>
-    ensures text { OnOk result (string_bytes text.new ≡ string_bytes text.old ++ 98 ∷ encode_of standard bytes.now) }
+    ensures text { OnOk result (string_bytes text.new
+        ≡ string_bytes text.old ++ 98 ∷ encode_of standard bytes.now) }
     ensures reads_back { decode_of standard (encode_of standard bytes.now) ≡ Ok bytes.now }
 {
     text.push('b')?;
@@ -80,7 +83,8 @@ fn push_base64(bytes: &[u8], text: &mut String) -> Result<(), AllocError>
 }
 
 fn decode_base64<'a>(alloc: Global, text: &str) -> Result<Eio<'a>, EioFault>
-    ensures { Gives engine_view result (need EioFault.BadBase64 (option_map Packet.Own (base64_bytes text.now))) }
+    ensures { Gives engine_view result (need EioFault.BadBase64 (option_map Packet.Own
+        (base64_bytes text.now))) }
 {
     match STANDARD.decode(alloc, text.as_bytes()) {
         Ok(bytes) => Ok(Eio::Own(bytes)),

@@ -4,10 +4,8 @@ pub use Rattle.aud_merge.specs.ByTurns
 pub use Rattle.aud_client.specs.Received
 pub use Rattle.aud_check.specs.Compare
 pub use Rattle.aud_check.specs.Frames
-pub mod Class
 pub mod Content
 pub mod Difference
-pub mod FaultWord
 pub mod Order
 pub mod Parting
 pub mod Stays

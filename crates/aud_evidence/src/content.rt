@@ -42,7 +42,8 @@ pub enum Part {
 /// The first of the frames whose text or attachments are not, byte for byte, those of the entry at its position; none
 /// where each frame is its entry.
 pub fn first_altered(stream: &Stream<'_>, frames: &[&Frame<'_>]) -> Option<Altered>
-    ensures { MatchOption result (AreEntries stream.now (map (λ frame. frame.now) frames.now)) (IsAltered stream.now (map (λ frame. frame.now) frames.now)) }
+    ensures { MatchOption result (AreEntries stream.now (map (λ frame. frame.now) frames.now))
+        (IsAltered stream.now (map (λ frame. frame.now) frames.now)) }
 {
     for (number, frame) in frames.iter().enumerate() {
         let frame: &Frame<'_> = *frame;
@@ -59,7 +60,8 @@ pub fn first_altered(stream: &Stream<'_>, frames: &[&Frame<'_>]) -> Option<Alter
 
 /// The part of the frame that isn't that of the entry at its position; none where it is that entry.
 fn part_of(stream: &Stream<'_>, frame: &Frame<'_>) -> Option<Part>
-    ensures { MatchOption result (IsEntry stream.now frame.now) (IsPartOf frame.now (entry stream.now frame.now.position)) }
+    ensures { MatchOption result (IsEntry stream.now frame.now) (IsPartOf frame.now
+        (entry stream.now frame.now.position)) }
 {
     match stream.entry(frame.position) {
         Some(StreamRec::Ev(event)) => part_of_event(frame, event),
@@ -69,7 +71,8 @@ fn part_of(stream: &Stream<'_>, frame: &Frame<'_>) -> Option<Part>
 
 /// The same of the event there.
 fn part_of_event(frame: &Frame<'_>, event: &Event) -> Option<Part>
-    ensures { MatchOption result (IsOf frame.now (Some (Ev event.now))) (IsPartOf frame.now (Some (Ev event.now))) }
+    ensures { MatchOption result (IsOf frame.now (Some (Ev event.now))) (IsPartOf frame.now
+        (Some (Ev event.now))) }
 {
     match first_parting(frame.text.as_bytes(), event.text.as_str().as_bytes()) {
         Some(at) => Some(Part::Text { at }),
@@ -79,7 +82,8 @@ fn part_of_event(frame: &Frame<'_>, event: &Event) -> Option<Part>
 
 /// The part of these attachments that isn't of the entry's.
 fn part_of_attachments(blobs: &[Blob<'_>], bytes: &[Bytes]) -> Option<Part>
-    ensures { MatchOption result (map blob_bytes (map blob_view blobs.now) ≡ bytes.now) (IsAttachmentsPart (map blob_bytes (map blob_view blobs.now)) bytes.now) }
+    ensures { MatchOption result (map blob_bytes (map blob_view blobs.now) ≡ bytes.now)
+        (IsAttachmentsPart (map blob_bytes (map blob_view blobs.now)) bytes.now) }
 {
     if blobs.len() != bytes.len() {
         return Some(Part::Count);
@@ -94,7 +98,8 @@ fn part_of_attachments(blobs: &[Blob<'_>], bytes: &[Bytes]) -> Option<Part>
 
 /// Where the attachment parts from these bytes.
 fn parting_of(blob: &Blob<'_>, bytes: &Bytes) -> Option<usize>
-    ensures { MatchOption result (blob_bytes (blob_view blob.now) ≡ bytes.now) (PartAt (blob_bytes (blob_view blob.now)) bytes.now) }
+    ensures { MatchOption result (blob_bytes (blob_view blob.now) ≡ bytes.now)
+        (PartAt (blob_bytes (blob_view blob.now)) bytes.now) }
 {
     first_parting(blob.as_slice(), bytes.as_slice())
 }

@@ -7,8 +7,8 @@ ghost use Rattle.aud_check.specs.Faults.{fault_of};
 ghost use Rattle.aud_evidence.specs.Difference.{IsAscending, IsDifference, IsFirstPlace, fault_shown};
 ghost use Rattle.aud_evidence.specs.Private.Displaced.{IsDisplaced};
 
-/// What was received against what was due, at the first place where the two part. Frames count from 0 in the list of all
-/// that was received, positions of the stream from 1.
+/// What was received against what was due, at the first place where the two part. Frames count from 0 in the list of
+/// all that was received, positions of the stream from 1.
 #[derive(Clone, Copy, Debug, PartialEq, Eq, Drop)]
 pub enum Difference {
     /// The frame is of a position that was not due.
@@ -39,10 +39,13 @@ pub enum Difference {
 /// Both are gone through once, and once more at the difference.
 pub fn first_difference(received: &[u64], due: &[u64]) -> Option<Difference>
     // What is found is as it says, where those due ascend; where none is found there is none.
-    ensures shown { MatchOption result (IsPrefixOf received.now due.now) (λ found. IsAscending due.now → IsDifference received.now due.now found) }
+    ensures shown { MatchOption result (IsPrefixOf received.now due.now)
+        (λ found. IsAscending due.now → IsDifference received.now due.now found) }
 
     // It is what a verdict names as the fault, over any stream.
-    ensures verdict { (stream : List StreamRec) → option_map (fault_shown stream) result ≡ option_map (fault_of stream) (mismatch received.now due.now) }
+    ensures verdict { (stream : List StreamRec)
+        → option_map (fault_shown stream) result
+        ≡ option_map (fault_of stream) (mismatch received.now due.now) }
 {
     let place = agreed_len(received, due);
     match position_at(received, place) {
@@ -67,7 +70,9 @@ fn agreed_len(received: &[u64], due: &[u64]) -> usize
 fn difference_at(received: &[u64], due: &[u64], place: usize, position: u64) -> Difference
     requires { IsFirstPlace received.now due.now place position }
     ensures shown { IsAscending due.now → IsDifference received.now due.now result }
-    ensures verdict { (stream : List StreamRec) → Some (fault_shown stream result) ≡ option_map (fault_of stream) (mismatch received.now due.now) }
+    ensures verdict { (stream : List StreamRec)
+        → Some (fault_shown stream result)
+        ≡ option_map (fault_of stream) (mismatch received.now due.now) }
 {
     if !has_position(due, position) {
         return Difference::Extra {
@@ -92,7 +97,9 @@ fn first_time(received: &[u64], due: &[u64], place: usize, position: u64) -> Dif
     requires is_due { has_position due.now position ≡ true }
     requires not_before { has_position (take place received.now) position ≡ false }
     ensures shown { IsAscending due.now → IsDifference received.now due.now result }
-    ensures verdict { (stream : List StreamRec) → Some (fault_shown stream result) ≡ option_map (fault_of stream) (mismatch received.now due.now) }
+    ensures verdict { (stream : List StreamRec)
+        → Some (fault_shown stream result)
+        ≡ option_map (fault_of stream) (mismatch received.now due.now) }
 {
     match position_at(due, place) {
         Some(other) => displaced(received, place, other),
@@ -132,7 +139,8 @@ fn position_at(positions: &[u64], place: usize) -> Option<u64>
 
 /// The index of the first of the positions that is this one.
 fn index_of(positions: &[u64], position: u64) -> Option<usize>
-    ensures found { MatchOption result (has_position positions.now position ≡ false) (λ i. slice_get positions.now i ≡ Some position) }
+    ensures found { MatchOption result (has_position positions.now position ≡ false)
+        (λ i. slice_get positions.now i ≡ Some position) }
     ensures within { IfSome result (λ i. i < length positions.now) }
 {
     for (i, other) in positions.iter().enumerate() {

@@ -1,7 +1,7 @@
 //! What shows a fault of a session: for each fault a definition of what its evidence says, and functions that find it.
 //!
-//! Begin at [`first_difference`], which finds what shows `EXTRA`, `DOUBLED`, `SWAPPED` and `LOST` in what was received and
-//! what was due:
+//! Begin at [`first_difference`], which finds what shows `EXTRA`, `DOUBLED`, `SWAPPED` and `LOST` in what was received
+//! and what was due:
 //!
 //! ```
 //! use aud_evidence::{Difference, first_difference};
@@ -11,20 +11,16 @@
 //! ```
 #![tactic(auto)]
 
-mod class;
 mod content;
 mod difference;
 mod order;
 mod parting;
 mod stays;
 mod window;
-mod word;
 
-pub use class::{Class, class_of};
 pub use content::{Altered, Part, first_altered};
 pub use difference::{Difference, first_difference};
 pub use order::first_unordered;
 pub use parting::first_parting;
 pub use stays::{first_naming, first_orphan, first_other_named};
 pub use window::{BadWindow, Misfit, first_bad_window};
-pub use word::fault_word;

@@ -12,9 +12,11 @@ use aud_tap::{NodeRec, Text};
 
 /// The number of the first record out of order in the log of the node at this place: a first record that is no `start`
 /// of the stream's begin or of one of its entries; a later `start`; a `take` that isn't of the position after the
-/// cursor; or a `takes` that isn't of one past it. Records count from 0; none where all are in order, or the tap there is no node's.
+/// cursor; or a `takes` that isn't of one past it. Records count from 0; none where all are in order, or the tap there
+/// is no node's.
 pub fn first_unordered(logs: &Logs<'_>, node: usize) -> Option<usize>
-    ensures { MatchOption result (AreInOrder logs.now.stream (node_log logs.now node)) (IsFirstOutOfOrder logs.now.stream (node_log logs.now node)) }
+    ensures { MatchOption result (AreInOrder logs.now.stream (node_log logs.now node))
+        (IsFirstOutOfOrder logs.now.stream (node_log logs.now node)) }
 {
     match logs.node(node) {
         Some(log) => first_out_of_order(log, logs.stream()),
@@ -25,7 +27,8 @@ pub fn first_unordered(logs: &Logs<'_>, node: usize) -> Option<usize>
 /// The same of a log, whose node takes from this stream.
 fn first_out_of_order(log: &NodeLog<'_>, stream: &Stream<'_>) -> Option<usize>
     requires { log.now.stream ≡ stream.now }
-    ensures { MatchOption result (AreInOrder stream.now log.now.recs) (IsFirstOutOfOrder stream.now log.now.recs) }
+    ensures { MatchOption result (AreInOrder stream.now log.now.recs)
+        (IsFirstOutOfOrder stream.now log.now.recs) }
 {
     let recs = log.recs();
     let mut cursor = 0;

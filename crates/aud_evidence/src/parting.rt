@@ -3,8 +3,8 @@ ghost use Rattle.std.specs.Prelude.{◌≡◌, ◌↔◌, IsTrue, MatchOption, l
 ghost use Rattle.aud_evidence.specs.Parting.{PartAt};
 
 /// The index of the first byte at which the two part: they differ there, or one of them ends. Bytes count from 0; none
-/// where they are the same. So it tells of an event that came where its text, or one of its attachments, isn't as in the
-/// entry.
+/// where they are the same. So it tells of an event that came where its text, or one of its attachments, isn't as in
+/// the entry.
 pub fn first_parting(one: &[u8], other: &[u8]) -> Option<usize>
     ensures { MatchOption result (one.now ≡ other.now) (PartAt one.now other.now) }
 {

@@ -34,7 +34,8 @@ pub fn first_orphan(stays: &[Stay<'_>]) -> Option<usize>
 /// The number of the first stay whose reply names the session, and has another sid or is of another namespace than the
 /// session was opened with.
 pub fn first_other_named(stays: &[Stay<'_>], pid: &str, sid: &str, nsp: &str) -> Option<usize>
-    ensures { result ≡ first_index (is_named_otherwise (record { pid = pid.now; sid = sid.now; nsp = nsp.now })) stays.now }
+    ensures { result ≡ first_index
+        (is_named_otherwise (record { pid = pid.now; sid = sid.now; nsp = nsp.now })) stays.now }
 {
     for (number, stay) in stays.iter().enumerate() {
         if is_named_otherwise(stay, pid, sid, nsp) {
@@ -61,7 +62,8 @@ fn names_somebody(reply: &Option<Reply>) -> bool
 }
 
 fn is_named_otherwise(stay: &Stay<'_>, pid: &str, sid: &str, nsp: &str) -> bool
-    ensures { result ≡ is_named_otherwise (record { pid = pid.now; sid = sid.now; nsp = nsp.now }) stay.now }
+    ensures { result ≡ is_named_otherwise
+        (record { pid = pid.now; sid = sid.now; nsp = nsp.now }) stay.now }
 {
     stay.names(pid) && !(stay.nsp == nsp && has_sid(&stay.reply, sid))
 }

@@ -34,8 +34,8 @@ pub enum Misfit {
 
 /// The first of the stays that is recovered, and whose client asked to go on after no position that lies between the
 /// frames in front of the stay and those from it on; none where there is none. The stays are those that name one
-/// session, and these are the positions of their frames. They are to ascend, as those do that were due, so only the last
-/// one before and the first one after are compared.
+/// session, and these are the positions of their frames. They are to ascend, as those do that were due, so only the
+/// last one before and the first one after are compared.
 pub fn first_bad_window(
     stream: &Stream<'_>,
     stays: &[&Stay<'_>],
@@ -65,9 +65,12 @@ fn misfit_of(
     count: usize,
 ) -> Option<Misfit>
     requires { count ≤ length positions.now }
-    ensures { IsAscending positions.now → MatchOption result
-        ((is_recovered stay.now && not (lies_at_or_not positions.now count (asked_position stream.now stay.now.asked))) ≡ false)
-        (λ why. (is_recovered stay.now ≡ true) × (lies_at_or_not positions.now count (asked_position stream.now stay.now.asked) ≡ false)
+    ensures { IsAscending positions.now
+        → MatchOption result
+        ((is_recovered stay.now
+        && not (lies_at_or_not positions.now count (asked_position stream.now stay.now.asked)))
+        ≡ false) (λ why. (is_recovered stay.now ≡ true)
+        × (lies_at_or_not positions.now count (asked_position stream.now stay.now.asked) ≡ false)
         × IsMisfit stream.now positions.now stay.now.asked count why) }
 {
     if !stay.is_recovered() {
@@ -84,9 +87,11 @@ fn misfit_asked(
     count: usize,
 ) -> Option<Misfit>
     requires { count ≤ length positions.now }
-    ensures { IsAscending positions.now → MatchOption result
+    ensures { IsAscending positions.now
+        → MatchOption result
         (lies_at_or_not positions.now count (asked_position stream.now asked.now) ≡ true)
-        (λ why. (lies_at_or_not positions.now count (asked_position stream.now asked.now) ≡ false) × IsMisfit stream.now positions.now asked.now count why) }
+        (λ why. (lies_at_or_not positions.now count (asked_position stream.now asked.now) ≡ false)
+        × IsMisfit stream.now positions.now asked.now count why) }
 {
     match asked_offset(asked) {
         None => Some(Misfit::NoOffset),
@@ -113,9 +118,10 @@ fn asked_offset<'s>(asked: &'s Option<Asked>) -> Option<&'s str>
 /// Why the position doesn't lie after so many first ones and before the others.
 fn misplaced(positions: &[u64], count: usize, position: u64) -> Option<Misfit>
     requires { count ≤ length positions.now }
-    ensures { IsAscending positions.now → MatchOption result
-        (lies_at positions.now count position ≡ true)
-        (λ why. (lies_at positions.now count position ≡ false) × IsMisplaced positions.now count position why) }
+    ensures { IsAscending positions.now
+        → MatchOption result (lies_at positions.now count position ≡ true)
+        (λ why. (lies_at positions.now count position ≡ false)
+        × IsMisplaced positions.now count position why) }
 {
     if is_last_past(positions, count, position) {
         return Some(Misfit::Behind { frame: count - 1 });
@@ -136,7 +142,8 @@ fn is_last_past(positions: &[u64], count: usize, position: u64) -> bool
 
 /// Whether the one after so many isn't past the position.
 fn is_next_reached(positions: &[u64], count: usize, position: u64) -> bool
-    ensures { result ≡ (nat_lt count (length positions.now) && nat_le (slice_index positions.now count) position) }
+    ensures { result ≡ (nat_lt count (length positions.now)
+        && nat_le (slice_index positions.now count) position) }
 {
     count < positions.len() && positions[count] <= position
 }

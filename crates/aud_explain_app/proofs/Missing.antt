@@ -10,7 +10,7 @@ use Rattle.aud_node.specs.Lists.{first_index}
 use Rattle.aud_node.specs.Stream.{Text}
 use Rattle.aud_maker.specs.Sessions.{sessions_of}
 use Rattle.aud_recoveries.specs.Recoveries.{recoveries_of}
-use Rattle.aud_report.specs.declared.verdict.SessionVerdict.{SessionVerdict}
+use Rattle.aud_verdict.specs.declared.verdict.SessionVerdict.{SessionVerdict}
 use Rattle.aud_verdict.specs.Verdicts.{AreVerdicts}
 use Rattle.aud_explain_app.specs.Chosen.{is_of, session_of}
 use Rattle.aud_explain_app.specs.Missing.{pids_known}

@@ -12,8 +12,8 @@ use Rattle.aud_node.specs.Cluster.{Cluster}
 use Rattle.aud_node.specs.Lists.{is_empty}
 use Rattle.aud_recording_faults.proofs.Read.{zip_append}
 use Rattle.aud_explained.specs.declared.written.Form.{Form}
-use Rattle.aud_lines.specs.TapLines.{TapLines}
-use Rattle.aud_report.specs.declared.verdict.SessionVerdict.{SessionVerdict}
+use Rattle.aud_input.specs.TapLines.{TapLines}
+use Rattle.aud_verdict.specs.declared.verdict.SessionVerdict.{SessionVerdict}
 use Rattle.aud_explain_app.specs.Strangers.{AreAdded, AreKnown, IsJudged, asked_in_vain, has_pid, pid_in_vain, pids_of, with_pids}
 use Rattle.aud_explain_app.specs.Texts.{AddTexts, AddsFor, AddsText, IsTextOf}
 use Rattle.aud_explain_app.specs.Asked.{refused_of}

@@ -7,8 +7,8 @@ use Rattle.aud_base.specs.Places.{places_where}
 use Rattle.aud_node.specs.Cluster.{Cluster}
 use Rattle.aud_node.specs.Lists.{is_empty}
 use Rattle.aud_node.specs.Stream.{Text}
-use Rattle.aud_explain_words.specs.declared.only.Only.{Only}
-use Rattle.aud_report.specs.declared.verdict.SessionVerdict.{SessionVerdict}
+use Rattle.aud_cli.specs.declared.only.Only.{Only}
+use Rattle.aud_verdict.specs.declared.verdict.SessionVerdict.{SessionVerdict}
 use Rattle.aud_explain_app.specs.Asked.{has_refused}
 use Rattle.aud_explain_app.specs.Shown.{is_session_told, is_within}
 

@@ -7,5 +7,6 @@ pub mod Missing
 pub mod Texts
 pub mod Status
 pub mod RefusedLine
+pub mod Page
 pub mod Output
 pub mod Run

@@ -1,22 +1,24 @@
 -- What `explain` writes, and how it ends.
-use Rattle.std.specs.Prelude.{◌≡◌, ◌-◌, ◌^◌, ◌⊎◌, ℕ, Bool, false, List, [], ◌++◌, codes, count_by, length, min, sum_by, None, Option, Some, if◌then◌else◌}
+use Rattle.std.specs.Prelude.{◌≡◌, ◌-◌, ◌^◌, ◌⊎◌, ℕ, false, List, [], ◌++◌, codes, count_by, length, min, sum_by, None, Option, Some}
 use Rattle.std.specs.List.{filter}
 use Rattle.aud_node.specs.Cluster.{Cluster, cluster_of}
 use Rattle.aud_node.specs.Recoverable.{is_recoverable}
-use Rattle.aud_explain.specs.declared.reading.Recorded.{Recorded}
-use Rattle.aud_explain.specs.declared.reading.Size.{Size}
-use Rattle.aud_explain.specs.declared.refusal.Refusal.{Refusal}
-use Rattle.aud_explain.specs.Files.{AreRecorded, IsRefused}
-use Rattle.aud_explain_words.specs.declared.options.ExplainOptions.{ExplainOptions}
+use Rattle.aud_input.specs.declared.reading.Recorded.{Recorded}
+use Rattle.aud_input.specs.declared.reading.Size.{Size}
+use Rattle.aud_input.specs.declared.refusal.Refusal.{Refusal}
+use Rattle.aud_input.specs.Files.{AreRecorded, IsRefused}
+use Rattle.aud_cli.specs.declared.explain_options.ExplainOptions.{ExplainOptions}
+use Rattle.aud_cli.specs.declared.output_form.OutputForm.{OutputForm}
+use Rattle.aud_cli.specs.declared.output_form.OutputForm.TheVariants as asked
 use Rattle.aud_explained.specs.declared.written.Form.{Form}
 use Rattle.aud_explained.specs.declared.written.Form.TheVariants.{Text as InText, Json}
-use Rattle.aud_lines.specs.TapLines.{TapLines}
+use Rattle.aud_input.specs.TapLines.{TapLines}
 use Rattle.aud_maker.specs.Sessions.{sessions_of}
 use Rattle.aud_recoveries.specs.declared.asked.Recovery.{Recovery}
 use Rattle.aud_recoveries.specs.Recoveries.{is_granted, is_refused, recoveries_of}
-use Rattle.aud_report.specs.declared.verdict.SessionVerdict.{SessionVerdict}
-use Rattle.aud_report.specs.Output.{OutputSeen}
-use Rattle.aud_report.specs.Verdict.{is_yes}
+use Rattle.aud_verdict.specs.declared.verdict.SessionVerdict.{SessionVerdict}
+use Rattle.aud_verdict.specs.Output.{OutputSeen}
+use Rattle.aud_verdict.specs.YesOf.{is_yes}
 use Rattle.aud_summary.specs.declared.summary.Summary.{Summary}
 use Rattle.aud_summary.specs.Answers.{is_no, is_unobserved}
 use Rattle.aud_summary.specs.ByClass.{classes_of}
@@ -26,6 +28,7 @@ use Rattle.aud_summary.specs.Tails.{has_tail, tail_of}
 use Rattle.aud_summary.specs.Text.{summary_text}
 use Rattle.aud_verdict.specs.Verdicts.{AreVerdicts}
 use Rattle.aud_explain_app.specs.RefusedLine.{refused_output}
+use Rattle.aud_explain_app.specs.Page.{IsPage}
 use Rattle.aud_explain_app.specs.Chosen.{sessions_chosen}
 use Rattle.aud_explain_app.specs.Status.{status_by}
 use Rattle.aud_explain_app.specs.declared.output.Figures.{Figures}
@@ -33,16 +36,19 @@ use Rattle.aud_explain_app.specs.Missing.{first_missing, pids_known}
 use Rattle.aud_explain_app.specs.Strangers.{AreAdded, asked_in_vain}
 use Rattle.aud_explain_app.specs.Texts.{AddTexts}
 
--- the form that the words ask for
-abbrev pub form_of : Bool → Form
-form_of json = if json then Json else InText
+-- the form of the explanations, where the words ask for this one: a page holds JSON
+abbrev pub form_of : OutputForm → Form
+form_of asked.Text = InText
+form_of asked.Json = Json
+form_of asked.Html = Json
 
 -- the summary's lines, or its line of JSON
 abbrev pub summary_in : Form → Summary → List ℕ
 summary_in InText summary = summary_text summary
 summary_in Json summary = summary_json summary ++ codes "\n"
 
--- the figures are those of the recording, of these verdicts on its sessions and of these recoveries, in files of this size
+-- the figures are those of the recording, of these verdicts on its sessions and of these recoveries, in files of this
+-- size
 pub record IsSummary (c : Cluster) (verdicts : List SessionVerdict) (recoveries : List Recovery) (size : Size) (s : Summary) : Type 0 where
   pub sessions : s.sessions ≡ length verdicts
   pub yes : s.yes ≡ count_by is_yes verdicts
@@ -69,9 +75,9 @@ pub record AreFigures (options : ExplainOptions) (c : Cluster) (size : Size) (ve
   pub is_summary : IsSummary c verdicts (recoveries_of c) size figures.summary
   pub status_is : figures.status ≡ status_by options.fail_on verdicts (recoveries_of c)
 
--- the output over a recording, where these are the lines of its records: the explanation of each session that is shown, and the
--- figures of all of it; sessions that clients asked for in vain and that no record names are shown too, and not counted; and
--- each pid of the words is that of one of all these
+-- the output over a recording, where these are the lines of its records: the explanation of each session that is shown,
+-- and the figures of all of it; sessions that clients asked for in vain and that no record names are shown too, and not
+-- counted; and each pid of the words is that of one of all these
 pub record IsExplaining (options : ExplainOptions) (c : Cluster) (lines : List TapLines) (size : Size) (output : OutputSeen) : Type 0 where
   pub verdicts : List SessionVerdict
   pub are_verdicts : AreVerdicts c false (sessions_of c) verdicts
@@ -79,18 +85,31 @@ pub record IsExplaining (options : ExplainOptions) (c : Cluster) (lines : List T
   pub are_sessions : AreAdded c (asked_in_vain c (recoveries_of c)) verdicts sessions
   pub none_missing : first_missing (pids_known c) options.pids ≡ None
   pub texts : List ℕ
-  pub are_texts : AddTexts c lines (form_of options.json) (sessions_chosen c options.only options.pids sessions) [] texts
+  pub are_texts : AddTexts c lines (form_of options.form) (sessions_chosen c options.only options.pids sessions) [] texts
   pub figures : Figures
   pub are_figures : AreFigures options c size verdicts figures
   pub seconds : ℕ
-  pub text_is : output.text ≡ texts ++ summary_in (form_of options.json) (timed figures.summary seconds)
+  pub text_is : output.text ≡ texts ++ summary_in (form_of options.form) (timed figures.summary seconds)
   pub status_is : output.status ≡ figures.status
 
--- the output over files, by what their readers have left: their recording explained, or their first refused line told
-abbrev pub IsExplanation : ExplainOptions → List (Option (List ℕ)) → OutputSeen → Type 0
-IsExplanation options lefts output =
+-- what is told of files, by what their readers have left: their recording explained, or their first refused line told
+abbrev pub IsTold : ExplainOptions → List (Option (List ℕ)) → OutputSeen → Type 0
+IsTold options lefts output =
     ((read : Recorded) × AreRecorded lefts read × IsExplaining options (cluster_of read.taps) read.lines read.size output)
-    ⊎ ((refusal : Refusal) × IsRefused lefts refusal × (output ≡ refused_output (form_of options.json) options.files refusal))
+    ⊎ ((refusal : Refusal) × IsRefused lefts refusal × (output ≡ refused_output (form_of options.form) options.files refusal))
+
+-- what is told is written as it is, or in a page that holds it
+abbrev pub IsIn : OutputForm → List ℕ → List ℕ → Type 0
+IsIn asked.Text told text = text ≡ told
+IsIn asked.Json told text = text ≡ told
+IsIn asked.Html told text = IsPage told text
+
+-- the output over files: what is told of them, in the form that the words ask for
+pub record IsExplanation (options : ExplainOptions) (lefts : List (Option (List ℕ))) (output : OutputSeen) : Type 0 where
+  pub told : OutputSeen
+  pub is_told : IsTold options lefts told
+  pub is_in : IsIn options.form told.text output.text
+  pub status_is : output.status ≡ told.status
 
 -- the files are recorded, and of the pids of the words the one with this number is the first that no session there has
 abbrev pub IsFirstMissing : ExplainOptions → List (Option (List ℕ)) → ℕ → Type 0

@@ -2,16 +2,17 @@
 use Rattle.std.specs.Prelude.{ℕ, List, [], ◌++◌, codes, decimal, length, nat_lt, Option, Some, None, slice_get, if◌then◌else◌}
 use Rattle.serde_json.specs.Data.{Data, member, no_members, null, object, string}
 use Rattle.serde_json.specs.Written.{compact_text}
-use Rattle.aud_cert_text.specs.Text.{whole}
+use Rattle.aud_cert.specs.Text.{whole}
 use Rattle.aud_node.specs.Stream.{Text}
-use Rattle.aud_explain.specs.declared.place.FileLine.{FileLine}
-use Rattle.aud_explain.specs.declared.refusal.Refusal.{Refusal}
+use Rattle.aud_input.specs.declared.place.FileLine.{FileLine}
+use Rattle.aud_input.specs.declared.refusal.Refusal.{Refusal}
 use Rattle.aud_explained.specs.declared.written.Form.{Form}
 use Rattle.aud_explained.specs.declared.written.Form.TheVariants.{Text as InText, Json}
 use Rattle.aud_refusals.specs.Help.{help_text}
-use Rattle.aud_report.specs.declared.output.Status.TheVariants.{Refused}
-use Rattle.aud_report.specs.Output.{OutputSeen}
-use Rattle.aud_report.specs.Report.{code_text, refusal_line}
+use Rattle.aud_verdict.specs.declared.output.Status.TheVariants.{Refused}
+use Rattle.aud_verdict.specs.Output.{OutputSeen}
+use Rattle.aud_reader.specs.Codes.{code_text}
+use Rattle.aud_verdict.specs.Report.{refusal_line}
 
 -- the name of the file, where there are several
 abbrev pub file_told : List Text → FileLine → Option Text
@@ -46,10 +47,10 @@ json_data file r help = object (member (codes "refused") (refused_data file r he
 abbrev pub json_line : Option Text → Refusal → List ℕ → List ℕ
 json_line file r help = compact_text (json_data file r help) ++ codes "\n"
 
--- the line as the other modes name it, its place in its file where there are several, and the help; or all of it in a line of
--- JSON, with the file's name where one is named
+-- the line as the other modes name it, its place in its file where there are several, and the help; or all of it in a
+-- line of JSON, with the file's name where one is named
 abbrev pub refused_text : Form → List Text → Refusal → List ℕ
-refused_text InText names r = refusal_line r.number r.code ++ place_line (file_told names r.at) r.at.line ++ help_on r
+refused_text InText names r = refusal_line r.number (code_text r.code) ++ place_line (file_told names r.at) r.at.line ++ help_on r
 refused_text Json names r = json_line (slice_get names r.at.file) r (help_on r)
 
 abbrev pub refused_output : Form → List Text → Refusal → OutputSeen

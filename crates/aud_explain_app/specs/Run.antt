@@ -1,9 +1,9 @@
 -- What a run of `explain` writes.
 use Rattle.std.specs.Prelude.{◌≡◌, ℕ, List, Option}
 use Rattle.std.specs.Io.KnownBytes.{Appends}
-use Rattle.aud_report.specs.declared.output.Status.{Status}
-use Rattle.aud_report.specs.Output.{OutputSeen}
-use Rattle.aud_streams.specs.Written.{AppendsFront}
+use Rattle.aud_verdict.specs.declared.output.Status.{Status}
+use Rattle.aud_verdict.specs.Output.{OutputSeen}
+use Rattle.aud_base.specs.Written.{AppendsFront}
 
 -- the whole text of such an output was written, and the run ends as the output does
 abbrev pub Writes : Option (List ℕ) → Option (List ℕ) → (OutputSeen → Type 0) → Status → Type 0

@@ -2,15 +2,15 @@
 use Rattle.std.specs.Prelude.{Bool, true, false, not, ◌&&◌, Option, Some, None, is_some}
 use Rattle.std.specs.Str.{bytes_eq}
 use Rattle.aud_node.specs.Cluster.{Cluster}
-use Rattle.aud_evidence.specs.declared.class.Class.{Class}
-use Rattle.aud_evidence.specs.declared.class.Class.TheVariants.{Delivery}
-use Rattle.aud_evidence.specs.Class.{class_of, class_text}
-use Rattle.aud_explain_words.specs.declared.only.Only.{Only}
-use Rattle.aud_explain_words.specs.declared.only.Only.TheVariants as only
-use Rattle.aud_report.specs.declared.verdict.SessionVerdict.{SessionVerdict}
-use Rattle.aud_report.specs.declared.verdict.Verdict.{Verdict}
-use Rattle.aud_report.specs.declared.verdict.Verdict.TheVariants.{Yes, No}
-use Rattle.aud_report.specs.Verdict.{yes_of}
+use Rattle.aud_cert.specs.declared.class.Class.{Class}
+use Rattle.aud_cert.specs.declared.class.Class.TheVariants.{Delivery}
+use Rattle.aud_cert.specs.Class.{class_of, class_text}
+use Rattle.aud_cli.specs.declared.only.Only.{Only}
+use Rattle.aud_cli.specs.declared.only.Only.TheVariants as only
+use Rattle.aud_verdict.specs.declared.verdict.SessionVerdict.{SessionVerdict}
+use Rattle.aud_verdict.specs.declared.verdict.Verdict.{Verdict}
+use Rattle.aud_verdict.specs.declared.verdict.Verdict.TheVariants.{Yes, No}
+use Rattle.aud_verdict.specs.YesOf.{yes_of}
 use Rattle.aud_explain_app.specs.Asked.{has_refused}
 
 -- the class of what there is to explain: that of the fault, or delivery where there is none and a recovery was refused

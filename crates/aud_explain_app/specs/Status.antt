@@ -1,16 +1,16 @@
 -- How a run of `explain` ends.
 use Rattle.std.specs.Prelude.{Bool, false, not, ◌&&◌, ◌||◌, List, length, nat_lt}
 use Rattle.std.specs.List.{filter, list_any}
-use Rattle.aud_evidence.specs.Class.{class_of}
-use Rattle.aud_explain_words.specs.declared.fail_on.FailOn.{FailOn}
-use Rattle.aud_explain_words.specs.FailOn as words
+use Rattle.aud_cert.specs.Class.{class_of}
+use Rattle.aud_cli.specs.declared.fail_on.FailOn.{FailOn}
+use Rattle.aud_cli.specs.FailOn as words
 use Rattle.aud_recoveries.specs.declared.asked.Recovery.{Recovery}
 use Rattle.aud_recoveries.specs.Recoveries.{is_refused}
-use Rattle.aud_report.specs.declared.output.Status.{Status}
-use Rattle.aud_report.specs.declared.verdict.SessionVerdict.{SessionVerdict}
-use Rattle.aud_report.specs.declared.verdict.Verdict.{Verdict}
-use Rattle.aud_report.specs.declared.verdict.Verdict.TheVariants.{Yes, No}
-use Rattle.aud_report.specs.Output.{status_of}
+use Rattle.aud_verdict.specs.declared.output.Status.{Status}
+use Rattle.aud_verdict.specs.declared.verdict.SessionVerdict.{SessionVerdict}
+use Rattle.aud_verdict.specs.declared.verdict.Verdict.{Verdict}
+use Rattle.aud_verdict.specs.declared.verdict.Verdict.TheVariants.{Yes, No}
+use Rattle.aud_verdict.specs.Output.{status_of}
 
 -- a session with this verdict makes status 1
 abbrev pub fails : FailOn → Verdict → Bool

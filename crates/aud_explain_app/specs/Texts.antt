@@ -6,11 +6,11 @@ use Rattle.aud_explained.specs.declared.explained.Explained.{Explained}
 use Rattle.aud_explained.specs.declared.written.Form.{Form}
 use Rattle.aud_explained.specs.Explained.{IsExplained}
 use Rattle.aud_explained.specs.Written.{IsWritten}
-use Rattle.aud_lines.specs.TapLines.{TapLines}
+use Rattle.aud_input.specs.TapLines.{TapLines}
 use Rattle.aud_node.specs.Stream.{Text}
 use Rattle.aud_recoveries.specs.declared.asked.Recovery.{Recovery}
-use Rattle.aud_report.specs.declared.verdict.SessionVerdict.{SessionVerdict}
-use Rattle.aud_report.specs.declared.verdict.Verdict.{Verdict}
+use Rattle.aud_verdict.specs.declared.verdict.SessionVerdict.{SessionVerdict}
+use Rattle.aud_verdict.specs.declared.verdict.Verdict.{Verdict}
 use Rattle.aud_explain_app.specs.Asked.{refused_of}
 
 -- the text is that of an explanation of the session, with its verdict and its refused recoveries

@@ -45,7 +45,8 @@ impl Asked {
 
     /// The recoveries of the session that were refused.
     pub fn refused_of(&self, alloc: Global, pid: &str) -> Result<Vec<Recovery>, AllocError>
-        ensures { (c : Cluster) → AreAsked c self.now → IfOk result (λ found. found.items ≡ refused_of c pid.now) }
+        ensures { (c : Cluster) → AreAsked c self.now
+            → IfOk result (λ found. found.items ≡ refused_of c pid.now) }
     {
         numbered(alloc, &self.all, self.refused.of(pid))
     }
@@ -71,7 +72,8 @@ fn refused_by_session(
     recording: &Recording<'_>,
     all: &[Recovery],
 ) -> Result<Places, AllocError>
-    ensures { IfOk result (λ refused. (pid : Text) → places_of refused pid ≡ refusals_in recording.now all.now pid) }
+    ensures { IfOk result (λ refused. (pid : Text)
+        → places_of refused pid ≡ refusals_in recording.now all.now pid) }
 {
     let mut refused = Places::new(alloc, keys);
     for (number, recovery) in all.iter().enumerate() {
@@ -87,7 +89,9 @@ fn note_refused(
     number: usize,
     recovery: &Recovery,
 ) -> Result<(), AllocError>
-    ensures { OnOk result ((q : Text) → places_of refused.new q ≡ noted number (is_refusal recording.now q recovery.now) (places_of refused.old q)) }
+    ensures { OnOk result ((q : Text)
+        → places_of refused.new q
+        ≡ noted number (is_refusal recording.now q recovery.now) (places_of refused.old q)) }
 {
     if recovery.granted {
         return Ok(());

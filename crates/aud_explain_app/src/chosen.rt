@@ -14,14 +14,14 @@ use crate::asked::Asked;
 use crate::fault::Unexplained;
 use crate::shown::{is_told, is_within};
 use aud_base::Places;
-use aud_explain_words::{ExplainOptions, Only};
-use aud_report::SessionVerdict;
+use aud_cli::{ExplainOptions, Only};
 use aud_tap::Text;
+use aud_verdict::SessionVerdict;
 use std::alloc::{AllocError, Global};
 use std::hash::RandomState;
 
-/// Those of the sessions that are shown: those that the words name, in their order, or all that have something to explain.
-/// The first pid of no session is the fault. Sessions are looked up by these keys.
+/// Those of the sessions that are shown: those that the words name, in their order, or all that have something to
+/// explain. The first pid of no session is the fault. Sessions are looked up by these keys.
 pub(crate) fn chosen<'s>(
     alloc: Global,
     keys: RandomState,
@@ -29,9 +29,13 @@ pub(crate) fn chosen<'s>(
     asked: &Asked,
     sessions: &'s [SessionVerdict],
 ) -> Result<Vec<&'s SessionVerdict>, Unexplained>
-    ensures chosen { (c : Cluster) → AreAsked c asked.now → IfOk result (λ found. map (λ s. s.now) found.items ≡ sessions_chosen c options.now.only options.now.pids sessions.now) }
-    ensures none_missing { OnOk result (first_missing (pids_of sessions.now) options.now.pids ≡ None) }
-    ensures missing { (number : ℕ) → result ≡ Err (NoSession number) → first_missing (pids_of sessions.now) options.now.pids ≡ Some number }
+    ensures chosen { (c : Cluster) → AreAsked c asked.now
+        → IfOk result (λ found. map (λ s. s.now) found.items
+        ≡ sessions_chosen c options.now.only options.now.pids sessions.now) }
+    ensures none_missing { OnOk result (first_missing (pids_of sessions.now) options.now.pids
+        ≡ None) }
+    ensures missing { (number : ℕ) → result ≡ Err (NoSession number)
+        → first_missing (pids_of sessions.now) options.now.pids ≡ Some number }
 {
     let pids = options.pids.as_slice();
     if pids.is_empty() {
@@ -48,7 +52,8 @@ fn told<'s>(
     asked: &Asked,
     sessions: &'s [SessionVerdict],
 ) -> Result<Vec<&'s SessionVerdict>, AllocError>
-    ensures { (c : Cluster) → AreAsked c asked.now → IfOk result (λ found. map (λ s. s.now) found.items ≡ sessions_told c only sessions.now) }
+    ensures { (c : Cluster) → AreAsked c asked.now
+        → IfOk result (λ found. map (λ s. s.now) found.items ≡ sessions_told c only sessions.now) }
 {
     let mut found = Vec::new(alloc);
     for session in sessions {
@@ -69,7 +74,8 @@ fn index_of(
     keys: RandomState,
     sessions: &[SessionVerdict],
 ) -> Result<Places, AllocError>
-    ensures { IfOk result (λ index. (pid : Text) → places_of index pid ≡ numbers_of sessions.now pid) }
+    ensures { IfOk result (λ index. (pid : Text)
+        → places_of index pid ≡ numbers_of sessions.now pid) }
 {
     let mut index = Places::new(alloc, keys);
     for (number, session) in sessions.iter().enumerate() {
@@ -103,9 +109,12 @@ fn named<'s>(
     pids: &[Text],
 ) -> Result<Vec<&'s SessionVerdict>, Unexplained>
     requires { (pid : Text) → places_of index.now pid ≡ numbers_of sessions.now pid }
-    ensures named { (c : Cluster) → AreAsked c asked.now → IfOk result (λ found. map (λ s. s.now) found.items ≡ sessions_named c only sessions.now pids.now) }
+    ensures named { (c : Cluster) → AreAsked c asked.now
+        → IfOk result (λ found. map (λ s. s.now) found.items
+        ≡ sessions_named c only sessions.now pids.now) }
     ensures none_missing { OnOk result (first_missing (pids_of sessions.now) pids.now ≡ None) }
-    ensures missing { (number : ℕ) → result ≡ Err (NoSession number) → first_missing (pids_of sessions.now) pids.now ≡ Some number }
+    ensures missing { (number : ℕ) → result ≡ Err (NoSession number)
+        → first_missing (pids_of sessions.now) pids.now ≡ Some number }
 {
     let mut found = Vec::new(alloc);
     for (number, pid) in pids.iter().enumerate() {
@@ -124,7 +133,9 @@ fn push_within<'s>(
     asked: &Asked,
     session: &'s SessionVerdict,
 ) -> Result<(), AllocError>
-    ensures { (c : Cluster) → AreAsked c asked.now → OnOk result (map (λ s. s.now) found.new.items ≡ map (λ s. s.now) found.old.items ++ within_of c only (Some session.now)) }
+    ensures { (c : Cluster) → AreAsked c asked.now
+        → OnOk result (map (λ s. s.now) found.new.items
+        ≡ map (λ s. s.now) found.old.items ++ within_of c only (Some session.now)) }
 {
     if is_within(
         only,

@@ -1,10 +1,11 @@
-//! The mode `explain` as one call: [`explain`] reads the files of a bundle, judges, and writes why sessions are answered no.
+//! The mode `explain` as one call: [`explain`] reads the files of a bundle, judges, and writes why sessions are
+//! answered no.
 //!
-//! With the bytes of a bundle as `bundle`, and `options` those of `aud_explain_words::explain_asked`:
+//! With the bytes of a bundle as `bundle`, and `options` those of `aud_cli::explain_asked`:
 //!
 //! ```
 //! use aud_explain_app::explain;
-//! use aud_streams::Watched;
+//! use aud_base::Watched;
 //! use std::hash::RandomState;
 //!
 //! let keys = RandomState::new(&rt)?;
@@ -17,7 +18,9 @@
 mod asked;
 mod chosen;
 mod fault;
+mod html;
 mod output;
+mod page;
 mod prepared;
 mod program;
 mod refused;

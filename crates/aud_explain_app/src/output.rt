@@ -19,14 +19,14 @@ use crate::prepared::prepared_for;
 use crate::sessions::push_sessions;
 use crate::status::status_by;
 use crate::strangers::add_strangers;
+use aud_cli::{ExplainOptions, OutputForm};
 use aud_client::Recording;
 use aud_desk::{AuditFault, OpenGate, Report, audit_with};
-use aud_explain::{Recorded, Size};
-use aud_explain_words::ExplainOptions;
 use aud_explained::Form;
-use aud_report::{Output, SessionVerdict, Status};
+use aud_input::{Recorded, Size};
 use aud_rows::Sheet;
 use aud_summary::{Input, Summary, summary_json, summary_of, summary_text};
+use aud_verdict::{Output, SessionVerdict, Status};
 use std::alloc::{AllocError, Global};
 use std::hash::RandomState;
 use std::sync::Wait;
@@ -40,11 +40,14 @@ pub struct Figures {
     pub status: Status,
 }
 
-/// The form that the words ask for.
+/// The form of the explanations: a page holds JSON.
 pub(crate) fn form_of(options: &ExplainOptions) -> Form
-    ensures { result ≡ form_of options.now.json }
+    ensures { result ≡ form_of options.now.form }
 {
-    if options.json { Form::Json } else { Form::Text }
+    match options.form {
+        OutputForm::Text => Form::Text,
+        OutputForm::Json | OutputForm::Html => Form::Json,
+    }
 }
 
 /// The verdicts, by so many workers.
@@ -55,7 +58,8 @@ fn judged<H: Threads + Wait + Clock + Sync>(
     recording: &Recording<'_>,
 ) -> Result<Report, Unexplained>
     requires { (0 < workers) × (workers ≤ 64) }
-    ensures verdicts { IfOk result (λ report. AreVerdicts recording.now false (sessions_of recording.now) report.verdicts.items) }
+    ensures verdicts { IfOk result (λ report. AreVerdicts recording.now false
+        (sessions_of recording.now) report.verdicts.items) }
     ensures fault { (number : ℕ) → result ≢ Err (NoSession number) }
 {
     match audit_with(rt, alloc, recording, workers as usize, false, &OpenGate) {
@@ -73,7 +77,8 @@ fn push_summary(
     form: Form,
     summary: &Summary,
 ) -> Result<(), AllocError>
-    ensures { OnOk result (string_bytes out.new ≡ string_bytes out.old ++ summary_in form summary.now) }
+    ensures { OnOk result (string_bytes out.new
+        ≡ string_bytes out.old ++ summary_in form summary.now) }
 {
     match form {
         Form::Text => {
@@ -119,8 +124,10 @@ pub(crate) fn output_of<H: Threads + Wait + Clock + Sync>(
 ) -> Result<Output, Unexplained>
     requires names { AreNamedOnce recorded.now.taps }
     requires workers { (0 < options.now.workers) × (options.now.workers ≤ 64) }
-    ensures explaining { IfOk result (IsExplaining options.now (cluster_of recorded.now.taps) recorded.now.lines recorded.now.size) }
-    ensures missing { (number : ℕ) → result ≡ Err (NoSession number) → first_missing (pids_known (cluster_of recorded.now.taps)) options.now.pids ≡ Some number }
+    ensures explaining { IfOk result (IsExplaining options.now
+        (cluster_of recorded.now.taps) recorded.now.lines recorded.now.size) }
+    ensures missing { (number : ℕ) → result ≡ Err (NoSession number)
+        → first_missing (pids_known (cluster_of recorded.now.taps)) options.now.pids ≡ Some number }
 {
     let threads = options.workers as usize;
     let recording = Recording::read(rt, alloc, keys, threads, &recorded.taps)?;
@@ -152,9 +159,12 @@ fn explaining<H: Threads + Clock + Sync>(
     size: Size,
     verdicts: Vec<SessionVerdict>,
 ) -> Result<Output, Unexplained>
-    requires { AreVerdicts sheet.recording.now false (sessions_of sheet.recording.now) verdicts.items }
-    ensures explaining { IfOk result (IsExplaining options.now sheet.entry.recording.now sheet.entry.lines.now size) }
-    ensures missing { (number : ℕ) → result ≡ Err (NoSession number) → first_missing (pids_known sheet.entry.recording.now) options.now.pids ≡ Some number }
+    requires { AreVerdicts sheet.recording.now false
+        (sessions_of sheet.recording.now) verdicts.items }
+    ensures explaining { IfOk result (IsExplaining options.now sheet.entry.recording.now
+        sheet.entry.lines.now size) }
+    ensures missing { (number : ℕ) → result ≡ Err (NoSession number)
+        → first_missing (pids_known sheet.entry.recording.now) options.now.pids ≡ Some number }
 {
     let asked = Asked::read(alloc, keys, sheet.recording)?;
     let figures = figures_of(options, sheet.recording, &asked, size, &verdicts);
@@ -212,10 +222,14 @@ fn told<H: Threads + Sync>(
     sessions: &[SessionVerdict],
 ) -> Result<String, Unexplained>
     requires { AreAsked sheet.recording.now asked.now }
-    ensures told { IfOk result (λ text. AddTexts sheet.entry.recording.now sheet.entry.lines.now (form_of options.now.json)
-        (sessions_chosen sheet.entry.recording.now options.now.only options.now.pids sessions.now) [] (string_bytes text)) }
-    ensures none_missing { OnOk result (first_missing (pids_of sessions.now) options.now.pids ≡ None) }
-    ensures missing { (number : ℕ) → result ≡ Err (NoSession number) → first_missing (pids_of sessions.now) options.now.pids ≡ Some number }
+    ensures told { IfOk result (λ text. AddTexts sheet.entry.recording.now sheet.entry.lines.now
+        (form_of options.now.form)
+        (sessions_chosen sheet.entry.recording.now options.now.only options.now.pids sessions.now)
+        [] (string_bytes text)) }
+    ensures none_missing { OnOk result (first_missing (pids_of sessions.now) options.now.pids
+        ≡ None) }
+    ensures missing { (number : ℕ) → result ≡ Err (NoSession number)
+        → first_missing (pids_of sessions.now) options.now.pids ≡ Some number }
 {
     let shown = chosen(alloc, keys, options, asked, sessions)?;
     let threads = options.workers as usize;

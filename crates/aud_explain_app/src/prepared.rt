@@ -6,12 +6,12 @@ use crate::asked::Asked;
 use aud_cert::Fault;
 use aud_client::Recording;
 use aud_recording_faults::Prepared;
-use aud_report::{SessionVerdict, Verdict};
+use aud_verdict::{SessionVerdict, Verdict};
 use std::alloc::{AllocError, Global};
 use std::thread::Threads;
 
-/// What the explanations of these sessions are made from: the clients' taps that name them or asked for them, and where a
-/// node of one is out of order the orders of all nodes.
+/// What the explanations of these sessions are made from: the clients' taps that name them or asked for them, and where
+/// a node of one is out of order the orders of all nodes.
 pub(crate) fn prepared_for<H: Threads + Sync>(
     rt: &H,
     alloc: Global,

@@ -4,15 +4,16 @@ ghost use Rattle.std.specs.Option.{option_map};
 ghost use Rattle.serde_json.specs.View.{view};
 ghost use Rattle.aud_explain_app.specs.RefusedLine.{file_told, json_data, json_line, name_or_null, place_line, refused_data, refused_output};
 
-use aud_explain::{FileLine, Refusal};
 use aud_explained::Form;
+use aud_input::{FileLine, Refusal};
 use aud_refusals::refusal_help;
-use aud_report::{Output, code_name, refusal};
 use aud_tap::Text;
+use aud_verdict::{Output, refusal};
 use serde_json::{Value, json};
 use std::alloc::{AllocError, Global};
 
-/// The line as the other modes name it, its place where several files are read, and help; or all of it in a line of JSON.
+/// The line as the other modes name it, its place where several files are read, and help; or all of it in a line of
+/// JSON.
 pub(crate) fn refused_output(
     alloc: Global,
     form: Form,
@@ -22,7 +23,7 @@ pub(crate) fn refused_output(
     ensures { IfOk result (λ o. o ≡ refused_output form names.now refused.now) }
 {
     let help = refusal_help(alloc, refused.line.as_slice(), refused.code, refused.header)?;
-    let Output { status, text } = refusal(alloc, refused.number, refused.code)?;
+    let Output { status, text } = refusal(alloc, refused.number, refused.code.name())?;
     let text = match form {
         Form::Text => with_help(
             text,
@@ -42,7 +43,9 @@ fn with_help(
     number: u64,
     help: &str,
 ) -> Result<String, AllocError>
-    ensures { IfOk result (λ text. string_bytes text ≡ string_bytes line ++ place_line (option_map (λ name. name.now) file.entry) number ++ help.now) }
+    ensures { IfOk result (λ text. string_bytes text
+        ≡ string_bytes line ++ place_line (option_map (λ name. name.now) file.entry) number
+        ++ help.now) }
 {
     let mut out = line;
     push_place(&mut out, file, number)?;
@@ -51,7 +54,8 @@ fn with_help(
 }
 
 fn push_place(out: &mut String, file: Option<&str>, number: u64) -> Result<(), AllocError>
-    ensures { OnOk result (string_bytes out.new ≡ string_bytes out.old ++ place_line (option_map (λ name. name.now) file.entry) number) }
+    ensures { OnOk result (string_bytes out.new
+        ≡ string_bytes out.old ++ place_line (option_map (λ name. name.now) file.entry) number) }
 {
     match file {
         Some(name) => push_named(out, name, number),
@@ -60,7 +64,8 @@ fn push_place(out: &mut String, file: Option<&str>, number: u64) -> Result<(), A
 }
 
 fn push_named(out: &mut String, name: &str, number: u64) -> Result<(), AllocError>
-    ensures { OnOk result (string_bytes out.new ≡ string_bytes out.old ++ place_line (Some name.now) number) }
+    ensures { OnOk result (string_bytes out.new
+        ≡ string_bytes out.old ++ place_line (Some name.now) number) }
 {
     writeln!(out, "That is line {number} of {name}.")
 }
@@ -88,7 +93,8 @@ fn refused_json(
     refused: &Refusal,
     help: &str,
 ) -> Result<String, AllocError>
-    ensures { IfOk result (λ text. string_bytes text ≡ json_line (option_map (λ name. name.now) file.entry) refused.now help.now) }
+    ensures { IfOk result (λ text. string_bytes text
+        ≡ json_line (option_map (λ name. name.now) file.entry) refused.now help.now) }
 {
     let value = refused_value(alloc, file, refused, help)?;
     let mut out = value.to_string(alloc)?;
@@ -102,7 +108,8 @@ fn refused_value(
     refused: &Refusal,
     help: &str,
 ) -> Result<Value, AllocError>
-    ensures { IfOk result (λ value. view value ≡ json_data (option_map (λ name. name.now) file.entry) refused.now help.now) }
+    ensures { IfOk result (λ value. view value
+        ≡ json_data (option_map (λ name. name.now) file.entry) refused.now help.now) }
 {
     let told = told_value(alloc, file, refused, help)?;
     json!(in alloc; {"refused": told, "v": 1u64})
@@ -114,10 +121,11 @@ fn told_value(
     refused: &Refusal,
     help: &str,
 ) -> Result<Value, AllocError>
-    ensures { IfOk result (λ value. view value ≡ refused_data (option_map (λ name. name.now) file.entry) refused.now help.now) }
+    ensures { IfOk result (λ value. view value
+        ≡ refused_data (option_map (λ name. name.now) file.entry) refused.now help.now) }
 {
     let name = name_or_null(alloc, file)?;
-    let code = code_name(refused.code);
+    let code = refused.code.name();
     json!(in alloc; {
         "file": name,
         "file_line": refused.at.line,
@@ -128,7 +136,8 @@ fn told_value(
 }
 
 fn name_or_null(alloc: Global, name: Option<&str>) -> Result<Value, AllocError>
-    ensures { IfOk result (λ value. view value ≡ name_or_null (option_map (λ name. name.now) name.entry)) }
+    ensures { IfOk result (λ value. view value
+        ≡ name_or_null (option_map (λ name. name.now) name.entry)) }
 {
     match name {
         Some(name) => json!(in alloc; name),

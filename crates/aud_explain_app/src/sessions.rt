@@ -6,20 +6,20 @@ ghost use Rattle.aud_explain_app.specs.Asked.{AreAsked};
 ghost use Rattle.aud_explain_app.specs.Texts.{AddTexts, AddsFor, AddsText};
 
 use crate::asked::Asked;
+use aud_base::try_map;
 use aud_explained::{Form, explained_of, push_explained};
-use aud_parallel::try_map;
 use aud_recording_faults::Prepared;
 use aud_recoveries::Recovery;
-use aud_report::{SessionVerdict, Verdict};
 use aud_rows::Sheet;
+use aud_verdict::{SessionVerdict, Verdict};
 use std::alloc::{AllocError, Global};
 use std::thread::Threads;
 
 /// How many sessions' texts are held beside the output at most.
 const PART: usize = 1024;
 
-/// Writes the explanations of these sessions at the end, one after the other. They are made in parts, each shared out among
-/// at most so many threads.
+/// Writes the explanations of these sessions at the end, one after the other. They are made in parts, each shared out
+/// among at most so many threads.
 pub(crate) fn push_sessions<H: Threads + Sync>(
     rt: &H,
     alloc: Global,
@@ -33,7 +33,8 @@ pub(crate) fn push_sessions<H: Threads + Sync>(
 ) -> Result<(), AllocError>
     requires prepared { IsPreparedOf sheet.recording.now prepared.now }
     requires asked { AreAsked sheet.recording.now asked.now }
-    ensures { OnOk result (AddTexts sheet.entry.recording.now sheet.entry.lines.now form (map (λ s. s.now) sessions.now) (string_bytes out.old) (string_bytes out.new)) }
+    ensures { OnOk result (AddTexts sheet.entry.recording.now sheet.entry.lines.now form
+        (map (λ s. s.now) sessions.now) (string_bytes out.old) (string_bytes out.new)) }
 {
     let mut done = 0;
     while done < sessions.len() {
@@ -59,7 +60,8 @@ fn push_part<H: Threads + Sync>(
 ) -> Result<(), AllocError>
     requires prepared { IsPreparedOf sheet.recording.now prepared.now }
     requires asked { AreAsked sheet.recording.now asked.now }
-    ensures { OnOk result (AddTexts sheet.entry.recording.now sheet.entry.lines.now form (map (λ s. s.now) sessions.now) (string_bytes out.old) (string_bytes out.new)) }
+    ensures { OnOk result (AddTexts sheet.entry.recording.now sheet.entry.lines.now form
+        (map (λ s. s.now) sessions.now) (string_bytes out.old) (string_bytes out.new)) }
 {
     let texts = texts_of(rt, alloc, threads, form, sheet, prepared, asked, sessions)?;
     push_all(out, &texts)
@@ -67,7 +69,8 @@ fn push_part<H: Threads + Sync>(
 
 /// Writes the texts at the end, one after the other.
 fn push_all(out: &mut String, texts: &[String]) -> Result<(), AllocError>
-    ensures { OnOk result (string_bytes out.new ≡ string_bytes out.old ++ flat_map string_bytes texts.now) }
+    ensures { OnOk result (string_bytes out.new
+        ≡ string_bytes out.old ++ flat_map string_bytes texts.now) }
 {
     for text in texts {
         out.push_str(text.as_str())?;
@@ -88,7 +91,10 @@ fn texts_of<H: Threads + Sync>(
 ) -> Result<Vec<String>, AllocError>
     requires prepared { IsPreparedOf sheet.recording.now prepared.now }
     requires asked { AreAsked sheet.recording.now asked.now }
-    ensures { IfOk result (λ texts. AllZip (λ session text. AddsText sheet.entry.recording.now sheet.entry.lines.now form session.now [] (string_bytes text)) sessions.now texts.items) }
+    ensures { IfOk result (λ texts. AllZip
+        (λ session text.
+        AddsText sheet.entry.recording.now sheet.entry.lines.now form session.now []
+        (string_bytes text)) sessions.now texts.items) }
 {
     try_map(
         rt,
@@ -98,7 +104,9 @@ fn texts_of<H: Threads + Sync>(
         |session: &&SessionVerdict| -> Result<String, AllocError>
             requires prepared { IsPreparedOf sheet.recording.now prepared.now }
             requires asked { AreAsked sheet.recording.now asked.now }
-            ensures { IfOk result (λ text. AddsText sheet.entry.recording.now sheet.entry.lines.now form session.now.now [] (string_bytes text)) }
+            ensures { IfOk result (λ text.
+                AddsText sheet.entry.recording.now sheet.entry.lines.now form session.now.now []
+                (string_bytes text)) }
         { text_of(alloc, form, sheet, prepared, asked, *session) },
     )
 }
@@ -114,7 +122,9 @@ fn text_of(
 ) -> Result<String, AllocError>
     requires prepared { IsPreparedOf sheet.recording.now prepared.now }
     requires asked { AreAsked sheet.recording.now asked.now }
-    ensures { IfOk result (λ text. AddsText sheet.entry.recording.now sheet.entry.lines.now form session.now [] (string_bytes text)) }
+    ensures { IfOk result (λ text.
+        AddsText sheet.entry.recording.now sheet.entry.lines.now form session.now []
+        (string_bytes text)) }
 {
     let mut text = String::new(alloc);
     push_session(alloc, &mut text, form, sheet, prepared, asked, session)?;
@@ -133,7 +143,8 @@ fn push_session(
 ) -> Result<(), AllocError>
     requires prepared { IsPreparedOf sheet.recording.now prepared.now }
     requires asked { AreAsked sheet.recording.now asked.now }
-    ensures { OnOk result (AddsText sheet.entry.recording.now sheet.entry.lines.now form session.now (string_bytes out.old) (string_bytes out.new)) }
+    ensures { OnOk result (AddsText sheet.entry.recording.now sheet.entry.lines.now form session.now
+        (string_bytes out.old) (string_bytes out.new)) }
 {
     let pid = session.pid.as_str();
     let refused = asked.refused_of(alloc, pid)?;
@@ -162,7 +173,8 @@ fn push_told(
     refused: &[Recovery],
 ) -> Result<(), AllocError>
     requires { IsPreparedOf sheet.recording.now prepared.now }
-    ensures { OnOk result (AddsFor sheet.entry.recording.now sheet.entry.lines.now form pid.now verdict.now refused.now (string_bytes out.old) (string_bytes out.new)) }
+    ensures { OnOk result (AddsFor sheet.entry.recording.now sheet.entry.lines.now form pid.now
+        verdict.now refused.now (string_bytes out.old) (string_bytes out.new)) }
 {
     let explained = explained_of(alloc, sheet, prepared, pid, verdict, refused)?;
     push_explained(alloc, out, form, pid, verdict, &explained)

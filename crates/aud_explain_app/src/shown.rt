@@ -1,14 +1,14 @@
 //! Which sessions have something to explain, and are within what is shown.
 ghost use Rattle.std.specs.Prelude.{◌≡◌, not};
-ghost use Rattle.aud_report.specs.Verdict.{yes_of};
+ghost use Rattle.aud_verdict.specs.YesOf.{yes_of};
 ghost use Rattle.aud_explain_app.specs.Shown.{class_shown, is_of_class, is_told, is_within};
 
-use aud_evidence::{Class, class_of};
-use aud_explain_words::Only;
-use aud_report::Verdict;
+use aud_cert::{Class, class_of};
+use aud_cli::Only;
+use aud_verdict::Verdict;
 
-/// The class of what there is to explain of a session: that of its fault, or delivery where it has none and a recovery of it
-/// was refused.
+/// The class of what there is to explain of a session: that of its fault, or delivery where it has none and a recovery
+/// of it was refused.
 fn class_shown(verdict: &Verdict, is_refused: bool) -> Option<Class>
     ensures { result ≡ class_shown verdict.now is_refused }
 {

@@ -2,12 +2,13 @@
 ghost use Rattle.std.specs.Prelude.{◌≡◌};
 ghost use Rattle.aud_explain_app.specs.Status.{fails, fails_refused, some_fails, status_by};
 
-use aud_evidence::class_of;
-use aud_explain_words::FailOn;
+use aud_cert::class_of;
+use aud_cli::FailOn;
 use aud_recoveries::{Recovery, refused};
-use aud_report::{SessionVerdict, Status, Verdict, status_of};
+use aud_verdict::{SessionVerdict, Status, Verdict, status_of};
 
-/// Status 1 where a session is answered no with a fault of such a class, or a recovery was refused and is to be told so.
+/// Status 1 where a session is answered no with a fault of such a class, or a recovery was refused and is to be told
+/// so.
 pub(crate) fn status_by(
     fail_on: FailOn,
     verdicts: &[SessionVerdict],

@@ -9,14 +9,13 @@ use crate::asked::{Asked, asked_pid};
 use aud_base::Places;
 use aud_client::Recording;
 use aud_recoveries::Recovery;
-use aud_report::SessionVerdict;
 use aud_tap::Text;
-use aud_verdict::decide;
+use aud_verdict::{SessionVerdict, decide};
 use std::alloc::{AllocError, Global};
 use std::hash::RandomState;
 
-/// Adds the verdicts on those sessions, each once, in the order in which they were first asked for. Sessions are looked up by
-/// these keys.
+/// Adds the verdicts on those sessions, each once, in the order in which they were first asked for. Sessions are looked
+/// up by these keys.
 pub(crate) fn add_strangers(
     alloc: Global,
     keys: RandomState,
@@ -25,7 +24,9 @@ pub(crate) fn add_strangers(
     sessions: &mut Vec<SessionVerdict>,
 ) -> Result<(), AllocError>
     requires { AreAsked recording.now asked.now }
-    ensures { OnOk result (AreAdded recording.now (asked_in_vain recording.now (recoveries_of recording.now)) sessions.old.items sessions.new.items) }
+    ensures { OnOk result (AreAdded recording.now
+        (asked_in_vain recording.now
+        (recoveries_of recording.now)) sessions.old.items sessions.new.items) }
 {
     let mut known = known_of(alloc, keys, sessions)?;
     for recovery in &asked.all {
@@ -59,7 +60,9 @@ fn add_stranger(
 ) -> Result<(), AllocError>
     requires { AreKnown known.old sessions.old.items }
     ensures known { OnOk result (AreKnown known.new sessions.new.items) }
-    ensures added { OnOk result (AreAdded recording.now (option_to_list (pid_in_vain recording.now recovery.now)) sessions.old.items sessions.new.items) }
+    ensures added { OnOk result (AreAdded recording.now
+        (option_to_list (pid_in_vain recording.now recovery.now)) sessions.old.items
+        sessions.new.items) }
 {
     match pid_in_vain(recording, recovery) {
         Some(pid) => add_unknown(alloc, recording, known, pid, sessions),
@@ -87,7 +90,8 @@ fn add_unknown(
 ) -> Result<(), AllocError>
     requires { AreKnown known.old sessions.old.items }
     ensures known { OnOk result (AreKnown known.new sessions.new.items) }
-    ensures added { OnOk result (AreAdded recording.now (pid.now ∷ []) sessions.old.items sessions.new.items) }
+    ensures added { OnOk result (AreAdded recording.now
+        (pid.now ∷ []) sessions.old.items sessions.new.items) }
 {
     if !known.of(pid).is_empty() {
         return Ok(());

@@ -5,7 +5,7 @@ use Rattle.std.specs.Option.{option_map}
 use Rattle.aud_node.specs.Cluster.{Cluster}
 use Rattle.aud_node.specs.Stream.{Text}
 use Rattle.aud_explanation.specs.declared.event.ClientEvent.{ClientEvent}
-use Rattle.aud_lines.specs.TapLines.{TapLines}
+use Rattle.aud_input.specs.TapLines.{TapLines}
 use Rattle.aud_recoveries.specs.declared.asked.Recovery.{Recovery}
 use Rattle.aud_rows.specs.declared.client_places.ClientPlaces.{ClientPlaces}
 use Rattle.aud_shown.specs.ShowsDifference.{AreNumbersOf}
@@ -19,8 +19,8 @@ place_of tap = option_map (λ (t : ClientPlaces). t.place) tap
 abbrev pub stays_refused : ℕ → List Recovery → List ℕ
 stays_refused place refused = map (λ (r : Recovery). r.stay) (filter (λ (r : Recovery). nat_eq r.client place) refused)
 
--- this happened to the session's client in its tap at this place: in the stays whose reply names the session, and in those in
--- which it asked for it in vain
+-- this happened to the session's client in its tap at this place: in the stays whose reply names the session, and in
+-- those in which it asked for it in vain
 pub record AreEventsAt (c : Cluster) (lines : List TapLines) (place : ℕ) (pid : Text) (refused : List Recovery) (events : List ClientEvent) : Type 0 where
   pub numbers : List ℕ
   pub are_its_stays : AreNumbersOf c pid place numbers

@@ -15,11 +15,11 @@ use Rattle.aud_findings.specs.Also.{IsAlsoShown, also_seen, is_parted}
 use Rattle.aud_findings.specs.ClientShown.{client_of, client_seen, only_of}
 use Rattle.aud_findings.specs.Evidence.{IsEvidence}
 use Rattle.aud_findings.specs.Received.{IsReceivedShown}
-use Rattle.aud_lines.specs.TapLines.{TapLines}
+use Rattle.aud_input.specs.TapLines.{TapLines}
 use Rattle.aud_maker.specs.Faults.{HasMakeFault}
 use Rattle.aud_maker.specs.Made.{IsMade}
 use Rattle.aud_recoveries.specs.declared.asked.Recovery.{Recovery}
-use Rattle.aud_report.specs.declared.verdict.Verdict.{Verdict}
+use Rattle.aud_verdict.specs.declared.verdict.Verdict.{Verdict}
 use Rattle.aud_rows.specs.Seen.{row_seen}
 use Rattle.aud_shown.specs.RowLists.{AreTrueRows}
 use Rattle.aud_timeline.specs.ShownTurn.{turn_seen}
@@ -35,8 +35,8 @@ IsAccountOf c pid account =
     MatchOption account ((fault : Fault) × HasMakeFault c pid fault)
     (λ (a : Account). IsMade c pid a.cert × IsAccount c pid a.client (map (λ stay. stay.now) a.stays.items) a.due.items)
 
--- what is told of the session with this pid is so: over these logs, where these are the lines of the input, this is the verdict
--- on the session, and these recoveries of it were refused
+-- what is told of the session with this pid is so: over these logs, where these are the lines of the input, this is the
+-- verdict on the session, and these recoveries of it were refused
 pub record IsExplained (c : Cluster) (lines : List TapLines) (pid : Text) (verdict : Verdict) (refused : List Recovery) (told : Explained) : Type 0 where
   pub account : Option Account
   pub is_account : IsAccountOf c pid account

@@ -8,8 +8,8 @@ use Rattle.aud_cert.specs.declared.fault.Fault.TheVariants.{Order, Orphan}
 use Rattle.aud_chain.specs.declared.place.RecordPlace.{RecordPlace}
 use Rattle.aud_client.specs.Received.{is_orphan}
 use Rattle.aud_rows.specs.StayRows.{stays_at}
-use Rattle.aud_report.specs.declared.verdict.Verdict.{Verdict}
-use Rattle.aud_report.specs.declared.verdict.Verdict.TheVariants.{Yes, No}
+use Rattle.aud_verdict.specs.declared.verdict.Verdict.{Verdict}
+use Rattle.aud_verdict.specs.declared.verdict.Verdict.TheVariants.{Yes, No}
 use Rattle.aud_recording_faults.specs.ShowsOrder.{AreOrdered, IsUnordered}
 use Rattle.aud_causes.specs.declared.causes.Noted.{Noted}
 

@@ -3,7 +3,7 @@ use Rattle.std.specs.Prelude.{◌≡◌, ◌∷◌, [], List, MatchOption, map, 
 use Rattle.aud_node.specs.Cluster.{Cluster}
 use Rattle.aud_causes.specs.Found.{cause_seen, shown_causes}
 use Rattle.aud_causes.specs.Refusals.{refusal_causes}
-use Rattle.aud_lines.specs.TapLines.{TapLines}
+use Rattle.aud_input.specs.TapLines.{TapLines}
 use Rattle.aud_recoveries.specs.declared.asked.Recovery.{Recovery}
 use Rattle.aud_recoveries.specs.Recoveries.{stays_at}
 use Rattle.aud_rows.specs.declared.row.Role.TheVariants as role
@@ -13,8 +13,8 @@ use Rattle.aud_timeline.specs.declared.refused.RefusedShown.{RefusedShown}
 use Rattle.aud_timeline.specs.Refused.{ShowsRefused, refused_seen}
 use Rattle.aud_explained.specs.declared.refused.RefusedTold.{RefusedTold}
 
--- what is told of the recovery shows it, in true rows, or the line is not known on which it was asked for; and these are the
--- causes of the refusal
+-- what is told of the recovery shows it, in true rows, or the line is not known on which it was asked for; and these
+-- are the causes of the refusal
 pub record IsRefusedTold (c : Cluster) (lines : List TapLines) (recovery : Recovery) (told : RefusedTold) : Type 0 where
   pub shows : MatchOption told.shown (ask_row c lines recovery.client recovery.stay role.Ask ≡ None)
       (λ (shown : RefusedShown). ShowsRefused c lines recovery.client recovery.stay (refused_seen shown))

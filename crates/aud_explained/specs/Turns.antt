@@ -4,7 +4,7 @@ use Rattle.aud_node.specs.Cluster.{Cluster}
 use Rattle.aud_node.specs.Stream.{Text}
 use Rattle.aud_account.specs.declared.account.Account.{Account}
 use Rattle.aud_chain.specs.Marks.{turn_marks}
-use Rattle.aud_lines.specs.TapLines.{TapLines}
+use Rattle.aud_input.specs.TapLines.{TapLines}
 use Rattle.aud_timeline.specs.ShownTurn.{ShownTurn}
 use Rattle.aud_timeline.specs.ChainTurns.{turns_shown}
 use Rattle.aud_timeline.specs.MarkedTurns.{marked_turns}

@@ -6,7 +6,7 @@ use Rattle.aud_explanation.specs.declared.explanation.Explanation.{Explanation}
 use Rattle.aud_explanation.specs.Text.{explanation_text}
 use Rattle.aud_explanation.specs.Json.{explanation_json}
 use Rattle.aud_findings.specs.Also.{also_seen}
-use Rattle.aud_report.specs.declared.verdict.Verdict.{Verdict}
+use Rattle.aud_verdict.specs.declared.verdict.Verdict.{Verdict}
 use Rattle.aud_explained.specs.declared.explained.Explained.{Explained}
 use Rattle.aud_explained.specs.declared.written.Form.{Form}
 use Rattle.aud_explained.specs.declared.written.Form.TheVariants.{Text as InText, Json}

@@ -24,8 +24,8 @@ pub(crate) fn only_client(recording: &Recording<'_>, pid: &str) -> Option<usize>
     }
 }
 
-/// What happened to the client of the session, in whose tap these recoveries of it were refused; nothing where it has not
-/// just one client.
+/// What happened to the client of the session, in whose tap these recoveries of it were refused; nothing where it has
+/// not just one client.
 pub(crate) fn events_of(
     alloc: Global,
     sheet: &Sheet<'_, '_>,
@@ -34,7 +34,8 @@ pub(crate) fn events_of(
     refused: &[Recovery],
 ) -> Result<Vec<ClientEvent>, AllocError>
     requires { IfSome (option_copied tap) (AreOf sheet.now.recording.now) }
-    ensures { IfOk result (λ events. AreEvents sheet.now.recording.now sheet.now.lines.now (place_of (option_copied tap.entry)) pid.now refused.now events.items) }
+    ensures { IfOk result (λ events. AreEvents sheet.now.recording.now sheet.now.lines.now
+        (place_of (option_copied tap.entry)) pid.now refused.now events.items) }
 {
     match tap {
         Some(tap) => events_at(alloc, sheet, tap, pid, refused),
@@ -51,7 +52,9 @@ fn events_at(
     refused: &[Recovery],
 ) -> Result<Vec<ClientEvent>, AllocError>
     requires { AreOf sheet.now.recording.now tap.now }
-    ensures { IfOk result (λ events. AreEventsAt sheet.now.recording.now sheet.now.lines.now tap.now.place pid.now refused.now events.items) }
+    ensures { IfOk result (λ events.
+        AreEventsAt sheet.now.recording.now sheet.now.lines.now tap.now.place pid.now refused.now
+        events.items) }
 {
     let mut numbers = Vec::new(alloc);
     numbers.extend_from_slice(numbers_naming(sheet.recording, tap.place, pid))?;
@@ -65,7 +68,8 @@ fn push_refused(
     place: usize,
     refused: &[Recovery],
 ) -> Result<(), AllocError>
-    ensures { OnOk result (numbers.new.items ≡ numbers.old.items ++ stays_refused place refused.now) }
+    ensures { OnOk result (numbers.new.items
+        ≡ numbers.old.items ++ stays_refused place refused.now) }
 {
     for recovery in refused {
         if recovery.client == place {

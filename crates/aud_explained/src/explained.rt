@@ -19,14 +19,15 @@ use aud_explanation::{ClientEvent, TurnShown};
 use aud_findings::{Finding, finding_of};
 use aud_recording_faults::Prepared;
 use aud_recoveries::Recovery;
-use aud_report::Verdict;
 use aud_rows::{ClientPlaces, Sheet};
+use aud_verdict::Verdict;
 use std::alloc::{AllocError, Global};
 
-/// All that is told of a session beside its verdict. Rows and names are lent by the sheet alone.
+/// All that is told of a session beside its verdict. Rows and names are borrowed from the sheet alone.
 #[derive(Drop)]
 pub struct Explained<'r> {
-    /// The rows that show the fault, the client, what was received of what was due, and other entries with the same fault.
+    /// The rows that show the fault, the client, what was received of what was due, and other entries with the same
+    /// fault.
     pub finding: Finding<'r>,
     /// The turns, from turn 0 on.
     pub turns: Vec<TurnShown<'r>>,
@@ -38,8 +39,8 @@ pub struct Explained<'r> {
     pub causes: Vec<CauseFound>,
 }
 
-/// All that is told of the session with this pid, on which this is the verdict, and of which these recoveries were refused.
-/// What was prepared is of the same recording; a tap that wasn't asked for there is read here.
+/// All that is told of the session with this pid, on which this is the verdict, and of which these recoveries were
+/// refused. What was prepared is of the same recording; a tap that wasn't asked for there is read here.
 ///
 /// Beside such taps it costs the session's own records and stays, and what was due to it.
 pub fn explained_of<'r, 'a>(
@@ -51,7 +52,8 @@ pub fn explained_of<'r, 'a>(
     refused: &[Recovery],
 ) -> Result<Explained<'r>, AllocError>
     requires { IsPreparedOf sheet.recording.now prepared.now }
-    ensures { IfOk result (IsExplained sheet.entry.recording.now sheet.entry.lines.now pid.now verdict.now refused.now) }
+    ensures { IfOk result (IsExplained sheet.entry.recording.now sheet.entry.lines.now pid.now
+        verdict.now refused.now) }
 {
     let Some(place) = only_client(sheet.recording, pid) else {
         return explained_by(alloc, sheet, prepared, None, pid, verdict, refused);
@@ -77,8 +79,10 @@ fn explained_by<'r, 'a>(
 ) -> Result<Explained<'r>, AllocError>
     requires prepared { IsPreparedOf sheet.recording.now prepared.now }
     requires tap { IfSome (option_copied tap) (AreOf sheet.recording.now) }
-    requires client { place_of (option_copied tap) ≡ only_of (naming_places sheet.recording.now.taps pid.now) }
-    ensures { IfOk result (IsExplained sheet.entry.recording.now sheet.entry.lines.now pid.now verdict.now refused.now) }
+    requires client { place_of (option_copied tap)
+        ≡ only_of (naming_places sheet.recording.now.taps pid.now) }
+    ensures { IfOk result (IsExplained sheet.entry.recording.now sheet.entry.lines.now pid.now
+        verdict.now refused.now) }
 {
     let account = account_of(alloc, sheet.recording, pid)?;
     let account = account.as_ref();

@@ -1,4 +1,4 @@
-//! Lists of what is told, lent for an explanation.
+//! Lists of what is told, borrowed for an explanation.
 ghost use Rattle.std.specs.Prelude.{◌≡◌, ◌++◌, IfOk, OnOk, flat_map, map};
 ghost use Rattle.aud_causes.specs.Found.{cause_seen};
 ghost use Rattle.aud_findings.specs.Also.{also_seen};
@@ -49,7 +49,8 @@ fn push_recovery<'l, 'r>(
     lent: &mut Vec<RefusedRecovery<'l, 'r>>,
     shown: Option<&'l RefusedShown<'r>>,
 ) -> Result<(), AllocError>
-    ensures { OnOk result (map recovery_told lent.new.items ≡ map recovery_told lent.old.items ++ shown_of (option_copied shown.entry)) }
+    ensures { OnOk result (map recovery_told lent.new.items
+        ≡ map recovery_told lent.old.items ++ shown_of (option_copied shown.entry)) }
 {
     if let Some(shown) = shown {
         lent.push(recovery_lent(shown))?;
@@ -69,7 +70,8 @@ fn recovery_lent<'l, 'r>(shown: &'l RefusedShown<'r>) -> RefusedRecovery<'l, 'r>
 }
 
 fn missed_lent<'l, 'r>(shown: &'l RefusedShown<'r>) -> Option<&'l [Missed<'r>]>
-    ensures { option_map (λ missed. map missed_seen missed.now) result ≡ option_map (λ missed. map missed_seen missed.items) shown.now.missed }
+    ensures { option_map (λ missed. map missed_seen missed.now) result
+        ≡ option_map (λ missed. map missed_seen missed.items) shown.now.missed }
 {
     match &shown.missed {
         Some(missed) => Some(missed.as_slice()),
@@ -83,7 +85,8 @@ pub(crate) fn causes_lent<'l>(
     causes: &'l [CauseFound],
     refused: &'l [RefusedTold<'_>],
 ) -> Result<Vec<Cause<'l>>, AllocError>
-    ensures { IfOk result (λ lent. map cause_told lent.items ≡ map cause_seen causes.now ++ causes_of_refusals refused.now) }
+    ensures { IfOk result (λ lent. map cause_told lent.items
+        ≡ map cause_seen causes.now ++ causes_of_refusals refused.now) }
 {
     let own = each_lent(alloc, causes)?;
     let mut lent = own;

@@ -1,8 +1,8 @@
-//! The explanation of a session, filled: [`explained_of`] finds all that is told of it, and [`push_explained`] writes it, as
-//! text or as a line of JSON.
+//! The explanation of a session, filled: [`explained_of`] finds all that is told of it, and [`push_explained`] writes
+//! it, as text or as a line of JSON.
 //!
-//! With the `sheet` of a recording in which client `c1`, at place 3, got the event of entry 2 twice in its session `P`, the
-//! verdict on which is `verdict`, and no recovery refused:
+//! With the `sheet` of a recording in which client `c1`, at place 3, got the event of entry 2 twice in its session `P`,
+//! the verdict on which is `verdict`, and no recovery refused:
 //!
 //! ```
 //! use aud_explained::{Form, explained_of, push_explained};

@@ -10,10 +10,10 @@ use aud_cert::Fault;
 use aud_chain::RecordPlace;
 use aud_client::Recording;
 use aud_recording_faults::{Prepared, orphan_in, unordered_of};
-use aud_report::Verdict;
+use aud_verdict::Verdict;
 
-/// What was noted of the session with this pid: where the fault is `ORDER` the first record out of order of its nodes, and
-/// where it is `ORPHAN` the first stay of its client's tap with events of which nobody knows the session.
+/// What was noted of the session with this pid: where the fault is `ORDER` the first record out of order of its nodes,
+/// and where it is `ORPHAN` the first stay of its client's tap with events of which nobody knows the session.
 pub(crate) fn noted_of(
     recording: &Recording<'_>,
     prepared: &Prepared,
@@ -22,7 +22,8 @@ pub(crate) fn noted_of(
     account: Option<&Account<'_, '_>>,
 ) -> Noted
     requires { IsPreparedOf recording.now prepared.now }
-    ensures { IsNoted recording.now pid.now verdict.now (option_map (λ a. a.client) (option_copied account.entry)) result }
+    ensures { IsNoted recording.now pid.now verdict.now
+        (option_map (λ a. a.client) (option_copied account.entry)) result }
 {
     match verdict {
         Verdict::Yes { .. } => Noted {

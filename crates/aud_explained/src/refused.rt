@@ -28,7 +28,8 @@ pub(crate) fn all_refused<'r>(
     refused: &[Recovery],
 ) -> Result<Vec<RefusedTold<'r>>, AllocError>
     requires { IsPreparedOf sheet.now.recording.now prepared.now }
-    ensures { IfOk result (λ told. AllZip (IsRefusedTold sheet.now.recording.now sheet.now.lines.now) refused.now told.items) }
+    ensures { IfOk result (λ told. AllZip
+        (IsRefusedTold sheet.now.recording.now sheet.now.lines.now) refused.now told.items) }
 {
     let mut told = Vec::new(alloc);
     for recovery in refused {

@@ -19,7 +19,9 @@ pub(crate) fn turns_of<'r>(
     pid: &str,
     account: Option<&Account<'_, '_>>,
 ) -> Result<Vec<TurnShown<'r>>, AllocError>
-    ensures { IfOk result (λ turns. map turn_seen turns.items ≡ turns_told sheet.now.recording.now sheet.now.lines.now pid.now (option_copied account.entry)) }
+    ensures { IfOk result (λ turns. map turn_seen turns.items
+        ≡ turns_told sheet.now.recording.now sheet.now.lines.now pid.now
+        (option_copied account.entry)) }
 {
     match account {
         Some(account) => turns_of_chain(alloc, sheet, account.cert.turns.as_slice()),

@@ -7,7 +7,7 @@ ghost use Rattle.aud_explained.specs.Written.{Adds, form_text};
 use crate::explained::Explained;
 use crate::lent::{also_lent, causes_lent, refused_lent};
 use aud_explanation::{Explanation, explanation_json, push_text};
-use aud_report::Verdict;
+use aud_verdict::Verdict;
 use std::alloc::{AllocError, Global};
 
 /// How explanations are written.
@@ -26,7 +26,8 @@ fn push_explanation(
     form: Form,
     explanation: &Explanation<'_, '_, '_>,
 ) -> Result<(), AllocError>
-    ensures { OnOk result (string_bytes out.new ≡ string_bytes out.old ++ form_text form explanation.now) }
+    ensures { OnOk result (string_bytes out.new
+        ≡ string_bytes out.old ++ form_text form explanation.now) }
 {
     match form {
         Form::Text => push_lines(alloc, out, explanation),
@@ -39,7 +40,8 @@ fn push_lines(
     out: &mut String,
     explanation: &Explanation<'_, '_, '_>,
 ) -> Result<(), AllocError>
-    ensures { OnOk result (string_bytes out.new ≡ string_bytes out.old ++ (explanation_text explanation.now ++ codes "\n")) }
+    ensures { OnOk result (string_bytes out.new
+        ≡ string_bytes out.old ++ (explanation_text explanation.now ++ codes "\n")) }
 {
     push_text(alloc, out, explanation)?;
     writeln!(out, "")
@@ -50,7 +52,8 @@ fn push_json(
     out: &mut String,
     explanation: &Explanation<'_, '_, '_>,
 ) -> Result<(), AllocError>
-    ensures { OnOk result (string_bytes out.new ≡ string_bytes out.old ++ (explanation_json explanation.now ++ codes "\n")) }
+    ensures { OnOk result (string_bytes out.new
+        ≡ string_bytes out.old ++ (explanation_json explanation.now ++ codes "\n")) }
 {
     let line = explanation_json(alloc, explanation)?;
     writeln!(out, "{line}")
@@ -65,7 +68,8 @@ pub fn push_explained(
     verdict: &Verdict,
     explained: &Explained<'_>,
 ) -> Result<(), AllocError>
-    ensures { OnOk result (Adds form pid.now verdict.now explained.now (string_bytes out.old) (string_bytes out.new)) }
+    ensures { OnOk result (Adds form pid.now verdict.now explained.now (string_bytes out.old)
+        (string_bytes out.new)) }
 {
     let also = also_lent(alloc, explained.finding.also.as_slice())?;
     let refused = refused_lent(alloc, explained.refused.as_slice())?;

@@ -3,8 +3,8 @@ use Rattle.std.proofs.Common.{◌≡◌, ℕ, zero, suc, ◌+◌, ◌<◌, take,
 use Rattle.serde_json.specs.Data.{Data}
 use Rattle.serde_json.specs.View.{view, items_view}
 use Rattle.serde_json.specs.declared.value.Value.{Value}
-use Rattle.aud_cert_text.specs.Text.{items}
-use Rattle.aud_cert_text.proofs.Lists.{items-more}
+use Rattle.aud_cert.specs.Text.{items}
+use Rattle.aud_cert.proofs.Lists.{items-more}
 
 -- an element that is there, whatever stands for one that isn't
 get_or-any : {A : Type 0} (xs : List A) (i : ℕ) (d e : A) → i < length xs → get_or xs i d ≡ get_or xs i e

@@ -1,6 +1,6 @@
 -- The line of the client.
 use Rattle.std.specs.Prelude.{ℕ, List, [], ◌++◌, codes, decimal, Option, Some, None}
-use Rattle.aud_report.specs.declared.verdict.Verdict.{Verdict}
+use Rattle.aud_verdict.specs.declared.verdict.Verdict.{Verdict}
 use Rattle.aud_explanation.specs.declared.client.Client.{Client}
 use Rattle.aud_explanation.specs.declared.client.Account.{Account}
 use Rattle.aud_explanation.specs.Page.{laid_line}

@@ -1,6 +1,6 @@
 -- The table of evidence.
 use Rattle.std.specs.Prelude.{ℕ, max, List, [], ◌∷◌, ◌++◌, codes, decimal, flat_map, fold, length}
-use Rattle.aud_report.specs.declared.verdict.Verdict.{Verdict}
+use Rattle.aud_verdict.specs.declared.verdict.Verdict.{Verdict}
 use Rattle.aud_rows.specs.declared.row.Row.{Row}
 use Rattle.aud_explanation.specs.Page.{laid_line, to_left, to_right}
 use Rattle.aud_explanation.specs.Record.{record_text}

@@ -1,10 +1,10 @@
 -- The class of what is explained.
 use Rattle.std.specs.Prelude.{List, [], ◌∷◌, Option, Some, None}
-use Rattle.aud_evidence.specs.declared.class.Class.{Class}
-use Rattle.aud_evidence.specs.declared.class.Class.TheVariants.{Delivery}
-use Rattle.aud_evidence.specs.Class.{class_of}
-use Rattle.aud_report.specs.declared.verdict.Verdict.{Verdict}
-use Rattle.aud_report.specs.declared.verdict.Verdict.TheVariants.{Yes, No}
+use Rattle.aud_cert.specs.declared.class.Class.{Class}
+use Rattle.aud_cert.specs.declared.class.Class.TheVariants.{Delivery}
+use Rattle.aud_cert.specs.Class.{class_of}
+use Rattle.aud_verdict.specs.declared.verdict.Verdict.{Verdict}
+use Rattle.aud_verdict.specs.declared.verdict.Verdict.TheVariants.{Yes, No}
 use Rattle.aud_explanation.specs.declared.refused.RefusedRecovery.{RefusedRecovery}
 use Rattle.aud_explanation.specs.declared.explanation.Explanation.{Explanation}
 

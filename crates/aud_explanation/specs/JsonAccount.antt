@@ -1,8 +1,8 @@
 -- The members of the client, and of what it received.
 use Rattle.std.specs.Prelude.{codes, Option, Some, None}
 use Rattle.serde_json.specs.Data.{null, string, Members, put}
-use Rattle.aud_cert_text.specs.Text.{whole}
-use Rattle.aud_report.specs.declared.verdict.Verdict.{Verdict}
+use Rattle.aud_cert.specs.Text.{whole}
+use Rattle.aud_verdict.specs.declared.verdict.Verdict.{Verdict}
 use Rattle.aud_explanation.specs.declared.client.Client.{Client}
 use Rattle.aud_explanation.specs.declared.client.Account.{Account}
 use Rattle.aud_explanation.specs.ShownTail.{shown_tail}

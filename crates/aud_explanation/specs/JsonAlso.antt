@@ -1,7 +1,7 @@
 -- The member of the other entries with the same fault.
 use Rattle.std.specs.Prelude.{List, codes}
 use Rattle.serde_json.specs.Data.{Data, array, object, Members, no_members, member, put}
-use Rattle.aud_cert_text.specs.Text.{items, whole}
+use Rattle.aud_cert.specs.Text.{items, whole}
 use Rattle.aud_explanation.specs.declared.also.Also.{Also}
 
 -- `{"lines":..,"position":..}`

@@ -1,7 +1,7 @@
 -- The member of what happened to the client.
 use Rattle.std.specs.Prelude.{ℕ, List, [], ◌∷◌, codes}
 use Rattle.serde_json.specs.Data.{Data, null, string, array, object, Members, no_members, member, put}
-use Rattle.aud_cert_text.specs.Text.{items, whole}
+use Rattle.aud_cert.specs.Text.{items, whole}
 use Rattle.aud_explanation.specs.declared.event.ClientEvent.{ClientEvent}
 use Rattle.aud_explanation.specs.declared.event.Happens.{Happens}
 use Rattle.aud_explanation.specs.declared.event.Happens.TheVariants.{Asks, Reply, Refused, Got, Lost}

@@ -2,7 +2,7 @@
 use Rattle.std.specs.Prelude.{List, codes, Option, Some, None}
 use Rattle.std.specs.Option.{option_copied}
 use Rattle.serde_json.specs.Data.{Data, null, string, array, object, Members, no_members, member, put}
-use Rattle.aud_cert_text.specs.Text.{items, whole}
+use Rattle.aud_cert.specs.Text.{items, whole}
 use Rattle.aud_rows.specs.declared.row.Row.{Row}
 use Rattle.aud_explanation.specs.declared.refused.Missed.{Missed}
 use Rattle.aud_explanation.specs.declared.refused.RefusedRecovery.{RefusedRecovery}

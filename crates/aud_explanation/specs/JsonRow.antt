@@ -1,7 +1,7 @@
 -- The member of the evidence.
 use Rattle.std.specs.Prelude.{ℕ, List, codes}
 use Rattle.serde_json.specs.Data.{Data, string, array, object, Members, no_members, member, put}
-use Rattle.aud_cert_text.specs.Text.{items, whole}
+use Rattle.aud_cert.specs.Text.{items, whole}
 use Rattle.aud_rows.specs.declared.row.Row.{Row}
 use Rattle.aud_rows.specs.declared.row.Role.{Role}
 use Rattle.aud_rows.specs.declared.row.Role.TheVariants.{Fault, Earlier, Later, Entry, Reached, Room, Left, Break, Back, Ask, Reply}

@@ -1,7 +1,7 @@
 -- The member of the turns.
 use Rattle.std.specs.Prelude.{ℕ, List, [], ◌∷◌, codes, Option, Some, None}
 use Rattle.serde_json.specs.Data.{Data, null, string, array, object, Members, no_members, member, put}
-use Rattle.aud_cert_text.specs.Text.{items, whole}
+use Rattle.aud_cert.specs.Text.{items, whole}
 use Rattle.aud_explanation.specs.declared.turn.TurnShown.{TurnShown}
 use Rattle.aud_explanation.specs.declared.turn.TurnBegin.{TurnBegin}
 use Rattle.aud_explanation.specs.declared.turn.TurnBegin.TheVariants.{Open, Back}

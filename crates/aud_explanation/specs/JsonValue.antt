@@ -1,7 +1,7 @@
 -- Values that may be missing.
 use Rattle.std.specs.Prelude.{ℕ, List, Option, Some, None}
 use Rattle.serde_json.specs.Data.{Data, null, string}
-use Rattle.aud_cert_text.specs.Text.{whole}
+use Rattle.aud_cert.specs.Text.{whole}
 
 -- the text, or `null`
 abbrev pub text_or_null : Option (List ℕ) → Data

@@ -1,12 +1,12 @@
 -- The members of the verdict.
 use Rattle.std.specs.Prelude.{ℕ, List, codes, Option, Some, None}
 use Rattle.serde_json.specs.Data.{Data, null, string, Members, put}
-use Rattle.aud_cert_text.specs.Text.{whole}
-use Rattle.aud_evidence.specs.declared.class.Class.{Class}
-use Rattle.aud_evidence.specs.Class.{class_text}
-use Rattle.aud_evidence.specs.FaultWord.{fault_word}
-use Rattle.aud_report.specs.declared.verdict.Verdict.{Verdict}
-use Rattle.aud_report.specs.declared.verdict.Verdict.TheVariants.{Yes, No}
+use Rattle.aud_cert.specs.Text.{whole}
+use Rattle.aud_cert.specs.declared.class.Class.{Class}
+use Rattle.aud_cert.specs.Class.{class_text}
+use Rattle.aud_cert.specs.FaultWord.{fault_word}
+use Rattle.aud_verdict.specs.declared.verdict.Verdict.{Verdict}
+use Rattle.aud_verdict.specs.declared.verdict.Verdict.TheVariants.{Yes, No}
 use Rattle.aud_explanation.specs.FaultEntry.{fault_off}
 use Rattle.aud_explanation.specs.JsonValue.{text_or_null}
 

@@ -1,8 +1,8 @@
 pub use Rattle.aud_cert.specs.Fault
-pub use Rattle.aud_report.specs.Report
-pub use Rattle.aud_cert_text.specs.Text as CertificateText
-pub use Rattle.aud_evidence.specs.Class
-pub use Rattle.aud_evidence.specs.FaultWord
+pub use Rattle.aud_verdict.specs.Report
+pub use Rattle.aud_cert.specs.Text as CertificateText
+pub use Rattle.aud_cert.specs.Class
+pub use Rattle.aud_cert.specs.FaultWord
 pub mod ExplainedClass
 pub mod FaultEntry
 pub mod ShownTail

@@ -29,7 +29,8 @@ ends_line column c rest = if c == 32 then not (word_fits (column + 1) rest) else
 abbrev pub next_line : List ℕ
 next_line = codes "\n        "
 
--- the character there: in place of a blank at which the line ends the next line; where the line is full, in the next line
+-- the character there: in place of a blank at which the line ends the next line; where the line is full, in the next
+-- line
 abbrev pub placed : ℕ → ℕ → List ℕ → List ℕ
 placed column c rest = if ends_line column c rest then next_line else (if fits column c then shown c else next_line ++ shown c)
 

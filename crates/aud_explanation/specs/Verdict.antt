@@ -1,10 +1,10 @@
 -- The line of the verdict.
 use Rattle.std.specs.Prelude.{ℕ, List, [], ◌++◌, codes, decimal, Option, Some, None}
 use Rattle.aud_cert.specs.Fault.{fault_text}
-use Rattle.aud_report.specs.declared.verdict.Verdict.{Verdict}
-use Rattle.aud_report.specs.declared.verdict.Verdict.TheVariants.{Yes, No}
-use Rattle.aud_evidence.specs.declared.class.Class.{Class}
-use Rattle.aud_evidence.specs.Class.{class_text}
+use Rattle.aud_verdict.specs.declared.verdict.Verdict.{Verdict}
+use Rattle.aud_verdict.specs.declared.verdict.Verdict.TheVariants.{Yes, No}
+use Rattle.aud_cert.specs.declared.class.Class.{Class}
+use Rattle.aud_cert.specs.Class.{class_text}
 use Rattle.aud_explanation.specs.Page.{laid_line}
 
 -- as an audit prints it

@@ -18,8 +18,8 @@ pub struct Account {
     pub got: u64,
     /// How many were due.
     pub due: u64,
-    /// How many due ones after the last one received did not come. It is shown only under a yes and where it is the fault:
-    /// under another fault what came may be no front of what was due, and what is left of that no tail.
+    /// How many due ones after the last one received did not come. It is shown only under a yes and where it is the
+    /// fault: under another fault what came may be no front of what was due, and what is left of that no tail.
     pub tail: u64,
     /// The frame at which what was received parts from what was due; frames count from 1. None where it does not.
     pub at_frame: Option<u64>,

@@ -8,12 +8,12 @@ use crate::client::{Account, Client};
 use crate::event::ClientEvent;
 use crate::refused::RefusedRecovery;
 use crate::turn::TurnShown;
-use aud_evidence::{Class, class_of};
-use aud_report::Verdict;
+use aud_cert::{Class, class_of};
 use aud_rows::Row;
+use aud_verdict::Verdict;
 
-/// What is told of a session: the verdict on it, its client, and why. All of it is lent: names for as long as the recording,
-/// `'r`; lists for as long as what was found, `'s`; and what their elements list for `'l`.
+/// What is told of a session: the verdict on it, its client, and why. All of it is borrowed: names for as long as the
+/// recording, `'r`; lists for as long as what was found, `'s`; and what their elements list for `'l`.
 #[derive(Clone, Copy, Drop)]
 pub struct Explanation<'s, 'l, 'r> {
     /// The session.

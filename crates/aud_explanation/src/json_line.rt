@@ -31,7 +31,8 @@ fn put_head(
     members: &mut Map<String, Value>,
     explanation: &Explanation<'_, '_, '_>,
 ) -> Result<(), AllocError>
-    ensures { OnOk result (members_view members.new.entries ≡ head_members explanation.now (members_view members.old.entries)) }
+    ensures { OnOk result (members_view members.new.entries
+        ≡ head_members explanation.now (members_view members.old.entries)) }
 {
     let class = class_of_explained(explanation);
     put_verdict(alloc, members, explanation.pid, explanation.verdict, class)?;
@@ -45,7 +46,8 @@ fn put_shown(
     members: &mut Map<String, Value>,
     explanation: &Explanation<'_, '_, '_>,
 ) -> Result<(), AllocError>
-    ensures { OnOk result (members_view members.new.entries ≡ shown_members explanation.now (members_view members.old.entries)) }
+    ensures { OnOk result (members_view members.new.entries
+        ≡ shown_members explanation.now (members_view members.old.entries)) }
 {
     put_turns(alloc, members, explanation.turns)?;
     put_evidence(alloc, members, explanation.evidence)?;
@@ -58,7 +60,8 @@ fn put_told(
     members: &mut Map<String, Value>,
     explanation: &Explanation<'_, '_, '_>,
 ) -> Result<(), AllocError>
-    ensures { OnOk result (members_view members.new.entries ≡ told_members explanation.now (members_view members.old.entries)) }
+    ensures { OnOk result (members_view members.new.entries
+        ≡ told_members explanation.now (members_view members.old.entries)) }
 {
     put_refused(alloc, members, explanation.refused)?;
     put_events(alloc, members, explanation.events)?;
@@ -78,8 +81,8 @@ fn explanation_value(
     Ok(Value::Object(members))
 }
 
-/// The explanation as one line of JSON, without blanks and without a newline, its keys in byte order. Each member is always
-/// there: what is not known is `null`. `v` is the version of these members, 1.
+/// The explanation as one line of JSON, without blanks and without a newline, its keys in byte order. Each member is
+/// always there: what is not known is `null`. `v` is the version of these members, 1.
 pub fn explanation_json(
     alloc: Global,
     explanation: &Explanation<'_, '_, '_>,

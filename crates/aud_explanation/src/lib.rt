@@ -5,7 +5,7 @@
 //!
 //! ```
 //! use aud_explanation::{Explanation, push_text};
-//! use aud_report::Verdict;
+//! use aud_verdict::Verdict;
 //!
 //! let verdict = Verdict::Yes { got: 1, tail: 0, turns: 1 };
 //! let explanation = Explanation {

@@ -1,7 +1,8 @@
 //! Recoveries that were refused.
 use aud_rows::Row;
 
-/// A recovery of the session that a client asked for and did not get. What it missed is lent for `'l`, names for `'r`.
+/// A recovery of the session that a client asked for and did not get. What it missed is borrowed for `'l`, names for
+/// `'r`.
 #[derive(Clone, Copy, Debug, Drop)]
 pub struct RefusedRecovery<'l, 'r> {
     /// The record in which it asks.

@@ -3,7 +3,7 @@ ghost use Rattle.std.specs.Prelude.{◌≡◌};
 ghost use Rattle.aud_explanation.specs.ShownTail.{shown_tail};
 
 use aud_cert::Fault;
-use aud_report::Verdict;
+use aud_verdict::Verdict;
 
 /// This tail of an account, where the verdict is a yes or the fault is the tail.
 pub(crate) fn shown_tail(verdict: &Verdict, tail: u64) -> Option<u64>

@@ -33,7 +33,8 @@ fn push_shown(
     out: &mut String,
     explanation: &Explanation<'_, '_, '_>,
 ) -> Result<(), AllocError>
-    ensures { OnOk result (string_bytes out.new ≡ string_bytes out.old ++ shown_text explanation.now) }
+    ensures { OnOk result (string_bytes out.new
+        ≡ string_bytes out.old ++ shown_text explanation.now) }
 {
     let class = class_of_explained(explanation);
     let turns = explanation.turns.len();
@@ -56,7 +57,8 @@ fn push_told(
     out: &mut String,
     explanation: &Explanation<'_, '_, '_>,
 ) -> Result<(), AllocError>
-    ensures { OnOk result (string_bytes out.new ≡ string_bytes out.old ++ told_text explanation.now) }
+    ensures { OnOk result (string_bytes out.new
+        ≡ string_bytes out.old ++ told_text explanation.now) }
 {
     push_turns(alloc, out, explanation.turns)?;
     push_events(alloc, out, explanation.events)?;
@@ -64,18 +66,19 @@ fn push_told(
     push_causes(alloc, out, explanation.causes)
 }
 
-/// Puts the text of an explanation at the end: the verdict with its class, the client, the evidence, the other entries with
-/// the same fault, a row for each turn and one for the client, the refused recoveries, and the causes.
+/// Puts the text of an explanation at the end: the verdict with its class, the client, the evidence, the other entries
+/// with the same fault, a row for each turn and one for the client, the refused recoveries, and the causes.
 ///
-/// A line has at most 100 columns, a character a column. A word that does not stand within it goes on in the next line, after
-/// eight blanks, and so does what is left of a word that is longer than a line: nothing is left out. A control character
-/// of a name is shown as `\x` and two hexadecimal digits.
+/// A line has at most 100 columns, a character a column. A word that does not stand within it goes on in the next line,
+/// after eight blanks, and so does what is left of a word that is longer than a line: nothing is left out. A control
+/// character of a name is shown as `\x` and two hexadecimal digits.
 pub fn push_text(
     alloc: Global,
     out: &mut String,
     explanation: &Explanation<'_, '_, '_>,
 ) -> Result<(), AllocError>
-    ensures { OnOk result (string_bytes out.new ≡ string_bytes out.old ++ explanation_text explanation.now) }
+    ensures { OnOk result (string_bytes out.new
+        ≡ string_bytes out.old ++ explanation_text explanation.now) }
 {
     push_shown(alloc, out, explanation)?;
     push_told(alloc, out, explanation)

@@ -12,7 +12,8 @@ pub struct TurnShown<'r> {
     pub begin_line: u64,
     /// The node's cursor after that record.
     pub low: u64,
-    /// The first and the last position that the node took in the turn; none where it took none, and where the end is missing.
+    /// The first and the last position that the node took in the turn; none where it took none, and where the end is
+    /// missing.
     pub took: Option<(u64, u64)>,
     /// How it ends.
     pub end: TurnEnd,

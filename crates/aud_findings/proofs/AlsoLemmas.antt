@@ -8,7 +8,7 @@ use Rattle.aud_account.specs.Account.{IsAccount}
 use Rattle.aud_evidence.specs.declared.difference.Difference.{Difference}
 use Rattle.aud_evidence.specs.Difference.{IsAscending, IsDifference}
 use Rattle.aud_evidence.specs.Window.{positions_received}
-use Rattle.aud_lines.specs.TapLines.{TapLines}
+use Rattle.aud_input.specs.TapLines.{TapLines}
 use Rattle.aud_shown.specs.ShowsDifference.{AreNumbersOf}
 use Rattle.aud_verdict.specs.Session.{own_stays, due_to}
 use Rattle.aud_findings.specs.Also.{AlsoSeen, AreAlso, also_at, others}

@@ -11,7 +11,7 @@ use Rattle.aud_merge.specs.ByTurns.{IsPrefixOf}
 use Rattle.aud_account.specs.Account.{IsAccount, IsDifferenceOf}
 use Rattle.aud_evidence.specs.declared.difference.Difference.{Difference}
 use Rattle.aud_evidence.specs.Window.{positions_received}
-use Rattle.aud_lines.specs.TapLines.{TapLines}
+use Rattle.aud_input.specs.TapLines.{TapLines}
 use Rattle.aud_rows.specs.Seen.{RowSeen}
 use Rattle.aud_shown.specs.ShowsDifference.{ShowsDifference}
 use Rattle.aud_verdict.specs.Session.{due_to}

@@ -10,9 +10,9 @@ use Rattle.aud_evidence.specs.declared.difference.Difference.{Difference}
 use Rattle.aud_evidence.specs.declared.difference.Difference.TheVariants.{Extra, Doubled, Swapped, Lost}
 use Rattle.aud_evidence.specs.Difference.{IsDifference}
 use Rattle.aud_evidence.specs.Window.{positions_received}
-use Rattle.aud_lines.specs.TapLines.{TapLines}
-use Rattle.aud_report.specs.declared.verdict.Verdict.{Verdict}
-use Rattle.aud_report.specs.declared.verdict.Verdict.TheVariants.{Yes, No}
+use Rattle.aud_input.specs.TapLines.{TapLines}
+use Rattle.aud_verdict.specs.declared.verdict.Verdict.{Verdict}
+use Rattle.aud_verdict.specs.declared.verdict.Verdict.TheVariants.{Yes, No}
 use Rattle.aud_rows.specs.declared.row.Role.TheVariants.{Entry, Later}
 use Rattle.aud_rows.specs.Rows.{stream_row}
 use Rattle.aud_rows.specs.Seen.{RowSeen}
@@ -45,8 +45,8 @@ is_also received (Doubled first again position) p = is_again received p && not (
 is_also received (Lost frame due) p = is_passed received p && not (nat_eq p due)
 is_also received _ p = false
 
--- the first hundred of those due that have it, ascending: of an entry that came twice those that came twice, of one that was
--- lost those that were passed over; of others none
+-- the first hundred of those due that have it, ascending: of an entry that came twice those that came twice, of one
+-- that was lost those that were passed over; of others none
 abbrev pub others : List ℕ → List ℕ → Difference → List ℕ
 others received due difference = take 100 (filter (is_also received difference) due)
 
@@ -89,7 +89,8 @@ also_seen also = record { position = also.position; lines = also.lines.items }
 abbrev pub also_at : Cluster → List TapLines → ℕ → List ℕ → List ℕ → Difference → ℕ → AlsoSeen
 also_at c lines place numbers received difference p = record { position = p; lines = also_lines c lines place numbers received difference p }
 
--- these are the other entries with the fault of the difference between what was received of the session and what was due to it
+-- these are the other entries with the fault of the difference between what was received of the session and what was
+-- due to it
 pub record AreOthers (c : Cluster) (lines : List TapLines) (pid : Text) (s : SessionLogs) (also : List AlsoSeen) : Type 0 where
   pub difference : Difference
   pub is_difference : IsDifference (positions_received (own_stays c s)) (due_to c s) difference

@@ -13,9 +13,9 @@ use Rattle.aud_chain.specs.Misfit.{HasChain}
 use Rattle.aud_check.specs.Frames.{AreEntries, frames_in, wrong_window}
 use Rattle.aud_evidence.specs.Difference.{IsAscending}
 use Rattle.aud_evidence.specs.Window.{positions_received}
-use Rattle.aud_lines.specs.TapLines.{TapLines}
-use Rattle.aud_report.specs.declared.verdict.Verdict.{Verdict}
-use Rattle.aud_report.specs.declared.verdict.Verdict.TheVariants.{Yes, No}
+use Rattle.aud_input.specs.TapLines.{TapLines}
+use Rattle.aud_verdict.specs.declared.verdict.Verdict.{Verdict}
+use Rattle.aud_verdict.specs.declared.verdict.Verdict.TheVariants.{Yes, No}
 use Rattle.aud_rows.specs.Seen.{RowSeen}
 use Rattle.aud_rows.specs.StayRows.{stays_at}
 use Rattle.aud_shown.specs.ShowsAltered.{ShowsAltered}

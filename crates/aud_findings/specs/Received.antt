@@ -14,8 +14,8 @@ use Rattle.aud_evidence.specs.Difference.{IsDifference}
 use Rattle.aud_evidence.specs.Window.{positions_received}
 use Rattle.aud_explanation.specs.declared.client.Account.{Account}
 use Rattle.aud_merge.specs.ByTurns.{IsPrefixOf}
-use Rattle.aud_report.specs.declared.verdict.Verdict.{Verdict}
-use Rattle.aud_report.specs.declared.verdict.Verdict.TheVariants.{Yes, No}
+use Rattle.aud_verdict.specs.declared.verdict.Verdict.{Verdict}
+use Rattle.aud_verdict.specs.declared.verdict.Verdict.TheVariants.{Yes, No}
 use Rattle.aud_verdict.specs.Session.{SessionLogs, IsSession, own_stays, due_to}
 
 -- ---- where the delivery is judged

@@ -16,7 +16,7 @@ use Rattle.aud_reach.specs.Changes.{last_change_before}
 use Rattle.aud_reach.specs.NotDue.{why_not_due}
 use Rattle.aud_reach.specs.Reach.{first_turn_reaching}
 use Rattle.aud_reach.specs.Reasons.{Reason, NoCommonRoom, Excepted}
-use Rattle.aud_lines.specs.TapLines.{TapLines}
+use Rattle.aud_input.specs.TapLines.{TapLines}
 use Rattle.aud_rows.specs.declared.row.Role.TheVariants.{Left, Room}
 use Rattle.aud_rows.specs.Rows.{node_row}
 use Rattle.aud_rows.specs.Seen.{RowSeen}
@@ -77,14 +77,15 @@ cert_row c lines cert joined rooms p = room_row c lines cert.pid (map (turn_at c
 abbrev pub due_row : Cluster → List TapLines → CertificateSeen → ℕ → Option RowSeen
 due_row c lines cert p = cert_row c lines cert true (rooms_in (entry c.stream p)) p
 
--- the row of the leave of that room, where the session didn't hold it any more at the end of the turn in which it reached the entry
+-- the row of the leave of that room, where the session didn't hold it any more at the end of the turn in which it
+-- reached the entry
 abbrev pub left_row : Cluster → List TapLines → CertificateSeen → ℕ → Option RowSeen
 left_row c lines cert p =
     option_and_then (λ (change : RoomChange). node_row c lines change.node change.number Left)
     (option_and_then (left_after c cert.pid (map (turn_at c) cert.turns) (rooms_in (entry c.stream p))) (reach_of c (map (turn_at c) cert.turns) p))
 
--- why the entry was not due, for this reason: the row of the leave of the first of its rooms that the session had left, or of
--- the join of the excepted room
+-- why the entry was not due, for this reason: the row of the leave of the first of its rooms that the session had left,
+-- or of the join of the excepted room
 abbrev pub not_due_row_for : Cluster → List TapLines → CertificateSeen → ℕ → Option Reason → Option RowSeen
 not_due_row_for c lines cert p (Some NoCommonRoom) = cert_row c lines cert false (rooms_in (entry c.stream p)) p
 not_due_row_for c lines cert p (Some (Excepted room)) = cert_row c lines cert true (room ∷ []) p

@@ -8,14 +8,14 @@ use Rattle.aud_merge.specs.ByTurns.{IsPrefixOf}
 use Rattle.aud_account.specs.Account.{IsDifferenceOf}
 use Rattle.aud_evidence.specs.declared.difference.Difference.{Difference}
 use Rattle.aud_evidence.specs.Window.{positions_received}
-use Rattle.aud_lines.specs.TapLines.{TapLines}
+use Rattle.aud_input.specs.TapLines.{TapLines}
 use Rattle.aud_rows.specs.Seen.{RowSeen}
 use Rattle.aud_shown.specs.ShowsDifference.{ShowsDifference}
 use Rattle.aud_verdict.specs.Session.{SessionLogs, IsSession, own_stays, due_to}
 use Rattle.aud_findings.specs.BesideRows.{beside_rows}
 
--- these are the rows of a difference between what was received of the session with this pid and what was due to it, and in
--- front of them those that tell how it comes to be one, by the session's certificate
+-- these are the rows of a difference between what was received of the session with this pid and what was due to it, and
+-- in front of them those that tell how it comes to be one, by the session's certificate
 pub record ShowsDelivery (c : Cluster) (lines : List TapLines) (pid : Text) (rows : List RowSeen) : Type 0 where
   pub cert : CertificateSeen
   pub made : IsMade c cert.pid cert

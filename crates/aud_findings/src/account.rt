@@ -12,17 +12,20 @@ use aud_account::{Account, positions_received};
 use aud_cert::Fault;
 use aud_evidence::{Difference, first_difference};
 use aud_explanation::Account as Received;
-use aud_report::Verdict;
+use aud_verdict::Verdict;
 use std::alloc::{AllocError, Global};
 
-/// What the client received of the session of which this is the account, against what was due to it; none where there is no
-/// account, or the delivery was not judged.
+/// What the client received of the session of which this is the account, against what was due to it; none where there
+/// is no account, or the delivery was not judged.
 pub(crate) fn received_shown(
     alloc: Global,
     verdict: &Verdict,
     account: Option<&Account<'_, '_>>,
 ) -> Result<Option<Received>, AllocError>
-    ensures { (c : Cluster) (pid : Text) → IfSome account.entry (λ a. IsAccount c pid a.now.client (map (λ stay. stay.now) a.now.stays.items) a.now.due.items)
+    ensures { (c : Cluster) (pid : Text)
+        → IfSome account.entry
+        (λ a. IsAccount c pid a.now.client
+        (map (λ stay. stay.now) a.now.stays.items) a.now.due.items)
         → IfOk result (IsReceivedShown c pid (is_some account.entry) verdict.now) }
 {
     match account {
@@ -37,7 +40,9 @@ fn figures_of(
     verdict: &Verdict,
     account: &Account<'_, '_>,
 ) -> Result<Received, AllocError>
-    ensures { (c : Cluster) (pid : Text) → IsAccount c pid account.now.client (map (λ stay. stay.now) account.now.stays.items) account.now.due.items
+    ensures { (c : Cluster) (pid : Text)
+        → IsAccount c pid account.now.client
+        (map (λ stay. stay.now) account.now.stays.items) account.now.due.items
         → IfOk result (AreFiguresOf c pid verdict.now) }
 {
     let received = positions_received(alloc, account.stays.as_slice())?;
@@ -103,7 +108,9 @@ fn at_frame(received: &[u64], due: &[u64], fault: &Fault) -> Option<u64>
 
 /// The frame, from 1, at which these positions received part from those due.
 fn difference_frame(received: &[u64], due: &[u64]) -> Option<u64>
-    ensures { IsAscending due.now → MatchOption result (IsPrefixOf received.now due.now) (IsDifferenceFrame received.now due.now) }
+    ensures { IsAscending due.now
+        → MatchOption result (IsPrefixOf received.now due.now)
+        (IsDifferenceFrame received.now due.now) }
 {
     match first_difference(received, due) {
         Some(difference) => Some((frame_of(difference) as u64).saturating_add(1)),

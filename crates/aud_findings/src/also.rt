@@ -17,13 +17,13 @@ use aud_cert::Fault;
 use aud_client::{IndexedTranscript, Recording};
 use aud_evidence::{Difference, first_difference};
 use aud_recording_faults::{Prepared, numbers_naming};
-use aud_report::Verdict;
 use aud_rows::{ClientPlaces, Role, Row, Sheet};
 use aud_shown::{FramePlace, frame_at};
+use aud_verdict::Verdict;
 use std::alloc::{AllocError, Global};
 
-/// The other entries that have the fault, where the verdict is that what was received parts from what was due, and there is an
-/// account; else none. The tap of the client is read where it wasn't prepared.
+/// The other entries that have the fault, where the verdict is that what was received parts from what was due, and
+/// there is an account; else none. The tap of the client is read where it wasn't prepared.
 pub(crate) fn also_found<'r, 'a>(
     alloc: Global,
     sheet: &Sheet<'r, 'a>,
@@ -33,8 +33,10 @@ pub(crate) fn also_found<'r, 'a>(
     account: Option<&Account<'r, 'a>>,
 ) -> Result<Vec<AlsoShown>, AllocError>
     requires prepared { IsPreparedOf sheet.now.recording.now prepared.now }
-    requires account { IfSome account (λ a. IsAccount sheet.now.recording.now pid.now a.now.client (map (λ stay. stay.now) a.now.stays.items) a.now.due.items) }
-    ensures { IfOk result (λ also. IsAlsoShown sheet.now.recording.now sheet.now.lines.now pid.now (is_some account.entry && is_parted verdict.now) (map also_seen also.items)) }
+    requires account { IfSome account (λ a. IsAccount sheet.now.recording.now pid.now a.now.client
+        (map (λ stay. stay.now) a.now.stays.items) a.now.due.items) }
+    ensures { IfOk result (λ also. IsAlsoShown sheet.now.recording.now sheet.now.lines.now pid.now
+        (is_some account.entry && is_parted verdict.now) (map also_seen also.items)) }
 {
     match account {
         Some(account) if is_parted(verdict) => also_in(alloc, sheet, prepared, pid, account),
@@ -51,8 +53,10 @@ fn also_in<'r, 'a>(
     account: &Account<'r, 'a>,
 ) -> Result<Vec<AlsoShown>, AllocError>
     requires prepared { IsPreparedOf sheet.now.recording.now prepared.now }
-    requires account { IsAccount sheet.now.recording.now pid.now account.now.client (map (λ stay. stay.now) account.now.stays.items) account.now.due.items }
-    ensures { IfOk result (λ also. AreAlso sheet.now.recording.now sheet.now.lines.now pid.now (map also_seen also.items)) }
+    requires account { IsAccount sheet.now.recording.now pid.now account.now.client
+        (map (λ stay. stay.now) account.now.stays.items) account.now.due.items }
+    ensures { IfOk result (λ also. AreAlso sheet.now.recording.now sheet.now.lines.now pid.now
+        (map also_seen also.items)) }
 {
     match prepared.tap(account.client) {
         Some(tap) => also_of(alloc, sheet, tap, pid, account),
@@ -85,8 +89,8 @@ fn is_parting(fault: &Fault) -> bool
     }
 }
 
-/// The other entries with the fault of the first difference between what was received of the session and what was due to it;
-/// none where there is no difference. Each of a hundred entries at most costs what was received.
+/// The other entries with the fault of the first difference between what was received of the session and what was due
+/// to it; none where there is no difference. Each of a hundred entries at most costs what was received.
 fn also_of<'r, 'a>(
     alloc: Global,
     sheet: &Sheet<'r, 'a>,
@@ -96,8 +100,10 @@ fn also_of<'r, 'a>(
 ) -> Result<Vec<AlsoShown>, AllocError>
     requires tap { AreOf sheet.now.recording.now tap.now }
     requires place { tap.now.place ≡ account.now.client }
-    requires account { IsAccount sheet.now.recording.now pid.now account.now.client (map (λ stay. stay.now) account.now.stays.items) account.now.due.items }
-    ensures { IfOk result (λ also. AreAlso sheet.now.recording.now sheet.now.lines.now pid.now (map also_seen also.items)) }
+    requires account { IsAccount sheet.now.recording.now pid.now account.now.client
+        (map (λ stay. stay.now) account.now.stays.items) account.now.due.items }
+    ensures { IfOk result (λ also. AreAlso sheet.now.recording.now sheet.now.lines.now pid.now
+        (map also_seen also.items)) }
 {
     let numbers = numbers_naming(sheet.recording, tap.place, pid);
     let stays = account.stays.as_slice();
@@ -125,7 +131,8 @@ fn all_shown(
 ) -> Result<Vec<AlsoShown>, AllocError>
     requires { AreOf sheet.now.recording.now tap.now }
     ensures { IfOk result (λ also. map also_seen also.items
-        ≡ map (also_at sheet.now.recording.now sheet.now.lines.now tap.now.place numbers.now received.now difference) others.now) }
+        ≡ map (also_at sheet.now.recording.now sheet.now.lines.now tap.now.place numbers.now
+        received.now difference) others.now) }
 {
     let mut also = Vec::new(alloc);
     for position in others {
@@ -146,7 +153,9 @@ fn also_at(
     position: u64,
 ) -> Result<AlsoShown, AllocError>
     requires { AreOf sheet.now.recording.now tap.now }
-    ensures { IfOk result (λ also. also_seen also ≡ also_at sheet.now.recording.now sheet.now.lines.now tap.now.place numbers.now received.now difference position) }
+    ensures { IfOk result (λ also. also_seen also
+        ≡ also_at sheet.now.recording.now sheet.now.lines.now tap.now.place numbers.now received.now
+        difference position) }
 {
     let lines = lines_of(alloc, sheet, tap, numbers, received, difference, position)?;
     Ok(AlsoShown { position, lines })
@@ -163,7 +172,9 @@ fn lines_of(
     position: u64,
 ) -> Result<Vec<u64>, AllocError>
     requires { AreOf sheet.now.recording.now tap.now }
-    ensures { IfOk result (λ lines. lines.items ≡ also_lines sheet.now.recording.now sheet.now.lines.now tap.now.place numbers.now received.now difference position) }
+    ensures { IfOk result (λ lines. lines.items
+        ≡ also_lines sheet.now.recording.now sheet.now.lines.now tap.now.place numbers.now
+        received.now difference position) }
 {
     match difference {
         Difference::Lost { .. } => entry_lines(alloc, sheet, position),
@@ -175,7 +186,8 @@ fn lines_of(
 
 /// The line of the entry.
 fn entry_lines(alloc: Global, sheet: &Sheet<'_, '_>, position: u64) -> Result<Vec<u64>, AllocError>
-    ensures { IfOk result (λ lines. lines.items ≡ line_of (stream_row sheet.now.recording.now sheet.now.lines.now position Entry)) }
+    ensures { IfOk result (λ lines. lines.items
+        ≡ line_of (stream_row sheet.now.recording.now sheet.now.lines.now position Entry)) }
 {
     let mut lines = Vec::new(alloc);
     push_line(&mut lines, sheet.stream_row(position, Role::Entry))?;
@@ -192,7 +204,9 @@ fn frame_lines(
     position: u64,
 ) -> Result<Vec<u64>, AllocError>
     requires { AreOf sheet.now.recording.now tap.now }
-    ensures { IfOk result (λ lines. lines.items ≡ frame_lines sheet.now.recording.now sheet.now.lines.now tap.now.place numbers.now position 0 received.now) }
+    ensures { IfOk result (λ lines. lines.items
+        ≡ frame_lines sheet.now.recording.now sheet.now.lines.now tap.now.place numbers.now position
+        0 received.now) }
 {
     let mut lines = Vec::new(alloc);
     for (frame, other) in received.iter().enumerate() {
@@ -211,7 +225,9 @@ fn push_frame(
     is_of: bool,
 ) -> Result<(), AllocError>
     requires { AreOf sheet.now.recording.now tap.now }
-    ensures { OnOk result (lines.new.items ≡ lines.old.items ++ (if is_of then frame_line sheet.now.recording.now sheet.now.lines.now tap.now.place numbers.now frame else [])) }
+    ensures { OnOk result (lines.new.items ≡ lines.old.items ++ (if is_of
+        then frame_line sheet.now.recording.now sheet.now.lines.now tap.now.place numbers.now frame
+        else [])) }
 {
     if !is_of {
         return Ok(());
@@ -221,7 +237,8 @@ fn push_frame(
 
 /// Adds the line of the row, if there is one.
 fn push_line(lines: &mut Vec<u64>, row: Option<Row<'_>>) -> Result<(), AllocError>
-    ensures { OnOk result (lines.new.items ≡ lines.old.items ++ line_of (option_map row_seen row.entry)) }
+    ensures { OnOk result (lines.new.items
+        ≡ lines.old.items ++ line_of (option_map row_seen row.entry)) }
 {
     if let Some(row) = row {
         lines.push(row.line)?;
@@ -237,7 +254,8 @@ fn frame_row<'r>(
     frame: usize,
 ) -> Option<Row<'r>>
     requires { AreOf sheet.now.recording.now tap.now }
-    ensures { option_map row_seen result ≡ frame_row_at sheet.now.recording.now sheet.now.lines.now tap.now.place numbers.now frame }
+    ensures { option_map row_seen result
+        ≡ frame_row_at sheet.now.recording.now sheet.now.lines.now tap.now.place numbers.now frame }
 {
     let at = place_of(sheet.recording, tap.place, numbers, frame)?;
     sheet.frame_row(tap, at.stay, at.frame, Role::Later)

@@ -12,16 +12,18 @@ use aud_recording_faults::push_row;
 use aud_rows::{Row, Sheet};
 use std::alloc::{AllocError, Global};
 
-/// The rows of the `break` and the `back` of the first turn that began behind the one before it, with the position between;
-/// none where no turn did.
+/// The rows of the `break` and the `back` of the first turn that began behind the one before it, with the position
+/// between; none where no turn did.
 pub(crate) fn behind_rows<'r>(
     alloc: Global,
     sheet: &Sheet<'r, '_>,
     turns: &[Turn<'_>],
     position: u64,
 ) -> Result<Vec<Row<'r>>, AllocError>
-    ensures rows { IfOk result (λ rows. map row_seen rows.items ≡ behind_rows sheet.now.recording.now sheet.now.lines.now turns.now position) }
-    ensures truth { IfOk result (λ rows. AreTrueRows sheet.now.recording.now sheet.now.lines.now rows.items) }
+    ensures rows { IfOk result (λ rows. map row_seen rows.items
+        ≡ behind_rows sheet.now.recording.now sheet.now.lines.now turns.now position) }
+    ensures truth { IfOk result (λ rows.
+        AreTrueRows sheet.now.recording.now sheet.now.lines.now rows.items) }
 {
     let mut rows = Vec::new(alloc);
     let Some(number) = first_behind(turns, position) else {
@@ -64,7 +66,8 @@ fn is_behind(before: Option<&Turn<'_>>, next: Option<&Turn<'_>>, position: u64) 
 
 /// The row of the `break` that ends the turn with this number.
 fn broken_row<'r>(sheet: &Sheet<'r, '_>, turns: &[Turn<'_>], number: usize) -> Option<Row<'r>>
-    ensures row { option_map row_seen result ≡ broken_row sheet.now.recording.now sheet.now.lines.now turns.now number }
+    ensures row { option_map row_seen result
+        ≡ broken_row sheet.now.recording.now sheet.now.lines.now turns.now number }
     ensures truth { IfSome result (IsTrueRow sheet.now.recording.now sheet.now.lines.now) }
 {
     let turn = turns.get(number)?;
@@ -73,7 +76,8 @@ fn broken_row<'r>(sheet: &Sheet<'r, '_>, turns: &[Turn<'_>], number: usize) -> O
 
 /// The row of the record that begins the turn with this number.
 fn begun_row<'r>(sheet: &Sheet<'r, '_>, turns: &[Turn<'_>], number: usize) -> Option<Row<'r>>
-    ensures row { option_map row_seen result ≡ begun_row sheet.now.recording.now sheet.now.lines.now turns.now number }
+    ensures row { option_map row_seen result
+        ≡ begun_row sheet.now.recording.now sheet.now.lines.now turns.now number }
     ensures truth { IfSome result (IsTrueRow sheet.now.recording.now sheet.now.lines.now) }
 {
     let turn = turns.get(number)?;

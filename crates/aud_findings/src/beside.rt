@@ -1,7 +1,7 @@
 //! What tells of a difference how it comes to be one.
 ghost use Rattle.std.specs.Prelude.{◌≡◌, ◌++◌, IfOk, IfSome, List, map, option_map, option_to_list};
 ghost use Rattle.aud_node.specs.Cluster.{Cluster};
-ghost use Rattle.aud_lines.specs.TapLines.{TapLines};
+ghost use Rattle.aud_input.specs.TapLines.{TapLines};
 ghost use Rattle.aud_maker.specs.Made.{IsMade};
 ghost use Rattle.aud_rows.specs.Seen.{row_seen};
 ghost use Rattle.aud_rows.specs.TrueRow.{IsTrueRow};
@@ -25,8 +25,10 @@ pub(crate) fn beside_rows<'r>(
 ) -> Result<Vec<Row<'r>>, AllocError>
     requires { IsMade sheet.now.recording.now cert.now.pid cert.now }
     ensures rows { (made : IsMade sheet.now.recording.now cert.now.pid cert.now)
-        → IfOk result (λ rows. map row_seen rows.items ≡ beside_rows sheet.now.recording.now sheet.now.lines.now cert.now made difference) }
-    ensures truth { IfOk result (λ rows. AreTrueRows sheet.now.recording.now sheet.now.lines.now rows.items) }
+        → IfOk result (λ rows. map row_seen rows.items
+        ≡ beside_rows sheet.now.recording.now sheet.now.lines.now cert.now made difference) }
+    ensures truth { IfOk result (λ rows.
+        AreTrueRows sheet.now.recording.now sheet.now.lines.now rows.items) }
 {
     match difference {
         Difference::Extra { position, .. } => one_row(alloc, not_due_row(sheet, cert, position)),
@@ -43,8 +45,10 @@ pub(crate) fn beside_rows<'r>(
 
 /// The row, if there is one.
 fn one_row<'r>(alloc: Global, row: Option<Row<'r>>) -> Result<Vec<Row<'r>>, AllocError>
-    ensures rows { IfOk result (λ rows. map row_seen rows.items ≡ option_to_list (option_map row_seen row.entry)) }
-    ensures truth { (c : Cluster) (lines : List TapLines) → IfSome row.entry (IsTrueRow c lines) → IfOk result (λ rows. AreTrueRows c lines rows.items) }
+    ensures rows { IfOk result (λ rows. map row_seen rows.items
+        ≡ option_to_list (option_map row_seen row.entry)) }
+    ensures truth { (c : Cluster) (lines : List TapLines) → IfSome row.entry (IsTrueRow c lines)
+        → IfOk result (λ rows. AreTrueRows c lines rows.items) }
 {
     let mut rows = Vec::new(alloc);
     push_row(&mut rows, row)?;
@@ -57,8 +61,11 @@ fn two_rows<'r>(
     first: Option<Row<'r>>,
     second: Option<Row<'r>>,
 ) -> Result<Vec<Row<'r>>, AllocError>
-    ensures rows { IfOk result (λ rows. map row_seen rows.items ≡ option_to_list (option_map row_seen first.entry) ++ option_to_list (option_map row_seen second.entry)) }
-    ensures truth { (c : Cluster) (lines : List TapLines) → IfSome first.entry (IsTrueRow c lines) → IfSome second.entry (IsTrueRow c lines)
+    ensures rows { IfOk result (λ rows. map row_seen rows.items
+        ≡ option_to_list (option_map row_seen first.entry)
+        ++ option_to_list (option_map row_seen second.entry)) }
+    ensures truth { (c : Cluster) (lines : List TapLines) → IfSome first.entry (IsTrueRow c lines)
+        → IfSome second.entry (IsTrueRow c lines)
         → IfOk result (λ rows. AreTrueRows c lines rows.items) }
 {
     let mut rows = one_row(alloc, first)?;

@@ -10,15 +10,16 @@ use aud_explanation::Client;
 use aud_rows::{Role, Row, Says, Sheet};
 use std::alloc::{AllocError, Global};
 
-/// The client of the one tap with a reply that names the session, and the connection on which these rows show the fault; none
-/// where there is no such tap, or several.
+/// The client of the one tap with a reply that names the session, and the connection on which these rows show the
+/// fault; none where there is no such tap, or several.
 pub(crate) fn client_of<'r>(
     alloc: Global,
     sheet: &Sheet<'r, '_>,
     pid: &str,
     rows: &[Row<'_>],
 ) -> Result<Option<Client<'r>>, AllocError>
-    ensures { IfOk result (λ client. option_map client_seen client ≡ client_of sheet.now.recording.now pid.now (map row_seen rows.now)) }
+    ensures { IfOk result (λ client. option_map client_seen client
+        ≡ client_of sheet.now.recording.now pid.now (map row_seen rows.now)) }
 {
     match only_of(sheet.recording.naming(pid)) {
         Some(place) => client_at(alloc, sheet, pid, rows, place),
@@ -34,7 +35,8 @@ fn client_at<'r>(
     rows: &[Row<'_>],
     place: usize,
 ) -> Result<Option<Client<'r>>, AllocError>
-    ensures { IfOk result (λ client. option_map client_seen client ≡ client_at sheet.now.recording.now pid.now (map row_seen rows.now) place) }
+    ensures { IfOk result (λ client. option_map client_seen client
+        ≡ client_at sheet.now.recording.now pid.now (map row_seen rows.now) place) }
 {
     let Some(tap) = sheet.recording.logs().taps().get(place) else {
         return Ok(None);
@@ -60,7 +62,7 @@ fn only_of(places: &[usize]) -> Option<usize>
     Some(places[0])
 }
 
-/// The first stay of the client's tap at this place whose reply names the session, lent.
+/// The first stay of the client's tap at this place whose reply names the session, borrowed.
 fn first_stay<'r, 'a>(
     alloc: Global,
     recording: &'r Recording<'a>,

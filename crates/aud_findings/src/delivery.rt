@@ -16,8 +16,8 @@ use aud_rows::{ClientPlaces, Row, Sheet};
 use aud_shown::{ShownSession, difference_shown};
 use std::alloc::{AllocError, Global};
 
-/// The rows that show where what was received of the session first parts from what was due to it, and in front of them those
-/// that tell how that comes; none where it doesn't part.
+/// The rows that show where what was received of the session first parts from what was due to it, and in front of them
+/// those that tell how that comes; none where it doesn't part.
 pub(crate) fn delivery_evidence<'r, 'a>(
     alloc: Global,
     sheet: &Sheet<'r, 'a>,
@@ -28,9 +28,13 @@ pub(crate) fn delivery_evidence<'r, 'a>(
     requires tap { AreOf sheet.now.recording.now tap.now }
     requires place { tap.now.place ≡ account.now.client }
     requires made { IsMade sheet.now.recording.now pid.now account.now.cert }
-    requires account { IsAccount sheet.now.recording.now pid.now account.now.client (map (λ stay. stay.now) account.now.stays.items) account.now.due.items }
-    ensures shown { IfOk result (λ rows. IsDeliveryOf sheet.now.recording.now sheet.now.lines.now pid.now (map row_seen rows.items)) }
-    ensures truth { IfOk result (λ rows. AreTrueRows sheet.now.recording.now sheet.now.lines.now rows.items) }
+    requires account { IsAccount sheet.now.recording.now pid.now account.now.client
+        (map (λ stay. stay.now) account.now.stays.items) account.now.due.items }
+    ensures shown { IfOk result (λ rows.
+        IsDeliveryOf sheet.now.recording.now sheet.now.lines.now pid.now
+        (map row_seen rows.items)) }
+    ensures truth { IfOk result (λ rows.
+        AreTrueRows sheet.now.recording.now sheet.now.lines.now rows.items) }
 {
     sheet.recording.named_once();
     let numbers = numbers_naming(sheet.recording, tap.place, pid);
@@ -60,8 +64,11 @@ fn with_beside<'r>(
     requires made { IsMade sheet.now.recording.now account.now.cert.pid account.now.cert }
     requires truth { AreTrueRows sheet.now.recording.now sheet.now.lines.now shown.now }
     ensures rows { (made : IsMade sheet.now.recording.now account.now.cert.pid account.now.cert)
-        → IfOk result (λ rows. map row_seen rows.items ≡ beside_rows sheet.now.recording.now sheet.now.lines.now account.now.cert made difference ++ map row_seen shown.now) }
-    ensures truth { IfOk result (λ rows. AreTrueRows sheet.now.recording.now sheet.now.lines.now rows.items) }
+        → IfOk result (λ rows. map row_seen rows.items
+        ≡ beside_rows sheet.now.recording.now sheet.now.lines.now account.now.cert made difference
+        ++ map row_seen shown.now) }
+    ensures truth { IfOk result (λ rows.
+        AreTrueRows sheet.now.recording.now sheet.now.lines.now rows.items) }
 {
     let mut rows = beside_rows(alloc, sheet, &account.cert, difference)?;
     push_rows(&mut rows, shown)?;

@@ -11,8 +11,8 @@ use crate::in_client::client_evidence;
 use aud_account::Account;
 use aud_cert::Fault;
 use aud_recording_faults::{Prepared, chain_shown, client_rows, no_log_rows, order_shown};
-use aud_report::Verdict;
 use aud_rows::{ClientPlaces, Row, Sheet};
+use aud_verdict::Verdict;
 use std::alloc::{AllocError, Global};
 
 /// The rows that show the fault, none where the verdict is yes.
@@ -26,9 +26,13 @@ pub(crate) fn evidence_of<'r, 'a>(
 ) -> Result<Vec<Row<'r>>, AllocError>
     requires prepared { IsPreparedOf sheet.now.recording.now prepared.now }
     requires account { IfSome account (λ a. IsMade sheet.now.recording.now pid.now a.now.cert
-        × IsAccount sheet.now.recording.now pid.now a.now.client (map (λ stay. stay.now) a.now.stays.items) a.now.due.items) }
-    ensures shown { IfOk result (λ rows. IsEvidence sheet.now.recording.now sheet.now.lines.now pid.now (is_some account.entry) verdict.now (map row_seen rows.items)) }
-    ensures truth { IfOk result (λ rows. AreTrueRows sheet.now.recording.now sheet.now.lines.now rows.items) }
+        × IsAccount sheet.now.recording.now pid.now a.now.client
+        (map (λ stay. stay.now) a.now.stays.items) a.now.due.items) }
+    ensures shown { IfOk result (λ rows.
+        IsEvidence sheet.now.recording.now sheet.now.lines.now pid.now
+        (is_some account.entry) verdict.now (map row_seen rows.items)) }
+    ensures truth { IfOk result (λ rows.
+        AreTrueRows sheet.now.recording.now sheet.now.lines.now rows.items) }
 {
     match verdict {
         Verdict::Yes { .. } => Ok(Vec::new(alloc)),
@@ -47,9 +51,13 @@ fn fault_evidence<'r, 'a>(
 ) -> Result<Vec<Row<'r>>, AllocError>
     requires prepared { IsPreparedOf sheet.now.recording.now prepared.now }
     requires account { IfSome account (λ a. IsMade sheet.now.recording.now pid.now a.now.cert
-        × IsAccount sheet.now.recording.now pid.now a.now.client (map (λ stay. stay.now) a.now.stays.items) a.now.due.items) }
-    ensures shown { IfOk result (λ rows. IsFaultShown sheet.now.recording.now sheet.now.lines.now pid.now (is_some account.entry) fault.now (map row_seen rows.items)) }
-    ensures truth { IfOk result (λ rows. AreTrueRows sheet.now.recording.now sheet.now.lines.now rows.items) }
+        × IsAccount sheet.now.recording.now pid.now a.now.client
+        (map (λ stay. stay.now) a.now.stays.items) a.now.due.items) }
+    ensures shown { IfOk result (λ rows.
+        IsFaultShown sheet.now.recording.now sheet.now.lines.now pid.now
+        (is_some account.entry) fault.now (map row_seen rows.items)) }
+    ensures truth { IfOk result (λ rows.
+        AreTrueRows sheet.now.recording.now sheet.now.lines.now rows.items) }
 {
     match fault {
         Fault::NoLog => no_log_rows(alloc, sheet, prepared, pid),
@@ -66,8 +74,11 @@ fn chain_evidence<'r>(
     sheet: &Sheet<'r, '_>,
     pid: &str,
 ) -> Result<Vec<Row<'r>>, AllocError>
-    ensures shown { IfOk result (λ rows. IsChainShown sheet.now.recording.now sheet.now.lines.now pid.now (map row_seen rows.items)) }
-    ensures truth { IfOk result (λ rows. AreTrueRows sheet.now.recording.now sheet.now.lines.now rows.items) }
+    ensures shown { IfOk result (λ rows.
+        IsChainShown sheet.now.recording.now sheet.now.lines.now pid.now
+        (map row_seen rows.items)) }
+    ensures truth { IfOk result (λ rows.
+        AreTrueRows sheet.now.recording.now sheet.now.lines.now rows.items) }
 {
     match chain_shown(alloc, sheet, pid)? {
         Some(rows) => Ok(rows),
@@ -83,8 +94,11 @@ fn order_evidence<'r>(
     pid: &str,
 ) -> Result<Vec<Row<'r>>, AllocError>
     requires { IsPreparedOf sheet.now.recording.now prepared.now }
-    ensures shown { IfOk result (λ rows. IsOrderShown sheet.now.recording.now sheet.now.lines.now pid.now (map row_seen rows.items)) }
-    ensures truth { IfOk result (λ rows. AreTrueRows sheet.now.recording.now sheet.now.lines.now rows.items) }
+    ensures shown { IfOk result (λ rows.
+        IsOrderShown sheet.now.recording.now sheet.now.lines.now pid.now
+        (map row_seen rows.items)) }
+    ensures truth { IfOk result (λ rows.
+        AreTrueRows sheet.now.recording.now sheet.now.lines.now rows.items) }
 {
     match order_shown(alloc, sheet, prepared, pid)? {
         Some(rows) => Ok(rows),
@@ -103,9 +117,13 @@ fn account_evidence<'r, 'a>(
 ) -> Result<Vec<Row<'r>>, AllocError>
     requires prepared { IsPreparedOf sheet.now.recording.now prepared.now }
     requires account { IfSome account (λ a. IsMade sheet.now.recording.now pid.now a.now.cert
-        × IsAccount sheet.now.recording.now pid.now a.now.client (map (λ stay. stay.now) a.now.stays.items) a.now.due.items) }
-    ensures shown { IfOk result (λ rows. IsOfClient sheet.now.recording.now sheet.now.lines.now pid.now (is_some account.entry) fault.now (map row_seen rows.items)) }
-    ensures truth { IfOk result (λ rows. AreTrueRows sheet.now.recording.now sheet.now.lines.now rows.items) }
+        × IsAccount sheet.now.recording.now pid.now a.now.client
+        (map (λ stay. stay.now) a.now.stays.items) a.now.due.items) }
+    ensures shown { IfOk result (λ rows.
+        IsOfClient sheet.now.recording.now sheet.now.lines.now pid.now
+        (is_some account.entry) fault.now (map row_seen rows.items)) }
+    ensures truth { IfOk result (λ rows.
+        AreTrueRows sheet.now.recording.now sheet.now.lines.now rows.items) }
 {
     match account {
         Some(account) => tap_evidence(alloc, sheet, prepared, pid, fault, account),
@@ -124,9 +142,13 @@ fn tap_evidence<'r, 'a>(
 ) -> Result<Vec<Row<'r>>, AllocError>
     requires prepared { IsPreparedOf sheet.now.recording.now prepared.now }
     requires made { IsMade sheet.now.recording.now pid.now account.now.cert }
-    requires account { IsAccount sheet.now.recording.now pid.now account.now.client (map (λ stay. stay.now) account.now.stays.items) account.now.due.items }
-    ensures shown { IfOk result (λ rows. IsOfSession sheet.now.recording.now sheet.now.lines.now pid.now fault.now (map row_seen rows.items)) }
-    ensures truth { IfOk result (λ rows. AreTrueRows sheet.now.recording.now sheet.now.lines.now rows.items) }
+    requires account { IsAccount sheet.now.recording.now pid.now account.now.client
+        (map (λ stay. stay.now) account.now.stays.items) account.now.due.items }
+    ensures shown { IfOk result (λ rows.
+        IsOfSession sheet.now.recording.now sheet.now.lines.now pid.now fault.now
+        (map row_seen rows.items)) }
+    ensures truth { IfOk result (λ rows.
+        AreTrueRows sheet.now.recording.now sheet.now.lines.now rows.items) }
 {
     match prepared.tap(account.client) {
         Some(tap) => client_evidence(alloc, sheet, prepared, tap, pid, fault, account),

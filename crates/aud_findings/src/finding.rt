@@ -17,8 +17,8 @@ use crate::evidence::evidence_of;
 use aud_account::Account;
 use aud_explanation::{Account as Received, Client};
 use aud_recording_faults::Prepared;
-use aud_report::Verdict;
 use aud_rows::{Row, Sheet};
+use aud_verdict::Verdict;
 use std::alloc::{AllocError, Global};
 
 /// Another entry that has the fault too.
@@ -30,18 +30,18 @@ pub struct AlsoShown {
     pub lines: Vec<u64>,
 }
 
-/// What is found of a session. Rows and names are lent by the sheet alone.
+/// What is found of a session. Rows and names are borrowed from the sheet alone.
 #[derive(Drop)]
 pub struct Finding<'r> {
-    /// The client that had it; none where no tap of a client names it, or several do. Its connection is the one on which the
-    /// fault shows.
+    /// The client that had it; none where no tap of a client names it, or several do. Its connection is the one on
+    /// which the fault shows.
     pub client: Option<Client<'r>>,
     /// What was received of what was due; none where the delivery was not judged.
     pub account: Option<Received>,
     /// The records that show the fault.
     pub evidence: Vec<Row<'r>>,
-    /// The other entries with the same fault, at most a hundred: of one that came twice those that came twice too, of one that
-    /// was lost those that were passed over too. None of other faults.
+    /// The other entries with the same fault, at most a hundred: of one that came twice those that came twice too, of
+    /// one that was lost those that were passed over too. None of other faults.
     pub also: Vec<AlsoShown>,
 }
 
@@ -57,12 +57,20 @@ pub fn finding_of<'r, 'a>(
 ) -> Result<Finding<'r>, AllocError>
     requires prepared { IsPreparedOf sheet.recording.now prepared.now }
     requires account { IfSome account (λ a. IsMade sheet.recording.now pid.now a.now.cert
-        × IsAccount sheet.recording.now pid.now a.now.client (map (λ stay. stay.now) a.now.stays.items) a.now.due.items) }
-    ensures evidence { IfOk result (λ found. IsEvidence sheet.entry.recording.now sheet.entry.lines.now pid.now (is_some account.entry) verdict.now (map row_seen found.evidence.items)) }
-    ensures truth { IfOk result (λ found. AreTrueRows sheet.entry.recording.now sheet.entry.lines.now found.evidence.items) }
-    ensures client { IfOk result (λ found. option_map client_seen found.client ≡ client_of sheet.entry.recording.now pid.now (map row_seen found.evidence.items)) }
-    ensures account { IfOk result (λ found. IsReceivedShown sheet.entry.recording.now pid.now (is_some account.entry) verdict.now found.account) }
-    ensures also { IfOk result (λ found. IsAlsoShown sheet.entry.recording.now sheet.entry.lines.now pid.now (is_some account.entry && is_parted verdict.now) (map also_seen found.also.items)) }
+        × IsAccount sheet.recording.now pid.now a.now.client
+        (map (λ stay. stay.now) a.now.stays.items) a.now.due.items) }
+    ensures evidence { IfOk result (λ found.
+        IsEvidence sheet.entry.recording.now sheet.entry.lines.now pid.now
+        (is_some account.entry) verdict.now (map row_seen found.evidence.items)) }
+    ensures truth { IfOk result (λ found.
+        AreTrueRows sheet.entry.recording.now sheet.entry.lines.now found.evidence.items) }
+    ensures client { IfOk result (λ found. option_map client_seen found.client
+        ≡ client_of sheet.entry.recording.now pid.now (map row_seen found.evidence.items)) }
+    ensures account { IfOk result (λ found. IsReceivedShown sheet.entry.recording.now pid.now
+        (is_some account.entry) verdict.now found.account) }
+    ensures also { IfOk result (λ found.
+        IsAlsoShown sheet.entry.recording.now sheet.entry.lines.now pid.now
+        (is_some account.entry && is_parted verdict.now) (map also_seen found.also.items)) }
 {
     let evidence = evidence_of(alloc, &sheet, prepared, pid, verdict, account)?;
     let client = client_of(alloc, &sheet, pid, &evidence)?;

@@ -30,9 +30,13 @@ pub(crate) fn client_evidence<'r, 'a>(
     requires tap { AreOf sheet.now.recording.now tap.now }
     requires place { tap.now.place ≡ account.now.client }
     requires made { IsMade sheet.now.recording.now pid.now account.now.cert }
-    requires account { IsAccount sheet.now.recording.now pid.now account.now.client (map (λ stay. stay.now) account.now.stays.items) account.now.due.items }
-    ensures shown { IfOk result (λ rows. IsOfSession sheet.now.recording.now sheet.now.lines.now pid.now fault.now (map row_seen rows.items)) }
-    ensures truth { IfOk result (λ rows. AreTrueRows sheet.now.recording.now sheet.now.lines.now rows.items) }
+    requires account { IsAccount sheet.now.recording.now pid.now account.now.client
+        (map (λ stay. stay.now) account.now.stays.items) account.now.due.items }
+    ensures shown { IfOk result (λ rows.
+        IsOfSession sheet.now.recording.now sheet.now.lines.now pid.now fault.now
+        (map row_seen rows.items)) }
+    ensures truth { IfOk result (λ rows.
+        AreTrueRows sheet.now.recording.now sheet.now.lines.now rows.items) }
 {
     match fault {
         Fault::Names => names_evidence(alloc, sheet, tap, pid),
@@ -56,8 +60,11 @@ fn names_evidence<'r>(
     pid: &str,
 ) -> Result<Vec<Row<'r>>, AllocError>
     requires { AreOf sheet.now.recording.now tap.now }
-    ensures shown { IfOk result (λ rows. AreNamesShown sheet.now.recording.now sheet.now.lines.now pid.now tap.now.place (map row_seen rows.items)) }
-    ensures truth { IfOk result (λ rows. AreTrueRows sheet.now.recording.now sheet.now.lines.now rows.items) }
+    ensures shown { IfOk result (λ rows.
+        AreNamesShown sheet.now.recording.now sheet.now.lines.now pid.now tap.now.place
+        (map row_seen rows.items)) }
+    ensures truth { IfOk result (λ rows.
+        AreTrueRows sheet.now.recording.now sheet.now.lines.now rows.items) }
 {
     match names_shown(alloc, sheet, tap, pid)? {
         Some(rows) => Ok(rows),
@@ -72,8 +79,11 @@ fn frame_evidence<'r>(
     tap: &ClientPlaces,
 ) -> Result<Vec<Row<'r>>, AllocError>
     requires { AreOf sheet.now.recording.now tap.now }
-    ensures shown { IfOk result (λ rows. AreFramesShown sheet.now.recording.now sheet.now.lines.now tap.now.place (map row_seen rows.items)) }
-    ensures truth { IfOk result (λ rows. AreTrueRows sheet.now.recording.now sheet.now.lines.now rows.items) }
+    ensures shown { IfOk result (λ rows.
+        AreFramesShown sheet.now.recording.now sheet.now.lines.now tap.now.place
+        (map row_seen rows.items)) }
+    ensures truth { IfOk result (λ rows.
+        AreTrueRows sheet.now.recording.now sheet.now.lines.now rows.items) }
 {
     match frame_shown(alloc, sheet, tap)? {
         Some(rows) => Ok(rows),
@@ -90,8 +100,11 @@ fn orphan_evidence<'r>(
 ) -> Result<Vec<Row<'r>>, AllocError>
     requires prepared { IsPreparedOf sheet.now.recording.now prepared.now }
     requires tap { AreOf sheet.now.recording.now tap.now }
-    ensures shown { IfOk result (λ rows. AreOrphansShown sheet.now.recording.now sheet.now.lines.now tap.now.place (map row_seen rows.items)) }
-    ensures truth { IfOk result (λ rows. AreTrueRows sheet.now.recording.now sheet.now.lines.now rows.items) }
+    ensures shown { IfOk result (λ rows.
+        AreOrphansShown sheet.now.recording.now sheet.now.lines.now tap.now.place
+        (map row_seen rows.items)) }
+    ensures truth { IfOk result (λ rows.
+        AreTrueRows sheet.now.recording.now sheet.now.lines.now rows.items) }
 {
     match orphan_shown(alloc, sheet, prepared, tap)? {
         Some(rows) => Ok(rows),
@@ -110,9 +123,13 @@ fn altered_evidence<'r, 'a>(
     requires tap { AreOf sheet.now.recording.now tap.now }
     requires place { tap.now.place ≡ account.now.client }
     requires made { IsMade sheet.now.recording.now pid.now account.now.cert }
-    requires account { IsAccount sheet.now.recording.now pid.now account.now.client (map (λ stay. stay.now) account.now.stays.items) account.now.due.items }
-    ensures shown { IfOk result (λ rows. AreAlteredShown sheet.now.recording.now sheet.now.lines.now pid.now (map (λ stay. stay.now) account.now.stays.items) (map row_seen rows.items)) }
-    ensures truth { IfOk result (λ rows. AreTrueRows sheet.now.recording.now sheet.now.lines.now rows.items) }
+    requires account { IsAccount sheet.now.recording.now pid.now account.now.client
+        (map (λ stay. stay.now) account.now.stays.items) account.now.due.items }
+    ensures shown { IfOk result (λ rows.
+        AreAlteredShown sheet.now.recording.now sheet.now.lines.now pid.now
+        (map (λ stay. stay.now) account.now.stays.items) (map row_seen rows.items)) }
+    ensures truth { IfOk result (λ rows.
+        AreTrueRows sheet.now.recording.now sheet.now.lines.now rows.items) }
 {
     sheet.recording.named_once();
     let numbers = numbers_naming(sheet.recording, account.client, pid);
@@ -139,9 +156,13 @@ fn window_evidence<'r, 'a>(
     requires tap { AreOf sheet.now.recording.now tap.now }
     requires place { tap.now.place ≡ account.now.client }
     requires made { IsMade sheet.now.recording.now pid.now account.now.cert }
-    requires account { IsAccount sheet.now.recording.now pid.now account.now.client (map (λ stay. stay.now) account.now.stays.items) account.now.due.items }
-    ensures shown { IfOk result (λ rows. AreWindowsShown sheet.now.recording.now sheet.now.lines.now pid.now (map (λ stay. stay.now) account.now.stays.items) (map row_seen rows.items)) }
-    ensures truth { IfOk result (λ rows. AreTrueRows sheet.now.recording.now sheet.now.lines.now rows.items) }
+    requires account { IsAccount sheet.now.recording.now pid.now account.now.client
+        (map (λ stay. stay.now) account.now.stays.items) account.now.due.items }
+    ensures shown { IfOk result (λ rows.
+        AreWindowsShown sheet.now.recording.now sheet.now.lines.now pid.now
+        (map (λ stay. stay.now) account.now.stays.items) (map row_seen rows.items)) }
+    ensures truth { IfOk result (λ rows.
+        AreTrueRows sheet.now.recording.now sheet.now.lines.now rows.items) }
 {
     sheet.recording.named_once();
     let numbers = numbers_naming(sheet.recording, account.client, pid);

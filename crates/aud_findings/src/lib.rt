@@ -1,8 +1,8 @@
-//! What an explanation finds of a session, by its pid and the verdict on it: the records that show the fault, the client that
-//! had the session, what that received of what was due, and other entries with the same fault.
+//! What an explanation finds of a session, by its pid and the verdict on it: the records that show the fault, the
+//! client that had the session, what that received of what was due, and other entries with the same fault.
 //!
-//! With the `sheet` of a recording in which client `c1`, at place 3, got the event of entry 2 twice in its session `P`, the
-//! verdict on which is `verdict`:
+//! With the `sheet` of a recording in which client `c1`, at place 3, got the event of entry 2 twice in its session `P`,
+//! the verdict on which is `verdict`:
 //!
 //! ```
 //! use aud_account::account_of;

@@ -10,9 +10,9 @@ use aud_evidence::Difference;
 use std::alloc::{AllocError, Global};
 use std::hash::RandomState;
 
-/// The first hundred of those due that have the fault of the difference too, ascending, but for the one that it is about: of
-/// one that came twice those that came twice, of one that was lost those that were passed over; none of others. Positions are
-/// hashed with these keys.
+/// The first hundred of those due that have the fault of the difference too, ascending, but for the one that it is
+/// about: of one that came twice those that came twice, of one that was lost those that were passed over; none of
+/// others. Positions are hashed with these keys.
 pub(crate) fn others(
     alloc: Global,
     keys: RandomState,
@@ -50,7 +50,8 @@ fn all_others(
 
 /// Whether the position has the fault of the difference too, and is another one.
 fn is_also(seen: &Seen, last: u64, difference: Difference, position: u64) -> bool
-    ensures { (received : List ℕ) → AreSeen received seen.now → last ≡ greatest received → result ≡ is_also received difference position }
+    ensures { (received : List ℕ) → AreSeen received seen.now → last ≡ greatest received
+        → result ≡ is_also received difference position }
 {
     match difference {
         Difference::Doubled {
@@ -63,13 +64,15 @@ fn is_also(seen: &Seen, last: u64, difference: Difference, position: u64) -> boo
 }
 
 fn is_again(seen: &Seen, position: u64) -> bool
-    ensures { (received : List ℕ) → AreSeen received seen.now → result ≡ is_again received position }
+    ensures { (received : List ℕ) → AreSeen received seen.now
+        → result ≡ is_again received position }
 {
     seen.twice.contains(&position)
 }
 
 fn is_passed(seen: &Seen, last: u64, position: u64) -> bool
-    ensures { (received : List ℕ) → AreSeen received seen.now → last ≡ greatest received → result ≡ is_passed received position }
+    ensures { (received : List ℕ) → AreSeen received seen.now → last ≡ greatest received
+        → result ≡ is_passed received position }
 {
     !seen.once.contains(&position) && position < last
 }

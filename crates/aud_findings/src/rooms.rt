@@ -15,28 +15,30 @@ use aud_reach::{NotDue, Reach, RoomChange, first_reach, last_change_of, why_not_
 use aud_rows::{Role, Row, Sheet};
 use aud_tap::{StreamRec, Text};
 
-/// Why the entry at the position was due to the session: the row of the last join of the first of its rooms that the session
-/// had joined, and not left since.
+/// Why the entry at the position was due to the session: the row of the last join of the first of its rooms that the
+/// session had joined, and not left since.
 pub(crate) fn due_row<'r>(
     sheet: &Sheet<'r, '_>,
     cert: &Certificate<'_>,
     position: u64,
 ) -> Option<Row<'r>>
-    ensures row { option_map row_seen result ≡ due_row sheet.now.recording.now sheet.now.lines.now cert.now position }
+    ensures row { option_map row_seen result
+        ≡ due_row sheet.now.recording.now sheet.now.lines.now cert.now position }
     ensures truth { IfSome result (IsTrueRow sheet.now.recording.now sheet.now.lines.now) }
 {
     let rooms = rooms_at(sheet.recording.logs(), position);
     rooms_row(sheet, cert, true, rooms, position)
 }
 
-/// How the session came to hold that room no more: the row of its last leave before the end of the turn in which the session
-/// first reached the entry; none where it held the room to that end.
+/// How the session came to hold that room no more: the row of its last leave before the end of the turn in which the
+/// session first reached the entry; none where it held the room to that end.
 pub(crate) fn left_row<'r>(
     sheet: &Sheet<'r, '_>,
     cert: &Certificate<'_>,
     position: u64,
 ) -> Option<Row<'r>>
-    ensures row { option_map row_seen result ≡ left_row sheet.now.recording.now sheet.now.lines.now cert.now position }
+    ensures row { option_map row_seen result
+        ≡ left_row sheet.now.recording.now sheet.now.lines.now cert.now position }
     ensures truth { IfSome result (IsTrueRow sheet.now.recording.now sheet.now.lines.now) }
 {
     let logs = sheet.recording.logs();
@@ -52,8 +54,9 @@ pub(crate) fn left_row<'r>(
     sheet.node_row(change.node, change.number, Role::Left)
 }
 
-/// Why the entry at the position was not due to the session: the row of the last leave of the first of its rooms that the
-/// session had left, where it held none of them, or of the join of the room that it excepts; none for another reason.
+/// Why the entry at the position was not due to the session: the row of the last leave of the first of its rooms that
+/// the session had left, where it held none of them, or of the join of the room that it excepts; none for another
+/// reason.
 pub(crate) fn not_due_row<'r>(
     sheet: &Sheet<'r, '_>,
     cert: &Certificate<'_>,
@@ -61,7 +64,8 @@ pub(crate) fn not_due_row<'r>(
 ) -> Option<Row<'r>>
     requires { IsMade sheet.now.recording.now cert.now.pid cert.now }
     ensures row { (made : IsMade sheet.now.recording.now cert.now.pid cert.now)
-        → option_map row_seen result ≡ not_due_row sheet.now.recording.now sheet.now.lines.now cert.now made position }
+        → option_map row_seen result
+        ≡ not_due_row sheet.now.recording.now sheet.now.lines.now cert.now made position }
     ensures truth { IfSome result (IsTrueRow sheet.now.recording.now sheet.now.lines.now) }
 {
     let why = why_not_due(sheet.recording.logs(), cert, position);
@@ -75,7 +79,9 @@ fn row_for<'r>(
     position: u64,
     why: Option<NotDue<'_>>,
 ) -> Option<Row<'r>>
-    ensures row { option_map row_seen result ≡ not_due_row_for sheet.now.recording.now sheet.now.lines.now cert.now position (option_map reason_of why.entry) }
+    ensures row { option_map row_seen result
+        ≡ not_due_row_for sheet.now.recording.now sheet.now.lines.now cert.now position
+        (option_map reason_of why.entry) }
     ensures truth { IfSome result (IsTrueRow sheet.now.recording.now sheet.now.lines.now) }
 {
     match why {
@@ -90,7 +96,9 @@ fn row_for_reason<'r>(
     position: u64,
     why: NotDue<'_>,
 ) -> Option<Row<'r>>
-    ensures row { option_map row_seen result ≡ not_due_row_for sheet.now.recording.now sheet.now.lines.now cert.now position (Some (reason_of why.entry)) }
+    ensures row { option_map row_seen result
+        ≡ not_due_row_for sheet.now.recording.now sheet.now.lines.now cert.now position
+        (Some (reason_of why.entry)) }
     ensures truth { IfSome result (IsTrueRow sheet.now.recording.now sheet.now.lines.now) }
 {
     match why {
@@ -111,7 +119,8 @@ fn rooms_row<'r>(
     rooms: &[Text],
     position: u64,
 ) -> Option<Row<'r>>
-    ensures row { option_map row_seen result ≡ cert_row sheet.now.recording.now sheet.now.lines.now cert.now joined rooms.now position }
+    ensures row { option_map row_seen result
+        ≡ cert_row sheet.now.recording.now sheet.now.lines.now cert.now joined rooms.now position }
     ensures truth { IfSome result (IsTrueRow sheet.now.recording.now sheet.now.lines.now) }
 {
     let logs = sheet.recording.logs();
@@ -128,7 +137,9 @@ fn one_room_row<'r>(
     room: &str,
     position: u64,
 ) -> Option<Row<'r>>
-    ensures row { option_map row_seen result ≡ cert_row sheet.now.recording.now sheet.now.lines.now cert.now true (room.now ∷ []) position }
+    ensures row { option_map row_seen result
+        ≡ cert_row sheet.now.recording.now sheet.now.lines.now cert.now true
+        (room.now ∷ []) position }
     ensures truth { IfSome result (IsTrueRow sheet.now.recording.now sheet.now.lines.now) }
 {
     let logs = sheet.recording.logs();
@@ -154,7 +165,8 @@ fn first_change(
     joined: bool,
     rooms: &[Text],
 ) -> Option<RoomChange>
-    ensures { result ≡ first_change logs.now pid.now (map (turn_at logs.now) turns.now) reach joined rooms.now }
+    ensures { result ≡ first_change logs.now pid.now
+        (map (turn_at logs.now) turns.now) reach joined rooms.now }
 {
     for room in rooms {
         if let Some(change) = change_in(logs, pid, turns, reach, joined, room.as_str()) {
@@ -164,8 +176,8 @@ fn first_change(
     None
 }
 
-/// Of the first of these rooms that was held by a join at the reach, the last change before the end of the reach's turn, if it is
-/// a leave.
+/// Of the first of these rooms that was held by a join at the reach, the last change before the end of the reach's
+/// turn, if it is a leave.
 fn left_after(
     logs: &Logs<'_>,
     pid: &str,
@@ -173,7 +185,8 @@ fn left_after(
     rooms: &[Text],
     reach: Reach,
 ) -> Option<RoomChange>
-    ensures { result ≡ left_after logs.now pid.now (map (turn_at logs.now) turns.now) rooms.now reach }
+    ensures { result ≡ left_after logs.now pid.now
+        (map (turn_at logs.now) turns.now) rooms.now reach }
 {
     left_between(
         logs,
@@ -194,7 +207,8 @@ fn left_between(
     end: Reach,
     rooms: &[Text],
 ) -> Option<RoomChange>
-    ensures { result ≡ left_between logs.now pid.now (map (turn_at logs.now) turns.now) reach end rooms.now }
+    ensures { result ≡ left_between logs.now pid.now
+        (map (turn_at logs.now) turns.now) reach end rooms.now }
 {
     for room in rooms {
         if change_in(logs, pid, turns, reach, true, room.as_str()).is_some() {
@@ -225,7 +239,8 @@ fn change_in(
     joined: bool,
     room: &str,
 ) -> Option<RoomChange>
-    ensures { result ≡ change_in logs.now pid.now (map (turn_at logs.now) turns.now) reach joined room.now }
+    ensures { result ≡ change_in logs.now pid.now
+        (map (turn_at logs.now) turns.now) reach joined room.now }
 {
     match last_change_of(logs, pid, turns, reach, room) {
         Some(change) => only_if(joined, change),

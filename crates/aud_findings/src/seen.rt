@@ -36,8 +36,13 @@ fn note(
     twice: &mut HashSet<u64, RandomState>,
     position: u64,
 ) -> Result<(), AllocError>
-    ensures once { OnOk result ((q : ℕ) → hash.contains nat_eq once.new q ≡ cond (nat_eq position q) true (hash.contains nat_eq once.old q)) }
-    ensures twice { OnOk result ((q : ℕ) → hash.contains nat_eq twice.new q ≡ cond (nat_eq position q && hash.contains nat_eq once.old q) true (hash.contains nat_eq twice.old q)) }
+    ensures once { OnOk result ((q : ℕ)
+        → hash.contains nat_eq once.new q
+        ≡ cond (nat_eq position q) true (hash.contains nat_eq once.old q)) }
+    ensures twice { OnOk result ((q : ℕ)
+        → hash.contains nat_eq twice.new q
+        ≡ cond (nat_eq position q && hash.contains nat_eq once.old q) true
+        (hash.contains nat_eq twice.old q)) }
 {
     if once.insert(position)? {
         return Ok(());

@@ -3,4 +3,10 @@ pub use Rattle.aud_tap.specs.Names
 pub mod Input
 pub mod Reader
 pub mod Pieces
+pub mod LineName
+pub mod TapLines
+pub mod Sources
+pub mod RecordLines
+pub mod FileLine
+pub mod Files
 pub mod Private

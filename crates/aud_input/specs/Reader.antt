@@ -7,8 +7,8 @@ use Rattle.aud_reader.specs.Bundle.{Reading, taps_to_come, unless_refused}
 use Rattle.aud_input.specs.declared.input.Layout.{Layout}
 use Rattle.aud_input.specs.Input.{InputSeen, certificates_in, bundle_in, with_certificates, unless_cut}
 
--- what the lines are, and what became of those so far: the reader of the bundle, the bundle's lines that wait to be read,
--- and the certificates
+-- what the lines are, and what became of those so far: the reader of the bundle, the bundle's lines that wait to be
+-- read, and the certificates
 pub record PartsSoFar : Type 0 where
   pub layout : Layout
   pub taps : Reading

@@ -71,8 +71,10 @@ impl PartsReader {
         requires going { self.old.taps.fault ≡ None }
         ensures going { OnOk result (self.new.taps.fault ≡ None) }
         ensures none { OnOk result (self.new.waiting ≡ []) }
-        ensures parts { OnOk result ((more : List Line) → parts_to_come self.new more ≡ parts_to_come self.old more) }
-        ensures refused { IfErr result (λ e. e ≢ ReadFault.Memory → (more : List Line) → parts_to_come self.old more ≡ Err e) }
+        ensures parts { OnOk result ((more : List Line)
+            → parts_to_come self.new more ≡ parts_to_come self.old more) }
+        ensures refused { IfErr result (λ e. e ≢ ReadFault.Memory → (more : List Line)
+            → parts_to_come self.old more ≡ Err e) }
     {
         self.taps.lines(rt, threads, self.waiting.lines())?;
         self.waiting.clear();
@@ -82,7 +84,8 @@ impl PartsReader {
     /// Keeps the next line.
     fn keep_line(&mut self, line: Line) -> Result<(), AllocError>
         ensures going { self.new.taps ≡ self.old.taps }
-        ensures parts { OnOk result ((more : List Line) → parts_to_come self.new more ≡ parts_to_come self.old (line ∷ more)) }
+        ensures parts { OnOk result ((more : List Line)
+            → parts_to_come self.new more ≡ parts_to_come self.old (line ∷ more)) }
     {
         if is_certificate(self.layout, &line) {
             self.certificates.push(line)?;
@@ -101,8 +104,10 @@ impl PartsReader {
     ) -> Result<(), ReadFault>
         requires going { self.old.taps.fault ≡ None }
         ensures going { OnOk result (self.new.taps.fault ≡ None) }
-        ensures parts { OnOk result ((more : List Line) → parts_to_come self.new more ≡ parts_to_come self.old (line ∷ more)) }
-        ensures refused { IfErr result (λ e. e ≢ ReadFault.Memory → (more : List Line) → parts_to_come self.old (line ∷ more) ≡ Err e) }
+        ensures parts { OnOk result ((more : List Line)
+            → parts_to_come self.new more ≡ parts_to_come self.old (line ∷ more)) }
+        ensures refused { IfErr result (λ e. e ≢ ReadFault.Memory → (more : List Line)
+            → parts_to_come self.old (line ∷ more) ≡ Err e) }
     {
         self.keep_line(line)?;
         if self.waiting.is_full(threads) {
@@ -120,8 +125,10 @@ impl PartsReader {
     ) -> Result<(), ReadFault>
         requires going { self.old.taps.fault ≡ None }
         ensures going { OnOk result (self.new.taps.fault ≡ None) }
-        ensures parts { OnOk result ((more : List Line) → parts_to_come self.new more ≡ parts_to_come self.old (lines.items ++ more)) }
-        ensures refused { IfErr result (λ e. e ≢ ReadFault.Memory → (more : List Line) → parts_to_come self.old (lines.items ++ more) ≡ Err e) }
+        ensures parts { OnOk result ((more : List Line)
+            → parts_to_come self.new more ≡ parts_to_come self.old (lines.items ++ more)) }
+        ensures refused { IfErr result (λ e. e ≢ ReadFault.Memory → (more : List Line)
+            → parts_to_come self.old (lines.items ++ more) ≡ Err e) }
     {
         for line in lines {
             self.read_line(rt, threads, line)?;

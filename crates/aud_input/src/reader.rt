@@ -17,8 +17,8 @@ use std::thread::Threads;
 /// Reads an input that comes in pieces: for one thread each line once it is whole; for several the lines of the bundle
 /// wait until there are 32,768 of them, or 4 MiB, and are read together.
 ///
-/// It keeps the line that has begun, the lines that wait, the certificates, and what the records of the other lines tell.
-/// After a refusal, want of memory too, it gives that refusal from then on, and looks at no more bytes.
+/// It keeps the line that has begun, the lines that wait, the certificates, and what the records of the other lines
+/// tell. After a refusal, also when out of memory, it gives that refusal from then on, and looks at no more bytes.
 #[derive(Drop)]
 pub struct InputReader {
     splitter: Splitter,
@@ -49,8 +49,11 @@ fn read_piece<H: Threads + Sync>(
     requires number { splitter.old.number + length piece.now < 2 ^ 64 }
     requires going { AreGoing splitter.old parts.old }
     ensures going { OnOk result (AreGoing splitter.new parts.new) }
-    ensures input { OnOk result ((more : List ℕ) → input_over parts.new (lines_to_come splitter.new more) ≡ input_over parts.old (lines_to_come splitter.old (piece.now ++ more))) }
-    ensures refused { IfErr result (λ e. e ≢ ReadFault.Memory → (more : List ℕ) → input_over parts.old (lines_to_come splitter.old (piece.now ++ more)) ≡ Err e) }
+    ensures input { OnOk result ((more : List ℕ)
+        → input_over parts.new (lines_to_come splitter.new more)
+        ≡ input_over parts.old (lines_to_come splitter.old (piece.now ++ more))) }
+    ensures refused { IfErr result (λ e. e ≢ ReadFault.Memory → (more : List ℕ)
+        → input_over parts.old (lines_to_come splitter.old (piece.now ++ more)) ≡ Err e) }
     ensures number { splitter.new.number ≤ splitter.old.number + length piece.now }
 {
     let cut = splitter.feed(piece);
@@ -79,10 +82,10 @@ impl InputReader {
         }
     }
 
-    /// Reads the next piece of the input, which is lent for the call alone.
+    /// Reads the next piece of the input, which is borrowed for the call alone.
     ///
-    /// The first refused line is refused once it was read, at most `threads` threads sharing the work, or once its bytes
-    /// are too many. The numbers of lines are below 2 to the 64th.
+    /// The first refused line is refused once it was read, at most `threads` threads sharing the work, or once its
+    /// bytes are too many. The numbers of lines are below 2 to the 64th.
     pub fn feed<H: Threads + Sync>(
         &mut self,
         rt: &H,
@@ -91,8 +94,10 @@ impl InputReader {
     ) -> Result<(), ReadFault>
         requires { self.old.cut.number + length piece.now < 2 ^ 64 }
         ensures value { result ≡ result_of self.new.fault }
-        ensures input { (more : List ℕ) → result ≢ Err ReadFault.Memory → input_to_come self.new more ≡ input_to_come self.old (piece.now ++ more) }
-        ensures refused { IfSome self.old.fault (λ fault. (result ≡ Err fault) × (self.new ≡ self.old)) }
+        ensures input { (more : List ℕ) → result ≢ Err ReadFault.Memory
+            → input_to_come self.new more ≡ input_to_come self.old (piece.now ++ more) }
+        ensures refused { IfSome self.old.fault (λ fault. (result ≡ Err fault)
+            × (self.new ≡ self.old)) }
         ensures number { self.new.cut.number ≤ self.old.cut.number + length piece.now }
     {
         if let Some(fault) = self.fault {

@@ -2,3 +2,4 @@ pub mod Recovered
 pub mod AnyOrder
 pub mod ReadBack
 pub mod OfABundle
+pub mod LeftOut

@@ -3,9 +3,11 @@ pub use Rattle.aud_check.specs.Refusals
 pub use Rattle.aud_reader.specs.Bundle
 pub use Rattle.aud_writer.specs.OfABundle
 pub use Rattle.aud_upgrade.specs.Upgraded
+pub use Rattle.aud_verdict.specs.Verdict
 pub mod Recovery
 pub mod RecoveredCertificate
 pub mod Order
 pub mod Inputs
 pub mod Outputs
 pub mod Proven
+pub mod LeftOut

@@ -1,4 +1,5 @@
--- Lines in another order: each tap's lines stand in the order that they had, and the taps are first named in the order that they were.
+-- Lines in another order: each tap's lines stand in the order that they had, and the taps are first named in the order
+-- that they were.
 use Rattle.std.specs.Prelude.{◌≡◌, ℕ, List, [], ◌∷◌, ◌++◌, map, filter, Bool, false, if◌then◌else◌, Result, Ok, Err}
 use Rattle.std.specs.List.{list_any}
 use Rattle.std.specs.Option.{option_map_or}
@@ -6,7 +7,8 @@ use Rattle.aud_tap.specs.Forms.{is_text}
 use Rattle.aud_reader.specs.declared.line.Line.{Line}
 use Rattle.aud_reader.specs.Record.{cut_at_blank}
 
--- what stands before the first blank of a line, and the whole line where there is none: the name of the line's tap, if the line is read
+-- what stands before the first blank of a line, and the whole line where there is none: the name of the line's tap, if
+-- the line is read
 abbrev pub first_word : List ℕ → List ℕ
 first_word line = option_map_or (λ parts. parts.0) (cut_at_blank line) line
 
@@ -23,7 +25,8 @@ lines_of_tap name lines = filter (is_line_of name) lines
 abbrev pub is_known : List (List ℕ) → List ℕ → Bool
 is_known names name = list_any (is_text name) names
 
--- the names that these lines are the first to begin with, in that order, where the known names were there before; lines without bytes have none
+-- the names that these lines are the first to begin with, in that order, where the known names were there before; lines
+-- without bytes have none
 abbrev pub names_after : List (List ℕ) → List (List ℕ) → List (List ℕ)
 names_after known [] = []
 names_after known ([] ∷ lines) = names_after known lines
@@ -35,7 +38,8 @@ names_after known ((b ∷ line) ∷ lines) =
 abbrev pub names_in : List (List ℕ) → List (List ℕ)
 names_in lines = names_after [] lines
 
--- the same lines but for their order: for each name its lines are the same, in the same order, and the names first come in the same order
+-- the same lines but for their order: for each name its lines are the same, in the same order, and the names first come
+-- in the same order
 pub record AreSameButForOrder (lines others : List (List ℕ)) : Type 0 where
   pub each : (name : List ℕ) → lines_of_tap name lines ≡ lines_of_tap name others
   pub names : names_in lines ≡ names_in others

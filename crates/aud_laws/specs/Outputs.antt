@@ -2,8 +2,8 @@
 use Rattle.std.specs.Prelude.{◌≡◌, ◌⊎◌, ◌↔◌, ℕ, Bool, List, Err}
 use Rattle.aud_reader.specs.declared.fault.ReadFault.{ReadFault}
 use Rattle.aud_input.specs.Input.{input_of}
-use Rattle.aud_options.specs.declared.choice.Mode.{Mode}
-use Rattle.aud_report.specs.Output.{OutputSeen}
+use Rattle.aud_cli.specs.declared.choice.Mode.{Mode}
+use Rattle.aud_verdict.specs.Output.{OutputSeen}
 use Rattle.aud_app.specs.Output.{IsOutput, layout_of}
 
 -- a line of a mode's input is refused

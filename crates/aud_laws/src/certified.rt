@@ -8,11 +8,11 @@ ghost use Rattle.aud_node.specs.Cluster.{Cluster, cluster_of};
 ghost use Rattle.aud_node.specs.Names.{AreNamedOnce};
 ghost use Rattle.aud_reader.specs.declared.line.Line.{Line};
 ghost use Rattle.aud_cert.specs.Certificate.{CertificateSeen};
-ghost use Rattle.aud_cert_text.specs.Reading.{certificate_of};
-ghost use Rattle.aud_cert_text.specs.Sound.{IsSound};
-ghost use Rattle.aud_cert_text.specs.Text.{certificate_text};
+ghost use Rattle.aud_cert.specs.Reading.{certificate_of};
+ghost use Rattle.aud_cert.specs.Sound.{IsSound};
+ghost use Rattle.aud_cert.specs.Text.{certificate_text};
 ghost use Rattle.aud_maker.specs.Made.{IsMade};
-ghost use Rattle.aud_report.specs.declared.verdict.Verdict.TheVariants.{Yes};
+ghost use Rattle.aud_verdict.specs.declared.verdict.Verdict.TheVariants.{Yes};
 ghost use Rattle.aud_verdict.specs.Verdict.{IsVerdict};
 ghost use Rattle.aud_app.specs.declared.answer.Answer.{Answer};
 ghost use Rattle.aud_app.specs.declared.answer.Answer.TheVariants.{Accepted};
@@ -23,13 +23,14 @@ ghost use Rattle.aud_app.specs.Proofs.{IsProof, AreProofs};
 ghost use Rattle.aud_writer.specs.OfABundle.{AreOfABundle};
 ghost use Rattle.aud_laws.specs.Proven.{IsOfAProof};
 
-/// Nothing of a made certificate is refused by its reading: its pid and its names have the forms that a bundle gives them,
-/// its names are those of taps, its numbers are within the logs, and its records are the logs'. All that it takes is that
-/// each tap is the first with its name, and that the names are such as a bundle's taps have: a pid that a client's reply
-/// names has the form of a pid.
+/// Nothing of a made certificate is refused by its reading: its pid and its names have the forms that a bundle gives
+/// them, its names are those of taps, its numbers are within the logs, and its records are the logs'. All that it takes
+/// is that each tap is the first with its name, and that the names are such as a bundle's taps have: a pid that a
+/// client's reply names has the form of a pid.
 pub fn made_is_sound()
-    ensures { (c : Cluster) (pid : Text) (cert : CertificateSeen)
-        → AreNamedOnce c.taps → All (λ (tap : Tap). is_tap_name tap.name ≡ true) c.taps → IsMade c pid cert → IsSound c cert }
+    ensures { (c : Cluster) (pid : Text) (cert : CertificateSeen) → AreNamedOnce c.taps
+        → All (λ (tap : Tap). is_tap_name tap.name ≡ true) c.taps → IsMade c pid cert
+        → IsSound c cert }
 {}
 
 /// The text of a made certificate is read as that certificate. The limits of a bundle keep its numbers within 64 bits,
@@ -45,13 +46,15 @@ pub fn made_is_read_back()
 pub fn proved_is_accepted()
     // Where the verdict on a session is yes with these numbers, the answer on the text of its certificate is that it is
     // accepted, with these numbers.
-    ensures answer { (taps : List Tap) (pid text : Text) (got tail turns : ℕ) (answer : Answer) → AreOfABundle taps
-        → IsVerdict (cluster_of taps) false pid (Yes got tail turns) → IsProof (cluster_of taps) pid (Some text) → IsUtf8 text
+    ensures answer { (taps : List Tap) (pid text : Text) (got tail turns : ℕ) (answer : Answer)
+        → AreOfABundle taps → IsVerdict (cluster_of taps) false pid (Yes got tail turns)
+        → IsProof (cluster_of taps) pid (Some text) → IsUtf8 text
         → IsAnswerTo (cluster_of taps) (certificate_of (cluster_of taps) text) answer
         → answer ≡ Accepted pid (record { got = got; tail = tail; turns = turns }) }
 
     // Of lines that are such texts, of any of the sessions and in any order, all are answered ok.
-    ensures all { (taps : List Tap) (pids : List Text) (proofs : List (Option Text)) (lines : List Line) (answers : List Answered)
-        → AreOfABundle taps → AreProofs (cluster_of taps) pids proofs → All (IsOfAProof proofs) lines
+    ensures all { (taps : List Tap) (pids : List Text) (proofs : List (Option Text))
+        (lines : List Line) (answers : List Answered) → AreOfABundle taps
+        → AreProofs (cluster_of taps) pids proofs → All (IsOfAProof proofs) lines
         → AreAnswered (cluster_of taps) lines answers → list_all is_ok answers ≡ true }
 {}

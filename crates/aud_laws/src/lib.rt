@@ -1,13 +1,18 @@
-//! Laws that follow from the definitions of the crates below, and that none of them needs: the program doesn't use them.
+//! Laws that follow from the definitions of the crates below, and that none of them needs: the program doesn't use
+//! them.
 //!
 //! The functions of this crate do nothing: their contracts are the laws.
 //!
 //! - [`recovery`]: what is promised of every run and of every accepted certificate is so promised of something.
 //!   `specs/Recovery.antt` writes `examples/bundle_b.jsonl` out, in which a session is recovered, and a run of it.
-//! - [`order`]: the order of lines doesn't matter, as long as each tap's lines keep theirs (`specs/Order.antt` says what
+//! - [`order`]: the order of lines doesn't matter, as long as each tap's lines keep theirs (`specs/Order.antt` says
+//! what
 //!   "the same but for their order" means).
+//! - [`left_out`]: what may be left out of a recording, so that the verdicts on the other sessions stay: the nodes'
+//!   records of some sessions, and taps that don't tell of the others.
 //! - [`certified`]: what is proved is accepted: the text of a certificate that was made is read as that certificate.
-//! - [`rewritten`]: taps that were read keep to all that a bundle's taps keep to, and upgraded ones too (`AreOfABundle` of
+//! - [`rewritten`]: taps that were read keep to all that a bundle's taps keep to, and upgraded ones too (`AreOfABundle`
+//! of
 //!   `aud_writer`'s `specs/OfABundle.antt`).
 //!
 //! Two taps, where the second line of the one stands before, and then after, the header of the other:
@@ -39,7 +44,7 @@
 //! With the `recording` of `examples/bundle_a.jsonl`, a certificate read back and checked:
 //!
 //! ```
-//! use aud_cert_text::{read_cert, write_cert};
+//! use aud_cert::{read_cert, write_cert};
 //! use aud_check::{Accepted, check};
 //! use aud_maker::make;
 //!
@@ -54,11 +59,13 @@
 #![tactic(auto)]
 
 mod certified;
+mod left_out;
 mod order;
 mod recovery;
 mod rewritten;
 
 pub use certified::{made_is_read_back, made_is_sound, proved_is_accepted};
+pub use left_out::{recording_left, records_left_out, sessions_left_out, taps_left_out};
 pub use order::{
     audit_is_one, inputs_in_any_order, lines_in_any_order, neighbours_in_any_order,
     outputs_in_any_order,

@@ -6,9 +6,9 @@ ghost use Rattle.aud_input.specs.declared.input.Layout.TheVariants.{Bundle};
 ghost use Rattle.aud_input.specs.Input.{input_of};
 ghost use Rattle.aud_laws.specs.Order.{first_word, is_known, names_in, AreSameButForOrder, AreReadAlike, texts};
 ghost use Rattle.aud_laws.specs.Inputs.{line_texts};
-ghost use Rattle.aud_options.specs.declared.choice.Mode.{Mode};
-ghost use Rattle.aud_options.specs.declared.choice.Mode.TheVariants.{Audit};
-ghost use Rattle.aud_report.specs.Output.{OutputSeen};
+ghost use Rattle.aud_cli.specs.declared.choice.Mode.{Mode};
+ghost use Rattle.aud_cli.specs.declared.choice.Mode.TheVariants.{Audit};
+ghost use Rattle.aud_verdict.specs.Output.{OutputSeen};
 ghost use Rattle.aud_app.specs.Output.{IsOutput, layout_of};
 ghost use Rattle.aud_laws.specs.Outputs.{AreWrittenAlike};
 
@@ -32,8 +32,10 @@ pub fn inputs_in_any_order()
 /// Two neighbouring lines of different taps, of which one had a line before, may stand in either order: the lines are
 /// the same but for their order.
 pub fn neighbours_in_any_order()
-    ensures { (before after : List (List ℕ)) (line other : List ℕ) → first_word line ≢ first_word other
-        → (is_known (names_in before) (first_word line) ≡ true) ⊎ (is_known (names_in before) (first_word other) ≡ true)
+    ensures { (before after : List (List ℕ)) (line other : List ℕ)
+        → first_word line ≢ first_word other
+        → (is_known (names_in before) (first_word line) ≡ true)
+        ⊎ (is_known (names_in before) (first_word other) ≡ true)
         → AreSameButForOrder (before ++ line ∷ other ∷ after) (before ++ other ∷ line ∷ after) }
 {}
 
@@ -42,11 +44,13 @@ pub fn neighbours_in_any_order()
 /// `upgrade`.
 pub fn outputs_in_any_order()
     ensures { (mode : Mode) (whole : Bool) (bytes others : List ℕ) → layout_of mode ≡ Bundle
-        → AreSameButForOrder (line_texts bytes) (line_texts others) → AreWrittenAlike mode whole bytes others }
+        → AreSameButForOrder (line_texts bytes) (line_texts others)
+        → AreWrittenAlike mode whole bytes others }
 {}
 
 /// An input has one output of an audit with equal `whole`, whichever workers found it: with [`outputs_in_any_order`],
 /// inputs that are the same but for the order of their lines, of which none is refused, are given the same bytes.
 pub fn audit_is_one()
-    ensures { (whole : Bool) (bytes : List ℕ) (one other : OutputSeen) → IsOutput Audit whole bytes one → IsOutput Audit whole bytes other → one ≡ other }
+    ensures { (whole : Bool) (bytes : List ℕ) (one other : OutputSeen)
+        → IsOutput Audit whole bytes one → IsOutput Audit whole bytes other → one ≡ other }
 {}

@@ -19,17 +19,21 @@ pub fn run_with_recovery()
     ensures is_run { IsRun recovery.logs recovery.run }
     ensures is_chain { IsChain recovery.logs recovery.who recovery.turns }
     ensures both_are_due { due recovery.logs recovery.run recovery.who.pid ≡ 1 ∷ 2 ∷ [] }
-    ensures first_is_live { FallsAfter recovery.run (reach recovery.logs recovery.run recovery.who.pid 1) (Some recovery.live_take) }
-    ensures second_is_replayed { FallsAfter recovery.run (reach recovery.logs recovery.run recovery.who.pid 2) (Some recovery.back) }
-    ensures received_is_front { IsPrefixOf recovery.received_positions (due recovery.logs recovery.run recovery.who.pid) }
+    ensures first_is_live { FallsAfter recovery.run
+        (reach recovery.logs recovery.run recovery.who.pid 1) (Some recovery.live_take) }
+    ensures second_is_replayed { FallsAfter recovery.run
+        (reach recovery.logs recovery.run recovery.who.pid 2) (Some recovery.back) }
+    ensures received_is_front { IsPrefixOf recovery.received_positions
+        (due recovery.logs recovery.run recovery.who.pid) }
 {}
 
-/// What the check promises of every run is said of something: this certificate of a recovered session is accepted, and its
-/// logs have this run. Two events are due, one sent live and one replayed, and the client received both.
+/// What the check promises of every run is said of something: this certificate of a recovered session is accepted, and
+/// its logs have this run. Two events are due, one sent live and one replayed, and the client received both.
 pub fn recovery_is_accepted()
     ensures is_over { IsOver logs certificate }
     ensures is_accepted { IsAccepted logs certificate }
     ensures is_run { IsRun logs run }
     ensures both_are_due { due logs run who.pid ≡ 1 ∷ 2 ∷ [] }
-    ensures both_were_received { positions_in (certificate_case logs certificate) ≡ received_positions }
+    ensures both_were_received { positions_in (certificate_case logs certificate)
+        ≡ received_positions }
 {}

@@ -10,8 +10,8 @@ ghost use Rattle.aud_upgrade.specs.Upgraded.{upgraded};
 /// [`read_bundle`](aud_reader::read_bundle).
 ///
 /// So whoever has them from the reader need test none of it again: each name has a tap's form and stands once; at most
-/// one tap is of the stream; there are no more taps, records and pids than may be; each record is well formed, and of its
-/// tap's version; and each record of a client may follow those before it.
+/// one tap is of the stream; there are no more taps, records and pids than may be; each record is well formed, and of
+/// its tap's version; and each record of a client may follow those before it.
 pub fn read_taps_are_of_a_bundle()
     ensures { (lines : List Line) (taps : List Tap) → taps_of lines ≡ Ok taps → AreOfABundle taps }
 {}

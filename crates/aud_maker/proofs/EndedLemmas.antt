@@ -15,8 +15,8 @@ use Rattle.aud_rooms.specs.Turns.{Who, Turn, beginning, End, ByLog, turn_end, Ma
 use Rattle.aud_base.proofs.Lists.{slice_get-drop}
 use Rattle.aud_base.proofs.SameText.{same_text}
 use Rattle.aud_maker.specs.Begun.{AreBegun}
-use Rattle.aud_maker.specs.Private.Opening.{names_opened, opening_of}
-use Rattle.aud_maker.specs.Private.Ended.{end_by, may_end, is_ended, are_ended}
+use Rattle.aud_maker.specs.Opening.{names_opened, opening_of}
+use Rattle.aud_maker.specs.Ended.{end_by, may_end, is_ended, are_ended}
 use Rattle.aud_maker.proofs.Turns.{kind}
 use Rattle.aud_maker.proofs.BegunLemmas.{IsIndexed, begun-is}
 

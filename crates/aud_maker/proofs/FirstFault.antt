@@ -8,10 +8,10 @@ use Rattle.aud_node.specs.Stream.{Text}
 use Rattle.aud_rooms.specs.Turns.{Who, Turn, IsChain, AreTurns, HasNoTurn}
 use Rattle.aud_node.specs.OwnPlaces.{own_places}
 use Rattle.aud_maker.specs.Begun.{AreAllBegun, turn_begun}
-use Rattle.aud_maker.specs.Private.Ended.{are_ended}
+use Rattle.aud_maker.specs.Ended.{are_ended}
 use Rattle.aud_maker.specs.InTurn.{is_swept}
 use Rattle.aud_maker.specs.Chain.{HasNoChain}
-use Rattle.aud_maker.specs.Private.Opening.{opening_of}
+use Rattle.aud_maker.specs.Opening.{opening_of}
 use Rattle.aud_maker.proofs.BegunLemmas.{chain-same, begun, one_chain}
 use Rattle.aud_maker.proofs.EndedLemmas.{ended-turns, turns-ended, opening-names}
 use Rattle.aud_maker.proofs.SweptLemmas.{swept-covers, covers-swept}

@@ -8,7 +8,7 @@ use Rattle.aud_node.specs.TurnRecords.{begins_turn, begins_any_turn, ends_any_tu
 use Rattle.aud_rooms.specs.Turns.{Who, Turn, Part, Inner, Last, Foreign, End, ByLog, part_of, end_past, turn_end, MayEnd, IsTurn, AreTurns, IsChain}
 pub use Rattle.aud_rooms.proofs.Turns.{begins-names, beginning-begins, no_begin_inside, stands}
 use Rattle.aud_rooms.proofs.Turns.{begins_there, turn_there}
-use Rattle.aud_maker.specs.Private.Ended.{end_by}
+use Rattle.aud_maker.specs.Ended.{end_by}
 
 -- ---- records after the first of a turn
 

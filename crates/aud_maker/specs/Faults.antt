@@ -48,7 +48,7 @@ pub record IsFirstMakeFault (c : Cluster) (pid : Text) (fault : Fault) : Type 0 
 abbrev pub HasNoMakeFault : Cluster → Text → Type 0
 HasNoMakeFault c pid = (fault : Fault) → HasMakeFault c pid fault → ⊥
 
--- the fault is the first that holds; of want of memory nothing is said
+-- the fault is the first that holds; of running out of memory nothing is said
 abbrev pub IsWhy : Cluster → Text → MakeFault → Type 0
 IsWhy c pid (Because fault) = IsFirstMakeFault c pid fault
 IsWhy c pid Memory = Unit {0}

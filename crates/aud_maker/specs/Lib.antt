@@ -6,10 +6,14 @@ pub use Rattle.aud_rooms.specs.Turns
 pub use Rattle.aud_rooms.specs.Spans
 pub use Rattle.aud_client.specs.Received
 pub use Rattle.aud_cert.specs.Certificate
+pub use Rattle.aud_base.specs.OneForEach
 pub mod Begun
 pub mod Chain
 pub mod Faults
 pub mod InTurn
 pub mod Made
 pub mod Sessions
+pub mod Makings
+pub mod Ended
+pub mod Opening
 pub mod Private

@@ -1,4 +1,3 @@
--- What contracts of private functions alone cite: what the code keeps, and its steps. No public clause rests on these words.
-pub mod Opening
+-- What contracts of private functions alone cite: what the code keeps, and its steps. No public clause rests on these
+-- words.
 pub mod Begun
-pub mod Ended

@@ -3,7 +3,7 @@ ghost use Rattle.std.specs.Prelude.{◌≡◌, IfOk, MatchOption, None, Some};
 ghost use Rattle.aud_rooms.specs.Turns.{IsChain};
 ghost use Rattle.aud_node.specs.OwnPlaces.{own_places};
 ghost use Rattle.aud_maker.specs.Chain.{HasNoChain};
-ghost use Rattle.aud_maker.specs.Private.Opening.{opening_of};
+ghost use Rattle.aud_maker.specs.Opening.{opening_of};
 
 use crate::begun::begun_turns;
 use crate::ended::are_turns_ended;
@@ -13,7 +13,7 @@ use aud_rooms::TurnPlace;
 use aud_tap::NodeRec;
 use std::alloc::{AllocError, Global};
 
-/// All turns of a session, and the sid and the namespace of its `open`, lent by the logs.
+/// All turns of a session, and the sid and the namespace of its `open`, borrowed from the logs.
 #[derive(Drop)]
 pub(crate) struct Chain<'a> {
     pub sid: &'a str,
@@ -30,7 +30,8 @@ pub(crate) fn chain_of<'a>(
     pid: &str,
 ) -> Result<Option<Chain<'a>>, AllocError>
     requires { nodes.now ≡ own_places logs.now pid.now }
-    ensures { IfOk result (λ found. MatchOption found (HasNoChain logs.now pid.now) (λ chain. IsChain logs.now
+    ensures { IfOk result (λ found. MatchOption found (HasNoChain logs.now pid.now)
+        (λ chain. IsChain logs.now
         (record { pid = pid.now; sid = chain.sid.now; nsp = chain.nsp.now }) chain.turns.items)) }
 {
     let turns = begun_turns(alloc, logs, nodes, pid)?;
@@ -59,7 +60,8 @@ struct Opening<'a> {
 
 /// What the first turn's first record names.
 fn first_opening<'a>(logs: &Logs<'a>, turns: &[TurnPlace]) -> Option<Opening<'a>>
-    ensures { MatchOption result (opening_of logs.now turns.now ≡ None) (λ o. opening_of logs.now turns.now ≡ Some (o.sid.now, o.nsp.now)) }
+    ensures { MatchOption result (opening_of logs.now turns.now ≡ None)
+        (λ o. opening_of logs.now turns.now ≡ Some (o.sid.now, o.nsp.now)) }
 {
     let Some(turn) = turns.first() else {
         return None;

@@ -8,7 +8,8 @@ use aud_node::Logs;
 
 /// The name of the client tap that has a reply which names the pid; none where there is none, or several.
 pub(crate) fn only_client<'a>(recording: &Recording<'a>, pid: &str) -> Option<&'a str>
-    ensures { MatchOption result (length (naming_places recording.now.taps pid.now) ≡ 1 → ⊥) (λ name. IsClient recording.now pid.now name.now) }
+    ensures { MatchOption result (length (naming_places recording.now.taps pid.now) ≡ 1
+        → ⊥) (λ name. IsClient recording.now pid.now name.now) }
 {
     let naming = recording.naming(pid);
     if naming.len() != 1 {

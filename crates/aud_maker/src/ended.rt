@@ -1,6 +1,6 @@
 //! How turns end.
 ghost use Rattle.std.specs.Prelude.{◌≡◌};
-ghost use Rattle.aud_maker.specs.Private.Ended.{is_ended, are_ended};
+ghost use Rattle.aud_maker.specs.Ended.{is_ended, are_ended};
 
 use aud_node::Logs;
 use aud_rooms::TurnPlace;

@@ -11,8 +11,8 @@ ghost use Rattle.aud_maker.specs.Made.{IsMade};
 pub fn made_is_over()
     ensures over { (c : Cluster) (pid : Text) (cert : CertificateSeen)
         → AreNamedOnce c.taps → IsMade c pid cert → IsOver c cert }
-    ensures turns { (c : Cluster) (pid : Text) (cert : CertificateSeen)
-        → AreNamedOnce c.taps → (made : IsMade c pid cert) → map (turn_at c) cert.turns ≡ made.turns }
+    ensures turns { (c : Cluster) (pid : Text) (cert : CertificateSeen) → AreNamedOnce c.taps
+        → (made : IsMade c pid cert) → map (turn_at c) cert.turns ≡ made.turns }
     ensures some { (c : Cluster) (pid : Text) (cert : CertificateSeen)
         → IsMade c pid cert → 0 < length cert.turns }
 {}

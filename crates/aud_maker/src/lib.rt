@@ -4,8 +4,7 @@
 //! With the `recording` of `examples/bundle_a.jsonl`:
 //!
 //! ```
-//! use aud_cert::Fault;
-//! use aud_cert_text::write_cert;
+//! use aud_cert::{Fault, write_cert};
 //! use aud_maker::{MakeFault, make};
 //!
 //! let Ok(cert) = make(alloc, recording, "P") else {
@@ -17,6 +16,17 @@
 //! let missing = make(alloc, recording, "Q");
 //! assert!(rt; matches!(missing, Err(MakeFault::Fault(Fault::NoLog))));
 //! ```
+//!
+//! [`make_all`] makes the certificates of many sessions in parallel; here `pids` are the texts "P" and "Q":
+//!
+//! ```
+//! use aud_cert::Fault;
+//! use aud_maker::make_all;
+//!
+//! let made = make_all(&rt, alloc, 4, recording, &pids)?;
+//! assert!(rt; made[0].is_ok());
+//! assert!(rt; matches!(made[1], Err(Fault::NoLog)));
+//! ```
 #![tactic(auto)]
 
 mod begun;
@@ -26,6 +36,7 @@ mod ended;
 mod laws;
 mod made;
 mod maker;
+mod many;
 mod mentioned;
 mod mentions;
 mod order;
@@ -34,5 +45,6 @@ mod swept;
 pub use begun::begun_turns;
 pub use laws::made_is_over;
 pub use maker::{MakeFault, make};
+pub use many::make_all;
 pub use mentions::sessions;
 pub use swept::{stands_in, turn_after, turn_begun_by};

@@ -22,7 +22,8 @@ pub(crate) fn certificate_of<'a>(
     client: &'a str,
 ) -> Result<Certificate<'a>, AllocError>
     requires { All (IsInOrder logs.now) chain.now.turns.items }
-    ensures { IfOk result (λ cert. IsCertificateOf logs.now pid.now chain.now.sid.now client.now chain.now.turns.items cert) }
+    ensures { IfOk result (λ cert.
+        IsCertificateOf logs.now pid.now chain.now.sid.now client.now chain.now.turns.items cert) }
 {
     let turns = turns_seen(alloc, logs, &chain.turns)?;
     let spans = spans_of_turns(alloc, logs, pid, chain.sid, &chain.turns)?;

@@ -40,7 +40,8 @@ impl From<AllocError> for MakeFault {
 
 /// The certificate of all turns of the session, with the spans of its rooms and the name of the one client tap with a
 /// reply that names it; or the first of the faults `NoLog`, `Chain`, `Order` and `Client` that holds. Names, records
-/// and rooms are lent by the taps. It looks at the session's own records, on the nodes where it was, and at no others.
+/// and rooms are borrowed from the taps. It looks at the session's own records, on the nodes where it was, and at no
+/// others.
 pub fn make<'a>(
     alloc: Global,
     recording: &Recording<'a>,

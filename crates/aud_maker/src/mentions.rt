@@ -32,7 +32,9 @@ fn mention_client(
     mentioned: &mut Mentioned,
     place: usize,
 ) -> Result<(), AllocError>
-    ensures { OnOk result (mentioned.new ≡ with_texts mentioned.old (reply_pids recording.now.stream (client_at recording.now place))) }
+    ensures { OnOk result (mentioned.new
+        ≡ with_texts mentioned.old (reply_pids recording.now.stream
+        (client_at recording.now place))) }
 {
     match recording.client(place) {
         Some(transcript) => mention_replies(mentioned, &transcript.transcript().stays),
@@ -41,7 +43,8 @@ fn mention_client(
 }
 
 fn mention_replies(mentioned: &mut Mentioned, stays: &[Stay<'_>]) -> Result<(), AllocError>
-    ensures { OnOk result (mentioned.new ≡ with_texts mentioned.old (filter_map stay_pid stays.now)) }
+    ensures { OnOk result (mentioned.new
+        ≡ with_texts mentioned.old (filter_map stay_pid stays.now)) }
 {
     for stay in stays {
         if let Some(named) = reply_pid(stay) {

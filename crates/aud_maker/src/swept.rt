@@ -68,7 +68,8 @@ pub fn turn_begun_by(rec: &NodeRec) -> Option<u16>
     }
 }
 
-/// Whether there is a turn, and the record with this number, which counts from 0, of the node at this place stands in it.
+/// Whether there is a turn, and the record with this number, which counts from 0, of the node at this place stands in
+/// it.
 pub fn stands_in(node: usize, number: usize, turn: &Option<TurnPlace>) -> bool
     ensures { result ≡ is_in_turn node number turn.now }
 {

@@ -1,4 +1,5 @@
--- In a run, the session reaches each position when, and with the rooms that, its turns tell; so what is due is due by them.
+-- In a run, the session reaches each position when, and with the rooms that, its turns tell; so what is due is due by
+-- them.
 use Rattle.std.proofs.Common.{◌≡◌, ℕ, suc, Bool, true, false, cond, List, [], ◌∷◌, map, find, Option, Some, None, slice_get, refl, sym, ap, subst, ◌∙◌, inl, inr, arith, option_map, option_and_then, unwrap_or, ◌<◌, ◌≤◌, zero, ◌&&◌, ◌++◌, length, filter, ◌⊎◌, nat_le}
 use Rattle.std.proofs.lemmas.Bool.{cases_Bool, cond_both, cases_lt, le-leb, lt-leb, and_left, and_right}
 use Rattle.std.specs.Ordering.{nat_cmp}
@@ -204,7 +205,8 @@ chain-none c who turns is node number rec at begins =
 pub due-chain : (c : Cluster) (run : List Step) (who : Who) (turns : List Turn) → IsRun c run → IsChain c who turns → due c run who.pid ≡ turns_due c.stream who (map (slice_of c) turns)
 due-chain c run who turns is chain = filter_agree _ _ (λ p. due_at c run who turns is chain.are_turns p (inr (chain-none c who turns chain))) (positions_after 0 (length c.stream))
 
--- OF TURNS THAT ARE SHOWN, whether or not there are more: up to the greatest shown high, what is due by them is what is due
+-- OF TURNS THAT ARE SHOWN, whether or not there are more: up to the greatest shown high, what is due by them is what is
+-- due
 none_first : (slices : List Slice) → is_past_first slices 0 ≡ false
 none_first [] = refl
 none_first (slice ∷ later) = lt_false slice.low 0 (omega arith)

@@ -9,3 +9,10 @@ pub mod Exchange
 pub mod Maps
 pub mod Merged
 pub mod Positions
+pub mod Blocking
+pub mod Sleeping
+pub mod Choosing
+pub mod Shown
+pub mod Left
+pub mod NextRecords
+pub mod OneShown

@@ -1,4 +1,4 @@
--- A `BTreeMap` from lent texts to sessions, seen as a map.
+-- A `BTreeMap` from borrowed texts to sessions, seen as a map.
 use Rattle.std.proofs.Common.{◌≡◌, arith, ℕ, cond, List, [], ◌∷◌, map, refl, ◌∙◌, Bor, Option, Some, None, option_map, unwrap_or, IsSome}
 use Rattle.std.specs.Ordering.{nat_cmp, is_eq}
 use Rattle.std.specs.Cmp.Lexicographic.{slice_cmp, nat_list_cmp_total}

@@ -11,4 +11,6 @@ pub mod Runs
 pub mod Due
 pub mod Order
 pub mod ByTurns
+pub mod Shown
+pub mod Text
 pub mod Private

@@ -60,7 +60,8 @@ pub fn due_by_turns()
 /// Where steps that were each allowed lead to a state in which no log's next record is, no run exists.
 pub fn no_run_where_blocked()
     ensures any { (c : Cluster) (steps run : List Step) → IsBlocked c steps → IsRun c run → ⊥ }
-    ensures greedy { (c : Cluster) (fronts run : List Step) → IsBlockedAt c fronts → IsRun c run → ⊥ }
+    ensures greedy { (c : Cluster) (fronts run : List Step) → IsBlockedAt c fronts → IsRun c run
+        → ⊥ }
 {}
 
 /// Where a run exists, an allowed step stays allowed while steps of other logs are taken.

@@ -103,7 +103,8 @@ fn take_next<'a>(
 ) -> Result<(), AllocError>
     requires progress { slice_get state.old.logs place ≡ Some done }
     requires allowed { IsSome (after_next logs.now state.old place done log.now) }
-    ensures taken { OnOk result (after_next logs.now state.old place done log.now ≡ Some state.new) }
+    ensures taken { OnOk result (after_next logs.now state.old place done log.now
+        ≡ Some state.new) }
     ensures unchanged { OnErr result (state.new ≡ state.old) }
 {
     match log {
@@ -133,7 +134,8 @@ fn take_record<'a>(
     requires progress { slice_get state.old.logs node ≡ Some done }
     requires counted { done.taken + 1 < 2 ^ 64 }
     requires allowed { IsSome (after_record logs.now state.old node done rec.now) }
-    ensures taken { OnOk result (after_record logs.now state.old node done rec.now ≡ Some state.new) }
+    ensures taken { OnOk result (after_record logs.now state.old node done rec.now
+        ≡ Some state.new) }
     ensures unchanged { OnErr result (state.new ≡ state.old) }
 {
     let Some(cursor) = allowed_cursor(logs.stream(), state.appended(logs), rec, done) else {

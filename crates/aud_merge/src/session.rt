@@ -38,7 +38,8 @@ impl<'a> OpenedSession<'a> {
         rec: &'a NodeRec,
     ) -> Result<OpenedSession<'a>, AllocError>
         requires { IsSome (session_after node rec.now Absent) }
-        ensures { IfOk result (λ session. session_after node rec.now Absent ≡ Some (session_seen session)) }
+        ensures { IfOk result (λ session. session_after node rec.now Absent
+            ≡ Some (session_seen session)) }
     {
         let NodeRec::Opened { sid, nsp, .. } = rec else {
             unreachable!()
@@ -57,7 +58,8 @@ impl<'a> OpenedSession<'a> {
     /// What the node's record, which names this session and is allowed, does to it.
     pub(crate) fn change(&mut self, node: usize, rec: &'a NodeRec) -> Result<(), AllocError>
         requires { IsSome (session_after node rec.now (session_seen self.old)) }
-        ensures changed { OnOk result (session_after node rec.now (session_seen self.old) ≡ Some (session_seen self.new)) }
+        ensures changed { OnOk result (session_after node rec.now (session_seen self.old)
+            ≡ Some (session_seen self.new)) }
         ensures unchanged { OnErr result (self.new ≡ self.old) }
     {
         match rec {
@@ -77,7 +79,8 @@ impl<'a> OpenedSession<'a> {
 
 /// Whether the node's record, which names this session, is allowed; no session is one that wasn't opened.
 pub(crate) fn allows(session: Option<&OpenedSession>, node: usize, rec: &NodeRec) -> bool
-    ensures { result ≡ is_some (session_after node rec.now (seen_or_absent (option_copied session.entry))) }
+    ensures { result ≡ is_some (session_after node rec.now
+        (seen_or_absent (option_copied session.entry))) }
 {
     let Some(session) = session else {
         return matches!(rec, NodeRec::Opened { .. });

@@ -14,7 +14,7 @@ use std::alloc::{AllocError, Global};
 use std::collections::BTreeMap;
 use std::marker::Model;
 
-/// The sessions that were opened, by pid; seen as a map. Pids are lent.
+/// The sessions that were opened, by pid; seen as a map. Pids are borrowed.
 #[derive(Drop)]
 pub(crate) struct Sessions<'a> {
     alloc: Global,
@@ -50,7 +50,8 @@ impl<'a> Sessions<'a> {
     /// The session of a pid; none where it wasn't opened.
     #[tactic(auto, using(crate::proofs::Maps::seen_sessions))]
     pub(crate) fn get(&self, pid: &str) -> Option<&OpenedSession<'a>>
-        ensures { seen_or_absent (option_copied result) ≡ unwrap_or (fin.get self.now pid.now) Absent }
+        ensures { seen_or_absent (option_copied result)
+            ≡ unwrap_or (fin.get self.now pid.now) Absent }
     {
         self.map.get(pid)
     }
@@ -68,7 +69,8 @@ impl<'a> Sessions<'a> {
     /// What an allowed record of the node does to the session that it names, if it names one.
     pub(crate) fn change(&mut self, node: usize, rec: &'a NodeRec) -> Result<(), AllocError>
         requires { IsSome (sessions_after node rec.now (pid_of rec.now) self.old) }
-        ensures changed { OnOk result (sessions_after node rec.now (pid_of rec.now) self.old ≡ Some self.new) }
+        ensures changed { OnOk result (sessions_after node rec.now (pid_of rec.now) self.old
+            ≡ Some self.new) }
         ensures unchanged { OnErr result (self.new ≡ self.old) }
     {
         let Some(pid) = pid(rec) else {
@@ -83,7 +85,8 @@ impl<'a> Sessions<'a> {
     /// Puts the session of the pid.
     #[tactic(auto, using(crate::proofs::Maps::put_session))]
     fn insert(&mut self, pid: &'a str, session: OpenedSession<'a>) -> Result<(), AllocError>
-        ensures inserted { OnOk result (self.new ≡ fin.insert self.old pid.now (session_seen session.entry)) }
+        ensures inserted { OnOk result (self.new
+            ≡ fin.insert self.old pid.now (session_seen session.entry)) }
         ensures unchanged { OnErr result (self.new ≡ self.old) }
     {
         self.map.insert(pid, session)?;

@@ -13,7 +13,7 @@ use aud_tap::{NodeRec, Tap};
 use std::alloc::{AllocError, Global};
 use std::marker::Model;
 
-/// How far each log has come, and the sessions that were opened, by pid; texts are lent from the logs.
+/// How far each log has come, and the sessions that were opened, by pid; texts are borrowed from the logs.
 #[derive(Drop)]
 pub struct State<'a> {
     logs: Vec<Progress>,
@@ -78,7 +78,8 @@ impl<'a> State<'a> {
 
     /// Whether the session that the node's record names allows it.
     pub(crate) fn allows(&self, node: usize, rec: &NodeRec) -> bool
-        ensures { result ≡ is_some (sessions_after node rec.now (pid_of rec.now) self.now.sessions) }
+        ensures { result ≡ is_some (sessions_after node rec.now
+            (pid_of rec.now) self.now.sessions) }
     {
         self.sessions.allow(node, rec)
     }
@@ -86,7 +87,8 @@ impl<'a> State<'a> {
     /// What an allowed record of the node does to the session that it names, if it names one.
     pub(crate) fn change(&mut self, node: usize, rec: &'a NodeRec) -> Result<(), AllocError>
         requires { IsSome (sessions_after node rec.now (pid_of rec.now) self.old.sessions) }
-        ensures changed { OnOk result (sessions_after node rec.now (pid_of rec.now) self.old.sessions ≡ Some self.new.sessions) }
+        ensures changed { OnOk result (sessions_after node rec.now
+            (pid_of rec.now) self.old.sessions ≡ Some self.new.sessions) }
         ensures logs { self.new.logs ≡ self.old.logs }
         ensures unchanged { OnErr result (self.new ≡ self.old) }
     {
@@ -96,7 +98,10 @@ impl<'a> State<'a> {
     /// So many records of the log at this place are taken now, and this is its cursor.
     pub(crate) fn advance(&mut self, place: usize, taken: usize, cursor: u64)
         requires { place < length self.old.logs }
-        ensures { self.new ≡ record self.old { logs = set self.old.logs place (record { taken = taken; cursor = cursor }) } }
+        ensures { self.new ≡ record self.old {
+          logs = set self.old.logs place
+              (record { taken = taken; cursor = cursor });
+        } }
     {
         self.logs[place] = Progress { taken, cursor };
     }
@@ -104,7 +109,8 @@ impl<'a> State<'a> {
 
 /// Of each tap, that nothing was taken.
 fn none_taken(alloc: Global, taps: &[Tap]) -> Result<Vec<Progress>, AllocError>
-    ensures { IfOk result (λ logs. logs.items ≡ map (λ _. record { taken = 0; cursor = 0 }) taps.now) }
+    ensures { IfOk result (λ logs. logs.items
+        ≡ map (λ _. record { taken = 0; cursor = 0 }) taps.now) }
 {
     let mut logs = Vec::new(alloc);
     for _ in taps {

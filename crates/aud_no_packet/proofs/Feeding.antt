@@ -44,7 +44,7 @@ pub Fed-some : (i : ℕ) (fault : SioFault) (old messages new : List Message) (r
     → refusal_to old (at (suc i) messages ++ rest) ≡ Some (record { refusal = Socket fault; packet = Some (suc i) })
 Fed-some i fault old messages new rest fed = ap first_refusal (fed.continues (suc i) rest) ∙ refused i fault fed.answers (wholes_after new rest) fed.fault_is
 
--- a refusal that is not want of memory
+-- a refusal that is not running out of memory
 pub OnFed-refused : {E : Type 0} (r : Result (Option SioFault) E) (old messages new : List Message) (fault : SioFault) → OnOk r (¬ (fault ≡ Memory)) → IfOk r (λ found. found ≡ Some fault)
     → Feeds old messages (Err fault) new → Waits new → OnFed old messages new r
 OnFed-refused (Ok found) old messages new fault other is feeds waits =

@@ -1,8 +1,8 @@
 -- Why a record of a client's tap is no packet.
 --
--- It is said of any record what is refused in it, after the messages of its connection. That it is so exactly of the records
--- that `tap_packets` counts as bad isn't said here: both rest on `engine_packet_of` and `wholes_of`, where the one counts the
--- packets of a record and the other the records of a connection.
+-- It is said of any record what is refused in it, after the messages of its connection. That it is so exactly of the
+-- records that `tap_packets` counts as bad isn't said here: both rest on `engine_packet_of` and `wholes_of`, where the
+-- one counts the packets of a record and the other the records of a connection.
 use Rattle.std.specs.Prelude.{ℕ, zero, suc, List, [], ◌∷◌, ◌++◌, Option, Some, None, option_map, Ok, Err, Bool, true, false, if◌then◌else◌, flat_map, take, drop, slice_get}
 use Rattle.std.specs.Option.{option_and_then, option_or}
 use Rattle.aud_tap.specs.declared.records.ClientRec.{ClientRec}
@@ -23,8 +23,8 @@ ends_connection (Conn c) = true
 ends_connection Lost = true
 ends_connection _ = false
 
--- the number of the record after the last `conn` or `lost`, where the connection begins at this one and these come next, the
--- first of which has this number
+-- the number of the record after the last `conn` or `lost`, where the connection begins at this one and these come
+-- next, the first of which has this number
 abbrev pub begin_from : ℕ → ℕ → List ClientRec → ℕ
 begin_from begin number [] = begin
 begin_from begin number (rec ∷ recs) = begin_from (if ends_connection rec then suc number else begin) (suc number) recs
@@ -72,8 +72,8 @@ first_refusal ((suc k, Err fault) ∷ answers) = Some (record { refusal = Socket
 
 -- ---- the record
 
--- the refusal of packets with these texts after these messages: the first text that is no Engine.IO packet, since then no packet
--- of the record is read; else the first message that is refused
+-- the refusal of packets with these texts after these messages: the first text that is no Engine.IO packet, since then
+-- no packet of the record is read; else the first message that is refused
 abbrev pub texts_refusal : List (ℕ × Message) → List (List ℕ) → Option NoPacket
 texts_refusal before texts = option_or (engine_refusal 1 texts) (first_refusal (wholes_of (before ++ packet_messages 1 texts)))
 

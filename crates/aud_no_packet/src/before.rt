@@ -50,7 +50,8 @@ fn pass_text<'a>(
     assembler: &mut Assembler<'a>,
     text: &'a str,
 ) -> Result<(), AllocError>
-    ensures { OnOk result (Passes assembler.old (messages_or_none 0 (one_of (engine_packet_of text.now))) assembler.new) }
+    ensures { OnOk result (Passes assembler.old
+        (messages_or_none 0 (one_of (engine_packet_of text.now))) assembler.new) }
 {
     match decode_text(alloc, text) {
         Ok(packet) => pass_packet(assembler, packet),
@@ -64,7 +65,8 @@ fn pass_body<'a>(
     assembler: &mut Assembler<'a>,
     body: &'a str,
 ) -> Result<(), AllocError>
-    ensures { OnOk result (Passes assembler.old (messages_or_none 0 (engine_packets_of body.now)) assembler.new) }
+    ensures { OnOk result (Passes assembler.old
+        (messages_or_none 0 (engine_packets_of body.now)) assembler.new) }
 {
     match decode_payload(alloc, body) {
         Ok(packets) => pass_packets(assembler, packets),
@@ -74,7 +76,8 @@ fn pass_body<'a>(
 }
 
 fn pass_packets<'a>(assembler: &mut Assembler<'a>, packets: Vec<Eio<'a>>) -> Result<(), AllocError>
-    ensures { OnOk result (Passes assembler.old (at 0 (flat_map messages_of (map engine_view packets.entry.items))) assembler.new) }
+    ensures { OnOk result (Passes assembler.old
+        (at 0 (flat_map messages_of (map engine_view packets.entry.items))) assembler.new) }
 {
     for packet in packets {
         pass_packet(assembler, packet)?;
@@ -83,7 +86,8 @@ fn pass_packets<'a>(assembler: &mut Assembler<'a>, packets: Vec<Eio<'a>>) -> Res
 }
 
 fn pass_packet<'a>(assembler: &mut Assembler<'a>, packet: Eio<'a>) -> Result<(), AllocError>
-    ensures { OnOk result (Passes assembler.old (at 0 (flat_map messages_of (engine_view packet.entry ∷ []))) assembler.new) }
+    ensures { OnOk result (Passes assembler.old
+        (at 0 (flat_map messages_of (engine_view packet.entry ∷ []))) assembler.new) }
 {
     let _fault = feed(assembler, packet)?;
     Ok(())

@@ -25,7 +25,7 @@ pub(crate) fn feed<'a>(
     }
 }
 
-/// The fault, unless it is want of memory.
+/// The fault, unless it is running out of memory.
 fn unless_memory(fault: SioFault) -> Result<Option<SioFault>, AllocError>
     ensures memory { OnOk result (¬ (fault ≡ SioFault.Memory)) }
     ensures fault { IfOk result (λ found. found ≡ Some fault) }
@@ -58,7 +58,8 @@ pub(crate) fn socket_refusal<'a>(
     texts: &[&'a str],
 ) -> Result<Option<NoPacket>, AllocError>
     requires { Waits assembler.old }
-    ensures { IfOk result (λ found. found ≡ refusal_to assembler.old (packet_messages 1 (map (λ text. text.now) texts.now))) }
+    ensures { IfOk result (λ found. found
+        ≡ refusal_to assembler.old (packet_messages 1 (map (λ text. text.now) texts.now))) }
 {
     for (i, text) in texts.iter().enumerate() {
         if let Some(fault) = feed_text(alloc, assembler, text)? {

@@ -7,7 +7,7 @@ use crate::no_packet::{NoPacket, Refusal};
 use aud_eio::{EioFault, decode_text};
 use std::alloc::{AllocError, Global};
 
-/// The texts of a body's packets, lent.
+/// The texts of a body's packets, borrowed.
 pub(crate) fn pieces_of(alloc: Global, body: &str) -> Result<Vec<&str>, AllocError>
     ensures { IfOk result (λ pieces. map (λ piece. piece.now) pieces.items ≡ body_pieces body.now) }
 {

@@ -16,8 +16,8 @@ use aud_sio::Assembler;
 use aud_tap::ClientRec;
 use std::alloc::{AllocError, Global};
 
-/// Why the record with this number of a client's tap is no packet; none where nothing of it is refused. Records count from 0
-/// after the header. Of the records before only those of the same connection are decoded.
+/// Why the record with this number of a client's tap is no packet; none where nothing of it is refused. Records count
+/// from 0 after the header. Of the records before only those of the same connection are decoded.
 pub fn no_packet_at(
     alloc: Global,
     recs: &[ClientRec],
@@ -59,7 +59,8 @@ fn text_refusal<'a>(
     text: &'a str,
 ) -> Result<Option<NoPacket>, AllocError>
     requires { Waits assembler }
-    ensures { IfOk result (λ found. found ≡ alone (texts_refusal_to assembler.entry (text.now ∷ []))) }
+    ensures { IfOk result (λ found. found
+        ≡ alone (texts_refusal_to assembler.entry (text.now ∷ []))) }
 {
     Ok(alone(texts_refusal(alloc, assembler, &[text])?))
 }
@@ -70,7 +71,8 @@ fn body_refusal<'a>(
     body: &'a str,
 ) -> Result<Option<NoPacket>, AllocError>
     requires { Waits assembler }
-    ensures { IfOk result (λ found. found ≡ texts_refusal_to assembler.entry (body_pieces body.now)) }
+    ensures { IfOk result (λ found. found
+        ≡ texts_refusal_to assembler.entry (body_pieces body.now)) }
 {
     let pieces = pieces_of(alloc, body)?;
     texts_refusal(alloc, assembler, pieces.as_slice())
@@ -83,7 +85,8 @@ fn texts_refusal<'a>(
     texts: &[&'a str],
 ) -> Result<Option<NoPacket>, AllocError>
     requires { Waits assembler }
-    ensures { IfOk result (λ found. found ≡ texts_refusal_to assembler.entry (map (λ text. text.now) texts.now)) }
+    ensures { IfOk result (λ found. found
+        ≡ texts_refusal_to assembler.entry (map (λ text. text.now) texts.now)) }
 {
     match engine_refusal(alloc, texts)? {
         Some(found) => Ok(Some(found)),
@@ -96,7 +99,8 @@ fn bytes_refusal<'a>(
     bytes: &'a [u8],
 ) -> Result<Option<NoPacket>, AllocError>
     requires { Waits assembler }
-    ensures { IfOk result (λ found. found ≡ alone (refusal_to assembler.entry (at 1 (Bytes (Lent bytes.now) ∷ [])))) }
+    ensures { IfOk result (λ found. found
+        ≡ alone (refusal_to assembler.entry (at 1 (Bytes (Lent bytes.now) ∷ [])))) }
 {
     match feed(&mut assembler, decode_binary(bytes))? {
         Some(fault) => Ok(Some(NoPacket {

@@ -43,7 +43,8 @@ next-is stream off cursor p next = go (position stream off) next
 
 -- ---- what its text spells
 
--- what was read is one packet: an event of this one's namespace, without acknowledgement id and attachments, that ends in its offset
+-- what was read is one packet: an event of this one's namespace, without acknowledgement id and attachments, that ends
+-- in its offset
 pub record IsReadAlone (event : Event) (read : Result PacketSeen SioFault) : Type 0 where
   pub reads : read ≡ Ok (packet_read read)
   pub kind_is : is_event (packet_read read).kind ≡ true

@@ -1,4 +1,4 @@
--- Maps from lent texts.
+-- Maps from borrowed texts.
 use Rattle.std.proofs.Common.{◌≡◌, Bool, cond, List, ℕ, arith, Bor, Option, Some, unwrap_or}
 use Rattle.std.specs.HashMap as hash
 use Rattle.std.specs.HashMap.{HashMap}

@@ -71,8 +71,14 @@ impl<'a> Addressees<'a> {
         recoverable: bool,
         position: usize,
     ) -> Result<(), AllocError>
-        ensures rooms { OnOk result ((nsp room : List ℕ) → kept_to_room self.new nsp room ≡ noted position (recoverable && names_room entry.now nsp room) (kept_to_room self.old nsp room)) }
-        ensures everyone { OnOk result ((nsp : List ℕ) → places_of self.new.everyone nsp ≡ noted position (recoverable && names_no_room entry.now nsp) (places_of self.old.everyone nsp)) }
+        ensures rooms { OnOk result ((nsp room : List ℕ)
+            → kept_to_room self.new nsp room
+            ≡ noted position (recoverable && names_room entry.now nsp room)
+            (kept_to_room self.old nsp room)) }
+        ensures everyone { OnOk result ((nsp : List ℕ)
+            → places_of self.new.everyone nsp
+            ≡ noted position (recoverable && names_no_room entry.now nsp)
+            (places_of self.old.everyone nsp)) }
     {
         let StreamRec::Ev(event) = entry else {
             return Ok(());
@@ -96,7 +102,11 @@ impl<'a> Addressees<'a> {
         rooms: &'a [Text],
         position: usize,
     ) -> Result<(), AllocError>
-        ensures rooms { OnOk result ((q room : List ℕ) → kept_to_room self.new q room ≡ noted position (bytes_eq nsp.now q && list_any (λ other. bytes_eq other room) rooms.now) (kept_to_room self.old q room)) }
+        ensures rooms { OnOk result ((q room : List ℕ)
+            → kept_to_room self.new q room
+            ≡ noted position
+            (bytes_eq nsp.now q && list_any (λ other. bytes_eq other room) rooms.now)
+            (kept_to_room self.old q room)) }
         ensures everyone { self.new.everyone ≡ self.old.everyone }
     {
         let none = Places::new(self.alloc, self.keys);
@@ -108,7 +118,10 @@ impl<'a> Addressees<'a> {
 
 /// The position is one of each of these rooms.
 fn note_each(positions: &mut Places, rooms: &[Text], position: usize) -> Result<(), AllocError>
-    ensures { OnOk result ((q : List ℕ) → places_of positions.new q ≡ noted position (list_any (λ room. bytes_eq room q) rooms.now) (places_of positions.old q)) }
+    ensures { OnOk result ((q : List ℕ)
+        → places_of positions.new q
+        ≡ noted position (list_any (λ room. bytes_eq room q) rooms.now)
+        (places_of positions.old q)) }
 {
     for room in rooms {
         positions.note(position, room.as_str())?;

@@ -20,7 +20,8 @@ use std::hash::RandomState;
 
 /// Of each name, the places of the taps that have it; in a bundle it is one.
 pub fn taps_by_name(alloc: Global, keys: RandomState, taps: &[Tap]) -> Result<Places, AllocError>
-    ensures { IfOk result (λ places. (name : Text) → slice_get (places_of places name) 0 ≡ place_of taps.now name) }
+    ensures { IfOk result (λ places. (name : Text)
+        → slice_get (places_of places name) 0 ≡ place_of taps.now name) }
 {
     let mut places = Places::new(alloc, keys);
     for (place, tap) in taps.iter().enumerate() {
@@ -35,8 +36,10 @@ pub fn records_by_pid(
     keys: RandomState,
     recs: &NodeRecs,
 ) -> Result<Places, AllocError>
-    ensures numbers { IfOk result (λ numbers. (pid : Text) → places_of numbers pid ≡ own_numbers recs.now pid) }
-    ensures pids { IfOk result (λ numbers. texts_of numbers ≡ with_texts [] (filter_map pid_of recs.now)) }
+    ensures numbers { IfOk result (λ numbers. (pid : Text)
+        → places_of numbers pid ≡ own_numbers recs.now pid) }
+    ensures pids { IfOk result (λ numbers. texts_of numbers
+        ≡ with_texts [] (filter_map pid_of recs.now)) }
 {
     let mut numbers = Places::new(alloc, keys);
     for number in 0..recs.len() {
@@ -46,8 +49,11 @@ pub fn records_by_pid(
 }
 
 fn note_record(places: &mut Places, place: usize, rec: &NodeRec) -> Result<(), AllocError>
-    ensures places { OnOk result ((q : Text) → places_of places.new q ≡ noted place (record_names (Some rec.now) q) (places_of places.old q)) }
-    ensures pids { OnOk result (texts_of places.new ≡ with_texts (texts_of places.old) (option_to_list (pid_of rec.now))) }
+    ensures places { OnOk result ((q : Text)
+        → places_of places.new q
+        ≡ noted place (record_names (Some rec.now) q) (places_of places.old q)) }
+    ensures pids { OnOk result (texts_of places.new
+        ≡ with_texts (texts_of places.old) (option_to_list (pid_of rec.now))) }
 {
     match pid(rec) {
         Some(pid) => places.note(place, pid),
@@ -62,8 +68,10 @@ pub fn nodes_by_pid(
     keys: RandomState,
     logs: &[Option<NodeLog<'_>>],
 ) -> Result<Places, AllocError>
-    ensures places { IfOk result (λ places. (pid : Text) → places_of places pid ≡ places_naming logs.now pid) }
-    ensures pids { IfOk result (λ places. texts_of places ≡ with_texts [] (flat_map log_pids logs.now)) }
+    ensures places { IfOk result (λ places. (pid : Text)
+        → places_of places pid ≡ places_naming logs.now pid) }
+    ensures pids { IfOk result (λ places. texts_of places
+        ≡ with_texts [] (flat_map log_pids logs.now)) }
 {
     let mut places = Places::new(alloc, keys);
     for (place, log) in logs.iter().enumerate() {
@@ -74,8 +82,11 @@ pub fn nodes_by_pid(
 
 /// Notes at the place the pids that the node's records name.
 fn note_node(places: &mut Places, place: usize, log: Option<&NodeLog<'_>>) -> Result<(), AllocError>
-    ensures places { OnOk result ((q : Text) → places_of places.new q ≡ noted place (log_names q (option_copied log.entry)) (places_of places.old q)) }
-    ensures pids { OnOk result (texts_of places.new ≡ with_texts (texts_of places.old) (log_pids (option_copied log.entry))) }
+    ensures places { OnOk result ((q : Text)
+        → places_of places.new q
+        ≡ noted place (log_names q (option_copied log.entry)) (places_of places.old q)) }
+    ensures pids { OnOk result (texts_of places.new
+        ≡ with_texts (texts_of places.old) (log_pids (option_copied log.entry))) }
 {
     match log {
         Some(log) => {
@@ -88,8 +99,12 @@ fn note_node(places: &mut Places, place: usize, log: Option<&NodeLog<'_>>) -> Re
 
 /// Notes at the place the texts of another index.
 fn note_pids(places: &mut Places, place: usize, pids: &Places) -> Result<(), AllocError>
-    ensures places { OnOk result ((q : Text) → places_of places.new q ≡ noted place (list_any (λ pid. bytes_eq pid q) (texts_of pids.now)) (places_of places.old q)) }
-    ensures pids { OnOk result (texts_of places.new ≡ with_texts (texts_of places.old) (texts_of pids.now)) }
+    ensures places { OnOk result ((q : Text)
+        → places_of places.new q
+        ≡ noted place (list_any (λ pid. bytes_eq pid q) (texts_of pids.now))
+        (places_of places.old q)) }
+    ensures pids { OnOk result (texts_of places.new
+        ≡ with_texts (texts_of places.old) (texts_of pids.now)) }
 {
     for number in 0..pids.len() {
         places.note(place, pids.text(number))?;

@@ -6,7 +6,7 @@ ghost use Rattle.aud_node.specs.TurnRecords.{pid_of};
 
 use aud_tap::{NodeRec, StreamRec};
 
-/// The entry's offset, lent.
+/// The entry's offset, borrowed.
 pub fn offset(entry: &StreamRec) -> &str
     ensures { result.now ≡ offset_of entry.now }
 {
@@ -16,7 +16,7 @@ pub fn offset(entry: &StreamRec) -> &str
     }
 }
 
-/// The pid that the record names, lent.
+/// The pid that the record names, borrowed.
 pub fn pid(rec: &NodeRec) -> Option<&str>
     ensures { option_copied result ≡ pid_of rec.now }
 {

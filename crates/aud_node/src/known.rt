@@ -19,14 +19,14 @@ use std::hash::RandomState;
 pub struct KnownEvent<'a> {
     /// How many entries stand before it in the stream where it was found.
     pub before: usize,
-    /// The event, lent from the stream's tap. It has no attachments.
+    /// The event, borrowed from the stream's tap. It has no attachments.
     pub event: &'a Event,
     pub ghost sent_alone: { is_sent_alone event.now ≡ true },
 }
 
-/// Of a text, the first entry that is such an event and has this text; entries count from 0. A text is kept only where the
-/// offset that its ending spells wouldn't find that entry: where it has escapes, or two entries have the same offset. So of
-/// most streams none are kept.
+/// Of a text, the first entry that is such an event and has this text; entries count from 0. A text is kept only where
+/// the offset that its ending spells wouldn't find that entry: where it has escapes, or two entries have the same
+/// offset. So of most streams none are kept.
 #[derive(Drop)]
 pub struct KnownTexts<'a> {
     entries: HashMap<&'a str, usize, RandomState>,
@@ -82,7 +82,9 @@ impl<'a> KnownTexts<'a> {
         index: usize,
     ) -> Result<(), AllocError>
         requires { recoverable ≡ is_recoverable entry.now }
-        ensures { OnOk result ((text : Text) → kept_entry self.new text ≡ (if is_sent_as text entry.now then Some index else kept_entry self.old text)) }
+        ensures { OnOk result ((text : Text)
+            → kept_entry self.new text ≡ (if is_sent_as text entry.now then Some index
+            else kept_entry self.old text)) }
     {
         let StreamRec::Ev(event) = entry else {
             return Ok(());
@@ -115,8 +117,8 @@ fn spells_its_offset(entry: &StreamRec) -> bool
     ending(event.text.as_str()) == Some(event.off.as_str())
 }
 
-/// What stands between the last two quotes of a text that ends in a quote and a bracket, escapes and all. Of an event that
-/// is sent again this is its offset, where that needs no escapes.
+/// What stands between the last two quotes of a text that ends in a quote and a bracket, escapes and all. Of an event
+/// that is sent again this is its offset, where that needs no escapes.
 pub fn ending(text: &str) -> Option<&str>
     ensures { option_copied result ≡ ending text.now }
 {

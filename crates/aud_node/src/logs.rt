@@ -17,8 +17,8 @@ use std::alloc::{AllocError, Global};
 use std::hash::RandomState;
 use std::marker::Model;
 
-/// The taps, lent, with what was made once of the stream and of the nodes: seen as the cluster. A tap is named by its
-/// place, which counts from 0 in the order of the headers.
+/// The taps, borrowed, with what was made once of the stream and of the nodes: seen as the cluster. A tap is named by
+/// its place, which counts from 0 in the order of the headers.
 #[derive(Drop)]
 pub struct Logs<'a> {
     keys: RandomState,
@@ -69,14 +69,14 @@ impl<'a> Logs<'a> {
         self.keys
     }
 
-    /// The stream's entries, lent.
+    /// The stream's entries, borrowed.
     pub fn stream(&self) -> &Stream<'a>
         ensures { result.now ≡ self.now.stream }
     {
         &self.stream
     }
 
-    /// The taps in the order of their headers, lent.
+    /// The taps in the order of their headers, borrowed.
     pub fn taps(&self) -> &'a [Tap]
         ensures { result.now ≡ self.now.taps }
     {
@@ -121,8 +121,8 @@ impl<'a> Logs<'a> {
         self.own.len()
     }
 
-    /// The pid of the session with this number, lent. These sessions count from 0 in the order in which records first name
-    /// them: in the nodes' taps, in the order of their headers, and then of their records.
+    /// The pid of the session with this number, borrowed. These sessions count from 0 in the order in which records
+    /// first name them: in the nodes' taps, in the order of their headers, and then of their records.
     pub fn named_pid(&self, number: usize) -> &str
         requires { number < length (named_pids self.now.taps) }
         ensures { slice_get (named_pids self.now.taps) number ≡ Some result.now }
@@ -130,7 +130,7 @@ impl<'a> Logs<'a> {
         self.own.text(number)
     }
 
-    /// The records of the client's tap at this place, lent; none where that tap is no client's.
+    /// The records of the client's tap at this place, borrowed; none where that tap is no client's.
     pub fn client(&self, place: usize) -> Option<&'a [ClientRec]>
         ensures { option_map (λ recs. recs.now) result ≡ client_at self.now place }
     {

@@ -22,7 +22,7 @@ use std::hash::RandomState;
 use std::marker::Model;
 use std::ops::Range;
 
-/// The records of a node's tap, lent, with the stream that the node takes from.
+/// The records of a node's tap, borrowed, with the stream that the node takes from.
 #[derive(Drop)]
 pub struct NodeLog<'a> {
     stream: Rest<'a, StreamRec>,
@@ -102,9 +102,12 @@ impl<'a> NodeLog<'a> {
 
     /// The numbers of the records of that turn, which count from 0.
     pub fn turn_range(&self, pid: &str, turn: u16) -> Option<Range<usize>>
-        ensures value { option_map (λ range. (range.start, range.end)) result ≡ turn_range self.now.recs pid.now turn }
-        ensures records { option_map (λ range. between self.now.recs range.start range.end) result ≡ turn_records self.now.recs pid.now turn }
-        ensures within { IfSome result (λ range. (range.start < range.end) × (range.end ≤ length self.now.recs)) }
+        ensures value { option_map (λ range. (range.start, range.end)) result
+            ≡ turn_range self.now.recs pid.now turn }
+        ensures records { option_map (λ range. between self.now.recs range.start range.end) result
+            ≡ turn_records self.now.recs pid.now turn }
+        ensures within { IfSome result (λ range. (range.start < range.end)
+            × (range.end ≤ length self.now.recs)) }
     {
         match self.turns.get(pid, turn) {
             Some(span) => Some(span.from..span.to),
@@ -112,7 +115,7 @@ impl<'a> NodeLog<'a> {
         }
     }
 
-    /// The records by the pids that they name, lent.
+    /// The records by the pids that they name, borrowed.
     pub(crate) fn pids(&self) -> &Places
         ensures { texts_of result.now ≡ with_texts [] (filter_map pid_of self.now.recs) }
     {

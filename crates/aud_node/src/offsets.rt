@@ -54,9 +54,12 @@ impl<'a> Offsets<'a> {
 
     /// The offset stands at this position, wherever it stood before.
     fn mark(&mut self, off: &'a str, position: u64) -> Result<(), AllocError>
-        ensures positions { OnOk result ((q : Text) → kept_position self.new q ≡ (if bytes_eq off.now q then Some position else kept_position self.old q)) }
+        ensures positions { OnOk result ((q : Text)
+            → kept_position self.new q ≡ (if bytes_eq off.now q then Some position
+            else kept_position self.old q)) }
         ensures was_distinct { OnOk result (self.new.distinct ≡ true → self.old.distinct ≡ true) }
-        ensures was_new { OnOk result (self.new.distinct ≡ true → kept_position self.old off.now ≡ None) }
+        ensures was_new { OnOk result (self.new.distinct ≡ true
+            → kept_position self.old off.now ≡ None) }
     {
         let old = self.positions.insert(off, position)?;
         if old.is_some() {

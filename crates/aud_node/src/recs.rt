@@ -6,7 +6,7 @@ ghost use Rattle.aud_base.specs.Lists.{between};
 use aud_tap::{NodeRec, NodeRecs};
 use std::marker::Model;
 
-/// Consecutive records of a node's log, lent; seen as their list.
+/// Consecutive records of a node's log, borrowed; seen as their list.
 #[derive(Drop)]
 pub struct Recs<'a> {
     recs: &'a NodeRecs,
@@ -50,7 +50,7 @@ impl<'a> Recs<'a> {
         self.from == self.to
     }
 
-    /// The record with this number, which counts from 0; lent for as long as the log.
+    /// The record with this number, which counts from 0; borrowed for as long as the log.
     pub fn get(&self, number: usize) -> Option<&'a NodeRec>
         ensures { option_copied result ≡ slice_get self.now number }
     {

@@ -5,7 +5,7 @@ ghost use Rattle.std.specs.Option.{option_copied};
 use aud_base::Paged;
 use std::marker::Model;
 
-/// The elements of a long list from one of them on, lent; seen as their list.
+/// The elements of a long list from one of them on, borrowed; seen as their list.
 #[derive(Drop)]
 pub struct Rest<'a, T> {
     /// None where there are no elements.
@@ -62,7 +62,7 @@ impl<'a, T> Rest<'a, T> {
         self.from == self.to
     }
 
-    /// The element with this number, which counts from 0; lent for as long as the list.
+    /// The element with this number, which counts from 0; borrowed for as long as the list.
     pub fn at(&self, number: usize) -> &'a T
         requires { number < length self.now }
         ensures value { slice_get self.now number ≡ Some result.now }

@@ -42,7 +42,10 @@ impl SessionTurns {
     /// The turn begins with the record of this number; it ends with the log, of `len` records, where no later record
     /// ends it.
     pub fn begin(&mut self, len: usize, turn: u16, number: usize) -> Result<(), AllocError>
-        ensures spans { OnOk result ((k : ℕ) → span_in self.new k ≡ (if nat_eq turn k then Some (record { from = number; to = unwrap_or self.old.end len }) else span_in self.old k)) }
+        ensures spans { OnOk result ((k : ℕ)
+            → span_in self.new k ≡ (if nat_eq turn k
+            then Some (record { from = number; to = unwrap_or self.old.end len })
+            else span_in self.old k)) }
         ensures end { OnOk result (self.new.end ≡ Some number) }
     {
         let to = self.end.unwrap_or(len);
@@ -61,7 +64,8 @@ impl SessionTurns {
 
     /// The turn with this number is these records, whichever it was before.
     fn keep(&mut self, turn: u16, span: TurnRange) -> Result<(), AllocError>
-        ensures spans { OnOk result ((k : ℕ) → span_in self.new k ≡ (if nat_eq turn k then Some span else span_in self.old k)) }
+        ensures spans { OnOk result ((k : ℕ)
+            → span_in self.new k ≡ (if nat_eq turn k then Some span else span_in self.old k)) }
         ensures end { self.new.end ≡ self.old.end }
     {
         match self.first {

@@ -20,7 +20,7 @@ use std::alloc::{AllocError, Global};
 use std::hash::RandomState;
 use std::marker::Model;
 
-/// The stream's entries, lent; seen as their list. Positions count from 1.
+/// The stream's entries, borrowed; seen as their list. Positions count from 1.
 #[derive(Drop)]
 pub struct Stream<'a> {
     entries: Rest<'a, StreamRec>,
@@ -64,7 +64,7 @@ impl<'a> Stream<'a> {
         })
     }
 
-    /// The entries, lent for as long as the taps.
+    /// The entries, borrowed for as long as the taps.
     pub fn entries(&self) -> Rest<'a, StreamRec>
         ensures { result ≡ self.now }
     {
@@ -105,7 +105,8 @@ impl<'a> Stream<'a> {
     /// there is no such event. The text isn't decoded.
     pub fn known(&self, text: &str) -> Option<KnownEvent<'a>>
         ensures first { option_map (λ known. known.before) result ≡ known_entry self.now text.now }
-        ensures entry { IfSome result (λ known. slice_get self.now known.before ≡ Some (Ev known.event.now)) }
+        ensures entry { IfSome result (λ known. slice_get self.now known.before
+            ≡ Some (Ev known.event.now)) }
         ensures text { IfSome result (λ known. known.event.now.text ≡ text.now) }
     {
         let before = self.known_before(text)?;
@@ -115,8 +116,8 @@ impl<'a> Stream<'a> {
         }
     }
 
-    /// How many entries stand before that event. Mostly it is found by the offset in which the text ends; else the whole
-    /// text is looked up.
+    /// How many entries stand before that event. Mostly it is found by the offset in which the text ends; else the
+    /// whole text is looked up.
     fn known_before(&self, text: &str) -> Option<usize>
         ensures { result ≡ known_entry self.now text.now }
     {
@@ -126,8 +127,8 @@ impl<'a> Stream<'a> {
         }
     }
 
-    /// The same by the first entry that has the text's ending as its offset; none where that isn't such an event of this
-    /// text.
+    /// The same by the first entry that has the text's ending as its offset; none where that isn't such an event of
+    /// this text.
     fn found_by_offset(&self, text: &str) -> Option<usize>
         ensures { result ≡ found_by_offset self.now text.now }
     {

@@ -57,8 +57,13 @@ impl<'a> Turns<'a> {
     /// One record more, which stands before those seen so far of a log with `len` records.
     fn put(&mut self, len: usize, number: usize, rec: &'a NodeRec) -> Result<(), AllocError>
         requires { number < len }
-        ensures spans { OnOk result ((q : Text) (k : ℕ) → kept_range self.new q k ≡ (if begins_turn q k rec.now then Some (record { from = number; to = kept_end self.old q len }) else kept_range self.old q k)) }
-        ensures ends { OnOk result ((q : Text) → kept_end self.new q len ≡ (if begins_any_turn q rec.now then number else if ends_any_turn q rec.now then number + 1 else kept_end self.old q len)) }
+        ensures spans { OnOk result ((q : Text) (k : ℕ)
+            → kept_range self.new q k ≡ (if begins_turn q k rec.now
+            then Some (record { from = number; to = kept_end self.old q len })
+            else kept_range self.old q k)) }
+        ensures ends { OnOk result ((q : Text)
+            → kept_end self.new q len ≡ (if begins_any_turn q rec.now then number
+            else if ends_any_turn q rec.now then number + 1 else kept_end self.old q len)) }
     {
         match rec {
             NodeRec::Opened { pid, .. } => self.begin(len, pid.as_str(), 0, number),
@@ -78,8 +83,13 @@ impl<'a> Turns<'a> {
         turn: u16,
         number: usize,
     ) -> Result<(), AllocError>
-        ensures spans { OnOk result ((q : Text) (k : ℕ) → kept_range self.new q k ≡ (if bytes_eq pid.now q && nat_eq turn k then Some (record { from = number; to = kept_end self.old pid.now len }) else kept_range self.old q k)) }
-        ensures ends { OnOk result ((q : Text) → kept_end self.new q len ≡ (if bytes_eq pid.now q then number else kept_end self.old q len)) }
+        ensures spans { OnOk result ((q : Text) (k : ℕ)
+            → kept_range self.new q k ≡ (if bytes_eq pid.now q && nat_eq turn k
+            then Some (record { from = number; to = kept_end self.old pid.now len })
+            else kept_range self.old q k)) }
+        ensures ends { OnOk result ((q : Text)
+            → kept_end self.new q len ≡ (if bytes_eq pid.now q then number
+            else kept_end self.old q len)) }
     {
         let session = self
             .sessions
@@ -91,8 +101,11 @@ impl<'a> Turns<'a> {
 
     /// A turn of the pid that is going on ends before the record with this number.
     fn end(&mut self, pid: &'a str, number: usize) -> Result<(), AllocError>
-        ensures spans { OnOk result ((q : Text) (k : ℕ) → kept_range self.new q k ≡ kept_range self.old q k) }
-        ensures ends { OnOk result ((q : Text) (len : ℕ) → kept_end self.new q len ≡ (if bytes_eq pid.now q then number else kept_end self.old q len)) }
+        ensures spans { OnOk result ((q : Text) (k : ℕ)
+            → kept_range self.new q k ≡ kept_range self.old q k) }
+        ensures ends { OnOk result ((q : Text) (len : ℕ)
+            → kept_end self.new q len ≡ (if bytes_eq pid.now q then number
+            else kept_end self.old q len)) }
     {
         let session = self
             .sessions

@@ -1,4 +1,5 @@
--- What contracts of private functions alone cite: what the code keeps, and its steps. No public clause rests on these words.
+-- What contracts of private functions alone cite: what the code keeps, and its steps. No public clause rests on these
+-- words.
 pub mod Found
 pub mod BySpans
 pub mod Holding

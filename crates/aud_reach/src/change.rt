@@ -21,8 +21,8 @@ pub struct RoomChange {
 }
 
 /// The last record of these turns, before the reach, by which the session with this pid joined or left the room. None
-/// where there is none: the session's own room, its sid, is held from the `open` on without a `join`. Only the session's
-/// own records are looked at.
+/// where there is none: the session's own room, its sid, is held from the `open` on without a `join`. Only the
+/// session's own records are looked at.
 pub fn last_change_of(
     logs: &Logs<'_>,
     pid: &str,
@@ -30,7 +30,8 @@ pub fn last_change_of(
     reach: Reach,
     room: &str,
 ) -> Option<RoomChange>
-    ensures { result ≡ last_change_before logs.now pid.now room.now (map (turn_at logs.now) turns.now) reach }
+    ensures { result ≡ last_change_before logs.now pid.now room.now
+        (map (turn_at logs.now) turns.now) reach }
 {
     let Some(turn) = turns.get(reach.turn) else {
         return None;
@@ -48,7 +49,8 @@ fn last_change_over(
     room: &str,
     turns: &[Turn<'_>],
 ) -> Option<RoomChange>
-    ensures { result ≡ last_change_over logs.now pid.now room.now (map (turn_at logs.now) turns.now) }
+    ensures { result ≡ last_change_over logs.now pid.now room.now
+        (map (turn_at logs.now) turns.now) }
 {
     let mut last = None;
     for turn in turns {

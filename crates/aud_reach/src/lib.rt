@@ -1,7 +1,7 @@
 //! Where a session first reached a position of the stream, which rooms it held there, and why the entry was due or not.
 //!
-//! With the `recording` of a session `P` that joined room `r` by record 4 of node `a`, at place 1, after the node had taken
-//! entry 2 by record 3, which is for `r`, and before it took entry 5 by record 9, which excepts `r`:
+//! With the `recording` of a session `P` that joined room `r` by record 4 of node `a`, at place 1, after the node had
+//! taken entry 2 by record 3, which is for `r`, and before it took entry 5 by record 9, which excepts `r`:
 //!
 //! ```
 //! use aud_reach::{NotDue, Reach, RoomChange, first_reach, last_change_of, rooms_held, why_not_due};

@@ -42,9 +42,11 @@ pub enum NotDue<'a> {
 /// none where it was due. It costs the session's turns, and the rooms of the entry times the session's spans.
 pub fn why_not_due<'a>(logs: &Logs<'a>, cert: &Certificate<'_>, position: u64) -> Option<NotDue<'a>>
     requires { IsMade logs.now cert.now.pid cert.now }
-    ensures why { (made : IsMade logs.now cert.now.pid cert.now) → option_map reason_of result ≡ why_not_due logs.now made.who made.turns position }
+    ensures why { (made : IsMade logs.now cert.now.pid cert.now)
+        → option_map reason_of result ≡ why_not_due logs.now made.who made.turns position }
     ensures due { (made : IsMade logs.now cert.now.pid cert.now)
-        → is_none result ≡ is_turn_due logs.now.stream made.who (map (slice_of logs.now) made.turns) position }
+        → is_none result
+        ≡ is_turn_due logs.now.stream made.who (map (slice_of logs.now) made.turns) position }
 {
     let turns = cert.turns.as_slice();
     let Some(opened) = opened_in(turns) else {
@@ -67,7 +69,8 @@ fn why_by_spans<'a>(
     high: u64,
     position: u64,
 ) -> Option<NotDue<'a>>
-    ensures { option_map reason_of result ≡ why_by_spans logs.now.stream spans.now opened.now.nsp.now opened.now.low high position }
+    ensures { option_map reason_of result
+        ≡ why_by_spans logs.now.stream spans.now opened.now.nsp.now opened.now.low high position }
 {
     if position <= opened.low {
         return Some(NotDue::BeforeBirth);
@@ -95,7 +98,8 @@ fn why_not_for<'a>(
     position: u64,
 ) -> Option<NotDue<'a>>
     requires { recoverable ≡ is_some_recoverable (option_copied entry) }
-    ensures { option_map reason_of result ≡ why_not_for (option_copied entry.entry) nsp.now (rooms_by_spans spans.now position) }
+    ensures { option_map reason_of result
+        ≡ why_not_for (option_copied entry.entry) nsp.now (rooms_by_spans spans.now position) }
 {
     match entry {
         Some(StreamRec::Ev(event)) => why_no_event_for(event, recoverable, nsp, spans, position),
@@ -112,7 +116,8 @@ fn why_no_event_for<'a>(
     position: u64,
 ) -> Option<NotDue<'a>>
     requires { recoverable ≡ is_recoverable (Ev event.now) }
-    ensures { option_map reason_of result ≡ why_no_event_for event.now nsp.now (rooms_by_spans spans.now position) }
+    ensures { option_map reason_of result
+        ≡ why_no_event_for event.now nsp.now (rooms_by_spans spans.now position) }
 {
     if event.nsp.as_str() != nsp {
         return Some(NotDue::OtherNamespace);
@@ -131,7 +136,8 @@ fn why_no_event_for<'a>(
 
 /// Whether the event is for the whole namespace, or for a room that is held at the position.
 fn names_held(event: &Event, spans: &[Span<'_>], position: u64) -> bool
-    ensures { result ≡ (is_empty event.now.rooms || list_any (set.contains (rooms_by_spans spans.now position)) event.now.rooms) }
+    ensures { result ≡ (is_empty event.now.rooms
+        || list_any (set.contains (rooms_by_spans spans.now position)) event.now.rooms) }
 {
     let rooms = event.rooms.as_slice();
     rooms.is_empty() || first_held(rooms, spans, position).is_some()
@@ -139,7 +145,8 @@ fn names_held(event: &Event, spans: &[Span<'_>], position: u64) -> bool
 
 /// The first of the rooms that is held at the position.
 fn first_held<'a>(rooms: &'a [Text], spans: &[Span<'_>], position: u64) -> Option<&'a str>
-    ensures { option_map (λ room. room.now) result ≡ find (set.contains (rooms_by_spans spans.now position)) rooms.now }
+    ensures { option_map (λ room. room.now) result
+        ≡ find (set.contains (rooms_by_spans spans.now position)) rooms.now }
 {
     for room in rooms {
         if is_held(spans, position, room.as_str()) {

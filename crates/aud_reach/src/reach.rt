@@ -23,11 +23,14 @@ pub struct Reach {
 }
 
 /// Where the session of these turns first reached the position, which counts from 1: in the first turn whose node had
-/// taken it by the turn's end, the record by which the node did, or the turn's `open` or `back` where the node had taken
-/// it by then. None where the session reached it in no turn. It costs the turns, and one search in a node's cursors.
+/// taken it by the turn's end, the record by which the node did, or the turn's `open` or `back` where the node had
+/// taken it by then. None where the session reached it in no turn. It costs the turns, and one search in a node's
+/// cursors.
 pub fn first_reach(logs: &Logs<'_>, turns: &[Turn<'_>], position: u64) -> Option<Reach>
-    ensures step { option_map step_of result ≡ reaching_step logs.now (map (turn_at logs.now) turns.now) position }
-    ensures turn { IfSome result (λ reach. first_turn_reaching logs.now (map (turn_at logs.now) turns.now) position ≡ Some reach.turn) }
+    ensures step { option_map step_of result
+        ≡ reaching_step logs.now (map (turn_at logs.now) turns.now) position }
+    ensures turn { IfSome result (λ reach. first_turn_reaching logs.now
+        (map (turn_at logs.now) turns.now) position ≡ Some reach.turn) }
 {
     reach_from(logs, turns, position)
 }

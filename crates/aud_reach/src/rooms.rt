@@ -14,21 +14,24 @@ use aud_cert::Certificate;
 use aud_rooms::Span;
 use std::alloc::{AllocError, Global};
 
-/// The rooms that the session of the certificate held at the record by which it first reached the position, which counts
-/// from 1, by the bytes of their names; lent by the certificate. None at a position that isn't after the session's birth,
-/// or that it reached in no turn. It costs the certificate's spans.
+/// The rooms that the session of the certificate held at the record by which it first reached the position, which
+/// counts from 1, by the bytes of their names; borrowed from the certificate. None at a position that isn't after the
+/// session's birth, or that it reached in no turn. It costs the certificate's spans.
 pub fn rooms_held<'c>(
     alloc: Global,
     cert: &'c Certificate<'_>,
     position: u64,
 ) -> Result<Vec<&'c str>, AllocError>
     // One for each span that holds the position, in the order of the spans.
-    ensures spans { IfOk result (λ rooms. map (λ room. room.now) rooms.items ≡ map (λ (s : RoomSpan). s.room) (filter (is_within position) cert.now.spans)) }
+    ensures spans { IfOk result (λ rooms. map (λ room. room.now) rooms.items
+        ≡ map (λ (s : RoomSpan). s.room) (filter (is_within position) cert.now.spans)) }
 
     // They are those that the turns give the position.
     ensures held { IfOk result (λ rooms. (c : Cluster) (made : IsMade c cert.now.pid cert.now)
-        → first_low (map (slice_of c) made.turns) < position → position ≤ greatest_high (map (slice_of c) made.turns)
-        → rooms_of_turns c made.who made.turns position ≡ Some (set.from_list (map (λ room. room.now) rooms.items))) }
+        → first_low (map (slice_of c) made.turns) < position
+        → position ≤ greatest_high (map (slice_of c) made.turns)
+        → rooms_of_turns c made.who made.turns position
+        ≡ Some (set.from_list (map (λ room. room.now) rooms.items))) }
 {
     let mut rooms = Vec::new(alloc);
     for span in cert.spans.as_slice() {

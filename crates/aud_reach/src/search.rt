@@ -10,7 +10,8 @@ use aud_rooms::TurnPlace;
 /// Of the turn's records, the number of the first after which the node's cursor is at least at the position. The
 /// cursors rise, so half of the records that are left are passed with each look.
 pub(crate) fn first_reaching(logs: &Logs<'_>, turn: TurnPlace, position: u64) -> Option<usize>
-    ensures { result ≡ first_reaching logs.now.stream (node_log logs.now turn.node) position turn.from (turn.to - turn.from) }
+    ensures { result ≡ first_reaching logs.now.stream
+        (node_log logs.now turn.node) position turn.from (turn.to - turn.from) }
 {
     let mut low = turn.from;
     let mut high = turn.to;

@@ -170,7 +170,8 @@ go_on-taps ts i t t' name word d r place at e same version is =
     (becomes-then r t'.records (set ts i t') (with_tap_record t.version (pids_of ts) t.records word d) (λ more. Ok (with_records name more ts))
     (ap Ok ((at-place name t'.records ts i t place at).2 ∙ ap (set ts i) renamed)) is)
 
--- where a tap of the same name, version and kind stands in another's place, the reader's places, pids and counts stay those of the taps
+-- where a tap of the same name, version and kind stands in another's place, the reader's places, pids and counts stay
+-- those of the taps
 pub changed-keeps : (s s' : OpenTaps) (i : ℕ) (t t' : Tap) (r : Result (Unit {0}) LineFault) → taps_so_far s' ≡ set (taps_so_far s) i t' → s'.places ≡ s.places → s'.counts ≡ s.counts
     → KeepsTaps s → (short : i < length (taps_so_far s)) → (at : get_or (taps_so_far s) i t ≡ t) → t'.name ≡ t.name → OnOk r (kind_of_tap t'.records ≡ kind_of_tap t.records)
     → OnOk r (HasPids s'.pids ((around (taps_so_far s) i t short at).before ++ pids_in t'.records ++ (around (taps_so_far s) i t short at).after))

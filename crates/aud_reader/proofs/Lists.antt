@@ -1,7 +1,7 @@
 -- Lists of fields, as far as they are read.
 use Rattle.std.proofs.Common.{◌≡◌, ℕ, suc, ◌+◌, ◌<◌, List, [], ◌∷◌, ◌++◌, length, drop, get_or, Option, Some, None, Ok, Err, option_map, refl, ap, append_assoc, drop-cons, add-one, Bor}
 use Rattle.serde_json.specs.Data.{Data}
-use Rattle.aud_fields.specs.View.{text_view, list_view}
+use Rattle.aud_json.specs.View.{text_view, list_view}
 use Rattle.aud_reader.specs.declared.fault.InputCode.{InputCode}
 use Rattle.aud_reader.specs.declared.fault.InputCode.TheVariants.{Field}
 use Rattle.aud_reader.specs.declared.fault.LineFault.{LineFault}

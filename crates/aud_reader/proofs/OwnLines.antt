@@ -22,7 +22,7 @@ use Rattle.aud_tap.specs.Forms.{is_text}
 use Rattle.aud_reader.specs.Bundle.{tap_named, kind_of_tap, with_records, no_records, taps_from, taps_of}
 use Rattle.aud_reader.specs.OwnLines.{record_for, records_for, recs_in, recs_of, recs_by_name, HaveTheirOwnLines, IsOfOneTap, EachLineIsOfOneTap}
 use Rattle.aud_reader.specs.TapLaws.{AreDifferent}
-use Rattle.aud_reader.specs.Private.Sound.{names_of}
+use Rattle.aud_reader.specs.Sound.{names_of}
 use Rattle.aud_reader.proofs.LineSteps.{Begins, Adds, first_of_lines}
 
 -- what a line adds to the records of the tap of this name

@@ -5,8 +5,8 @@ use Rattle.std.specs.declared.string.String.{String}
 use Rattle.serde_json.specs.Data.{Data, Items, no_items, item}
 use Rattle.serde_json.specs.Find.{get, as_str, as_number, as_u64, as_array}
 use Rattle.aud_base.specs.Steps.{◌>>=◌, need}
-use Rattle.aud_fields.specs.Shown.{shown_item, shown_items, shown_field, shown}
-use Rattle.aud_fields.proofs.Shown.{get-shown, at-shown, as_str-shown_field, as_str-shown_item, as_null-shown_field, as_number-shown_field, as_array-shown_field}
+use Rattle.aud_json.specs.Shown.{shown_item, shown_items, shown_field, shown}
+use Rattle.aud_json.proofs.Shown.{get-shown, at-shown, as_str-shown_field, as_str-shown_item, as_null-shown_field, as_number-shown_field, as_array-shown_field}
 use Rattle.aud_tap.specs.declared.records.TapKind.{TapKind}
 use Rattle.aud_tap.specs.declared.records.TapKind.TheVariants as tap
 use Rattle.aud_tap.specs.declared.records.Version.{Version}

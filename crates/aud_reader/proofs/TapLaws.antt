@@ -29,7 +29,7 @@ use Rattle.aud_tap.specs.RecordFields.{offset_of}
 use Rattle.aud_base.specs.Steps.{guard}
 use Rattle.aud_reader.specs.Bundle.{max_entries, with_entry, with_tap_record, tap_named, kind_of_tap, same_kind, taps_on, no_records, another_tap, with_line, taps_from}
 use Rattle.aud_reader.specs.TapLaws.{AreDifferent, offsets_in}
-use Rattle.aud_reader.specs.Private.Sound.{names_of, AreSoundTaps}
+use Rattle.aud_reader.specs.Sound.{names_of, AreSoundTaps}
 use Rattle.aud_reader.proofs.KeptLemmas.{replaced, taps_on-set}
 use Rattle.aud_reader.proofs.LineSteps.{guarded, put_entry, one_more, first_of_lines, Begins, Adds, line_step}
 

@@ -1,4 +1,5 @@
--- The taps of the lines, as section "Taps" of docs/FORMAT.md has them. Each line is judged by the taps of the lines before it.
+-- The taps of the lines, as section "Taps" of docs/FORMAT.md has them. Each line is judged by the taps of the lines
+-- before it.
 use Rattle.std.specs.Prelude.{ℕ, nat_lt, nat_le, List, [], ◌∷◌, ◌++◌, length, map, find, count_by, codes, Bool, true, false, not, Option, Some, None, option_to_list, Result, Ok, Err, if◌then◌else◌}
 use Rattle.std.specs.List.{filter_map, flat_map, list_any}
 use Rattle.std.specs.Set.{distinct_count}

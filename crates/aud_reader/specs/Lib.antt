@@ -16,4 +16,6 @@ pub mod Bundle
 pub mod TapLaws
 pub mod OwnLines
 pub mod SoFar
+pub mod Sound
+pub mod Codes
 pub mod Private

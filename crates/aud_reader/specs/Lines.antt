@@ -52,7 +52,8 @@ lines_from n (l ∷ ls) = line_then (line_at n l) (lines_from (n + 1) ls)
 abbrev pub lines_of : List ℕ → Lines
 lines_of text = lines_from 1 (line_pieces text)
 
--- a splitter: the whole lines that weren't handed out, the number of the line that has begun, what came of it, and the refusal
+-- a splitter: the whole lines that weren't handed out, the number of the line that has begun, what came of it, and the
+-- refusal
 pub record Split : Type 0 where
   pub waiting : List Line
   pub number : ℕ

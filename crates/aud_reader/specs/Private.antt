@@ -1,9 +1,9 @@
--- What contracts of private functions alone cite: what the code keeps, and its steps. No public clause rests on these words.
+-- What contracts of private functions alone cite: what the code keeps, and its steps. No public clause rests on these
+-- words.
 pub mod Connected
 pub mod SplitterSteps
 pub mod Changes
 pub mod Texts
 pub mod Kept
-pub mod Sound
 pub mod NewRecord
 pub mod OwnRecords

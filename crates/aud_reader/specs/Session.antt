@@ -61,8 +61,8 @@ abbrev pub TakenAndLastAreLines : Type 0
 TakenAndLastAreLines = (calls : List SplitterCall) (last : Split) (ls : List Line) → SplitterCallsFollow new_splitter calls last → Finishes last (Ok ls)
     → lines_of (fed calls) ≡ record { lines = taken calls ++ ls; fault = None }
 
--- where a line is refused, the lines taken, and then those that wait, are the lines before it; the refusal, which `feed`
--- and `finish` give, is that of the joined pieces, and of all that may follow them
+-- where a line is refused, the lines taken, and then those that wait, are the lines before it; the refusal, which
+-- `feed` and `finish` give, is that of the joined pieces, and of all that may follow them
 abbrev pub TakenAreLinesBefore : Type 0
 TakenAreLinesBefore = (calls : List SplitterCall) (last : Split) (fault : ReadFault) → SplitterCallsFollow new_splitter calls last → last.fault ≡ Some fault → ¬ (fault ≡ Memory)
     → (more : List ℕ) → lines_of (fed calls ++ more) ≡ record { lines = taken calls ++ last.waiting; fault = Some fault }

@@ -6,7 +6,7 @@ use Rattle.aud_reader.specs.declared.fault.LineFault.TheVariants as line
 use Rattle.aud_reader.specs.declared.fault.ReadFault.{ReadFault}
 use Rattle.aud_reader.specs.declared.fault.ReadFault.TheVariants as read
 
--- the reading is refused for this reason; want of memory says nothing of it
+-- the reading is refused for this reason; running out of memory says nothing of it
 abbrev pub Fails : {X : Type 0} → LineFault → Result X InputCode → Type 0
 Fails line.Memory reading = Unit {0}
 Fails (line.Code code) reading = reading ≡ Err code
@@ -16,7 +16,7 @@ abbrev pub Gives : {X : Type 0} → Result X LineFault → Result X InputCode �
 Gives (Ok x) reading = reading ≡ Ok x
 Gives (Err e) reading = Fails e reading
 
--- the reading of the line of this number is refused so; want of memory says nothing of it
+-- the reading of the line of this number is refused so; running out of memory says nothing of it
 abbrev pub IsRefusal : {X : Type 0} → ℕ → ReadFault → Result X InputCode → Type 0
 IsRefusal number read.Memory reading = Unit {0}
 IsRefusal number (read.Input n code) reading = (n ≡ number) × (reading ≡ Err code)

@@ -1,4 +1,5 @@
--- What the taps of a bundle keep to, as section "Taps" of docs/FORMAT.md has it: one stream at most, and offsets that no two entries share.
+-- What the taps of a bundle keep to, as section "Taps" of docs/FORMAT.md has it: one stream at most, and offsets that
+-- no two entries share.
 use Rattle.std.specs.Prelude.{◌≢◌, ℕ, ◌≤◌, List, [], map}
 use Rattle.std.specs.List.{All, AllPairs}
 use Rattle.aud_tap.specs.declared.records.TapKind.TheVariants as kind

@@ -22,7 +22,7 @@ ghost use Rattle.aud_reader.specs.Private.OwnRecords.{AreOfLines, IsOfLine};
 use crate::fault::{LineFault, ReadFault, refuse};
 use crate::line::Line;
 use aud_base::TextPool;
-use aud_fields::Scratch;
+use aud_json::Scratch;
 use aud_tap::{Rec, Taps};
 use open_taps::OpenTaps;
 use own_records::{OwnRecord, own_records_of, parts_of};
@@ -31,11 +31,11 @@ use std::hash::RandomState;
 use std::marker::Model;
 use std::thread::Threads;
 
-/// Reads the taps of the lines that it is given, one line at a time, and copies what it keeps. A text that stands in many
-/// records is shared by them, through a pool that is let go with the reader. A line is read through memory that is kept
-/// from line to line, and that grows to the longest record.
+/// Reads the taps of the lines that it is given, one line at a time, and copies what it keeps. A text that stands in
+/// many records is shared by them, through a pool that is dropped with the reader. A line is read through memory that
+/// is kept from line to line, and that grows to the longest record.
 ///
-/// After a refusal, want of memory too, it gives that refusal from then on.
+/// After a refusal, also when out of memory, it gives that refusal from then on.
 #[derive(Drop)]
 pub struct BundleReader {
     alloc: Global,
@@ -51,7 +51,7 @@ impl Model for BundleReader {
     ghost use Rattle.aud_reader.specs.Bundle.{Reading};
     ghost use Rattle.aud_reader.specs.Private.Kept.{KeepsTaps};
     ghost use Rattle.aud_reader.specs.SoFar.{taps_so_far};
-    ghost use Rattle.aud_reader.specs.Private.Sound.{AreSoundTaps};
+    ghost use Rattle.aud_reader.specs.Sound.{AreSoundTaps};
 
     ghost Value = { Reading };
 
@@ -82,8 +82,10 @@ impl BundleReader {
     /// the reasons that docs/FORMAT.md lists, in the light of the lines before it.
     pub fn line(&mut self, line: &Line) -> Result<(), ReadFault>
         ensures value { result ≡ result_of self.new.fault }
-        ensures taps { (more : List Line) → result ≢ Err ReadFault.Memory → taps_to_come self.new more ≡ taps_to_come self.old (line.now ∷ more) }
-        ensures refused { IfSome self.old.fault (λ fault. (result ≡ Err fault) × (self.new ≡ self.old)) }
+        ensures taps { (more : List Line) → result ≢ Err ReadFault.Memory
+            → taps_to_come self.new more ≡ taps_to_come self.old (line.now ∷ more) }
+        ensures refused { IfSome self.old.fault (λ fault. (result ≡ Err fault)
+            × (self.new ≡ self.old)) }
     {
         if let Some(fault) = self.fault {
             return Err(fault);
@@ -107,8 +109,8 @@ impl BundleReader {
     /// Reads the next lines, up to the first that is refused: what [`line`](BundleReader::line) gives, line after line.
     ///
     /// With 2 threads or more they are parsed in parts, which are shared out among at most so many threads, as
-    /// [`try_map`](aud_parallel::try_map) says; then their records are added in the lines' order. How many threads there are
-    /// changes nothing in what is given. Texts that stand in many records are then shared within a part alone.
+    /// [`try_map`](aud_base::try_map) says; then their records are added in the lines' order. How many threads there
+    /// are changes nothing in what is given. Texts that stand in many records are then shared within a part alone.
     pub fn lines<H: Threads + Sync>(
         &mut self,
         rt: &H,
@@ -116,8 +118,10 @@ impl BundleReader {
         lines: &[Line],
     ) -> Result<(), ReadFault>
         ensures value { result ≡ result_of self.new.fault }
-        ensures taps { (more : List Line) → result ≢ Err ReadFault.Memory → taps_to_come self.new more ≡ taps_to_come self.old (lines.now ++ more) }
-        ensures refused { IfSome self.old.fault (λ fault. (result ≡ Err fault) × (self.new ≡ self.old)) }
+        ensures taps { (more : List Line) → result ≢ Err ReadFault.Memory
+            → taps_to_come self.new more ≡ taps_to_come self.old (lines.now ++ more) }
+        ensures refused { IfSome self.old.fault (λ fault. (result ≡ Err fault)
+            × (self.new ≡ self.old)) }
     {
         if let Some(fault) = self.fault {
             return Err(fault);
@@ -132,7 +136,8 @@ impl BundleReader {
     fn each_line(&mut self, lines: &[Line]) -> Result<(), ReadFault>
         requires { self.old.fault ≡ None }
         ensures value { result ≡ result_of self.new.fault }
-        ensures taps { (more : List Line) → result ≢ Err ReadFault.Memory → taps_to_come self.new more ≡ taps_to_come self.old (lines.now ++ more) }
+        ensures taps { (more : List Line) → result ≢ Err ReadFault.Memory
+            → taps_to_come self.new more ≡ taps_to_come self.old (lines.now ++ more) }
     {
         for line in lines {
             self.line(line)?;
@@ -149,7 +154,8 @@ impl BundleReader {
     ) -> Result<(), ReadFault>
         requires { self.old.fault ≡ None }
         ensures value { result ≡ result_of self.new.fault }
-        ensures taps { (more : List Line) → result ≢ Err ReadFault.Memory → taps_to_come self.new more ≡ taps_to_come self.old (lines.now ++ more) }
+        ensures taps { (more : List Line) → result ≢ Err ReadFault.Memory
+            → taps_to_come self.new more ≡ taps_to_come self.old (lines.now ++ more) }
     {
         let Ok(parts) = parts_of(self.alloc, lines) else {
             return refuse(&mut self.fault, ReadFault::Memory);
@@ -164,9 +170,12 @@ impl BundleReader {
     /// Adds the records of all parts, in their order.
     fn join(&mut self, parts: &[&[Line]], own: Vec<Vec<OwnRecord>>) -> Result<(), ReadFault>
         requires open { self.old.fault ≡ None }
-        requires own { AllZip (λ part records. AreOfLines self.old.taps part.now records.items) parts.now own.items }
+        requires own { AllZip (λ part records.
+            AreOfLines self.old.taps part.now records.items) parts.now own.items }
         ensures value { result ≡ result_of self.new.fault }
-        ensures taps { (more : List Line) → result ≢ Err ReadFault.Memory → taps_to_come self.new more ≡ taps_to_come self.old (flat_map (λ part. part.now) parts.now ++ more) }
+        ensures taps { (more : List Line) → result ≢ Err ReadFault.Memory
+            → taps_to_come self.new more
+            ≡ taps_to_come self.old (flat_map (λ part. part.now) parts.now ++ more) }
     {
         let mut number = 0;
         for records in own {
@@ -181,7 +190,8 @@ impl BundleReader {
         requires open { self.old.fault ≡ None }
         requires own { AreOfLines self.old.taps lines.now own.items }
         ensures value { result ≡ result_of self.new.fault }
-        ensures taps { (more : List Line) → result ≢ Err ReadFault.Memory → taps_to_come self.new more ≡ taps_to_come self.old (lines.now ++ more) }
+        ensures taps { (more : List Line) → result ≢ Err ReadFault.Memory
+            → taps_to_come self.new more ≡ taps_to_come self.old (lines.now ++ more) }
     {
         let mut number = 0;
         for record in own {
@@ -196,7 +206,8 @@ impl BundleReader {
         requires open { self.old.fault ≡ None }
         requires own { IsOfLine self.old.taps line.now own }
         ensures value { result ≡ result_of self.new.fault }
-        ensures taps { (more : List Line) → result ≢ Err ReadFault.Memory → taps_to_come self.new more ≡ taps_to_come self.old (line.now ∷ more) }
+        ensures taps { (more : List Line) → result ≢ Err ReadFault.Memory
+            → taps_to_come self.new more ≡ taps_to_come self.old (line.now ∷ more) }
     {
         match own {
             OwnRecord::Placed { place, rec } => self.add_record(line, place, rec),
@@ -213,7 +224,8 @@ impl BundleReader {
         requires open { self.old.fault ≡ None }
         requires own { IsOfLine self.old.taps line.now (Placed place rec) }
         ensures value { result ≡ result_of self.new.fault }
-        ensures taps { (more : List Line) → result ≢ Err ReadFault.Memory → taps_to_come self.new more ≡ taps_to_come self.old (line.now ∷ more) }
+        ensures taps { (more : List Line) → result ≢ Err ReadFault.Memory
+            → taps_to_come self.new more ≡ taps_to_come self.old (line.now ∷ more) }
     {
         match self.taps.push_record(place, rec) {
             Ok(()) => Ok(()),
@@ -224,15 +236,17 @@ impl BundleReader {
         }
     }
 
-    /// The taps of the lines, in the order of their headers: each name once, one stream at most, in it each offset once,
-    /// and in each tap the records of its own lines. It refuses where a line was refused, and for want of memory.
+    /// The taps of the lines, in the order of their headers: each name once, one stream at most, in it each offset
+    /// once, and in each tap the records of its own lines. It refuses where a line was refused, and when out of memory.
     pub fn finish(self) -> Result<Taps, ReadFault>
         ensures ok { IfOk result (λ taps. taps_to_come self [] ≡ Ok taps) }
         ensures names { IfOk result (λ taps. AreNamedOnce taps) }
         ensures stream { IfOk result (λ taps. HasOneStreamAtMost taps) }
         ensures offsets { IfOk result (λ taps. HasEachOffsetOnce taps) }
-        ensures own_lines { (lines : List Line) → taps_to_come self [] ≡ taps_of lines → IfOk result (λ taps. HaveTheirOwnLines lines taps) }
-        ensures each_line { (lines : List Line) → taps_to_come self [] ≡ taps_of lines → IfOk result (λ taps. EachLineIsOfOneTap lines taps) }
+        ensures own_lines { (lines : List Line) → taps_to_come self [] ≡ taps_of lines
+            → IfOk result (λ taps. HaveTheirOwnLines lines taps) }
+        ensures each_line { (lines : List Line) → taps_to_come self [] ≡ taps_of lines
+            → IfOk result (λ taps. EachLineIsOfOneTap lines taps) }
         ensures err { IfErr result (λ e. e ≢ ReadFault.Memory → self.fault ≡ Some e) }
         ensures refused { IfSome self.fault (λ fault. result ≡ Err fault) }
     {
@@ -246,8 +260,8 @@ impl BundleReader {
 /// The taps of the lines, in the order of their headers; or the first refused line, by its number
 /// and the first of the reasons that docs/FORMAT.md lists.
 ///
-/// Each line is judged by the taps of the lines before it. Lines without bytes are passed over. The lines are lent for
-/// the call alone. Texts are found again by their hashes under these keys.
+/// Each line is judged by the taps of the lines before it. Lines without bytes are passed over. The lines are borrowed
+/// for the call alone. Texts are found again by their hashes under these keys.
 pub fn read_bundle(alloc: Global, keys: RandomState, lines: &[Line]) -> Result<Taps, ReadFault>
     ensures read { IfOk result (λ taps. taps_of lines.now ≡ Ok taps) }
     ensures names { IfOk result (λ taps. AreNamedOnce taps) }

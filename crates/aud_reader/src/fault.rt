@@ -33,6 +33,28 @@ pub enum InputCode {
 }
 
 impl InputCode {
+    ghost use Rattle.std.specs.Prelude.{◌≡◌};
+    ghost use Rattle.aud_reader.specs.Codes.{code_text};
+
+    /// The name of the refusal, as reports give it.
+    pub fn name(self) -> &'static str
+        ensures { result.now ≡ code_text self }
+    {
+        match self {
+            InputCode::LineTooLong => "LineTooLong",
+            InputCode::NoTapName => "NoTapName",
+            InputCode::NotJson => "NotJson",
+            InputCode::NoHeader => "NoHeader",
+            InputCode::UnknownKind => "UnknownKind",
+            InputCode::Field => "Field",
+            InputCode::Limit => "Limit",
+            InputCode::SecondStream => "SecondStream",
+            InputCode::OffsetTwice => "OffsetTwice",
+            InputCode::HeaderTwice => "HeaderTwice",
+            InputCode::Version => "Version",
+        }
+    }
+
     /// What is wrong with the line, in words.
     fn words(self) -> &'static str {
         match self {
@@ -57,7 +79,7 @@ impl fmt::Display for InputCode {
     }
 }
 
-/// The refusal of a line by its number, which counts from 1; or want of memory.
+/// The refusal of a line by its number, which counts from 1; or running out of memory.
 #[derive(Clone, Copy, Debug, PartialEq, Eq, Drop, Error)]
 pub enum ReadFault {
     /// The line with this number is refused, for this reason.
@@ -88,7 +110,7 @@ impl<T: Drop> From<AllocFailed<T>> for ReadFault {
     }
 }
 
-/// The refusal of a line whose number is known higher up; or want of memory.
+/// The refusal of a line whose number is known higher up; or running out of memory.
 #[derive(Clone, Copy, Drop)]
 pub enum LineFault {
     /// The line is refused for this reason.

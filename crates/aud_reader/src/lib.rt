@@ -31,4 +31,4 @@ pub use fault::{InputCode, ReadFault};
 pub use law::lines_in_any_pieces;
 pub use line::Line;
 pub use read::parse_line;
-pub use splitter::Splitter;
+pub use splitter::{Splitter, next_line};

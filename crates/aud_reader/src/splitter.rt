@@ -14,8 +14,8 @@ use std::mem;
 
 /// Cuts an input that comes in pieces into lines.
 ///
-/// It keeps the lines that [`take`](Splitter::take) hasn't handed out, and the front of the line that has begun. After a
-/// refusal it gives that refusal from then on, and looks at no more bytes.
+/// It keeps the lines that [`take`](Splitter::take) hasn't handed out, and the front of the line that has begun. After
+/// a refusal it gives that refusal from then on, and looks at no more bytes.
 /// [`lines_in_any_pieces`](crate::lines_in_any_pieces) says what it gives over any list of calls.
 #[derive(Drop)]
 pub struct Splitter {
@@ -49,9 +49,10 @@ fn strip_return(line: &[u8]) -> &[u8]
     }
 }
 
-/// The bytes before the first newline, and those after it.
-fn next_line(text: &[u8]) -> Option<(&[u8], &[u8])>
-    ensures found { IfSome result (λ cut. (text.now ≡ cut.0.now ++ 10 ∷ cut.1.now) × (has_newline cut.0.now ≡ false)) }
+/// The bytes before the first newline, and those after it; both are borrowed. `None` if there is no newline.
+pub fn next_line(text: &[u8]) -> Option<(&[u8], &[u8])>
+    ensures found { IfSome result (λ cut. (text.now ≡ cut.0.now ++ 10 ∷ cut.1.now)
+        × (has_newline cut.0.now ≡ false)) }
     ensures none { IfNone result (has_newline text.now ≡ false) }
 {
     let i = memchr(b'\n', text)?;
@@ -151,17 +152,20 @@ impl Splitter {
     /// Takes the next piece of the input.
     ///
     /// The first line that is too long is refused by its number, as soon as its bytes are too many; the lines before it
-    /// stay for [`take`](Splitter::take). Where memory runs out, the lines that wait are those that waited before, and a
-    /// front of those that this piece ended. The numbers of lines are below 2 to the 64th.
+    /// stay for [`take`](Splitter::take). Where memory runs out, the lines that wait are those that waited before, and
+    /// a front of those that this piece ended. The numbers of lines are below 2 to the 64th.
     pub fn feed(&mut self, piece: &[u8]) -> Result<(), ReadFault>
         requires { self.old.number + length piece.now < 2 ^ 64 }
         ensures value { result ≡ result_of self.new.fault }
-        ensures lines { (more : List ℕ) → result ≢ Err ReadFault.Memory → lines_to_come self.new more ≡ lines_to_come self.old (piece.now ++ more) }
+        ensures lines { (more : List ℕ) → result ≢ Err ReadFault.Memory
+            → lines_to_come self.new more ≡ lines_to_come self.old (piece.now ++ more) }
         ensures partial { OnOk result (IsPartial self.new.rest) }
-        ensures refused { IfSome self.old.fault (λ fault. (result ≡ Err fault) × (self.new ≡ self.old)) }
+        ensures refused { IfSome self.old.fault (λ fault. (result ≡ Err fault)
+            × (self.new ≡ self.old)) }
         ensures number { self.new.number ≤ self.old.number + length piece.now }
         ensures kept { IsFront self.old.waiting self.new.waiting }
-        ensures front { (more : List ℕ) → IsFront self.new.waiting (lines_to_come self.old (piece.now ++ more)).lines }
+        ensures front { (more : List ℕ)
+            → IsFront self.new.waiting (lines_to_come self.old (piece.now ++ more)).lines }
     {
         if let Some(fault) = self.fault {
             return Err(fault);
@@ -176,10 +180,11 @@ impl Splitter {
 
     /// Ends the input: the lines that weren't handed out yet, with what came after the last newline.
     ///
-    /// It refuses where an earlier piece was refused, and for want of memory.
+    /// It refuses where an earlier piece was refused, and when out of memory.
     pub fn finish(self) -> Result<Vec<Line>, ReadFault>
         requires { self.number < 2 ^ 64 - 1 }
-        ensures ok { IfOk result (λ ls. lines_to_come self [] ≡ record { lines = ls.items; fault = None }) }
+        ensures ok { IfOk result (λ ls. lines_to_come self []
+            ≡ record { lines = ls.items; fault = None }) }
         ensures err { IfErr result (λ e. e ≢ ReadFault.Memory → self.fault ≡ Some e) }
         ensures refused { IfSome self.fault (λ fault. result ≡ Err fault) }
     {

@@ -4,7 +4,7 @@ use Rattle.std.specs.List.{AllZip}
 use Rattle.std.proofs.lemmas.List.{take_more, map-append}
 use Rattle.std.proofs.lemmas.Grind.{flat_map-append}
 use Rattle.aud_node.specs.Cluster.{Cluster}
-use Rattle.aud_lines.specs.TapLines.{TapLines}
+use Rattle.aud_input.specs.TapLines.{TapLines}
 use Rattle.aud_rows.specs.Seen.{RowSeen}
 use Rattle.aud_node.specs.Stream.{Text}
 use Rattle.aud_recording_faults.specs.declared.replies.NamingTap.{NamingTap}

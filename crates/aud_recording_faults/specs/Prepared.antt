@@ -13,7 +13,8 @@ use Rattle.aud_recording_faults.specs.declared.prepared.Prepared.{Prepared}
 use Rattle.aud_recording_faults.specs.declared.prepared.PreparedTap.{PreparedTap}
 use Rattle.aud_recording_faults.specs.declared.prepared.PreparedTap.TheVariants.{Client, Order, Unread}
 
--- of the client's tap at the place: where its packets stand, and its first stay with events of which nobody knows the session
+-- of the client's tap at the place: where its packets stand, and its first stay with events of which nobody knows the
+-- session
 pub record IsClientRead (c : Cluster) (place : ℕ) (places : ClientPlaces) (orphan : Option ℕ) : Type 0 where
   pub are_of : AreOf c places
   pub place_is : places.place ≡ place

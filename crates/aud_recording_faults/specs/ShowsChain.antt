@@ -8,7 +8,7 @@ use Rattle.aud_chain.specs.declared.misfit.Misfit.{Misfit}
 use Rattle.aud_chain.specs.declared.place.RecordPlace.{RecordPlace}
 use Rattle.aud_chain.specs.Marks.{turn_marks}
 use Rattle.aud_chain.specs.Misfit.{IsMisfit}
-use Rattle.aud_lines.specs.TapLines.{TapLines}
+use Rattle.aud_input.specs.TapLines.{TapLines}
 use Rattle.aud_rows.specs.declared.row.Role.{Role}
 use Rattle.aud_rows.specs.declared.row.Role.TheVariants.{Fault, Earlier}
 use Rattle.aud_rows.specs.Rows.{node_row}
@@ -20,8 +20,8 @@ abbrev pub is_at : Option RecordPlace → RecordPlace → Bool
 is_at None place = false
 is_at (Some at) place = nat_eq at.node place.node && nat_eq at.number place.number
 
--- what a record that begins or ends a turn is shown for: that it does not fit, or that such a one contradicts it, or else its
--- turn
+-- what a record that begins or ends a turn is shown for: that it does not fit, or that such a one contradicts it, or
+-- else its turn
 abbrev pub role_in : Misfit → TurnMark → Role
 role_in misfit mark =
     if is_at (fault_at misfit) mark.place then Fault
@@ -45,8 +45,8 @@ abbrev pub chain_rows : Cluster → List TapLines → Misfit → List TurnMark �
 chain_rows c lines misfit marks =
     flat_map (λ mark. option_to_list (mark_row_in c lines misfit mark)) marks ++ option_to_list (other_row c lines misfit marks)
 
--- in the records of the session with this pid this does not fit, and these are the rows of all node records that begin or end
--- a turn of it, and of that one
+-- in the records of the session with this pid this does not fit, and these are the rows of all node records that begin
+-- or end a turn of it, and of that one
 pub record ShowsChain (c : Cluster) (lines : List TapLines) (pid : Text) (rows : List RowSeen) : Type 0 where
   pub misfit : Misfit
   pub is_misfit : IsMisfit c pid misfit

@@ -5,7 +5,7 @@ use Rattle.aud_tap.specs.declared.records.ClientRec.{ClientRec}
 use Rattle.aud_node.specs.Cluster.{Cluster}
 use Rattle.aud_node.specs.NodeTaps.{client_at}
 use Rattle.aud_client.specs.TapPackets.{tap_packets}
-use Rattle.aud_lines.specs.TapLines.{TapLines}
+use Rattle.aud_input.specs.TapLines.{TapLines}
 use Rattle.aud_rows.specs.declared.row.Role.TheVariants.{Fault}
 use Rattle.aud_rows.specs.EndRows.{bad_row}
 use Rattle.aud_rows.specs.Seen.{RowSeen}

@@ -12,7 +12,7 @@ use Rattle.aud_chain.specs.declared.marks.Mark.TheVariants as mark
 use Rattle.aud_chain.specs.Marks.{turn_marks}
 use Rattle.aud_chain.specs.Places.{record_at}
 use Rattle.aud_evidence.specs.Stays.{is_named_otherwise}
-use Rattle.aud_lines.specs.TapLines.{TapLines}
+use Rattle.aud_input.specs.TapLines.{TapLines}
 use Rattle.aud_rows.specs.declared.row.Role.TheVariants.{Earlier, Fault}
 use Rattle.aud_rows.specs.Rows.{node_row}
 use Rattle.aud_rows.specs.Seen.{RowSeen}
@@ -56,8 +56,8 @@ abbrev pub names_rows : Cluster → List TapLines → TurnMark → ℕ → ℕ �
 names_rows c lines opening place stay =
     row_and (node_row c lines opening.place.node opening.place.number Earlier) (row_and (reply_row c lines place stay Fault) [])
 
--- a node opened the session with this pid by these names; this stay is the first in the client's tap at the place whose reply
--- names it and has another sid, or is in another namespace; and these are the rows of the `open` and of the reply
+-- a node opened the session with this pid by these names; this stay is the first in the client's tap at the place whose
+-- reply names it and has another sid, or is in another namespace; and these are the rows of the `open` and of the reply
 pub record ShowsNames (c : Cluster) (lines : List TapLines) (pid : Text) (place : ℕ) (rows : List RowSeen) : Type 0 where
   pub opening : TurnMark
   pub sid : Text

@@ -4,14 +4,14 @@ use Rattle.aud_node.specs.Cluster.{Cluster}
 use Rattle.aud_node.specs.Stream.{Text}
 use Rattle.aud_rooms.specs.Turns.{HasNoTurn}
 use Rattle.aud_chain.specs.Marks.{turn_marks}
-use Rattle.aud_lines.specs.TapLines.{TapLines}
+use Rattle.aud_input.specs.TapLines.{TapLines}
 use Rattle.aud_rows.specs.Seen.{RowSeen}
 use Rattle.aud_shown.specs.ChainRows.{mark_rows}
 use Rattle.aud_shown.specs.RowLists.{row_and}
 use Rattle.aud_recording_faults.specs.NamingReplies.{IsFirstReply}
 
--- no node has an `open` of the session with this pid, and these are the rows of the first reply that names it, and of all
--- node records that begin or end turns of it
+-- no node has an `open` of the session with this pid, and these are the rows of the first reply that names it, and of
+-- all node records that begin or end turns of it
 pub record ShowsNoLog (c : Cluster) (lines : List TapLines) (pid : Text) (rows : List RowSeen) : Type 0 where
   pub not_opened : HasNoTurn c pid 0
   pub reply : Option RowSeen

@@ -13,16 +13,19 @@ use aud_chain::{Mark, Misfit, RecordPlace, TurnMark, first_misfit, turn_marks};
 use aud_rows::{Role, Row, Sheet};
 use std::alloc::{AllocError, Global};
 
-/// The rows of all records of the session that begin or end a turn, and among them, or else after them, the record that does
-/// not fit; none where they are a chain of turns.
+/// The rows of all records of the session that begin or end a turn, and among them, or else after them, the record that
+/// does not fit; none where they are a chain of turns.
 pub fn chain_shown<'r>(
     alloc: Global,
     sheet: &Sheet<'r, '_>,
     pid: &str,
 ) -> Result<Option<Vec<Row<'r>>>, AllocError>
-    ensures shown { IfOk result (λ found. MatchOption found (HasChain sheet.now.recording.now pid.now)
-        (λ rows. ShowsChain sheet.now.recording.now sheet.now.lines.now pid.now (map row_seen rows.items))) }
-    ensures truth { IfOk result (λ found. IfSome found (λ rows. AreTrueRows sheet.now.recording.now sheet.now.lines.now rows.items)) }
+    ensures shown { IfOk result (λ found. MatchOption found
+        (HasChain sheet.now.recording.now pid.now)
+        (λ rows. ShowsChain sheet.now.recording.now sheet.now.lines.now pid.now
+        (map row_seen rows.items))) }
+    ensures truth { IfOk result (λ found. IfSome found
+        (λ rows. AreTrueRows sheet.now.recording.now sheet.now.lines.now rows.items)) }
 {
     let logs = sheet.recording.logs();
     let Some(misfit) = first_misfit(alloc, logs, pid)? else {
@@ -39,8 +42,10 @@ fn chain_rows<'r>(
     marks: &[TurnMark],
     misfit: Misfit,
 ) -> Result<Vec<Row<'r>>, AllocError>
-    ensures rows { IfOk result (λ rows. map row_seen rows.items ≡ chain_rows sheet.now.recording.now sheet.now.lines.now misfit marks.now) }
-    ensures truth { IfOk result (λ rows. AreTrueRows sheet.now.recording.now sheet.now.lines.now rows.items) }
+    ensures rows { IfOk result (λ rows. map row_seen rows.items
+        ≡ chain_rows sheet.now.recording.now sheet.now.lines.now misfit marks.now) }
+    ensures truth { IfOk result (λ rows.
+        AreTrueRows sheet.now.recording.now sheet.now.lines.now rows.items) }
 {
     let mut rows = Vec::new(alloc);
     for mark in marks {
@@ -52,7 +57,8 @@ fn chain_rows<'r>(
 
 /// The row of a record that begins or ends a turn.
 fn mark_row<'r>(sheet: &Sheet<'r, '_>, misfit: Misfit, mark: TurnMark) -> Option<Row<'r>>
-    ensures row { option_map row_seen result ≡ mark_row_in sheet.now.recording.now sheet.now.lines.now misfit mark }
+    ensures row { option_map row_seen result
+        ≡ mark_row_in sheet.now.recording.now sheet.now.lines.now misfit mark }
     ensures truth { IfSome result (IsTrueRow sheet.now.recording.now sheet.now.lines.now) }
 {
     sheet.node_row(mark.place.node, mark.place.number, role_in(misfit, mark))
@@ -60,7 +66,8 @@ fn mark_row<'r>(sheet: &Sheet<'r, '_>, misfit: Misfit, mark: TurnMark) -> Option
 
 /// The row of the record that does not fit, where it is none of these.
 fn other_row<'r>(sheet: &Sheet<'r, '_>, misfit: Misfit, marks: &[TurnMark]) -> Option<Row<'r>>
-    ensures row { option_map row_seen result ≡ other_row sheet.now.recording.now sheet.now.lines.now misfit marks.now }
+    ensures row { option_map row_seen result
+        ≡ other_row sheet.now.recording.now sheet.now.lines.now misfit marks.now }
     ensures truth { IfSome result (IsTrueRow sheet.now.recording.now sheet.now.lines.now) }
 {
     if has_fault(misfit, marks) {

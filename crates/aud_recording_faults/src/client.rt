@@ -23,8 +23,10 @@ pub fn client_rows<'r>(
 ) -> Result<Vec<Row<'r>>, AllocError>
     requires { IsPreparedOf sheet.now.recording.now prepared.now }
     ensures shown { (length (naming_places sheet.now.recording.now.taps pid.now) ≡ 1 → ⊥)
-        → IfOk result (λ rows. ShowsClient sheet.now.recording.now sheet.now.lines.now pid.now (map row_seen rows.items)) }
-    ensures truth { IfOk result (λ rows. AreTrueRows sheet.now.recording.now sheet.now.lines.now rows.items) }
+        → IfOk result (λ rows. ShowsClient sheet.now.recording.now sheet.now.lines.now pid.now
+        (map row_seen rows.items)) }
+    ensures truth { IfOk result (λ rows.
+        AreTrueRows sheet.now.recording.now sheet.now.lines.now rows.items) }
 {
     let taps = naming_taps(alloc, sheet.recording, pid)?;
     replies_of(alloc, sheet, prepared, &taps)
@@ -38,8 +40,11 @@ fn replies_of<'r>(
     taps: &[NamingTap<'_>],
 ) -> Result<Vec<Row<'r>>, AllocError>
     requires { IsPreparedOf sheet.now.recording.now prepared.now }
-    ensures rows { IfOk result (λ rows. map row_seen rows.items ≡ flat_map (λ tap. replies_of sheet.now.recording.now sheet.now.lines.now (naming_seen tap)) taps.now) }
-    ensures truth { IfOk result (λ rows. AreTrueRows sheet.now.recording.now sheet.now.lines.now rows.items) }
+    ensures rows { IfOk result (λ rows. map row_seen rows.items
+        ≡ flat_map (λ tap. replies_of sheet.now.recording.now sheet.now.lines.now
+        (naming_seen tap)) taps.now) }
+    ensures truth { IfOk result (λ rows.
+        AreTrueRows sheet.now.recording.now sheet.now.lines.now rows.items) }
 {
     let mut rows = Vec::new(alloc);
     for tap in taps {
@@ -57,7 +62,9 @@ fn push_tap<'r>(
     named: &NamingTap<'_>,
 ) -> Result<(), AllocError>
     requires { IsPreparedOf sheet.now.recording.now prepared.now }
-    ensures rows { OnOk result (map row_seen rows.new.items ≡ map row_seen rows.old.items ++ replies_of sheet.now.recording.now sheet.now.lines.now (naming_seen named.now)) }
+    ensures rows { OnOk result (map row_seen rows.new.items
+        ≡ map row_seen rows.old.items
+        ++ replies_of sheet.now.recording.now sheet.now.lines.now (naming_seen named.now)) }
     ensures truth { AreTrueRows sheet.now.recording.now sheet.now.lines.now rows.old.items
         → OnOk result (AreTrueRows sheet.now.recording.now sheet.now.lines.now rows.new.items) }
 {
@@ -78,7 +85,9 @@ fn push_replies<'r>(
     numbers: &[usize],
 ) -> Result<(), AllocError>
     requires { AreOf sheet.now.recording.now tap.now }
-    ensures rows { OnOk result (map row_seen rows.new.items ≡ map row_seen rows.old.items ++ replies_at sheet.now.recording.now sheet.now.lines.now tap.now.place numbers.now) }
+    ensures rows { OnOk result (map row_seen rows.new.items
+        ≡ map row_seen rows.old.items
+        ++ replies_at sheet.now.recording.now sheet.now.lines.now tap.now.place numbers.now) }
     ensures truth { AreTrueRows sheet.now.recording.now sheet.now.lines.now rows.old.items
         → OnOk result (AreTrueRows sheet.now.recording.now sheet.now.lines.now rows.new.items) }
 {

@@ -17,9 +17,12 @@ pub fn frame_shown<'r>(
     tap: &ClientPlaces,
 ) -> Result<Option<Vec<Row<'r>>>, AllocError>
     requires { AreOf sheet.now.recording.now tap.now }
-    ensures shown { IfOk result (λ found. MatchOption found (bad_number sheet.now.recording.now tap.now.place ≡ None)
-        (λ rows. ShowsFrame sheet.now.recording.now sheet.now.lines.now tap.now.place (map row_seen rows.items))) }
-    ensures truth { IfOk result (λ found. IfSome found (λ rows. AreTrueRows sheet.now.recording.now sheet.now.lines.now rows.items)) }
+    ensures shown { IfOk result (λ found. MatchOption found
+        (bad_number sheet.now.recording.now tap.now.place ≡ None)
+        (λ rows. ShowsFrame sheet.now.recording.now sheet.now.lines.now tap.now.place
+        (map row_seen rows.items))) }
+    ensures truth { IfOk result (λ found. IfSome found
+        (λ rows. AreTrueRows sheet.now.recording.now sheet.now.lines.now rows.items)) }
 {
     match bad_number(sheet.recording, tap.place) {
         Some(_) => {

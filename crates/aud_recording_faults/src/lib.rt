@@ -1,8 +1,8 @@
-//! What shows the faults for which a session's delivery is not judged: those of the recording (`NOLOG`, `CHAIN`, `ORDER`,
-//! `CLIENT`, `NAMES`) and of the packets (`FRAME`, `ORPHAN`), each found by the session's pid.
+//! What shows the faults for which a session's delivery is not judged: those of the recording (`NOLOG`, `CHAIN`,
+//! `ORDER`, `CLIENT`, `NAMES`) and of the packets (`FRAME`, `ORPHAN`), each found by the session's pid.
 //!
-//! With the `sheet` of a recording in which no node opened the session `P`, and client `c1` got a reply that names it by its
-//! second record, on line 9:
+//! With the `sheet` of a recording in which no node opened the session `P`, and client `c1` got a reply that names it
+//! by its second record, on line 9:
 //!
 //! ```
 //! use aud_recording_faults::{Prepared, no_log_rows};

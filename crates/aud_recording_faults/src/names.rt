@@ -30,8 +30,8 @@ struct OpenedAs<'a> {
     nsp: &'a str,
 }
 
-/// The rows of the session's `open` and of the first reply in this tap that names the session and has another sid, or is in
-/// another namespace; none where there is no such reply, or no node opened the session.
+/// The rows of the session's `open` and of the first reply in this tap that names the session and has another sid, or
+/// is in another namespace; none where there is no such reply, or no node opened the session.
 pub fn names_shown<'r>(
     alloc: Global,
     sheet: &Sheet<'r, '_>,
@@ -39,9 +39,12 @@ pub fn names_shown<'r>(
     pid: &str,
 ) -> Result<Option<Vec<Row<'r>>>, AllocError>
     requires { AreOf sheet.now.recording.now tap.now }
-    ensures shown { IfOk result (λ found. MatchOption found (AreNamedAlike sheet.now.recording.now pid.now tap.now.place)
-        (λ rows. ShowsNames sheet.now.recording.now sheet.now.lines.now pid.now tap.now.place (map row_seen rows.items))) }
-    ensures truth { IfOk result (λ found. IfSome found (λ rows. AreTrueRows sheet.now.recording.now sheet.now.lines.now rows.items)) }
+    ensures shown { IfOk result (λ found. MatchOption found
+        (AreNamedAlike sheet.now.recording.now pid.now tap.now.place)
+        (λ rows. ShowsNames sheet.now.recording.now sheet.now.lines.now pid.now tap.now.place
+        (map row_seen rows.items))) }
+    ensures truth { IfOk result (λ found. IfSome found
+        (λ rows. AreTrueRows sheet.now.recording.now sheet.now.lines.now rows.items)) }
 {
     let logs = sheet.recording.logs();
     let numbers = numbers_naming(sheet.recording, tap.place, pid);
@@ -64,8 +67,10 @@ fn names_rows<'r>(
     stay: usize,
 ) -> Result<Vec<Row<'r>>, AllocError>
     requires { AreOf sheet.now.recording.now tap.now }
-    ensures rows { IfOk result (λ rows. map row_seen rows.items ≡ names_rows sheet.now.recording.now sheet.now.lines.now opening tap.now.place stay) }
-    ensures truth { IfOk result (λ rows. AreTrueRows sheet.now.recording.now sheet.now.lines.now rows.items) }
+    ensures rows { IfOk result (λ rows. map row_seen rows.items
+        ≡ names_rows sheet.now.recording.now sheet.now.lines.now opening tap.now.place stay) }
+    ensures truth { IfOk result (λ rows.
+        AreTrueRows sheet.now.recording.now sheet.now.lines.now rows.items) }
 {
     let mut rows = Vec::new(alloc);
     let RecordPlace { node, number } = opening.place;
@@ -77,8 +82,9 @@ fn names_rows<'r>(
 /// How the first of these records that opens a session opens this one.
 fn opened_as<'a>(logs: &Logs<'a>, marks: &[TurnMark], pid: &str) -> Option<OpenedAs<'a>>
     requires { marks.now ≡ turn_marks logs.now pid.now }
-    ensures { MatchOption result ((opening : TurnMark) (sid nsp : Text) → IsOpenedAs logs.now pid.now opening sid nsp → ⊥)
-        (λ o. IsOpenedAs logs.now pid.now o.mark o.sid.now o.nsp.now) }
+    ensures { MatchOption result ((opening : TurnMark) (sid nsp : Text)
+        → IsOpenedAs logs.now pid.now opening sid nsp
+        → ⊥) (λ o. IsOpenedAs logs.now pid.now o.mark o.sid.now o.nsp.now) }
 {
     let Some(mark) = first_open(marks) else {
         return None;
@@ -120,7 +126,7 @@ fn is_open(mark: Mark) -> bool
     }
 }
 
-/// The record at this place, lent; none where there is none.
+/// The record at this place, borrowed; none where there is none.
 fn record_at<'a>(logs: &Logs<'a>, place: RecordPlace) -> Option<&'a NodeRec>
     ensures { option_copied result ≡ record_at logs.now place }
 {
@@ -138,7 +144,9 @@ fn first_otherwise(
     pid: &str,
     opened: OpenedAs<'_>,
 ) -> Option<usize>
-    ensures { result ≡ first_otherwise (record { pid = pid.now; sid = opened.entry.sid.now; nsp = opened.entry.nsp.now }) (stays_at recording.now place) numbers.now }
+    ensures { result ≡ first_otherwise
+        (record { pid = pid.now; sid = opened.entry.sid.now; nsp = opened.entry.nsp.now })
+        (stays_at recording.now place) numbers.now }
 {
     for number in numbers {
         if is_some_otherwise(stay_at(recording, place, *number), pid, opened) {
@@ -149,7 +157,9 @@ fn first_otherwise(
 }
 
 fn is_some_otherwise(stay: Option<&Stay<'_>>, pid: &str, opened: OpenedAs<'_>) -> bool
-    ensures { result ≡ is_some_otherwise (record { pid = pid.now; sid = opened.entry.sid.now; nsp = opened.entry.nsp.now }) (option_copied stay.entry) }
+    ensures { result ≡ is_some_otherwise
+        (record { pid = pid.now; sid = opened.entry.sid.now; nsp = opened.entry.nsp.now })
+        (option_copied stay.entry) }
 {
     match stay {
         Some(stay) => is_named_otherwise(stay, pid, opened.sid, opened.nsp),
@@ -158,7 +168,8 @@ fn is_some_otherwise(stay: Option<&Stay<'_>>, pid: &str, opened: OpenedAs<'_>) -
 }
 
 fn is_named_otherwise(stay: &Stay<'_>, pid: &str, sid: &str, nsp: &str) -> bool
-    ensures { result ≡ is_named_otherwise (record { pid = pid.now; sid = sid.now; nsp = nsp.now }) stay.now }
+    ensures { result ≡ is_named_otherwise
+        (record { pid = pid.now; sid = sid.now; nsp = nsp.now }) stay.now }
 {
     stay.names(pid) && !(stay.nsp == nsp && has_sid(&stay.reply, sid))
 }

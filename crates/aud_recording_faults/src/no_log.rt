@@ -19,8 +19,8 @@ use aud_rows::{ClientPlaces, Role, Row, Sheet};
 use aud_shown::mark_rows;
 use std::alloc::{AllocError, Global};
 
-/// The rows of the first reply that names the session, and of the records of nodes that begin or end turns of it. A tap that
-/// wasn't prepared is read.
+/// The rows of the first reply that names the session, and of the records of nodes that begin or end turns of it. A tap
+/// that wasn't prepared is read.
 pub fn no_log_rows<'r>(
     alloc: Global,
     sheet: &Sheet<'r, '_>,
@@ -29,8 +29,10 @@ pub fn no_log_rows<'r>(
 ) -> Result<Vec<Row<'r>>, AllocError>
     requires { IsPreparedOf sheet.now.recording.now prepared.now }
     ensures shown { HasNoTurn sheet.now.recording.now pid.now 0
-        → IfOk result (λ rows. ShowsNoLog sheet.now.recording.now sheet.now.lines.now pid.now (map row_seen rows.items)) }
-    ensures truth { IfOk result (λ rows. AreTrueRows sheet.now.recording.now sheet.now.lines.now rows.items) }
+        → IfOk result (λ rows. ShowsNoLog sheet.now.recording.now sheet.now.lines.now pid.now
+        (map row_seen rows.items)) }
+    ensures truth { IfOk result (λ rows.
+        AreTrueRows sheet.now.recording.now sheet.now.lines.now rows.items) }
 {
     let reply = first_reply(alloc, sheet, prepared, pid)?;
     let marks = turn_marks(alloc, sheet.recording.logs(), pid)?;
@@ -49,8 +51,11 @@ fn first_reply<'r>(
     pid: &str,
 ) -> Result<Option<Row<'r>>, AllocError>
     requires { IsPreparedOf sheet.now.recording.now prepared.now }
-    ensures row { IfOk result (λ row. IsFirstReply sheet.now.recording.now sheet.now.lines.now pid.now (option_map row_seen row)) }
-    ensures truth { IfOk result (λ row. IfSome row (IsTrueRow sheet.now.recording.now sheet.now.lines.now)) }
+    ensures row { IfOk result (λ row.
+        IsFirstReply sheet.now.recording.now sheet.now.lines.now pid.now
+        (option_map row_seen row)) }
+    ensures truth { IfOk result (λ row. IfSome row
+        (IsTrueRow sheet.now.recording.now sheet.now.lines.now)) }
 {
     match sheet.recording.naming(pid).first() {
         Some(place) => first_reply_at(alloc, sheet, prepared, *place, pid),
@@ -67,8 +72,11 @@ fn first_reply_at<'r>(
     pid: &str,
 ) -> Result<Option<Row<'r>>, AllocError>
     requires { IsPreparedOf sheet.now.recording.now prepared.now }
-    ensures row { IfOk result (λ row. IsFirstReplyOf sheet.now.recording.now sheet.now.lines.now pid.now place (option_map row_seen row)) }
-    ensures truth { IfOk result (λ row. IfSome row (IsTrueRow sheet.now.recording.now sheet.now.lines.now)) }
+    ensures row { IfOk result (λ row.
+        IsFirstReplyOf sheet.now.recording.now sheet.now.lines.now pid.now place
+        (option_map row_seen row)) }
+    ensures truth { IfOk result (λ row. IfSome row
+        (IsTrueRow sheet.now.recording.now sheet.now.lines.now)) }
 {
     let numbers = numbers_naming(sheet.recording, place, pid);
     match prepared.tap(place) {
@@ -83,7 +91,8 @@ fn first_reply_at<'r>(
 /// The row of the reply of the first of these stays.
 fn first_row_in<'r>(sheet: &Sheet<'r, '_>, tap: &ClientPlaces, numbers: &[usize]) -> Option<Row<'r>>
     requires { AreOf sheet.now.recording.now tap.now }
-    ensures row { option_map row_seen result ≡ first_row_at sheet.now.recording.now sheet.now.lines.now tap.now.place numbers.now }
+    ensures row { option_map row_seen result
+        ≡ first_row_at sheet.now.recording.now sheet.now.lines.now tap.now.place numbers.now }
     ensures truth { IfSome result (IsTrueRow sheet.now.recording.now sheet.now.lines.now) }
 {
     let number = *numbers.first()?;

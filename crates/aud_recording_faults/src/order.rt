@@ -16,9 +16,9 @@ use aud_rows::{Row, Sheet};
 use aud_shown::order_rows;
 use std::alloc::{AllocError, Global};
 
-/// The rows of the first record out of order of a node that has records of the session, the first such node in the order of
-/// the taps, and of the record before; none where the logs of all those nodes are in order. A log whose order wasn't prepared
-/// is gone through.
+/// The rows of the first record out of order of a node that has records of the session, the first such node in the
+/// order of the taps, and of the record before; none where the logs of all those nodes are in order. A log whose order
+/// wasn't prepared is gone through.
 pub fn order_shown<'r>(
     alloc: Global,
     sheet: &Sheet<'r, '_>,
@@ -26,9 +26,12 @@ pub fn order_shown<'r>(
     pid: &str,
 ) -> Result<Option<Vec<Row<'r>>>, AllocError>
     requires { IsPreparedOf sheet.now.recording.now prepared.now }
-    ensures shown { IfOk result (λ found. MatchOption found (AreOrdered sheet.now.recording.now pid.now)
-        (λ rows. ShowsOrder sheet.now.recording.now sheet.now.lines.now pid.now (map row_seen rows.items))) }
-    ensures truth { IfOk result (λ found. IfSome found (λ rows. AreTrueRows sheet.now.recording.now sheet.now.lines.now rows.items)) }
+    ensures shown { IfOk result (λ found. MatchOption found
+        (AreOrdered sheet.now.recording.now pid.now)
+        (λ rows. ShowsOrder sheet.now.recording.now sheet.now.lines.now pid.now
+        (map row_seen rows.items))) }
+    ensures truth { IfOk result (λ found. IfSome found
+        (λ rows. AreTrueRows sheet.now.recording.now sheet.now.lines.now rows.items)) }
 {
     match unordered_of(sheet.recording.logs(), prepared, pid) {
         Some(at) => Ok(Some(order_rows(alloc, sheet, at.node, at.number)?)),
@@ -36,8 +39,8 @@ pub fn order_shown<'r>(
     }
 }
 
-/// The first record out of order of a node that has records of the session, of the first such node in the order of the taps;
-/// none where the logs of all those nodes are in order. A log whose order wasn't prepared is gone through.
+/// The first record out of order of a node that has records of the session, of the first such node in the order of the
+/// taps; none where the logs of all those nodes are in order. A log whose order wasn't prepared is gone through.
 pub fn unordered_of(logs: &Logs<'_>, prepared: &Prepared, pid: &str) -> Option<RecordPlace>
     requires { IsPreparedOf logs.now prepared.now }
     ensures { MatchOption result (AreOrdered logs.now pid.now) (IsUnordered logs.now pid.now) }
@@ -48,8 +51,10 @@ pub fn unordered_of(logs: &Logs<'_>, prepared: &Prepared, pid: &str) -> Option<R
 /// The first record out of order of the first of these nodes that has one.
 fn first_of(prepared: &Prepared, logs: &Logs<'_>, nodes: &[usize]) -> Option<RecordPlace>
     requires { IsPreparedOf logs.now prepared.now }
-    ensures { MatchOption result (All (λ node. AreInOrder logs.now.stream (node_log logs.now node)) nodes.now)
-        (λ at. Contains nodes.now at.node × IsFirstOutOfOrder logs.now.stream (node_log logs.now at.node) at.number) }
+    ensures { MatchOption result
+        (All (λ node. AreInOrder logs.now.stream (node_log logs.now node)) nodes.now)
+        (λ at. Contains nodes.now at.node
+        × IsFirstOutOfOrder logs.now.stream (node_log logs.now at.node) at.number) }
 {
     for node in nodes {
         if let Some(number) = unordered_at(prepared, logs, *node) {

@@ -16,9 +16,9 @@ use aud_evidence::first_orphan;
 use aud_rows::{ClientPlaces, Role, Row, Sheet};
 use std::alloc::{AllocError, Global};
 
-/// The rows of the tap's first stay that has events and whose reply, if there is one, names nobody: what it asked, its reply,
-/// its first event, and the end of its connection; none where there is no such stay. The stays of a tap that wasn't prepared
-/// are gone through.
+/// The rows of the tap's first stay that has events and whose reply, if there is one, names nobody: what it asked, its
+/// reply, its first event, and the end of its connection; none where there is no such stay. The stays of a tap that
+/// wasn't prepared are gone through.
 pub fn orphan_shown<'r>(
     alloc: Global,
     sheet: &Sheet<'r, '_>,
@@ -27,9 +27,12 @@ pub fn orphan_shown<'r>(
 ) -> Result<Option<Vec<Row<'r>>>, AllocError>
     requires prepared { IsPreparedOf sheet.now.recording.now prepared.now }
     requires tap { AreOf sheet.now.recording.now tap.now }
-    ensures shown { IfOk result (λ found. MatchOption found (first_index is_orphan (stays_at sheet.now.recording.now tap.now.place) ≡ None)
-        (λ rows. ShowsOrphan sheet.now.recording.now sheet.now.lines.now tap.now.place (map row_seen rows.items))) }
-    ensures truth { IfOk result (λ found. IfSome found (λ rows. AreTrueRows sheet.now.recording.now sheet.now.lines.now rows.items)) }
+    ensures shown { IfOk result (λ found. MatchOption found
+        (first_index is_orphan (stays_at sheet.now.recording.now tap.now.place) ≡ None)
+        (λ rows. ShowsOrphan sheet.now.recording.now sheet.now.lines.now tap.now.place
+        (map row_seen rows.items))) }
+    ensures truth { IfOk result (λ found. IfSome found
+        (λ rows. AreTrueRows sheet.now.recording.now sheet.now.lines.now rows.items)) }
 {
     match orphan_in(sheet.recording, prepared, tap.place) {
         Some(stay) => Ok(Some(orphan_rows(alloc, sheet, tap, stay)?)),
@@ -45,8 +48,10 @@ fn orphan_rows<'r>(
     stay: usize,
 ) -> Result<Vec<Row<'r>>, AllocError>
     requires { AreOf sheet.now.recording.now tap.now }
-    ensures rows { IfOk result (λ rows. map row_seen rows.items ≡ orphan_rows sheet.now.recording.now sheet.now.lines.now tap.now.place stay) }
-    ensures truth { IfOk result (λ rows. AreTrueRows sheet.now.recording.now sheet.now.lines.now rows.items) }
+    ensures rows { IfOk result (λ rows. map row_seen rows.items
+        ≡ orphan_rows sheet.now.recording.now sheet.now.lines.now tap.now.place stay) }
+    ensures truth { IfOk result (λ rows.
+        AreTrueRows sheet.now.recording.now sheet.now.lines.now rows.items) }
 {
     let mut rows = Vec::new(alloc);
     push_row(&mut rows, sheet.ask_row(tap, stay, Role::Ask))?;
@@ -56,8 +61,9 @@ fn orphan_rows<'r>(
     Ok(rows)
 }
 
-/// The number, in the client's tap at this place, of its first stay that has events and whose reply, if there is one, names
-/// nobody; none where there is no such stay. Stays count from 0. The stays of a tap that wasn't prepared are gone through.
+/// The number, in the client's tap at this place, of its first stay that has events and whose reply, if there is one,
+/// names nobody; none where there is no such stay. Stays count from 0. The stays of a tap that wasn't prepared are gone
+/// through.
 pub fn orphan_in(recording: &Recording<'_>, prepared: &Prepared, place: usize) -> Option<usize>
     requires { IsPreparedOf recording.now prepared.now }
     ensures { result ≡ first_index is_orphan (stays_at recording.now place) }

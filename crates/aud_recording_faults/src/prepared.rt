@@ -10,9 +10,9 @@ ghost use Rattle.aud_recording_faults.specs.Private.Wanted.{AreWanted, IsReadBy}
 
 use crate::orphan::orphan_at;
 use crate::wanted::{is_wanted, wanted_of};
+use aud_base::try_map;
 use aud_client::Recording;
 use aud_evidence::first_unordered;
-use aud_parallel::try_map;
 use aud_rows::ClientPlaces;
 use std::alloc::{AllocError, Global};
 use std::thread::Threads;
@@ -28,14 +28,14 @@ pub struct Prepared {
 /// What was read of a tap.
 #[derive(Debug, Drop)]
 pub enum PreparedTap {
-    /// Of a client's tap that was asked for: where its packets stand, and the number of its first stay that has events and
-    /// whose reply, if there is one, names nobody.
+    /// Of a client's tap that was asked for: where its packets stand, and the number of its first stay that has events
+    /// and whose reply, if there is one, names nobody.
     Client {
         places: ClientPlaces,
         orphan: Option<usize>,
     },
-    /// Of another tap, where the orders of nodes were asked for: the number of its first record that is out of order, if it
-    /// is a node's.
+    /// Of another tap, where the orders of nodes were asked for: the number of its first record that is out of order,
+    /// if it is a node's.
     Order {
         unordered: Option<usize>,
     },
@@ -44,8 +44,8 @@ pub enum PreparedTap {
 }
 
 impl Prepared {
-    /// Reads the clients' taps at these places, in any order, and where `orders` is set the logs of the nodes; the taps are
-    /// shared out among at most so many threads. Each record is decoded once.
+    /// Reads the clients' taps at these places, in any order, and where `orders` is set the logs of the nodes; the taps
+    /// are shared out among at most so many threads. Each record is decoded once.
     pub fn read<H: Threads + Sync>(
         rt: &H,
         alloc: Global,
@@ -66,7 +66,8 @@ impl Prepared {
     /// Where the packets of the client's tap at this place stand; none where that tap wasn't asked for.
     pub fn tap(&self, place: usize) -> Option<&ClientPlaces>
         ensures there { option_copied result ≡ tap_in self.now place }
-        ensures is_of { (c : Cluster) → IsPreparedOf c self.now → IfSome result (λ tap. AreOf c tap.now × (tap.now.place ≡ place)) }
+        ensures is_of { (c : Cluster) → IsPreparedOf c self.now
+            → IfSome result (λ tap. AreOf c tap.now × (tap.now.place ≡ place)) }
     {
         self.tap_in(place)
     }
@@ -107,7 +108,8 @@ fn read_taps<H: Threads + Sync>(
     wanted: &[bool],
     orders: bool,
 ) -> Result<Vec<PreparedTap>, AllocError>
-    ensures { IfOk result (λ taps. AllZip (IsReadBy recording.now wanted.now orders) (numbers_from 0 (length recording.now.taps)) taps.items) }
+    ensures { IfOk result (λ taps. AllZip (IsReadBy recording.now wanted.now orders)
+        (numbers_from 0 (length recording.now.taps)) taps.items) }
 {
     let places = places_of_all(alloc, recording)?;
     try_map(

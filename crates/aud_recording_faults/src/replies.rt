@@ -19,7 +19,7 @@ pub(crate) struct NamingTap<'r> {
     pub numbers: &'r [usize],
 }
 
-/// The stay with this number of the client's tap at this place, lent; none where there is none. Stays count from 0.
+/// The stay with this number of the client's tap at this place, borrowed; none where there is none. Stays count from 0.
 pub fn stay_at<'r, 'a>(
     recording: &'r Recording<'a>,
     place: usize,
@@ -31,8 +31,8 @@ pub fn stay_at<'r, 'a>(
     transcript.stays.get(number)
 }
 
-/// The numbers, ascending, of the stays of the client's tap at this place whose reply names the session, lent; none where no
-/// client's tap is there. Stays count from 0.
+/// The numbers, ascending, of the stays of the client's tap at this place whose reply names the session, borrowed; none
+/// where no client's tap is there. Stays count from 0.
 #[tactic(auto, using(crate::proofs::Told::told_some, crate::proofs::Told::told_none))]
 pub fn numbers_naming<'r>(recording: &'r Recording<'_>, place: usize, pid: &str) -> &'r [usize]
     ensures { AreNumbersOf recording.now pid.now place result.now }
@@ -49,7 +49,8 @@ pub(crate) fn naming_taps<'r>(
     recording: &'r Recording<'_>,
     pid: &str,
 ) -> Result<Vec<NamingTap<'r>>, AllocError>
-    ensures { IfOk result (λ taps. AllZip (IsNamingTap recording.now pid.now) (naming_places recording.now.taps pid.now) (map naming_seen taps.items)) }
+    ensures { IfOk result (λ taps. AllZip (IsNamingTap recording.now pid.now)
+        (naming_places recording.now.taps pid.now) (map naming_seen taps.items)) }
 {
     let mut taps = Vec::new(alloc);
     for place in recording.naming(pid) {

@@ -16,7 +16,7 @@ use Rattle.aud_base.proofs.Lists.{element_at, between-more, between-none}
 use Rattle.aud_rooms.proofs.OwnNumbers.{own_between-is}
 use Rattle.aud_rooms.proofs.Records.{other_rooms}
 use Rattle.aud_recoveries.specs.Missed.{rooms_after_all}
-use Rattle.aud_recoveries.specs.Private.Held.{changed_by, changed_by_some, walked_record, walked_records, walked_turn, walked_turns}
+use Rattle.aud_recoveries.specs.Held.{changed_by, changed_by_some, walked_record, walked_records, walked_turn, walked_turns}
 
 -- the same state with other rooms held
 abbrev holding : Assigned → Rooms → Assigned

@@ -17,7 +17,7 @@ use Rattle.aud_base.proofs.Lists.{between-more}
 use Rattle.aud_cert.specs.Certificate.{CertificateSeen, TurnSeen, turn_at}
 use Rattle.aud_maker.specs.Made.{IsMade, turn_seen}
 use Rattle.aud_recoveries.specs.Missed.{rooms_at_break, is_missed, missed_between, IsMissedFrom}
-use Rattle.aud_recoveries.specs.Private.Held.{walked_turns}
+use Rattle.aud_recoveries.specs.Held.{walked_turns}
 use Rattle.aud_recoveries.specs.Opened.{opened_in}
 use Rattle.aud_recoveries.proofs.HeldLemmas.{turns_held}
 

@@ -7,5 +7,6 @@ pub mod Recoveries
 pub mod Opened
 pub mod Opening
 pub mod Missed
+pub mod Held
 -- what private contracts alone cite
 pub mod Private

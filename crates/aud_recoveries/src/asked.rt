@@ -17,8 +17,8 @@ pub struct Recovery {
     pub granted: bool,
 }
 
-/// All recoveries that clients asked for, client after client, in each in the order of its stays. Each stay is looked at
-/// once.
+/// All recoveries that clients asked for, client after client, in each in the order of its stays. Each stay is looked
+/// at once.
 pub fn recoveries(alloc: Global, recording: &Recording<'_>) -> Result<Vec<Recovery>, AllocError>
     ensures { IfOk result (λ found. found.items ≡ recoveries_of recording.now) }
 {
@@ -29,9 +29,10 @@ pub fn recoveries(alloc: Global, recording: &Recording<'_>) -> Result<Vec<Recove
     Ok(found)
 }
 
-/// The stay that the recovery is about, lent; none where the recording has no such stay.
+/// The stay that the recovery is about, borrowed; none where the recording has no such stay.
 pub fn stay_of<'r, 'a>(recording: &'r Recording<'a>, recovery: &Recovery) -> Option<&'r Stay<'a>>
-    ensures { option_copied result ≡ slice_get (stays_at recording.now recovery.now.client) recovery.now.stay }
+    ensures { option_copied result
+        ≡ slice_get (stays_at recording.now recovery.now.client) recovery.now.stay }
 {
     match recording.client(recovery.client) {
         Some(client) => client.transcript().stays.get(recovery.stay),

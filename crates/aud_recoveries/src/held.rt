@@ -2,7 +2,7 @@
 ghost use Rattle.std.specs.Prelude.{◌≡◌, IfOk, OnOk, map, option_map};
 ghost use Rattle.aud_cert.specs.Certificate.{turn_at};
 ghost use Rattle.aud_rooms.specs.Assigned.{AreSpansOf, covered_upto, starting};
-ghost use Rattle.aud_recoveries.specs.Private.Held.{changed_by, walked_record, walked_turn, walked_turns};
+ghost use Rattle.aud_recoveries.specs.Held.{changed_by, walked_record, walked_turn, walked_turns};
 
 use aud_cert::{Turn, turn_place};
 use aud_node::Logs;
@@ -11,8 +11,8 @@ use aud_tap::NodeRec;
 use std::alloc::{AllocError, Global};
 
 /// The spans, past `after` up to `high`, of the rooms that the session with this pid and sid held after all of these
-/// turns. It looks at the session's own records alone; rooms are lent by the logs.
-pub(crate) fn spans_held<'a>(
+/// turns. It looks at the session's own records alone; rooms are borrowed from the logs.
+pub fn spans_held<'a>(
     alloc: Global,
     logs: &Logs<'a>,
     pid: &str,
@@ -22,7 +22,9 @@ pub(crate) fn spans_held<'a>(
     high: u64,
 ) -> Result<Vec<Span<'a>>, AllocError>
     ensures { IfOk result (λ spans. AreSpansOf
-        (covered_upto high (walked_turns logs.now pid.now (map (turn_at logs.now) turns.now) (starting sid.now after))) spans.items) }
+        (covered_upto high
+        (walked_turns logs.now pid.now (map (turn_at logs.now) turns.now)
+        (starting sid.now after))) spans.items) }
 {
     let mut builder = SpanBuilder::new(alloc, sid, after)?;
     for turn in turns {
@@ -38,7 +40,8 @@ fn walk_turn<'a>(
     pid: &str,
     turn: &TurnPlace,
 ) -> Result<(), AllocError>
-    ensures { OnOk result (builder.new ≡ option_map (walked_turn logs.now pid.now turn.now) builder.old) }
+    ensures { OnOk result (builder.new
+        ≡ option_map (walked_turn logs.now pid.now turn.now) builder.old) }
 {
     for number in turn.own(logs, pid) {
         walk_record(builder, logs, turn.node, pid, *number)?;
@@ -53,7 +56,8 @@ fn walk_record<'a>(
     pid: &str,
     number: usize,
 ) -> Result<(), AllocError>
-    ensures { OnOk result (builder.new ≡ option_map (walked_record logs.now node pid.now number) builder.old) }
+    ensures { OnOk result (builder.new
+        ≡ option_map (walked_record logs.now node pid.now number) builder.old) }
 {
     let Some(log) = logs.node(node) else {
         return Ok(());

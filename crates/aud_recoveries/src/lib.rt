@@ -1,5 +1,5 @@
-//! The recoveries that clients asked for: which were granted, which were refused, and what a client missed where one was
-//! refused.
+//! The recoveries that clients asked for: which were granted, which were refused, and what a client missed where one
+//! was refused.
 //!
 //! With the `recording` of a client that had received entry 1 of session `P`, asked for it again, and was given a new
 //! session `Q` on a node that had taken entry 2:
@@ -24,5 +24,6 @@ mod opening;
 
 pub use asked::{Recovery, recoveries, stay_of};
 pub use counts::{granted, refused};
+pub use held::spans_held;
 pub use loss::missed;
 pub use opened::{Opened, greatest_high, opened_in};

@@ -54,7 +54,8 @@ fn missed_from(
     cursor: u64,
 ) -> Result<Vec<u64>, AllocError>
     requires { IsMade recording.now cert.now.pid cert.now }
-    ensures { IfOk result (λ missed. IsMissedFrom recording.now cert.now.pid last cursor missed.items) }
+    ensures { IfOk result (λ missed.
+        IsMissedFrom recording.now cert.now.pid last cursor missed.items) }
 {
     made_is_over();
     recording.named_once();

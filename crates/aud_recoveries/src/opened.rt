@@ -5,7 +5,7 @@ ghost use Rattle.aud_recoveries.specs.Opened.{greatest_turn_high, opened_in};
 use aud_cert::Turn;
 use aud_tap::NodeRec;
 
-/// What the `open` of a session names, lent by the logs, and the node's cursor after it.
+/// What the `open` of a session names, borrowed from the logs, and the node's cursor after it.
 #[derive(Clone, Copy)]
 pub struct Opened<'a> {
     pub sid: &'a str,
@@ -15,7 +15,8 @@ pub struct Opened<'a> {
 
 /// What the first record of the first turn opens; none where there is no turn, or that record is no `open`.
 pub fn opened_in<'a>(turns: &[Turn<'a>]) -> Option<Opened<'a>>
-    ensures { MatchOption result (opened_in turns.now ≡ None) (λ o. opened_in turns.now ≡ Some (o.sid.now, o.nsp.now, o.low)) }
+    ensures { MatchOption result (opened_in turns.now ≡ None) (λ o. opened_in turns.now
+        ≡ Some (o.sid.now, o.nsp.now, o.low)) }
 {
     let Some(turn) = turns.first() else {
         return None;

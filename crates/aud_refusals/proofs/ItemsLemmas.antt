@@ -1,6 +1,6 @@
 -- How many items the list of a field has.
 use Rattle.std.proofs.Common.{◌≡◌, ℕ, List, [], ◌∷◌, length, Option, refl, arith, Bor}
-use Rattle.aud_fields.specs.View.{list_view}
+use Rattle.aud_json.specs.View.{list_view}
 use Rattle.aud_refusals.specs.Excess.{items_count}
 
 -- as many as the field has

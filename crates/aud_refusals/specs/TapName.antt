@@ -26,8 +26,8 @@ abbrev pub blank_text : List ℕ → Option ℕ → List ℕ
 blank_text line None = codes "In this line stands no blank.\n"
 blank_text line (Some at) = front_text (take at line)
 
--- what a line is that begins as no line of a bundle does, where that is known: a file by gzip (RFC 1952, 2.3.1), a byte order
--- mark in UTF-8 or UTF-16 (the Unicode Standard, 23.8), or a record without its tap's name
+-- what a line is that begins as no line of a bundle does, where that is known: a file by gzip (RFC 1952, 2.3.1), a byte
+-- order mark in UTF-8 or UTF-16 (the Unicode Standard, 23.8), or a record without its tap's name
 abbrev pub known_text : List ℕ → Option (List ℕ)
 known_text line =
     if starts_with nat_eq line (31 ∷ 139 ∷ []) then Some (codes "This is compressed by gzip: gzip -dc gives the lines.\n")

@@ -1,11 +1,11 @@
 //! Members that are outside their limits.
 ghost use Rattle.std.specs.Prelude.{◌≡◌, ◌+◌, ◌^◌, ◌<◌, Option, List, ℕ, length, option_map, option_and_then};
-ghost use Rattle.aud_fields.specs.View.{field_view, list_view, text_view, view};
+ghost use Rattle.aud_json.specs.View.{field_view, list_view, text_view, view};
 ghost use Rattle.serde_json.specs.Find.{as_array, as_str};
 ghost use Rattle.aud_refusals.specs.Excess.{count_excess, excess_of, first_excess, items_count, items_excess, length_excess, list_at, number_excess, rooms_excess, text_excess};
 
 use crate::member::{Member, number_at, text_at};
-use aud_fields::{Field, Fields};
+use aud_json::{Field, Fields};
 use aud_tap::limits::{
     MAX_ATTACHMENTS, MAX_ID, MAX_NAMESPACE, MAX_OFFSET, MAX_ROOM, MAX_ROOMS, fits,
 };
@@ -111,7 +111,8 @@ fn rooms_excess(member: Member, key: &str, d: &Fields<'_>) -> Option<Excess>
 }
 
 fn attachments_excess(member: Member, key: &str, d: &Fields<'_>) -> Option<Excess>
-    ensures { result ≡ option_and_then (count_excess member MAX_ATTACHMENTS) (list_at key.now (view d.now)) }
+    ensures { result ≡ option_and_then (count_excess member MAX_ATTACHMENTS) (list_at key.now
+        (view d.now)) }
 {
     let items = d.get(key)?.as_list()?;
     count_excess(member, MAX_ATTACHMENTS, items)

@@ -1,12 +1,12 @@
 //! Help on a line of which a field is missing, or of another type or form.
 ghost use Rattle.std.specs.Prelude.{◌≡◌, ◌++◌, OnOk, string_bytes};
-ghost use Rattle.aud_fields.specs.View.{view};
+ghost use Rattle.aud_json.specs.View.{view};
 ghost use Rattle.aud_refusals.specs.FieldHelp.{field_help, follow_text, form_text, found_text, unformed_text};
 
 use crate::kinds::is_client_kind;
 use crate::member::{Member, text_at};
 use crate::members::{first_unformed, members_of};
-use aud_fields::Fields;
+use aud_json::Fields;
 use std::alloc::{AllocError, Global};
 
 /// What a member has to be.
@@ -39,7 +39,8 @@ fn found_text(member: Member, d: &Fields<'_>) -> &'static str
 }
 
 fn push_unformed(out: &mut String, member: Member, d: &Fields<'_>) -> Result<(), AllocError>
-    ensures { OnOk result (string_bytes out.new ≡ string_bytes out.old ++ unformed_text member (view d.now)) }
+    ensures { OnOk result (string_bytes out.new
+        ≡ string_bytes out.old ++ unformed_text member (view d.now)) }
 {
     let key = member.key();
     let found = found_text(member, d);

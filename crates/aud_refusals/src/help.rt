@@ -1,6 +1,6 @@
 //! Help on a refused line.
 ghost use Rattle.std.specs.Prelude.{◌≡◌, ◌++◌, Some, IfOk, OnOk, string_bytes};
-ghost use Rattle.aud_fields.specs.View.{view};
+ghost use Rattle.aud_json.specs.View.{view};
 ghost use Rattle.aud_refusals.specs.Opened.{opened};
 ghost use Rattle.aud_refusals.specs.Help.{help_text, value_help};
 
@@ -13,7 +13,7 @@ use crate::kind_help::{
 use crate::limit_help::{push_at_most, push_limit_help};
 use crate::opened::opened;
 use crate::tap_name::push_name_help;
-use aud_fields::{Fields, Scratch};
+use aud_json::{Fields, Scratch};
 use aud_reader::InputCode;
 use aud_tap::limits::MAX_LINE;
 use std::alloc::{AllocError, Global};
@@ -26,7 +26,8 @@ fn push_fields_help(
     header: Option<u64>,
     d: &Fields<'_>,
 ) -> Result<(), AllocError>
-    ensures { OnOk result (string_bytes out.new ≡ string_bytes out.old ++ value_help code header (Some (view d.now))) }
+    ensures { OnOk result (string_bytes out.new
+        ≡ string_bytes out.old ++ value_help code header (Some (view d.now))) }
 {
     match code {
         InputCode::NoHeader => push_first_help(out),
@@ -49,7 +50,8 @@ fn push_value_help(
     header: Option<u64>,
     line: &[u8],
 ) -> Result<(), AllocError>
-    ensures { OnOk result (string_bytes out.new ≡ string_bytes out.old ++ value_help code header (opened line.now)) }
+    ensures { OnOk result (string_bytes out.new
+        ≡ string_bytes out.old ++ value_help code header (opened line.now)) }
 {
     let mut scratch = Scratch::new(alloc);
     match opened(alloc, &mut scratch, line)? {
@@ -66,7 +68,8 @@ fn push_help(
     code: InputCode,
     header: Option<u64>,
 ) -> Result<(), AllocError>
-    ensures { OnOk result (string_bytes out.new ≡ string_bytes out.old ++ help_text line.now code header) }
+    ensures { OnOk result (string_bytes out.new
+        ≡ string_bytes out.old ++ help_text line.now code header) }
 {
     match code {
         InputCode::LineTooLong => push_at_most(out, "A line", MAX_LINE, "bytes"),
@@ -83,12 +86,14 @@ fn push_help(
     }
 }
 
-/// What is said of a line, beside its refusal: a sentence or two, each with its newline; or nothing, where the line is not
-/// one that is refused so.
+/// What is said of a line, beside its refusal: a sentence or two, each with its newline; or nothing, where the line is
+/// not one that is refused so.
 ///
-/// - Of a field the first that is missing, or not of its type or form, in the order in which a reader looks at them; of a
+/// - Of a field the first that is missing, or not of its type or form, in the order in which a reader looks at them; of
+/// a
 ///   client's record whose fields are all good, why it may not follow those before it.
-/// - Of a limit the first field that is outside its own, what it has, and the limit; or where all are within, how many taps,
+/// - Of a limit the first field that is outside its own, what it has, and the limit; or where all are within, how many
+/// taps,
 ///   records, entries or pids there may be.
 /// - Of JSON how deep it nests, up to which byte it is UTF-8, or with what it does not begin or end.
 /// - Of a name the first byte that cannot stand in one, or how many there are.

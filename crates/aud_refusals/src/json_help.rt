@@ -122,7 +122,8 @@ fn push_bytes_help(
     bytes: &[u8],
 ) -> Result<(), AllocError>
     requires { before + length bytes.now < 2 ^ 64 }
-    ensures { OnOk result (string_bytes out.new ≡ string_bytes out.old ++ bytes_help before bytes.now) }
+    ensures { OnOk result (string_bytes out.new
+        ≡ string_bytes out.old ++ bytes_help before bytes.now) }
 {
     match str::from_utf8(bytes) {
         Ok(text) => push_text_help(alloc, out, text),

@@ -1,12 +1,12 @@
 //! Help on a line whose kind, header or offset does not fit in its tap.
 ghost use Rattle.std.specs.Prelude.{◌≡◌, ◌++◌, OnOk, option_map, string_bytes};
-ghost use Rattle.aud_fields.specs.View.{view};
+ghost use Rattle.aud_json.specs.View.{view};
 ghost use Rattle.aud_reader.specs.Record.{tap_of_kind};
 ghost use Rattle.aud_refusals.specs.KindHelp.{first_help, header_text, kind_help, nodes_text, offset_help, offset_text, owner_text, second_help, unknown_text, version_help};
 
 use crate::kinds::tap_of_kind;
 use crate::member::{number_at, text_at};
-use aud_fields::Fields;
+use aud_json::Fields;
 use aud_tap::limits::{MAX_OFFSET, fits};
 use aud_tap::{TapKind, is_id};
 use std::alloc::AllocError;
@@ -45,7 +45,8 @@ fn owner_text(kind: &str) -> &'static str
 }
 
 fn push_unknown(out: &mut String, kind: &str, header: Option<u64>) -> Result<(), AllocError>
-    ensures { OnOk result (string_bytes out.new ≡ string_bytes out.old ++ unknown_text kind.now header) }
+    ensures { OnOk result (string_bytes out.new
+        ≡ string_bytes out.old ++ unknown_text kind.now header) }
 {
     if kind == "tap" {
         return out.push_str("The field of has to be stream, node or client.\n");
@@ -60,7 +61,8 @@ pub fn push_kind_help(
     d: &Fields<'_>,
     header: Option<u64>,
 ) -> Result<(), AllocError>
-    ensures { OnOk result (string_bytes out.new ≡ string_bytes out.old ++ kind_help (view d.now) header) }
+    ensures { OnOk result (string_bytes out.new
+        ≡ string_bytes out.old ++ kind_help (view d.now) header) }
 {
     match text_at("k", d) {
         Some(kind) => push_unknown(out, kind, header),
@@ -70,7 +72,8 @@ pub fn push_kind_help(
 
 /// Puts help on a header of another version at the end.
 pub fn push_version_help(out: &mut String, d: &Fields<'_>) -> Result<(), AllocError>
-    ensures { OnOk result (string_bytes out.new ≡ string_bytes out.old ++ version_help (view d.now)) }
+    ensures { OnOk result (string_bytes out.new
+        ≡ string_bytes out.old ++ version_help (view d.now)) }
 {
     match number_at("v", d) {
         Some(v) => writeln!(out, "The field v is {v}; the versions 1 and 2 are read."),
@@ -79,7 +82,8 @@ pub fn push_version_help(out: &mut String, d: &Fields<'_>) -> Result<(), AllocEr
 }
 
 fn push_offset(out: &mut String, off: &str) -> Result<(), AllocError>
-    ensures { OnOk result (string_bytes out.new ≡ string_bytes out.old ++ offset_text (Some off.now)) }
+    ensures { OnOk result (string_bytes out.new
+        ≡ string_bytes out.old ++ offset_text (Some off.now)) }
 {
     if is_id(off) && fits(MAX_OFFSET, off) {
         return writeln!(out, "An earlier entry of the stream has the offset {off}.");
@@ -89,7 +93,8 @@ fn push_offset(out: &mut String, off: &str) -> Result<(), AllocError>
 
 /// Puts help on an entry whose offset an earlier one has at the end.
 pub fn push_offset_help(out: &mut String, d: &Fields<'_>) -> Result<(), AllocError>
-    ensures { OnOk result (string_bytes out.new ≡ string_bytes out.old ++ offset_help (view d.now)) }
+    ensures { OnOk result (string_bytes out.new
+        ≡ string_bytes out.old ++ offset_help (view d.now)) }
 {
     match text_at("off", d) {
         Some(off) => push_offset(out, off),

@@ -1,5 +1,5 @@
-//! Help on refused lines: [`refusal_help`] says which field of a line is missing or of another form, which limit is passed and
-//! by what, how deep JSON nests, and where the header stands that a line contradicts.
+//! Help on refused lines: [`refusal_help`] says which field of a line is missing or of another form, which limit is
+//! passed and by what, how deep JSON nests, and where the header stands that a line contradicts.
 //!
 //! ```
 //! use aud_reader::InputCode;

@@ -1,6 +1,6 @@
 //! Help on a line of which a length, a number or a count is outside its limits.
 ghost use Rattle.std.specs.Prelude.{◌≡◌, ◌++◌, codes, OnOk, string_bytes};
-ghost use Rattle.aud_fields.specs.View.{view};
+ghost use Rattle.aud_json.specs.View.{view};
 ghost use Rattle.aud_tap.specs.Json.{text_at};
 ghost use Rattle.aud_refusals.specs.LimitHelp.{at_most_text, count_text, excess_text, item_text, kind_named, length_text, limit_help, node_text, records_text, taps_text};
 
@@ -8,7 +8,7 @@ use crate::excess::{Excess, first_excess};
 use crate::kinds::{tap_kind, tap_of_kind};
 use crate::member::{Member, text_at};
 use crate::members::members_of;
-use aud_fields::Fields;
+use aud_json::Fields;
 use aud_tap::TapKind;
 use std::alloc::AllocError;
 
@@ -94,7 +94,8 @@ pub fn push_at_most(
     most: usize,
     parts: &str,
 ) -> Result<(), AllocError>
-    ensures { OnOk result (string_bytes out.new ≡ string_bytes out.old ++ at_most_text whole.now most parts.now) }
+    ensures { OnOk result (string_bytes out.new
+        ≡ string_bytes out.old ++ at_most_text whole.now most parts.now) }
 {
     writeln!(out, "{whole} may have at most {most} {parts}.")
 }
@@ -135,7 +136,8 @@ fn kind_named(d: &Fields<'_>) -> Option<TapKind>
 }
 
 fn push_count(out: &mut String, kind: &str, d: &Fields<'_>) -> Result<(), AllocError>
-    ensures { OnOk result (string_bytes out.new ≡ string_bytes out.old ++ count_text kind.now (view d.now)) }
+    ensures { OnOk result (string_bytes out.new
+        ≡ string_bytes out.old ++ count_text kind.now (view d.now)) }
 {
     if kind == "tap" {
         push_taps(out, kind_named(d))

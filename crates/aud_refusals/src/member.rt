@@ -1,12 +1,12 @@
 //! The members of a line's object.
 ghost use Rattle.std.specs.Prelude.{◌≡◌, is_some, IfOk, option_map, option_and_then};
-ghost use Rattle.aud_fields.specs.View.{field_view, list_view, text_view, view};
+ghost use Rattle.aud_json.specs.View.{field_view, list_view, text_view, view};
 ghost use Rattle.aud_tap.specs.Json.{text_at};
 ghost use Rattle.serde_json.specs.Find.{as_str};
 ghost use Rattle.aud_reader.specs.Fields.{all_items, as_blob, blobs_at, bytes_at, decoded, id_at, id_or_null, id_or_null_at, namespace_at, number_at, texts_at};
 ghost use Rattle.aud_refusals.specs.Members.{is_formed, key_of};
 
-use aud_fields::{Field, Fields};
+use aud_json::{Field, Fields};
 use aud_tap::{is_id, is_namespace};
 use base64::DecodeAllocError;
 use base64::engine::general_purpose::STANDARD;

@@ -1,10 +1,10 @@
 //! The members that a line has, by its kind.
 ghost use Rattle.std.specs.Prelude.{◌≡◌, IfOk};
-ghost use Rattle.aud_fields.specs.View.{view};
+ghost use Rattle.aud_json.specs.View.{view};
 ghost use Rattle.aud_refusals.specs.Members.{first_unformed, members_of};
 
 use crate::member::{Member, is_formed};
-use aud_fields::Fields;
+use aud_json::Fields;
 use std::alloc::{AllocError, Global};
 
 static HEADER: [Member; 2] = [Member::Version, Member::Of];

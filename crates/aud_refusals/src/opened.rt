@@ -1,24 +1,25 @@
 //! A line taken apart, for help on it.
 ghost use Rattle.std.specs.Prelude.{◌≡◌, IfOk, option_map};
 ghost use Rattle.std.specs.Result.{result_ok};
-ghost use Rattle.aud_fields.specs.Shown.{shown};
-ghost use Rattle.aud_fields.specs.View.{view};
+ghost use Rattle.aud_json.specs.Shown.{shown};
+ghost use Rattle.aud_json.specs.View.{view};
 ghost use Rattle.aud_reader.specs.Record.{json_of};
 ghost use Rattle.aud_refusals.specs.Opened.{opened};
 
 use crate::tap_name::{cut_at_blank, is_tap_name};
-use aud_fields::{Fields, FieldsFault, Scratch};
+use aud_json::{Fields, FieldsFault, Scratch};
 use aud_tap::limits::MAX_LINE;
 use std::alloc::{AllocError, Global};
 
-/// The fields of JSON text, lent from it and from the scratch.
+/// The fields of JSON text, borrowed from it and from the scratch.
 #[tactic(auto, unfolding(aud_reader::specs::Record::json_of))]
 fn json<'a>(
     alloc: Global,
     scratch: &'a mut Scratch,
     bytes: &'a [u8],
 ) -> Result<Option<Fields<'a>>, AllocError>
-    ensures { IfOk result (λ o. option_map view o ≡ option_map shown (result_ok (json_of bytes.now))) }
+    ensures { IfOk result (λ o. option_map view o
+        ≡ option_map shown (result_ok (json_of bytes.now))) }
 {
     let Ok(text) = str::from_utf8(bytes) else {
         return Ok(None);

@@ -58,7 +58,8 @@ pub fn is_tap_name(name: &[u8]) -> bool
 }
 
 fn push_strange(out: &mut String, name: &[u8]) -> Result<(), AllocError>
-    ensures { OnOk result (string_bytes out.new ≡ string_bytes out.old ++ strange_text name.now (first_strange name.now)) }
+    ensures { OnOk result (string_bytes out.new
+        ≡ string_bytes out.old ++ strange_text name.now (first_strange name.now)) }
 {
     match first_strange(name) {
         Some(at) => {
@@ -87,7 +88,8 @@ fn push_front(out: &mut String, name: &[u8]) -> Result<(), AllocError>
 }
 
 fn push_blank(out: &mut String, line: &[u8]) -> Result<(), AllocError>
-    ensures { OnOk result (string_bytes out.new ≡ string_bytes out.old ++ blank_text line.now (first_blank line.now)) }
+    ensures { OnOk result (string_bytes out.new
+        ≡ string_bytes out.old ++ blank_text line.now (first_blank line.now)) }
 {
     match cut_at_blank(line) {
         Some((name, _)) => push_front(out, name),
@@ -113,7 +115,8 @@ fn known(line: &[u8]) -> Option<&'static str>
 }
 
 fn push_begin(out: &mut String, line: &[u8]) -> Result<(), AllocError>
-    ensures { OnOk result (string_bytes out.new ≡ string_bytes out.old ++ begin_text line.now (known_text line.now)) }
+    ensures { OnOk result (string_bytes out.new
+        ≡ string_bytes out.old ++ begin_text line.now (known_text line.now)) }
 {
     match known(line) {
         Some(text) => out.push_str(text),

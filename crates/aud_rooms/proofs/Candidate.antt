@@ -97,7 +97,8 @@ module _ (spans : List RoomSpan) (p : ℕ) where
   any_both a b f g [] = grind arith
   any_both a b f g (s ∷ some) = grind (arith, any_both a b f g some)
 
-  -- an entry is addressed to the rooms of the spans where it is for the whole namespace or for the room of a span, and excepts none of these rooms
+  -- an entry is addressed to the rooms of the spans where it is for the whole namespace or for the room of a span, and
+  -- excepts none of these rooms
   for_some : (o : Option StreamRec) (nsp : Text)
       → is_for o nsp (rooms_by_spans spans p) ≡ ((is_to_all o nsp || list_any (λ s. is_within p s && is_to_room o nsp s.room) spans) && is_spared o (rooms_by_spans spans p))
   for_some None nsp = sym (and_none _)

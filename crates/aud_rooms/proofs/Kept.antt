@@ -65,7 +65,8 @@ module _ (low cov position : ℕ) (es : RoomMap Times) (kept : AreKept low cov e
 
 -- ---- a room's times change
 
--- the new times of a room are in order, and the room was held at the same covered positions by those that it had, if any
+-- the new times of a room are in order, and the room was held at the same covered positions by those that it had, if
+-- any
 pub record Continues (low cov : ℕ) (old : Option Times) (new : Times) : Type 0 where
   pub apart : AreApart low new.ended new.since cov
   pub same : (p : ℕ) → p ≤ cov → do_pass (is_held_at p) old ≡ is_held_at p new

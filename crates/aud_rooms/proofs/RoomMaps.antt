@@ -1,4 +1,4 @@
--- The rooms of which something is kept that passes a test; a `BTreeSet` of lent texts, seen as a set.
+-- The rooms of which something is kept that passes a test; a `BTreeSet` of borrowed texts, seen as a set.
 use Rattle.std.proofs.Common.{◌≡◌, Bool, true, false, cond, List, [], ◌∷◌, map, filter, refl, sym, ap, ◌∙◌, arith, ℕ, Bor, is_some}
 use Rattle.std.specs.List.{list_any}
 use Rattle.std.specs.Ordering.{nat_cmp, is_eq, eq_by_cmp}
@@ -40,7 +40,7 @@ pub ruleset rooms_by_test = (contains-rooms_with)
 pub same_rooms : (a b : Rooms) → ((q : Text) → set.contains a q ≡ set.contains b q) → a ≡ b
 same_rooms a b same = set.same_set nat_list_cmp_total (set.slice_cmp-IsAntisymmetric set.nat_cmp-IsAntisymmetric) a b same
 
--- the set of lent texts
+-- the set of borrowed texts
 abbrev pub texts : List (Bor (List ℕ)) → Rooms
 texts keys = set.from_list (map (λ k. k.now) keys)
 
@@ -48,7 +48,7 @@ texts keys = set.from_list (map (λ k. k.now) keys)
 abbrev pub has_text : List (Bor (List ℕ)) → List ℕ → Bool
 has_text keys text = list_any (λ k. is_eq (slice_cmp nat_cmp text k.now)) keys
 
--- the set contains the texts that are lent
+-- the set contains the texts that are borrowed
 pub contains-texts : (keys : List (Bor (List ℕ))) (text : List ℕ) → set.contains (texts keys) text ≡ has_text keys text
 contains-texts keys text =
     set.contains-from_list nat_list_cmp_total (map (λ k. k.now) keys) text ∙ any-map (eq_by_cmp (slice_cmp nat_cmp) text) (λ (k : Bor (List ℕ)). k.now) keys

@@ -140,7 +140,7 @@ module _ (all : List RoomSpan) (stream : List StreamRec) (found : List ℕ) wher
               grind (arith, is, due_all before front ahead_of_it, append_assoc due (filter P before) (filter P later), filter-append P before later, cut, was.so_far);
         }
 
--- ---- the sweep's steps, over lent spans
+-- ---- the sweep's steps, over borrowed spans
 
 -- the spans that the code lends
 abbrev seen : List (Bor RoomSpan) → List RoomSpan

@@ -1,4 +1,5 @@
--- When one room is held: intervals in order, apart from one another, which are the maximal intervals of the positions in them.
+-- When one room is held: intervals in order, apart from one another, which are the maximal intervals of the positions
+-- in them.
 use Rattle.std.proofs.lemmas.Grind.{common_steps}
 use Rattle.std.proofs.lemmas.Option.{gets, slice_get_within, slice_get-get_or}
 use Rattle.std.proofs.Common.{◌≡◌, ◌<◌, ◌≤◌, ◌-◌, ℕ, zero, suc, true, false, ◌||◌, ◌&&◌, List, [], ◌∷◌, ◌++◌, length, take, Option, Some, None, get_or, refl, sym, ap, subst, ◌∙◌, nat_lt, nat_le, arith, Bool, ◌⊎◌, inl, inr, true≢false, is_some}

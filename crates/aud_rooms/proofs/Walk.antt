@@ -81,7 +81,8 @@ module _ (c : Cluster) (pid : Text) (t : Turn) (is_within : IsWithin c t) where
   abbrev cur : ℕ → ℕ
   cur n = cursor_at c.stream log n
 
-  -- the rooms of a position: those held before a record, where the cursor has come to the position, else those at the first record after which it has
+  -- the rooms of a position: those held before a record, where the cursor has come to the position, else those at the
+  -- first record after which it has
   abbrev want : ℕ → Rooms → ℕ → Rooms
   want x held p = cond (nat_le p (cursor_before c.stream log x)) held (rooms_at_reach c.stream pid p (cursor_before c.stream log x) held (between log x t.to))
 
@@ -106,7 +107,8 @@ module _ (c : Cluster) (pid : Text) (t : Turn) (is_within : IsWithin c t) where
     moves_on : cursor_before c.stream log x ≤ cur (suc x)
     moves_on = before_rises c.stream log x
 
-    -- the positions up to the cursor have the rooms held before the record, and the later ones those that are wanted after it
+    -- the positions up to the cursor have the rooms held before the record, and the later ones those that are wanted
+    -- after it
     want_more : (p : ℕ) → option_or (upto p (cur (suc x)) a.held) (upto p (cur t.to) (want (suc x) (rooms_after pid a.held rec) p)) ≡ upto p (cur t.to) (want x a.held p)
     want_more p = grind (arith, nat_tests, moves, moves_on, records, rises)
 

@@ -10,7 +10,8 @@ use std::alloc::{AllocError, Global};
 use std::marker::Model;
 
 /// Builds the spans of a session from its joins, its leaves and the positions in between. It is seen as the rooms that
-/// the positions have so far, and the rooms held now; or as none after want of memory, which it answers from then on.
+/// the positions have so far, and the rooms held now; or as none after running out of memory, which it answers from
+/// then on.
 #[derive(Drop)]
 pub struct SpanBuilder<'a> {
     building: Option<Building<'a>>,
@@ -85,7 +86,8 @@ impl<'a> SpanBuilder<'a> {
     /// The spans of the positions past `birth` that are covered: all maximal intervals of positions at which a room is
     /// held, by the bytes of the room, then by the first position.
     pub fn finish(self) -> Result<Vec<Span<'a>>, AllocError>
-        ensures spans { IfOk result (λ spans. MatchOption self.entry ⊥ (λ given. AreSpansOf given spans.items)) }
+        ensures spans { IfOk result (λ spans. MatchOption self.entry ⊥
+            (λ given. AreSpansOf given spans.items)) }
         ensures stays_out { self.entry ≡ None → IsErr result }
     {
         match self.building {

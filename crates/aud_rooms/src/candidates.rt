@@ -21,7 +21,8 @@ pub(crate) fn candidates_of(
     nsp: &str,
     within: Interval,
 ) -> Result<Vec<usize>, AllocError>
-    ensures { IfOk result (λ found. found.items ≡ candidates spans.now stream.now nsp.now within.after within.last) }
+    ensures { IfOk result (λ found. found.items
+        ≡ candidates spans.now stream.now nsp.now within.after within.last) }
 {
     let everyone = past_upto(
         stream.to_all(nsp),
@@ -41,7 +42,8 @@ fn to_spans(
     within: Interval,
 ) -> Result<Vec<usize>, AllocError>
     ensures { IfOk result (λ found. found.items
-        ≡ filter (is_to_some spans.now stream.now nsp.now within.after within.last) (positions_after 0 (length stream.now))) }
+        ≡ filter (is_to_some spans.now stream.now nsp.now within.after within.last)
+        (positions_after 0 (length stream.now))) }
 {
     match spans {
         [] => Ok(Vec::new(alloc)),
@@ -55,9 +57,11 @@ fn to_spans(
     }
 }
 
-/// Those of the entries that name the room of the span, where it holds the position; lent from the stream's index.
+/// Those of the entries that name the room of the span, where it holds the position; borrowed from the stream's index.
 fn to_span<'s>(span: &Span, stream: &'s Stream, nsp: &str, within: Interval) -> &'s [usize]
-    ensures { result.now ≡ filter (is_to_some (span.now ∷ []) stream.now nsp.now within.after within.last) (positions_after 0 (length stream.now)) }
+    ensures { result.now ≡ filter
+        (is_to_some (span.now ∷ []) stream.now nsp.now within.after within.last) (positions_after 0
+        (length stream.now)) }
 {
     let positions = stream.positions(nsp, span.room.as_str());
     let after = within.after.max(span.first.saturating_sub(1));

@@ -23,7 +23,7 @@ use std::alloc::{AllocError, Global};
 /// The recoverable positions past `birth` up to `high` that are addressed to the namespace and to the rooms whose spans
 /// hold them, ascending; positions count from 1. The spans may stand in any order and overlap. The entries that are for
 /// one of the rooms or for the whole namespace are found by the stream's index, and no others are looked at. The one
-/// error is want of memory.
+/// error is running out of memory.
 pub fn due_of(
     alloc: Global,
     spans: &[Span],
@@ -32,7 +32,8 @@ pub fn due_of(
     birth: u64,
     high: u64,
 ) -> Result<Vec<u64>, AllocError>
-    ensures { IfOk result (λ due. due.items ≡ due_by_spans spans.now stream.now nsp.now birth high) }
+    ensures { IfOk result (λ due. due.items
+        ≡ due_by_spans spans.now stream.now nsp.now birth high) }
 {
     let within = Interval {
         after: birth,
@@ -50,7 +51,8 @@ fn by_first<'s, 'a>(
     spans: &'s [Span<'a>],
     rooms: &RoomSet,
 ) -> Result<Vec<&'s Span<'a>>, AllocError>
-    ensures permutation { IfOk result (λ begins. IsPermutation (filter (is_of_room rooms.now) spans.now) (map (λ s. s.now) begins.items)) }
+    ensures permutation { IfOk result (λ begins. IsPermutation
+        (filter (is_of_room rooms.now) spans.now) (map (λ s. s.now) begins.items)) }
     ensures sorted { IfOk result (λ begins. AreByFirst (map (λ s. s.now) begins.items)) }
 {
     let mut begins = of_rooms(alloc, spans, rooms)?;
@@ -58,13 +60,14 @@ fn by_first<'s, 'a>(
     Ok(begins)
 }
 
-/// The spans of these rooms, lent.
+/// The spans of these rooms, borrowed.
 fn of_rooms<'s, 'a>(
     alloc: Global,
     spans: &'s [Span<'a>],
     rooms: &RoomSet,
 ) -> Result<Vec<&'s Span<'a>>, AllocError>
-    ensures { IfOk result (λ lent. map (λ s. s.now) lent.items ≡ filter (is_of_room rooms.now) spans.now) }
+    ensures { IfOk result (λ lent. map (λ s. s.now) lent.items
+        ≡ filter (is_of_room rooms.now) spans.now) }
 {
     let mut lent = Vec::new(alloc);
     for span in spans {
@@ -85,7 +88,8 @@ fn due_by_first(
 ) -> Result<Vec<u64>, AllocError>
     requires by_first { AreByFirst (map (λ s. s.now) begins.now) }
     requires ascending { IsNonDecreasing found.now }
-    ensures { IfOk result (λ due. due.items ≡ filter (is_spared_by (map (λ s. s.now) begins.now) stream.now) found.now) }
+    ensures { IfOk result (λ due. due.items
+        ≡ filter (is_spared_by (map (λ s. s.now) begins.now) stream.now) found.now) }
 {
     let mut reached = Reached::new(alloc);
     let mut due = Vec::new(alloc);
@@ -108,7 +112,9 @@ fn push_due(
     stream: &Stream,
     positions: &[usize],
 ) -> Result<(), AllocError>
-    ensures due { OnOk result (due.new.items ≡ due.old.items ++ filter (is_spared_at reached.old.last_of.entries stream.now) positions.now) }
+    ensures due { OnOk result (due.new.items
+        ≡ due.old.items
+        ++ filter (is_spared_at reached.old.last_of.entries stream.now) positions.now) }
     ensures reached { reached.new.last_of ≡ reached.old.last_of }
 {
     for position in positions {

@@ -36,7 +36,8 @@ impl Holding {
 
     /// The room is held from now on.
     pub fn open(&mut self, covered: u64)
-        ensures continues { (low : ℕ) → low ≤ covered → AreApart low self.old.ended self.old.since covered
+        ensures continues { (low : ℕ) → low ≤ covered
+            → AreApart low self.old.ended self.old.since covered
             → ContinuesTimes low covered self.old self.new }
         ensures held { IsTrue (is_held_now self.new) }
     {
@@ -73,7 +74,8 @@ impl Holding {
         spans: &mut Vec<Span<'a>>,
     ) -> Result<(), AllocError>
         requires { AreApart 0 self.now.ended self.now.since covered }
-        ensures { OnOk result (spans.new.items ≡ spans.old.items ++ spans_of room.now covered self.now) }
+        ensures { OnOk result (spans.new.items
+            ≡ spans.old.items ++ spans_of room.now covered self.now) }
     {
         for interval in &self.ended {
             push_span(spans, room, *interval)?;
@@ -113,7 +115,8 @@ fn push_span<'a>(
 /// that interval goes on.
 fn resume(ended: &mut Vec<Interval>, covered: u64) -> u64
     ensures { (low : ℕ) → low ≤ covered → AreApart low ended.old.items None covered
-        → ContinuesTimes low covered (record { ended = ended.old.items; since = None }) (record { ended = ended.new.items; since = Some result }) }
+        → ContinuesTimes low covered (record { ended = ended.old.items; since = None })
+        (record { ended = ended.new.items; since = Some result }) }
 {
     if let Some(latest) = ended.last().copied() {
         if latest.last == covered {

@@ -10,7 +10,8 @@ ghost use Rattle.aud_rooms.specs.Spans.{RoomSpan, AreSpans, AreSpansOfTurns, due
 pub fn due_by_spans_of_turns()
     ensures { (stream : List StreamRec) (who : Who) (slices : List Slice) (spans : List RoomSpan)
         → AreSpansOfTurns stream who slices spans
-        → due_by_spans spans stream who.nsp (first_low slices) (greatest_high slices) ≡ turns_due stream who slices }
+        → due_by_spans spans stream who.nsp (first_low slices) (greatest_high slices)
+        ≡ turns_due stream who slices }
 {}
 
 /// Only one list is the spans of given rooms.

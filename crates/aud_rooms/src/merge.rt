@@ -13,7 +13,8 @@ pub(crate) fn merged(
     other: &[usize],
 ) -> Result<Vec<usize>, AllocError>
     ensures { IfOk result (λ all. (p q : ℕ → Bool) (low count : ℕ)
-        → one.now ≡ filter p (positions_after low count) → other.now ≡ filter q (positions_after low count)
+        → one.now ≡ filter p (positions_after low count)
+        → other.now ≡ filter q (positions_after low count)
         → all.items ≡ filter (λ n. p n || q n) (positions_after low count)) }
 {
     let mut all = Vec::new(alloc);

@@ -8,7 +8,7 @@ use std::alloc::{AllocError, Global};
 use std::collections::BTreeSet;
 use std::marker::Model;
 
-/// The rooms that a session holds, their names lent; seen as a set.
+/// The rooms that a session holds, their names borrowed; seen as a set.
 #[derive(Drop)]
 pub struct RoomSet<'a> {
     rooms: BTreeSet<&'a str>,

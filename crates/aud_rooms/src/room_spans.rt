@@ -15,7 +15,8 @@ pub fn spans_of_rooms<'a>(
     rooms: &BTreeMap<&'a str, Holding>,
     covered: u64,
 ) -> Result<Vec<Span<'a>>, AllocError>
-    requires { (room : List ℕ) (t : Times) → at_room rooms.now.entries room ≡ Some t → AreApart 0 t.ended t.since covered }
+    requires { (room : List ℕ) (t : Times) → at_room rooms.now.entries room ≡ Some t
+        → AreApart 0 t.ended t.since covered }
     ensures spans { IfOk result (λ spans. spans.items ≡ spans_upto covered rooms.now.entries) }
     ensures ordered { AreOrdered rooms.now.entries }
 {

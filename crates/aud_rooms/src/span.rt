@@ -3,7 +3,7 @@ use std::borrow::CowStr;
 use std::marker::Model;
 
 /// A room, and the first and the last of the positions of the stream at which a session holds it; positions count
-/// from 1. The room is lent, or owned where it was read from a certificate's text.
+/// from 1. The room is borrowed, or owned where it was read from a certificate's text.
 #[derive(Drop)]
 pub struct Span<'a> {
     pub room: CowStr<'a>,

@@ -45,10 +45,11 @@ impl TurnPlace {
         cursor_after(logs, self.node, self.to - 1)
     }
 
-    /// The numbers in the node's log, ascending, of those of the records that name the pid; lent from the node's index,
-    /// by which they are found without a look at the others.
+    /// The numbers in the node's log, ascending, of those of the records that name the pid; borrowed from the node's
+    /// index, by which they are found without a look at the others.
     pub fn own<'l>(&self, logs: &'l Logs<'_>, pid: &str) -> &'l [usize]
-        ensures { result.now ≡ own_between (node_log logs.now self.now.node) pid.now self.now.from self.now.to }
+        ensures { result.now ≡ own_between
+            (node_log logs.now self.now.node) pid.now self.now.from self.now.to }
     {
         match logs.node(self.node) {
             Some(log) => between(log.own(pid), self.from, self.to),

@@ -17,8 +17,8 @@ use std::alloc::{AllocError, Global};
 
 /// The spans of the turns of the session with this pid and sid: past the first turn's low, up to the greatest high,
 /// by the bytes of the room, then by the first position. Each turn stands in the log of a node that took the stream in
-/// order. It looks at the session's own records alone, and at the cursors there; rooms are lent by the logs. The one
-/// error is want of memory.
+/// order. It looks at the session's own records alone, and at the cursors there; rooms are borrowed from the logs. The
+/// one error is running out of memory.
 pub fn spans_of_turns<'a>(
     alloc: Global,
     logs: &Logs<'a>,
@@ -27,8 +27,9 @@ pub fn spans_of_turns<'a>(
     turns: &[TurnPlace],
 ) -> Result<Vec<Span<'a>>, AllocError>
     requires { All (IsInOrder logs.now) turns.now }
-    ensures { IfOk result (λ spans. (nsp : Text) → AreSpansOfTurns logs.now.stream
-        (record { pid = pid.now; sid = sid.now; nsp = nsp }) (map (slice_of logs.now) turns.now) spans.items) }
+    ensures { IfOk result (λ spans. (nsp : Text)
+        → AreSpansOfTurns logs.now.stream (record { pid = pid.now; sid = sid.now; nsp = nsp })
+        (map (slice_of logs.now) turns.now) spans.items) }
 {
     let mut builder = SpanBuilder::new(alloc, sid, lowest(logs, turns))?;
     for turn in turns {
@@ -55,7 +56,8 @@ fn walk_turn<'a>(
     turn: &TurnPlace,
 ) -> Result<(), AllocError>
     requires { IsWithin logs.now turn.now }
-    ensures { OnOk result (builder.new ≡ option_map (walked_turn logs.now pid.now turn.now) builder.old) }
+    ensures { OnOk result (builder.new
+        ≡ option_map (walked_turn logs.now pid.now turn.now) builder.old) }
 {
     builder.upto(turn.low(logs))?;
     for number in turn.own(logs, pid) {
@@ -72,7 +74,8 @@ fn walk_record<'a>(
     pid: &str,
     number: usize,
 ) -> Result<(), AllocError>
-    ensures { OnOk result (builder.new ≡ option_map (walked_record logs.now node pid.now number) builder.old) }
+    ensures { OnOk result (builder.new
+        ≡ option_map (walked_record logs.now node pid.now number) builder.old) }
 {
     let Some(log) = logs.node(node) else {
         return Ok(());
@@ -93,7 +96,8 @@ fn change_rooms<'a>(
     pid: &str,
     rec: &'a NodeRec,
 ) -> Result<(), AllocError>
-    ensures { OnOk result (builder.new ≡ option_map (held_after_record pid.now rec.now) builder.old) }
+    ensures { OnOk result (builder.new
+        ≡ option_map (held_after_record pid.now rec.now) builder.old) }
 {
     match rec {
         NodeRec::Join { pid: other, room } if other.as_str() == pid => builder.join(room.as_str()),

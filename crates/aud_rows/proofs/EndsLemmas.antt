@@ -8,7 +8,7 @@ use Rattle.aud_tap.specs.declared.taps.Records.TheVariants.{Stream, Node, Client
 use Rattle.aud_node.specs.Cluster.{Cluster}
 use Rattle.aud_node.specs.NodeTaps.{client_at, client_recs, client_records}
 use Rattle.aud_client.specs.TapPackets.{tap_packets}
-use Rattle.aud_places.specs.StayPlaces.{PlacesSeen}
+use Rattle.aud_client.specs.StayPlaces.{PlacesSeen}
 use Rattle.aud_rows.specs.Seen.{Lost, NoPacket}
 use Rattle.aud_rows.specs.Marks.{marks_of, first_past, open_before}
 use Rattle.aud_rows.specs.ClientPlaces.{places_at}

@@ -10,13 +10,11 @@ use Rattle.aud_client.specs.Replies.{ReplySeen}
 use Rattle.aud_client.specs.Stays.{is_reply}
 use Rattle.aud_client.specs.StaySeen.{StaySeen, AskedSeen, stay_of, reply_of, reply_at, ask_of, asked_of, last_of, before_reply, frame_of}
 use Rattle.aud_client.specs.Received.{stays_of, tap_stays}
-use Rattle.aud_places.specs.PlacedStays.{PlacedPacket, forgotten, placed_stays, tap_placed_stays}
-use Rattle.aud_places.specs.StayPlaces.{PlacesSeen, records_of, last_number, placed_before_reply, places_of}
-use Rattle.aud_places.specs.AreRecordsOf.{GivesAt}
-use Rattle.aud_places.specs.Private.Noted.{places_in}
-use Rattle.aud_places.proofs.Forgetting.{told_placed_in}
-use Rattle.aud_places.proofs.Telling.{is_reply-at}
-use Rattle.aud_places.proofs.Giving.{tap_places}
+use Rattle.aud_client.specs.PlacedStays.{PlacedPacket, forgotten, placed_stays}
+use Rattle.aud_client.specs.StayPlaces.{PlacesSeen, records_of, last_number, placed_before_reply, places_of, places_in, tap_places}
+use Rattle.aud_client.specs.AreRecordsOf.{GivesAt}
+use Rattle.aud_client.proofs.Forgetting.{told_placed_in}
+use Rattle.aud_client.proofs.TellingPlaces.{is_reply-at}
 use Rattle.aud_rows.specs.ClientSays.{GivesIn}
 
 -- P holds of each element, one after the other
@@ -152,7 +150,5 @@ module _ (stream : List StreamRec) (recs : List ClientRec) where
       (connection_tells connection h.0) (connections_tell cs h.1)
 
   -- the stays of a tap, and their records
-  pub tap_tells : AllZip (Tells stream recs) (map (places_of stream) (tap_placed_stays recs)) (tap_stays stream recs)
-  tap_tells =
-      subst (λ l. AllZip (Tells stream recs) l (tap_stays stream recs)) (tap_places stream (tap_packets recs).connections)
-      (connections_tell (tap_packets recs).connections (each_itself (tap_packets recs).connections))
+  pub tap_tells : AllZip (Tells stream recs) (tap_places stream recs) (tap_stays stream recs)
+  tap_tells = connections_tell (tap_packets recs).connections (each_itself (tap_packets recs).connections)

@@ -12,8 +12,8 @@ use Rattle.aud_tap.specs.declared.records.ClientRec.{ClientRec}
 use Rattle.aud_node.specs.NodeTaps.{client_at, client_recs, client_records}
 use Rattle.aud_client.specs.Replies.{ReplySeen}
 use Rattle.aud_client.specs.StaySeen.{StaySeen, AskedSeen, FrameSeen, ask_of, reply_at, frame_of}
-use Rattle.aud_places.specs.StayPlaces.{PlacesSeen}
-use Rattle.aud_lines.specs.TapLines.{TapLines, kept_line}
+use Rattle.aud_client.specs.StayPlaces.{PlacesSeen}
+use Rattle.aud_input.specs.TapLines.{TapLines, kept_line}
 use Rattle.aud_rows.specs.declared.row.Row.{Row}
 use Rattle.aud_rows.specs.declared.row.Role.{Role}
 use Rattle.aud_rows.specs.Seen.{SaysSeen, RowSeen, Asks, Reply, Got, row_seen}

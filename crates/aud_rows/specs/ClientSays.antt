@@ -8,8 +8,8 @@ use Rattle.aud_tap.specs.declared.records.ClientRec.TheVariants as tap
 use Rattle.aud_node.specs.Stream.{Text, entry, offset_of}
 use Rattle.aud_client.specs.TapPackets.{TapPacket, Connection, tap_packets}
 use Rattle.aud_client.specs.StaySeen.{FrameSeen, ask_of, reply_at, frame_of}
-use Rattle.aud_places.specs.PlacedStays.{PlacedPacket, placed_stays}
-use Rattle.aud_places.specs.AreRecordsOf.{GivesAt}
+use Rattle.aud_client.specs.PlacedStays.{PlacedPacket, placed_stays}
+use Rattle.aud_client.specs.AreRecordsOf.{GivesAt}
 use Rattle.aud_rows.specs.Seen.{SaysSeen, Asks, Reply, Got, Lost, NoPacket}
 use Rattle.aud_rows.specs.Marks.{open_before}
 
@@ -29,9 +29,9 @@ pub record Gets (stream : List StreamRec) (recs : List ClientRec) (conn number p
   pub is_of : frame.position ≡ position
   pub has_offset : option_map offset_of (entry stream position) ≡ Some off
 
--- the record with this number of a client's tap says this, where this is the stream: by a CONNECT that asks for a session;
--- by the server's answer to a CONNECT; by an event of the stream; it loses the connection that goes on there; it is the
--- tap's first that is no packet
+-- the record with this number of a client's tap says this, where this is the stream: by a CONNECT that asks for a
+-- session; by the server's answer to a CONNECT; by an event of the stream; it loses the connection that goes on there;
+-- it is the tap's first that is no packet
 abbrev pub ClientSays : List StreamRec → List ClientRec → ℕ → SaysSeen → Type 0
 ClientSays stream recs number (Asks conn pid off) = GivesIn recs ask_of conn number (record { pid = pid; offset = off })
 ClientSays stream recs number (Reply conn sid pid) = GivesIn recs reply_at conn number (record { pid = pid; sid = sid })

@@ -6,8 +6,8 @@ use Rattle.aud_tap.specs.declared.records.ClientRec.TheVariants as tap
 use Rattle.aud_node.specs.Cluster.{Cluster}
 use Rattle.aud_node.specs.NodeTaps.{client_at}
 use Rattle.aud_client.specs.TapPackets.{tap_packets}
-use Rattle.aud_places.specs.StayPlaces.{PlacesSeen}
-use Rattle.aud_lines.specs.TapLines.{TapLines}
+use Rattle.aud_client.specs.StayPlaces.{PlacesSeen}
+use Rattle.aud_input.specs.TapLines.{TapLines}
 use Rattle.aud_rows.specs.declared.row.Role.{Role}
 use Rattle.aud_rows.specs.Seen.{RowSeen, Lost, NoPacket}
 use Rattle.aud_rows.specs.Marks.{marks_of, first_past, open_before}

@@ -1,7 +1,7 @@
 pub use Rattle.aud_node.specs.Cluster
 pub use Rattle.aud_rooms.specs.Turns
-pub use Rattle.aud_lines.specs.TapLines
-pub use Rattle.aud_places.specs.StayPlaces
+pub use Rattle.aud_input.specs.TapLines
+pub use Rattle.aud_client.specs.StayPlaces
 pub mod Seen
 pub mod NodeSays
 pub mod StreamSays

@@ -32,7 +32,7 @@ abbrev pub conn_of : Option ClientRec → Option ℕ
 conn_of (Some (Conn c)) = Some c
 conn_of _ = None
 
--- the number of the connection that goes on in front of the record with this number: that of the last mark before it, unless
--- the connection was lost there
+-- the number of the connection that goes on in front of the record with this number: that of the last mark before it,
+-- unless the connection was lost there
 abbrev pub open_before : List ClientRec → ℕ → Option ℕ
 open_before recs number = option_and_then (λ mark. conn_of (slice_get recs mark)) (last_before number (marks_of recs))

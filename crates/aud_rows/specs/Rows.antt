@@ -6,7 +6,7 @@ use Rattle.aud_tap.specs.declared.taps.Tap.{Tap}
 use Rattle.aud_tap.specs.declared.taps.Records.{Records}
 use Rattle.aud_tap.specs.declared.taps.Records.TheVariants.{Stream}
 use Rattle.aud_node.specs.Cluster.{Cluster, log_at, node_log, stream_place}
-use Rattle.aud_lines.specs.TapLines.{TapLines, kept_line}
+use Rattle.aud_input.specs.TapLines.{TapLines, kept_line}
 use Rattle.aud_rows.specs.declared.row.Role.{Role}
 use Rattle.aud_rows.specs.Seen.{SaysSeen, RowSeen}
 use Rattle.aud_rows.specs.NodeSays.{node_says_at}

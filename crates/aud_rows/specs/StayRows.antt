@@ -9,8 +9,8 @@ use Rattle.aud_node.specs.NodeTaps.{client_at}
 use Rattle.aud_client.specs.Replies.{ReplySeen}
 use Rattle.aud_client.specs.StaySeen.{StaySeen, AskedSeen, FrameSeen}
 use Rattle.aud_client.specs.Received.{tap_stays}
-use Rattle.aud_places.specs.StayPlaces.{PlacesSeen}
-use Rattle.aud_lines.specs.TapLines.{TapLines}
+use Rattle.aud_client.specs.StayPlaces.{PlacesSeen}
+use Rattle.aud_input.specs.TapLines.{TapLines}
 use Rattle.aud_rows.specs.declared.row.Role.{Role}
 use Rattle.aud_rows.specs.Seen.{RowSeen, Asks, Reply, Got}
 use Rattle.aud_rows.specs.ClientPlaces.{places_at}

@@ -5,7 +5,7 @@ use Rattle.aud_tap.specs.declared.taps.Tap.{Tap}
 use Rattle.aud_tap.specs.declared.taps.Records.{Records}
 use Rattle.aud_tap.specs.declared.taps.Records.TheVariants.{Stream, Node, Client}
 use Rattle.aud_node.specs.Cluster.{Cluster}
-use Rattle.aud_lines.specs.TapLines.{TapLines, kept_line}
+use Rattle.aud_input.specs.TapLines.{TapLines, kept_line}
 use Rattle.aud_rows.specs.declared.row.Row.{Row}
 use Rattle.aud_rows.specs.Seen.{SaysSeen, says_seen}
 use Rattle.aud_rows.specs.NodeSays.{node_says_at}
@@ -18,8 +18,8 @@ RecordSays stream (Stream recs) number says = stream_says_at recs number ≡ Som
 RecordSays stream (Node recs) number says = node_says_at stream recs number ≡ Some says
 RecordSays stream (Client recs) number says = ClientSays stream recs number says
 
--- the row has the line of the record with this number in the tap at this place, that tap's name, and what the record says;
--- these are the lines that are kept
+-- the row has the line of the record with this number in the tap at this place, that tap's name, and what the record
+-- says; these are the lines that are kept
 pub record IsTrueRow (c : Cluster) (lines : List TapLines) (row : Row) : Type 0 where
   pub place : ℕ
   pub number : ℕ

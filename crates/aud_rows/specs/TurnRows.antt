@@ -4,7 +4,7 @@ use Rattle.aud_tap.specs.declared.records.NodeRec.{NodeRec}
 use Rattle.aud_tap.specs.declared.records.NodeRec.TheVariants.{Broke}
 use Rattle.aud_node.specs.Cluster.{Cluster, node_log}
 use Rattle.aud_rooms.specs.Turns.{Turn}
-use Rattle.aud_lines.specs.TapLines.{TapLines}
+use Rattle.aud_input.specs.TapLines.{TapLines}
 use Rattle.aud_rows.specs.declared.row.Role.TheVariants as role
 use Rattle.aud_rows.specs.Seen.{RowSeen}
 use Rattle.aud_rows.specs.Rows.{node_row}

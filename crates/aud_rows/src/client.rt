@@ -5,9 +5,8 @@ ghost use Rattle.aud_rows.specs.StayRows.{ask_said, frame_said, reply_said};
 ghost use Rattle.aud_rows.specs.Private.SaidAt.{said_seen};
 
 use crate::row::Says;
-use aud_client::{Frame, Stay};
+use aud_client::{Frame, Stay, StayPlaces};
 use aud_node::{Stream, offset};
-use aud_places::StayPlaces;
 use aud_tap::Text;
 
 /// A record of a client's tap, by its number, and what it says.
@@ -21,7 +20,7 @@ pub struct SaidAt<'r> {
 pub fn ask_said<'r>(places: &StayPlaces, stay: &'r Stay<'_>) -> Option<SaidAt<'r>>
     ensures { option_map said_seen result ≡ ask_said stay.now.c places.now.ask stay.now.asked }
 {
-    let number = places.ask?;
+    let number = places.ask? as usize;
     let asked = stay.asked.as_ref()?;
     let says = Says::Asks {
         conn: stay.c,
@@ -35,7 +34,7 @@ pub fn ask_said<'r>(places: &StayPlaces, stay: &'r Stay<'_>) -> Option<SaidAt<'r
 pub fn reply_said<'r>(places: &StayPlaces, stay: &'r Stay<'_>) -> Option<SaidAt<'r>>
     ensures { option_map said_seen result ≡ reply_said stay.now.c places.now.reply stay.now.reply }
 {
-    let number = places.reply?;
+    let number = places.reply? as usize;
     let reply = stay.reply.as_ref()?;
     let says = Says::Reply {
         conn: stay.c,
@@ -52,9 +51,11 @@ pub fn frame_said<'r>(
     stay: &Stay<'_>,
     frame: usize,
 ) -> Option<SaidAt<'r>>
-    ensures { option_map said_seen result ≡ frame_said stream.now stay.now.c (slice_get places.now.frames frame) (slice_get stay.now.frames frame) }
+    ensures { option_map said_seen result
+        ≡ frame_said stream.now stay.now.c (slice_get places.now.frames frame)
+        (slice_get stay.now.frames frame) }
 {
-    let number = *places.frames.get(frame)?;
+    let number = *places.frames.get(frame)? as usize;
     let position = position_of(stay.frames.get(frame)?);
     let entry = stream.entry(position)?;
     let says = Says::Got {
@@ -71,7 +72,7 @@ fn position_of(frame: &Frame<'_>) -> u64
     frame.position
 }
 
-/// The text, lent.
+/// The text, borrowed.
 fn lent(text: Option<&Text>) -> Option<&str>
     ensures { option_map (λ lent. lent.now) result ≡ option_copied text.entry }
 {

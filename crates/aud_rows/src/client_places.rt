@@ -1,47 +1,41 @@
-//! Where the packets of a client's tap stand, and its connections begin and are lost.
+//! Where the connections of a client's tap begin and are lost.
 ghost use Rattle.std.specs.Prelude.{◌≡◌, ◌++◌, ◌∷◌, [], IfOk, OnOk, Some, if◌then◌else◌, slice_get};
 ghost use Rattle.std.specs.List.Sorted.{IsNonDecreasing};
-ghost use Rattle.aud_rows.specs.ClientPlaces.{AreOf};
+ghost use Rattle.aud_node.specs.NodeTaps.{client_at};
+ghost use Rattle.aud_rows.specs.ClientPlaces.{AreOf, marks_in};
 ghost use Rattle.aud_rows.specs.Marks.{conn_of, first_past, is_mark, last_before, marks_of};
 
-use aud_client::ClientTap;
 use aud_node::Logs;
-use aud_places::{StayPlaces, stay_places};
 use aud_tap::ClientRec;
 use std::alloc::{AllocError, Global};
 
-/// Where the packets of a client's tap stand, and its connections begin and are lost: made once a tap. Records count from 0
-/// after the header.
+/// Where the connections of a client's tap begin and are lost: made once a tap. Records count from 0 after the header.
 #[derive(Debug, Drop)]
 pub struct ClientPlaces {
     /// The place of the tap, from 0 in the order of the headers.
     pub place: usize,
-    /// The records of each stay.
-    pub stays: Vec<StayPlaces>,
     /// The numbers, ascending, of the records that begin a connection or lose it.
     pub marks: Vec<usize>,
 }
 
 impl ClientPlaces {
-    /// Those of the tap at this place, each record of which is decoded once, but for the texts of the stream's events; no stays and no marks where that tap is no
-    /// client's.
+    /// Those of the tap at this place, of which nothing is decoded; no marks where that tap is no client's.
     pub fn read(alloc: Global, logs: &Logs<'_>, place: usize) -> Result<ClientPlaces, AllocError>
         ensures place { IfOk result (λ tap. tap.place ≡ place) }
         ensures records { IfOk result (AreOf logs.now) }
     {
-        let Some(recs) = logs.client(place) else {
-            return Ok(ClientPlaces {
-                place,
-                stays: Vec::new(alloc),
-                marks: Vec::new(alloc),
-            });
-        };
-        let tap = ClientTap::build_by(alloc, recs, logs.stream())?;
-        Ok(ClientPlaces {
-            place,
-            stays: stay_places(alloc, logs.stream(), &tap)?,
-            marks: marks_of(alloc, recs)?,
-        })
+        let marks = marks_at(alloc, logs, place)?;
+        Ok(ClientPlaces { place, marks })
+    }
+}
+
+/// The marks of the tap at this place; none where it is no client's.
+fn marks_at(alloc: Global, logs: &Logs<'_>, place: usize) -> Result<Vec<usize>, AllocError>
+    ensures { IfOk result (λ marks. marks.items ≡ marks_in (client_at logs.now place)) }
+{
+    match logs.client(place) {
+        Some(recs) => marks_of(alloc, recs),
+        None => Ok(Vec::new(alloc)),
     }
 }
 
@@ -58,7 +52,8 @@ fn marks_of(alloc: Global, recs: &[ClientRec]) -> Result<Vec<usize>, AllocError>
 
 /// The record with this number comes next.
 fn note_mark(marks: &mut Vec<usize>, number: usize, rec: &ClientRec) -> Result<(), AllocError>
-    ensures { OnOk result (marks.new.items ≡ (if is_mark (Some rec.now) then marks.old.items ++ number ∷ [] else marks.old.items)) }
+    ensures { OnOk result (marks.new.items ≡ (if is_mark (Some rec.now)
+        then marks.old.items ++ number ∷ [] else marks.old.items)) }
 {
     if is_mark(rec) {
         marks.push(number)?;

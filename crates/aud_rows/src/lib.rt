@@ -1,8 +1,8 @@
-//! The records of a bundle as an explanation shows them: rows, each with the line that its record stands on and what the
-//! record says.
+//! The records of a bundle as an explanation shows them: rows, each with the line that its record stands on and what
+//! the record says.
 //!
-//! With the `recording` of `examples/bundle_a.jsonl`, and the `lines` that `aud_lines::LineIndex` keeps of it; `c1` stands at
-//! place 2:
+//! With the `recording` of `examples/bundle_a.jsonl`, and the `lines` that `aud_input::LineIndex` keeps of it; `c1`
+//! stands at place 2:
 //!
 //! ```
 //! use aud_rows::{ClientPlaces, Role, Says, Sheet};

@@ -11,7 +11,8 @@ use aud_tap::{NodeRec, Text};
 
 /// What the record with this number of the node at this place says.
 pub fn node_says_at<'a>(logs: &Logs<'a>, place: usize, number: usize) -> Option<Says<'a>>
-    ensures { option_map says_seen result ≡ node_says_at logs.now.stream (node_log logs.now place) number }
+    ensures { option_map says_seen result
+        ≡ node_says_at logs.now.stream (node_log logs.now place) number }
 {
     let log = logs.node(place)?;
     let rec = log.recs().get(number)?;

@@ -5,7 +5,7 @@
 pub struct Row<'r> {
     /// The line of the input that the record stands on; lines count from 1.
     pub line: u64,
-    /// The name of its tap, lent.
+    /// The name of its tap, borrowed.
     pub tap: &'r str,
     /// What the record says.
     pub says: Says<'r>,
@@ -14,7 +14,7 @@ pub struct Row<'r> {
 }
 
 /// What a record says, in the words of the session that is explained. Positions count from 1, turns from 0; cursors are
-/// those of the node after the record. Texts are lent.
+/// those of the node after the record. Texts are borrowed.
 #[derive(Clone, Copy, Debug, PartialEq, Eq, Drop)]
 pub enum Says<'r> {
     /// An entry of the stream.

@@ -13,7 +13,8 @@ use aud_tap::{Records, StreamRec, Tap};
 /// What the entry at this position of the stream's tap at this place says.
 pub fn entry_says<'a>(logs: &Logs<'a>, place: usize, position: u64) -> Option<Says<'a>>
     requires { 0 < position }
-    ensures { option_map says_seen result ≡ stream_says_at (stream_recs (log_at logs.now place)) (position - 1) }
+    ensures { option_map says_seen result
+        ≡ stream_says_at (stream_recs (log_at logs.now place)) (position - 1) }
 {
     let rec = entry_in(logs.taps().get(place)?, position as usize - 1)?;
     Some(Says::Entry {

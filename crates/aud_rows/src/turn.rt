@@ -14,7 +14,8 @@ use aud_tap::NodeRec;
 impl<'r, 'a> Sheet<'r, 'a> {
     /// The row of a turn's first record, which is its `open` or its `back`.
     pub fn begin_row(&self, turn: TurnPlace) -> Option<Row<'r>>
-        ensures row { option_map row_seen result ≡ begin_row self.now.recording.now self.now.lines.now turn }
+        ensures row { option_map row_seen result
+            ≡ begin_row self.now.recording.now self.now.lines.now turn }
         ensures truth { IfSome result (IsTrueRow self.now.recording.now self.now.lines.now) }
     {
         self.node_row(turn.node, turn.from, Role::Back)
@@ -22,7 +23,8 @@ impl<'r, 'a> Sheet<'r, 'a> {
 
     /// The row of a turn's last record, where that is a `break`.
     pub fn break_row(&self, turn: TurnPlace) -> Option<Row<'r>>
-        ensures row { option_map row_seen result ≡ break_row self.now.recording.now self.now.lines.now turn }
+        ensures row { option_map row_seen result
+            ≡ break_row self.now.recording.now self.now.lines.now turn }
         ensures truth { IfSome result (IsTrueRow self.now.recording.now self.now.lines.now) }
     {
         if is_broken(self.recording.logs(), turn) {

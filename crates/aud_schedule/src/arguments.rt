@@ -3,6 +3,7 @@ ghost use Rattle.std.specs.Prelude.{IfOk, IfSome};
 ghost use Rattle.aud_schedule.specs.Plans.{IsPossible};
 
 use crate::plan::{Fault, Plan};
+use aud_base::VERSION;
 use clap::builder::ValueParser;
 use clap::error::ErrorKind;
 use clap::{Arg, ArgMatches, Command, Error, value_parser};
@@ -117,10 +118,12 @@ fn simulate<'a>(alloc: Global) -> Result<Command<'a>, AllocError> {
     sized(alloc)?.arg(acts)?.arg(seed)?.arg(fault)
 }
 
-/// The parser of the words.
+/// The parser of the arguments.
 fn command<'a>(alloc: Global) -> Result<Command<'a>, AllocError> {
     let simulate = simulate(alloc)?;
     Command::new(alloc, "sioaudit")
+        .version(VERSION)
+        .propagate_version(true)
         .no_binary_name(true)
         .subcommand_required(true)
         .subcommand(simulate)?
@@ -161,14 +164,14 @@ fn plan_of(matches: &ArgMatches<'_>) -> Option<Plan>
     if plan.is_possible() { Some(plan) } else { None }
 }
 
-/// The error on words that the parser lets pass, and that no schedule can be made for.
+/// The error on arguments that the parser lets pass, and that no schedule can be made for.
 fn no_room(alloc: Global) -> Result<Error, AllocError> {
     command(alloc)?.error(ErrorKind::ValueValidation, NO_ROOM)
 }
 
-/// What the words after the program's name ask for, of which the first is `simulate`: the plan keeps to the limits of a
-/// cluster, and has room for its fault. The error has the text to print: help that was asked for, or why the words are
-/// refused; where memory ran out its kind is `OutOfMemory`.
+/// What the arguments after the program's name ask for, of which the first is `simulate`: the plan keeps to the limits
+/// of a cluster, and has room for its fault. The error has the text to print: help that was asked for, or why the
+/// arguments are refused; where memory ran out its kind is `OutOfMemory`.
 pub fn plan_asked<'a>(alloc: Global, words: &'a [&'a str]) -> Result<Plan, Error>
     ensures { IfOk result IsPossible }
 {

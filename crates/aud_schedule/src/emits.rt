@@ -1,4 +1,4 @@
-//! Events: their words, the rooms that they are for, and their attachments.
+//! Events: their arguments, the rooms that they are for, and their attachments.
 ghost use Rattle.std.specs.Prelude.{◌≡◌, IfOk};
 ghost use Rattle.aud_schedule.specs.Acts.{IsQuiet};
 

@@ -16,7 +16,8 @@ use std::alloc::AllocError;
 /// Puts an act at the end.
 pub fn add(acts: &mut Vec<Act>, act: Act) -> Result<(), AllocError>
     ensures length { OnOk result (length acts.new.items ≡ length acts.old.items + 1) }
-    ensures grown { OnOk result ((size : Size) → is_settled act ≡ true → IsWithin size.nodes size.clients act
+    ensures grown { OnOk result ((size : Size) → is_settled act ≡ true
+        → IsWithin size.nodes size.clients act
         → Grown size 1 (option_to_list (fault_of act None)) acts.old.items acts.new.items) }
 {
     acts.push(act)?;
@@ -111,7 +112,8 @@ fn spoil(
     requires settled { is_settled act ≡ true }
     requires within { IsWithin course.old.size.nodes course.old.size.clients act }
     ensures size { course.new.size ≡ course.old.size }
-    ensures acts { OnOk result (Grown course.old.size 25 (option_to_list (fault_of act None)) acts.old.items acts.new.items) }
+    ensures acts { OnOk result (Grown course.old.size 25
+        (option_to_list (fault_of act None)) acts.old.items acts.new.items) }
 {
     let node = connect(course, acts, client)?;
     add(acts, act)?;
@@ -137,7 +139,8 @@ fn lag(course: &mut Course, acts: &mut Vec<Act>, client: usize) -> Result<(), Al
     requires nodes { 2 ≤ course.old.size.nodes }
     requires client { IsUpTo course.old.size.clients client }
     ensures size { course.new.size ≡ course.old.size }
-    ensures acts { OnOk result (Grown course.old.size 25 (Lagging ∷ []) acts.old.items acts.new.items) }
+    ensures acts { OnOk result (Grown course.old.size 25
+        (Lagging ∷ []) acts.old.items acts.new.items) }
 {
     let node = receive(course, acts, client)?;
     add(acts, Act::Cut { client })?;
@@ -154,11 +157,13 @@ fn lag(course: &mut Course, acts: &mut Vec<Act>, client: usize) -> Result<(), Al
     Ok(())
 }
 
-/// An event that a client receives, and then its break, and its recovery, for which it asks with an offset that no entry has.
+/// An event that a client receives, and then its break, and its recovery, for which it asks with an offset that no
+/// entry has.
 fn ask_unknown(course: &mut Course, acts: &mut Vec<Act>, client: usize) -> Result<(), AllocError>
     requires { IsUpTo course.old.size.clients client }
     ensures size { course.new.size ≡ course.old.size }
-    ensures acts { OnOk result (Grown course.old.size 25 (Unknown ∷ []) acts.old.items acts.new.items) }
+    ensures acts { OnOk result (Grown course.old.size 25
+        (Unknown ∷ []) acts.old.items acts.new.items) }
 {
     let node = receive(course, acts, client)?;
     add(acts, Act::Cut { client })?;
@@ -174,7 +179,8 @@ fn leave_unanswered(
 ) -> Result<(), AllocError>
     requires { IsUpTo course.old.size.clients client }
     ensures size { course.new.size ≡ course.old.size }
-    ensures acts { OnOk result (Grown course.old.size 25 (Unanswered ∷ []) acts.old.items acts.new.items) }
+    ensures acts { OnOk result (Grown course.old.size 25
+        (Unanswered ∷ []) acts.old.items acts.new.items) }
 {
     disconnect(course, acts, client)?;
     let node = course.some_node();
@@ -189,7 +195,8 @@ fn leave_unanswered(
 fn misname(course: &mut Course, acts: &mut Vec<Act>, client: usize) -> Result<(), AllocError>
     requires { IsUpTo course.old.size.clients client }
     ensures size { course.new.size ≡ course.old.size }
-    ensures acts { OnOk result (Grown course.old.size 25 (Misnamed ∷ []) acts.old.items acts.new.items) }
+    ensures acts { OnOk result (Grown course.old.size 25
+        (Misnamed ∷ []) acts.old.items acts.new.items) }
 {
     disconnect(course, acts, client)?;
     let node = course.some_node();
@@ -202,7 +209,8 @@ fn misname(course: &mut Course, acts: &mut Vec<Act>, client: usize) -> Result<()
 fn lose_open(course: &mut Course, acts: &mut Vec<Act>, client: usize) -> Result<(), AllocError>
     requires { IsUpTo course.old.size.clients client }
     ensures size { course.new.size ≡ course.old.size }
-    ensures acts { OnOk result (Grown course.old.size 25 (LostOpen ∷ []) acts.old.items acts.new.items) }
+    ensures acts { OnOk result (Grown course.old.size 25
+        (LostOpen ∷ []) acts.old.items acts.new.items) }
 {
     disconnect(course, acts, client)?;
     let node = course.some_node();
@@ -211,12 +219,13 @@ fn lose_open(course: &mut Course, acts: &mut Vec<Act>, client: usize) -> Result<
     Ok(())
 }
 
-/// A room that a session leaves and joins again, whose `join` is lost, and an event for the room; all that came before was
-/// taken, so that this is the first that the record of the node does not tell of.
+/// A room that a session leaves and joins again, whose `join` is lost, and an event for the room; all that came before
+/// was taken, so that this is the first that the record of the node does not tell of.
 fn lose_join(course: &mut Course, acts: &mut Vec<Act>, client: usize) -> Result<(), AllocError>
     requires { IsUpTo course.old.size.clients client }
     ensures size { course.new.size ≡ course.old.size }
-    ensures acts { OnOk result (Grown course.old.size 25 (LostJoin ∷ []) acts.old.items acts.new.items) }
+    ensures acts { OnOk result (Grown course.old.size 25
+        (LostJoin ∷ []) acts.old.items acts.new.items) }
 {
     let node = connect(course, acts, client)?;
     catch_up(course, acts, node)?;
@@ -229,7 +238,8 @@ fn lose_join(course: &mut Course, acts: &mut Vec<Act>, client: usize) -> Result<
 fn lose_room(course: &mut Course, acts: &mut Vec<Act>, client: usize) -> Result<(), AllocError>
     requires { IsUpTo course.old.size.clients client }
     ensures size { course.new.size ≡ course.old.size }
-    ensures acts { OnOk result (Grown course.old.size 4 (LostJoin ∷ []) acts.old.items acts.new.items) }
+    ensures acts { OnOk result (Grown course.old.size 4
+        (LostJoin ∷ []) acts.old.items acts.new.items) }
 {
     let alloc = course.alloc;
     let index = course.below(4);
@@ -248,7 +258,8 @@ fn lose_room(course: &mut Course, acts: &mut Vec<Act>, client: usize) -> Result<
 fn lose_break(course: &mut Course, acts: &mut Vec<Act>, client: usize) -> Result<(), AllocError>
     requires { IsUpTo course.old.size.clients client }
     ensures size { course.new.size ≡ course.old.size }
-    ensures acts { OnOk result (Grown course.old.size 25 (LostBreak ∷ []) acts.old.items acts.new.items) }
+    ensures acts { OnOk result (Grown course.old.size 25
+        (LostBreak ∷ []) acts.old.items acts.new.items) }
 {
     let node = receive(course, acts, client)?;
     add_two(acts, Act::LoseLine, Act::Cut { client })?;
@@ -260,7 +271,8 @@ fn lose_break(course: &mut Course, acts: &mut Vec<Act>, client: usize) -> Result
 fn repeat_take(course: &mut Course, acts: &mut Vec<Act>, client: usize) -> Result<(), AllocError>
     requires { IsUpTo course.old.size.clients client }
     ensures size { course.new.size ≡ course.old.size }
-    ensures acts { OnOk result (Grown course.old.size 25 (RepeatedTake ∷ []) acts.old.items acts.new.items) }
+    ensures acts { OnOk result (Grown course.old.size 25
+        (RepeatedTake ∷ []) acts.old.items acts.new.items) }
 {
     let node = connect(course, acts, client)?;
     emit_to_all(course, acts)?;
@@ -273,7 +285,8 @@ fn repeat_take(course: &mut Course, acts: &mut Vec<Act>, client: usize) -> Resul
 pub fn inject(course: &mut Course, acts: &mut Vec<Act>, fault: Fault) -> Result<(), AllocError>
     requires { fault ≡ brought.Lag → 2 ≤ course.old.size.nodes }
     ensures size { course.new.size ≡ course.old.size }
-    ensures acts { OnOk result (Grown course.old.size 25 (kind_of fault ∷ []) acts.old.items acts.new.items) }
+    ensures acts { OnOk result (Grown course.old.size 25
+        (kind_of fault ∷ []) acts.old.items acts.new.items) }
 {
     let client = course.some_client();
     match fault {

@@ -12,8 +12,8 @@
 //! assert_eq!(rt; acts.len(), 40);
 //! ```
 //!
-//! The command `simulate`: [`plan_asked`] reads its arguments, and [`simulated`] is the bundle that it writes, the same on
-//! every machine:
+//! The command `simulate`: [`plan_asked`] reads its arguments, and [`simulated`] is the bundle that it writes, the same
+//! on every machine:
 //!
 //! ```
 //! use aud_schedule::{plan_asked, simulated};

@@ -54,8 +54,8 @@ impl Plan {
     ghost use Rattle.std.specs.Prelude.{◌↔◌, IsTrue};
     ghost use Rattle.aud_schedule.specs.Plans.{IsPossible};
 
-    /// Whether a schedule can be made: the cluster has 1 to 64 nodes and 1 to 4,096 clients, there are at most 1,000,000
-    /// acts, and there is room for the fault.
+    /// Whether a schedule can be made: the cluster has 1 to 64 nodes and 1 to 4,096 clients, there are at most
+    /// 1,000,000 acts, and there is room for the fault.
     pub fn is_possible(&self) -> bool
         ensures { IsTrue result ↔ IsPossible self.now }
     {

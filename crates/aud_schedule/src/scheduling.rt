@@ -39,7 +39,8 @@ fn begin_with(
     requires nodes { fault ≡ brought.Lag → 2 ≤ course.old.size.nodes }
     ensures size { course.new.size ≡ course.old.size }
     ensures length { OnOk result (length acts.new.items ≤ count) }
-    ensures acts { OnOk result (Grown course.old.size count (kind_of fault ∷ []) acts.old.items acts.new.items) }
+    ensures acts { OnOk result (Grown course.old.size count
+        (kind_of fault ∷ []) acts.old.items acts.new.items) }
 {
     let before = course.below(count - FAULT_ACTS + 1);
     fill(course, acts, before as usize)?;
@@ -59,7 +60,8 @@ fn begin(
     requires nodes { least_nodes fault ≤ course.old.size.nodes }
     ensures size { course.new.size ≡ course.old.size }
     ensures length { OnOk result (length acts.new.items ≤ count) }
-    ensures acts { OnOk result (Grown course.old.size count (map kind_of (option_to_list fault)) acts.old.items acts.new.items) }
+    ensures acts { OnOk result (Grown course.old.size count
+        (map kind_of (option_to_list fault)) acts.old.items acts.new.items) }
 {
     match fault {
         Some(fault) => begin_with(course, acts, fault, count)?,
@@ -68,14 +70,16 @@ fn begin(
     Ok(())
 }
 
-/// The acts of a plan, in their order: as many as it asks for, its fault among them once, and no other fault. Each act is
-/// possible where it stands, and an audit of the bundle that they make answers yes for every session where the plan has no
-/// fault, and no for the session of the fault.
+/// The acts of a plan, in their order: as many as it asks for, its fault among them once, and no other fault. Each act
+/// is possible where it stands, and an audit of the bundle that they make answers yes for every session where the plan
+/// has no fault, and no for the session of the fault.
 pub fn schedule(alloc: Global, plan: &Plan) -> Result<Vec<Act>, AllocError>
     requires { IsPossible plan.now }
     ensures length { IfOk result (λ acts. length acts.items ≡ plan.now.acts) }
-    ensures faults { IfOk result (λ acts. faults acts.items ≡ map kind_of (option_to_list plan.now.fault)) }
-    ensures within { IfOk result (λ acts. All (IsWithin plan.now.nodes plan.now.clients) acts.items) }
+    ensures faults { IfOk result (λ acts. faults acts.items
+        ≡ map kind_of (option_to_list plan.now.fault)) }
+    ensures within { IfOk result (λ acts. All
+        (IsWithin plan.now.nodes plan.now.clients) acts.items) }
 {
     let size = Size {
         nodes: plan.nodes as usize,

@@ -10,7 +10,7 @@ use Rattle.aud_check.specs.Frames.{frames_in}
 use Rattle.aud_maker.specs.Made.{IsMade}
 use Rattle.aud_maker.proofs.BegunLemmas.{one_chain}
 use Rattle.aud_maker.proofs.Over.{turns-there}
-use Rattle.aud_lines.specs.TapLines.{TapLines}
+use Rattle.aud_input.specs.TapLines.{TapLines}
 use Rattle.aud_evidence.specs.declared.content.Altered.{Altered}
 use Rattle.aud_evidence.specs.declared.difference.Difference.{Difference}
 use Rattle.aud_evidence.specs.declared.window.BadWindow.{BadWindow}

@@ -2,7 +2,7 @@
 use Rattle.std.specs.Prelude.{List, [], flat_map, Option, Some, None, option_to_list}
 use Rattle.std.specs.Option.{option_and_then}
 use Rattle.aud_node.specs.Cluster.{Cluster}
-use Rattle.aud_lines.specs.TapLines.{TapLines}
+use Rattle.aud_input.specs.TapLines.{TapLines}
 use Rattle.aud_chain.specs.declared.marks.Mark.{Mark}
 use Rattle.aud_chain.specs.declared.marks.Mark.TheVariants as mark
 use Rattle.aud_chain.specs.declared.marks.TurnMark.{TurnMark}

@@ -1,7 +1,7 @@
 -- The rows that show that a node's log is out of order.
 use Rattle.std.specs.Prelude.{ℕ, zero, suc, List, [], Option, None}
 use Rattle.aud_node.specs.Cluster.{Cluster}
-use Rattle.aud_lines.specs.TapLines.{TapLines}
+use Rattle.aud_input.specs.TapLines.{TapLines}
 use Rattle.aud_rows.specs.declared.row.Role.TheVariants.{Earlier, Fault}
 use Rattle.aud_rows.specs.Rows.{node_row}
 use Rattle.aud_rows.specs.Seen.{RowSeen}

@@ -1,7 +1,7 @@
 -- Lists of rows.
 use Rattle.std.specs.Prelude.{List, ◌++◌, All, Option, option_to_list}
 use Rattle.aud_node.specs.Cluster.{Cluster}
-use Rattle.aud_lines.specs.TapLines.{TapLines}
+use Rattle.aud_input.specs.TapLines.{TapLines}
 use Rattle.aud_rows.specs.declared.row.Row.{Row}
 use Rattle.aud_rows.specs.Seen.{RowSeen}
 use Rattle.aud_rows.specs.TrueRow.{IsTrueRow}

@@ -6,7 +6,7 @@ use Rattle.aud_rooms.specs.Turns.{Turn}
 use Rattle.aud_cert.specs.Certificate.{turn_at}
 use Rattle.aud_merge.specs.declared.step.Step.{Step}
 use Rattle.aud_merge.specs.ByTurns.{reaching_step}
-use Rattle.aud_lines.specs.TapLines.{TapLines}
+use Rattle.aud_input.specs.TapLines.{TapLines}
 use Rattle.aud_rows.specs.declared.row.Role.{Role}
 use Rattle.aud_rows.specs.declared.row.Role.TheVariants.{Ask, Entry, Reached}
 use Rattle.aud_rows.specs.Seen.{RowSeen}
@@ -16,8 +16,8 @@ use Rattle.aud_shown.specs.declared.frame_place.FramePlace.{FramePlace}
 use Rattle.aud_shown.specs.declared.session.ShownSession.{ShownSession}
 use Rattle.aud_shown.specs.FramePlaces.{frame_at}
 
--- a session of a cluster, the lines of its records, its turns in the nodes' logs, the place of its client's tap, and the
--- numbers of the stays there whose reply names it
+-- a session of a cluster, the lines of its records, its turns in the nodes' logs, the place of its client's tap, and
+-- the numbers of the stays there whose reply names it
 pub record Session : Type 0 where
   pub c : Cluster
   pub lines : List TapLines

@@ -5,14 +5,14 @@ use Rattle.aud_node.specs.Stream.{Text}
 use Rattle.aud_check.specs.Frames.{frames_in}
 use Rattle.aud_evidence.specs.declared.content.Altered.{Altered}
 use Rattle.aud_evidence.specs.Content.{IsAltered}
-use Rattle.aud_lines.specs.TapLines.{TapLines}
+use Rattle.aud_input.specs.TapLines.{TapLines}
 use Rattle.aud_rows.specs.Seen.{RowSeen}
 use Rattle.aud_verdict.specs.Session.{SessionLogs, IsSession, own_stays}
 use Rattle.aud_shown.specs.ContentRows.{altered_rows}
 use Rattle.aud_shown.specs.ShowsDifference.{AreNumbersOf}
 
--- of all that the client received of the session with this pid there is a first frame that isn't its entry, and these are
--- its rows, over the session's turns and its client's stays
+-- of all that the client received of the session with this pid there is a first frame that isn't its entry, and these
+-- are its rows, over the session's turns and its client's stays
 pub record ShowsAltered (c : Cluster) (lines : List TapLines) (pid : Text) (rows : List RowSeen) : Type 0 where
   pub session : SessionLogs
   pub is_session : IsSession c pid session

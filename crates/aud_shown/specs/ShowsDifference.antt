@@ -7,7 +7,7 @@ use Rattle.aud_client.specs.Received.{stays_naming, stays_numbered}
 use Rattle.aud_evidence.specs.declared.difference.Difference.{Difference}
 use Rattle.aud_evidence.specs.Difference.{IsDifference}
 use Rattle.aud_evidence.specs.Window.{positions_received}
-use Rattle.aud_lines.specs.TapLines.{TapLines}
+use Rattle.aud_input.specs.TapLines.{TapLines}
 use Rattle.aud_rows.specs.Seen.{RowSeen}
 use Rattle.aud_rows.specs.StayRows.{stays_at}
 use Rattle.aud_verdict.specs.Session.{SessionLogs, IsSession, own_stays, due_to}

@@ -4,14 +4,14 @@ use Rattle.aud_node.specs.Cluster.{Cluster}
 use Rattle.aud_node.specs.Stream.{Text}
 use Rattle.aud_evidence.specs.declared.window.BadWindow.{BadWindow}
 use Rattle.aud_evidence.specs.Window.{IsBadWindow}
-use Rattle.aud_lines.specs.TapLines.{TapLines}
+use Rattle.aud_input.specs.TapLines.{TapLines}
 use Rattle.aud_rows.specs.Seen.{RowSeen}
 use Rattle.aud_verdict.specs.Session.{SessionLogs, IsSession, own_stays}
 use Rattle.aud_shown.specs.WindowRows.{window_rows}
 use Rattle.aud_shown.specs.ShowsDifference.{AreNumbersOf}
 
--- of the stays of the session with this pid there is a first one that was asked for where it doesn't fit, and these are its
--- rows, over the session's turns and its client's stays
+-- of the stays of the session with this pid there is a first one that was asked for where it doesn't fit, and these are
+-- its rows, over the session's turns and its client's stays
 pub record ShowsWindow (c : Cluster) (lines : List TapLines) (pid : Text) (rows : List RowSeen) : Type 0 where
   pub session : SessionLogs
   pub is_session : IsSession c pid session

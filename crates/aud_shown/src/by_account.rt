@@ -26,8 +26,8 @@ use aud_evidence::{Altered, BadWindow, first_altered, first_bad_window};
 use aud_rows::Row;
 use std::alloc::{AllocError, Global};
 
-/// The rows that show where what the client received of the session first parts from what was due to it; none where those
-/// due begin with those received. The account is the session's, whose turns and stays `session` has.
+/// The rows that show where what the client received of the session first parts from what was due to it; none where
+/// those due begin with those received. The account is the session's, whose turns and stays `session` has.
 pub fn difference_shown<'r>(
     alloc: Global,
     session: &ShownSession<'_, 'r, '_>,
@@ -38,12 +38,18 @@ pub fn difference_shown<'r>(
     requires turns { session.now.turns.now ≡ account.now.cert.turns }
     ensures shown { (pid : Text) → AreNamedOnce session.now.sheet.recording.now.taps
         → IsMade session.now.sheet.recording.now pid account.now.cert
-        → IsAccount session.now.sheet.recording.now pid account.now.client (map (λ stay. stay.now) account.now.stays.items) account.now.due.items
-        → AreNumbersOf session.now.sheet.recording.now pid account.now.client session.now.numbers.now
+        → IsAccount session.now.sheet.recording.now pid account.now.client
+        (map (λ stay. stay.now) account.now.stays.items) account.now.due.items
+        → AreNumbersOf session.now.sheet.recording.now pid account.now.client
+        session.now.numbers.now
         → IfOk result (λ found. MatchOption found
-        (IsPrefixOf (positions_received (map (λ stay. stay.now) account.now.stays.items)) account.now.due.items)
-        (λ rows. ShowsDifference session.now.sheet.recording.now session.now.sheet.lines.now pid (map row_seen rows.items))) }
-    ensures truth { IfOk result (λ found. IfSome found (λ rows. AreTrueRows session.now.sheet.recording.now session.now.sheet.lines.now rows.items)) }
+        (IsPrefixOf (positions_received (map (λ stay. stay.now) account.now.stays.items))
+        account.now.due.items)
+        (λ rows. ShowsDifference session.now.sheet.recording.now session.now.sheet.lines.now pid
+        (map row_seen rows.items))) }
+    ensures truth { IfOk result (λ found. IfSome found
+        (λ rows. AreTrueRows session.now.sheet.recording.now session.now.sheet.lines.now
+        rows.items)) }
 {
     match difference_in(alloc, account)? {
         Some(difference) => Ok(Some(difference_rows(alloc, session, difference)?)),
@@ -51,8 +57,8 @@ pub fn difference_shown<'r>(
     }
 }
 
-/// The rows that show the first event that came with another content than its entry's; none where each frame is its entry.
-/// The account is the session's, whose turns and stays `session` has.
+/// The rows that show the first event that came with another content than its entry's; none where each frame is its
+/// entry. The account is the session's, whose turns and stays `session` has.
 pub fn altered_shown<'r>(
     alloc: Global,
     session: &ShownSession<'_, 'r, '_>,
@@ -63,12 +69,18 @@ pub fn altered_shown<'r>(
     requires turns { session.now.turns.now ≡ account.now.cert.turns }
     ensures shown { (pid : Text) → AreNamedOnce session.now.sheet.recording.now.taps
         → IsMade session.now.sheet.recording.now pid account.now.cert
-        → IsAccount session.now.sheet.recording.now pid account.now.client (map (λ stay. stay.now) account.now.stays.items) account.now.due.items
-        → AreNumbersOf session.now.sheet.recording.now pid account.now.client session.now.numbers.now
+        → IsAccount session.now.sheet.recording.now pid account.now.client
+        (map (λ stay. stay.now) account.now.stays.items) account.now.due.items
+        → AreNumbersOf session.now.sheet.recording.now pid account.now.client
+        session.now.numbers.now
         → IfOk result (λ found. MatchOption found
-        (AreEntries session.now.sheet.recording.now.stream (frames_in (map (λ stay. stay.now) account.now.stays.items)))
-        (λ rows. ShowsAltered session.now.sheet.recording.now session.now.sheet.lines.now pid (map row_seen rows.items))) }
-    ensures truth { IfOk result (λ found. IfSome found (λ rows. AreTrueRows session.now.sheet.recording.now session.now.sheet.lines.now rows.items)) }
+        (AreEntries session.now.sheet.recording.now.stream
+        (frames_in (map (λ stay. stay.now) account.now.stays.items)))
+        (λ rows. ShowsAltered session.now.sheet.recording.now session.now.sheet.lines.now pid
+        (map row_seen rows.items))) }
+    ensures truth { IfOk result (λ found. IfSome found
+        (λ rows. AreTrueRows session.now.sheet.recording.now session.now.sheet.lines.now
+        rows.items)) }
 {
     match altered_in(alloc, session, account)? {
         Some(altered) => Ok(Some(altered_rows(alloc, session, altered)?)),
@@ -83,16 +95,19 @@ fn altered_in(
     account: &Account<'_, '_>,
 ) -> Result<Option<Altered>, AllocError>
     ensures { IfOk result (λ found. MatchOption found
-        (AreEntries session.now.sheet.recording.now.stream (frames_in (map (λ stay. stay.now) account.now.stays.items)))
-        (IsAltered session.now.sheet.recording.now.stream (frames_in (map (λ stay. stay.now) account.now.stays.items)))) }
+        (AreEntries session.now.sheet.recording.now.stream
+        (frames_in (map (λ stay. stay.now) account.now.stays.items)))
+        (IsAltered session.now.sheet.recording.now.stream
+        (frames_in (map (λ stay. stay.now) account.now.stays.items)))) }
 {
     let frames = frames_in(alloc, account.stays.as_slice())?;
     let stream = session.sheet.recording.logs().stream();
     Ok(first_altered(stream, frames.as_slice()))
 }
 
-/// The rows that show the first recovery that was asked for where it doesn't fit what had come; none where there is none.
-/// The account is the session's, whose turns and stays `session` has; what was received is to ascend, as what was due does.
+/// The rows that show the first recovery that was asked for where it doesn't fit what had come; none where there is
+/// none. The account is the session's, whose turns and stays `session` has; what was received is to ascend, as what was
+/// due does.
 pub fn window_shown<'r>(
     alloc: Global,
     session: &ShownSession<'_, 'r, '_>,
@@ -103,13 +118,19 @@ pub fn window_shown<'r>(
     requires turns { session.now.turns.now ≡ account.now.cert.turns }
     ensures shown { (pid : Text) → AreNamedOnce session.now.sheet.recording.now.taps
         → IsMade session.now.sheet.recording.now pid account.now.cert
-        → IsAccount session.now.sheet.recording.now pid account.now.client (map (λ stay. stay.now) account.now.stays.items) account.now.due.items
-        → AreNumbersOf session.now.sheet.recording.now pid account.now.client session.now.numbers.now
+        → IsAccount session.now.sheet.recording.now pid account.now.client
+        (map (λ stay. stay.now) account.now.stays.items) account.now.due.items
+        → AreNumbersOf session.now.sheet.recording.now pid account.now.client
+        session.now.numbers.now
         → IsAscending (positions_received (map (λ stay. stay.now) account.now.stays.items))
         → IfOk result (λ found. MatchOption found
-        (wrong_window session.now.sheet.recording.now.stream [] (map (λ stay. stay.now) account.now.stays.items) ≡ None)
-        (λ rows. ShowsWindow session.now.sheet.recording.now session.now.sheet.lines.now pid (map row_seen rows.items))) }
-    ensures truth { IfOk result (λ found. IfSome found (λ rows. AreTrueRows session.now.sheet.recording.now session.now.sheet.lines.now rows.items)) }
+        (wrong_window session.now.sheet.recording.now.stream []
+        (map (λ stay. stay.now) account.now.stays.items)
+        ≡ None) (λ rows. ShowsWindow session.now.sheet.recording.now session.now.sheet.lines.now pid
+        (map row_seen rows.items))) }
+    ensures truth { IfOk result (λ found. IfSome found
+        (λ rows. AreTrueRows session.now.sheet.recording.now session.now.sheet.lines.now
+        rows.items)) }
 {
     match window_in(alloc, session, account)? {
         Some(window) => Ok(Some(window_rows(alloc, session, window)?)),
@@ -123,9 +144,12 @@ fn window_in(
     session: &ShownSession<'_, '_, '_>,
     account: &Account<'_, '_>,
 ) -> Result<Option<BadWindow>, AllocError>
-    ensures { IsAscending (positions_received (map (λ stay. stay.now) account.now.stays.items)) → IfOk result (λ found. MatchOption found
-        (wrong_window session.now.sheet.recording.now.stream [] (map (λ stay. stay.now) account.now.stays.items) ≡ None)
-        (IsBadWindow session.now.sheet.recording.now.stream (map (λ stay. stay.now) account.now.stays.items))) }
+    ensures { IsAscending (positions_received (map (λ stay. stay.now) account.now.stays.items))
+        → IfOk result (λ found. MatchOption found
+        (wrong_window session.now.sheet.recording.now.stream []
+        (map (λ stay. stay.now) account.now.stays.items)
+        ≡ None) (IsBadWindow session.now.sheet.recording.now.stream
+        (map (λ stay. stay.now) account.now.stays.items))) }
 {
     let stays = account.stays.as_slice();
     let positions = positions_received(alloc, stays)?;

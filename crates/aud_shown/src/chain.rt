@@ -10,15 +10,17 @@ use aud_chain::{Mark, Misfit, RecordPlace, TurnMark};
 use aud_rows::{Role, Row, Sheet};
 use std::alloc::{AllocError, Global};
 
-/// The rows of the records that do not fit together: the earlier one, the `break`, and the one that is at fault, as far as
-/// the misfit names them. A record whose line isn't known has no row.
+/// The rows of the records that do not fit together: the earlier one, the `break`, and the one that is at fault, as far
+/// as the misfit names them. A record whose line isn't known has no row.
 pub fn misfit_rows<'r>(
     alloc: Global,
     sheet: &Sheet<'r, '_>,
     misfit: Misfit,
 ) -> Result<Vec<Row<'r>>, AllocError>
-    ensures rows { IfOk result (λ rows. map row_seen rows.items ≡ misfit_rows sheet.now.recording.now sheet.now.lines.now misfit) }
-    ensures truth { IfOk result (λ rows. AreTrueRows sheet.now.recording.now sheet.now.lines.now rows.items) }
+    ensures rows { IfOk result (λ rows. map row_seen rows.items
+        ≡ misfit_rows sheet.now.recording.now sheet.now.lines.now misfit) }
+    ensures truth { IfOk result (λ rows.
+        AreTrueRows sheet.now.recording.now sheet.now.lines.now rows.items) }
 {
     let mut rows = Vec::new(alloc);
     push_row(
@@ -36,8 +38,10 @@ pub fn mark_rows<'r>(
     sheet: &Sheet<'r, '_>,
     marks: &[TurnMark],
 ) -> Result<Vec<Row<'r>>, AllocError>
-    ensures rows { IfOk result (λ rows. map row_seen rows.items ≡ mark_rows sheet.now.recording.now sheet.now.lines.now marks.now) }
-    ensures truth { IfOk result (λ rows. AreTrueRows sheet.now.recording.now sheet.now.lines.now rows.items) }
+    ensures rows { IfOk result (λ rows. map row_seen rows.items
+        ≡ mark_rows sheet.now.recording.now sheet.now.lines.now marks.now) }
+    ensures truth { IfOk result (λ rows.
+        AreTrueRows sheet.now.recording.now sheet.now.lines.now rows.items) }
 {
     let mut rows = Vec::new(alloc);
     for mark in marks {
@@ -64,7 +68,8 @@ fn mark_role(mark: Mark) -> Role
 
 /// The row of the record at the place, if there is one.
 fn place_row<'r>(sheet: &Sheet<'r, '_>, place: Option<RecordPlace>, role: Role) -> Option<Row<'r>>
-    ensures row { option_map row_seen result ≡ place_row sheet.now.recording.now sheet.now.lines.now place role }
+    ensures row { option_map row_seen result
+        ≡ place_row sheet.now.recording.now sheet.now.lines.now place role }
     ensures truth { IfSome result (IsTrueRow sheet.now.recording.now sheet.now.lines.now) }
 {
     match place {

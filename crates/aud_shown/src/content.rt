@@ -19,8 +19,10 @@ pub fn altered_rows<'r>(
     altered: Altered,
 ) -> Result<Vec<Row<'r>>, AllocError>
     requires { AreOf session.now.sheet.recording.now session.now.tap.now }
-    ensures rows { IfOk result (λ rows. map row_seen rows.items ≡ altered_rows (session_of session.now) altered) }
-    ensures truth { IfOk result (λ rows. AreTrueRows session.now.sheet.recording.now session.now.sheet.lines.now rows.items) }
+    ensures rows { IfOk result (λ rows. map row_seen rows.items
+        ≡ altered_rows (session_of session.now) altered) }
+    ensures truth { IfOk result (λ rows.
+        AreTrueRows session.now.sheet.recording.now session.now.sheet.lines.now rows.items) }
 {
     let mut rows = Vec::new(alloc);
     push_row(&mut rows, session.entry_row(altered.position))?;

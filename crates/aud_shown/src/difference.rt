@@ -12,16 +12,18 @@ use aud_evidence::Difference;
 use aud_rows::{Role, Row};
 use std::alloc::{AllocError, Global};
 
-/// The rows that show the difference: the entry in question, where the session first reached it, and the frames. A record
-/// whose line isn't known has no row.
+/// The rows that show the difference: the entry in question, where the session first reached it, and the frames. A
+/// record whose line isn't known has no row.
 pub fn difference_rows<'r>(
     alloc: Global,
     session: &ShownSession<'_, 'r, '_>,
     difference: Difference,
 ) -> Result<Vec<Row<'r>>, AllocError>
     requires { AreOf session.now.sheet.recording.now session.now.tap.now }
-    ensures rows { IfOk result (λ rows. map row_seen rows.items ≡ difference_rows (session_of session.now) difference) }
-    ensures truth { IfOk result (λ rows. AreTrueRows session.now.sheet.recording.now session.now.sheet.lines.now rows.items) }
+    ensures rows { IfOk result (λ rows. map row_seen rows.items
+        ≡ difference_rows (session_of session.now) difference) }
+    ensures truth { IfOk result (λ rows.
+        AreTrueRows session.now.sheet.recording.now session.now.sheet.lines.now rows.items) }
 {
     match difference {
         Difference::Extra { frame, position } => due_rows(alloc, session, position, frame, None),
@@ -46,8 +48,10 @@ fn due_rows<'r>(
     later: Option<usize>,
 ) -> Result<Vec<Row<'r>>, AllocError>
     requires { AreOf session.now.sheet.recording.now session.now.tap.now }
-    ensures rows { IfOk result (λ rows. map row_seen rows.items ≡ due_rows (session_of session.now) position frame later) }
-    ensures truth { IfOk result (λ rows. AreTrueRows session.now.sheet.recording.now session.now.sheet.lines.now rows.items) }
+    ensures rows { IfOk result (λ rows. map row_seen rows.items
+        ≡ due_rows (session_of session.now) position frame later) }
+    ensures truth { IfOk result (λ rows.
+        AreTrueRows session.now.sheet.recording.now session.now.sheet.lines.now rows.items) }
 {
     let mut rows = Vec::new(alloc);
     push_row(&mut rows, session.entry_row(position))?;
@@ -68,8 +72,10 @@ fn doubled_rows<'r>(
     again: usize,
 ) -> Result<Vec<Row<'r>>, AllocError>
     requires { AreOf session.now.sheet.recording.now session.now.tap.now }
-    ensures rows { IfOk result (λ rows. map row_seen rows.items ≡ doubled_rows (session_of session.now) position first again) }
-    ensures truth { IfOk result (λ rows. AreTrueRows session.now.sheet.recording.now session.now.sheet.lines.now rows.items) }
+    ensures rows { IfOk result (λ rows. map row_seen rows.items
+        ≡ doubled_rows (session_of session.now) position first again) }
+    ensures truth { IfOk result (λ rows.
+        AreTrueRows session.now.sheet.recording.now session.now.sheet.lines.now rows.items) }
 {
     let mut rows = Vec::new(alloc);
     push_row(&mut rows, session.entry_row(position))?;

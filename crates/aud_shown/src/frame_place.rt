@@ -12,8 +12,8 @@ pub struct FramePlace {
     pub frame: usize,
 }
 
-/// Where the frame with this number stands: frames count from 0 over all those of the stays with these numbers, stay after
-/// stay. None where they have no more. It costs the stays.
+/// Where the frame with this number stands: frames count from 0 over all those of the stays with these numbers, stay
+/// after stay. None where they have no more. It costs the stays.
 pub fn frame_at(stays: &[Stay<'_>], numbers: &[usize], frame: usize) -> Option<FramePlace>
     ensures { result ≡ frame_at stays.now numbers.now frame }
 {

@@ -9,16 +9,18 @@ use crate::pushed::push_row;
 use aud_rows::{Role, Row, Sheet};
 use std::alloc::{AllocError, Global};
 
-/// The rows of the record before, if there is one, which tells the cursor, and of the record with this number, which is out
-/// of order, of the node at this place. A record whose line isn't known has no row.
+/// The rows of the record before, if there is one, which tells the cursor, and of the record with this number, which is
+/// out of order, of the node at this place. A record whose line isn't known has no row.
 pub fn order_rows<'r>(
     alloc: Global,
     sheet: &Sheet<'r, '_>,
     node: usize,
     number: usize,
 ) -> Result<Vec<Row<'r>>, AllocError>
-    ensures rows { IfOk result (λ rows. map row_seen rows.items ≡ order_rows sheet.now.recording.now sheet.now.lines.now node number) }
-    ensures truth { IfOk result (λ rows. AreTrueRows sheet.now.recording.now sheet.now.lines.now rows.items) }
+    ensures rows { IfOk result (λ rows. map row_seen rows.items
+        ≡ order_rows sheet.now.recording.now sheet.now.lines.now node number) }
+    ensures truth { IfOk result (λ rows.
+        AreTrueRows sheet.now.recording.now sheet.now.lines.now rows.items) }
 {
     let mut rows = Vec::new(alloc);
     push_row(&mut rows, row_before(sheet, node, number))?;
@@ -28,7 +30,8 @@ pub fn order_rows<'r>(
 
 /// The row of the node's record before the one with this number, if there is one.
 fn row_before<'r>(sheet: &Sheet<'r, '_>, node: usize, number: usize) -> Option<Row<'r>>
-    ensures row { option_map row_seen result ≡ row_before sheet.now.recording.now sheet.now.lines.now node number }
+    ensures row { option_map row_seen result
+        ≡ row_before sheet.now.recording.now sheet.now.lines.now node number }
     ensures truth { IfSome result (IsTrueRow sheet.now.recording.now sheet.now.lines.now) }
 {
     if number == 0 {

@@ -11,7 +11,8 @@ use aud_client::{IndexedTranscript, Stay};
 use aud_reach::first_reach;
 use aud_rows::{ClientPlaces, Role, Row, Sheet};
 
-/// A session, the sheet of its recording, and where its client is found. All is lent; rows are lent by the sheet alone.
+/// A session, the sheet of its recording, and where its client is found. All is borrowed; rows are borrowed from the
+/// sheet alone.
 #[derive(Clone, Copy, Drop)]
 pub struct ShownSession<'s, 'r, 'a> {
     pub sheet: Sheet<'r, 'a>,
@@ -26,8 +27,8 @@ pub struct ShownSession<'s, 'r, 'a> {
 /// Frames count from 0 over the stays whose reply names the session, in the order of the client's tap; positions of the
 /// stream from 1.
 impl<'s, 'r, 'a> ShownSession<'s, 'r, 'a> {
-    /// The session of these turns, whose client's tap is this one; its stays with these numbers are those whose reply names
-    /// the session.
+    /// The session of these turns, whose client's tap is this one; its stays with these numbers are those whose reply
+    /// names the session.
     pub fn new(
         sheet: Sheet<'r, 'a>,
         turns: &'s [Turn<'a>],
@@ -51,7 +52,8 @@ impl<'s, 'r, 'a> ShownSession<'s, 'r, 'a> {
     pub(crate) fn got_row(&self, frame: usize, role: Role) -> Option<Row<'r>>
         requires { AreOf self.now.sheet.recording.now self.now.tap.now }
         ensures row { option_map row_seen result ≡ got_row (session_of self.now) frame role }
-        ensures truth { IfSome result (IsTrueRow self.now.sheet.recording.now self.now.sheet.lines.now) }
+        ensures truth { IfSome result
+            (IsTrueRow self.now.sheet.recording.now self.now.sheet.lines.now) }
     {
         let at = self.frame_at(frame)?;
         self.sheet.frame_row(self.tap, at.stay, at.frame, role)
@@ -61,7 +63,8 @@ impl<'s, 'r, 'a> ShownSession<'s, 'r, 'a> {
     pub(crate) fn asked_row(&self, frame: usize) -> Option<Row<'r>>
         requires { AreOf self.now.sheet.recording.now self.now.tap.now }
         ensures row { option_map row_seen result ≡ asked_row (session_of self.now) frame }
-        ensures truth { IfSome result (IsTrueRow self.now.sheet.recording.now self.now.sheet.lines.now) }
+        ensures truth { IfSome result
+            (IsTrueRow self.now.sheet.recording.now self.now.sheet.lines.now) }
     {
         let at = self.frame_at(frame)?;
         self.sheet.ask_row(self.tap, at.stay, Role::Ask)
@@ -70,7 +73,8 @@ impl<'s, 'r, 'a> ShownSession<'s, 'r, 'a> {
     /// The row of the record at which the session first reached the position.
     pub(crate) fn reached_row(&self, position: u64) -> Option<Row<'r>>
         ensures row { option_map row_seen result ≡ reached_row (session_of self.now) position }
-        ensures truth { IfSome result (IsTrueRow self.now.sheet.recording.now self.now.sheet.lines.now) }
+        ensures truth { IfSome result
+            (IsTrueRow self.now.sheet.recording.now self.now.sheet.lines.now) }
     {
         let reach = first_reach(self.sheet.recording.logs(), self.turns, position)?;
         self.sheet.node_row(reach.node, reach.number, Role::Reached)
@@ -79,7 +83,8 @@ impl<'s, 'r, 'a> ShownSession<'s, 'r, 'a> {
     /// The row of the entry at the position.
     pub(crate) fn entry_row(&self, position: u64) -> Option<Row<'r>>
         ensures row { option_map row_seen result ≡ entry_row (session_of self.now) position }
-        ensures truth { IfSome result (IsTrueRow self.now.sheet.recording.now self.now.sheet.lines.now) }
+        ensures truth { IfSome result
+            (IsTrueRow self.now.sheet.recording.now self.now.sheet.lines.now) }
     {
         self.sheet.stream_row(position, Role::Entry)
     }
@@ -88,7 +93,8 @@ impl<'s, 'r, 'a> ShownSession<'s, 'r, 'a> {
     pub(crate) fn ask_of_stay(&self, stay: usize, role: Role) -> Option<Row<'r>>
         requires { AreOf self.now.sheet.recording.now self.now.tap.now }
         ensures row { option_map row_seen result ≡ ask_of_stay (session_of self.now) stay role }
-        ensures truth { IfSome result (IsTrueRow self.now.sheet.recording.now self.now.sheet.lines.now) }
+        ensures truth { IfSome result
+            (IsTrueRow self.now.sheet.recording.now self.now.sheet.lines.now) }
     {
         let number = *self.numbers.get(stay)?;
         self.sheet.ask_row(self.tap, number, role)
@@ -98,7 +104,8 @@ impl<'s, 'r, 'a> ShownSession<'s, 'r, 'a> {
     pub(crate) fn reply_of_stay(&self, stay: usize, role: Role) -> Option<Row<'r>>
         requires { AreOf self.now.sheet.recording.now self.now.tap.now }
         ensures row { option_map row_seen result ≡ reply_of_stay (session_of self.now) stay role }
-        ensures truth { IfSome result (IsTrueRow self.now.sheet.recording.now self.now.sheet.lines.now) }
+        ensures truth { IfSome result
+            (IsTrueRow self.now.sheet.recording.now self.now.sheet.lines.now) }
     {
         let number = *self.numbers.get(stay)?;
         self.sheet.reply_row(self.tap, number, role)

@@ -13,16 +13,18 @@ use aud_evidence::{BadWindow, Misfit};
 use aud_rows::{Role, Row};
 use std::alloc::{AllocError, Global};
 
-/// The rows of the last frame before, where what was asked is behind it; of what was asked, and its reply; and of the next
-/// frame, where what was asked isn't behind that. A record whose line isn't known has no row.
+/// The rows of the last frame before, where what was asked is behind it; of what was asked, and its reply; and of the
+/// next frame, where what was asked isn't behind that. A record whose line isn't known has no row.
 pub fn window_rows<'r>(
     alloc: Global,
     session: &ShownSession<'_, 'r, '_>,
     window: BadWindow,
 ) -> Result<Vec<Row<'r>>, AllocError>
     requires { AreOf session.now.sheet.recording.now session.now.tap.now }
-    ensures rows { IfOk result (λ rows. map row_seen rows.items ≡ window_rows (session_of session.now) window) }
-    ensures truth { IfOk result (λ rows. AreTrueRows session.now.sheet.recording.now session.now.sheet.lines.now rows.items) }
+    ensures rows { IfOk result (λ rows. map row_seen rows.items
+        ≡ window_rows (session_of session.now) window) }
+    ensures truth { IfOk result (λ rows.
+        AreTrueRows session.now.sheet.recording.now session.now.sheet.lines.now rows.items) }
 {
     let mut rows = Vec::new(alloc);
     push_row(&mut rows, before_row(session, window.why))?;
@@ -36,7 +38,8 @@ pub fn window_rows<'r>(
 fn before_row<'r>(session: &ShownSession<'_, 'r, '_>, why: Misfit) -> Option<Row<'r>>
     requires { AreOf session.now.sheet.recording.now session.now.tap.now }
     ensures row { option_map row_seen result ≡ before_row (session_of session.now) why }
-    ensures truth { IfSome result (IsTrueRow session.now.sheet.recording.now session.now.sheet.lines.now) }
+    ensures truth { IfSome result
+        (IsTrueRow session.now.sheet.recording.now session.now.sheet.lines.now) }
 {
     match why {
         Misfit::Behind { frame } => session.got_row(frame, Role::Earlier),
@@ -48,7 +51,8 @@ fn before_row<'r>(session: &ShownSession<'_, 'r, '_>, why: Misfit) -> Option<Row
 fn later_row<'r>(session: &ShownSession<'_, 'r, '_>, why: Misfit) -> Option<Row<'r>>
     requires { AreOf session.now.sheet.recording.now session.now.tap.now }
     ensures row { option_map row_seen result ≡ later_row (session_of session.now) why }
-    ensures truth { IfSome result (IsTrueRow session.now.sheet.recording.now session.now.sheet.lines.now) }
+    ensures truth { IfSome result
+        (IsTrueRow session.now.sheet.recording.now session.now.sheet.lines.now) }
 {
     match why {
         Misfit::NotBehind { frame } => session.got_row(frame, Role::Later),

@@ -9,7 +9,8 @@ use Rattle.aud_writer.specs.Written.{line_text}
 use Rattle.aud_sim.specs.declared.bundle.LogFault.{LogFault}
 use Rattle.aud_sim.specs.declared.bundle.LogFault.TheVariants.{Nothing, LoseLine, RepeatLine}
 
--- the lines so far, each with its newline, whether each that was to be written could be a bundle's, and the fault that waits for the next line of a node's log
+-- the lines so far, each with its newline, whether each that was to be written could be a bundle's, and the fault that
+-- waits for the next line of a node's log
 pub record Lines : Type 0 where
   pub text : List ℕ
   pub is_whole : Bool
@@ -28,7 +29,8 @@ is_sound fault = false
 abbrev pub with_log_fault : LogFault → Lines → Lines
 with_log_fault fault lines = record lines { fault = fault }
 
--- the line of this record, of the tap of this name, can be a bundle's: name and fields have a bundle's forms and limits, and the line is not too long
+-- the line of this record, of the tap of this name, can be a bundle's: name and fields have a bundle's forms and
+-- limits, and the line is not too long
 abbrev pub can_be_line : List ℕ → Rec → Bool
 can_be_line name rec = is_tap_name name && is_well_formed rec && nat_le (length (line_text name rec)) max_line
 

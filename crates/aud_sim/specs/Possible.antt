@@ -57,7 +57,8 @@ has_no_fault clients number = option_map_or (λ (client : Client). is_nothing cl
 
 -- ---- recoveries
 
--- the cursor at which the session broke, where it is away, an offset was received in it, and it isn't in the last turn that there may be
+-- the cursor at which the session broke, where it is away, an offset was received in it, and it isn't in the last turn
+-- that there may be
 abbrev pub break_at : At → Session → Option ℕ
 break_at (at.Node node) session = None
 break_at (at.Away cursor) session = if is_some session.last && nat_lt session.turn max_turn then Some cursor else None

@@ -18,7 +18,8 @@ abbrev pub scheduled : ℕ → List Act → State → Result (List ℕ) ℕ
 scheduled number [] s = Ok s.lines.text
 scheduled number (act ∷ acts) s = if possible act s then scheduled (suc number) acts (after act s) else Err number
 
--- the text that a cluster of so many nodes and clients writes while it runs the acts, or the first act that isn't possible, from 0
+-- the text that a cluster of so many nodes and clients writes while it runs the acts, or the first act that isn't
+-- possible, from 0
 abbrev pub simulated : ℕ → ℕ → List Act → Result (List ℕ) ℕ
 simulated nodes clients acts = scheduled 0 acts (first_state nodes clients)
 

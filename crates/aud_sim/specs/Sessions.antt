@@ -40,7 +40,8 @@ with_reply Own client session lines = with_reply_of client session.sid session l
 with_reply OtherSid client session lines = with_reply_of client (name_of (codes "x") session.number) session lines
 with_reply Missing client session lines = lines
 
--- the position of the entry after which the client asks to go on: of the last one whose offset it received, or 0, which no entry has
+-- the position of the entry after which the client asks to go on: of the last one whose offset it received, or 0, which
+-- no entry has
 abbrev pub asked_position : Asked → Option ℕ → Option ℕ
 asked_position LastReceived last = last
 asked_position Unknown last = Some 0

@@ -4,7 +4,8 @@ use aud_tap::{Blobs, Text, Texts};
 /// An act. Nodes and clients are numbered from 1.
 #[derive(Drop)]
 pub enum Act {
-    /// An event is put into the stream: for these rooms (none means everyone), without the members of the excepted ones.
+    /// An event is put into the stream: for these rooms (none means everyone), without the members of the excepted
+    /// ones.
     Emit {
         rooms: Texts,
         except: Texts,

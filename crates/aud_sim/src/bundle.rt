@@ -20,8 +20,8 @@ pub enum LogFault {
     RepeatLine,
 }
 
-/// The lines so far, whether each line that was to be written could be a bundle's, and the fault that waits for the next
-/// line of a node's log.
+/// The lines so far, whether each line that was to be written could be a bundle's, and the fault that waits for the
+/// next line of a node's log.
 #[derive(Drop)]
 pub struct Bundle {
     alloc: Global,
@@ -122,8 +122,8 @@ impl Bundle {
         self.push_by(fault, line)
     }
 
-    /// Puts the line of a record at the end, by the fault that waits if it is a node's. One that can't be a bundle's is left
-    /// out, and the text is not whole from then on.
+    /// Puts the line of a record at the end, by the fault that waits if it is a node's. One that can't be a bundle's is
+    /// left out, and the text is not whole from then on.
     pub fn line(&mut self, name: &str, rec: &Rec) -> Result<(), AllocError>
         ensures { OnOk result (self.new ≡ with_line name.now rec.now self.old) }
     {

@@ -65,8 +65,8 @@ pub struct Session {
     pub at: At,
 }
 
-/// A client: its tap's name, the number of its last connection, the fault that is injected next, and the session that it
-/// has, if it has one.
+/// A client: its tap's name, the number of its last connection, the fault that is injected next, and the session that
+/// it has, if it has one.
 #[derive(Drop)]
 pub struct Client {
     pub name: Text,

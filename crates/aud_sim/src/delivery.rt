@@ -64,7 +64,8 @@ fn send(
     entry: &Entry,
     client: &mut Client,
 ) -> Result<(), AllocError>
-    ensures lines { OnOk result (bundle.new ≡ lines_sent entries.now entry.now client.old bundle.old) }
+    ensures lines { OnOk result (bundle.new
+        ≡ lines_sent entries.now entry.now client.old bundle.old) }
     ensures client { OnOk result (client.new ≡ client_sent position entry.now client.old) }
 {
     if !is_for(entry, client) {
@@ -88,7 +89,8 @@ fn deliver(
     position: usize,
     client: &mut Client,
 ) -> Result<(), AllocError>
-    ensures { OnOk result (sent_to entries.now position (record { lines = bundle.old; client = client.old })
+    ensures { OnOk result (sent_to entries.now position
+        (record { lines = bundle.old; client = client.old })
         ≡ record { lines = bundle.new; client = client.new }) }
 {
     match entry_at(entries, position) {
@@ -105,7 +107,8 @@ fn deliver_to(
     clients: &mut Vec<Client>,
     index: usize,
 ) -> Result<(), AllocError>
-    ensures { OnOk result (sent_to_guest entries.now position index (record { lines = bundle.old; clients = clients.old.items })
+    ensures { OnOk result (sent_to_guest entries.now position index
+        (record { lines = bundle.old; clients = clients.old.items })
         ≡ record { lines = bundle.new; clients = clients.new.items }) }
 {
     match clients.get_mut(index) {
@@ -122,7 +125,8 @@ pub fn deliver_to_all(
     clients: &mut Vec<Client>,
     guests: &[Guest],
 ) -> Result<(), AllocError>
-    ensures { OnOk result (sent_to_guests entries.now position guests.now (record { lines = bundle.old; clients = clients.old.items })
+    ensures { OnOk result (sent_to_guests entries.now position guests.now
+        (record { lines = bundle.old; clients = clients.old.items })
         ≡ record { lines = bundle.new; clients = clients.new.items }) }
 {
     for guest in guests {
@@ -139,7 +143,8 @@ pub fn replay(
     to: usize,
     client: &mut Client,
 ) -> Result<(), AllocError>
-    ensures { OnOk result (replayed entries.now from (to - from) (record { lines = bundle.old; client = client.old })
+    ensures { OnOk result (replayed entries.now from (to - from)
+        (record { lines = bundle.old; client = client.old })
         ≡ record { lines = bundle.new; client = client.new }) }
 {
     for before in from..to {

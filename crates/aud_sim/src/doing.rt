@@ -32,7 +32,8 @@ fn emit(
     word: &str,
     bin: &[Bytes],
 ) -> Result<(), AllocError>
-    ensures { OnOk result (seen cluster.new ≡ emitted rooms.now except.now word.now bin.now (seen cluster.old)) }
+    ensures { OnOk result (seen cluster.new
+        ≡ emitted rooms.now except.now word.now bin.now (seen cluster.old)) }
 {
     let Cluster {
         alloc,
@@ -119,7 +120,8 @@ fn connect(
     client: usize,
     node: usize,
 ) -> Result<(), AllocError>
-    ensures { OnOk result (seen cluster.new ≡ connected reply (client - 1) (node - 1) (seen cluster.old)) }
+    ensures { OnOk result (seen cluster.new
+        ≡ connected reply (client - 1) (node - 1) (seen cluster.old)) }
 {
     let Cluster {
         bundle,
@@ -145,7 +147,8 @@ fn recover(
     client: usize,
     node: usize,
 ) -> Result<(), AllocError>
-    ensures { OnOk result (seen cluster.new ≡ recovered asked (client - 1) (node - 1) (seen cluster.old)) }
+    ensures { OnOk result (seen cluster.new
+        ≡ recovered asked (client - 1) (node - 1) (seen cluster.old)) }
 {
     let Cluster {
         bundle,

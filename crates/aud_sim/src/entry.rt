@@ -60,7 +60,8 @@ fn altered_frame(
     count: usize,
     position: usize,
 ) -> Result<Text, AllocError>
-    ensures { IfOk result (λ frame. frame ≡ message (event_text (word.now ++ codes "x") count position)) }
+    ensures { IfOk result (λ frame. frame
+        ≡ message (event_text (word.now ++ codes "x") count position)) }
 {
     let word = format!(in alloc; "{word}x")?;
     frame(alloc, word.as_str(), count, position)
@@ -89,7 +90,8 @@ pub fn event(
     bin: &[Bytes],
     position: usize,
 ) -> Result<Event, AllocError>
-    ensures { IfOk result (λ event. event ≡ event_of rooms.now except.now word.now bin.now position) }
+    ensures { IfOk result (λ event. event
+        ≡ event_of rooms.now except.now word.now bin.now position) }
 {
     let text = event_text(alloc, word, bin.len(), position)?;
     Ok(Event {
@@ -112,7 +114,8 @@ impl Entry {
         bin: &[Bytes],
         position: usize,
     ) -> Result<Entry, AllocError>
-        ensures { IfOk result (λ entry. entry ≡ entry_of rooms.now except.now word.now bin.now position) }
+        ensures { IfOk result (λ entry. entry
+            ≡ entry_of rooms.now except.now word.now bin.now position) }
     {
         Ok(Entry {
             event: StreamRec::Ev(event(alloc, rooms, except, word, bin, position)?),

@@ -55,7 +55,8 @@ fn held_frame(
     entries: &[Entry],
     position: usize,
 ) -> Result<(), AllocError>
-    ensures { OnOk result (bundle.new ≡ with_held_frame name.now (entry_at entries.now position) bundle.old) }
+    ensures { OnOk result (bundle.new
+        ≡ with_held_frame name.now (entry_at entries.now position) bundle.old) }
 {
     match entry_at(entries, position) {
         Some(entry) => own_frame(bundle, name, entry),

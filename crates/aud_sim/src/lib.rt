@@ -1,4 +1,5 @@
-//! A simulated cluster: the bundle that its taps write while it runs a schedule, with faults where the schedule has them.
+//! A simulated cluster: the bundle that its taps write while it runs a schedule, with faults where the schedule has
+//! them.
 //!
 //! Begin at [`simulate`] and [`Act`]; docs/SIMULATE.md has what each act does.
 #![tactic(auto)]

@@ -44,7 +44,8 @@ fn write_asking(
     node: &Node,
     session: &Session,
 ) -> Result<(), AllocError>
-    ensures lines { OnOk result (bundle.new ≡ lines_asked asked client.old node.now session.now bundle.old) }
+    ensures lines { OnOk result (bundle.new
+        ≡ lines_asked asked client.old node.now session.now bundle.old) }
     ensures client { OnOk result (client.new ≡ client_connected client.old) }
 {
     connect(bundle, client)?;
@@ -66,7 +67,8 @@ fn break_cursor(at: At, node: &Node) -> usize
 
 /// The reply to a client that has its session back.
 fn answer(bundle: &mut Bundle, client: &Client) -> Result<(), AllocError>
-    ensures { OnOk result (bundle.new ≡ replied (record { lines = bundle.old; client = client.now })) }
+    ensures { OnOk result (bundle.new
+        ≡ replied (record { lines = bundle.old; client = client.now })) }
 {
     match &client.session {
         Some(session) => reply(bundle, Reply::Own, client.name.as_str(), session),
@@ -74,8 +76,8 @@ fn answer(bundle: &mut Bundle, client: &Client) -> Result<(), AllocError>
     }
 }
 
-/// The session of a client, given apart, is recovered on a node: it is sent the entries past the cursor of the break up to that of
-/// the node that are addressed to it, and then the reply.
+/// The session of a client, given apart, is recovered on a node: it is sent the entries past the cursor of the break up
+/// to that of the node that are addressed to it, and then the reply.
 fn recover(
     bundle: &mut Bundle,
     asked: Asked,
@@ -86,8 +88,12 @@ fn recover(
     node: &mut Node,
     node_index: usize,
 ) -> Result<(), AllocError>
-    ensures lines { OnOk result (bundle.new ≡ replied (replay asked entries.now client.old node.old session (session_back node_index session) bundle.old)) }
-    ensures client { OnOk result (client.new ≡ (replay asked entries.now client.old node.old session (session_back node_index session) bundle.old).client) }
+    ensures lines { OnOk result (bundle.new
+        ≡ replied (replay asked entries.now client.old node.old session
+        (session_back node_index session) bundle.old)) }
+    ensures client { OnOk result (client.new
+        ≡ (replay asked entries.now client.old node.old session
+        (session_back node_index session) bundle.old).client) }
     ensures node { OnOk result (node.new ≡ node_joined session.number client_index node.old) }
 {
     let from = break_cursor(session.at, node);
@@ -111,8 +117,10 @@ fn recover_session(
     node: &mut Node,
     index: usize,
 ) -> Result<(), AllocError>
-    ensures lines { OnOk result (bundle.new ≡ replied (recovered_on asked entries.now index node.old client.old bundle.old)) }
-    ensures client { OnOk result (client.new ≡ (recovered_on asked entries.now index node.old client.old bundle.old).client) }
+    ensures lines { OnOk result (bundle.new
+        ≡ replied (recovered_on asked entries.now index node.old client.old bundle.old)) }
+    ensures client { OnOk result (client.new
+        ≡ (recovered_on asked entries.now index node.old client.old bundle.old).client) }
     ensures node { OnOk result (node.new ≡ node_recovered client_index client.old node.old) }
 {
     match client.session.take() {
@@ -140,9 +148,12 @@ pub fn recover_on(
     nodes: &mut Vec<Node>,
     index: usize,
 ) -> Result<(), AllocError>
-    ensures lines { OnOk result (bundle.new ≡ lines_recovered asked entries.now index nodes.old.items client.old bundle.old) }
-    ensures client { OnOk result (client.new ≡ client_recovered asked entries.now index nodes.old.items client.old bundle.old) }
-    ensures nodes { OnOk result (nodes.new.items ≡ nodes_recovered client_index index client.old nodes.old.items) }
+    ensures lines { OnOk result (bundle.new
+        ≡ lines_recovered asked entries.now index nodes.old.items client.old bundle.old) }
+    ensures client { OnOk result (client.new
+        ≡ client_recovered asked entries.now index nodes.old.items client.old bundle.old) }
+    ensures nodes { OnOk result (nodes.new.items
+        ≡ nodes_recovered client_index index client.old nodes.old.items) }
 {
     match nodes.get_mut(index) {
         Some(node) => recover_session(bundle, asked, entries, client, client_index, node, index),

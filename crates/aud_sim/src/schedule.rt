@@ -38,11 +38,12 @@ fn run(cluster: &mut Cluster, acts: &[Act]) -> Result<Option<usize>, AllocError>
     Ok(None)
 }
 
-/// The bundle of a cluster of so many nodes and clients that runs a schedule: its taps are `st`, `n1` and on, `c1` and on. All headers
-/// come first, then the start of each node, then the lines of the acts.
+/// The bundle of a cluster of so many nodes and clients that runs a schedule: its taps are `st`, `n1` and on, `c1` and
+/// on. All headers come first, then the start of each node, then the lines of the acts.
 ///
-/// Acts count from 0, nodes and clients from 1. `Act` names the first act that isn't possible in the state that the acts before it
-/// leave, or of which a field or a line is outside a bundle's limits; there is then no bundle. The other error is `Memory`.
+/// Acts count from 0, nodes and clients from 1. `Act` names the first act that isn't possible in the state that the
+/// acts before it leave, or of which a field or a line is outside a bundle's limits; there is then no bundle. The other
+/// error is `Memory`.
 pub fn simulate(
     alloc: Global,
     nodes: usize,

@@ -28,7 +28,8 @@ fn fault_after_connection(fault: Injected) -> Injected
 /// That a connection of the client begins.
 pub fn connect(bundle: &mut Bundle, client: &mut Client) -> Result<(), AllocError>
     ensures client { OnOk result (client.new ≡ client_connected client.old) }
-    ensures lines { OnOk result (bundle.new ≡ with_connection client.old.name (next_number client.old.connections) bundle.old) }
+    ensures lines { OnOk result (bundle.new
+        ≡ with_connection client.old.name (next_number client.old.connections) bundle.old) }
 {
     client.connections = client.connections.saturating_add(1);
     let c = client.connections;
@@ -105,7 +106,8 @@ fn write_opening(
     node: &Node,
     session: &Session,
 ) -> Result<(), AllocError>
-    ensures lines { OnOk result (bundle.new ≡ lines_opened answer client.old node.now session.now bundle.old) }
+    ensures lines { OnOk result (bundle.new
+        ≡ lines_opened answer client.old node.now session.now bundle.old) }
     ensures client { OnOk result (client.new ≡ client_connected client.old) }
 {
     opened(bundle, node.name.as_str(), session)?;
@@ -123,8 +125,10 @@ fn open(
     node_index: usize,
     number: usize,
 ) -> Result<(), AllocError>
-    ensures lines { OnOk result (bundle.new ≡ lines_opened answer client.old node.old (first_session number node_index) bundle.old) }
-    ensures client { OnOk result (client.new ≡ client_opened (first_session number node_index) client.old) }
+    ensures lines { OnOk result (bundle.new
+        ≡ lines_opened answer client.old node.old (first_session number node_index) bundle.old) }
+    ensures client { OnOk result (client.new
+        ≡ client_opened (first_session number node_index) client.old) }
     ensures node { OnOk result (node.new ≡ node_joined number client_index node.old) }
 {
     let session = first_session(bundle.alloc(), number, node_index)?;
@@ -144,9 +148,14 @@ pub fn open_on(
     index: usize,
     number: usize,
 ) -> Result<(), AllocError>
-    ensures lines { OnOk result (bundle.new ≡ lines_connected answer (slice_get nodes.old.items index) (first_session number index) client.old bundle.old) }
-    ensures client { OnOk result (client.new ≡ client_connected_to (slice_get nodes.old.items index) (first_session number index) client.old) }
-    ensures nodes { OnOk result (nodes.new.items ≡ nodes_joined number client_index index nodes.old.items) }
+    ensures lines { OnOk result (bundle.new
+        ≡ lines_connected answer (slice_get nodes.old.items index)
+        (first_session number index) client.old bundle.old) }
+    ensures client { OnOk result (client.new
+        ≡ client_connected_to (slice_get nodes.old.items index)
+        (first_session number index) client.old) }
+    ensures nodes { OnOk result (nodes.new.items
+        ≡ nodes_joined number client_index index nodes.old.items) }
 {
     match nodes.get_mut(index) {
         Some(node) => open(bundle, answer, client, client_index, node, index, number),
@@ -179,8 +188,11 @@ fn join_here(
     session: &mut Session,
     room: &str,
 ) -> Result<(), AllocError>
-    ensures lines { OnOk result (bundle.new ≡ with_change (host nodes.now session.old.at) (NodeRec.Join session.old.pid room.now) bundle.old) }
-    ensures session { OnOk result (session.new ≡ session_joined (host nodes.now session.old.at) room.now session.old) }
+    ensures lines { OnOk result (bundle.new
+        ≡ with_change (host nodes.now session.old.at)
+        (NodeRec.Join session.old.pid room.now) bundle.old) }
+    ensures session { OnOk result (session.new
+        ≡ session_joined (host nodes.now session.old.at) room.now session.old) }
 {
     let Some(node) = host(nodes, session.at) else {
         return Ok(());
@@ -199,8 +211,11 @@ fn leave_here(
     session: &mut Session,
     room: &str,
 ) -> Result<(), AllocError>
-    ensures lines { OnOk result (bundle.new ≡ with_change (host nodes.now session.old.at) (NodeRec.Leave session.old.pid room.now) bundle.old) }
-    ensures session { OnOk result (session.new ≡ session_parted (host nodes.now session.old.at) room.now session.old) }
+    ensures lines { OnOk result (bundle.new
+        ≡ with_change (host nodes.now session.old.at)
+        (NodeRec.Leave session.old.pid room.now) bundle.old) }
+    ensures session { OnOk result (session.new
+        ≡ session_parted (host nodes.now session.old.at) room.now session.old) }
 {
     let Some(node) = host(nodes, session.at) else {
         return Ok(());
@@ -220,7 +235,8 @@ pub fn join(
     client: &mut Client,
     room: &str,
 ) -> Result<(), AllocError>
-    ensures lines { OnOk result (bundle.new ≡ lines_joined nodes.now room.now client.old bundle.old) }
+    ensures lines { OnOk result (bundle.new
+        ≡ lines_joined nodes.now room.now client.old bundle.old) }
     ensures client { OnOk result (client.new ≡ client_joined nodes.now room.now client.old) }
 {
     match &mut client.session {
@@ -236,7 +252,8 @@ pub fn leave(
     client: &mut Client,
     room: &str,
 ) -> Result<(), AllocError>
-    ensures lines { OnOk result (bundle.new ≡ lines_parted nodes.now room.now client.old bundle.old) }
+    ensures lines { OnOk result (bundle.new
+        ≡ lines_parted nodes.now room.now client.old bundle.old) }
     ensures client { OnOk result (client.new ≡ client_parted nodes.now room.now client.old) }
 {
     match &mut client.session {
@@ -253,7 +270,8 @@ fn depart(
     number: usize,
     rec: NodeRec,
 ) -> Result<(), AllocError>
-    ensures lines { OnOk result (bundle.new ≡ with_departure name.now node.old.name rec bundle.old) }
+    ensures lines { OnOk result (bundle.new
+        ≡ with_departure name.now node.old.name rec bundle.old) }
     ensures node { OnOk result (node.new ≡ node_left number node.old) }
 {
     bundle.node(node.name.as_str(), rec)?;
@@ -271,7 +289,8 @@ fn leave_node(
     number: usize,
     rec: NodeRec,
 ) -> Result<(), AllocError>
-    ensures lines { OnOk result (bundle.new ≡ with_left name.now (host nodes.old.items at) rec bundle.old) }
+    ensures lines { OnOk result (bundle.new
+        ≡ with_left name.now (host nodes.old.items at) rec bundle.old) }
     ensures nodes { OnOk result (nodes.new.items ≡ nodes_left number at nodes.old.items) }
 {
     let At::Node(index) = at else {
@@ -300,8 +319,11 @@ fn cut_session(
     name: &str,
     session: &mut Session,
 ) -> Result<(), AllocError>
-    ensures lines { OnOk result (bundle.new ≡ with_left name.now (host nodes.old.items session.old.at) (NodeRec.Broke session.old.pid session.old.turn) bundle.old) }
-    ensures nodes { OnOk result (nodes.new.items ≡ nodes_left session.old.number session.old.at nodes.old.items) }
+    ensures lines { OnOk result (bundle.new
+        ≡ with_left name.now (host nodes.old.items session.old.at)
+        (NodeRec.Broke session.old.pid session.old.turn) bundle.old) }
+    ensures nodes { OnOk result (nodes.new.items
+        ≡ nodes_left session.old.number session.old.at nodes.old.items) }
     ensures session { OnOk result (session.new ≡ session_cut nodes.old.items session.old) }
 {
     let away = place_after_break(nodes, session.at);
@@ -340,8 +362,11 @@ fn write_end(
     name: &str,
     session: &Session,
 ) -> Result<(), AllocError>
-    ensures lines { OnOk result (bundle.new ≡ with_left name.now (host nodes.old.items session.now.at) (NodeRec.Gone session.now.pid) bundle.old) }
-    ensures nodes { OnOk result (nodes.new.items ≡ nodes_left session.now.number session.now.at nodes.old.items) }
+    ensures lines { OnOk result (bundle.new
+        ≡ with_left name.now (host nodes.old.items session.now.at)
+        (NodeRec.Gone session.now.pid) bundle.old) }
+    ensures nodes { OnOk result (nodes.new.items
+        ≡ nodes_left session.now.number session.now.at nodes.old.items) }
 {
     let pid = copied(bundle.alloc(), session.pid.as_str())?;
     leave_node(
@@ -360,7 +385,8 @@ pub fn finish(
     nodes: &mut Vec<Node>,
     client: &mut Client,
 ) -> Result<(), AllocError>
-    ensures lines { OnOk result (bundle.new ≡ lines_finished nodes.old.items client.old bundle.old) }
+    ensures lines { OnOk result (bundle.new
+        ≡ lines_finished nodes.old.items client.old bundle.old) }
     ensures nodes { OnOk result (nodes.new.items ≡ nodes_after_leaving client.old nodes.old.items) }
     ensures client { OnOk result (client.new ≡ client_finished client.old) }
 {

@@ -48,7 +48,8 @@ fn push_between(
     number: usize,
     after: &str,
 ) -> Result<(), AllocError>
-    ensures { OnOk result (string_bytes text.new ≡ string_bytes text.old ++ (before.now ++ decimal number ++ after.now)) }
+    ensures { OnOk result (string_bytes text.new
+        ≡ string_bytes text.old ++ (before.now ++ decimal number ++ after.now)) }
 {
     write!(text, "{before}{number}{after}")?;
     Ok(())

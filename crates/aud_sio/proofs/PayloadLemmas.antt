@@ -5,9 +5,9 @@ use Rattle.std.specs.List.{slice_get}
 use Rattle.serde_json.specs.Data.{Data, Items, no_items, item}
 use Rattle.serde_json.specs.Find.{as_str, as_array}
 use Rattle.serde_json.specs.Read.{read}
-use Rattle.aud_fields.specs.Shown.{shown_item, shown_items, shown_field}
-use Rattle.aud_fields.specs.View.{text_view, list_view}
-use Rattle.aud_fields.proofs.Shown.{as_str-shown_item, as_array-shown_field}
+use Rattle.aud_json.specs.Shown.{shown_item, shown_items, shown_field}
+use Rattle.aud_json.specs.View.{text_view, list_view}
+use Rattle.aud_json.proofs.Shown.{as_str-shown_item, as_array-shown_field}
 use Rattle.aud_sio.specs.declared.fault.SioFault.TheVariants.{Payload}
 use Rattle.aud_sio.specs.declared.kind.PacketKind.{PacketKind}
 use Rattle.aud_sio.specs.Payload.{last_item, last_of_payload, last_of_value}

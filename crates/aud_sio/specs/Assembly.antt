@@ -48,7 +48,8 @@ abbrev pub Feeds : List Message → List Message → Result (Option Whole) SioFa
 Feeds old messages (Ok given) new = Continues old messages (answer_of given) new
 Feeds old messages (Err fault) new = ¬ (fault ≡ Memory) → Continues old messages (Err fault ∷ []) new
 
--- what takes memory, where these messages are held and those come: at rest the payload of a text, and else an attachment
+-- what takes memory, where these messages are held and those come: at rest the payload of a text, and else an
+-- attachment
 abbrev pub takes_memory : List Message → List Message → Bool
 takes_memory [] (Text text ∷ messages) = has_payload text
 takes_memory (message ∷ held) (Bytes blob ∷ messages) = true

@@ -2,7 +2,7 @@
 use Rattle.std.specs.Prelude.{ℕ, List, [], ◌∷◌, map}
 use Rattle.aud_eio.specs.Packet as eio
 
--- an attachment, by its bytes: they were lent, or they are of their own memory
+-- an attachment, by its bytes: they were borrowed, or they are of their own memory
 pub data Blob : Type 0 where
   Lent : List ℕ → Blob
   Own : List ℕ → Blob

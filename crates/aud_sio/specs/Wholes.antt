@@ -34,7 +34,8 @@ answer_to whole count l =
 abbrev pub consumed : ℕ → List (ℕ × Message) → ℕ
 consumed count l = if nat_le count (length (leading_bytes l)) then count else suc (length (leading_bytes l))
 
--- the place of the last message consumed, where the packet's text has this place: the text's own, where nothing is awaited
+-- the place of the last message consumed, where the packet's text has this place: the text's own, where nothing is
+-- awaited
 abbrev pub last_place : ℕ → ℕ → List (ℕ × Message) → ℕ
 last_place place count l = slice_index (place ∷ map (λ message. message.0) l) (consumed count l)
 

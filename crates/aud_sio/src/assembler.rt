@@ -11,7 +11,7 @@ use crate::half::Half;
 use crate::packet::decode_with;
 use crate::whole::{Blob, Whole};
 use aud_eio::Eio;
-use aud_fields::Scratch;
+use aud_json::Scratch;
 use std::alloc::Global;
 use std::marker::Model;
 
@@ -53,17 +53,19 @@ impl<'a> Assembler<'a> {
     /// The next Engine.IO packet. A packet is given with its last attachment, or at once where it has none; it lends
     /// what the Engine.IO packets lend.
     ///
-    /// A text is refused as `TextWhileBinary` where attachments are awaited, and else as [`decode`](crate::decode) refuses it; bytes
-    /// as `StrayBinary` where none are. Control packets are read past. Memory is wanted for the payload of a text that
-    /// comes at rest and for an attachment that is awaited, and for nothing else. After a refusal, want of memory too,
-    /// the assembler is at rest: it holds nothing of the refused packet.
+    /// A text is refused as `TextWhileBinary` where attachments are awaited, and else as [`decode`](crate::decode)
+    /// refuses it; bytes as `StrayBinary` where none are. Control packets are read past. Memory is wanted for the
+    /// payload of a text that comes at rest and for an attachment that is awaited, and for nothing else. After a
+    /// refusal, also when out of memory, the assembler is at rest: it holds nothing of the refused packet.
     pub fn feed(&mut self, packet: Eio<'a>) -> Result<Option<Whole<'a>>, SioFault>
         ensures answers { Feeds self.old (messages_of (engine_view packet.entry)) result self.new }
-        ensures control { messages_of (engine_view packet.entry) ≡ [] → (result ≡ Ok None) × (self.new ≡ self.old) }
+        ensures control { messages_of (engine_view packet.entry) ≡ []
+            → (result ≡ Ok None) × (self.new ≡ self.old) }
         ensures waits { Waits self.new }
         ensures rest_refused { IfErr result (λ _. self.new ≡ []) }
         ensures rest_given { IfOk result (λ whole. IsSome whole → self.new ≡ []) }
-        ensures memory { result ≡ Err SioFault.Memory → takes_memory self.old (messages_of (engine_view packet.entry)) ≡ true }
+        ensures memory { result ≡ Err SioFault.Memory
+            → takes_memory self.old (messages_of (engine_view packet.entry)) ≡ true }
     {
         let mut scratch = Scratch::new(self.alloc);
         self.feed_with(&mut scratch, packet)
@@ -76,11 +78,13 @@ impl<'a> Assembler<'a> {
         packet: Eio<'a>,
     ) -> Result<Option<Whole<'a>>, SioFault>
         ensures answers { Feeds self.old (messages_of (engine_view packet.entry)) result self.new }
-        ensures control { messages_of (engine_view packet.entry) ≡ [] → (result ≡ Ok None) × (self.new ≡ self.old) }
+        ensures control { messages_of (engine_view packet.entry) ≡ []
+            → (result ≡ Ok None) × (self.new ≡ self.old) }
         ensures waits { Waits self.new }
         ensures rest_refused { IfErr result (λ _. self.new ≡ []) }
         ensures rest_given { IfOk result (λ whole. IsSome whole → self.new ≡ []) }
-        ensures memory { result ≡ Err SioFault.Memory → takes_memory self.old (messages_of (engine_view packet.entry)) ≡ true }
+        ensures memory { result ≡ Err SioFault.Memory
+            → takes_memory self.old (messages_of (engine_view packet.entry)) ≡ true }
     {
         let half = self.half.take();
         match packet {
@@ -101,11 +105,13 @@ impl<'a> Assembler<'a> {
         text: &'a str,
     ) -> Result<Option<Whole<'a>>, SioFault>
         requires { self.old ≡ [] }
-        ensures answers { Feeds (messages_held half.entry) (Text text.entry.now ∷ []) result self.new }
+        ensures answers { Feeds (messages_held half.entry)
+            (Text text.entry.now ∷ []) result self.new }
         ensures waits { Waits self.new }
         ensures rest_refused { IfErr result (λ _. self.new ≡ []) }
         ensures rest_given { IfOk result (λ whole. IsSome whole → self.new ≡ []) }
-        ensures memory { result ≡ Err SioFault.Memory → takes_memory (messages_held half.entry) (Text text.entry.now ∷ []) ≡ true }
+        ensures memory { result ≡ Err SioFault.Memory
+            → takes_memory (messages_held half.entry) (Text text.entry.now ∷ []) ≡ true }
     {
         if half.is_some() {
             return Err(SioFault::TextWhileBinary);
@@ -132,11 +138,13 @@ impl<'a> Assembler<'a> {
         blob: Blob<'a>,
     ) -> Result<Option<Whole<'a>>, SioFault>
         requires { self.old ≡ [] }
-        ensures answers { Feeds (messages_held half.entry) (Bytes (blob_view blob.entry) ∷ []) result self.new }
+        ensures answers { Feeds (messages_held half.entry)
+            (Bytes (blob_view blob.entry) ∷ []) result self.new }
         ensures waits { Waits self.new }
         ensures rest_refused { IfErr result (λ _. self.new ≡ []) }
         ensures rest_given { IfOk result (λ whole. IsSome whole → self.new ≡ []) }
-        ensures memory { result ≡ Err SioFault.Memory → takes_memory (messages_held half.entry) (Bytes (blob_view blob.entry) ∷ []) ≡ true }
+        ensures memory { result ≡ Err SioFault.Memory
+            → takes_memory (messages_held half.entry) (Bytes (blob_view blob.entry) ∷ []) ≡ true }
     {
         match half {
             Some(half) => self.attach(half, blob),
@@ -146,7 +154,8 @@ impl<'a> Assembler<'a> {
 
     fn attach(&mut self, half: Half<'a>, blob: Blob<'a>) -> Result<Option<Whole<'a>>, SioFault>
         requires { self.old ≡ [] }
-        ensures answers { Feeds (messages_of_whole half.entry.whole) (Bytes (blob_view blob.entry) ∷ []) result self.new }
+        ensures answers { Feeds (messages_of_whole half.entry.whole)
+            (Bytes (blob_view blob.entry) ∷ []) result self.new }
         ensures waits { Waits self.new }
         ensures rest_refused { IfErr result (λ _. self.new ≡ []) }
         ensures rest_given { IfOk result (λ whole. IsSome whole → self.new ≡ []) }

@@ -33,7 +33,7 @@ mod whole;
 mod written;
 
 pub use assembler::Assembler;
-pub use aud_fields::Scratch;
+pub use aud_json::Scratch;
 pub use fault::SioFault;
 pub use kind::PacketKind;
 pub use law::answers_are_wholes;

@@ -9,10 +9,10 @@ use crate::fault::SioFault;
 use crate::kind::{PacketKind, kind_at};
 use crate::namespace::namespace_at;
 use crate::payload::payload_at;
-use aud_fields::Scratch;
+use aud_json::Scratch;
 use std::alloc::Global;
 
-/// A packet, whose namespace and payload are lent from the text that it was read from.
+/// A packet, whose namespace and payload are borrowed from the text that it was read from.
 #[derive(Drop)]
 pub struct Packet<'a> {
     /// The type at the front of the text.
@@ -31,12 +31,12 @@ pub struct Packet<'a> {
 }
 
 /// The packet that a text spells, by the section "Packet encoding" of the Socket.IO protocol 5. Its
-/// namespace and its payload are lent from the text; memory is kept for `last` alone, and none is
+/// namespace and its payload are borrowed from the text; memory is kept for `last` alone, and none is
 /// taken where no byte is left for the payload.
 ///
 /// An error is of the first part that is refused, in the order type, count of attachments,
-/// acknowledgement id, payload; or `Memory`, at the payload. That there are at most 64 attachments and at most 18 digits of an id,
-/// and that CONNECT, DISCONNECT and CONNECT_ERROR take any JSON or none, is this crate's choice.
+/// acknowledgement id, payload; or `Memory`, at the payload. That there are at most 64 attachments and at most 18
+/// digits of an id, and that CONNECT, DISCONNECT and CONNECT_ERROR take any JSON or none, is this crate's choice.
 pub fn decode(alloc: Global, text: &str) -> Result<Packet<'_>, SioFault>
     ensures value { Gives packet_view result (packet_of text.now) }
     ensures spelled { IfOk result (λ packet. IsSpelled (packet_view packet)) }
@@ -46,7 +46,8 @@ pub fn decode(alloc: Global, text: &str) -> Result<Packet<'_>, SioFault>
     decode_with(alloc, &mut scratch, text)
 }
 
-/// What [`decode`] gives, with memory that is kept for the next text: of 16 KiB, and of the length of the longest payload.
+/// What [`decode`] gives, with memory that is kept for the next text: of 16 KiB, and of the length of the longest
+/// payload.
 #[tactic(auto, unfolding(crate::specs::Packet::packet_of, crate::specs::Packet::payload_text))]
 pub fn decode_with<'a>(
     alloc: Global,
@@ -72,7 +73,7 @@ pub fn decode_with<'a>(
     })
 }
 
-/// The text at the end of the packet's payload, decoded, lent from `last`; none where another element stands there.
+/// The text at the end of the packet's payload, decoded, borrowed from `last`; none where another element stands there.
 pub fn last_text<'a>(packet: &'a Packet<'_>) -> Option<&'a str>
     ensures { option_map (λ s. s.now) result ≡ (packet_view packet.now).last }
 {

@@ -1,13 +1,13 @@
 //! The payload of a packet: JSON text, which stays where it lies.
 ghost use Rattle.std.specs.Prelude.{◌≡◌, ◌<◌, Ok, Err, MatchResult, length, option_and_then, option_map, string_bytes};
 ghost use Rattle.serde_json.specs.Find.{as_str};
-ghost use Rattle.aud_fields.specs.View.{field_view, list_view};
+ghost use Rattle.aud_json.specs.View.{field_view, list_view};
 ghost use Rattle.aud_sio.specs.Reading.{Gives};
 ghost use Rattle.aud_sio.specs.Payload.{last_item, last_of_payload, last_of_value, payload_at};
 
 use crate::fault::SioFault;
 use crate::kind::PacketKind;
-use aud_fields::{Field, FieldsFault, Scratch};
+use aud_json::{Field, FieldsFault, Scratch};
 use std::alloc::Global;
 
 /// The payload that a text is, if it has any byte; and the text at the payload's end.
@@ -66,7 +66,8 @@ fn last_of_value<'a>(kind: PacketKind, value: &Field<'a>) -> Result<Option<&'a s
 
 /// The last element, where it is a text.
 fn last_text<'a>(items: &[Option<&'a str>]) -> Option<&'a str>
-    ensures { option_map (λ s. s.now) result ≡ option_and_then as_str (last_item (list_view items.now)) }
+    ensures { option_map (λ s. s.now) result
+        ≡ option_and_then as_str (last_item (list_view items.now)) }
 {
     *items.last()?
 }

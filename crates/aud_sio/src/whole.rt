@@ -15,7 +15,7 @@ pub enum Blob<'a> {
 }
 
 impl<'a> Blob<'a> {
-    /// The bytes, lent.
+    /// The bytes, borrowed.
     pub fn as_slice(&self) -> &[u8]
         ensures { result.now ≡ blob_bytes (blob_view self.now) }
     {
@@ -31,7 +31,7 @@ impl<'a> Blob<'a> {
 pub struct Whole<'a> {
     /// The text that the packet was read from.
     pub text: &'a str,
-    /// The packet, lent from that text.
+    /// The packet, borrowed from that text.
     pub packet: Packet<'a>,
     /// As many as the packet's `attachments`.
     pub bin: Vec<Blob<'a>>,

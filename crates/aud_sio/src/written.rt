@@ -19,7 +19,8 @@ use std::alloc::{AllocError, Global};
 pub fn encode(alloc: Global, packet: &Packet<'_>) -> Result<String, SioFault>
     requires spelled { IsSpelled (packet_view packet.now) }
     ensures form { IfOk result (λ text. string_bytes text ≡ packet_text (packet_view packet.now)) }
-    ensures reads_back { IfOk result (λ text. packet_of (string_bytes text) ≡ Ok (packet_view packet.now)) }
+    ensures reads_back { IfOk result (λ text. packet_of (string_bytes text)
+        ≡ Ok (packet_view packet.now)) }
     ensures memory { IfErr result (λ e. e ≡ Memory) }
 {
     Ok(text_of(alloc, packet)?)
@@ -42,7 +43,8 @@ fn text_of(alloc: Global, packet: &Packet<'_>) -> Result<String, AllocError>
 
 /// Puts the count of attachments and a dash at the end, where the kind is binary.
 fn push_count(text: &mut String, kind: PacketKind, count: u8) -> Result<(), AllocError>
-    ensures { OnOk result (string_bytes text.new ≡ string_bytes text.old ++ written_count kind count) }
+    ensures { OnOk result (string_bytes text.new
+        ≡ string_bytes text.old ++ written_count kind count) }
 {
     if kind.is_binary() {
         write!(text, "{count}-")?;
@@ -52,7 +54,8 @@ fn push_count(text: &mut String, kind: PacketKind, count: u8) -> Result<(), Allo
 
 /// Puts the namespace and a comma at the end, unless it is the main one.
 fn push_namespace(text: &mut String, nsp: &str) -> Result<(), AllocError>
-    ensures { OnOk result (string_bytes text.new ≡ string_bytes text.old ++ written_namespace nsp.now) }
+    ensures { OnOk result (string_bytes text.new
+        ≡ string_bytes text.old ++ written_namespace nsp.now) }
 {
     if nsp != MAIN {
         write!(text, "{nsp},")?;

@@ -2,15 +2,15 @@
 use Rattle.std.proofs.Common.{◌≡◌, ◌+◌, ℕ, Bool, true, false, not, List, [], ◌∷◌, codes, cond, length, count_by, filter, refl, arith}
 use Rattle.std.proofs.lemmas.List.Sums.{sum_by-cons, length-filter}
 use Rattle.aud_cert.specs.declared.fault.Fault.TheVariants.{NoLog, Chain, Order, Client, Names, Frame, Orphan, Content, Extra, Doubled, Swapped, Lost, Window, Tail}
-use Rattle.aud_evidence.specs.declared.class.Class.{Class}
-use Rattle.aud_evidence.specs.declared.class.Class.TheVariants.{Delivery, Packets, Recording}
-use Rattle.aud_evidence.specs.Class.{class_of}
+use Rattle.aud_cert.specs.declared.class.Class.{Class}
+use Rattle.aud_cert.specs.declared.class.Class.TheVariants.{Delivery, Packets, Recording}
+use Rattle.aud_cert.specs.Class.{class_of}
 use Rattle.aud_recoveries.specs.declared.asked.Recovery.{Recovery}
 use Rattle.aud_recoveries.specs.Recoveries.{is_granted, is_refused}
-use Rattle.aud_report.specs.declared.verdict.Verdict.{Verdict}
-use Rattle.aud_report.specs.declared.verdict.Verdict.TheVariants.{Yes, No}
-use Rattle.aud_report.specs.declared.verdict.SessionVerdict.{SessionVerdict}
-use Rattle.aud_report.specs.Verdict.{yes_of, is_yes}
+use Rattle.aud_verdict.specs.declared.verdict.Verdict.{Verdict}
+use Rattle.aud_verdict.specs.declared.verdict.Verdict.TheVariants.{Yes, No}
+use Rattle.aud_verdict.specs.declared.verdict.SessionVerdict.{SessionVerdict}
+use Rattle.aud_verdict.specs.YesOf.{yes_of, is_yes}
 use Rattle.aud_summary.specs.Answers.{is_no}
 use Rattle.aud_summary.specs.ByClass.{same_class, no_in, is_no_in, classes_of, sum_of_classes}
 use Rattle.aud_summary.specs.ByFault.{no_for, is_no_for, faults_of, sum_of_faults}

@@ -1,11 +1,11 @@
 -- Which verdicts are no with a fault of a class.
 use Rattle.std.specs.Prelude.{ℕ, ◌+◌, List, Bool, true, false, count_by}
-use Rattle.aud_evidence.specs.declared.class.Class.{Class}
-use Rattle.aud_evidence.specs.declared.class.Class.TheVariants.{Delivery, Packets, Recording}
-use Rattle.aud_evidence.specs.Class.{class_of}
-use Rattle.aud_report.specs.declared.verdict.Verdict.{Verdict}
-use Rattle.aud_report.specs.declared.verdict.Verdict.TheVariants.{Yes, No}
-use Rattle.aud_report.specs.declared.verdict.SessionVerdict.{SessionVerdict}
+use Rattle.aud_cert.specs.declared.class.Class.{Class}
+use Rattle.aud_cert.specs.declared.class.Class.TheVariants.{Delivery, Packets, Recording}
+use Rattle.aud_cert.specs.Class.{class_of}
+use Rattle.aud_verdict.specs.declared.verdict.Verdict.{Verdict}
+use Rattle.aud_verdict.specs.declared.verdict.Verdict.TheVariants.{Yes, No}
+use Rattle.aud_verdict.specs.declared.verdict.SessionVerdict.{SessionVerdict}
 use Rattle.aud_summary.specs.declared.classes.Classes.{Classes}
 
 -- they are one class

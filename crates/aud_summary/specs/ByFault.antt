@@ -1,10 +1,10 @@
 -- Which verdicts are no with which fault.
 use Rattle.std.specs.Prelude.{ℕ, ◌+◌, List, Bool, false, codes, count_by}
 use Rattle.std.specs.Str.{bytes_eq}
-use Rattle.aud_evidence.specs.FaultWord.{fault_word}
-use Rattle.aud_report.specs.declared.verdict.Verdict.{Verdict}
-use Rattle.aud_report.specs.declared.verdict.Verdict.TheVariants.{Yes, No}
-use Rattle.aud_report.specs.declared.verdict.SessionVerdict.{SessionVerdict}
+use Rattle.aud_cert.specs.FaultWord.{fault_word}
+use Rattle.aud_verdict.specs.declared.verdict.Verdict.{Verdict}
+use Rattle.aud_verdict.specs.declared.verdict.Verdict.TheVariants.{Yes, No}
+use Rattle.aud_verdict.specs.declared.verdict.SessionVerdict.{SessionVerdict}
 use Rattle.aud_summary.specs.declared.faults.Faults.{Faults}
 
 -- no, with the fault of this word

@@ -2,9 +2,9 @@ pub use Rattle.aud_node.specs.Stream
 pub use Rattle.aud_node.specs.Cluster
 pub use Rattle.aud_node.specs.Recoverable
 pub use Rattle.aud_client.specs.Replies
-pub use Rattle.aud_evidence.specs.Class
-pub use Rattle.aud_evidence.specs.FaultWord
-pub use Rattle.aud_report.specs.Verdict
+pub use Rattle.aud_cert.specs.Class
+pub use Rattle.aud_cert.specs.FaultWord
+pub use Rattle.aud_verdict.specs.YesOf
 pub use Rattle.aud_recoveries.specs.Recoveries
 pub mod Answers
 pub mod ByClass

@@ -1,9 +1,9 @@
 -- The events at the end of what was due that did not come.
 use Rattle.std.specs.Prelude.{ℕ, Bool, nat_lt}
 use Rattle.aud_cert.specs.declared.fault.Fault.TheVariants.{Tail}
-use Rattle.aud_report.specs.declared.verdict.Verdict.{Verdict}
-use Rattle.aud_report.specs.declared.verdict.Verdict.TheVariants.{Yes, No}
-use Rattle.aud_report.specs.declared.verdict.SessionVerdict.{SessionVerdict}
+use Rattle.aud_verdict.specs.declared.verdict.Verdict.{Verdict}
+use Rattle.aud_verdict.specs.declared.verdict.Verdict.TheVariants.{Yes, No}
+use Rattle.aud_verdict.specs.declared.verdict.SessionVerdict.{SessionVerdict}
 
 -- how many events are in the tail: of a yes, and of a no for it, where the whole was asked for
 abbrev pub tail_in : Verdict → ℕ

@@ -1,10 +1,10 @@
 //! How many sessions are answered yes, how many no, and how many no client named.
 ghost use Rattle.std.specs.Prelude.{◌≡◌, count_by};
-ghost use Rattle.aud_report.specs.Verdict.{is_yes};
+ghost use Rattle.aud_verdict.specs.YesOf.{is_yes};
 ghost use Rattle.aud_summary.specs.Answers.{is_no, is_unnamed, is_unobserved};
 
 use aud_client::Recording;
-use aud_report::SessionVerdict;
+use aud_verdict::SessionVerdict;
 
 /// How many are yes.
 pub(crate) fn count_yes(verdicts: &[SessionVerdict]) -> usize

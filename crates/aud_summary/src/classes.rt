@@ -2,8 +2,8 @@
 ghost use Rattle.std.specs.Prelude.{◌≡◌, count_by};
 ghost use Rattle.aud_summary.specs.ByClass.{classes_of, is_no_in, same_class};
 
-use aud_evidence::{Class, class_of};
-use aud_report::{SessionVerdict, Verdict};
+use aud_cert::{Class, class_of};
+use aud_verdict::{SessionVerdict, Verdict};
 
 /// How many sessions are answered no with a fault of each class.
 #[derive(Clone, Copy, Debug, PartialEq, Eq, Drop)]

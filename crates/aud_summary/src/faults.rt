@@ -2,8 +2,8 @@
 ghost use Rattle.std.specs.Prelude.{◌≡◌, count_by};
 ghost use Rattle.aud_summary.specs.ByFault.{faults_of, is_no_for};
 
-use aud_evidence::fault_word;
-use aud_report::{SessionVerdict, Verdict};
+use aud_cert::fault_word;
+use aud_verdict::{SessionVerdict, Verdict};
 
 /// How many sessions are answered no with each fault, in the order in which faults are looked for.
 #[derive(Clone, Copy, Debug, PartialEq, Eq, Drop)]

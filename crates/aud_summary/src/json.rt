@@ -129,7 +129,8 @@ fn put_figure(
     name: &str,
     figure: usize,
 ) -> Result<(), AllocError>
-    ensures { OnOk result (members_view map.new.entries ≡ put name.now (number (unsigned figure)) (members_view map.old.entries)) }
+    ensures { OnOk result (members_view map.new.entries
+        ≡ put name.now (number (unsigned figure)) (members_view map.old.entries)) }
 {
     put(map, alloc, name, Value::from(figure))
 }

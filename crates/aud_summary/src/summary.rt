@@ -3,7 +3,7 @@ ghost use Rattle.std.specs.Prelude.{◌≡◌, ◌+◌, count_by, length, min, s
 ghost use Rattle.std.specs.List.{filter};
 ghost use Rattle.aud_node.specs.Recoverable.{is_recoverable};
 ghost use Rattle.aud_recoveries.specs.Recoveries.{is_granted, is_refused};
-ghost use Rattle.aud_report.specs.Verdict.{is_yes};
+ghost use Rattle.aud_verdict.specs.YesOf.{is_yes};
 ghost use Rattle.aud_summary.specs.Answers.{is_no, is_unobserved};
 ghost use Rattle.aud_summary.specs.ByClass.{classes_of, sum_of_classes};
 ghost use Rattle.aud_summary.specs.ByFault.{faults_of, sum_of_faults};
@@ -17,7 +17,7 @@ use crate::recoveries::{Recoveries, recoveries_in};
 use crate::tails::{Tails, tails_in};
 use aud_client::Recording;
 use aud_recoveries::Recovery;
-use aud_report::SessionVerdict;
+use aud_verdict::SessionVerdict;
 
 /// What was read, as the caller counted it.
 #[derive(Clone, Copy, Debug, PartialEq, Eq, Drop)]
@@ -44,9 +44,9 @@ pub struct Summary {
     pub input: Input,
 }
 
-/// The figures of the recording, of the verdicts on its sessions, and of the recoveries that its clients asked for. Each
-/// entry, each verdict and each recovery is looked at a fixed number of times, and the clients that name a session are
-/// looked up once.
+/// The figures of the recording, of the verdicts on its sessions, and of the recoveries that its clients asked for.
+/// Each entry, each verdict and each recovery is looked at a fixed number of times, and the clients that name a session
+/// are looked up once.
 pub fn summary_of(
     recording: &Recording<'_>,
     verdicts: &[SessionVerdict],
@@ -69,13 +69,15 @@ pub fn summary_of(
     ensures refused { result.recoveries.refused ≡ length (filter is_refused recoveries.now) }
 
     ensures entries { result.entries.all ≡ length recording.now.stream }
-    ensures recoverable { result.entries.recoverable ≡ count_by is_recoverable recording.now.stream }
+    ensures recoverable { result.entries.recoverable
+        ≡ count_by is_recoverable recording.now.stream }
     ensures input { result.input ≡ input }
 
     ensures answered { result.yes + result.no ≡ result.sessions }
     ensures by_class { sum_of_classes result.classes ≡ result.no }
     ensures by_fault { sum_of_faults result.faults ≡ result.no }
-    ensures all_recoveries { result.recoveries.granted + result.recoveries.refused ≡ result.recoveries.asked }
+    ensures all_recoveries { result.recoveries.granted + result.recoveries.refused
+        ≡ result.recoveries.asked }
 {
     Summary {
         sessions: verdicts.len(),

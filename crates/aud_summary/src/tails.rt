@@ -3,7 +3,7 @@ ghost use Rattle.std.specs.Prelude.{◌≡◌, count_by, min, sum_by};
 ghost use Rattle.aud_summary.specs.Tails.{has_tail, tail_in, tail_of};
 
 use aud_cert::Fault;
-use aud_report::{SessionVerdict, Verdict};
+use aud_verdict::{SessionVerdict, Verdict};
 
 /// The tails: the events at the end of what was due that did not come.
 #[derive(Clone, Copy, Debug, PartialEq, Eq, Drop)]

@@ -29,7 +29,8 @@ pub fn summary_text(alloc: Global, summary: &Summary) -> Result<String, AllocErr
 }
 
 fn push_answers(out: &mut String, summary: &Summary) -> Result<(), AllocError>
-    ensures { OnOk result (string_bytes out.new ≡ string_bytes out.old ++ answers_line summary.now) }
+    ensures { OnOk result (string_bytes out.new
+        ≡ string_bytes out.old ++ answers_line summary.now) }
 {
     let (sessions, yes, no) = (summary.sessions, summary.yes, summary.no);
     writeln!(out, "sessions: {sessions}, yes: {yes}, no: {no}")
@@ -37,7 +38,8 @@ fn push_answers(out: &mut String, summary: &Summary) -> Result<(), AllocError>
 
 /// A line for each class that has a no.
 fn push_classes(out: &mut String, classes: &Classes, faults: &Faults) -> Result<(), AllocError>
-    ensures { OnOk result (string_bytes out.new ≡ string_bytes out.old ++ classes_lines classes.now faults.now) }
+    ensures { OnOk result (string_bytes out.new
+        ≡ string_bytes out.old ++ classes_lines classes.now faults.now) }
 {
     push_recording(out, classes.recording, faults)?;
     push_packets(out, classes.packets, faults)?;
@@ -45,7 +47,9 @@ fn push_classes(out: &mut String, classes: &Classes, faults: &Faults) -> Result<
 }
 
 fn push_recording(out: &mut String, count: usize, faults: &Faults) -> Result<(), AllocError>
-    ensures { OnOk result (string_bytes out.new ≡ string_bytes out.old ++ class_line (codes "recording") count (recording_items faults.now)) }
+    ensures { OnOk result (string_bytes out.new
+        ≡ string_bytes out.old
+        ++ class_line (codes "recording") count (recording_items faults.now)) }
 {
     if count == 0 {
         return Ok(());
@@ -57,7 +61,8 @@ fn push_recording(out: &mut String, count: usize, faults: &Faults) -> Result<(),
 
 /// The class's faults that some session has.
 fn push_recording_faults(out: &mut String, faults: &Faults) -> Result<(), AllocError>
-    ensures { OnOk result (string_bytes out.new ≡ string_bytes out.old ++ recording_items faults.now) }
+    ensures { OnOk result (string_bytes out.new
+        ≡ string_bytes out.old ++ recording_items faults.now) }
 {
     push_fault(out, "NOLOG", faults.no_log)?;
     push_fault(out, "CHAIN", faults.chain)?;
@@ -67,7 +72,8 @@ fn push_recording_faults(out: &mut String, faults: &Faults) -> Result<(), AllocE
 }
 
 fn push_packets(out: &mut String, count: usize, faults: &Faults) -> Result<(), AllocError>
-    ensures { OnOk result (string_bytes out.new ≡ string_bytes out.old ++ class_line (codes "packets") count (packets_items faults.now)) }
+    ensures { OnOk result (string_bytes out.new
+        ≡ string_bytes out.old ++ class_line (codes "packets") count (packets_items faults.now)) }
 {
     if count == 0 {
         return Ok(());
@@ -78,14 +84,16 @@ fn push_packets(out: &mut String, count: usize, faults: &Faults) -> Result<(), A
 }
 
 fn push_packets_faults(out: &mut String, faults: &Faults) -> Result<(), AllocError>
-    ensures { OnOk result (string_bytes out.new ≡ string_bytes out.old ++ packets_items faults.now) }
+    ensures { OnOk result (string_bytes out.new
+        ≡ string_bytes out.old ++ packets_items faults.now) }
 {
     push_fault(out, "FRAME", faults.frame)?;
     push_fault(out, "ORPHAN", faults.orphan)
 }
 
 fn push_delivery(out: &mut String, count: usize, faults: &Faults) -> Result<(), AllocError>
-    ensures { OnOk result (string_bytes out.new ≡ string_bytes out.old ++ class_line (codes "delivery") count (delivery_items faults.now)) }
+    ensures { OnOk result (string_bytes out.new
+        ≡ string_bytes out.old ++ class_line (codes "delivery") count (delivery_items faults.now)) }
 {
     if count == 0 {
         return Ok(());
@@ -96,7 +104,8 @@ fn push_delivery(out: &mut String, count: usize, faults: &Faults) -> Result<(), 
 }
 
 fn push_delivery_faults(out: &mut String, faults: &Faults) -> Result<(), AllocError>
-    ensures { OnOk result (string_bytes out.new ≡ string_bytes out.old ++ delivery_items faults.now) }
+    ensures { OnOk result (string_bytes out.new
+        ≡ string_bytes out.old ++ delivery_items faults.now) }
 {
     push_fault(out, "CONTENT", faults.content)?;
     push_fault(out, "EXTRA", faults.extra)?;
@@ -109,7 +118,8 @@ fn push_delivery_faults(out: &mut String, faults: &Faults) -> Result<(), AllocEr
 
 /// The fault and its count, unless that is 0.
 fn push_fault(out: &mut String, word: &str, count: usize) -> Result<(), AllocError>
-    ensures { OnOk result (string_bytes out.new ≡ string_bytes out.old ++ fault_item word.now count) }
+    ensures { OnOk result (string_bytes out.new
+        ≡ string_bytes out.old ++ fault_item word.now count) }
 {
     if count == 0 {
         return Ok(());
@@ -134,7 +144,8 @@ fn push_tails(out: &mut String, tails: &Tails) -> Result<(), AllocError>
 }
 
 fn push_recoveries(out: &mut String, recoveries: &Recoveries) -> Result<(), AllocError>
-    ensures { OnOk result (string_bytes out.new ≡ string_bytes out.old ++ recoveries_line recoveries.now) }
+    ensures { OnOk result (string_bytes out.new
+        ≡ string_bytes out.old ++ recoveries_line recoveries.now) }
 {
     let (asked, granted, refused) = (recoveries.asked, recoveries.granted, recoveries.refused);
     writeln!(
@@ -144,7 +155,8 @@ fn push_recoveries(out: &mut String, recoveries: &Recoveries) -> Result<(), Allo
 }
 
 fn push_entries(out: &mut String, entries: &Entries) -> Result<(), AllocError>
-    ensures { OnOk result (string_bytes out.new ≡ string_bytes out.old ++ entries_line entries.now) }
+    ensures { OnOk result (string_bytes out.new
+        ≡ string_bytes out.old ++ entries_line entries.now) }
 {
     let (all, recoverable) = (entries.all, entries.recoverable);
     writeln!(
@@ -162,7 +174,8 @@ fn push_input(out: &mut String, input: &Input) -> Result<(), AllocError>
 
 /// Where no answer means anything, why.
 fn push_meaning(out: &mut String, sessions: usize, recoverable: usize) -> Result<(), AllocError>
-    ensures { OnOk result (string_bytes out.new ≡ string_bytes out.old ++ meaning_line sessions recoverable) }
+    ensures { OnOk result (string_bytes out.new
+        ≡ string_bytes out.old ++ meaning_line sessions recoverable) }
 {
     if sessions == 0 {
         return writeln!(out, "nothing was judged: no session was recorded");

@@ -29,5 +29,6 @@ pub struct Tap {
     pub records: Records,
 }
 
-/// The taps of a bundle in the order of their headers. Nothing is asked of them here: a bundle's rules are the reader's.
+/// The taps of a bundle in the order of their headers. Nothing is asked of them here: a bundle's rules are the
+/// reader's.
 pub type Taps = Listed<Tap>;

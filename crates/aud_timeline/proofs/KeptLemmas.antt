@@ -7,7 +7,7 @@ use Rattle.aud_tap.specs.declared.records.StreamRec.{StreamRec}
 use Rattle.aud_node.specs.Cluster.{Cluster}
 use Rattle.aud_node.specs.Stream.{Text, position}
 use Rattle.aud_client.specs.Replies.{is_this}
-use Rattle.aud_lines.specs.TapLines.{TapLines}
+use Rattle.aud_input.specs.TapLines.{TapLines}
 use Rattle.aud_rows.specs.declared.row.Role.TheVariants as role
 use Rattle.aud_rows.specs.EndRows.{lost_row}
 use Rattle.aud_rows.specs.Seen.{RowSeen, SaysSeen}

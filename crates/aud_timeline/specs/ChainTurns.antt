@@ -10,7 +10,7 @@ use Rattle.aud_node.specs.Stream.{Text}
 use Rattle.aud_rooms.specs.Turns.{Turn, End}
 use Rattle.aud_rooms.specs.Turns as chain
 use Rattle.aud_cert.specs.Certificate.{TurnSeen, turn_at}
-use Rattle.aud_lines.specs.TapLines.{TapLines}
+use Rattle.aud_input.specs.TapLines.{TapLines}
 use Rattle.aud_explanation.specs.declared.turn.TurnBegin.TheVariants.{Open, Back}
 use Rattle.aud_timeline.specs.declared.span.TurnSpan.{TurnSpan}
 use Rattle.aud_timeline.specs.declared.span.Ends.{Ends}
@@ -18,14 +18,15 @@ use Rattle.aud_timeline.specs.declared.span.Ends.TheVariants.{ByBreak, ByGone, B
 use Rattle.aud_timeline.specs.ShownTurn.{ShownTurn}
 use Rattle.aud_timeline.specs.SpanShown.{span_shown}
 
--- how a turn of the session ends, where this is the last of its records: by the session's `break` or `gone`, or else with
--- the log
+-- how a turn of the session ends, where this is the last of its records: by the session's `break` or `gone`, or else
+-- with the log
 abbrev pub end_of : Text → Option NodeRec → Ends
 end_of pid (Some (Broke other turn)) = if bytes_eq other pid then ByBreak else ByLog
 end_of pid (Some (Gone other)) = if bytes_eq other pid then ByGone else ByLog
 end_of pid _ = ByLog
 
--- the turn of these records, of which this is the first, and this the last: none where the first is no `open` and no `back`
+-- the turn of these records, of which this is the first, and this the last: none where the first is no `open` and no
+-- `back`
 abbrev pub span_between : Turn → Option NodeRec → Option NodeRec → Option TurnSpan
 span_between t (Some (Opened pid sid nsp)) last =
     Some (record { turn = 0; begin = Open; node = t.node; first = t.from; last = t.to - 1; ends = end_of pid last })

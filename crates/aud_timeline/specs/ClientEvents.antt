@@ -9,7 +9,7 @@ use Rattle.aud_node.specs.Stream.{Text, position}
 use Rattle.aud_client.specs.Replies.{is_this}
 use Rattle.aud_client.specs.Received.{stay_names_pid}
 use Rattle.aud_client.specs.StaySeen.{AskedSeen, StaySeen}
-use Rattle.aud_lines.specs.TapLines.{TapLines}
+use Rattle.aud_input.specs.TapLines.{TapLines}
 use Rattle.aud_rows.specs.declared.row.Role.TheVariants as role
 use Rattle.aud_rows.specs.EndRows.{lost_row}
 use Rattle.aud_rows.specs.Seen.{RowSeen, SaysSeen}
@@ -44,8 +44,8 @@ answered asked true = Some Reply
 answered true false = Some Refused
 answered false false = None
 
--- what happened to the session's client where a record of a stay says this, and the stay asked for the session or didn't:
--- it asked to go on after the entry of an offset; it was answered; it received an entry; it lost the connection
+-- what happened to the session's client where a record of a stay says this, and the stay asked for the session or
+-- didn't: it asked to go on after the entry of an offset; it was answered; it received an entry; it lost the connection
 abbrev pub happens_of : List StreamRec → Text → Bool → SaysSeen → Option Happens
 happens_of stream pid asked (says.Asks conn other off) = if asked then Some (Asks (option_and_then (position stream) off)) else None
 happens_of stream pid asked (says.Reply conn sid named) = answered asked (is_this pid named)
@@ -109,7 +109,7 @@ events_of_stays c lines place pid numbers = flat_map (stay_events c lines place 
 abbrev pub first_line : ClientEvent → ℕ
 first_line event = event.first
 
--- what happened in the stays with these numbers of the client's tap at this place, to the client of the session with this
--- pid: in the order of the lines, and each joined to the one before where it goes on with that
+-- what happened in the stays with these numbers of the client's tap at this place, to the client of the session with
+-- this pid: in the order of the lines, and each joined to the one before where it goes on with that
 abbrev pub client_events : Cluster → List TapLines → ℕ → Text → List ℕ → List ClientEvent
 client_events c lines place pid numbers = joined_events (in_order first_line (events_of_stays c lines place pid numbers))

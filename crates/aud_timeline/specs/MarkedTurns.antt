@@ -6,7 +6,7 @@ use Rattle.aud_node.specs.Cluster.{Cluster, node_log}
 use Rattle.aud_chain.specs.declared.marks.Mark.{Mark}
 use Rattle.aud_chain.specs.declared.marks.Mark.TheVariants as mark
 use Rattle.aud_chain.specs.declared.marks.TurnMark.{TurnMark}
-use Rattle.aud_lines.specs.TapLines.{TapLines}
+use Rattle.aud_input.specs.TapLines.{TapLines}
 use Rattle.aud_explanation.specs.declared.turn.TurnBegin.{TurnBegin}
 use Rattle.aud_explanation.specs.declared.turn.TurnBegin.TheVariants.{Open, Back}
 use Rattle.aud_timeline.specs.declared.span.TurnSpan.{TurnSpan}
@@ -49,8 +49,8 @@ abbrev pub end_open : Bool → ℕ → ℕ → LastRecord
 end_open is_followed before log_end =
     if is_followed then record { number = before; ends = Missing } else record { number = log_end; ends = ByLog }
 
--- the last record of a turn: the next mark on its node, where that ends it in this way; else the turn is open up to that
--- mark, which may begin another one
+-- the last record of a turn: the next mark on its node, where that ends it in this way; else the turn is open up to
+-- that mark, which may begin another one
 abbrev pub last_at : Bool → ℕ → TurnMark → Option Ends → LastRecord
 last_at is_followed log_end next (Some ends) = record { number = next.place.number; ends = ends }
 last_at is_followed log_end next None = end_open (is_followed || is_some (begins_by next.mark)) (next.place.number - 1) log_end
@@ -76,8 +76,8 @@ abbrev pub span_to : TurnMark → LastRecord → TurnBegin → TurnSpan
 span_to m last begin =
     record { turn = turn_number m.mark; begin = begin; node = m.place.node; first = m.place.number; last = last.number; ends = last.ends }
 
--- the turn that this mark begins, if it does, where this is the next one on its node: another turn follows where its number
--- isn't the greatest
+-- the turn that this mark begins, if it does, where this is the next one on its node: another turn follows where its
+-- number isn't the greatest
 abbrev pub span_from : Cluster → ℕ → TurnMark → Option TurnMark → Option TurnSpan
 span_from c greatest m next =
     option_map (span_to m (last_by (turn_number m.mark) (nat_lt (turn_number m.mark) greatest) (last_number c m.place.node) next)) (begins_by m.mark)

@@ -6,7 +6,7 @@ use Rattle.aud_node.specs.Cluster.{Cluster}
 use Rattle.aud_node.specs.Stream.{Text, entry, offset_of}
 use Rattle.aud_client.specs.Replies.{ReplySeen}
 use Rattle.aud_client.specs.StaySeen.{AskedSeen, StaySeen}
-use Rattle.aud_lines.specs.TapLines.{TapLines}
+use Rattle.aud_input.specs.TapLines.{TapLines}
 use Rattle.aud_recoveries.specs.Missed.{IsMissed, IsUntold}
 use Rattle.aud_rows.specs.declared.row.Role.TheVariants as role
 use Rattle.aud_rows.specs.Seen.{RowSeen, row_seen}
@@ -66,8 +66,8 @@ pub record AreMissed (c : Cluster) (client : ℕ) (asked got : Text) (missed : L
   pub is_missed : IsMissed c client asked got positions
   pub are_entries : missed ≡ missed_entries c.stream positions
 
--- this is what the client at the place missed where it asked for one session and got another: nothing is known of it where
--- it asked for none or got none, and where the logs don't tell
+-- this is what the client at the place missed where it asked for one session and got another: nothing is known of it
+-- where it asked for none or got none, and where the logs don't tell
 abbrev pub IsMissedOf : Cluster → ℕ → Option Text → Option Text → Option (List MissedSeen) → Type 0
 IsMissedOf c client (Some asked) (Some got) (Some missed) = AreMissed c client asked got missed
 IsMissedOf c client (Some asked) (Some got) None = IsUntold c asked got

@@ -9,8 +9,8 @@ use Rattle.aud_explanation.specs.declared.event.Happens.TheVariants.{Got, Lost}
 abbrev pub run_on : ℕ → ℕ → ℕ → ℕ → Option Happens
 run_on from to after last = if nat_eq after (suc to) then Some (Got from last) else None
 
--- what happens as one: entries, and after them those from the next position on; and the loss of one connection, which ends
--- each of its stays
+-- what happens as one: entries, and after them those from the next position on; and the loss of one connection, which
+-- ends each of its stays
 abbrev pub joined_happens : Bool → Happens → Happens → Option Happens
 joined_happens one_line (Got from to) (Got after last) = run_on from to after last
 joined_happens one_line Lost Lost = if one_line then Some Lost else None

@@ -5,8 +5,8 @@ use Rattle.aud_explanation.specs.declared.turn.TurnShown.{TurnShown}
 use Rattle.aud_explanation.specs.declared.turn.TurnBegin.{TurnBegin}
 use Rattle.aud_explanation.specs.declared.turn.TurnEnd.{TurnEnd}
 
--- a turn: its number and its node; by which record it begins, on which line, and the node's cursor after that; the first and
--- the last position that the node took in it; and how it ends
+-- a turn: its number and its node; by which record it begins, on which line, and the node's cursor after that; the
+-- first and the last position that the node took in it; and how it ends
 pub record ShownTurn : Type 0 where
   pub turn : ℕ
   pub node : Text

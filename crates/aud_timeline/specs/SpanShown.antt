@@ -5,7 +5,7 @@ use Rattle.aud_tap.specs.declared.taps.Tap.{Tap}
 use Rattle.aud_node.specs.Cluster.{Cluster}
 use Rattle.aud_node.specs.NodeTap.{cursor_after}
 use Rattle.aud_node.specs.NodeTaps.{node_at}
-use Rattle.aud_lines.specs.TapLines.{TapLines, kept_line}
+use Rattle.aud_input.specs.TapLines.{TapLines, kept_line}
 use Rattle.aud_explanation.specs.declared.turn.TurnEnd.{TurnEnd}
 use Rattle.aud_explanation.specs.declared.turn.TurnEnd.TheVariants as shown
 use Rattle.aud_timeline.specs.declared.span.TurnSpan.{TurnSpan}
@@ -21,16 +21,16 @@ cursor_past c node number = option_and_then (λ log. cursor_after log number) (n
 abbrev pub took_between : ℕ → ℕ → Option (ℕ × ℕ)
 took_between low high = if nat_lt low high then Some (suc low, high) else None
 
--- the first and the last position that a node took in a turn that begins at this cursor and ends so; where the end is missing
--- nobody knows how far the turn went
+-- the first and the last position that a node took in a turn that begins at this cursor and ends so; where the end is
+-- missing nobody knows how far the turn went
 abbrev pub took_until : ℕ → TurnEnd → Option (ℕ × ℕ)
 took_until low (shown.Break line high) = took_between low high
 took_until low (shown.Gone line high) = took_between low high
 took_until low (shown.Log line high) = took_between low high
 took_until low shown.Missing = None
 
--- how a turn ends whose last record stands on this line and leaves this cursor; none where these are to be shown and aren't
--- known
+-- how a turn ends whose last record stands on this line and leaves this cursor; none where these are to be shown and
+-- aren't known
 abbrev pub end_shown : Ends → Option ℕ → Option ℕ → Option TurnEnd
 end_shown ByBreak (Some line) (Some high) = Some (shown.Break line high)
 end_shown ByGone (Some line) (Some high) = Some (shown.Gone line high)

@@ -16,14 +16,15 @@ use aud_rows::Sheet;
 use aud_tap::NodeRec;
 use std::alloc::{AllocError, Global};
 
-/// The turns of a certificate, as a timeline shows them, in their order: by the records of these logs. A turn whose lines
-/// aren't known is left out. It costs the turns, and none of the records between.
+/// The turns of a certificate, as a timeline shows them, in their order: by the records of these logs. A turn whose
+/// lines aren't known is left out. It costs the turns, and none of the records between.
 pub fn turns_of_chain<'r>(
     alloc: Global,
     sheet: &Sheet<'r, '_>,
     turns: &[Turn<'_>],
 ) -> Result<Vec<TurnShown<'r>>, AllocError>
-    ensures { IfOk result (λ shown. map turn_seen shown.items ≡ turns_shown sheet.now.recording.now sheet.now.lines.now turns.now) }
+    ensures { IfOk result (λ shown. map turn_seen shown.items
+        ≡ turns_shown sheet.now.recording.now sheet.now.lines.now turns.now) }
 {
     let mut shown = Vec::new(alloc);
     for turn in turns {
@@ -34,7 +35,9 @@ pub fn turns_of_chain<'r>(
 
 /// What is shown of the turn.
 fn turn_shown<'r>(sheet: &Sheet<'r, '_>, turn: &Turn<'_>) -> Option<TurnShown<'r>>
-    ensures { option_map turn_seen result ≡ turn_shown sheet.now.recording.now sheet.now.lines.now (turn_at sheet.now.recording.now turn.now) }
+    ensures { option_map turn_seen result
+        ≡ turn_shown sheet.now.recording.now sheet.now.lines.now
+        (turn_at sheet.now.recording.now turn.now) }
 {
     let logs = sheet.recording.logs();
     let span = chain_span(logs, turn_at(logs, turn))?;

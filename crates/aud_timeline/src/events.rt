@@ -16,10 +16,10 @@ use aud_node::Stream;
 use aud_rows::{ClientPlaces, Role, Row, Says, Sheet};
 use std::alloc::{AllocError, Global};
 
-/// What happened to the client of a session in the stays of its tap with these numbers, in the order of the lines: that it
-/// asked for the session, the answer, which is a refusal where it asked for the session and the reply names another one or
-/// nobody, the entries that it received, those of consecutive positions as one, and the loss of the connection. What came after
-/// a refusal is of another session or of none, and left out, as is what has no known line.
+/// What happened to the client of a session in the stays of its tap with these numbers, in the order of the lines: that
+/// it asked for the session, the answer, which is a refusal where it asked for the session and the reply names another
+/// one or nobody, the entries that it received, those of consecutive positions as one, and the loss of the connection.
+/// What came after a refusal is of another session or of none, and left out, as is what has no known line.
 ///
 /// The stays are those whose reply names the session, and those that asked for it in vain. It costs these stays.
 pub fn client_events(
@@ -30,7 +30,9 @@ pub fn client_events(
     numbers: &[usize],
 ) -> Result<Vec<ClientEvent>, AllocError>
     requires { AreOf sheet.now.recording.now tap.now }
-    ensures { IfOk result (λ events. events.items ≡ client_events sheet.now.recording.now sheet.now.lines.now tap.now.place pid.now numbers.now) }
+    ensures { IfOk result (λ events. events.items
+        ≡ client_events sheet.now.recording.now sheet.now.lines.now tap.now.place pid.now
+        numbers.now) }
 {
     let mut events = events_of_stays(alloc, sheet, tap, pid, numbers)?;
     sort_events(&mut events)?;
@@ -46,7 +48,9 @@ fn events_of_stays(
     numbers: &[usize],
 ) -> Result<Vec<ClientEvent>, AllocError>
     requires { AreOf sheet.now.recording.now tap.now }
-    ensures { IfOk result (λ events. events.items ≡ events_of_stays sheet.now.recording.now sheet.now.lines.now tap.now.place pid.now numbers.now) }
+    ensures { IfOk result (λ events. events.items
+        ≡ events_of_stays sheet.now.recording.now sheet.now.lines.now tap.now.place pid.now
+        numbers.now) }
 {
     let mut events = Vec::new(alloc);
     for number in numbers {
@@ -64,7 +68,9 @@ fn push_stay(
     number: usize,
 ) -> Result<(), AllocError>
     requires { AreOf sheet.now.recording.now tap.now }
-    ensures { OnOk result (events.new.items ≡ events.old.items ++ stay_events sheet.now.recording.now sheet.now.lines.now tap.now.place pid.now number) }
+    ensures { OnOk result (events.new.items
+        ≡ events.old.items
+        ++ stay_events sheet.now.recording.now sheet.now.lines.now tap.now.place pid.now number) }
 {
     let stay = stay_at(sheet, tap.place, number);
     let asked = asks_for(pid, stay);
@@ -88,7 +94,10 @@ fn push_received(
     number: usize,
 ) -> Result<(), AllocError>
     requires { AreOf sheet.now.recording.now tap.now }
-    ensures { OnOk result (events.new.items ≡ events.old.items ++ received_events sheet.now.recording.now sheet.now.lines.now tap.now.place pid.now number) }
+    ensures { OnOk result (events.new.items
+        ≡ events.old.items
+        ++ received_events sheet.now.recording.now sheet.now.lines.now tap.now.place pid.now
+        number) }
 {
     push_frames(events, sheet, tap, pid, number)?;
     let asked = asks_for(pid, stay_at(sheet, tap.place, number));
@@ -105,7 +114,9 @@ fn push_frames(
     number: usize,
 ) -> Result<(), AllocError>
     requires { AreOf sheet.now.recording.now tap.now }
-    ensures { OnOk result (events.new.items ≡ events.old.items ++ frame_events sheet.now.recording.now sheet.now.lines.now tap.now.place pid.now number) }
+    ensures { OnOk result (events.new.items
+        ≡ events.old.items
+        ++ frame_events sheet.now.recording.now sheet.now.lines.now tap.now.place pid.now number) }
 {
     let stay = stay_at(sheet, tap.place, number);
     let asked = asks_for(pid, stay);
@@ -124,7 +135,10 @@ fn push_row(
     asked: bool,
     row: Option<Row<'_>>,
 ) -> Result<(), AllocError>
-    ensures { OnOk result (events.new.items ≡ events.old.items ++ row_events sheet.now.recording.now.stream pid.now asked (option_map row_seen row.entry)) }
+    ensures { OnOk result (events.new.items
+        ≡ events.old.items
+        ++ row_events sheet.now.recording.now.stream pid.now asked
+        (option_map row_seen row.entry)) }
 {
     if let Some(event) = event_in(sheet.recording.logs().stream(), pid, asked, row) {
         events.push(event)?;
@@ -139,7 +153,8 @@ fn event_in(
     asked: bool,
     row: Option<Row<'_>>,
 ) -> Option<ClientEvent>
-    ensures { result ≡ option_and_then (event_of stream.now pid.now asked) (option_map row_seen row.entry) }
+    ensures { result ≡ option_and_then (event_of stream.now pid.now asked)
+        (option_map row_seen row.entry) }
 {
     let row = row?;
     let happens = happens_of(stream, pid, asked, row.says)?;
@@ -150,7 +165,8 @@ fn event_in(
     })
 }
 
-/// What happened to the client of the session where a record of a stay says this, which asked for the session or didn't.
+/// What happened to the client of the session where a record of a stay says this, which asked for the session or
+/// didn't.
 fn happens_of(stream: &Stream<'_>, pid: &str, asked: bool, says: Says<'_>) -> Option<Happens>
     ensures { result ≡ happens_of stream.now pid.now asked (says_seen says.entry) }
 {
@@ -170,7 +186,8 @@ fn happens_of(stream: &Stream<'_>, pid: &str, asked: bool, says: Says<'_>) -> Op
 
 /// The position of the entry that was asked for.
 fn after_asked(stream: &Stream<'_>, off: Option<&str>) -> Option<u64>
-    ensures { result ≡ option_and_then (position stream.now) (option_map (λ off. off.now) off.entry) }
+    ensures { result ≡ option_and_then (position stream.now)
+        (option_map (λ off. off.now) off.entry) }
 {
     stream.position(off?)
 }

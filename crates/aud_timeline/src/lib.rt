@@ -1,5 +1,5 @@
-//! What happened when, of a session: the turns in which nodes had it, what happened to its client, and the recoveries of it
-//! that were refused.
+//! What happened when, of a session: the turns in which nodes had it, what happened to its client, and the recoveries
+//! of it that were refused.
 //!
 //! With the `sheet` of a recording in which node `a` opened session `P` and took two entries, and the `turns` of its
 //! certificate:

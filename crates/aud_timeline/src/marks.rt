@@ -13,16 +13,17 @@ use aud_node::Logs;
 use aud_rows::Sheet;
 use std::alloc::{AllocError, Global};
 
-/// The turns that these marks of a session begin, by their numbers, those with one number in the order of the marks, which
-/// stand node after node, and on each by number. A turn ends with the session's next mark on its node where that is its
-/// `break` or the `gone`; else no record says that it ended where another turn follows, and it ends with the node's log where
-/// none does. A turn whose lines aren't known is left out.
+/// The turns that these marks of a session begin, by their numbers, those with one number in the order of the marks,
+/// which stand node after node, and on each by number. A turn ends with the session's next mark on its node where that
+/// is its `break` or the `gone`; else no record says that it ended where another turn follows, and it ends with the
+/// node's log where none does. A turn whose lines aren't known is left out.
 pub fn turns_of_marks<'r>(
     alloc: Global,
     sheet: &Sheet<'r, '_>,
     marks: &[TurnMark],
 ) -> Result<Vec<TurnShown<'r>>, AllocError>
-    ensures { IfOk result (λ shown. map turn_seen shown.items ≡ marked_turns sheet.now.recording.now sheet.now.lines.now marks.now) }
+    ensures { IfOk result (λ shown. map turn_seen shown.items
+        ≡ marked_turns sheet.now.recording.now sheet.now.lines.now marks.now) }
 {
     let mut shown = turns_begun(alloc, sheet, marks)?;
     sort_turns(&mut shown)?;
@@ -35,7 +36,8 @@ fn turns_begun<'r>(
     sheet: &Sheet<'r, '_>,
     marks: &[TurnMark],
 ) -> Result<Vec<TurnShown<'r>>, AllocError>
-    ensures { IfOk result (λ shown. map turn_seen shown.items ≡ turns_begun sheet.now.recording.now sheet.now.lines.now marks.now) }
+    ensures { IfOk result (λ shown. map turn_seen shown.items
+        ≡ turns_begun sheet.now.recording.now sheet.now.lines.now marks.now) }
 {
     let greatest = greatest_turn(marks);
     let mut shown = Vec::new(alloc);
@@ -53,7 +55,8 @@ fn mark_shown<'r>(
     number: usize,
 ) -> Option<TurnShown<'r>>
     requires { number < 2 ^ 64 - 1 }
-    ensures { option_map turn_seen result ≡ mark_shown sheet.now.recording.now sheet.now.lines.now greatest marks.now number }
+    ensures { option_map turn_seen result
+        ≡ mark_shown sheet.now.recording.now sheet.now.lines.now greatest marks.now number }
 {
     let span = mark_span(sheet.recording.logs(), greatest, marks, number)?;
     span_shown(sheet, span)
@@ -145,8 +148,8 @@ fn last_number(logs: &Logs<'_>, node: usize) -> usize
     }
 }
 
-/// The last record of this turn, by the next mark of the session on the node, if there is one. The node's log ends with the
-/// record `log_end`.
+/// The last record of this turn, by the next mark of the session on the node, if there is one. The node's log ends with
+/// the record `log_end`.
 fn last_by(turn: u16, is_followed: bool, log_end: usize, next: Option<TurnMark>) -> LastRecord
     ensures { result ≡ last_by turn is_followed log_end next }
 {

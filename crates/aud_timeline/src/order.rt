@@ -9,7 +9,8 @@ use std::alloc::AllocError;
 
 /// Puts the turns in the order of their numbers; those with one number stay in their order.
 pub(crate) fn sort_turns(turns: &mut Vec<TurnShown<'_>>) -> Result<(), AllocError>
-    ensures { OnOk result (map turn_seen turns.new.items ≡ in_order (λ (t : ShownTurn). t.turn) (map turn_seen turns.old.items)) }
+    ensures { OnOk result (map turn_seen turns.new.items
+        ≡ in_order (λ (t : ShownTurn). t.turn) (map turn_seen turns.old.items)) }
 {
     turns.sort_by_key(|turn| turn.turn)?;
     Ok(())

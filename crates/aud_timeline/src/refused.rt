@@ -30,8 +30,8 @@ pub struct RefusedShown<'r> {
     pub missed: Option<Vec<Missed<'r>>>,
 }
 
-/// The refused recovery of the stay that `recovery` names, in the client's tap that `tap` is of; none where the record in
-/// which the client asks has no row.
+/// The refused recovery of the stay that `recovery` names, in the client's tap that `tap` is of; none where the record
+/// in which the client asks has no row.
 pub fn refused_shown<'r>(
     alloc: Global,
     sheet: &Sheet<'r, '_>,
@@ -40,10 +40,14 @@ pub fn refused_shown<'r>(
 ) -> Result<Option<RefusedShown<'r>>, AllocError>
     requires { AreOf sheet.now.recording.now tap.now }
     ensures shown { IfOk result (λ found. MatchOption found
-        (ask_row sheet.now.recording.now sheet.now.lines.now tap.now.place recovery.now.stay role.Ask ≡ None)
-        (λ shown. ShowsRefused sheet.now.recording.now sheet.now.lines.now tap.now.place recovery.now.stay (refused_seen shown))) }
-    ensures ask { IfOk result (λ found. IfSome found (λ shown. IsTrueRow sheet.now.recording.now sheet.now.lines.now shown.ask)) }
-    ensures reply { IfOk result (λ found. IfSome found (λ shown. IfSome shown.reply (IsTrueRow sheet.now.recording.now sheet.now.lines.now))) }
+        (ask_row sheet.now.recording.now sheet.now.lines.now tap.now.place recovery.now.stay
+        role.Ask ≡ None)
+        (λ shown. ShowsRefused sheet.now.recording.now sheet.now.lines.now tap.now.place
+        recovery.now.stay (refused_seen shown))) }
+    ensures ask { IfOk result (λ found. IfSome found
+        (λ shown. IsTrueRow sheet.now.recording.now sheet.now.lines.now shown.ask)) }
+    ensures reply { IfOk result (λ found. IfSome found (λ shown. IfSome shown.reply
+        (IsTrueRow sheet.now.recording.now sheet.now.lines.now))) }
 {
     let Some(ask) = sheet.ask_row(tap, recovery.stay, Role::Ask) else {
         return Ok(None);
@@ -85,8 +89,9 @@ fn missed_of<'r>(
     asked: Option<&str>,
     got: Option<&str>,
 ) -> Result<Option<Vec<Missed<'r>>>, AllocError>
-    ensures { IfOk result (λ missed. IsMissedOf sheet.now.recording.now client (option_map (λ pid. pid.now) asked.entry)
-        (option_map (λ pid. pid.now) got.entry) (option_map (λ missed. map missed_seen missed.items) missed)) }
+    ensures { IfOk result (λ missed. IsMissedOf sheet.now.recording.now client
+        (option_map (λ pid. pid.now) asked.entry) (option_map (λ pid. pid.now) got.entry)
+        (option_map (λ missed. map missed_seen missed.items) missed)) }
 {
     let (Some(asked), Some(got)) = (asked, got) else {
         return Ok(None);
@@ -107,7 +112,8 @@ fn missed_entries<'r>(
     stream: &Stream<'r>,
     positions: &[u64],
 ) -> Result<Vec<Missed<'r>>, AllocError>
-    ensures { IfOk result (λ entries. map missed_seen entries.items ≡ missed_entries stream.now positions.now) }
+    ensures { IfOk result (λ entries. map missed_seen entries.items
+        ≡ missed_entries stream.now positions.now) }
 {
     let mut entries = Vec::new(alloc);
     for position in positions {
@@ -132,7 +138,9 @@ fn push_missed<'r>(
     entries: &mut Vec<Missed<'r>>,
     entry: Option<Missed<'r>>,
 ) -> Result<(), AllocError>
-    ensures { OnOk result (map missed_seen entries.new.items ≡ map missed_seen entries.old.items ++ option_to_list (option_map missed_seen entry.entry)) }
+    ensures { OnOk result (map missed_seen entries.new.items
+        ≡ map missed_seen entries.old.items
+        ++ option_to_list (option_map missed_seen entry.entry)) }
 {
     if let Some(entry) = entry {
         entries.push(entry)?;

@@ -12,7 +12,8 @@ use std::alloc::AllocError;
 
 /// The turn with its lines and cursors; none where it has no such record, or its lines aren't known.
 pub(crate) fn span_shown<'r>(sheet: &Sheet<'r, '_>, span: TurnSpan) -> Option<TurnShown<'r>>
-    ensures { option_map turn_seen result ≡ span_shown sheet.now.recording.now sheet.now.lines.now span }
+    ensures { option_map turn_seen result
+        ≡ span_shown sheet.now.recording.now sheet.now.lines.now span }
 {
     let logs = sheet.recording.logs();
     let tap = logs.taps().get(span.node)?;
@@ -88,7 +89,8 @@ pub(crate) fn push_turn<'r>(
     turns: &mut Vec<TurnShown<'r>>,
     turn: Option<TurnShown<'r>>,
 ) -> Result<(), AllocError>
-    ensures { OnOk result (map turn_seen turns.new.items ≡ map turn_seen turns.old.items ++ option_to_list (option_map turn_seen turn.entry)) }
+    ensures { OnOk result (map turn_seen turns.new.items
+        ≡ map turn_seen turns.old.items ++ option_to_list (option_map turn_seen turn.entry)) }
 {
     if let Some(turn) = turn {
         turns.push(turn)?;

@@ -1,8 +1,8 @@
 //! The turns of a session, by their records.
 use aud_explanation::TurnBegin;
 
-/// A turn of a session, by the numbers of its first record and of its last one, in the log of the node whose tap is at this
-/// place. Places and records count from 0.
+/// A turn of a session, by the numbers of its first record and of its last one, in the log of the node whose tap is at
+/// this place. Places and records count from 0.
 #[derive(Clone, Copy, Drop)]
 pub struct TurnSpan {
     /// Turns count from 0.

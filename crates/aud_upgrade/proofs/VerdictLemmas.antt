@@ -17,8 +17,8 @@ use Rattle.aud_check.specs.Compare.{has_position}
 use Rattle.aud_check.specs.Frames.{IsFirstAltered, wrong_window}
 use Rattle.aud_check.specs.Shown.{recs_or_none}
 use Rattle.aud_client.specs.Received.{transcript_of, received_list, stays_naming}
-use Rattle.aud_report.specs.declared.verdict.Verdict.{Verdict}
-use Rattle.aud_report.specs.declared.verdict.Verdict.TheVariants.{Yes, No}
+use Rattle.aud_verdict.specs.declared.verdict.Verdict.{Verdict}
+use Rattle.aud_verdict.specs.declared.verdict.Verdict.TheVariants.{Yes, No}
 use Rattle.aud_verdict.specs.Session.{SessionLogs, IsSession, transcript, own_stays, received_by, due_to, session_case, missed}
 use Rattle.aud_verdict.specs.Faults.{HoldsOf, Holds}
 use Rattle.aud_verdict.specs.Verdict.{IsVerdict}

@@ -4,7 +4,7 @@ use Rattle.aud_tap.specs.declared.taps.Tap.{Tap}
 use Rattle.aud_node.specs.Stream.{Text}
 use Rattle.aud_node.specs.Cluster.{cluster_of}
 use Rattle.aud_maker.specs.Sessions.{sessions_of}
-use Rattle.aud_report.specs.declared.verdict.Verdict.{Verdict}
+use Rattle.aud_verdict.specs.declared.verdict.Verdict.{Verdict}
 use Rattle.aud_verdict.specs.Verdict.{IsVerdict}
 use Rattle.aud_upgrade.specs.Upgraded.{upgraded}
 

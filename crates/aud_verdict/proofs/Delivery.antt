@@ -15,8 +15,8 @@ use Rattle.aud_cert.specs.declared.fault.Fault.TheVariants.{Tail}
 use Rattle.aud_check.specs.Faults.{mismatch_fault}
 use Rattle.aud_check.proofs.Agreed.{mismatch-none}
 use Rattle.aud_check.proofs.Ranks.{no_mismatch}
-use Rattle.aud_report.specs.declared.verdict.Verdict.{Verdict}
-use Rattle.aud_report.specs.declared.verdict.Verdict.TheVariants.{Yes, No}
+use Rattle.aud_verdict.specs.declared.verdict.Verdict.{Verdict}
+use Rattle.aud_verdict.specs.declared.verdict.Verdict.TheVariants.{Yes, No}
 use Rattle.aud_verdict.specs.Session.{SessionLogs, IsSession, session_case, received_by, due_to, positions}
 use Rattle.aud_verdict.specs.Faults.{Holds, HoldsFirst, IsMisdelivery}
 use Rattle.aud_verdict.specs.Verdict.{IsYes, IsVerdict}

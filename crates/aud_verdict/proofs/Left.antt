@@ -16,8 +16,8 @@ use Rattle.aud_cert.specs.declared.fault.Fault.{Fault}
 use Rattle.aud_cert.specs.declared.fault.Fault.TheVariants.{Tail}
 use Rattle.aud_check.specs.Compare.{has_position}
 use Rattle.aud_check.specs.Faults.{Case, HasFault, IsReceived}
-use Rattle.aud_report.specs.declared.verdict.Verdict.{Verdict}
-use Rattle.aud_report.specs.declared.verdict.Verdict.TheVariants.{Yes, No}
+use Rattle.aud_verdict.specs.declared.verdict.Verdict.{Verdict}
+use Rattle.aud_verdict.specs.declared.verdict.Verdict.TheVariants.{Yes, No}
 use Rattle.aud_verdict.specs.Session.{SessionLogs, IsSession, session_case, received_by, due_to, positions, missed}
 use Rattle.aud_verdict.specs.Faults.{Holds, HoldsFirst, verdict_rank}
 use Rattle.aud_verdict.specs.Verdict.{IsYes, IsVerdict, of_whole, asked_so}

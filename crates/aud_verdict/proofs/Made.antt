@@ -81,7 +81,7 @@ first-opened c who (t ∷ turns) some are = rw (between-more (node_log c t.node)
 
 -- ---- refusals that show a fault
 
--- what refuses it is one of those, or want of memory
+-- what refuses it is one of those, or running out of memory
 pub of_session : (c : Cluster) (cert : CertificateSeen) (refusal : Refusal) → IsFirstRefusal c cert refusal
     → ((place : Place) → Refuses c cert place refusal → IsSome (fault_found refusal)) → IsOfSession refusal
 of_session c cert refusal first so = grind (arith, so)

@@ -24,8 +24,8 @@ use Rattle.aud_maker.proofs.FirstFault.{one_fails}
 use Rattle.aud_check.specs.NamedStays.{is_of_session, is_empty, are_of_session}
 use Rattle.aud_check.specs.Shown.{recs_or_none}
 use Rattle.aud_check.specs.Frames.{AreEntries, IsEntry, IsFirstAltered, offset_at}
-use Rattle.aud_report.specs.declared.verdict.Verdict.{Verdict}
-use Rattle.aud_report.specs.declared.verdict.Verdict.TheVariants.{Yes, No}
+use Rattle.aud_verdict.specs.declared.verdict.Verdict.{Verdict}
+use Rattle.aud_verdict.specs.declared.verdict.Verdict.TheVariants.{Yes, No}
 use Rattle.aud_verdict.specs.Session.{SessionLogs, IsSession, client_log, transcript, own_stays, received_by, due_to}
 use Rattle.aud_verdict.specs.Faults.{HasOtherNames, HoldsOf, Holds, verdict_rank, HoldsFirst}
 use Rattle.aud_verdict.specs.Verdict.{IsVerdict}

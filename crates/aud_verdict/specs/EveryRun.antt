@@ -8,8 +8,8 @@ use Rattle.aud_merge.specs.Due.{due}
 use Rattle.aud_merge.specs.ByTurns.{IsPrefixOf}
 use Rattle.aud_check.specs.Frames.{AreEntries}
 use Rattle.aud_cert.specs.declared.fault.Fault.TheVariants.{Tail}
-use Rattle.aud_report.specs.declared.verdict.Verdict.{Verdict}
-use Rattle.aud_report.specs.declared.verdict.Verdict.TheVariants.{Yes, No}
+use Rattle.aud_verdict.specs.declared.verdict.Verdict.{Verdict}
+use Rattle.aud_verdict.specs.declared.verdict.Verdict.TheVariants.{Yes, No}
 use Rattle.aud_verdict.specs.Session.{SessionLogs, IsSession, positions, received_by}
 use Rattle.aud_verdict.specs.Faults.{IsMisdelivery}
 
@@ -49,8 +49,8 @@ pub record IsUnfinished (c : Cluster) (pid : Text) (count : ℕ) : Type 0 where
   pub turns : ℕ
   pub is_delivered : IsDelivered c pid got count turns
 
--- what the verdict says of every run: after a yes that all was delivered; after `EXTRA`, `DOUBLED`, `SWAPPED` and `LOST`
--- that it was not; after `TAIL` that so many events are missing at the end. The other faults say nothing of runs
+-- what the verdict says of every run: after a yes that all was delivered; after `EXTRA`, `DOUBLED`, `SWAPPED` and
+-- `LOST` that it was not; after `TAIL` that so many events are missing at the end. The other faults say nothing of runs
 abbrev pub HoldsInEveryRun : Cluster → Text → Verdict → Type 0
 HoldsInEveryRun c pid (Yes got tail turns) = IsDelivered c pid got tail turns
 HoldsInEveryRun c pid (No fault) =

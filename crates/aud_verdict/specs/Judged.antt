@@ -6,10 +6,10 @@ use Rattle.aud_cert.specs.Certificate.{CertificateSeen}
 use Rattle.aud_maker.specs.Made.{IsMade}
 use Rattle.aud_check.specs.declared.certificate.Accepted.{Accepted}
 use Rattle.aud_check.specs.Refusals.{IsAccepted}
-use Rattle.aud_report.specs.declared.verdict.Verdict.{Verdict}
-use Rattle.aud_report.specs.declared.verdict.Verdict.TheVariants.{Yes, No}
-use Rattle.aud_verdict.specs.declared.verdict.Judged.{Judged}
-use Rattle.aud_verdict.specs.declared.verdict.Judged.TheVariants.{Shown, Faulty}
+use Rattle.aud_verdict.specs.declared.verdict.Verdict.{Verdict}
+use Rattle.aud_verdict.specs.declared.verdict.Verdict.TheVariants.{Yes, No}
+use Rattle.aud_verdict.specs.declared.judging.Judged.{Judged}
+use Rattle.aud_verdict.specs.declared.judging.Judged.TheVariants.{Shown, Faulty}
 use Rattle.aud_verdict.specs.Verdict.{IsVerdict}
 use Rattle.aud_verdict.specs.EveryRun.{IsDelivered}
 

@@ -5,7 +5,7 @@ pub use Rattle.aud_cert.specs.Certificate
 pub use Rattle.aud_merge.specs.Runs
 pub use Rattle.aud_maker.specs.Made
 pub use Rattle.aud_check.specs.Refusals
-pub use Rattle.aud_report.specs.Report
+pub use Rattle.aud_cert.specs.Fault
 pub mod Session
 pub mod Faults
 pub mod Verdict
@@ -13,3 +13,7 @@ pub mod Refused
 pub mod Judged
 pub mod EveryRun
 pub mod Verdicts
+pub mod YesOf
+pub mod Report
+pub mod Proving
+pub mod Output

@@ -12,7 +12,7 @@ fault_found Names = Some fault.Names
 fault_found (Received fault) = Some fault
 fault_found _ = None
 
--- what the certificate of all turns can be refused for: a fault of the session, or want of memory
+-- what the certificate of all turns can be refused for: a fault of the session, or running out of memory
 abbrev pub IsOfSession : Refusal → Type 0
 IsOfSession Memory = Unit {0}
 IsOfSession refusal = IsSome (fault_found refusal)

@@ -3,8 +3,8 @@ use Rattle.std.specs.Prelude.{◌≡◌, ◌+◌, ℕ, zero, suc, Bool, if◌the
 use Rattle.aud_node.specs.Stream.{Text}
 use Rattle.aud_node.specs.Cluster.{Cluster}
 use Rattle.aud_cert.specs.declared.fault.Fault.TheVariants.{Tail}
-use Rattle.aud_report.specs.declared.verdict.Verdict.{Verdict}
-use Rattle.aud_report.specs.declared.verdict.Verdict.TheVariants.{Yes, No}
+use Rattle.aud_verdict.specs.declared.verdict.Verdict.{Verdict}
+use Rattle.aud_verdict.specs.declared.verdict.Verdict.TheVariants.{Yes, No}
 use Rattle.aud_verdict.specs.Session.{SessionLogs, IsSession, received_by, due_to}
 use Rattle.aud_verdict.specs.Faults.{NoneHolds, HoldsFirst}
 
@@ -17,7 +17,7 @@ pub record IsYes (c : Cluster) (whole : Bool) (pid : Text) (got tail turns : ℕ
   pub tail_is : got + tail ≡ length (due_to c session)
   pub turns_are : turns ≡ length session.turns
 
--- the verdict, where the whole is asked for or isn't: no with the first fault that holds, and else yes with its numbers
+-- the verdict, with or without `--whole`: no with the first fault that holds, and else yes with its numbers
 abbrev pub IsVerdict : Cluster → Bool → Text → Verdict → Type 0
 IsVerdict c whole pid (Yes got tail turns) = IsYes c whole pid got tail turns
 IsVerdict c whole pid (No fault) = HoldsFirst c whole pid fault

@@ -2,14 +2,14 @@
 use Rattle.std.specs.Prelude.{◌≡◌, ℕ, Bool, List, Some, slice_get}
 use Rattle.aud_node.specs.Stream.{Text}
 use Rattle.aud_node.specs.Cluster.{Cluster}
-use Rattle.aud_report.specs.declared.verdict.Verdict.{Verdict}
-use Rattle.aud_report.specs.declared.verdict.SessionVerdict.{SessionVerdict}
-use Rattle.aud_report.specs.OneForEach.{OneForEach}
+use Rattle.aud_verdict.specs.declared.verdict.Verdict.{Verdict}
+use Rattle.aud_verdict.specs.declared.verdict.SessionVerdict.{SessionVerdict}
+use Rattle.aud_base.specs.OneForEach.{OneForEach}
 use Rattle.aud_verdict.specs.Verdict.{IsVerdict}
 use Rattle.aud_verdict.specs.Judged.{HasCertificate}
 use Rattle.aud_verdict.specs.EveryRun.{HoldsInEveryRun}
 
--- this is the verdict on the session of this pid, where the whole is asked for or isn't; where it is yes an accepted
+-- this is the verdict on the session of this pid, with or without `--whole`; where it is yes an accepted
 -- certificate shows it; and what it says holds in every run
 abbrev pub IsVerdictOn : Cluster → Bool → Text → Verdict → Type 0
 IsVerdictOn c whole pid verdict = IsVerdict c whole pid verdict × HasCertificate c pid verdict × HoldsInEveryRun c pid verdict

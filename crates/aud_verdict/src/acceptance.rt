@@ -11,7 +11,7 @@ ghost use Rattle.aud_merge.specs.Due.{due};
 ghost use Rattle.aud_merge.specs.ByTurns.{IsPrefixOf};
 ghost use Rattle.aud_cert.specs.declared.fault.Fault.TheVariants.{Tail};
 ghost use Rattle.aud_cert.specs.Certificate.{CertificateSeen, IsOver};
-ghost use Rattle.aud_cert_text.specs.Reading.{certificate_of};
+ghost use Rattle.aud_cert.specs.Reading.{certificate_of};
 ghost use Rattle.aud_maker.specs.Made.{IsMade};
 ghost use Rattle.aud_check.specs.declared.refusal.Refusal.{Refusal};
 ghost use Rattle.aud_check.specs.declared.refusal.Refusal.TheVariants.{Received};
@@ -24,7 +24,8 @@ use aud_merge::due_by_turns;
 /// A certificate is accepted exactly where nothing refuses it.
 pub fn accepted_exactly()
     ensures { (c : Cluster) (cert : CertificateSeen)
-        → IsAccepted c cert ↔ ((place : Place) (refusal : Refusal) → Refuses c cert place refusal → ⊥) }
+        → IsAccepted c cert ↔ ((place : Place) (refusal : Refusal) → Refuses c cert place refusal
+        → ⊥) }
 {}
 
 /// A tail refuses no certificate: what is still due after the last event received is counted.
@@ -33,8 +34,9 @@ pub fn tail_refuses_none()
         → Refuses c cert place (Received (Tail count)) → ⊥ }
 {}
 
-/// What an accepted certificate over the logs says holds in every run: its turns are the session's, from turn 0 on; what
-/// the client received is a front of what is due; and where it shows all turns, what is due by them is all that is due.
+/// What an accepted certificate over the logs says holds in every run: its turns are the session's, from turn 0 on;
+/// what the client received is a front of what is due; and where it shows all turns, what is due by them is all that is
+/// due.
 pub fn accepted_in_every_run()
     ensures turns { (c : Cluster) (cert : CertificateSeen)
         → IsOver c cert → IsAccepted c cert → AreTurns c (who_of cert) 0 (turns_of c cert) }
@@ -42,7 +44,8 @@ pub fn accepted_in_every_run()
         → IsOver c cert → IsAccepted c cert → IsRun c run
         → IsPrefixOf (positions_in (certificate_case c cert)) (due c run cert.pid) }
     ensures all { (c : Cluster) (cert : CertificateSeen) (run : List Step)
-        → IsChain c (who_of cert) (turns_of c cert) → IsRun c run → shown_due c cert ≡ due c run cert.pid }
+        → IsChain c (who_of cert) (turns_of c cert) → IsRun c run
+        → shown_due c cert ≡ due c run cert.pid }
 {
     due_by_turns();
 }
@@ -51,7 +54,8 @@ pub fn accepted_in_every_run()
 /// `LOST`, what the client received is a front of what is due in none.
 pub fn refused_in_no_run()
     ensures { (c : Cluster) (cert : CertificateSeen) (refusal : Refusal) (run : List Step)
-        → RefusesFirst c cert refusal → IsMismatch refusal → IsChain c (who_of cert) (turns_of c cert) → IsRun c run
+        → RefusesFirst c cert refusal → IsMismatch refusal
+        → IsChain c (who_of cert) (turns_of c cert) → IsRun c run
         → IsPrefixOf (positions_in (certificate_case c cert)) (due c run cert.pid) → ⊥ }
 {
     due_by_turns();

@@ -17,8 +17,8 @@ ghost use Rattle.aud_check.specs.declared.refusal.Refusal.{Refusal};
 ghost use Rattle.aud_check.specs.Frames.{AreEntries};
 ghost use Rattle.aud_check.specs.Refusals as check;
 ghost use Rattle.aud_check.specs.Shown.{frames_received, shown_due};
-ghost use Rattle.aud_report.specs.declared.verdict.Verdict.{Verdict};
-ghost use Rattle.aud_report.specs.declared.verdict.Verdict.TheVariants.{Yes, No};
+ghost use Rattle.aud_verdict.specs.declared.verdict.Verdict.{Verdict};
+ghost use Rattle.aud_verdict.specs.declared.verdict.Verdict.TheVariants.{Yes, No};
 ghost use Rattle.aud_verdict.specs.Session.{SessionLogs, IsSession, positions, received_by};
 ghost use Rattle.aud_verdict.specs.Faults.{IsMisdelivery};
 ghost use Rattle.aud_verdict.specs.Verdict.{IsVerdict, asked_so};
@@ -43,8 +43,8 @@ pub fn verdict_of_whole()
         → IsVerdict c true pid (Yes got tail turns) → tail ≡ 0 }
 {}
 
-/// What is found by making a session's certificate and checking it is the session's verdict, where the whole isn't asked
-/// for.
+/// What is found by making a session's certificate and checking it is the session's verdict, where the whole isn't
+/// asked for.
 pub fn verdict_by_certificate()
     // No certificate could be made.
     ensures not_made { (c : Cluster) (pid : Text) (fault : Fault)
@@ -60,30 +60,36 @@ pub fn verdict_by_certificate()
 
     // It was made and is refused: for its names or for what the client received, and never for a turn, a cursor or a
     // span.
-    ensures refused { (c : Cluster) (pid : Text) (cert : CertificateSeen) (refusal : Refusal) (fault : Fault)
-        → AreNamedOnce c.taps → IsMade c pid cert → check.RefusesFirst c cert refusal → fault_found refusal ≡ Some fault
+    ensures refused { (c : Cluster) (pid : Text) (cert : CertificateSeen) (refusal : Refusal)
+        (fault : Fault) → AreNamedOnce c.taps → IsMade c pid cert
+        → check.RefusesFirst c cert refusal → fault_found refusal ≡ Some fault
         → IsVerdict c false pid (No fault) }
-    ensures refused_so { (c : Cluster) (pid : Text) (cert : CertificateSeen) (place : check.Place) (refusal : Refusal)
-        → AreNamedOnce c.taps → IsMade c pid cert → check.Refuses c cert place refusal → IsSome (fault_found refusal) }
+    ensures refused_so { (c : Cluster) (pid : Text) (cert : CertificateSeen) (place : check.Place)
+        (refusal : Refusal) → AreNamedOnce c.taps → IsMade c pid cert
+        → check.Refuses c cert place refusal → IsSome (fault_found refusal) }
 {}
 
 /// What a verdict says of every run: after a yes, what was received is a front of what is due, and each event is its
-/// entry; where the whole was asked for, it is all of that. After `EXTRA`, `DOUBLED`, `SWAPPED` and `LOST` it is a front
-/// in none; after `TAIL` it is a front, and so many more are due.
+/// entry; where the whole was asked for, it is all of that. After `EXTRA`, `DOUBLED`, `SWAPPED` and `LOST` it is a
+/// front in none; after `TAIL` it is a front, and so many more are due.
 pub fn verdict_in_every_run()
-    ensures all { (c : Cluster) (whole : Bool) (pid : Text) (verdict : Verdict) → IsVerdict c whole pid verdict → HoldsInEveryRun c pid verdict }
-    ensures yes { (c : Cluster) (whole : Bool) (pid : Text) (got tail turns : ℕ) (s : SessionLogs) (run : List Step)
-        → IsVerdict c whole pid (Yes got tail turns) → IsSession c pid s → IsRun c run
-        → IsPrefixOf (positions c s) (due c run pid) }
-    ensures counts { (c : Cluster) (whole : Bool) (pid : Text) (got tail turns : ℕ) (run : List Step)
-        → IsVerdict c whole pid (Yes got tail turns) → IsRun c run → got + tail ≡ length (due c run pid) }
-    ensures entries { (c : Cluster) (whole : Bool) (pid : Text) (got tail turns : ℕ) (s : SessionLogs)
-        → IsVerdict c whole pid (Yes got tail turns) → IsSession c pid s → AreEntries c.stream (received_by c s) }
-    ensures whole { (c : Cluster) (pid : Text) (got tail turns : ℕ) (s : SessionLogs) (run : List Step)
-        → IsVerdict c true pid (Yes got tail turns) → IsSession c pid s → IsRun c run → positions c s ≡ due c run pid }
-    ensures no { (c : Cluster) (whole : Bool) (pid : Text) (fault : Fault) (s : SessionLogs) (run : List Step)
-        → IsVerdict c whole pid (No fault) → IsMisdelivery fault → IsSession c pid s → IsRun c run
-        → IsPrefixOf (positions c s) (due c run pid) → ⊥ }
+    ensures all { (c : Cluster) (whole : Bool) (pid : Text) (verdict : Verdict)
+        → IsVerdict c whole pid verdict → HoldsInEveryRun c pid verdict }
+    ensures yes { (c : Cluster) (whole : Bool) (pid : Text) (got tail turns : ℕ) (s : SessionLogs)
+        (run : List Step) → IsVerdict c whole pid (Yes got tail turns) → IsSession c pid s
+        → IsRun c run → IsPrefixOf (positions c s) (due c run pid) }
+    ensures counts { (c : Cluster) (whole : Bool) (pid : Text) (got tail turns : ℕ)
+        (run : List Step) → IsVerdict c whole pid (Yes got tail turns) → IsRun c run
+        → got + tail ≡ length (due c run pid) }
+    ensures entries { (c : Cluster) (whole : Bool) (pid : Text) (got tail turns : ℕ)
+        (s : SessionLogs) → IsVerdict c whole pid (Yes got tail turns) → IsSession c pid s
+        → AreEntries c.stream (received_by c s) }
+    ensures whole { (c : Cluster) (pid : Text) (got tail turns : ℕ) (s : SessionLogs)
+        (run : List Step) → IsVerdict c true pid (Yes got tail turns) → IsSession c pid s
+        → IsRun c run → positions c s ≡ due c run pid }
+    ensures no { (c : Cluster) (whole : Bool) (pid : Text) (fault : Fault) (s : SessionLogs)
+        (run : List Step) → IsVerdict c whole pid (No fault) → IsMisdelivery fault
+        → IsSession c pid s → IsRun c run → IsPrefixOf (positions c s) (due c run pid) → ⊥ }
     ensures tail { (c : Cluster) (whole : Bool) (pid : Text) (count : ℕ)
         → IsVerdict c whole pid (No (Tail count)) → IsUnfinished c pid count }
 {

@@ -10,7 +10,7 @@ use Rattle.aud_tap.proofs.Json.{json_or-read}
 use Rattle.aud_reader.specs.Record.{json_of}
 use Rattle.aud_reader.specs.declared.fault.InputCode.TheVariants.{NotJson}
 use Rattle.aud_writer.specs.Written.{client_data}
-use Rattle.aud_writer.specs.Private.BytesBack.{DecodeBack, client_bytes}
+use Rattle.aud_writer.specs.BytesBack.{DecodeBack, client_bytes}
 use Rattle.aud_writer.proofs.JsonText.{record-plain}
 use Rattle.aud_writer.proofs.LineBack.{line-back}
 use Rattle.aud_wire.specs.Wire.{Spells}

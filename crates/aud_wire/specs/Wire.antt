@@ -43,7 +43,7 @@ SpellsIfAny (Some rec) (Some json) = Spells rec json.items
 SpellsIfAny None None = ⊤
 SpellsIfAny rec json = ⊥
 
--- what there is of a record, or want of memory
+-- what there is of a record, or running out of memory
 abbrev pub Told : Result (Option (Vec ℕ Global)) WireFault → Option ClientRec → Type 0
 Told (Ok json) rec = SpellsIfAny rec json
 Told (Err e) rec = e ≡ fault.Memory

@@ -21,7 +21,8 @@ fn text_value(alloc: Global, text: &str) -> Result<Value, AllocError>
 }
 
 fn binary_value(alloc: Global, bytes: &[u8], text: &str) -> Result<Value, AllocError>
-    ensures { text.now ≡ encoded bytes.now → IfOk result (λ v. view v ≡ client_data (BytesIn bytes.now)) }
+    ensures { text.now ≡ encoded bytes.now
+        → IfOk result (λ v. view v ≡ client_data (BytesIn bytes.now)) }
 {
     json!(in alloc; {"b": text, "k": "inb"})
 }
@@ -66,7 +67,8 @@ fn lost_json(alloc: Global) -> Result<String, AllocError>
 }
 
 fn told(json: Result<String, AllocError>) -> Result<Option<Vec<u8>>, WireFault>
-    ensures { (rec : ClientRec) → IfOk json (λ text. Spells rec (string_bytes text)) → Told result (Some rec) }
+    ensures { (rec : ClientRec) → IfOk json (λ text. Spells rec (string_bytes text))
+        → Told result (Some rec) }
 {
     match json {
         Ok(text) => Ok(Some(text.into_bytes())),
@@ -77,7 +79,8 @@ fn told(json: Result<String, AllocError>) -> Result<Option<Vec<u8>>, WireFault>
 /// Reads one message of the socket, and gives it as the JSON of a record of a client's tap, without the tap's name and
 /// without a newline: a text (`in`), bytes (`inb`), or a close (`lost`). Of a ping or a pong there is no record. After
 /// the name of a tap and a blank the JSON reads as that record, unless the line is then longer than 4,194,304 bytes.
-/// `Socket` comes only where the socket's read failed, for another reason than memory. The call waits where the stream does.
+/// `Socket` comes only where the socket's read failed, for another reason than memory. The call waits where the stream
+/// does.
 pub fn tap_next<S: Read + Write + Drop, K: MaskKeys + Drop>(
     alloc: Global,
     socket: &mut WebSocket<S, K>,

@@ -1,4 +1,5 @@
--- What is needed of the lines before a header or a record, where all the taps are those of a bundle: a new name, and room.
+-- What is needed of the lines before a header or a record, where all the taps are those of a bundle: a new name, and
+-- room.
 use Rattle.std.proofs.Common.{◌≡◌, ℕ, ◌<◌, ◌≤◌, List, [], ◌∷◌, ◌++◌, length, map, true, false, cond, ◌||◌, Option, Some, None, option_to_list, Ok, refl, sym, ap, subst, ◌∙◌, nat_lt, arith, append_assoc, append-nil, length-append}
 use Rattle.std.specs.List.{All, AllByRecursion, IsDistinct, list_any, cons_option, filter_map}
 use Rattle.std.specs.Set.{distinct_count}

@@ -153,7 +153,7 @@ one-refused (Input n code) taps refused other =
     ap (λ o. unless_too_long (option_map suc o) (ended (line_texts (recs_of_taps taps)))) (ap (position is_long) at.is ∙ long_at at.before at.line at.after at.short at.long)
     ∙ rw (refused.0, at.number) refl
 
--- the same, of taps that are lent
+-- the same, of taps that are borrowed
 pub bundle-written : (lines : Lines) (taps lent : List Tap) → lent ≡ taps → AreWritten lines (recs_of_taps lent) → written_bundle taps ≡ Ok lines.bytes.items
 bundle-written lines taps lent same written = rw (← same) (all-written lines lent written)
 

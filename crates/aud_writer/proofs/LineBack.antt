@@ -11,7 +11,7 @@ use Rattle.aud_tap.specs.TapName.{is_name_byte, is_tap_name}
 use Rattle.aud_reader.specs.Record.{cut_at_blank, json_of, opened_line, line_record}
 use Rattle.aud_tap.specs.WellFormed.{is_well_formed}
 use Rattle.aud_writer.specs.Written.{record_data, line_text}
-use Rattle.aud_writer.specs.Private.BytesBack.{DecodeBack, blobs_of}
+use Rattle.aud_writer.specs.BytesBack.{DecodeBack, blobs_of}
 use Rattle.aud_writer.proofs.WrittenBack.{record-back}
 
 -- no byte of a tap's name is the blank

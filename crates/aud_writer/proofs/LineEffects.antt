@@ -1,4 +1,5 @@
--- What a line that reads as a record does to the taps: a header begins a tap, and any other record goes to the last tap.
+-- What a line that reads as a record does to the taps: a header begins a tap, and any other record goes to the last
+-- tap.
 use Rattle.std.proofs.Common.{◌≡◌, ℕ, List, [], ◌∷◌, ◌++◌, length, map, true, false, cond, Some, None, option_to_list, Ok, refl, sym, ap, subst, ◌∙◌, codes, true≢false}
 use Rattle.std.proofs.lemmas.List.Folds.{find-append}
 use Rattle.aud_base.specs.Steps.{◌>>=◌, need}

@@ -8,7 +8,7 @@ use Rattle.serde_json.specs.declared.value.Value.{Value, the_lemmas}
 use Rattle.aud_tap.proofs.Json.{with_last, items_view-push}
 use Rattle.aud_reader.specs.Fields.{decoded}
 use Rattle.aud_writer.specs.Written.{encoded, text_items}
-use Rattle.aud_writer.specs.Private.BytesBack.{DecodeBack, put_unless_empty}
+use Rattle.aud_writer.specs.BytesBack.{DecodeBack, put_unless_empty}
 
 -- a text put last is the last item
 text_items-push : (ts : List (List ℕ)) (t : List ℕ) → text_items (ts ++ t ∷ []) ≡ with_last (text_items ts) (string t)

@@ -30,7 +30,7 @@ use Rattle.aud_reader.specs.ClientRecord.{client_record_of}
 use Rattle.aud_reader.specs.Record.{record_in, record_of, value_record}
 use Rattle.aud_tap.specs.WellFormed.{is_well_formed, event_is_well_formed, stream_is_well_formed, is_offset, is_session_id, is_room, is_full_namespace, node_is_well_formed}
 use Rattle.aud_writer.specs.Written.{record_data, stream_data, header_data, event_data, node_data, client_data, encoded, text_member, list_member, text_items}
-use Rattle.aud_writer.specs.Private.BytesBack.{DecodeBack, stream_bytes, client_bytes, blobs_of, put_unless_empty}
+use Rattle.aud_writer.specs.BytesBack.{DecodeBack, stream_bytes, client_bytes, blobs_of, put_unless_empty}
 
 -- a header that was written reads as that header
 pub header-back : (of : TapKind) (v : Version) → value_record (header_data of v) ≡ Ok (Header of v)

@@ -7,4 +7,5 @@ pub use Rattle.aud_reader.specs.OwnLines
 pub mod Written
 pub mod WrittenBundle
 pub mod OfABundle
+pub mod BytesBack
 pub mod Private

@@ -1,4 +1,5 @@
--- The taps that lines can tell, as section "Taps" of docs/FORMAT.md has them: taps that keep to this are written, and read as themselves.
+-- The taps that lines can tell, as section "Taps" of docs/FORMAT.md has them: taps that keep to this are written, and
+-- read as themselves.
 use Rattle.std.specs.Prelude.{◌≡◌, ◌≤◌, List, ◌∷◌, ◌++◌, length, map, Bool, true, false}
 use Rattle.std.specs.List.{All}
 use Rattle.std.specs.Set.{distinct_count}
@@ -48,7 +49,8 @@ AreRecords version (Stream entries) = AreEntries entries
 AreRecords version (Node records) = AreNodeRecords version records
 AreRecords version (Client records) = AreClientRecords records
 
--- the taps of a bundle: each with a name of its own, at most one of the stream, and not more of the others, nor more pids, than may be
+-- the taps of a bundle: each with a name of its own, at most one of the stream, and not more of the others, nor more
+-- pids, than may be
 pub record AreOfABundle (taps : List Tap) : Type 0 where
   pub named : All (λ tap. is_tap_name tap.name ≡ true) taps
   pub names : AreDifferent (map (λ tap. tap.name) taps)

@@ -45,7 +45,8 @@ numbered n (l ∷ ls) = record { number = n; bytes = l } ∷ numbered (n + 1) ls
 abbrev pub ReadsBack : List ℕ × Rec → Type 0
 ReadsBack r = is_tap_name r.0 ≡ true → is_well_formed r.1 ≡ true → line_record (line_text r.0 r.1) ≡ Ok r
 
--- these bytes are read as these taps: none of their lines is refused for its length, and the taps of the lines are these
+-- these bytes are read as these taps: none of their lines is refused for its length, and the taps of the lines are
+-- these
 pub record AreReadAs (bytes : List ℕ) (taps : List Tap) : Type 0 where
   pub whole : (lines_of bytes).fault ≡ None
   pub read : taps_of (lines_of bytes).lines ≡ Ok taps

@@ -11,7 +11,7 @@ ghost use Rattle.aud_reader.specs.OwnLines.{recs_in};
 ghost use Rattle.aud_writer.specs.Written.{record_data};
 ghost use Rattle.aud_writer.specs.OfABundle.{AreOfABundle};
 ghost use Rattle.aud_writer.specs.WrittenBundle.{AreReadAs, ReadsBack, line_texts, named, named_recs, numbered, recs_of_taps, written_bundle};
-ghost use Rattle.aud_writer.specs.Private.BytesBack.{DecodeBack, blobs_of};
+ghost use Rattle.aud_writer.specs.BytesBack.{DecodeBack, blobs_of};
 ghost use Rattle.aud_writer.specs.Private.SoFar.{AreWritten, AreRefused, Puts};
 
 use super::client::client_value;
@@ -47,7 +47,8 @@ impl Lines {
 
     /// Adds the line of a value, in the tap of this name.
     fn put(&mut self, name: &str, value: &Value) -> Result<(), ReadFault>
-        ensures { (rec : Rec) → view value.now ≡ record_data rec → DecodeBack (blobs_of rec) → Puts result self.old self.new ((name.now, rec) ∷ []) }
+        ensures { (rec : Rec) → view value.now ≡ record_data rec → DecodeBack (blobs_of rec)
+            → Puts result self.old self.new ((name.now, rec) ∷ []) }
     {
         let line = value_line(self.alloc, name, value)?;
         let Some(number) = self.count.checked_add(1) else {
@@ -160,16 +161,19 @@ fn all_lines(alloc: Global, taps: &[Tap]) -> Result<Lines, ReadFault>
 }
 
 /// The bytes of a bundle: the taps in their order, each its header and then its records, as `write_line` writes them,
-/// and each line ended by a newline. The first line that would be longer than 4,194,304 bytes is refused as `LineTooLong`,
-/// by its number, which counts from 1; the other error is `Memory`.
+/// and each line ended by a newline. The first line that would be longer than 4,194,304 bytes is refused as
+/// `LineTooLong`, by its number, which counts from 1; the other error is `Memory`.
 ///
 /// The bytes of taps that a bundle can tell are read as those taps, by `Splitter` and `read_bundle`.
 pub fn write_bundle(alloc: Global, taps: &Taps) -> Result<Vec<u8>, ReadFault>
     ensures written { IfOk result (λ bytes. written_bundle taps.now ≡ Ok bytes.items) }
     ensures refused { IfErr result (λ e. e ≢ ReadFault.Memory → written_bundle taps.now ≡ Err e) }
-    ensures lines { All (λ t. is_tap_name t.name ≡ true) taps.now → IfOk result (λ bytes. lines_of bytes.items ≡ record { lines = numbered 1 (line_texts (recs_of_taps taps.now)); fault = None }) }
+    ensures lines { All (λ t. is_tap_name t.name ≡ true) taps.now
+        → IfOk result (λ bytes. lines_of bytes.items
+        ≡ record { lines = numbered 1 (line_texts (recs_of_taps taps.now)); fault = None }) }
     ensures reads_back { IfOk result (λ bytes. All ReadsBack (recs_of_taps taps.now)) }
-    ensures read_back { AreOfABundle taps.now → IfOk result (λ bytes. AreReadAs bytes.items taps.now) }
+    ensures read_back { AreOfABundle taps.now
+        → IfOk result (λ bytes. AreReadAs bytes.items taps.now) }
 {
     let lines = all_lines(alloc, taps.as_slice())?;
     Ok(lines.bytes)

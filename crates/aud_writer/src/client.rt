@@ -3,7 +3,7 @@ ghost use Rattle.std.specs.Prelude.{◌≡◌, Some, IfOk};
 ghost use Rattle.serde_json.specs.View.{view};
 ghost use Rattle.aud_reader.specs.Fields.{decoded};
 ghost use Rattle.aud_writer.specs.Written.{encoded, conn_data, binary_data, message_data, lost_data, client_data};
-ghost use Rattle.aud_writer.specs.Private.BytesBack.{DecodeBack, client_bytes};
+ghost use Rattle.aud_writer.specs.BytesBack.{DecodeBack, client_bytes};
 
 use super::fields::encoded;
 use aud_tap::ClientRec;

@@ -4,7 +4,7 @@ ghost use Rattle.serde_json.specs.Data.{string, put};
 ghost use Rattle.serde_json.specs.View.{view, items_view, members_view};
 ghost use Rattle.aud_reader.specs.Fields.{decoded};
 ghost use Rattle.aud_writer.specs.Written.{encoded, text_items};
-ghost use Rattle.aud_writer.specs.Private.BytesBack.{DecodeBack, put_unless_empty};
+ghost use Rattle.aud_writer.specs.BytesBack.{DecodeBack, put_unless_empty};
 
 use aud_tap::{Bytes, Text};
 use base64::engine::general_purpose::STANDARD;

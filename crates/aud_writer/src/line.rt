@@ -8,7 +8,7 @@ ghost use Rattle.aud_tap.specs.TapName.{is_tap_name};
 ghost use Rattle.aud_reader.specs.Record.{json_of, line_record};
 ghost use Rattle.aud_tap.specs.WellFormed.{is_well_formed};
 ghost use Rattle.aud_writer.specs.Written.{tap_word, version_number, header_data, record_data, line_text, written_line};
-ghost use Rattle.aud_writer.specs.Private.BytesBack.{DecodeBack, blobs_of};
+ghost use Rattle.aud_writer.specs.BytesBack.{DecodeBack, blobs_of};
 
 use super::client::client_value;
 use super::node::node_value;
@@ -59,16 +59,20 @@ fn record_value(alloc: Global, rec: &Rec) -> Result<Value, AllocError>
 }
 
 fn value_json(alloc: Global, value: &Value) -> Result<String, AllocError>
-    ensures text { (rec : Rec) → view value.now ≡ record_data rec → IfOk result (λ json. string_bytes json ≡ compact_text (record_data rec)) }
-    ensures reads { (rec : Rec) → view value.now ≡ record_data rec → IfOk result (λ json. json_of (string_bytes json) ≡ Ok (record_data rec)) }
+    ensures text { (rec : Rec) → view value.now ≡ record_data rec
+        → IfOk result (λ json. string_bytes json ≡ compact_text (record_data rec)) }
+    ensures reads { (rec : Rec) → view value.now ≡ record_data rec
+        → IfOk result (λ json. json_of (string_bytes json) ≡ Ok (record_data rec)) }
 {
     value.to_string(alloc)
 }
 
 /// The line of a value: the tap's name, a blank, and the value's JSON.
 pub fn value_line(alloc: Global, name: &str, value: &Value) -> Result<Vec<u8>, AllocError>
-    ensures bytes { (rec : Rec) → view value.now ≡ record_data rec → IfOk result (λ line. line.items ≡ line_text name.now rec) }
-    ensures reads { (rec : Rec) → view value.now ≡ record_data rec → IfOk result (λ line. json_of (compact_text (record_data rec)) ≡ Ok (record_data rec)) }
+    ensures bytes { (rec : Rec) → view value.now ≡ record_data rec
+        → IfOk result (λ line. line.items ≡ line_text name.now rec) }
+    ensures reads { (rec : Rec) → view value.now ≡ record_data rec
+        → IfOk result (λ line. json_of (compact_text (record_data rec)) ≡ Ok (record_data rec)) }
 {
     let json = value_json(alloc, value)?;
     let mut line = Vec::new(alloc);
@@ -89,8 +93,9 @@ fn line_bytes(alloc: Global, name: &str, rec: &Rec) -> Result<Vec<u8>, AllocErro
 }
 
 /// The line of a record, without a newline: the tap's name, a blank, and JSON without blanks whose
-/// keys are in byte order, with empty lists left out. The name and the fields are of a bundle's forms and limits. A line
-/// that would be longer than 4,194,304 bytes is refused as `LineTooLong` with the number 1; the other error is `Memory`.
+/// keys are in byte order, with empty lists left out. The name and the fields are of a bundle's forms and limits. A
+/// line that would be longer than 4,194,304 bytes is refused as `LineTooLong` with the number 1; the other error is
+/// `Memory`.
 pub fn write_line(alloc: Global, name: &str, rec: &Rec) -> Result<Vec<u8>, ReadFault>
     requires name { IsTrue (is_tap_name name.now) }
     requires record { IsTrue (is_well_formed rec.now) }

@@ -2,7 +2,7 @@
 ghost use Rattle.std.specs.Prelude.{◌≡◌, IfOk};
 ghost use Rattle.serde_json.specs.View.{view};
 ghost use Rattle.aud_writer.specs.Written.{event_data, offset_data, stream_data};
-ghost use Rattle.aud_writer.specs.Private.BytesBack.{DecodeBack, stream_bytes};
+ghost use Rattle.aud_writer.specs.BytesBack.{DecodeBack, stream_bytes};
 
 use super::fields::{blobs, texts, with_list, with_text};
 use aud_tap::{Event, StreamRec};

@@ -1,5 +1,5 @@
 //! Several files as one input.
-use aud_lines::Sources;
+use aud_input::Sources;
 use std::alloc::Global;
 use std::collections::VecDeque;
 use std::io::{self, Read};
@@ -27,6 +27,20 @@ fn read(alloc: Global, files: &[&'static str]) -> io::Result<Vec<u8>> {
     let mut bytes = Vec::new(alloc);
     Sources::new(first, others).read_to_end(&mut bytes)?;
     Ok(bytes)
+}
+
+#[test]
+fn the_file_that_is_read_is_the_current_one(rt: HostRuntime) -> Result<(), Fail> {
+    let mut others = VecDeque::new(rt.alloc());
+    others.push_back(b"b".as_slice())?;
+    let mut sources = Sources::new(b"a".as_slice(), others);
+    assert!(rt; *sources.current() == b"a".as_slice());
+    let mut buf = [0; 2];
+    assert_eq!(rt; sources.read(&mut buf)?, 1);
+    assert!(rt; sources.current().is_empty());
+    assert_eq!(rt; sources.read(&mut buf)?, 1);
+    assert!(rt; *sources.current() == b"b".as_slice());
+    Ok(())
 }
 
 #[test]

@@ -3,12 +3,13 @@ ghost use Rattle.std.specs.Prelude.{◌≡◌, ◌+◌, ◌≤◌, ◌^◌, ◌<
 ghost use Rattle.aud_reader.specs.Lines.{lines_of};
 
 use crate::input::are;
-use aud_reader::{InputCode, Line, ReadFault, Splitter};
+use aud_reader::{InputCode, Line, ReadFault, Splitter, next_line};
 use std::alloc::{AllocError, Global};
 
 /// The lines of an input of which each byte is a piece, where every line is taken at once.
 fn lines_of_bytes(alloc: Global, input: &[u8]) -> Result<Vec<Line>, ReadFault>
-    ensures { IfOk result (λ lines. lines_of input.now ≡ record { lines = lines.items; fault = None }) }
+    ensures { IfOk result (λ lines. lines_of input.now
+        ≡ record { lines = lines.items; fault = None }) }
 {
     let mut splitter = Splitter::new(alloc);
     let mut lines = Vec::new(alloc);
@@ -43,6 +44,14 @@ fn lines_come_byte_by_byte(rt: HostRuntime) {
     for (input, wanted) in &INPUTS {
         assert!(rt; splits(rt.alloc(), input, wanted), "{input:?}");
     }
+}
+
+#[test]
+fn the_next_line_ends_at_a_newline(rt: HostRuntime) {
+    let empty: &[u8] = b"";
+    assert!(rt; next_line(b"a\r\nb\n") == Some((b"a\r".as_slice(), b"b\n".as_slice())));
+    assert!(rt; next_line(b"\n") == Some((empty, empty)));
+    assert!(rt; next_line(b"ab").is_none());
 }
 
 fn blanks(alloc: Global, count: usize) -> Result<Vec<u8>, AllocError>

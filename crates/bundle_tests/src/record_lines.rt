@@ -1,7 +1,7 @@
 //! The lines that records stand on.
 ghost use Rattle.std.specs.Prelude.{◌<◌};
 
-use aud_lines::{LineIndex, RecordLines};
+use aud_input::{LineIndex, RecordLines};
 use std::alloc::{AllocError, Global};
 use std::hash::RandomState;
 use std::test::Fail;

@@ -20,6 +20,28 @@ pub fn is_refused(
     }
 }
 
+/// The names of docs/FORMAT.md.
+static NAMES: [(InputCode, &str); 11] = [
+    (InputCode::LineTooLong, "LineTooLong"),
+    (NoTapName, "NoTapName"),
+    (NotJson, "NotJson"),
+    (InputCode::NoHeader, "NoHeader"),
+    (UnknownKind, "UnknownKind"),
+    (Field, "Field"),
+    (Limit, "Limit"),
+    (InputCode::SecondStream, "SecondStream"),
+    (InputCode::OffsetTwice, "OffsetTwice"),
+    (InputCode::HeaderTwice, "HeaderTwice"),
+    (Version, "Version"),
+];
+
+#[test]
+fn refusals_have_names(rt: HostRuntime) {
+    for (code, name) in &NAMES {
+        assert_eq!(rt; code.name(), *name);
+    }
+}
+
 static TEXTS: [(&str, Option<InputCode>); 44] = [
     ("", Some(NoTapName)),
     (r#"{"k":"lost"}"#, Some(NoTapName)),

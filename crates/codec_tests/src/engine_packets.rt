@@ -20,7 +20,8 @@ fn is_read(alloc: Global, text: &str, words: &str) -> Result<bool, Fail> {
 
 /// Texts, and their packets or refusals.
 static TEXTS: [(&str, &str); 32] = [
-    // the packet types of the document, with the `open` packet of section "Handshake" and the probe of section "Upgrade"
+    // the packet types of the document, with the `open` packet of section "Handshake" and the probe of section
+    // "Upgrade"
     (
         r#"0{"sid":"lv_VI97HAXpY6yYWAAAC","upgrades":["websocket"],"pingInterval":25000,"pingTimeout":20000,"maxPayload":1000000}"#,
         r#"Control(Opening, "{\"sid\":\"lv_VI97HAXpY6yYWAAAC\",\"upgrades\":[\"websocket\"],\"pingInterval\":25000,\"pingTimeout\":20000,\"maxPayload\":1000000}")"#,

@@ -6,7 +6,8 @@ use aud_sio::{Packet, Scratch, decode, decode_with, encode, last_text};
 use std::alloc::Global;
 use std::test::Fail;
 
-/// Whether the packet has this kind, count of attachments, namespace, acknowledgement id and payload, and is written so.
+/// Whether the packet has this kind, count of attachments, namespace, acknowledgement id and payload, and is written
+/// so.
 fn is_packet(alloc: Global, packet: &Packet<'_>, parts: &str, written: &str) -> Result<bool, Fail>
     requires { IsSpelled (packet_view packet.now) }
 {

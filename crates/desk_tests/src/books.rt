@@ -1,5 +1,5 @@
-//! A book without a desk, and want of memory: whatever allocation fails once (`rt try --test --fail-alloc N`), the call
-//! that it is refused in leaves all as it was, and succeeds when it is made again.
+//! A book without a desk, and running out of memory: whatever allocation fails once (`rt try --test --fail-alloc N`),
+//! the call that it is refused in leaves all as it was, and succeeds when it is made again.
 use crate::bundle::NODE;
 use crate::visits::{Visit, are_lines, at_desk, closed, ensure};
 use aud_book::{BackFault, Book, Desk, DeskFault, PostFault, Posted, Posts, TapSeat};
@@ -7,7 +7,7 @@ use std::alloc::Global;
 use std::sync::Wait;
 use std::test::Fail;
 
-/// Fails where the seat's lines in the book are others than these. Want of memory is no failure.
+/// Fails where the seat's lines in the book are others than these. Running out of memory is no failure.
 fn has_lines<'a, L: Posts, R: Wait>(
     rt: &R,
     alloc: Global,

@@ -50,7 +50,8 @@ fn two_threads<'a, L: Posts + Send + Sync, R: Threads + Wait + Sync>(
     names: &[&'a str],
 ) -> Result<Posted<'a>, Fail>
     requires name { blank.name ≡ L.name }
-    requires parts { (blank.parts ≡ L.parts) × (blank.parts ≡ length names.now) × (L.count ≡ length names.now) }
+    requires parts { (blank.parts ≡ L.parts) × (blank.parts ≡ length names.now)
+        × (L.count ≡ length names.now) }
 {
     let (desk, mut seats) = Desk::<L>::new(alloc, blank, names)?;
     let (stream, node) = last_two(&mut seats)?;

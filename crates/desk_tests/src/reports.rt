@@ -4,8 +4,8 @@ ghost use Rattle.aud_tap.specs.Names.{AreNamedOnce};
 use crate::two_sessions::{REPORT, REPORT_OF_WHOLE, taps_of};
 use aud_client::Recording;
 use aud_desk::{AuditFault, Gate, OpenGate, audit_with};
-use aud_report::report_on;
 use aud_tap::Taps;
+use aud_verdict::report_on;
 use std::alloc::Global;
 use std::hash::RandomState;
 use std::mem::ManuallyDrop;
@@ -15,7 +15,8 @@ use std::test::Fail;
 use std::thread::Threads;
 use std::time::Clock;
 
-/// The report on these taps by so many workers behind this gate: how many answers are yes, how many are no, and the text.
+/// The report on these taps by so many workers behind this gate: how many answers are yes, how many are no, and the
+/// text.
 pub fn reported<G: Gate + Sync, R: Threads + Wait + Clock + RandomSource + Sync>(
     rt: &R,
     alloc: Global,

@@ -1,5 +1,5 @@
 //! Work that is shared out among threads: the list is the same, however many they are.
-use aud_parallel::try_map;
+use aud_base::try_map;
 use std::alloc::AllocError;
 use std::test::Fail;
 

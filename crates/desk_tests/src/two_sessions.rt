@@ -27,7 +27,8 @@ c2 {"k":"in","t":"42[\"hi\",\"1-0\"]"}"#;
 pub const REPORT: &str =
     "yes P got=0 tail=0 turns=1\nyes Q got=1 tail=0 turns=1\nsessions=2 yes=2 no=0\n";
 
-/// What is written for it without its last line, the event that the second session was due, where the whole is asked for.
+/// What is written for it without its last line, the event that the second session was due, where the whole is asked
+/// for.
 pub const REPORT_OF_WHOLE: &str =
     "yes P got=0 tail=0 turns=1\nno Q TAIL 1\nsessions=2 yes=1 no=1\n";
 

@@ -29,7 +29,8 @@ fn visited<'a, L: Posts, V: Visit, R: Wait>(
     visit: &'a V,
 ) -> Result<Result<Posted<'a>, Fail>, DeskFault>
     requires name { blank.name ≡ L.name }
-    requires parts { (blank.parts ≡ L.parts) × (blank.parts ≡ length names.now) × (L.count ≡ length names.now) }
+    requires parts { (blank.parts ≡ L.parts) × (blank.parts ≡ length names.now)
+        × (L.count ≡ length names.now) }
 {
     let (desk, seats) = Desk::<L>::new(alloc, blank, names)?;
     Ok(visit.visit(rt, alloc, desk, seats))

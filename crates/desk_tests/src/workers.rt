@@ -3,7 +3,7 @@ use crate::two_sessions::taps_of;
 use aud_client::Recording;
 use aud_desk::{OpenGate, Tickets, gather, work};
 use aud_maker::sessions;
-use aud_report::Verdict;
+use aud_verdict::Verdict;
 use std::hash::RandomState;
 use std::mem::ManuallyDrop;
 use std::test::Fail;

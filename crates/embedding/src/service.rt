@@ -6,7 +6,7 @@ use crate::lines::{NAMES, lines_of};
 use aud_book::{Desk, PostFault, Posted, Posts, TapSeat, read_posted};
 use aud_client::Recording;
 use aud_desk::{OpenGate, audit_with};
-use aud_report::report_on;
+use aud_verdict::report_on;
 use std::alloc::Global;
 use std::hash::RandomState;
 use std::marker::Brand;
@@ -39,7 +39,8 @@ fn record<'a, L: Posts + Send + Sync, R: Threads + Wait + Sync>(
     names: &[&'a str],
 ) -> Result<Posted<'a>, ServiceFault>
     requires name { blank.name ≡ L.name }
-    requires parts { (blank.parts ≡ L.parts) × (blank.parts ≡ length names.now) × (L.count ≡ length names.now) }
+    requires parts { (blank.parts ≡ L.parts) × (blank.parts ≡ length names.now)
+        × (L.count ≡ length names.now) }
 {
     let (desk, seats) = Desk::<L>::new(alloc, blank, names)?;
     let shared = &desk;
@@ -51,7 +52,8 @@ fn record<'a, L: Posts + Send + Sync, R: Threads + Wait + Sync>(
     desk.close(seats).map_err(|_| ServiceFault::Seats)
 }
 
-/// The report on what the taps posted, whose texts are hashed with these keys. The one call of [`record`] picks the desk's ledger, by [`Brand`].
+/// The report on what the taps posted, whose texts are hashed with these keys. The one call of [`record`] picks the
+/// desk's ledger, by [`Brand`].
 pub fn report<R: Threads + Wait + Clock + Sync>(
     rt: &R,
     alloc: Global,

@@ -1,5 +1,5 @@
 //! The arguments of `explain`.
-use aud_explain_words::{ExplainOptions, explain_asked};
+use aud_cli::{ExplainOptions, explain_asked};
 use aud_tap::Text;
 use std::alloc::{AllocError, Global};
 use std::process::Abort;
@@ -10,65 +10,70 @@ const EVERY_CLASS: &str =
     "FailOn { delivery: true, packets: true, recording: true, refused: false }, pids, files\n";
 
 /// Arguments, how the text begins that tells of them, and a part of it.
-static ARGUMENTS: [(&[&str], &str, &str); 51] = [
+static ARGUMENTS: [(&[&str], &str, &str); 57] = [
     (
         &["explain"],
-        "read None, json false, quiet false, workers 4, ",
+        "read None, form Text, quiet false, workers 4, ",
         EVERY_CLASS,
     ),
     (
         &["explain", "--"],
-        "read None, json false, quiet false, workers 4, ",
+        "read None, form Text, quiet false, workers 4, ",
         EVERY_CLASS,
     ),
     (
         &["explain", "--json"],
-        "read None, json true, quiet false, workers 4, ",
+        "read None, form Json, quiet false, workers 4, ",
+        EVERY_CLASS,
+    ),
+    (
+        &["explain", "--html"],
+        "read None, form Html, quiet false, workers 4, ",
         EVERY_CLASS,
     ),
     (
         &["explain", "--quiet"],
-        "read None, json false, quiet true, workers 4, ",
+        "read None, form Text, quiet true, workers 4, ",
         EVERY_CLASS,
     ),
     (
         &["explain", "--only", "no"],
-        "read Some(No), json false, quiet false, workers 4, ",
+        "read Some(No), form Text, quiet false, workers 4, ",
         EVERY_CLASS,
     ),
     (
         &["explain", "--only=delivery"],
-        "read Some(Of(Delivery)), json false, quiet false, workers 4, ",
+        "read Some(Of(Delivery)), form Text, quiet false, workers 4, ",
         EVERY_CLASS,
     ),
     (
         &["explain", "--only", "packets"],
-        "read Some(Of(Packets)), json false, quiet false, workers 4, ",
+        "read Some(Of(Packets)), form Text, quiet false, workers 4, ",
         EVERY_CLASS,
     ),
     (
         &["explain", "--only", "recording"],
-        "read Some(Of(Recording)), json false, quiet false, workers 4, ",
+        "read Some(Of(Recording)), form Text, quiet false, workers 4, ",
         EVERY_CLASS,
     ),
     (
         &["explain", "--fail-on", "delivery,refused"],
-        "read None, json false, quiet false, workers 4, ",
+        "read None, form Text, quiet false, workers 4, ",
         "FailOn { delivery: true, packets: false, recording: false, refused: true }, pids, files\n",
     ),
     (
         &["explain", "--fail-on=packets,packets"],
-        "read None, json false, quiet false, workers 4, ",
+        "read None, form Text, quiet false, workers 4, ",
         "FailOn { delivery: false, packets: true, recording: false, refused: false }, pids, files\n",
     ),
     (
         &["explain", "--fail-on=packets,recording,delivery"],
-        "read None, json false, quiet false, workers 4, ",
+        "read None, form Text, quiet false, workers 4, ",
         EVERY_CLASS,
     ),
     (
         &["explain", "--workers=64", "--quiet", "--json"],
-        "read None, json true, quiet true, workers 64, ",
+        "read None, form Json, quiet true, workers 64, ",
         EVERY_CLASS,
     ),
     (&["explain", "a.jsonl"], "read ", ", pids, files a.jsonl\n"),
@@ -115,6 +120,18 @@ static ARGUMENTS: [(&[&str], &str, &str); 51] = [
     (&["explain", "--json=yes"], "refused: ", "--json"),
     (&["explain", "--json="], "refused: ", "--json"),
     (&["explain", "--json", "--json"], "refused: ", "--json"),
+    (&["explain", "--html=yes"], "refused: ", "--html"),
+    (&["explain", "--html", "--html"], "refused: ", "--html"),
+    (
+        &["explain", "--html", "--json"],
+        "refused: error: the argument '--html' cannot be used with '--json'",
+        "Usage",
+    ),
+    (
+        &["explain", "--json", "f", "--html"],
+        "refused: error: the argument '--json' cannot be used with '--html'",
+        "Usage",
+    ),
     (
         &["explain", "--quiet", "f", "--quiet"],
         "refused: ",
@@ -154,6 +171,7 @@ static ARGUMENTS: [(&[&str], &str, &str); 51] = [
         "help: ",
         "[possible values: no, delivery, packets, recording]",
     ),
+    (&["explain", "--help"], "help: ", "--html"),
     (&["explain", "--help"], "help: ", "--fail-on <LIST>"),
     (
         &["explain", "--help"],
@@ -175,12 +193,12 @@ fn push_texts(out: &mut String, texts: &[Text]) -> Result<(), AllocError> {
 
 /// The options, in words.
 fn options_text(alloc: Global, options: &ExplainOptions) -> Result<String, AllocError> {
-    let (only, json, quiet) = (options.only, options.json, options.quiet);
+    let (only, form, quiet) = (options.only, options.form, options.quiet);
     let (workers, fail_on) = (options.workers, options.fail_on);
     let mut out = String::new(alloc);
     write!(
         out,
-        "read {only:?}, json {json}, quiet {quiet}, workers {workers}, {fail_on:?}, pids"
+        "read {only:?}, form {form:?}, quiet {quiet}, workers {workers}, {fail_on:?}, pids"
     )?;
     push_texts(&mut out, options.pids.as_slice())?;
     write!(out, ", files")?;

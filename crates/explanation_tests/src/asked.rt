@@ -1,6 +1,6 @@
 //! Recoveries that clients asked for, and what they missed where one was refused.
 use crate::cases::{Case, Input, assert_cases};
-use aud_report::Status;
+use aud_verdict::Status;
 use std::test::Fail;
 
 /// A volatile event's last argument became the client's offset: the node knows no such offset, and opens a new session.
@@ -94,8 +94,8 @@ c1 {"k":"out","t":"3"}
 c1 {"k":"poll","t":"2"}
 c1 {"k":"out","t":"3"}"#;
 
-/// Session `P` held `r` at its break, and `q` before: of the five entries after its birth one is not recoverable, one is
-/// for `q`, one excepts `r`, and one comes after the new session's `open`.
+/// Session `P` held `r` at its break, and `q` before: of the five entries after its birth one is not recoverable, one
+/// is for `q`, one excepts `r`, and one comes after the new session's `open`.
 const ROOMS: &str = r#"st {"k":"tap","v":1,"of":"stream"}
 st {"k":"ev","off":"o1","nsp":"/","rooms":["q"],"text":"2[\"m\",\"o1\"]"}
 st {"k":"ev","off":"o2","nsp":"/","rooms":["r"],"text":"2[\"m\",\"o2\"]"}
@@ -130,8 +130,8 @@ c1 {"k":"conn","c":4}
 c1 {"k":"out","t":"40{\"pid\":\"N\",\"offset\":\"o1\"}"}
 c1 {"k":"in","t":"40{\"sid\":\"s2\",\"pid\":\"Q\"}"}"#;
 
-/// Stays in two namespaces of one connection; an event with two attachments, between which a ping stands; a recovery whose
-/// reply and replay come in one body; and a client that asks twice, and is not answered.
+/// Stays in two namespaces of one connection; an event with two attachments, between which a ping stands; a recovery
+/// whose reply and replay come in one body; and a client that asks twice, and is not answered.
 const PLACED: &str = r#"st {"k":"tap","v":1,"of":"stream"}
 st {"k":"ev","off":"o1","nsp":"/","text":"2[\"one\",\"o1\"]"}
 st {"k":"ev","off":"o2","nsp":"/","text":"52-[\"two\",{\"_placeholder\":true,\"num\":0},{\"_placeholder\":true,\"num\":1},\"o2\"]","bin":["AQI=","Aw=="]}

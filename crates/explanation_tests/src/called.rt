@@ -1,16 +1,16 @@
-//! What no explanation calls: the rooms that a session held, the first reply that names it and the first that names it
-//! otherwise, and the rows of a misfit alone.
-use aud_cert::Certificate;
+//! What no explanation calls by itself: the rooms that a session held, and as spans after its turns; the first reply that
+//! names it and the first that names it otherwise; and the rows of a misfit alone.
+use aud_base::Watched;
+use aud_cert::{Certificate, Turn};
 use aud_chain::{Misfit, RecordPlace};
 use aud_client::{Recording, Stay};
 use aud_evidence::{first_naming, first_other_named};
-use aud_explain::read_files;
-use aud_lines::RecordLines;
+use aud_input::{RecordLines, read_files};
 use aud_maker::make;
 use aud_reach::rooms_held;
+use aud_recoveries::spans_held;
 use aud_rows::Sheet;
 use aud_shown::misfit_rows;
-use aud_streams::Watched;
 use std::alloc::{AllocError, Global};
 use std::hash::RandomState;
 use std::mem::ManuallyDrop;
@@ -19,8 +19,8 @@ use std::test::Fail;
 use std::thread::Threads;
 
 /// A session that holds `q` and `r` when its node takes entry 1, and its own room alone when it takes entry 2. Of the
-/// replies on the client's three connections the first names no session, the second this one, and the third this one with
-/// another sid.
+/// replies on the client's three connections the first names no session, the second this one, and the third this one
+/// with another sid.
 const BUNDLE: &str = r#"st {"k":"tap","v":1,"of":"stream"}
 st {"k":"ev","off":"o1","nsp":"/","text":"2[\"m\",\"o1\"]"}
 st {"k":"ev","off":"o2","nsp":"/","text":"2[\"m\",\"o2\"]"}
@@ -58,6 +58,7 @@ const ANSWERS: &str = "named: Some(1), otherwise: Some(2)
 14 a Fault
 held at 1: q r s1
 held at 2: s1
+spans held: s1 2-2
 ";
 
 /// Adds the numbers of the first stay whose reply names the session, and of the first that names it otherwise.
@@ -90,6 +91,21 @@ fn push_held(
     writeln!(out, "")
 }
 
+/// Adds the spans of the rooms that the session held after these turns, past position 1 up to 2.
+fn push_spans(
+    alloc: Global,
+    out: &mut String,
+    recording: &Recording<'_>,
+    turns: &[Turn<'_>],
+) -> Result<(), AllocError> {
+    write!(out, "spans held:")?;
+    for span in &spans_held(alloc, recording.logs(), "P", "s1", turns, 1, 2)? {
+        let (room, first, last) = (span.room.as_str(), span.first, span.last);
+        write!(out, " {room} {first}-{last}")?;
+    }
+    writeln!(out, "")
+}
+
 /// The answers over a recording, where these are the lines of its records.
 fn answers(alloc: Global, recording: &Recording<'_>, lines: &RecordLines) -> Result<String, Fail> {
     let mut out = String::new(alloc);
@@ -101,6 +117,7 @@ fn answers(alloc: Global, recording: &Recording<'_>, lines: &RecordLines) -> Res
     };
     push_held(alloc, &mut out, &cert, 1)?;
     push_held(alloc, &mut out, &cert, 2)?;
+    push_spans(alloc, &mut out, recording, cert.turns.as_slice())?;
     Ok(out)
 }
 

@@ -1,10 +1,10 @@
 //! What `explain` writes for the cases of a table.
 use crate::schedule::acts;
+use aud_base::Watched;
+use aud_cli::explain_asked;
 use aud_explain_app::{ExplainFault, explain};
-use aud_explain_words::explain_asked;
-use aud_report::Status;
 use aud_sim::simulate;
-use aud_streams::Watched;
+use aud_verdict::Status;
 use std::alloc::Global;
 use std::hash::RandomState;
 use std::process::Abort;
@@ -25,7 +25,8 @@ pub enum Input {
     Simulated(usize, &'static str),
 }
 
-/// What is written for these arguments over an input, and how the run ends. A `*` in the text stands for what is not told.
+/// What is written for these arguments over an input, and how the run ends. A `*` in the text stands for what is not
+/// told.
 pub struct Case {
     pub arguments: &'static [&'static str],
     pub input: Input,

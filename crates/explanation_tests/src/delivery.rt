@@ -1,6 +1,6 @@
 //! Events that came twice, too late or never, that were not due, or were not what their entry says.
 use crate::cases::{Case, Input, assert_cases};
-use aud_report::Status;
+use aud_verdict::Status;
 use std::test::Fail;
 
 /// A node that takes a session back when it is three entries behind the break.

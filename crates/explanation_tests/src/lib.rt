@@ -1,6 +1,6 @@
 //! Tests of what `explain` writes: whole explanations, of bundles that are written out and of simulated clusters; which
-//! sessions are shown, in which form, and how a run ends; its arguments, the help on a refused line, and the figures. Each is
-//! a row of a table. What no explanation calls is asked by itself.
+//! sessions are shown, in which form, and how a run ends; its arguments, the help on a refused line, and the figures.
+//! Each is a row of a table. What no explanation calls is asked by itself.
 #![tactic(auto)]
 
 #[cfg(test)]

@@ -1,14 +1,14 @@
 //! What a client received, by the rooms of its session; attachments; recoveries that are asked for where they do not
 //! fit; what is no packet, and an event of no known session.
 use crate::cases::{Case, Input, assert_cases};
-use aud_report::Status;
+use aud_verdict::Status;
 use std::test::Fail;
 
-/// Session `P` joins `r` after entry 2 was taken, leaves `q` before entry 4 is, breaks, and comes back on a node that had
-/// taken entry 7 by then; there it leaves `r`, and the node takes the entries 8 to 10 by one record. Entry 11 is taken by
-/// no node. Due are the entries 3, 7 and 10: 1 was taken before the session, 2 and 4 are for rooms that it doesn't hold, 5
-/// excepts `r` and 6 its own room, 8 is of another namespace, and 9 is not recoverable. The lines of `a` begin with 13, those
-/// of `b` with 27.
+/// Session `P` joins `r` after entry 2 was taken, leaves `q` before entry 4 is, breaks, and comes back on a node that
+/// had taken entry 7 by then; there it leaves `r`, and the node takes the entries 8 to 10 by one record. Entry 11 is
+/// taken by no node. Due are the entries 3, 7 and 10: 1 was taken before the session, 2 and 4 are for rooms that it
+/// doesn't hold, 5 excepts `r` and 6 its own room, 8 is of another namespace, and 9 is not recoverable. The lines of
+/// `a` begin with 13, those of `b` with 27.
 const CHANGES: &str = r#"st {"k":"tap","v":2,"of":"stream"}
 st {"k":"ev","off":"o1","nsp":"/","text":"2[\"m\",\"o1\"]"}
 st {"k":"ev","off":"o2","nsp":"/","rooms":["r"],"text":"2[\"m\",\"o2\"]"}

@@ -1,7 +1,7 @@
 //! Taps that contradict each other or that lack something.
 use crate::cases::{Case, Input, assert_cases};
 use crate::runs::YES;
-use aud_report::Status;
+use aud_verdict::Status;
 use std::test::Fail;
 
 /// A session whose first turn has no `break`, though it was recovered.

@@ -4,7 +4,7 @@ use crate::cases::{Case, Input, assert_cases};
 use crate::delivery::BEHIND;
 use crate::received::FRAME;
 use aud_explain_app::{ExplainFault, Unexplained};
-use aud_report::Status;
+use aud_verdict::Status;
 use std::test::Fail;
 
 /// A session that is answered yes.
@@ -164,7 +164,7 @@ fn recordings_that_say_nothing(rt: HostRuntime) -> Result<(), Fail> {
 }
 
 /// Lines that are refused.
-static REFUSED_LINES: [Case; 7] = [
+static REFUSED_LINES: [Case; 8] = [
     Case {
         arguments: &["explain"],
         input: Input::Files(&[BOTH]),
@@ -202,6 +202,12 @@ The field room is missing: it has to be a text.
         input: Input::Files(&[FIRST, SECOND]),
         text: r#"{"refused":{"file":"b.jsonl","file_line":2,"help":"The field room is missing: it has to be a text.\n","line":4,"name":"Field"},"v":1}
 "#,
+        outcome: Ok(Status::Refused),
+    },
+    Case {
+        arguments: &["explain", "--html", "a.jsonl"],
+        input: Input::Files(&[BOTH]),
+        text: "<!doctype html>\n*</script>\n</body>\n</html>\n",
         outcome: Ok(Status::Refused),
     },
     Case {

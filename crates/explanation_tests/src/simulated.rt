@@ -1,9 +1,9 @@
 //! The thirteen faults, each made by a simulated cluster, and explained.
 //!
-//! Of one node a bundle begins with the headers of `st`, `n1` and `c1` and with the `start` of the node, lines 1 to 4; of two
-//! with those of `n2` too, lines 1 to 6. Above each case stands what the lines after these are.
+//! Of one node a bundle begins with the headers of `st`, `n1` and `c1` and with the `start` of the node, lines 1 to 4;
+//! of two with those of `n2` too, lines 1 to 6. Above each case stands what the lines after these are.
 use crate::cases::{Case, Input, assert_cases};
-use aud_report::Status;
+use aud_verdict::Status;
 use std::test::Fail;
 
 /// The schedule of one client, and the explanation of a session.
@@ -24,8 +24,8 @@ do: tap each node, from its start.
 sessions: *"#,
         outcome: Ok(Status::SomeNo),
     },
-    // The `break` is lost. 7 open, 8 conn, 9 reply, 10 entry 1, 11 take on n1, 12 the frame, 13 lost, 14 take on n2, 15 conn,
-    // 16 asks after 1-0, 17 back on n2, 18 reply.
+    // The `break` is lost. 7 open, 8 conn, 9 reply, 10 entry 1, 11 take on n1, 12 the frame, 13 lost, 14 take on n2, 15
+    // conn, 16 asks after 1-0, 17 back on n2, 18 reply.
     Case {
         arguments: &["explain", "--pid", "p1"],
         input: Input::Simulated(2, "c@1 e:a t1 lose x t2 r@2"),
@@ -91,8 +91,8 @@ do: write the session's sid into the node's log, not that of the transport.
 sessions: *"#,
         outcome: Ok(Status::SomeNo),
     },
-    // The frame of entry 1 begins with `x`. 5 open, 6 conn, 7 reply, 8 entry 1, 9 entry 2, 10 take, 11 what is no packet, 12 take,
-    // 13 the frame of entry 2.
+    // The frame of entry 1 begins with `x`. 5 open, 6 conn, 7 reply, 8 entry 1, 9 entry 2, 10 take, 11 what is no
+    // packet, 12 take, 13 the frame of entry 2.
     Case {
         arguments: &["explain", "--pid", "p1"],
         input: Input::Simulated(1, "c@1 e:a e:b garble t1 t1"),
@@ -108,8 +108,8 @@ do: record bodies of polling as they came, and of answers with status 200 alone.
 sessions: *"#,
         outcome: Ok(Status::SomeNo),
     },
-    // A session without a reply, and another one after it. 5 open of p1, 6 conn, 7 entry 1, 8 take, 9 its frame, 10 gone, 11 lost,
-    // 12 open of p2, 13 conn, 14 reply, 15 entry 2, 16 take, 17 its frame.
+    // A session without a reply, and another one after it. 5 open of p1, 6 conn, 7 entry 1, 8 take, 9 its frame, 10
+    // gone, 11 lost, 12 open of p2, 13 conn, 14 reply, 15 entry 2, 16 take, 17 its frame.
     Case {
         arguments: &["explain", "--pid", "p2"],
         input: Input::Simulated(1, "u@1 e:a t1 f c@1 e:b t1"),
@@ -163,7 +163,8 @@ do: look at how the node picks the sessions of a room.
 sessions: *"#,
         outcome: Ok(Status::SomeNo),
     },
-    // 5 open, 6 conn, 7 reply, 8 entry 1, 9 entry 2, 10 take, 11 and 12 the frame of entry 1, 13 take, 14 the frame of entry 2.
+    // 5 open, 6 conn, 7 reply, 8 entry 1, 9 entry 2, 10 take, 11 and 12 the frame of entry 1, 13 take, 14 the frame of
+    // entry 2.
     Case {
         arguments: &["explain", "--pid", "p1"],
         input: Input::Simulated(1, "c@1 e:a e:b double t1 t1"),
@@ -182,7 +183,8 @@ do: look at what stands between the node and the client, and at what the node se
 sessions: *"#,
         outcome: Ok(Status::SomeNo),
     },
-    // 5 open, 6 conn, 7 reply, 8 entry 1, 9 entry 2, 10 take, 11 take, 12 the frame of entry 2, 13 the frame of entry 1.
+    // 5 open, 6 conn, 7 reply, 8 entry 1, 9 entry 2, 10 take, 11 take, 12 the frame of entry 2, 13 the frame of entry
+    // 1.
     Case {
         arguments: &["explain", "--pid", "p1"],
         input: Input::Simulated(1, "c@1 e:a e:b hold t1 t1"),
@@ -202,8 +204,8 @@ do: look at what stands between the node and the client, and at what the node se
 sessions: *"#,
         outcome: Ok(Status::SomeNo),
     },
-    // The frame of entry 1 is dropped. 5 open, 6 conn, 7 reply, 8 join, 9 entry 1, 10 entry 2, 11 take, 12 take, 13 the frame of
-    // entry 2.
+    // The frame of entry 1 is dropped. 5 open, 6 conn, 7 reply, 8 join, 9 entry 1, 10 entry 2, 11 take, 12 take, 13 the
+    // frame of entry 2.
     Case {
         arguments: &["explain", "--pid", "p1"],
         input: Input::Simulated(1, "c@1 j:r e:a:r e:b drop t1 t1"),
@@ -223,8 +225,8 @@ do: look at what stands between the node and the client, and at what the node se
 sessions: *"#,
         outcome: Ok(Status::SomeNo),
     },
-    // 7 open, 8 conn, 9 reply, 10 entry 1, 11 take on n1, 12 its frame, 13 break, 14 lost, 15 entry 2, 16 and 17 take on n2,
-    // 18 conn, 19 asks after 0-0, 20 back on n2, 21 the frame of entry 2, 22 reply.
+    // 7 open, 8 conn, 9 reply, 10 entry 1, 11 take on n1, 12 its frame, 13 break, 14 lost, 15 entry 2, 16 and 17 take
+    // on n2, 18 conn, 19 asks after 0-0, 20 back on n2, 21 the frame of entry 2, 22 reply.
     Case {
         arguments: &["explain", "--pid", "p1"],
         input: Input::Simulated(2, "c@1 e:a t1 x e:b t2 t2 o@2"),

@@ -48,6 +48,8 @@ pub enum Asked {
     Packets(&'static str),
     /// A line for each stay of the client's tap, and then whether it has an orphan, and its first bad record.
     Stays(&'static str),
+    /// A line for each stay of the client's tap: the records of its last packet, its ask, its reply and its frames.
+    Places(&'static str),
     /// A line for each frame of the client's tap.
     Frames(&'static str),
     /// Of each stay of the client's tap, whether its reply names the session, and whether the stay is recovered; and
@@ -145,6 +147,7 @@ fn tell(
         Asked::Order => orders::tell_order(logs, alloc, out),
         Asked::Packets(name) => packets::tell_packets(recording, alloc, name, out),
         Asked::Stays(name) => clients::tell_stays(recording, name, out),
+        Asked::Places(name) => clients::tell_places(recording, name, out),
         Asked::Frames(name) => clients::tell_frames(recording, name, out),
         Asked::Naming(name, pid) => clients::tell_naming(recording, alloc, name, pid, out),
         Asked::Sessions => certificates::tell_sessions(recording, alloc, out),

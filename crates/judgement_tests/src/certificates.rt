@@ -4,8 +4,7 @@ use crate::asked::{Asked, Case, assert_answers};
 use crate::cluster::{
     A_BREAKS, CLIENT_OF_P, EVENT_1, EVENT_2, EVENT_3, NODE_A, NODE_B, RECEIVED_1,
 };
-use aud_cert::Certificate;
-use aud_cert_text::{read_cert, write_cert};
+use aud_cert::{Certificate, read_cert, write_cert};
 use aud_check::{Accepted, Refusal, check};
 use aud_client::Recording;
 use aud_maker::{MakeFault, make, sessions};
@@ -193,7 +192,7 @@ fn tell_check(answer: &Result<Accepted, Refusal>, out: &mut String) -> Result<()
     }
 }
 
-/// The verdict on the session, where the whole is asked for or isn't.
+/// The verdict on the session, with or without `--whole`.
 pub fn tell_verdict(
     recording: &Recording<'_>,
     alloc: Global,

@@ -72,6 +72,26 @@ fn text_or<'a>(text: Option<&'a Text>, words: &'a str) -> &'a str {
     }
 }
 
+/// A line for each stay of the tap with this name: the records at which its packets stand.
+pub fn tell_places(
+    recording: &Recording<'_>,
+    name: &str,
+    out: &mut String,
+) -> Result<(), AllocError> {
+    let Some(client) = client_named(recording, name) else {
+        return write!(out, "no client");
+    };
+    for places in client.transcript().places.iter() {
+        let (last, ask, reply) = (places.last, places.ask, places.reply);
+        let frames = places.frames.as_slice();
+        writeln!(
+            out,
+            "last {last} ask {ask:?} reply {reply:?} frames {frames:?}"
+        )?;
+    }
+    Ok(())
+}
+
 /// A line for each frame of the tap with this name.
 pub fn tell_frames(
     recording: &Recording<'_>,

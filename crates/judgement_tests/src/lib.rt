@@ -2,7 +2,8 @@
 //! what is due, runs, packets and stays, certificates, the answers on them, and verdicts. The values are those that the
 //! rules of docs/FORMAT.md and docs/MODEL.md give.
 //!
-//! Begin at [`asked`]: each other module has bundles, and a table of what is asked of them, each with the text of the answer.
+//! Begin at [`asked`]: each other module has bundles, and a table of what is asked of them, each with the text of the
+//! answer.
 #![tactic(auto)]
 
 #[cfg(test)]

@@ -1,7 +1,7 @@
 //! Runs that are shown, and records that block.
 use crate::asked::{Asked, Case, assert_answers};
+use aud_merge::{order, order_text};
 use aud_node::Logs;
-use aud_run::{order, order_text};
 use std::alloc::{AllocError, Global};
 use std::test::Fail;
 

@@ -1,5 +1,5 @@
-//! The packets of clients' taps, what the server's answers to a CONNECT tell, and which taps name a session. Records count
-//! from 0, the header not counted.
+//! The packets of clients' taps, what the server's answers to a CONNECT tell, and which taps name a session. Records
+//! count from 0, the header not counted.
 use crate::asked::{Asked, Case, assert_answers};
 use crate::clients::tell_reply;
 use aud_client::{ClientTap, Connection, Placed, Recording, TapPacket, reply_of};
@@ -9,9 +9,9 @@ use std::mem::ManuallyDrop;
 use std::test::Fail;
 
 /// A packet stands where the last of its attachments does; a ping may stand between. A refused body gives no packet;
-/// after a refused packet the next one is read; the first bad record counts. Attachments still awaited when a connection
-/// or the tap ends: the packet didn't arrive, and no record is bad. Of what the client sends, a CONNECT and a DISCONNECT
-/// are packets; all else is read past, also what doesn't decode.
+/// after a refused packet the next one is read; the first bad record counts. Attachments still awaited when a
+/// connection or the tap ends: the packet didn't arrive, and no record is bad. Of what the client sends, a CONNECT and
+/// a DISCONNECT are packets; all else is read past, also what doesn't decode.
 const TAPS: &str = r#"
 body {"k":"tap","v":1,"of":"client"}
 body {"k":"conn","c":1}
@@ -54,8 +54,8 @@ asks {"k":"out","t":"41/n,"}
 asks {"k":"lost"}
 "#;
 
-/// A pid is of 1 to 128 visible bytes; a `sid` that is missing or no text is empty; other kinds are no replies. Each tap
-/// that names a pid is there once, in the order of the taps; what the client asks with names nobody.
+/// A pid is of 1 to 128 visible bytes; a `sid` that is missing or no text is empty; other kinds are no replies. Each
+/// tap that names a pid is there once, in the order of the taps; what the client asks with names nobody.
 const REPLIES: &str = r#"
 c0 {"k":"tap","v":1,"of":"client"}
 c0 {"k":"conn","c":1}

@@ -50,8 +50,8 @@ c1 {"k":"out","t":"40{\"pid\":\"SHMj6xTkus8_bz8KAAAC\",\"offset\":\"179533027931
 c1 {"k":"in","t":"40{\"sid\":\"ejcoRBI2n6pwqnaiAAAB\",\"pid\":\"ny_MMuhUIkdYjQiXAAAC\"}"}
 c1 {"k":"in","t":"42[\"two\",\"1795330280429-0\"]"}"#;
 
-// The client polls over HTTP: some bodies have several packets, joined by the byte 30; the server asks twice whether the
-// client is there.
+// The client polls over HTTP: some bodies have several packets, joined by the byte 30; the server asks twice whether
+// the client is there.
 const POLLING: &str = r#"st {"k":"tap","v":1,"of":"stream"}
 st {"k":"ev","off":"1795330231185-0","nsp":"/","text":"2[\"ev0\",\"plain\",\"1795330231185-0\"]"}
 st {"k":"ev","off":"1795330231188-0","nsp":"/","rooms":["r"],"text":"2[\"ev1\",\"\\u00e9 \\u00fc \\u00df\",\"1795330231188-0\"]"}

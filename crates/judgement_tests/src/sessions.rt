@@ -1,5 +1,5 @@
-//! Which sessions there are, the certificate of a session or its fault, and the answers on certificates made by hand: the
-//! values are those that the rules of the cluster, of turns, spans and sessions give.
+//! Which sessions there are, the certificate of a session or its fault, and the answers on certificates made by hand:
+//! the values are those that the rules of the cluster, of turns, spans and sessions give.
 use crate::asked::{Asked, Case, assert_answers};
 use crate::cluster::{
     A_BREAKS, CLIENT_OF_P, EVENT_1, EVENT_2, EVENT_3, EVENT_4, NODE_A, NODE_B, RECEIVED_1,

@@ -49,7 +49,7 @@ const RETURNED: &str = "1 / reply P s1 1\n1 / asked P 1-0 2\norphan\n";
 /// What is told where the last record is no frame.
 const NO_MORE: &[(Asked, &str)] = &[(Asked::Stays("c1"), "1 / reply P s1 2\n")];
 
-static CASES: [Case; 28] = [
+static CASES: [Case; 29] = [
     (
         &[STREAM, FIRST, REPLY, EVENT_1, EVENT_2],
         &[(Asked::Stays("c1"), "1 / reply P s1 1 2\n")],
@@ -62,6 +62,28 @@ static CASES: [Case; 28] = [
         &[(
             Asked::Stays("c1"),
             "1 / reply P s1 1\n2 / reply P s1 asked P 1-0 2 3\n",
+        )],
+    ),
+    // A packet stands where it is whole; of two asks the last before the reply counts.
+    (
+        &[
+            STREAM,
+            FIRST,
+            REPLY,
+            EVENT_1,
+            LOST,
+            SECOND,
+            ASK,
+            ASK,
+            EVENT_2,
+            REPLY,
+            r#"c1 {"k":"in","t":"451-[\"f\",{\"_placeholder\":true,\"num\":0},\"5-0\"]"}"#,
+            r#"c1 {"k":"inb","b":"AQI="}"#,
+            CLIENT_LEAVES,
+        ],
+        &[(
+            Asked::Places("c1"),
+            "last 2 ask None reply Some(1) frames [2]\nlast 11 ask Some(6) reply Some(8) frames [7, 10]\n",
         )],
     ),
     // A replay without its reply is an orphan.

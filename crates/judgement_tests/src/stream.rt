@@ -4,8 +4,8 @@ use aud_node::{Stream, offset};
 use std::alloc::AllocError;
 use std::test::Fail;
 
-/// Of the last five but one none is sent again: it has an acknowledgement id; its packet is of another namespace; it has
-/// no offset; it has an attachment too few.
+/// Of the last five but one none is sent again: it has an acknowledgement id; its packet is of another namespace; it
+/// has no offset; it has an attachment too few.
 const ENTRIES: &str = r#"
 st {"k":"tap","v":1,"of":"stream"}
 st {"k":"ev","off":"1-0","nsp":"/","rooms":["r"],"text":"2[\"hi\",\"1-0\"]"}

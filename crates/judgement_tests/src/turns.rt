@@ -1,5 +1,5 @@
-//! A session that is opened on node `a` and recovered on node `b`, and joins and leaves rooms on both; and one whose node
-//! takes many entries by one record.
+//! A session that is opened on node `a` and recovered on node `b`, and joins and leaves rooms on both; and one whose
+//! node takes many entries by one record.
 ghost use Rattle.std.specs.Prelude.{IfSome};
 ghost use Rattle.std.specs.List.{All};
 ghost use Rattle.aud_rooms.specs.TurnPlaces.{IsInOrder};

@@ -1,5 +1,5 @@
-//! Verdicts on the sessions of small bundles: yes with its numbers, and of several faults the first. What never came is a
-//! fault of the whole.
+//! Verdicts on the sessions of small bundles: yes with its numbers, and of several faults the first. What never came is
+//! a fault of the whole.
 use crate::asked::{Asked, Case, assert_answers};
 use std::test::Fail;
 

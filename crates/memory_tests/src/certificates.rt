@@ -3,11 +3,10 @@ use crate::bundle::CERTIFICATE;
 use crate::counted::{begin, end};
 use crate::given::{Given, count};
 use anyhow::Result;
-use aud_cert_text::{CertFault, read_cert};
+use aud_cert::{CertFault, read_cert};
 use aud_check::{Refusal, check};
 use aud_client::Recording;
-use aud_maker::{MakeFault, make, sessions};
-use aud_many::make_all;
+use aud_maker::{MakeFault, make, make_all, sessions};
 use std::alloc::Global;
 use std::thread::Threads;
 

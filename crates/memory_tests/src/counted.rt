@@ -1,5 +1,5 @@
-//! Where the call that is tried begins and ends: `tests/refuse-memory.c` counts the allocations in between. It is told by
-//! allocations that no machine grants, so that without it they do nothing.
+//! Where the call that is tried begins and ends: `tests/refuse-memory.c` counts the allocations in between. It is told
+//! by allocations that no machine grants, so that without it they do nothing.
 use std::alloc::Global;
 
 const BEGIN: usize = 1 << 62;

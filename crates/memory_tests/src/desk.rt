@@ -71,7 +71,8 @@ fn at_desk<'a, L: Posts, R: Wait>(
     call: &AtDesk,
 ) -> Result<Given>
     requires name { blank.name ≡ L.name }
-    requires parts { (blank.parts ≡ L.parts) × (blank.parts ≡ length names.now) × (L.count ≡ length names.now) }
+    requires parts { (blank.parts ≡ L.parts) × (blank.parts ≡ length names.now)
+        × (L.count ≡ length names.now) }
 {
     if matches!(call, AtDesk::New) {
         begin(alloc);

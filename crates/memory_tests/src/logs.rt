@@ -3,10 +3,9 @@
 use crate::counted::{begin, end};
 use crate::given::{Given, count, memory_if};
 use anyhow::{Result, bail};
-use aud_merge::{State, Step, allowed, apply};
+use aud_merge::{Order, State, Step, allowed, apply, order};
 use aud_node::Logs;
 use aud_reader::ReadFault;
-use aud_run::{Order, order};
 use aud_tap::Taps;
 use aud_upgrade::upgrade;
 use aud_writer::write_bundle;

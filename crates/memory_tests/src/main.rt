@@ -1,8 +1,8 @@
-//! A program that makes each call of the library that asks for memory, and prints what it gives: a line a call, the call's
-//! name and its answer. Words of the command line choose calls by their names.
+//! A program that makes each call of the library that asks for memory, and prints what it gives: a line a call, the
+//! call's name and its answer. Words of the command line choose calls by their names.
 //!
-//! `tests/refuse-memory` runs it with each allocation of each call refused in turn. A line is then the call's memory fault
-//! or the same answer, and says where what the call leaves isn't as promised.
+//! `tests/refuse-memory` runs it with each allocation of each call refused in turn. A line is then the call's memory
+//! fault or the same answer, and says where what the call leaves isn't as promised.
 #![tactic(auto)]
 
 mod bundle;

@@ -5,7 +5,7 @@ use anyhow::{Context, Result};
 use aud_client::Recording;
 use aud_desk::{AuditFault, Entry, OpenGate, Tickets, audit_with, gather, work};
 use aud_maker::sessions;
-use aud_report::Verdict;
+use aud_verdict::Verdict;
 use std::alloc::Global;
 use std::sync::Wait;
 use std::thread::Threads;

@@ -1,12 +1,12 @@
 //! The arguments of the command line.
 use Shown::{Help, Why};
-use aud_app::{Mode, Options, options};
+use aud_app::{Mode, Options, files, options};
 use aud_schedule::plan_asked;
 use std::alloc::Global;
 use std::test::Fail;
 
 /// Arguments that are understood, and what they ask for.
-static ACCEPTED: [(&[&str], Mode, u8, bool); 19] = [
+static ACCEPTED: [(&[&str], Mode, u8, bool); 23] = [
     (&["audit"], Mode::Audit, 4, false),
     (&["audit", "--"], Mode::Audit, 4, false),
     (&["audit", "--workers", "64"], Mode::Audit, 64, false),
@@ -36,6 +36,15 @@ static ACCEPTED: [(&[&str], Mode, u8, bool); 19] = [
         2,
         true,
     ),
+    (
+        &["audit", "a.jsonl", "--whole", "-", "--quiet"],
+        Mode::Audit,
+        4,
+        true,
+    ),
+    (&["audit", "--", "--workers", "4"], Mode::Audit, 4, false),
+    (&["verify", "--quiet", "prove"], Mode::Verify, 4, false),
+    (&["order", "", "--", "--quiet"], Mode::Order, 4, false),
 ];
 
 #[test]
@@ -47,6 +56,38 @@ fn arguments_that_are_accepted(rt: HostRuntime) -> Result<(), Fail> {
             whole,
         };
         assert_eq!(rt; options(rt.alloc(), arguments)?, asked);
+    }
+    Ok(())
+}
+
+/// Arguments, the files that they name, and whether they ask for quiet.
+static NAMED: [(&[&str], &[&str], bool); 6] = [
+    (&["audit"], &[], false),
+    (&["audit", "-"], &["-"], false),
+    (
+        &["audit", "a", "--workers", "2", "b", "--quiet", "a"],
+        &["a", "b", "a"],
+        true,
+    ),
+    (
+        &["prove", "--", "--quiet", "--whole", "-"],
+        &["--quiet", "--whole", "-"],
+        false,
+    ),
+    (&["verify", "--quiet", "--"], &[], true),
+    (&["order", "", "prove"], &["", "prove"], false),
+];
+
+#[test]
+fn files_that_are_named(rt: HostRuntime) -> Result<(), Fail> {
+    for &(arguments, names, quiet) in &NAMED {
+        let found = files(rt.alloc(), arguments)?;
+        let texts = found.names.as_slice();
+        let same = texts
+            .iter()
+            .map(|text| text.as_str())
+            .eq(names.iter().copied());
+        assert!(rt; same && found.quiet == quiet, "{arguments:?}");
     }
     Ok(())
 }
@@ -89,11 +130,14 @@ pub fn is_refused(
 }
 
 /// Arguments that are refused, where the text goes, and a part of it.
-static REFUSED: [(&[&str], Shown, &str); 34] = [
+static REFUSED: [(&[&str], Shown, &str); 37] = [
     (&[], Why, "Usage"),
     (&["judge"], Why, "judge"),
     (&["--", "audit"], Why, "audit"),
-    (&["audit", "prove"], Why, "prove"),
+    (&["audit", "--json"], Why, "--json"),
+    (&["explain"], Why, "not understood"),
+    (&["audit", "--quiet", "--quiet"], Why, "--quiet"),
+    (&["prove", "--pid", "P"], Why, "--pid"),
     (&["prove", "--whole"], Why, "--whole"),
     (&["verify", "--whole"], Why, "--whole"),
     (&["order", "--whole"], Why, "--whole"),
@@ -106,7 +150,6 @@ static REFUSED: [(&[&str], Shown, &str); 34] = [
         Why,
         "--whole",
     ),
-    (&["audit", "--", "--whole"], Why, "--whole"),
     (&["audit", "--workers"], Why, "--workers"),
     (&["audit", "--workers", "0"], Why, "0"),
     (&["audit", "--workers", "65"], Why, "65"),
@@ -125,7 +168,6 @@ static REFUSED: [(&[&str], Shown, &str); 34] = [
         Why,
         "--workers",
     ),
-    (&["audit", "--", "--workers", "4"], Why, "--workers"),
     (&["--workers", "4", "audit"], Why, "--workers"),
     (&["--workers=4", "audit"], Why, "--workers"),
     (&["prove", "--workers", "4"], Why, "--workers"),
@@ -136,6 +178,8 @@ static REFUSED: [(&[&str], Shown, &str); 34] = [
     (&["audit", "--help"], Help, "--workers"),
     (&["prove", "--help"], Help, "certificate"),
     (&["verify", "--help"], Help, "bad <line>"),
+    (&["upgrade", "--help"], Help, "[FILES]"),
+    (&["order", "-V"], Help, "1.0.0"),
 ];
 
 #[test]

@@ -5,7 +5,7 @@ use crate::bundles::{
 };
 use crate::case::{AUDIT, Case, WHOLE_AUDIT};
 use crate::inputs::Input::Lines;
-use aud_app::Status::{AllYes, SomeNo};
+use aud_app::Status::{AllYes, NoSession, NoneRecoverable, SomeNo};
 
 /// An event with two attachments, between whose frame and attachments a ping stands.
 const ATTACHMENTS: &str = r#"st {"k":"tap","v":1,"of":"stream"}
@@ -24,7 +24,8 @@ c1 {"k":"inb","b":"AQI="}
 c1 {"k":"inb","b":"Aw=="}
 "#;
 
-/// A session in each of two namespaces, over one connection; a reply, an event and its attachment come in one polling body.
+/// A session in each of two namespaces, over one connection; a reply, an event and its attachment come in one polling
+/// body.
 const TWO_NAMESPACES: &str = r#"st {"k":"tap","v":1,"of":"stream"}
 st {"k":"ev","off":"1-0","nsp":"/","rooms":["s1"],"text":"51-[\"f\",{\"_placeholder\":true,\"num\":0},\"1-0\"]","bin":["AQI="]}
 st {"k":"ev","off":"2-0","nsp":"/n","rooms":[],"text":"2/n,[\"x\",\"2-0\"]"}
@@ -41,13 +42,25 @@ c1 {"k":"in","t":"40/n,{\"sid\":\"s2\",\"pid\":\"Q\"}"}
 c1 {"k":"in","t":"42/n,[\"x\",\"2-0\"]"}
 "#;
 
-pub static AUDITS: [Case; 27] = [
+pub static AUDITS: [Case; 28] = [
     Case {
         name: "empty_input",
         options: AUDIT,
         input: Lines("", ""),
         text: "sessions=0 yes=0 no=0\n",
-        status: AllYes,
+        status: NoSession,
+    },
+    Case {
+        name: "no_entry_is_recoverable",
+        options: AUDIT,
+        input: Lines(
+            BUNDLE_A,
+            r#"@1
+st {"k":"other","off":"1-0"}
+@3-10"#,
+        ),
+        text: "yes P got=0 tail=0 turns=1\nsessions=1 yes=1 no=0\n",
+        status: NoneRecoverable,
     },
     Case {
         name: "bundle_a",

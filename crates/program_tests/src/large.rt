@@ -3,7 +3,7 @@ use crate::bundles::{BUNDLE_A, TWO_SESSIONS};
 use crate::case::{AUDIT, Case, PROVE, VERIFY};
 use crate::inputs::Input::Parts;
 use crate::inputs::Part::{self, Between, Text, Times};
-use aud_app::Status::{AllYes, Refused, SomeNo};
+use aud_app::Status::{AllYes, NoSession, Refused, SomeNo};
 
 /// The header of a stream, of 34 bytes, and that of a later version.
 const STREAM_HEADER: &str = r#"st {"k":"tap","v":1,"of":"stream"}"#;
@@ -46,7 +46,7 @@ pub static LARGE: [Case; 8] = [
         options: AUDIT,
         input: Parts(&[Text(STREAM_HEADER), Times(" ", 4_194_304 - 34)]),
         text: "sessions=0 yes=0 no=0\n",
-        status: AllYes,
+        status: NoSession,
     },
     Case {
         name: "line_too_long",

@@ -1,5 +1,5 @@
-//! Tests of the program's parts as the program calls them: runs over memory and over readers and writers that fail, the arguments of
-//! the command line, and the audits of simulated clusters.
+//! Tests of the program's parts as the program calls them: runs over memory and over readers and writers that fail, the
+//! arguments of the command line, and the audits of simulated clusters.
 #![tactic(auto)]
 
 #[cfg(test)]

@@ -69,8 +69,8 @@ n1 {"k":"break","pid":"p1","turn":0}
 c1 {"k":"lost"}
 "#;
 
-/// A session without a reply, recovered with an offset that no entry has; one whose reply has another sid; and a frame with
-/// `x` in place of its digit, after which the offset of the one before is still the last that was received.
+/// A session without a reply, recovered with an offset that no entry has; one whose reply has another sid; and a frame
+/// with `x` in place of its digit, after which the offset of the one before is still the last that was received.
 const REPLIES: &str = r#"st {"k":"tap","of":"stream","v":1}
 n1 {"k":"tap","of":"node","v":1}
 c1 {"k":"tap","of":"client","v":1}

@@ -1,7 +1,7 @@
 //! The bundles of plans: what an audit answers on them, and that a plan has one.
 use crate::case::{AUDIT, run_over};
 use aud_app::Options;
-use aud_app::Status::{self, AllYes, SomeNo};
+use aud_app::Status::{self, AllYes, NoSession, SomeNo};
 use aud_schedule::{Fault, Plan, simulated};
 use std::alloc::Global;
 use std::hash::RandomState;
@@ -11,7 +11,8 @@ use std::test::Fail;
 /// Nodes, clients and acts; (3, 2, 32) is that of the bundles in `examples/`.
 type Size = (u8, u16, u32);
 
-const SIZES: &[Size] = &[(1, 1, 0), (2, 1, 32), (1, 4, 120), (3, 2, 32), (3, 6, 200)];
+/// A cluster in which nothing happens.
+const NOTHING: &[Size] = &[(1, 1, 0)];
 
 /// Those that have room for a fault, and those that have room for one that takes two nodes.
 const WITH_ROOM: &[Size] = &[(2, 1, 32), (1, 4, 120), (3, 2, 32), (3, 6, 200)];
@@ -19,8 +20,9 @@ const WITH_ROOM: &[Size] = &[(2, 1, 32), (1, 4, 120), (3, 2, 32), (3, 6, 200)];
 const OF_MORE_NODES: &[Size] = &[(2, 1, 32), (3, 2, 32), (3, 6, 200)];
 
 /// A fault, sizes, how many seeds, and how an audit ends and what its report has in it.
-static OUTCOMES: [(Option<Fault>, &[Size], u64, Status, &str); 14] = [
-    (None, SIZES, 5, AllYes, " no=0\n"),
+static OUTCOMES: [(Option<Fault>, &[Size], u64, Status, &str); 15] = [
+    (None, NOTHING, 1, NoSession, "sessions=0 "),
+    (None, WITH_ROOM, 5, AllYes, " no=0\n"),
     (Some(Fault::Drop), WITH_ROOM, 2, SomeNo, " LOST "),
     (Some(Fault::Double), WITH_ROOM, 2, SomeNo, " DOUBLED "),
     (Some(Fault::Hold), WITH_ROOM, 2, SomeNo, " SWAPPED "),

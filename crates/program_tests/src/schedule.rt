@@ -2,13 +2,16 @@
 //!
 //! | act | text |
 //! |---|---|
-//! | an event of a word; for rooms; without others; with attachments of one byte | `e:hi`, `e:hi:r,q`, `e:hi:r:s1`, `e:hi:::2` |
+//! | an event of a word; for rooms; without others; with attachments of one byte | `e:hi`, `e:hi:r,q`, `e:hi:r:s1`,
+//! `e:hi:::2` |
 //! | an event that isn't in the stream, to client 1 | `v1:hi` |
 //! | node 1 takes an entry | `t1` |
 //! | client 1 opens a session on node 2; without a reply; with another sid in it | `c1@2`, `u1@2`, `m1@2` |
-//! | client 1 is cut; is recovered on node 1; on a node that isn't so far; with an offset that no entry has; ends | `x1`, `r1@1`, `g1@1`, `o1@1`, `f1` |
+//! | client 1 is cut; is recovered on node 1; on a node that isn't so far; with an offset that no entry has; ends |
+//! `x1`, `r1@1`, `g1@1`, `o1@1`, `f1` |
 //! | client 1 joins and leaves a room | `j1:r`, `l1:r` |
-//! | a fault for client 1: its next frame dropped, doubled, held, altered, garbled | `drop1`, `double1`, `hold1`, `alter1`, `garble1` |
+//! | a fault for client 1: its next frame dropped, doubled, held, altered, garbled | `drop1`, `double1`, `hold1`,
+//! `alter1`, `garble1` |
 //! | a fault of the nodes' logs: the next line lost, repeated | `lose`, `repeat` |
 use aud_sim::Act;
 use aud_tap::{Blobs, Bytes, Text, Texts};

@@ -115,7 +115,7 @@ fn names_of_faults(rt: HostRuntime) -> Result<(), Fail> {
 }
 
 /// Arguments that are refused, where the text goes, and a part of it.
-static REFUSED: [(&[&str], Shown, &str); 18] = [
+static REFUSED: [(&[&str], Shown, &str); 19] = [
     (&["simulate", "--nodes", "0"], Why, "0"),
     (&["simulate", "--nodes", "65"], Why, "65"),
     (&["simulate", "--nodes"], Why, "--nodes"),
@@ -146,6 +146,7 @@ static REFUSED: [(&[&str], Shown, &str); 18] = [
     (&["simulate", "--help"], Help, "--fault"),
     (&["simulate", "--help"], Help, "standard output"),
     (&["simulate", "--help"], Help, "lag"),
+    (&["simulate", "-V"], Help, "1.0.0"),
 ];
 
 #[test]

@@ -2,122 +2,64 @@
 ghost use Rattle.std.specs.Prelude.{◌<◌, IfOk, OnOk, length};
 
 use crate::progress::Progress;
-use crate::{fail, fail_for, refuse, status_code, stdin};
+use crate::source::{Source, first_and_others, unread};
+use crate::{fail, fail_for, refuse, status_code};
 use aud_app::{RunFault, Watched};
+use aud_cli::{ExplainOptions, explain_asked};
 use aud_explain_app::{ExplainFault, Unexplained, explain};
-use aud_explain_words::{ExplainOptions, explain_asked};
 use std::alloc::{AllocError, Global};
-use std::fs::{self, File};
 use std::hash::RandomState;
-use std::io::{self, IsTerminal, Read, Stderr, Stdin};
+use std::io::{IsTerminal, Stderr};
 use std::process::ExitCode;
 use std::sync::Wait;
 use std::thread::Threads;
 use std::time::Clock;
 
-/// Whether the words ask for explanations.
+/// Whether the arguments ask for explanations.
 pub fn is_explain(words: &[&str]) -> bool {
     words.first().is_some_and(|word| *word == "explain")
 }
 
-/// What a file of the bundle is read from.
-#[derive(Drop)]
-enum Source {
-    Stdin(Stdin),
-    File(File),
-}
+type Watch<'a> = Watched<Progress<Stderr, Source<'a>>>;
 
-impl Read for Source {
-    ghost use Rattle.std.specs.Io.{ReadsAtMost};
-
-    fn read(&mut self, buf: &mut [u8]) -> io::Result<usize>
-        ensures { ReadsAtMost result buf.new }
-    {
-        match self {
-            Source::Stdin(input) => input.read(buf),
-            Source::File(input) => input.read(buf),
-        }
-    }
-}
-
-type Watch = Watched<Progress<Stderr, Source>>;
-
-/// Says which file could not be read, with the system's reason where there is one.
-fn unread(rt: &impl Eprint, name: &str, os_error: Option<i32>) -> ExitCode {
-    let fault = RunFault::Read;
-    let _ = match os_error {
-        Some(number) => {
-            let reason = io::Error::from_raw_os_error(number);
-            eprintln!(rt; "sioaudit: {fault}: {name}: {reason}")
-        }
-        None => eprintln!(rt; "sioaudit: {fault}: {name}"),
-    };
-    ExitCode::from(3)
-}
-
-/// Opens the file of this name, `-` for standard input.
-fn open(rt: &HostRuntime, name: &str, quiet: bool) -> io::Result<Source> {
-    if name == "-" {
-        return Ok(Source::Stdin(stdin(rt, quiet)));
-    }
-    Ok(Source::File(fs::open(rt, name)?))
-}
-
-/// Opens the files that the words name, standard input where they name none.
-fn opened(rt: &HostRuntime, alloc: Global, options: &ExplainOptions) -> Result<Vec<Watch>, ExitCode>
+/// The files that the arguments name, standard input where they name none. None is opened yet.
+fn files_of<'a>(
+    host: &'a HostRuntime,
+    alloc: Global,
+    options: &'a ExplainOptions,
+) -> Result<Vec<Watch<'a>>, AllocError>
     ensures { IfOk result (λ files. 0 < length files.items) }
 {
+    let (first, others) = first_and_others(options.files.as_slice());
     let mut files = Vec::new(alloc);
-    match options.files.as_slice().split_first() {
-        Some((first, others)) => {
-            push_named(rt, &mut files, first.as_str(), options.quiet)?;
-            for name in others {
-                push_named(rt, &mut files, name.as_str(), options.quiet)?;
-            }
-        }
-        None => push_named(rt, &mut files, "-", options.quiet)?,
+    push_file(host, &mut files, first, options.quiet)?;
+    for name in others {
+        push_file(host, &mut files, name.as_str(), options.quiet)?;
     }
     Ok(files)
 }
 
-/// Opens the file of this name as the next.
-fn push_named(
-    rt: &HostRuntime,
-    files: &mut Vec<Watch>,
-    name: &str,
+/// Puts the file of this name as the next.
+fn push_file<'a>(
+    host: &'a HostRuntime,
+    files: &mut Vec<Watch<'a>>,
+    name: &'a str,
     quiet: bool,
-) -> Result<(), ExitCode>
+) -> Result<(), AllocError>
     ensures { OnOk result (0 < length files.new.items) }
 {
-    match open(rt, name, quiet) {
-        Ok(source) => push_source(rt, files, source, quiet),
-        Err(error) => Err(unread(rt, name, error.raw_os_error())),
-    }
-}
-
-/// Puts what is read from this source as the next.
-fn push_source(
-    rt: &HostRuntime,
-    files: &mut Vec<Watch>,
-    source: Source,
-    quiet: bool,
-) -> Result<(), ExitCode>
-    ensures { OnOk result (0 < length files.new.items) }
-{
-    let notes = rt.stderr();
+    let notes = host.stderr();
     let is_shown = !quiet && notes.is_terminal();
-    let watched = Watched::new(Progress::new(source, notes, is_shown));
-    match files.push(watched) {
-        Ok(()) => Ok(()),
-        Err(_) => Err(fail(rt, RunFault::Memory)),
-    }
+    let source = Source::new(host, name, quiet);
+    files.push(Watched::new(Progress::new(source, notes, is_shown)))?;
+    Ok(())
 }
 
 /// Says why nothing was explained, or not all was written.
 fn failed(
     rt: &impl Eprint,
     options: &ExplainOptions,
-    files: &[Watch],
+    files: &[Watch<'_>],
     output_error: Option<i32>,
     fault: ExplainFault,
 ) -> ExitCode {
@@ -131,7 +73,7 @@ fn failed(
 fn unexplained(
     rt: &impl Eprint,
     options: &ExplainOptions,
-    files: &[Watch],
+    files: &[Watch<'_>],
     why: Unexplained,
 ) -> ExitCode {
     match why {
@@ -142,18 +84,24 @@ fn unexplained(
     }
 }
 
-fn unread_at(rt: &impl Eprint, options: &ExplainOptions, files: &[Watch], file: usize) -> ExitCode {
+fn unread_at(
+    rt: &impl Eprint,
+    options: &ExplainOptions,
+    files: &[Watch<'_>],
+    file: usize,
+) -> ExitCode {
     let os_error = match files.get(file) {
         Some(watched) => watched.os_error(),
         None => None,
     };
-    match options.files.as_slice().get(file) {
-        Some(name) => unread(rt, name.as_str(), os_error),
-        None => fail_for(rt, RunFault::Read, os_error),
-    }
+    let name = match options.files.as_slice().get(file) {
+        Some(name) => name.as_str(),
+        None => "-",
+    };
+    unread(rt, name, os_error)
 }
 
-/// Says that nothing names a session of the words.
+/// Says that nothing names a session of the arguments.
 fn no_session(rt: &impl Eprint, options: &ExplainOptions, number: usize) -> ExitCode {
     let pid = match options.pids.as_slice().get(number) {
         Some(pid) => pid.as_str(),
@@ -163,7 +111,7 @@ fn no_session(rt: &impl Eprint, options: &ExplainOptions, number: usize) -> Exit
     ExitCode::from(4)
 }
 
-/// Explains what the words ask for, on the threads of `rt`.
+/// Explains what the arguments ask for, on the threads of `rt`.
 pub fn explanation<H: Threads + Wait + Clock + Sync>(
     rt: &H,
     host: &HostRuntime,
@@ -177,9 +125,8 @@ pub fn explanation<H: Threads + Wait + Clock + Sync>(
     let Ok(keys) = RandomState::new(host) else {
         return fail(host, RunFault::Read);
     };
-    let mut files = match opened(host, alloc, &options) {
-        Ok(files) => files,
-        Err(code) => return code,
+    let Ok(mut files) = files_of(host, alloc, &options) else {
+        return fail(host, RunFault::Memory);
     };
     let mut output = Watched::new(host.stdout());
     match explain(rt, alloc, keys, &mut files, &mut output, &options) {

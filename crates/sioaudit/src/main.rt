@@ -1,16 +1,17 @@
-//! `sioaudit`: reads a bundle from standard input and writes the report on it, explains one, or writes a simulated one.
+//! `sioaudit`: reads a bundle and writes the report on it, explains one, or writes a simulated one.
 #![tactic(auto)]
 
 mod explain;
 mod progress;
+mod report;
 mod simulate;
+mod source;
 
 use crate::explain::{explanation, is_explain};
-use crate::progress::Progress;
+use crate::report::write_report;
 use crate::simulate::{is_simulation, simulation};
-use aud_app::{RunFault, Status, Watched, options, run};
+use aud_app::{RunFault, Status};
 use clap::error::ErrorKind;
-use std::hash::RandomState;
 use std::io::{IsTerminal, Stdin};
 use std::process::ExitCode;
 use std::{env, io};
@@ -27,7 +28,7 @@ fn stdin(rt: &HostRuntime, quiet: bool) -> Stdin {
 /// The exit status of a run that wrote its output.
 fn status_code(status: Status) -> ExitCode {
     match status {
-        Status::AllYes => ExitCode::SUCCESS,
+        Status::AllYes | Status::NoSession | Status::NoneRecoverable => ExitCode::SUCCESS,
         Status::SomeNo => ExitCode::from(1),
         Status::Refused => ExitCode::from(2),
     }
@@ -39,8 +40,8 @@ fn fail(rt: &impl Eprint, fault: RunFault) -> ExitCode {
     ExitCode::from(3)
 }
 
-/// Says why there is no report, after a read or a write that failed, with the system's reason where there is one. Nothing is
-/// said where whoever read the output has closed it.
+/// Says why there is no report, after a read or a write that failed, with the system's reason where there is one.
+/// Nothing is said where whoever read the output has closed it.
 fn fail_for(rt: &impl Eprint, fault: RunFault, os_error: Option<i32>) -> ExitCode {
     let Some(number) = os_error else {
         return fail(rt, fault);
@@ -52,7 +53,7 @@ fn fail_for(rt: &impl Eprint, fault: RunFault, os_error: Option<i32>) -> ExitCod
     ExitCode::from(3)
 }
 
-/// Prints the help that was asked for, or why the words are refused.
+/// Prints the help that was asked for, or why the arguments are refused.
 fn refuse(rt: &(impl Print + Eprint), error: &clap::Error) -> ExitCode {
     if error.kind() == ErrorKind::OutOfMemory {
         return fail(rt, RunFault::Memory);
@@ -64,7 +65,7 @@ fn refuse(rt: &(impl Print + Eprint), error: &clap::Error) -> ExitCode {
     }
 }
 
-/// Says why the words could not be read.
+/// Says why the arguments could not be read.
 fn unreadable(rt: &impl Eprint, error: &io::Error) -> ExitCode {
     if error.kind() == io::ErrorKind::OutOfMemory {
         return fail(rt, RunFault::Memory);
@@ -91,21 +92,5 @@ fn main(rt: HostRuntime) -> ExitCode {
     if is_explain(&words) {
         return explanation(&rt, &rt, alloc, &words);
     }
-    let chosen = match options(alloc, &words) {
-        Ok(chosen) => chosen,
-        Err(error) => return refuse(&rt, &error),
-    };
-    let Ok(keys) = RandomState::new(&rt) else {
-        return fail(&rt, RunFault::Read);
-    };
-    let notes = rt.stderr();
-    let is_shown = notes.is_terminal();
-    let mut input = Watched::new(Progress::new(stdin(&rt, false), notes, is_shown));
-    let mut output = Watched::new(rt.stdout());
-    match run(&rt, alloc, keys, &mut input, &mut output, chosen) {
-        Ok(status) => status_code(status),
-        Err(RunFault::Read) => fail_for(&rt, RunFault::Read, input.os_error()),
-        Err(RunFault::Write) => fail_for(&rt, RunFault::Write, output.os_error()),
-        Err(fault) => fail(&rt, fault),
-    }
+    write_report(&rt, &rt, alloc, &words)
 }

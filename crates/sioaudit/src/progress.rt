@@ -44,6 +44,14 @@ impl<N: Write, R: Read> Progress<N, R> {
     }
 }
 
+impl<N: Drop, R> Progress<N, R> {
+    /// The reader itself.
+    pub fn into_inner(self) -> R {
+        let Progress { inner, .. } = self;
+        inner
+    }
+}
+
 impl<N: Write, R: Read> Read for Progress<N, R> {
     ghost use Rattle.std.specs.Io.{ReadsAtMost};
 

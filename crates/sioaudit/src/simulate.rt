@@ -1,14 +1,14 @@
 //! The command `simulate`.
 use crate::{fail, fail_for, refuse};
 use aud_app::{RunFault, Watched};
+use aud_base::write_out;
 use aud_schedule::{plan_asked, simulated};
 use aud_sim::SimFault;
-use aud_streams::write_out;
 use std::alloc::Global;
 use std::io::Write;
 use std::process::ExitCode;
 
-/// Whether the words ask for a simulation.
+/// Whether the arguments ask for a simulation.
 pub fn is_simulation(words: &[&str]) -> bool {
     words.first().is_some_and(|word| *word == "simulate")
 }
@@ -24,7 +24,7 @@ fn unsimulated(rt: &impl Eprint, fault: SimFault) -> ExitCode {
     }
 }
 
-/// Writes the bundle that the words ask for.
+/// Writes the bundle that the arguments ask for.
 pub fn simulation<W: Write + Drop>(
     rt: &(impl Print + Eprint),
     alloc: Global,

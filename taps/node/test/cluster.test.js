@@ -171,7 +171,11 @@ test("the first entry that there ever was, and none at all", { skip: noProgram }
   const other = await quiet.client("a");
   await quiet.stop();
   assert.deepEqual(quiet.tap("a").map(({ k }) => k), ["tap", "start", "open", "break"]);
-  assert.deepEqual(audit(quiet.dir), [`yes ${other.socket.pid} got=0 tail=0 turns=1`, "sessions=1 yes=1 no=0"]);
+  assert.deepEqual(audit(quiet.dir), [
+    `yes ${other.socket.pid} got=0 tail=0 turns=1`,
+    "sessions=1 yes=1 no=0",
+    "sioaudit: a yes says nothing here: no entry of the stream is recoverable",
+  ]);
   assert.ok(off);
 });
 

@@ -1,5 +1,5 @@
 -- What the code keeps of the stays while it goes through the packets.
-use Rattle.std.specs.Prelude.{◌≡◌, ℕ, ◌+◌, ◌&&◌, List, [], ◌++◌, map, length, Option, Some, None, if◌then◌else◌, slice_get, is_some}
+use Rattle.std.specs.Prelude.{◌≡◌, ℕ, ◌+◌, ◌&&◌, List, [], ◌∷◌, ◌++◌, map, length, Option, Some, None, if◌then◌else◌, slice_get, is_some}
 use Rattle.std.specs.List.{cons_option}
 use Rattle.std.specs.Option.{option_map, option_and_then, option_or}
 use Rattle.std.specs.Ordering.{nat_cmp}
@@ -9,16 +9,14 @@ use Rattle.std.specs.BTreeMap as tree
 use Rattle.aud_tap.specs.declared.records.StreamRec.{StreamRec}
 use Rattle.aud_node.specs.Stream.{Text}
 use Rattle.aud_client.specs.TapPackets.{TapPacket}
-use Rattle.aud_client.specs.Seen.{packet_seen}
-use Rattle.aud_client.specs.declared.connection.Placed.{Placed}
+use Rattle.aud_client.specs.declared.part.Part.{Part}
+use Rattle.aud_client.specs.declared.part.Part.TheVariants.{Ask, Reply, Frame, Other}
 use Rattle.aud_client.specs.declared.stays.Stays.{Stays}
 use Rattle.aud_client.specs.Stays.{namespace, is_connect, is_disconnect, stays}
-use Rattle.aud_client.specs.Private.Open.{open_place}
+use Rattle.aud_client.specs.Open.{open_place}
 use Rattle.aud_client.specs.StaySeen.{StaySeen, stay_of, reply_at, ask_of, frame_of}
-
--- what contracts see of a connection's packets
-abbrev pub packets_seen : List Placed → List TapPacket
-packets_seen placed = map (λ (p : Placed). packet_seen p.packet) placed
+use Rattle.aud_client.specs.PlacedStays.{PlacedPacket, forgotten, placed_stays}
+use Rattle.aud_client.specs.StayPlaces.{PlacesSeen, record_of, places_of}
 
 -- what is known of a stay without packets
 abbrev pub empty_stay : ℕ → Text → StaySeen
@@ -34,6 +32,36 @@ grown stream t p =
       asked = option_or (ask_of p) t.asked;
       frames = t.frames ++ cons_option (frame_of stream p) [];
     }
+
+-- what a packet is to its stay
+abbrev pub part_of : List StreamRec → TapPacket → Part
+part_of stream p =
+    if is_some (reply_at p) then Reply else if is_some (ask_of p) then Ask else if is_some (frame_of stream p) then Frame else Other
+
+-- the records of a stay without packets
+abbrev pub no_places : PlacesSeen
+no_places = record { last = 0; ask = None; reply = None; frames = [] }
+
+-- the ask that counts, after one packet more: none after the reply
+abbrev pub ask_after : PlacesSeen → PlacedPacket → Option ℕ
+ask_after t q = if is_some t.reply then t.ask else option_or (record_of ask_of q) t.ask
+
+-- the records of a stay, with one packet more
+abbrev pub grown_places : List StreamRec → PlacesSeen → PlacedPacket → PlacesSeen
+grown_places stream t q =
+    record {
+      last = q.0;
+      ask = ask_after t q;
+      reply = option_or t.reply (record_of reply_at q);
+      frames = t.frames ++ cons_option (record_of (frame_of stream) q) [];
+    }
+
+-- the same, by what the packet at the record is to the stay
+abbrev pub with_part : PlacesSeen → ℕ → Part → PlacesSeen
+with_part t number Ask = record t { last = number; ask = if is_some t.reply then t.ask else Some number }
+with_part t number Reply = record t { last = number; reply = option_or t.reply (Some number) }
+with_part t number Frame = record t { last = number; frames = t.frames ++ number ∷ [] }
+with_part t number Other = record t { last = number }
 
 -- the place that is kept for the namespace
 abbrev pub open_at : Stays → Text → Option ℕ
@@ -60,3 +88,9 @@ GoesOn p old new = (n : Text)
 pub record KeepsStays (stream : List StreamRec) (c : ℕ) (st : Stays) (done : List StaySeen) (packets : List TapPacket) : Type 0 where
   pub stays_are : st.stays.items ≡ done ++ map (stay_of stream c) (stays packets)
   pub open_are : (n : Text) → open_at st n ≡ option_map (λ k. length done + k) (open_place n packets)
+
+-- the same, and their records, of packets at theirs
+pub record Keeps (stream : List StreamRec) (c : ℕ) (st : Stays) (done : List StaySeen) (told : List PlacesSeen) (packets : List PlacedPacket) : Type 0 where
+  pub keeps_stays : KeepsStays stream c st done (forgotten packets)
+  pub places_are : st.places.items ≡ told ++ map (places_of stream) (placed_stays packets)
+  pub as_many : length told ≡ length done

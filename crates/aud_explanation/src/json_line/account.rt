@@ -6,7 +6,7 @@ ghost use Rattle.aud_explanation.specs.JsonAccount.{with_names, with_client, wit
 use crate::client::{Account, Client};
 use crate::json_line::value::number_or_null;
 use crate::tail::shown_tail;
-use aud_report::Verdict;
+use aud_verdict::Verdict;
 use serde_json::{Map, Value, put};
 use std::alloc::{AllocError, Global};
 
@@ -16,7 +16,8 @@ fn put_names(
     members: &mut Map<String, Value>,
     client: &Client<'_>,
 ) -> Result<(), AllocError>
-    ensures { OnOk result (members_view members.new.entries ≡ with_names client.now (members_view members.old.entries)) }
+    ensures { OnOk result (members_view members.new.entries
+        ≡ with_names client.now (members_view members.old.entries)) }
 {
     put(
         members,
@@ -40,7 +41,8 @@ pub(crate) fn put_client(
     members: &mut Map<String, Value>,
     client: Option<Client<'_>>,
 ) -> Result<(), AllocError>
-    ensures { OnOk result (members_view members.new.entries ≡ with_client client.entry (members_view members.old.entries)) }
+    ensures { OnOk result (members_view members.new.entries
+        ≡ with_client client.entry (members_view members.old.entries)) }
 {
     match client {
         Some(client) => put_names(alloc, members, &client),
@@ -59,7 +61,8 @@ fn put_counts(
     verdict: &Verdict,
     account: &Account,
 ) -> Result<(), AllocError>
-    ensures { OnOk result (members_view members.new.entries ≡ with_counts verdict.now account.now (members_view members.old.entries)) }
+    ensures { OnOk result (members_view members.new.entries
+        ≡ with_counts verdict.now account.now (members_view members.old.entries)) }
 {
     put(members, alloc, "got", Value::from(account.got))?;
     put(members, alloc, "due", Value::from(account.due))?;
@@ -76,7 +79,8 @@ pub(crate) fn put_account(
     verdict: &Verdict,
     account: Option<Account>,
 ) -> Result<(), AllocError>
-    ensures { OnOk result (members_view members.new.entries ≡ with_account verdict.now account (members_view members.old.entries)) }
+    ensures { OnOk result (members_view members.new.entries
+        ≡ with_account verdict.now account (members_view members.old.entries)) }
 {
     match account {
         Some(account) => put_counts(alloc, members, verdict, &account),

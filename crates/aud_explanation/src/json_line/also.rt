@@ -1,7 +1,7 @@
 //! The member of the other entries with the same fault.
 ghost use Rattle.std.specs.Prelude.{◌≡◌, IfOk, OnOk};
 ghost use Rattle.serde_json.specs.View.{view, items_view, members_view};
-ghost use Rattle.aud_cert_text.specs.Text.{items};
+ghost use Rattle.aud_cert.specs.Text.{items};
 ghost use Rattle.aud_explanation.specs.JsonAlso.{also_data, with_also};
 
 use crate::also::Also;
@@ -34,7 +34,8 @@ pub(crate) fn put_also(
     members: &mut Map<String, Value>,
     others: &[Also<'_>],
 ) -> Result<(), AllocError>
-    ensures { OnOk result (members_view members.new.entries ≡ with_also others.now (members_view members.old.entries)) }
+    ensures { OnOk result (members_view members.new.entries
+        ≡ with_also others.now (members_view members.old.entries)) }
 {
     let values = also_values(alloc, others)?;
     put(members, alloc, "also", Value::Array(values))

@@ -1,7 +1,7 @@
 //! The member of the causes.
 ghost use Rattle.std.specs.Prelude.{◌≡◌, IfOk, OnOk};
 ghost use Rattle.serde_json.specs.View.{view, items_view, members_view};
-ghost use Rattle.aud_cert_text.specs.Text.{items};
+ghost use Rattle.aud_cert.specs.Text.{items};
 ghost use Rattle.aud_explanation.specs.JsonCause.{cause_data, with_causes};
 
 use crate::cause::Cause;
@@ -34,7 +34,8 @@ pub(crate) fn put_causes(
     members: &mut Map<String, Value>,
     causes: &[Cause<'_>],
 ) -> Result<(), AllocError>
-    ensures { OnOk result (members_view members.new.entries ≡ with_causes causes.now (members_view members.old.entries)) }
+    ensures { OnOk result (members_view members.new.entries
+        ≡ with_causes causes.now (members_view members.old.entries)) }
 {
     let values = cause_values(alloc, causes)?;
     put(members, alloc, "causes", Value::Array(values))

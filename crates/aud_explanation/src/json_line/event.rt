@@ -1,7 +1,7 @@
 //! The member of what happened to the client.
 ghost use Rattle.std.specs.Prelude.{◌≡◌, IfOk, OnOk};
 ghost use Rattle.serde_json.specs.View.{view, items_view, members_view};
-ghost use Rattle.aud_cert_text.specs.Text.{items};
+ghost use Rattle.aud_cert.specs.Text.{items};
 ghost use Rattle.aud_explanation.specs.JsonEvent.{happens_word, after_data, from_data, to_data, event_data, with_events};
 
 use crate::event::{ClientEvent, Happens};
@@ -76,7 +76,8 @@ pub(crate) fn put_events(
     members: &mut Map<String, Value>,
     events: &[ClientEvent],
 ) -> Result<(), AllocError>
-    ensures { OnOk result (members_view members.new.entries ≡ with_events events.now (members_view members.old.entries)) }
+    ensures { OnOk result (members_view members.new.entries
+        ≡ with_events events.now (members_view members.old.entries)) }
 {
     let values = event_values(alloc, events)?;
     put(members, alloc, "events", Value::Array(values))

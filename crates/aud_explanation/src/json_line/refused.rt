@@ -2,7 +2,7 @@
 ghost use Rattle.std.specs.Prelude.{◌≡◌, IfOk, OnOk};
 ghost use Rattle.std.specs.Option.{option_copied};
 ghost use Rattle.serde_json.specs.View.{view, items_view, members_view};
-ghost use Rattle.aud_cert_text.specs.Text.{items};
+ghost use Rattle.aud_cert.specs.Text.{items};
 ghost use Rattle.aud_explanation.specs.JsonValue.{text_or_null};
 ghost use Rattle.aud_explanation.specs.JsonRefused.{missed_data, all_missed_data, reply_data, refused_data, with_refused};
 
@@ -81,7 +81,8 @@ pub(crate) fn put_refused(
     members: &mut Map<String, Value>,
     recoveries: &[RefusedRecovery<'_, '_>],
 ) -> Result<(), AllocError>
-    ensures { OnOk result (members_view members.new.entries ≡ with_refused recoveries.now (members_view members.old.entries)) }
+    ensures { OnOk result (members_view members.new.entries
+        ≡ with_refused recoveries.now (members_view members.old.entries)) }
 {
     let values = refused_values(alloc, recoveries)?;
     put(members, alloc, "refused", Value::Array(values))

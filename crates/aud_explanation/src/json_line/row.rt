@@ -1,7 +1,7 @@
 //! The member of the evidence.
 ghost use Rattle.std.specs.Prelude.{◌≡◌, IfOk, OnOk, string_bytes};
 ghost use Rattle.serde_json.specs.View.{view, items_view, members_view};
-ghost use Rattle.aud_cert_text.specs.Text.{items};
+ghost use Rattle.aud_cert.specs.Text.{items};
 ghost use Rattle.aud_explanation.specs.Record.{record_text};
 ghost use Rattle.aud_explanation.specs.JsonRow.{role_word, row_data, with_evidence};
 
@@ -63,7 +63,8 @@ pub(crate) fn put_evidence(
     members: &mut Map<String, Value>,
     rows: &[Row<'_>],
 ) -> Result<(), AllocError>
-    ensures { OnOk result (members_view members.new.entries ≡ with_evidence rows.now (members_view members.old.entries)) }
+    ensures { OnOk result (members_view members.new.entries
+        ≡ with_evidence rows.now (members_view members.old.entries)) }
 {
     let values = row_values(alloc, rows)?;
     put(members, alloc, "evidence", Value::Array(values))

@@ -2,7 +2,7 @@
 ghost use Rattle.std.specs.Prelude.{◌≡◌, IfOk, OnOk};
 ghost use Rattle.serde_json.specs.Data.{no_members};
 ghost use Rattle.serde_json.specs.View.{view, items_view, members_view};
-ghost use Rattle.aud_cert_text.specs.Text.{items};
+ghost use Rattle.aud_cert.specs.Text.{items};
 ghost use Rattle.aud_explanation.specs.JsonTurn.{begin_word, end_word, high_at, lines_data, took_data, turn_data, turn_ends, with_turns};
 
 use crate::json_line::value::{number_or_null, numbers};
@@ -136,7 +136,8 @@ pub(crate) fn put_turns(
     members: &mut Map<String, Value>,
     turns: &[TurnShown<'_>],
 ) -> Result<(), AllocError>
-    ensures { OnOk result (members_view members.new.entries ≡ with_turns turns.now (members_view members.old.entries)) }
+    ensures { OnOk result (members_view members.new.entries
+        ≡ with_turns turns.now (members_view members.old.entries)) }
 {
     let values = turn_values(alloc, turns)?;
     put(members, alloc, "turns", Value::Array(values))

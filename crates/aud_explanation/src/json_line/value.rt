@@ -2,7 +2,7 @@
 ghost use Rattle.std.specs.Prelude.{◌≡◌, IfOk};
 ghost use Rattle.std.specs.Option.{option_copied};
 ghost use Rattle.serde_json.specs.View.{view, items_view};
-ghost use Rattle.aud_cert_text.specs.Text.{items, whole};
+ghost use Rattle.aud_cert.specs.Text.{items, whole};
 ghost use Rattle.aud_explanation.specs.JsonValue.{text_or_null, number_or_null};
 
 use serde_json::Value;

@@ -5,8 +5,8 @@ ghost use Rattle.aud_explanation.specs.JsonVerdict.{verdict_word, fault_data, of
 
 use crate::fault::fault_off;
 use crate::json_line::value::text_or_null;
-use aud_evidence::{Class, fault_word};
-use aud_report::Verdict;
+use aud_cert::{Class, fault_word};
+use aud_verdict::Verdict;
 use serde_json::{Map, Value, put};
 use std::alloc::{AllocError, Global};
 
@@ -54,7 +54,8 @@ fn put_fault(
     verdict: &Verdict,
     class: Option<Class>,
 ) -> Result<(), AllocError>
-    ensures { OnOk result (members_view members.new.entries ≡ with_fault verdict.now class (members_view members.old.entries)) }
+    ensures { OnOk result (members_view members.new.entries
+        ≡ with_fault verdict.now class (members_view members.old.entries)) }
 {
     put(members, alloc, "fault", fault_value(alloc, verdict)?)?;
     put(members, alloc, "off", off_value(alloc, verdict)?)?;
@@ -70,7 +71,8 @@ pub(crate) fn put_verdict(
     verdict: &Verdict,
     class: Option<Class>,
 ) -> Result<(), AllocError>
-    ensures { OnOk result (members_view members.new.entries ≡ with_verdict pid.now verdict.now class (members_view members.old.entries)) }
+    ensures { OnOk result (members_view members.new.entries
+        ≡ with_verdict pid.now verdict.now class (members_view members.old.entries)) }
 {
     put(members, alloc, "v", Value::from(1u64))?;
     put(members, alloc, "pid", Value::try_from_str(alloc, pid)?)?;

@@ -5,7 +5,7 @@ ghost use Rattle.aud_explanation.specs.Client.{conn_words, names_words, client_w
 use crate::client::{Account, Client};
 use crate::tail::shown_tail;
 use crate::text::page::push_line;
-use aud_report::Verdict;
+use aud_verdict::Verdict;
 use std::alloc::{AllocError, Global};
 
 /// Puts the connection at the end, where there is one.
@@ -20,7 +20,8 @@ fn push_conn(line: &mut String, conn: Option<u64>) -> Result<(), AllocError>
 
 /// Puts the names of a client at the end.
 fn push_names(line: &mut String, client: &Client<'_>) -> Result<(), AllocError>
-    ensures { OnOk result (string_bytes line.new ≡ string_bytes line.old ++ names_words client.now) }
+    ensures { OnOk result (string_bytes line.new
+        ≡ string_bytes line.old ++ names_words client.now) }
 {
     let (tap, nsp) = (client.tap, client.nsp);
     write!(line, "client {tap}, namespace {nsp}")?;
@@ -29,7 +30,8 @@ fn push_names(line: &mut String, client: &Client<'_>) -> Result<(), AllocError>
 
 /// Puts the words for the client at the end.
 fn push_words(line: &mut String, client: Option<Client<'_>>) -> Result<(), AllocError>
-    ensures { OnOk result (string_bytes line.new ≡ string_bytes line.old ++ client_words client.entry) }
+    ensures { OnOk result (string_bytes line.new
+        ≡ string_bytes line.old ++ client_words client.entry) }
 {
     match client {
         Some(client) => push_names(line, &client),
@@ -59,7 +61,8 @@ fn push_frame(line: &mut String, frame: Option<u64>) -> Result<(), AllocError>
 
 /// Puts what was received of what was due at the end.
 fn push_counts(line: &mut String, verdict: &Verdict, account: &Account) -> Result<(), AllocError>
-    ensures { OnOk result (string_bytes line.new ≡ string_bytes line.old ++ counts_words verdict.now account.now) }
+    ensures { OnOk result (string_bytes line.new
+        ≡ string_bytes line.old ++ counts_words verdict.now account.now) }
 {
     let (got, due) = (account.got, account.due);
     write!(line, ", got {got}, due {due}")?;
@@ -73,7 +76,8 @@ fn push_account(
     verdict: &Verdict,
     account: Option<Account>,
 ) -> Result<(), AllocError>
-    ensures { OnOk result (string_bytes line.new ≡ string_bytes line.old ++ account_words verdict.now account) }
+    ensures { OnOk result (string_bytes line.new
+        ≡ string_bytes line.old ++ account_words verdict.now account) }
 {
     match account {
         Some(account) => push_counts(line, verdict, &account),
@@ -90,7 +94,8 @@ pub(crate) fn push_client(
     turns: usize,
     account: Option<Account>,
 ) -> Result<(), AllocError>
-    ensures { OnOk result (string_bytes out.new ≡ string_bytes out.old ++ client_text verdict.now client.entry turns account) }
+    ensures { OnOk result (string_bytes out.new
+        ≡ string_bytes out.old ++ client_text verdict.now client.entry turns account) }
 {
     let mut line = String::new(alloc);
     push_words(&mut line, client)?;

@@ -79,7 +79,8 @@ fn push_event(
     column: usize,
     event: &ClientEvent,
 ) -> Result<usize, AllocError>
-    ensures text { OnOk result (string_bytes out.new ≡ string_bytes out.old ++ piece column (event_words event.now)) }
+    ensures text { OnOk result (string_bytes out.new
+        ≡ string_bytes out.old ++ piece column (event_words event.now)) }
     ensures end { IfOk result (λ end. end ≡ piece_end column (event_words event.now)) }
 {
     let words = event_words(alloc, event)?;

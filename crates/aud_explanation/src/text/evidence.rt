@@ -5,8 +5,8 @@ ghost use Rattle.aud_explanation.specs.Evidence.{tap_width, row_line, row_text, 
 use crate::text::mark::mark;
 use crate::text::page::{push_left, push_line, push_right};
 use crate::text::record::push_record;
-use aud_report::Verdict;
 use aud_rows::Row;
+use aud_verdict::Verdict;
 use std::alloc::{AllocError, Global};
 
 /// The width of the column of taps: that of the longest name, and that of its heading at least.
@@ -28,7 +28,8 @@ fn push_words(
     width: usize,
     row: &Row<'_>,
 ) -> Result<(), AllocError>
-    ensures { OnOk result (string_bytes line.new ≡ string_bytes line.old ++ row_line verdict.now width row.now) }
+    ensures { OnOk result (string_bytes line.new
+        ≡ string_bytes line.old ++ row_line verdict.now width row.now) }
 {
     let number = row.line;
     let digits = format!(in alloc; "{number}")?;
@@ -48,7 +49,8 @@ pub(crate) fn push_row(
     width: usize,
     row: &Row<'_>,
 ) -> Result<(), AllocError>
-    ensures { OnOk result (string_bytes out.new ≡ string_bytes out.old ++ row_text verdict.now width row.now) }
+    ensures { OnOk result (string_bytes out.new
+        ≡ string_bytes out.old ++ row_text verdict.now width row.now) }
 {
     let mut line = String::new(alloc);
     push_words(alloc, &mut line, verdict, width, row)?;
@@ -74,7 +76,8 @@ fn push_rows(
     width: usize,
     rows: &[Row<'_>],
 ) -> Result<(), AllocError>
-    ensures { OnOk result (string_bytes out.new ≡ string_bytes out.old ++ flat_map (row_text verdict.now width) rows.now) }
+    ensures { OnOk result (string_bytes out.new
+        ≡ string_bytes out.old ++ flat_map (row_text verdict.now width) rows.now) }
 {
     for row in rows {
         push_row(alloc, out, verdict, width, row)?;
@@ -89,7 +92,8 @@ fn push_table(
     verdict: &Verdict,
     rows: &[Row<'_>],
 ) -> Result<(), AllocError>
-    ensures { OnOk result (string_bytes out.new ≡ string_bytes out.old ++ table_text verdict.now rows.now) }
+    ensures { OnOk result (string_bytes out.new
+        ≡ string_bytes out.old ++ table_text verdict.now rows.now) }
 {
     let width = tap_width(rows);
     push_heading(alloc, out, width)?;
@@ -103,7 +107,8 @@ pub(crate) fn push_evidence(
     verdict: &Verdict,
     rows: &[Row<'_>],
 ) -> Result<(), AllocError>
-    ensures { OnOk result (string_bytes out.new ≡ string_bytes out.old ++ evidence_text verdict.now rows.now) }
+    ensures { OnOk result (string_bytes out.new
+        ≡ string_bytes out.old ++ evidence_text verdict.now rows.now) }
 {
     if rows.is_empty() {
         Ok(())

@@ -3,8 +3,8 @@ ghost use Rattle.std.specs.Prelude.{◌≡◌};
 ghost use Rattle.aud_explanation.specs.Mark.{fault_mark, verdict_mark, mark};
 
 use aud_cert::Fault;
-use aud_report::Verdict;
 use aud_rows::Role;
+use aud_verdict::Verdict;
 
 /// What the record at which the fault shows has against it.
 fn fault_mark(fault: &Fault) -> &'static str

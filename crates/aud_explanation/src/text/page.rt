@@ -86,7 +86,8 @@ fn next_column(column: usize, c: char, rest: &str) -> usize
 /// Puts the character at the end, in the next line where this one is full.
 fn push_char(out: &mut String, column: usize, c: char, rest: &str) -> Result<(), AllocError>
     requires { column ≤ 100 }
-    ensures { OnOk result (string_bytes out.new ≡ string_bytes out.old ++ placed column c (chars rest.now)) }
+    ensures { OnOk result (string_bytes out.new
+        ≡ string_bytes out.old ++ placed column c (chars rest.now)) }
 {
     if ends_line(column, c, rest) {
         return out.push_str("\n        ");

@@ -27,7 +27,8 @@ fn push_after(out: &mut String, off: Option<&str>) -> Result<(), AllocError>
 
 /// Puts what a client asks for at the end.
 fn push_asks(out: &mut String, conn: u64, pid: &str, off: Option<&str>) -> Result<(), AllocError>
-    ensures { OnOk result (string_bytes out.new ≡ string_bytes out.old ++ asks_words conn pid.now off.entry) }
+    ensures { OnOk result (string_bytes out.new
+        ≡ string_bytes out.old ++ asks_words conn pid.now off.entry) }
 {
     write!(out, "conn {conn} asks {pid}")?;
     push_after(out, off)
@@ -35,7 +36,8 @@ fn push_asks(out: &mut String, conn: u64, pid: &str, off: Option<&str>) -> Resul
 
 /// Puts the names of a reply at the end.
 fn push_names(out: &mut String, sid: &str, pid: Option<&str>) -> Result<(), AllocError>
-    ensures { OnOk result (string_bytes out.new ≡ string_bytes out.old ++ names_words sid.now pid.entry) }
+    ensures { OnOk result (string_bytes out.new
+        ≡ string_bytes out.old ++ names_words sid.now pid.entry) }
 {
     write!(out, ", sid {sid}")?;
     push_pid(out, pid)
@@ -43,7 +45,8 @@ fn push_names(out: &mut String, sid: &str, pid: Option<&str>) -> Result<(), Allo
 
 /// Puts what a client is answered at the end.
 fn push_reply(out: &mut String, conn: u64, sid: &str, pid: Option<&str>) -> Result<(), AllocError>
-    ensures { OnOk result (string_bytes out.new ≡ string_bytes out.old ++ reply_words conn sid.now pid.entry) }
+    ensures { OnOk result (string_bytes out.new
+        ≡ string_bytes out.old ++ reply_words conn sid.now pid.entry) }
 {
     write!(out, "conn {conn} reply")?;
     push_names(out, sid, pid)
@@ -59,7 +62,8 @@ fn push_takes_up(out: &mut String) -> Result<(), AllocError>
 
 /// Puts up to which entry a node takes at the end.
 fn push_takes(out: &mut String, position: u64, off: &str) -> Result<(), AllocError>
-    ensures { OnOk result (string_bytes out.new ≡ string_bytes out.old ++ takes_words position off.now) }
+    ensures { OnOk result (string_bytes out.new
+        ≡ string_bytes out.old ++ takes_words position off.now) }
 {
     push_takes_up(out)?;
     write!(out, "{position} {off}")

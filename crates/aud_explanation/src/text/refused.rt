@@ -7,13 +7,14 @@ ghost use Rattle.aud_explanation.specs.RefusedText.{instead_words, count_words, 
 use crate::refused::{Missed, RefusedRecovery};
 use crate::text::evidence::push_row;
 use crate::text::page::push_line;
-use aud_report::Verdict;
 use aud_rows::Row;
+use aud_verdict::Verdict;
 use std::alloc::{AllocError, Global};
 
 /// Puts the session that a client got instead at the end.
 fn push_instead(line: &mut String, instead: Option<&str>) -> Result<(), AllocError>
-    ensures { OnOk result (string_bytes line.new ≡ string_bytes line.old ++ instead_words (option_copied instead.entry)) }
+    ensures { OnOk result (string_bytes line.new
+        ≡ string_bytes line.old ++ instead_words (option_copied instead.entry)) }
 {
     match instead {
         Some(pid) => write!(line, "got session {pid}"),
@@ -23,7 +24,8 @@ fn push_instead(line: &mut String, instead: Option<&str>) -> Result<(), AllocErr
 
 /// Puts how many entries a client missed at the end.
 fn push_count(line: &mut String, missed: Option<&[Missed<'_>]>) -> Result<(), AllocError>
-    ensures { OnOk result (string_bytes line.new ≡ string_bytes line.old ++ count_words (option_copied missed.entry)) }
+    ensures { OnOk result (string_bytes line.new
+        ≡ string_bytes line.old ++ count_words (option_copied missed.entry)) }
 {
     match missed {
         Some(entries) => {
@@ -57,7 +59,8 @@ fn push_reply(
     width: usize,
     reply: Option<Row<'_>>,
 ) -> Result<(), AllocError>
-    ensures { OnOk result (string_bytes out.new ≡ string_bytes out.old ++ reply_text verdict.now width reply.entry) }
+    ensures { OnOk result (string_bytes out.new
+        ≡ string_bytes out.old ++ reply_text verdict.now width reply.entry) }
 {
     match reply {
         Some(reply) => push_row(alloc, out, verdict, width, &reply),
@@ -76,7 +79,8 @@ fn push_missed(alloc: Global, out: &mut String, missed: &Missed<'_>) -> Result<(
 }
 
 fn push_entries(alloc: Global, out: &mut String, entries: &[Missed<'_>]) -> Result<(), AllocError>
-    ensures { OnOk result (string_bytes out.new ≡ string_bytes out.old ++ flat_map missed_text entries.now) }
+    ensures { OnOk result (string_bytes out.new
+        ≡ string_bytes out.old ++ flat_map missed_text entries.now) }
 {
     for missed in entries {
         push_missed(alloc, out, missed)?;
@@ -90,7 +94,8 @@ fn push_all_missed(
     out: &mut String,
     missed: Option<&[Missed<'_>]>,
 ) -> Result<(), AllocError>
-    ensures { OnOk result (string_bytes out.new ≡ string_bytes out.old ++ all_missed_text (option_copied missed.entry)) }
+    ensures { OnOk result (string_bytes out.new
+        ≡ string_bytes out.old ++ all_missed_text (option_copied missed.entry)) }
 {
     match missed {
         Some(entries) => push_entries(alloc, out, entries),
@@ -105,7 +110,8 @@ fn push_one(
     verdict: &Verdict,
     refused: &RefusedRecovery<'_, '_>,
 ) -> Result<(), AllocError>
-    ensures { OnOk result (string_bytes out.new ≡ string_bytes out.old ++ refused_text verdict.now refused.now) }
+    ensures { OnOk result (string_bytes out.new
+        ≡ string_bytes out.old ++ refused_text verdict.now refused.now) }
 {
     let width = refused.ask.tap.len();
     push_head(alloc, out, refused)?;
@@ -121,7 +127,8 @@ pub(crate) fn push_refused(
     verdict: &Verdict,
     recoveries: &[RefusedRecovery<'_, '_>],
 ) -> Result<(), AllocError>
-    ensures { OnOk result (string_bytes out.new ≡ string_bytes out.old ++ all_refused_text verdict.now recoveries.now) }
+    ensures { OnOk result (string_bytes out.new
+        ≡ string_bytes out.old ++ all_refused_text verdict.now recoveries.now) }
 {
     for refused in recoveries {
         push_one(alloc, out, verdict, refused)?;

@@ -30,7 +30,8 @@ fn begin_name(begin: TurnBegin) -> &'static str
 
 /// Puts the record by which a turn begins at the end, and the cursor there.
 fn push_begin(line: &mut String, begin: TurnBegin, at: u64, cursor: u64) -> Result<(), AllocError>
-    ensures { OnOk result (string_bytes line.new ≡ string_bytes line.old ++ begin_words begin at cursor) }
+    ensures { OnOk result (string_bytes line.new
+        ≡ string_bytes line.old ++ begin_words begin at cursor) }
 {
     line.push_str("  ")?;
     push_number(line, at)?;
@@ -55,7 +56,8 @@ fn push_took(line: &mut String, took: Option<(u64, u64)>) -> Result<(), AllocErr
 
 /// Puts the line on which a turn ends at the end, how it does, and the cursor there.
 fn push_ending(line: &mut String, at: u64, how: &str, cursor: u64) -> Result<(), AllocError>
-    ensures { OnOk result (string_bytes line.new ≡ string_bytes line.old ++ ending at how.now cursor) }
+    ensures { OnOk result (string_bytes line.new
+        ≡ string_bytes line.old ++ ending at how.now cursor) }
 {
     line.push_str(" ")?;
     push_number(line, at)?;
@@ -77,7 +79,8 @@ fn push_end(line: &mut String, end: TurnEnd) -> Result<(), AllocError>
 
 /// Puts the number of a turn at the end, and its node.
 fn push_names(line: &mut String, width: usize, turn: &TurnShown<'_>) -> Result<(), AllocError>
-    ensures { OnOk result (string_bytes line.new ≡ string_bytes line.old ++ names_words width turn.now) }
+    ensures { OnOk result (string_bytes line.new
+        ≡ string_bytes line.old ++ names_words width turn.now) }
 {
     line.push_str("    turn ")?;
     push_number(line, u64::from(turn.turn))?;
@@ -87,7 +90,8 @@ fn push_names(line: &mut String, width: usize, turn: &TurnShown<'_>) -> Result<(
 
 /// Puts the words of a turn at the end.
 fn push_words(line: &mut String, width: usize, turn: &TurnShown<'_>) -> Result<(), AllocError>
-    ensures { OnOk result (string_bytes line.new ≡ string_bytes line.old ++ turn_line width turn.now) }
+    ensures { OnOk result (string_bytes line.new
+        ≡ string_bytes line.old ++ turn_line width turn.now) }
 {
     push_names(line, width, turn)?;
     push_begin(line, turn.begin, turn.begin_line, turn.low)?;
@@ -102,7 +106,8 @@ fn push_turn(
     width: usize,
     turn: &TurnShown<'_>,
 ) -> Result<(), AllocError>
-    ensures { OnOk result (string_bytes out.new ≡ string_bytes out.old ++ turn_text width turn.now) }
+    ensures { OnOk result (string_bytes out.new
+        ≡ string_bytes out.old ++ turn_text width turn.now) }
 {
     let mut line = String::new(alloc);
     push_words(&mut line, width, turn)?;
@@ -115,7 +120,8 @@ fn push_rows(
     width: usize,
     turns: &[TurnShown<'_>],
 ) -> Result<(), AllocError>
-    ensures { OnOk result (string_bytes out.new ≡ string_bytes out.old ++ flat_map (turn_text width) turns.now) }
+    ensures { OnOk result (string_bytes out.new
+        ≡ string_bytes out.old ++ flat_map (turn_text width) turns.now) }
 {
     for turn in turns {
         push_turn(alloc, out, width, turn)?;

@@ -3,13 +3,14 @@ ghost use Rattle.std.specs.Prelude.{◌≡◌, ◌++◌, OnOk, string_bytes};
 ghost use Rattle.aud_explanation.specs.Verdict.{verdict_words, class_words, verdict_text};
 
 use crate::text::page::push_line;
-use aud_evidence::Class;
-use aud_report::Verdict;
+use aud_cert::Class;
+use aud_verdict::Verdict;
 use std::alloc::{AllocError, Global};
 
 /// Puts the words of the verdict at the end, as an audit prints them.
 fn push_words(line: &mut String, pid: &str, verdict: &Verdict) -> Result<(), AllocError>
-    ensures { OnOk result (string_bytes line.new ≡ string_bytes line.old ++ verdict_words pid.now verdict.now) }
+    ensures { OnOk result (string_bytes line.new
+        ≡ string_bytes line.old ++ verdict_words pid.now verdict.now) }
 {
     match verdict {
         Verdict::Yes { got, tail, turns } => {
@@ -37,7 +38,8 @@ pub(crate) fn push_verdict(
     verdict: &Verdict,
     class: Option<Class>,
 ) -> Result<(), AllocError>
-    ensures { OnOk result (string_bytes out.new ≡ string_bytes out.old ++ verdict_text pid.now verdict.now class) }
+    ensures { OnOk result (string_bytes out.new
+        ≡ string_bytes out.old ++ verdict_text pid.now verdict.now class) }
 {
     let mut line = String::new(alloc);
     push_words(&mut line, pid, verdict)?;

@@ -29,7 +29,8 @@ use Rattle.aud_laws.proofs.AnyOrder.Taps.{begun, names_of, named-among, absent-a
 
 -- ---- one more record of a tap
 
--- the records have these pids more, for which there was room; beside other pids with which they are few, the same line brings the same records
+-- the records have these pids more, for which there was room; beside other pids with which they are few, the same line
+-- brings the same records
 pub record Added (version : Version) (pids : List (List ℕ)) (old new : Records) (word : List ℕ) (d : Data) : Type 0 where
   pub more : List (List ℕ)
   pub is : pids_in new ≡ pids_in old ++ more

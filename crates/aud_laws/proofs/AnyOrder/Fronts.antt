@@ -1,4 +1,5 @@
--- The first line of a name brought before the lines of other names that stand before it: the lines stay the same but for their order.
+-- The first line of a name brought before the lines of other names that stand before it: the lines stay the same but
+-- for their order.
 use Rattle.std.proofs.Common.{◌≡◌, ℕ, List, [], ◌∷◌, ◌++◌, Bool, true, false, cond, ◌⊎◌, inl, inr, refl, sym, ap, ◌∙◌, true≢false}
 use Rattle.aud_base.proofs.SameText.{same_text, itself_text}
 use Rattle.aud_tap.specs.Forms.{is_text}

@@ -6,12 +6,12 @@ use Rattle.aud_node.specs.Stream.{Text}
 use Rattle.aud_node.specs.Cluster.{Cluster, cluster_of}
 use Rattle.aud_maker.specs.Sessions.{sessions_of}
 use Rattle.aud_input.specs.Input.{InputSeen}
-use Rattle.aud_options.specs.declared.choice.Mode.TheVariants.{Audit}
-use Rattle.aud_report.specs.declared.verdict.SessionVerdict.{SessionVerdict}
-use Rattle.aud_report.specs.Output.{OutputSeen, report_of}
+use Rattle.aud_cli.specs.declared.choice.Mode.TheVariants.{Audit}
+use Rattle.aud_verdict.specs.declared.verdict.SessionVerdict.{SessionVerdict}
+use Rattle.aud_verdict.specs.Output.{OutputSeen}
 use Rattle.aud_verdict.specs.Verdicts.{IsSessionVerdict, AreVerdicts}
 use Rattle.aud_verdict.proofs.Sessions.{one_verdict}
-use Rattle.aud_app.specs.Output.{IsReport, IsOutputOver}
+use Rattle.aud_app.specs.Output.{IsReport, IsOutputOver, report_over}
 
 -- a session has one verdict under its name
 same-entry : (c : Cluster) (whole : Bool) (pid : Text) (one other : SessionVerdict) → IsSessionVerdict c whole pid one → IsSessionVerdict c whole pid other → one ≡ other
@@ -34,7 +34,7 @@ same-entries c whole (pid ∷ pids) (one ∷ ones) (other ∷ others) are too =
 
 -- so logs have one report
 same-report : (c : Cluster) (whole : Bool) (one other : OutputSeen) → IsReport whole c one → IsReport whole c other → one ≡ other
-same-report c whole one other is too = is.2 ∙ ap report_of (same-entries c whole (sessions_of c) is.0 too.0 is.1 too.1) ∙ sym too.2
+same-report c whole one other is too = is.2 ∙ ap (report_over c) (same-entries c whole (sessions_of c) is.0 too.0 is.1 too.1) ∙ sym too.2
 
 -- and what is read has one output
 pub one-output : (whole : Bool) (read : Result InputSeen ReadFault) (one other : OutputSeen) → IsOutputOver Audit whole read one → IsOutputOver Audit whole read other → one ≡ other

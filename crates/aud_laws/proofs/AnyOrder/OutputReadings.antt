@@ -4,7 +4,7 @@ use Rattle.aud_reader.specs.declared.fault.ReadFault.{ReadFault}
 use Rattle.aud_input.specs.declared.input.Layout.{Layout}
 use Rattle.aud_input.specs.declared.input.Layout.TheVariants.{Bundle}
 use Rattle.aud_input.specs.Input.{InputSeen, input_of}
-use Rattle.aud_options.specs.declared.choice.Mode.{Mode}
+use Rattle.aud_cli.specs.declared.choice.Mode.{Mode}
 use Rattle.aud_app.specs.Output.{IsOutputOver, layout_of}
 use Rattle.aud_laws.specs.Order.{AreSameButForOrder, AreReadAlike}
 use Rattle.aud_laws.specs.Inputs.{line_texts}

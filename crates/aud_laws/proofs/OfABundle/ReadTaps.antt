@@ -15,7 +15,7 @@ use Rattle.aud_reader.specs.declared.fault.InputCode.TheVariants.{LineTooLong, N
 use Rattle.aud_reader.specs.declared.line.Line.{Line}
 use Rattle.aud_reader.specs.Record.{json_of, cut_at_blank, opened_line, value_record, line_record}
 use Rattle.aud_reader.specs.Bundle.{max_pids, max_node_taps, max_client_taps, taps_on, pids_of, no_records, with_line, passing_empty, taps_after, taps_from, taps_of}
-use Rattle.aud_reader.specs.Private.Sound.{AreSoundTaps}
+use Rattle.aud_reader.specs.Sound.{AreSoundTaps}
 use Rattle.aud_reader.proofs.KeptLemmas.{replaced, taps_on-set}
 use Rattle.aud_reader.proofs.LineSteps.{Begins, Adds, line_step, at_line-ok}
 use Rattle.aud_reader.proofs.TapLaws.{sound-none, sound-line}

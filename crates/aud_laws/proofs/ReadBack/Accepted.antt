@@ -6,15 +6,15 @@ use Rattle.aud_node.specs.Stream.{Text}
 use Rattle.aud_node.specs.Cluster.{Cluster, cluster_of}
 use Rattle.aud_client.specs.StaySeen.{FrameSeen}
 use Rattle.aud_cert.specs.Certificate.{CertificateSeen}
-use Rattle.aud_cert_text.specs.Reading.{certificate_of}
-use Rattle.aud_cert_text.specs.Text.{certificate_text}
+use Rattle.aud_cert.specs.Reading.{certificate_of}
+use Rattle.aud_cert.specs.Text.{certificate_text}
 use Rattle.aud_maker.specs.Made.{IsMade}
 use Rattle.aud_check.specs.declared.certificate.Accepted as check
 use Rattle.aud_check.specs.Shown.{frames_received, shown_due}
 use Rattle.aud_check.specs.Refusals.{IsAccepted}
 use Rattle.aud_check.proofs.Ranks.{nothing_refuses}
-use Rattle.aud_report.specs.declared.verdict.Verdict.{Verdict}
-use Rattle.aud_report.specs.declared.verdict.Verdict.TheVariants.{Yes, No}
+use Rattle.aud_verdict.specs.declared.verdict.Verdict.{Verdict}
+use Rattle.aud_verdict.specs.declared.verdict.Verdict.TheVariants.{Yes, No}
 use Rattle.aud_verdict.specs.Verdict.{IsVerdict}
 use Rattle.aud_verdict.proofs.Sessions.{one_verdict}
 use Rattle.aud_verdict.proofs.Made.{accepted}

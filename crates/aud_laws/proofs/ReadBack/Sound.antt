@@ -22,9 +22,9 @@ use Rattle.aud_rooms.specs.Spans.{RoomSpan}
 use Rattle.aud_rooms.proofs.Members.{contains-first, contains-later}
 use Rattle.aud_client.specs.Replies.{is_naming}
 use Rattle.aud_cert.specs.Certificate.{TurnSeen, CertificateSeen, place_named}
-use Rattle.aud_cert_text.specs.Parsed.{ParsedTurn}
-use Rattle.aud_cert_text.specs.Reading.{has_turns, is_node, is_client, is_turn_within, is_span_within}
-use Rattle.aud_cert_text.specs.Sound.{turn_without_records, IsSound}
+use Rattle.aud_cert.specs.Parsed.{ParsedTurn}
+use Rattle.aud_cert.specs.Reading.{has_turns, is_node, is_client, is_turn_within, is_span_within}
+use Rattle.aud_cert.specs.Sound.{turn_without_records, IsSound}
 use Rattle.aud_maker.specs.Made.{tap_name, name_at, turn_seen, IsMade}
 use Rattle.aud_maker.proofs.Over.{over}
 use Rattle.aud_laws.proofs.ReadBack.Pids.{named-formed}

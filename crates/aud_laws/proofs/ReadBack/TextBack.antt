@@ -20,11 +20,11 @@ use Rattle.aud_tap.proofs.Json.{json_or-read}
 use Rattle.aud_node.specs.Cluster.{Cluster, node_log}
 use Rattle.aud_rooms.specs.Spans.{RoomSpan}
 use Rattle.aud_cert.specs.Certificate.{TurnSeen, CertificateSeen, log_named, place_named}
-use Rattle.aud_cert_text.specs.declared.fault.CertFault.TheVariants.{Syntax}
-use Rattle.aud_cert_text.specs.Text.{items, span_data, turn_data, certificate_data, certificate_text}
-use Rattle.aud_cert_text.specs.Reading.{is_turn_within, is_span_within, certificate_of}
-use Rattle.aud_cert_text.specs.Sound.{IsSound}
-use Rattle.aud_cert_text.proofs.Back.{certificate-back}
+use Rattle.aud_cert.specs.declared.text_fault.CertFault.TheVariants.{Syntax}
+use Rattle.aud_cert.specs.Text.{items, span_data, turn_data, certificate_data, certificate_text}
+use Rattle.aud_cert.specs.Reading.{is_turn_within, is_span_within, certificate_of}
+use Rattle.aud_cert.specs.Sound.{IsSound}
+use Rattle.aud_cert.proofs.Back.{certificate-back}
 
 -- the data of the JSON that all tokens are
 abbrev of_whole : Option (json.Json × List Token) → Option Data

@@ -9,8 +9,8 @@ use Rattle.aud_node.specs.NamedPids.{named_pids}
 use Rattle.aud_node.specs.OwnPlaces.{own_places}
 use Rattle.aud_node.specs.declared.logs.Logs.TheInside.{Inside}
 
--- the names, the stream's place and the entries are those of the taps, each node's log is kept at its place, and of each
--- pid the places of the nodes with records of it, the pids in the order in which records first name them
+-- the names, the stream's place and the entries are those of the taps, each node's log is kept at its place, and of
+-- each pid the places of the nodes with records of it, the pids in the order in which records first name them
 pub record HoldsTaps (l : Inside) : Type 0 where
   pub places_are : (name : Text) → slice_get (places_of l.names name) 0 ≡ place_of l.taps.now name
   pub place_is : l.stream_place ≡ stream_place l.taps.now

@@ -14,7 +14,8 @@ kept_position offsets off = hash.get_by (λ k. bytes_eq off k.now) offsets.posit
 abbrev pub AreFirst : List StreamRec → Type 0
 AreFirst stream = (i : ℕ) (e : StreamRec) → slice_get stream i ≡ Some e → position stream (offset_of e) ≡ Some (suc i)
 
--- the positions are those of the stream, and where its offsets are called distinct, each entry is the first with its own
+-- the positions are those of the stream, and where its offsets are called distinct, each entry is the first with its
+-- own
 pub record HoldsOffsets (stream : List StreamRec) (offsets : Offsets) : Type 0 where
   pub positions_are : (off : Text) → kept_position offsets off ≡ position stream off
   pub are_first : offsets.distinct ≡ true → AreFirst stream

@@ -15,7 +15,8 @@ use Rattle.aud_reader.specs.Record.{line_record}
 abbrev pub with_name : List ℕ → Result Rec InputCode → Result (List ℕ × Rec) InputCode
 with_name name reading = reading >>= (λ rec. Ok (name, rec))
 
--- what is kept of a line that is read so, beside these taps: its record, with the place of the tap that it names or with the name; nothing where it is refused
+-- what is kept of a line that is read so, beside these taps: its record, with the place of the tap that it names or
+-- with the name; nothing where it is refused
 abbrev pub IsOwnOf : List Tap → Result (List ℕ × Rec) InputCode → OwnRecord → Type 0
 IsOwnOf taps reading (Placed place rec) = (name : List ℕ) × (reading ≡ Ok (name, rec)) × (place_of taps name ≡ Some place)
 IsOwnOf taps reading (Named name rec) = reading ≡ Ok (name, rec)

@@ -1,6 +1,6 @@
 //! The records of a client tap, while they are read.
 ghost use Rattle.std.specs.Prelude.{◌≡◌, ◌∷◌, ◌++◌, [], IfOk, Ok};
-ghost use Rattle.aud_fields.specs.View.{view};
+ghost use Rattle.aud_json.specs.View.{view};
 ghost use Rattle.aud_reader.specs.Connections.{may_follow};
 ghost use Rattle.aud_reader.specs.Private.Connected.{Connected};
 ghost use Rattle.aud_reader.specs.Steps.{Gives};
@@ -11,7 +11,7 @@ use super::node_log::MAX_RECORDS;
 use crate::fault::{FIELD, LIMIT, LineFault};
 use crate::read::client::client_record;
 use aud_base::{Paged, TextPool};
-use aud_fields::Fields;
+use aud_json::Fields;
 use aud_tap::{ClientRec, ClientRecs};
 use std::alloc::{AllocError, Global};
 use std::marker::Model;

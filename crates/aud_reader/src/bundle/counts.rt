@@ -39,7 +39,12 @@ impl Counts {
     /// Counts one more tap of a kind, unless there are as many as may be.
     pub fn add(&mut self, of: TapKind) -> Result<(), LineFault>
         ensures { (taps : List Tap) → Counted self.old taps
-            → MatchResult result (λ _. (another_tap of taps ≡ Ok tt) × ((name : List ℕ) (version : Version) → Counted self.new (taps ++ record { name = name; version = version; records = no_records of } ∷ []))) (λ e. Fails e (another_tap of taps)) }
+            → MatchResult result
+            (λ _. (another_tap of taps ≡ Ok tt)
+            × ((name : List ℕ) (version : Version)
+            → Counted self.new
+            (taps ++ record { name = name; version = version; records = no_records of } ∷ [])))
+            (λ e. Fails e (another_tap of taps)) }
     {
         match of {
             TapKind::Stream => {

@@ -1,7 +1,7 @@
 //! The records of a node tap, while they are read.
 ghost use Rattle.std.specs.Prelude.{◌≡◌, ◌++◌, List, ℕ, OnOk, option_to_list};
 ghost use Rattle.std.specs.List.{filter_map};
-ghost use Rattle.aud_fields.specs.View.{view};
+ghost use Rattle.aud_json.specs.View.{view};
 ghost use Rattle.aud_reader.specs.Private.Changes.{Becomes};
 ghost use Rattle.aud_tap.specs.RecordFields.{pid_of};
 ghost use Rattle.aud_reader.specs.Bundle.{node_room, with_node_record};
@@ -13,7 +13,7 @@ use super::pids::add_pid_of;
 use crate::fault::{LIMIT, LineFault, UNKNOWN_KIND};
 use crate::read::node::{is_in_version, node_record};
 use aud_base::TextPool;
-use aud_fields::Fields;
+use aud_json::Fields;
 use aud_tap::{NodeRec, NodeRecs, Text, Version};
 use std::collections::HashSet;
 use std::hash::RandomState;
@@ -27,8 +27,10 @@ fn admit(
     pids: &mut HashSet<Text, RandomState>,
     rec: &NodeRec,
 ) -> Result<(), LineFault>
-    ensures room { (all : List (List ℕ)) → HasPids pids.old all → Gives result (node_room count (all ++ option_to_list (pid_of rec.now))) }
-    ensures pids { (all : List (List ℕ)) → HasPids pids.old all → OnOk result (HasPids pids.new (all ++ option_to_list (pid_of rec.now))) }
+    ensures room { (all : List (List ℕ)) → HasPids pids.old all
+        → Gives result (node_room count (all ++ option_to_list (pid_of rec.now))) }
+    ensures pids { (all : List (List ℕ)) → HasPids pids.old all
+        → OnOk result (HasPids pids.new (all ++ option_to_list (pid_of rec.now))) }
 {
     if count >= MAX_RECORDS {
         return Err(LIMIT);
@@ -44,7 +46,8 @@ fn append(
 ) -> Result<(), LineFault>
     ensures records { (all : List (List ℕ)) → HasPids pids.old all
         → Becomes result records.new (with_room_for all records.old rec) }
-    ensures pids { (before after : List (List ℕ)) → HasPids pids.old (before ++ filter_map pid_of records.old ++ after)
+    ensures pids { (before after : List (List ℕ))
+        → HasPids pids.old (before ++ filter_map pid_of records.old ++ after)
         → OnOk result (HasPids pids.new (before ++ filter_map pid_of records.new ++ after)) }
 {
     admit(records.len(), pids, &rec)?;
@@ -71,7 +74,8 @@ pub fn push_node_record(
 ) -> Result<(), LineFault>
     ensures records { (all : List (List ℕ)) → HasPids pids.old all
         → Becomes result records.new (with_new_node_record version all records.old rec) }
-    ensures pids { (before after : List (List ℕ)) → HasPids pids.old (before ++ filter_map pid_of records.old ++ after)
+    ensures pids { (before after : List (List ℕ))
+        → HasPids pids.old (before ++ filter_map pid_of records.old ++ after)
         → OnOk result (HasPids pids.new (before ++ filter_map pid_of records.new ++ after)) }
 {
     if !has_record(version, &rec) {
@@ -80,8 +84,8 @@ pub fn push_node_record(
     append(records, pids, rec)
 }
 
-/// Adds the record of a line in a tap of this version, of which the texts are shared with the pool, and its pid to those
-/// of all node records.
+/// Adds the record of a line in a tap of this version, of which the texts are shared with the pool, and its pid to
+/// those of all node records.
 #[tactic(auto, unfolding(crate::specs::Bundle::with_node_record))]
 pub fn add_node_record(
     version: Version,
@@ -92,8 +96,10 @@ pub fn add_node_record(
     d: &Fields<'_>,
 ) -> Result<(), LineFault>
     ensures records { (all : List (List ℕ)) → HasPids pids.old all
-        → Becomes result records.new (with_node_record version all records.old kind.now (view d.now)) }
-    ensures pids { (before after : List (List ℕ)) → HasPids pids.old (before ++ filter_map pid_of records.old ++ after)
+        → Becomes result records.new (with_node_record version all records.old kind.now
+        (view d.now)) }
+    ensures pids { (before after : List (List ℕ))
+        → HasPids pids.old (before ++ filter_map pid_of records.old ++ after)
         → OnOk result (HasPids pids.new (before ++ filter_map pid_of records.new ++ after)) }
 {
     if !is_in_version(version, kind) {

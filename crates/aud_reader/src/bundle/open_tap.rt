@@ -1,7 +1,7 @@
 //! A tap, while it is read.
 ghost use Rattle.std.specs.Prelude.{◌≡◌, ◌++◌, List, ℕ, IfOk, OnOk};
 ghost use Rattle.std.specs.List.{filter_map};
-ghost use Rattle.aud_fields.specs.View.{view};
+ghost use Rattle.aud_json.specs.View.{view};
 ghost use Rattle.aud_reader.specs.Private.Changes.{Becomes};
 ghost use Rattle.aud_tap.specs.RecordFields.{pid_of};
 ghost use Rattle.aud_reader.specs.Bundle.{no_records, pids_in, with_node_record, with_tap_record};
@@ -13,7 +13,7 @@ use super::node_log::{add_node_record, push_node_record};
 use super::stream_log::StreamLog;
 use crate::fault::{HEADER_TWICE, LineFault, UNKNOWN_KIND};
 use aud_base::TextPool;
-use aud_fields::Fields;
+use aud_json::Fields;
 use aud_tap::{NodeRecs, Rec, Records, Tap, TapKind, Text, Version};
 use std::alloc::{AllocError, Global};
 use std::collections::HashSet;
@@ -40,8 +40,8 @@ impl OpenLog {
         }
     }
 
-    /// Adds the record of a line in a tap of this version, of which the texts are shared with the pool. The pids are those
-    /// of all node records.
+    /// Adds the record of a line in a tap of this version, of which the texts are shared with the pool. The pids are
+    /// those of all node records.
     fn add(
         &mut self,
         version: Version,
@@ -50,10 +50,15 @@ impl OpenLog {
         kind: &str,
         d: &Fields<'_>,
     ) -> Result<(), LineFault>
-        ensures records { (before after : List (List ℕ)) → HasPids pids.old (before ++ pids_in (records_so_far self.old) ++ after)
-            → Becomes result (records_so_far self.new) (with_tap_record version (before ++ pids_in (records_so_far self.old) ++ after) (records_so_far self.old) kind.now (view d.now)) }
-        ensures pids { (before after : List (List ℕ)) → HasPids pids.old (before ++ pids_in (records_so_far self.old) ++ after)
-            → OnOk result (HasPids pids.new (before ++ pids_in (records_so_far self.new) ++ after)) }
+        ensures records { (before after : List (List ℕ))
+            → HasPids pids.old (before ++ pids_in (records_so_far self.old) ++ after)
+            → Becomes result (records_so_far self.new) (with_tap_record version
+            (before ++ pids_in (records_so_far self.old) ++ after)
+            (records_so_far self.old) kind.now (view d.now)) }
+        ensures pids { (before after : List (List ℕ))
+            → HasPids pids.old (before ++ pids_in (records_so_far self.old) ++ after)
+            → OnOk result (HasPids pids.new (before ++ pids_in (records_so_far self.new)
+            ++ after)) }
     {
         match self {
             OpenLog::Stream(entries) => entries.add(pool, kind, d),
@@ -69,10 +74,14 @@ impl OpenLog {
         pids: &mut HashSet<Text, RandomState>,
         rec: Rec,
     ) -> Result<(), LineFault>
-        ensures records { (before after : List (List ℕ)) → HasPids pids.old (before ++ pids_in (records_so_far self.old) ++ after)
-            → Becomes result (records_so_far self.new) (with_new_record version (before ++ pids_in (records_so_far self.old) ++ after) (records_so_far self.old) rec) }
-        ensures pids { (before after : List (List ℕ)) → HasPids pids.old (before ++ pids_in (records_so_far self.old) ++ after)
-            → OnOk result (HasPids pids.new (before ++ pids_in (records_so_far self.new) ++ after)) }
+        ensures records { (before after : List (List ℕ))
+            → HasPids pids.old (before ++ pids_in (records_so_far self.old) ++ after)
+            → Becomes result (records_so_far self.new) (with_new_record version
+            (before ++ pids_in (records_so_far self.old) ++ after) (records_so_far self.old) rec) }
+        ensures pids { (before after : List (List ℕ))
+            → HasPids pids.old (before ++ pids_in (records_so_far self.old) ++ after)
+            → OnOk result (HasPids pids.new (before ++ pids_in (records_so_far self.new)
+            ++ after)) }
     {
         match (self, rec) {
             (OpenLog::Stream(entries), Rec::Stream(entry)) => entries.push(entry),
@@ -115,7 +124,8 @@ impl OpenTap {
         of: TapKind,
         version: Version,
     ) -> OpenTap
-        ensures { tap_so_far result ≡ record { name = name; version = version; records = no_records of } }
+        ensures { tap_so_far result
+            ≡ record { name = name; version = version; records = no_records of } }
     {
         OpenTap {
             name,
@@ -134,10 +144,15 @@ impl OpenTap {
     ) -> Result<(), LineFault>
         ensures name { self.new.name ≡ self.old.name }
         ensures version { self.new.version ≡ self.old.version }
-        ensures records { (before after : List (List ℕ)) → HasPids pids.old (before ++ pids_in (records_so_far self.old.log) ++ after)
-            → Becomes result (records_so_far self.new.log) (with_tap_record self.old.version (before ++ pids_in (records_so_far self.old.log) ++ after) (records_so_far self.old.log) kind.now (view d.now)) }
-        ensures pids { (before after : List (List ℕ)) → HasPids pids.old (before ++ pids_in (records_so_far self.old.log) ++ after)
-            → OnOk result (HasPids pids.new (before ++ pids_in (records_so_far self.new.log) ++ after)) }
+        ensures records { (before after : List (List ℕ))
+            → HasPids pids.old (before ++ pids_in (records_so_far self.old.log) ++ after)
+            → Becomes result (records_so_far self.new.log) (with_tap_record self.old.version
+            (before ++ pids_in (records_so_far self.old.log) ++ after)
+            (records_so_far self.old.log) kind.now (view d.now)) }
+        ensures pids { (before after : List (List ℕ))
+            → HasPids pids.old (before ++ pids_in (records_so_far self.old.log) ++ after)
+            → OnOk result (HasPids pids.new (before ++ pids_in (records_so_far self.new.log)
+            ++ after)) }
     {
         self.log.add(self.version, pool, pids, kind, d)
     }
@@ -146,10 +161,15 @@ impl OpenTap {
     pub fn push(&mut self, pids: &mut HashSet<Text, RandomState>, rec: Rec) -> Result<(), LineFault>
         ensures name { self.new.name ≡ self.old.name }
         ensures version { self.new.version ≡ self.old.version }
-        ensures records { (before after : List (List ℕ)) → HasPids pids.old (before ++ pids_in (records_so_far self.old.log) ++ after)
-            → Becomes result (records_so_far self.new.log) (with_new_record self.old.version (before ++ pids_in (records_so_far self.old.log) ++ after) (records_so_far self.old.log) rec) }
-        ensures pids { (before after : List (List ℕ)) → HasPids pids.old (before ++ pids_in (records_so_far self.old.log) ++ after)
-            → OnOk result (HasPids pids.new (before ++ pids_in (records_so_far self.new.log) ++ after)) }
+        ensures records { (before after : List (List ℕ))
+            → HasPids pids.old (before ++ pids_in (records_so_far self.old.log) ++ after)
+            → Becomes result (records_so_far self.new.log) (with_new_record self.old.version
+            (before ++ pids_in (records_so_far self.old.log) ++ after)
+            (records_so_far self.old.log) rec) }
+        ensures pids { (before after : List (List ℕ))
+            → HasPids pids.old (before ++ pids_in (records_so_far self.old.log) ++ after)
+            → OnOk result (HasPids pids.new (before ++ pids_in (records_so_far self.new.log)
+            ++ after)) }
     {
         self.log.push(self.version, pids, rec)
     }

@@ -1,7 +1,7 @@
 //! The taps of the lines so far.
 ghost use Rattle.std.specs.Prelude.{◌≡◌, ◌<◌, ◌∷◌, ◌++◌, [], List, ℕ, length, IfOk, OnOk, Ok, Some, None};
 ghost use Rattle.std.specs.HashMap.{get_by_text};
-ghost use Rattle.aud_fields.specs.View.{view};
+ghost use Rattle.aud_json.specs.View.{view};
 ghost use Rattle.aud_reader.specs.Private.Changes.{Becomes};
 ghost use Rattle.aud_reader.specs.Record.{line_record};
 ghost use Rattle.aud_reader.specs.Bundle.{no_records, with_header, with_line, with_named, with_value};
@@ -13,7 +13,7 @@ use crate::read::header::tap_header;
 use crate::read::line::opened_line;
 use crate::read::record::kind_of;
 use aud_base::TextPool;
-use aud_fields::{Fields, Scratch};
+use aud_json::{Fields, Scratch};
 use aud_tap::{Rec, TapKind, Taps, Text, Version};
 use std::alloc::{AllocError, Global};
 use std::collections::{HashMap, HashSet};
@@ -55,10 +55,17 @@ impl OpenTaps {
 
     /// Puts a tap without records at the end.
     fn push(&mut self, name: &str, of: TapKind, version: Version) -> Result<(), AllocError>
-        ensures taps { OnOk result (taps_so_far self.new ≡ taps_so_far self.old ++ record { name = name.now; version = version; records = no_records of } ∷ []) }
-        ensures places { ((text : List ℕ) → get_by_text self.old.places text ≡ place_of (taps_so_far self.old) text) → place_of (taps_so_far self.old) name.now ≡ None
-            → OnOk result ((text : List ℕ) → get_by_text self.new.places text ≡ place_of (taps_so_far self.new) text) }
-        ensures others { self.new ≡ record self.old { taps = self.new.taps; places = self.new.places } }
+        ensures taps { OnOk result (taps_so_far self.new
+            ≡ taps_so_far self.old
+            ++ record { name = name.now; version = version; records = no_records of } ∷ []) }
+        ensures places { ((text : List ℕ)
+            → get_by_text self.old.places text ≡ place_of (taps_so_far self.old) text)
+            → place_of (taps_so_far self.old) name.now ≡ None → OnOk result ((text : List ℕ)
+            → get_by_text self.new.places text ≡ place_of (taps_so_far self.new) text) }
+        ensures others { self.new ≡ record self.old {
+          taps = self.new.taps;
+          places = self.new.places;
+        } }
     {
         let key = String::from_str(self.alloc, name)?;
         self.places.insert(key, self.taps.len())?;
@@ -73,7 +80,8 @@ impl OpenTaps {
     fn begin(&mut self, name: &str, kind: &str, d: &Fields<'_>) -> Result<(), LineFault>
         requires keeps { KeepsTaps self.old }
         requires first { place_of (taps_so_far self.old) name.now ≡ None }
-        ensures taps { Becomes result (taps_so_far self.new) (with_header (taps_so_far self.old) name.now kind.now (view d.now)) }
+        ensures taps { Becomes result (taps_so_far self.new)
+            (with_header (taps_so_far self.old) name.now kind.now (view d.now)) }
         ensures keeps { OnOk result (KeepsTaps self.new) }
     {
         if kind != "tap" {
@@ -96,7 +104,9 @@ impl OpenTaps {
     ) -> Result<(), LineFault>
         requires keeps { KeepsTaps self.old }
         requires place { place < length (taps_so_far self.old) }
-        ensures taps { (name : List ℕ) → place_of (taps_so_far self.old) name ≡ Some place → Becomes result (taps_so_far self.new) (with_named (taps_so_far self.old) name kind.now (view d.now)) }
+        ensures taps { (name : List ℕ) → place_of (taps_so_far self.old) name ≡ Some place
+            → Becomes result (taps_so_far self.new) (with_named (taps_so_far self.old) name kind.now
+            (view d.now)) }
         ensures keeps { OnOk result (KeepsTaps self.new) }
     {
         if kind == "tap" {
@@ -122,7 +132,8 @@ impl OpenTaps {
         d: &Fields<'_>,
     ) -> Result<(), LineFault>
         requires { KeepsTaps self.old }
-        ensures taps { Becomes result (taps_so_far self.new) (with_value (taps_so_far self.old) name.now (view d.now)) }
+        ensures taps { Becomes result (taps_so_far self.new)
+            (with_value (taps_so_far self.old) name.now (view d.now)) }
         ensures keeps { OnOk result (KeepsTaps self.new) }
     {
         let kind = kind_of(d)?;
@@ -141,7 +152,8 @@ impl OpenTaps {
         line: &[u8],
     ) -> Result<(), LineFault>
         requires { KeepsTaps self.old }
-        ensures taps { Becomes result (taps_so_far self.new) (with_line (taps_so_far self.old) line.now) }
+        ensures taps { Becomes result (taps_so_far self.new)
+            (with_line (taps_so_far self.old) line.now) }
         ensures keeps { OnOk result (KeepsTaps self.new) }
     {
         let (name, d) = opened_line(self.alloc, scratch, line)?;
@@ -152,7 +164,8 @@ impl OpenTaps {
     pub fn push_record(&mut self, place: usize, rec: Rec) -> Result<(), LineFault>
         requires keeps { KeepsTaps self.old }
         requires place { place < length (taps_so_far self.old) }
-        ensures taps { (line name : List ℕ) → place_of (taps_so_far self.old) name ≡ Some place → line_record line ≡ Ok (name, rec)
+        ensures taps { (line name : List ℕ) → place_of (taps_so_far self.old) name ≡ Some place
+            → line_record line ≡ Ok (name, rec)
             → Becomes result (taps_so_far self.new) (with_line (taps_so_far self.old) line) }
         ensures keeps { OnOk result (KeepsTaps self.new) }
     {

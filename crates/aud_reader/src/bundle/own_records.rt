@@ -1,7 +1,7 @@
 //! What lines say by themselves, read in many threads.
 ghost use Rattle.std.specs.Prelude.{◌≡◌, IfOk, MatchResult};
 ghost use Rattle.std.specs.List.{AllZip, flat_map};
-ghost use Rattle.aud_fields.specs.View.{view};
+ghost use Rattle.aud_json.specs.View.{view};
 ghost use Rattle.aud_reader.specs.Record.{line_record, value_record};
 ghost use Rattle.aud_reader.specs.Steps.{Fails};
 ghost use Rattle.aud_reader.specs.Private.Kept.{KeepsTaps};
@@ -13,9 +13,8 @@ use crate::fault::LineFault;
 use crate::line::Line;
 use crate::read::line::opened_line;
 use crate::read::record::value_record;
-use aud_base::TextPool;
-use aud_fields::{Fields, Scratch};
-use aud_parallel::try_map;
+use aud_base::{TextPool, try_map};
+use aud_json::{Fields, Scratch};
 use aud_tap::{Rec, Text};
 use std::alloc::{AllocError, Global};
 use std::hash::RandomState;
@@ -35,8 +34,8 @@ pub enum OwnRecord {
     NoRecord,
 }
 
-/// The record of the fields after a tap's name, of which the texts are shared with the pool. The name is kept only where it
-/// is none of the taps'.
+/// The record of the fields after a tap's name, of which the texts are shared with the pool. The name is kept only
+/// where it is none of the taps'.
 fn placed_record(
     alloc: Global,
     taps: &OpenTaps,
@@ -98,9 +97,10 @@ fn own_record(
 /// How much a thread's heap is to grow at once.
 const ROOM: usize = 8_388_608;
 
-/// Asks for a large block and gives it back, so that this thread's heap has room for the records of a part, where there is
-/// memory for it. A heap of glibc's that many small blocks are asked of grows by one page a time, and each time all threads
-/// are interrupted; and what they give back goes to the system in small steps, unless a block of this size was given back.
+/// Asks for a large block and gives it back, so that this thread's heap has room for the records of a part, where there
+/// is memory for it. A heap of glibc's that many small blocks are asked of grows by one page a time, and each time all
+/// threads are interrupted; and what they give back goes to the system in small steps, unless a block of this size was
+/// given back.
 fn make_room(alloc: Global) {
     if let Ok(block) = Vec::<u8>::with_capacity(alloc, ROOM) {
         drop(block);
@@ -149,7 +149,9 @@ pub fn own_records_of<H: Threads + Sync>(
     parts: &[&[Line]],
 ) -> Result<Vec<Vec<OwnRecord>>, AllocError>
     requires { KeepsTaps taps.now }
-    ensures { IfOk result (λ own. AllZip (λ part records. AreOfLines (taps_so_far taps.now) part.now records.items) parts.now own.items) }
+    ensures { IfOk result (λ own. AllZip
+        (λ part records. AreOfLines
+        (taps_so_far taps.now) part.now records.items) parts.now own.items) }
 {
     try_map(
         rt,
@@ -158,7 +160,8 @@ pub fn own_records_of<H: Threads + Sync>(
         parts,
         |part: &&[Line]| -> Result<Vec<OwnRecord>, AllocError>
             requires { KeepsTaps taps.now }
-            ensures { IfOk result (λ own. AreOfLines (taps_so_far taps.entry.now) part.now.now own.items) }
+            ensures { IfOk result (λ own. AreOfLines
+                (taps_so_far taps.entry.now) part.now.now own.items) }
         { own_records(alloc, keys, taps, *part) },
     )
 }

@@ -30,8 +30,10 @@ fn pid_of(rec: &NodeRec) -> Option<&Text>
 
 /// Adds a pid, unless there are too many.
 fn add_pid(pids: &mut HashSet<Text, RandomState>, pid: &Text) -> Result<(), LineFault>
-    ensures fit { (all : List (List ℕ)) → HasPids pids.old all → Gives result (pids_fit (all ++ pid.now ∷ [])) }
-    ensures pids { (all : List (List ℕ)) → HasPids pids.old all → OnOk result (HasPids pids.new (all ++ pid.now ∷ [])) }
+    ensures fit { (all : List (List ℕ)) → HasPids pids.old all
+        → Gives result (pids_fit (all ++ pid.now ∷ [])) }
+    ensures pids { (all : List (List ℕ)) → HasPids pids.old all
+        → OnOk result (HasPids pids.new (all ++ pid.now ∷ [])) }
 {
     let count = pids.len();
     if pids.contains(pid) {
@@ -46,8 +48,10 @@ fn add_pid(pids: &mut HashSet<Text, RandomState>, pid: &Text) -> Result<(), Line
 
 /// Adds the pid that a record speaks of, unless there are too many.
 pub fn add_pid_of(pids: &mut HashSet<Text, RandomState>, rec: &NodeRec) -> Result<(), LineFault>
-    ensures fit { (all : List (List ℕ)) → HasPids pids.old all → Gives result (pids_fit (all ++ option_to_list (pid_of rec.now))) }
-    ensures pids { (all : List (List ℕ)) → HasPids pids.old all → OnOk result (HasPids pids.new (all ++ option_to_list (pid_of rec.now))) }
+    ensures fit { (all : List (List ℕ)) → HasPids pids.old all
+        → Gives result (pids_fit (all ++ option_to_list (pid_of rec.now))) }
+    ensures pids { (all : List (List ℕ)) → HasPids pids.old all
+        → OnOk result (HasPids pids.new (all ++ option_to_list (pid_of rec.now))) }
 {
     match pid_of(rec) {
         Some(pid) => add_pid(pids, pid),

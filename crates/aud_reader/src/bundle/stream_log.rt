@@ -1,7 +1,7 @@
 //! The entries of the stream, while they are read.
 ghost use Rattle.std.specs.Prelude.{◌≡◌, ◌∷◌, ◌++◌, [], List, ℕ, length, not, MatchResult};
 ghost use Rattle.std.specs.List.{list_any};
-ghost use Rattle.aud_fields.specs.View.{view};
+ghost use Rattle.aud_json.specs.View.{view};
 ghost use Rattle.aud_reader.specs.declared.fault.InputCode.TheVariants.{OffsetTwice};
 ghost use Rattle.aud_base.specs.Steps.{guard};
 ghost use Rattle.aud_reader.specs.Steps.{Gives};
@@ -13,7 +13,7 @@ ghost use Rattle.aud_reader.specs.Bundle.{entry_room, with_entry, with_new_entry
 use crate::fault::{InputCode, LIMIT, LineFault};
 use crate::read::stream::stream_record;
 use aud_base::TextPool;
-use aud_fields::Fields;
+use aud_json::Fields;
 use aud_tap::{StreamRec, StreamRecs, Text};
 use std::alloc::Global;
 use std::collections::HashSet;
@@ -36,8 +36,11 @@ fn offset_of(entry: &StreamRec) -> &Text
 
 /// Adds an offset, unless it is there already.
 fn add_offset(offsets: &mut HashSet<Text, RandomState>, off: &Text) -> Result<(), LineFault>
-    ensures new { (all : List (List ℕ)) → HasTexts offsets.old all → Gives result (guard OffsetTwice (not (list_any (is_text off.now) all))) }
-    ensures kept { (all : List (List ℕ)) → HasTexts offsets.old all → MatchResult result (λ _. HasTexts offsets.new (all ++ off.now ∷ [])) (λ _. HasTexts offsets.new all) }
+    ensures new { (all : List (List ℕ)) → HasTexts offsets.old all
+        → Gives result (guard OffsetTwice (not (list_any (is_text off.now) all))) }
+    ensures kept { (all : List (List ℕ)) → HasTexts offsets.old all
+        → MatchResult result (λ _. HasTexts offsets.new (all ++ off.now ∷ []))
+        (λ _. HasTexts offsets.new all) }
 {
     let is_new = offsets.insert(off.share()?)?;
     if !is_new {
@@ -52,8 +55,11 @@ fn admit(
     offsets: &mut HashSet<Text, RandomState>,
     entry: &StreamRec,
 ) -> Result<(), LineFault>
-    ensures new { (all : List (List ℕ)) → HasTexts offsets.old all → Gives result (entry_room (length entries.now) all entry.now) }
-    ensures kept { (all : List (List ℕ)) → HasTexts offsets.old all → MatchResult result (λ _. HasTexts offsets.new (all ++ offset_of entry.now ∷ [])) (λ _. HasTexts offsets.new all) }
+    ensures new { (all : List (List ℕ)) → HasTexts offsets.old all
+        → Gives result (entry_room (length entries.now) all entry.now) }
+    ensures kept { (all : List (List ℕ)) → HasTexts offsets.old all
+        → MatchResult result (λ _. HasTexts offsets.new (all ++ offset_of entry.now ∷ []))
+        (λ _. HasTexts offsets.new all) }
 {
     if entries.len() >= MAX_ENTRIES {
         return Err(LIMIT);
@@ -98,8 +104,8 @@ impl StreamLog {
         }
     }
 
-    /// Adds an entry, unless there are too many or an earlier one has its offset. Where memory runs out, the entries may
-    /// be let go.
+    /// Adds an entry, unless there are too many or an earlier one has its offset. Where memory runs out, the entries
+    /// may be dropped.
     pub fn push(&mut self, entry: StreamRec) -> Result<(), LineFault>
         ensures { Becomes result self.new (with_new_entry self.old entry) }
     {

@@ -1,12 +1,12 @@
 //! The records of a client tap.
-ghost use Rattle.aud_fields.specs.View.{view};
+ghost use Rattle.aud_json.specs.View.{view};
 ghost use Rattle.aud_reader.specs.Steps.{Gives};
 ghost use Rattle.aud_reader.specs.ClientRecord.{message_of, client_record_of};
 
 use super::fields::{bytes_at, number_at, text_at};
 use crate::fault::{LineFault, UNKNOWN_KIND};
 use aud_base::TextPool;
-use aud_fields::Fields;
+use aud_json::Fields;
 use aud_tap::{ClientRec, Text};
 use std::alloc::Global;
 

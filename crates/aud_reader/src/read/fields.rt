@@ -1,6 +1,6 @@
 //! The fields of a JSON object, by their types and forms.
 ghost use Rattle.std.specs.Prelude.{◌≡◌, ◌&&◌, Ok, IfOk, IfSome, IsTrue, MatchResult, option_map};
-ghost use Rattle.aud_fields.specs.View.{field_view, list_view, text_view, view};
+ghost use Rattle.aud_json.specs.View.{field_view, list_view, text_view, view};
 ghost use Rattle.serde_json.specs.Find.{as_str};
 ghost use Rattle.aud_reader.specs.declared.fault.InputCode.TheVariants.{Field};
 ghost use Rattle.aud_base.specs.Steps.{need};
@@ -14,7 +14,7 @@ ghost use Rattle.aud_reader.specs.Fields.{all_items, texts_at, blobs_at};
 
 use crate::fault::{FIELD, LIMIT, LineFault};
 use aud_base::TextPool;
-use aud_fields::{Field as Member, Fields};
+use aud_json::{Field as Member, Fields};
 use aud_tap::limits::fits;
 use aud_tap::{Blobs, Bytes, Text, Texts, is_id, is_namespace};
 use base64::DecodeAllocError;
@@ -114,7 +114,8 @@ fn id_or_null<'a>(d: &Member<'a>) -> Option<Option<&'a str>>
 
 /// An offset, or null for none.
 pub fn id_or_null_at<'a>(key: &str, d: &Fields<'a>) -> Option<Option<&'a str>>
-    ensures value { option_map (option_map (λ s. s.now)) result ≡ id_or_null_at key.now (view d.now) }
+    ensures value { option_map (option_map (λ s. s.now)) result
+        ≡ id_or_null_at key.now (view d.now) }
     ensures form { IfSome result (λ o. IfSome o (λ s. IsTrue (is_id s.now))) }
 {
     d.get(key).and_then(id_or_null)

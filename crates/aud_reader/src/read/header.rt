@@ -1,12 +1,12 @@
 //! The header of a tap.
 ghost use Rattle.std.specs.Prelude.{◌≡◌};
-ghost use Rattle.aud_fields.specs.View.{view};
+ghost use Rattle.aud_json.specs.View.{view};
 ghost use Rattle.aud_reader.specs.Steps.{Gives};
 ghost use Rattle.aud_reader.specs.Header.{tap_kind, version_numbered, header_of};
 
 use super::fields::{number_at, text_at};
 use crate::fault::{InputCode, LineFault, UNKNOWN_KIND};
-use aud_fields::Fields;
+use aud_json::Fields;
 use aud_tap::{TapKind, Version};
 
 const OTHER_VERSION: LineFault = LineFault::Code(InputCode::Version);

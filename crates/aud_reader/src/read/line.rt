@@ -1,8 +1,8 @@
 //! A line: a tap's name, a blank, and a record in JSON.
 ghost use Rattle.std.specs.Prelude.{◌≡◌, Ok, IfOk, IfErr, IsTrue, MatchResult, string_bytes};
 ghost use Rattle.serde_json.specs.Data.{Data};
-ghost use Rattle.aud_fields.specs.Shown.{shown};
-ghost use Rattle.aud_fields.specs.View.{view};
+ghost use Rattle.aud_json.specs.Shown.{shown};
+ghost use Rattle.aud_json.specs.View.{view};
 ghost use Rattle.aud_reader.specs.Steps.{Fails, IsRefusal};
 ghost use Rattle.aud_tap.specs.WellFormed.{is_well_formed};
 ghost use Rattle.aud_tap.specs.TapName.{is_tap_name};
@@ -13,7 +13,7 @@ use super::tap_name::{cut_at_blank, tap_name};
 use crate::fault::{InputCode, LineFault, ReadFault};
 use crate::line::Line;
 use aud_base::TextPool;
-use aud_fields::{Fields, FieldsFault, Scratch};
+use aud_json::{Fields, FieldsFault, Scratch};
 use aud_tap::Rec;
 use aud_tap::limits::MAX_LINE;
 use std::alloc::Global;
@@ -25,7 +25,7 @@ const NO_TAP_NAME: LineFault = LineFault::Code(InputCode::NoTapName);
 
 const NOT_JSON: LineFault = LineFault::Code(InputCode::NotJson);
 
-/// The fields of JSON text, lent from it and from the scratch.
+/// The fields of JSON text, borrowed from it and from the scratch.
 fn json<'a>(
     alloc: Global,
     scratch: &'a mut Scratch,
@@ -45,7 +45,7 @@ fn json<'a>(
     }
 }
 
-/// The tap's name and the fields of the JSON value after it, lent from the line and from the scratch.
+/// The tap's name and the fields of the JSON value after it, borrowed from the line and from the scratch.
 #[tactic(auto, unfolding(crate::specs::Record::opened_line))]
 pub fn opened_line<'a>(
     alloc: Global,

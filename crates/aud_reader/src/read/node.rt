@@ -1,6 +1,6 @@
 //! The records of a node tap.
 ghost use Rattle.std.specs.Prelude.{◌≡◌, ◌&&◌, nat_le, IfOk, IsTrue};
-ghost use Rattle.aud_fields.specs.View.{view};
+ghost use Rattle.aud_json.specs.View.{view};
 ghost use Rattle.aud_tap.specs.Limits.{max_turn};
 ghost use Rattle.aud_tap.specs.WellFormed.{is_session_id, is_room, node_is_well_formed};
 ghost use Rattle.aud_reader.specs.Steps.{Gives};
@@ -11,7 +11,7 @@ use super::fields::{
 };
 use crate::fault::{FIELD, LIMIT, LineFault, UNKNOWN_KIND};
 use aud_base::TextPool;
-use aud_fields::Fields;
+use aud_json::Fields;
 use aud_tap::limits::{MAX_ID, MAX_NAMESPACE, MAX_OFFSET, MAX_ROOM, fits};
 use aud_tap::{NodeRec, Text, Version};
 

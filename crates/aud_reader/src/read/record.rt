@@ -1,6 +1,6 @@
 //! The record of a JSON value, by its kind.
 ghost use Rattle.std.specs.Prelude.{◌≡◌, Ok, IfOk, IsTrue, MatchResult};
-ghost use Rattle.aud_fields.specs.View.{view};
+ghost use Rattle.aud_json.specs.View.{view};
 ghost use Rattle.aud_reader.specs.Steps.{Gives, Fails};
 ghost use Rattle.aud_tap.specs.WellFormed.{is_well_formed};
 ghost use Rattle.aud_reader.specs.Record.{client_kinds, is_one_of, node_kinds, stream_kinds};
@@ -13,7 +13,7 @@ use super::node::node_record;
 use super::stream::stream_record;
 use crate::fault::{LineFault, UNKNOWN_KIND};
 use aud_base::TextPool;
-use aud_fields::Fields;
+use aud_json::Fields;
 use aud_tap::{Rec, TapKind};
 use std::alloc::Global;
 

@@ -1,6 +1,6 @@
 //! The records of a stream tap.
 ghost use Rattle.std.specs.Prelude.{◌≡◌, ◌&&◌, nat_le, length, IfOk, IsTrue};
-ghost use Rattle.aud_fields.specs.View.{view};
+ghost use Rattle.aud_json.specs.View.{view};
 ghost use Rattle.aud_tap.specs.Limits.{fit_rooms, max_attachments};
 ghost use Rattle.aud_tap.specs.Forms.{is_id, is_namespace};
 ghost use Rattle.aud_tap.specs.WellFormed.{stream_is_well_formed};
@@ -10,7 +10,7 @@ ghost use Rattle.aud_reader.specs.StreamRecord.{bounded_event, event_of, lists_o
 use super::fields::{blobs_at, bounded_id_at, id_at, namespace_at, text_at, texts_at};
 use crate::fault::{LIMIT, LineFault, UNKNOWN_KIND};
 use aud_base::TextPool;
-use aud_fields::Fields;
+use aud_json::Fields;
 use aud_tap::limits::{MAX_ATTACHMENTS, MAX_NAMESPACE, MAX_OFFSET, fit_rooms, fits};
 use aud_tap::{Blobs, Event, StreamRec, Text, Texts};
 use std::alloc::{AllocError, Global};
@@ -20,7 +20,8 @@ type Lists = (Texts, Texts, Blobs);
 
 /// The rooms and the attachments of an event are no more than may be, and no room is empty or too long.
 fn lists_fit(lists: &Lists) -> bool
-    ensures { result ≡ (fit_rooms lists.now.0 && fit_rooms lists.now.1 && nat_le (length lists.now.2) max_attachments) }
+    ensures { result ≡ (fit_rooms lists.now.0 && fit_rooms lists.now.1
+        && nat_le (length lists.now.2) max_attachments) }
 {
     let (rooms, except, bin) = lists;
     fit_rooms(rooms.as_slice())
@@ -38,8 +39,8 @@ fn lists(alloc: Global, pool: &mut TextPool, d: &Fields<'_>) -> Result<Lists, Li
     Ok((rooms, except, blobs_at(alloc, "bin", d)?))
 }
 
-/// The event of texts and of its lists. Its offset and its namespace are shared with the pool; its text, which ends with
-/// the offset, no other record has.
+/// The event of texts and of its lists. Its offset and its namespace are shared with the pool; its text, which ends
+/// with the offset, no other record has.
 fn event_with(
     alloc: Global,
     pool: &mut TextPool,
@@ -48,7 +49,15 @@ fn event_with(
     text: &str,
     lists: Lists,
 ) -> Result<Event, AllocError>
-    ensures { IfOk result (λ event. event ≡ record { off = off.now; nsp = nsp.now; rooms = lists.0; except = lists.1; text = text.now; bin = lists.2 }) }
+    ensures { IfOk result (λ event. event
+        ≡ record {
+          off = off.now;
+          nsp = nsp.now;
+          rooms = lists.0;
+          except = lists.1;
+          text = text.now;
+          bin = lists.2;
+        }) }
 {
     let (rooms, except, bin) = lists;
     Ok(Event {

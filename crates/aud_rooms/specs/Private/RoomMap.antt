@@ -11,7 +11,7 @@ use denote.Ref.{Bor}
 use Rattle.aud_node.specs.Stream.{Text}
 use Rattle.aud_rooms.specs.Rooms.{Rooms}
 
--- rooms, lent, each with what is kept of it
+-- rooms, borrowed, each with what is kept of it
 abbrev pub RoomMap : Type 0 → Type 0
 RoomMap X = List ((Bor Text) × X)
 

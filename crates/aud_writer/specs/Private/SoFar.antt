@@ -30,7 +30,7 @@ pub record IsLongAt (n : ℕ) (lines : List (List ℕ)) : Type 0 where
   pub short : list_any is_long before ≡ false
   pub long : is_long line ≡ true
 
--- one of these lines is refused so; want of memory says nothing of them
+-- one of these lines is refused so; running out of memory says nothing of them
 abbrev pub AreRefused : ReadFault → List (List ℕ × Rec) → Type 0
 AreRefused Memory recs = Unit {0}
 AreRefused (Input n code) recs = (code ≡ LineTooLong) × IsLongAt n (line_texts recs)

@@ -1,6 +1,6 @@
 use Rattle.std.proofs.Common.{subst}
 use Rattle.std.proofs.lemmas.Result.{IfOk-weaker}
-use Rattle.aud_report.proofs.EachLemmas.{one_for_each}
+use Rattle.aud_base.proofs.EachLemmas.{one_for_each}
 use Rattle.aud_app.specs.Private.Proven.{IsProofBy}
 use Rattle.aud_app.proofs.certificates.proofs.Goals as goal
 

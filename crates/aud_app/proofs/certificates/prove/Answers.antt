@@ -2,7 +2,7 @@ use Rattle.std.proofs.Common.{ap, map, string_bytes, subst, ◌∙◌}
 use Rattle.std.proofs.Crossing.{crosses}
 use denote.Param.Send.{sendable}
 use Rattle.std.proofs.lemmas.Result.{IfOk-weaker}
-use Rattle.aud_report.specs.OneForEach.{OneForEach}
+use Rattle.aud_base.specs.OneForEach.{OneForEach}
 use Rattle.aud_app.specs.Private.Proven.{IsProofBy}
 use Rattle.aud_app.specs.Proofs.{AreProofs}
 use Rattle.aud_app.proofs.MadeProofs.{of_their_sessions, of_sessions}

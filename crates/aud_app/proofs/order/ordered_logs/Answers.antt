@@ -1,6 +1,6 @@
 use Rattle.std.proofs.Common.{◌≡◌, ap, ◌∙◌, string_bytes}
-use Rattle.aud_report.specs.Output.{OutputSeen}
-use Rattle.aud_run.specs.Text.{order_text}
+use Rattle.aud_verdict.specs.Output.{OutputSeen}
+use Rattle.aud_merge.specs.Text.{order_text}
 use Rattle.aud_app.proofs.order.ordered_logs.Goals as goal
 
 pub returns : goal.returns

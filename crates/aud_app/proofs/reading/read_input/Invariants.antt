@@ -1,5 +1,5 @@
 use Rattle.std.proofs.Common.{◌≡◌, ◌+◌, ◌*◌, ◌≤◌, vec_len}
-use Rattle.aud_streams.specs.Watched.{inner_of, calls_of, has_failed}
+use Rattle.aud_base.specs.Watched.{inner_of, calls_of, has_failed}
 use Rattle.aud_app.proofs.Pieces.{IsReadUpTo}
 use Rattle.aud_app.proofs.reading.read_input.Given as goal
 

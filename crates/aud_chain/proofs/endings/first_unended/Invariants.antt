@@ -1,5 +1,5 @@
 use Rattle.std.proofs.Common.{◌≡◌, drop}
-use Rattle.aud_maker.specs.Private.Ended.{are_ended}
+use Rattle.aud_maker.specs.Ended.{are_ended}
 use Rattle.aud_chain.proofs.endings.first_unended.Given as goal
 
 abbrev pub invariant-loop-number : goal.invariant-loop-number

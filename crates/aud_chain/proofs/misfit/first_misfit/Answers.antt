@@ -1,7 +1,7 @@
 use Rattle.std.proofs.Common.{◌≡◌, ◌<◌, ◌∙◌, true, length, None, sym, ap, subst, arith}
 use Rattle.aud_node.specs.OwnPlaces.{own_places}
 use Rattle.aud_maker.specs.Begun.{turn_begun}
-use Rattle.aud_maker.specs.Private.Ended.{are_ended}
+use Rattle.aud_maker.specs.Ended.{are_ended}
 use Rattle.aud_chain.specs.Misfit.{IsMisfit, HasChain}
 use Rattle.aud_chain.proofs.Sweeps.{not-begun}
 use Rattle.aud_chain.proofs.Ends.{has-chain, at-none}

@@ -1,5 +1,5 @@
 use Rattle.std.proofs.Common.{option_map, sym, ap, ◌∙◌}
-use Rattle.aud_fields.specs.View.{view}
+use Rattle.aud_json.specs.View.{view}
 use Rattle.aud_client.proofs.Payloads.{asked_by_fields}
 use Rattle.aud_client.proofs.asked.asked_by_payload.Goals as goal
 

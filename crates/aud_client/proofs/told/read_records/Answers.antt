@@ -21,7 +21,7 @@ loop-i-preserved c =
           ∙ ap (λ b. take i recs ++ cond b [] (rec ∷ inside (drop (i + 1) recs))) goes_on
           ∙ sym (append_assoc (take i recs) (rec ∷ []) (inside (drop (i + 1) recs)))
           ∙ ap (λ r. r ++ inside (drop (i + 1) recs)) (sym read);
-      kept = λ done begun.
-          subst (λ (r : List ClientRec). HasKept c.args.stream.now c.args.c c.args.first done r c.read_record.new.reader c.read_record.new.stays) (sym read)
-          (c.in_ok-read_record.ensures c.args.first done (take i recs) (ap (λ (n : ℕ). c.args.first + n) count) (c.loop-i.invariant.kept done begun));
+      kept = λ done told begun.
+          subst (λ (r : List ClientRec). HasKept c.args.stream.now c.args.c c.args.first done told r c.read_record.new.reader c.read_record.new.stays) (sym read)
+          (c.in_ok-read_record.ensures c.args.first done told (take i recs) (ap (λ (n : ℕ). c.args.first + n) count) (c.loop-i.invariant.kept done told begun));
     }

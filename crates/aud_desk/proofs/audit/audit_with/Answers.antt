@@ -1,8 +1,8 @@
 use Rattle.std.proofs.Common.{◌≡◌, ◌∙◌, ℕ, List, String, Some, Global, length, map, zip, sym, ap, subst, arith}
 use Rattle.std.specs.Prelude.{slice_get, string_bytes}
 use Rattle.aud_node.specs.Stream.{Text}
-use Rattle.aud_report.specs.declared.verdict.Verdict.{Verdict}
-use Rattle.aud_report.specs.declared.verdict.SessionVerdict.{SessionVerdict}
+use Rattle.aud_verdict.specs.declared.verdict.Verdict.{Verdict}
+use Rattle.aud_verdict.specs.declared.verdict.SessionVerdict.{SessionVerdict}
 use Rattle.aud_maker.specs.Sessions.{sessions_of}
 use Rattle.aud_verdict.specs.Verdicts.{AreVerdicts, IsVerdictAt}
 use Rattle.aud_desk.specs.Named.{session_verdict}

@@ -3,7 +3,7 @@ use Rattle.aud_desk.specs.declared.entry.Entry.{Entry}
 use Rattle.aud_verdict.specs.Verdicts.{IsVerdictAt}
 use Rattle.aud_desk.specs.Workers.{IsWorkOf, entry_of}
 use Rattle.std.specs.Prelude.{ℕ, map, string_bytes}
-use Rattle.aud_report.specs.declared.verdict.Verdict.{Verdict}
+use Rattle.aud_verdict.specs.declared.verdict.Verdict.{Verdict}
 use Rattle.aud_desk.proofs.audit.verdicts.Goals as goal
 
 pub returns-in-Ok-gather-clause-each : goal.returns-in-Ok-gather-clause-each

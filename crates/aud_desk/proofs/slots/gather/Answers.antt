@@ -4,7 +4,7 @@ use Rattle.std.proofs.lemmas.Option.{get_or_from_slice_get, slice_get-map}
 use Rattle.std.proofs.lemmas.Result.{IfOk-weaker}
 use Rattle.std.proofs.lemmas.List.Elements.{Contains-append_left, Contains-push}
 use Rattle.aud_desk.specs.declared.worker.Worker.{Worker}
-use Rattle.aud_report.specs.declared.verdict.Verdict.{Verdict}
+use Rattle.aud_verdict.specs.declared.verdict.Verdict.{Verdict}
 use Rattle.aud_desk.specs.Draws.{times, late_count, is_late, is_same}
 use Rattle.aud_desk.specs.Views.{IsSeatOf, drawn, all_drawn}
 use Rattle.aud_desk.specs.Workers.{HasEntry}

@@ -1,5 +1,5 @@
 use Rattle.std.proofs.Common.{◌≡◌, ◌≤◌, ◌<◌, ◌+◌, ℕ, All, Contains, vec_len}
-use Rattle.aud_report.specs.declared.verdict.Verdict.{Verdict}
+use Rattle.aud_verdict.specs.declared.verdict.Verdict.{Verdict}
 use Rattle.aud_desk.specs.declared.worker.Worker.{Worker}
 use Rattle.aud_desk.specs.Draws.{late_count, times}
 use Rattle.aud_desk.specs.Slots.{HasVerdict, IsFull}

@@ -1,7 +1,7 @@
 use Rattle.std.proofs.Common.{rules, ◌≡◌, ℕ, ◌<◌, ◌⊎◌, inl, inr, ⊎_elim, List, Option, length, vec_len, All, Contains, [], ◌∷◌, arith, subst, sym}
 use Rattle.std.proofs.lemmas.List.Elements.{Contains-append_left, Contains-push}
 use Rattle.aud_desk.specs.declared.entry.Entry.{Entry}
-use Rattle.aud_report.specs.declared.verdict.Verdict.{Verdict}
+use Rattle.aud_verdict.specs.declared.verdict.Verdict.{Verdict}
 use Rattle.aud_desk.specs.Draws.{times}
 use Rattle.aud_desk.specs.Slots.{HasVerdict, IsFull}
 use Rattle.aud_desk.specs.Workers.{indices}

@@ -1,6 +1,6 @@
 use Rattle.std.proofs.Common.{◌≡◌, ℕ, ◌<◌, ◌⊎◌, vec_len, All, Contains}
 use Rattle.aud_desk.specs.declared.entry.Entry.{Entry}
-use Rattle.aud_report.specs.declared.verdict.Verdict.{Verdict}
+use Rattle.aud_verdict.specs.declared.verdict.Verdict.{Verdict}
 use Rattle.aud_desk.specs.Draws.{times}
 use Rattle.aud_desk.specs.Slots.{HasVerdict, IsFull}
 use Rattle.aud_desk.specs.Workers.{entry_of, indices}

@@ -1,5 +1,5 @@
 use Rattle.std.proofs.Common.{rules, subst, List, Option}
-use Rattle.aud_report.specs.declared.verdict.Verdict.{Verdict}
+use Rattle.aud_verdict.specs.declared.verdict.Verdict.{Verdict}
 use Rattle.aud_desk.specs.Slots.{HasVerdict}
 use Rattle.aud_desk.proofs.Filled.{none-push}
 use Rattle.aud_desk.proofs.slots.places.Goals as goal

@@ -1,4 +1,4 @@
-use Rattle.aud_options.specs.declared.choice.Mode.TheVariants.{Audit}
+use Rattle.aud_cli.specs.declared.choice.Mode.TheVariants.{Audit}
 use Rattle.aud_input.specs.Input.{input_of}
 use Rattle.aud_app.specs.Output.{layout_of}
 use Rattle.aud_laws.proofs.AnyOrder.OneOutput.{one-output}

@@ -1,6 +1,6 @@
 use Rattle.std.proofs.Common.{◌∙◌, sym, ap}
-use Rattle.aud_maker.specs.Private.Ended.{are_ended}
-use Rattle.aud_maker.specs.Private.Opening.{opening_of}
+use Rattle.aud_maker.specs.Ended.{are_ended}
+use Rattle.aud_maker.specs.Opening.{opening_of}
 use Rattle.aud_maker.proofs.FirstFault.{is_chain, not_opened, not_ended, not_swept}
 use Rattle.aud_maker.proofs.chain.chain_of.Goals as goal
 

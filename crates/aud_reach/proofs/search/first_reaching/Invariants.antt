@@ -4,8 +4,8 @@ use Rattle.aud_node.specs.Cursors.{cursor_at}
 use Rattle.aud_merge.specs.ByTurns.{first_reaching}
 use Rattle.aud_reach.proofs.search.first_reaching.Given as goal
 
--- what comes before `low` is passed over, and after the record at `high`, if it is one of the turn's, the cursor reaches
--- the position
+-- what comes before `low` is passed over, and after the record at `high`, if it is one of the turn's, the cursor
+-- reaches the position
 abbrev pub invariant-loop-low : goal.invariant-loop-low
 invariant-loop-low l =
     record {

@@ -1,7 +1,7 @@
 use Rattle.std.proofs.Common.{◌≡◌, take, map, Some}
 use Rattle.aud_cert.specs.Certificate.{turn_at}
 use Rattle.aud_rooms.specs.Assigned.{starting}
-use Rattle.aud_recoveries.specs.Private.Held.{walked_turns}
+use Rattle.aud_recoveries.specs.Held.{walked_turns}
 use Rattle.aud_recoveries.proofs.held.spans_held.Given as goal
 
 abbrev pub invariant-loop-turn : goal.invariant-loop-turn

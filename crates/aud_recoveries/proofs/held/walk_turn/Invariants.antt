@@ -1,5 +1,5 @@
 use Rattle.std.proofs.Common.{◌≡◌, take, option_map}
-use Rattle.aud_recoveries.specs.Private.Held.{walked_records}
+use Rattle.aud_recoveries.specs.Held.{walked_records}
 use Rattle.aud_recoveries.proofs.held.walk_turn.Given as goal
 
 abbrev pub invariant-loop-number : goal.invariant-loop-number

@@ -1,5 +1,5 @@
 use Rattle.std.proofs.Common.{◌≡◌, drop}
-use Rattle.aud_fields.specs.View.{view}
+use Rattle.aud_json.specs.View.{view}
 use Rattle.aud_refusals.specs.Excess.{first_excess}
 use Rattle.aud_refusals.proofs.excess.first_excess.Given as goal
 

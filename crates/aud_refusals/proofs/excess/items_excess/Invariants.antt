@@ -1,5 +1,5 @@
 use Rattle.std.proofs.Common.{◌≡◌, ◌+◌, drop}
-use Rattle.aud_fields.specs.View.{list_view}
+use Rattle.aud_json.specs.View.{list_view}
 use Rattle.aud_refusals.specs.Excess.{items_excess}
 use Rattle.aud_refusals.proofs.excess.items_excess.Given as goal
 

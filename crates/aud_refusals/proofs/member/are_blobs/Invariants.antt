@@ -1,5 +1,5 @@
 use Rattle.std.proofs.Common.{◌≡◌, drop, is_some}
-use Rattle.aud_fields.specs.View.{list_view}
+use Rattle.aud_json.specs.View.{list_view}
 use Rattle.aud_reader.specs.Fields.{all_items, as_blob}
 use Rattle.aud_refusals.proofs.member.are_blobs.Given as goal
 

@@ -1,6 +1,6 @@
 use Rattle.std.proofs.Common.{◌≡◌, drop, is_some}
 use Rattle.serde_json.specs.Find.{as_str}
-use Rattle.aud_fields.specs.View.{list_view}
+use Rattle.aud_json.specs.View.{list_view}
 use Rattle.aud_reader.specs.Fields.{all_items}
 use Rattle.aud_refusals.proofs.member.are_texts.Given as goal
 

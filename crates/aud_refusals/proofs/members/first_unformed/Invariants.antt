@@ -1,5 +1,5 @@
 use Rattle.std.proofs.Common.{◌≡◌, drop}
-use Rattle.aud_fields.specs.View.{view}
+use Rattle.aud_json.specs.View.{view}
 use Rattle.aud_refusals.specs.Members.{first_unformed}
 use Rattle.aud_refusals.proofs.members.first_unformed.Given as goal
 

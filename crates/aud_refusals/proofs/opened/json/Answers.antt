@@ -1,7 +1,7 @@
 use Rattle.std.proofs.Common.{Some, option_map, ap, ◌∙◌, sym, arith}
 use Rattle.std.specs.Result.{result_ok}
 use Rattle.serde_json.specs.Read.{read}
-use Rattle.aud_fields.specs.Shown.{shown}
+use Rattle.aud_json.specs.Shown.{shown}
 use Rattle.aud_reader.specs.declared.fault.InputCode.TheVariants.{NotJson}
 use Rattle.aud_reader.specs.Record.{json_of}
 use Rattle.aud_tap.proofs.Json.{json_or-read, json_or-refused}

@@ -1,6 +1,6 @@
 use Rattle.std.proofs.Common.{option_map, option_and_then, ap, sym, ◌∙◌}
 use Rattle.serde_json.specs.Find.{as_str}
-use Rattle.aud_fields.specs.View.{text_view}
+use Rattle.aud_json.specs.View.{text_view}
 use Rattle.aud_sio.proofs.PayloadLemmas.{last_item-view, text_of-view}
 use Rattle.aud_sio.proofs.payload.last_text.Goals as goal
 

@@ -2,7 +2,7 @@ use Rattle.std.proofs.Common.{rules, tests, ◌∙◌}
 use Rattle.std.proofs.lemmas.Iterator.Consumers.{YieldsList-from_filter, count_from_yields_List}
 use Rattle.std.proofs.lemmas.Iterator.{YieldsList-from_slice}
 use Rattle.std.proofs.lemmas.List.Sums.{length-filter}
-use Rattle.aud_report.specs.Verdict.{is_yes}
+use Rattle.aud_verdict.specs.YesOf.{is_yes}
 use Rattle.aud_summary.proofs.answers.count_yes.Goals as goal
 
 pub returns : goal.returns

@@ -3,9 +3,9 @@ use Rattle.aud_base.proofs.StepLemmas.{part-of}
 use Rattle.aud_node.specs.Stream.{Text}
 use Rattle.aud_node.specs.Cluster.{Cluster}
 use Rattle.aud_cert.specs.Certificate.{CertificateSeen}
-use Rattle.aud_cert_text.specs.Reading.{certificate_json, certificate_in, certificate_of}
-use Rattle.aud_cert_text.specs.Sound.{IsSound}
-use Rattle.aud_cert_text.proofs.Over.{read-sound, sound-some}
+use Rattle.aud_cert.specs.Reading.{certificate_json, certificate_in, certificate_of}
+use Rattle.aud_cert.specs.Sound.{IsSound}
+use Rattle.aud_cert.proofs.Over.{read-sound, sound-some}
 use Rattle.aud_verdict.proofs.acceptance.read_is_over.Goals as goal
 
 -- nothing refuses a certificate that a text names

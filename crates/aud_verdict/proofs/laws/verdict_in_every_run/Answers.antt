@@ -5,8 +5,8 @@ use Rattle.aud_merge.specs.Due.{due}
 use Rattle.aud_merge.specs.ByTurns.{IsPrefixOf}
 use Rattle.aud_check.specs.Frames.{AreEntries}
 use Rattle.aud_cert.specs.declared.fault.Fault.TheVariants.{Tail}
-use Rattle.aud_report.specs.declared.verdict.Verdict.{Verdict}
-use Rattle.aud_report.specs.declared.verdict.Verdict.TheVariants.{Yes, No}
+use Rattle.aud_verdict.specs.declared.verdict.Verdict.{Verdict}
+use Rattle.aud_verdict.specs.declared.verdict.Verdict.TheVariants.{Yes, No}
 use Rattle.aud_verdict.specs.Session.{SessionLogs, positions, received_by}
 use Rattle.aud_verdict.specs.Verdict.{IsVerdict}
 use Rattle.aud_verdict.specs.EveryRun.{HoldsInEveryRun}

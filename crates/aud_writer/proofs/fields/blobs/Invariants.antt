@@ -1,7 +1,7 @@
 use Rattle.std.proofs.Common.{◌≡◌, take, map}
 use Rattle.serde_json.specs.View.{items_view}
 use Rattle.aud_writer.specs.Written.{encoded, text_items}
-use Rattle.aud_writer.specs.Private.BytesBack.{DecodeBack}
+use Rattle.aud_writer.specs.BytesBack.{DecodeBack}
 use Rattle.aud_writer.proofs.fields.blobs.Given as goal
 
 abbrev pub invariant-loop-bytes : goal.invariant-loop-bytes

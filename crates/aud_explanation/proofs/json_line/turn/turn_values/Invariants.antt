@@ -1,6 +1,6 @@
 use Rattle.std.proofs.Common.{◌≡◌, take}
 use Rattle.serde_json.specs.View.{items_view}
-use Rattle.aud_cert_text.specs.Text.{items}
+use Rattle.aud_cert.specs.Text.{items}
 use Rattle.aud_explanation.specs.JsonTurn.{turn_data}
 use Rattle.aud_explanation.proofs.json_line.turn.turn_values.Given as goal
 

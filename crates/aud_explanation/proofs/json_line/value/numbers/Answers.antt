@@ -1,6 +1,6 @@
 use Rattle.std.proofs.Common.{arith}
 use Rattle.std.proofs.lemmas.Grind.{common_steps}
-use Rattle.aud_cert_text.specs.Text.{whole}
+use Rattle.aud_cert.specs.Text.{whole}
 use Rattle.aud_explanation.proofs.JsonLists.{items-next}
 use Rattle.aud_explanation.proofs.json_line.value.numbers.Goals as goal
 

@@ -1,4 +1,4 @@
-use Rattle.aud_fields.specs.View.{view}
+use Rattle.aud_json.specs.View.{view}
 use Rattle.aud_reader.specs.SoFar.{taps_so_far}
 use Rattle.aud_reader.proofs.ShownRecords.{own-read}
 use Rattle.aud_reader.proofs.bundle.own_records.opened_record.Goals as goal

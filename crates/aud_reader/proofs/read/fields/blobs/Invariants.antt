@@ -1,5 +1,5 @@
 use Rattle.std.proofs.Common.{◌≡◌, drop}
-use Rattle.aud_fields.specs.View.{list_view}
+use Rattle.aud_json.specs.View.{list_view}
 use Rattle.aud_reader.specs.Fields.{as_blob, all_items}
 use Rattle.aud_reader.proofs.Lists.{with_front}
 use Rattle.aud_reader.proofs.read.fields.blobs.Given as goal

@@ -1,5 +1,5 @@
 use Rattle.std.proofs.Common.{◌≡◌, drop}
-use Rattle.aud_fields.specs.View.{list_view}
+use Rattle.aud_json.specs.View.{list_view}
 use Rattle.serde_json.specs.Find.{as_str}
 use Rattle.aud_reader.specs.Fields.{all_items}
 use Rattle.aud_reader.proofs.Lists.{with_front}

@@ -1,4 +1,4 @@
-use Rattle.aud_fields.specs.View.{view}
+use Rattle.aud_json.specs.View.{view}
 use Rattle.aud_reader.proofs.ShownRecords.{record-read}
 use Rattle.aud_reader.proofs.read.line.parse.Goals as goal
 

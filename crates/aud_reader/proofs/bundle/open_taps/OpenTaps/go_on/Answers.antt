@@ -1,7 +1,7 @@
 use Rattle.std.proofs.Common.{◌≡◌, ◌∙◌, ◌++◌, get_or, sym, ap, refl}
 use Rattle.std.proofs.Math.ListN.{get_or-map}
 use Rattle.std.proofs.lemmas.List.{map-set}
-use Rattle.aud_fields.specs.View.{view}
+use Rattle.aud_json.specs.View.{view}
 use Rattle.aud_reader.specs.Bundle.{with_tap_record, pids_in, pids_of}
 use Rattle.aud_reader.specs.Private.Changes.{Becomes}
 use Rattle.aud_reader.specs.Private.Texts.{HasPids}

@@ -1,4 +1,4 @@
-use Rattle.aud_fields.specs.View.{view}
+use Rattle.aud_json.specs.View.{view}
 use Rattle.aud_reader.specs.SoFar.{taps_so_far}
 use Rattle.aud_reader.proofs.ShownRecords.{line-brings}
 use Rattle.aud_reader.proofs.bundle.open_taps.OpenTaps.read_line.Goals as goal

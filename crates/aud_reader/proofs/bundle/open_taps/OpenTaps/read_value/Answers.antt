@@ -1,5 +1,5 @@
 use Rattle.std.proofs.Common.{◌∙◌, sym}
-use Rattle.aud_fields.specs.View.{view}
+use Rattle.aud_json.specs.View.{view}
 use Rattle.aud_reader.specs.SoFar.{taps_so_far}
 use Rattle.aud_reader.proofs.KeptLemmas.{place-bound, named-first}
 use Rattle.aud_reader.proofs.bundle.open_taps.OpenTaps.read_value.Goals as goal

@@ -1,8 +1,0 @@
-use Rattle.std.proofs.Common.{◌≡◌, drop}
-use Rattle.serde_json.specs.View.{items_view}
-use Rattle.aud_cert_text.specs.Parsed.{parsed_span, each_item}
-use Rattle.aud_cert_text.proofs.Lists.{with_front}
-use Rattle.aud_cert_text.proofs.parsed.spans.Given as goal
-
-abbrev pub invariant-loop-d : goal.invariant-loop-d
-invariant-loop-d l = with_front l.spans.items (each_item parsed_span (items_view (drop l.d-index l.items))) ≡ each_item parsed_span (items_view l.items)

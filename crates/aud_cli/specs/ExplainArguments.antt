@@ -1,0 +1,79 @@
+-- What the words of `explain` ask for.
+use Rattle.std.specs.Prelude.{ℕ, ◌≤◌, List, [], ◌∷◌, codes, Bool, true, false, ◌||◌, Option, Some, None, IfSome, is_some, option_map, option_and_then, unwrap_or, if◌then◌else◌}
+use Rattle.std.specs.Str.{bytes_eq}
+use Rattle.aud_cli.specs.Arguments.{workers_named}
+use Rattle.aud_cli.specs.declared.fail_on.FailOn.{FailOn}
+use Rattle.aud_cli.specs.declared.only.Only.{Only}
+use Rattle.aud_cli.specs.declared.output_form.OutputForm.{OutputForm}
+use Rattle.aud_cli.specs.declared.output_form.OutputForm.TheVariants.{Text, Json, Html}
+use Rattle.aud_cli.specs.declared.explain_options.Choices.{Choices}
+use Rattle.aud_cli.specs.declared.explain_options.ExplainOptions.{ExplainOptions}
+use Rattle.aud_cli.specs.FailOn.{every_class, fail_on_named}
+use Rattle.aud_cli.specs.Given.{Given, Words, given_of, values_of}
+use Rattle.aud_cli.specs.Only.{only_named}
+
+-- none of the options that may stand once
+abbrev pub no_choices : Choices
+no_choices = record { only = None; form = None; fail_on = None; quiet = false; workers = None }
+
+-- these options and --only with what it says, where that is known; it may stand once
+abbrev pub with_only : Choices → Option Only → Option Choices
+with_only choices only = if is_some choices.only then None else option_map (λ only. record choices { only = Some only }) only
+
+-- these options and --fail-on with what it says, where that is known; it may stand once
+abbrev pub with_fail_on : Choices → Option FailOn → Option Choices
+with_fail_on choices fail_on = if is_some choices.fail_on then None else option_map (λ fail_on. record choices { fail_on = Some fail_on }) fail_on
+
+-- these options and --workers with its number, where it has one; it may stand once
+abbrev pub with_workers : Choices → Option ℕ → Option Choices
+with_workers choices workers = if is_some choices.workers then None else option_map (λ workers. record choices { workers = Some workers }) workers
+
+-- these options and --json or --html, of which one may stand, once
+abbrev pub with_form : Choices → OutputForm → Option Choices
+with_form choices form = if is_some choices.form then None else Some (record choices { form = Some form })
+
+-- these options and --quiet, which may stand once
+abbrev pub with_quiet : Choices → Option Choices
+with_quiet choices = if choices.quiet then None else Some (record choices { quiet = true })
+
+-- these options and the next one, where there is one of its name; files and --pid may stand any number of times
+abbrev pub with_given : Choices → Given → Option Choices
+with_given choices given =
+    if bytes_eq given.name [] || bytes_eq given.name (codes "--pid") then Some choices
+    else (if bytes_eq given.name (codes "--json") then with_form choices Json
+    else (if bytes_eq given.name (codes "--html") then with_form choices Html
+    else (if bytes_eq given.name (codes "--quiet") then with_quiet choices
+    else (if bytes_eq given.name (codes "--only") then with_only choices (only_named given.value)
+    else (if bytes_eq given.name (codes "--fail-on") then with_fail_on choices (fail_on_named given.value)
+    else (if bytes_eq given.name (codes "--workers") then with_workers choices (workers_named given.value)
+    else None))))))
+
+-- these options and all that follow, in any order
+abbrev pub choices_of : Choices → List Given → Option Choices
+choices_of before [] = Some before
+choices_of before (given ∷ all) = option_and_then (λ choices. choices_of choices all) (with_given before given)
+
+-- what is asked for by these options: without --json and --html the output is text, without --fail-on any fault makes
+-- status 1, and without --workers there are 4
+abbrev pub options_of : List Given → Choices → ExplainOptions
+options_of all choices = record {
+  pids = values_of (codes "--pid") all;
+  only = choices.only;
+  form = unwrap_or choices.form Text;
+  fail_on = unwrap_or choices.fail_on every_class;
+  quiet = choices.quiet;
+  workers = unwrap_or choices.workers 4;
+  files = values_of [] all;
+}
+
+-- what the words ask for, where they are understood: the first is explain
+abbrev pub asked : Words → Option ExplainOptions
+asked [] = None
+asked (name ∷ words) =
+    if bytes_eq name.now (codes "explain")
+    then option_and_then (λ all. option_map (options_of all) (choices_of no_choices all)) (given_of words)
+    else None
+
+-- a number of workers that these options give is 1 to 64
+abbrev pub AreWithin : Choices → Type 0
+AreWithin choices = IfSome choices.workers (λ n. (1 ≤ n) × (n ≤ 64))

@@ -1,0 +1,58 @@
+-- The words as options and files.
+use Rattle.std.specs.Prelude.{ℕ, List, [], ◌∷◌, map, filter, codes, slice_index, Bool, not, ◌||◌, ◌&&◌, ◌==◌, Option, Some, None, option_map, if◌then◌else◌}
+use Rattle.std.specs.List.{before_first, after_first, list_any}
+use Rattle.std.specs.Str.{bytes_eq}
+use Rattle.std.specs.Borrow.{Bor}
+
+-- words, as a command line has them
+abbrev pub Words : Type 0
+Words = List (Bor (List ℕ))
+
+-- an option, by its name with the dashes, and its value, which is empty where it has none; or a file, without a name
+pub record Given : Type 0 where
+  pub name : List ℕ
+  pub value : List ℕ
+
+-- whether an option of this name has a value
+abbrev pub takes_value : List ℕ → Bool
+takes_value name =
+    bytes_eq name (codes "--pid") || bytes_eq name (codes "--only") || bytes_eq name (codes "--fail-on") || bytes_eq name (codes "--workers")
+
+-- whether the word is a file: a dash alone, which is standard input, or what begins with none
+abbrev pub is_file : List ℕ → Bool
+is_file word = bytes_eq word (codes "-") || not (slice_index word 0 == 45)
+
+-- this file
+abbrev pub file : List ℕ → Given
+file word = record { name = []; value = word }
+
+-- whether this is an equals sign
+abbrev pub is_equals : ℕ → Bool
+is_equals b = b == 61
+
+-- whether a value is joined to the option
+abbrev pub is_joined : List ℕ → Bool
+is_joined word = list_any is_equals word && takes_value (before_first is_equals word)
+
+-- what a word gives by itself: a file, an option with its value after the first equals sign, or an option without one
+abbrev pub alone : List ℕ → Given
+alone word =
+    if is_file word then file word
+    else (if is_joined word then record { name = before_first is_equals word; value = after_first is_equals word }
+    else record { name = word; value = [] })
+
+-- what the words give: an option that takes a value has it joined, or the next word is its value, whichever it is;
+-- after -- each word is a file. None where a value is missing
+abbrev pub given_of : Words → Option (List Given)
+given_of [] = Some []
+given_of (word ∷ []) =
+    if bytes_eq word.now (codes "--") then Some []
+    else (if takes_value word.now then None else Some (alone word.now ∷ []))
+given_of (word ∷ next ∷ words) =
+    if bytes_eq word.now (codes "--") then Some (map (λ w. file w.now) (next ∷ words))
+    else (if takes_value word.now then option_map (λ more. record { name = word.now; value = next.now } ∷ more) (given_of words)
+    else option_map (λ more. alone word.now ∷ more) (given_of (next ∷ words)))
+
+-- the values of the option of this name, in their order; without a name the files
+abbrev pub values_of : List ℕ → List Given → List (List ℕ)
+values_of name all = map (λ g. g.value) (filter (λ g. bytes_eq g.name name) all)

@@ -1,0 +1,6 @@
+pub mod Arguments
+pub mod Only
+pub mod FailOn
+pub mod Given
+pub mod ExplainArguments
+pub mod Private

@@ -1,0 +1,185 @@
+//! The arguments of `explain`.
+ghost use Rattle.std.specs.Prelude.{◌≡◌, ◌≢◌, ◌≤◌, Some, None, IfErr, IfOk, IfSome, option_map};
+ghost use Rattle.clap.specs.Words.{kind_of};
+ghost use Rattle.aud_cli.specs.ExplainArguments.{AreWithin, asked, choices_of, no_choices, options_of, with_fail_on, with_form, with_given, with_only, with_quiet, with_workers};
+
+use crate::arguments::workers_named;
+use crate::explain_options::{Choices, ExplainOptions};
+use crate::fail_on::{EVERY_CLASS, FailOn, fail_on_named};
+use crate::given::{Given, given_of, values_of};
+use crate::only::{Only, only_named};
+use crate::output_form::OutputForm;
+use crate::parser::refusal;
+use clap::Error;
+use clap::error::ErrorKind;
+use std::alloc::{AllocError, Global};
+
+/// These options and `--only`, which may stand once.
+fn with_only(choices: Choices, only: Option<Only>) -> Option<Choices>
+    ensures { result ≡ with_only choices only }
+{
+    if choices.only.is_some() {
+        return None;
+    }
+    let only = only?;
+    Some(Choices {
+        only: Some(only),
+        ..choices
+    })
+}
+
+/// These options and `--fail-on`, which may stand once.
+fn with_fail_on(choices: Choices, fail_on: Option<FailOn>) -> Option<Choices>
+    ensures { result ≡ with_fail_on choices fail_on }
+{
+    if choices.fail_on.is_some() {
+        return None;
+    }
+    let fail_on = fail_on?;
+    Some(Choices {
+        fail_on: Some(fail_on),
+        ..choices
+    })
+}
+
+/// These options and `--workers`, which may stand once.
+fn with_workers(choices: Choices, workers: Option<u8>) -> Option<Choices>
+    ensures { result ≡ with_workers choices workers }
+{
+    if choices.workers.is_some() {
+        return None;
+    }
+    let workers = workers?;
+    Some(Choices {
+        workers: Some(workers),
+        ..choices
+    })
+}
+
+/// These options and `--json` or `--html`, of which one may stand, once.
+fn with_form(choices: Choices, form: OutputForm) -> Option<Choices>
+    ensures { result ≡ with_form choices form }
+{
+    if choices.form.is_some() {
+        return None;
+    }
+    Some(Choices {
+        form: Some(form),
+        ..choices
+    })
+}
+
+/// These options and `--quiet`, which may stand once.
+fn with_quiet(choices: Choices) -> Option<Choices>
+    ensures { result ≡ with_quiet choices }
+{
+    if choices.quiet {
+        return None;
+    }
+    Some(Choices {
+        quiet: true,
+        ..choices
+    })
+}
+
+/// These options and the next one. Sessions and files have their own places.
+fn with_given(choices: Choices, given: &Given<'_>) -> Option<Choices>
+    requires { AreWithin choices }
+    ensures choices { result ≡ with_given choices given.now }
+    ensures within { IfSome result AreWithin }
+{
+    let name = given.name();
+    if name == "" || name == "--pid" {
+        Some(choices)
+    } else if name == "--json" {
+        with_form(choices, OutputForm::Json)
+    } else if name == "--html" {
+        with_form(choices, OutputForm::Html)
+    } else if name == "--quiet" {
+        with_quiet(choices)
+    } else if name == "--only" {
+        with_only(choices, only_named(given.value()))
+    } else if name == "--fail-on" {
+        with_fail_on(choices, fail_on_named(given.value()))
+    } else if name == "--workers" {
+        with_workers(choices, workers_named(given.value()))
+    } else {
+        None
+    }
+}
+
+/// The options of all that is given, where it is understood.
+fn choices_of(all: &[Given<'_>]) -> Option<Choices>
+    ensures choices { result ≡ choices_of no_choices all.now }
+    ensures within { IfSome result AreWithin }
+{
+    let mut choices = Choices {
+        only: None,
+        form: None,
+        fail_on: None,
+        quiet: false,
+        workers: None,
+    };
+    'all: for given in all {
+        choices = with_given(choices, given)?;
+    }
+    Some(choices)
+}
+
+/// What is asked for by these options, and by the sessions and files of all that is given.
+fn options_of(
+    alloc: Global,
+    choices: Choices,
+    all: &[Given<'_>],
+) -> Result<ExplainOptions, AllocError>
+    requires { AreWithin choices }
+    ensures options { IfOk result (λ o. o ≡ options_of all.now choices) }
+    ensures within { IfOk result (λ o. (1 ≤ o.workers) × (o.workers ≤ 64)) }
+{
+    let pids = values_of(alloc, "--pid", all)?;
+    let files = values_of(alloc, "", all)?;
+    Ok(ExplainOptions {
+        pids,
+        only: choices.only,
+        form: choices.form.unwrap_or(OutputForm::Text),
+        fail_on: choices.fail_on.unwrap_or(EVERY_CLASS),
+        quiet: choices.quiet,
+        workers: choices.workers.unwrap_or(4),
+        files,
+    })
+}
+
+/// What the arguments ask for, where they are understood.
+fn asked(alloc: Global, words: &[&str]) -> Result<Option<ExplainOptions>, AllocError>
+    ensures options { IfOk result (λ o. o ≡ asked words.now) }
+    ensures within { IfOk result (λ o. IfSome o (λ o. (1 ≤ o.workers) × (o.workers ≤ 64))) }
+{
+    let Some((name, rest)) = words.split_first() else {
+        return Ok(None);
+    };
+    if *name != "explain" {
+        return Ok(None);
+    }
+    let Some(all) = given_of(alloc, rest)? else {
+        return Ok(None);
+    };
+    let Some(choices) = choices_of(&all) else {
+        return Ok(None);
+    };
+    let options = options_of(alloc, choices, &all)?;
+    Ok(Some(options))
+}
+
+/// What the arguments after the program's name ask for, of which the first is `explain`. The error has the text to
+/// print: help that was asked for, or why the arguments are refused; where memory ran out its kind is `OutOfMemory`.
+pub fn explain_asked<'a>(alloc: Global, words: &'a [&'a str]) -> Result<ExplainOptions, Error>
+    ensures understood { IfOk result (λ o. asked words.now ≡ Some o) }
+    ensures refused { IfErr result (λ e. kind_of e ≢ ErrorKind.OutOfMemory
+        → asked words.now ≡ None) }
+    ensures workers { IfOk result (λ o. (1 ≤ o.workers) × (o.workers ≤ 64)) }
+{
+    match asked(alloc, words)? {
+        Some(options) => Ok(options),
+        None => Err(refusal(alloc, words)?),
+    }
+}

@@ -1,0 +1,34 @@
+//! What the arguments ask for.
+use crate::fail_on::FailOn;
+use crate::only::Only;
+use crate::output_form::OutputForm;
+use aud_base::Texts;
+
+/// What is to be explained, and how.
+#[derive(Drop)]
+pub struct ExplainOptions {
+    /// The sessions that are shown, also those that are answered yes, in the order of the arguments. Where there is
+    /// none, those that have something to explain.
+    pub pids: Texts,
+    /// Which of these are shown; all where it is `None`.
+    pub only: Option<Only>,
+    pub form: OutputForm,
+    pub fail_on: FailOn,
+    /// Whether nothing is told of how much of a long input was read.
+    pub quiet: bool,
+    /// How many workers there are, each in a thread of its own: 1 to 64. The output is the same for every number.
+    pub workers: u8,
+    /// The names of the files that are read one after the other, `-` for standard input. Where there is none, standard
+    /// input is read.
+    pub files: Texts,
+}
+
+/// The options that have no place in a list; each stands at most once.
+#[derive(Clone, Copy, Debug, PartialEq, Eq, Drop)]
+pub struct Choices {
+    pub only: Option<Only>,
+    pub form: Option<OutputForm>,
+    pub fail_on: Option<FailOn>,
+    pub quiet: bool,
+    pub workers: Option<u8>,
+}

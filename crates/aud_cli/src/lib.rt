@@ -1,0 +1,44 @@
+//! The command line: [`options`] reads the arguments of the modes that read a bundle and [`files`] the files that they
+//! name; [`explain_asked`] reads those of `explain`. The parser has the help, and says why arguments are refused.
+//!
+//! The arguments after the program's name:
+//!
+//! ```
+//! use aud_cli::{Mode, files, options};
+//!
+//! let words = ["audit", "--workers", "64", "a.jsonl"];
+//! let chosen = options(alloc, &words)?;
+//! assert_eq!(rt; chosen.mode, Mode::Audit);
+//! assert_eq!(rt; chosen.workers, 64);
+//! assert_eq!(rt; files(alloc, &words)?.names.as_slice().len(), 1);
+//! let refused = options(alloc, &["audit", "--workers", "65"]);
+//! assert!(rt; refused.is_err());
+//! ```
+//!
+//! ```
+//! use aud_cli::{OutputForm, explain_asked};
+//!
+//! let asked = explain_asked(alloc, &["explain", "--json", "--fail-on", "delivery,refused", "a.jsonl"])?;
+//! assert_eq!(rt; asked.form, OutputForm::Json);
+//! assert!(rt; asked.fail_on.refused && !asked.fail_on.packets);
+//! assert_eq!(rt; asked.files.as_slice().len(), 1);
+//! ```
+#![tactic(auto)]
+
+mod arguments;
+mod choice;
+mod explain_arguments;
+mod explain_options;
+mod fail_on;
+mod given;
+mod only;
+mod output_form;
+mod parser;
+
+pub use arguments::{files, options, workers_named};
+pub use choice::{InputFiles, Mode, Options};
+pub use explain_arguments::explain_asked;
+pub use explain_options::ExplainOptions;
+pub use fail_on::FailOn;
+pub use only::Only;
+pub use output_form::OutputForm;

@@ -1,4 +1,0 @@
-pub mod Takes
-pub mod TailLemmas
-pub mod Files
-pub mod Newlines

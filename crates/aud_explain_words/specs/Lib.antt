@@ -1,5 +1,0 @@
-pub mod Only
-pub mod FailOn
-pub mod Given
-pub mod Words
-pub mod Private

@@ -1,0 +1,17 @@
+use Rattle.std.proofs.Common.{◌≡◌, ◌-◌}
+use Rattle.aud_base.specs.Watched.{inner_of, has_failed}
+use Rattle.aud_input.specs.Private.Feeding.{IsWithin}
+use Rattle.aud_input.proofs.Takes.{IsReadUpTo}
+use Rattle.aud_input.proofs.reading.read_file.Given as goal
+
+-- none failed, and what was read was taken in
+abbrev pub invariant-pieces : goal.invariant-pieces
+invariant-pieces g l = record {
+  within : IsWithin l.feeding;
+  failed : has_failed l.file ≡ has_failed l.fn.file;
+  read : IsReadUpTo (g.R.Read.remaining (inner_of l.fn.file)) (g.R.Read.remaining (inner_of l.file)) l.fn.feeding l.feeding;
+}
+
+-- there may be fewer pieces each time
+abbrev pub decreases-pieces : goal.decreases-pieces
+decreases-pieces g l = 4294967296 - l.feeding.pieces

@@ -1,0 +1,75 @@
+-- The files of an input, by what their readers have left, and what is read of them.
+use Rattle.std.specs.Prelude.{◌≡◌, ℕ, ◌-◌, ◌<◌, List, [], ◌∷◌, length, sum_by, slice_get, Option, Some, None, option_map, IfSome, Result, Ok, Err}
+use Rattle.aud_tap.specs.declared.taps.Tap.{Tap}
+use Rattle.aud_reader.specs.declared.fault.InputCode.{InputCode}
+use Rattle.aud_reader.specs.declared.fault.InputCode.TheVariants.{SecondStream}
+use Rattle.aud_reader.specs.declared.fault.ReadFault.{ReadFault}
+use Rattle.aud_reader.specs.declared.fault.ReadFault.TheVariants.{Input}
+use Rattle.aud_reader.specs.Lines.{line_pieces, without_return}
+use Rattle.aud_input.specs.declared.input.Layout.TheVariants.{Bundle}
+use Rattle.aud_input.specs.Input.{InputSeen, input_of}
+use Rattle.aud_input.specs.Sources.{joined}
+use Rattle.aud_input.specs.TapLines.{TapLines, first_like, tap_lines_of}
+use Rattle.aud_input.specs.declared.reading.Recorded.{Recorded}
+use Rattle.aud_input.specs.declared.reading.Size.{Size}
+use Rattle.aud_input.specs.declared.reading.ReadingFault.{ReadingFault}
+use Rattle.aud_input.specs.declared.reading.ReadingFault.TheVariants.{Refused, Unread, Memory}
+use Rattle.aud_input.specs.declared.refusal.Refusal.{Refusal}
+use Rattle.aud_input.specs.FileLine.{file_line}
+
+-- the bytes of each file are those that its reader has left, where the reader tells them
+abbrev pub AreTold : List (Option (List ℕ)) → List (List ℕ) → Type 0
+AreTold [] [] = Unit {0}
+AreTold (left ∷ lefts) (file ∷ files) = IfSome left (λ told. file ≡ told) × AreTold lefts files
+AreTold lefts files = ⊥
+
+-- how many lines each file but the last has
+abbrev pub line_counts : List (List ℕ) → List ℕ
+line_counts [] = []
+line_counts (file ∷ []) = []
+line_counts (file ∷ next ∷ files) = length (line_pieces file) ∷ line_counts (next ∷ files)
+
+-- the taps of what was read, or the first refused line
+abbrev pub taps_read : Result InputSeen ReadFault → Result (List Tap) ReadFault
+taps_read (Ok input) = Ok input.taps
+taps_read (Err fault) = Err fault
+
+-- how many lines and how many bytes the files have
+abbrev pub size_of : List (List ℕ) → Size
+size_of files = record { lines = sum_by (λ file. length (line_pieces file)) files; bytes = sum_by (λ file. length file) files }
+
+-- of files that are read as one input: the taps are those of its bundle, the lines those of their records, and the size
+-- that of the files
+pub record AreRecorded (lefts : List (Option (List ℕ))) (read : Recorded) : Type 0 where
+  pub files : List (List ℕ)
+  pub told : AreTold lefts files
+  pub taps : taps_read (input_of Bundle (joined files)) ≡ Ok read.taps
+  pub lines : tap_lines_of (joined files) ≡ read.lines
+  pub size : read.size ≡ size_of files
+
+-- what is kept of a line: its bytes without the carriage return at its end, or none
+abbrev pub IsKept : Option (List ℕ) → List ℕ → Type 0
+IsKept line [] = Unit {0}
+IsKept line (b ∷ bytes) = option_map without_return line ≡ Some (b ∷ bytes)
+
+-- the line of the header that stands already where a line is refused: the first line with the name that this one begins
+-- with. Of a second stream none is told
+abbrev pub header_told : InputCode → List TapLines → List ℕ → Option ℕ
+header_told SecondStream lines line = None
+header_told code lines line = first_like lines line
+
+-- of files that are read as one input: the line is the first that is refused, and stands there in that file; its bytes
+-- are those of the line with this number, where they are kept, and the header is that of the tap that they name
+pub record IsRefused (lefts : List (Option (List ℕ))) (refusal : Refusal) : Type 0 where
+  pub files : List (List ℕ)
+  pub told : AreTold lefts files
+  pub refused : taps_read (input_of Bundle (joined files)) ≡ Err (Input refusal.number refusal.code)
+  pub stands : refusal.at ≡ file_line (line_counts files) refusal.number
+  pub kept : IsKept (slice_get (line_pieces (joined files)) (refusal.number - 1)) refusal.line
+  pub header : refusal.header ≡ header_told refusal.code (tap_lines_of (joined files)) refusal.line
+
+-- why files are not recorded: a line is refused, or one of them could not be read
+abbrev pub AreUnrecorded : List (Option (List ℕ)) → ReadingFault → Type 0
+AreUnrecorded lefts (Refused refusal) = IsRefused lefts refusal
+AreUnrecorded lefts (Unread file) = file < length lefts
+AreUnrecorded lefts Memory = Unit {0}

@@ -1,7 +1,0 @@
-use Rattle.std.proofs.Common.{◌≡◌, drop}
-use Rattle.aud_lines.specs.TapLines.{first_kept}
-use Rattle.aud_lines.proofs.tap_lines.first_kept.Given as goal
-
--- those so far have other names
-abbrev pub invariant-loop-tap : goal.invariant-loop-tap
-invariant-loop-tap l = first_kept l.taps l.name ≡ first_kept (drop l.tap-index l.taps) l.name

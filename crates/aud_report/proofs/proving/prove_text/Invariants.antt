@@ -1,7 +1,0 @@
-use Rattle.std.proofs.Common.{◌≡◌, take, flat_map, string_bytes}
-use Rattle.aud_report.specs.Proving.{proof_line}
-use Rattle.aud_report.proofs.proving.prove_text.Given as goal
-
--- the certificates of the sessions that were gone over
-abbrev pub invariant-loop-proof : goal.invariant-loop-proof
-invariant-loop-proof l = string_bytes l.out ≡ flat_map proof_line (take l.proof-index l.proofs)

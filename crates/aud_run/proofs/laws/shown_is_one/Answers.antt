@@ -1,5 +1,0 @@
-use Rattle.aud_run.proofs.OneShown.{one_run, one_block}
-use Rattle.aud_run.proofs.laws.shown_is_one.Goals as goal
-
-pub returns : goal.returns
-returns c = record { run = one_run; blocked = one_block; either = λ k steps fronts is are. are.no_run steps is.is_run }

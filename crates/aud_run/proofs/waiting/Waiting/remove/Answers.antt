@@ -1,8 +1,0 @@
-use Rattle.std.proofs.Common.{ℕ, List, Bor, arith}
-use Rattle.aud_run.proofs.waiting.Waiting.remove.Goals as goal
-
-pub returns-clause-others : goal.returns-clause-others
-returns-clause-others c = λ other apart.
-    let key : (Bor (List ℕ)) × ℕ = (record { ref_ptr = (0, 0); now = other.0 }, other.1) in
-    let out = c.remove.ensures.updates.2 key apart in
-    grind arith

@@ -1,0 +1,67 @@
+//! The commands that write a report on a bundle: all that read one, but `explain`.
+use crate::progress::Progress;
+use crate::source::{Source, sources, unread};
+use crate::{fail, fail_for, refuse, status_code};
+use aud_app::{RunFault, Status, Watched, files, options, run};
+use aud_input::Sources;
+use std::alloc::Global;
+use std::hash::RandomState;
+use std::io::{IsTerminal, Stderr};
+use std::process::ExitCode;
+use std::sync::Wait;
+use std::thread::Threads;
+use std::time::Clock;
+
+type Input<'a> = Watched<Progress<Stderr, Sources<Source<'a>>>>;
+
+/// Says which file could not be read.
+fn unread_of(rt: &impl Eprint, input: Input<'_>) -> ExitCode {
+    let os_error = input.os_error();
+    let sources = input.into_inner().into_inner();
+    unread(rt, sources.current().name(), os_error)
+}
+
+/// Says where a yes for each session says nothing.
+fn note(rt: &impl Eprint, status: Status) {
+    let why = match status {
+        Status::NoSession => "nothing was judged: no session was recorded",
+        Status::NoneRecoverable => "a yes says nothing here: no entry of the stream is recoverable",
+        Status::AllYes | Status::SomeNo | Status::Refused => return,
+    };
+    let _ = eprintln!(rt; "sioaudit: {why}");
+}
+
+/// Writes the report that the arguments ask for, on the threads of `rt`.
+pub fn write_report<H: Threads + Wait + Clock + Sync>(
+    rt: &H,
+    host: &HostRuntime,
+    alloc: Global,
+    words: &[&str],
+) -> ExitCode {
+    let chosen = match options(alloc, words) {
+        Ok(chosen) => chosen,
+        Err(error) => return refuse(host, &error),
+    };
+    let Ok(named) = files(alloc, words) else {
+        return fail(host, RunFault::Memory);
+    };
+    let Ok(keys) = RandomState::new(host) else {
+        return fail(host, RunFault::Read);
+    };
+    let Ok(sources) = sources(host, alloc, named.names.as_slice(), named.quiet) else {
+        return fail(host, RunFault::Memory);
+    };
+    let notes = host.stderr();
+    let is_shown = !named.quiet && notes.is_terminal();
+    let mut input = Watched::new(Progress::new(sources, notes, is_shown));
+    let mut output = Watched::new(host.stdout());
+    match run(rt, alloc, keys, &mut input, &mut output, chosen) {
+        Ok(status) => {
+            note(host, status);
+            status_code(status)
+        }
+        Err(RunFault::Read) => unread_of(host, input),
+        Err(RunFault::Write) => fail_for(host, RunFault::Write, output.os_error()),
+        Err(fault) => fail(host, fault),
+    }
+}
