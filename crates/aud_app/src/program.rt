@@ -5,10 +5,10 @@ ghost use Rattle.aud_app.specs.Headline.{ReportHoldsOf, WholeReportHoldsOf};
 ghost use Rattle.aud_app.specs.Output.{IsOutputOf, Writes, WritesFront};
 
 use crate::output::{layout_of, output_of};
-use crate::reading::{READ_LIMIT, read_input};
 use crate::written::Written;
 use aud_base::{RunFault, Watched, write_out};
 use aud_cli::{Mode, Options};
+use aud_input::{READ_LIMIT, read_input};
 use aud_verdict::Status;
 use std::alloc::Global;
 use std::hash::RandomState;

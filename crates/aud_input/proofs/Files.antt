@@ -1,85 +1,49 @@
 -- Files that are taken in, one after the other.
-use Rattle.std.proofs.Common.{◌≡◌, ℕ, suc, ◌+◌, ◌-◌, ◌<◌, zero-add, add-zero, drop, get_or, take, ◌==◌, List, [], ◌∷◌, ◌++◌, length, map, Bool, true, false, not, cond, Option, Some, None, refl, sym, ap, ◌∙◌, append_assoc, append-nil, arith, subst, IfSome, IfOk, IfErr, OnOk, Result, Ok, Err}
+use Rattle.std.proofs.Common.{◌≡◌, ℕ, ◌+◌, ◌-◌, ◌<◌, ◌≤◌, nat_le, add-zero, drop, get_or, take, List, [], ◌∷◌, ◌++◌, length, map, Bool, true, false, cond, Option, Some, None, is_none, inl, inr, refl, sym, ap, ◌∙◌, append_assoc, append-nil, arith, subst, IfSome, IfOk, IfErr, Result, Ok, Err}
 use Rattle.std.specs.Prelude.{slice_get}
-use Rattle.std.specs.List.{flat_map}
+use Rattle.std.specs.List.{flat_map, sum_by}
+use Rattle.std.proofs.lemmas.Bool.{cases_Bool, le-leb, leb-false}
 use Rattle.std.proofs.lemmas.List.{drop-drop, drop-set-lt, get_or-drop, length-map, map-append, map_more, take-map}
 use Rattle.std.proofs.lemmas.List.Sums.{sum_by-append, sum_by-cons}
-use Rattle.std.specs.List.{sum_by}
 use Rattle.std.proofs.Math.ListN.{set}
 use Rattle.std.proofs.Math.Seq.{take-length}
 use Rattle.std.proofs.lemmas.List.Concat.{flat_map-append}
-use Rattle.aud_input.specs.declared.input.Layout.TheVariants.{Bundle}
-use Rattle.aud_input.specs.Input.{input_of}
-use Rattle.aud_input.specs.Reader.{input_to_come}
-use Rattle.aud_reader.specs.Lines.{line_pieces, onto_first}
-use Rattle.aud_input.specs.TapLines.{tap_lines_of, tap_lines_to_come}
-use Rattle.aud_input.specs.Sources.{ended, is_begun, joined}
+use Rattle.std.specs.Result.{IsErrAnd}
+use Rattle.std.proofs.lemmas.Option.{none-some, same_Some}
 use Rattle.std.proofs.lemmas.Result.{err_from_is_err_and}
-use Rattle.aud_base.specs.declared.run_fault.RunFault.{RunFault}
 use Rattle.aud_base.specs.declared.watched.Watched.{Watched}
 use Rattle.aud_base.specs.Watched.{inner_of}
+use Rattle.aud_reader.specs.declared.fault.InputCode.{InputCode}
+use Rattle.aud_reader.specs.declared.fault.ReadFault.{ReadFault}
+use Rattle.aud_reader.specs.declared.fault.ReadFault.TheVariants.{Input}
+use Rattle.aud_reader.specs.declared.fault.ReadFault.TheVariants as kind
+use Rattle.aud_reader.specs.Lines.{Lines, line_pieces, lines_from, lines_to_come}
+use Rattle.aud_input.specs.declared.input.Layout.TheVariants.{Bundle}
+use Rattle.aud_input.specs.Input.{InputSeen, input_of, parts_of, unless_cut}
+use Rattle.aud_input.specs.Reader.{HasLines, InputSoFar, input_over, input_to_come, line_numbered, parts_to_come}
+use Rattle.aud_reader.specs.Bundle.{unless_refused}
+use Rattle.aud_input.specs.TapLines.{lines_noted, named_from, named_in, tap_lines_of, taps_noted, with_lines}
+use Rattle.aud_input.specs.Sources.{ended, is_begun, joined}
 use Rattle.aud_input.specs.declared.feeding.Feeding.{Feeding}
-use Rattle.aud_input.specs.Private.Feeding.{AreReadBefore, AreTaken, IsReadWhole, IsRefusedBy, TellsUnread, Begins, EndsFile, TakesIn, line_end, lines_so_far, newlines_in, size_so_far}
 use Rattle.aud_input.specs.declared.reading.Recorded.{Recorded}
+use Rattle.aud_input.specs.declared.reading.Size.{Size}
 use Rattle.aud_input.specs.declared.reading.ReadingFault.{ReadingFault}
 use Rattle.aud_input.specs.declared.reading.ReadingFault.TheVariants.{Refused, Unread, Memory}
-use Rattle.std.specs.Result.{IsErrAnd}
-use Rattle.aud_input.specs.FileLine.{file_line}
-use Rattle.aud_input.specs.Files.{AreRecorded, AreTold, AreUnrecorded, IsKept, header_told, line_counts, size_of, taps_read}
-use Rattle.aud_input.specs.Private.Tail.{known}
+use Rattle.aud_input.specs.declared.refusal.Refusal.{Refusal}
+use Rattle.aud_input.specs.FileLine.{after_files, file_line}
+use Rattle.aud_input.specs.Files.{AreRecorded, AreTold, AreUnrecorded, IsTold, header_told, line_counts, line_told, taps_read}
+use Rattle.aud_input.specs.Private.Feeding.{AreCounted, AreReadBefore, AreTaken, EndsFile, IsRead, IsRecordedOf, IsRefusedOf, TakesIn, TellsUnread, counts_after, line_end}
+use Rattle.aud_input.proofs.FilesLemmas.{files-lines, pieces-flat}
+use Rattle.aud_input.proofs.GivenLemmas.{all-given, begun-append, lines-length, lines_counted, newlines-append, newlines_in, noted-length, noted-newlines, nothing-begun}
+use Rattle.aud_input.proofs.RefusedLemmas.{header-told, line-told, refused-within}
+use Rattle.aud_input.proofs.StandLemmas.{named-text}
+use Rattle.aud_input.proofs.Takes.{stays-more}
 
--- ---- how many lines a text has
-
-onto-length : (x y : ℕ) (bs : List ℕ) → length (onto_first x (line_pieces (y ∷ bs))) ≡ length (line_pieces (y ∷ bs))
-onto-length x y bs =
-    elim (y == 10) as (λ t. length (onto_first x (cond t ([] ∷ line_pieces bs) (onto_first y (line_pieces bs)))) ≡ length (cond t ([] ∷ line_pieces bs) (onto_first y (line_pieces bs)))) [
-      | true ↦ refl
-      | false ↦ onto-first (line_pieces bs)
-    ]
-  where
-    onto-first : (ls : List (List ℕ)) → length (onto_first x (onto_first y ls)) ≡ length (onto_first y ls)
-    onto-first [] = refl
-    onto-first (l ∷ ls) = refl
-
-newlines-cons : (x : ℕ) (bs : List ℕ) → newlines_in (x ∷ bs) ≡ cond (x == 10) 1 0 + newlines_in bs
-newlines-cons x bs = sum_by-cons (λ b. cond (b == 10) 1 0) x bs
-
-counted : (lines newlines begun : ℕ) → lines ≡ newlines + begun → suc lines ≡ (1 + newlines) + begun
-counted lines newlines begun is = omega (arith, is)
-
--- a text has a line for each newline, and one that has begun
-pub lines_counted : (bs : List ℕ) → length (line_pieces bs) ≡ newlines_in bs + cond (is_begun false bs) 1 0
-lines_counted [] = refl
-lines_counted (x ∷ []) = one ∙ ap (λ n. n + cond (not (x == 10)) 1 0) (sym (newlines-cons x []))
-  where
-    one : length (line_pieces (x ∷ [])) ≡ (cond (x == 10) 1 0 + 0) + cond (not (x == 10)) 1 0
-    one =
-        elim (x == 10) as (λ t. length (cond t ([] ∷ []) (onto_first x [])) ≡ (cond t 1 0 + 0) + cond (not t) 1 0) [
-          | true ↦ refl
-          | false ↦ refl
-        ]
-lines_counted (x ∷ y ∷ bs) =
-    let lines : ℕ = length (line_pieces (y ∷ bs)) in
-    let newlines : ℕ = newlines_in (y ∷ bs) in
-    let begun : ℕ = cond (is_begun false (y ∷ bs)) 1 0 in
-    let rest : lines ≡ newlines + begun = lines_counted (y ∷ bs) in
-    let other : length (onto_first x (line_pieces (y ∷ bs))) ≡ (0 + newlines) + begun = onto-length x y bs ∙ rest ∙ ap (λ n. n + begun) (sym (zero-add newlines)) in
-    let all : length (line_pieces (x ∷ y ∷ bs)) ≡ (cond (x == 10) 1 0 + newlines) + begun =
-    elim (x == 10) as (λ t. length (cond t ([] ∷ line_pieces (y ∷ bs)) (onto_first x (line_pieces (y ∷ bs)))) ≡ (cond t 1 0 + newlines) + begun) [
-      | true ↦ counted lines newlines begun rest
-      | false ↦ other
-    ]
-    in
-    all ∙ ap (λ n. n + begun) (sym (newlines-cons x (y ∷ bs)))
+-- how many lines each file has
+abbrev lines_in : List ℕ → ℕ
+lines_in file = length (line_pieces file)
 
 -- ---- the joined bytes
-
--- of files that are joined, each but the last is ended
-pub joined-last : (files : List (List ℕ)) (last : List ℕ) → joined (files ++ last ∷ []) ≡ flat_map (ended false) files ++ last
-joined-last [] last = refl
-joined-last (file ∷ []) last = sym (append_assoc (ended false file) [] last)
-joined-last (file ∷ next ∷ files) last =
-    ap (λ rest. ended false file ++ rest) (joined-last (next ∷ files) last) ∙ sym (append_assoc (ended false file) (flat_map (ended false) (next ∷ files)) last)
 
 -- a file after others, and what ends it
 ended-last : (files : List (List ℕ)) (file more : List ℕ) (begun : Bool) → begun ≡ is_begun false file
@@ -89,6 +53,72 @@ ended-last files file more begun is =
     let all : flat_map (ended false) (files ++ file ∷ []) ≡ front ++ (ended false file ++ []) = flat_map-append (ended false) files (file ∷ []) in
     rw (all, is, append-nil (ended false file), append_assoc front (ended false file) more, append_assoc file (line_end (is_begun false file)) more) refl
 
+-- a file whose last line is ended has a newline for each line
+newlines-ended : (file : List ℕ) → newlines_in (ended false file) ≡ lines_in file
+newlines-ended file =
+    newlines-append file (line_end (is_begun false file)) ∙ go (is_begun false file) ∙ sym (lines_counted file)
+  where
+    go : (b : Bool) → newlines_in file + newlines_in (line_end b) ≡ newlines_in file + cond b 1 0
+    go true = refl
+    go false = refl
+
+-- no line has begun after bytes whose last line is ended
+begun-ended : (file : List ℕ) → is_begun false (ended false file) ≡ false
+begun-ended file = begun-append false file (line_end (is_begun false file)) ∙ go (is_begun false file)
+  where
+    go : (b : Bool) → is_begun b (line_end b) ≡ false
+    go true = refl
+    go false = refl
+
+begun-files : (files : List (List ℕ)) → is_begun false (flat_map (ended false) files) ≡ false
+begun-files [] = refl
+begun-files (file ∷ files) =
+    begun-append false (ended false file) (flat_map (ended false) files) ∙ ap (λ b. is_begun b (flat_map (ended false) files)) (begun-ended file) ∙ begun-files files
+
+newlines-last : (files : List (List ℕ)) (file : List ℕ) → newlines_in (flat_map (ended false) (files ++ file ∷ [])) ≡ newlines_in (flat_map (ended false) files) + lines_in file
+newlines-last files file =
+    ap newlines_in (flat_map-append (ended false) files (file ∷ []) ∙ ap (λ rest. flat_map (ended false) files ++ rest) (append-nil (ended false file)))
+    ∙ newlines-append (flat_map (ended false) files) (ended false file) ∙ ap (λ n. newlines_in (flat_map (ended false) files) + n) (newlines-ended file)
+
+-- the lines of files each of which is ended are those of the joined files
+pieces-joined : (files : List (List ℕ)) → line_pieces (flat_map (ended false) files) ≡ line_pieces (joined files)
+pieces-joined files = pieces-flat files ∙ sym (files-lines files)
+
+-- ---- the file of a line
+
+-- the counts of the files before a line's file are enough to find it
+file_line-front : (counts : List ℕ) (count : ℕ) (later : List ℕ) (n : ℕ) → n ≤ sum_by (λ c. c) counts + count → file_line (counts ++ count ∷ later) n ≡ file_line counts n
+file_line-front [] count later n within =
+    let sum : sum_by (λ (c : ℕ). c) [] ≡ 0 = refl in
+    let short : n ≤ count = omega (arith, within, sum) in
+    rw (le-leb n count short) refl
+file_line-front (c ∷ counts) count later n within =
+    elim (cases_Bool (nat_le n c)) [
+      | inl here ↦ rw here refl
+      | inr past ↦
+          let beyond = leb-false n c past in
+          let rest : n - c ≤ sum_by (λ c. c) counts + count = omega (arith, within, beyond, sum_by-cons (λ c. c) c counts) in
+          rw past (ap (after_files 1) (file_line-front counts count later (n - c) rest))
+    ]
+
+sum-lines : (files : List (List ℕ)) → sum_by (λ c. c) (map lines_in files) ≡ sum_by lines_in files
+sum-lines [] = refl
+sum-lines (file ∷ files) = sum_by-cons (λ c. c) (lines_in file) (map lines_in files) ∙ ap (λ n. lines_in file + n) (sum-lines files) ∙ sym (sum_by-cons lines_in file files)
+
+newlines-files : (files : List (List ℕ)) → newlines_in (flat_map (ended false) files) ≡ sum_by lines_in files
+newlines-files [] = refl
+newlines-files (file ∷ files) =
+    newlines-append (ended false file) (flat_map (ended false) files) ∙ ap (λ n. newlines_in (ended false file) + n) (newlines-files files)
+    ∙ ap (λ n. n + sum_by lines_in files) (newlines-ended file) ∙ sym (sum_by-cons lines_in file files)
+
+-- how many lines all files have
+lines-files : (files : List (List ℕ)) → length (line_pieces (flat_map (ended false) files)) ≡ sum_by lines_in files
+lines-files files =
+    let all : length (line_pieces (flat_map (ended false) files)) ≡ newlines_in (flat_map (ended false) files) + 0 =
+    lines_counted (flat_map (ended false) files) ∙ ap (λ b. newlines_in (flat_map (ended false) files) + cond b 1 0) (begun-files files)
+    in
+    omega (arith, all, newlines-files files)
+
 -- ---- files that are taken in
 
 -- a sum with one more
@@ -96,59 +126,56 @@ sum_by-last : (f : List ℕ → ℕ) (files : List (List ℕ)) (file : List ℕ)
 sum_by-last f files file = omega (arith, sum_by-append f files (file ∷ []), sum_by-cons f file [])
 
 -- no file yet
-pub none_taken : (s : Feeding) → Begins s → AreTaken [] [] s
-none_taken s begins = record { input = begins.input; lines = begins.lines; kept = begins.kept; counted = refl; ended = begins.ended; begun = begins.begun; size = begins.size; all = begins.all }
+pub none_taken : (s : Feeding) → IsRead [] s.reader → s.reader.fault ≡ None → s.begun ≡ false → s.bytes ≡ 0 → AreTaken [] [] s
+none_taken s read none begun size = record { read = read; counted = subst (AreCounted [] []) (sym none) refl; begun = begun; size = size }
+
+-- the lines are counted with one file more
+counted-more : (files : List (List ℕ)) (counts : List ℕ) (file : List ℕ) (s u : InputSoFar) (had has : Option ReadFault) → s.fault ≡ had → u.fault ≡ has → IfSome had (λ f. u.fault ≡ Some f)
+    → IsRead (flat_map (ended false) files) s → IsRead (flat_map (ended false) (files ++ file ∷ [])) u → AreCounted files counts had
+    → AreCounted (files ++ file ∷ []) (cond (is_none has) (counts ++ (lines_noted u.index - lines_noted s.index) ∷ []) counts) has
+counted-more files counts file s u (Some f) None was is stays before after counted = absurd (none-some f (sym is ∙ stays))
+counted-more files counts file s u (Some f) (Some kind.Memory) was is stays before after counted = tt
+counted-more files counts file s u (Some f) (Some (Input n code)) was is stays before after counted = λ later.
+    let same : f ≡ Input n code = same_Some f (Input n code) (sym stays ∙ is) in
+    let given : AreCounted files counts (Some (Input n code)) = subst (λ g. AreCounted files counts (Some g)) same counted in
+    given (lines_in file ∷ later) ∙ ap (λ all. file_line all n) (sym (append_assoc (map lines_in files) (lines_in file ∷ []) later) ∙ ap (λ all. all ++ later) (sym (map-append lines_in files (file ∷ []))))
+counted-more files counts file s u None None was is stays before after counted =
+    let first = noted-newlines (flat_map (ended false) files) s before.lines was in
+    let all = noted-newlines (flat_map (ended false) (files ++ file ∷ [])) u after.lines is in
+    let count : lines_noted u.index - lines_noted s.index ≡ lines_in file = omega (arith, first, all, newlines-last files file) in
+    rw (counted, count) (sym (map-append lines_in files (file ∷ [])))
+counted-more files counts file s u None (Some kind.Memory) was is stays before after counted = tt
+counted-more files counts file s u None (Some (Input n code)) was is stays before after counted = λ later.
+    let text : List ℕ = flat_map (ended false) (files ++ file ∷ []) in
+    let refused : input_of Bundle text ≡ Err (Input n code) =
+    ap (input_of Bundle) (sym (append-nil text)) ∙ sym (after.input []) ∙ ap (λ f. unless_refused f (input_over u.parts (lines_to_come u.cut []))) is
+    in
+    let within = refused-within text n code refused in
+    let size : n ≤ sum_by (λ c. c) (map lines_in files) + lines_in file = omega (arith, within, lines-files (files ++ file ∷ []), sum_by-last lines_in files file, sum-lines files) in
+    ap (λ all. file_line all n) counted
+    ∙ sym (file_line-front (map lines_in files) (lines_in file) later n size)
+    ∙ ap (λ all. file_line all n) (sym (append_assoc (map lines_in files) (lines_in file ∷ []) later) ∙ ap (λ all. all ++ later) (sym (map-append lines_in files (file ∷ []))))
 
 -- one more, which is ended
 pub one_more : (files : List (List ℕ)) (counts : List ℕ) (file : List ℕ) (s t u : Feeding) → AreTaken files counts s → TakesIn s t file → EndsFile t u
-    → AreTaken (files ++ file ∷ []) (counts ++ lines_so_far t ∷ []) u
+    → AreTaken (files ++ file ∷ []) (counts_after (lines_noted s.reader.index) u.reader counts) u
 one_more files counts file s t u before taken ends =
     let begun : t.begun ≡ is_begun false file = taken.begun ∙ ap (λ b. is_begun b file) before.begun in
-    let count : lines_so_far t ≡ length (line_pieces file) = rw begun (omega (arith, taken.ended, before.ended, lines_counted file)) in
+    let text : List ℕ = flat_map (ended false) files in
+    let all : (text ++ file) ++ line_end t.begun ≡ flat_map (ended false) (files ++ file ∷ []) =
+    append_assoc text file (line_end t.begun) ∙ ap (λ rest. text ++ (file ++ rest)) (sym (append-nil (line_end t.begun))) ∙ ended-last files file [] t.begun begun ∙ append-nil (flat_map (ended false) (files ++ file ∷ []))
+    in
+    let read : IsRead (flat_map (ended false) (files ++ file ∷ [])) u.reader = record {
+      input = λ more. ends.takes.input more ∙ taken.takes.input (line_end t.begun ++ more) ∙ before.read.input (file ++ (line_end t.begun ++ more)) ∙ ap (input_of Bundle) (ended-last files file more t.begun begun);
+      lines = subst (λ bytes. HasLines bytes u.reader) all (ends.takes.lines (text ++ file) (taken.takes.lines text before.read.lines));
+    }
+    in
     record {
-      input = λ more. ends.input more ∙ taken.input (line_end t.begun ++ more) ∙ before.input (file ++ (line_end t.begun ++ more)) ∙ ap (input_of Bundle) (ended-last files file more t.begun begun);
-      lines = λ more. ends.lines more ∙ taken.lines (line_end t.begun ++ more) ∙ before.lines (file ++ (line_end t.begun ++ more)) ∙ ap tap_lines_of (ended-last files file more t.begun begun);
-      kept = λ n more line is. rw (← ended-last files file more t.begun begun) (before.kept n (file ++ (line_end t.begun ++ more)) line (taken.kept n (line_end t.begun ++ more) line (ends.kept n more line is)));
-      counted = rw (count, before.counted) (sym (map-append (λ file. length (line_pieces file)) files (file ∷ [])));
-      ended = ends.ended;
+      read = read;
+      counted = counted-more files counts file s.reader u.reader s.reader.fault u.reader.fault refl refl (stays-more s.reader.fault t.reader.fault u.reader.fault taken.takes.stays ends.takes.stays) before.read read before.counted;
       begun = ends.begun;
       size = omega (arith, ends.size, taken.size, before.size, sum_by-last (λ file. length file) files file);
-      all = rw begun at ends.all ∙ omega (arith, taken.all, before.all, lines_counted file, sum_by-last (λ file. length (line_pieces file)) files file);
     }
-
--- the size with the last, which isn't ended
-pub size_whole : (files : List (List ℕ)) (counts : List ℕ) (file : List ℕ) (s t : Feeding) → AreTaken files counts s → TakesIn s t file
-    → size_so_far t ≡ size_of (files ++ file ∷ [])
-size_whole files counts file s t before taken =
-    let begun : t.begun ≡ is_begun false file = taken.begun ∙ ap (λ b. is_begun b file) before.begun in
-    let lines : t.lines + cond t.begun 1 0 ≡ sum_by (λ file. length (line_pieces file)) (files ++ file ∷ []) =
-    rw begun (omega (arith, taken.all, before.all, lines_counted file, sum_by-last (λ file. length (line_pieces file)) files file))
-    in
-    let bytes : t.bytes ≡ sum_by (λ file. length file) (files ++ file ∷ []) = omega (arith, taken.size, before.size, sum_by-last (λ file. length file) files file) in
-    cc
-
--- the last, which isn't ended
-pub input_whole : (files : List (List ℕ)) (counts : List ℕ) (file : List ℕ) (s t : Feeding) → AreTaken files counts s → TakesIn s t file
-    → input_to_come t.reader [] ≡ input_of Bundle (joined (files ++ file ∷ []))
-input_whole files counts file s t before taken =
-    taken.input [] ∙ before.input (file ++ []) ∙ ap (λ rest. input_of Bundle (flat_map (ended false) files ++ rest)) (append-nil file) ∙ ap (input_of Bundle) (sym (joined-last files file))
-
-pub lines_whole : (files : List (List ℕ)) (counts : List ℕ) (file : List ℕ) (s t : Feeding) → AreTaken files counts s → TakesIn s t file
-    → tap_lines_to_come t.index.lines [] ≡ tap_lines_of (joined (files ++ file ∷ []))
-lines_whole files counts file s t before taken =
-    taken.lines [] ∙ before.lines (file ++ []) ∙ ap (λ rest. tap_lines_of (flat_map (ended false) files ++ rest)) (append-nil file) ∙ ap tap_lines_of (sym (joined-last files file))
-
-pub known_whole : (files : List (List ℕ)) (counts : List ℕ) (file : List ℕ) (s t : Feeding) → AreTaken files counts s → TakesIn s t file
-    → (n : ℕ) (line : List ℕ) → known t.kept n [] ≡ Some line → slice_get (line_pieces (joined (files ++ file ∷ []))) (n - 1) ≡ Some line
-known_whole files counts file s t before taken n line is =
-    let so_far = before.kept n (file ++ []) line (taken.kept n [] line is) in
-    rw (joined-last files file, ← append-nil file) so_far
-
--- what is kept of a line by the one is kept by the other, which knows as much of it
-IsKept-more : (a b : Option (List ℕ)) (line : List ℕ) → ((l : List ℕ) → a ≡ Some l → b ≡ Some l) → IsKept a line → IsKept b line
-IsKept-more a b [] more is = tt
-IsKept-more None b (x ∷ line) more is = absurd (cc)
-IsKept-more (Some l) b (x ∷ line) more is = rw (more l refl) is
 
 -- ---- the bytes that readers tell
 
@@ -191,70 +218,153 @@ pub told_same : {R : Type 0} (remaining : R → Option (List ℕ)) (file other :
     → IfSome (remaining (inner_of file)) (λ told. bytes ≡ told)
 told_same {R = R} remaining file other bytes same told = subst (λ (w : Watched R). IfSome (remaining (inner_of w)) (λ told. bytes ≡ told)) (sym same) told
 
+-- as many files as there are are all
+pub lefts-all : {R : Type 0} (remaining : R → Option (List ℕ)) (old : List (Watched R)) (counts : List ℕ) (s : Feeding) (place : ℕ) → place ≡ length old
+    → AreReadBefore (take place (map (λ w. remaining (inner_of w)) old)) counts s → AreReadBefore (map (λ w. remaining (inner_of w)) old) counts s
+lefts-all {R = R} remaining old counts s place at read =
+    let left : Watched R → Option (List ℕ) = λ w. remaining (inner_of w) in
+    let all : place ≡ length (map left old) = at ∙ sym (length-map old left) in
+    subst (λ lefts. AreReadBefore lefts counts s) (ap (λ n. take n (map left old)) all ∙ take-length (map left old)) read
+
+-- ---- the end of the input
+
+-- what is recorded where all lines were read
+pub record-of : (text : List ℕ) (s : InputSoFar) (result : Result Recorded ReadingFault) → s.fault ≡ None → IsRead text s → is_begun false text ≡ false
+    → IfOk result (λ read. taps_read (parts_to_come s.parts []) ≡ Ok read.taps) → IfOk result (λ read. read.lines ≡ taps_noted s.index) → IfOk result (λ read. read.size.lines ≡ lines_noted s.index)
+    → IfOk result (λ read. IsRecordedOf text read)
+record-of text s (Err e) none read ended taps lines size = tt
+record-of text s (Ok recorded) none read ended taps lines size =
+    let all = all-given text s read.lines none ended in
+    let input : input_of Bundle text ≡ parts_to_come s.parts [] =
+    ap (input_of Bundle) (sym (append-nil text)) ∙ sym (read.input []) ∙ ap (λ f. unless_refused f (input_over s.parts (lines_to_come s.cut []))) none
+    ∙ ap (input_over s.parts) (nothing-begun text s read.lines none ended)
+    in
+    let named : named_in read.lines.lines ≡ named_from 1 (line_pieces text) =
+    ap (λ (ls : Lines). named_in ls.lines) (sym all) ∙ named-text 1 (line_pieces text) (ap (λ (ls : Lines). ls.fault) all)
+    in
+    record {
+      taps = ap taps_read input ∙ taps;
+      lines = sym (lines ∙ ap taps_noted read.lines.index ∙ ap (with_lines []) named);
+      count =
+          size ∙ noted-length text s read.lines ∙ ap (λ (ls : Lines). length ls.lines) (sym all)
+          ∙ lines-length 1 (line_pieces text) (ap (λ (ls : Lines). ls.fault) all);
+    }
+
+-- what is told of a line that is refused
+pub refusal-of : (text counts : List ℕ) (s : InputSoFar) (number : ℕ) (code : InputCode) (told : Refusal) → s.fault ≡ Some (Input number code) → IsRead text s
+    → told.number ≡ number → told.code ≡ code → told.at ≡ file_line counts number → told.line ≡ line_told (line_numbered number s.parts.waiting)
+    → told.header ≡ header_told code (taps_noted s.index) told.line → IsRefusedOf text counts (Refused told)
+refusal-of text counts s number code told refused read is_number is_code is_at is_line is_header =
+    let input : input_of Bundle text ≡ Err (Input number code) =
+    ap (input_of Bundle) (sym (append-nil text)) ∙ sym (read.input []) ∙ ap (λ f. unless_refused f (input_over s.parts (lines_to_come s.cut []))) refused
+    in
+    let header : told.header ≡ header_told code (tap_lines_of text) told.line =
+    is_header ∙ ap (header_told code (taps_noted s.index)) is_line ∙ header-told text s number code read.lines ∙ ap (header_told code (tap_lines_of text)) (sym is_line)
+    in
+    rw (is_number, is_code) (
+      ap taps_read input,
+      is_at,
+      subst (IsTold code (slice_get (line_pieces text) (number - 1))) (sym is_line) (line-told text s number code refused read.lines),
+      header,
+    )
+
+-- lines that waited were read
+pub read-waited : (text : List ℕ) (old new : InputSoFar) → ((more : List ℕ) → input_to_come new more ≡ input_to_come old more) → (HasLines text old → HasLines text new) → IsRead text old → IsRead text new
+read-waited text old new input lines read = record { input = λ more. input more ∙ read.input more; lines = lines read.lines }
+
 -- ---- all files
 
 -- the counts are those of all files but the last
-counts-last : (files : List (List ℕ)) (last : List ℕ) → map (λ file. length (line_pieces file)) files ≡ line_counts (files ++ last ∷ [])
+counts-last : (files : List (List ℕ)) (last : List ℕ) → map lines_in files ≡ line_counts (files ++ last ∷ [])
 counts-last [] last = refl
 counts-last (file ∷ []) last = refl
-counts-last (file ∷ next ∷ files) last = ap (λ counts. length (line_pieces file) ∷ counts) (counts-last (next ∷ files) last)
+counts-last (file ∷ next ∷ files) last = ap (λ counts. lines_in file ∷ counts) (counts-last (next ∷ files) last)
 
--- all files were taken in: what is read in the end is that of the joined bytes
-pub record AreAllTaken (lefts : List (Option (List ℕ))) (counts : List ℕ) (t : Feeding) : Type 0 where
-  pub files : List (List ℕ)
-  pub told : AreTold lefts files
-  pub input : input_to_come t.reader [] ≡ input_of Bundle (joined files)
-  pub lines : tap_lines_to_come t.index.lines [] ≡ tap_lines_of (joined files)
-  pub kept : (n : ℕ) (line : List ℕ) → known t.kept n [] ≡ Some line → slice_get (line_pieces (joined files)) (n - 1) ≡ Some line
-  pub counted : counts ≡ line_counts files
-  pub size : size_so_far t ≡ size_of files
+-- a line of the files, by the counts of all but the last
+file_line-last : (files : List (List ℕ)) (n : ℕ) → n ≤ sum_by lines_in files → file_line (map lines_in files) n ≡ file_line (line_counts files) n
+file_line-last [] n within = refl
+file_line-last (file ∷ []) n within =
+    let size : n ≤ sum_by (λ (c : ℕ). c) [] + lines_in file = omega (arith, within, sum_by-cons lines_in file []) in
+    file_line-front [] (lines_in file) [] n size
+file_line-last (file ∷ next ∷ files) n within =
+    elim (cases_Bool (nat_le n (lines_in file))) [
+      | inl here ↦ rw here refl
+      | inr past ↦
+          let beyond = leb-false n (lines_in file) past in
+          let rest : n - lines_in file ≤ sum_by lines_in (next ∷ files) = omega (arith, within, beyond, sum_by-cons lines_in file (next ∷ files)) in
+          rw past (ap (after_files 1) (file_line-last (next ∷ files) (n - lines_in file) rest))
+    ]
 
-pub all_taken : (lefts front : List (Option (List ℕ))) (left : Option (List ℕ)) (counts : List ℕ) (s t : Feeding) → lefts ≡ front ++ left ∷ []
-    → AreReadBefore front counts s → IsReadWhole left s t → AreAllTaken lefts counts t
-all_taken lefts front left counts s t is before read = record {
-  files = before.0 ++ read.0 ∷ [];
-  told = rw is (told_more front before.0 left read.0 before.1 read.1);
-  input = input_whole before.0 counts read.0 s t before.2 read.2;
-  lines = lines_whole before.0 counts read.0 s t before.2 read.2;
-  kept = known_whole before.0 counts read.0 s t before.2 read.2;
-  counted = before.2.counted ∙ counts-last before.0 read.0;
-  size = size_whole before.0 counts read.0 s t before.2 read.2;
-}
+-- where a refused line stands
+stands-at : (files : List (List ℕ)) (counts : List ℕ) (fault : Option ReadFault) (n : ℕ) (code : InputCode) → AreCounted files counts fault → IfSome fault (λ f. f ≡ Input n code) → n ≤ sum_by lines_in files
+    → file_line counts n ≡ file_line (line_counts files) n
+stands-at files counts None n code counted same within = ap (λ all. file_line all n) counted ∙ file_line-last files n within
+stands-at files counts (Some f) n code counted same within =
+    let given : AreCounted files counts (Some (Input n code)) = subst (λ g. AreCounted files counts (Some g)) same counted in
+    given [] ∙ ap (λ all. file_line all n) (append-nil (map lines_in files)) ∙ file_line-last files n within
 
--- the readers of all files
-pub lefts_whole : {R : Type 0} (remaining : R → Option (List ℕ)) (old now : List (Watched R)) (i : ℕ) (file : Watched R) → drop i now ≡ drop i old → i + 1 ≡ length old → file ≡ get_or now i file
-    → map (λ w. remaining (inner_of w)) old ≡ take i (map (λ w. remaining (inner_of w)) old) ++ remaining (inner_of file) ∷ []
-lefts_whole {R = R} remaining old now i file same whole is =
-    let left : Watched R → Option (List ℕ) = λ w. remaining (inner_of w) in
-    let size : i + 1 ≡ length (map left old) = whole ∙ sym (length-map old left) in
-    sym (ap (λ n. take n (map left old)) size ∙ take-length (map left old)) ∙ lefts_more left old now i file same (omega (arith, whole)) is
+-- an input has one reading, whatever its last line's end
+input-joined : (files : List (List ℕ)) → input_of Bundle (flat_map (ended false) files) ≡ input_of Bundle (joined files)
+input-joined files = ap (λ pieces. unless_cut (lines_from 1 pieces).fault (parts_of Bundle (lines_from 1 pieces).lines)) (pieces-joined files)
+
+lines-joined : (files : List (List ℕ)) → tap_lines_of (flat_map (ended false) files) ≡ tap_lines_of (joined files)
+lines-joined files = ap (λ pieces. with_lines [] (named_from 1 pieces)) (pieces-joined files)
+
+abbrev size-from : ℕ → ℕ → Size
+size-from lines bytes = record { lines = lines; bytes = bytes }
 
 -- what is recorded in the end
-pub recorded : (lefts : List (Option (List ℕ))) (counts : List ℕ) (t : Feeding) (result : Result Recorded ReadingFault) → AreAllTaken lefts counts t
-    → IfOk result (λ read. taps_read (input_to_come t.reader []) ≡ Ok read.taps) → IfOk result (λ read. tap_lines_to_come t.index.lines [] ≡ read.lines)
-    → IfOk result (λ read. read.size ≡ size_so_far t) → IfOk result (λ read. AreRecorded lefts read)
-recorded lefts counts t (Ok read) all taps lines size = record {
-  files = all.files;
-  told = all.told;
-  taps = ap taps_read (sym all.input) ∙ taps;
-  lines = sym all.lines ∙ lines;
-  size = size ∙ all.size;
-}
-recorded lefts counts t (Err fault) all taps lines size = tt
+pub recorded : (lefts : List (Option (List ℕ))) (counts : List ℕ) (t : Feeding) (result : Result Recorded ReadingFault) → AreReadBefore lefts counts t
+    → ((text : List ℕ) → IsRead text t.reader → is_begun false text ≡ false → IfOk result (λ read. IsRecordedOf text read)) → IfOk result (λ read. read.size.bytes ≡ t.bytes)
+    → IfOk result (λ read. AreRecorded lefts read)
+recorded lefts counts t (Err e) all of bytes = tt
+recorded lefts counts t (Ok read) all of bytes =
+    let files = all.0 in
+    let is = of (flat_map (ended false) files) all.2.read (begun-files files) in
+    let lines : read.size.lines ≡ sum_by lines_in files = is.count ∙ lines-files files in
+    let size : read.size.bytes ≡ sum_by (λ file. length file) files = bytes ∙ all.2.size in
+    record {
+      files = files;
+      told = all.1;
+      taps = ap taps_read (sym (input-joined files)) ∙ is.taps;
+      lines = sym (lines-joined files) ∙ is.lines;
+      size = ap (λ n. size-from n read.size.bytes) lines ∙ ap (size-from (sum_by lines_in files)) size;
+    }
+
+err-read : (r : Result InputSeen ReadFault) (f : ReadFault) → taps_read r ≡ Err f → r ≡ Err f
+err-read (Ok input) f e = absurd (cc)
+err-read (Err g) f e = let same : g ≡ f = cc in ap (λ h. Err h) same
+
+-- the refusal of a reader is that of its input
+own : (text : List ℕ) (s : InputSoFar) (fault : Option ReadFault) (n : ℕ) (code : InputCode) → s.fault ≡ fault → IsRead text s → input_of Bundle text ≡ Err (Input n code) → IfSome fault (λ f. f ≡ Input n code)
+own text s None n code is read refused = tt
+own text s (Some f) n code is read refused =
+    let input : ◌≡◌ {A = Result InputSeen ReadFault} (Err f) (Err (Input n code)) =
+    sym (ap (λ f. unless_refused f (input_over s.parts (lines_to_come s.cut []))) is) ∙ read.input [] ∙ ap (input_of Bundle) (append-nil text) ∙ refused
+    in
+    cc
 
 -- or why it isn't
-pub unrecorded : (lefts : List (Option (List ℕ))) (counts given : List ℕ) (t : Feeding) (result : Result Recorded ReadingFault) → AreAllTaken lefts counts t → given ≡ counts
-    → IfErr result (λ e. IsRefusedBy given (input_to_come t.reader []) t.kept (tap_lines_to_come t.index.lines []) e) → IfErr result (λ e. AreUnrecorded lefts e)
+pub unrecorded : (lefts : List (Option (List ℕ))) (counts given : List ℕ) (t : Feeding) (result : Result Recorded ReadingFault) → AreReadBefore lefts counts t → given ≡ counts
+    → ((text : List ℕ) → IsRead text t.reader → IfErr result (λ e. IsRefusedOf text given e)) → IfErr result (λ e. AreUnrecorded lefts e)
 unrecorded lefts counts given t (Ok read) all same why = tt
-unrecorded lefts counts given t (Err (Refused refusal)) all same why = record {
-  files = all.files;
-  told = all.told;
-  refused = ap taps_read (sym all.input) ∙ why.0;
-  stands = why.1 ∙ ap (λ counts. file_line counts refusal.number) (same ∙ all.counted);
-  kept = IsKept-more (known t.kept refusal.number []) (slice_get (line_pieces (joined all.files)) (refusal.number - 1)) refusal.line (all.kept refusal.number) why.2;
-  header = why.3 ∙ ap (λ lines. header_told refusal.code lines refusal.line) all.lines;
-}
-unrecorded lefts counts given t (Err (Unread file)) all same why = absurd why
+unrecorded lefts counts given t (Err (Refused refusal)) all same why =
+    let files = all.0 in
+    let text : List ℕ = flat_map (ended false) files in
+    let is = why text all.2.read in
+    let input : input_of Bundle text ≡ Err (Input refusal.number refusal.code) = err-read (input_of Bundle text) (Input refusal.number refusal.code) is.0 in
+    let within = refused-within text refusal.number refusal.code input in
+    let size : refusal.number ≤ sum_by lines_in files = omega (arith, within, lines-files files) in
+    record {
+      files = files;
+      told = all.1;
+      refused = ap taps_read (sym (input-joined files)) ∙ is.0;
+      stands = is.1 ∙ ap (λ all. file_line all refusal.number) same
+          ∙ stands-at files counts t.reader.fault refusal.number refusal.code all.2.counted (own text t.reader t.reader.fault refusal.number refusal.code refl all.2.read input) size;
+      line = subst (λ pieces. IsTold refusal.code (slice_get pieces (refusal.number - 1)) refusal.line) (pieces-joined files) is.2;
+      header = is.3 ∙ ap (λ lines. header_told refusal.code lines refusal.line) (lines-joined files);
+    }
+unrecorded lefts counts given t (Err (Unread file)) all same why = absurd (why (flat_map (ended false) all.0) all.2.read)
 unrecorded lefts counts given t (Err Memory) all same why = tt
 
 -- a file that could not be read is one of them
@@ -265,14 +375,6 @@ unread_one {R = R} remaining old (Unread place) file within why =
     let left : Watched R → Option (List ℕ) = λ w. remaining (inner_of w) in
     omega (arith, why, within, length-map old left)
 unread_one remaining old Memory file within why = tt
-
--- a file that was taken in, by its place
-pub read_found : {R : Type 0} (remaining : R → Option (List ℕ)) (files : List (Watched R)) (place : ℕ) (file : Watched R) (s t : Feeding) (result : Result (Unit {0}) RunFault) → file ≡ get_or files place file
-    → OnOk result (IsReadWhole (remaining (inner_of (get_or files place file))) s t)
-    → OnOk result ((f : Watched R) × (f ≡ get_or files place f) × IsReadWhole (remaining (inner_of f)) s t)
-read_found remaining files place file s t (Ok x) is read =
-    (file, is, (read.0, told_same remaining file (get_or files place file) read.0 is read.1, read.2))
-read_found remaining files place file s t (Err e) is read = tt
 
 -- where there was no memory, no file is named
 pub no_memory : {T : Type 0} (upto place : ℕ) (result : Result T ReadingFault) → place < upto → IsErrAnd result (λ e. e ≡ Memory)

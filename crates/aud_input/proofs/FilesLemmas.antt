@@ -1,5 +1,6 @@
 -- The lines of files that are read as one input.
 use Rattle.std.proofs.Common.{◌≡◌, ℕ, ◌==◌, List, [], ◌∷◌, ◌++◌, true, false, not, cond, refl, sym, ap, ◌∙◌, append-nil}
+use Rattle.std.specs.List.{flat_map}
 use Rattle.aud_reader.specs.Lines.{line_pieces, onto_first}
 use Rattle.aud_input.specs.Sources.{ended, joined, LinesAreThoseOfFiles}
 
@@ -29,6 +30,11 @@ pieces-ended (x ∷ y ∷ text) more =
       | true ↦ ap (λ ls. [] ∷ ls) rest
       | false ↦ ap (onto_first x) rest ∙ onto-append x y text (line_pieces more)
     ]
+
+-- the lines of files each of which is ended are the lines of the files
+pub pieces-flat : (files : List (List ℕ)) → line_pieces (flat_map (ended false) files) ≡ flat_map line_pieces files
+pieces-flat [] = refl
+pieces-flat (file ∷ files) = pieces-ended file (flat_map (ended false) files) ∙ ap (λ ls. line_pieces file ++ ls) (pieces-flat files)
 
 pub files-lines : LinesAreThoseOfFiles
 files-lines [] = refl

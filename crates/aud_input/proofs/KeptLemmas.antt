@@ -18,7 +18,7 @@ abbrev names : List TapLines → List (List ℕ)
 names ts = map (λ (t : TapLines). t.name) ts
 
 -- a line's number, if it begins with the name
-abbrev number_for : List ℕ → NamedLine → List ℕ
+abbrev pub number_for : List ℕ → NamedLine → List ℕ
 number_for name line = cond (bytes_eq line.name name) (line.number ∷ []) []
 
 -- a line puts its number after those of its name
@@ -46,7 +46,7 @@ numbers-with_line name (t ∷ ts) line = go (bytes_eq t.name line.name) refl (nu
         same (bytes_eq t.name name) is refl ∙ ap (λ n. cond (bytes_eq t.name name) t.numbers (numbers_by name ts) ++ cond (bytes_eq n name) (line.number ∷ []) []) is
     go false e ih = later (bytes_eq t.name name) e refl ih
 
-numbers-cons : (name : List ℕ) (line : NamedLine) (lines : List NamedLine) → numbers_of name (line ∷ lines) ≡ number_for name line ++ numbers_of name lines
+pub numbers-cons : (name : List ℕ) (line : NamedLine) (lines : List NamedLine) → numbers_of name (line ∷ lines) ≡ number_for name line ++ numbers_of name lines
 numbers-cons name line lines = go (bytes_eq line.name name)
   where
     go : (b : Bool) → map (λ (l : NamedLine). l.number) (cond b (line ∷ filter (λ (l : NamedLine). bytes_eq l.name name) lines) (filter (λ (l : NamedLine). bytes_eq l.name name) lines)) ≡ cond b (line.number ∷ []) [] ++ numbers_of name lines
@@ -142,6 +142,10 @@ first-by name (t ∷ ts) =
       | false ↦ first-by name ts
     ]
 
-pub kept-first : FirstKeptIsFirst
+-- the first line of a name that is kept of these lines
+pub first-of : (name : List ℕ) (lines : List NamedLine) → first_kept (with_lines [] lines) name ≡ slice_get (numbers_of name lines) 0
 unfolding numbers_by
-kept-first text name = first-by name (with_lines [] (named_lines text)) ∙ ap (λ ns. slice_get ns 0) (numbers-with_lines name [] (named_lines text))
+first-of name lines = first-by name (with_lines [] lines) ∙ ap (λ ns. slice_get ns 0) (numbers-with_lines name [] lines)
+
+pub kept-first : FirstKeptIsFirst
+kept-first text name = first-of name (named_lines text)

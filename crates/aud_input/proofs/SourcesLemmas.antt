@@ -2,12 +2,9 @@
 use Rattle.std.proofs.Common.{◌≡◌, ℕ, suc, ◌-◌, ◌<◌, ◌==◌, List, [], ◌∷◌, ◌++◌, length, Bool, true, false, not, cond, Option, Some, None, option_map, slice_index, refl, sym, ap, ◌∙◌, arith, append_assoc}
 use Rattle.std.specs.Io.KnownBytes.{Keeps, Consumes, IsAtEnd}
 use Rattle.aud_input.specs.Sources.{is_begun, ended, joined_after, all_known, left_of}
+use Rattle.aud_input.proofs.GivenLemmas.{begun-append}
 
 -- ---- bytes in two parts
-
-begun-append : (begun : Bool) (a b : List ℕ) → is_begun begun (a ++ b) ≡ is_begun (is_begun begun a) b
-begun-append begun [] b = refl
-begun-append begun (x ∷ a) b = begun-append (not (x == 10)) a b
 
 ended-append : (begun : Bool) (a b : List ℕ) → ended begun (a ++ b) ≡ a ++ ended (is_begun begun a) b
 ended-append begun a b = rw begun-append (append_assoc a b (cond (is_begun (is_begun begun a) b) (10 ∷ []) []))

@@ -25,7 +25,7 @@ use Rattle.aud_reader.specs.OwnLines.{recs_in, recs_of}
 use Rattle.aud_reader.proofs.Lists.{need-ok}
 use Rattle.aud_reader.proofs.LineSteps.{first_of_lines}
 use Rattle.aud_input.specs.LineName.{name_of}
-use Rattle.aud_input.specs.TapLines.{NamedLine, TapLines, named_at, named_from, with_line, with_lines, kept_line, tap_lines_of}
+use Rattle.aud_input.specs.TapLines.{NamedLine, TapLines, named_at, named_from, named_in, with_line, with_lines, kept_line, tap_lines_of}
 use Rattle.aud_input.specs.RecordLines.{StandsOn, RecordsHaveTheirLines}
 use Rattle.aud_input.proofs.ReturnLemmas.{name-without_return}
 
@@ -59,11 +59,6 @@ name-reads line name r e =
     let own : opened.0.0 ≡ name = ap (λ p. p.0) (same-ok _ _ value.2) in
     let found = need-ok NoTapName cut.0 (cut_at_blank line) cut.1 in
     ap (λ o. option_and_then (λ parts. passing is_tap_name parts.0) o) found ∙ ap (λ b. cond b (Some cut.0.0) None) named.0 ∙ ap Some (front ∙ own)
-
--- the lines of a list that begin with a name
-named_in : List Line → List NamedLine
-named_in [] = []
-named_in (line ∷ lines) = cons_option (named_at line.number line.bytes) (named_in lines)
 
 named-reads : (line : Line) (name : List ℕ) (r : Rec) → line.number < 4294967295 → line_record line.bytes ≡ Ok (name, r) → named_at line.number line.bytes ≡ Some (record { number = line.number; name = name })
 named-reads line name r below e = rw (lt-ltb line.number 4294967295 below, name-reads line.bytes name r e) refl
@@ -137,7 +132,6 @@ named-empty line e = ap (named_at line.number) e ∙ go (nat_lt line.number 4294
 -- after any lines that are read, what is kept is that of the taps
 lines-stand : (all : List Line) (ts more : List Tap) (ks : List TapLines) (lines : List Line) → AreIn all lines → taps_from ts lines ≡ Ok more → AllZip (Stands all) ts ks
     → AllZip (Stands all) more (with_lines ks (named_in lines))
-unfolding named_in
 lines-stand all ts more ks [] within e stand = subst (λ us. AllZip (Stands all) us ks) (same-ok ts more e) stand
 lines-stand all ts more ks (line ∷ lines) within e stand =
     let first = first_of_lines ts more line lines e in
@@ -161,8 +155,7 @@ lines-stand all ts more ks (line ∷ lines) within e stand =
 -- ---- the lines of a text
 
 -- the lines of an input that is within its limits begin with the names of its pieces
-named-text : (n : ℕ) (pieces : List (List ℕ)) → (lines_from n pieces).fault ≡ None → named_in (lines_from n pieces).lines ≡ named_from n pieces
-unfolding named_in
+pub named-text : (n : ℕ) (pieces : List (List ℕ)) → (lines_from n pieces).fault ≡ None → named_in (lines_from n pieces).lines ≡ named_from n pieces
 named-text n [] whole = refl
 named-text n (l ∷ ls) whole =
     elim (is_too_long l) as (λ b. is_too_long l ≡ b → named_in (lines_from n (l ∷ ls)).lines ≡ named_from n (l ∷ ls)) [

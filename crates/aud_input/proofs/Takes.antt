@@ -1,35 +1,47 @@
 -- Bytes that are taken in, one piece after the other.
-use Rattle.std.proofs.Common.{◌≡◌, ℕ, ◌+◌, ◌<◌, ◌==◌, List, [], ◌∷◌, ◌++◌, length, take, Bool, not, cond, Option, refl, sym, ap, ◌∙◌, append_assoc, append-nil, length-append, arith}
-use Rattle.std.proofs.lemmas.List.Sums.{sum_by-append}
+use Rattle.std.proofs.Common.{◌≡◌, ℕ, ◌<◌, List, [], ◌++◌, length, take, Option, Some, None, Result, Ok, Err, IfOk, IfErr, IfSome, refl, sym, ap, ◌∙◌, subst, append_assoc, append-nil, length-append, arith}
 use Rattle.std.specs.Io.KnownBytes.{Consumes, IsAtEnd}
 use Rattle.std.proofs.KnownBytes.{Consumes-nil, Consumes-trans, Consumes-whole}
-use Rattle.aud_input.specs.Reader.{input_to_come}
-use Rattle.aud_input.specs.TapLines.{tap_lines_to_come}
+use Rattle.aud_reader.specs.declared.fault.ReadFault.{ReadFault}
+use Rattle.aud_reader.specs.declared.fault.ReadFault.TheVariants.{Memory}
+use Rattle.aud_input.specs.declared.input.Layout.{Layout}
+use Rattle.aud_input.specs.Input.{InputSeen, IsInputOf, input_of}
+use Rattle.aud_input.specs.Reader.{HasLines, InputSoFar, input_to_come}
 use Rattle.aud_input.specs.Sources.{is_begun}
 use Rattle.aud_input.specs.declared.feeding.Feeding.{Feeding}
-use Rattle.aud_input.specs.Private.Feeding.{IsReadWhole, TakesIn, newlines_in}
+use Rattle.aud_input.specs.Private.Feeding.{IsReadWhole, Takes, TakesIn}
+use Rattle.aud_input.proofs.GivenLemmas.{begun-append}
+use Rattle.aud_input.proofs.PiecesLemmas.{answer-is}
 
-begun-append : (begun : Bool) (a b : List ℕ) → is_begun begun (a ++ b) ≡ is_begun (is_begun begun a) b
-begun-append begun [] b = refl
-begun-append begun (x ∷ a) b = begun-append (not (x == 10)) a b
+-- a refusal stays
+stays-refused : (s : InputSoFar) (fault : Option ReadFault) → s.fault ≡ fault → IfSome fault (λ f. s.fault ≡ Some f)
+stays-refused s None is = tt
+stays-refused s (Some f) is = is
 
-newlines-append : (a b : List ℕ) → newlines_in (a ++ b) ≡ newlines_in a + newlines_in b
-newlines-append a b = sum_by-append (λ x. cond (x == 10) 1 0) a b
+pub stays-more : (a b c : Option ReadFault) → IfSome a (λ f. b ≡ Some f) → IfSome b (λ f. c ≡ Some f) → IfSome a (λ f. c ≡ Some f)
+stays-more None b c first then = tt
+stays-more (Some f) b c first then = rw first at then
 
 -- nothing is taken in
-pub TakesIn-nil : (s : Feeding) → TakesIn s s []
-TakesIn-nil s = record { input = λ more. refl; lines = λ more. refl; kept = λ n more line is. is; ended = omega arith; begun = refl; size = omega arith; all = omega arith }
+pub Takes-nil : (s : InputSoFar) → Takes s s []
+Takes-nil s = record { input = λ more. refl; lines = λ before has. subst (λ bytes. HasLines bytes s) (sym (append-nil before)) has; stays = stays-refused s s.fault refl }
 
 -- bytes, and then others
-pub TakesIn-more : (a b c : Feeding) (x y : List ℕ) → TakesIn a b x → TakesIn b c y → TakesIn a c (x ++ y)
+Takes-more : (a b c : InputSoFar) (x y : List ℕ) → Takes a b x → Takes b c y → Takes a c (x ++ y)
+Takes-more a b c x y first then = record {
+  input = λ more. then.input more ∙ first.input (y ++ more) ∙ ap (input_to_come a) (sym (append_assoc x y more));
+  lines = λ before has. subst (λ bytes. HasLines bytes c) (append_assoc before x y) (then.lines (before ++ x) (first.lines before has));
+  stays = stays-more a.fault b.fault c.fault first.stays then.stays;
+}
+
+TakesIn-nil : (s : Feeding) → TakesIn s s []
+TakesIn-nil s = record { takes = Takes-nil s.reader; begun = refl; size = omega arith }
+
+TakesIn-more : (a b c : Feeding) (x y : List ℕ) → TakesIn a b x → TakesIn b c y → TakesIn a c (x ++ y)
 TakesIn-more a b c x y first then = record {
-  input = λ more. then.input more ∙ first.input (y ++ more) ∙ ap (input_to_come a.reader) (sym (append_assoc x y more));
-  lines = λ more. then.lines more ∙ first.lines (y ++ more) ∙ ap (tap_lines_to_come a.index.lines) (sym (append_assoc x y more));
-  kept = λ n more line is. rw (append_assoc x y more) (first.kept n (y ++ more) line (then.kept n more line is));
-  ended = omega (arith, first.ended, then.ended, newlines-append x y);
+  takes = Takes-more a.reader b.reader c.reader x y first.takes then.takes;
   begun = then.begun ∙ ap (λ begun. is_begun begun y) first.begun ∙ sym (begun-append a.begun x y);
   size = omega (arith, first.size, then.size, length-append x y);
-  all = omega (arith, first.all, then.all, newlines-append x y);
 }
 
 -- what was read of a file so far was taken in
@@ -56,3 +68,13 @@ all_read a b c s t buf n zero room so_far last =
     let none : take n buf ≡ [] = rw zero refl in
     let whole : so_far.front ≡ so_far.front ++ take n buf = rw none (sym (append-nil so_far.front)) in
     (so_far.front, Consumes-whole a c (so_far.front ++ take n buf) (λ bytes. so_far.front ≡ bytes) (Consumes-trans a b c so_far.front (take n buf) so_far.consumed last.0) (last.1 zero room) whole, so_far.taken)
+
+-- what a reader gives of an input that was read whole
+pub input_read : (layout : Layout) (left : Option (List ℕ)) (s t : Feeding) (answer : Result InputSeen ReadFault) → ((bytes : List ℕ) → input_to_come s.reader bytes ≡ input_of layout bytes)
+    → IsReadWhole left s t → IfOk answer (λ input. input_to_come t.reader [] ≡ Ok input) → IfErr answer (λ e. ¬ (e ≡ Memory) → input_to_come t.reader [] ≡ Err e)
+    → ¬ (answer ≡ Err Memory) → IsInputOf layout left answer
+input_read layout left s t answer begins read ok err other = (
+  read.0,
+  read.1,
+  ap (input_of layout) (sym (append-nil read.0)) ∙ sym (begins (read.0 ++ [])) ∙ sym (read.2.takes.input []) ∙ answer-is (input_to_come t.reader []) answer ok err other,
+)

@@ -2,9 +2,10 @@
 use Rattle.std.specs.Prelude.{◌≡◌, ℕ, ◌-◌, ◌<◌, List, [], ◌∷◌, length, sum_by, slice_get, Option, Some, None, option_map, IfSome, Result, Ok, Err}
 use Rattle.aud_tap.specs.declared.taps.Tap.{Tap}
 use Rattle.aud_reader.specs.declared.fault.InputCode.{InputCode}
-use Rattle.aud_reader.specs.declared.fault.InputCode.TheVariants.{SecondStream}
+use Rattle.aud_reader.specs.declared.fault.InputCode.TheVariants.{LineTooLong, SecondStream}
 use Rattle.aud_reader.specs.declared.fault.ReadFault.{ReadFault}
 use Rattle.aud_reader.specs.declared.fault.ReadFault.TheVariants.{Input}
+use Rattle.aud_reader.specs.declared.line.Line.{Line}
 use Rattle.aud_reader.specs.Lines.{line_pieces, without_return}
 use Rattle.aud_input.specs.declared.input.Layout.TheVariants.{Bundle}
 use Rattle.aud_input.specs.Input.{InputSeen, input_of}
@@ -47,10 +48,15 @@ pub record AreRecorded (lefts : List (Option (List ℕ))) (read : Recorded) : Ty
   pub lines : tap_lines_of (joined files) ≡ read.lines
   pub size : read.size ≡ size_of files
 
--- what is kept of a line: its bytes without the carriage return at its end, or none
-abbrev pub IsKept : Option (List ℕ) → List ℕ → Type 0
-IsKept line [] = Unit {0}
-IsKept line (b ∷ bytes) = option_map without_return line ≡ Some (b ∷ bytes)
+-- what is told of a line: its bytes; none where it isn't there
+abbrev pub line_told : Option Line → List ℕ
+line_told None = []
+line_told (Some line) = line.bytes
+
+-- what is told of the refused line: its bytes without the carriage return at its end; none where it is too long
+abbrev pub IsTold : InputCode → Option (List ℕ) → List ℕ → Type 0
+IsTold code line [] = ¬ (code ≡ LineTooLong) → option_map without_return line ≡ Some []
+IsTold code line (b ∷ bytes) = option_map without_return line ≡ Some (b ∷ bytes)
 
 -- the line of the header that stands already where a line is refused: the first line with the name that this one begins
 -- with. Of a second stream none is told
@@ -59,13 +65,13 @@ header_told SecondStream lines line = None
 header_told code lines line = first_like lines line
 
 -- of files that are read as one input: the line is the first that is refused, and stands there in that file; its bytes
--- are those of the line with this number, where they are kept, and the header is that of the tap that they name
+-- are those of the line with this number, and the header is that of the tap that they name
 pub record IsRefused (lefts : List (Option (List ℕ))) (refusal : Refusal) : Type 0 where
   pub files : List (List ℕ)
   pub told : AreTold lefts files
   pub refused : taps_read (input_of Bundle (joined files)) ≡ Err (Input refusal.number refusal.code)
   pub stands : refusal.at ≡ file_line (line_counts files) refusal.number
-  pub kept : IsKept (slice_get (line_pieces (joined files)) (refusal.number - 1)) refusal.line
+  pub line : IsTold refusal.code (slice_get (line_pieces (joined files)) (refusal.number - 1)) refusal.line
   pub header : refusal.header ≡ header_told refusal.code (tap_lines_of (joined files)) refusal.line
 
 -- why files are not recorded: a line is refused, or one of them could not be read

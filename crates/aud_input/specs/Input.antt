@@ -1,5 +1,5 @@
 -- The input of a mode: the taps of its bundle, and the certificates where it has some.
-use Rattle.std.specs.Prelude.{ℕ, ◌==◌, List, [], ◌∷◌, filter, Bool, false, not, Option, Some, None, Result, Ok, Err}
+use Rattle.std.specs.Prelude.{◌≡◌, ℕ, ◌==◌, List, [], ◌∷◌, filter, Bool, false, not, Option, Some, None, IfSome, Result, Ok, Err}
 use Rattle.aud_reader.specs.declared.line.Line.{Line}
 use Rattle.aud_reader.specs.declared.fault.ReadFault.{ReadFault}
 use Rattle.aud_tap.specs.declared.taps.Tap.{Tap}
@@ -49,3 +49,8 @@ unless_cut (Some fault) (Err earlier) = Err earlier
 -- the taps and the certificates of an input, or its first refused line
 abbrev pub input_of : Layout → List ℕ → Result InputSeen ReadFault
 input_of layout bytes = unless_cut (lines_of bytes).fault (parts_of layout (lines_of bytes).lines)
+
+-- the taps and the certificates of the bytes that a reader had left, where the reader tells them, or the first refused
+-- line
+abbrev pub IsInputOf : Layout → Option (List ℕ) → Result InputSeen ReadFault → Type 0
+IsInputOf layout left read = (bytes : List ℕ) × IfSome left (λ told. bytes ≡ told) × (input_of layout bytes ≡ read)

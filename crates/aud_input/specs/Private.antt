@@ -1,6 +1,4 @@
 -- What contracts of private functions alone cite. No public clause rests on these words.
 pub mod Going
 pub mod Kept
-pub mod Begun
-pub mod Tail
 pub mod Feeding

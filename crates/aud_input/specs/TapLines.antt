@@ -1,8 +1,9 @@
 -- The lines of each tap, by their numbers.
-use Rattle.std.specs.Prelude.{ℕ, ◌+◌, nat_lt, List, [], ◌∷◌, ◌++◌, Option, None, if◌then◌else◌, slice_get, option_map, map, Bool}
+use Rattle.std.specs.Prelude.{ℕ, ◌+◌, nat_lt, List, [], ◌∷◌, ◌++◌, Option, Some, None, if◌then◌else◌, slice_get, option_map, map, Bool}
 use Rattle.std.specs.List.{cons_option, filter, list_any}
 use Rattle.std.specs.Option.{option_and_then}
 use Rattle.std.specs.Str.{bytes_eq}
+use Rattle.aud_reader.specs.declared.line.Line.{Line}
 use Rattle.aud_reader.specs.Lines.{line_pieces}
 use Rattle.aud_input.specs.LineName.{name_of}
 
@@ -84,17 +85,37 @@ first_kept (t ∷ ts) name = if bytes_eq t.name name then slice_get t.numbers 0 
 abbrev pub first_like : List TapLines → List ℕ → Option ℕ
 first_like ts line = option_and_then (first_kept ts) (name_of line)
 
--- the lines of the taps so far, the number of the line that has begun, and the front of that line
-pub record LinesSoFar : Type 0 where
-  pub taps : List TapLines
-  pub number : ℕ
-  pub begun : List ℕ
+-- ---- an index of lines that come one after another
 
--- the lines of each tap in the end, where this is the rest of the input
-abbrev pub tap_lines_to_come : LinesSoFar → List ℕ → List TapLines
-tap_lines_to_come s more = with_lines s.taps (named_from s.number (line_pieces (s.begun ++ more)))
-
--- an index: the lines so far, and whether memory ran out
+-- the lines of each tap, and the number of the last line
 pub record Indexed : Type 0 where
-  pub lines : LinesSoFar
-  pub failed : Bool
+  pub taps : List TapLines
+  pub lines : ℕ
+
+-- an index of no lines
+abbrev pub no_lines : Indexed
+no_lines = record { taps = []; lines = 0 }
+
+-- those of these lines that begin with a name
+abbrev pub named_in : List Line → List NamedLine
+named_in [] = []
+named_in (line ∷ lines) = cons_option (named_at line.number line.bytes) (named_in lines)
+
+-- the number of the last of these lines; where there is none, of the one before them
+abbrev pub last_number : ℕ → List Line → ℕ
+last_number n [] = n
+last_number n (line ∷ lines) = last_number line.number lines
+
+-- an index with these lines after its others
+abbrev pub noted : Indexed → List Line → Indexed
+noted s lines = record { taps = with_lines s.taps (named_in lines); lines = last_number s.lines lines }
+
+-- the lines of each tap, where an index is kept
+abbrev pub taps_noted : Option Indexed → List TapLines
+taps_noted None = []
+taps_noted (Some s) = s.taps
+
+-- how many lines were noted
+abbrev pub lines_noted : Option Indexed → ℕ
+lines_noted None = 0
+lines_noted (Some s) = s.lines

@@ -1,5 +1,6 @@
 //! Lines that are read together.
 ghost use Rattle.std.specs.Prelude.{◌≡◌, ◌<◌, ◌≤◌, ◌++◌, ◌∷◌, [], length, true, OnOk};
+ghost use Rattle.aud_input.specs.Reader.{line_numbered};
 
 use aud_reader::Line;
 use std::alloc::{AllocError, Global};
@@ -49,6 +50,18 @@ impl Batch {
         ensures { result.now ≡ self.now }
     {
         &self.lines
+    }
+
+    /// The line of this number, where it waits.
+    pub fn line(self, number: u64) -> Option<Line>
+        ensures { result ≡ line_numbered number self }
+    {
+        for line in self.lines {
+            if line.number == number {
+                return Some(line);
+            }
+        }
+        None
     }
 
     /// Whether the lines are to wait no longer. For a single thread each line is enough.

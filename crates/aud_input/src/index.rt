@@ -1,75 +1,115 @@
-//! The index of an input that comes in pieces.
-ghost use Rattle.std.specs.Prelude.{◌≡◌, ◌++◌, [], List, ℕ, OnOk, IfOk, false, true, is_err};
-ghost use Rattle.aud_input.specs.TapLines.{tap_lines_of, tap_lines_to_come};
+//! The index of the lines of an input.
+ghost use Rattle.std.specs.Prelude.{◌≡◌, List, OnOk, None};
+ghost use Rattle.aud_reader.specs.declared.line.Line.{Line};
+ghost use Rattle.aud_input.specs.TapLines.{NamedLine, no_lines, noted, with_line, with_lines, named_at};
+ghost use Rattle.std.specs.List.{cons_option};
+ghost use Rattle.aud_input.specs.Private.Kept.{KeepsPlaces, place_in, so_far};
 
-use crate::named_lines::NamedLines;
-use crate::tap_lines::RecordLines;
+use crate::name::name_of;
+use crate::tap_lines::{RecordLines, TapLines};
+use aud_reader::Line;
 use std::alloc::{AllocError, Global};
+use std::collections::HashMap;
 use std::hash::RandomState;
-use std::marker::Model;
 
-/// Keeps the number of the line of each record, of an input that comes in pieces: 4 bytes a record.
+/// Keeps the number of the line of each record, of lines that come one after another: 4 bytes a record.
 ///
 /// It goes by the names that lines begin with, and looks at nothing more of a line. So what it gives says something of
-/// the records where the reader of the bundle refuses nothing. Where memory ran out, each later call says so too.
+/// the records where the reader of the bundle refuses nothing. The taps stand in the order of their first lines, with
+/// the place of each by its name.
 #[derive(Drop)]
 pub struct LineIndex {
-    lines: NamedLines,
-    failed: bool,
-}
-
-impl Model for LineIndex {
-    ghost use Rattle.std.specs.Prelude.{◌≡◌, false};
-    ghost use Rattle.aud_input.specs.TapLines.{Indexed};
-    ghost use Rattle.aud_input.specs.Private.Begun.{IsGoing, so_far};
-
-    ghost Value = { Indexed };
-
-    ghost view = { λ s. record { lines = so_far s.lines; failed = s.failed } };
-
-    ghost invariant = { λ s. s.failed ≡ false → IsGoing s.lines };
+    alloc: Global,
+    taps: Vec<TapLines>,
+    places: HashMap<String, usize, RandomState>,
+    lines: u64,
 }
 
 impl LineIndex {
-    /// An index at the start of an input. Names are hashed with these keys.
+    /// No lines. Names are hashed with these keys.
     pub fn new(alloc: Global, keys: RandomState) -> LineIndex
-        ensures going { result.failed ≡ false }
-        ensures lines { (text : List ℕ) → tap_lines_to_come result.lines text ≡ tap_lines_of text }
+        ensures lines { so_far result ≡ no_lines }
+        ensures keeps { KeepsPlaces result }
     {
         LineIndex {
-            lines: NamedLines::new(alloc, keys),
-            failed: false,
+            alloc,
+            taps: Vec::new(alloc),
+            places: HashMap::with_hasher(alloc, keys),
+            lines: 0,
         }
     }
 
-    /// Looks at the next piece of the input, which is borrowed for the call alone.
-    pub fn feed(&mut self, piece: &[u8]) -> Result<(), AllocError>
-        ensures failed { self.new.failed ≡ is_err result }
-        ensures lines { OnOk result ((more : List ℕ)
-            → tap_lines_to_come self.new.lines more
-            ≡ tap_lines_to_come self.old.lines (piece.now ++ more)) }
-        ensures refused { self.old.failed ≡ true → is_err result ≡ true }
+    /// The number of the last line: how many there were.
+    pub fn lines(&self) -> u64
+        ensures { result ≡ self.now.lines }
     {
-        if self.failed {
-            return Err(AllocError);
+        self.lines
+    }
+
+    /// Puts a tap of one line at the end.
+    fn open(&mut self, name: &str, number: u32) -> Result<(), AllocError>
+        requires keeps { KeepsPlaces self.old }
+        requires first { place_in self.old.taps.items name.now ≡ None }
+        ensures taps { OnOk result (self.new.taps.items
+            ≡ with_line self.old.taps.items (record { number = number; name = name.now })) }
+        ensures keeps { OnOk result (KeepsPlaces self.new) }
+    {
+        let key = String::from_str(self.alloc, name)?;
+        self.places.insert(key, self.taps.len())?;
+        let tap = TapLines::new(self.alloc, name, number)?;
+        self.taps.push(tap)?;
+        Ok(())
+    }
+
+    /// The next line that begins with a name has this number.
+    fn note(&mut self, name: &str, number: u32) -> Result<(), AllocError>
+        requires { KeepsPlaces self.old }
+        ensures taps { OnOk result (self.new.taps.items
+            ≡ with_line self.old.taps.items (record { number = number; name = name.now })) }
+        ensures keeps { OnOk result (KeepsPlaces self.new) }
+    {
+        match self.places.get(name).copied() {
+            Some(place) => self.taps[place].push(number)?,
+            None => self.open(name, number)?,
         }
-        match self.lines.feed(piece) {
-            Ok(()) => Ok(()),
-            Err(error) => {
-                self.failed = true;
-                Err(error)
-            }
+        Ok(())
+    }
+
+    /// Notes the name of the next line.
+    fn note_line(&mut self, line: &Line) -> Result<(), AllocError>
+        requires { KeepsPlaces self.old }
+        ensures taps { OnOk result ((more : List NamedLine)
+            → with_lines self.new.taps.items more
+            ≡ with_lines self.old.taps.items
+            (cons_option (named_at line.now.number line.now.bytes) more)) }
+        ensures keeps { OnOk result (KeepsPlaces self.new) }
+    {
+        if line.number >= u64::from(u32::MAX) {
+            return Ok(());
+        }
+        match name_of(line.bytes.as_slice()) {
+            Some(name) => self.note(name, line.number as u32),
+            None => Ok(()),
         }
     }
 
-    /// The line of each record, at the end of the input. What comes after the last newline is a line too.
-    pub fn finish(self) -> Result<RecordLines, AllocError>
-        ensures lines { IfOk result (λ found. tap_lines_to_come self.lines [] ≡ found) }
-        ensures refused { self.failed ≡ true → is_err result ≡ true }
+    /// Notes the next lines.
+    pub fn note_lines(&mut self, lines: &[Line]) -> Result<(), AllocError>
+        requires { KeepsPlaces self.old }
+        ensures noted { OnOk result (so_far self.new ≡ noted (so_far self.old) lines.now) }
+        ensures keeps { OnOk result (KeepsPlaces self.new) }
     {
-        if self.failed {
-            return Err(AllocError);
+        for line in lines {
+            self.note_line(line)?;
+            self.lines = line.number;
         }
-        self.lines.finish()
+        Ok(())
+    }
+
+    /// The lines of the taps.
+    pub fn close(self) -> RecordLines
+        ensures { result ≡ self.taps.items }
+    {
+        RecordLines::new(self.taps)
     }
 }

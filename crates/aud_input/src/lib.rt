@@ -16,6 +16,8 @@
 //! assert_eq!(rt; input.certificates.len(), 1);
 //! ```
 //!
+//! [`read_input`] reads such an input to its end, from whatever gives its bytes.
+//!
 //! [`read_files`] reads the files of a bundle as one input, and tells which line of them each record stands on, or
 //! which line of which file is refused, and what stands in it. A record that stands in the second of two files:
 //!
@@ -30,41 +32,24 @@
 //! let read = read_files(&rt, 1, alloc, RandomState::new(&rt)?, &mut files)?;
 //! assert_eq!(rt; read.lines.line_of(0, 0), Some(2));
 //! ```
-//!
-//! [`LineIndex`] finds the lines of the records alone:
-//!
-//! ```
-//! use aud_input::LineIndex;
-//! use std::hash::RandomState;
-//!
-//! let mut index = LineIndex::new(alloc, RandomState::new(&rt)?);
-//! index.feed(b"a {\"k\":\"tap\",\"v\":1,\"of\":\"no")?;
-//! index.feed(b"de\"}\na {\"k\":\"start\",\"off\":null}\n")?;
-//! let lines = index.finish()?;
-//! assert_eq!(rt; lines.line_of(0, 0), Some(2));
-//! ```
 #![tactic(auto)]
 
 mod batch;
 mod feeding;
 mod index;
 mod input;
-mod kept;
 mod law;
 mod line_laws;
 mod name;
-mod named_lines;
-mod named_taps;
 mod parts;
 mod place;
 mod reader;
 mod reading;
 mod refusal;
 mod sources;
-mod tail;
 mod tap_lines;
 
-pub use index::LineIndex;
+pub use feeding::READ_LIMIT;
 pub use input::{Input, Layout};
 pub use law::input_in_any_pieces;
 pub use line_laws::{
@@ -72,7 +57,7 @@ pub use line_laws::{
 };
 pub use place::{FileLine, file_line};
 pub use reader::InputReader;
-pub use reading::{ReadingFault, Recorded, Size, read_files};
+pub use reading::{ReadingFault, Recorded, Size, read_files, read_input};
 pub use refusal::Refusal;
 pub use sources::Sources;
 pub use tap_lines::RecordLines;

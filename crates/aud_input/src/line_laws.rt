@@ -3,7 +3,7 @@ ghost use Rattle.aud_input.specs.RecordLines.{FirstKeptIsFirst, KeptAreLinesOfRe
 ghost use Rattle.aud_input.specs.Sources.{LinesAreThoseOfFiles};
 
 /// The line that [`RecordLines::line_of`](crate::RecordLines::line_of) gives for a record is the line that the record
-/// stands on: a law of the lines that [`LineIndex`](crate::LineIndex) keeps.
+/// stands on: a law of the lines that [`read_files`](crate::read_files) gives.
 ///
 /// For every input that is read as taps, and that has no more than 4,294,967,294 lines: for each record of each tap a
 /// line is kept, the line begins with the tap's name, and the record is that of the line.

@@ -3,7 +3,7 @@ ghost use Rattle.std.specs.Prelude.{◌≡◌, ◌≢◌, ◌++◌, ◌∷◌, [
 ghost use Rattle.aud_reader.specs.declared.line.Line.{Line};
 ghost use Rattle.aud_tap.specs.Names.{AreNamedOnce};
 ghost use Rattle.aud_input.specs.Input.{opens_object, is_certificate, parts_of};
-ghost use Rattle.aud_input.specs.Reader.{parts_to_come};
+ghost use Rattle.aud_input.specs.Reader.{AreAmong, Holds, line_numbered, parts_to_come};
 
 use crate::batch::Batch;
 use crate::input::{Input, Layout};
@@ -52,6 +52,7 @@ impl PartsReader {
     /// A reader before the first line. Texts are found again by their hashes under these keys.
     pub fn new(alloc: Global, keys: RandomState, layout: Layout) -> PartsReader
         ensures going { result.taps.fault ≡ None }
+        ensures none { result.waiting ≡ [] }
         ensures parts { (lines : List Line) → parts_to_come result lines ≡ parts_of layout lines }
     {
         PartsReader {
@@ -75,10 +76,16 @@ impl PartsReader {
             → parts_to_come self.new more ≡ parts_to_come self.old more) }
         ensures refused { IfErr result (λ e. e ≢ ReadFault.Memory → (more : List Line)
             → parts_to_come self.old more ≡ Err e) }
+        ensures waits { AreAmong self.new.waiting self.old.waiting }
+        ensures held { IfErr result (λ e. e ≢ ReadFault.Memory → Holds e self.new.waiting) }
     {
-        self.taps.lines(rt, threads, self.waiting.lines())?;
-        self.waiting.clear();
-        Ok(())
+        match self.taps.lines(rt, threads, self.waiting.lines()) {
+            Ok(()) => {
+                self.waiting.clear();
+                Ok(())
+            }
+            Err(fault) => Err(fault),
+        }
     }
 
     /// Keeps the next line.
@@ -86,6 +93,7 @@ impl PartsReader {
         ensures going { self.new.taps ≡ self.old.taps }
         ensures parts { OnOk result ((more : List Line)
             → parts_to_come self.new more ≡ parts_to_come self.old (line ∷ more)) }
+        ensures waits { OnOk result (AreAmong self.new.waiting (self.old.waiting ++ line ∷ [])) }
     {
         if is_certificate(self.layout, &line) {
             self.certificates.push(line)?;
@@ -108,6 +116,9 @@ impl PartsReader {
             → parts_to_come self.new more ≡ parts_to_come self.old (line ∷ more)) }
         ensures refused { IfErr result (λ e. e ≢ ReadFault.Memory → (more : List Line)
             → parts_to_come self.old (line ∷ more) ≡ Err e) }
+        ensures waits { result ≢ Err ReadFault.Memory
+            → AreAmong self.new.waiting (self.old.waiting ++ line ∷ []) }
+        ensures held { IfErr result (λ e. e ≢ ReadFault.Memory → Holds e self.new.waiting) }
     {
         self.keep_line(line)?;
         if self.waiting.is_full(threads) {
@@ -129,6 +140,9 @@ impl PartsReader {
             → parts_to_come self.new more ≡ parts_to_come self.old (lines.items ++ more)) }
         ensures refused { IfErr result (λ e. e ≢ ReadFault.Memory → (more : List Line)
             → parts_to_come self.old (lines.items ++ more) ≡ Err e) }
+        ensures waits { result ≢ Err ReadFault.Memory
+            → AreAmong self.new.waiting (self.old.waiting ++ lines.items) }
+        ensures held { IfErr result (λ e. e ≢ ReadFault.Memory → Holds e self.new.waiting) }
     {
         for line in lines {
             self.read_line(rt, threads, line)?;
@@ -136,8 +150,15 @@ impl PartsReader {
         Ok(())
     }
 
+    /// The line of this number, where it waits to be read.
+    pub fn waiting_line(self, number: u64) -> Option<Line>
+        ensures { result ≡ line_numbered number self.waiting }
+    {
+        self.waiting.line(number)
+    }
+
     /// The taps and the certificates of the lines that were read.
-    fn close(self) -> Result<Input, ReadFault>
+    pub fn close(self) -> Result<Input, ReadFault>
         requires going { self.taps.fault ≡ None }
         requires none { self.waiting ≡ [] }
         ensures read { IfOk result (λ input. parts_to_come self [] ≡ Ok input) }

@@ -1,15 +1,22 @@
 //! The taps and the certificates of an input that comes in pieces.
-ghost use Rattle.std.specs.Prelude.{◌≡◌, ◌≢◌, ◌+◌, ◌-◌, ◌^◌, ◌<◌, ◌≤◌, ◌++◌, [], ℕ, List, length, None, Ok, Err, IfOk, IfErr, IfSome, OnOk};
+ghost use Rattle.std.specs.Prelude.{◌≡◌, ◌≢◌, ◌+◌, ◌-◌, ◌^◌, ◌<◌, ◌≤◌, ◌++◌, [], ℕ, List, length, is_none, option_map, None, Ok, Err, IfOk, IfErr, IfSome, OnOk};
 ghost use Rattle.aud_tap.specs.Names.{AreNamedOnce};
 ghost use Rattle.aud_reader.specs.Lines.{lines_to_come, result_of};
+ghost use Rattle.aud_input.specs.Files.{header_told, line_told};
 ghost use Rattle.aud_input.specs.Input.{input_of};
-ghost use Rattle.aud_input.specs.Private.Going.{AreGoing};
-ghost use Rattle.aud_input.specs.Reader.{input_over, input_to_come};
+ghost use Rattle.aud_input.specs.Private.Going.{AreGoing, fault_of, reader_of};
+ghost use Rattle.aud_input.specs.Private.Kept.{KeepsPlaces, so_far};
+ghost use Rattle.aud_input.specs.Reader.{HasLines, input_over, input_to_come, line_numbered, parts_to_come};
+ghost use Rattle.aud_input.specs.TapLines.{lines_noted, noted, taps_noted};
 
+use crate::index::LineIndex;
 use crate::input::{Input, Layout};
 use crate::parts::PartsReader;
-use aud_reader::{ReadFault, Splitter};
-use std::alloc::Global;
+use crate::refusal::header_of;
+use crate::tap_lines::RecordLines;
+use aud_reader::{InputCode, Line, ReadFault, Splitter};
+use aud_tap::Bytes;
+use std::alloc::{AllocError, Global};
 use std::hash::RandomState;
 use std::marker::Model;
 use std::thread::Threads;
@@ -23,48 +30,95 @@ use std::thread::Threads;
 pub struct InputReader {
     splitter: Splitter,
     parts: PartsReader,
+    index: Option<LineIndex>,
     fault: Option<ReadFault>,
 }
 
 impl Model for InputReader {
-    ghost use Rattle.std.specs.Prelude.{◌≡◌, None};
+    ghost use Rattle.std.specs.Prelude.{◌≡◌, None, IfSome, option_map};
     ghost use Rattle.aud_input.specs.Reader.{InputSoFar};
     ghost use Rattle.aud_input.specs.Private.Going.{AreGoing};
+    ghost use Rattle.aud_input.specs.Private.Kept.{KeepsPlaces, so_far};
 
     ghost Value = { InputSoFar };
 
-    ghost view = { λ s. record { cut = s.splitter; parts = s.parts; fault = s.fault } };
+    ghost view = { λ s. record { cut = s.splitter; parts = s.parts; index = option_map so_far s.index; fault = s.fault } };
 
-    ghost invariant = { λ s. s.fault ≡ None → AreGoing s.splitter s.parts };
+    ghost invariant = { λ s. s.fault ≡ None → AreGoing s.splitter s.parts × IfSome s.index KeepsPlaces };
 }
 
-/// Cuts the next piece into lines, and reads those that are whole, now or later.
+/// Notes the next lines, where an index is kept.
+fn note_lines(index: &mut Option<LineIndex>, lines: &[Line]) -> Result<(), AllocError>
+    requires { IfSome index.old KeepsPlaces }
+    ensures noted { OnOk result (option_map so_far index.new
+        ≡ option_map (λ s. noted s lines.now) (option_map so_far index.old)) }
+    ensures keeps { OnOk result (IfSome index.new KeepsPlaces) }
+{
+    match index {
+        Some(index) => index.note_lines(lines),
+        None => Ok(()),
+    }
+}
+
+/// Cuts the next piece into lines, notes those that are whole, and reads them, now or later.
 fn read_piece<H: Threads + Sync>(
     rt: &H,
     threads: usize,
     splitter: &mut Splitter,
     parts: &mut PartsReader,
+    index: &mut Option<LineIndex>,
     piece: &[u8],
 ) -> Result<(), ReadFault>
     requires number { splitter.old.number + length piece.now < 2 ^ 64 }
     requires going { AreGoing splitter.old parts.old }
+    requires keeps { IfSome index.old KeepsPlaces }
     ensures going { OnOk result (AreGoing splitter.new parts.new) }
+    ensures keeps { OnOk result (IfSome index.new KeepsPlaces) }
     ensures input { OnOk result ((more : List ℕ)
         → input_over parts.new (lines_to_come splitter.new more)
         ≡ input_over parts.old (lines_to_come splitter.old (piece.now ++ more))) }
+    ensures lines { result ≢ Err ReadFault.Memory → (bytes : List ℕ)
+        → HasLines bytes (reader_of splitter.old parts.old index.old None)
+        → HasLines (bytes ++ piece.now)
+        (reader_of splitter.new parts.new index.new (fault_of result)) }
     ensures refused { IfErr result (λ e. e ≢ ReadFault.Memory → (more : List ℕ)
         → input_over parts.old (lines_to_come splitter.old (piece.now ++ more)) ≡ Err e) }
     ensures number { splitter.new.number ≤ splitter.old.number + length piece.now }
 {
     let cut = splitter.feed(piece);
-    parts.read_lines(rt, threads, splitter.take())?;
+    let lines = splitter.take();
+    note_lines(index, &lines)?;
+    match parts.read_lines(rt, threads, lines) {
+        Ok(()) => {}
+        Err(fault) => return Err(fault),
+    }
     match cut {
         Ok(()) => Ok(()),
-        Err(fault) => {
-            // A line that waits stands before the one that is too long, and may be refused too.
-            parts.read_waiting(rt, threads)?;
-            Err(fault)
-        }
+        // A line that waits stands before the one that is too long, and may be refused too.
+        Err(fault) => match parts.read_waiting(rt, threads) {
+            Ok(()) => Err(fault),
+            Err(earlier) => Err(earlier),
+        },
+    }
+}
+
+/// The line of each record, where an index is kept.
+fn record_lines(alloc: Global, index: Option<LineIndex>) -> RecordLines
+    ensures { result ≡ taps_noted (option_map so_far index) }
+{
+    match index {
+        Some(index) => index.close(),
+        None => RecordLines::new(Vec::new(alloc)),
+    }
+}
+
+/// The bytes of a line, where there is one.
+fn line_told(alloc: Global, line: Option<Line>) -> Bytes
+    ensures { result ≡ line_told line }
+{
+    match line {
+        Some(line) => line.bytes,
+        None => Bytes::new(Vec::new(alloc)),
     }
 }
 
@@ -78,6 +132,22 @@ impl InputReader {
         InputReader {
             splitter: Splitter::new(alloc),
             parts: PartsReader::new(alloc, keys, layout),
+            index: None,
+            fault: None,
+        }
+    }
+
+    /// A reader of a bundle that keeps the line of each record too.
+    pub(crate) fn indexed(alloc: Global, keys: RandomState) -> InputReader
+        ensures number { result.cut.number ≡ 1 }
+        ensures going { result.fault ≡ None }
+        ensures input { (bytes : List ℕ) → input_to_come result bytes ≡ input_of Layout.Bundle bytes }
+        ensures lines { HasLines [] result }
+    {
+        InputReader {
+            splitter: Splitter::new(alloc),
+            parts: PartsReader::new(alloc, keys, Layout::Bundle),
+            index: Some(LineIndex::new(alloc, keys)),
             fault: None,
         }
     }
@@ -96,6 +166,8 @@ impl InputReader {
         ensures value { result ≡ result_of self.new.fault }
         ensures input { (more : List ℕ) → result ≢ Err ReadFault.Memory
             → input_to_come self.new more ≡ input_to_come self.old (piece.now ++ more) }
+        ensures lines { result ≢ Err ReadFault.Memory → (bytes : List ℕ)
+            → HasLines bytes self.old → HasLines (bytes ++ piece.now) self.new }
         ensures refused { IfSome self.old.fault (λ fault. (result ≡ Err fault)
             × (self.new ≡ self.old)) }
         ensures number { self.new.cut.number ≤ self.old.cut.number + length piece.now }
@@ -103,7 +175,14 @@ impl InputReader {
         if let Some(fault) = self.fault {
             return Err(fault);
         }
-        match read_piece(rt, threads, &mut self.splitter, &mut self.parts, piece) {
+        match read_piece(
+            rt,
+            threads,
+            &mut self.splitter,
+            &mut self.parts,
+            &mut self.index,
+            piece,
+        ) {
             Ok(()) => Ok(()),
             Err(fault) => {
                 self.fault = Some(fault);
@@ -128,5 +207,84 @@ impl InputReader {
         let lines = this.splitter.finish()?;
         this.parts.read_lines(rt, threads, lines)?;
         this.parts.finish(rt, threads)
+    }
+
+    /// How many lines were noted: all that are whole, unless one is refused. None are where no index is kept.
+    pub(crate) fn lines(&self) -> u64
+        ensures { result ≡ lines_noted self.now.index }
+    {
+        match &self.index {
+            Some(index) => index.lines(),
+            None => 0,
+        }
+    }
+
+    /// Whether no line is refused.
+    pub(crate) fn goes_on(&self) -> bool
+        ensures { result ≡ is_none self.now.fault }
+    {
+        self.fault.is_none()
+    }
+
+    /// Reads the lines that wait.
+    pub(crate) fn read_waiting<H: Threads + Sync>(
+        &mut self,
+        rt: &H,
+        threads: usize,
+    ) -> Result<(), ReadFault>
+        ensures value { result ≡ result_of self.new.fault }
+        ensures none { OnOk result (self.new.parts.waiting ≡ []) }
+        ensures input { (more : List ℕ) → result ≢ Err ReadFault.Memory
+            → input_to_come self.new more ≡ input_to_come self.old more }
+        ensures lines { result ≢ Err ReadFault.Memory → (bytes : List ℕ)
+            → HasLines bytes self.old → HasLines bytes self.new }
+    {
+        if let Some(fault) = self.fault {
+            return Err(fault);
+        }
+        match self.parts.read_waiting(rt, threads) {
+            Ok(()) => Ok(()),
+            Err(fault) => {
+                self.fault = Some(fault);
+                Err(fault)
+            }
+        }
+    }
+
+    /// The taps of the lines that were read, where all were, and the line of each record. No two taps have one name.
+    pub(crate) fn close(self, alloc: Global) -> Result<(Input, RecordLines), ReadFault>
+        requires going { self.fault ≡ None }
+        requires none { self.parts.waiting ≡ [] }
+        ensures read { IfOk result (λ read. parts_to_come self.parts [] ≡ Ok read.0) }
+        ensures names { IfOk result (λ read. AreNamedOnce read.0.taps) }
+        ensures lines { IfOk result (λ read. read.1 ≡ taps_noted self.index) }
+        ensures err { IfErr result (λ e. e ≡ ReadFault.Memory) }
+    {
+        let InputReader {
+            splitter: _,
+            parts,
+            index,
+            fault: _,
+        } = self;
+        let input = parts.close()?;
+        Ok((input, record_lines(alloc, index)))
+    }
+
+    /// What is told of the line of this number, which is refused: its bytes, and the line of the header that stands
+    /// already.
+    pub(crate) fn refused(self, alloc: Global, number: u64, code: InputCode) -> (Bytes, Option<u64>)
+        ensures line { result.0 ≡ line_told (line_numbered number self.parts.waiting) }
+        ensures header { result.1 ≡ header_told code (taps_noted self.index) result.0 }
+    {
+        let InputReader {
+            splitter: _,
+            parts,
+            index,
+            fault: _,
+        } = self;
+        let line = line_told(alloc, parts.waiting_line(number));
+        let lines = record_lines(alloc, index);
+        let header = header_of(&lines, code, line.as_slice());
+        (line, header)
     }
 }

@@ -1,19 +1,17 @@
-//! The files of a bundle, read as one input.
-ghost use Rattle.std.specs.Prelude.{◌≡◌, ℕ, ◌<◌, ◌≤◌, ◌++◌, ◌∷◌, slice_index_or, ◌⊎◌, [], length, map, take, drop, true, IfOk, IfErr, OnOk, OnErr, Ok, Err};
+//! The files of an input, read to their end.
+ghost use Rattle.std.specs.Prelude.{◌≡◌, ◌≢◌, ℕ, List, ◌<◌, ◌≤◌, ◌⊎◌, [], length, map, true, false, None, Some, IfOk, IfErr, OnOk, OnErr, Err};
 ghost use Rattle.aud_tap.specs.Names.{AreNamedOnce};
-ghost use Rattle.aud_input.specs.Reader.{input_to_come};
-ghost use Rattle.aud_input.specs.TapLines.{tap_lines_to_come};
-ghost use Rattle.aud_input.specs.FileLine.{file_line};
-ghost use Rattle.aud_input.specs.Files.{AreRecorded, AreUnrecorded, IsKept, header_told, taps_read};
-ghost use Rattle.aud_input.specs.Private.Tail.{known};
+ghost use Rattle.aud_input.specs.Input.{IsInputOf};
+ghost use Rattle.aud_input.specs.Files.{AreRecorded, AreUnrecorded};
+ghost use Rattle.aud_input.specs.Sources.{is_begun};
 ghost use Rattle.aud_base.specs.declared.watched.Watched.{Watched};
-ghost use Rattle.aud_base.specs.Watched.{inner_of, has_failed};
-ghost use Rattle.aud_input.specs.Private.Feeding.{AreReadBefore, Begins, IsReadWhole, IsRefusedBy, IsWithin, TellsUnread, size_so_far};
+ghost use Rattle.aud_base.specs.Watched.{inner_of, calls_of, has_failed};
+ghost use Rattle.aud_input.specs.Private.Feeding.{AreReadBefore, EndsFile, IsRead, IsReadWhole, IsRecordedOf, IsRefusedOf, IsWithin, TellsUnread, counts_after};
 
-use crate::feeding::{Feeding, PIECE, PIECES_LIMIT};
-use crate::index::LineIndex;
-use crate::kept::Kept;
+use crate::feeding::{Feeding, PIECE, READ_LIMIT};
+use crate::input::{Input, Layout};
 use crate::place::file_line;
+use crate::reader::InputReader;
 use crate::refusal::Refusal;
 use crate::tap_lines::RecordLines;
 use aud_base::{RunFault, Watched};
@@ -95,13 +93,15 @@ fn read_file<H: Threads + Sync, R: Read>(
     ensures read { OnOk result (IsReadWhole (R.remaining (inner_of file.old)) feeding.old
         feeding.new) }
     ensures within { OnOk result (IsWithin feeding.new) }
-    ensures pieces { OnOk result (feeding.new.pieces < PIECES_LIMIT) }
+    ensures pieces { OnOk result (feeding.new.pieces < READ_LIMIT) }
     ensures unfailed { OnOk result (has_failed file.new ≡ has_failed file.old) }
     ensures failed { result ≡ Err RunFault.Read
-        → (has_failed file.new ≡ true) ⊎ (PIECES_LIMIT ≤ feeding.new.pieces) }
+        → (has_failed file.new ≡ true) ⊎ (READ_LIMIT ≤ feeding.new.pieces) }
+    ensures calls { calls_of file.old ≡ feeding.old.pieces → result ≡ Err RunFault.Read
+        → feeding.new.pieces ≤ calls_of file.new }
     ensures others { OnErr result ((result ≡ Err RunFault.Read) ⊎ (result ≡ Err RunFault.Memory)) }
 {
-    'pieces: while feeding.pieces < PIECES_LIMIT {
+    'pieces: while feeding.pieces < READ_LIMIT {
         match file.read(buffer) {
             Ok(0) => return Ok(()),
             Ok(n) => feeding.feed(rt, threads, &buffer[..n])?,
@@ -111,163 +111,164 @@ fn read_file<H: Threads + Sync, R: Read>(
     Err(RunFault::Read)
 }
 
-/// Takes in this file to its end.
-fn read_at<H: Threads + Sync, R: Read>(
+/// The taps and the certificates of the input, or its first refused line.
+///
+/// Lines are read by at most `threads` threads, this one among them; for more than one they wait until there are
+/// enough, as [`InputReader`] says. Each line is dropped once it was read, but for the certificates. The input is read
+/// to its end where a line of it is refused too, so that a read that fails is told first, however many bytes the reader
+/// gives a call. A read that fails is not tried again, of whatever kind its error is.
+pub fn read_input<H: Threads + Sync, R: Read>(
     rt: &H,
     threads: usize,
-    feeding: &mut Feeding,
-    buffer: &mut [u8],
-    files: &mut [Watched<R>],
-    at: usize,
-) -> Result<(), RunFault>
-    requires within { IsWithin feeding.old }
-    requires room { length buffer.old ≡ PIECE }
-    requires at { at < length files.old }
-    ensures read { OnOk result ((file : Watched R) × (file ≡ slice_index_or files.old at file)
-        × IsReadWhole (R.remaining (inner_of file)) feeding.old feeding.new) }
-    ensures within { OnOk result (IsWithin feeding.new) }
+    alloc: Global,
+    keys: RandomState,
+    layout: Layout,
+    input: &mut Watched<R>,
+) -> Result<Result<Input, ReadFault>, RunFault>
+    requires { calls_of input.old ≡ 0 }
+    ensures input { IfOk result (λ read. read ≢ Err ReadFault.Memory
+        → IsInputOf layout (R.remaining (inner_of input.old)) read) }
+    ensures names { IfOk result (λ read. IfOk read (λ input. AreNamedOnce input.taps)) }
+    ensures unfailed { OnOk result (has_failed input.new ≡ has_failed input.old) }
+    ensures read { result ≡ Err RunFault.Read
+        → (has_failed input.new ≡ true) ⊎ (READ_LIMIT ≤ calls_of input.new) }
+    ensures others { OnErr result ((result ≡ Err RunFault.Read) ⊎ (result ≡ Err RunFault.Memory)) }
 {
-    read_file(rt, threads, feeding, buffer, &mut files[at])
+    let mut buffer = vec![in alloc; 0u8; PIECE]?;
+    let mut feeding = Feeding::new(InputReader::new(alloc, keys, layout));
+    match read_file(rt, threads, &mut feeding, &mut buffer, input) {
+        Ok(()) => Ok(feeding.reader.finish(rt, threads)),
+        Err(fault) => Err(fault),
+    }
 }
 
-/// Puts a count after the others.
-fn push_count(counts: &mut Vec<u64>, count: u64) -> Result<(), AllocError>
-    ensures { OnOk result (counts.new.items ≡ counts.old.items ++ count ∷ []) }
+/// Ends a file, before which so many lines were noted, and counts its lines, unless one is refused.
+fn end_file<H: Threads + Sync>(
+    rt: &H,
+    threads: usize,
+    before: u64,
+    feeding: &mut Feeding,
+    counts: &mut Vec<u64>,
+) -> Result<(), AllocError>
+    requires within { IsWithin feeding.old }
+    requires room { feeding.old.pieces < READ_LIMIT }
+    ensures ended { OnOk result (EndsFile feeding.old feeding.new) }
+    ensures within { OnOk result (IsWithin feeding.new) }
+    ensures counts { OnOk result (counts.new.items
+        ≡ counts_after before feeding.new.reader counts.old.items) }
 {
-    counts.push(count)?;
+    feeding.end_file(rt, threads)?;
+    if feeding.reader.goes_on() {
+        counts.push(feeding.reader.lines().saturating_sub(before))?;
+    }
     Ok(())
 }
 
-/// Takes in so many files, and ends each: how many lines it has. Another file comes after them.
-fn read_front<H: Threads + Sync, R: Read>(
+/// Takes in all files, and ends each: how many lines it has.
+fn read_all<H: Threads + Sync, R: Read>(
     rt: &H,
     threads: usize,
     alloc: Global,
     feeding: &mut Feeding,
     buffer: &mut [u8],
     files: &mut [Watched<R>],
-    upto: usize,
 ) -> Result<Vec<u64>, ReadingFault>
-    requires begins { Begins feeding.old }
+    requires begins { IsRead [] feeding.old.reader }
+    requires unrefused { feeding.old.reader.fault ≡ None }
+    requires begun { feeding.old.begun ≡ false }
+    requires bytes { feeding.old.bytes ≡ 0 }
     requires within { IsWithin feeding.old }
     requires room { length buffer.old ≡ PIECE }
-    requires upto { upto ≤ length files.old }
     ensures read { IfOk result (λ counts. AreReadBefore
-        (take upto (map (λ file. R.remaining (inner_of file)) files.old)) counts.items
-        feeding.new) }
-    ensures within { OnOk result (IsWithin feeding.new) }
-    ensures rest { OnOk result (drop upto files.new ≡ drop upto files.old) }
-    ensures unread { IfErr result (λ e. (file : ℕ) × (file < upto) × TellsUnread file e) }
+        (map (λ file. R.remaining (inner_of file)) files.old) counts.items feeding.new) }
+    ensures unread { IfErr result (λ e. (file : ℕ) × (file < length files.old)
+        × TellsUnread file e) }
 {
     let mut counts = Vec::new(alloc);
-    'files: for place in 0..upto {
+    'files: for place in 0..files.len() {
+        let before = feeding.reader.lines();
         match read_file(rt, threads, feeding, buffer, &mut files[place]) {
             Ok(()) => {}
             Err(fault) => return Err(unread(fault, place)),
         }
-        let count = feeding.end_file(rt, threads)?;
-        push_count(&mut counts, count)?;
+        end_file(rt, threads, before, feeding, &mut counts)?;
     }
     Ok(counts)
 }
 
-/// How many lines and bytes there were in all, the line that has begun among them.
-fn size_of(feeding: &Feeding) -> Size
-    requires { IsWithin feeding.now }
-    ensures { result ≡ size_so_far feeding.now }
+/// The recording of an input of so many bytes, all of whose lines were read.
+fn recording(alloc: Global, reader: InputReader, bytes: u64) -> Result<Recorded, ReadingFault>
+    requires going { reader.fault ≡ None }
+    requires none { reader.parts.waiting ≡ [] }
+    ensures recorded { (text : List ℕ) → IsRead text reader → is_begun false text ≡ false
+        → IfOk result (λ read. IsRecordedOf text read) }
+    ensures names { IfOk result (λ read. AreNamedOnce read.taps) }
+    ensures bytes { IfOk result (λ read. read.size.bytes ≡ bytes) }
+    ensures err { IfErr result (λ e. e ≡ ReadingFault.Memory) }
 {
-    Size {
-        lines: feeding.lines + u64::from(feeding.begun),
-        bytes: feeding.bytes,
+    let size = Size {
+        lines: reader.lines(),
+        bytes,
+    };
+    match reader.close(alloc) {
+        Ok((input, lines)) => Ok(Recorded {
+            taps: input.taps,
+            lines,
+            size,
+        }),
+        Err(_) => Err(ReadingFault::Memory),
     }
 }
 
-/// The line of the header that stands already where this line is refused.
-fn header_of(lines: &RecordLines, code: InputCode, line: &[u8]) -> Option<u64>
-    ensures { result ≡ header_told code lines.now line.now }
-{
-    match code {
-        InputCode::SecondStream => None,
-        InputCode::LineTooLong
-        | InputCode::NoTapName
-        | InputCode::NotJson
-        | InputCode::NoHeader
-        | InputCode::UnknownKind
-        | InputCode::Field
-        | InputCode::Limit
-        | InputCode::OffsetTwice
-        | InputCode::HeaderTwice
-        | InputCode::Version => lines.first_like(line),
-    }
-}
-
-/// What is told of a refused line.
+/// What is told of the line of this number, which is refused.
 fn refusal(
-    kept: &Kept,
-    index: LineIndex,
+    alloc: Global,
+    reader: InputReader,
     counts: &[u64],
     number: u64,
     code: InputCode,
-) -> Result<Refusal, AllocError>
-    ensures number { IfOk result (λ r. (r.number ≡ number) × (r.code ≡ code)) }
-    ensures at { IfOk result (λ r. r.at ≡ file_line counts.now number) }
-    ensures line { IfOk result (λ r. IsKept (known kept.now number []) r.line) }
-    ensures header { IfOk result (λ r. r.header
-        ≡ header_told code (tap_lines_to_come index.lines []) r.line) }
+) -> Refusal
+    requires refused { reader.fault ≡ Some (ReadFault.Input number code) }
+    ensures refused { (text : List ℕ) → IsRead text reader
+        → IsRefusedOf text counts.now (ReadingFault.Refused result) }
 {
-    let line = kept.line(number)?;
-    let lines = index.finish()?;
-    let header = header_of(&lines, code, line.as_slice());
-    Ok(Refusal {
+    let (line, header) = reader.refused(alloc, number, code);
+    Refusal {
         number,
         code,
         at: file_line(counts, number),
         line,
         header,
-    })
+    }
 }
 
 /// The recording at the end of the input, or its first refused line.
 fn finish<H: Threads + Sync>(
     rt: &H,
     threads: usize,
+    alloc: Global,
     feeding: Feeding,
     counts: &[u64],
 ) -> Result<Recorded, ReadingFault>
-    requires { IsWithin feeding }
-    ensures taps { IfOk result (λ read. taps_read (input_to_come feeding.reader [])
-        ≡ Ok read.taps) }
-    ensures lines { IfOk result (λ read. tap_lines_to_come feeding.index.lines [] ≡ read.lines) }
-    ensures size { IfOk result (λ read. read.size ≡ size_so_far feeding) }
+    ensures recorded { (text : List ℕ) → IsRead text feeding.reader
+        → is_begun false text ≡ false → IfOk result (λ read. IsRecordedOf text read) }
     ensures names { IfOk result (λ read. AreNamedOnce read.taps) }
-    ensures refused { IfErr result (λ e. IsRefusedBy counts.now
-        (input_to_come feeding.reader []) feeding.kept
-        (tap_lines_to_come feeding.index.lines []) e) }
+    ensures bytes { IfOk result (λ read. read.size.bytes ≡ feeding.bytes) }
+    ensures refused { (text : List ℕ) → IsRead text feeding.reader
+        → IfErr result (λ e. IsRefusedOf text counts.now e) }
 {
-    let size = size_of(&feeding);
     let Feeding {
         reader,
-        index,
-        kept,
-        ended: _,
         begun: _,
         pieces: _,
-        bytes: _,
-        lines: _,
+        bytes,
     } = feeding;
-    match reader.finish(rt, threads) {
-        Ok(input) => {
-            let lines = index.finish()?;
-            Ok(Recorded {
-                taps: input.taps,
-                lines,
-                size,
-            })
-        }
-        Err(ReadFault::Input(number, code)) => match refusal(&kept, index, counts, number, code) {
-            Ok(refusal) => Err(ReadingFault::Refused(refusal)),
-            Err(_) => Err(ReadingFault::Memory),
-        },
+    let mut reader = reader;
+    match reader.read_waiting(rt, threads) {
+        Ok(()) => recording(alloc, reader, bytes),
+        Err(ReadFault::Input(number, code)) => Err(ReadingFault::Refused(refusal(
+            alloc, reader, counts, number, code,
+        ))),
         Err(ReadFault::Memory) => Err(ReadingFault::Memory),
     }
 }
@@ -286,22 +287,16 @@ pub fn read_files<H: Threads + Sync, R: Read>(
     keys: RandomState,
     files: &mut [Watched<R>],
 ) -> Result<Recorded, ReadingFault>
-    requires { 0 < length files.old }
     ensures recorded { IfOk result (λ read. AreRecorded
         (map (λ file. R.remaining (inner_of file)) files.old) read) }
     ensures names { IfOk result (λ read. AreNamedOnce read.taps) }
     ensures unrecorded { IfErr result (λ e. AreUnrecorded
         (map (λ file. R.remaining (inner_of file)) files.old) e) }
 {
-    let mut feeding = Feeding::new(alloc, keys);
+    let mut feeding = Feeding::new(InputReader::indexed(alloc, keys));
     let mut buffer = vec![in alloc; 0u8; PIECE]?;
-    let last = files.len() - 1;
-    let counts = match read_front(rt, threads, alloc, &mut feeding, &mut buffer, files, last) {
-        Ok(counts) => counts,
-        Err(fault) => return Err(fault),
-    };
-    match read_at(rt, threads, &mut feeding, &mut buffer, files, last) {
-        Ok(()) => finish(rt, threads, feeding, &counts),
-        Err(fault) => Err(unread(fault, last)),
+    match read_all(rt, threads, alloc, &mut feeding, &mut buffer, files) {
+        Ok(counts) => finish(rt, threads, alloc, feeding, &counts),
+        Err(fault) => Err(fault),
     }
 }

@@ -1,5 +1,9 @@
 //! A refused line.
+ghost use Rattle.std.specs.Prelude.{◌≡◌};
+ghost use Rattle.aud_input.specs.Files.{header_told};
+
 use crate::place::FileLine;
+use crate::tap_lines::RecordLines;
 use aud_reader::InputCode;
 use aud_tap::Bytes;
 
@@ -12,11 +16,29 @@ pub struct Refusal {
     pub code: InputCode,
     /// Where it stands.
     pub at: FileLine,
-    /// Its bytes, without the line's end; none where the line is too long, or 8 MiB of other lines came after it before
-    /// it was refused.
+    /// Its bytes, without the line's end; none where the line is too long.
     pub line: Bytes,
     /// The first line with the name that it begins with, where the files are read as one input: that of the tap's
-    /// header, or this one. None where it begins with no name, where its bytes are not at hand, and for the header of a
-    /// second stream.
+    /// header, or this one. None where it begins with no name, where it is too long, and for the header of a second
+    /// stream.
     pub header: Option<u64>,
+}
+
+/// The line of the header that stands already where this line is refused.
+pub fn header_of(lines: &RecordLines, code: InputCode, line: &[u8]) -> Option<u64>
+    ensures { result ≡ header_told code lines.now line.now }
+{
+    match code {
+        InputCode::SecondStream => None,
+        InputCode::LineTooLong
+        | InputCode::NoTapName
+        | InputCode::NotJson
+        | InputCode::NoHeader
+        | InputCode::UnknownKind
+        | InputCode::Field
+        | InputCode::Limit
+        | InputCode::OffsetTwice
+        | InputCode::HeaderTwice
+        | InputCode::Version => lines.first_like(line),
+    }
 }

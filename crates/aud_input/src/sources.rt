@@ -17,7 +17,7 @@ pub struct Sources<R> {
 }
 
 /// Whether what comes after these bytes stands on a line that has begun.
-fn is_begun(bytes: &[u8]) -> bool
+pub fn is_begun(bytes: &[u8]) -> bool
     requires { 0 < length bytes.now }
     ensures { (begun : Bool) → result ≡ is_begun begun bytes.now }
 {

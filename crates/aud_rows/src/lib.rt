@@ -1,7 +1,7 @@
 //! The records of a bundle as an explanation shows them: rows, each with the line that its record stands on and what
 //! the record says.
 //!
-//! With the `recording` of `examples/bundle_a.jsonl`, and the `lines` that `aud_input::LineIndex` keeps of it; `c1`
+//! With the `recording` of `examples/bundle_a.jsonl`, and the `lines` that `aud_input::read_files` gives with it; `c1`
 //! stands at place 2:
 //!
 //! ```

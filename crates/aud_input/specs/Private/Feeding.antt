@@ -1,66 +1,43 @@
 -- What is made of an input so far.
-use Rattle.std.specs.Prelude.{◌≡◌, ℕ, ◌+◌, ◌*◌, ◌≤◌, ◌==◌, ◌++◌, List, [], ◌∷◌, length, map, Bool, false, if◌then◌else◌, Option, IfSome, Result, Err, count_by, sum_by}
+use Rattle.std.specs.Prelude.{◌≡◌, ℕ, ◌+◌, ◌-◌, ◌*◌, ◌≤◌, ◌++◌, List, [], ◌∷◌, length, map, is_none, Bool, false, if◌then◌else◌, Option, Some, None, IfSome, Ok, Err, slice_get, sum_by}
 use Rattle.aud_input.specs.declared.input.Layout.TheVariants.{Bundle}
-use Rattle.aud_input.specs.Input.{InputSeen, input_of}
-use Rattle.aud_input.specs.Reader.{input_to_come}
+use Rattle.aud_input.specs.Input.{input_of}
+use Rattle.aud_input.specs.Reader.{HasLines, InputSoFar, input_to_come}
 use Rattle.aud_input.specs.Sources.{ended, is_begun}
 use Rattle.aud_reader.specs.Lines.{line_pieces}
 use Rattle.std.specs.List.{flat_map}
-use Rattle.aud_input.specs.TapLines.{TapLines, tap_lines_of, tap_lines_to_come}
+use Rattle.aud_input.specs.TapLines.{lines_noted, tap_lines_of}
 use Rattle.aud_reader.specs.declared.fault.ReadFault.{ReadFault}
 use Rattle.aud_reader.specs.declared.fault.ReadFault.TheVariants.{Input}
+use Rattle.aud_reader.specs.declared.fault.ReadFault.TheVariants as kind
+use Rattle.aud_input.specs.declared.reading.Recorded.{Recorded}
 use Rattle.aud_input.specs.declared.reading.ReadingFault.{ReadingFault}
-use Rattle.aud_input.specs.declared.reading.Size.{Size}
 use Rattle.aud_input.specs.declared.reading.ReadingFault.TheVariants.{Refused, Unread, Memory}
 use Rattle.aud_input.specs.FileLine.{file_line}
-use Rattle.aud_input.specs.Files.{AreTold, IsKept, header_told, taps_read}
-use Rattle.aud_input.specs.declared.kept.Kept.{Kept}
-use Rattle.aud_input.specs.Private.Tail.{IsKnownOf, KnowsNoMore, known}
+use Rattle.aud_input.specs.Files.{AreTold, IsTold, header_told, taps_read}
 use Rattle.aud_input.specs.declared.feeding.Feeding.{Feeding}
 
--- nothing was read yet
-pub record Begins (s : Feeding) : Type 0 where
-  pub input : (bytes : List ℕ) → input_to_come s.reader bytes ≡ input_of Bundle bytes
-  pub lines : (bytes : List ℕ) → tap_lines_to_come s.index.lines bytes ≡ tap_lines_of bytes
-  pub kept : IsKnownOf s.kept (λ more. more)
-  pub ended : s.ended ≡ 0
-  pub begun : s.begun ≡ false
-  pub size : s.bytes ≡ 0
-  pub all : s.lines ≡ 0
-
--- no more bytes were taken in than the pieces may have, and none failed
+-- no more bytes were taken in than the pieces may have
 pub record IsWithin (s : Feeding) : Type 0 where
   pub number : s.reader.cut.number ≤ 1 + s.pieces * 65536
-  pub ended : s.ended ≤ s.pieces * 65536
   pub size : s.bytes ≤ s.pieces * 65536
-  pub all : s.lines ≤ s.pieces * 65536
   pub pieces : s.pieces ≤ 4294967296
 
--- how many newlines are among these bytes
-abbrev pub newlines_in : List ℕ → ℕ
-newlines_in bytes = count_by (λ b. b == 10) bytes
+-- a reader takes in these bytes: what comes after them gives what it gives after them, and a refusal stays
+pub record Takes (old new : InputSoFar) (bytes : List ℕ) : Type 0 where
+  pub input : (more : List ℕ) → input_to_come new more ≡ input_to_come old (bytes ++ more)
+  pub lines : (before : List ℕ) → HasLines before old → HasLines (before ++ bytes) new
+  pub stays : IfSome old.fault (λ fault. new.fault ≡ Some fault)
 
--- these bytes are taken in: what comes after them gives what it gives after them
+-- these bytes of a file are taken in
 pub record TakesIn (old new : Feeding) (bytes : List ℕ) : Type 0 where
-  pub input : (more : List ℕ) → input_to_come new.reader more ≡ input_to_come old.reader (bytes ++ more)
-  pub lines : (more : List ℕ) → tap_lines_to_come new.index.lines more ≡ tap_lines_to_come old.index.lines (bytes ++ more)
-  pub kept : KnowsNoMore old.kept new.kept bytes
-  pub ended : new.ended ≡ old.ended + newlines_in bytes
+  pub takes : Takes old.reader new.reader bytes
   pub begun : new.begun ≡ is_begun old.begun bytes
   pub size : new.bytes ≡ old.bytes + length bytes
-  pub all : new.lines ≡ old.lines + newlines_in bytes
 
 -- a file is taken in, from here to its end: the bytes that the reader has left, where it tells them
 abbrev pub IsReadWhole : Option (List ℕ) → Feeding → Feeding → Type 0
 IsReadWhole left old new = (bytes : List ℕ) × IfSome left (λ told. bytes ≡ told) × TakesIn old new bytes
-
--- how many lines the file that is read has so far, the one that has begun among them
-abbrev pub lines_so_far : Feeding → ℕ
-lines_so_far s = s.ended + (if s.begun then 1 else 0)
-
--- how many lines and bytes there were in all, the line that has begun among them
-abbrev pub size_so_far : Feeding → Size
-size_so_far s = record { lines = s.lines + (if s.begun then 1 else 0); bytes = s.bytes }
 
 -- what ends the line that has begun, if one has
 abbrev pub line_end : Bool → List ℕ
@@ -68,37 +45,50 @@ line_end begun = if begun then 10 ∷ [] else []
 
 -- the line that has begun is ended, and no byte of the next file was taken in
 pub record EndsFile (old new : Feeding) : Type 0 where
-  pub input : (more : List ℕ) → input_to_come new.reader more ≡ input_to_come old.reader (line_end old.begun ++ more)
-  pub lines : (more : List ℕ) → tap_lines_to_come new.index.lines more ≡ tap_lines_to_come old.index.lines (line_end old.begun ++ more)
-  pub kept : KnowsNoMore old.kept new.kept (line_end old.begun)
-  pub ended : new.ended ≡ 0
+  pub takes : Takes old.reader new.reader (line_end old.begun)
   pub begun : new.begun ≡ false
   pub size : new.bytes ≡ old.bytes
-  pub all : new.lines ≡ old.lines + (if old.begun then 1 else 0)
 
--- these files were taken in before another, and how many lines each has; all of them have so many bytes and lines
+-- how many lines the files have, with one file more, before which so many lines were noted. A file in which a line is
+-- refused isn't counted
+abbrev pub counts_after : ℕ → InputSoFar → List ℕ → List ℕ
+counts_after before s counts = if is_none s.fault then counts ++ (lines_noted s.index - before) ∷ [] else counts
+
+-- how many lines each of these files has, or those of them that stand before the line that is refused
+abbrev pub AreCounted : List (List ℕ) → List ℕ → Option ReadFault → Type 0
+AreCounted files counts None = counts ≡ map (λ file. length (line_pieces file)) files
+AreCounted files counts (Some (Input n code)) = (later : List ℕ) → file_line counts n ≡ file_line (map (λ file. length (line_pieces file)) files ++ later) n
+AreCounted files counts (Some kind.Memory) = Unit {0}
+
+-- these bytes were taken in
+pub record IsRead (bytes : List ℕ) (s : InputSoFar) : Type 0 where
+  pub input : (more : List ℕ) → input_to_come s more ≡ input_of Bundle (bytes ++ more)
+  pub lines : HasLines bytes s
+
+-- these files were taken in, each with its last line ended
 pub record AreTaken (files : List (List ℕ)) (counts : List ℕ) (s : Feeding) : Type 0 where
-  pub input : (more : List ℕ) → input_to_come s.reader more ≡ input_of Bundle (flat_map (ended false) files ++ more)
-  pub lines : (more : List ℕ) → tap_lines_to_come s.index.lines more ≡ tap_lines_of (flat_map (ended false) files ++ more)
-  pub kept : IsKnownOf s.kept (λ more. flat_map (ended false) files ++ more)
-  pub counted : counts ≡ map (λ file. length (line_pieces file)) files
-  pub ended : s.ended ≡ 0
+  pub read : IsRead (flat_map (ended false) files) s.reader
+  pub counted : AreCounted files counts s.reader.fault
   pub begun : s.begun ≡ false
   pub size : s.bytes ≡ sum_by (λ file. length file) files
-  pub all : s.lines ≡ sum_by (λ file. length (line_pieces file)) files
 
--- the files of these readers were taken in before another, where they tell their bytes, and how many lines each has
+-- the files of these readers were taken in, where they tell their bytes
 abbrev pub AreReadBefore : List (Option (List ℕ)) → List ℕ → Feeding → Type 0
 AreReadBefore lefts counts s = (files : List (List ℕ)) × AreTold lefts files × AreTaken files counts s
 
--- what is told of files whose input was refused, by what their reader gives in the end, what is known of its lines, and
--- the lines of its taps
-abbrev pub IsRefusedBy : List ℕ → Result InputSeen ReadFault → Kept → List TapLines → ReadingFault → Type 0
-IsRefusedBy counts read kept lines (Refused refusal) =
-    (taps_read read ≡ Err (Input refusal.number refusal.code)) × (refusal.at ≡ file_line counts refusal.number)
-    × IsKept (known kept refusal.number []) refusal.line × (refusal.header ≡ header_told refusal.code lines refusal.line)
-IsRefusedBy counts read kept lines (Unread file) = ⊥
-IsRefusedBy counts read kept lines Memory = Unit {0}
+-- what is recorded of a text
+pub record IsRecordedOf (bytes : List ℕ) (read : Recorded) : Type 0 where
+  pub taps : taps_read (input_of Bundle bytes) ≡ Ok read.taps
+  pub lines : tap_lines_of bytes ≡ read.lines
+  pub count : read.size.lines ≡ length (line_pieces bytes)
+
+-- what is told of a text whose line is refused, where the files before it have so many lines
+abbrev pub IsRefusedOf : List ℕ → List ℕ → ReadingFault → Type 0
+IsRefusedOf bytes counts (Refused refusal) =
+    (taps_read (input_of Bundle bytes) ≡ Err (Input refusal.number refusal.code)) × (refusal.at ≡ file_line counts refusal.number)
+    × IsTold refusal.code (slice_get (line_pieces bytes) (refusal.number - 1)) refusal.line × (refusal.header ≡ header_told refusal.code (tap_lines_of bytes) refusal.line)
+IsRefusedOf bytes counts (Unread file) = ⊥
+IsRefusedOf bytes counts Memory = Unit {0}
 
 -- this file could not be read, or there was no memory
 abbrev pub TellsUnread : ℕ → ReadingFault → Type 0

@@ -1,7 +1,7 @@
-use Rattle.std.proofs.Common.{sym, ap, subst}
-use Rattle.aud_input.specs.Input.{InputSeen}
-use Rattle.aud_tap.specs.Names.{AreNamedOnce}
+use Rattle.aud_input.proofs.Files.{read-waited}
 use Rattle.aud_input.proofs.reading.finish.Goals as goal
 
-pub returns-in-Ok-clause-names : goal.returns-in-Ok-clause-names
-returns-in-Ok-clause-names g c = subst AreNamedOnce (sym (ap (λ (i : InputSeen). i.taps) c.input.view_is)) c.in-Ok.ensures.names
+pub returns-in-Err-Input-clause-refused : goal.returns-in-Err-Input-clause-refused
+returns-in-Err-Input-clause-refused g c = λ text read.
+    let is = c.in-Err-Input.field-0-is in
+    c.refusal.ensures.refused text (read-waited text c.args.feeding.reader c.read_waiting.new.self (λ more. c.in-Err-Input.ensures.input more (λ e. cc)) (c.in-Err-Input.ensures.lines (λ e. cc) text) read)

@@ -1,5 +1,5 @@
 use Rattle.std.proofs.Common.{◌≡◌, ◌-◌}
-use Rattle.aud_base.specs.Watched.{inner_of, has_failed}
+use Rattle.aud_base.specs.Watched.{inner_of, calls_of, has_failed}
 use Rattle.aud_input.specs.Private.Feeding.{IsWithin}
 use Rattle.aud_input.proofs.Takes.{IsReadUpTo}
 use Rattle.aud_input.proofs.reading.read_file.Given as goal
@@ -9,6 +9,7 @@ abbrev pub invariant-pieces : goal.invariant-pieces
 invariant-pieces g l = record {
   within : IsWithin l.feeding;
   failed : has_failed l.file ≡ has_failed l.fn.file;
+  calls : calls_of l.fn.file ≡ l.fn.feeding.pieces → calls_of l.file ≡ l.feeding.pieces;
   read : IsReadUpTo (g.R.Read.remaining (inner_of l.fn.file)) (g.R.Read.remaining (inner_of l.file)) l.fn.feeding l.feeding;
 }
 
