@@ -6,6 +6,7 @@ use Rattle.aud_cert.specs.Text.{whole}
 use Rattle.aud_node.specs.Stream.{Text}
 use Rattle.aud_input.specs.declared.place.FileLine.{FileLine}
 use Rattle.aud_input.specs.declared.refusal.Refusal.{Refusal}
+use Rattle.aud_explanation.specs.Printed.{printed}
 use Rattle.aud_explained.specs.declared.written.Form.{Form}
 use Rattle.aud_explained.specs.declared.written.Form.TheVariants.{Text as InText, Json}
 use Rattle.aud_refusals.specs.Help.{help_text}
@@ -18,10 +19,10 @@ use Rattle.aud_verdict.specs.Report.{refusal_line}
 abbrev pub file_told : List Text → FileLine → Option Text
 file_told names at = if nat_lt (length names) 2 then None else slice_get names at.file
 
--- where the line stands in its file
+-- where the line stands in its file, by the name as it is printed
 abbrev pub place_line : Option Text → ℕ → List ℕ
 place_line None line = []
-place_line (Some name) line = codes "That is line " ++ (decimal line ++ (codes " of " ++ (name ++ codes ".\n")))
+place_line (Some name) line = codes "That is line " ++ decimal line ++ codes " of " ++ printed name ++ codes ".\n"
 
 -- the help on the line
 abbrev pub help_on : Refusal → List ℕ

@@ -5,6 +5,7 @@ ghost use Rattle.serde_json.specs.View.{view};
 ghost use Rattle.aud_explain_app.specs.RefusedLine.{file_told, json_data, json_line, name_or_null, place_line, refused_data, refused_output};
 
 use aud_explained::Form;
+use aud_explanation::push_printed;
 use aud_input::{FileLine, Refusal};
 use aud_refusals::refusal_help;
 use aud_tap::Text;
@@ -67,7 +68,9 @@ fn push_named(out: &mut String, name: &str, number: u64) -> Result<(), AllocErro
     ensures { OnOk result (string_bytes out.new
         ≡ string_bytes out.old ++ place_line (Some name.now) number) }
 {
-    writeln!(out, "That is line {number} of {name}.")
+    write!(out, "That is line {number} of ")?;
+    push_printed(out, name)?;
+    out.push_str(".\n")
 }
 
 /// The name of the file; none where none is named.

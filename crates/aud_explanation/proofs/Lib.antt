@@ -1,3 +1,4 @@
+pub mod Apart
 pub mod Each
 pub mod Filled
 pub mod JsonLists

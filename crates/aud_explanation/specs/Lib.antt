@@ -6,6 +6,7 @@ pub use Rattle.aud_cert.specs.FaultWord
 pub mod ExplainedClass
 pub mod FaultEntry
 pub mod ShownTail
+pub mod Printed
 pub mod Page
 pub mod Record
 pub mod Mark

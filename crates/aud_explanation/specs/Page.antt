@@ -1,16 +1,12 @@
 -- How lines of text are laid out: at most 100 columns, a character a column, cut at blanks where a word does not fit.
-use Rattle.std.specs.Prelude.{ℕ, ◌+◌, ◌-◌, ◌/◌, ◌%◌, Bool, true, false, not, ◌==◌, List, [], ◌∷◌, ◌++◌, codes, length, replicate, nat_le, if◌then◌else◌, encode_utf8}
+use Rattle.std.specs.Prelude.{ℕ, ◌+◌, ◌-◌, Bool, true, false, not, ◌==◌, List, [], ◌∷◌, ◌++◌, codes, length, replicate, nat_le, if◌then◌else◌}
 use Rattle.std.specs.Char.{is_control}
 use Rattle.std.specs.Str.{chars}
-use Rattle.std.specs.Fmt.{digit_glyph}
+use Rattle.aud_explanation.specs.Printed.{is_format, shown}
 
--- a character as it is shown: a control character as `\x` and two hexadecimal digits, any other as it is
-abbrev pub shown : ℕ → List ℕ
-shown c = if is_control c then codes "\\x" ++ (digit_glyph false (c / 16) ∷ digit_glyph false (c % 16) ∷ []) else encode_utf8 c
-
--- how many columns it takes
+-- how many columns a character takes: as many as its escape has characters
 abbrev pub columns : ℕ → ℕ
-columns c = if is_control c then 4 else 1
+columns c = if c == 92 then 2 else (if is_control c then 4 else (if is_format c then 8 else 1))
 
 -- whether it stands within the line, where so many columns are taken
 abbrev pub fits : ℕ → ℕ → Bool

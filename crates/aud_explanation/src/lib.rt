@@ -1,7 +1,7 @@
 //! One session's explanation: its data, its text, and its JSON.
 //!
 //! Begin at [`Explanation`], which whoever found the evidence fills. [`push_text`] writes it for a reader, and
-//! [`explanation_json`] for a program.
+//! [`explanation_json`] for a program. [`printed`] is how names that others chose stand in text.
 //!
 //! ```
 //! use aud_explanation::{Explanation, push_text};
@@ -30,6 +30,7 @@
 mod also;
 mod cause;
 mod client;
+mod escape;
 mod event;
 mod explanation;
 mod fault;
@@ -42,6 +43,7 @@ mod turn;
 pub use also::Also;
 pub use cause::Cause;
 pub use client::{Account, Client};
+pub use escape::{printed, printed_apart, push_printed};
 pub use event::{ClientEvent, Happens};
 pub use explanation::{Explanation, class_of_explained};
 pub use json_line::explanation_json;

@@ -70,8 +70,8 @@ fn push_told(
 /// with the same fault, a row for each turn and one for the client, the refused recoveries, and the causes.
 ///
 /// A line has at most 100 columns, a character a column. A word that does not stand within it goes on in the next line,
-/// after eight blanks, and so does what is left of a word that is longer than a line: nothing is left out. A control
-/// character of a name is shown as `\x` and two hexadecimal digits.
+/// after eight blanks, and so does what is left of a word that is longer than a line: nothing is left out. A character
+/// stands there as [`push_printed`](crate::push_printed) puts it, its escape within one line.
 pub fn push_text(
     alloc: Global,
     out: &mut String,

@@ -14,6 +14,8 @@ mod cases;
 #[cfg(test)]
 mod delivery;
 #[cfg(test)]
+mod escapes;
+#[cfg(test)]
 mod figures;
 #[cfg(test)]
 mod help;

@@ -2,11 +2,13 @@
 ghost use Rattle.std.specs.Prelude.{◌<◌, IfOk, OnOk, length};
 
 use crate::progress::Progress;
+use crate::refusal::refuse;
 use crate::source::{Source, first_and_others, unread};
-use crate::{fail, fail_for, refuse, status_code};
+use crate::{fail, fail_for, status_code};
 use aud_app::{RunFault, Watched};
 use aud_cli::{ExplainOptions, explain_asked};
 use aud_explain_app::{ExplainFault, Unexplained, explain};
+use aud_explanation::printed;
 use std::alloc::{AllocError, Global};
 use std::hash::RandomState;
 use std::io::{IsTerminal, Stderr};
@@ -58,13 +60,14 @@ fn push_file<'a>(
 /// Says why nothing was explained, or not all was written.
 fn failed(
     rt: &impl Eprint,
+    alloc: Global,
     options: &ExplainOptions,
     files: &[Watch<'_>],
     output_error: Option<i32>,
     fault: ExplainFault,
 ) -> ExitCode {
     match fault {
-        ExplainFault::Unexplained(why) => unexplained(rt, options, files, why),
+        ExplainFault::Unexplained(why) => unexplained(rt, alloc, options, files, why),
         ExplainFault::Write => fail_for(rt, RunFault::Write, output_error),
     }
 }
@@ -72,20 +75,22 @@ fn failed(
 /// Says why nothing was explained.
 fn unexplained(
     rt: &impl Eprint,
+    alloc: Global,
     options: &ExplainOptions,
     files: &[Watch<'_>],
     why: Unexplained,
 ) -> ExitCode {
     match why {
-        Unexplained::Unread { file } => unread_at(rt, options, files, file),
+        Unexplained::Unread { file } => unread_at(rt, alloc, options, files, file),
         Unexplained::Memory => fail(rt, RunFault::Memory),
         Unexplained::Spawn => fail(rt, RunFault::Spawn),
-        Unexplained::NoSession { number } => no_session(rt, options, number),
+        Unexplained::NoSession { number } => no_session(rt, alloc, options, number),
     }
 }
 
 fn unread_at(
     rt: &impl Eprint,
+    alloc: Global,
     options: &ExplainOptions,
     files: &[Watch<'_>],
     file: usize,
@@ -98,15 +103,24 @@ fn unread_at(
         Some(name) => name.as_str(),
         None => "-",
     };
-    unread(rt, name, os_error)
+    unread(rt, alloc, name, os_error)
 }
 
 /// Says that nothing names a session of the arguments.
-fn no_session(rt: &impl Eprint, options: &ExplainOptions, number: usize) -> ExitCode {
+fn no_session(
+    rt: &impl Eprint,
+    alloc: Global,
+    options: &ExplainOptions,
+    number: usize,
+) -> ExitCode {
     let pid = match options.pids.as_slice().get(number) {
         Some(pid) => pid.as_str(),
         None => "",
     };
+    let Ok(pid) = printed(alloc, pid) else {
+        return fail(rt, RunFault::Memory);
+    };
+    let pid = pid.as_str();
     let _ = eprintln!(rt; "error: nothing in the bundle names the session {pid}");
     ExitCode::from(4)
 }
@@ -120,7 +134,7 @@ pub fn explanation<H: Threads + Wait + Clock + Sync>(
 ) -> ExitCode {
     let options = match explain_asked(alloc, words) {
         Ok(options) => options,
-        Err(error) => return refuse(host, &error),
+        Err(_) => return refuse(host, alloc, words),
     };
     let Ok(keys) = RandomState::new(host) else {
         return fail(host, RunFault::Read);
@@ -131,6 +145,6 @@ pub fn explanation<H: Threads + Wait + Clock + Sync>(
     let mut output = Watched::new(host.stdout());
     match explain(rt, alloc, keys, &mut files, &mut output, &options) {
         Ok(status) => status_code(status),
-        Err(fault) => failed(host, &options, &files, output.os_error(), fault),
+        Err(fault) => failed(host, alloc, &options, &files, output.os_error(), fault),
     }
 }

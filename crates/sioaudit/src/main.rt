@@ -3,6 +3,7 @@
 
 mod explain;
 mod progress;
+mod refusal;
 mod report;
 mod simulate;
 mod source;
@@ -11,7 +12,6 @@ use crate::explain::{explanation, is_explain};
 use crate::report::write_report;
 use crate::simulate::{is_simulation, simulation};
 use aud_app::{RunFault, Status};
-use clap::error::ErrorKind;
 use std::io::{IsTerminal, Stdin};
 use std::process::ExitCode;
 use std::{env, io};
@@ -51,18 +51,6 @@ fn fail_for(rt: &impl Eprint, fault: RunFault, os_error: Option<i32>) -> ExitCod
         let _ = eprintln!(rt; "sioaudit: {fault}: {reason}");
     }
     ExitCode::from(3)
-}
-
-/// Prints the help that was asked for, or why the arguments are refused.
-fn refuse(rt: &(impl Print + Eprint), error: &clap::Error) -> ExitCode {
-    if error.kind() == ErrorKind::OutOfMemory {
-        return fail(rt, RunFault::Memory);
-    }
-    match error.print(rt) {
-        _ if error.use_stderr() => ExitCode::from(4),
-        Err(error) => fail_for(rt, RunFault::Write, error.raw_os_error()),
-        Ok(()) => ExitCode::SUCCESS,
-    }
 }
 
 /// Says why the arguments could not be read.

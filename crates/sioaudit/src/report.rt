@@ -1,7 +1,8 @@
 //! The commands that write a report on a bundle: all that read one, but `explain`.
 use crate::progress::Progress;
+use crate::refusal::refuse;
 use crate::source::{Source, sources, unread};
-use crate::{fail, fail_for, refuse, status_code};
+use crate::{fail, fail_for, status_code};
 use aud_app::{RunFault, Status, Watched, files, options, run};
 use aud_input::Sources;
 use std::alloc::Global;
@@ -15,10 +16,10 @@ use std::time::Clock;
 type Input<'a> = Watched<Progress<Stderr, Sources<Source<'a>>>>;
 
 /// Says which file could not be read.
-fn unread_of(rt: &impl Eprint, input: Input<'_>) -> ExitCode {
+fn unread_of(rt: &impl Eprint, alloc: Global, input: Input<'_>) -> ExitCode {
     let os_error = input.os_error();
     let sources = input.into_inner().into_inner();
-    unread(rt, sources.current().name(), os_error)
+    unread(rt, alloc, sources.current().name(), os_error)
 }
 
 /// Says where a yes for each session says nothing.
@@ -40,7 +41,7 @@ pub fn write_report<H: Threads + Wait + Clock + Sync>(
 ) -> ExitCode {
     let chosen = match options(alloc, words) {
         Ok(chosen) => chosen,
-        Err(error) => return refuse(host, &error),
+        Err(_) => return refuse(host, alloc, words),
     };
     let Ok(named) = files(alloc, words) else {
         return fail(host, RunFault::Memory);
@@ -60,7 +61,7 @@ pub fn write_report<H: Threads + Wait + Clock + Sync>(
             note(host, status);
             status_code(status)
         }
-        Err(RunFault::Read) => unread_of(host, input),
+        Err(RunFault::Read) => unread_of(host, alloc, input),
         Err(RunFault::Write) => fail_for(host, RunFault::Write, output.os_error()),
         Err(fault) => fail(host, fault),
     }

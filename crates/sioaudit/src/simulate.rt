@@ -1,5 +1,6 @@
 //! The command `simulate`.
-use crate::{fail, fail_for, refuse};
+use crate::refusal::refuse;
+use crate::{fail, fail_for};
 use aud_app::{RunFault, Watched};
 use aud_base::write_out;
 use aud_schedule::{plan_asked, simulated};
@@ -33,7 +34,7 @@ pub fn simulation<W: Write + Drop>(
 ) -> ExitCode {
     let plan = match plan_asked(alloc, words) {
         Ok(plan) => plan,
-        Err(error) => return refuse(rt, &error),
+        Err(_) => return refuse(rt, alloc, words),
     };
     let bundle = match simulated(alloc, &plan) {
         Ok(bundle) => bundle,

@@ -1,8 +1,9 @@
 //! A file of the bundle, which is opened when it is first read and closed at its end.
 ghost use Rattle.std.specs.Prelude.{None};
 
-use crate::{fail_for, stdin};
+use crate::{fail, fail_for, stdin};
 use aud_base::{RunFault, Text};
+use aud_explanation::printed;
 use aud_input::Sources;
 use std::alloc::{AllocError, Global};
 use std::collections::VecDeque;
@@ -102,11 +103,15 @@ pub fn sources<'a>(
 }
 
 /// Says which file could not be read, with the system's reason where there is one.
-pub fn unread(rt: &impl Eprint, name: &str, os_error: Option<i32>) -> ExitCode {
+pub fn unread(rt: &impl Eprint, alloc: Global, name: &str, os_error: Option<i32>) -> ExitCode {
     let fault = RunFault::Read;
     if name == "-" {
         return fail_for(rt, fault, os_error);
     }
+    let Ok(name) = printed(alloc, name) else {
+        return fail(rt, RunFault::Memory);
+    };
+    let name = name.as_str();
     let _ = match os_error {
         Some(number) => {
             let reason = io::Error::from_raw_os_error(number);

@@ -1,9 +1,10 @@
 //! Lines of text, laid out.
 ghost use Rattle.std.specs.Prelude.{◌≡◌, ◌++◌, ◌≤◌, OnOk, string_bytes};
 ghost use Rattle.std.specs.Str.{chars};
-ghost use Rattle.aud_explanation.specs.Page.{shown, columns, fits, word_fits, ends_line, placed, next_column, laid_line, blanks, to_left, to_right};
+ghost use Rattle.aud_explanation.specs.Page.{columns, fits, word_fits, ends_line, placed, next_column, laid_line, blanks, to_left, to_right};
 
-use std::alloc::{AllocError, Global};
+use crate::escape::{is_format, push_shown};
+use std::alloc::AllocError;
 
 /// How many columns a line has at most.
 const WIDTH: usize = 100;
@@ -11,23 +12,19 @@ const WIDTH: usize = 100;
 /// In which column a line goes on in the next.
 const INDENT: usize = 8;
 
-/// Puts the character at the end, a control character as `\x` and two hexadecimal digits.
-fn push_shown(out: &mut String, c: char) -> Result<(), AllocError>
-    ensures { OnOk result (string_bytes out.new ≡ string_bytes out.old ++ shown c) }
-{
-    if c.is_control() {
-        let code = c as u32;
-        write!(out, "\\x{code:02x}")
-    } else {
-        out.push(c)
-    }
-}
-
-/// How many columns the character takes.
+/// How many columns the character takes: as many as its escape has characters.
 fn columns(c: char) -> usize
     ensures { result ≡ columns c }
 {
-    if c.is_control() { 4 } else { 1 }
+    if c == '\\' {
+        2
+    } else if c.is_control() {
+        4
+    } else if is_format(c) {
+        8
+    } else {
+        1
+    }
 }
 
 /// Whether the character stands within the line.
