@@ -16,8 +16,8 @@ _sioaudit_options() {
 _sioaudit_values() {
     case $1$2 in
         audit--workers | explain--workers) echo '1 2 4 8 16 32 64' ;;
-        explain--only) echo 'no delivery packets recording' ;;
-        explain--fail-on) echo 'delivery packets recording refused' ;;
+        explain--only) echo 'no delivery packets recording NOLOG CHAIN ORDER CLIENT NAMES FRAME ORPHAN CONTENT EXTRA DOUBLED SWAPPED LOST WINDOW' ;;
+        explain--fail-on) echo 'delivery packets recording refused nothing NOLOG CHAIN ORDER CLIENT NAMES FRAME ORPHAN CONTENT EXTRA DOUBLED SWAPPED LOST WINDOW' ;;
         explain--pid) ;;
         simulate--fault) echo 'drop double hold alter garble lag unknown-offset no-reply other-sid no-open no-join no-break take-twice' ;;
         simulate--nodes | simulate--clients | simulate--acts | simulate--seed) ;;

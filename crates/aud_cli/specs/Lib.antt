@@ -1,4 +1,6 @@
 pub mod Arguments
+pub mod Names
+pub mod Faults
 pub mod Only
 pub mod FailOn
 pub mod Given

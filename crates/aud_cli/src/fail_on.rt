@@ -1,10 +1,12 @@
 //! What makes status 1.
 ghost use Rattle.std.specs.Prelude.{◌≡◌};
-ghost use Rattle.std.specs.Str.{bytes_eq};
-ghost use Rattle.std.specs.List.{list_all, list_any};
-ghost use Rattle.aud_cli.specs.FailOn.{every_class, fails, fail_on_named, is_finding, names_in};
+ghost use Rattle.std.specs.List.{list_all};
+ghost use Rattle.aud_cli.specs.FailOn.{fail_on_named, fails, fails_class, is_finding};
+ghost use Rattle.aud_cli.specs.Names.{names_in};
 
-use aud_cert::Class;
+use crate::faults::{Faults, NO_FAULTS, faults_in, is_fault};
+use crate::names::has_name;
+use aud_cert::{Class, Fault, class_of};
 
 /// What makes the exit status 1.
 #[derive(Clone, Copy, Debug, PartialEq, Eq, Drop)]
@@ -15,8 +17,12 @@ pub struct FailOn {
     pub packets: bool,
     /// The same of the class *recording*.
     pub recording: bool,
+    /// The same with one of these faults.
+    pub faults: Faults,
     /// A recovery that was refused, also where all sessions are answered yes.
     pub refused: bool,
+    /// That nothing could be judged: no session was recorded, or no entry that is sent again after a recovery.
+    pub nothing: bool,
 }
 
 /// What makes status 1 where the arguments don't say: any session that is answered no, as for an audit.
@@ -24,13 +30,21 @@ pub const EVERY_CLASS: FailOn = FailOn {
     delivery: true,
     packets: true,
     recording: true,
+    faults: NO_FAULTS,
     refused: false,
+    nothing: false,
 };
 
 impl FailOn {
-    /// Whether a session that is answered no with a fault of this class makes status 1.
-    pub fn fails(self, class: Class) -> bool
-        ensures { result ≡ fails self class }
+    /// Whether a session that is answered no with this fault makes status 1.
+    pub fn fails(self, fault: &Fault) -> bool
+        ensures { result ≡ fails self fault.now }
+    {
+        self.fails_class(class_of(fault)) || self.faults.has(fault)
+    }
+
+    fn fails_class(self, class: Class) -> bool
+        ensures { result ≡ fails_class self class }
     {
         match class {
             Class::Delivery => self.delivery,
@@ -40,25 +54,23 @@ impl FailOn {
     }
 }
 
-/// Whether this names a class, or refused recoveries.
+/// Whether this names a class, or is the word of a fault, `refused` or `nothing`.
 fn is_finding(name: &str) -> bool
     ensures { result ≡ is_finding name.now }
 {
-    name == "delivery" || name == "packets" || name == "recording" || name == "refused"
+    is_fault(name)
+        || name == "delivery"
+        || name == "packets"
+        || name == "recording"
+        || name == "refused"
+        || name == "nothing"
 }
 
-/// Whether each name of the list is that of a class, or of refused recoveries.
+/// Whether each name of the list is one of these.
 fn are_findings(list: &str) -> bool
     ensures { result ≡ list_all is_finding (names_in list.now) }
 {
     list.split(',').all(|part| is_finding(part))
-}
-
-/// Whether this name is in the list.
-fn has_name(list: &str, name: &str) -> bool
-    ensures { result ≡ list_any (λ part. bytes_eq part name.now) (names_in list.now) }
-{
-    list.split(',').any(|part| part == name)
 }
 
 /// What `--fail-on` says with this list.
@@ -72,6 +84,8 @@ pub fn fail_on_named(list: &str) -> Option<FailOn>
         delivery: has_name(list, "delivery"),
         packets: has_name(list, "packets"),
         recording: has_name(list, "recording"),
+        faults: faults_in(list),
         refused: has_name(list, "refused"),
+        nothing: has_name(list, "nothing"),
     })
 }

@@ -1,8 +1,9 @@
 //! Which sessions are shown.
 ghost use Rattle.std.specs.Prelude.{◌≡◌};
-ghost use Rattle.aud_cli.specs.Only.{class_named, only_named, shows};
+ghost use Rattle.aud_cli.specs.Only.{class_named, is_same, only_named, shows, shows_refused};
 
-use aud_cert::Class;
+use crate::faults::{Faults, faults_in, is_fault};
+use aud_cert::{Class, Fault, class_of};
 
 /// Which of the sessions that have something to explain are shown.
 #[derive(Clone, Copy, Debug, PartialEq, Eq, Drop)]
@@ -11,6 +12,8 @@ pub enum Only {
     No,
     /// Those of this class.
     Of(Class),
+    /// Those with one of these faults.
+    With(Faults),
 }
 
 /// The class of this name.
@@ -35,18 +38,37 @@ pub fn only_named(name: &str) -> Option<Only>
     if name == "no" {
         return Some(Only::No);
     }
+    if is_fault(name) {
+        return Some(Only::With(faults_in(name)));
+    }
     let class = class_named(name)?;
     Some(Only::Of(class))
 }
 
+/// Whether they are one class.
+fn is_same(shown: Class, class: Class) -> bool
+    ensures { result ≡ is_same shown class }
+{
+    shown == class
+}
+
 impl Only {
-    /// Whether a session that is answered no with a fault of this class is shown.
-    pub fn shows(self, class: Class) -> bool
-        ensures { result ≡ shows self class }
+    /// Whether a session that is answered no with this fault is shown.
+    pub fn shows(self, fault: &Fault) -> bool
+        ensures { result ≡ shows self fault.now }
     {
         match self {
             Only::No => true,
-            Only::Of(shown) => shown == class,
+            Only::Of(class) => is_same(class, class_of(fault)),
+            Only::With(faults) => faults.has(fault),
         }
+    }
+
+    /// Whether a session that is answered yes, and of which a recovery was refused, is shown: it is of the class
+    /// *delivery*.
+    pub fn shows_refused(self) -> bool
+        ensures { result ≡ shows_refused self }
+    {
+        matches!(self, Only::Of(Class::Delivery))
     }
 }

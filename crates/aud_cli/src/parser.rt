@@ -40,7 +40,8 @@ The classes of faults:
   recording  NOLOG, CHAIN, ORDER, CLIENT, NAMES: the taps contradict each other, or lack something
 
 Exit status:
-  0  nothing of what --fail-on lists was found
+  0  nothing of what --fail-on lists was found; with nothing it is one that no session, or no entry
+     that is sent again after a recovery, was recorded
   1  some of it was
   2  a line of the bundle is refused; the output names it
   3  a read or a write failed, a thread could not be started, or there was no memory
@@ -84,9 +85,46 @@ const SIMULATE_ABOUT: &str = "Writes the bundle of a simulated cluster";
 
 const SIMULATE_LINES: &str = "`sioaudit simulate --help` has its options.";
 
-const SHOWN: [&str; 4] = ["no", "delivery", "packets", "recording"];
+const SHOWN: [&str; 17] = [
+    "no",
+    "delivery",
+    "packets",
+    "recording",
+    "NOLOG",
+    "CHAIN",
+    "ORDER",
+    "CLIENT",
+    "NAMES",
+    "FRAME",
+    "ORPHAN",
+    "CONTENT",
+    "EXTRA",
+    "DOUBLED",
+    "SWAPPED",
+    "LOST",
+    "WINDOW",
+];
 
-const FINDINGS: [&str; 4] = ["delivery", "packets", "recording", "refused"];
+const FINDINGS: [&str; 18] = [
+    "delivery",
+    "packets",
+    "recording",
+    "refused",
+    "nothing",
+    "NOLOG",
+    "CHAIN",
+    "ORDER",
+    "CLIENT",
+    "NAMES",
+    "FRAME",
+    "ORPHAN",
+    "CONTENT",
+    "EXTRA",
+    "DOUBLED",
+    "SWAPPED",
+    "LOST",
+    "WINDOW",
+];
 
 const NOT_UNDERSTOOD: &str =
     "these words are not understood\n\nFor more information, try '--help'.";
@@ -152,7 +190,7 @@ fn choosing<'a>(alloc: Global) -> Result<Command<'a>, AllocError> {
     let only = option(
         alloc,
         "only",
-        "Show only sessions answered no, or those of a class",
+        "Show only sessions answered no, or those of a class or fault",
     )
     .value_name("WHICH")
     .value_parser(ValueParser::Names(&SHOWN));

@@ -24,6 +24,7 @@ use Rattle.aud_summary.specs.Answers.{is_no, is_unobserved}
 use Rattle.aud_summary.specs.ByClass.{classes_of}
 use Rattle.aud_summary.specs.ByFault.{faults_of}
 use Rattle.aud_summary.specs.Json.{summary_json}
+use Rattle.aud_summary.specs.Meaning.{says_nothing}
 use Rattle.aud_summary.specs.Tails.{has_tail, tail_of}
 use Rattle.aud_summary.specs.Text.{summary_text}
 use Rattle.aud_verdict.specs.Verdicts.{AreVerdicts}
@@ -73,7 +74,7 @@ timed s seconds = record s { input = record s.input { seconds = seconds } }
 -- the figures of the recording, and the status by the verdicts and the recoveries
 pub record AreFigures (options : ExplainOptions) (c : Cluster) (size : Size) (verdicts : List SessionVerdict) (figures : Figures) : Type 0 where
   pub is_summary : IsSummary c verdicts (recoveries_of c) size figures.summary
-  pub status_is : figures.status ≡ status_by options.fail_on verdicts (recoveries_of c)
+  pub status_is : figures.status ≡ status_by options.fail_on (says_nothing figures.summary) verdicts (recoveries_of c)
 
 -- the output over a recording, where these are the lines of its records: the explanation of each session that is shown,
 -- and the figures of all of it; sessions that clients asked for in vain and that no record names are shown too, and not

@@ -25,7 +25,7 @@ use aud_desk::{AuditFault, OpenGate, Report, audit_with};
 use aud_explained::Form;
 use aud_input::{Recorded, Size};
 use aud_rows::Sheet;
-use aud_summary::{Input, Summary, summary_json, summary_of, summary_text};
+use aud_summary::{Input, Summary, says_nothing, summary_json, summary_of, summary_text};
 use aud_verdict::{Output, SessionVerdict, Status};
 use std::alloc::{AllocError, Global};
 use std::hash::RandomState;
@@ -194,7 +194,12 @@ fn figures_of(
     let summary = summary_of(recording, verdicts, &asked.all, input_of(size, 0));
     Figures {
         summary,
-        status: status_by(options.fail_on, verdicts, &asked.all),
+        status: status_by(
+            options.fail_on,
+            says_nothing(&summary),
+            verdicts,
+            &asked.all,
+        ),
     }
 }
 

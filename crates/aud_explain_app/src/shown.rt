@@ -1,45 +1,28 @@
 //! Which sessions have something to explain, and are within what is shown.
-ghost use Rattle.std.specs.Prelude.{◌≡◌, not};
-ghost use Rattle.aud_verdict.specs.YesOf.{yes_of};
-ghost use Rattle.aud_explain_app.specs.Shown.{class_shown, is_of_class, is_told, is_within};
+ghost use Rattle.std.specs.Prelude.{◌≡◌};
+ghost use Rattle.aud_explain_app.specs.Shown.{has_told, is_told, is_within, shows_yes};
 
-use aud_cert::{Class, class_of};
 use aud_cli::Only;
 use aud_verdict::Verdict;
 
-/// The class of what there is to explain of a session: that of its fault, or delivery where it has none and a recovery
-/// of it was refused.
-fn class_shown(verdict: &Verdict, is_refused: bool) -> Option<Class>
-    ensures { result ≡ class_shown verdict.now is_refused }
-{
-    match verdict {
-        Verdict::No(fault) => Some(class_of(fault)),
-        Verdict::Yes { .. } => {
-            if is_refused {
-                Some(Class::Delivery)
-            } else {
-                None
-            }
-        }
-    }
-}
-
-/// Whether there is a class, and it is this one.
-fn is_of_class(class: Class, other: Option<Class>) -> bool
-    ensures { result ≡ is_of_class class other }
-{
-    match other {
-        Some(other) => other == class,
-        None => false,
-    }
-}
-
-fn is_no(verdict: &Verdict) -> bool
-    ensures { result ≡ not (yes_of verdict.now) }
+/// Whether there is something to explain of a session: it is answered no, or a recovery of it was refused.
+fn has_told(verdict: &Verdict, is_refused: bool) -> bool
+    ensures { result ≡ has_told verdict.now is_refused }
 {
     match verdict {
         Verdict::No(_) => true,
-        Verdict::Yes { .. } => false,
+        Verdict::Yes { .. } => is_refused,
+    }
+}
+
+/// Whether a session that is answered yes is within what `--only` says.
+fn shows_yes(only: Only, is_refused: bool) -> bool
+    ensures { result ≡ shows_yes only is_refused }
+{
+    if is_refused {
+        only.shows_refused()
+    } else {
+        false
     }
 }
 
@@ -47,10 +30,12 @@ fn is_no(verdict: &Verdict) -> bool
 pub(crate) fn is_within(only: Option<Only>, verdict: &Verdict, is_refused: bool) -> bool
     ensures { result ≡ is_within only verdict.now is_refused }
 {
-    match only {
-        None => true,
-        Some(Only::No) => is_no(verdict),
-        Some(Only::Of(class)) => is_of_class(class, class_shown(verdict, is_refused)),
+    let Some(only) = only else {
+        return true;
+    };
+    match verdict {
+        Verdict::No(fault) => only.shows(fault),
+        Verdict::Yes { .. } => shows_yes(only, is_refused),
     }
 }
 
@@ -58,7 +43,7 @@ pub(crate) fn is_within(only: Option<Only>, verdict: &Verdict, is_refused: bool)
 pub(crate) fn is_told(only: Option<Only>, verdict: &Verdict, is_refused: bool) -> bool
     ensures { result ≡ is_told only verdict.now is_refused }
 {
-    if class_shown(verdict, is_refused).is_none() {
+    if !has_told(verdict, is_refused) {
         return false;
     }
     is_within(only, verdict, is_refused)

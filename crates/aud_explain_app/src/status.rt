@@ -2,20 +2,23 @@
 ghost use Rattle.std.specs.Prelude.{◌≡◌};
 ghost use Rattle.aud_explain_app.specs.Status.{fails, fails_refused, some_fails, status_by};
 
-use aud_cert::class_of;
 use aud_cli::FailOn;
 use aud_recoveries::{Recovery, refused};
 use aud_verdict::{SessionVerdict, Status, Verdict, status_of};
 
-/// Status 1 where a session is answered no with a fault of such a class, or a recovery was refused and is to be told
-/// so.
+/// Status 1 where a session is answered no with a fault that makes it so, or where a recovery was refused, or nothing
+/// could be judged, and that does.
 pub(crate) fn status_by(
     fail_on: FailOn,
+    says_nothing: bool,
     verdicts: &[SessionVerdict],
     recoveries: &[Recovery],
 ) -> Status
-    ensures { result ≡ status_by fail_on verdicts.now recoveries.now }
+    ensures { result ≡ status_by fail_on says_nothing verdicts.now recoveries.now }
 {
+    if fail_on.nothing && says_nothing {
+        return status_of(false);
+    }
     let is_bad = fails_refused(fail_on, recoveries) || some_fails(fail_on, verdicts);
     status_of(!is_bad)
 }
@@ -42,6 +45,6 @@ fn fails(fail_on: FailOn, verdict: &Verdict) -> bool
 {
     match verdict {
         Verdict::Yes { .. } => false,
-        Verdict::No(fault) => fail_on.fails(class_of(fault)),
+        Verdict::No(fault) => fail_on.fails(fault),
     }
 }

@@ -10,5 +10,6 @@ pub mod Answers
 pub mod ByClass
 pub mod ByFault
 pub mod Tails
+pub mod Meaning
 pub mod Text
 pub mod Json

@@ -29,6 +29,6 @@ pub use entries::Entries;
 pub use faults::Faults;
 pub use json::summary_json;
 pub use recoveries::Recoveries;
-pub use summary::{Input, Summary, summary_of};
+pub use summary::{Input, Summary, says_nothing, summary_of};
 pub use tails::Tails;
 pub use text::summary_text;

@@ -7,6 +7,7 @@ ghost use Rattle.aud_verdict.specs.YesOf.{is_yes};
 ghost use Rattle.aud_summary.specs.Answers.{is_no, is_unobserved};
 ghost use Rattle.aud_summary.specs.ByClass.{classes_of, sum_of_classes};
 ghost use Rattle.aud_summary.specs.ByFault.{faults_of, sum_of_faults};
+ghost use Rattle.aud_summary.specs.Meaning.{says_nothing};
 ghost use Rattle.aud_summary.specs.Tails.{has_tail, tail_of};
 
 use crate::answers::{count_no, count_unobserved, count_yes};
@@ -91,4 +92,12 @@ pub fn summary_of(
         entries: entries_in(recording.logs().stream()),
         input,
     }
+}
+
+/// Whether the answers on the recording say nothing: no session was recorded, or no entry is recoverable, so that a
+/// client that received nothing received all that was due to it.
+pub fn says_nothing(summary: &Summary) -> bool
+    ensures { result ≡ says_nothing summary.now }
+{
+    summary.sessions == 0 || summary.entries.recoverable == 0
 }

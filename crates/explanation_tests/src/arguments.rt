@@ -1,79 +1,106 @@
 //! The arguments of `explain`.
-use aud_cli::{ExplainOptions, explain_asked};
+use aud_cli::{ExplainOptions, FailOn, Faults, Only, explain_asked};
 use aud_tap::Text;
 use std::alloc::{AllocError, Global};
 use std::process::Abort;
 use std::test::Fail;
 
 /// What makes status 1 where the arguments do not say, and no session and no file.
-const EVERY_CLASS: &str =
-    "FailOn { delivery: true, packets: true, recording: true, refused: false }, pids, files\n";
+const EVERY_CLASS: &str = "fail on delivery packets recording, pids, files\n";
 
 /// Arguments, how the text begins that tells of them, and a part of it.
-static ARGUMENTS: [(&[&str], &str, &str); 57] = [
+static ARGUMENTS: [(&[&str], &str, &str); 66] = [
     (
         &["explain"],
-        "read None, form Text, quiet false, workers 4, ",
+        "read all, form Text, quiet false, workers 4, ",
         EVERY_CLASS,
     ),
     (
         &["explain", "--"],
-        "read None, form Text, quiet false, workers 4, ",
+        "read all, form Text, quiet false, workers 4, ",
         EVERY_CLASS,
     ),
     (
         &["explain", "--json"],
-        "read None, form Json, quiet false, workers 4, ",
+        "read all, form Json, quiet false, workers 4, ",
         EVERY_CLASS,
     ),
     (
         &["explain", "--html"],
-        "read None, form Html, quiet false, workers 4, ",
+        "read all, form Html, quiet false, workers 4, ",
         EVERY_CLASS,
     ),
     (
         &["explain", "--quiet"],
-        "read None, form Text, quiet true, workers 4, ",
+        "read all, form Text, quiet true, workers 4, ",
         EVERY_CLASS,
     ),
     (
         &["explain", "--only", "no"],
-        "read Some(No), form Text, quiet false, workers 4, ",
+        "read no, form Text, quiet false, workers 4, ",
         EVERY_CLASS,
     ),
     (
         &["explain", "--only=delivery"],
-        "read Some(Of(Delivery)), form Text, quiet false, workers 4, ",
+        "read delivery, form Text, quiet false, workers 4, ",
         EVERY_CLASS,
     ),
     (
         &["explain", "--only", "packets"],
-        "read Some(Of(Packets)), form Text, quiet false, workers 4, ",
+        "read packets, form Text, quiet false, workers 4, ",
         EVERY_CLASS,
     ),
     (
         &["explain", "--only", "recording"],
-        "read Some(Of(Recording)), form Text, quiet false, workers 4, ",
+        "read recording, form Text, quiet false, workers 4, ",
         EVERY_CLASS,
     ),
     (
         &["explain", "--fail-on", "delivery,refused"],
-        "read None, form Text, quiet false, workers 4, ",
-        "FailOn { delivery: true, packets: false, recording: false, refused: true }, pids, files\n",
+        "read all, form Text, quiet false, workers 4, ",
+        "fail on delivery refused, pids, files\n",
     ),
     (
         &["explain", "--fail-on=packets,packets"],
-        "read None, form Text, quiet false, workers 4, ",
-        "FailOn { delivery: false, packets: true, recording: false, refused: false }, pids, files\n",
+        "read all, form Text, quiet false, workers 4, ",
+        "fail on packets, pids, files\n",
     ),
     (
         &["explain", "--fail-on=packets,recording,delivery"],
-        "read None, form Text, quiet false, workers 4, ",
+        "read all, form Text, quiet false, workers 4, ",
         EVERY_CLASS,
     ),
     (
+        &["explain", "--only", "LOST"],
+        "read LOST, form Text, quiet false, workers 4, ",
+        EVERY_CLASS,
+    ),
+    (
+        &["explain", "--only=NOLOG"],
+        "read NOLOG, form Text, quiet false, workers 4, ",
+        EVERY_CLASS,
+    ),
+    (
+        &["explain", "--fail-on", "nothing"],
+        "read all, form Text, quiet false, workers 4, ",
+        "fail on nothing, pids, files\n",
+    ),
+    (
+        &["explain", "--fail-on", "LOST,refused,delivery"],
+        "read all, form Text, quiet false, workers 4, ",
+        "fail on delivery refused LOST, pids, files\n",
+    ),
+    (
+        &[
+            "explain",
+            "--fail-on=NOLOG,CHAIN,ORDER,CLIENT,NAMES,FRAME,ORPHAN,CONTENT,EXTRA,DOUBLED,SWAPPED,LOST,WINDOW",
+        ],
+        "read all, form Text, quiet false, workers 4, ",
+        "fail on NOLOG CHAIN ORDER CLIENT NAMES FRAME ORPHAN CONTENT EXTRA DOUBLED SWAPPED LOST WINDOW, pids",
+    ),
+    (
         &["explain", "--workers=64", "--quiet", "--json"],
-        "read None, form Json, quiet true, workers 64, ",
+        "read all, form Json, quiet true, workers 64, ",
         EVERY_CLASS,
     ),
     (&["explain", "a.jsonl"], "read ", ", pids, files a.jsonl\n"),
@@ -111,6 +138,13 @@ static ARGUMENTS: [(&[&str], &str, &str); 57] = [
     (&["explain", "--only"], "refused: ", "--only"),
     (&["explain", "--only", "yes"], "refused: ", "yes"),
     (&["explain", "--only", "No"], "refused: ", "No"),
+    (&["explain", "--only", "lost"], "refused: ", "lost"),
+    (&["explain", "--only", "TAIL"], "refused: ", "TAIL"),
+    (
+        &["explain", "--only", "LOST,EXTRA"],
+        "refused: ",
+        "LOST,EXTRA",
+    ),
     (&["explain", "--only="], "refused: ", "--only"),
     (
         &["explain", "--only=no", "--only", "no"],
@@ -149,6 +183,7 @@ static ARGUMENTS: [(&[&str], &str, &str); 57] = [
         "refused: ",
         "lost",
     ),
+    (&["explain", "--fail-on", "TAIL"], "refused: ", "TAIL"),
     (
         &["explain", "--fail-on=refused", "--fail-on=refused"],
         "refused: ",
@@ -169,7 +204,7 @@ static ARGUMENTS: [(&[&str], &str, &str); 57] = [
     (
         &["explain", "--help"],
         "help: ",
-        "[possible values: no, delivery, packets, recording]",
+        "[possible values: no, delivery, packets, recording, NOLOG, ",
     ),
     (&["explain", "--help"], "help: ", "--html"),
     (&["explain", "--help"], "help: ", "--fail-on <LIST>"),
@@ -191,15 +226,71 @@ fn push_texts(out: &mut String, texts: &[Text]) -> Result<(), AllocError> {
     Ok(())
 }
 
+/// Adds the words of the faults, each after a blank.
+fn push_faults(out: &mut String, faults: Faults) -> Result<(), AllocError> {
+    let all = [
+        (faults.no_log, "NOLOG"),
+        (faults.chain, "CHAIN"),
+        (faults.order, "ORDER"),
+        (faults.client, "CLIENT"),
+        (faults.names, "NAMES"),
+        (faults.frame, "FRAME"),
+        (faults.orphan, "ORPHAN"),
+        (faults.content, "CONTENT"),
+        (faults.extra, "EXTRA"),
+        (faults.doubled, "DOUBLED"),
+        (faults.swapped, "SWAPPED"),
+        (faults.lost, "LOST"),
+        (faults.window, "WINDOW"),
+    ];
+    push_chosen(out, &all)
+}
+
+/// Adds those of the words that are chosen, each after a blank.
+fn push_chosen(out: &mut String, words: &[(bool, &str)]) -> Result<(), AllocError> {
+    for &(is_chosen, word) in words {
+        if is_chosen {
+            write!(out, " {word}")?;
+        }
+    }
+    Ok(())
+}
+
+/// Adds which sessions are shown.
+fn push_only(out: &mut String, only: Option<Only>) -> Result<(), AllocError> {
+    match only {
+        None => write!(out, " all"),
+        Some(Only::No) => write!(out, " no"),
+        Some(Only::Of(class)) => write!(out, " {class}"),
+        Some(Only::With(faults)) => push_faults(out, faults),
+    }
+}
+
+/// Adds what makes status 1.
+fn push_fail_on(out: &mut String, fail_on: FailOn) -> Result<(), AllocError> {
+    let words = [
+        (fail_on.delivery, "delivery"),
+        (fail_on.packets, "packets"),
+        (fail_on.recording, "recording"),
+        (fail_on.refused, "refused"),
+        (fail_on.nothing, "nothing"),
+    ];
+    push_chosen(out, &words)?;
+    push_faults(out, fail_on.faults)
+}
+
 /// The options, in words.
 fn options_text(alloc: Global, options: &ExplainOptions) -> Result<String, AllocError> {
-    let (only, form, quiet) = (options.only, options.form, options.quiet);
-    let (workers, fail_on) = (options.workers, options.fail_on);
+    let (form, quiet, workers) = (options.form, options.quiet, options.workers);
     let mut out = String::new(alloc);
+    write!(out, "read")?;
+    push_only(&mut out, options.only)?;
     write!(
         out,
-        "read {only:?}, form {form:?}, quiet {quiet}, workers {workers}, {fail_on:?}, pids"
+        ", form {form:?}, quiet {quiet}, workers {workers}, fail on"
     )?;
+    push_fail_on(&mut out, options.fail_on)?;
+    write!(out, ", pids")?;
     push_texts(&mut out, options.pids.as_slice())?;
     write!(out, ", files")?;
     push_texts(&mut out, options.files.as_slice())?;

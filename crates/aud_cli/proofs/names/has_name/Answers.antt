@@ -2,7 +2,7 @@ use Rattle.std.proofs.Common.{rules, tests, lit<}
 use Rattle.std.specs.Str.{bytes_eq}
 use Rattle.std.proofs.lemmas.Iterator.Search.{any_from_yields_List}
 use Rattle.std.proofs.lemmas.Iterator.Splits.{YieldsList-from_str_split}
-use Rattle.aud_cli.proofs.fail_on.has_name.Goals as goal
+use Rattle.aud_cli.proofs.names.has_name.Goals as goal
 
 pub returns : goal.returns
 returns c =
