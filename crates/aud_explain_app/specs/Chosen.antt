@@ -3,6 +3,7 @@ use Rattle.std.specs.Prelude.{ℕ, Bool, false, List, [], ◌∷◌, flat_map, l
 use Rattle.std.specs.List.{filter}
 use Rattle.std.specs.Option.{option_and_then, option_map_or}
 use Rattle.std.specs.Str.{bytes_eq}
+use Rattle.aud_base.specs.FirstTexts.{with_texts}
 use Rattle.aud_base.specs.Places.{places_where}
 use Rattle.aud_node.specs.Cluster.{Cluster}
 use Rattle.aud_node.specs.Lists.{is_empty}
@@ -37,9 +38,9 @@ abbrev pub within_of : Cluster → Option Only → Option SessionVerdict → Lis
 within_of c only None = []
 within_of c only (Some session) = if is_session_within c only session then session ∷ [] else []
 
--- those with these pids, in their order, that are within it
+-- those with these pids, each once where it first stands, that are within it
 abbrev pub sessions_named : Cluster → Option Only → List SessionVerdict → List Text → List SessionVerdict
-sessions_named c only sessions pids = flat_map (λ pid. within_of c only (session_of sessions pid)) pids
+sessions_named c only sessions pids = flat_map (λ pid. within_of c only (session_of sessions pid)) (with_texts [] pids)
 
 -- those that the words name, where they name any; else all that have something to explain
 abbrev pub sessions_chosen : Cluster → Option Only → List Text → List SessionVerdict → List SessionVerdict

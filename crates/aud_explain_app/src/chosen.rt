@@ -1,7 +1,10 @@
 //! The sessions that are shown.
-ghost use Rattle.std.specs.Prelude.{◌≡◌, ◌++◌, ℕ, IfOk, OnOk, Err, None, Some, map};
+ghost use Rattle.std.specs.Prelude.{◌≡◌, ◌++◌, ℕ, IfOk, OnOk, Err, None, Some, [], map, not, if◌then◌else◌};
+ghost use Rattle.std.specs.List.{list_any};
 ghost use Rattle.std.specs.Option.{option_copied};
-ghost use Rattle.aud_base.specs.Places.{places_of};
+ghost use Rattle.std.specs.Str.{bytes_eq};
+ghost use Rattle.aud_base.specs.FirstTexts.{with_text};
+ghost use Rattle.aud_base.specs.Places.{places_of, texts_of};
 ghost use Rattle.aud_node.specs.Cluster.{Cluster};
 ghost use Rattle.aud_node.specs.Stream.{Text};
 ghost use Rattle.aud_explain_app.specs.Asked.{AreAsked};
@@ -20,8 +23,8 @@ use aud_verdict::SessionVerdict;
 use std::alloc::{AllocError, Global};
 use std::hash::RandomState;
 
-/// Those of the sessions that are shown: those that the words name, in their order, or all that have something to
-/// explain. The first pid of no session is the fault. Sessions are looked up by these keys.
+/// Those of the sessions that are shown: those that the words name, each once, in their order, or all that have
+/// something to explain. The first pid of no session is the fault. Sessions are looked up by these keys.
 pub(crate) fn chosen<'s>(
     alloc: Global,
     keys: RandomState,
@@ -42,7 +45,7 @@ pub(crate) fn chosen<'s>(
         return Ok(told(alloc, options.only, asked, sessions)?);
     }
     let index = index_of(alloc, keys, sessions)?;
-    named(alloc, options.only, asked, &index, sessions, pids)
+    named(alloc, keys, options.only, asked, &index, sessions, pids)
 }
 
 /// Those that have something to explain.
@@ -99,9 +102,10 @@ fn session_of<'s>(
     }
 }
 
-/// Those with these pids, in their order.
+/// Those with these pids, in their order; of a pid that stands several times, the first counts.
 fn named<'s>(
     alloc: Global,
+    keys: RandomState,
     only: Option<Only>,
     asked: &Asked,
     index: &Places,
@@ -117,13 +121,48 @@ fn named<'s>(
         → first_missing (pids_of sessions.now) pids.now ≡ Some number }
 {
     let mut found = Vec::new(alloc);
+    let mut seen = Places::new(alloc, keys);
     for (number, pid) in pids.iter().enumerate() {
-        let Some(session) = session_of(index, sessions, pid.as_str()) else {
+        let text = pid.as_str();
+        let Some(session) = session_of(index, sessions, text) else {
             return Err(Unexplained::NoSession { number });
         };
-        push_within(&mut found, only, asked, session)?;
+        push_once(&mut found, &mut seen, only, asked, session, text)?;
     }
     Ok(found)
+}
+
+/// Adds the session of this pid, if the pid was not seen before and the session is within what `--only` says.
+fn push_once<'s>(
+    found: &mut Vec<&'s SessionVerdict>,
+    seen: &mut Places,
+    only: Option<Only>,
+    asked: &Asked,
+    session: &'s SessionVerdict,
+    pid: &str,
+) -> Result<(), AllocError>
+    ensures seen { OnOk result (texts_of seen.new ≡ with_text (texts_of seen.old) pid.now) }
+    ensures found { (c : Cluster) → AreAsked c asked.now
+        → OnOk result (map (λ s. s.now) found.new.items
+        ≡ map (λ s. s.now) found.old.items
+        ++ (if list_any (bytes_eq pid.now) (texts_of seen.old) then []
+        else within_of c only (Some session.now))) }
+{
+    if !is_first(seen, pid)? {
+        return Ok(());
+    }
+    push_within(found, only, asked, session)
+}
+
+/// Notes the pid, and says whether it is seen for the first time.
+fn is_first(seen: &mut Places, pid: &str) -> Result<bool, AllocError>
+    ensures seen { OnOk result (texts_of seen.new ≡ with_text (texts_of seen.old) pid.now) }
+    ensures first { IfOk result (λ first.
+        first ≡ not (list_any (bytes_eq pid.now) (texts_of seen.old))) }
+{
+    let before = seen.len();
+    seen.note(0, pid)?;
+    Ok(seen.len() != before)
 }
 
 /// Adds the session, if it is within what `--only` says.

@@ -49,7 +49,7 @@ a {"k":"join","pid":"P"}
 "#;
 
 /// Which sessions are shown, and what makes status 1.
-static CHOICES: [Case; 9] = [
+static CHOICES: [Case; 16] = [
     Case {
         arguments: &["explain"],
         input: Input::Files(&[YES]),
@@ -72,6 +72,17 @@ sessions: *"#,
         input: Input::Files(&[YES]),
         text: "",
         outcome: Err(ExplainFault::Unexplained(Unexplained::NoSession { number: 1 })),
+    },
+    Case {
+        arguments: &["explain", "--pid", "P", "--pid=P"],
+        input: Input::Files(&[YES]),
+        text: r#"yes P got=1 tail=0 turns=1
+client c1, namespace /, turns 1, got 1, due 1, tail 0
+    turn 0  a  5 open, cursor 0 == take 1 == 7 log ends, cursor 1
+    client  10 reply  11 got 1
+
+sessions: *"#,
+        outcome: Ok(Status::AllYes),
     },
     Case {
         arguments: &["explain", "--only", "no"],
@@ -97,6 +108,43 @@ sessions: *"#,
         text: r#"no P FRAME [packets]
 *"#,
         outcome: Ok(Status::SomeNo),
+    },
+    Case {
+        arguments: &["explain", "--only", "FRAME", "--fail-on", "ORPHAN,FRAME"],
+        input: Input::Files(&[FRAME]),
+        text: r#"no P FRAME [packets]
+*"#,
+        outcome: Ok(Status::SomeNo),
+    },
+    Case {
+        arguments: &["explain", "--only=ORPHAN", "--fail-on=ORPHAN,LOST"],
+        input: Input::Files(&[FRAME]),
+        text: r#"sessions: *"#,
+        outcome: Ok(Status::AllYes),
+    },
+    Case {
+        arguments: &["explain", "--only=LOST"],
+        input: Input::Files(&[REFUSED]),
+        text: r#"sessions: *"#,
+        outcome: Ok(Status::AllYes),
+    },
+    Case {
+        arguments: &["explain", "--fail-on=nothing"],
+        input: Input::Files(&[""]),
+        text: r#"sessions: *"#,
+        outcome: Ok(Status::SomeNo),
+    },
+    Case {
+        arguments: &["explain", "--fail-on=delivery,nothing"],
+        input: Input::Files(&[VOLATILE]),
+        text: r#"sessions: *"#,
+        outcome: Ok(Status::SomeNo),
+    },
+    Case {
+        arguments: &["explain", "--fail-on=nothing"],
+        input: Input::Files(&[YES]),
+        text: r#"sessions: *"#,
+        outcome: Ok(Status::AllYes),
     },
     Case {
         arguments: &[
@@ -164,7 +212,7 @@ fn recordings_that_say_nothing(rt: HostRuntime) -> Result<(), Fail> {
 }
 
 /// Lines that are refused.
-static REFUSED_LINES: [Case; 8] = [
+static REFUSED_LINES: [Case; 9] = [
     Case {
         arguments: &["explain"],
         input: Input::Files(&[BOTH]),
@@ -186,6 +234,15 @@ The field room is missing: it has to be a text.
         input: Input::Files(&[FIRST, SECOND]),
         text: r#"line 4: Field
 That is line 2 of b.jsonl.
+The field room is missing: it has to be a text.
+"#,
+        outcome: Ok(Status::Refused),
+    },
+    Case {
+        arguments: &["explain", "a", "b\\\u{1b}[2J\u{202e}"],
+        input: Input::Files(&[FIRST, SECOND]),
+        text: r#"line 4: Field
+That is line 2 of b\\\x1b[2J\u{202e}.
 The field room is missing: it has to be a text.
 "#,
         outcome: Ok(Status::Refused),

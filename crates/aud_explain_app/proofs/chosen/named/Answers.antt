@@ -1,14 +1,18 @@
-use Rattle.std.proofs.Common.{not, ◌++◌, map, option_copied, refl, sym, ap, ◌∙◌, Some, arith}
+use Rattle.std.proofs.Common.{not, ◌++◌, [], map, option_copied, refl, sym, ap, ◌∙◌, Some, arith, cond, bytes_eq, flat_map, take}
+use Rattle.std.specs.List.{list_any}
+use Rattle.aud_base.specs.FirstTexts.{with_text, with_texts}
+use Rattle.aud_base.specs.Places.{texts_of}
+use Rattle.aud_base.proofs.FirstTexts.{with_texts-one}
 use Rattle.aud_explain_app.specs.Chosen.{session_of, within_of}
 use Rattle.aud_explain_app.specs.Strangers.{has_pid, pids_of}
 use Rattle.aud_explain_app.proofs.Missing.{first_here, has_found, none_more, same_fault, same_number}
-use Rattle.aud_explain_app.proofs.Steps.{flat_item}
+use Rattle.aud_explain_app.proofs.Once.{flat_once}
 use Rattle.aud_explain_app.proofs.chosen.named.Goals as goal
 
 pub returns-in_default-clause-missing : goal.returns-in_default-clause-missing
 returns-in_default-clause-missing c =
     let known = pids_of c.args.sessions.now in
-    let here = ap (has_pid known) (sym c.index-pids-number.is ∙ sym c.as_str.ensures) ∙ has_found c.args.sessions.now c.as_str.result.now c.session_of.result _ c.session_of.ensures c.in_default.is in
+    let here = ap (has_pid known) (sym c.index-pids-number.is ∙ sym c.as_str-text.ensures) ∙ has_found c.args.sessions.now c.as_str-text.result.now c.session_of.result _ c.session_of.ensures c.in_default.is in
     λ number is.
     first_here (λ pid. not (has_pid known pid)) c.args.pids.now c.loop-number.number c.index-pids-number.result (omega arith) c.loop-number.invariant.none_missing (ap not here)
     ∙ ap Some (same_number c.loop-number.number number (same_fault _ _ _ refl is))
@@ -16,13 +20,23 @@ returns-in_default-clause-missing c =
 pub loop-number-preserved : goal.loop-number-preserved
 loop-number-preserved c =
     let known = pids_of c.args.sessions.now in
-    let pid = c.as_str.ensures ∙ c.index-pids-number.is in
-    let there = sym (ap option_copied c.in-Some.is) ∙ c.session_of.ensures ∙ ap (session_of c.args.sessions.now) pid in
-    let here = ap (has_pid known) (sym pid) ∙ has_found c.args.sessions.now c.as_str.result.now c.session_of.result _ c.session_of.ensures c.in-Some.is in
+    let pids = c.args.pids.now in
+    let text = c.as_str-text.result.now in
+    let pid = c.as_str-text.ensures ∙ c.index-pids-number.is in
+    let there = sym (ap option_copied c.in-Some.is) ∙ c.session_of.ensures in
+    let here = ap (has_pid known) (sym pid) ∙ has_found c.args.sessions.now text c.session_of.result _ c.session_of.ensures c.in-Some.is in
+    let before = c.loop-number.invariant in
+    let seen = with_texts [] (take c.loop-number.number pids) in
+    let more = ap (with_text seen) pid ∙ with_texts-one [] pids c.loop-number.number _ (omega arith) refl in
     record {
+      seen = c.in_ok-push_once.ensures.seen ∙ ap (λ texts. with_text texts text) before.seen ∙ more;
       named = λ cluster asked.
-          flat_item (λ p. within_of cluster c.args.only (session_of c.args.sessions.now p)) c.args.pids.now c.loop-number.number c.index-pids-number.result _ _
-          (omega arith) (c.loop-number.invariant.named cluster asked)
-          (c.in_ok-push_within.ensures cluster asked ∙ ap (λ s. map (λ session. session.now) c.loop-number.found.items ++ within_of cluster c.args.only s) there);
-      none_missing = none_more (λ p. not (has_pid known p)) c.args.pids.now c.loop-number.number c.index-pids-number.result (omega arith) c.loop-number.invariant.none_missing (ap not here);
+          let f = λ p. within_of cluster c.args.only (session_of c.args.sessions.now p) in
+          c.in_ok-push_once.ensures.found cluster asked
+          ∙ ap (λ texts. map (λ session. session.now) c.loop-number.found.items ++ cond (list_any (bytes_eq text) texts) [] (within_of cluster c.args.only _)) before.seen
+          ∙ ap (λ s. map (λ session. session.now) c.loop-number.found.items ++ cond (list_any (bytes_eq text) seen) [] (within_of cluster c.args.only s)) there
+          ∙ ap (λ sessions. sessions ++ cond (list_any (bytes_eq text) seen) [] (f text)) (before.named cluster asked)
+          ∙ sym (flat_once f seen text)
+          ∙ ap (flat_map f) more;
+      none_missing = none_more (λ p. not (has_pid known p)) pids c.loop-number.number c.index-pids-number.result (omega arith) before.none_missing (ap not here);
     }
