@@ -1,4 +1,4 @@
-use Rattle.std.proofs.Common.{not, ap, arith}
+use Rattle.std.proofs.Common.{arith}
 use Rattle.std.proofs.lemmas.Bool.Decides.{nat_tests}
 use Rattle.aud_base.specs.Places.{texts_of}
 use Rattle.aud_explain_app.proofs.Once.{counted_once}

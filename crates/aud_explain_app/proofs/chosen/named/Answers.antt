@@ -1,7 +1,6 @@
 use Rattle.std.proofs.Common.{not, ◌++◌, [], map, option_copied, refl, sym, ap, ◌∙◌, Some, arith, cond, bytes_eq, flat_map, take}
 use Rattle.std.specs.List.{list_any}
 use Rattle.aud_base.specs.FirstTexts.{with_text, with_texts}
-use Rattle.aud_base.specs.Places.{texts_of}
 use Rattle.aud_base.proofs.FirstTexts.{with_texts-one}
 use Rattle.aud_explain_app.specs.Chosen.{session_of, within_of}
 use Rattle.aud_explain_app.specs.Strangers.{has_pid, pids_of}
