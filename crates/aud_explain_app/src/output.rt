@@ -237,8 +237,8 @@ fn told<H: Threads + Sync>(
         → first_missing (pids_of sessions.now) options.now.pids ≡ Some number }
 {
     let shown = chosen(alloc, keys, options, asked, sessions)?;
+    let prepared = prepared_for(alloc, sheet.recording, asked, &shown)?;
     let threads = options.workers as usize;
-    let prepared = prepared_for(rt, alloc, threads, sheet.recording, asked, &shown)?;
     let form = form_of(options);
     let mut out = String::new(alloc);
     push_sessions(

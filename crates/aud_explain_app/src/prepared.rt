@@ -8,14 +8,11 @@ use aud_client::Recording;
 use aud_recording_faults::Prepared;
 use aud_verdict::{SessionVerdict, Verdict};
 use std::alloc::{AllocError, Global};
-use std::thread::Threads;
 
 /// What the explanations of these sessions are made from: the clients' taps that name them or asked for them, and where
 /// a node of one is out of order the orders of all nodes.
-pub(crate) fn prepared_for<H: Threads + Sync>(
-    rt: &H,
+pub(crate) fn prepared_for(
     alloc: Global,
-    threads: usize,
     recording: &Recording<'_>,
     asked: &Asked,
     sessions: &[&SessionVerdict],
@@ -23,14 +20,7 @@ pub(crate) fn prepared_for<H: Threads + Sync>(
     ensures { IfOk result (IsPreparedOf recording.now) }
 {
     let places = places_of(alloc, recording, asked, sessions)?;
-    Prepared::read(
-        rt,
-        alloc,
-        threads,
-        recording,
-        places.as_slice(),
-        has_order(sessions),
-    )
+    Prepared::read(alloc, recording, places.as_slice(), has_order(sessions))
 }
 
 /// The places of the clients' taps.

@@ -8,7 +8,7 @@
 //! use aud_explained::{Form, explained_of, push_explained};
 //! use aud_findings::Prepared;
 //!
-//! let prepared = Prepared::read(&rt, alloc, 4, sheet.recording, &[3], false)?;
+//! let prepared = Prepared::read(alloc, sheet.recording, &[3], false)?;
 //! let explained = explained_of(alloc, sheet, &prepared, "P", &verdict, &[])?;
 //! let mut out = String::new(alloc);
 //! push_explained(alloc, &mut out, Form::Text, "P", &verdict, &explained)?;

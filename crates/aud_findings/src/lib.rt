@@ -8,7 +8,7 @@
 //! use aud_account::account_of;
 //! use aud_findings::{Prepared, finding_of};
 //!
-//! let prepared = Prepared::read(&rt, alloc, 4, sheet.recording, &[3], false)?;
+//! let prepared = Prepared::read(alloc, sheet.recording, &[3], false)?;
 //! let account = account_of(alloc, sheet.recording, "P")?;
 //! let finding = finding_of(alloc, sheet, &prepared, "P", &verdict, account.as_ref())?;
 //! let client = finding.client.ok_or("no one client")?;

@@ -7,7 +7,7 @@
 //! ```
 //! use aud_recording_faults::{Prepared, no_log_rows};
 //!
-//! let prepared = Prepared::read(&rt, alloc, 4, sheet.recording, &[2], false)?;
+//! let prepared = Prepared::read(alloc, sheet.recording, &[2], false)?;
 //! let rows = no_log_rows(alloc, &sheet, &prepared, "P")?;
 //! assert_eq!(rt; rows[0].line, 9);
 //! ```

@@ -10,12 +10,10 @@ ghost use Rattle.aud_recording_faults.specs.Private.Wanted.{AreWanted, IsReadBy}
 
 use crate::orphan::orphan_at;
 use crate::wanted::{is_wanted, wanted_of};
-use aud_base::try_map;
 use aud_client::Recording;
 use aud_evidence::first_unordered;
 use aud_rows::ClientPlaces;
 use std::alloc::{AllocError, Global};
-use std::thread::Threads;
 
 /// What the explanations of a recording are made from beside the recording: read once, whatever number of sessions is
 /// explained.
@@ -44,12 +42,10 @@ pub enum PreparedTap {
 }
 
 impl Prepared {
-    /// Reads the clients' taps at these places, in any order, and where `orders` is set the logs of the nodes; the taps
-    /// are shared out among at most so many threads. Each record is decoded once.
-    pub fn read<H: Threads + Sync>(
-        rt: &H,
+    /// Reads the clients' taps at these places, in any order, and where `orders` is set the logs of the nodes. Of a
+    /// client's tap it takes what the recording has kept: nothing is decoded.
+    pub fn read(
         alloc: Global,
-        threads: usize,
         recording: &Recording<'_>,
         places: &[usize],
         orders: bool,
@@ -59,7 +55,7 @@ impl Prepared {
     {
         let count = recording.logs().taps().len();
         let wanted = wanted_of(alloc, count, places)?;
-        let taps = read_taps(rt, alloc, threads, recording, wanted.as_slice(), orders)?;
+        let taps = read_taps(alloc, recording, wanted.as_slice(), orders)?;
         Ok(Prepared { taps })
     }
 
@@ -100,10 +96,8 @@ fn client_of(tap: &PreparedTap) -> Option<&ClientPlaces>
 }
 
 /// What is read of each tap.
-fn read_taps<H: Threads + Sync>(
-    rt: &H,
+fn read_taps(
     alloc: Global,
-    threads: usize,
     recording: &Recording<'_>,
     wanted: &[bool],
     orders: bool,
@@ -111,28 +105,13 @@ fn read_taps<H: Threads + Sync>(
     ensures { IfOk result (λ taps. AllZip (IsReadBy recording.now wanted.now orders)
         (numbers_from 0 (length recording.now.taps)) taps.items) }
 {
-    let places = places_of_all(alloc, recording)?;
-    try_map(
-        rt,
-        alloc,
-        threads,
-        places.as_slice(),
-        |place: &usize| -> Result<PreparedTap, AllocError>
-            ensures { IfOk result (IsReadBy recording.entry.now wanted.entry.now orders place.now) }
-        { read_tap(alloc, recording, wanted, orders, *place) },
-    )
-}
-
-/// The places of all taps.
-fn places_of_all(alloc: Global, recording: &Recording<'_>) -> Result<Vec<usize>, AllocError>
-    ensures { IfOk result (λ places. places.items ≡ numbers_from 0 (length recording.now.taps)) }
-{
     let count = recording.logs().taps().len();
-    let mut places = Vec::with_capacity(alloc, count)?;
+    let mut taps = Vec::with_capacity(alloc, count)?;
     for place in 0..count {
-        places.push(place)?;
+        let tap = read_tap(alloc, recording, wanted, orders, place)?;
+        taps.push(tap)?;
     }
-    Ok(places)
+    Ok(taps)
 }
 
 /// What is read of the tap at this place, where these are wanted.

@@ -1,13 +1,17 @@
-use Rattle.std.proofs.Common.{◌∙◌, subst}
+use Rattle.std.proofs.Common.{◌++◌, ◌∷◌, [], sym, subst}
 use Rattle.std.specs.List.{AllZip}
-use Rattle.std.proofs.lemmas.Result.{IfOk-weaker}
+use Rattle.aud_base.specs.Lists.{numbers_from}
+use Rattle.aud_base.proofs.Numbers.{numbers_from-more}
 use Rattle.aud_recording_faults.specs.Private.Wanted.{IsReadBy}
-use Rattle.aud_recording_faults.proofs.Read.{zip_weaker}
+use Rattle.aud_recording_faults.proofs.Read.{zip_append}
 use Rattle.aud_recording_faults.proofs.prepared.read_taps.Goals as goal
 
-pub returns : goal.returns
-returns g c =
+pub loop-place-preserved : goal.loop-place-preserved
+loop-place-preserved c =
     let R = IsReadBy c.args.recording.now c.args.wanted.now c.args.orders in
-    IfOk-weaker c.try_map.result _ _ (λ v h.
-    subst (λ places. AllZip R places v.items) (c.as_slice.ensures.value ∙ c.in_ok-places.ensures)
-    (zip_weaker _ R (λ place tap call. subst (λ p. R p tap) call.shows call.says.met) _ _ h)) c.try_map.ensures
+    let place = c.loop-place.place in
+    let taps = c.loop-place.taps.items in
+    let tap = c.in_ok-tap.tap in
+    subst (AllZip R (numbers_from 0 (place + 1))) (sym c.in_ok-push.ensures.items)
+    (subst (λ ns. AllZip R ns (taps ++ tap ∷ [])) (sym (numbers_from-more place))
+    (zip_append R (numbers_from 0 place) taps (place ∷ []) (tap ∷ []) c.loop-place.invariant (c.in_ok-tap.ensures, tt)))
