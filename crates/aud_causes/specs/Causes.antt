@@ -1,9 +1,10 @@
 -- The causes that a session's fault may have.
-use Rattle.std.specs.Prelude.{◌≡◌, ℕ, Bool, List, [], length, map, nat_eq, Option, Some, None}
+use Rattle.std.specs.Prelude.{◌≡◌, ℕ, Bool, true, false, ◌&&◌, List, [], length, map, nat_eq, Option, Some, None}
 use Rattle.aud_node.specs.Cluster.{Cluster}
 use Rattle.aud_node.specs.Stream.{Text}
 use Rattle.aud_client.specs.Received.{stays_naming, stays_numbered}
 use Rattle.aud_cert.specs.declared.fault.Fault.{Fault}
+use Rattle.aud_cert.specs.declared.fault.Fault.TheVariants as fault
 use Rattle.aud_maker.specs.Made.{IsMade}
 use Rattle.aud_verdict.specs.declared.verdict.Verdict.{Verdict}
 use Rattle.aud_verdict.specs.declared.verdict.Verdict.TheVariants.{Yes, No}
@@ -33,19 +34,27 @@ abbrev pub AreNumbersAt : Cluster → Option ℕ → Text → List ℕ → Type 
 AreNumbersAt c None pid numbers = numbers ≡ []
 AreNumbersAt c (Some client) pid numbers = stays_numbered (stays_at c client) numbers ≡ stays_naming pid (stays_at c client)
 
+-- several causes of such a fault are known: of these faults only one is
+abbrev pub has_others : Fault → Bool
+has_others fault.NoLog = false
+has_others fault.Frame = false
+has_others (fault.Content off) = false
+has_others _ = true
+
 -- these are the causes of the fault, as they are told
 pub record AreToldCauses (c : Cluster) (lines : List TapLines) (client : Option ℕ) (pid : Text) (noted : Noted) (account : Option Account) (fault : Fault) (causes : List CauseFound) : Type 0 where
   pub found : List Cause
   pub are_found : AreFound c client pid noted account fault found
   pub numbers : List ℕ
   pub are_numbers : AreNumbersAt c client pid numbers
-  pub are_told : map cause_seen causes ≡ shown_causes c lines client numbers found
+  pub are_told : map cause_seen causes ≡ shown_causes c lines client numbers (has_others fault) found
 
 -- a session that is answered yes has no causes; one that is answered no has those of its fault
 abbrev pub AreCauses : Cluster → List TapLines → Option ℕ → Text → Noted → Option Account → Verdict → List CauseFound → Type 0
 AreCauses c lines client pid noted account (Yes got tail turns) causes = causes ≡ []
 AreCauses c lines client pid noted account (No fault) causes = AreToldCauses c lines client pid noted account fault causes
 
--- there is one cause
-abbrev pub is_sure : List CauseFound → Bool
-is_sure causes = nat_eq (length causes) 1
+-- there is one cause, of a fault that can have others
+abbrev pub is_sure : Verdict → List CauseFound → Bool
+is_sure (Yes got tail turns) causes = false
+is_sure (No fault) causes = has_others fault && nat_eq (length causes) 1

@@ -1,5 +1,5 @@
 -- Causes that were found, as they are told.
-use Rattle.std.specs.Prelude.{ℕ, Bool, List, length, map, nat_eq, string_bytes, Option}
+use Rattle.std.specs.Prelude.{ℕ, Bool, ◌&&◌, List, length, map, nat_eq, string_bytes, Option}
 use Rattle.aud_node.specs.Cluster.{Cluster}
 use Rattle.aud_node.specs.Stream.{Text}
 use Rattle.aud_input.specs.TapLines.{TapLines}
@@ -8,7 +8,7 @@ use Rattle.aud_causes.specs.declared.found.CauseFound.{CauseFound}
 use Rattle.aud_causes.specs.Words.{id_text, todo_text, why_text}
 use Rattle.aud_causes.specs.Records.{lines_at, name_of, node_of, records_of}
 
--- what is told of a cause: its name, whether it is the only one, the lines of the records that show it, what happened,
+-- what is told of a cause: its name, whether it is sure, the lines of the records that show it, what happened,
 -- and what to do
 pub record CauseSeen : Type 0 where
   pub id : Text
@@ -32,6 +32,6 @@ shown_cause c lines client numbers sure cause =
       todo = todo_text cause;
     }
 
--- of each of these: it is sure exactly where it is the only one
-abbrev pub shown_causes : Cluster → List TapLines → Option ℕ → List ℕ → List Cause → List CauseSeen
-shown_causes c lines client numbers found = map (shown_cause c lines client numbers (nat_eq (length found) 1)) found
+-- of each of these: it is sure exactly where it is the only one, and others were tried
+abbrev pub shown_causes : Cluster → List TapLines → Option ℕ → List ℕ → Bool → List Cause → List CauseSeen
+shown_causes c lines client numbers others found = map (shown_cause c lines client numbers (others && nat_eq (length found) 1)) found

@@ -23,6 +23,7 @@ use Rattle.aud_causes.specs.declared.cause.Cause.{Cause}
 use Rattle.aud_causes.specs.declared.cause.Cause.TheVariants.{NotAPacket}
 use Rattle.aud_causes.specs.Differences.{Case, difference_causes}
 use Rattle.aud_causes.specs.Windows.{altered_causes, window_causes}
+use Rattle.aud_causes.specs.NoPacket.{no_packet_in}
 use Rattle.aud_causes.specs.Names.{first_other, named_causes, orphan_cause}
 
 -- what was received is the begin of what was due, and there are no causes; or what was received of the session first
@@ -75,7 +76,7 @@ orphan_at c client orphan = option_and_then (orphan_cause (stays_at c client)) o
 -- knows the session in the stay with this number, if it has any; none of another fault
 abbrev pub AreJudgedCauses : Case → ℕ → Option ℕ → Fault → List Cause → Type 0
 AreJudgedCauses s client orphan fault.Names found = found ≡ names_causes s.seen s.stays
-AreJudgedCauses s client orphan fault.Frame found = found ≡ NotAPacket ∷ []
+AreJudgedCauses s client orphan fault.Frame found = found ≡ NotAPacket (no_packet_in s.c client) ∷ []
 AreJudgedCauses s client orphan fault.Orphan found = found ≡ option_to_list (orphan_at s.c client orphan)
 AreJudgedCauses s client orphan (fault.Content off) found = AreAlteredCauses s.c.stream s.stays found
 AreJudgedCauses s client orphan (fault.Extra off) found = AreDifferenceCauses s found

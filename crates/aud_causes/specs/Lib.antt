@@ -3,6 +3,8 @@ pub use Rattle.aud_node.specs.Stream
 pub use Rattle.aud_rows.specs.ClientPlaces
 pub use Rattle.aud_maker.specs.Made
 pub use Rattle.aud_account.specs.Account
+pub mod Pieces
+pub mod NoPacket
 pub mod Words
 pub mod Records
 pub mod Facts

@@ -1,9 +1,9 @@
 -- The words of causes: their names, what to do, and what happened.
-use Rattle.std.specs.Prelude.{ℕ, suc, List, [], ◌∷◌, codes, decimal, flat_map}
+use Rattle.std.specs.Prelude.{ℕ, suc, List, [], ◌∷◌, codes}
 use Rattle.aud_evidence.specs.declared.content.Part.{Part}
 use Rattle.aud_evidence.specs.declared.content.Part.TheVariants as part
-use Rattle.aud_causes.specs.declared.why.Piece.{Piece}
-use Rattle.aud_causes.specs.declared.why.Piece.TheVariants.{Words, Number, Nth}
+use Rattle.aud_causes.specs.Pieces.{PieceSeen, Spelled, Counted, sentence_text}
+use Rattle.aud_causes.specs.NoPacket.{advice, no_packet_pieces}
 use Rattle.aud_causes.specs.declared.cause.Cause.{Cause}
 use Rattle.aud_causes.specs.declared.cause.Cause.TheVariants.{NodeBehindBreak, SentAgainAfterReplay, StaleOffset, OffsetOfAnotherSession, UnknownOffset, NoOffset, RoomsAtBreak, SkippedInWindow, LostLive, DoubledLive, SwappedLive, Altered, LogEndedEarly, LateLeave, BeforeBirth, ExtraLive, MissingBreak, NodeNotTapped, NoStart, RestartedInOldLog, EntriesSkippedByNode, EntryTakenAgain, NotInStream, TwoTaps, NoClientTap, SidDiffers, NamespaceDiffers, NotAPacket, TapBeganLate, CutBeforeReply, ReplyWithoutPid, SessionOver, NeverBroken, AskedTooEarly}
 
@@ -36,7 +36,7 @@ id_text (TwoTaps taps) = codes "two-taps"
 id_text NoClientTap = codes "no-client-tap"
 id_text (SidDiffers stay) = codes "sid-differs"
 id_text (NamespaceDiffers stay) = codes "namespace-differs"
-id_text NotAPacket = codes "not-a-packet"
+id_text (NotAPacket why) = codes "not-a-packet"
 id_text (TapBeganLate stay) = codes "tap-began-late"
 id_text (CutBeforeReply stay) = codes "cut-before-reply"
 id_text (ReplyWithoutPid stay) = codes "reply-without-pid"
@@ -73,7 +73,7 @@ todo_text (TwoTaps taps) = codes "keep one name of a tap for a client's whole li
 todo_text NoClientTap = codes "tap the client before its first connection."
 todo_text (SidDiffers stay) = codes "write the session's sid into the node's log, not that of the transport."
 todo_text (NamespaceDiffers stay) = codes "write the namespace in which the session was opened."
-todo_text NotAPacket = codes "record bodies of polling as they came, and of answers with status 200 alone."
+todo_text (NotAPacket why) = advice why
 todo_text (TapBeganLate stay) = codes "begin a client's tap before its first packet."
 todo_text (CutBeforeReply stay) = codes "nothing, where the client came back; else look at why the connection was cut."
 todo_text (ReplyWithoutPid stay) = codes "let the server recover sessions in this namespace."
@@ -82,25 +82,6 @@ todo_text (NeverBroken begin) = codes "let the client wait longer before it come
 todo_text (AskedTooEarly broke begin high low) = codes "let the client wait longer before it comes back, or the server notice a break sooner."
 
 -- ---- what happened
-
--- a piece of a sentence: words, or a number
-pub data PieceSeen : Type 0 where
-  Spelled : List ℕ → PieceSeen
-  Counted : ℕ → PieceSeen
-
-abbrev pub piece_seen : Piece → PieceSeen
-piece_seen (Words words) = Spelled words.now
-piece_seen (Number number) = Counted number
-piece_seen (Nth number) = Counted (suc number)
-
--- its text
-abbrev pub piece_text : PieceSeen → List ℕ
-piece_text (Spelled words) = words
-piece_text (Counted number) = decimal number
-
--- the text of the pieces, one after the other
-abbrev pub sentence_text : List PieceSeen → List ℕ
-sentence_text pieces = flat_map piece_text pieces
 
 -- which part of an event isn't its entry's; bytes and attachments count from 1
 abbrev pub part_pieces : Part → List PieceSeen
@@ -138,7 +119,7 @@ why_pieces node (TwoTaps taps) = Counted taps ∷ Spelled (codes " taps of clien
 why_pieces node NoClientTap = Spelled (codes "No tap of a client names the session.") ∷ []
 why_pieces node (SidDiffers stay) = Spelled (codes "The reply has another sid than the session was opened with.") ∷ []
 why_pieces node (NamespaceDiffers stay) = Spelled (codes "The reply is of another namespace than the session was opened in.") ∷ []
-why_pieces node NotAPacket = Spelled (codes "A record of the client's tap is no packet.") ∷ []
+why_pieces node (NotAPacket why) = no_packet_pieces why
 why_pieces node (TapBeganLate stay) = Spelled (codes "Events came in a stay without a reply, and no session was asked for in it.") ∷ []
 why_pieces node (CutBeforeReply stay) = Spelled (codes "The client asked for a session, and events came, but no reply did.") ∷ []
 why_pieces node (ReplyWithoutPid stay) = Spelled (codes "The reply names no session: the server recovers none there.") ∷ []

@@ -2,12 +2,14 @@
 ghost use Rattle.std.specs.Prelude.{◌≡◌};
 ghost use Rattle.aud_causes.specs.Words.{id_text, todo_text};
 
+use crate::no_packet::advice;
 use aud_chain::RecordPlace;
 use aud_evidence::Part;
+use aud_no_packet::NoPacket;
 
 /// What a fault may come from, with what shows it. Positions of the stream count from 1; all else from 0: frames over
 /// all that was received of the session, in the order of the client's tap, and stays among those whose reply names it.
-#[derive(Clone, Copy, Debug, PartialEq, Eq, Drop)]
+#[derive(Clone, Copy, Drop)]
 pub enum Cause {
     /// The node that took the session back was at a lower cursor than the one on which it had broken.
     NodeBehindBreak {
@@ -139,8 +141,10 @@ pub enum Cause {
     NamespaceDiffers {
         stay: usize,
     },
-    /// A record of the client's tap is no packet.
-    NotAPacket,
+    /// A record of the client's tap is no packet; and why, where its decoder says so.
+    NotAPacket {
+        why: Option<NoPacket>,
+    },
     /// Events came in a stay without a reply; the stay has this number in the tap.
     TapBeganLate {
         stay: usize,
@@ -203,7 +207,7 @@ impl Cause {
             Cause::NoClientTap => "no-client-tap",
             Cause::SidDiffers { .. } => "sid-differs",
             Cause::NamespaceDiffers { .. } => "namespace-differs",
-            Cause::NotAPacket => "not-a-packet",
+            Cause::NotAPacket { .. } => "not-a-packet",
             Cause::TapBeganLate { .. } => "tap-began-late",
             Cause::CutBeforeReply { .. } => "cut-before-reply",
             Cause::ReplyWithoutPid { .. } => "reply-without-pid",
@@ -265,8 +269,7 @@ impl Cause {
                 "write the session's sid into the node's log, not that of the transport.",
             Cause::NamespaceDiffers { .. } =>
                 "write the namespace in which the session was opened.",
-            Cause::NotAPacket =>
-                "record bodies of polling as they came, and of answers with status 200 alone.",
+            Cause::NotAPacket { why } => advice(why),
             Cause::TapBeganLate { .. } => "begin a client's tap before its first packet.",
             Cause::CutBeforeReply { .. } =>
                 "nothing, where the client came back; else look at why the connection was cut.",

@@ -4,7 +4,7 @@ ghost use Rattle.std.specs.Option.{option_copied};
 ghost use Rattle.aud_account.specs.Account.{IsAccount};
 ghost use Rattle.aud_maker.specs.Made.{IsMade};
 ghost use Rattle.aud_rows.specs.ClientPlaces.{AreOf};
-ghost use Rattle.aud_causes.specs.Causes.{AreCauses, AreFound, AreNumbersAt, is_sure};
+ghost use Rattle.aud_causes.specs.Causes.{AreCauses, AreFound, AreNumbersAt, has_others, is_sure};
 ghost use Rattle.aud_causes.specs.Records.{place_of};
 
 use crate::cause::Cause;
@@ -30,8 +30,8 @@ pub struct Noted {
 }
 
 /// What the fault of the session with this pid may come from: of the causes that such a fault can have those that hold,
-/// in a fixed order. One is sure exactly where it is the only one. `tap` is that of the session's client, if one alone
-/// names it; the account is the session's, if it has one.
+/// in a fixed order. One is sure exactly where it is the only one, and the fault can have others. `tap` is that of the
+/// session's client, if one alone names it; the account is the session's, if it has one.
 ///
 /// It costs the session's own records and stays, and what was due to it.
 pub fn causes_of<'r, 'a>(
@@ -53,7 +53,7 @@ pub fn causes_of<'r, 'a>(
         (place_of (option_copied tap.entry)) pid.now noted
         (option_copied account.entry) verdict.now causes.items) }
     ensures sure { IfOk result (λ causes. All
-        (λ cause. cause.sure ≡ is_sure causes.items) causes.items) }
+        (λ cause. cause.sure ≡ is_sure verdict.now causes.items) causes.items) }
 {
     let Verdict::No(fault) = verdict else {
         return Ok(Vec::new(alloc));
@@ -62,7 +62,14 @@ pub fn causes_of<'r, 'a>(
     let client = place_of(tap);
     let found = causes_found(alloc, recording, client, pid, fault, account, noted)?;
     let numbers = numbers_at(recording, client, pid);
-    shown_causes(alloc, &sheet, tap, numbers, found.as_slice())
+    shown_causes(alloc, &sheet, tap, numbers, has_others(fault), found.as_slice())
+}
+
+/// Whether several causes of such a fault are known.
+fn has_others(fault: &Fault) -> bool
+    ensures { result ≡ has_others fault.now }
+{
+    !matches!(fault, Fault::NoLog | Fault::Frame | Fault::Content(_))
 }
 
 /// The causes of the fault.

@@ -18,7 +18,7 @@ use std::alloc::{AllocError, Global};
 pub struct CauseFound {
     /// The name of the cause, for scripts: lower-case words joined by `-`.
     pub id: &'static str,
-    /// Whether no other cause holds of those that the fault can have.
+    /// Whether the fault can have other causes, and none of them holds.
     pub sure: bool,
     /// The lines of the records that show it.
     pub lines: Vec<u64>,
@@ -28,20 +28,21 @@ pub struct CauseFound {
     pub todo: &'static str,
 }
 
-/// The causes, as they are told: each is sure exactly where it is the only one.
+/// The causes, as they are told: each is sure exactly where it is the only one, and others were tried.
 pub(crate) fn shown_causes(
     alloc: Global,
     sheet: &Sheet<'_, '_>,
     tap: Option<&ClientPlaces>,
     numbers: &[usize],
+    others: bool,
     found: &[Cause],
 ) -> Result<Vec<CauseFound>, AllocError>
     requires { IfSome (option_copied tap) (AreOf sheet.now.recording.now) }
     ensures { IfOk result (λ causes. map cause_seen causes.items
         ≡ shown_causes sheet.now.recording.now sheet.now.lines.now
-        (place_of (option_copied tap.entry)) numbers.now found.now) }
+        (place_of (option_copied tap.entry)) numbers.now others found.now) }
 {
-    let sure = found.len() == 1;
+    let sure = others && found.len() == 1;
     let mut causes = Vec::new(alloc);
     for cause in found {
         causes.push(shown_cause(alloc, sheet, tap, numbers, sure, *cause)?)?;

@@ -1,15 +1,18 @@
 //! What a fault may come from of a session that has a certificate.
-ghost use Rattle.std.specs.Prelude.{◌≡◌, IfOk, map};
+ghost use Rattle.std.specs.Prelude.{◌≡◌, ◌∷◌, [], IfOk, map};
 ghost use Rattle.aud_account.specs.Account.{IsAccount};
 ghost use Rattle.aud_evidence.specs.Difference.{IsAscending};
 ghost use Rattle.aud_evidence.specs.Window.{positions_received};
 ghost use Rattle.aud_maker.specs.Made.{IsMade};
+ghost use Rattle.aud_causes.specs.declared.cause.Cause.TheVariants.{NotAPacket};
 ghost use Rattle.aud_causes.specs.Differences.{case_of};
 ghost use Rattle.aud_causes.specs.Judged.{AreAlteredCauses, AreDifferenceCauses, AreJudgedCauses, AreWindowCauses, names_causes, orphan_at, other_causes};
+ghost use Rattle.aud_causes.specs.NoPacket.{no_packet_in};
 
 use crate::cause::Cause;
 use crate::delivery::difference_causes;
 use crate::facts::stay_at;
+use crate::no_packet::no_packet_in;
 use crate::names::{first_other, named_causes, orphan_cause};
 use crate::recorded::one_cause;
 use crate::window::window_causes;
@@ -41,7 +44,7 @@ pub(crate) fn judged_causes(
 {
     match fault {
         Fault::Names => names_of(alloc, account),
-        Fault::Frame => one_cause(alloc, Some(Cause::NotAPacket)),
+        Fault::Frame => frame_of(alloc, recording, account.client),
         Fault::Orphan => one_cause(alloc, orphan_at(recording, account.client, orphan)),
         Fault::Content(_) => content_of(alloc, recording, account),
         Fault::Extra(_) => delivery_of(alloc, recording, account),
@@ -70,6 +73,19 @@ fn delivery_of(
         Some(difference) => difference_causes(alloc, recording, account, difference),
         None => Ok(Vec::new(alloc)),
     }
+}
+
+/// The cause of the first record that is no packet of the client's tap at this place.
+fn frame_of(
+    alloc: Global,
+    recording: &Recording<'_>,
+    client: usize,
+) -> Result<Vec<Cause>, AllocError>
+    ensures { IfOk result (λ found. found.items
+        ≡ NotAPacket (no_packet_in recording.now client) ∷ []) }
+{
+    let why = no_packet_in(alloc, recording, client)?;
+    one_cause(alloc, Some(Cause::NotAPacket { why }))
 }
 
 /// The causes of the first event that isn't its entry.

@@ -1,6 +1,6 @@
 //! What a fault may come from: of the causes that such a fault can have those that hold over the records of the
-//! session, in a fixed order; a cause is sure exactly where it is the only one. The same of a recovery that was
-//! refused.
+//! session, in a fixed order; a cause is sure exactly where it is the only one, and the fault can have others. The same
+//! of a recovery that was refused.
 //!
 //! With the `sheet` of a recording in which the client of session `P` got entry 2 again from node `b`, which took the
 //! session back with its cursor at 1, where node `a` had broken at 4, in the lines 17 and 13; `tap` is that of the
@@ -35,13 +35,13 @@ mod list;
 mod live;
 mod logs;
 mod names;
+mod no_packet;
 mod record_at;
 mod recorded;
 mod refusal;
 mod why;
 mod window;
 
-pub use cause::Cause;
 pub use causes::{Noted, causes_of};
 pub use found::CauseFound;
 pub use refusal::causes_of_refusal;

@@ -101,7 +101,7 @@ pub(crate) fn push_records(found: &mut Vec<RecordAt>, cause: Cause) -> Result<()
         Cause::NotInStream { taken } => push_all(found, &[RecordAt::Node(taken)]),
         Cause::SidDiffers { stay } => push_all(found, &[RecordAt::Reply(stay)]),
         Cause::NamespaceDiffers { stay } => push_all(found, &[RecordAt::Reply(stay)]),
-        Cause::NotAPacket => push_all(found, &[RecordAt::Bad]),
+        Cause::NotAPacket { .. } => push_all(found, &[RecordAt::Bad]),
         Cause::TapBeganLate { stay } => push_all(found, &[RecordAt::First(stay)]),
         Cause::CutBeforeReply { stay } => push_all(found, &[RecordAt::First(stay)]),
         Cause::ReplyWithoutPid { stay } => push_all(found, &[RecordAt::First(stay)]),

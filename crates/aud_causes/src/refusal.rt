@@ -1,5 +1,5 @@
 //! What the refusal of a recovery may come from.
-ghost use Rattle.std.specs.Prelude.{◌≡◌, ◌∷◌, [], IfOk, None, Some, map, slice_get};
+ghost use Rattle.std.specs.Prelude.{◌≡◌, ◌∷◌, [], IfOk, None, Some, map, slice_get, true};
 ghost use Rattle.aud_recoveries.specs.Recoveries.{stays_at};
 ghost use Rattle.aud_rows.specs.ClientPlaces.{AreOf};
 ghost use Rattle.aud_causes.specs.Found.{cause_seen, shown_causes};
@@ -27,7 +27,7 @@ pub fn causes_of_refusal<'r>(
     requires { AreOf sheet.now.recording.now tap.now }
     ensures { IfOk result (λ causes. map cause_seen causes.items
         ≡ shown_causes sheet.now.recording.now sheet.now.lines.now (Some tap.now.place)
-        (recovery.now.stay ∷ []) (refusal_causes sheet.now.recording.now
+        (recovery.now.stay ∷ []) true (refusal_causes sheet.now.recording.now
         (slice_get (stays_at sheet.now.recording.now recovery.now.client) recovery.now.stay))) }
 {
     let Some(stay) = stay_of(sheet.recording, recovery) else {
@@ -35,7 +35,7 @@ pub fn causes_of_refusal<'r>(
     };
     let found = stay_causes(alloc, sheet.recording.logs(), stay)?;
     let numbers = [recovery.stay];
-    shown_causes(alloc, sheet, Some(tap), &numbers, found.as_slice())
+    shown_causes(alloc, sheet, Some(tap), &numbers, true, found.as_slice())
 }
 
 /// The causes for the stay in which it was refused.

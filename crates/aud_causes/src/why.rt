@@ -1,8 +1,10 @@
 //! What happened, in a sentence.
 ghost use Rattle.std.specs.Prelude.{◌≡◌, ◌++◌, IfOk, OnOk, map, string_bytes};
-ghost use Rattle.aud_causes.specs.Words.{part_pieces, piece_seen, piece_text, sentence_text, why_text};
+ghost use Rattle.aud_causes.specs.Pieces.{piece_seen, piece_text, sentence_text};
+ghost use Rattle.aud_causes.specs.Words.{part_pieces, why_text};
 
 use crate::cause::Cause;
+use crate::no_packet::no_packet_text;
 use aud_evidence::Part;
 use std::alloc::{AllocError, Global};
 
@@ -222,10 +224,7 @@ pub(crate) fn why_text(alloc: Global, cause: Cause, node: &str) -> Result<String
             alloc,
             &[Piece::Words("The reply is of another namespace than the session was opened in.")],
         ),
-        Cause::NotAPacket => sentence(
-            alloc,
-            &[Piece::Words("A record of the client's tap is no packet.")],
-        ),
+        Cause::NotAPacket { why } => no_packet_text(alloc, why),
         Cause::TapBeganLate { .. } => sentence(
             alloc,
             &[Piece::Words(
@@ -300,7 +299,7 @@ fn part_text(alloc: Global, part: Part) -> Result<String, AllocError>
 }
 
 /// The pieces, one after the other.
-fn sentence(alloc: Global, pieces: &[Piece<'_>]) -> Result<String, AllocError>
+pub(crate) fn sentence(alloc: Global, pieces: &[Piece<'_>]) -> Result<String, AllocError>
     ensures { IfOk result (λ text. string_bytes text ≡ sentence_text (map piece_seen pieces.now)) }
 {
     let mut text = String::new(alloc);

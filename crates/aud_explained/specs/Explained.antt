@@ -51,6 +51,6 @@ pub record IsExplained (c : Cluster) (lines : List TapLines) (pid : Text) (verdi
   pub turns : map turn_seen told.turns.items ≡ turns_told c lines pid account
   pub recoveries : AllZip (IsRefusedTold c lines) refused told.refused.items
   pub events : AreEvents c lines (only_of (naming_places c.taps pid)) pid refused told.events.items
-  -- a cause is sure exactly where the fault can have no other
+  -- a cause is sure exactly where it is the only one, and the fault can have others
   pub causes : AreCauses c lines (only_of (naming_places c.taps pid)) pid noted account verdict told.causes.items
-  pub sure : All (λ (cause : CauseFound). cause.sure ≡ is_sure told.causes.items) told.causes.items
+  pub sure : All (λ (cause : CauseFound). cause.sure ≡ is_sure verdict told.causes.items) told.causes.items

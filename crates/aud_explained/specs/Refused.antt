@@ -21,4 +21,4 @@ pub record IsRefusedTold (c : Cluster) (lines : List TapLines) (recovery : Recov
   pub ask_is_true : MatchOption told.shown (Unit {0}) (λ (shown : RefusedShown). IsTrueRow c lines shown.ask)
   pub reply_is_true : MatchOption told.shown (Unit {0}) (λ (shown : RefusedShown). MatchOption shown.reply (Unit {0}) (IsTrueRow c lines))
   pub causes : map cause_seen told.causes.items
-      ≡ shown_causes c lines (Some recovery.client) (recovery.stay ∷ []) (refusal_causes c (slice_get (stays_at c recovery.client) recovery.stay))
+      ≡ shown_causes c lines (Some recovery.client) (recovery.stay ∷ []) true (refusal_causes c (slice_get (stays_at c recovery.client) recovery.stay))

@@ -231,7 +231,7 @@ do: store the offset of each event, and ask with the last one.
 
 no X NOLOG [recording]
 no one client, turns 0, delivery not judged
-cause node-not-tapped (certain): No node's log has the begin of turn 0.
+cause node-not-tapped (fits): No node's log has the begin of turn 0.
 do: tap each node, from its start.
 
 no N NOLOG [recording]
@@ -239,7 +239,7 @@ no one client, turns 0, delivery not judged
 refused recovery: got session Q, missed: not known
       32 c1  conn 4 asks N after o1
       33 c1  conn 4 reply, sid s2, pid Q
-cause node-not-tapped (certain): No node's log has the begin of turn 0.
+cause node-not-tapped (fits): No node's log has the begin of turn 0.
 do: tap each node, from its start.
 
 sessions: 3, yes: 2, no: 1

@@ -235,7 +235,7 @@ client c1, namespace /, connection 1, turns 1, got 2, due 2
       15 c1   conn 1 got 2 o2  <- not as the entry has it
     turn 0  a  6 open, cursor 0 == take 1-2 == 8 log ends, cursor 2
     client  11 reply  12-15 got 1-2
-cause altered (certain, line 15): Attachment 2 of the event parts from its entry's at byte 1.
+cause altered (fits, line 15): Attachment 2 of the event parts from its entry's at byte 1.
 do: look at what stands between the node and the client; let the stream's tap write as the nodes do.
 
 sessions: *"#,
@@ -324,8 +324,9 @@ client c1, namespace /, connection 1, turns 1, delivery not judged
       12 c1   conn 1 no packet  <- no packet
     turn 0  a  5 open, cursor 0 == take 1 == 7 log ends, cursor 1
     client  10 reply  11 got 1
-cause not-a-packet (certain, line 12): A record of the client's tap is no packet.
-do: record bodies of polling as they came, and of answers with status 200 alone.
+cause not-a-packet (fits, line 12): A record of the client's tap is no packet: the first byte of
+        the message is no type of a Socket.IO packet.
+do: record what came as it came: a text as a text, and bytes as bytes.
 
 sessions: *"#,
         outcome: Ok(Status::SomeNo),

@@ -130,7 +130,7 @@ client c1, namespace /, connection 1, turns 0, delivery not judged
     line tap  record
        8 c1   conn 1 reply, sid s1, pid P  <- opened on no node
     client  8 reply  9 got 1
-cause node-not-tapped (certain): No node's log has the begin of turn 0.
+cause node-not-tapped (fits): No node's log has the begin of turn 0.
 do: tap each node, from its start.
 
 sessions: *"#,

@@ -18,7 +18,7 @@ client c1, namespace /, connection 1, turns 0, delivery not judged
        6 c1   conn 1 reply, sid s1, pid p1  <- opened on no node
       10 n1   break 0, cursor 1
     client  6 reply  9 got 1  11 lost
-cause node-not-tapped (certain): No node's log has the begin of turn 0.
+cause node-not-tapped (fits): No node's log has the begin of turn 0.
 do: tap each node, from its start.
 
 sessions: *"#,
@@ -102,8 +102,9 @@ client c1, namespace /, connection 1, turns 1, delivery not judged
       11 c1   conn 1 no packet  <- no packet
     turn 0  n1  5 open, cursor 0 == take 1-2 == 12 log ends, cursor 2
     client  7 reply  13 got 2
-cause not-a-packet (certain, line 11): A record of the client's tap is no packet.
-do: record bodies of polling as they came, and of answers with status 200 alone.
+cause not-a-packet (fits, line 11): A record of the client's tap is no packet: the first byte is
+        no type of an Engine.IO packet.
+do: record what came as it came: a text as a text, and bytes as bytes.
 
 sessions: *"#,
         outcome: Ok(Status::SomeNo),
@@ -138,7 +139,7 @@ client c1, namespace /, connection 1, turns 1, got 1, due 1
       10 c1   conn 1 got 1 1-0  <- not as the entry has it
     turn 0  n1  5 open, cursor 0 == take 1 == 9 log ends, cursor 1
     client  7 reply  10 got 1
-cause altered (certain, line 10): The event's text parts from its entry's at byte 6.
+cause altered (fits, line 10): The event's text parts from its entry's at byte 6.
 do: look at what stands between the node and the client; let the stream's tap write as the nodes do.
 
 sessions: *"#,

@@ -1,6 +1,6 @@
 use Rattle.std.proofs.Common.{◌≡◌, map, take}
 use Rattle.std.specs.Prelude.{string_bytes}
-use Rattle.aud_causes.specs.Words.{piece_seen, sentence_text}
+use Rattle.aud_causes.specs.Pieces.{piece_seen, sentence_text}
 use Rattle.aud_causes.proofs.why.sentence.Given as goal
 
 -- the text of the pieces so far
