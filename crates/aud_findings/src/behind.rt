@@ -8,8 +8,8 @@ ghost use Rattle.aud_shown.specs.RowLists.{AreTrueRows};
 ghost use Rattle.aud_findings.specs.Behind.{begun_row, behind_rows, behind_rows_at, broken_row, first_behind, is_behind, is_behind_at};
 
 use aud_cert::{Turn, turn_place};
-use aud_recording_faults::push_row;
 use aud_rows::{Row, Sheet};
+use aud_shown::push_row;
 use std::alloc::{AllocError, Global};
 
 /// The rows of the `break` and the `back` of the first turn that began behind the one before it, with the position

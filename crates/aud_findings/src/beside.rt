@@ -12,8 +12,8 @@ use crate::behind::behind_rows;
 use crate::rooms::{due_row, left_row, not_due_row};
 use aud_cert::Certificate;
 use aud_evidence::Difference;
-use aud_recording_faults::push_row;
 use aud_rows::{Row, Sheet};
+use aud_shown::push_row;
 use std::alloc::{AllocError, Global};
 
 /// The rows that tell how the difference comes to be one.

@@ -11,9 +11,9 @@ ghost use Rattle.aud_findings.specs.ShowsDelivery.{IsDeliveryOf};
 use crate::beside::beside_rows;
 use aud_account::{Account, difference_in};
 use aud_evidence::Difference;
-use aud_recording_faults::{numbers_naming, push_rows};
+use aud_recording_faults::numbers_naming;
 use aud_rows::{ClientPlaces, Row, Sheet};
-use aud_shown::{ShownSession, difference_shown};
+use aud_shown::{ShownSession, difference_shown, push_rows};
 use std::alloc::{AllocError, Global};
 
 /// The rows that show where what was received of the session first parts from what was due to it, and in front of them

@@ -11,6 +11,7 @@ pub mod Prepared
 pub mod NamingReplies
 pub mod ShowsNoLog
 pub mod ShowsClient
+pub mod ChainRecords
 pub mod ShowsChain
 pub mod ShowsOrder
 pub mod ShowsNames

@@ -1,16 +1,15 @@
 //! What shows that a session's records are no chain of turns.
-ghost use Rattle.std.specs.Prelude.{◌≡◌, IfOk, IfSome, MatchOption, map, option_map};
+ghost use Rattle.std.specs.Prelude.{◌≡◌, IfOk, IfSome, MatchOption, map};
 ghost use Rattle.std.specs.List.{list_any};
 ghost use Rattle.aud_chain.specs.Misfit.{HasChain};
 ghost use Rattle.aud_rows.specs.Seen.{row_seen};
-ghost use Rattle.aud_rows.specs.TrueRow.{IsTrueRow};
-ghost use Rattle.aud_shown.specs.ChainRows.{earlier_at, fault_at, mark_role};
 ghost use Rattle.aud_shown.specs.RowLists.{AreTrueRows};
-ghost use Rattle.aud_recording_faults.specs.ShowsChain.{ShowsChain, chain_rows, is_at, is_fault_at, mark_row_in, other_row, role_in};
+ghost use Rattle.aud_recording_faults.specs.ChainRecords.{chain_records, earlier_at, fault_at, is_at, is_fault_at, mark_role, other_at, role_in};
+ghost use Rattle.aud_recording_faults.specs.ShowsChain.{ShowsChain};
 
-use crate::pushed::push_row;
 use aud_chain::{Mark, Misfit, RecordPlace, TurnMark, first_misfit, turn_marks};
 use aud_rows::{Role, Row, Sheet};
+use aud_shown::{NodeRecord, node_rows};
 use std::alloc::{AllocError, Global};
 
 /// The rows of all records of the session that begin or end a turn, and among them, or else after them, the record that
@@ -32,49 +31,42 @@ pub fn chain_shown<'r>(
         return Ok(None);
     };
     let marks = turn_marks(alloc, logs, pid)?;
-    Ok(Some(chain_rows(alloc, sheet, &marks, misfit)?))
+    let records = chain_records(alloc, misfit, &marks)?;
+    Ok(Some(node_rows(alloc, sheet, &records)?))
 }
 
-/// The rows of these marks, and of the record that does not fit.
-fn chain_rows<'r>(
+/// The records of these marks, and the one that does not fit, where it is none of them.
+fn chain_records(
     alloc: Global,
-    sheet: &Sheet<'r, '_>,
-    marks: &[TurnMark],
     misfit: Misfit,
-) -> Result<Vec<Row<'r>>, AllocError>
-    ensures rows { IfOk result (λ rows. map row_seen rows.items
-        ≡ chain_rows sheet.now.recording.now sheet.now.lines.now misfit marks.now) }
-    ensures truth { IfOk result (λ rows.
-        AreTrueRows sheet.now.recording.now sheet.now.lines.now rows.items) }
+    marks: &[TurnMark],
+) -> Result<Vec<NodeRecord>, AllocError>
+    ensures { IfOk result (λ records. records.items ≡ chain_records misfit marks.now) }
 {
-    let mut rows = Vec::new(alloc);
+    let mut records = Vec::new(alloc);
     for mark in marks {
-        push_row(&mut rows, mark_row(sheet, misfit, *mark))?;
+        records.push(NodeRecord {
+            place: mark.place,
+            role: role_in(misfit, *mark),
+        })?;
     }
-    push_row(&mut rows, other_row(sheet, misfit, marks))?;
-    Ok(rows)
+    if let Some(place) = other_at(misfit, marks) {
+        records.push(NodeRecord {
+            place,
+            role: Role::Fault,
+        })?;
+    }
+    Ok(records)
 }
 
-/// The row of a record that begins or ends a turn.
-fn mark_row<'r>(sheet: &Sheet<'r, '_>, misfit: Misfit, mark: TurnMark) -> Option<Row<'r>>
-    ensures row { option_map row_seen result
-        ≡ mark_row_in sheet.now.recording.now sheet.now.lines.now misfit mark }
-    ensures truth { IfSome result (IsTrueRow sheet.now.recording.now sheet.now.lines.now) }
-{
-    sheet.node_row(mark.place.node, mark.place.number, role_in(misfit, mark))
-}
-
-/// The row of the record that does not fit, where it is none of these.
-fn other_row<'r>(sheet: &Sheet<'r, '_>, misfit: Misfit, marks: &[TurnMark]) -> Option<Row<'r>>
-    ensures row { option_map row_seen result
-        ≡ other_row sheet.now.recording.now sheet.now.lines.now misfit marks.now }
-    ensures truth { IfSome result (IsTrueRow sheet.now.recording.now sheet.now.lines.now) }
+/// The record that does not fit, where it is none of these.
+fn other_at(misfit: Misfit, marks: &[TurnMark]) -> Option<RecordPlace>
+    ensures { result ≡ other_at misfit marks.now }
 {
     if has_fault(misfit, marks) {
         return None;
     }
-    let place = fault_at(misfit)?;
-    sheet.node_row(place.node, place.number, Role::Fault)
+    fault_at(misfit)
 }
 
 /// Whether one of these is the record that does not fit.
@@ -107,8 +99,8 @@ fn is_at(found: Option<RecordPlace>, place: RecordPlace) -> bool
     }
 }
 
-/// What a record that fits is shown for.
-fn mark_role(mark: Mark) -> Role
+/// What a record that begins or ends a turn is shown for, where it fits.
+pub(crate) fn mark_role(mark: Mark) -> Role
     ensures { result ≡ mark_role mark }
 {
     match mark {

@@ -9,9 +9,9 @@ ghost use Rattle.aud_recording_faults.specs.NamingReplies.{naming_seen, replies_
 ghost use Rattle.aud_recording_faults.specs.ShowsClient.{ShowsClient};
 
 use crate::prepared::Prepared;
-use crate::pushed::push_row;
 use crate::replies::{NamingTap, naming_taps};
 use aud_rows::{ClientPlaces, Role, Row, Sheet};
+use aud_shown::push_row;
 use std::alloc::{AllocError, Global};
 
 /// The rows of all replies that name the session, tap after tap. A tap that wasn't prepared is read.

@@ -5,9 +5,9 @@ ghost use Rattle.aud_rows.specs.ClientPlaces.{AreOf};
 ghost use Rattle.aud_shown.specs.RowLists.{AreTrueRows};
 ghost use Rattle.aud_recording_faults.specs.ShowsFrame.{ShowsFrame, bad_number};
 
-use crate::pushed::push_row;
 use aud_client::Recording;
 use aud_rows::{ClientPlaces, Role, Row, Sheet};
+use aud_shown::push_row;
 use std::alloc::{AllocError, Global};
 
 /// The row of the tap's first record that is no packet; none where each is one.

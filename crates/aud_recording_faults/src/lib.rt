@@ -21,7 +21,6 @@ mod no_log;
 mod order;
 mod orphan;
 mod prepared;
-mod pushed;
 mod replies;
 mod wanted;
 
@@ -33,5 +32,4 @@ pub use no_log::no_log_rows;
 pub use order::{order_shown, unordered_of};
 pub use orphan::{orphan_in, orphan_shown};
 pub use prepared::{Prepared, PreparedTap};
-pub use pushed::{push_row, push_rows};
 pub use replies::{numbers_naming, stay_at};

@@ -13,13 +13,13 @@ ghost use Rattle.aud_rows.specs.StayRows.{stays_at};
 ghost use Rattle.aud_shown.specs.RowLists.{AreTrueRows};
 ghost use Rattle.aud_recording_faults.specs.ShowsNames.{AreNamedAlike, IsOpenedAs, ShowsNames, first_otherwise, is_open, is_open_mark, is_some_otherwise, names_rows};
 
-use crate::pushed::push_row;
 use crate::replies::{numbers_naming, stay_at};
 use aud_chain::{Mark, RecordPlace, TurnMark, turn_marks};
 use aud_client::{Recording, Reply, Stay};
 use aud_node::Logs;
 use aud_rows::{ClientPlaces, Role, Row, Sheet};
 use aud_tap::NodeRec;
+use aud_shown::push_row;
 use std::alloc::{AllocError, Global};
 
 /// How a node opened a session.

@@ -9,14 +9,15 @@ ghost use Rattle.aud_shown.specs.RowLists.{AreTrueRows};
 ghost use Rattle.aud_shown.specs.ShowsDifference.{AreNumbersOf};
 ghost use Rattle.aud_recording_faults.specs.Prepared.{IsPreparedOf};
 ghost use Rattle.aud_recording_faults.specs.NamingReplies.{first_row_at, IsFirstReply, IsFirstReplyOf};
+ghost use Rattle.aud_recording_faults.specs.ChainRecords.{turn_record};
 ghost use Rattle.aud_recording_faults.specs.ShowsNoLog.{ShowsNoLog};
 
+use crate::chain::mark_role;
 use crate::prepared::Prepared;
-use crate::pushed::{push_row, push_rows};
 use crate::replies::numbers_naming;
-use aud_chain::turn_marks;
+use aud_chain::{TurnMark, turn_marks};
 use aud_rows::{ClientPlaces, Role, Row, Sheet};
-use aud_shown::mark_rows;
+use aud_shown::{NodeRecord, node_rows, push_row, push_rows};
 use std::alloc::{AllocError, Global};
 
 /// The rows of the first reply that names the session, and of the records of nodes that begin or end turns of it. A tap
@@ -36,11 +37,26 @@ pub fn no_log_rows<'r>(
 {
     let reply = first_reply(alloc, sheet, prepared, pid)?;
     let marks = turn_marks(alloc, sheet.recording.logs(), pid)?;
-    let turns = mark_rows(alloc, sheet, &marks)?;
+    let records = turn_records(alloc, &marks)?;
+    let turns = node_rows(alloc, sheet, &records)?;
     let mut rows = Vec::new(alloc);
     push_row(&mut rows, reply)?;
     push_rows(&mut rows, &turns)?;
     Ok(rows)
+}
+
+/// The records of these marks.
+fn turn_records(alloc: Global, marks: &[TurnMark]) -> Result<Vec<NodeRecord>, AllocError>
+    ensures { IfOk result (λ records. records.items ≡ map turn_record marks.now) }
+{
+    let mut records = Vec::new(alloc);
+    for mark in marks {
+        records.push(NodeRecord {
+            place: mark.place,
+            role: mark_role(mark.mark),
+        })?;
+    }
+    Ok(records)
 }
 
 /// The row of the first reply that names the session.

@@ -6,14 +6,14 @@ ghost use Rattle.aud_evidence.specs.Order.{AreInOrder, IsFirstOutOfOrder};
 ghost use Rattle.aud_rows.specs.Seen.{row_seen};
 ghost use Rattle.aud_shown.specs.RowLists.{AreTrueRows};
 ghost use Rattle.aud_recording_faults.specs.Prepared.{IsOrderRead, IsPreparedOf};
-ghost use Rattle.aud_recording_faults.specs.ShowsOrder.{AreOrdered, IsUnordered, ShowsOrder};
+ghost use Rattle.aud_recording_faults.specs.ShowsOrder.{AreOrdered, IsUnordered, ShowsOrder, order_records};
 
 use crate::prepared::{Prepared, PreparedTap};
 use aud_chain::RecordPlace;
 use aud_evidence::first_unordered;
 use aud_node::Logs;
-use aud_rows::{Row, Sheet};
-use aud_shown::order_rows;
+use aud_rows::{Role, Row, Sheet};
+use aud_shown::{NodeRecord, node_rows};
 use std::alloc::{AllocError, Global};
 
 /// The rows of the first record out of order of a node that has records of the session, the first such node in the
@@ -34,9 +34,33 @@ pub fn order_shown<'r>(
         (λ rows. AreTrueRows sheet.now.recording.now sheet.now.lines.now rows.items)) }
 {
     match unordered_of(sheet.recording.logs(), prepared, pid) {
-        Some(at) => Ok(Some(order_rows(alloc, sheet, at.node, at.number)?)),
+        Some(at) => {
+            let records = order_records(alloc, at)?;
+            Ok(Some(node_rows(alloc, sheet, &records)?))
+        }
         None => Ok(None),
     }
+}
+
+/// The record before that at the place, if there is one, which tells the cursor, and that one, which is out of order.
+fn order_records(alloc: Global, at: RecordPlace) -> Result<Vec<NodeRecord>, AllocError>
+    ensures { IfOk result (λ records. records.items ≡ order_records at.node at.number) }
+{
+    let mut records = Vec::new(alloc);
+    if at.number > 0 {
+        records.push(NodeRecord {
+            place: RecordPlace {
+                node: at.node,
+                number: at.number - 1,
+            },
+            role: Role::Earlier,
+        })?;
+    }
+    records.push(NodeRecord {
+        place: at,
+        role: Role::Fault,
+    })?;
+    Ok(records)
 }
 
 /// The first record out of order of a node that has records of the session, of the first such node in the order of the

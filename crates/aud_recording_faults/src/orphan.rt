@@ -10,10 +10,10 @@ ghost use Rattle.aud_recording_faults.specs.Prepared.{IsPreparedOf};
 ghost use Rattle.aud_recording_faults.specs.ShowsOrphan.{ShowsOrphan, orphan_rows};
 
 use crate::prepared::{Prepared, PreparedTap};
-use crate::pushed::push_row;
 use aud_client::{IndexedTranscript, Recording};
 use aud_evidence::first_orphan;
 use aud_rows::{ClientPlaces, Role, Row, Sheet};
+use aud_shown::push_row;
 use std::alloc::{AllocError, Global};
 
 /// The rows of the tap's first stay that has events and whose reply, if there is one, names nobody: what it asked, its

@@ -11,5 +11,4 @@ pub mod ContentRows
 pub mod ShowsAltered
 pub mod WindowRows
 pub mod ShowsWindow
-pub mod ChainRows
-pub mod OrderRows
+pub mod NodeRows

@@ -21,3 +21,16 @@ pub fn push_row<'r>(rows: &mut Vec<Row<'r>>, row: Option<Row<'r>>) -> Result<(),
     }
     Ok(())
 }
+
+/// Adds the rows.
+pub fn push_rows<'r>(rows: &mut Vec<Row<'r>>, more: &[Row<'r>]) -> Result<(), AllocError>
+    ensures rows { OnOk result (map row_seen rows.new.items
+        ≡ map row_seen rows.old.items ++ map row_seen more.now) }
+    ensures truth { (c : Cluster) (lines : List TapLines) → AreTrueRows c lines rows.old.items
+        → AreTrueRows c lines more.now → OnOk result (AreTrueRows c lines rows.new.items) }
+{
+    for row in more {
+        rows.push(*row)?;
+    }
+    Ok(())
+}

@@ -1,16 +1,13 @@
 //! What no explanation calls by itself: the rooms that a session held, and as spans after its turns; the first reply that
-//! names it and the first that names it otherwise; and the rows of a misfit alone.
+//! names it and the first that names it otherwise.
 use aud_base::Watched;
 use aud_cert::{Certificate, Turn};
-use aud_chain::{Misfit, RecordPlace};
 use aud_client::{Recording, Stay};
 use aud_evidence::{first_naming, first_other_named};
-use aud_input::{RecordLines, read_files};
+use aud_input::read_files;
 use aud_maker::make;
 use aud_reach::rooms_held;
 use aud_recoveries::spans_held;
-use aud_rows::Sheet;
-use aud_shown::misfit_rows;
 use std::alloc::{AllocError, Global};
 use std::hash::RandomState;
 use std::mem::ManuallyDrop;
@@ -44,18 +41,7 @@ c1 {"k":"conn","c":3}
 c1 {"k":"in","t":"40{\"sid\":\"s2\",\"pid\":\"P\"}"}
 "#;
 
-/// The `open`, the `break` and the `back` of the session, at the place of `a`.
-const MISFIT: Misfit = Misfit::StrayBreak {
-    turn: 0,
-    begin: RecordPlace { node: 1, number: 1 },
-    broke: RecordPlace { node: 1, number: 8 },
-    back: RecordPlace { node: 1, number: 9 },
-};
-
 const ANSWERS: &str = "named: Some(1), otherwise: Some(2)
-6 a Earlier
-13 a Break
-14 a Fault
 held at 1: q r s1
 held at 2: s1
 spans held: s1 2-2
@@ -66,15 +52,6 @@ fn push_stays(out: &mut String, stays: &[Stay<'_>]) -> Result<(), AllocError> {
     let named = first_naming(stays, "P");
     let otherwise = first_other_named(stays, "P", "s1", "/");
     writeln!(out, "named: {named:?}, otherwise: {otherwise:?}")
-}
-
-/// Adds the line, the tap and the role of each row of the misfit.
-fn push_misfit(alloc: Global, out: &mut String, sheet: &Sheet<'_, '_>) -> Result<(), AllocError> {
-    for row in &misfit_rows(alloc, sheet, MISFIT)? {
-        let (line, tap, role) = (row.line, row.tap, row.role);
-        writeln!(out, "{line} {tap} {role:?}")?;
-    }
-    Ok(())
 }
 
 /// Adds the rooms that the session held when it reached the position.
@@ -106,12 +83,11 @@ fn push_spans(
     writeln!(out, "")
 }
 
-/// The answers over a recording, where these are the lines of its records.
-fn answers(alloc: Global, recording: &Recording<'_>, lines: &RecordLines) -> Result<String, Fail> {
+/// The answers over a recording.
+fn answers(alloc: Global, recording: &Recording<'_>) -> Result<String, Fail> {
     let mut out = String::new(alloc);
     let client = recording.client(2).ok_or("no client")?;
     push_stays(&mut out, client.transcript().stays.as_slice())?;
-    push_misfit(alloc, &mut out, &Sheet { recording, lines })?;
     let Ok(cert) = make(alloc, recording, "P") else {
         return Err("no certificate")?;
     };
@@ -134,7 +110,7 @@ fn answers_over(
     };
     let recorded = ManuallyDrop::new(recorded);
     let recording = ManuallyDrop::new(Recording::read(rt, alloc, keys, 1, &recorded.taps)?);
-    answers(alloc, &recording, &recorded.lines)
+    answers(alloc, &recording)
 }
 
 #[test]

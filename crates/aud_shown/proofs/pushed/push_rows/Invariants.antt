@@ -1,5 +1,5 @@
 use Rattle.std.proofs.Common.{◌≡◌, ◌++◌, take}
-use Rattle.aud_recording_faults.proofs.pushed.push_rows.Given as goal
+use Rattle.aud_shown.proofs.pushed.push_rows.Given as goal
 
 -- the rows so far are added
 abbrev pub invariant-loop-row : goal.invariant-loop-row

@@ -1,0 +1,11 @@
+use Rattle.std.proofs.Common.{◌≡◌, map, take}
+use Rattle.aud_rows.specs.Seen.{row_seen}
+use Rattle.aud_shown.specs.NodeRows.{node_rows}
+use Rattle.aud_shown.specs.RowLists.{AreTrueRows}
+use Rattle.aud_shown.proofs.node_records.node_rows.Given as goal
+
+-- the rows of the records so far, and they are true
+abbrev pub invariant-loop-record : goal.invariant-loop-record
+invariant-loop-record l =
+    (map row_seen l.rows.items ≡ node_rows l.sheet.recording.now l.sheet.lines.now (take l.record-index l.records))
+    × AreTrueRows l.sheet.recording.now l.sheet.lines.now l.rows.items
