@@ -23,7 +23,7 @@ use Rattle.aud_causes.specs.Recorded.{AreRecordedCauses, stays_of_client}
 -- these are the causes of the fault of the session with this pid: by what it has on the nodes and in its client's tap,
 -- where it has no account; else by its account
 abbrev pub AreFound : Cluster → Option ℕ → Text → Noted → Option Account → Fault → List Cause → Type 0
-AreFound c client pid noted None fault found = AreRecordedCauses c client pid noted.unordered fault found
+AreFound c client pid noted None fault found = AreRecordedCauses c client pid noted.unordered.items fault found
 AreFound c client pid noted (Some a) fault found =
     (made : IsMade c a.cert.pid a.cert)
     → IsAccount c a.cert.pid a.client (map (λ stay. stay.now) a.stays.items) a.due.items

@@ -1,6 +1,5 @@
 -- What a fault of the recording may come from.
-use Rattle.std.specs.Prelude.{◌≡◌, ℕ, List, [], ◌∷◌, length, Option, Some, None, option_to_list, ◌⊎◌}
-use Rattle.std.specs.Option.{option_and_then}
+use Rattle.std.specs.Prelude.{◌≡◌, ℕ, List, [], ◌∷◌, flat_map, length, Option, Some, None, option_to_list, ◌⊎◌}
 use Rattle.aud_node.specs.Cluster.{Cluster}
 use Rattle.aud_node.specs.Stream.{Text}
 use Rattle.aud_client.specs.Received.{stays_naming}
@@ -32,15 +31,15 @@ abbrev pub AreChainCauses : Cluster → Option ℕ → Text → List Cause → T
 AreChainCauses c client pid found =
     (HasChain c pid × (found ≡ [])) ⊎ ((misfit : Misfit) × IsMisfit c pid misfit × (found ≡ misfit_causes c client pid misfit))
 
--- the cause for which this record of a node is out of order, if one is
-abbrev pub order_at : Cluster → Option RecordPlace → Option Cause
-order_at c unordered = option_and_then (order_cause c) unordered
+-- the causes for which these records of nodes are out of order
+abbrev pub order_causes : Cluster → List RecordPlace → List Cause
+order_causes c unordered = flat_map (λ place. option_to_list (order_cause c place)) unordered
 
 -- the causes of a fault for which the session with this pid has no certificate, where this is the place of its client's
--- tap, if it has one, and this record of a node is out of order, if one is; none of another fault
-abbrev pub AreRecordedCauses : Cluster → Option ℕ → Text → Option RecordPlace → Fault → List Cause → Type 0
+-- tap, if it has one, and these records of its nodes are out of order; none of another fault
+abbrev pub AreRecordedCauses : Cluster → Option ℕ → Text → List RecordPlace → Fault → List Cause → Type 0
 AreRecordedCauses c client pid unordered fault.NoLog found = found ≡ NodeNotTapped 0 ∷ []
 AreRecordedCauses c client pid unordered fault.Chain found = AreChainCauses c client pid found
-AreRecordedCauses c client pid unordered fault.Order found = found ≡ option_to_list (order_at c unordered)
+AreRecordedCauses c client pid unordered fault.Order found = found ≡ order_causes c unordered
 AreRecordedCauses c client pid unordered fault.Client found = found ≡ option_to_list (client_cause (length (naming_places c.taps pid)))
 AreRecordedCauses c client pid unordered _ found = found ≡ []

@@ -20,10 +20,11 @@ use aud_verdict::Verdict;
 use std::alloc::{AllocError, Global};
 
 /// What was noted of the taps, once for all sessions.
-#[derive(Clone, Copy, Debug, PartialEq, Eq, Drop)]
+#[derive(Debug, Drop)]
 pub struct Noted {
-    /// Of a session whose verdict is `ORDER`: the first record out of order of a node that it was on.
-    pub unordered: Option<RecordPlace>,
+    /// Of a session whose verdict is `ORDER`: of each node that it was on and that is out of order the first record that
+    /// is, in the order of the taps.
+    pub unordered: Vec<RecordPlace>,
     /// Of one whose verdict is `ORPHAN`: the number, in its client's tap, of the first stay with events whose reply
     /// names nobody.
     pub orphan: Option<usize>,
@@ -41,7 +42,7 @@ pub fn causes_of<'r, 'a>(
     pid: &str,
     verdict: &Verdict,
     account: Option<&Account<'r, 'a>>,
-    noted: Noted,
+    noted: &Noted,
 ) -> Result<Vec<CauseFound>, AllocError>
     requires tap { IfSome (option_copied tap) (AreOf sheet.recording.now) }
     requires account { IfSome (option_copied account)
@@ -50,7 +51,7 @@ pub fn causes_of<'r, 'a>(
         (map (λ stay. stay.now) a.stays.items) a.due.items) }
     ensures causes { IfOk result (λ causes.
         AreCauses sheet.entry.recording.now sheet.entry.lines.now
-        (place_of (option_copied tap.entry)) pid.now noted
+        (place_of (option_copied tap.entry)) pid.now noted.now
         (option_copied account.entry) verdict.now causes.items) }
     ensures sure { IfOk result (λ causes. All
         (λ cause. cause.sure ≡ is_sure verdict.now causes.items) causes.items) }
@@ -80,17 +81,17 @@ fn causes_found(
     pid: &str,
     fault: &Fault,
     account: Option<&Account<'_, '_>>,
-    noted: Noted,
+    noted: &Noted,
 ) -> Result<Vec<Cause>, AllocError>
     requires { IfSome (option_copied account) (λ a. IsMade recording.now pid.now a.cert
         × IsAccount recording.now pid.now a.client
         (map (λ stay. stay.now) a.stays.items) a.due.items) }
-    ensures { IfOk result (λ found. AreFound recording.now client pid.now noted
+    ensures { IfOk result (λ found. AreFound recording.now client pid.now noted.now
         (option_copied account.entry) fault.now found.items) }
 {
     match account {
         Some(account) => judged_causes(alloc, recording, account, fault, noted.orphan),
-        None => recorded_causes(alloc, recording, client, pid, fault, noted.unordered),
+        None => recorded_causes(alloc, recording, client, pid, fault, &noted.unordered),
     }
 }
 

@@ -11,8 +11,8 @@
 //!
 //! let verdict = decide(alloc, sheet.recording, "P", false)?;
 //! let account = account_of(alloc, sheet.recording, "P")?;
-//! let noted = Noted { unordered: None, orphan: None };
-//! let causes = causes_of(alloc, sheet, Some(&tap), "P", &verdict, account.as_ref(), noted)?;
+//! let noted = Noted { unordered: Vec::new(alloc), orphan: None };
+//! let causes = causes_of(alloc, sheet, Some(&tap), "P", &verdict, account.as_ref(), &noted)?;
 //! assert_eq!(rt; causes[0].id, "node-behind-break");
 //! assert!(rt; causes[0].sure);
 //! assert_eq!(rt; causes[0].lines.as_slice(), [13, 17].as_slice());

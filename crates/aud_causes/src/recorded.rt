@@ -1,6 +1,6 @@
 //! What a fault of the recording may come from: one for which the session has no certificate.
 ghost use Rattle.std.specs.Prelude.{◌≡◌, IfOk, map, option_to_list};
-ghost use Rattle.aud_causes.specs.Recorded.{AreChainCauses, AreRecordedCauses, order_at, stays_of_client};
+ghost use Rattle.aud_causes.specs.Recorded.{AreChainCauses, AreRecordedCauses, order_causes, stays_of_client};
 
 use crate::cause::Cause;
 use crate::list::push_cause;
@@ -13,22 +13,22 @@ use aud_node::Logs;
 use std::alloc::{AllocError, Global};
 
 /// The causes of such a fault of the session with this pid, whose one client's tap is at this place, if it has one,
-/// where this record of a node is out of order, if one is.
+/// where these records of its nodes are out of order.
 pub(crate) fn recorded_causes(
     alloc: Global,
     recording: &Recording<'_>,
     client: Option<usize>,
     pid: &str,
     fault: &Fault,
-    unordered: Option<RecordPlace>,
+    unordered: &[RecordPlace],
 ) -> Result<Vec<Cause>, AllocError>
     ensures { IfOk result (λ found.
-        AreRecordedCauses recording.now client pid.now unordered fault.now found.items) }
+        AreRecordedCauses recording.now client pid.now unordered.now fault.now found.items) }
 {
     match fault {
         Fault::NoLog => one_cause(alloc, Some(Cause::NodeNotTapped { turn: 0 })),
         Fault::Chain => chain_causes(alloc, recording, client, pid),
-        Fault::Order => one_cause(alloc, order_at(recording.logs(), unordered)),
+        Fault::Order => order_causes(alloc, recording.logs(), unordered),
         Fault::Client => one_cause(alloc, client_cause(recording, pid)),
         _ => Ok(Vec::new(alloc)),
     }
@@ -79,9 +79,17 @@ fn stays_of_client<'r, 'a>(
     }
 }
 
-/// The cause for which this record of a node is out of order, if one is.
-fn order_at(logs: &Logs<'_>, unordered: Option<RecordPlace>) -> Option<Cause>
-    ensures { result ≡ order_at logs.now unordered }
+/// The causes for which these records of nodes are out of order.
+fn order_causes(
+    alloc: Global,
+    logs: &Logs<'_>,
+    unordered: &[RecordPlace],
+) -> Result<Vec<Cause>, AllocError>
+    ensures { IfOk result (λ found. found.items ≡ order_causes logs.now unordered.now) }
 {
-    order_cause(logs, unordered?)
+    let mut found = Vec::new(alloc);
+    for place in unordered {
+        push_cause(&mut found, order_cause(logs, *place))?;
+    }
+    Ok(found)
 }

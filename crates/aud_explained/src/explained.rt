@@ -88,8 +88,8 @@ fn explained_by<'r, 'a>(
     let account = account.as_ref();
     let finding = finding_of(alloc, sheet, prepared, pid, verdict, account)?;
     let turns = turns_of(alloc, &sheet, pid, account)?;
-    let noted = noted_of(sheet.recording, prepared, pid, verdict, account);
-    let causes = causes_of(alloc, sheet, tap, pid, verdict, account, noted)?;
+    let noted = noted_of(alloc, sheet.recording, prepared, pid, verdict, account)?;
+    let causes = causes_of(alloc, sheet, tap, pid, verdict, account, &noted)?;
     let events = events_of(alloc, &sheet, tap, pid, refused)?;
     let refused = all_refused(alloc, &sheet, prepared, refused)?;
     Ok(Explained {

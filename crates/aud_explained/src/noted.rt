@@ -1,5 +1,5 @@
 //! What was noted of the taps of a session, for its causes.
-ghost use Rattle.std.specs.Prelude.{◌≡◌};
+ghost use Rattle.std.specs.Prelude.{◌≡◌, IfOk};
 ghost use Rattle.std.specs.Option.{option_copied, option_map};
 ghost use Rattle.aud_recording_faults.specs.Prepared.{IsPreparedOf};
 ghost use Rattle.aud_explained.specs.Noted.{IsOrphanNoted, IsUnorderedNoted, IsNoted};
@@ -11,29 +11,32 @@ use aud_chain::RecordPlace;
 use aud_client::Recording;
 use aud_recording_faults::{Prepared, orphan_in, unordered_of};
 use aud_verdict::Verdict;
+use std::alloc::{AllocError, Global};
 
-/// What was noted of the session with this pid: where the fault is `ORDER` the first record out of order of its nodes,
-/// and where it is `ORPHAN` the first stay of its client's tap with events of which nobody knows the session.
+/// What was noted of the session with this pid: where the fault is `ORDER` of each of its nodes that is out of order the
+/// first record that is, and where it is `ORPHAN` the first stay of its client's tap with events of which nobody knows the session.
 pub(crate) fn noted_of(
+    alloc: Global,
     recording: &Recording<'_>,
     prepared: &Prepared,
     pid: &str,
     verdict: &Verdict,
     account: Option<&Account<'_, '_>>,
-) -> Noted
+) -> Result<Noted, AllocError>
     requires { IsPreparedOf recording.now prepared.now }
-    ensures { IsNoted recording.now pid.now verdict.now
-        (option_map (λ a. a.client) (option_copied account.entry)) result }
+    ensures { IfOk result (IsNoted recording.now pid.now verdict.now
+        (option_map (λ a. a.client) (option_copied account.entry))) }
 {
     match verdict {
-        Verdict::Yes { .. } => Noted {
-            unordered: None,
+        Verdict::Yes { .. } => Ok(Noted {
+            unordered: Vec::new(alloc),
             orphan: None,
-        },
-        Verdict::No(fault) => Noted {
-            unordered: unordered_noted(recording, prepared, pid, fault),
-            orphan: orphan_noted(recording, prepared, fault, place_of(account)),
-        },
+        }),
+        Verdict::No(fault) => {
+            let orphan = orphan_noted(recording, prepared, fault, place_of(account));
+            let unordered = unordered_noted(alloc, recording, prepared, pid, fault)?;
+            Ok(Noted { unordered, orphan })
+        }
     }
 }
 
@@ -48,17 +51,19 @@ fn place_of(account: Option<&Account<'_, '_>>) -> Option<usize>
 }
 
 fn unordered_noted(
+    alloc: Global,
     recording: &Recording<'_>,
     prepared: &Prepared,
     pid: &str,
     fault: &Fault,
-) -> Option<RecordPlace>
+) -> Result<Vec<RecordPlace>, AllocError>
     requires { IsPreparedOf recording.now prepared.now }
-    ensures { IsUnorderedNoted recording.now pid.now fault.now result }
+    ensures { IfOk result (λ found.
+        IsUnorderedNoted recording.now pid.now fault.now found.items) }
 {
     match fault {
-        Fault::Order => unordered_of(recording.logs(), prepared, pid),
-        _ => None,
+        Fault::Order => unordered_of(alloc, recording.logs(), prepared, pid),
+        _ => Ok(Vec::new(alloc)),
     }
 }
 

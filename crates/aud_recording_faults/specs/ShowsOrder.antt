@@ -1,6 +1,6 @@
 -- When rows show that a node on which a session was is out of order.
-use Rattle.std.specs.Prelude.{◌≡◌, ◌∷◌, [], ℕ, zero, suc, List}
-use Rattle.std.specs.List.{All, Contains}
+use Rattle.std.specs.Prelude.{◌≡◌, ◌∷◌, [], ℕ, zero, suc, List, Option, Some, None}
+use Rattle.std.specs.List.{All, AllZip, Contains}
 use Rattle.aud_node.specs.Cluster.{Cluster, node_log}
 use Rattle.aud_node.specs.OwnPlaces.{own_places}
 use Rattle.aud_node.specs.Stream.{Text}
@@ -11,6 +11,23 @@ use Rattle.aud_rows.specs.Seen.{RowSeen}
 use Rattle.aud_rows.specs.declared.row.Role.TheVariants.{Earlier, Fault}
 use Rattle.aud_shown.specs.declared.node_records.NodeRecord.{NodeRecord}
 use Rattle.aud_shown.specs.NodeRows.{node_rows}
+use Rattle.aud_recording_faults.specs.Prepared.{IsOrderRead}
+
+-- ---- the nodes that are out of order
+
+-- the first records out of order of these nodes, by their numbers, where there are such
+abbrev pub places_in : List ℕ → List (Option ℕ) → List RecordPlace
+places_in (node ∷ nodes) (Some number ∷ firsts) = record { node = node; number = number } ∷ places_in nodes firsts
+places_in (node ∷ nodes) (None ∷ firsts) = places_in nodes firsts
+places_in nodes firsts = []
+
+-- of these nodes those whose logs are out of order, each with the first record that is
+pub record AreOutOfOrder (c : Cluster) (nodes : List ℕ) (found : List RecordPlace) : Type 0 where
+  pub firsts : List (Option ℕ)
+  pub are_read : AllZip (IsOrderRead c) nodes firsts
+  pub are_found : found ≡ places_in nodes firsts
+
+-- ---- what is shown of the first
 
 -- the node of the record has records of the session with this pid, and it is the first in its log that is out of order
 abbrev pub IsUnordered : Cluster → Text → RecordPlace → Type 0

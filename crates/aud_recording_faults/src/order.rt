@@ -1,12 +1,10 @@
 //! What shows that a node on which a session was is out of order.
-ghost use Rattle.std.specs.Prelude.{◌≡◌, IfOk, IfSome, MatchOption, map};
-ghost use Rattle.std.specs.List.{All, Contains};
-ghost use Rattle.aud_node.specs.Cluster.{node_log};
-ghost use Rattle.aud_evidence.specs.Order.{AreInOrder, IsFirstOutOfOrder};
+ghost use Rattle.std.specs.Prelude.{◌≡◌, ◌++◌, ◌∷◌, [], IfOk, IfSome, MatchOption, OnOk, map, slice_get};
+ghost use Rattle.aud_node.specs.OwnPlaces.{own_places};
 ghost use Rattle.aud_rows.specs.Seen.{row_seen};
 ghost use Rattle.aud_shown.specs.RowLists.{AreTrueRows};
 ghost use Rattle.aud_recording_faults.specs.Prepared.{IsOrderRead, IsPreparedOf};
-ghost use Rattle.aud_recording_faults.specs.ShowsOrder.{AreOrdered, IsUnordered, ShowsOrder, order_records};
+ghost use Rattle.aud_recording_faults.specs.ShowsOrder.{AreOrdered, AreOutOfOrder, ShowsOrder, order_records, places_in};
 
 use crate::prepared::{Prepared, PreparedTap};
 use aud_chain::RecordPlace;
@@ -33,7 +31,8 @@ pub fn order_shown<'r>(
     ensures truth { IfOk result (λ found. IfSome found
         (λ rows. AreTrueRows sheet.now.recording.now sheet.now.lines.now rows.items)) }
 {
-    match unordered_of(sheet.recording.logs(), prepared, pid) {
+    let found = unordered_of(alloc, sheet.recording.logs(), prepared, pid)?;
+    match first_of(&found) {
         Some(at) => {
             let records = order_records(alloc, at)?;
             Ok(Some(node_rows(alloc, sheet, &records)?))
@@ -63,32 +62,58 @@ fn order_records(alloc: Global, at: RecordPlace) -> Result<Vec<NodeRecord>, Allo
     Ok(records)
 }
 
-/// The first record out of order of a node that has records of the session, of the first such node in the order of the
-/// taps; none where the logs of all those nodes are in order. A log whose order wasn't prepared is gone through.
-pub fn unordered_of(logs: &Logs<'_>, prepared: &Prepared, pid: &str) -> Option<RecordPlace>
+/// Of the nodes that have records of the session, in the order of the taps, those whose logs are out of order, each with
+/// the first record that is. A log whose order wasn't prepared is gone through.
+pub fn unordered_of(
+    alloc: Global,
+    logs: &Logs<'_>,
+    prepared: &Prepared,
+    pid: &str,
+) -> Result<Vec<RecordPlace>, AllocError>
     requires { IsPreparedOf logs.now prepared.now }
-    ensures { MatchOption result (AreOrdered logs.now pid.now) (IsUnordered logs.now pid.now) }
+    ensures { IfOk result (λ found.
+        AreOutOfOrder logs.now (own_places logs.now pid.now) found.items) }
 {
-    first_of(prepared, logs, logs.nodes_of(pid))
+    unordered_among(alloc, logs, prepared, logs.nodes_of(pid))
 }
 
-/// The first record out of order of the first of these nodes that has one.
-fn first_of(prepared: &Prepared, logs: &Logs<'_>, nodes: &[usize]) -> Option<RecordPlace>
+/// The same of these nodes.
+fn unordered_among(
+    alloc: Global,
+    logs: &Logs<'_>,
+    prepared: &Prepared,
+    nodes: &[usize],
+) -> Result<Vec<RecordPlace>, AllocError>
     requires { IsPreparedOf logs.now prepared.now }
-    ensures { MatchOption result
-        (All (λ node. AreInOrder logs.now.stream (node_log logs.now node)) nodes.now)
-        (λ at. Contains nodes.now at.node
-        × IsFirstOutOfOrder logs.now.stream (node_log logs.now at.node) at.number) }
+    ensures { IfOk result (λ found. AreOutOfOrder logs.now nodes.now found.items) }
 {
+    let mut found = Vec::new(alloc);
     for node in nodes {
-        if let Some(number) = unordered_at(prepared, logs, *node) {
-            return Some(RecordPlace {
-                node: *node,
-                number,
-            });
-        }
+        push_place(&mut found, *node, unordered_at(prepared, logs, *node))?;
     }
-    None
+    Ok(found)
+}
+
+/// Adds the record with this number of the node, if there is one.
+fn push_place(
+    found: &mut Vec<RecordPlace>,
+    node: usize,
+    number: Option<usize>,
+) -> Result<(), AllocError>
+    ensures { OnOk result (found.new.items
+        ≡ found.old.items ++ places_in (node ∷ []) (number ∷ [])) }
+{
+    if let Some(number) = number {
+        found.push(RecordPlace { node, number })?;
+    }
+    Ok(())
+}
+
+/// The first of these records.
+fn first_of(found: &[RecordPlace]) -> Option<RecordPlace>
+    ensures { result ≡ slice_get found.now 0 }
+{
+    found.first().copied()
 }
 
 /// The number of the first record out of order of the node at this place.
