@@ -1,6 +1,11 @@
 -- What a fault of the recording may come from.
-use Rattle.std.specs.Prelude.{◌≡◌, ℕ, List, [], ◌∷◌, flat_map, length, Option, Some, None, option_to_list, ◌⊎◌}
+use Rattle.std.specs.Prelude.{◌≡◌, ℕ, List, [], ◌∷◌, flat_map, length, Option, Some, None, option_to_list, slice_get, ◌⊎◌}
+use Rattle.std.specs.Option.{option_and_then, option_map}
 use Rattle.aud_node.specs.Cluster.{Cluster}
+use Rattle.aud_node.specs.NodeTap.{NodeTap}
+use Rattle.aud_node.specs.NodeTaps.{node_at}
+use Rattle.aud_node.specs.OwnPlaces.{own_places}
+use Rattle.aud_node.specs.OwnRecords.{own_numbers}
 use Rattle.aud_node.specs.Stream.{Text}
 use Rattle.aud_client.specs.Received.{stays_naming}
 use Rattle.aud_client.specs.Replies.{naming_places}
@@ -12,7 +17,7 @@ use Rattle.aud_chain.specs.declared.misfit.Misfit.{Misfit}
 use Rattle.aud_chain.specs.Misfit.{HasChain, IsMisfit}
 use Rattle.aud_recoveries.specs.Recoveries.{stays_at}
 use Rattle.aud_causes.specs.declared.cause.Cause.{Cause}
-use Rattle.aud_causes.specs.declared.cause.Cause.TheVariants.{NodeNotTapped}
+use Rattle.aud_causes.specs.declared.cause.Cause.TheVariants.{NodeNotTapped, OpenNotRecorded}
 use Rattle.aud_causes.specs.Logs.{chain_cause, order_cause}
 use Rattle.aud_causes.specs.Names.{client_cause}
 
@@ -20,6 +25,26 @@ use Rattle.aud_causes.specs.Names.{client_cause}
 abbrev pub stays_of_client : Cluster → Option ℕ → Text → List StaySeen
 stays_of_client c None pid = []
 stays_of_client c (Some client) pid = stays_naming pid (stays_at c client)
+
+-- the session's first record on the node at this place
+abbrev pub own_on : Cluster → Text → ℕ → Option RecordPlace
+own_on c pid node =
+    option_and_then
+    (λ (tap : NodeTap). option_map (λ number. record { node = node; number = number }) (slice_get (own_numbers tap.recs pid) 0))
+    (node_at c node)
+
+-- that on the first node that has any
+abbrev pub first_own : Cluster → Text → Option RecordPlace
+first_own c pid = option_and_then (own_on c pid) (slice_get (own_places c pid) 0)
+
+-- the cause of a session that no node opened, where this is its first record on a node, if it has any
+abbrev pub opened_by : Option RecordPlace → Cause
+opened_by (Some first) = OpenNotRecorded first
+opened_by None = NodeNotTapped 0
+
+-- the same of the session with this pid
+abbrev pub no_log_cause : Cluster → Text → Cause
+no_log_cause c pid = opened_by (first_own c pid)
 
 -- the causes of this misfit, where this is the place of the session's client's tap
 abbrev pub misfit_causes : Cluster → Option ℕ → Text → Misfit → List Cause
@@ -38,7 +63,7 @@ order_causes c unordered = flat_map (λ place. option_to_list (order_cause c pla
 -- the causes of a fault for which the session with this pid has no certificate, where this is the place of its client's
 -- tap, if it has one, and these records of its nodes are out of order; none of another fault
 abbrev pub AreRecordedCauses : Cluster → Option ℕ → Text → List RecordPlace → Fault → List Cause → Type 0
-AreRecordedCauses c client pid unordered fault.NoLog found = found ≡ NodeNotTapped 0 ∷ []
+AreRecordedCauses c client pid unordered fault.NoLog found = found ≡ no_log_cause c pid ∷ []
 AreRecordedCauses c client pid unordered fault.Chain found = AreChainCauses c client pid found
 AreRecordedCauses c client pid unordered fault.Order found = found ≡ order_causes c unordered
 AreRecordedCauses c client pid unordered fault.Client found = found ≡ option_to_list (client_cause (length (naming_places c.taps pid)))

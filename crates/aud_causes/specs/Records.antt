@@ -15,7 +15,7 @@ use Rattle.aud_rows.specs.EndRows.{bad_row}
 use Rattle.aud_shown.specs.declared.frame_place.FramePlace.{FramePlace}
 use Rattle.aud_shown.specs.FramePlaces.{frame_at}
 use Rattle.aud_causes.specs.declared.cause.Cause.{Cause}
-use Rattle.aud_causes.specs.declared.cause.Cause.TheVariants.{NodeBehindBreak, SentAgainAfterReplay, StaleOffset, OffsetOfAnotherSession, UnknownOffset, NoOffset, RoomsAtBreak, SkippedInWindow, LostLive, DoubledLive, SwappedLive, Altered, LogEndedEarly, LateLeave, BeforeBirth, ExtraLive, MissingBreak, NodeNotTapped, NoStart, RestartedInOldLog, EntriesSkippedByNode, EntryTakenAgain, NotInStream, TwoTaps, NoClientTap, SidDiffers, NamespaceDiffers, NotAPacket, TapBeganLate, CutBeforeReply, ReplyWithoutPid, SessionOver, NeverBroken, AskedTooEarly}
+use Rattle.aud_causes.specs.declared.cause.Cause.TheVariants.{NodeBehindBreak, SentAgainAfterReplay, StaleOffset, OffsetOfAnotherSession, UnknownOffset, NoOffset, RoomsAtBreak, SkippedInWindow, LostLive, DoubledLive, SwappedLive, Altered, LogEndedEarly, LateLeave, BeforeBirth, ExtraLive, MissingBreak, OpenNotRecorded, NodeNotTapped, NoStart, RestartedInOldLog, EntriesSkippedByNode, EntryTakenAgain, NotInStream, TwoTaps, NoClientTap, SidDiffers, NamespaceDiffers, NotAPacket, TapBeganLate, CutBeforeReply, ReplyWithoutPid, SessionOver, NeverBroken, AskedTooEarly}
 use Rattle.aud_causes.specs.declared.record_at.RecordAt.{RecordAt}
 use Rattle.aud_causes.specs.declared.record_at.RecordAt.TheVariants.{Node, Got, Ask, Reply, First, Bad}
 
@@ -24,6 +24,7 @@ abbrev pub node_of : Cause → Option ℕ
 node_of (NodeBehindBreak broke back high low) = Some back.node
 node_of (LogEndedEarly last high) = Some last.node
 node_of (BeforeBirth begin low) = Some begin.node
+node_of (OpenNotRecorded first) = Some first.node
 node_of (NoStart first) = Some first.node
 node_of (RestartedInOldLog start) = Some start.node
 node_of (EntriesSkippedByNode taken cursor position) = Some taken.node
@@ -56,6 +57,7 @@ records_of (LateLeave leave) = Node leave ∷ []
 records_of (BeforeBirth begin low) = Node begin ∷ []
 records_of (ExtraLive frame) = Got frame ∷ []
 records_of (MissingBreak turn begin back stay) = Node begin ∷ Node back ∷ Ask stay ∷ Reply stay ∷ []
+records_of (OpenNotRecorded first) = Node first ∷ []
 records_of (NodeNotTapped turn) = []
 records_of (NoStart first) = Node first ∷ []
 records_of (RestartedInOldLog start) = Node start ∷ []

@@ -5,7 +5,7 @@ use Rattle.aud_evidence.specs.declared.content.Part.TheVariants as part
 use Rattle.aud_causes.specs.Pieces.{PieceSeen, Spelled, Counted, sentence_text}
 use Rattle.aud_causes.specs.NoPacket.{advice, no_packet_pieces}
 use Rattle.aud_causes.specs.declared.cause.Cause.{Cause}
-use Rattle.aud_causes.specs.declared.cause.Cause.TheVariants.{NodeBehindBreak, SentAgainAfterReplay, StaleOffset, OffsetOfAnotherSession, UnknownOffset, NoOffset, RoomsAtBreak, SkippedInWindow, LostLive, DoubledLive, SwappedLive, Altered, LogEndedEarly, LateLeave, BeforeBirth, ExtraLive, MissingBreak, NodeNotTapped, NoStart, RestartedInOldLog, EntriesSkippedByNode, EntryTakenAgain, NotInStream, TwoTaps, NoClientTap, SidDiffers, NamespaceDiffers, NotAPacket, TapBeganLate, CutBeforeReply, ReplyWithoutPid, SessionOver, NeverBroken, AskedTooEarly}
+use Rattle.aud_causes.specs.declared.cause.Cause.TheVariants.{NodeBehindBreak, SentAgainAfterReplay, StaleOffset, OffsetOfAnotherSession, UnknownOffset, NoOffset, RoomsAtBreak, SkippedInWindow, LostLive, DoubledLive, SwappedLive, Altered, LogEndedEarly, LateLeave, BeforeBirth, ExtraLive, MissingBreak, OpenNotRecorded, NodeNotTapped, NoStart, RestartedInOldLog, EntriesSkippedByNode, EntryTakenAgain, NotInStream, TwoTaps, NoClientTap, SidDiffers, NamespaceDiffers, NotAPacket, TapBeganLate, CutBeforeReply, ReplyWithoutPid, SessionOver, NeverBroken, AskedTooEarly}
 
 -- the name of the cause, for scripts
 abbrev pub id_text : Cause → List ℕ
@@ -26,6 +26,7 @@ id_text (LateLeave leave) = codes "late-leave"
 id_text (BeforeBirth begin low) = codes "before-birth"
 id_text (ExtraLive frame) = codes "extra-live"
 id_text (MissingBreak turn begin back stay) = codes "missing-break"
+id_text (OpenNotRecorded first) = codes "open-not-recorded"
 id_text (NodeNotTapped turn) = codes "node-not-tapped"
 id_text (NoStart first) = codes "no-start"
 id_text (RestartedInOldLog start) = codes "restarted-in-old-log"
@@ -63,6 +64,7 @@ todo_text (LateLeave leave) = codes "send an entry by the rooms that the session
 todo_text (BeforeBirth begin low) = codes "send a session nothing that the node took before it opened the session."
 todo_text (ExtraLive frame) = codes "look at how the node picks the sessions of a room."
 todo_text (MissingBreak turn begin back stay) = codes "write a node's log unbuffered; look at the disk and at how logs are rotated."
+todo_text (OpenNotRecorded first) = codes "write an `open` when the session opens, unbuffered; look at how logs are rotated."
 todo_text (NodeNotTapped turn) = codes "tap each node, from its start."
 todo_text (NoStart first) = codes "begin a node's log with a `start`, when the node starts."
 todo_text (RestartedInOldLog start) = codes "begin a new log, of another name, each time that a node starts."
@@ -109,6 +111,7 @@ why_pieces node (LateLeave leave) = Spelled (codes "The session had left a room 
 why_pieces node (BeforeBirth begin low) = Spelled node ∷ Spelled (codes " had taken the entry when it opened the session, with its cursor at ") ∷ Counted low ∷ Spelled (codes ".") ∷ []
 why_pieces node (ExtraLive frame) = Spelled (codes "The node sent the session an entry that was not addressed to it.") ∷ []
 why_pieces node (MissingBreak turn begin back stay) = Spelled (codes "The client recovered the session after turn ") ∷ Counted turn ∷ Spelled (codes ", so that turn broke; no log has its break.") ∷ []
+why_pieces node (OpenNotRecorded first) = Spelled (codes "The log of ") ∷ Spelled node ∷ Spelled (codes " has records of the session, and no log has its `open`.") ∷ []
 why_pieces node (NodeNotTapped turn) = Spelled (codes "No node's log has the begin of turn ") ∷ Counted turn ∷ Spelled (codes ".") ∷ []
 why_pieces node (NoStart first) = Spelled (codes "The log of ") ∷ Spelled node ∷ Spelled (codes " does not begin with a `start`.") ∷ []
 why_pieces node (RestartedInOldLog start) = Spelled node ∷ Spelled (codes " started again in its old log.") ∷ []

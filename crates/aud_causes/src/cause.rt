@@ -99,6 +99,10 @@ pub enum Cause {
         back: RecordPlace,
         stay: usize,
     },
+    /// A node's log has records of the session, of which this is the first, and no log has its `open`.
+    OpenNotRecorded {
+        first: RecordPlace,
+    },
     /// No node's log has this turn.
     NodeNotTapped {
         turn: usize,
@@ -197,6 +201,7 @@ impl Cause {
             Cause::BeforeBirth { .. } => "before-birth",
             Cause::ExtraLive { .. } => "extra-live",
             Cause::MissingBreak { .. } => "missing-break",
+            Cause::OpenNotRecorded { .. } => "open-not-recorded",
             Cause::NodeNotTapped { .. } => "node-not-tapped",
             Cause::NoStart { .. } => "no-start",
             Cause::RestartedInOldLog { .. } => "restarted-in-old-log",
@@ -253,6 +258,8 @@ impl Cause {
             Cause::ExtraLive { .. } => "look at how the node picks the sessions of a room.",
             Cause::MissingBreak { .. } =>
                 "write a node's log unbuffered; look at the disk and at how logs are rotated.",
+            Cause::OpenNotRecorded { .. } =>
+                "write an `open` when the session opens, unbuffered; look at how logs are rotated.",
             Cause::NodeNotTapped { .. } => "tap each node, from its start.",
             Cause::NoStart { .. } => "begin a node's log with a `start`, when the node starts.",
             Cause::RestartedInOldLog { .. } =>

@@ -31,6 +31,7 @@ pub(crate) fn node_of(cause: Cause) -> Option<usize>
         Cause::NodeBehindBreak { back, .. } => Some(back.node),
         Cause::LogEndedEarly { last, .. } => Some(last.node),
         Cause::BeforeBirth { begin, .. } => Some(begin.node),
+        Cause::OpenNotRecorded { first } => Some(first.node),
         Cause::NoStart { first } => Some(first.node),
         Cause::RestartedInOldLog { start } => Some(start.node),
         Cause::EntriesSkippedByNode { taken, .. } => Some(taken.node),
@@ -111,6 +112,7 @@ pub(crate) fn push_records(found: &mut Vec<RecordAt>, cause: Cause) -> Result<()
             found,
             &[RecordAt::Node(broke), RecordAt::Node(begin)],
         ),
+        Cause::OpenNotRecorded { first } => push_all(found, &[RecordAt::Node(first)]),
         Cause::NodeNotTapped { .. } | Cause::TwoTaps { .. } | Cause::NoClientTap => Ok(()),
     }
 }

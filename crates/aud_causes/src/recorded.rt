@@ -1,6 +1,6 @@
 //! What a fault of the recording may come from: one for which the session has no certificate.
 ghost use Rattle.std.specs.Prelude.{◌≡◌, IfOk, map, option_to_list};
-ghost use Rattle.aud_causes.specs.Recorded.{AreChainCauses, AreRecordedCauses, order_causes, stays_of_client};
+ghost use Rattle.aud_causes.specs.Recorded.{AreChainCauses, AreRecordedCauses, first_own, no_log_cause, order_causes, stays_of_client};
 
 use crate::cause::Cause;
 use crate::list::push_cause;
@@ -26,7 +26,7 @@ pub(crate) fn recorded_causes(
         AreRecordedCauses recording.now client pid.now unordered.now fault.now found.items) }
 {
     match fault {
-        Fault::NoLog => one_cause(alloc, Some(Cause::NodeNotTapped { turn: 0 })),
+        Fault::NoLog => one_cause(alloc, Some(no_log_cause(recording.logs(), pid))),
         Fault::Chain => chain_causes(alloc, recording, client, pid),
         Fault::Order => order_causes(alloc, recording.logs(), unordered),
         Fault::Client => one_cause(alloc, client_cause(recording, pid)),
@@ -41,6 +41,25 @@ pub(crate) fn one_cause(alloc: Global, cause: Option<Cause>) -> Result<Vec<Cause
     let mut found = Vec::new(alloc);
     push_cause(&mut found, cause)?;
     Ok(found)
+}
+
+/// The cause of a session that no node opened.
+fn no_log_cause(logs: &Logs<'_>, pid: &str) -> Cause
+    ensures { result ≡ no_log_cause logs.now pid.now }
+{
+    match first_own(logs, pid) {
+        Some(first) => Cause::OpenNotRecorded { first },
+        None => Cause::NodeNotTapped { turn: 0 },
+    }
+}
+
+/// The session's first record on the first node that has any.
+fn first_own(logs: &Logs<'_>, pid: &str) -> Option<RecordPlace>
+    ensures { result ≡ first_own logs.now pid.now }
+{
+    let node = *logs.nodes_of(pid).first()?;
+    let number = *logs.node(node)?.own(pid).first()?;
+    Some(RecordPlace { node, number })
 }
 
 /// The cause of the misfit in the session's chain of turns.

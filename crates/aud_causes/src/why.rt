@@ -145,6 +145,14 @@ pub(crate) fn why_text(alloc: Global, cause: Cause, node: &str) -> Result<String
                 Piece::Words(", so that turn broke; no log has its break."),
             ],
         ),
+        Cause::OpenNotRecorded { .. } => sentence(
+            alloc,
+            &[
+                Piece::Words("The log of "),
+                Piece::Words(node),
+                Piece::Words(" has records of the session, and no log has its `open`."),
+            ],
+        ),
         Cause::NodeNotTapped { turn } => sentence(
             alloc,
             &[
