@@ -109,7 +109,7 @@ node-number-one {"k":"join","pid":"Q","room":"0123456789-0123456789-0123456789-0
 "#;
 
 /// What is written of each of them; what a log has after the common lines stands in a second file.
-static CASES: [Case; 13] = [
+static CASES: [Case; 14] = [
     // A session of which no node has a record.
     Case {
         arguments: &["explain"],
@@ -242,33 +242,6 @@ no one client, turns 2, delivery not judged
     turn 2  b  8 back, cursor 0 == 8 log ends, cursor 0
 cause node-not-tapped (certain): No node's log has the begin of turn 1.
 do: tap each node, from its start.
-
-sessions: *"#,
-        outcome: Ok(Status::SomeNo),
-    },
-    // A join and a `break` of P, and no `open` of it.
-    Case {
-        arguments: &["explain"],
-        input: Input::Files(&[
-            r#"st {"k":"tap","v":1,"of":"stream"}
-a {"k":"tap","v":1,"of":"node"}
-a {"k":"start","off":null}
-a {"k":"join","pid":"P","room":"r"}
-a {"k":"break","pid":"P","turn":0}
-c1 {"k":"tap","v":1,"of":"client"}
-c1 {"k":"conn","c":1}
-c1 {"k":"in","t":"40{\"sid\":\"s1\",\"pid\":\"P\"}"}
-"#,
-        ]),
-        text: r#"no P NOLOG [recording]
-client c1, namespace /, connection 1, turns 0, delivery not judged
-    line tap  record
-       8 c1   conn 1 reply, sid s1, pid P  <- opened on no node
-       5 a    break 0, cursor 0
-    client  8 reply
-cause open-not-recorded (fits, line 4): The log of a has records of the session, and no log has its
-        `open`.
-do: write an `open` when the session opens, unbuffered; look at how logs are rotated.
 
 sessions: *"#,
         outcome: Ok(Status::SomeNo),

@@ -18,8 +18,9 @@ client c1, namespace /, connection 1, turns 0, delivery not judged
        6 c1   conn 1 reply, sid s1, pid p1  <- opened on no node
       10 n1   break 0, cursor 1
     client  6 reply  9 got 1  11 lost
-cause node-not-tapped (fits): No node's log has the begin of turn 0.
-do: tap each node, from its start.
+cause open-not-recorded (fits, line 10): The log of n1 has records of the session, and no log has
+        its `open`.
+do: write an `open` when the session opens, unbuffered; look at how logs are rotated.
 
 sessions: *"#,
         outcome: Ok(Status::SomeNo),
