@@ -231,8 +231,9 @@ do: store the offset of each event, and ask with the last one.
 
 no X NOLOG [recording]
 no one client, turns 0, delivery not judged
-cause node-not-tapped (fits): No node's log has the begin of turn 0.
-do: tap each node, from its start.
+cause open-not-recorded (fits, line 16): The log of a has records of the session, and no log has its
+        `open`.
+do: write an `open` when the session opens, unbuffered; look at how logs are rotated.
 
 no N NOLOG [recording]
 no one client, turns 0, delivery not judged
