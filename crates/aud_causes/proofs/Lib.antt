@@ -1,3 +1,4 @@
 mod AtBreakLemmas
 mod Told
 mod Sure
+mod Turns

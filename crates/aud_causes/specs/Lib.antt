@@ -16,8 +16,11 @@ pub mod Differences
 pub mod Windows
 pub mod Logs
 pub mod Names
+pub mod Turns
 pub mod Recorded
 pub mod Judged
 pub mod Found
 pub mod Refusals
 pub mod Causes
+-- what private contracts alone cite
+pub mod Private

@@ -10,10 +10,8 @@ use Rattle.aud_node.specs.Cluster.{Cluster, node_log}
 use Rattle.aud_node.specs.Cursors.{cursor_at}
 use Rattle.aud_node.specs.Stream.{Text, position}
 use Rattle.aud_chain.specs.declared.place.RecordPlace.{RecordPlace}
-use Rattle.aud_chain.specs.declared.misfit.Misfit.{Misfit}
-use Rattle.aud_chain.specs.declared.misfit.Misfit.TheVariants as misfit
 use Rattle.aud_causes.specs.declared.cause.Cause.{Cause}
-use Rattle.aud_causes.specs.declared.cause.Cause.TheVariants.{NodeNotTapped, MissingBreak, NoStart, RestartedInOldLog, NotInStream, EntriesSkippedByNode, EntryTakenAgain}
+use Rattle.aud_causes.specs.declared.cause.Cause.TheVariants.{NoStart, RestartedInOldLog, NotInStream, EntriesSkippedByNode, EntryTakenAgain}
 
 -- the number of the stay by which the client went on after this turn: the first recovery follows turn 0, the next one
 -- turn 1, and so on. Stays count on from this number
@@ -23,14 +21,6 @@ recovery_after turn number (stay ∷ stays) =
     if not (is_recovered stay) then recovery_after turn (suc number) stays
     else if nat_eq turn 0 then Some number
     else recovery_after (turn - 1) (suc number) stays
-
--- of a misfit in the chain of turns, where these are the stays of the client's tap whose reply names the session: no
--- log has the begin of a turn; the client went on after a turn of which no log has the break
-abbrev pub chain_cause : Misfit → List StaySeen → Option Cause
-chain_cause misfit.NeverOpened stays = Some (NodeNotTapped 0)
-chain_cause (misfit.MissingTurn turn back) stays = Some (NodeNotTapped turn)
-chain_cause (misfit.MissingBreak turn begin back) stays = option_map (MissingBreak turn begin back) (recovery_after turn 0 stays)
-chain_cause _ stays = None
 
 -- the stream doesn't have the position
 abbrev pub unknown : RecordPlace → Option ℕ → Option Cause

@@ -1,5 +1,5 @@
 -- What a fault of the recording may come from.
-use Rattle.std.specs.Prelude.{◌≡◌, ℕ, List, [], ◌∷◌, flat_map, length, Option, Some, None, option_to_list, slice_get, ◌⊎◌}
+use Rattle.std.specs.Prelude.{◌≡◌, ℕ, List, [], ◌∷◌, flat_map, length, Option, Some, None, option_to_list, slice_get}
 use Rattle.std.specs.Option.{option_and_then, option_map}
 use Rattle.aud_node.specs.Cluster.{Cluster}
 use Rattle.aud_node.specs.NodeTap.{NodeTap}
@@ -13,13 +13,13 @@ use Rattle.aud_client.specs.StaySeen.{StaySeen}
 use Rattle.aud_cert.specs.declared.fault.Fault.{Fault}
 use Rattle.aud_cert.specs.declared.fault.Fault.TheVariants as fault
 use Rattle.aud_chain.specs.declared.place.RecordPlace.{RecordPlace}
-use Rattle.aud_chain.specs.declared.misfit.Misfit.{Misfit}
-use Rattle.aud_chain.specs.Misfit.{HasChain, IsMisfit}
+use Rattle.aud_chain.specs.Marks.{turn_marks}
 use Rattle.aud_recoveries.specs.Recoveries.{stays_at}
 use Rattle.aud_causes.specs.declared.cause.Cause.{Cause}
 use Rattle.aud_causes.specs.declared.cause.Cause.TheVariants.{NodeNotTapped, OpenNotRecorded}
-use Rattle.aud_causes.specs.Logs.{chain_cause, order_cause}
+use Rattle.aud_causes.specs.Logs.{order_cause}
 use Rattle.aud_causes.specs.Names.{client_cause}
+use Rattle.aud_causes.specs.Turns.{chain_causes}
 
 -- the stays of the client's tap at this place, if there is one, whose reply names the session
 abbrev pub stays_of_client : Cluster → Option ℕ → Text → List StaySeen
@@ -46,15 +46,9 @@ opened_by None = NodeNotTapped 0
 abbrev pub no_log_cause : Cluster → Text → Cause
 no_log_cause c pid = opened_by (first_own c pid)
 
--- the causes of this misfit, where this is the place of the session's client's tap
-abbrev pub misfit_causes : Cluster → Option ℕ → Text → Misfit → List Cause
-misfit_causes c client pid misfit = option_to_list (chain_cause misfit (stays_of_client c client pid))
-
--- the session's records are a chain of turns, and there are no causes; or there is a misfit in them, and these are its
--- causes
-abbrev pub AreChainCauses : Cluster → Option ℕ → Text → List Cause → Type 0
-AreChainCauses c client pid found =
-    (HasChain c pid × (found ≡ [])) ⊎ ((misfit : Misfit) × IsMisfit c pid misfit × (found ≡ misfit_causes c client pid misfit))
+-- the causes of a break in the chain of the session's turns, where this is the place of its client's tap
+abbrev pub causes_of_turns : Cluster → Option ℕ → Text → List Cause
+causes_of_turns c client pid = chain_causes (turn_marks c pid) (stays_of_client c client pid)
 
 -- the causes for which these records of nodes are out of order
 abbrev pub order_causes : Cluster → List RecordPlace → List Cause
@@ -64,7 +58,7 @@ order_causes c unordered = flat_map (λ place. option_to_list (order_cause c pla
 -- tap, if it has one, and these records of its nodes are out of order; none of another fault
 abbrev pub AreRecordedCauses : Cluster → Option ℕ → Text → List RecordPlace → Fault → List Cause → Type 0
 AreRecordedCauses c client pid unordered fault.NoLog found = found ≡ no_log_cause c pid ∷ []
-AreRecordedCauses c client pid unordered fault.Chain found = AreChainCauses c client pid found
+AreRecordedCauses c client pid unordered fault.Chain found = found ≡ causes_of_turns c client pid
 AreRecordedCauses c client pid unordered fault.Order found = found ≡ order_causes c unordered
 AreRecordedCauses c client pid unordered fault.Client found = found ≡ option_to_list (client_cause (length (naming_places c.taps pid)))
 AreRecordedCauses c client pid unordered _ found = found ≡ []

@@ -39,6 +39,7 @@ mod no_packet;
 mod record_at;
 mod recorded;
 mod refusal;
+mod turns;
 mod why;
 mod window;
 

@@ -4,34 +4,16 @@ ghost use Rattle.std.specs.Option.{option_copied};
 ghost use Rattle.aud_client.specs.Received.{is_recovered};
 ghost use Rattle.aud_node.specs.Cursors.{cursor_at};
 ghost use Rattle.aud_node.specs.Stream.{position};
-ghost use Rattle.aud_causes.specs.Logs.{chain_cause, first_cause, later_cause, not_the_next, order_cause, recovery_after, take_cause, taken_again, takes_cause};
+ghost use Rattle.aud_causes.specs.Logs.{first_cause, later_cause, not_the_next, order_cause, recovery_after, take_cause, taken_again, takes_cause};
 
 use crate::cause::Cause;
-use aud_chain::{Misfit, RecordPlace};
+use aud_chain::RecordPlace;
 use aud_client::Stay;
 use aud_node::{Logs, NodeLog, Stream};
 use aud_tap::{NodeRec, Text};
 
-/// The cause of this misfit in the chain of turns, where these are the stays of the client's tap whose reply names the
-/// session.
-pub(crate) fn chain_cause(misfit: Misfit, stays: &[&Stay<'_>]) -> Option<Cause>
-    ensures { result ≡ chain_cause misfit (map (λ stay. stay.now) stays.now) }
-{
-    match misfit {
-        Misfit::NeverOpened => Some(Cause::NodeNotTapped { turn: 0 }),
-        Misfit::MissingTurn { turn, .. } => Some(Cause::NodeNotTapped { turn }),
-        Misfit::MissingBreak { turn, begin, back } => Some(Cause::MissingBreak {
-            turn,
-            begin,
-            back,
-            stay: recovery_after(stays, turn)?,
-        }),
-        _ => None,
-    }
-}
-
 /// The number of the stay by which the client went on after this turn: the recoveries follow the turns in their order.
-fn recovery_after(stays: &[&Stay<'_>], turn: usize) -> Option<usize>
+pub(crate) fn recovery_after(stays: &[&Stay<'_>], turn: usize) -> Option<usize>
     ensures { result ≡ recovery_after turn 0 (map (λ stay. stay.now) stays.now) }
 {
     let mut left = turn;

@@ -1,13 +1,14 @@
 //! What a fault of the recording may come from: one for which the session has no certificate.
 ghost use Rattle.std.specs.Prelude.{◌≡◌, IfOk, map, option_to_list};
-ghost use Rattle.aud_causes.specs.Recorded.{AreChainCauses, AreRecordedCauses, first_own, no_log_cause, order_causes, stays_of_client};
+ghost use Rattle.aud_causes.specs.Recorded.{AreRecordedCauses, causes_of_turns, first_own, no_log_cause, order_causes, stays_of_client};
 
 use crate::cause::Cause;
 use crate::list::push_cause;
-use crate::logs::{chain_cause, order_cause};
+use crate::logs::order_cause;
 use crate::names::client_cause;
+use crate::turns::chain_causes;
 use aud_cert::Fault;
-use aud_chain::{RecordPlace, first_misfit};
+use aud_chain::{RecordPlace, turn_marks};
 use aud_client::{Recording, Stay};
 use aud_node::Logs;
 use std::alloc::{AllocError, Global};
@@ -27,7 +28,7 @@ pub(crate) fn recorded_causes(
 {
     match fault {
         Fault::NoLog => one_cause(alloc, Some(no_log_cause(recording.logs(), pid))),
-        Fault::Chain => chain_causes(alloc, recording, client, pid),
+        Fault::Chain => causes_of_turns(alloc, recording, client, pid),
         Fault::Order => order_causes(alloc, recording.logs(), unordered),
         Fault::Client => one_cause(alloc, client_cause(recording, pid)),
         _ => Ok(Vec::new(alloc)),
@@ -62,21 +63,19 @@ fn first_own(logs: &Logs<'_>, pid: &str) -> Option<RecordPlace>
     Some(RecordPlace { node, number })
 }
 
-/// The cause of the misfit in the session's chain of turns.
-fn chain_causes(
+/// The causes of a break in the chain of the session's turns.
+fn causes_of_turns(
     alloc: Global,
     recording: &Recording<'_>,
     client: Option<usize>,
     pid: &str,
 ) -> Result<Vec<Cause>, AllocError>
-    ensures { IfOk result (λ found. AreChainCauses recording.now client pid.now found.items) }
+    ensures { IfOk result (λ found. found.items
+        ≡ causes_of_turns recording.now client pid.now) }
 {
-    let misfit = first_misfit(alloc, recording.logs(), pid)?;
-    let Some(misfit) = misfit else {
-        return Ok(Vec::new(alloc));
-    };
+    let marks = turn_marks(alloc, recording.logs(), pid)?;
     let stays = stays_of_client(alloc, recording, client, pid)?;
-    one_cause(alloc, chain_cause(misfit, stays.as_slice()))
+    chain_causes(alloc, &marks, stays.as_slice())
 }
 
 /// The stays of the client's tap at this place whose reply names the session.

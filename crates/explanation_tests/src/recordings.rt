@@ -109,7 +109,7 @@ node-number-one {"k":"join","pid":"Q","room":"0123456789-0123456789-0123456789-0
 "#;
 
 /// What is written of each of them; what a log has after the common lines stands in a second file.
-static CASES: [Case; 14] = [
+static CASES: [Case; 15] = [
     // A session of which no node has a record.
     Case {
         arguments: &["explain"],
@@ -207,6 +207,34 @@ client c1, namespace /, turns 4, delivery not judged
     client  27 reply  28 got 1  30 asks after 1  31 got 2  32 reply  34 asks after 2  35 got 3
         36 reply  38 asks after 3  39 got 4  40 reply
 cause missing-break (certain, lines 21 14 34 36)*"#,
+        outcome: Ok(Status::SomeNo),
+    },
+    // Turn 0 has no `break`, and no record begins turn 2.
+    Case {
+        arguments: &["explain"],
+        input: Input::Files(&[
+            NO_BREAK,
+            r#"b {"k":"break","pid":"P","turn":1}
+b {"k":"back","pid":"P","turn":3}"#,
+        ]),
+        text: r#"no P CHAIN [recording]
+client c1, namespace /, turns 3, delivery not judged
+    line tap  record
+       6 a    open, sid s1, namespace /, cursor 0
+      13 b    back 1, cursor 2
+      23 b    break 1, cursor 2
+      24 b    back 3, cursor 2  <- does not fit in the turns
+    turn 0  a  6 open, cursor 0 == no break  <- missing
+    turn 1  b  13 back, cursor 2 == 23 break, cursor 2
+    turn 3  b  24 back, cursor 2 == 24 log ends, cursor 2
+    client  16 reply  17 got 1  18 lost  20 asks after 1  21 got 2  22 reply
+cause node-not-tapped (fits): No node's log has the begin of turn 2.
+do: tap each node, from its start.
+cause missing-break (fits, lines 6 13 20 22): The client recovered the session after turn 0, so that
+        turn broke; no log has its break.
+do: write a node's log unbuffered; look at the disk and at how logs are rotated.
+
+sessions: *"#,
         outcome: Ok(Status::SomeNo),
     },
     // It is opened again.

@@ -1,0 +1,99 @@
+-- What a break in the chain of a session's turns may come from. Both causes are looked for in all turns, up to the last
+-- that a record begins.
+use Rattle.std.specs.Prelude.{ℕ, suc, Bool, false, ◌++◌, List, [], ◌∷◌, length, map, Option, Some, None, option_to_list, nat_eq, nat_lt, if◌then◌else◌, slice_get}
+use Rattle.std.specs.List.{find, list_any}
+use Rattle.std.specs.Option.{option_map, option_and_then, option_or}
+use Rattle.aud_base.specs.Lists.{numbers_from}
+use Rattle.aud_client.specs.StaySeen.{StaySeen}
+use Rattle.aud_chain.specs.declared.marks.Mark.{Mark}
+use Rattle.aud_chain.specs.declared.marks.Mark.TheVariants as mark
+use Rattle.aud_chain.specs.declared.marks.TurnMark.{TurnMark}
+use Rattle.aud_chain.specs.declared.place.RecordPlace.{RecordPlace}
+use Rattle.aud_causes.specs.declared.cause.Cause.{Cause}
+use Rattle.aud_causes.specs.declared.cause.Cause.TheVariants.{MissingBreak, NodeNotTapped}
+use Rattle.aud_causes.specs.Logs.{recovery_after}
+
+-- ---- the records of a turn
+
+-- the turn that such a record begins, if it begins one
+abbrev pub begun_turn : Mark → Option ℕ
+begun_turn mark.Open = Some 0
+begun_turn (mark.Back turn) = Some turn
+begun_turn _ = None
+
+-- the turn that it breaks, if it is a `break`
+abbrev pub broken_turn : Mark → Option ℕ
+broken_turn (mark.Break turn) = Some turn
+broken_turn _ = None
+
+-- it is this turn
+abbrev pub is_turn : ℕ → Option ℕ → Bool
+is_turn turn None = false
+is_turn turn (Some other) = nat_eq turn other
+
+-- the first of these records that begins the turn
+abbrev pub begin_of : List TurnMark → ℕ → Option RecordPlace
+begin_of marks turn = option_map (λ (m : TurnMark). m.place) (find (λ (m : TurnMark). is_turn turn (begun_turn m.mark)) marks)
+
+-- one of them breaks the turn
+abbrev pub is_broken : List TurnMark → ℕ → Bool
+is_broken marks turn = list_any (λ (m : TurnMark). is_turn turn (broken_turn m.mark)) marks
+
+-- so many turns are known, where so many are, and this one is too
+abbrev pub count_with : ℕ → Option ℕ → ℕ
+count_with count None = count
+count_with count (Some turn) = if nat_lt turn count then count else suc turn
+
+-- so many turns there are up to the last that one of these begins, where so many are known
+abbrev pub turn_count : ℕ → List TurnMark → ℕ
+turn_count count [] = count
+turn_count count (m ∷ marks) = turn_count (count_with count (begun_turn m.mark)) marks
+
+-- of each turn the first record that begins it
+abbrev pub begins_of : List TurnMark → List (Option RecordPlace)
+begins_of marks = map (begin_of marks) (numbers_from 0 (turn_count 0 marks))
+
+-- of each turn whether a record breaks it
+abbrev pub breaks_of : List TurnMark → List Bool
+breaks_of marks = map (is_broken marks) (numbers_from 0 (turn_count 0 marks))
+
+-- ---- the causes
+
+-- no log has the begin of a turn: the first such, where these are the begins of the turns from this one on
+abbrev pub not_tapped : ℕ → List (Option RecordPlace) → Option Cause
+not_tapped turn [] = None
+not_tapped turn (None ∷ begins) = Some (NodeNotTapped turn)
+not_tapped turn (Some begin ∷ begins) = not_tapped (suc turn) begins
+
+-- a turn that no record breaks, though the next one begins
+pub record Unbroken : Type 0 where
+  pub turn : ℕ
+  pub begin : RecordPlace
+  pub back : RecordPlace
+
+-- this turn is one, where this is its begin, whether it is broken, and the next one's begin
+abbrev pub unbroken_by : ℕ → Option (Option RecordPlace) → Option Bool → Option (Option RecordPlace) → Option Unbroken
+unbroken_by turn (Some (Some begin)) (Some false) (Some (Some back)) = Some (record { turn = turn; begin = begin; back = back })
+unbroken_by turn _ _ _ = None
+
+-- the turn is one
+abbrev pub unbroken_at : List (Option RecordPlace) → List Bool → ℕ → Option Unbroken
+unbroken_at begins broken turn = unbroken_by turn (slice_get begins turn) (slice_get broken turn) (slice_get begins (suc turn))
+
+-- the first of these turns that is one
+abbrev pub first_unbroken : List (Option RecordPlace) → List Bool → List ℕ → Option Unbroken
+first_unbroken begins broken [] = None
+first_unbroken begins broken (turn ∷ turns) = option_or (unbroken_at begins broken turn) (first_unbroken begins broken turns)
+
+-- the client went on after it: the cause, where these are the stays of its tap whose reply names the session
+abbrev pub went_on : List StaySeen → Unbroken → Option Cause
+went_on stays u = option_map (MissingBreak u.turn u.begin u.back) (recovery_after u.turn 0 stays)
+
+-- the client went on after a turn of which no log has the break
+abbrev pub missing_break : List (Option RecordPlace) → List Bool → List StaySeen → Option Cause
+missing_break begins broken stays = option_and_then (went_on stays) (first_unbroken begins broken (numbers_from 0 (length begins)))
+
+-- the causes, where these are all records that begin or end turns of the session, and these the stays
+abbrev pub chain_causes : List TurnMark → List StaySeen → List Cause
+chain_causes marks stays =
+    option_to_list (not_tapped 0 (begins_of marks)) ++ option_to_list (missing_break (begins_of marks) (breaks_of marks) stays)

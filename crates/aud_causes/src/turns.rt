@@ -1,0 +1,199 @@
+//! What a break in the chain of a session's turns may come from.
+ghost use Rattle.std.specs.Prelude.{◌≡◌, ◌<◌, IfOk, length, map, option_map};
+ghost use Rattle.aud_base.specs.Lists.{numbers_from};
+ghost use Rattle.aud_causes.specs.Private.Noting.{with_begin, with_break};
+ghost use Rattle.aud_causes.specs.Turns.{begins_of, begun_turn, breaks_of, broken_turn, chain_causes, count_with, first_unbroken, missing_break, not_tapped, turn_count, unbroken_at};
+
+use crate::cause::Cause;
+use crate::list::push_cause;
+use crate::logs::recovery_after;
+use aud_chain::{Mark, RecordPlace, TurnMark};
+use aud_client::Stay;
+use std::alloc::{AllocError, Global};
+use std::marker::Model;
+
+/// A turn that no record breaks, though the next one begins.
+#[derive(Clone, Copy, Drop)]
+pub struct UnbrokenTurn {
+    turn: usize,
+    begin: RecordPlace,
+    back: RecordPlace,
+}
+
+impl Model for UnbrokenTurn {
+    ghost use Rattle.aud_causes.specs.Turns.{Unbroken};
+
+    ghost Value = { Unbroken };
+
+    ghost view = { λ s. record { turn = s.turn; begin = s.begin; back = s.back } };
+}
+
+/// The causes, where these are all records that begin or end turns of the session, and these the stays of its client's
+/// tap whose reply names it. Turns count from 0 to 65,535.
+pub(crate) fn chain_causes(
+    alloc: Global,
+    marks: &[TurnMark],
+    stays: &[&Stay<'_>],
+) -> Result<Vec<Cause>, AllocError>
+    ensures { IfOk result (λ found. found.items
+        ≡ chain_causes marks.now (map (λ stay. stay.now) stays.now)) }
+{
+    let begins = begins_of(alloc, marks)?;
+    let broken = breaks_of(alloc, marks)?;
+    let mut found = Vec::new(alloc);
+    push_cause(&mut found, not_tapped(&begins))?;
+    push_cause(&mut found, missing_break(&begins, &broken, stays))?;
+    Ok(found)
+}
+
+/// How many turns there are, up to the last that one of these begins.
+fn turn_count(marks: &[TurnMark]) -> usize
+    ensures { result ≡ turn_count 0 marks.now }
+{
+    let mut count = 0;
+    for mark in marks {
+        count = count_with(count, begun_turn(mark.mark));
+    }
+    count
+}
+
+/// How many turns are known, where so many are, and this one is too.
+fn count_with(count: usize, turn: Option<u16>) -> usize
+    ensures { result ≡ count_with count turn }
+{
+    let Some(turn) = turn else {
+        return count;
+    };
+    let turn = turn as usize;
+    if turn < count { count } else { turn + 1 }
+}
+
+/// The turn that such a record begins, if it begins one.
+fn begun_turn(mark: Mark) -> Option<u16>
+    ensures { result ≡ begun_turn mark }
+{
+    match mark {
+        Mark::Open => Some(0),
+        Mark::Back { turn } => Some(turn),
+        Mark::Break { .. } | Mark::Gone => None,
+    }
+}
+
+/// The turn that it breaks, if it is a `break`.
+fn broken_turn(mark: Mark) -> Option<u16>
+    ensures { result ≡ broken_turn mark }
+{
+    match mark {
+        Mark::Break { turn } => Some(turn),
+        Mark::Open | Mark::Back { .. } | Mark::Gone => None,
+    }
+}
+
+/// Of each turn the first record that begins it.
+fn begins_of(alloc: Global, marks: &[TurnMark]) -> Result<Vec<Option<RecordPlace>>, AllocError>
+    ensures { IfOk result (λ begins. begins.items ≡ begins_of marks.now) }
+{
+    let mut begins = vec![in alloc; None; turn_count(marks)]?;
+    for mark in marks {
+        note_begin(&mut begins, *mark);
+    }
+    Ok(begins)
+}
+
+/// Notes the record, if it is the first that begins its turn.
+fn note_begin(begins: &mut [Option<RecordPlace>], mark: TurnMark)
+    ensures { begins.new ≡ with_begin mark begins.old }
+{
+    let Some(turn) = begun_turn(mark.mark) else {
+        return;
+    };
+    let turn = turn as usize;
+    if let Some(None) = begins.get(turn) {
+        begins[turn] = Some(mark.place);
+    }
+}
+
+/// Of each turn whether a record breaks it.
+fn breaks_of(alloc: Global, marks: &[TurnMark]) -> Result<Vec<bool>, AllocError>
+    ensures { IfOk result (λ broken. broken.items ≡ breaks_of marks.now) }
+{
+    let mut broken = vec![in alloc; false; turn_count(marks)]?;
+    for mark in marks {
+        note_break(&mut broken, *mark);
+    }
+    Ok(broken)
+}
+
+/// Notes the record, if it breaks a turn.
+fn note_break(broken: &mut [bool], mark: TurnMark)
+    ensures { broken.new ≡ with_break mark broken.old }
+{
+    let Some(turn) = broken_turn(mark.mark) else {
+        return;
+    };
+    let turn = turn as usize;
+    if turn < broken.len() {
+        broken[turn] = true;
+    }
+}
+
+/// That no log has the begin of a turn, where these are the begins.
+fn not_tapped(begins: &[Option<RecordPlace>]) -> Option<Cause>
+    ensures { result ≡ not_tapped 0 begins.now }
+{
+    for (turn, begin) in begins.iter().enumerate() {
+        if begin.is_none() {
+            return Some(Cause::NodeNotTapped { turn });
+        }
+    }
+    None
+}
+
+/// That the client went on after a turn that no record breaks.
+fn missing_break(
+    begins: &[Option<RecordPlace>],
+    broken: &[bool],
+    stays: &[&Stay<'_>],
+) -> Option<Cause>
+    ensures { result ≡ missing_break begins.now broken.now (map (λ stay. stay.now) stays.now) }
+{
+    let unbroken = first_unbroken(begins, broken)?;
+    Some(Cause::MissingBreak {
+        turn: unbroken.turn,
+        begin: unbroken.begin,
+        back: unbroken.back,
+        stay: recovery_after(stays, unbroken.turn)?,
+    })
+}
+
+/// The first turn that no record breaks, though the next one begins.
+fn first_unbroken(begins: &[Option<RecordPlace>], broken: &[bool]) -> Option<UnbrokenTurn>
+    ensures { option_map (λ u. u.now) result
+        ≡ first_unbroken begins.now broken.now (numbers_from 0 (length begins.now)) }
+{
+    for turn in 0..begins.len() {
+        if let Some(unbroken) = unbroken_at(begins, broken, turn) {
+            return Some(unbroken);
+        }
+    }
+    None
+}
+
+/// The turn with this number, if it is one.
+fn unbroken_at(
+    begins: &[Option<RecordPlace>],
+    broken: &[bool],
+    turn: usize,
+) -> Option<UnbrokenTurn>
+    requires { turn < length begins.now }
+    ensures { option_map (λ u. u.now) result ≡ unbroken_at begins.now broken.now turn }
+{
+    match (begins.get(turn), broken.get(turn), begins.get(turn + 1)) {
+        (Some(Some(begin)), Some(false), Some(Some(back))) => Some(UnbrokenTurn {
+            turn,
+            begin: *begin,
+            back: *back,
+        }),
+        _ => None,
+    }
+}
