@@ -1,4 +1,4 @@
 mod AtBreakLemmas
 mod Told
 mod Sure
-mod Turns
+mod TurnLemmas

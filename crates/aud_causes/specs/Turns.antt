@@ -11,6 +11,7 @@ use Rattle.aud_chain.specs.declared.marks.TurnMark.{TurnMark}
 use Rattle.aud_chain.specs.declared.place.RecordPlace.{RecordPlace}
 use Rattle.aud_causes.specs.declared.cause.Cause.{Cause}
 use Rattle.aud_causes.specs.declared.cause.Cause.TheVariants.{MissingBreak, NodeNotTapped}
+use Rattle.aud_causes.specs.declared.turns.Unbroken.{Unbroken}
 use Rattle.aud_causes.specs.Logs.{recovery_after}
 
 -- ---- the records of a turn
@@ -65,22 +66,17 @@ not_tapped turn [] = None
 not_tapped turn (None ∷ begins) = Some (NodeNotTapped turn)
 not_tapped turn (Some begin ∷ begins) = not_tapped (suc turn) begins
 
--- a turn that no record breaks, though the next one begins
-pub record Unbroken : Type 0 where
-  pub turn : ℕ
-  pub begin : RecordPlace
-  pub back : RecordPlace
-
--- this turn is one, where this is its begin, whether it is broken, and the next one's begin
+-- no record breaks this turn, though the next one begins: where this is its begin, whether it is broken, and the next
+-- one's begin
 abbrev pub unbroken_by : ℕ → Option (Option RecordPlace) → Option Bool → Option (Option RecordPlace) → Option Unbroken
 unbroken_by turn (Some (Some begin)) (Some false) (Some (Some back)) = Some (record { turn = turn; begin = begin; back = back })
 unbroken_by turn _ _ _ = None
 
--- the turn is one
+-- the same of the turn with this number
 abbrev pub unbroken_at : List (Option RecordPlace) → List Bool → ℕ → Option Unbroken
 unbroken_at begins broken turn = unbroken_by turn (slice_get begins turn) (slice_get broken turn) (slice_get begins (suc turn))
 
--- the first of these turns that is one
+-- the first of these turns of which it is so
 abbrev pub first_unbroken : List (Option RecordPlace) → List Bool → List ℕ → Option Unbroken
 first_unbroken begins broken [] = None
 first_unbroken begins broken (turn ∷ turns) = option_or (unbroken_at begins broken turn) (first_unbroken begins broken turns)

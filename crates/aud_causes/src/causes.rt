@@ -63,7 +63,14 @@ pub fn causes_of<'r, 'a>(
     let client = place_of(tap);
     let found = causes_found(alloc, recording, client, pid, fault, account, noted)?;
     let numbers = numbers_at(recording, client, pid);
-    shown_causes(alloc, &sheet, tap, numbers, has_others(fault), found.as_slice())
+    shown_causes(
+        alloc,
+        &sheet,
+        tap,
+        numbers,
+        has_others(fault),
+        found.as_slice(),
+    )
 }
 
 /// Whether several causes of such a fault are known.

@@ -51,11 +51,7 @@ pub(crate) fn no_packet_text(alloc: Global, why: Option<NoPacket>) -> Result<Str
 }
 
 /// The same of the packet with this number of a polling body, or of a whole record, for this reason.
-fn refused_text(
-    alloc: Global,
-    packet: Option<usize>,
-    words: &str,
-) -> Result<String, AllocError>
+fn refused_text(alloc: Global, packet: Option<usize>, words: &str) -> Result<String, AllocError>
     ensures { IfOk result (λ text. string_bytes text
         ≡ sentence_text (refused_pieces packet words.now)) }
 {
@@ -102,10 +98,8 @@ fn refusal_advice(refusal: Refusal, packet: Option<usize>) -> &'static str
             "look at the records before this one: a packet's attachment is not among them.",
         (Refusal::Socket(SioFault::StrayBinary), _) =>
             "look at the records before this one: the packet of this attachment is not among them.",
-        (Refusal::Socket(SioFault::Attachments), _) =>
-            "send at most 64 attachments with an event.",
-        (Refusal::Socket(SioFault::AckId), _) =>
-            "use acknowledgement ids of at most 18 digits.",
+        (Refusal::Socket(SioFault::Attachments), _) => "send at most 64 attachments with an event.",
+        (Refusal::Socket(SioFault::AckId), _) => "use acknowledgement ids of at most 18 digits.",
         (Refusal::Socket(SioFault::Payload), _) =>
             "send JSON: no NaN, no half of a surrogate pair, no number past a double, 127 levels at most.",
         _ => "record what came as it came: a text as a text, and bytes as bytes.",

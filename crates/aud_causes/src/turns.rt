@@ -1,5 +1,5 @@
 //! What a break in the chain of a session's turns may come from.
-ghost use Rattle.std.specs.Prelude.{◌≡◌, ◌<◌, IfOk, length, map, option_map};
+ghost use Rattle.std.specs.Prelude.{◌≡◌, ◌<◌, IfOk, length, map};
 ghost use Rattle.aud_base.specs.Lists.{numbers_from};
 ghost use Rattle.aud_causes.specs.Private.Noting.{with_begin, with_break};
 ghost use Rattle.aud_causes.specs.Turns.{begins_of, begun_turn, breaks_of, broken_turn, chain_causes, count_with, first_unbroken, missing_break, not_tapped, turn_count, unbroken_at};
@@ -10,22 +10,13 @@ use crate::logs::recovery_after;
 use aud_chain::{Mark, RecordPlace, TurnMark};
 use aud_client::Stay;
 use std::alloc::{AllocError, Global};
-use std::marker::Model;
 
 /// A turn that no record breaks, though the next one begins.
 #[derive(Clone, Copy, Drop)]
-pub struct UnbrokenTurn {
-    turn: usize,
-    begin: RecordPlace,
-    back: RecordPlace,
-}
-
-impl Model for UnbrokenTurn {
-    ghost use Rattle.aud_causes.specs.Turns.{Unbroken};
-
-    ghost Value = { Unbroken };
-
-    ghost view = { λ s. record { turn = s.turn; begin = s.begin; back = s.back } };
+pub struct Unbroken {
+    pub turn: usize,
+    pub begin: RecordPlace,
+    pub back: RecordPlace,
 }
 
 /// The causes, where these are all records that begin or end turns of the session, and these the stays of its client's
@@ -101,8 +92,8 @@ fn begins_of(alloc: Global, marks: &[TurnMark]) -> Result<Vec<Option<RecordPlace
 }
 
 /// Notes the record, if it is the first that begins its turn.
-fn note_begin(begins: &mut [Option<RecordPlace>], mark: TurnMark)
-    ensures { begins.new ≡ with_begin mark begins.old }
+fn note_begin(begins: &mut Vec<Option<RecordPlace>>, mark: TurnMark)
+    ensures { begins.new.items ≡ with_begin mark begins.old.items }
 {
     let Some(turn) = begun_turn(mark.mark) else {
         return;
@@ -125,8 +116,8 @@ fn breaks_of(alloc: Global, marks: &[TurnMark]) -> Result<Vec<bool>, AllocError>
 }
 
 /// Notes the record, if it breaks a turn.
-fn note_break(broken: &mut [bool], mark: TurnMark)
-    ensures { broken.new ≡ with_break mark broken.old }
+fn note_break(broken: &mut Vec<bool>, mark: TurnMark)
+    ensures { broken.new.items ≡ with_break mark broken.old.items }
 {
     let Some(turn) = broken_turn(mark.mark) else {
         return;
@@ -167,8 +158,8 @@ fn missing_break(
 }
 
 /// The first turn that no record breaks, though the next one begins.
-fn first_unbroken(begins: &[Option<RecordPlace>], broken: &[bool]) -> Option<UnbrokenTurn>
-    ensures { option_map (λ u. u.now) result
+fn first_unbroken(begins: &[Option<RecordPlace>], broken: &[bool]) -> Option<Unbroken>
+    ensures { result
         ≡ first_unbroken begins.now broken.now (numbers_from 0 (length begins.now)) }
 {
     for turn in 0..begins.len() {
@@ -180,16 +171,12 @@ fn first_unbroken(begins: &[Option<RecordPlace>], broken: &[bool]) -> Option<Unb
 }
 
 /// The turn with this number, if it is one.
-fn unbroken_at(
-    begins: &[Option<RecordPlace>],
-    broken: &[bool],
-    turn: usize,
-) -> Option<UnbrokenTurn>
+fn unbroken_at(begins: &[Option<RecordPlace>], broken: &[bool], turn: usize) -> Option<Unbroken>
     requires { turn < length begins.now }
-    ensures { option_map (λ u. u.now) result ≡ unbroken_at begins.now broken.now turn }
+    ensures { result ≡ unbroken_at begins.now broken.now turn }
 {
     match (begins.get(turn), broken.get(turn), begins.get(turn + 1)) {
-        (Some(Some(begin)), Some(false), Some(Some(back))) => Some(UnbrokenTurn {
+        (Some(Some(begin)), Some(false), Some(Some(back))) => Some(Unbroken {
             turn,
             begin: *begin,
             back: *back,

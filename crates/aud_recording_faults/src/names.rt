@@ -18,8 +18,8 @@ use aud_chain::{Mark, RecordPlace, TurnMark, turn_marks};
 use aud_client::{Recording, Reply, Stay};
 use aud_node::Logs;
 use aud_rows::{ClientPlaces, Role, Row, Sheet};
-use aud_tap::NodeRec;
 use aud_shown::push_row;
+use aud_tap::NodeRec;
 use std::alloc::{AllocError, Global};
 
 /// How a node opened a session.

@@ -1,6 +1,6 @@
 use Rattle.std.proofs.Common.{take}
 use Rattle.aud_causes.specs.Turns.{turn_count}
-use Rattle.aud_causes.proofs.Turns.{AreBegins}
+use Rattle.aud_causes.proofs.TurnLemmas.{AreBegins}
 use Rattle.aud_causes.proofs.turns.begins_of.Given as goal
 
 -- the begins by the records so far

@@ -1,6 +1,6 @@
 use Rattle.std.proofs.Common.{take}
 use Rattle.aud_causes.specs.Turns.{turn_count}
-use Rattle.aud_causes.proofs.Turns.{AreBroken}
+use Rattle.aud_causes.proofs.TurnLemmas.{AreBroken}
 use Rattle.aud_causes.proofs.turns.breaks_of.Given as goal
 
 -- what is broken by the records so far

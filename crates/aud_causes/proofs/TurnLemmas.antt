@@ -1,5 +1,5 @@
 -- The records that begin and break turns, noted one after the other.
-use Rattle.std.proofs.Common.{◌≡◌, ◌<◌, ◌+◌, ◌++◌, ◌||◌, ℕ, Bool, true, false, cond, List, [], ◌∷◌, length, map, set, take, replicate, get_or, nat_eq, nat_lt, Option, Some, None, option_map, slice_get, refl, sym, ap, subst, ◌∙◌, arith, zero-add}
+use Rattle.std.proofs.Common.{◌≡◌, ◌<◌, ◌+◌, ◌-◌, ◌++◌, ◌||◌, ℕ, suc, Bool, true, false, cond, List, [], ◌∷◌, length, map, set, take, replicate, get_or, nat_eq, nat_lt, Option, Some, None, option_map, slice_get, refl, sym, ap, subst, ◌∙◌, arith, zero-add}
 use Rattle.std.specs.List.{find, list_any}
 use Rattle.std.specs.Option.{option_or}
 use Rattle.std.proofs.lemmas.Bool.Decides.{nat_tests}
@@ -13,14 +13,14 @@ use Rattle.aud_rooms.proofs.Ascending.{length-numbers}
 use Rattle.aud_chain.specs.declared.marks.TurnMark.{TurnMark}
 use Rattle.aud_chain.specs.declared.place.RecordPlace.{RecordPlace}
 use Rattle.aud_causes.specs.Private.Noting.{begin_at, begin_in, with_begin, break_in, with_break}
-use Rattle.aud_causes.specs.Turns.{begin_of, begins_of, begun_turn, breaks_of, broken_turn, is_broken, is_turn, turn_count}
+use Rattle.aud_causes.specs.Turns.{begin_of, begins_of, begun_turn, breaks_of, broken_turn, first_unbroken, is_broken, is_turn, turn_count, unbroken_at}
 
 -- ---- numbers and lists
 
 number_at : (count k : ℕ) → k < count → get_or (numbers_from 0 count) k 0 ≡ k
 number_at count k within =
-    let at : slice_get (replicate count 0) k ≡ Some 0 =
-        slice_get-get_or (replicate count 0) k 0 (subst (λ n. k < n) (sym (length-replicate count 0)) within) ∙ ap Some (get_or-replicate count k 0 0 within) in
+    let at : slice_get {X = ℕ} (replicate count 0) k ≡ Some 0 =
+    slice_get-get_or (replicate count 0) k 0 (subst (λ n. k < n) (sym (length-replicate count 0)) within) ∙ ap Some (get_or-replicate count k 0 0 within) in
     get_or_from_slice_get (numbers_from 0 count) k k 0
     (ap (λ n. slice_get (numbers_from 0 n) k) (sym (length-replicate count 0)) ∙ slice_get-numbers 0 (replicate count 0) k ∙ ap (option_map (λ _. 0 + k)) at ∙ ap Some (zero-add k))
 
@@ -29,9 +29,9 @@ by_number : {X : Type 0} (f : ℕ → X) (count : ℕ) (xs : List X) → length 
 by_number f count xs long each =
     same_lists xs (map f (numbers_from 0 count)) (long ∙ sym (length-map (numbers_from 0 count) f ∙ length-numbers 0 count))
     (λ k d h.
-      let within : k < count = subst (λ n. k < n) long h in
-      get_or_from_slice_get xs k (f k) d (each k within)
-      ∙ sym (get_or-map f (numbers_from 0 count) k 0 d (subst (λ n. k < n) (sym (length-numbers 0 count)) within) ∙ ap f (number_at count k within)))
+    let within : k < count = subst (λ n. k < n) long h in
+    get_or_from_slice_get xs k (f k) d (each k within)
+    ∙ sym (get_or-map f (numbers_from 0 count) k 0 d (subst (λ n. k < n) (sym (length-numbers 0 count)) within) ∙ ap f (number_at count k within)))
 
 all_alike : {X : Type 0} (count k : ℕ) (x : X) → k < count → slice_get (replicate count x) k ≡ Some x
 all_alike count k x within =
@@ -48,7 +48,7 @@ pub no_begins : (count : ℕ) → AreBegins count [] (replicate count None)
 no_begins count = record { long = length-replicate count None; each = λ k within. all_alike count k None within }
 
 -- the begin of a turn, after a record that begins it or doesn't
-noted : Bool → Option RecordPlace → RecordPlace → Option RecordPlace
+abbrev noted : Bool → Option RecordPlace → RecordPlace → Option RecordPlace
 noted false begin place = begin
 noted true None place = Some place
 noted true (Some begin) place = Some begin
@@ -176,3 +176,15 @@ broken_more count marks i m d old new within at is were =
 -- those of all
 pub broken_are : (marks : List TurnMark) (broken : List Bool) → AreBroken (turn_count 0 marks) marks broken → broken ≡ breaks_of marks
 broken_are marks broken are = by_number (is_broken marks) (turn_count 0 marks) broken are.long are.each
+
+-- ---- the turns that no record breaks
+
+-- a turn that is none is passed over
+pub unbroken_step : (begins : List (Option RecordPlace)) (broken : List Bool) (count turn : ℕ) → turn < count → None ≡ unbroken_at begins broken turn
+    → first_unbroken begins broken (numbers_from (turn + 1) (count - (turn + 1))) ≡ first_unbroken begins broken (numbers_from turn (count - turn))
+unbroken_step begins broken count turn within none =
+    let more : count - turn ≡ suc (count - (turn + 1)) = omega arith in
+    let next : turn + 1 ≡ suc turn = omega arith in
+    ap (λ first. first_unbroken begins broken (numbers_from first (count - (turn + 1)))) next
+    ∙ ap (λ found. option_or found (first_unbroken begins broken (numbers_from (suc turn) (count - (turn + 1))))) none
+    ∙ sym (ap (λ left. first_unbroken begins broken (numbers_from turn left)) more)
