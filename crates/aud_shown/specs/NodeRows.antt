@@ -8,8 +8,8 @@ use Rattle.aud_shown.specs.declared.node_records.NodeRecord.{NodeRecord}
 
 -- the row of the record
 abbrev pub record_row : Cluster → List TapLines → NodeRecord → Option RowSeen
-record_row c lines record = node_row c lines record.place.node record.place.number record.role
+record_row c lines r = node_row c lines r.place.node r.place.number r.role
 
 -- the rows of the records, in their order
 abbrev pub node_rows : Cluster → List TapLines → List NodeRecord → List RowSeen
-node_rows c lines records = flat_map (λ record. option_to_list (record_row c lines record)) records
+node_rows c lines records = flat_map (λ r. option_to_list (record_row c lines r)) records

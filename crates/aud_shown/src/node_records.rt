@@ -28,11 +28,11 @@ pub fn node_rows<'r>(
         AreTrueRows sheet.now.recording.now sheet.now.lines.now rows.items) }
 {
     let mut rows = Vec::new(alloc);
-    for record in records {
-        let place = record.place;
+    for shown in records {
+        let place = shown.place;
         push_row(
             &mut rows,
-            sheet.node_row(place.node, place.number, record.role),
+            sheet.node_row(place.node, place.number, shown.role),
         )?;
     }
     Ok(rows)

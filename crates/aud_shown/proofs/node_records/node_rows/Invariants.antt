@@ -5,7 +5,7 @@ use Rattle.aud_shown.specs.RowLists.{AreTrueRows}
 use Rattle.aud_shown.proofs.node_records.node_rows.Given as goal
 
 -- the rows of the records so far, and they are true
-abbrev pub invariant-loop-record : goal.invariant-loop-record
-invariant-loop-record l =
-    (map row_seen l.rows.items ≡ node_rows l.sheet.recording.now l.sheet.lines.now (take l.record-index l.records))
+abbrev pub invariant-loop-shown : goal.invariant-loop-shown
+invariant-loop-shown l =
+    (map row_seen l.rows.items ≡ node_rows l.sheet.recording.now l.sheet.lines.now (take l.shown-index l.records))
     × AreTrueRows l.sheet.recording.now l.sheet.lines.now l.rows.items
