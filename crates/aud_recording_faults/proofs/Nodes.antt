@@ -18,7 +18,7 @@ use Rattle.aud_recording_faults.specs.Prepared.{IsRead, IsPreparedOf, IsOrderRea
 use Rattle.aud_recording_faults.specs.ShowsOrder.{AreOutOfOrder, places_in}
 use Rattle.aud_recording_faults.proofs.Read.{zip_append}
 
-take_whole : (xs : List ℕ) (i : ℕ) → length xs ≤ i → take i xs ≡ xs
+pub take_whole : (xs : List ℕ) (i : ℕ) → length xs ≤ i → take i xs ≡ xs
 take_whole [] zero h = refl
 take_whole [] (suc i) h = refl
 take_whole (x ∷ xs) zero h = absurd (omega arith)
@@ -34,6 +34,10 @@ places_more c (node ∷ nodes) more [] others are = absurd are
 places_more c (node ∷ nodes) more (None ∷ firsts) others are = places_more c nodes more firsts others are.1
 places_more c (node ∷ nodes) more (Some number ∷ firsts) others are =
     ap (λ found. record { node = node; number = number } ∷ found) (places_more c nodes more firsts others are.1)
+
+-- none at first
+pub none_yet : (c : Cluster) (found : List RecordPlace) → found ≡ [] → AreOutOfOrder c [] found
+none_yet c found none = record { firsts = []; are_read = tt; are_found = none }
 
 -- one more
 pub out_of_order_more : (c : Cluster) (nodes : List ℕ) (i : ℕ) (first : Option ℕ) (old new : List RecordPlace) → i < length nodes → IsOrderRead c (get_or nodes i 0) first

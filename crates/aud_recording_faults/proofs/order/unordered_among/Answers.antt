@@ -1,10 +1,10 @@
-use Rattle.std.proofs.Common.{[], refl, subst}
+use Rattle.std.proofs.Common.{subst}
 use Rattle.aud_recording_faults.specs.ShowsOrder.{AreOutOfOrder}
-use Rattle.aud_recording_faults.proofs.Nodes.{out_of_order_more, take_whole}
+use Rattle.aud_recording_faults.proofs.Nodes.{none_yet, out_of_order_more, take_whole}
 use Rattle.aud_recording_faults.proofs.order.unordered_among.Goals as goal
 
 pub loop-node-init : goal.loop-node-init
-loop-node-init c = record { firsts = []; are_read = tt; are_found = c.new.ensures.items }
+loop-node-init c = none_yet c.args.logs.now c.new-found.result.items c.new-found.ensures.items
 
 pub loop-node-preserved : goal.loop-node-preserved
 loop-node-preserved c =

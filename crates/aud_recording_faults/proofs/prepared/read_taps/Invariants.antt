@@ -5,4 +5,4 @@ use Rattle.aud_recording_faults.specs.Private.Wanted.{IsReadBy}
 use Rattle.aud_recording_faults.proofs.prepared.read_taps.Given as goal
 
 abbrev pub invariant-loop-place : goal.invariant-loop-place
-invariant-loop-place l = AllZip (IsReadBy l.recording.now l.wanted.now l.orders) (numbers_from 0 l.place) l.taps.items
+invariant-loop-place l = AllZip (IsReadBy l.recording l.wanted l.orders) (numbers_from 0 l.place) l.taps.items

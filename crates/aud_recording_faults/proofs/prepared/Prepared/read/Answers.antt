@@ -7,7 +7,7 @@ use Rattle.aud_recording_faults.proofs.Read.{read_all}
 use Rattle.aud_recording_faults.proofs.prepared.Prepared.read.Goals as goal
 
 pub returns-clause-read : goal.returns-clause-read
-returns-clause-read g c =
+returns-clause-read c =
     let here = c.args.recording.now in
     let places = c.args.places.now in
     let wanted = c.in_ok-wanted.wanted.items in
@@ -16,4 +16,4 @@ returns-clause-read g c =
     (subst (λ marks. AllZip (IsReadBy here marks c.args.orders) (numbers_from 0 (length here.taps)) c.in_ok-taps.taps.items) c.as_slice.ensures.value c.in_ok-taps.ensures)
 
 pub returns-clause-prepared : goal.returns-clause-prepared
-returns-clause-prepared g c = record { places = c.args.places.now; orders = c.args.orders; are_read = returns-clause-read g c }
+returns-clause-prepared c = record { places = c.args.places.now; orders = c.args.orders; are_read = returns-clause-read c }
