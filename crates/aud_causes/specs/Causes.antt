@@ -18,7 +18,7 @@ use Rattle.aud_causes.specs.declared.found.CauseFound.{CauseFound}
 use Rattle.aud_causes.specs.Differences.{case_of}
 use Rattle.aud_causes.specs.Found.{cause_seen, shown_causes}
 use Rattle.aud_causes.specs.Judged.{AreJudgedCauses}
-use Rattle.aud_causes.specs.Recorded.{AreRecordedCauses, stays_of_client}
+use Rattle.aud_causes.specs.Recorded.{AreRecordedCauses}
 
 -- these are the causes of the fault of the session with this pid: by what it has on the nodes and in its client's tap,
 -- where it has no account; else by its account

@@ -1,5 +1,5 @@
 -- What a difference may come from, by its facts alone.
-use Rattle.std.specs.Prelude.{ℕ, Bool, true, false, not, ◌&&◌, ◌||◌, Option, Some, None, if◌then◌else◌, nat_eq, nat_lt, nat_le}
+use Rattle.std.specs.Prelude.{ℕ, Bool, false, not, ◌&&◌, ◌||◌, Option, Some, None, if◌then◌else◌, nat_eq, nat_lt, nat_le}
 use Rattle.std.specs.Option.{option_and_then}
 use Rattle.aud_causes.specs.declared.cause.Cause.{Cause}
 use Rattle.aud_causes.specs.declared.cause.Cause.TheVariants.{DoubledLive, SwappedLive, LostLive, SentAgainAfterReplay, StaleOffset, SkippedInWindow}

@@ -1,5 +1,5 @@
 -- What a difference between what was received and what was due may come from.
-use Rattle.std.specs.Prelude.{◌≡◌, ℕ, not, ◌&&◌, ◌++◌, List, [], map, Option, option_to_list, nat_lt, nat_le}
+use Rattle.std.specs.Prelude.{ℕ, not, ◌&&◌, ◌++◌, List, [], map, Option, option_to_list, nat_lt, nat_le}
 use Rattle.std.specs.Option.{option_and_then, option_or}
 use Rattle.aud_node.specs.Cluster.{Cluster}
 use Rattle.aud_node.specs.Stream.{Text}

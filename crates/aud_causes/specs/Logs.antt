@@ -1,6 +1,6 @@
 -- What a fault of the nodes' logs may come from.
 use Rattle.std.specs.Prelude.{ℕ, suc, ◌-◌, List, [], ◌∷◌, Option, Some, None, if◌then◌else◌, nat_eq, nat_le, nat_lt, not, slice_get}
-use Rattle.std.specs.Option.{option_map, option_and_then}
+use Rattle.std.specs.Option.{option_and_then}
 use Rattle.aud_tap.specs.declared.records.StreamRec.{StreamRec}
 use Rattle.aud_tap.specs.declared.records.NodeRec.{NodeRec}
 use Rattle.aud_tap.specs.declared.records.NodeRec.TheVariants as rec
@@ -8,7 +8,7 @@ use Rattle.aud_client.specs.StaySeen.{StaySeen}
 use Rattle.aud_client.specs.Received.{is_recovered}
 use Rattle.aud_node.specs.Cluster.{Cluster, node_log}
 use Rattle.aud_node.specs.Cursors.{cursor_at}
-use Rattle.aud_node.specs.Stream.{Text, position}
+use Rattle.aud_node.specs.Stream.{position}
 use Rattle.aud_chain.specs.declared.place.RecordPlace.{RecordPlace}
 use Rattle.aud_causes.specs.declared.cause.Cause.{Cause}
 use Rattle.aud_causes.specs.declared.cause.Cause.TheVariants.{NoStart, RestartedInOldLog, NotInStream, EntriesSkippedByNode, EntryTakenAgain}

@@ -1,6 +1,6 @@
 -- What a fault of a client's tap may come from.
 use Rattle.std.specs.Prelude.{ℕ, suc, zero, Bool, not, ◌&&◌, List, [], ◌∷◌, Option, Some, None, is_some, if◌then◌else◌, slice_get}
-use Rattle.std.specs.Option.{option_map, option_and_then}
+use Rattle.std.specs.Option.{option_and_then}
 use Rattle.std.specs.Str.{bytes_eq}
 use Rattle.aud_node.specs.Stream.{Text}
 use Rattle.aud_client.specs.Replies.{ReplySeen}

@@ -5,7 +5,6 @@ use Rattle.aud_node.specs.Cluster.{Cluster}
 use Rattle.aud_node.specs.Stream.{Text}
 use Rattle.aud_maker.specs.Made.{name_at}
 use Rattle.aud_input.specs.TapLines.{TapLines}
-use Rattle.aud_chain.specs.declared.place.RecordPlace.{RecordPlace}
 use Rattle.aud_rows.specs.declared.row.Role.TheVariants.{Fault}
 use Rattle.aud_rows.specs.Seen.{RowSeen}
 use Rattle.aud_rows.specs.declared.client_places.ClientPlaces.{ClientPlaces}

@@ -1,4 +1,4 @@
-use Rattle.std.proofs.Common.{◌≡◌, ◌∙◌, MatchOption, inl, inr, map, subst, sym}
+use Rattle.std.proofs.Common.{◌≡◌, MatchOption, inl, inr, map, subst, sym}
 use Rattle.std.proofs.lemmas.Result.{IfOk-weaker}
 use Rattle.aud_merge.specs.ByTurns.{IsPrefixOf}
 use Rattle.aud_maker.specs.Made.{IsMade}
