@@ -3,3 +3,4 @@ pub mod AnyOrder
 pub mod ReadBack
 pub mod OfABundle
 pub mod LeftOut
+pub mod MadeOther

@@ -11,3 +11,4 @@ pub mod Inputs
 pub mod Outputs
 pub mod Proven
 pub mod LeftOut
+pub mod MadeOther

@@ -9,7 +9,8 @@
 //! what
 //!   "the same but for their order" means).
 //! - [`left_out`]: what may be left out of a recording, so that the verdicts on the other sessions stay: the nodes'
-//!   records of some sessions, and taps that don't tell of the others.
+//!   records of some sessions, taps that don't tell of the others, and of the stream the entries that those don't
+//!   need, which become `other`.
 //! - [`certified`]: what is proved is accepted: the text of a certificate that was made is read as that certificate.
 //! - [`rewritten`]: taps that were read keep to all that a bundle's taps keep to, and upgraded ones too (`AreOfABundle`
 //! of
@@ -65,7 +66,10 @@ mod recovery;
 mod rewritten;
 
 pub use certified::{made_is_read_back, made_is_sound, proved_is_accepted};
-pub use left_out::{recording_left, records_left_out, sessions_left_out, taps_left_out};
+pub use left_out::{
+    entries_made_other, recording_left, records_left_out, sessions_kept, sessions_left_out,
+    taps_left_out,
+};
 pub use order::{
     audit_is_one, inputs_in_any_order, lines_in_any_order, neighbours_in_any_order,
     outputs_in_any_order,

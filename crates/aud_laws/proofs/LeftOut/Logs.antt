@@ -39,7 +39,7 @@ all-there P (y ∷ ys) zero x all at = subst P (same_Some y x at) (All-head P y 
 all-there P (y ∷ ys) (suc i) x all at = all-there P ys i x (All-tail P y ys all) at
 
 -- where an element passes, some does
-any-there : {X : Type 0} (test : X → Bool) (xs : List X) (i : ℕ) (x : X) → slice_get xs i ≡ Some x → test x ≡ true → list_any test xs ≡ true
+pub any-there : {X : Type 0} (test : X → Bool) (xs : List X) (i : ℕ) (x : X) → slice_get xs i ≡ Some x → test x ≡ true → list_any test xs ≡ true
 any-there test [] i x at e = absurd (none-some x at)
 any-there test (y ∷ ys) zero x at e = let here : test y ≡ true = ap test (same_Some y x at) ∙ e in grind (arith, here)
 any-there test (y ∷ ys) (suc i) x at e = let later = any-there test ys i x at e in grind (arith, later)
@@ -68,7 +68,7 @@ named-tells pid (Node recs) i rec at names = any-there (λ r. record_names (Some
 named-tells pid (Client recs) i rec at names = absurd (none-some rec at)
 
 -- where there is a record there is a tap
-tap-there : (taps : List Tap) (node i : ℕ) (rec : NodeRec) → slice_get (node_recs (option_map (λ (tap : Tap). tap.records) (slice_get taps node))) i ≡ Some rec → (tap : Tap) × (slice_get taps node ≡ Some tap)
+pub tap-there : (taps : List Tap) (node i : ℕ) (rec : NodeRec) → slice_get (node_recs (option_map (λ (tap : Tap). tap.records) (slice_get taps node))) i ≡ Some rec → (tap : Tap) × (slice_get taps node ≡ Some tap)
 tap-there taps node i rec at = go (slice_get taps node) refl at
   where
     go : (o : Option Tap) → slice_get taps node ≡ o → slice_get (node_recs (option_map (λ (tap : Tap). tap.records) o)) i ≡ Some rec → (tap : Tap) × (slice_get taps node ≡ Some tap)
