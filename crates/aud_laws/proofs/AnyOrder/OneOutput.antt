@@ -1,5 +1,5 @@
 -- An input has one output of an audit.
-use Rattle.std.proofs.Common.{◌≡◌, ℕ, Bool, List, [], ◌∷◌, Result, Ok, Err, refl, sym, ap, ◌∙◌}
+use Rattle.std.proofs.Common.{◌≡◌, Bool, List, [], ◌∷◌, Result, Ok, Err, refl, sym, ap, ◌∙◌}
 use Rattle.aud_reader.specs.declared.fault.ReadFault.{ReadFault}
 use Rattle.aud_reader.specs.declared.fault.ReadFault.TheVariants.{Input, Memory}
 use Rattle.aud_node.specs.Stream.{Text}

@@ -1,5 +1,5 @@
 -- What is written for inputs that are read alike.
-use Rattle.std.proofs.Common.{◌≡◌, ◌⊎◌, inl, inr, ℕ, Bool, List, Result, Ok, Err, refl, sym, ap, subst, ◌∙◌}
+use Rattle.std.proofs.Common.{◌≡◌, inl, inr, ℕ, Bool, List, Result, Ok, Err, refl, sym, ap, subst, ◌∙◌}
 use Rattle.aud_reader.specs.declared.fault.ReadFault.{ReadFault}
 use Rattle.aud_input.specs.declared.input.Layout.{Layout}
 use Rattle.aud_input.specs.declared.input.Layout.TheVariants.{Bundle}
