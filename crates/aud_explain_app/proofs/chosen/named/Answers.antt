@@ -1,5 +1,6 @@
-use Rattle.std.proofs.Common.{not, ◌++◌, [], map, option_copied, refl, sym, ap, ◌∙◌, Some, arith, cond, bytes_eq, flat_map, take}
+use Rattle.std.proofs.Common.{not, ◌++◌, ℕ, List, [], map, option_copied, refl, sym, ap, ◌∙◌, Some, arith, cond, bytes_eq, flat_map, take}
 use Rattle.std.specs.List.{list_any}
+use Rattle.std.proofs.lemmas.List.{get_or_default}
 use Rattle.aud_base.specs.FirstTexts.{with_text, with_texts}
 use Rattle.aud_base.proofs.FirstTexts.{with_texts-one}
 use Rattle.aud_explain_app.specs.Chosen.{session_of, within_of}
@@ -26,13 +27,14 @@ loop-number-preserved c =
     let here = ap (has_pid known) (sym pid) ∙ has_found c.args.sessions.now text c.session_of.result _ c.session_of.ensures c.in-Some.is in
     let before = c.loop-number.invariant in
     let seen = with_texts [] (take c.loop-number.number pids) in
-    let more = ap (with_text seen) pid ∙ with_texts-one [] pids c.loop-number.number _ (omega arith) refl in
+    let read = pid ∙ get_or_default pids c.loop-number.number c.index-pids-number.result text (omega arith) in
+    let more = with_texts-one [] pids c.loop-number.number text (omega arith) read in
     record {
       seen = c.in_ok-push_once.ensures.seen ∙ ap (λ texts. with_text texts text) before.seen ∙ more;
       named = λ cluster asked.
-          let f = λ p. within_of cluster c.args.only (session_of c.args.sessions.now p) in
+          let f = λ (p : List ℕ). within_of cluster c.args.only (session_of c.args.sessions.now p) in
           c.in_ok-push_once.ensures.found cluster asked
-          ∙ ap (λ texts. map (λ session. session.now) c.loop-number.found.items ++ cond (list_any (bytes_eq text) texts) [] (within_of cluster c.args.only _)) before.seen
+          ∙ ap (λ texts. map (λ session. session.now) c.loop-number.found.items ++ cond (list_any (bytes_eq text) texts) [] (within_of cluster c.args.only (Some c.in-Some.session.now))) before.seen
           ∙ ap (λ s. map (λ session. session.now) c.loop-number.found.items ++ cond (list_any (bytes_eq text) seen) [] (within_of cluster c.args.only s)) there
           ∙ ap (λ sessions. sessions ++ cond (list_any (bytes_eq text) seen) [] (f text)) (before.named cluster asked)
           ∙ sym (flat_once f seen text)
