@@ -70,7 +70,8 @@ fn push_named(out: &mut String, name: &str, number: u64) -> Result<(), AllocErro
 {
     write!(out, "That is line {number} of ")?;
     push_printed(out, name)?;
-    out.push_str(".\n")
+    out.push_str(".\n")?;
+    Ok(())
 }
 
 /// The name of the file; none where none is named.
