@@ -1,5 +1,5 @@
 -- The recoveries of a session that were refused.
-use Rattle.std.specs.Prelude.{◌≡◌, ◌∷◌, [], List, MatchOption, map, None, Some, slice_get}
+use Rattle.std.specs.Prelude.{◌≡◌, ◌∷◌, [], List, MatchOption, map, None, Some, slice_get, true}
 use Rattle.aud_node.specs.Cluster.{Cluster}
 use Rattle.aud_causes.specs.Found.{cause_seen, shown_causes}
 use Rattle.aud_causes.specs.Refusals.{refusal_causes}
