@@ -4,3 +4,4 @@ pub mod ReadBack
 pub mod OfABundle
 pub mod LeftOut
 pub mod MadeOther
+pub mod InParts

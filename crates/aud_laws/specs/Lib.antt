@@ -10,5 +10,7 @@ pub mod Order
 pub mod Inputs
 pub mod Outputs
 pub mod Proven
-pub mod LeftOut
-pub mod MadeOther
+pub mod Parts
+pub use Rattle.aud_parts.specs.LeftOut
+pub use Rattle.aud_parts.specs.MadeOther
+pub use Rattle.aud_parts.specs.Part

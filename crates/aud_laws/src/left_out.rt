@@ -5,8 +5,8 @@ ghost use Rattle.aud_tap.specs.declared.records.StreamRec.{StreamRec};
 ghost use Rattle.aud_tap.specs.declared.taps.Tap.{Tap};
 ghost use Rattle.aud_node.specs.Stream.{Text};
 ghost use Rattle.aud_node.specs.Cluster.{Cluster, cluster_of};
-ghost use Rattle.aud_laws.specs.LeftOut.{keeps_record, without_records, without_taps, KeepsTapsOf, KeepsStreams, KeepsFirstOf, StartFirst, IsJudgedAlike};
-ghost use Rattle.aud_laws.specs.MadeOther.{with_others, needed_by_some, KeepsNeeded};
+ghost use Rattle.aud_parts.specs.LeftOut.{keeps_record, without_records, without_taps, KeepsTapsOf, KeepsStreams, KeepsFirstOf, StartFirst, IsJudgedAlike};
+ghost use Rattle.aud_parts.specs.MadeOther.{with_others, needed_by_some, KeepsNeeded};
 
 /// Taps that don't tell of a session may be left out, and the verdict on it stays: those of clients of which no
 /// reply names it, and those of nodes of which no record does.

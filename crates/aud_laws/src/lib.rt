@@ -11,6 +11,8 @@
 //! - [`left_out`]: what may be left out of a recording, so that the verdicts on the other sessions stay: the nodes'
 //!   records of some sessions, taps that don't tell of the others, and of the stream the entries that those don't
 //!   need, which become `other`.
+//! - [`parts`]: what a part of a recording tells of its sessions, and that the reports on the parts make the report on
+//!   the whole.
 //! - [`certified`]: what is proved is accepted: the text of a certificate that was made is read as that certificate.
 //! - [`rewritten`]: taps that were read keep to all that a bundle's taps keep to, and upgraded ones too (`AreOfABundle`
 //! of
@@ -62,6 +64,7 @@
 mod certified;
 mod left_out;
 mod order;
+mod parts;
 mod recovery;
 mod rewritten;
 
@@ -73,6 +76,10 @@ pub use left_out::{
 pub use order::{
     audit_is_one, inputs_in_any_order, lines_in_any_order, neighbours_in_any_order,
     outputs_in_any_order,
+};
+pub use parts::{
+    part_has_its_sessions, part_is_judged_alike, part_is_of_a_bundle, part_is_reported_alike,
+    plan_is_listed, reports_are_merged,
 };
 pub use recovery::{recovery_is_accepted, run_with_recovery};
 pub use rewritten::{read_taps_are_of_a_bundle, upgraded_taps_are_of_a_bundle};

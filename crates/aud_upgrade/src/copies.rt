@@ -53,7 +53,8 @@ fn copied_event(alloc: Global, event: &Event) -> Result<Event, AllocError>
     })
 }
 
-fn copied_entry(alloc: Global, entry: &StreamRec) -> Result<StreamRec, AllocError>
+/// A copy of an entry of the stream. Texts are shared with it, attachments are copied.
+pub fn copied_entry(alloc: Global, entry: &StreamRec) -> Result<StreamRec, AllocError>
     ensures { IfOk result (λ copy. copy ≡ entry.now) }
 {
     match entry {
@@ -81,6 +82,7 @@ fn copied_if_there(text: &Option<Text>) -> Result<Option<Text>, AllocError>
     }
 }
 
+/// A copy of a node's record, of which the texts are shared.
 pub fn copied_record(rec: &NodeRec) -> Result<NodeRec, AllocError>
     ensures { IfOk result (λ copy. copy ≡ rec.now) }
 {

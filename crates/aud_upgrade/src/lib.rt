@@ -22,5 +22,6 @@ mod law;
 mod log;
 mod taps;
 
+pub use copies::{copied_entry, copied_record};
 pub use law::upgrades_keep_verdicts;
 pub use taps::upgrade;

@@ -5,7 +5,7 @@ use Rattle.aud_tap.specs.declared.records.StreamRec.{StreamRec}
 use Rattle.aud_tap.specs.declared.records.NodeRec.{NodeRec}
 use Rattle.aud_node.specs.Cursors.{next_cursor, cursor_past, cursor_at}
 use Rattle.aud_node.specs.Stream.{Text}
-use Rattle.aud_laws.specs.LeftOut.{is_start, begins_with_start, keeps_first}
+use Rattle.aud_parts.specs.LeftOut.{is_start, begins_with_start, keeps_first}
 use Rattle.aud_laws.proofs.LeftOut.Places.{moved, moved-none, moved-next, moved-past, moved-end, at-moved}
 use Rattle.aud_laws.proofs.LeftOut.Records.{LeavesOthers, another-next, next-later, next-suc}
 

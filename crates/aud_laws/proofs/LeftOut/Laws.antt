@@ -13,7 +13,7 @@ use Rattle.aud_tap.specs.RecordFields.{pid_of}
 use Rattle.aud_base.proofs.SameText.{same_text}
 use Rattle.aud_node.specs.Cluster.{Cluster, entries_or, is_stream, stream_of, cluster_of, node_recs}
 use Rattle.aud_node.specs.Stream.{Text}
-use Rattle.aud_laws.specs.LeftOut.{keeps_pid, keeps_record, records_left, tap_left, without_records, without_taps, KeepsTapsOf, KeepsStreams, keeps_first, KeepsFirstOf, is_started, StartFirst, IsJudgedAlike}
+use Rattle.aud_parts.specs.LeftOut.{keeps_pid, keeps_record, records_left, tap_left, without_records, without_taps, KeepsTapsOf, KeepsStreams, keeps_first, KeepsFirstOf, is_started, StartFirst, IsJudgedAlike}
 use Rattle.aud_laws.proofs.LeftOut.Records.{IsOfAnother, LeavesOthers}
 use Rattle.aud_laws.proofs.LeftOut.Logs.{over, left_of, Leaves}
 use Rattle.aud_laws.proofs.LeftOut.Chains.{chain-there, chain-back, no_turn-there, no_turn-back}

@@ -14,7 +14,7 @@ use Rattle.aud_node.specs.Cluster.{Cluster, node_recs, node_log}
 use Rattle.aud_node.specs.OwnRecords.{is_pid, record_names}
 use Rattle.aud_node.specs.Stream.{Text}
 use Rattle.aud_node.specs.TurnRecords.{pid_of}
-use Rattle.aud_laws.specs.LeftOut.{keeps_first, records_left, tap_left, tell_of}
+use Rattle.aud_parts.specs.LeftOut.{keeps_first, records_left, tap_left, tell_of}
 use Rattle.aud_laws.proofs.LeftOut.Places.{moved, stood, at-moved, at-stood, kept-there, stood-moved, moved-stood}
 use Rattle.aud_laws.proofs.LeftOut.Records.{LeavesOthers}
 

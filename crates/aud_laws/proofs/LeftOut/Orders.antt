@@ -11,7 +11,7 @@ use Rattle.aud_node.specs.Lists.{numbers_from}
 use Rattle.aud_node.specs.Ordered.{is_in_order, is_some_in_order, is_ordered}
 use Rattle.aud_node.specs.Stream.{Text}
 use Rattle.aud_node.proofs.CursorLemmas.{is_in_order_at}
-use Rattle.aud_laws.specs.LeftOut.{is_start, keeps_first}
+use Rattle.aud_parts.specs.LeftOut.{is_start, keeps_first}
 use Rattle.aud_laws.proofs.LeftOut.Places.{moved, stood, moved-none, moved-next, moved-rises, at-moved, at-stood, kept-there, moved-stood}
 use Rattle.aud_laws.proofs.LeftOut.Records.{LeavesOthers, another-in_order, another-start, in_order-suc, in_order-first}
 use Rattle.aud_laws.proofs.LeftOut.Cursors.{first-kept, cursor-moved}

@@ -6,7 +6,7 @@ use Rattle.aud_node.specs.Cursors.{later_cursor, next_cursor}
 use Rattle.aud_node.specs.Ordered.{is_in_order}
 use Rattle.aud_node.specs.Stream.{Text}
 use Rattle.aud_node.specs.TurnRecords.{pid_of}
-use Rattle.aud_laws.specs.LeftOut.{is_start}
+use Rattle.aud_parts.specs.LeftOut.{is_start}
 
 -- the record names another session
 pub record IsOfAnother (pid : Text) (rec : NodeRec) : Type 0 where

@@ -13,7 +13,7 @@ use Rattle.aud_node.specs.Stream.{Text}
 use Rattle.aud_node.specs.TurnRecords.{pid_of}
 use Rattle.aud_node.proofs.RecordLemmas.{between-push}
 use Rattle.aud_rooms.specs.Turns.{Who, Turn, slice_of, beginning, End, ByBreak, ByGone, ByLog, turn_end, MayEnd, IsTurn}
-use Rattle.aud_laws.specs.LeftOut.{keeps_first}
+use Rattle.aud_parts.specs.LeftOut.{keeps_first}
 use Rattle.aud_laws.proofs.LeftOut.Places.{moved, stood, at-moved, at-stood, kept-there, moved-stood, moved-next, moved-rises, moved-all, moved-within, between-moved}
 use Rattle.aud_laws.proofs.LeftOut.Cursors.{cursor-moved}
 use Rattle.aud_laws.proofs.LeftOut.Rooms.{slice_left}

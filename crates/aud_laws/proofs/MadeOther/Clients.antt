@@ -23,8 +23,8 @@ use Rattle.aud_client.specs.TapPackets.{TapPacket, FromServer, FromClient, tap_p
 use Rattle.aud_client.specs.Replies.{is_this, is_naming, naming_places, tap_names}
 use Rattle.aud_client.specs.StaySeen.{FrameSeen, recoverable_position, offset_in, frame_at, frame_of}
 use Rattle.aud_check.specs.Shown.{recs_or_none}
-use Rattle.aud_laws.specs.LeftOut.{tell_of}
-use Rattle.aud_laws.specs.MadeOther.{entry_left, is_event_of, has_event_of, tell_event, has_come, may_be_for, needs}
+use Rattle.aud_parts.specs.LeftOut.{tell_of}
+use Rattle.aud_parts.specs.MadeOther.{entry_left, is_event_of, has_event_of, tell_event, has_come, may_be_for, needs}
 use Rattle.aud_laws.proofs.LeftOut.Logs.{over, any-there}
 use Rattle.aud_laws.proofs.LeftOut.Places.{kept-there}
 use Rattle.aud_laws.proofs.MadeOther.Streams.{other-not, offset-there, left-kept, left-other, position-left, entry-left}

@@ -17,7 +17,7 @@ use Rattle.aud_node.specs.Stream.{Text, entry, positions_after}
 use Rattle.aud_rooms.specs.Rooms.{Rooms, own_room, is_addressed, is_for}
 use Rattle.aud_rooms.specs.Turns.{Who, Turn, slice_of, IsChain}
 use Rattle.aud_rooms.specs.TurnsDue.{rooms_for, is_past_first, is_for_rooms, is_turn_due, turns_due}
-use Rattle.aud_laws.specs.MadeOther.{entry_left, opens_in, any_record, ever_held, may_be_for, has_come, needs}
+use Rattle.aud_parts.specs.MadeOther.{entry_left, opens_in, any_record, ever_held, may_be_for, has_come, needs}
 use Rattle.aud_laws.proofs.LeftOut.Logs.{over, all-there}
 use Rattle.aud_laws.proofs.MadeOther.Lists.{any-wider}
 use Rattle.aud_laws.proofs.MadeOther.Streams.{left-kept, left-other, position-left, entry-left}

@@ -15,8 +15,8 @@ use Rattle.aud_node.specs.Cluster.{Cluster, entries_or, is_stream, stream_of, cl
 use Rattle.aud_node.specs.Lists.{is_empty}
 use Rattle.aud_node.specs.Recoverable.{is_recoverable}
 use Rattle.aud_node.specs.Stream.{Text}
-use Rattle.aud_laws.specs.LeftOut.{keeps_record, records_left, tap_left, without_records, without_taps, tell_of, KeepsTapsOf, KeepsStreams, KeepsFirstOf, IsJudgedAlike}
-use Rattle.aud_laws.specs.MadeOther.{entry_left, entries_left, tap_with_others, with_others, opens_in, gives_room, any_record, ever_held, may_be_for, tell_event, has_come, needs, needed_by_some, KeepsNeeded}
+use Rattle.aud_parts.specs.LeftOut.{keeps_record, records_left, tap_left, without_records, without_taps, tell_of, KeepsTapsOf, KeepsStreams, KeepsFirstOf, IsJudgedAlike}
+use Rattle.aud_parts.specs.MadeOther.{entry_left, entries_left, tap_with_others, with_others, opens_in, gives_room, any_record, ever_held, may_be_for, tell_event, has_come, needs, needed_by_some, KeepsNeeded}
 use Rattle.aud_laws.proofs.LeftOut.Logs.{over, left_of, any-there}
 use Rattle.aud_laws.proofs.LeftOut.Laws.{taps_alike, sessions_alike, recording-is}
 use Rattle.aud_laws.proofs.MadeOther.Lists.{any-wider, any-of_kept}
@@ -28,7 +28,7 @@ use Rattle.aud_laws.proofs.MadeOther.Verdicts.{same_verdict}
 
 -- ---- judged alike
 
-then_alike : (c one two : Cluster) (pid : Text) → IsJudgedAlike c one pid → IsJudgedAlike one two pid → IsJudgedAlike c two pid
+pub then_alike : (c one two : Cluster) (pid : Text) → IsJudgedAlike c one pid → IsJudgedAlike one two pid → IsJudgedAlike c two pid
 then_alike c one two pid first second whole verdict =
     let (there, back) = first whole verdict in
     let (on, from) = second whole verdict in

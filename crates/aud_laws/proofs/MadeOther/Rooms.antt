@@ -19,7 +19,7 @@ use Rattle.aud_rooms.specs.Rooms.{Rooms, own_room, rooms_after}
 use Rattle.aud_rooms.specs.Turns.{Who, Turn, Slice, slice_of, IsChain}
 use Rattle.aud_rooms.specs.TurnsDue.{rooms_at_end, rooms_at_reach, rooms_for}
 use Rattle.aud_rooms.proofs.RoomMaps.{same_text}
-use Rattle.aud_laws.specs.MadeOther.{opens_in, gives_room, any_record, ever_held}
+use Rattle.aud_parts.specs.MadeOther.{opens_in, gives_room, any_record, ever_held}
 use Rattle.aud_laws.proofs.LeftOut.Logs.{over, any-there, tap-there, log-at}
 
 -- where a record of a node's log passes, one does

@@ -8,7 +8,7 @@ use Rattle.aud_base.proofs.SameText.{same_text}
 use Rattle.aud_node.specs.Stream.{Text, position, entry}
 use Rattle.aud_node.specs.Recoverable.{is_recoverable}
 use Rattle.aud_check.specs.Frames.{offset_or_empty, offset_at}
-use Rattle.aud_laws.specs.MadeOther.{entry_left}
+use Rattle.aud_parts.specs.MadeOther.{entry_left}
 
 -- an entry that is no event isn't recoverable
 pub other-not : (off : Text) → is_recoverable (Other off) ≡ false

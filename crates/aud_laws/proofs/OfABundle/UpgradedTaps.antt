@@ -47,7 +47,7 @@ module _ (stream : List StreamRec) where
   names-kept [] = refl
   names-kept (tap ∷ taps) = ap (λ names. tap.name ∷ names) (names-kept taps)
 
-  on-kept : (of : TapKind) (taps : List Tap) → taps_on of (map (upgraded_tap stream) taps) ≡ taps_on of taps
+  pub on-kept : (of : TapKind) (taps : List Tap) → taps_on of (map (upgraded_tap stream) taps) ≡ taps_on of taps
   on-kept of [] = refl
   on-kept of (tap ∷ taps) =
       let counts : Tap → ℕ = λ t. cond (same_kind of (kind_of_tap t.records)) 1 0 in
@@ -56,7 +56,7 @@ module _ (stream : List StreamRec) where
       ∙ ap (λ n. counts tap + n) (on-kept of taps)
       ∙ sym (sum_by-cons counts tap taps)
 
-  all-pids-kept : (taps : List Tap) → pids_of (map (upgraded_tap stream) taps) ≡ pids_of taps
+  pub all-pids-kept : (taps : List Tap) → pids_of (map (upgraded_tap stream) taps) ≡ pids_of taps
   all-pids-kept [] = refl
   all-pids-kept (tap ∷ taps) = ap (λ pids. pids ++ pids_of (map (upgraded_tap stream) taps)) (pids-kept tap.records) ∙ ap (λ pids. pids_in tap.records ++ pids) (all-pids-kept taps)
 

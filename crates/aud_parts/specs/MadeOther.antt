@@ -18,7 +18,7 @@ use Rattle.aud_node.specs.Cluster.{Cluster, node_recs}
 use Rattle.aud_client.specs.TapPackets.{TapPacket, FromServer, FromClient, Connection, tap_packets}
 use Rattle.aud_client.specs.Replies.{is_this}
 use Rattle.aud_client.specs.StaySeen.{offset_in}
-use Rattle.aud_laws.specs.LeftOut.{tell_of}
+use Rattle.aud_parts.specs.LeftOut.{tell_of}
 
 -- ---- what is left
 

@@ -1,0 +1,22 @@
+mod ListLemmas
+mod OwnLemmas
+mod EntryLemmas
+mod MarkLemmas
+mod LeftLemmas
+mod WholeLemmas
+pub mod ListSteps
+pub mod PartPids
+pub mod PlanLemmas
+pub mod CutLemmas
+pub mod NumberLemmas
+pub mod ListingLemmas
+pub mod PartLemmas
+pub mod ReportLemmas
+pub mod SlotLemmas
+pub mod NewLemmas
+pub mod MergeLemmas
+pub mod CameLemmas
+pub mod PartClients
+pub mod KeptTogether
+pub mod TapLines
+pub mod MergedLinesLemmas

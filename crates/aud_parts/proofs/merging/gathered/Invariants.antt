@@ -1,0 +1,13 @@
+use Rattle.std.proofs.Common.{◌≡◌, map, take}
+use Rattle.std.specs.List.{filter_map}
+use Rattle.aud_base.specs.Lists.{numbers_from}
+use Rattle.aud_parts.specs.Merged.{fault_of}
+use Rattle.aud_parts.specs.Private.Slots.{slots_of}
+use Rattle.aud_parts.proofs.merging.gathered.Given as goal
+
+-- what the reports so far give
+abbrev pub invariant-loop-number : goal.invariant-loop-number
+invariant-loop-number l = record {
+  slots : l.slots.items ≡ slots_of (map (λ part. part.items) l.parts) (take l.number l.reports);
+  faults : l.faults.items ≡ filter_map (fault_of (map (λ part. part.items) l.parts) l.reports) (numbers_from 0 l.number);
+}

@@ -1,0 +1,6 @@
+-- What invariants and contracts of private functions alone cite. No public clause rests on these words.
+pub mod OwnRecords
+pub mod Kept
+pub mod Marks
+pub mod PartPlaces
+pub mod Slots

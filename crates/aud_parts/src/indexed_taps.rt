@@ -1,0 +1,20 @@
+//! The taps of an index, and what each was put on.
+use crate::tap_runs::TapRuns;
+use aud_tap::TapKind;
+
+/// The taps of an index, borrowed, with what each was put on; none where a tap's first line is no header.
+#[derive(Drop)]
+pub struct IndexedTaps<'a> {
+    pub taps: &'a [TapRuns],
+    pub kinds: &'a [Option<TapKind>],
+}
+
+impl IndexedTaps<'_> {
+    /// Whether the tap at this place, which counts from 0, is the stream's or a node's.
+    pub fn is_server(&self, place: usize) -> bool {
+        matches!(
+            self.kinds.get(place),
+            Some(Some(TapKind::Stream | TapKind::Node))
+        )
+    }
+}

@@ -1,0 +1,54 @@
+//! Which part has which session, and the text of it.
+ghost use Rattle.std.specs.Prelude.{◌≡◌, ◌++◌, ◌+◌, ◌^◌, ◌<◌, true, IfOk, IsTrue, OnOk, Ok, string_bytes};
+ghost use Rattle.aud_parts.specs.Listing.{are_within, is_listing, listing_of, listing_text, session_line};
+
+use aud_base::Listed;
+use aud_tap::Text;
+use std::alloc::{AllocError, Global};
+
+/// A session of the report on the whole, and the part that has it.
+#[derive(Drop)]
+pub struct ListedSession {
+    /// The number of the part. Parts count from 0; in texts and in the names of files from 1.
+    pub part: usize,
+    pub pid: Text,
+}
+
+/// Which part has which session.
+#[derive(Drop)]
+pub struct Listing {
+    /// How many parts there are.
+    pub parts: usize,
+    /// The sessions, in the order of the report on the whole.
+    pub sessions: Listed<ListedSession>,
+}
+
+/// Puts the line of a session at the end.
+fn push_session(out: &mut String, session: &ListedSession) -> Result<(), AllocError>
+    requires { session.now.part + 1 < 2 ^ 64 }
+    ensures { OnOk result (string_bytes out.new
+        ≡ string_bytes out.old ++ session_line session.now) }
+{
+    let number = session.part + 1;
+    let pid = session.pid.as_str();
+    writeln!(out, "{number} {pid}")
+}
+
+/// The text of a listing: a line `parts=<number> sessions=<number>`, and for each session, in their order, a line
+/// `<part> <pid>`. [`read_listing`](crate::read_listing) reads it.
+pub fn listing_text(alloc: Global, listing: &Listing) -> Result<String, AllocError>
+    requires { IsTrue (are_within listing.now) }
+    ensures written { IfOk result (λ text. string_bytes text ≡ listing_text listing.now) }
+    ensures reads_back { IfOk result (λ text. is_listing listing.now ≡ true
+        → listing_of (string_bytes text) ≡ Ok listing.now) }
+{
+    let mut out = String::new(alloc);
+    let parts = listing.parts;
+    let sessions = listing.sessions.as_slice();
+    let count = sessions.len();
+    writeln!(&mut out, "parts={parts} sessions={count}")?;
+    for session in sessions {
+        push_session(&mut out, session)?;
+    }
+    Ok(out)
+}

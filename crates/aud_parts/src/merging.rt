@@ -1,0 +1,272 @@
+//! The one report of the reports on the parts.
+ghost use Rattle.std.specs.Prelude.{◌≡◌, ◌<◌, ◌+◌, ◌^◌, ◌++◌, if◌then◌else◌, slice_get, List, ℕ, IfOk, IfSome, IsTrue, OnOk, map, option_map, option_to_list, is_some, length, replicate, take};
+ghost use Rattle.std.specs.List.{list_all};
+ghost use Rattle.aud_base.specs.Places.{places_of};
+ghost use Rattle.aud_parts.specs.Listing.{are_within, is_within};
+ghost use Rattle.aud_parts.specs.Merged.{told, answer_of, merged, merged_lines, merged_of};
+ghost use Rattle.aud_parts.specs.Private.PartPlaces.{places_by_first};
+ghost use Rattle.aud_parts.specs.Private.Slots.{fault_with, slots_with, slots_of, report_faults, missing_in, lines_in, all_in, left_in, next_after};
+
+use crate::by_part::{LentText, part_of, pids_by_part, places_by_first};
+use crate::listing::{ListedSession, Listing};
+use crate::merge_fault::{MergeFault, ReportFault};
+use crate::report_lines::{ReportLine, are_all_yes, report_in, report_of};
+use aud_base::{Bytes, Listed, Places};
+use std::alloc::{AllocError, Global};
+use std::hash::RandomState;
+
+/// The report on the whole.
+#[derive(Drop)]
+pub struct Merged {
+    /// The report, as `sioaudit audit` writes it.
+    pub text: Bytes,
+    /// Whether each session is answered yes.
+    pub are_all_yes: bool,
+}
+
+/// What a merge gives.
+#[derive(Drop)]
+pub enum MergeAnswer {
+    /// The report on the whole.
+    Whole(Merged),
+    /// All that is wrong: report by report in the order in which they are given, and then the parts that have none, by
+    /// their numbers.
+    Faults(Listed<MergeFault>),
+}
+
+/// The part that a report is of, and its lines.
+type Told<'a> = (usize, Listed<ReportLine<'a>>);
+
+/// Of each part the lines of its report, once it came.
+type Slots<'a> = Vec<Option<Listed<ReportLine<'a>>>>;
+
+/// The part that a report is of, and its lines; or what is wrong with it by itself.
+#[tactic(auto, unfolding(crate::specs::Merged::told))]
+fn told<'a>(
+    alloc: Global,
+    parts: &[Vec<LentText<'_>>],
+    index: &Places,
+    text: &'a [u8],
+) -> Result<Result<Told<'a>, ReportFault>, AllocError>
+    requires { (pid : List ℕ) → places_of index.now pid
+        ≡ places_by_first (map (λ part. part.items) parts.now) pid }
+    ensures { IfOk result (λ answer. answer ≡ told (map (λ part. part.items) parts.now) text.now) }
+{
+    if text.starts_with(b"line ") {
+        return Ok(Err(ReportFault::Refused));
+    }
+    let Some(lines) = report_in(alloc, text)? else {
+        return Ok(Err(ReportFault::NotWhole));
+    };
+    match part_of(parts, index, lines.as_slice()) {
+        Some(part) => Ok(Ok((part, lines))),
+        None => Ok(Err(ReportFault::OtherSplit)),
+    }
+}
+
+/// Whether the part has a report.
+fn has_report(slots: &[Option<Listed<ReportLine<'_>>>], part: usize) -> bool
+    ensures { result ≡ is_some (lines_in slots.now part) }
+{
+    match slots.get(part) {
+        Some(Some(_)) => true,
+        _ => false,
+    }
+}
+
+/// Puts what a report tells to its part, or what is wrong with it to the faults.
+fn take_told<'a>(
+    slots: &mut Slots<'a>,
+    faults: &mut Vec<MergeFault>,
+    number: usize,
+    told: Result<Told<'a>, ReportFault>,
+) -> Result<(), AllocError>
+    ensures slots { OnOk result (slots.new.items ≡ slots_with slots.old.items told.entry) }
+    ensures faults { OnOk result (faults.new.items ≡ faults.old.items ++ option_to_list
+        (option_map (MergeFault.Report number) (fault_with slots.old.items told.entry))) }
+{
+    match told {
+        Err(fault) => faults.push(MergeFault::Report(number, fault))?,
+        Ok((part, lines)) => {
+            if has_report(slots, part) {
+                faults.push(MergeFault::Report(number, ReportFault::Doubled))?;
+            } else if part < slots.len() {
+                slots[part] = Some(lines);
+            }
+        }
+    }
+    Ok(())
+}
+
+/// So many parts without a report.
+fn empty_slots<'a>(alloc: Global, count: usize) -> Result<Slots<'a>, AllocError>
+    ensures { IfOk result (λ slots. slots.items ≡ replicate count None) }
+{
+    let mut slots = Vec::new(alloc);
+    for _i in 0..count {
+        slots.push(None)?;
+    }
+    Ok(slots)
+}
+
+/// Of each part the lines of the first report on it; and what is wrong with the reports.
+fn gathered<'a>(
+    alloc: Global,
+    parts: &[Vec<LentText<'_>>],
+    index: &Places,
+    reports: &'a [Bytes],
+) -> Result<(Slots<'a>, Vec<MergeFault>), AllocError>
+    requires { (pid : List ℕ) → places_of index.now pid
+        ≡ places_by_first (map (λ part. part.items) parts.now) pid }
+    ensures slots { IfOk result (λ found. found.0.items
+        ≡ slots_of (map (λ part. part.items) parts.now) reports.now) }
+    ensures faults { IfOk result (λ found. found.1.items
+        ≡ report_faults (map (λ part. part.items) parts.now) reports.now) }
+{
+    let mut slots = empty_slots(alloc, parts.len())?;
+    let mut faults = Vec::new(alloc);
+    for (number, report) in reports.iter().enumerate() {
+        let told = told(alloc, parts, index, report.as_slice())?;
+        take_told(&mut slots, &mut faults, number, told)?;
+    }
+    Ok((slots, faults))
+}
+
+/// Puts the part to the faults, if it has no report.
+fn push_if_missing(
+    faults: &mut Vec<MergeFault>,
+    part: usize,
+    slot: &Option<Listed<ReportLine<'_>>>,
+) -> Result<(), AllocError>
+    ensures { OnOk result (faults.new.items ≡ faults.old.items ++ option_to_list
+        (if is_some slot.now then None else Some (MergeFault.Missing part))) }
+{
+    if slot.is_none() {
+        faults.push(MergeFault::Missing(part))?;
+    }
+    Ok(())
+}
+
+/// Puts the parts without a report to the faults.
+fn push_missing(
+    faults: &mut Vec<MergeFault>,
+    slots: &[Option<Listed<ReportLine<'_>>>],
+) -> Result<(), AllocError>
+    ensures { OnOk result (faults.new.items ≡ faults.old.items ++ missing_in slots.now) }
+{
+    for (part, slot) in slots.iter().enumerate() {
+        push_if_missing(faults, part, slot)?;
+    }
+    Ok(())
+}
+
+/// The line with this number of the part's report. Numbers count from 0.
+fn line_at<'a>(
+    slots: &[Option<Listed<ReportLine<'a>>>],
+    part: usize,
+    number: usize,
+) -> Option<ReportLine<'a>>
+    ensures value { result ≡ slice_get (all_in slots.now part) number }
+    ensures few { IfSome result (λ line. number + 1 < 2 ^ 64) }
+{
+    let Some(slot) = slots.get(part) else {
+        return None;
+    };
+    let Some(lines) = slot else {
+        return None;
+    };
+    let lines = lines.as_slice();
+    if number < lines.len() {
+        let line = &lines[number];
+        Some(line.again())
+    } else {
+        None
+    }
+}
+
+/// Puts the next line of the part at the end, if there is one, and counts it.
+fn push_next<'a>(
+    merged: &mut Vec<ReportLine<'a>>,
+    next: &mut Vec<usize>,
+    slots: &[Option<Listed<ReportLine<'a>>>],
+    part: usize,
+) -> Result<(), AllocError>
+    requires { part < length next.old.items }
+    ensures merged { OnOk result (merged.new.items
+        ≡ merged.old.items ++ take 1 (left_in slots.now next.old.items part)) }
+    ensures next { OnOk result (next.new.items ≡ next_after slots.now next.old.items part) }
+{
+    let number = next[part];
+    if let Some(line) = line_at(slots, part, number) {
+        merged.push(line)?;
+        next[part] = number + 1;
+    }
+    Ok(())
+}
+
+/// Of each session the line that is next in its part's report.
+fn merged_lines<'a>(
+    alloc: Global,
+    sessions: &[ListedSession],
+    slots: &[Option<Listed<ReportLine<'a>>>],
+) -> Result<Vec<ReportLine<'a>>, AllocError>
+    requires { IsTrue (list_all (is_within (length slots.now)) sessions.now) }
+    ensures { IfOk result (λ lines. lines.items ≡ merged_lines (all_in slots.now) sessions.now) }
+{
+    let mut merged = Vec::new(alloc);
+    let mut next = vec![in alloc; 0usize; slots.len()]?;
+    for session in sessions {
+        push_next(&mut merged, &mut next, slots, session.part)?;
+    }
+    Ok(merged)
+}
+
+/// The report with these lines, and whether all of them are yes.
+fn merged_of(alloc: Global, lines: &[ReportLine<'_>]) -> Result<Merged, AllocError>
+    ensures { IfOk result (λ whole. whole ≡ merged_of lines.now) }
+{
+    Ok(Merged {
+        text: report_of(alloc, lines)?,
+        are_all_yes: are_all_yes(lines),
+    })
+}
+
+/// The report on the whole, of the parts' lines, if nothing is wrong.
+fn answer(
+    alloc: Global,
+    sessions: &[ListedSession],
+    slots: &[Option<Listed<ReportLine<'_>>>],
+    faults: Vec<MergeFault>,
+) -> Result<MergeAnswer, AllocError>
+    requires { IsTrue (list_all (is_within (length slots.now)) sessions.now) }
+    ensures { IfOk result (λ answer. answer ≡ answer_of faults.items
+        (merged_of (merged_lines (all_in slots.now) sessions.now))) }
+{
+    if faults.is_empty() {
+        let lines = merged_lines(alloc, sessions, slots)?;
+        return Ok(MergeAnswer::Whole(merged_of(alloc, &lines)?));
+    }
+    Ok(MergeAnswer::Faults(Listed::new(faults)))
+}
+
+/// The report on the whole, of the reports on the parts of a split, in whatever order; or all that is wrong with them.
+///
+/// Which part a report is on is told by its sessions: the pids of its lines are, in their order, those of the part. Its
+/// lines are copied as they stand. Of two reports on one part the later one is `Doubled`. Pids are hashed with these
+/// keys.
+pub fn merge(
+    alloc: Global,
+    keys: RandomState,
+    listing: &Listing,
+    reports: &[Bytes],
+) -> Result<MergeAnswer, AllocError>
+    requires { IsTrue (are_within listing.now) }
+    ensures { IfOk result (λ answer. answer ≡ merged listing.now reports.now) }
+{
+    let parts = pids_by_part(alloc, listing)?;
+    let index = places_by_first(alloc, keys, &parts)?;
+    let (slots, faults) = gathered(alloc, &parts, &index, reports)?;
+    let mut faults = faults;
+    push_missing(&mut faults, &slots)?;
+    answer(alloc, listing.sessions.as_slice(), &slots, faults)
+}

@@ -1,0 +1,110 @@
+//! Which part each session and each client's tap is in.
+ghost use Rattle.std.specs.Prelude.{◌≡◌, IfOk, count_by, map, nat_eq};
+ghost use Rattle.aud_parts.specs.Plan.{came_in, has_client, is_in, is_part, part_of, pids_in};
+
+use crate::measured::MeasuredClient;
+use crate::sessions::Sessions;
+use std::alloc::{AllocError, Global};
+
+/// Which part of a recording each session and each client's tap is in. Parts count from 0, as many as there are
+/// weights.
+#[derive(Drop)]
+pub struct Plan {
+    /// The sessions, in the order of the report on the whole recording.
+    pub sessions: Sessions,
+    /// Of each session, the part that it is in.
+    pub parts: Vec<usize>,
+    /// Of each client's tap, the part that it is in; none where it names nobody.
+    pub clients: Vec<Option<usize>>,
+    /// Of each part, how heavy it is: the bytes of its clients' taps, and 64 for each record of a node's tap that names
+    /// one of its sessions.
+    pub weights: Vec<u64>,
+}
+
+impl Plan {
+    /// The part of the session; none where there is no such session.
+    pub fn part_of(&self, pid: &str) -> Option<usize>
+        ensures { result ≡ part_of self.now pid.now }
+    {
+        let number = self.sessions.number_of(pid)?;
+        self.parts.get(number).copied()
+    }
+
+    /// Whether the session has the part.
+    pub fn is_in(&self, part: usize, pid: &str) -> bool
+        ensures { result ≡ is_in self.now part pid.now }
+    {
+        is_part(part, self.part_of(pid))
+    }
+
+    /// The pids of the part's sessions, borrowed, in the order of the report.
+    pub fn pids_in(&self, alloc: Global, part: usize) -> Result<Vec<&str>, AllocError>
+        ensures { IfOk result (λ pids. map (λ pid. pid.now) pids.items ≡ pids_in self.now part) }
+    {
+        let mut pids = Vec::new(alloc);
+        let count = self.sessions.len().min(self.parts.len());
+        for number in 0..count {
+            let pid = self.sessions.pid(number);
+            if self.parts[number] == part {
+                pids.push(pid)?;
+            }
+        }
+        Ok(pids)
+    }
+
+    /// Whether the client's tap with this number, which counts from 0, has the part.
+    pub fn has_client(&self, part: usize, number: usize) -> bool
+        ensures { result ≡ has_client self.now part number }
+    {
+        match self.clients.get(number) {
+            Some(own) => is_part(part, *own),
+            None => false,
+        }
+    }
+
+    /// The positions in the stream of the events that came to the clients of the part, client after client. The clients
+    /// are those that were planned, in the same order.
+    pub fn came_in(
+        &self,
+        alloc: Global,
+        clients: &[MeasuredClient],
+        part: usize,
+    ) -> Result<Vec<u64>, AllocError>
+        ensures { IfOk result (λ came. came.items ≡ came_in self.now clients.now part) }
+    {
+        let mut came = Vec::new(alloc);
+        for (number, client) in clients.iter().enumerate() {
+            if self.has_client(part, number) {
+                came.extend_from_slice(client.facts.came.as_slice())?;
+            }
+        }
+        Ok(came)
+    }
+
+    /// How many sessions the part has.
+    pub fn session_count(&self, part: usize) -> usize
+        ensures { result ≡ count_by (λ own. nat_eq own part) self.now.parts.items }
+    {
+        self.parts.iter().filter(|own| **own == part).count()
+    }
+
+    /// How many clients' taps the part has.
+    pub fn client_count(&self, part: usize) -> usize
+        ensures { result ≡ count_by (is_part part) self.now.clients.items }
+    {
+        self.clients
+            .iter()
+            .filter(|own| is_part(part, **own))
+            .count()
+    }
+}
+
+/// Whether there is a part, and it is this one.
+fn is_part(part: usize, own: Option<usize>) -> bool
+    ensures { result ≡ is_part part own }
+{
+    match own {
+        Some(own) => own == part,
+        None => false,
+    }
+}
