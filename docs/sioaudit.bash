@@ -9,6 +9,8 @@ _sioaudit_options() {
         explain) echo '--pid --only --json --html --fail-on --workers --quiet -h --help -V --version' ;;
         simulate) echo '--nodes --clients --acts --seed --fault -h --help -V --version' ;;
         prove | verify | order | upgrade) echo '--quiet -h --help -V --version' ;;
+        split) echo '--parts --bytes --into --quiet -h --help -V --version' ;;
+        merge) echo '-h --help -V --version' ;;
     esac
 }
 
@@ -18,7 +20,8 @@ _sioaudit_values() {
         audit--workers | explain--workers) echo '1 2 4 8 16 32 64' ;;
         explain--only) echo 'no delivery packets recording NOLOG CHAIN ORDER CLIENT NAMES FRAME ORPHAN CONTENT EXTRA DOUBLED SWAPPED LOST WINDOW' ;;
         explain--fail-on) echo 'delivery packets recording refused nothing NOLOG CHAIN ORDER CLIENT NAMES FRAME ORPHAN CONTENT EXTRA DOUBLED SWAPPED LOST WINDOW' ;;
-        explain--pid) ;;
+        explain--pid | split--parts) ;;
+        split--bytes) echo '64M 256M 1G 4G' ;;
         simulate--fault) echo 'drop double hold alter garble lag unknown-offset no-reply other-sid no-open no-join no-break take-twice' ;;
         simulate--nodes | simulate--clients | simulate--acts | simulate--seed) ;;
         *) return 1 ;;
@@ -32,7 +35,7 @@ _sioaudit_files() {
 }
 
 _sioaudit() {
-    local commands='audit explain prove verify order upgrade simulate'
+    local commands='audit explain prove verify order upgrade split merge simulate'
     local current=${COMP_WORDS[COMP_CWORD]} before=${COMP_WORDS[COMP_CWORD - 1]}
     local command='' values front i
     COMPREPLY=()

@@ -5,4 +5,7 @@ pub mod Only
 pub mod FailOn
 pub mod Given
 pub mod ExplainArguments
+pub mod Sizes
+pub mod SplitArguments
+pub mod MergeArguments
 pub mod Private

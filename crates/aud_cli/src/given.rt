@@ -43,7 +43,13 @@ impl<'a> Given<'a> {
 fn takes_value(word: &str) -> bool
     ensures { result ≡ takes_value word.now }
 {
-    word == "--pid" || word == "--only" || word == "--fail-on" || word == "--workers"
+    word == "--pid"
+        || word == "--only"
+        || word == "--fail-on"
+        || word == "--workers"
+        || word == "--parts"
+        || word == "--bytes"
+        || word == "--into"
 }
 
 /// Whether the word is a file.

@@ -1,5 +1,6 @@
 //! The command line: [`options`] reads the arguments of the modes that read a bundle and [`files`] the files that they
-//! name; [`explain_asked`] reads those of `explain`. The parser has the help, and says why arguments are refused.
+//! name; [`explain_asked`] reads those of `explain`, [`split_asked`] those of `split`, and [`merge_asked`] those of
+//! `merge`. The parser has the help, and says why arguments are refused.
 //!
 //! The arguments after the program's name:
 //!
@@ -23,6 +24,13 @@
 //! assert!(rt; asked.fail_on.refused && !asked.fail_on.packets);
 //! assert_eq!(rt; asked.files.as_slice().len(), 1);
 //! ```
+//!
+//! ```
+//! use aud_cli::{PartsWanted, split_asked};
+//!
+//! let asked = split_asked(alloc, &["split", "--bytes", "64M", "--into", "parts", "a.jsonl"])?;
+//! assert_eq!(rt; asked.parts, PartsWanted::Bytes(67_108_864));
+//! ```
 #![tactic(auto)]
 
 mod arguments;
@@ -32,10 +40,15 @@ mod explain_options;
 mod fail_on;
 mod faults;
 mod given;
+mod merge_arguments;
+mod merge_options;
 mod names;
 mod only;
 mod output_form;
 mod parser;
+mod sizes;
+mod split_arguments;
+mod split_options;
 
 pub use arguments::{files, options, workers_named};
 pub use choice::{InputFiles, Mode, Options};
@@ -43,5 +56,9 @@ pub use explain_arguments::explain_asked;
 pub use explain_options::ExplainOptions;
 pub use fail_on::FailOn;
 pub use faults::Faults;
+pub use merge_arguments::merge_asked;
+pub use merge_options::MergeOptions;
 pub use only::Only;
 pub use output_form::OutputForm;
+pub use split_arguments::split_asked;
+pub use split_options::{PartsWanted, SplitOptions};

@@ -2,7 +2,7 @@
 use aud_base::VERSION;
 use clap::builder::ValueParser;
 use clap::error::ErrorKind;
-use clap::{Arg, ArgAction, Command, Error, value_parser};
+use clap::{Arg, ArgAction, ArgGroup, Command, Error, value_parser};
 use std::alloc::{AllocError, Global};
 
 const ABOUT: &str = "Audits what the sessions of a Socket.IO cluster received";
@@ -81,6 +81,32 @@ const UPGRADE_LINES: &str = "\
 What a node took one by one it takes by one record, and no verdict changes. The numbers of records do:
 certificates of the old bundle don't fit the new one.";
 
+const SPLIT_ABOUT: &str = "Cuts a bundle into parts, each of which can be audited by itself";
+
+const SPLIT_LINES: &str = "\
+Each part is a bundle: part-0001.jsonl and so on in the folder. The file `sessions` there lists the
+sessions of each. Audit each part, on whichever machine; `sioaudit merge` then writes the report on
+the whole bundle. Each part has a line, and the last line counts them:
+  part-0001.jsonl sessions=<n> clients=<n> bytes=<n>
+  parts=<n> sessions=<n>
+
+Sessions that one client's log names stay together. A part has no more taps than a bundle may have;
+the whole may have any number of clients and of sessions. The files are read more than once.
+
+Exit status:
+  0  the parts are written
+  2  a line of the bundle is refused; the output names it, and no part is written
+  3  a read or a write failed, or there was no memory; nothing is left in the folder
+  4  these words are not understood, the folder has a split already, or no such parts can be made";
+
+const MERGE_ABOUT: &str = "Writes the report on a bundle from the reports on its parts";
+
+const MERGE_LINES: &str = "\
+The reports are those that `sioaudit audit` wrote on the parts, all with --whole or all without, a
+file each, in any order. Which part a report is of is known by its sessions. The output is what
+`sioaudit audit` writes on the whole bundle, and so is the exit status, except that it is 2 where a
+report is missing, stands twice, or is of no part of this split; nothing is written then.";
+
 const SIMULATE_ABOUT: &str = "Writes the bundle of a simulated cluster";
 
 const SIMULATE_LINES: &str = "`sioaudit simulate --help` has its options.";
@@ -128,6 +154,14 @@ const FINDINGS: [&str; 18] = [
 
 const NOT_UNDERSTOOD: &str =
     "these words are not understood\n\nFor more information, try '--help'.";
+
+/// Why a size of parts is refused.
+pub const BAD_SIZE: &str =
+    "a part's size is a whole number of bytes, or of K, M or G, as in 512M\n\nFor more information, try '--help'.";
+
+/// Why `-` is refused as a file of `split`.
+pub const STDIN_TWICE: &str =
+    "the files are read more than once, so none can be standard input\n\nFor more information, try '--help'.";
 
 /// A command of this name: what it does, and what its help says at the end.
 fn described<'a>(alloc: Global, name: &'a str, about: &'a str, lines: &'a str) -> Command<'a> {
@@ -245,6 +279,64 @@ fn plain<'a>(
     reading(alloc, described(alloc, name, about, lines))
 }
 
+/// The command `split` with what says how many parts there are, or how large.
+fn sized<'a>(alloc: Global) -> Result<Command<'a>, AllocError> {
+    let parts = option(alloc, "parts", "Make at most so many parts, 1 to 9999")
+        .value_name("N")
+        .value_parser(value_parser!(u16).range(1..10_000));
+    let bytes = option(
+        alloc,
+        "bytes",
+        "Make parts of at most so many bytes, as few as can be; 512M is 512 MiB",
+    )
+    .value_name("B");
+    let size = ArgGroup::new(alloc, "size")
+        .arg("parts")?
+        .arg("bytes")?
+        .required(true);
+    described(alloc, "split", SPLIT_ABOUT, SPLIT_LINES)
+        .arg(parts)?
+        .arg(bytes)?
+        .group(size)
+}
+
+/// The command `split` and its options.
+fn split<'a>(alloc: Global) -> Result<Command<'a>, AllocError> {
+    let into = option(alloc, "into", "Folder that the parts are written to")
+        .value_name("FOLDER")
+        .required(true);
+    let files = Arg::new(alloc, "files")
+        .value_name("FILES")
+        .help("Files of the bundle")
+        .action(ArgAction::Append)
+        .num_args(1..)
+        .required(true);
+    let quiet = option(
+        alloc,
+        "quiet",
+        "Don't tell how much of a long input was read",
+    )
+    .action(ArgAction::SetTrue);
+    sized(alloc)?.arg(into)?.arg(files)?.arg(quiet)
+}
+
+/// The command `merge` and its arguments.
+fn merge<'a>(alloc: Global) -> Result<Command<'a>, AllocError> {
+    let folder = Arg::new(alloc, "folder")
+        .value_name("FOLDER")
+        .help("Folder that the parts were written to")
+        .required(true);
+    let reports = Arg::new(alloc, "reports")
+        .value_name("REPORTS")
+        .help("Reports on the parts, - for standard input")
+        .action(ArgAction::Append)
+        .num_args(1..)
+        .required(true);
+    described(alloc, "merge", MERGE_ABOUT, MERGE_LINES)
+        .arg(folder)?
+        .arg(reports)
+}
+
 /// The parser. The options of `simulate` are read by the crate of that command.
 fn command<'a>(alloc: Global) -> Result<Command<'a>, AllocError> {
     described(alloc, "sioaudit", ABOUT, STATUSES)
@@ -258,19 +350,26 @@ fn command<'a>(alloc: Global) -> Result<Command<'a>, AllocError> {
         .subcommand(plain(alloc, "verify", VERIFY_ABOUT, VERIFY_LINES)?)?
         .subcommand(plain(alloc, "order", ORDER_ABOUT, ORDER_LINES)?)?
         .subcommand(plain(alloc, "upgrade", UPGRADE_ABOUT, UPGRADE_LINES)?)?
+        .subcommand(split(alloc)?)?
+        .subcommand(merge(alloc)?)?
         .subcommand(described(alloc, "simulate", SIMULATE_ABOUT, SIMULATE_LINES))?
         .bin_name("sioaudit")
 }
 
-/// The error on arguments that the parser lets pass, and that are not understood.
-fn not_understood(alloc: Global) -> Result<Error, AllocError> {
-    command(alloc)?.error(ErrorKind::ValueValidation, NOT_UNDERSTOOD)
+/// The text for arguments that ask for nothing: help that they ask for, or why they are refused; this text where the
+/// parser lets them pass.
+pub fn refusal_or<'a>(
+    alloc: Global,
+    words: &'a [&'a str],
+    text: &str,
+) -> Result<Error, AllocError> {
+    match command(alloc)?.try_get_matches_from(words) {
+        Ok(_) => command(alloc)?.error(ErrorKind::ValueValidation, text),
+        Err(error) => Ok(error),
+    }
 }
 
 /// The text for arguments that ask for nothing: help that they ask for, or why they are refused.
 pub fn refusal<'a>(alloc: Global, words: &'a [&'a str]) -> Result<Error, AllocError> {
-    match command(alloc)?.try_get_matches_from(words) {
-        Ok(_) => not_understood(alloc),
-        Err(error) => Ok(error),
-    }
+    refusal_or(alloc, words, NOT_UNDERSTOOD)
 }

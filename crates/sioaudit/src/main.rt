@@ -1,16 +1,25 @@
-//! `sioaudit`: reads a bundle and writes the report on it, explains one, or writes a simulated one.
+//! `sioaudit`: reads a bundle and writes the report on it, explains or splits one, merges the reports on the parts of one,
+//! or writes a simulated one.
 #![tactic(auto)]
 
 mod explain;
+mod merge;
+mod part_files;
+mod part_writing;
 mod progress;
 mod refusal;
 mod report;
+mod run_files;
 mod simulate;
 mod source;
+mod split;
+mod tally;
 
 use crate::explain::{explanation, is_explain};
+use crate::merge::{is_merge, merging};
 use crate::report::write_report;
 use crate::simulate::{is_simulation, simulation};
+use crate::split::{is_split, splitting};
 use aud_app::{RunFault, Status};
 use std::io::{IsTerminal, Stdin};
 use std::process::ExitCode;
@@ -79,6 +88,12 @@ fn main(rt: HostRuntime) -> ExitCode {
     }
     if is_explain(&words) {
         return explanation(&rt, &rt, alloc, &words);
+    }
+    if is_split(&words) {
+        return splitting(&rt, alloc, &words);
+    }
+    if is_merge(&words) {
+        return merging(&rt, alloc, &words);
     }
     write_report(&rt, &rt, alloc, &words)
 }

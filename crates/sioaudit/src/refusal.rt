@@ -1,9 +1,11 @@
 //! Arguments that are refused, or that ask for help.
 use crate::explain::is_explain;
+use crate::merge::is_merge;
 use crate::simulate::is_simulation;
+use crate::split::is_split;
 use crate::{fail, fail_for};
 use aud_app::{RunFault, options};
-use aud_cli::explain_asked;
+use aud_cli::{explain_asked, merge_asked, split_asked};
 use aud_explanation::printed;
 use aud_schedule::plan_asked;
 use clap::error::ErrorKind;
@@ -26,6 +28,12 @@ fn said_on<'a>(alloc: Global, words: &'a [&'a str]) -> Option<clap::Error> {
     }
     if is_explain(words) {
         return explain_asked(alloc, words).err();
+    }
+    if is_split(words) {
+        return split_asked(alloc, words).err();
+    }
+    if is_merge(words) {
+        return merge_asked(alloc, words).err();
     }
     options(alloc, words).err()
 }

@@ -1,9 +1,9 @@
 //! A file of the bundle, which is opened when it is first read and closed at its end.
 ghost use Rattle.std.specs.Prelude.{None};
 
-use crate::{fail, fail_for, stdin};
+use crate::part_files::failed_at;
+use crate::{fail_for, stdin};
 use aud_base::{RunFault, Text};
-use aud_explanation::printed;
 use aud_input::Sources;
 use std::alloc::{AllocError, Global};
 use std::collections::VecDeque;
@@ -106,18 +106,8 @@ pub fn sources<'a>(
 pub fn unread(rt: &impl Eprint, alloc: Global, name: &str, os_error: Option<i32>) -> ExitCode {
     let fault = RunFault::Read;
     if name == "-" {
-        return fail_for(rt, fault, os_error);
+        fail_for(rt, fault, os_error)
+    } else {
+        failed_at(rt, alloc, fault, name, os_error)
     }
-    let Ok(name) = printed(alloc, name) else {
-        return fail(rt, RunFault::Memory);
-    };
-    let name = name.as_str();
-    let _ = match os_error {
-        Some(number) => {
-            let reason = io::Error::from_raw_os_error(number);
-            eprintln!(rt; "sioaudit: {fault}: {name}: {reason}")
-        }
-        None => eprintln!(rt; "sioaudit: {fault}: {name}"),
-    };
-    ExitCode::from(3)
 }

@@ -1,0 +1,78 @@
+-- What the words of `split` ask for.
+use Rattle.std.specs.Prelude.{ℕ, List, [], ◌∷◌, codes, Bool, true, false, ◌||◌, Option, Some, None, IfSome, is_some, option_map, option_and_then, if◌then◌else◌}
+use Rattle.std.specs.List.{list_any}
+use Rattle.std.specs.Str.{bytes_eq}
+use Rattle.aud_cli.specs.declared.split_options.PartsWanted.{PartsWanted}
+use Rattle.aud_cli.specs.declared.split_options.SplitChoices.{SplitChoices}
+use Rattle.aud_cli.specs.declared.split_options.SplitOptions.{SplitOptions}
+use Rattle.aud_cli.specs.Given.{Given, Words, given_of, values_of}
+use Rattle.aud_cli.specs.Sizes.{IsWithin, parts_named, size_named}
+
+-- none of the options that may stand once
+abbrev pub no_choices : SplitChoices
+no_choices = record { parts = None; quiet = false }
+
+-- these options and --parts or --bytes with what it says, where that is understood; one of them may stand, once
+abbrev pub with_parts : SplitChoices → Option PartsWanted → Option SplitChoices
+with_parts choices parts = if is_some choices.parts then None else option_map (λ parts. record choices { parts = Some parts }) parts
+
+-- these options and --quiet, which may stand once
+abbrev pub with_quiet : SplitChoices → Option SplitChoices
+with_quiet choices = if choices.quiet then None else Some (record choices { quiet = true })
+
+-- these options and the next one, where there is one of its name; files and --into have their own places
+abbrev pub with_given : SplitChoices → Given → Option SplitChoices
+with_given choices given =
+    if bytes_eq given.name [] || bytes_eq given.name (codes "--into") then Some choices
+    else (if bytes_eq given.name (codes "--parts") then with_parts choices (parts_named given.value)
+    else (if bytes_eq given.name (codes "--bytes") then with_parts choices (size_named given.value)
+    else (if bytes_eq given.name (codes "--quiet") then with_quiet choices
+    else None)))
+
+-- these options and all that follow, in any order
+abbrev pub choices_of : SplitChoices → List Given → Option SplitChoices
+choices_of before [] = Some before
+choices_of before (given ∷ all) = option_and_then (λ choices. choices_of choices all) (with_given before given)
+
+-- the only one of these texts
+abbrev pub only_text : List (List ℕ) → Option (List ℕ)
+only_text [] = None
+only_text (text ∷ []) = Some text
+only_text (text ∷ next ∷ texts) = None
+
+-- whether one of these files is standard input
+abbrev pub has_stdin : List (List ℕ) → Bool
+has_stdin files = list_any (λ file. bytes_eq file (codes "-")) files
+
+-- these files, where there are some, and none is standard input
+abbrev pub files_to_split : List (List ℕ) → Option (List (List ℕ))
+files_to_split [] = None
+files_to_split (file ∷ files) = if has_stdin (file ∷ files) then None else Some (file ∷ files)
+
+-- what is asked for with these parts, into these folders, of which there is to be one, and of these files
+abbrev pub split_of : Bool → PartsWanted → List (List ℕ) → List (List ℕ) → Option SplitOptions
+split_of quiet parts folders files =
+    option_and_then
+    (λ into. option_map
+    (λ files. record { parts = parts; into = into; files = files; quiet = quiet })
+    (files_to_split files))
+    (only_text folders)
+
+-- what is asked for by these options: one of --parts and --bytes, and --into, have to stand there
+abbrev pub options_of : List Given → SplitChoices → Option SplitOptions
+options_of all choices =
+    option_and_then
+    (λ parts. split_of choices.quiet parts (values_of (codes "--into") all) (values_of [] all))
+    choices.parts
+
+-- what the words ask for, where they are understood: the first is split
+abbrev pub asked : Words → Option SplitOptions
+asked [] = None
+asked (name ∷ words) =
+    if bytes_eq name.now (codes "split")
+    then option_and_then (λ all. option_and_then (options_of all) (choices_of no_choices all)) (given_of words)
+    else None
+
+-- a number of parts that these options give is 1 to 9999
+abbrev pub AreWithin : SplitChoices → Type 0
+AreWithin choices = IfSome choices.parts IsWithin

@@ -1,0 +1,189 @@
+//! The arguments of `split`.
+ghost use Rattle.std.specs.Prelude.{◌≡◌, ◌≢◌, ◌≤◌, Some, None, IfErr, IfOk, IfSome};
+ghost use Rattle.clap.specs.Words.{kind_of};
+ghost use Rattle.aud_cli.specs.Sizes.{IsWithin};
+ghost use Rattle.aud_cli.specs.SplitArguments.{AreWithin, asked, choices_of, files_to_split, has_stdin, no_choices, only_text, options_of, split_of, with_given, with_parts, with_quiet};
+
+use crate::given::{Given, given_of, values_of};
+use crate::parser::{BAD_SIZE, STDIN_TWICE, refusal_or};
+use crate::sizes::{parts_named, size_named};
+use crate::split_options::{PartsWanted, SplitChoices, SplitOptions};
+use aud_base::{Text, Texts};
+use clap::Error;
+use clap::error::ErrorKind;
+use std::alloc::{AllocError, Global};
+
+/// These options and `--parts` or `--bytes`, of which one may stand, once.
+fn with_parts(choices: SplitChoices, parts: Option<PartsWanted>) -> Option<SplitChoices>
+    ensures { result ≡ with_parts choices parts }
+{
+    if choices.parts.is_some() {
+        return None;
+    }
+    let parts = parts?;
+    Some(SplitChoices {
+        parts: Some(parts),
+        ..choices
+    })
+}
+
+/// These options and `--quiet`, which may stand once.
+fn with_quiet(choices: SplitChoices) -> Option<SplitChoices>
+    ensures { result ≡ with_quiet choices }
+{
+    if choices.quiet {
+        return None;
+    }
+    Some(SplitChoices {
+        quiet: true,
+        ..choices
+    })
+}
+
+/// These options and the next one. Files and the folder have their own places.
+fn with_given(choices: SplitChoices, given: &Given<'_>) -> Option<SplitChoices>
+    requires { AreWithin choices }
+    ensures choices { result ≡ with_given choices given.now }
+    ensures within { IfSome result AreWithin }
+{
+    let name = given.name();
+    if name == "" || name == "--into" {
+        Some(choices)
+    } else if name == "--parts" {
+        with_parts(choices, parts_named(given.value()))
+    } else if name == "--bytes" {
+        with_parts(choices, size_named(given.value()))
+    } else if name == "--quiet" {
+        with_quiet(choices)
+    } else {
+        None
+    }
+}
+
+/// The options of all that is given, where it is understood.
+fn choices_of(all: &[Given<'_>]) -> Option<SplitChoices>
+    ensures choices { result ≡ choices_of no_choices all.now }
+    ensures within { IfSome result AreWithin }
+{
+    let mut choices = SplitChoices {
+        parts: None,
+        quiet: false,
+    };
+    'all: for given in all {
+        choices = with_given(choices, given)?;
+    }
+    Some(choices)
+}
+
+/// The only one of these texts.
+fn only_text(texts: &Texts) -> Result<Option<Text>, AllocError>
+    ensures { IfOk result (λ text. text ≡ only_text texts.now) }
+{
+    match texts.as_slice() {
+        [text] => Ok(Some(text.share()?)),
+        _ => Ok(None),
+    }
+}
+
+/// Whether one of these files is standard input.
+fn has_stdin(files: &[Text]) -> bool
+    ensures { result ≡ has_stdin files.now }
+{
+    files.iter().any(|file| file.as_str() == "-")
+}
+
+/// These files, where there are some, and none is standard input.
+fn files_to_split(files: Texts) -> Option<Texts>
+    ensures { result ≡ files_to_split files }
+{
+    if files.as_slice().is_empty() || has_stdin(files.as_slice()) {
+        return None;
+    }
+    Some(files)
+}
+
+/// What is asked for with these parts, into these folders, of which there is to be one, and of these files.
+fn split_of(
+    quiet: bool,
+    parts: PartsWanted,
+    folders: &Texts,
+    files: Texts,
+) -> Result<Option<SplitOptions>, AllocError>
+    requires { IsWithin parts }
+    ensures options { IfOk result (λ o. o ≡ split_of quiet parts folders.now files) }
+    ensures within { IfOk result (λ o. IfSome o (λ o. IsWithin o.parts)) }
+{
+    let Some(into) = only_text(folders)? else {
+        return Ok(None);
+    };
+    let Some(files) = files_to_split(files) else {
+        return Ok(None);
+    };
+    Ok(Some(SplitOptions {
+        parts,
+        into,
+        files,
+        quiet,
+    }))
+}
+
+/// What is asked for by these options, and by the folder and the files of all that is given.
+fn options_of(
+    alloc: Global,
+    choices: SplitChoices,
+    all: &[Given<'_>],
+) -> Result<Option<SplitOptions>, AllocError>
+    requires { AreWithin choices }
+    ensures options { IfOk result (λ o. o ≡ options_of all.now choices) }
+    ensures within { IfOk result (λ o. IfSome o (λ o. IsWithin o.parts)) }
+{
+    let Some(parts) = choices.parts else {
+        return Ok(None);
+    };
+    let folders = values_of(alloc, "--into", all)?;
+    let files = values_of(alloc, "", all)?;
+    split_of(choices.quiet, parts, &folders, files)
+}
+
+/// What the arguments ask for, where they are understood.
+fn asked(alloc: Global, words: &[&str]) -> Result<Option<SplitOptions>, AllocError>
+    ensures options { IfOk result (λ o. o ≡ asked words.now) }
+    ensures within { IfOk result (λ o. IfSome o (λ o. IsWithin o.parts)) }
+{
+    let Some((name, rest)) = words.split_first() else {
+        return Ok(None);
+    };
+    if *name != "split" {
+        return Ok(None);
+    }
+    let Some(all) = given_of(alloc, rest)? else {
+        return Ok(None);
+    };
+    let Some(choices) = choices_of(&all) else {
+        return Ok(None);
+    };
+    options_of(alloc, choices, &all)
+}
+
+/// Why arguments that the parser lets pass are not understood.
+fn why_not(words: &[&str]) -> &'static str {
+    if words.iter().any(|word| *word == "-") {
+        STDIN_TWICE
+    } else {
+        BAD_SIZE
+    }
+}
+
+/// What the arguments after the program's name ask for, of which the first is `split`. The error has the text to
+/// print: help that was asked for, or why the arguments are refused; where memory ran out its kind is `OutOfMemory`.
+pub fn split_asked<'a>(alloc: Global, words: &'a [&'a str]) -> Result<SplitOptions, Error>
+    ensures understood { IfOk result (λ o. asked words.now ≡ Some o) }
+    ensures refused { IfErr result (λ e. kind_of e ≢ ErrorKind.OutOfMemory
+        → asked words.now ≡ None) }
+    ensures parts { IfOk result (λ o. IsWithin o.parts) }
+{
+    match asked(alloc, words)? {
+        Some(options) => Ok(options),
+        None => Err(refusal_or(alloc, words, why_not(words))?),
+    }
+}

@@ -1,0 +1,180 @@
+//! The folder that the parts are written to.
+use crate::{fail, fail_for};
+use aud_app::{RunFault, Watched};
+use aud_base::write_out;
+use aud_explanation::printed;
+use std::alloc::{AllocError, Global};
+use std::fs::{self, File};
+use std::io;
+use std::process::ExitCode;
+
+/// The name of the file that lists the sessions of each part, in the folder of the parts.
+pub const SESSIONS: &str = "sessions";
+
+/// The name that it has until it is whole.
+const NEW_SESSIONS: &str = "sessions.new";
+
+/// The name of the file of the part with this number, which counts from 0; in the name from 1.
+pub fn part_name(alloc: Global, part: usize) -> Result<String, AllocError> {
+    let number = part.saturating_add(1);
+    format!(in alloc; "part-{number:04}.jsonl")
+}
+
+/// Whether a file of this name could be that of a part.
+fn is_part_name(name: &str) -> bool {
+    name.starts_with("part-") && name.ends_with(".jsonl")
+}
+
+/// The path of the file of this name in the folder.
+pub fn path_in(alloc: Global, folder: &str, name: &str) -> Result<String, AllocError> {
+    format!(in alloc; "{folder}/{name}")
+}
+
+/// Says that a file could not be read or written, with the system's reason where there is one.
+pub fn failed_at(
+    rt: &impl Eprint,
+    alloc: Global,
+    fault: RunFault,
+    name: &str,
+    os_error: Option<i32>,
+) -> ExitCode {
+    let Ok(name) = printed(alloc, name) else {
+        return fail(rt, RunFault::Memory);
+    };
+    let name = name.as_str();
+    let _ = match os_error {
+        Some(number) => {
+            let reason = io::Error::from_raw_os_error(number);
+            eprintln!(rt; "sioaudit: {fault}: {name}: {reason}")
+        }
+        None => eprintln!(rt; "sioaudit: {fault}: {name}"),
+    };
+    ExitCode::from(3)
+}
+
+/// Says in these words why a file of the arguments is refused.
+pub fn refused_for(rt: &impl Eprint, alloc: Global, name: &str, words: &str) -> ExitCode {
+    let Ok(name) = printed(alloc, name) else {
+        return fail(rt, RunFault::Memory);
+    };
+    let name = name.as_str();
+    let _ = eprintln!(rt; "error: {name}: {words}");
+    ExitCode::from(4)
+}
+
+/// Whether the folder has the parts of a bundle, or some of them.
+fn has_parts(host: &HostRuntime, alloc: Global, folder: &str) -> io::Result<bool> {
+    let path = path_in(alloc, folder, SESSIONS)?;
+    if fs::exists(host, path.as_str())? {
+        return Ok(true);
+    }
+    for entry in fs::read_dir(host, folder)? {
+        if is_part_name(entry?.file_name()) {
+            return Ok(true);
+        }
+    }
+    Ok(false)
+}
+
+/// Whether the folder was made now.
+#[derive(Clone, Copy, PartialEq, Eq, Drop)]
+pub enum Folder {
+    Made,
+    WasThere,
+}
+
+/// Makes the folder, or sees that the one that is there has no parts; says why it can't be used.
+pub fn prepare_folder(host: &HostRuntime, alloc: Global, folder: &str) -> Result<Folder, ExitCode> {
+    match fs::create_dir(host, folder) {
+        Ok(()) => return Ok(Folder::Made),
+        Err(error) if error.kind() == io::ErrorKind::AlreadyExists => {}
+        Err(error) => {
+            let os_error = error.raw_os_error();
+            return Err(failed_at(host, alloc, RunFault::Write, folder, os_error));
+        }
+    }
+    match has_parts(host, alloc, folder) {
+        Ok(false) => Ok(Folder::WasThere),
+        Ok(true) => {
+            let words = "the parts of a bundle are there already";
+            Err(refused_for(host, alloc, folder, words))
+        }
+        Err(error) => {
+            let os_error = error.raw_os_error();
+            Err(failed_at(host, alloc, RunFault::Read, folder, os_error))
+        }
+    }
+}
+
+/// Removes the folder again, if it was made now and is empty, as far as that can be done.
+pub fn give_back(host: &HostRuntime, folder: &str, was: Folder) {
+    if was == Folder::Made {
+        let _ = fs::remove_dir(host, folder);
+    }
+}
+
+/// Makes a file that is to be written.
+pub fn create(host: &HostRuntime, alloc: Global, path: &str) -> Result<Watched<File>, ExitCode> {
+    match fs::create(host, path) {
+        Ok(file) => Ok(Watched::new(file)),
+        Err(error) => {
+            let os_error = error.raw_os_error();
+            Err(failed_at(host, alloc, RunFault::Write, path, os_error))
+        }
+    }
+}
+
+/// Writes the file that lists the sessions of each part: first under another name.
+pub fn write_sessions(
+    host: &HostRuntime,
+    alloc: Global,
+    folder: &str,
+    text: &str,
+) -> Result<(), ExitCode> {
+    let (Ok(new), Ok(path)) = (
+        path_in(alloc, folder, NEW_SESSIONS),
+        path_in(alloc, folder, SESSIONS),
+    ) else {
+        return Err(fail(host, RunFault::Memory));
+    };
+    let mut file = create(host, alloc, new.as_str())?;
+    if write_out(&mut file, text.as_bytes()).is_err() {
+        let os_error = file.os_error();
+        return Err(failed_at(host, alloc, RunFault::Write, new.as_str(), os_error));
+    }
+    drop(file);
+    match fs::rename(host, new.as_str(), path.as_str()) {
+        Ok(()) => Ok(()),
+        Err(error) => {
+            let os_error = error.raw_os_error();
+            Err(failed_at(host, alloc, RunFault::Write, path.as_str(), os_error))
+        }
+    }
+}
+
+/// Removes the file of this name from the folder, as far as that can be done.
+fn remove(host: &HostRuntime, alloc: Global, folder: &str, name: &str) {
+    if let Ok(path) = path_in(alloc, folder, name) {
+        let _ = fs::remove_file(host, path.as_str());
+    }
+}
+
+/// Removes the files of a split into so many parts, as far as that can be done.
+pub fn remove_split(host: &HostRuntime, alloc: Global, folder: &str, parts: usize) {
+    remove(host, alloc, folder, SESSIONS);
+    remove(host, alloc, folder, NEW_SESSIONS);
+    for part in 0..parts {
+        if let Ok(name) = part_name(alloc, part) {
+            remove(host, alloc, folder, name.as_str());
+        }
+    }
+}
+
+/// Writes a text to standard output.
+pub fn write_text(host: &HostRuntime, text: &[u8]) -> Result<(), ExitCode> {
+    let mut output = Watched::new(host.stdout());
+    match write_out(&mut output, text) {
+        Ok(()) => Ok(()),
+        Err(fault) => Err(fail_for(host, fault, output.os_error())),
+    }
+}

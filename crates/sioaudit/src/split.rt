@@ -1,0 +1,211 @@
+//! The command `split`.
+ghost use Rattle.std.specs.Prelude.{◌≡◌, ◌<◌, length, IfOk};
+ghost use Rattle.std.specs.List.{All};
+ghost use Rattle.aud_parts.specs.Plan.{IsClosed};
+
+use crate::fail;
+use crate::part_files::{give_back, prepare_folder, write_text};
+use crate::part_writing::{Splitting, write_split};
+use crate::refusal::refuse;
+use crate::run_files::RunFiles;
+use aud_app::RunFault;
+use aud_cli::{PartsWanted, SplitOptions, split_asked};
+use aud_node::Logs;
+use aud_parts::{
+    FirstRefusal, IndexedTaps, MeasuredClient, Plan, PlanFault, Planned, RefusedLine, Servers,
+    SizedFault, TapIndex, listing_of_plan, listing_text, plan_parts, plan_within, read_clients,
+    read_servers,
+};
+use aud_reader::ReadFault;
+use std::alloc::{AllocError, Global};
+use std::hash::RandomState;
+use std::mem::ManuallyDrop;
+use std::process::ExitCode;
+
+/// Whether the arguments ask for a split.
+pub fn is_split(words: &[&str]) -> bool {
+    words.first().is_some_and(|word| *word == "split")
+}
+
+/// Says which line of the input is refused.
+fn refused(host: &HostRuntime, alloc: Global, line: RefusedLine) -> ExitCode {
+    let number = line.number;
+    let name = line.code.name();
+    let Ok(text) = format!(in alloc; "line {number}: {name}\n") else {
+        return fail(host, RunFault::Memory);
+    };
+    match write_text(host, text.as_bytes()) {
+        Ok(()) => ExitCode::from(2),
+        Err(status) => status,
+    }
+}
+
+/// Says why no such parts can be made.
+pub fn unplanned(host: &HostRuntime, fault: SizedFault) -> ExitCode {
+    if let SizedFault::Plan(PlanFault::Memory) = &fault {
+        return fail(host, RunFault::Memory);
+    }
+    let _ = eprintln!(host; "error: {fault}");
+    ExitCode::from(4)
+}
+
+/// The refusal that the index tells, if it does.
+fn refusal_of(index: &TapIndex) -> FirstRefusal {
+    let mut refusal = FirstRefusal::new();
+    if let Some(ReadFault::Input(number, code)) = index.fault() {
+        refusal.add(number, code);
+    }
+    refusal
+}
+
+/// Plans the parts that are wanted.
+fn plan_of(
+    alloc: Global,
+    logs: &Logs<'_>,
+    clients: &[MeasuredClient],
+    wanted: PartsWanted,
+) -> Result<Plan, SizedFault>
+    ensures { IfOk result (IsClosed logs.now.taps clients.now) }
+{
+    match wanted {
+        PartsWanted::Number(number) => {
+            match plan_parts(alloc, logs, clients, usize::from(number)) {
+                Ok(plan) => Ok(plan),
+                Err(fault) => Err(SizedFault::Plan(fault)),
+            }
+        }
+        PartsWanted::Bytes(most) => plan_within(alloc, logs, clients, most),
+    }
+}
+
+/// The text of which part has which session.
+fn sessions_of(alloc: Global, plan: &Plan) -> Result<String, AllocError>
+    requires each { length plan.now.parts.items ≡ length plan.now.sessions }
+    requires within { All (λ part. part < length plan.now.weights.items) plan.now.parts.items }
+{
+    let listing = listing_of_plan(alloc, plan)?;
+    listing_text(alloc, &listing)
+}
+
+/// Writes the parts of a plan.
+fn split_plan(
+    host: &HostRuntime,
+    alloc: Global,
+    options: &SplitOptions,
+    files: &mut RunFiles<'_>,
+    indexed: &IndexedTaps<'_>,
+    logs: &Logs<'_>,
+    clients: &[MeasuredClient],
+    plan: &Plan,
+) -> Result<(), ExitCode>
+    requires { IsClosed logs.now.taps clients.now plan.now }
+{
+    let Ok(sessions) = sessions_of(alloc, plan) else {
+        return Err(fail(host, RunFault::Memory));
+    };
+    let splitting = Splitting {
+        host,
+        alloc,
+        folder: options.into.as_str(),
+        plan,
+        planned: Planned::new(alloc, logs, clients, plan),
+        indexed,
+        sessions: sessions.as_str(),
+    };
+    write_split(&splitting, files)
+}
+
+/// Plans the parts and writes them.
+fn split_logs(
+    host: &HostRuntime,
+    alloc: Global,
+    options: &SplitOptions,
+    files: &mut RunFiles<'_>,
+    indexed: &IndexedTaps<'_>,
+    logs: &Logs<'_>,
+    clients: &[MeasuredClient],
+) -> Result<(), ExitCode> {
+    match plan_of(alloc, logs, clients, options.parts) {
+        Ok(plan) => split_plan(host, alloc, options, files, indexed, logs, clients, &plan),
+        Err(fault) => Err(unplanned(host, fault)),
+    }
+}
+
+/// Reads the clients' taps, and splits what was read.
+fn split_servers(
+    host: &HostRuntime,
+    alloc: Global,
+    keys: RandomState,
+    options: &SplitOptions,
+    files: &mut RunFiles<'_>,
+    index: &TapIndex,
+    servers: &Servers,
+    refusal: FirstRefusal,
+) -> Result<(), ExitCode> {
+    let mut refusal = refusal;
+    let indexed = IndexedTaps {
+        taps: index.taps(),
+        kinds: servers.kinds.as_slice(),
+    };
+    let Ok(logs) = Logs::build(alloc, keys, &servers.taps) else {
+        return Err(fail(host, RunFault::Memory));
+    };
+    let logs = ManuallyDrop::new(logs);
+    let stream = logs.stream();
+    let clients = match read_clients(alloc, keys, files, stream, &indexed, &mut refusal) {
+        Ok(clients) => clients,
+        Err(fault) => return Err(files.fault(fault)),
+    };
+    files.clear();
+    if let Some(line) = refusal.line() {
+        return Err(refused(host, alloc, line));
+    }
+    split_logs(host, alloc, options, files, &indexed, &logs, &clients)
+}
+
+/// Reads the files, and splits what they have.
+fn split_files(
+    host: &HostRuntime,
+    alloc: Global,
+    options: &SplitOptions,
+    files: &mut RunFiles<'_>,
+) -> Result<(), ExitCode> {
+    let Ok(keys) = RandomState::new(host) else {
+        return Err(fail(host, RunFault::Read));
+    };
+    let index = match files.index(keys) {
+        Ok(index) => index,
+        Err(fault) => return Err(files.fault(fault)),
+    };
+    let mut refusal = refusal_of(&index);
+    let servers = match read_servers(alloc, keys, files, index.taps(), &mut refusal) {
+        Ok(servers) => ManuallyDrop::new(servers),
+        Err(fault) => return Err(files.fault(fault)),
+    };
+    split_servers(host, alloc, keys, options, files, &index, &servers, refusal)
+}
+
+/// Splits the files into the folder, which is made if it isn't there, and left as it was if that fails.
+fn split(host: &HostRuntime, alloc: Global, options: &SplitOptions) -> Result<(), ExitCode> {
+    let mut files = RunFiles::new(host, alloc, options.files.as_slice(), options.quiet);
+    files.check()?;
+    let folder = options.into.as_str();
+    let was = prepare_folder(host, alloc, folder)?;
+    let outcome = split_files(host, alloc, options, &mut files);
+    if outcome.is_err() {
+        give_back(host, folder, was);
+    }
+    outcome
+}
+
+/// Splits the bundle that the arguments name.
+pub fn splitting(host: &HostRuntime, alloc: Global, words: &[&str]) -> ExitCode {
+    let options = match split_asked(alloc, words) {
+        Ok(options) => options,
+        Err(_) => return refuse(host, alloc, words),
+    };
+    match split(host, alloc, &options) {
+        Ok(()) => ExitCode::SUCCESS,
+        Err(status) => status,
+    }
+}
