@@ -1,0 +1,337 @@
+"""Cases of tests/parts: sizes and limits of parts, what `split` and `merge` refuse, and output that fails."""
+
+from __future__ import annotations
+
+import os
+import random
+import re
+import resource
+import shutil
+import signal
+import subprocess
+from pathlib import Path
+
+from harness import TOP, program
+from splitting import SECONDS, Done, Work, case, is_refused, is_report, need, reports_on, run, shown, split, written
+
+EXAMPLE = TOP / "examples/bundle_b.jsonl"
+NOBODY = 65534
+
+
+# ---- sizes and limits
+
+
+@case
+def equal_clients(folder: Path) -> None:
+    """Of many equal clients the parts are of about one size."""
+    words = [TOP / "tools/make-bundle", "--entries", "300", "--clients", "120", "--payload", "200"]
+    bundle = written([subprocess.run(words, stdout=subprocess.PIPE, check=True).stdout], folder)
+    for count in (2, 4, 7):
+        sizes = [it.stat().st_size for it in split(bundle, folder / str(count), "--parts", count)]
+        need(len(sizes) == count and max(sizes) <= 1.2 * min(sizes), f"{count} parts of {sizes} bytes")
+
+
+@case
+def smaller_parts(folder: Path) -> None:
+    """No part has more bytes than it may, and there are more parts where they may have fewer, as long as there are sessions to part."""
+    bundle = written([run("simulate", "--clients", 24, "--acts", 1200).stdout], folder)
+    least = max(it.stat().st_size for it in split(bundle, folder / "clients", "--parts", 99))
+    counts = []
+    for text, most in (("1G", 2**30), ("1M", 2**20), (str(2 * least), 2 * least), (str(least), least)):
+        sizes = [it.stat().st_size for it in split(bundle, folder / text, "--bytes", text)]
+        need(max(sizes) <= most, f"parts of {sizes} bytes, with {text}")
+        counts.append(len(sizes))
+    need(counts[0] == 1 and counts == sorted(counts) and counts[-1] > 1, f"{counts} parts")
+    is_refused(run("split", "--bytes", least - 1, "--into", folder / "less", *bundle.files), 4, "can't be parted", str(least))
+
+
+@case
+def no_session(folder: Path) -> None:
+    for text in (b"", b'st {"k":"tap","v":1,"of":"stream"}\nst {"k":"other","off":"1-0"}\n'):
+        bundle, into = written([text], folder), folder / str(len(text))
+        parts = split(bundle, into, "--parts", 3)
+        need(len(parts) == 1, f"{parts}")
+        is_report(run("merge", into, *reports_on(parts)), bundle.report)
+
+
+def node(name: str) -> str:
+    return f'{name} {{"k":"tap","v":1,"of":"node"}}\n{name} {{"k":"start","off":null}}\n'
+
+
+def session(number: int, node: str) -> str:
+    """A session on a node, and its client."""
+    reply = f'40{{\\"sid\\":\\"s{number}\\",\\"pid\\":\\"p{number}\\"}}'
+    return (
+        f'{node} {{"k":"open","pid":"p{number}","sid":"s{number}","nsp":"/"}}\nc{number} {{"k":"tap","v":1,"of":"client"}}\n'
+        f'c{number} {{"k":"conn","c":1}}\nc{number} {{"k":"in","t":"{reply}"}}\n'
+    )
+
+
+def past_a_limit(folder: Path, text: str, count: int, limit: int) -> None:
+    """Needs so many sessions, who have more of something than a bundle may, to find room in two parts, and not in one."""
+    file, into = folder / "large.jsonl", folder / "two"
+    file.write_text(text)
+    is_refused(run("split", "--parts", 1, "--into", folder / "one", file), 4, f"at most {limit:,}", "More parts")
+    need(not (folder / "one/sessions").exists(), "sessions after a failure")
+    done = run("split", "--parts", 2, "--into", into, file)
+    need(done.returncode == 0 and done.stdout.endswith(b"\nparts=2 sessions=%d\n" % count), shown(done))
+    rows = "".join(f"yes p{it} got=0 tail=0 turns=1\n" for it in range(count))
+    done = run("merge", into, *reports_on(sorted(into.glob("*.jsonl"))))
+    need((done.returncode, done.stdout.decode()) == (0, f"{rows}sessions={count} yes={count} no=0\n"), shown(done))
+
+
+@case
+def more_clients_than_a_bundle_may_have(folder: Path) -> None:
+    past_a_limit(folder, node("a") + "".join(session(it, "a") for it in range(4100)), 4100, 4096)
+
+
+@case
+def more_nodes_than_a_bundle_may_have(folder: Path) -> None:
+    past_a_limit(folder, "".join(node(f"n{it}") + session(it, f"n{it}") for it in range(70)), 70, 64)
+
+
+@case
+def a_session_on_more_nodes_than_a_part_may_have(folder: Path) -> None:
+    file = folder / "large.jsonl"
+    file.write_text("".join(node(f"n{it}") + f'n{it} {{"k":"gone","pid":"P"}}\n' for it in range(65)))
+    is_refused(run("split", "--parts", 9, "--into", folder / "parts", file), 4, "session P", "at most 64")
+
+
+# ---- what `merge` refuses
+
+
+def is_named(work: Work, reports: list[Path], *words: str) -> None:
+    """Needs a merge of these reports to be refused, in lines that each have one of these words, all of which stand there."""
+    done = run("merge", work.into, *reports)
+    is_refused(done, 2, *words)
+    lines = done.stderr.decode().splitlines()
+    need(all(it.startswith("error: ") and any(word in it for word in words) for it in lines), shown(done))
+
+
+def in_its_place(work: Work, number: int, text: bytes) -> list[Path]:
+    """The reports, with another one of this text in place of one of them."""
+    other = work.into / "other.report"
+    other.write_bytes(text)
+    reports = work.reports()
+    return [*reports[:number], other, *reports[number + 1 :]]
+
+
+@case
+def reports_in_another_order(folder: Path) -> None:
+    work = Work.of(folder)
+    reports = reports_on(work.parts)
+    for its in (reports[::-1], [*reports[2:], *reports[:2]]):
+        is_report(run("merge", work.into, *its), work.bundle.report)
+
+
+@case
+def reports_that_are_missing(folder: Path) -> None:
+    work = Work.of(folder)
+    reports = reports_on(work.parts)
+    is_named(work, [reports[0], *reports[2:]], "no report of part-0002.jsonl")
+    is_named(work, reports[1:3], "no report of part-0001.jsonl", "no report of part-0004.jsonl")
+
+
+@case
+def reports_that_are_doubled(folder: Path) -> None:
+    work = Work.of(folder)
+    reports = reports_on(work.parts)
+    is_named(work, [*reports, reports[2]], str(reports[2]))
+    is_named(work, in_its_place(work, 0, reports[1].read_bytes()), str(reports[1]), "no report of part-0001.jsonl")
+
+
+@case
+def reports_that_are_cut_short(folder: Path) -> None:
+    work = Work.of(folder)
+    text = reports_on(work.parts)[1].read_bytes()
+    lines = text.splitlines(keepends=True)
+    for it in (b"", text[:-1], text[: len(text) // 2], b"".join(lines[:-1]), b"".join(lines[1:]), lines[0], lines[-1]):
+        is_named(work, in_its_place(work, 1, it), "other.report", "no report of part-0002.jsonl")
+
+
+@case
+def reports_that_are_none(folder: Path) -> None:
+    """Reports that are refused, are of other sessions, or have other counts than lines."""
+    work = Work.of(folder)
+    text = reports_on(work.parts)[1].read_bytes()
+    last = text.splitlines()[-1]
+    for it in (
+        b"line 3: NotJson\n", b"no report\n", text + text, text.replace(b"\n", b"\r\n"), text.replace(b" p", b" q", 1), b"\xff" + text,
+        text.replace(b"yes ", b"maybe ", 1), text.replace(last, last + b"0"), work.bundle.report.stdout, run("prove", *work.bundle.files).stdout,
+    ):
+        is_named(work, in_its_place(work, 1, it), "other.report", "no report of part-0002.jsonl")
+
+
+@case
+def reports_of_another_split(folder: Path) -> None:
+    work = Work.of(folder)
+    pids = [re.findall(rb"^\w+ (\S+)", it.read_bytes(), re.M) for it in reports_on(work.parts)]
+    others = reports_on(split(work.bundle, folder / "three", "--parts", 3))
+    strange = [it for it in others if re.findall(rb"^\w+ (\S+)", it.read_bytes(), re.M) not in pids]
+    need(bool(strange), "three parts are among four")
+    is_named(work, [*work.reports(), *strange], *map(str, strange))
+
+
+@case
+def all_that_is_wrong_is_told(folder: Path) -> None:
+    work = Work.of(folder)
+    reports = reports_on(work.parts)
+    reports[3].write_bytes(b"line 1: NoTapName\n")
+    words = ("other.report", "part-0004.jsonl.report", "part-0003.jsonl.report", "of part-0001.jsonl", "of part-0002.jsonl", "of part-0004.jsonl")
+    is_named(work, [in_its_place(work, 0, b"")[0], reports[3], reports[2], reports[2]], *words)
+
+
+@case
+def sessions_that_are_none(folder: Path) -> None:
+    """Without `sessions` as it was written nothing is merged."""
+    work = Work.of(folder)
+    reports, listing = reports_on(work.parts), work.into / "sessions"
+    text = listing.read_bytes()
+    lines = text.splitlines(keepends=True)
+    for it in (
+        b"", b"none\n", text[:-1], b"".join(lines[:-1]), text + lines[-1], text + b"\n", text.replace(b"parts=4", b"parts=3"),
+        text.replace(b"\n1 ", b"\n5 ", 1), text.replace(b"\n1 ", b"\n0 ", 1), text.replace(b"\n1 ", b"\nx ", 1), text.replace(b"\n1 ", b"\n1", 1),
+    ):
+        listing.write_bytes(it)
+        is_refused(run("merge", work.into, *reports), 2, "error: ")
+    listing.unlink()
+    is_refused(run("merge", work.into, *reports), 3, "sioaudit: read: ")
+
+
+@case
+def bytes_that_are_damaged(folder: Path) -> None:
+    """Whatever byte of a report or of `sessions` is another one: what is merged has the sessions of the whole, or nothing is."""
+    work, rng = Work.of(folder), random.Random(1)
+    files = [*reports_on(work.parts), work.into / "sessions"]
+    texts, pids = {it: it.read_bytes() for it in files}, sorted(work.bundle.pids())
+    for _ in range(150):
+        file = rng.choice(files)
+        text, at = bytearray(texts[file]), rng.randrange(len(texts[file]))
+        text[at] = rng.choice(b"0129 \nyesnop=\x00\xff")
+        file.write_bytes(text)
+        done = run("merge", work.into, *files[:-1])
+        rows = done.stdout.splitlines()
+        if done.returncode in (0, 1):
+            need(sorted(it.split()[1].decode() for it in rows[:-1]) == pids and rows[-1].startswith(b"sessions="), f"{bytes(text)!r}: {shown(done)}")
+        else:
+            is_refused(done, 2, "error: ")
+        file.write_bytes(texts[file])
+
+
+# ---- what `split` refuses
+
+
+@case
+def folders_that_have_sessions(folder: Path) -> None:
+    work = Work.of(folder)
+    before = {it: it.read_bytes() for it in work.into.iterdir()}
+    is_refused(run("split", "--parts", 2, "--into", work.into, *work.bundle.files), 4, "error: ", str(work.into))
+    need({it: it.read_bytes() for it in work.into.iterdir()} == before, "the folder has changed")
+
+
+@case
+def folders_that_are_there(folder: Path) -> None:
+    """Other files in the folder are no matter."""
+    work = Work.of(folder)
+    for name in ("report", "sessions.old", "part-0001"):
+        (folder / "used").mkdir(exist_ok=True)
+        (folder / "used" / name).write_bytes(b"")
+    done = run("split", "--parts", 4, "--into", folder / "used", *work.bundle.files)
+    need(done.returncode == 0, shown(done))
+    need([(folder / "used" / it.name).read_bytes() for it in work.parts] == [it.read_bytes() for it in work.parts], "other parts")
+
+
+@case
+def inputs_that_cannot_be_read_twice(folder: Path) -> None:
+    into = folder / "parts"
+    os.mkfifo(folder / "pipe")
+    for files in ([], ["-"], [EXAMPLE, "-"], ["/dev/stdin"], [folder / "pipe"], [EXAMPLE, folder]):
+        is_refused(run("split", "--parts", 2, "--into", into, *files, stdin=subprocess.PIPE, timeout=10), 4, "error: ")
+    for files in ([folder / "none"], [EXAMPLE, folder / "none"]):
+        is_refused(run("split", "--parts", 2, "--into", into, *files), 3, "sioaudit: read: ")
+    need(not (into / "sessions").exists(), "sessions after a failure")
+
+
+@case
+def arguments_that_are_refused(folder: Path) -> None:
+    into = ["--into", folder / "parts"]
+    for words in (
+        [*into], ["--parts", 2], ["--parts", *into], ["--parts", 0, *into], ["--parts", "two", *into], ["--parts", 2, "--parts", 2, *into],
+        ["--bytes", 0, *into], ["--bytes", "1.5M", *into], ["--bytes", "1T", *into], ["--bytes", "G", *into], ["--bytes", f"{2**40}G", *into],
+        ["--parts", 2, "--bytes", 9, *into], ["--parts", 2, *into, *into], ["--parts", 2, "--whole", *into],
+    ):
+        is_refused(run("split", *words, EXAMPLE), 4, "error: ")
+        need(not (folder / "parts").exists(), f"a folder after {words}")
+    is_refused(run("merge"), 4, "error: ")
+
+
+# ---- output and memory that fail
+
+
+def is_failed(done: Done, into: Path) -> None:
+    """Needs it to have failed, and to have left nothing."""
+    need(done.returncode == 3 and re.match(rb"sioaudit: (read: .|write: .|memory$)", done.stderr) is not None, shown(done))
+    need(not into.is_dir() or not list(into.iterdir()), f"files are left: {into.is_dir() and list(into.iterdir())}")
+
+
+def limited(what: int, most: int) -> dict[str, object]:
+    """How a program is run that may have so much of a resource."""
+
+    def limit() -> None:
+        signal.signal(signal.SIGXFSZ, signal.SIG_IGN)
+        resource.setrlimit(what, (most, most))
+
+    return {"restore_signals": False, "preexec_fn": limit}
+
+
+@case
+def files_that_may_not_grow(folder: Path) -> None:
+    work = Work.of(folder)
+    sizes = [it.stat().st_size for it in work.parts]
+    for most in (0, 1, min(sizes) - 1, max(sizes) - 1):
+        into = folder / str(most)
+        is_failed(run("split", "--parts", 4, "--into", into, *work.bundle.files, **limited(resource.RLIMIT_FSIZE, most)), into)
+    done = run("split", "--parts", 4, "--into", folder / "enough", *work.bundle.files, **limited(resource.RLIMIT_FSIZE, max(sizes)))
+    need(done.returncode == 0, shown(done))
+
+
+@case
+def little_memory(folder: Path) -> None:
+    """With each size of memory that is too small for the work, but not to start, nothing is left."""
+    work = Work.of(folder)
+    for words in (["split", "--parts", 4, "--into", folder / "less", *work.bundle.files], ["merge", work.into, *reports_on(work.parts)]):
+        most, failed, done = 1 << 20, 0, None
+        while done is None or done.returncode not in (0, 1):
+            done = run(*words, **limited(resource.RLIMIT_AS, most))
+            if done.stderr.startswith(b"sioaudit: "):
+                is_failed(done, folder / "less")
+                need(not done.stdout, shown(done))
+                failed += 1
+            most += most // 32
+            need(most < 1 << 31, f"status {done.returncode} with 2 GB: {done.stderr!r}")
+        need(failed > 0, f"{words[0]}: no size was too small")
+
+
+@case
+def a_full_disk(folder: Path) -> None:
+    work = Work.of(folder)
+    with open("/dev/full", "wb") as full:
+        is_failed(run("split", "--parts", 4, "--into", folder / "full", *work.bundle.files, stdout=full), folder / "full")
+        is_failed(run("merge", work.into, *reports_on(work.parts), stdout=full), folder / "none")
+
+
+@case
+def folders_that_cannot_be_made(folder: Path) -> None:
+    (folder / "file").write_bytes(b"")
+    for into in (folder / "none/parts", folder / "file/parts", folder / "file", Path("/proc/parts")):
+        is_failed(run("split", "--parts", 4, "--into", into, EXAMPLE), into)
+
+
+@case
+def folders_that_cannot_be_written(folder: Path) -> None:
+    who = {"user": NOBODY, "group": NOBODY, "extra_groups": []} if os.geteuid() == 0 else {}
+    folder.chmod(0o755)
+    (folder / "parts").mkdir(0o555)
+    path, bundle = shutil.copy(program(), folder / "sioaudit"), shutil.copy(EXAMPLE, folder)
+    words = [path, "split", "--parts", "2", "--into", folder / "parts", bundle]
+    is_failed(subprocess.run(words, stdin=subprocess.DEVNULL, capture_output=True, timeout=SECONDS, **who), folder / "parts")

@@ -1,0 +1,132 @@
+"""What the cases of tests/parts share: a bundle in files, its parts, and the reports on them; each is held against what is told of it."""
+
+from __future__ import annotations
+
+import re
+import subprocess
+from collections import Counter
+from dataclasses import dataclass
+from pathlib import Path
+from typing import Callable
+
+from harness import difference, program
+
+SECONDS = 60
+CLIENT = re.compile(rb'^\S+ \{"k":"tap","of":"client"', re.M)
+
+Done = subprocess.CompletedProcess  # of bytes
+Case = Callable[[Path], None]
+CASES: list[Case] = []
+
+
+class Wrong(Exception):
+    pass
+
+
+class Skipped(Exception):
+    pass
+
+
+def case(function: Case) -> Case:
+    """Adds a case of tests/parts; it has a folder of its own."""
+    CASES.append(function)
+    return function
+
+
+def need(holds: bool, what: str) -> None:
+    if not holds:
+        raise Wrong(what[:2000])
+
+
+def run(*words: object, **more: object) -> Done:
+    """Runs the program."""
+    how = {"stdin": subprocess.DEVNULL, "stdout": subprocess.PIPE, "stderr": subprocess.PIPE, "timeout": SECONDS, **more}
+    return subprocess.run([program(), *map(str, words)], **how)
+
+
+def shown(done: Done) -> str:
+    """A run, in short."""
+    return f"{' '.join(map(str, done.args[1:]))}: status {done.returncode}: {done.stdout and done.stdout[-500:]!r} {done.stderr[-500:]!r}"
+
+
+@dataclass(frozen=True)
+class Bundle:
+    """The files of a bundle, and the reports on it, without --whole and with it."""
+
+    files: list[Path]
+    report: Done
+    whole: Done
+
+    def pids(self) -> list[str]:
+        return [it.split()[1] for it in self.report.stdout.decode().splitlines()[:-1]]
+
+
+def written(texts: list[bytes], folder: Path) -> Bundle:
+    files = [folder / f"{number}.jsonl" for number in range(len(texts))]
+    for file, text in zip(files, texts):
+        file.write_bytes(text)
+    return Bundle(files, run("audit", "--workers", 1, *files), run("audit", "--workers", 1, "--whole", *files))
+
+
+def split(bundle: Bundle, into: Path, *layout: object) -> list[Path]:
+    """The parts of a bundle. What is told of them, and what stands in `sessions`, has to be so."""
+    done = run("split", *layout, "--into", into, *bundle.files)
+    need(done.returncode == 0 and not done.stderr, shown(done))
+    *rows, total = done.stdout.decode().splitlines()
+    first, *listed = (into / "sessions").read_text().splitlines()
+    parts, pids = [into / f"part-{it:04}.jsonl" for it in range(1, len(rows) + 1)], bundle.pids()
+    need(sorted(into.iterdir()) == [*parts, into / "sessions"], f"there are {sorted(into.iterdir())}")
+    need(first == total == f"parts={len(parts)} sessions={len(pids)}", f"{first}, {total}")
+    need([it.split(" ", 1)[1] for it in listed] == pids, "sessions in another order than in the report")
+    counts = Counter(it.split(" ", 1)[0] for it in listed)
+    for number, (part, row) in enumerate(zip(parts, rows), 1):
+        data = part.read_bytes()
+        facts = f"{part.name} sessions={counts.pop(str(number), 0)} clients={len(CLIENT.findall(data))} bytes={len(data)}"
+        need(row == facts, f"told {row}, and there is {facts}")
+    need(not counts, f"sessions of parts {list(counts)}")
+    return parts
+
+
+def report_of(part: Path) -> Path:
+    """Where the report on a part belongs."""
+    return Path(f"{part}.report")
+
+
+def reports_on(parts: list[Path], *options: str) -> list[Path]:
+    """The reports on the parts."""
+    for it in parts:
+        done = run("audit", "--workers", 1, *options, it)
+        need(done.returncode in (0, 1), shown(done))
+        report_of(it).write_bytes(done.stdout)
+    return [report_of(it) for it in parts]
+
+
+def is_report(done: Done, report: Done) -> None:
+    """Needs it to be that report, with its status."""
+    need(done.stdout == report.stdout, difference(report.stdout.decode(), done.stdout.decode()))
+    need(done.returncode == report.returncode and done.stderr in (b"", report.stderr), shown(done))
+
+
+def is_refused(done: Done, status: int, *words: str) -> None:
+    """Needs it to have written nothing but why, in which these words stand."""
+    need(done.returncode == status and not done.stdout, shown(done))
+    need(all(it.encode() in done.stderr for it in words), f"{shown(done)} without {words}")
+
+
+@dataclass(frozen=True)
+class Work:
+    """A bundle in four parts, one of which has a session that is no, and where their reports belong."""
+
+    bundle: Bundle
+    into: Path
+    parts: list[Path]
+
+    @classmethod
+    def of(cls, folder: Path) -> Work:
+        bundle = written([run("simulate", "--clients", 12, "--acts", 400, "--fault", "drop").stdout], folder)
+        parts = split(bundle, folder / "parts", "--parts", 4)
+        need(bundle.report.returncode == 1 and len(parts) == 4, f"{len(parts)} parts, {shown(bundle.report)}")
+        return cls(bundle, folder / "parts", parts)
+
+    def reports(self) -> list[Path]:
+        return [report_of(it) for it in self.parts]
