@@ -9,7 +9,7 @@ use crate::written::Written;
 use aud_node::Logs;
 use aud_reader::ReadFault;
 use aud_tap::Taps;
-use aud_upgrade::upgrade;
+use aud_upgrade::{Joins, upgrade};
 use aud_verdict::{Status, refusal};
 use aud_writer::write_bundle;
 use std::alloc::{AllocError, Global};
@@ -29,7 +29,7 @@ fn upgraded_taps(alloc: Global, keys: RandomState, taps: &Taps) -> Result<Taps, 
     ensures { IfOk result (λ upgrade. upgrade ≡ upgraded taps.now) }
 {
     let logs = Logs::build(alloc, keys, taps)?;
-    upgrade(alloc, &ManuallyDrop::new(logs))
+    upgrade(alloc, &ManuallyDrop::new(logs), Joins::TakeAlone)
 }
 
 /// The lines of the taps, or the first of them that would be too long.

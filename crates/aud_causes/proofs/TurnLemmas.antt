@@ -1,5 +1,5 @@
 -- The records that begin and break turns, noted one after the other.
-use Rattle.std.proofs.Common.{◌≡◌, ◌<◌, ◌+◌, ◌-◌, ◌++◌, ◌||◌, ℕ, suc, Bool, true, false, cond, List, [], ◌∷◌, length, map, set, take, replicate, get_or, nat_eq, nat_lt, Option, Some, None, option_map, slice_get, refl, sym, ap, subst, ◌∙◌, arith, zero-add}
+use Rattle.std.proofs.Common.{◌≡◌, ◌<◌, ◌+◌, ◌-◌, ◌++◌, ◌||◌, ℕ, suc, Bool, true, false, cond, List, [], ◌∷◌, length, map, set, take, replicate, get_or, nat_eq, nat_lt, Option, Some, None, option_map, slice_get, refl, sym, ap, subst, ◌∙◌, arith, append_assoc, flat_map, zero-add}
 use Rattle.std.specs.List.{find}
 use Rattle.std.specs.Option.{option_or}
 use Rattle.std.proofs.lemmas.Bool.Decides.{nat_tests}
@@ -9,11 +9,12 @@ use Rattle.std.proofs.lemmas.Option.{none-some, same_Some, get_or_from_slice_get
 use Rattle.aud_base.specs.Lists.{numbers_from}
 use Rattle.aud_base.proofs.Numbers.{slice_get-numbers}
 use Rattle.aud_merge.proofs.Basics.{slice_get-set_same, slice_get-set_other}
+use Rattle.aud_recoveries.proofs.Steps.{given-more}
 use Rattle.aud_rooms.proofs.Ascending.{length-numbers}
 use Rattle.aud_chain.specs.declared.marks.TurnMark.{TurnMark}
 use Rattle.aud_chain.specs.declared.place.RecordPlace.{RecordPlace}
 use Rattle.aud_causes.specs.Private.Noting.{begin_at, begin_in, with_begin, break_in, with_break}
-use Rattle.aud_causes.specs.Turns.{begin_of, begins_of, begun_turn, breaks_of, broken_turn, first_unbroken, is_broken, is_turn, turn_count, unbroken_at}
+use Rattle.aud_causes.specs.Turns.{begin_of, begins_of, begun_turn, breaks_of, broken_turn, is_broken, is_turn, turn_count}
 
 -- ---- numbers and lists
 
@@ -177,14 +178,9 @@ broken_more count marks i m d old new within at is were =
 pub broken_are : (marks : List TurnMark) (broken : List Bool) → AreBroken (turn_count 0 marks) marks broken → broken ≡ breaks_of marks
 broken_are marks broken are = by_number (is_broken marks) (turn_count 0 marks) broken are.long are.each
 
--- ---- the turns that no record breaks
+-- ---- what is given turn after turn
 
--- a turn that is none is passed over
-pub unbroken_step : (begins : List (Option RecordPlace)) (broken : List Bool) (count turn : ℕ) → turn < count → None ≡ unbroken_at begins broken turn
-    → first_unbroken begins broken (numbers_from (turn + 1) (count - (turn + 1))) ≡ first_unbroken begins broken (numbers_from turn (count - turn))
-unbroken_step begins broken count turn within none =
-    let more : count - turn ≡ suc (count - (turn + 1)) = omega arith in
-    let next : turn + 1 ≡ suc turn = omega arith in
-    ap (λ first. first_unbroken begins broken (numbers_from first (count - (turn + 1)))) next
-    ∙ ap (λ found. option_or found (first_unbroken begins broken (numbers_from (suc turn) (count - (turn + 1))))) none
-    ∙ sym (ap (λ left. first_unbroken begins broken (numbers_from turn left)) more)
+-- what one number more gives comes after what those before it gave
+pub given-next : {Y : Type 0} (f : ℕ → List Y) (i : ℕ) (first old new : List Y) → old ≡ first ++ flat_map f (numbers_from 0 i) → new ≡ old ++ f i → new ≡ first ++ flat_map f (numbers_from 0 (i + 1))
+given-next f i first old new was more =
+    more ∙ ap (λ ys. ys ++ f i) was ∙ append_assoc first (flat_map f (numbers_from 0 i)) (f i) ∙ ap (λ ys. first ++ ys) (sym (given-more f i))

@@ -21,13 +21,13 @@ use Rattle.aud_causes.specs.Judged.{AreJudgedCauses}
 use Rattle.aud_causes.specs.Recorded.{AreRecordedCauses}
 
 -- these are the causes of the fault of the session with this pid: by what it has on the nodes and in its client's tap,
--- where it has no account; else by its account
-abbrev pub AreFound : Cluster → Option ℕ → Text → Noted → Option Account → Fault → List Cause → Type 0
-AreFound c client pid noted None fault found = AreRecordedCauses c client pid noted.unordered.items fault found
-AreFound c client pid noted (Some a) fault found =
+-- where it has no account; else by its account, and by the numbers of its stays in that tap
+abbrev pub AreFound : Cluster → Option ℕ → List ℕ → Text → Noted → Option Account → Fault → List Cause → Type 0
+AreFound c client numbers pid noted None fault found = AreRecordedCauses c client pid noted.unordered.items fault found
+AreFound c client numbers pid noted (Some a) fault found =
     (made : IsMade c a.cert.pid a.cert)
     → IsAccount c a.cert.pid a.client (map (λ stay. stay.now) a.stays.items) a.due.items
-    → AreJudgedCauses (case_of c a made) a.client noted.orphan fault found
+    → AreJudgedCauses (case_of c a numbers made) a.client noted.orphan fault found
 
 -- these are the numbers of the stays of the client's tap at this place, if there is one, whose reply names the session
 abbrev pub AreNumbersAt : Cluster → Option ℕ → Text → List ℕ → Type 0
@@ -43,10 +43,10 @@ has_others _ = true
 
 -- these are the causes of the fault, as they are told
 pub record AreToldCauses (c : Cluster) (lines : List TapLines) (client : Option ℕ) (pid : Text) (noted : Noted) (account : Option Account) (fault : Fault) (causes : List CauseFound) : Type 0 where
-  pub found : List Cause
-  pub are_found : AreFound c client pid noted account fault found
   pub numbers : List ℕ
   pub are_numbers : AreNumbersAt c client pid numbers
+  pub found : List Cause
+  pub are_found : AreFound c client numbers pid noted account fault found
   pub are_told : map cause_seen causes ≡ shown_causes c lines client numbers (has_others fault) found
 
 -- a session that is answered yes has no causes; one that is answered no has those of its fault

@@ -2,7 +2,7 @@
 use Rattle.std.specs.Prelude.{ℕ, not, ◌&&◌, ◌++◌, List, [], map, Option, option_to_list, nat_lt, nat_le}
 use Rattle.std.specs.Option.{option_and_then, option_or}
 use Rattle.aud_node.specs.Cluster.{Cluster}
-use Rattle.aud_node.specs.Stream.{Text}
+use Rattle.aud_node.specs.Stream.{Text, entry}
 use Rattle.aud_client.specs.StaySeen.{StaySeen}
 use Rattle.aud_rooms.specs.Turns.{Who, Turn}
 use Rattle.aud_cert.specs.Certificate.{TurnSeen, turn_at}
@@ -19,25 +19,39 @@ use Rattle.aud_causes.specs.declared.facts.Facts.{Facts}
 use Rattle.aud_causes.specs.Facts.{facts_of}
 use Rattle.aud_causes.specs.Delivery.{cause_if, doubled_live, swapped_live, lost_live, sent_again, stale_offset, skipped_in_window}
 use Rattle.aud_causes.specs.Behind.{node_behind}
-use Rattle.aud_causes.specs.Extra.{log_ended_early, before_birth, late_leave, extra_live}
+use Rattle.aud_causes.specs.Extra.{log_ended_early, before_birth, late_leave, extra_live, change_missing, rooms_named}
+use Rattle.aud_causes.specs.Leavable.{leave_missing_in}
 use Rattle.aud_causes.specs.AtBreak.{first_taken, rooms_at_break}
+use Rattle.aud_causes.specs.Bodies.{body_twice}
 
 -- ---- what is known of a session
 
--- a session, as its `open` names it; its turns in the nodes' logs, and as its certificate has them; the stays of its
--- client's tap whose reply names it; and the positions that were due to it
+-- a session, as its `open` names it; its turns in the nodes' logs, and as its certificate has them; the place of its
+-- client's tap, the numbers of the stays there whose reply names it, and these stays; and the positions that were due to
+-- it
 pub record Case : Type 0 where
   pub c : Cluster
   pub who : Who
   pub turns : List Turn
   pub seen : List TurnSeen
+  pub client : ℕ
+  pub numbers : List ℕ
   pub stays : List StaySeen
   pub due : List ℕ
 
--- that of an account whose certificate was made for the session
-abbrev pub case_of : (c : Cluster) (account : Account) → IsMade c account.cert.pid account.cert → Case
-case_of c account made =
-    record { c = c; who = made.who; turns = made.turns; seen = account.cert.turns; stays = map (λ stay. stay.now) account.stays.items; due = account.due.items }
+-- that of an account whose certificate was made for the session, where these are the numbers
+abbrev pub case_of : (c : Cluster) (account : Account) → List ℕ → IsMade c account.cert.pid account.cert → Case
+case_of c account numbers made =
+    record {
+      c = c;
+      who = made.who;
+      turns = made.turns;
+      seen = account.cert.turns;
+      client = account.client;
+      numbers = numbers;
+      stays = map (λ stay. stay.now) account.stays.items;
+      due = account.due.items;
+    }
 
 -- ---- the offset of another session
 
@@ -61,37 +75,48 @@ other_session_after due f =
 abbrev pub cause_and : Option Cause → List Cause → List Cause
 cause_and cause causes = option_to_list cause ++ causes
 
--- of an entry that came twice: the node was behind the break; the node sent again what it had replayed; the offset was
--- stale; it came twice while the client was connected
-abbrev pub doubled_causes : Cluster → List TurnSeen → List StaySeen → Facts → List Cause
-doubled_causes c turns stays f =
-    cause_and (node_behind c turns f) (cause_and (sent_again f (first_taken stays f)) (cause_and (stale_offset f) (cause_and (doubled_live f) [])))
+-- of an entry that came twice, where this holds of a body of polling: the node was behind the break; the node sent again
+-- what it had replayed; the offset was stale; that of the body; it came twice while the client was connected
+abbrev pub doubled_causes : Cluster → List TurnSeen → List StaySeen → Option Cause → Facts → List Cause
+doubled_causes c turns stays body f =
+    cause_and (node_behind c turns f)
+    (cause_and (sent_again f (first_taken stays f)) (cause_and (stale_offset f) (cause_and body (cause_and (doubled_live f) []))))
+
+-- the same of a session's entry
+abbrev pub doubled_in : Case → Facts → List Cause
+doubled_in s f = doubled_causes s.c s.seen s.stays (body_twice s.c s.client s.numbers f) f
 
 -- of an entry that came late: the node was behind the break; two changed places while the client was connected
 abbrev pub swapped_causes : Cluster → List TurnSeen → Facts → List Cause
 swapped_causes c turns f = cause_and (node_behind c turns f) (cause_and (swapped_live f) [])
 
--- of an entry that was lost, where this holds of the rooms at the break: that; it was left out of the replay; the
--- offset was another session's; it was left out while the client was connected
-abbrev pub lost_causes : Option Cause → List ℕ → Facts → List Cause
-lost_causes at_break due f =
-    cause_and at_break (cause_and (skipped_in_window f) (cause_and (other_session_after due f) (cause_and (lost_live f) [])))
+-- of an entry that was lost, where this holds of the rooms at the break, and of a `leave`: the first; it was left out of
+-- the replay; the offset was another session's; it was left out while the client was connected; the `leave` is missing
+abbrev pub lost_causes : Option Cause → List ℕ → Option Cause → Facts → List Cause
+lost_causes at_break due leave f =
+    cause_and at_break (cause_and (skipped_in_window f) (cause_and (other_session_after due f) (cause_and (lost_live f) (cause_and leave []))))
 
 -- the same of a session's entry
 abbrev pub lost_in : Case → Facts → List Cause
-lost_in s f = lost_causes (rooms_at_break s.c s.who s.turns s.stays f) s.due f
+lost_in s f =
+    lost_causes
+    (rooms_at_break s.c s.who s.turns s.stays f)
+    s.due
+    (leave_missing_in s.seen (rooms_named (entry s.c.stream f.parted.position)) f)
+    f
 
 -- of an entry that was not due, for this reason, and where this holds of the node that was behind the break, of the
 -- rooms at the break, and of a room that was left: the first; that of the rooms; the offset was another session's; a
 -- node's log ends early; a room of it was left; it was taken before the session was opened; it was sent to a session to
--- which it wasn't addressed
+-- which it wasn't addressed; a change of rooms is missing
 abbrev pub extra_by : Cluster → Text → List TurnSeen → Option Cause → Option Cause → Option Cause → List ℕ → Option Reason → Facts → List Cause
 extra_by c pid turns behind at_break left due why f =
     cause_and behind
     (cause_and at_break
     (cause_and (other_session_before due f)
     (cause_and (log_ended_early c pid turns why)
-    (cause_and left (cause_and (before_birth c turns why) (cause_and (extra_live (option_or behind left) why f) []))))))
+    (cause_and left
+    (cause_and (before_birth c turns why) (cause_and (extra_live (option_or behind left) why f) (cause_and (change_missing why f) [])))))))
 
 -- the same, where this holds of the rooms at the break
 abbrev pub extra_causes : Cluster → Text → List TurnSeen → Option Cause → List ℕ → Option Reason → Facts → List Cause
@@ -105,7 +130,7 @@ extra_in s f p = extra_causes s.c s.who.pid s.seen (rooms_at_break s.c s.who s.t
 -- of the facts of a difference of this kind
 abbrev pub causes_by : Case → Difference → Facts → List Cause
 causes_by s (Extra frame position) f = extra_in s f position
-causes_by s (Doubled first again position) f = doubled_causes s.c s.seen s.stays f
+causes_by s (Doubled first again position) f = doubled_in s f
 causes_by s (Swapped frame due later) f = swapped_causes s.c s.seen f
 causes_by s (Lost frame due) f = lost_in s f
 

@@ -103,3 +103,12 @@ is_unaddressed _ = false
 abbrev pub extra_live : Option Cause → Option Reason → Facts → Option Cause
 extra_live (Some told) why f = None
 extra_live None why f = cause_if (is_outside f && is_unaddressed why) (cause.ExtraLive f.parted.again)
+
+-- ---- a change of rooms that no log has
+
+-- the entry came in no replay, and would be due if the session had joined one of its rooms before, or had left the one
+-- that it excepts
+abbrev pub change_missing : Option Reason → Facts → Option Cause
+change_missing (Some NoCommonRoom) f = cause_if (is_outside f) (cause.JoinMissing f.parted.again)
+change_missing (Some (Excepted room)) f = cause_if (is_outside f) (cause.LeaveMissing f.parted.again)
+change_missing _ f = None

@@ -1,6 +1,5 @@
 -- What a fault may come from of a session that has a certificate.
-use Rattle.std.specs.Prelude.{◌≡◌, ℕ, List, [], ◌∷◌, Option, Some, None, option_to_list, slice_get, ◌⊎◌}
-use Rattle.std.specs.Option.{option_and_then}
+use Rattle.std.specs.Prelude.{◌≡◌, ℕ, List, [], ◌∷◌, Option, Some, None, slice_get, ◌⊎◌}
 use Rattle.aud_tap.specs.declared.records.StreamRec.{StreamRec}
 use Rattle.aud_node.specs.Cluster.{Cluster}
 use Rattle.aud_node.specs.Stream.{Text}
@@ -17,14 +16,14 @@ use Rattle.aud_evidence.specs.Content.{IsAltered}
 use Rattle.aud_evidence.specs.Difference.{IsAscending}
 use Rattle.aud_evidence.specs.Window.{IsBadWindow, positions_received}
 use Rattle.aud_recoveries.specs.Opened.{opened_in}
-use Rattle.aud_recoveries.specs.Recoveries.{stays_at}
 use Rattle.aud_account.specs.Account.{IsDifferenceOf}
 use Rattle.aud_causes.specs.declared.cause.Cause.{Cause}
 use Rattle.aud_causes.specs.declared.cause.Cause.TheVariants.{NotAPacket}
 use Rattle.aud_causes.specs.Differences.{Case, difference_causes}
 use Rattle.aud_causes.specs.Windows.{altered_causes, window_causes}
 use Rattle.aud_causes.specs.NoPacket.{no_packet_in}
-use Rattle.aud_causes.specs.Names.{first_other, named_causes, orphan_cause}
+use Rattle.aud_causes.specs.Names.{first_other, named_causes}
+use Rattle.aud_causes.specs.Orphans.{orphan_causes}
 
 -- what was received is the begin of what was due, and there are no causes; or what was received of the session first
 -- parts so from what was due, and these are the causes of that
@@ -68,16 +67,17 @@ names_by (Some opened) stays = other_causes opened.0 opened.1 stays
 abbrev pub names_causes : List TurnSeen → List StaySeen → List Cause
 names_causes turns stays = names_by (opened_in turns) stays
 
--- the cause of events in the stay with this number, if there is one, of the client's tap at this place
-abbrev pub orphan_at : Cluster → ℕ → Option ℕ → Option Cause
-orphan_at c client orphan = option_and_then (orphan_cause (stays_at c client)) orphan
+-- the causes of events in the stay with this number, if there is one, of the client's tap at this place
+abbrev pub orphan_at : Cluster → ℕ → Option ℕ → List Cause
+orphan_at c client None = []
+orphan_at c client (Some number) = orphan_causes c client number
 
 -- the causes of a fault of this session, whose client's tap is at this place and has its first events of which nobody
 -- knows the session in the stay with this number, if it has any; none of another fault
 abbrev pub AreJudgedCauses : Case → ℕ → Option ℕ → Fault → List Cause → Type 0
 AreJudgedCauses s client orphan fault.Names found = found ≡ names_causes s.seen s.stays
 AreJudgedCauses s client orphan fault.Frame found = found ≡ NotAPacket (no_packet_in s.c client) ∷ []
-AreJudgedCauses s client orphan fault.Orphan found = found ≡ option_to_list (orphan_at s.c client orphan)
+AreJudgedCauses s client orphan fault.Orphan found = found ≡ orphan_at s.c client orphan
 AreJudgedCauses s client orphan (fault.Content off) found = AreAlteredCauses s.c.stream s.stays found
 AreJudgedCauses s client orphan (fault.Extra off) found = AreDifferenceCauses s found
 AreJudgedCauses s client orphan (fault.Doubled off) found = AreDifferenceCauses s found

@@ -1,26 +1,24 @@
 -- What a fault of the nodes' logs may come from.
-use Rattle.std.specs.Prelude.{ℕ, suc, ◌-◌, List, [], ◌∷◌, Option, Some, None, if◌then◌else◌, nat_eq, nat_le, nat_lt, not, slice_get}
+use Rattle.std.specs.Prelude.{ℕ, suc, List, length, Option, Some, None, if◌then◌else◌, nat_eq, nat_le, nat_lt, slice_get}
+use Rattle.std.specs.List.{filter}
 use Rattle.std.specs.Option.{option_and_then}
+use Rattle.aud_base.specs.Lists.{numbers_from}
 use Rattle.aud_tap.specs.declared.records.StreamRec.{StreamRec}
 use Rattle.aud_tap.specs.declared.records.NodeRec.{NodeRec}
 use Rattle.aud_tap.specs.declared.records.NodeRec.TheVariants as rec
 use Rattle.aud_client.specs.StaySeen.{StaySeen}
-use Rattle.aud_client.specs.Received.{is_recovered}
 use Rattle.aud_node.specs.Cluster.{Cluster, node_log}
 use Rattle.aud_node.specs.Cursors.{cursor_at}
 use Rattle.aud_node.specs.Stream.{position}
 use Rattle.aud_chain.specs.declared.place.RecordPlace.{RecordPlace}
 use Rattle.aud_causes.specs.declared.cause.Cause.{Cause}
+use Rattle.aud_causes.specs.Facts.{is_recovery}
 use Rattle.aud_causes.specs.declared.cause.Cause.TheVariants.{NoStart, RestartedInOldLog, NotInStream, EntriesSkippedByNode, EntryTakenAgain}
 
--- the number of the stay by which the client went on after this turn: the first recovery follows turn 0, the next one
--- turn 1, and so on. Stays count on from this number
-abbrev pub recovery_after : ℕ → ℕ → List StaySeen → Option ℕ
-recovery_after turn number [] = None
-recovery_after turn number (stay ∷ stays) =
-    if not (is_recovered stay) then recovery_after turn (suc number) stays
-    else if nat_eq turn 0 then Some number
-    else recovery_after (turn - 1) (suc number) stays
+-- the numbers of the stays by which the client came back: the first recovery follows turn 0, the next one turn 1, and so
+-- on
+abbrev pub recoveries : List StaySeen → List ℕ
+recoveries stays = filter (λ number. is_recovery (slice_get stays number)) (numbers_from 0 (length stays))
 
 -- the stream doesn't have the position
 abbrev pub unknown : RecordPlace → Option ℕ → Option Cause

@@ -1,23 +1,43 @@
 -- What a fault of a client's tap may come from.
-use Rattle.std.specs.Prelude.{ℕ, suc, zero, Bool, not, ◌&&◌, List, [], ◌∷◌, Option, Some, None, is_some, if◌then◌else◌, slice_get}
-use Rattle.std.specs.Option.{option_and_then}
+use Rattle.std.specs.Prelude.{ℕ, suc, zero, Bool, false, not, ◌&&◌, List, [], ◌∷◌, Option, Some, None, option_to_list, if◌then◌else◌}
+use Rattle.std.specs.Option.{option_map}
 use Rattle.std.specs.Str.{bytes_eq}
+use Rattle.aud_tap.specs.declared.taps.Tap.{Tap}
+use Rattle.aud_node.specs.Cluster.{Cluster}
 use Rattle.aud_node.specs.Stream.{Text}
-use Rattle.aud_client.specs.Replies.{ReplySeen}
-use Rattle.aud_client.specs.StaySeen.{StaySeen, AskedSeen}
+use Rattle.aud_client.specs.Received.{TranscriptSeen, transcript_at}
+use Rattle.aud_client.specs.StaySeen.{StaySeen}
 use Rattle.aud_check.specs.NamedStays.{has_sid}
 use Rattle.aud_causes.specs.declared.cause.Cause.{Cause}
-use Rattle.aud_causes.specs.declared.cause.Cause.TheVariants.{NoClientTap, TwoTaps, SidDiffers, NamespaceDiffers, TapBeganLate, CutBeforeReply, ReplyWithoutPid}
+use Rattle.aud_causes.specs.declared.cause.Cause.TheVariants.{NoClientTap, ReplyMissing, TwoTaps, SidDiffers, NamespaceDiffers}
 use Rattle.aud_causes.specs.Delivery.{cause_if}
 use Rattle.aud_causes.specs.Differences.{cause_and}
 
 -- ---- the taps that name the session
 
+-- events of a client's tap are in a stay whose reply names nobody, or that has none
+abbrev pub has_orphan : Option TranscriptSeen → Bool
+has_orphan None = false
+has_orphan (Some transcript) = transcript.orphan
+
+-- the place of the first client's tap of which it is so, among these taps, the first of which is at this place
+abbrev pub orphan_from : Cluster → ℕ → List Tap → Option ℕ
+orphan_from c place [] = None
+orphan_from c place (tap ∷ taps) = if has_orphan (transcript_at c place) then Some place else orphan_from c (suc place) taps
+
+-- a client's tap has events of no known session: the first that has any
+abbrev pub reply_missing : Cluster → Option Cause
+reply_missing c = option_map ReplyMissing (orphan_from c 0 c.taps)
+
+-- of a session that no client's tap names: no tap does; a tap has events of no known session
+abbrev pub unnamed_causes : Cluster → List Cause
+unnamed_causes c = NoClientTap ∷ option_to_list (reply_missing c)
+
 -- of so many clients' taps that name the session: none, or several
-abbrev pub client_cause : ℕ → Option Cause
-client_cause zero = Some NoClientTap
-client_cause (suc zero) = None
-client_cause (suc (suc more)) = Some (TwoTaps (suc (suc more)))
+abbrev pub client_causes : Cluster → ℕ → List Cause
+client_causes c zero = unnamed_causes c
+client_causes c (suc zero) = []
+client_causes c (suc (suc more)) = TwoTaps (suc (suc more)) ∷ []
 
 -- ---- the names
 
@@ -41,24 +61,3 @@ namespace_differs number nsp stay = cause_if (not (bytes_eq stay.nsp nsp)) (Name
 -- what differs in the stay with this number
 abbrev pub named_causes : ℕ → Text → Text → StaySeen → List Cause
 named_causes number sid nsp stay = cause_and (sid_differs number sid stay) (cause_and (namespace_differs number nsp stay) [])
-
--- ---- events without a session
-
--- what was asked, where no reply came
-abbrev pub without_reply : ℕ → Option AskedSeen → Option Cause
-without_reply number (Some asked) = Some (CutBeforeReply number)
-without_reply number None = Some (TapBeganLate number)
-
--- a reply names somebody, or nobody; or there is none
-abbrev pub replied_cause : ℕ → Option AskedSeen → Option ReplySeen → Option Cause
-replied_cause number asked None = without_reply number asked
-replied_cause number asked (Some reply) = if is_some reply.pid then None else Some (ReplyWithoutPid number)
-
--- of events in this stay of the tap: the client asked for a session, and no reply came; it asked for none, and no reply
--- came; or the reply names nobody
-abbrev pub orphan_in : ℕ → StaySeen → Option Cause
-orphan_in number stay = replied_cause number stay.asked stay.reply
-
--- the same of the stay with this number
-abbrev pub orphan_cause : List StaySeen → ℕ → Option Cause
-orphan_cause stays number = option_and_then (orphan_in number) (slice_get stays number)

@@ -17,9 +17,9 @@ use Rattle.aud_chain.specs.Marks.{turn_marks}
 use Rattle.aud_recoveries.specs.Recoveries.{stays_at}
 use Rattle.aud_causes.specs.declared.cause.Cause.{Cause}
 use Rattle.aud_causes.specs.declared.cause.Cause.TheVariants.{NodeNotTapped, OpenNotRecorded}
+use Rattle.aud_causes.specs.Chain.{chain_causes}
 use Rattle.aud_causes.specs.Logs.{order_cause}
-use Rattle.aud_causes.specs.Names.{client_cause}
-use Rattle.aud_causes.specs.Turns.{chain_causes}
+use Rattle.aud_causes.specs.Names.{client_causes}
 
 -- the stays of the client's tap at this place, if there is one, whose reply names the session
 abbrev pub stays_of_client : Cluster → Option ℕ → Text → List StaySeen
@@ -48,7 +48,7 @@ no_log_cause c pid = opened_by (first_own c pid)
 
 -- the causes of a break in the chain of the session's turns, where this is the place of its client's tap
 abbrev pub causes_of_turns : Cluster → Option ℕ → Text → List Cause
-causes_of_turns c client pid = chain_causes (turn_marks c pid) (stays_of_client c client pid)
+causes_of_turns c client pid = chain_causes c pid (turn_marks c pid) (stays_of_client c client pid)
 
 -- the causes for which these records of nodes are out of order
 abbrev pub order_causes : Cluster → List RecordPlace → List Cause
@@ -60,5 +60,5 @@ abbrev pub AreRecordedCauses : Cluster → Option ℕ → Text → List RecordPl
 AreRecordedCauses c client pid unordered fault.NoLog found = found ≡ no_log_cause c pid ∷ []
 AreRecordedCauses c client pid unordered fault.Chain found = found ≡ causes_of_turns c client pid
 AreRecordedCauses c client pid unordered fault.Order found = found ≡ order_causes c unordered
-AreRecordedCauses c client pid unordered fault.Client found = found ≡ option_to_list (client_cause (length (naming_places c.taps pid)))
+AreRecordedCauses c client pid unordered fault.Client found = found ≡ client_causes c (length (naming_places c.taps pid))
 AreRecordedCauses c client pid unordered _ found = found ≡ []

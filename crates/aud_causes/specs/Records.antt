@@ -14,11 +14,11 @@ use Rattle.aud_rows.specs.EndRows.{bad_row}
 use Rattle.aud_shown.specs.declared.frame_place.FramePlace.{FramePlace}
 use Rattle.aud_shown.specs.FramePlaces.{frame_at}
 use Rattle.aud_causes.specs.declared.cause.Cause.{Cause}
-use Rattle.aud_causes.specs.declared.cause.Cause.TheVariants.{NodeBehindBreak, SentAgainAfterReplay, StaleOffset, OffsetOfAnotherSession, UnknownOffset, NoOffset, RoomsAtBreak, SkippedInWindow, LostLive, DoubledLive, SwappedLive, Altered, LogEndedEarly, LateLeave, BeforeBirth, ExtraLive, MissingBreak, OpenNotRecorded, NodeNotTapped, NoStart, RestartedInOldLog, EntriesSkippedByNode, EntryTakenAgain, NotInStream, TwoTaps, NoClientTap, SidDiffers, NamespaceDiffers, NotAPacket, TapBeganLate, CutBeforeReply, ReplyWithoutPid, SessionOver, NeverBroken, AskedTooEarly}
+use Rattle.aud_causes.specs.declared.cause.Cause.TheVariants.{NodeBehindBreak, SentAgainAfterReplay, StaleOffset, BodyCameTwice, OffsetOfAnotherSession, UnknownOffset, NoOffset, RoomsAtBreak, SkippedInWindow, LostLive, DoubledLive, SwappedLive, Altered, LogEndedEarly, LateLeave, BeforeBirth, ExtraLive, JoinMissing, LeaveMissing, MissingBreak, ClearedAfterBreak, TurnNotStored, RecoveredTwice, OpenNotRecorded, NodeNotTapped, NoStart, RestartedInOldLog, EntriesSkippedByNode, EntryTakenAgain, NotInStream, TwoTaps, NoClientTap, ReplyMissing, SidDiffers, NamespaceDiffers, NotAPacket, TapBeganLate, CutBeforeReply, ReplyWithoutPid, OutAfterAnswer, SecondConnect, AfterDisconnect, SessionOver, NodeEndedInTurn, NeverBroken, AskedTooEarly}
 use Rattle.aud_causes.specs.declared.record_at.RecordAt.{RecordAt}
 use Rattle.aud_causes.specs.declared.record_at.RecordAt.TheVariants.{Node, Got, Ask, Reply, First, Bad}
 
--- the node of which the cause speaks, by the place of its tap
+-- the node of which the cause speaks, or the client, by the place of its tap
 abbrev pub node_of : Cause → Option ℕ
 node_of (NodeBehindBreak broke back high low) = Some back.node
 node_of (LogEndedEarly last high) = Some last.node
@@ -30,6 +30,9 @@ node_of (EntriesSkippedByNode taken cursor position) = Some taken.node
 node_of (EntryTakenAgain taken cursor position) = Some taken.node
 node_of (NotInStream taken) = Some taken.node
 node_of (SessionOver gone) = Some gone.node
+node_of (ClearedAfterBreak broke cleared) = Some cleared.node
+node_of (ReplyMissing client) = Some client
+node_of (NodeEndedInTurn last) = Some last.node
 node_of _ = None
 
 -- the name of the tap at the place, if there is one; else the empty text
@@ -42,6 +45,7 @@ abbrev pub records_of : Cause → List RecordAt
 records_of (NodeBehindBreak broke back high low) = Node broke ∷ Node back ∷ []
 records_of (SentAgainAfterReplay first again low) = Got first ∷ Got again ∷ []
 records_of (StaleOffset stay after) = Ask stay ∷ []
+records_of (BodyCameTwice first again) = Got first ∷ Got again ∷ []
 records_of (OffsetOfAnotherSession stay after) = Ask stay ∷ []
 records_of (UnknownOffset stay) = Ask stay ∷ []
 records_of (NoOffset stay) = Ask stay ∷ []
@@ -55,7 +59,12 @@ records_of (LogEndedEarly last high) = Node last ∷ []
 records_of (LateLeave leave) = Node leave ∷ []
 records_of (BeforeBirth begin low) = Node begin ∷ []
 records_of (ExtraLive frame) = Got frame ∷ []
+records_of (JoinMissing frame) = Got frame ∷ []
+records_of (LeaveMissing frame) = Got frame ∷ []
 records_of (MissingBreak turn begin back stay) = Node begin ∷ Node back ∷ Ask stay ∷ Reply stay ∷ []
+records_of (ClearedAfterBreak broke cleared) = Node broke ∷ Node cleared ∷ []
+records_of (TurnNotStored turn first again) = Node first ∷ Node again ∷ []
+records_of (RecoveredTwice turn first again) = Node first ∷ Node again ∷ []
 records_of (OpenNotRecorded first) = Node first ∷ []
 records_of (NodeNotTapped turn) = []
 records_of (NoStart first) = Node first ∷ []
@@ -65,13 +74,18 @@ records_of (EntryTakenAgain taken cursor position) = Node taken ∷ []
 records_of (NotInStream taken) = Node taken ∷ []
 records_of (TwoTaps taps) = []
 records_of NoClientTap = []
+records_of (ReplyMissing client) = []
 records_of (SidDiffers stay) = Reply stay ∷ []
 records_of (NamespaceDiffers stay) = Reply stay ∷ []
 records_of (NotAPacket why) = Bad ∷ []
 records_of (TapBeganLate stay) = First stay ∷ []
 records_of (CutBeforeReply stay) = First stay ∷ []
 records_of (ReplyWithoutPid stay) = First stay ∷ []
+records_of (OutAfterAnswer answered stay) = First answered ∷ First stay ∷ []
+records_of (SecondConnect answered stay) = First answered ∷ First stay ∷ []
+records_of (AfterDisconnect before stay) = First before ∷ First stay ∷ []
 records_of (SessionOver gone) = Node gone ∷ []
+records_of (NodeEndedInTurn last) = Node last ∷ []
 records_of (NeverBroken begin) = Node begin ∷ []
 records_of (AskedTooEarly broke begin high low) = Node broke ∷ Node begin ∷ []
 

@@ -1,5 +1,5 @@
 -- What the refusal of a recovery may come from.
-use Rattle.std.specs.Prelude.{ℕ, List, [], ◌∷◌, Option, Some, None, is_some, if◌then◌else◌, nat_le, nat_lt}
+use Rattle.std.specs.Prelude.{ℕ, ◌-◌, ◌||◌, List, [], ◌∷◌, length, Option, Some, None, is_some, if◌then◌else◌, nat_le, nat_lt}
 use Rattle.std.specs.Option.{option_map, option_and_then}
 use Rattle.aud_tap.specs.declared.records.StreamRec.{StreamRec}
 use Rattle.aud_node.specs.Cluster.{Cluster}
@@ -14,9 +14,11 @@ use Rattle.aud_chain.specs.declared.marks.Mark.TheVariants as mark
 use Rattle.aud_chain.specs.declared.marks.TurnMark.{TurnMark}
 use Rattle.aud_chain.specs.Marks.{turn_marks}
 use Rattle.aud_causes.specs.declared.cause.Cause.{Cause}
-use Rattle.aud_causes.specs.declared.cause.Cause.TheVariants.{NoOffset, UnknownOffset, SessionOver, NeverBroken, AskedTooEarly}
+use Rattle.aud_causes.specs.declared.cause.Cause.TheVariants.{NoOffset, UnknownOffset, SessionOver, NodeEndedInTurn, NeverBroken, AskedTooEarly}
 use Rattle.aud_causes.specs.Delivery.{cause_if}
 use Rattle.aud_causes.specs.Differences.{cause_and}
+use Rattle.aud_causes.specs.LastTurn.{is_ended, last_begin, last_turn}
+use Rattle.aud_causes.specs.Turns.{is_broken}
 
 -- ---- the offset
 
@@ -63,9 +65,23 @@ last_break turn last (m ∷ marks) = last_break (turn_by turn m.mark) (break_by 
     break_by turn last place (mark.Break broken) = if nat_le turn broken then Some place else last
     break_by turn last place _ = last
 
--- a node opened the session, and none recorded a break of it
+-- ---- the last turn
+
+-- the last record in the log of the node at this place
+abbrev pub last_record : Cluster → ℕ → Option RecordPlace
+last_record c node = option_map (λ (tap : NodeTap). record { node = node; number = length tap.recs - 1 }) (node_at c node)
+
+-- the log of its node ends in the turn that this record begins
+abbrev pub ended_in : Cluster → List TurnMark → RecordPlace → Option Cause
+ended_in c marks begin = if is_ended marks begin then None else option_map NodeEndedInTurn (last_record c begin.node)
+
+-- the log of a node ends in the session's last turn
+abbrev pub node_ended : Cluster → List TurnMark → Option Cause
+node_ended c marks = option_and_then (ended_in c marks) (last_begin marks)
+
+-- no log has a break of the session's last turn, and none has its end
 abbrev pub never_broken : List TurnMark → Option Cause
-never_broken marks = if is_some (last_break 0 None marks) then None else option_map NeverBroken (first_open marks)
+never_broken marks = if is_broken marks (last_turn marks) || is_some (session_over marks) then None else option_map NeverBroken (last_begin marks)
 
 -- the node's cursor after the record at this place
 abbrev pub cursor_there : Cluster → RecordPlace → Option ℕ
@@ -86,11 +102,13 @@ asked_too_early c marks opening =
 
 -- ---- the causes, in their order
 
--- the offset; the session was over; it had not broken; the client asked too early. These are the records that begin and
+-- the offset; the session was over; a node's log ends in it; it had not broken; the client asked too early. These are the records that begin and
 -- end the turns of the session that was asked for, and of the one that the client got
 abbrev pub refused_causes : Cluster → Option Cause → List TurnMark → List TurnMark → List Cause
 refused_causes c offset marks opening =
-    cause_and offset (cause_and (session_over marks) (cause_and (never_broken marks) (cause_and (asked_too_early c marks opening) [])))
+    cause_and offset
+    (cause_and (session_over marks)
+    (cause_and (node_ended c marks) (cause_and (never_broken marks) (cause_and (asked_too_early c marks opening) []))))
 
 -- the session that a reply names; the empty text where there is none
 abbrev pub got_of : Option ReplySeen → Text

@@ -1,10 +1,9 @@
--- What a break in the chain of a session's turns may come from. Both causes are looked for in all turns, up to the last
--- that a record begins.
-use Rattle.std.specs.Prelude.{ℕ, suc, Bool, false, ◌++◌, List, [], ◌∷◌, length, map, Option, Some, None, option_to_list, nat_eq, nat_lt, if◌then◌else◌, slice_get}
+-- The turns of a session that have no begin or no break. Both are looked for in all turns, up to the last that a record
+-- begins.
+use Rattle.std.specs.Prelude.{ℕ, suc, Bool, false, ◌++◌, List, [], ◌∷◌, flat_map, length, map, Option, Some, None, option_to_list, nat_eq, nat_lt, if◌then◌else◌, slice_get}
 use Rattle.std.specs.List.{find, list_any}
-use Rattle.std.specs.Option.{option_map, option_and_then, option_or}
+use Rattle.std.specs.Option.{option_map, option_and_then}
 use Rattle.aud_base.specs.Lists.{numbers_from}
-use Rattle.aud_client.specs.StaySeen.{StaySeen}
 use Rattle.aud_chain.specs.declared.marks.Mark.{Mark}
 use Rattle.aud_chain.specs.declared.marks.Mark.TheVariants as mark
 use Rattle.aud_chain.specs.declared.marks.TurnMark.{TurnMark}
@@ -12,7 +11,6 @@ use Rattle.aud_chain.specs.declared.place.RecordPlace.{RecordPlace}
 use Rattle.aud_causes.specs.declared.cause.Cause.{Cause}
 use Rattle.aud_causes.specs.declared.cause.Cause.TheVariants.{MissingBreak, NodeNotTapped}
 use Rattle.aud_causes.specs.declared.turns.Unbroken.{Unbroken}
-use Rattle.aud_causes.specs.Logs.{recovery_after}
 
 -- ---- the records of a turn
 
@@ -76,20 +74,19 @@ unbroken_by turn _ _ _ = None
 abbrev pub unbroken_at : List (Option RecordPlace) → List Bool → ℕ → Option Unbroken
 unbroken_at begins broken turn = unbroken_by turn (slice_get begins turn) (slice_get broken turn) (slice_get begins (suc turn))
 
--- the first of these turns of which it is so
-abbrev pub first_unbroken : List (Option RecordPlace) → List Bool → List ℕ → Option Unbroken
-first_unbroken begins broken [] = None
-first_unbroken begins broken (turn ∷ turns) = option_or (unbroken_at begins broken turn) (first_unbroken begins broken turns)
+-- the client went on after it, by the recovery with the turn's number among these: the cause
+abbrev pub went_on : List ℕ → Unbroken → Option Cause
+went_on came u = option_map (MissingBreak u.turn u.begin u.back) (slice_get came u.turn)
 
--- the client went on after it: the cause, where these are the stays of its tap whose reply names the session
-abbrev pub went_on : List StaySeen → Unbroken → Option Cause
-went_on stays u = option_map (MissingBreak u.turn u.begin u.back) (recovery_after u.turn 0 stays)
+-- the same of the turn with this number
+abbrev pub missing_break : List (Option RecordPlace) → List Bool → List ℕ → ℕ → Option Cause
+missing_break begins broken came turn = option_and_then (went_on came) (unbroken_at begins broken turn)
 
--- the client went on after a turn of which no log has the break
-abbrev pub missing_break : List (Option RecordPlace) → List Bool → List StaySeen → Option Cause
-missing_break begins broken stays = option_and_then (went_on stays) (first_unbroken begins broken (numbers_from 0 (length begins)))
+-- of each turn
+abbrev pub missing_breaks : List (Option RecordPlace) → List Bool → List ℕ → List Cause
+missing_breaks begins broken came = flat_map (λ turn. option_to_list (missing_break begins broken came turn)) (numbers_from 0 (length begins))
 
--- the causes, where these are all records that begin or end turns of the session, and these the stays
-abbrev pub chain_causes : List TurnMark → List StaySeen → List Cause
-chain_causes marks stays =
-    option_to_list (not_tapped 0 (begins_of marks)) ++ option_to_list (missing_break (begins_of marks) (breaks_of marks) stays)
+-- the causes: the first turn that no log begins, and all that no log breaks, where these are the begins of the turns,
+-- whether each is broken, and the recoveries
+abbrev pub missing_causes : List (Option RecordPlace) → List Bool → List ℕ → List Cause
+missing_causes begins broken came = option_to_list (not_tapped 0 begins) ++ missing_breaks begins broken came

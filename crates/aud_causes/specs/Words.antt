@@ -5,13 +5,14 @@ use Rattle.aud_evidence.specs.declared.content.Part.TheVariants as part
 use Rattle.aud_causes.specs.Pieces.{PieceSeen, Spelled, Counted, sentence_text}
 use Rattle.aud_causes.specs.NoPacket.{advice, no_packet_pieces}
 use Rattle.aud_causes.specs.declared.cause.Cause.{Cause}
-use Rattle.aud_causes.specs.declared.cause.Cause.TheVariants.{NodeBehindBreak, SentAgainAfterReplay, StaleOffset, OffsetOfAnotherSession, UnknownOffset, NoOffset, RoomsAtBreak, SkippedInWindow, LostLive, DoubledLive, SwappedLive, Altered, LogEndedEarly, LateLeave, BeforeBirth, ExtraLive, MissingBreak, OpenNotRecorded, NodeNotTapped, NoStart, RestartedInOldLog, EntriesSkippedByNode, EntryTakenAgain, NotInStream, TwoTaps, NoClientTap, SidDiffers, NamespaceDiffers, NotAPacket, TapBeganLate, CutBeforeReply, ReplyWithoutPid, SessionOver, NeverBroken, AskedTooEarly}
+use Rattle.aud_causes.specs.declared.cause.Cause.TheVariants.{NodeBehindBreak, SentAgainAfterReplay, StaleOffset, BodyCameTwice, OffsetOfAnotherSession, UnknownOffset, NoOffset, RoomsAtBreak, SkippedInWindow, LostLive, DoubledLive, SwappedLive, Altered, LogEndedEarly, LateLeave, BeforeBirth, ExtraLive, JoinMissing, LeaveMissing, MissingBreak, ClearedAfterBreak, TurnNotStored, RecoveredTwice, OpenNotRecorded, NodeNotTapped, NoStart, RestartedInOldLog, EntriesSkippedByNode, EntryTakenAgain, NotInStream, TwoTaps, NoClientTap, ReplyMissing, SidDiffers, NamespaceDiffers, NotAPacket, TapBeganLate, CutBeforeReply, ReplyWithoutPid, OutAfterAnswer, SecondConnect, AfterDisconnect, SessionOver, NodeEndedInTurn, NeverBroken, AskedTooEarly}
 
 -- the name of the cause, for scripts
 abbrev pub id_text : Cause → List ℕ
 id_text (NodeBehindBreak broke back high low) = codes "node-behind-break"
 id_text (SentAgainAfterReplay first again low) = codes "sent-again-after-replay"
 id_text (StaleOffset stay after) = codes "stale-offset"
+id_text (BodyCameTwice first again) = codes "body-came-twice"
 id_text (OffsetOfAnotherSession stay after) = codes "offset-of-another-session"
 id_text (UnknownOffset stay) = codes "unknown-offset"
 id_text (NoOffset stay) = codes "no-offset"
@@ -25,7 +26,12 @@ id_text (LogEndedEarly last high) = codes "log-ended-early"
 id_text (LateLeave leave) = codes "late-leave"
 id_text (BeforeBirth begin low) = codes "before-birth"
 id_text (ExtraLive frame) = codes "extra-live"
+id_text (JoinMissing frame) = codes "join-missing"
+id_text (LeaveMissing frame) = codes "leave-missing"
 id_text (MissingBreak turn begin back stay) = codes "missing-break"
+id_text (ClearedAfterBreak broke cleared) = codes "cleared-after-break"
+id_text (TurnNotStored turn first again) = codes "turn-not-stored"
+id_text (RecoveredTwice turn first again) = codes "recovered-twice"
 id_text (OpenNotRecorded first) = codes "open-not-recorded"
 id_text (NodeNotTapped turn) = codes "node-not-tapped"
 id_text (NoStart first) = codes "no-start"
@@ -35,13 +41,18 @@ id_text (EntryTakenAgain taken cursor position) = codes "entry-taken-again"
 id_text (NotInStream taken) = codes "not-in-stream"
 id_text (TwoTaps taps) = codes "two-taps"
 id_text NoClientTap = codes "no-client-tap"
+id_text (ReplyMissing client) = codes "reply-missing"
 id_text (SidDiffers stay) = codes "sid-differs"
 id_text (NamespaceDiffers stay) = codes "namespace-differs"
 id_text (NotAPacket why) = codes "not-a-packet"
 id_text (TapBeganLate stay) = codes "tap-began-late"
 id_text (CutBeforeReply stay) = codes "cut-before-reply"
 id_text (ReplyWithoutPid stay) = codes "reply-without-pid"
+id_text (OutAfterAnswer answered stay) = codes "out-after-answer"
+id_text (SecondConnect answered stay) = codes "second-connect"
+id_text (AfterDisconnect before stay) = codes "after-disconnect"
 id_text (SessionOver gone) = codes "session-over"
+id_text (NodeEndedInTurn last) = codes "node-ended-in-turn"
 id_text (NeverBroken begin) = codes "never-broken"
 id_text (AskedTooEarly broke begin high low) = codes "asked-too-early"
 
@@ -50,6 +61,7 @@ abbrev pub todo_text : Cause → List ℕ
 todo_text (NodeBehindBreak broke back high low) = codes "let the restore wait until the cursor is at the break's, or drop what the client has."
 todo_text (SentAgainAfterReplay first again low) = codes "let the replay end at the node's cursor, or drop what it sent from what the node takes."
 todo_text (StaleOffset stay after) = codes "store the offset with each event, before the event is worked on."
+todo_text (BodyCameTwice first again) = codes "see whether the client refused that body, for its packets are too many or too long."
 todo_text (OffsetOfAnotherSession stay after) = codes "drop the offset when a new session opens."
 todo_text (UnknownOffset stay) = codes "take as offset only what a server that recovers put at the end of an event."
 todo_text (NoOffset stay) = codes "store the offset of each event, and ask with the last one."
@@ -63,7 +75,12 @@ todo_text (LogEndedEarly last high) = codes "write a node's log unbuffered, and 
 todo_text (LateLeave leave) = codes "send an entry by the rooms that the session holds when the node takes it."
 todo_text (BeforeBirth begin low) = codes "send a session nothing that the node took before it opened the session."
 todo_text (ExtraLive frame) = codes "look at how the node picks the sessions of a room."
+todo_text (JoinMissing frame) = codes "write a `join` at once, unbuffered; look at whether the session was in that room."
+todo_text (LeaveMissing frame) = codes "write a `leave` at once, unbuffered; look at whether the session was in that room."
 todo_text (MissingBreak turn begin back stay) = codes "write a node's log unbuffered; look at the disk and at how logs are rotated."
+todo_text (ClearedAfterBreak broke cleared) = codes "write no `leave` and no `gone` for what is cleared up after a break."
+todo_text (TurnNotStored turn first again) = codes "store the turn with the session, and write the next one into its `back`."
+todo_text (RecoveredTwice turn first again) = codes "take a stored session out of the store in one step, so that one node alone gets it."
 todo_text (OpenNotRecorded first) = codes "write an `open` when the session opens, unbuffered; look at how logs are rotated."
 todo_text (NodeNotTapped turn) = codes "tap each node, from its start."
 todo_text (NoStart first) = codes "begin a node's log with a `start`, when the node starts."
@@ -73,13 +90,18 @@ todo_text (EntryTakenAgain taken cursor position) = codes "let a node take each 
 todo_text (NotInStream taken) = codes "tap the stream before the nodes, and stop its tap after them."
 todo_text (TwoTaps taps) = codes "keep one name of a tap for a client's whole life."
 todo_text NoClientTap = codes "tap the client before its first connection."
+todo_text (ReplyMissing client) = codes "begin a client's tap before its first packet, and record each answer to a CONNECT."
 todo_text (SidDiffers stay) = codes "write the session's sid into the node's log, not that of the transport."
 todo_text (NamespaceDiffers stay) = codes "write the namespace in which the session was opened."
 todo_text (NotAPacket why) = advice why
 todo_text (TapBeganLate stay) = codes "begin a client's tap before its first packet."
 todo_text (CutBeforeReply stay) = codes "nothing, where the client came back; else look at why the connection was cut."
 todo_text (ReplyWithoutPid stay) = codes "let the server recover sessions in this namespace."
+todo_text (OutAfterAnswer answered stay) = codes "record what the client sends before it is sent."
+todo_text (SecondConnect answered stay) = codes "connect to a namespace once, and not again while its session goes on."
+todo_text (AfterDisconnect before stay) = codes "record what a client takes in: nothing of a namespace after its DISCONNECT."
 todo_text (SessionOver gone) = codes "keep a session that a client may come back to, for as long as it may."
+todo_text (NodeEndedInTurn last) = codes "see whether the node was killed: then it stored no session, and waiting can't help."
 todo_text (NeverBroken begin) = codes "let the client wait longer before it comes back, or the server notice a break sooner."
 todo_text (AskedTooEarly broke begin high low) = codes "let the client wait longer before it comes back, or the server notice a break sooner."
 
@@ -97,6 +119,7 @@ abbrev pub why_pieces : List ℕ → Cause → List PieceSeen
 why_pieces node (NodeBehindBreak broke back high low) = Spelled node ∷ Spelled (codes " took the session back with its cursor at ") ∷ Counted low ∷ Spelled (codes "; the break was at ") ∷ Counted high ∷ Spelled (codes ".") ∷ []
 why_pieces node (SentAgainAfterReplay first again low) = Spelled (codes "The replay ran past the node's cursor at ") ∷ Counted low ∷ Spelled (codes ", and the node sent again what it took then.") ∷ []
 why_pieces node (StaleOffset stay after) = Spelled (codes "The client asked to go on after entry ") ∷ Counted after ∷ Spelled (codes ", and had later ones already.") ∷ []
+why_pieces node (BodyCameTwice first again) = Spelled (codes "From this entry on, all that came before the recovery had come in one body of polling.") ∷ []
 why_pieces node (OffsetOfAnotherSession stay after) = Spelled (codes "The client asked to go on after entry ") ∷ Counted after ∷ Spelled (codes ", which was not due to this session.") ∷ []
 why_pieces node (UnknownOffset stay) = Spelled (codes "The client asked to go on after an offset that no entry of the stream has.") ∷ []
 why_pieces node (NoOffset stay) = Spelled (codes "The client asked for the session and gave no offset.") ∷ []
@@ -110,7 +133,12 @@ why_pieces node (LogEndedEarly last high) = Spelled (codes "The log of ") ∷ Sp
 why_pieces node (LateLeave leave) = Spelled (codes "The session had left a room of the entry before it reached the entry.") ∷ []
 why_pieces node (BeforeBirth begin low) = Spelled node ∷ Spelled (codes " had taken the entry when it opened the session, with its cursor at ") ∷ Counted low ∷ Spelled (codes ".") ∷ []
 why_pieces node (ExtraLive frame) = Spelled (codes "The node sent the session an entry that was not addressed to it.") ∷ []
+why_pieces node (JoinMissing frame) = Spelled (codes "What came would fit if the session had joined a room of the entry before: a `join` may be missing.") ∷ []
+why_pieces node (LeaveMissing frame) = Spelled (codes "What came would fit if the session had left a room before: a `leave` may be missing.") ∷ []
 why_pieces node (MissingBreak turn begin back stay) = Spelled (codes "The client recovered the session after turn ") ∷ Counted turn ∷ Spelled (codes ", so that turn broke; no log has its break.") ∷ []
+why_pieces node (ClearedAfterBreak broke cleared) = Spelled (codes "The log of ") ∷ Spelled node ∷ Spelled (codes " clears the session up after its break, by a `leave` or its `gone`.") ∷ []
+why_pieces node (TurnNotStored turn first again) = Spelled (codes "Two records take the session back as turn ") ∷ Counted turn ∷ Spelled (codes ", and one of these turns was ended.") ∷ []
+why_pieces node (RecoveredTwice turn first again) = Spelled (codes "Two nodes took the session back as turn ") ∷ Counted turn ∷ Spelled (codes ".") ∷ []
 why_pieces node (OpenNotRecorded first) = Spelled (codes "The log of ") ∷ Spelled node ∷ Spelled (codes " has records of the session, and no log has its `open`.") ∷ []
 why_pieces node (NodeNotTapped turn) = Spelled (codes "No node's log has the begin of turn ") ∷ Counted turn ∷ Spelled (codes ".") ∷ []
 why_pieces node (NoStart first) = Spelled (codes "The log of ") ∷ Spelled node ∷ Spelled (codes " does not begin with a `start`.") ∷ []
@@ -120,14 +148,19 @@ why_pieces node (EntryTakenAgain taken cursor position) = Spelled node ∷ Spell
 why_pieces node (NotInStream taken) = Spelled node ∷ Spelled (codes " names an entry that the stream's tap doesn't have.") ∷ []
 why_pieces node (TwoTaps taps) = Counted taps ∷ Spelled (codes " taps of clients name the session.") ∷ []
 why_pieces node NoClientTap = Spelled (codes "No tap of a client names the session.") ∷ []
+why_pieces node (ReplyMissing client) = Spelled (codes "The tap of ") ∷ Spelled node ∷ Spelled (codes " has events, and no reply that names their session.") ∷ []
 why_pieces node (SidDiffers stay) = Spelled (codes "The reply has another sid than the session was opened with.") ∷ []
 why_pieces node (NamespaceDiffers stay) = Spelled (codes "The reply is of another namespace than the session was opened in.") ∷ []
 why_pieces node (NotAPacket why) = no_packet_pieces why
 why_pieces node (TapBeganLate stay) = Spelled (codes "Events came in a stay without a reply, and no session was asked for in it.") ∷ []
 why_pieces node (CutBeforeReply stay) = Spelled (codes "The client asked for a session, and events came, but no reply did.") ∷ []
 why_pieces node (ReplyWithoutPid stay) = Spelled (codes "The reply names no session: the server recovers none there.") ∷ []
+why_pieces node (OutAfterAnswer answered stay) = Spelled (codes "The namespace was answered before on this connection; the CONNECT may be recorded after its answer.") ∷ []
+why_pieces node (SecondConnect answered stay) = Spelled (codes "The namespace was answered before on this connection; the client may have sent a second CONNECT.") ∷ []
+why_pieces node (AfterDisconnect before stay) = Spelled (codes "Events came after a DISCONNECT from the namespace on this connection.") ∷ []
 why_pieces node (SessionOver gone) = Spelled (codes "The log of ") ∷ Spelled node ∷ Spelled (codes " ends the session.") ∷ []
-why_pieces node (NeverBroken begin) = Spelled (codes "No log has a break of the session.") ∷ []
+why_pieces node (NodeEndedInTurn last) = Spelled (codes "The log of ") ∷ Spelled node ∷ Spelled (codes " ends in the session's last turn.") ∷ []
+why_pieces node (NeverBroken begin) = Spelled (codes "No log has a break of the session's last turn.") ∷ []
 why_pieces node (AskedTooEarly broke begin high low) = Spelled (codes "The session broke with its node's cursor at ") ∷ Counted high ∷ Spelled (codes "; another was opened instead with the cursor at ") ∷ Counted low ∷ Spelled (codes ".") ∷ []
 
 abbrev pub why_text : List ℕ → Cause → List ℕ

@@ -29,6 +29,11 @@ pub enum Cause {
         stay: usize,
         after: u64,
     },
+    /// What came twice had come in one body of polling.
+    BodyCameTwice {
+        first: usize,
+        again: usize,
+    },
     /// The client asked to go on after an entry that was not due to the session.
     OffsetOfAnotherSession {
         stay: usize,
@@ -92,12 +97,37 @@ pub enum Cause {
     ExtraLive {
         frame: usize,
     },
+    /// The entry would be due if the session had joined one of its rooms before.
+    JoinMissing {
+        frame: usize,
+    },
+    /// What came would fit if the session had left a room of the entry before, or one that it excepts.
+    LeaveMissing {
+        frame: usize,
+    },
     /// The client went on after a turn of which no node has the `break`.
     MissingBreak {
         turn: usize,
         begin: RecordPlace,
         back: RecordPlace,
         stay: usize,
+    },
+    /// The session left a room, or was over, after its break in the same log.
+    ClearedAfterBreak {
+        broke: RecordPlace,
+        cleared: RecordPlace,
+    },
+    /// Two records take the session back for one turn, and one of these turns was ended.
+    TurnNotStored {
+        turn: usize,
+        first: RecordPlace,
+        again: RecordPlace,
+    },
+    /// Two nodes took the session back for one turn.
+    RecoveredTwice {
+        turn: usize,
+        first: RecordPlace,
+        again: RecordPlace,
     },
     /// A node's log has records of the session, of which this is the first, and no log has its `open`.
     OpenNotRecorded {
@@ -137,6 +167,10 @@ pub enum Cause {
     },
     /// No client's tap names the session.
     NoClientTap,
+    /// A client's tap, at this place, has events of no known session.
+    ReplyMissing {
+        client: usize,
+    },
     /// A reply has another sid than the session's `open`.
     SidDiffers {
         stay: usize,
@@ -161,11 +195,32 @@ pub enum Cause {
     ReplyWithoutPid {
         stay: usize,
     },
+    /// In an earlier stay of the connection the namespace was answered, where no session was asked for. The stays have
+    /// these numbers in the tap.
+    OutAfterAnswer {
+        answered: usize,
+        stay: usize,
+    },
+    /// In an earlier stay of the connection the namespace was answered. The stays have these numbers in the tap.
+    SecondConnect {
+        answered: usize,
+        stay: usize,
+    },
+    /// The stay of the connection in the namespace before it ended by a DISCONNECT. The stays have these numbers in the
+    /// tap.
+    AfterDisconnect {
+        before: usize,
+        stay: usize,
+    },
     /// The session that was asked for was over.
     SessionOver {
         gone: RecordPlace,
     },
-    /// The session that was asked for had not broken: its last turn goes on.
+    /// The log of the node on which the session's last turn began ends in that turn; this is its last record.
+    NodeEndedInTurn {
+        last: RecordPlace,
+    },
+    /// The session that was asked for had not broken: no log has a break of its last turn, which begins here.
     NeverBroken {
         begin: RecordPlace,
     },
@@ -187,6 +242,7 @@ impl Cause {
             Cause::NodeBehindBreak { .. } => "node-behind-break",
             Cause::SentAgainAfterReplay { .. } => "sent-again-after-replay",
             Cause::StaleOffset { .. } => "stale-offset",
+            Cause::BodyCameTwice { .. } => "body-came-twice",
             Cause::OffsetOfAnotherSession { .. } => "offset-of-another-session",
             Cause::UnknownOffset { .. } => "unknown-offset",
             Cause::NoOffset { .. } => "no-offset",
@@ -200,7 +256,12 @@ impl Cause {
             Cause::LateLeave { .. } => "late-leave",
             Cause::BeforeBirth { .. } => "before-birth",
             Cause::ExtraLive { .. } => "extra-live",
+            Cause::JoinMissing { .. } => "join-missing",
+            Cause::LeaveMissing { .. } => "leave-missing",
             Cause::MissingBreak { .. } => "missing-break",
+            Cause::ClearedAfterBreak { .. } => "cleared-after-break",
+            Cause::TurnNotStored { .. } => "turn-not-stored",
+            Cause::RecoveredTwice { .. } => "recovered-twice",
             Cause::OpenNotRecorded { .. } => "open-not-recorded",
             Cause::NodeNotTapped { .. } => "node-not-tapped",
             Cause::NoStart { .. } => "no-start",
@@ -210,13 +271,18 @@ impl Cause {
             Cause::NotInStream { .. } => "not-in-stream",
             Cause::TwoTaps { .. } => "two-taps",
             Cause::NoClientTap => "no-client-tap",
+            Cause::ReplyMissing { .. } => "reply-missing",
             Cause::SidDiffers { .. } => "sid-differs",
             Cause::NamespaceDiffers { .. } => "namespace-differs",
             Cause::NotAPacket { .. } => "not-a-packet",
             Cause::TapBeganLate { .. } => "tap-began-late",
             Cause::CutBeforeReply { .. } => "cut-before-reply",
             Cause::ReplyWithoutPid { .. } => "reply-without-pid",
+            Cause::OutAfterAnswer { .. } => "out-after-answer",
+            Cause::SecondConnect { .. } => "second-connect",
+            Cause::AfterDisconnect { .. } => "after-disconnect",
             Cause::SessionOver { .. } => "session-over",
+            Cause::NodeEndedInTurn { .. } => "node-ended-in-turn",
             Cause::NeverBroken { .. } => "never-broken",
             Cause::AskedTooEarly { .. } => "asked-too-early",
         }
@@ -233,6 +299,8 @@ impl Cause {
                 "let the replay end at the node's cursor, or drop what it sent from what the node takes.",
             Cause::StaleOffset { .. } =>
                 "store the offset with each event, before the event is worked on.",
+            Cause::BodyCameTwice { .. } =>
+                "see whether the client refused that body, for its packets are too many or too long.",
             Cause::OffsetOfAnotherSession { .. } => "drop the offset when a new session opens.",
             Cause::UnknownOffset { .. } =>
                 "take as offset only what a server that recovers put at the end of an event.",
@@ -256,8 +324,18 @@ impl Cause {
             Cause::BeforeBirth { .. } =>
                 "send a session nothing that the node took before it opened the session.",
             Cause::ExtraLive { .. } => "look at how the node picks the sessions of a room.",
+            Cause::JoinMissing { .. } =>
+                "write a `join` at once, unbuffered; look at whether the session was in that room.",
+            Cause::LeaveMissing { .. } =>
+                "write a `leave` at once, unbuffered; look at whether the session was in that room.",
             Cause::MissingBreak { .. } =>
                 "write a node's log unbuffered; look at the disk and at how logs are rotated.",
+            Cause::ClearedAfterBreak { .. } =>
+                "write no `leave` and no `gone` for what is cleared up after a break.",
+            Cause::TurnNotStored { .. } =>
+                "store the turn with the session, and write the next one into its `back`.",
+            Cause::RecoveredTwice { .. } =>
+                "take a stored session out of the store in one step, so that one node alone gets it.",
             Cause::OpenNotRecorded { .. } =>
                 "write an `open` when the session opens, unbuffered; look at how logs are rotated.",
             Cause::NodeNotTapped { .. } => "tap each node, from its start.",
@@ -272,6 +350,8 @@ impl Cause {
                 "tap the stream before the nodes, and stop its tap after them.",
             Cause::TwoTaps { .. } => "keep one name of a tap for a client's whole life.",
             Cause::NoClientTap => "tap the client before its first connection.",
+            Cause::ReplyMissing { .. } =>
+                "begin a client's tap before its first packet, and record each answer to a CONNECT.",
             Cause::SidDiffers { .. } =>
                 "write the session's sid into the node's log, not that of the transport.",
             Cause::NamespaceDiffers { .. } =>
@@ -281,8 +361,15 @@ impl Cause {
             Cause::CutBeforeReply { .. } =>
                 "nothing, where the client came back; else look at why the connection was cut.",
             Cause::ReplyWithoutPid { .. } => "let the server recover sessions in this namespace.",
+            Cause::OutAfterAnswer { .. } => "record what the client sends before it is sent.",
+            Cause::SecondConnect { .. } =>
+                "connect to a namespace once, and not again while its session goes on.",
+            Cause::AfterDisconnect { .. } =>
+                "record what a client takes in: nothing of a namespace after its DISCONNECT.",
             Cause::SessionOver { .. } =>
                 "keep a session that a client may come back to, for as long as it may.",
+            Cause::NodeEndedInTurn { .. } =>
+                "see whether the node was killed: then it stored no session, and waiting can't help.",
             Cause::NeverBroken { .. } =>
                 "let the client wait longer before it comes back, or the server notice a break sooner.",
             Cause::AskedTooEarly { .. } =>

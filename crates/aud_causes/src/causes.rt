@@ -61,8 +61,10 @@ pub fn causes_of<'r, 'a>(
     };
     let recording = sheet.recording;
     let client = place_of(tap);
-    let found = causes_found(alloc, recording, client, pid, fault, account, noted)?;
     let numbers = numbers_at(recording, client, pid);
+    let found = causes_found(
+        alloc, recording, client, numbers, pid, fault, account, noted,
+    )?;
     shown_causes(
         alloc,
         &sheet,
@@ -80,11 +82,12 @@ fn has_others(fault: &Fault) -> bool
     !matches!(fault, Fault::NoLog | Fault::Frame | Fault::Content(_))
 }
 
-/// The causes of the fault.
+/// The causes of the fault, where these are the numbers of the session's stays in its client's tap.
 fn causes_found(
     alloc: Global,
     recording: &Recording<'_>,
     client: Option<usize>,
+    numbers: &[usize],
     pid: &str,
     fault: &Fault,
     account: Option<&Account<'_, '_>>,
@@ -93,11 +96,11 @@ fn causes_found(
     requires { IfSome (option_copied account) (λ a. IsMade recording.now pid.now a.cert
         × IsAccount recording.now pid.now a.client
         (map (λ stay. stay.now) a.stays.items) a.due.items) }
-    ensures { IfOk result (λ found. AreFound recording.now client pid.now noted.now
+    ensures { IfOk result (λ found. AreFound recording.now client numbers.now pid.now noted.now
         (option_copied account.entry) fault.now found.items) }
 {
     match account {
-        Some(account) => judged_causes(alloc, recording, account, fault, noted.orphan),
+        Some(account) => judged_causes(alloc, recording, account, numbers, fault, noted.orphan),
         None => recorded_causes(alloc, recording, client, pid, fault, &noted.unordered),
     }
 }

@@ -1,15 +1,19 @@
 //! What a difference between what was received and what was due may come from.
-ghost use Rattle.std.specs.Prelude.{◌≡◌, IfOk, map, option_map};
+ghost use Rattle.std.specs.Prelude.{◌≡◌, ℕ, IfOk, List, map, option_map};
 ghost use Rattle.aud_check.specs.Compare.{has_position};
 ghost use Rattle.aud_maker.specs.Made.{IsMade};
 ghost use Rattle.aud_reach.specs.NotDue.{reason_of};
-ghost use Rattle.aud_causes.specs.Differences.{case_of, difference_causes, doubled_causes, extra_causes, extra_in, lost_causes, lost_in, offset_of_another, other_session_after, other_session_before, swapped_causes};
+ghost use Rattle.aud_causes.specs.Differences.{case_of, difference_causes, doubled_causes, doubled_in, extra_causes, extra_in, lost_causes, lost_in, offset_of_another, other_session_after, other_session_before, swapped_causes};
 
 use crate::at_break::{first_taken, rooms_at_break};
 use crate::behind::node_behind;
+use crate::bodies::body_twice;
 use crate::cause::Cause;
-use crate::extra::{before_birth, extra_live, late_leave, log_ended_early};
+use crate::extra::{
+    before_birth, change_missing, extra_live, late_leave, log_ended_early, rooms_named,
+};
 use crate::facts::{Facts, facts_of};
+use crate::leavable::leave_missing_in;
 use crate::list::push_cause;
 use crate::live::{
     doubled_live, lost_live, sent_again, skipped_in_window, stale_offset, swapped_live,
@@ -22,17 +26,20 @@ use aud_node::Logs;
 use aud_reach::{NotDue, why_not_due};
 use std::alloc::{AllocError, Global};
 
-/// The causes of the difference, of those that a difference of its kind can have. The account is the session's.
+/// The causes of the difference, of those that a difference of its kind can have. The account is the session's, and
+/// these are the numbers of its stays in its client's tap.
 pub(crate) fn difference_causes(
     alloc: Global,
     recording: &Recording<'_>,
     account: &Account<'_, '_>,
+    numbers: &[usize],
     difference: Difference,
 ) -> Result<Vec<Cause>, AllocError>
     requires { IsMade recording.now account.now.cert.pid account.now.cert }
     ensures { IfOk result (λ found.
         (made : IsMade recording.now account.now.cert.pid account.now.cert)
-        → found.items ≡ difference_causes (case_of recording.now account.now made) difference) }
+        → found.items
+        ≡ difference_causes (case_of recording.now account.now numbers.now made) difference) }
 {
     let logs = recording.logs();
     let turns = account.cert.turns.as_slice();
@@ -40,27 +47,54 @@ pub(crate) fn difference_causes(
     let facts = facts_of(logs.stream(), turns, stays, difference);
     match difference {
         Difference::Extra { position, .. } => extra_of(alloc, recording, account, facts, position),
-        Difference::Doubled { .. } => doubled_causes(alloc, logs, turns, stays, facts),
+        Difference::Doubled { .. } => doubled_of(alloc, recording, account, numbers, facts),
         Difference::Swapped { .. } => swapped_causes(alloc, logs, turns, facts),
         Difference::Lost { .. } => lost_of(alloc, recording, account, facts),
     }
 }
 
-/// Those of an entry that came twice.
+/// Those of an entry that came twice. The account is the session's, and these are the numbers of its stays.
+fn doubled_of(
+    alloc: Global,
+    recording: &Recording<'_>,
+    account: &Account<'_, '_>,
+    numbers: &[usize],
+    facts: Facts,
+) -> Result<Vec<Cause>, AllocError>
+    requires { IsMade recording.now account.now.cert.pid account.now.cert }
+    ensures { IfOk result (λ found.
+        (made : IsMade recording.now account.now.cert.pid account.now.cert)
+        → found.items
+        ≡ doubled_in (case_of recording.now account.now numbers.now made) facts) }
+{
+    let body = body_twice(recording, account.client, numbers, facts);
+    doubled_causes(
+        alloc,
+        recording.logs(),
+        account.cert.turns.as_slice(),
+        account.stays.as_slice(),
+        body,
+        facts,
+    )
+}
+
+/// Those of an entry that came twice, where this holds of a body of polling.
 fn doubled_causes(
     alloc: Global,
     logs: &Logs<'_>,
     turns: &[Turn<'_>],
     stays: &[&Stay<'_>],
+    body: Option<Cause>,
     facts: Facts,
 ) -> Result<Vec<Cause>, AllocError>
     ensures { IfOk result (λ found. found.items
-        ≡ doubled_causes logs.now turns.now (map (λ stay. stay.now) stays.now) facts) }
+        ≡ doubled_causes logs.now turns.now (map (λ stay. stay.now) stays.now) body facts) }
 {
     let mut found = Vec::new(alloc);
     push_cause(&mut found, node_behind(logs, turns, facts))?;
     push_cause(&mut found, sent_again(facts, first_taken(stays, facts)))?;
     push_cause(&mut found, stale_offset(facts))?;
+    push_cause(&mut found, body)?;
     push_cause(&mut found, doubled_live(facts))?;
     Ok(found)
 }
@@ -80,20 +114,22 @@ fn swapped_causes(
     Ok(found)
 }
 
-/// Those of an entry that was lost, where this holds of the rooms at the break.
+/// Those of an entry that was lost, where this holds of the rooms at the break, and of a `leave`.
 fn lost_causes(
     alloc: Global,
     at_break: Option<Cause>,
     due: &[u64],
+    leave: Option<Cause>,
     facts: Facts,
 ) -> Result<Vec<Cause>, AllocError>
-    ensures { IfOk result (λ found. found.items ≡ lost_causes at_break due.now facts) }
+    ensures { IfOk result (λ found. found.items ≡ lost_causes at_break due.now leave facts) }
 {
     let mut found = Vec::new(alloc);
     push_cause(&mut found, at_break)?;
     push_cause(&mut found, skipped_in_window(facts))?;
     push_cause(&mut found, other_session_after(due, facts))?;
     push_cause(&mut found, lost_live(facts))?;
+    push_cause(&mut found, leave)?;
     Ok(found)
 }
 
@@ -107,11 +143,14 @@ fn lost_of(
     requires { IsMade recording.now account.now.cert.pid account.now.cert }
     ensures { IfOk result (λ found.
         (made : IsMade recording.now account.now.cert.pid account.now.cert)
-        → found.items ≡ lost_in (case_of recording.now account.now made) facts) }
+        → (numbers : List ℕ)
+        → found.items ≡ lost_in (case_of recording.now account.now numbers made) facts) }
 {
     let stays = account.stays.as_slice();
     let at_break = rooms_at_break(alloc, recording, &account.cert, stays, facts)?;
-    lost_causes(alloc, at_break, account.due.as_slice(), facts)
+    let rooms = rooms_named(recording.logs().stream().entry(facts.parted.position));
+    let leave = leave_missing_in(account.cert.turns.as_slice(), rooms, facts);
+    lost_causes(alloc, at_break, account.due.as_slice(), leave, facts)
 }
 
 /// Those of an entry that was not due, where this holds of the rooms at the break.
@@ -139,6 +178,7 @@ fn extra_causes(
     push_cause(&mut found, left)?;
     push_cause(&mut found, before_birth(logs, turns, why))?;
     push_cause(&mut found, extra_live(behind.or(left), why, facts))?;
+    push_cause(&mut found, change_missing(why, facts))?;
     Ok(found)
 }
 
@@ -153,7 +193,9 @@ fn extra_of(
     requires { IsMade recording.now account.now.cert.pid account.now.cert }
     ensures { IfOk result (λ found.
         (made : IsMade recording.now account.now.cert.pid account.now.cert)
-        → found.items ≡ extra_in (case_of recording.now account.now made) facts position) }
+        → (numbers : List ℕ)
+        → found.items
+        ≡ extra_in (case_of recording.now account.now numbers made) facts position) }
 {
     let stays = account.stays.as_slice();
     let at_break = rooms_at_break(alloc, recording, &account.cert, stays, facts)?;

@@ -3,7 +3,7 @@ ghost use Rattle.std.specs.Prelude.{◌≡◌, map, option_map};
 ghost use Rattle.std.specs.Option.{option_copied};
 ghost use Rattle.aud_cert.specs.Certificate.{turn_at};
 ghost use Rattle.aud_reach.specs.NotDue.{reason_of};
-ghost use Rattle.aud_causes.specs.Extra.{before_birth, ends_turn, extra_live, first_left, goes_on, is_unaddressed, late_leave, left_before, log_ended_early, reached_at, rooms_named};
+ghost use Rattle.aud_causes.specs.Extra.{before_birth, change_missing, ends_turn, extra_live, first_left, goes_on, is_unaddressed, late_leave, left_before, log_ended_early, reached_at, rooms_named};
 
 use crate::behind::{first_of, last_of};
 use crate::cause::Cause;
@@ -178,5 +178,21 @@ fn is_unaddressed(why: &Option<NotDue<'_>>) -> bool
         Some(NotDue::NoCommonRoom) => true,
         Some(NotDue::Excepted { .. }) => true,
         _ => false,
+    }
+}
+
+/// Where the entry came in no replay, and would be due if the session had joined one of its rooms, or had left the one
+/// that it excepts.
+pub(crate) fn change_missing(why: &Option<NotDue<'_>>, facts: Facts) -> Option<Cause>
+    ensures { result ≡ change_missing (option_map reason_of why.now) facts }
+{
+    if !is_outside(facts) {
+        return None;
+    }
+    let frame = facts.parted.again;
+    match why {
+        Some(NotDue::NoCommonRoom) => Some(Cause::JoinMissing { frame }),
+        Some(NotDue::Excepted { .. }) => Some(Cause::LeaveMissing { frame }),
+        _ => None,
     }
 }

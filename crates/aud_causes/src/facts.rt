@@ -140,7 +140,7 @@ pub(crate) fn stay_at<'s, 'a>(stays: &[&'s Stay<'a>], number: usize) -> Option<&
 }
 
 /// Whether the stay with this number is a recovery.
-fn is_recovery(stays: &[&Stay<'_>], number: usize) -> bool
+pub(crate) fn is_recovery(stays: &[&Stay<'_>], number: usize) -> bool
     ensures { result ≡ is_recovery (slice_get (map (λ stay. stay.now) stays.now) number) }
 {
     match stay_at(stays, number) {

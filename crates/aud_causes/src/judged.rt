@@ -12,9 +12,10 @@ ghost use Rattle.aud_causes.specs.NoPacket.{no_packet_in};
 use crate::cause::Cause;
 use crate::delivery::difference_causes;
 use crate::facts::stay_at;
-use crate::names::{first_other, named_causes, orphan_cause};
+use crate::list::one_cause;
+use crate::names::{first_other, named_causes};
 use crate::no_packet::no_packet_in;
-use crate::recorded::one_cause;
+use crate::orphans::orphan_causes;
 use crate::window::window_causes;
 use aud_account::{Account, difference_in, positions_received};
 use aud_cert::{Fault, Turn};
@@ -25,12 +26,13 @@ use aud_node::Stream;
 use aud_recoveries::opened_in;
 use std::alloc::{AllocError, Global};
 
-/// The causes of such a fault. The account is the session's; where its client's tap has events of which nobody knows
-/// the session, they stand in the stay with this number.
+/// The causes of such a fault. The account is the session's, and these are the numbers of its stays in its client's tap;
+/// where that has events of which nobody knows the session, they stand in the stay with this number.
 pub(crate) fn judged_causes(
     alloc: Global,
     recording: &Recording<'_>,
     account: &Account<'_, '_>,
+    numbers: &[usize],
     fault: &Fault,
     orphan: Option<usize>,
 ) -> Result<Vec<Cause>, AllocError>
@@ -40,17 +42,18 @@ pub(crate) fn judged_causes(
         → IsAccount recording.now account.now.cert.pid account.now.client
         (map (λ stay. stay.now) account.now.stays.items) account.now.due.items
         → AreJudgedCauses
-        (case_of recording.now account.now made) account.now.client orphan fault.now found.items) }
+        (case_of recording.now account.now numbers.now made) account.now.client orphan
+        fault.now found.items) }
 {
     match fault {
         Fault::Names => names_of(alloc, account),
         Fault::Frame => frame_of(alloc, recording, account.client),
-        Fault::Orphan => one_cause(alloc, orphan_at(recording, account.client, orphan)),
+        Fault::Orphan => orphan_at(alloc, recording, account.client, orphan),
         Fault::Content(_) => content_of(alloc, recording, account),
-        Fault::Extra(_) => delivery_of(alloc, recording, account),
-        Fault::Doubled(_) => delivery_of(alloc, recording, account),
-        Fault::Swapped(_) => delivery_of(alloc, recording, account),
-        Fault::Lost(_) => delivery_of(alloc, recording, account),
+        Fault::Extra(_) => delivery_of(alloc, recording, account, numbers),
+        Fault::Doubled(_) => delivery_of(alloc, recording, account, numbers),
+        Fault::Swapped(_) => delivery_of(alloc, recording, account, numbers),
+        Fault::Lost(_) => delivery_of(alloc, recording, account, numbers),
         Fault::Window(_) => window_of(alloc, recording, account),
         _ => Ok(Vec::new(alloc)),
     }
@@ -61,16 +64,18 @@ fn delivery_of(
     alloc: Global,
     recording: &Recording<'_>,
     account: &Account<'_, '_>,
+    numbers: &[usize],
 ) -> Result<Vec<Cause>, AllocError>
     requires { IsMade recording.now account.now.cert.pid account.now.cert }
     ensures { IfOk result (λ found.
         (made : IsMade recording.now account.now.cert.pid account.now.cert)
         → IsAccount recording.now account.now.cert.pid account.now.client
         (map (λ stay. stay.now) account.now.stays.items) account.now.due.items
-        → AreDifferenceCauses (case_of recording.now account.now made) found.items) }
+        → AreDifferenceCauses
+        (case_of recording.now account.now numbers.now made) found.items) }
 {
     match difference_in(alloc, account)? {
-        Some(difference) => difference_causes(alloc, recording, account, difference),
+        Some(difference) => difference_causes(alloc, recording, account, numbers, difference),
         None => Ok(Vec::new(alloc)),
     }
 }
@@ -205,9 +210,17 @@ fn other_causes(
     }
 }
 
-/// The cause of events in the stay with this number, if there is one, of the client's tap at this place.
-fn orphan_at(recording: &Recording<'_>, client: usize, orphan: Option<usize>) -> Option<Cause>
-    ensures { result ≡ orphan_at recording.now client orphan }
+/// The causes of events in the stay with this number, if there is one, of the client's tap at this place.
+fn orphan_at(
+    alloc: Global,
+    recording: &Recording<'_>,
+    client: usize,
+    orphan: Option<usize>,
+) -> Result<Vec<Cause>, AllocError>
+    ensures { IfOk result (λ found. found.items ≡ orphan_at recording.now client orphan) }
 {
-    orphan_cause(recording, client, orphan?)
+    match orphan {
+        Some(number) => orphan_causes(alloc, recording, client, number),
+        None => Ok(Vec::new(alloc)),
+    }
 }

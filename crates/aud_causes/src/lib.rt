@@ -23,23 +23,29 @@
 
 mod at_break;
 mod behind;
+mod bodies;
 mod cause;
 mod causes;
+mod cleared;
 mod delivery;
 mod extra;
 mod facts;
 mod found;
 mod judged;
+mod last_turn;
+mod leavable;
 mod lines;
 mod list;
 mod live;
 mod logs;
 mod names;
 mod no_packet;
+mod orphans;
 mod record_at;
 mod recorded;
 mod refusal;
 mod turns;
+mod twice;
 mod why;
 mod window;
 

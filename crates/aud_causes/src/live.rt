@@ -57,7 +57,7 @@ pub(crate) fn swapped_live(facts: Facts) -> Option<Cause>
 }
 
 /// Whether the node took the entry after it took the session back, if it did so.
-fn is_taken_live(facts: Facts) -> bool
+pub(crate) fn is_taken_live(facts: Facts) -> bool
     ensures { result ≡ is_taken_live facts }
 {
     if !facts.recovered {

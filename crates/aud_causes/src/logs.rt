@@ -1,37 +1,37 @@
 //! What a fault of the nodes' logs may come from.
-ghost use Rattle.std.specs.Prelude.{◌≡◌, ◌<◌, length, map, suc};
-ghost use Rattle.std.specs.Option.{option_copied};
-ghost use Rattle.aud_client.specs.Received.{is_recovered};
+ghost use Rattle.std.specs.Prelude.{◌≡◌, ◌<◌, ◌++◌, ◌∷◌, [], IfOk, OnOk, if◌then◌else◌, length, map, suc};
 ghost use Rattle.aud_node.specs.Cursors.{cursor_at};
 ghost use Rattle.aud_node.specs.Stream.{position};
-ghost use Rattle.aud_causes.specs.Logs.{first_cause, later_cause, not_the_next, order_cause, recovery_after, take_cause, taken_again, takes_cause};
+ghost use Rattle.aud_causes.specs.Logs.{first_cause, later_cause, not_the_next, order_cause, recoveries, take_cause, taken_again, takes_cause};
 
 use crate::cause::Cause;
+use crate::facts::is_recovery;
 use aud_chain::RecordPlace;
 use aud_client::Stay;
 use aud_node::{Logs, NodeLog, Stream};
 use aud_tap::{NodeRec, Text};
+use std::alloc::{AllocError, Global};
 
-/// The number of the stay by which the client went on after this turn: the recoveries follow the turns in their order.
-pub(crate) fn recovery_after(stays: &[&Stay<'_>], turn: usize) -> Option<usize>
-    ensures { result ≡ recovery_after turn 0 (map (λ stay. stay.now) stays.now) }
+/// The numbers of the stays by which the client came back: the recoveries follow the turns in their order.
+pub(crate) fn recoveries(alloc: Global, stays: &[&Stay<'_>]) -> Result<Vec<usize>, AllocError>
+    ensures { IfOk result (λ came. came.items ≡ recoveries (map (λ stay. stay.now) stays.now)) }
 {
-    let mut left = turn;
-    for (number, stay) in stays.iter().enumerate() {
-        if is_recovered(*stay) {
-            if left == 0 {
-                return Some(number);
-            }
-            left -= 1;
-        }
+    let mut came = Vec::new(alloc);
+    for number in 0..stays.len() {
+        push_if(&mut came, number, is_recovery(stays, number))?;
     }
-    None
+    Ok(came)
 }
 
-fn is_recovered(stay: &Stay<'_>) -> bool
-    ensures { result ≡ is_recovered stay.now }
+/// Adds the number, where this holds.
+fn push_if(came: &mut Vec<usize>, number: usize, holds: bool) -> Result<(), AllocError>
+    ensures { OnOk result (came.new.items ≡ (if holds
+        then came.old.items ++ number ∷ [] else came.old.items)) }
 {
-    stay.is_recovered()
+    if holds {
+        came.push(number)?;
+    }
+    Ok(())
 }
 
 /// The cause for which this record of a node is out of order.

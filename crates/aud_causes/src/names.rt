@@ -1,23 +1,70 @@
 //! What a fault of a client's tap may come from.
 ghost use Rattle.std.specs.Prelude.{◌≡◌, IfOk, length, map};
 ghost use Rattle.aud_check.specs.NamedStays.{has_sid};
+ghost use Rattle.aud_client.specs.Received.{transcript_at};
 ghost use Rattle.aud_client.specs.Replies.{naming_places};
-ghost use Rattle.aud_recoveries.specs.Recoveries.{stays_at};
-ghost use Rattle.aud_causes.specs.Names.{client_cause, first_other, is_other, named_causes, namespace_differs, orphan_cause, orphan_in, sid_differs};
+ghost use Rattle.aud_causes.specs.Names.{client_causes, first_other, has_orphan, is_other, named_causes, namespace_differs, orphan_from, reply_missing, sid_differs, unnamed_causes};
 
 use crate::cause::Cause;
-use crate::list::push_cause;
+use crate::list::{one_cause, push_cause};
 use aud_client::{Recording, Reply, Stay};
+use aud_tap::Tap;
 use std::alloc::{AllocError, Global};
 
-/// Where not exactly one client's tap names the session.
-pub(crate) fn client_cause(recording: &Recording<'_>, pid: &str) -> Option<Cause>
-    ensures { result ≡ client_cause (length (naming_places recording.now.taps pid.now)) }
+/// Where not exactly one client's tap names the session. Where none does it costs the taps, of which no record is looked
+/// at.
+pub(crate) fn client_causes(
+    alloc: Global,
+    recording: &Recording<'_>,
+    pid: &str,
+) -> Result<Vec<Cause>, AllocError>
+    ensures { IfOk result (λ found. found.items
+        ≡ client_causes recording.now (length (naming_places recording.now.taps pid.now))) }
 {
     match recording.naming(pid).len() {
-        0 => Some(Cause::NoClientTap),
-        1 => None,
-        taps => Some(Cause::TwoTaps { taps }),
+        0 => unnamed_causes(alloc, recording),
+        1 => Ok(Vec::new(alloc)),
+        taps => one_cause(alloc, Some(Cause::TwoTaps { taps })),
+    }
+}
+
+/// The same where none does.
+fn unnamed_causes(alloc: Global, recording: &Recording<'_>) -> Result<Vec<Cause>, AllocError>
+    ensures { IfOk result (λ found. found.items ≡ unnamed_causes recording.now) }
+{
+    let mut found = Vec::new(alloc);
+    push_cause(&mut found, Some(Cause::NoClientTap))?;
+    push_cause(&mut found, reply_missing(recording))?;
+    Ok(found)
+}
+
+/// Where a client's tap has events of no known session: the first such tap.
+fn reply_missing(recording: &Recording<'_>) -> Option<Cause>
+    ensures { result ≡ reply_missing recording.now }
+{
+    let client = orphan_from(recording, recording.logs().taps())?;
+    Some(Cause::ReplyMissing { client })
+}
+
+/// The place of the first client's tap with events of no known session, among these taps, which are all.
+fn orphan_from(recording: &Recording<'_>, taps: &[Tap]) -> Option<usize>
+    ensures { result ≡ orphan_from recording.now 0 taps.now }
+{
+    for place in 0..taps.len() {
+        if has_orphan(recording, place) {
+            return Some(place);
+        }
+    }
+    None
+}
+
+/// Whether the tap at this place has events of no known session.
+fn has_orphan(recording: &Recording<'_>, place: usize) -> bool
+    ensures { result ≡ has_orphan (transcript_at recording.now place) }
+{
+    match recording.client(place) {
+        Some(client) => client.transcript().orphan,
+        None => false,
     }
 }
 
@@ -83,24 +130,4 @@ pub(crate) fn first_other(stays: &[&Stay<'_>], sid: &str, nsp: &str) -> Option<u
         }
     }
     None
-}
-
-/// The cause of events in the stay with this number of the client's tap at this place, whose reply names nobody.
-pub(crate) fn orphan_cause(recording: &Recording<'_>, client: usize, number: usize) -> Option<Cause>
-    ensures { result ≡ orphan_cause (stays_at recording.now client) number }
-{
-    let transcript = recording.client(client)?.transcript();
-    orphan_in(number, transcript.stays.get(number)?)
-}
-
-/// The same of this stay.
-fn orphan_in(number: usize, stay: &Stay<'_>) -> Option<Cause>
-    ensures { result ≡ orphan_in number stay.now }
-{
-    match &stay.reply {
-        Some(reply) if reply.pid.is_some() => None,
-        Some(_) => Some(Cause::ReplyWithoutPid { stay: number }),
-        None if stay.asked.is_some() => Some(Cause::CutBeforeReply { stay: number }),
-        None => Some(Cause::TapBeganLate { stay: number }),
-    }
 }

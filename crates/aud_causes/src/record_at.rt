@@ -23,7 +23,7 @@ pub enum RecordAt {
     Bad,
 }
 
-/// The node of which the cause speaks, by the place of its tap.
+/// The node of which the cause speaks, or the client, by the place of its tap.
 pub(crate) fn node_of(cause: Cause) -> Option<usize>
     ensures { result ≡ node_of cause }
 {
@@ -38,6 +38,9 @@ pub(crate) fn node_of(cause: Cause) -> Option<usize>
         Cause::EntryTakenAgain { taken, .. } => Some(taken.node),
         Cause::NotInStream { taken } => Some(taken.node),
         Cause::SessionOver { gone } => Some(gone.node),
+        Cause::ClearedAfterBreak { cleared, .. } => Some(cleared.node),
+        Cause::ReplyMissing { client } => Some(client),
+        Cause::NodeEndedInTurn { last } => Some(last.node),
         _ => None,
     }
 }
@@ -56,6 +59,10 @@ pub(crate) fn push_records(found: &mut Vec<RecordAt>, cause: Cause) -> Result<()
             &[RecordAt::Got(first), RecordAt::Got(again)],
         ),
         Cause::StaleOffset { stay, .. } => push_all(found, &[RecordAt::Ask(stay)]),
+        Cause::BodyCameTwice { first, again } => push_all(
+            found,
+            &[RecordAt::Got(first), RecordAt::Got(again)],
+        ),
         Cause::OffsetOfAnotherSession { stay, .. } => push_all(found, &[RecordAt::Ask(stay)]),
         Cause::UnknownOffset { stay } => push_all(found, &[RecordAt::Ask(stay)]),
         Cause::NoOffset { stay } => push_all(found, &[RecordAt::Ask(stay)]),
@@ -81,6 +88,8 @@ pub(crate) fn push_records(found: &mut Vec<RecordAt>, cause: Cause) -> Result<()
         Cause::LateLeave { leave } => push_all(found, &[RecordAt::Node(leave)]),
         Cause::BeforeBirth { begin, .. } => push_all(found, &[RecordAt::Node(begin)]),
         Cause::ExtraLive { frame } => push_all(found, &[RecordAt::Got(frame)]),
+        Cause::JoinMissing { frame } => push_all(found, &[RecordAt::Got(frame)]),
+        Cause::LeaveMissing { frame } => push_all(found, &[RecordAt::Got(frame)]),
         Cause::MissingBreak {
             begin,
             back,
@@ -113,7 +122,35 @@ pub(crate) fn push_records(found: &mut Vec<RecordAt>, cause: Cause) -> Result<()
             &[RecordAt::Node(broke), RecordAt::Node(begin)],
         ),
         Cause::OpenNotRecorded { first } => push_all(found, &[RecordAt::Node(first)]),
-        Cause::NodeNotTapped { .. } | Cause::TwoTaps { .. } | Cause::NoClientTap => Ok(()),
+        Cause::ClearedAfterBreak { broke, cleared } => push_all(
+            found,
+            &[RecordAt::Node(broke), RecordAt::Node(cleared)],
+        ),
+        Cause::TurnNotStored { first, again, .. } => push_all(
+            found,
+            &[RecordAt::Node(first), RecordAt::Node(again)],
+        ),
+        Cause::RecoveredTwice { first, again, .. } => push_all(
+            found,
+            &[RecordAt::Node(first), RecordAt::Node(again)],
+        ),
+        Cause::OutAfterAnswer { answered, stay } => push_all(
+            found,
+            &[RecordAt::First(answered), RecordAt::First(stay)],
+        ),
+        Cause::SecondConnect { answered, stay } => push_all(
+            found,
+            &[RecordAt::First(answered), RecordAt::First(stay)],
+        ),
+        Cause::AfterDisconnect { before, stay } => push_all(
+            found,
+            &[RecordAt::First(before), RecordAt::First(stay)],
+        ),
+        Cause::NodeEndedInTurn { last } => push_all(found, &[RecordAt::Node(last)]),
+        Cause::NodeNotTapped { .. } => Ok(()),
+        Cause::TwoTaps { .. } => Ok(()),
+        Cause::NoClientTap => Ok(()),
+        Cause::ReplyMissing { .. } => Ok(()),
     }
 }
 

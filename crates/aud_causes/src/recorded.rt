@@ -1,11 +1,11 @@
 //! What a fault of the recording may come from: one for which the session has no certificate.
-ghost use Rattle.std.specs.Prelude.{◌≡◌, IfOk, map, option_to_list};
+ghost use Rattle.std.specs.Prelude.{◌≡◌, IfOk, map};
 ghost use Rattle.aud_causes.specs.Recorded.{AreRecordedCauses, causes_of_turns, first_own, no_log_cause, order_causes, stays_of_client};
 
 use crate::cause::Cause;
-use crate::list::push_cause;
+use crate::list::{one_cause, push_cause};
 use crate::logs::order_cause;
-use crate::names::client_cause;
+use crate::names::client_causes;
 use crate::turns::chain_causes;
 use aud_cert::Fault;
 use aud_chain::{RecordPlace, turn_marks};
@@ -30,18 +30,9 @@ pub(crate) fn recorded_causes(
         Fault::NoLog => one_cause(alloc, Some(no_log_cause(recording.logs(), pid))),
         Fault::Chain => causes_of_turns(alloc, recording, client, pid),
         Fault::Order => order_causes(alloc, recording.logs(), unordered),
-        Fault::Client => one_cause(alloc, client_cause(recording, pid)),
+        Fault::Client => client_causes(alloc, recording, pid),
         _ => Ok(Vec::new(alloc)),
     }
-}
-
-/// The cause alone, if it holds.
-pub(crate) fn one_cause(alloc: Global, cause: Option<Cause>) -> Result<Vec<Cause>, AllocError>
-    ensures { IfOk result (λ found. found.items ≡ option_to_list cause) }
-{
-    let mut found = Vec::new(alloc);
-    push_cause(&mut found, cause)?;
-    Ok(found)
 }
 
 /// The cause of a session that no node opened.
@@ -73,9 +64,10 @@ fn causes_of_turns(
     ensures { IfOk result (λ found. found.items
         ≡ causes_of_turns recording.now client pid.now) }
 {
-    let marks = turn_marks(alloc, recording.logs(), pid)?;
+    let logs = recording.logs();
+    let marks = turn_marks(alloc, logs, pid)?;
     let stays = stays_of_client(alloc, recording, client, pid)?;
-    chain_causes(alloc, &marks, stays.as_slice())
+    chain_causes(alloc, logs, pid, &marks, stays.as_slice())
 }
 
 /// The stays of the client's tap at this place whose reply names the session.

@@ -3,10 +3,11 @@ ghost use Rattle.std.specs.Prelude.{◌≡◌, ◌∷◌, [], IfOk, None, Some, 
 ghost use Rattle.aud_recoveries.specs.Recoveries.{stays_at};
 ghost use Rattle.aud_rows.specs.ClientPlaces.{AreOf};
 ghost use Rattle.aud_causes.specs.Found.{cause_seen, shown_causes};
-ghost use Rattle.aud_causes.specs.Refusals.{asked_causes, asked_too_early, broke_past, cursor_there, first_open, got_of, last_break, never_broken, offset_cause, refusal_causes, refused_causes, session_over};
+ghost use Rattle.aud_causes.specs.Refusals.{asked_causes, asked_too_early, broke_past, cursor_there, first_open, got_of, last_break, last_record, never_broken, node_ended, offset_cause, refusal_causes, refused_causes, session_over};
 
 use crate::cause::Cause;
 use crate::found::{CauseFound, shown_causes};
+use crate::last_turn::{is_broken, is_ended, last_begin, last_turn};
 use crate::list::push_cause;
 use aud_chain::{Mark, RecordPlace, TurnMark, turn_marks};
 use aud_client::{Asked, Stay};
@@ -90,6 +91,7 @@ fn refused_causes(
     let mut found = Vec::new(alloc);
     push_cause(&mut found, offset)?;
     push_cause(&mut found, session_over(marks))?;
+    push_cause(&mut found, node_ended(logs, marks))?;
     push_cause(&mut found, never_broken(marks))?;
     push_cause(&mut found, asked_too_early(logs, marks, opening))?;
     Ok(found)
@@ -120,15 +122,39 @@ fn session_over(marks: &[TurnMark]) -> Option<Cause>
     None
 }
 
-/// Where a node opened the session, and none recorded a break of it.
+/// Where the log of the node on which the session's last turn began ends in that turn.
+fn node_ended(logs: &Logs<'_>, marks: &[TurnMark]) -> Option<Cause>
+    ensures { result ≡ node_ended logs.now marks.now }
+{
+    let begin = last_begin(marks)?;
+    if is_ended(marks, begin) {
+        return None;
+    }
+    Some(Cause::NodeEndedInTurn {
+        last: last_record(logs, begin.node)?,
+    })
+}
+
+/// The last record in the log of the node at this place.
+fn last_record(logs: &Logs<'_>, node: usize) -> Option<RecordPlace>
+    ensures { result ≡ last_record logs.now node }
+{
+    let log = logs.node(node)?;
+    Some(RecordPlace {
+        node,
+        number: log.recs().len().saturating_sub(1),
+    })
+}
+
+/// Where no node recorded a break of the session's last turn, nor its end.
 fn never_broken(marks: &[TurnMark]) -> Option<Cause>
     ensures { result ≡ never_broken marks.now }
 {
-    if last_break(marks).is_some() {
+    if is_broken(marks, last_turn(marks)) || session_over(marks).is_some() {
         return None;
     }
     Some(Cause::NeverBroken {
-        begin: first_open(marks)?,
+        begin: last_begin(marks)?,
     })
 }
 

@@ -1,14 +1,18 @@
 //! What a break in the chain of a session's turns may come from.
-ghost use Rattle.std.specs.Prelude.{◌≡◌, ◌<◌, IfOk, length, map};
-ghost use Rattle.aud_base.specs.Lists.{numbers_from};
+ghost use Rattle.std.specs.Prelude.{◌≡◌, ◌++◌, ◌<◌, IfOk, OnOk, length, map};
+ghost use Rattle.aud_causes.specs.Chain.{chain_causes};
+ghost use Rattle.aud_causes.specs.Logs.{recoveries};
 ghost use Rattle.aud_causes.specs.Private.Noting.{with_begin, with_break};
-ghost use Rattle.aud_causes.specs.Turns.{begins_of, begun_turn, breaks_of, broken_turn, chain_causes, count_with, first_unbroken, missing_break, not_tapped, turn_count, unbroken_at};
+ghost use Rattle.aud_causes.specs.Turns.{begins_of, begun_turn, breaks_of, broken_turn, count_with, missing_break, missing_breaks, missing_causes, not_tapped, turn_count, unbroken_at};
 
 use crate::cause::Cause;
+use crate::cleared::cleared_after_break;
 use crate::list::push_cause;
-use crate::logs::recovery_after;
+use crate::logs::recoveries;
+use crate::twice::{first_twice, push_twice};
 use aud_chain::{Mark, RecordPlace, TurnMark};
 use aud_client::Stay;
+use aud_node::Logs;
 use std::alloc::{AllocError, Global};
 
 /// A turn that no record breaks, though the next one begins.
@@ -23,22 +27,42 @@ pub struct Unbroken {
 /// tap whose reply names it. Turns count from 0 to 65,535.
 pub(crate) fn chain_causes(
     alloc: Global,
+    logs: &Logs<'_>,
+    pid: &str,
     marks: &[TurnMark],
     stays: &[&Stay<'_>],
 ) -> Result<Vec<Cause>, AllocError>
     ensures { IfOk result (λ found. found.items
-        ≡ chain_causes marks.now (map (λ stay. stay.now) stays.now)) }
+        ≡ chain_causes logs.now pid.now marks.now (map (λ stay. stay.now) stays.now)) }
 {
     let begins = begins_of(alloc, marks)?;
+    let mut found = missing_causes(alloc, marks, &begins, stays)?;
+    push_cause(&mut found, cleared_after_break(logs, pid))?;
+    push_twice(&mut found, marks, first_twice(&begins, marks))?;
+    Ok(found)
+}
+
+/// Those of the turns of which no log has the begin, or the break.
+fn missing_causes(
+    alloc: Global,
+    marks: &[TurnMark],
+    begins: &[Option<RecordPlace>],
+    stays: &[&Stay<'_>],
+) -> Result<Vec<Cause>, AllocError>
+    ensures { IfOk result (λ found. found.items
+        ≡ missing_causes begins.now (breaks_of marks.now)
+        (recoveries (map (λ stay. stay.now) stays.now))) }
+{
     let broken = breaks_of(alloc, marks)?;
+    let came = recoveries(alloc, stays)?;
     let mut found = Vec::new(alloc);
-    push_cause(&mut found, not_tapped(&begins))?;
-    push_cause(&mut found, missing_break(&begins, &broken, stays))?;
+    push_cause(&mut found, not_tapped(begins))?;
+    push_missing(&mut found, begins, &broken, &came)?;
     Ok(found)
 }
 
 /// How many turns there are, up to the last that one of these begins.
-fn turn_count(marks: &[TurnMark]) -> usize
+pub(crate) fn turn_count(marks: &[TurnMark]) -> usize
     ensures { result ≡ turn_count 0 marks.now }
 {
     let mut count = 0;
@@ -60,7 +84,7 @@ fn count_with(count: usize, turn: Option<u16>) -> usize
 }
 
 /// The turn that such a record begins, if it begins one.
-fn begun_turn(mark: Mark) -> Option<u16>
+pub(crate) fn begun_turn(mark: Mark) -> Option<u16>
     ensures { result ≡ begun_turn mark }
 {
     match mark {
@@ -71,7 +95,7 @@ fn begun_turn(mark: Mark) -> Option<u16>
 }
 
 /// The turn that it breaks, if it is a `break`.
-fn broken_turn(mark: Mark) -> Option<u16>
+pub(crate) fn broken_turn(mark: Mark) -> Option<u16>
     ensures { result ≡ broken_turn mark }
 {
     match mark {
@@ -140,37 +164,42 @@ fn not_tapped(begins: &[Option<RecordPlace>]) -> Option<Cause>
     None
 }
 
-/// That the client went on after a turn that no record breaks.
+/// Adds of each turn that the client went on after it, though no record breaks it.
+fn push_missing(
+    found: &mut Vec<Cause>,
+    begins: &[Option<RecordPlace>],
+    broken: &[bool],
+    came: &[usize],
+) -> Result<(), AllocError>
+    ensures { OnOk result (found.new.items
+        ≡ found.old.items ++ missing_breaks begins.now broken.now came.now) }
+{
+    for turn in 0..begins.len() {
+        push_cause(found, missing_break(begins, broken, came, turn))?;
+    }
+    Ok(())
+}
+
+/// That the client went on after this turn, by the recovery with its number among these, though no record breaks it.
 fn missing_break(
     begins: &[Option<RecordPlace>],
     broken: &[bool],
-    stays: &[&Stay<'_>],
+    came: &[usize],
+    turn: usize,
 ) -> Option<Cause>
-    ensures { result ≡ missing_break begins.now broken.now (map (λ stay. stay.now) stays.now) }
+    requires { turn < length begins.now }
+    ensures { result ≡ missing_break begins.now broken.now came.now turn }
 {
-    let unbroken = first_unbroken(begins, broken)?;
+    let unbroken = unbroken_at(begins, broken, turn)?;
     Some(Cause::MissingBreak {
         turn: unbroken.turn,
         begin: unbroken.begin,
         back: unbroken.back,
-        stay: recovery_after(stays, unbroken.turn)?,
+        stay: *came.get(unbroken.turn)?,
     })
 }
 
-/// The first turn that no record breaks, though the next one begins.
-fn first_unbroken(begins: &[Option<RecordPlace>], broken: &[bool]) -> Option<Unbroken>
-    ensures { result
-        ≡ first_unbroken begins.now broken.now (numbers_from 0 (length begins.now)) }
-{
-    for turn in 0..begins.len() {
-        if let Some(unbroken) = unbroken_at(begins, broken, turn) {
-            return Some(unbroken);
-        }
-    }
-    None
-}
-
-/// The turn with this number, if it is one.
+/// The turn with this number, if no record breaks it, though the next one begins.
 fn unbroken_at(begins: &[Option<RecordPlace>], broken: &[bool], turn: usize) -> Option<Unbroken>
     requires { turn < length begins.now }
     ensures { result ≡ unbroken_at begins.now broken.now turn }

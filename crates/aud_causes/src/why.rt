@@ -49,6 +49,12 @@ pub(crate) fn why_text(alloc: Global, cause: Cause, node: &str) -> Result<String
                 Piece::Words(", and had later ones already."),
             ],
         ),
+        Cause::BodyCameTwice { .. } => sentence(
+            alloc,
+            &[Piece::Words(
+                "From this entry on, all that came before the recovery had come in one body of polling.",
+            )],
+        ),
         Cause::OffsetOfAnotherSession { after, .. } => sentence(
             alloc,
             &[
@@ -137,12 +143,48 @@ pub(crate) fn why_text(alloc: Global, cause: Cause, node: &str) -> Result<String
             alloc,
             &[Piece::Words("The node sent the session an entry that was not addressed to it.")],
         ),
+        Cause::JoinMissing { .. } => sentence(
+            alloc,
+            &[Piece::Words(
+                "What came would fit if the session had joined a room of the entry before: a `join` may be missing.",
+            )],
+        ),
+        Cause::LeaveMissing { .. } => sentence(
+            alloc,
+            &[Piece::Words(
+                "What came would fit if the session had left a room before: a `leave` may be missing.",
+            )],
+        ),
         Cause::MissingBreak { turn, .. } => sentence(
             alloc,
             &[
                 Piece::Words("The client recovered the session after turn "),
                 Piece::Number(turn as u64),
                 Piece::Words(", so that turn broke; no log has its break."),
+            ],
+        ),
+        Cause::ClearedAfterBreak { .. } => sentence(
+            alloc,
+            &[
+                Piece::Words("The log of "),
+                Piece::Words(node),
+                Piece::Words(" clears the session up after its break, by a `leave` or its `gone`."),
+            ],
+        ),
+        Cause::TurnNotStored { turn, .. } => sentence(
+            alloc,
+            &[
+                Piece::Words("Two records take the session back as turn "),
+                Piece::Number(turn as u64),
+                Piece::Words(", and one of these turns was ended."),
+            ],
+        ),
+        Cause::RecoveredTwice { turn, .. } => sentence(
+            alloc,
+            &[
+                Piece::Words("Two nodes took the session back as turn "),
+                Piece::Number(turn as u64),
+                Piece::Words("."),
             ],
         ),
         Cause::OpenNotRecorded { .. } => sentence(
@@ -224,6 +266,14 @@ pub(crate) fn why_text(alloc: Global, cause: Cause, node: &str) -> Result<String
             alloc,
             &[Piece::Words("No tap of a client names the session.")],
         ),
+        Cause::ReplyMissing { .. } => sentence(
+            alloc,
+            &[
+                Piece::Words("The tap of "),
+                Piece::Words(node),
+                Piece::Words(" has events, and no reply that names their session."),
+            ],
+        ),
         Cause::SidDiffers { .. } => sentence(
             alloc,
             &[Piece::Words("The reply has another sid than the session was opened with.")],
@@ -247,6 +297,24 @@ pub(crate) fn why_text(alloc: Global, cause: Cause, node: &str) -> Result<String
             alloc,
             &[Piece::Words("The reply names no session: the server recovers none there.")],
         ),
+        Cause::OutAfterAnswer { .. } => sentence(
+            alloc,
+            &[Piece::Words(
+                "The namespace was answered before on this connection; the CONNECT may be recorded after its answer.",
+            )],
+        ),
+        Cause::SecondConnect { .. } => sentence(
+            alloc,
+            &[Piece::Words(
+                "The namespace was answered before on this connection; the client may have sent a second CONNECT.",
+            )],
+        ),
+        Cause::AfterDisconnect { .. } => sentence(
+            alloc,
+            &[Piece::Words(
+                "Events came after a DISCONNECT from the namespace on this connection.",
+            )],
+        ),
         Cause::SessionOver { .. } => sentence(
             alloc,
             &[
@@ -255,9 +323,17 @@ pub(crate) fn why_text(alloc: Global, cause: Cause, node: &str) -> Result<String
                 Piece::Words(" ends the session."),
             ],
         ),
+        Cause::NodeEndedInTurn { .. } => sentence(
+            alloc,
+            &[
+                Piece::Words("The log of "),
+                Piece::Words(node),
+                Piece::Words(" ends in the session's last turn."),
+            ],
+        ),
         Cause::NeverBroken { .. } => sentence(
             alloc,
-            &[Piece::Words("No log has a break of the session.")],
+            &[Piece::Words("No log has a break of the session's last turn.")],
         ),
         Cause::AskedTooEarly { high, low, .. } => sentence(
             alloc,

@@ -1,9 +1,10 @@
 -- What the words of `explain` ask for.
-use Rattle.std.specs.Prelude.{ℕ, ◌≤◌, List, [], ◌∷◌, codes, Bool, true, false, ◌||◌, Option, Some, None, IfSome, is_some, option_map, option_and_then, unwrap_or, if◌then◌else◌}
+use Rattle.std.specs.Prelude.{ℕ, ◌≤◌, List, [], ◌∷◌, codes, Bool, true, false, not, ◌&&◌, ◌||◌, Option, Some, None, IfSome, is_some, option_map, option_and_then, unwrap_or, slice_get, if◌then◌else◌}
 use Rattle.std.specs.Str.{bytes_eq}
 use Rattle.aud_cli.specs.Arguments.{workers_named}
 use Rattle.aud_cli.specs.declared.fail_on.FailOn.{FailOn}
 use Rattle.aud_cli.specs.declared.only.Only.{Only}
+use Rattle.aud_cli.specs.declared.only.Only.TheVariants.{With}
 use Rattle.aud_cli.specs.declared.output_form.OutputForm.{OutputForm}
 use Rattle.aud_cli.specs.declared.output_form.OutputForm.TheVariants.{Text, Json, Html}
 use Rattle.aud_cli.specs.declared.explain_options.Choices.{Choices}
@@ -14,7 +15,7 @@ use Rattle.aud_cli.specs.Only.{only_named}
 
 -- none of the options that may stand once
 abbrev pub no_choices : Choices
-no_choices = record { only = None; form = None; fail_on = None; quiet = false; workers = None }
+no_choices = record { only = None; form = None; fail_on = None; whole = false; quiet = false; workers = None; lines = false }
 
 -- these options and --only with what it says, where that is known; it may stand once
 abbrev pub with_only : Choices → Option Only → Option Choices
@@ -32,26 +33,54 @@ with_workers choices workers = if is_some choices.workers then None else option_
 abbrev pub with_form : Choices → OutputForm → Option Choices
 with_form choices form = if is_some choices.form then None else Some (record choices { form = Some form })
 
+-- these options and --whole, which may stand once
+abbrev pub with_whole : Choices → Option Choices
+with_whole choices = if choices.whole then None else Some (record choices { whole = true })
+
 -- these options and --quiet, which may stand once
 abbrev pub with_quiet : Choices → Option Choices
 with_quiet choices = if choices.quiet then None else Some (record choices { quiet = true })
 
--- these options and the next one, where there is one of its name; files and --pid may stand any number of times
+-- these options and --lines, which may stand once
+abbrev pub with_lines : Choices → Option Choices
+with_lines choices = if choices.lines then None else Some (record choices { lines = true })
+
+-- these options and the next one, where there is one of its name; files and --pid may stand any number of times; what --lines names has its own place
 abbrev pub with_given : Choices → Given → Option Choices
 with_given choices given =
     if bytes_eq given.name [] || bytes_eq given.name (codes "--pid") then Some choices
     else (if bytes_eq given.name (codes "--json") then with_form choices Json
     else (if bytes_eq given.name (codes "--html") then with_form choices Html
+    else (if bytes_eq given.name (codes "--whole") then with_whole choices
     else (if bytes_eq given.name (codes "--quiet") then with_quiet choices
     else (if bytes_eq given.name (codes "--only") then with_only choices (only_named given.value)
     else (if bytes_eq given.name (codes "--fail-on") then with_fail_on choices (fail_on_named given.value)
     else (if bytes_eq given.name (codes "--workers") then with_workers choices (workers_named given.value)
-    else None))))))
+    else (if bytes_eq given.name (codes "--lines") then with_lines choices
+    else None))))))))
 
 -- these options and all that follow, in any order
 abbrev pub choices_of : Choices → List Given → Option Choices
 choices_of before [] = Some before
 choices_of before (given ∷ all) = option_and_then (λ choices. choices_of choices all) (with_given before given)
+
+-- --only shows tails
+abbrev pub shows_tail : Option Only → Bool
+shows_tail (Some (With faults)) = faults.tail
+shows_tail only = false
+
+-- --fail-on has tails by their word
+abbrev pub fails_tail : Option FailOn → Bool
+fails_tail None = false
+fails_tail (Some fail_on) = fail_on.faults.tail
+
+-- TAIL is named without --whole, which alone looks for it
+abbrev pub lacks_whole : Choices → Bool
+lacks_whole choices = not choices.whole && (shows_tail choices.only || fails_tail choices.fail_on)
+
+-- these options, where that is not so
+abbrev pub understood : Choices → Option Choices
+understood choices = if lacks_whole choices then None else Some choices
 
 -- what is asked for by these options: without --json and --html the output is text, without --fail-on any fault makes
 -- status 1, and without --workers there are 4
@@ -61,8 +90,10 @@ options_of all choices = record {
   only = choices.only;
   form = unwrap_or choices.form Text;
   fail_on = unwrap_or choices.fail_on every_class;
+  whole = choices.whole;
   quiet = choices.quiet;
   workers = unwrap_or choices.workers 4;
+  lines = slice_get (values_of (codes "--lines") all) 0;
   files = values_of [] all;
 }
 
@@ -71,7 +102,7 @@ abbrev pub asked : Words → Option ExplainOptions
 asked [] = None
 asked (name ∷ words) =
     if bytes_eq name.now (codes "explain")
-    then option_and_then (λ all. option_map (options_of all) (choices_of no_choices all)) (given_of words)
+    then option_and_then (λ all. option_map (options_of all) (option_and_then understood (choices_of no_choices all))) (given_of words)
     else None
 
 -- a number of workers that these options give is 1 to 64

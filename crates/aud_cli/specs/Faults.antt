@@ -6,7 +6,7 @@ use Rattle.aud_cert.specs.declared.fault.Fault.TheVariants.{NoLog, Chain, Order,
 use Rattle.aud_cli.specs.declared.faults.Faults.{Faults}
 use Rattle.aud_cli.specs.Names.{has_name}
 
--- the words of faults, class by class; a tail is no fault here
+-- the words of faults, class by class
 abbrev pub is_recording_fault : List ℕ → Bool
 is_recording_fault name =
     bytes_eq name (codes "NOLOG") || bytes_eq name (codes "CHAIN") || bytes_eq name (codes "ORDER")
@@ -18,7 +18,7 @@ is_packets_fault name = bytes_eq name (codes "FRAME") || bytes_eq name (codes "O
 abbrev pub is_delivery_fault : List ℕ → Bool
 is_delivery_fault name =
     bytes_eq name (codes "CONTENT") || bytes_eq name (codes "EXTRA") || bytes_eq name (codes "DOUBLED")
-    || bytes_eq name (codes "SWAPPED") || bytes_eq name (codes "LOST") || bytes_eq name (codes "WINDOW")
+    || bytes_eq name (codes "SWAPPED") || bytes_eq name (codes "LOST") || bytes_eq name (codes "WINDOW") || bytes_eq name (codes "TAIL")
 
 -- this is the word of a fault
 abbrev pub is_fault : List ℕ → Bool
@@ -40,6 +40,7 @@ faults_in names = record {
   swapped = has_name names (codes "SWAPPED");
   lost = has_name names (codes "LOST");
   window = has_name names (codes "WINDOW");
+  tail = has_name names (codes "TAIL");
 }
 
 -- none of them
@@ -58,6 +59,7 @@ no_faults = record {
   swapped = false;
   lost = false;
   window = false;
+  tail = false;
 }
 
 -- this fault is one of them
@@ -75,4 +77,4 @@ has_fault faults (Doubled off) = faults.doubled
 has_fault faults (Swapped off) = faults.swapped
 has_fault faults (Lost off) = faults.lost
 has_fault faults (Window conn) = faults.window
-has_fault faults (Tail count) = false
+has_fault faults (Tail count) = faults.tail

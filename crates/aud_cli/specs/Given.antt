@@ -17,7 +17,7 @@ pub record Given : Type 0 where
 abbrev pub takes_value : List ℕ → Bool
 takes_value name =
     bytes_eq name (codes "--pid") || bytes_eq name (codes "--only") || bytes_eq name (codes "--fail-on") || bytes_eq name (codes "--workers")
-    || bytes_eq name (codes "--parts") || bytes_eq name (codes "--bytes") || bytes_eq name (codes "--into")
+    || bytes_eq name (codes "--parts") || bytes_eq name (codes "--bytes") || bytes_eq name (codes "--into") || bytes_eq name (codes "--lines")
 
 -- whether the word is a file: a dash alone, which is standard input, or what begins with none
 abbrev pub is_file : List ℕ → Bool

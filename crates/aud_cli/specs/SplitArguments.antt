@@ -1,7 +1,8 @@
 -- What the words of `split` ask for.
-use Rattle.std.specs.Prelude.{ℕ, List, [], ◌∷◌, codes, Bool, true, false, ◌||◌, Option, Some, None, IfSome, is_some, option_map, option_and_then, if◌then◌else◌}
+use Rattle.std.specs.Prelude.{ℕ, ◌≤◌, List, [], ◌∷◌, codes, Bool, true, false, ◌||◌, Option, Some, None, IfSome, is_some, option_map, option_and_then, unwrap_or, if◌then◌else◌}
 use Rattle.std.specs.List.{list_any}
 use Rattle.std.specs.Str.{bytes_eq}
+use Rattle.aud_cli.specs.Arguments.{workers_named}
 use Rattle.aud_cli.specs.declared.split_options.PartsWanted.{PartsWanted}
 use Rattle.aud_cli.specs.declared.split_options.SplitChoices.{SplitChoices}
 use Rattle.aud_cli.specs.declared.split_options.SplitOptions.{SplitOptions}
@@ -10,11 +11,15 @@ use Rattle.aud_cli.specs.Sizes.{IsWithin, parts_named, size_named}
 
 -- none of the options that may stand once
 abbrev pub no_choices : SplitChoices
-no_choices = record { parts = None; quiet = false }
+no_choices = record { parts = None; quiet = false; workers = None }
 
 -- these options and --parts or --bytes with what it says, where that is understood; one of them may stand, once
 abbrev pub with_parts : SplitChoices → Option PartsWanted → Option SplitChoices
 with_parts choices parts = if is_some choices.parts then None else option_map (λ parts. record choices { parts = Some parts }) parts
+
+-- these options and --workers with its number, where it has one; it may stand once
+abbrev pub with_workers : SplitChoices → Option ℕ → Option SplitChoices
+with_workers choices workers = if is_some choices.workers then None else option_map (λ workers. record choices { workers = Some workers }) workers
 
 -- these options and --quiet, which may stand once
 abbrev pub with_quiet : SplitChoices → Option SplitChoices
@@ -27,7 +32,8 @@ with_given choices given =
     else (if bytes_eq given.name (codes "--parts") then with_parts choices (parts_named given.value)
     else (if bytes_eq given.name (codes "--bytes") then with_parts choices (size_named given.value)
     else (if bytes_eq given.name (codes "--quiet") then with_quiet choices
-    else None)))
+    else (if bytes_eq given.name (codes "--workers") then with_workers choices (workers_named given.value)
+    else None))))
 
 -- these options and all that follow, in any order
 abbrev pub choices_of : SplitChoices → List Given → Option SplitChoices
@@ -49,12 +55,13 @@ abbrev pub files_to_split : List (List ℕ) → Option (List (List ℕ))
 files_to_split [] = None
 files_to_split (file ∷ files) = if has_stdin (file ∷ files) then None else Some (file ∷ files)
 
--- what is asked for with these parts, into these folders, of which there is to be one, and of these files
-abbrev pub split_of : Bool → PartsWanted → List (List ℕ) → List (List ℕ) → Option SplitOptions
-split_of quiet parts folders files =
+-- what is asked for with these options and parts, into these folders, of which there is to be one, and of these files;
+-- without --workers there are 4
+abbrev pub split_of : SplitChoices → PartsWanted → List (List ℕ) → List (List ℕ) → Option SplitOptions
+split_of choices parts folders files =
     option_and_then
     (λ into. option_map
-    (λ files. record { parts = parts; into = into; files = files; quiet = quiet })
+    (λ files. record { parts = parts; into = into; files = files; quiet = choices.quiet; workers = unwrap_or choices.workers 4 })
     (files_to_split files))
     (only_text folders)
 
@@ -62,7 +69,7 @@ split_of quiet parts folders files =
 abbrev pub options_of : List Given → SplitChoices → Option SplitOptions
 options_of all choices =
     option_and_then
-    (λ parts. split_of choices.quiet parts (values_of (codes "--into") all) (values_of [] all))
+    (λ parts. split_of choices parts (values_of (codes "--into") all) (values_of [] all))
     choices.parts
 
 -- what the words ask for, where they are understood: the first is split
@@ -73,6 +80,14 @@ asked (name ∷ words) =
     then option_and_then (λ all. option_and_then (options_of all) (choices_of no_choices all)) (given_of words)
     else None
 
--- a number of parts that these options give is 1 to 9999
+-- a number of workers is 1 to 64
+abbrev pub IsNumber : ℕ → Type 0
+IsNumber n = (1 ≤ n) × (n ≤ 64)
+
+-- a number of parts that these options give is 1 to 9999, and one of workers 1 to 64
 abbrev pub AreWithin : SplitChoices → Type 0
-AreWithin choices = IfSome choices.parts IsWithin
+AreWithin choices = IfSome choices.parts IsWithin × IfSome choices.workers IsNumber
+
+-- the same of what is asked for
+abbrev pub IsWithinAll : SplitOptions → Type 0
+IsWithinAll options = IsWithin options.parts × IsNumber options.workers

@@ -1,7 +1,7 @@
 //! The arguments of `explain`.
-ghost use Rattle.std.specs.Prelude.{◌≡◌, ◌≢◌, ◌≤◌, Some, None, IfErr, IfOk, IfSome, option_map};
+ghost use Rattle.std.specs.Prelude.{◌≡◌, ◌≢◌, ◌≤◌, Some, None, IfErr, IfOk, IfSome, option_map, slice_get};
 ghost use Rattle.clap.specs.Words.{kind_of};
-ghost use Rattle.aud_cli.specs.ExplainArguments.{AreWithin, asked, choices_of, no_choices, options_of, with_fail_on, with_form, with_given, with_only, with_quiet, with_workers};
+ghost use Rattle.aud_cli.specs.ExplainArguments.{AreWithin, asked, choices_of, fails_tail, lacks_whole, no_choices, options_of, shows_tail, with_fail_on, with_form, with_given, with_lines, with_only, with_quiet, with_whole, with_workers};
 
 use crate::arguments::workers_named;
 use crate::explain_options::{Choices, ExplainOptions};
@@ -9,7 +9,8 @@ use crate::fail_on::{EVERY_CLASS, FailOn, fail_on_named};
 use crate::given::{Given, given_of, values_of};
 use crate::only::{Only, only_named};
 use crate::output_form::OutputForm;
-use crate::parser::refusal;
+use crate::parser::{TAIL_ALONE, refusal_or};
+use aud_base::{Text, Texts};
 use clap::Error;
 use clap::error::ErrorKind;
 use std::alloc::{AllocError, Global};
@@ -69,6 +70,19 @@ fn with_form(choices: Choices, form: OutputForm) -> Option<Choices>
     })
 }
 
+/// These options and `--whole`, which may stand once.
+fn with_whole(choices: Choices) -> Option<Choices>
+    ensures { result ≡ with_whole choices }
+{
+    if choices.whole {
+        return None;
+    }
+    Some(Choices {
+        whole: true,
+        ..choices
+    })
+}
+
 /// These options and `--quiet`, which may stand once.
 fn with_quiet(choices: Choices) -> Option<Choices>
     ensures { result ≡ with_quiet choices }
@@ -82,7 +96,20 @@ fn with_quiet(choices: Choices) -> Option<Choices>
     })
 }
 
-/// These options and the next one. Sessions and files have their own places.
+/// These options and `--lines`, which may stand once.
+fn with_lines(choices: Choices) -> Option<Choices>
+    ensures { result ≡ with_lines choices }
+{
+    if choices.lines {
+        return None;
+    }
+    Some(Choices {
+        lines: true,
+        ..choices
+    })
+}
+
+/// These options and the next one. Sessions and files, and what `--lines` names, have their own places.
 fn with_given(choices: Choices, given: &Given<'_>) -> Option<Choices>
     requires { AreWithin choices }
     ensures choices { result ≡ with_given choices given.now }
@@ -95,6 +122,8 @@ fn with_given(choices: Choices, given: &Given<'_>) -> Option<Choices>
         with_form(choices, OutputForm::Json)
     } else if name == "--html" {
         with_form(choices, OutputForm::Html)
+    } else if name == "--whole" {
+        with_whole(choices)
     } else if name == "--quiet" {
         with_quiet(choices)
     } else if name == "--only" {
@@ -103,6 +132,8 @@ fn with_given(choices: Choices, given: &Given<'_>) -> Option<Choices>
         with_fail_on(choices, fail_on_named(given.value()))
     } else if name == "--workers" {
         with_workers(choices, workers_named(given.value()))
+    } else if name == "--lines" {
+        with_lines(choices)
     } else {
         None
     }
@@ -117,13 +148,55 @@ fn choices_of(all: &[Given<'_>]) -> Option<Choices>
         only: None,
         form: None,
         fail_on: None,
+        whole: false,
         quiet: false,
         workers: None,
+        lines: false,
     };
     'all: for given in all {
         choices = with_given(choices, given)?;
     }
     Some(choices)
+}
+
+/// Whether `--only` shows tails.
+fn shows_tail(only: Option<Only>) -> bool
+    ensures { result ≡ shows_tail only }
+{
+    match only {
+        Some(Only::With(faults)) => faults.tail,
+        _ => false,
+    }
+}
+
+/// Whether `--fail-on` has tails by their word.
+fn fails_tail(fail_on: Option<FailOn>) -> bool
+    ensures { result ≡ fails_tail fail_on }
+{
+    match fail_on {
+        Some(fail_on) => fail_on.faults.tail,
+        None => false,
+    }
+}
+
+/// Whether `TAIL` is named without `--whole`, which alone looks for it.
+fn lacks_whole(choices: Choices) -> bool
+    ensures { result ≡ lacks_whole choices }
+{
+    if choices.whole {
+        return false;
+    }
+    shows_tail(choices.only) || fails_tail(choices.fail_on)
+}
+
+/// The first of these texts, if there is one.
+fn first_text(texts: &Texts) -> Result<Option<Text>, AllocError>
+    ensures { IfOk result (λ text. text ≡ slice_get texts.now 0) }
+{
+    match texts.as_slice() {
+        [text, ..] => Ok(Some(text.share()?)),
+        [] => Ok(None),
+    }
 }
 
 /// What is asked for by these options, and by the sessions and files of all that is given.
@@ -136,6 +209,7 @@ fn options_of(
     ensures options { IfOk result (λ o. o ≡ options_of all.now choices) }
     ensures within { IfOk result (λ o. (1 ≤ o.workers) × (o.workers ≤ 64)) }
 {
+    let lines = first_text(&values_of(alloc, "--lines", all)?)?;
     let pids = values_of(alloc, "--pid", all)?;
     let files = values_of(alloc, "", all)?;
     Ok(ExplainOptions {
@@ -143,8 +217,10 @@ fn options_of(
         only: choices.only,
         form: choices.form.unwrap_or(OutputForm::Text),
         fail_on: choices.fail_on.unwrap_or(EVERY_CLASS),
+        whole: choices.whole,
         quiet: choices.quiet,
         workers: choices.workers.unwrap_or(4),
+        lines,
         files,
     })
 }
@@ -166,6 +242,9 @@ fn asked(alloc: Global, words: &[&str]) -> Result<Option<ExplainOptions>, AllocE
     let Some(choices) = choices_of(&all) else {
         return Ok(None);
     };
+    if lacks_whole(choices) {
+        return Ok(None);
+    }
     let options = options_of(alloc, choices, &all)?;
     Ok(Some(options))
 }
@@ -180,6 +259,6 @@ pub fn explain_asked<'a>(alloc: Global, words: &'a [&'a str]) -> Result<ExplainO
 {
     match asked(alloc, words)? {
         Some(options) => Ok(options),
-        None => Err(refusal(alloc, words)?),
+        None => Err(refusal_or(alloc, words, TAIL_ALONE)?),
     }
 }

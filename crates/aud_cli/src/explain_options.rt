@@ -2,7 +2,7 @@
 use crate::fail_on::FailOn;
 use crate::only::Only;
 use crate::output_form::OutputForm;
-use aud_base::Texts;
+use aud_base::{Text, Texts};
 
 /// What is to be explained, and how.
 #[derive(Drop)]
@@ -14,10 +14,15 @@ pub struct ExplainOptions {
     pub only: Option<Only>,
     pub form: OutputForm,
     pub fail_on: FailOn,
+    /// Whether a session is also answered no where something that was due never came, as `TAIL`.
+    pub whole: bool,
     /// Whether nothing is told of how much of a long input was read.
     pub quiet: bool,
     /// How many workers there are, each in a thread of its own: 1 to 64. The output is the same for every number.
     pub workers: u8,
+    /// The name of the file that says from which lines of a recording those of the files come, which are a part of it;
+    /// `-` for standard input. Lines are those of the files where there is none.
+    pub lines: Option<Text>,
     /// The names of the files that are read one after the other, `-` for standard input. Where there is none, standard
     /// input is read.
     pub files: Texts,
@@ -29,6 +34,9 @@ pub struct Choices {
     pub only: Option<Only>,
     pub form: Option<OutputForm>,
     pub fail_on: Option<FailOn>,
+    pub whole: bool,
     pub quiet: bool,
     pub workers: Option<u8>,
+    /// Whether `--lines` is one of them.
+    pub lines: bool,
 }

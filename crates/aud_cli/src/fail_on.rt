@@ -8,6 +8,29 @@ use crate::faults::{Faults, NO_FAULTS, faults_in, is_fault};
 use crate::names::has_name;
 use aud_cert::{Class, Fault, class_of};
 
+/// The names that `--fail-on` may list.
+pub const FINDINGS: [&str; 19] = [
+    "delivery",
+    "packets",
+    "recording",
+    "refused",
+    "nothing",
+    "NOLOG",
+    "CHAIN",
+    "ORDER",
+    "CLIENT",
+    "NAMES",
+    "FRAME",
+    "ORPHAN",
+    "CONTENT",
+    "EXTRA",
+    "DOUBLED",
+    "SWAPPED",
+    "LOST",
+    "WINDOW",
+    "TAIL",
+];
+
 /// What makes the exit status 1.
 #[derive(Clone, Copy, Debug, PartialEq, Eq, Drop)]
 pub struct FailOn {

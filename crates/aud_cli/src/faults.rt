@@ -6,7 +6,7 @@ ghost use Rattle.aud_cli.specs.Names.{names_in};
 use crate::names::has_name;
 use aud_cert::Fault;
 
-/// Some of the faults that an explanation can be of: a tail is none.
+/// Some of the faults that an explanation can be of. A tail is one where the whole is asked for alone.
 #[derive(Clone, Copy, Debug, PartialEq, Eq, Drop)]
 pub struct Faults {
     pub no_log: bool,
@@ -22,6 +22,7 @@ pub struct Faults {
     pub swapped: bool,
     pub lost: bool,
     pub window: bool,
+    pub tail: bool,
 }
 
 /// None of them.
@@ -39,6 +40,7 @@ pub const NO_FAULTS: Faults = Faults {
     swapped: false,
     lost: false,
     window: false,
+    tail: false,
 };
 
 impl Faults {
@@ -60,7 +62,7 @@ impl Faults {
             Fault::Swapped(_) => self.swapped,
             Fault::Lost(_) => self.lost,
             Fault::Window(_) => self.window,
-            Fault::Tail(_) => false,
+            Fault::Tail(_) => self.tail,
         }
     }
 }
@@ -87,6 +89,7 @@ fn is_delivery_fault(name: &str) -> bool
         || name == "SWAPPED"
         || name == "LOST"
         || name == "WINDOW"
+        || name == "TAIL"
 }
 
 /// Whether this is the word of one of them.
@@ -114,5 +117,6 @@ pub fn faults_in(list: &str) -> Faults
         swapped: has_name(list, "SWAPPED"),
         lost: has_name(list, "LOST"),
         window: has_name(list, "WINDOW"),
+        tail: has_name(list, "TAIL"),
     }
 }

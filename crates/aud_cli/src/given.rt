@@ -50,6 +50,7 @@ fn takes_value(word: &str) -> bool
         || word == "--parts"
         || word == "--bytes"
         || word == "--into"
+        || word == "--lines"
 }
 
 /// Whether the word is a file.

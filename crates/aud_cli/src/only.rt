@@ -5,6 +5,28 @@ ghost use Rattle.aud_cli.specs.Only.{class_named, is_same, only_named, shows, sh
 use crate::faults::{Faults, faults_in, is_fault};
 use aud_cert::{Class, Fault, class_of};
 
+/// What `--only` may say.
+pub const SHOWN: [&str; 18] = [
+    "no",
+    "delivery",
+    "packets",
+    "recording",
+    "NOLOG",
+    "CHAIN",
+    "ORDER",
+    "CLIENT",
+    "NAMES",
+    "FRAME",
+    "ORPHAN",
+    "CONTENT",
+    "EXTRA",
+    "DOUBLED",
+    "SWAPPED",
+    "LOST",
+    "WINDOW",
+    "TAIL",
+];
+
 /// Which of the sessions that have something to explain are shown.
 #[derive(Clone, Copy, Debug, PartialEq, Eq, Drop)]
 pub enum Only {

@@ -1,4 +1,6 @@
 //! The parser of the command line, which has its help and says why arguments are refused.
+use crate::fail_on::FINDINGS;
+use crate::only::SHOWN;
 use aud_base::VERSION;
 use clap::builder::ValueParser;
 use clap::error::ErrorKind;
@@ -34,8 +36,11 @@ const EXPLAIN_LINES: &str = "\
 With --pid these sessions are shown, also those that are answered yes. The next word after --pid is
 the session, also where it begins with a dash.
 
+Of a part, part-0001.jsonl, --lines part-0001.lines names the lines of the bundle that was split.
+
 The classes of faults:
-  delivery   EXTRA, DOUBLED, SWAPPED, LOST, CONTENT, WINDOW: the client did not get what was due
+  delivery   EXTRA, DOUBLED, SWAPPED, LOST, CONTENT, WINDOW: the client did not get what was due;
+             with --whole also TAIL: it did not get the last of that
   packets    FRAME, ORPHAN: a record is no packet, or nobody knows the session of an event
   recording  NOLOG, CHAIN, ORDER, CLIENT, NAMES: the taps contradict each other, or lack something
 
@@ -84,8 +89,9 @@ certificates of the old bundle don't fit the new one.";
 const SPLIT_ABOUT: &str = "Cuts a bundle into parts, each of which can be audited by itself";
 
 const SPLIT_LINES: &str = "\
-Each part is a bundle: part-0001.jsonl and so on in the folder. The file `sessions` there lists the
-sessions of each. Audit each part, on whichever machine; `sioaudit merge` then writes the report on
+Each part is a bundle: part-0001.jsonl and so on in the folder. part-0001.lines beside it says from
+which lines of the whole its lines come, for `sioaudit explain --lines`, and the file `sessions` lists
+the sessions of each. Audit each part, on whichever machine; `sioaudit merge` then writes the report on
 the whole bundle. Each part has a line, and the last line counts them:
   part-0001.jsonl sessions=<n> clients=<n> bytes=<n>
   parts=<n> sessions=<n>
@@ -111,47 +117,6 @@ const SIMULATE_ABOUT: &str = "Writes the bundle of a simulated cluster";
 
 const SIMULATE_LINES: &str = "`sioaudit simulate --help` has its options.";
 
-const SHOWN: [&str; 17] = [
-    "no",
-    "delivery",
-    "packets",
-    "recording",
-    "NOLOG",
-    "CHAIN",
-    "ORDER",
-    "CLIENT",
-    "NAMES",
-    "FRAME",
-    "ORPHAN",
-    "CONTENT",
-    "EXTRA",
-    "DOUBLED",
-    "SWAPPED",
-    "LOST",
-    "WINDOW",
-];
-
-const FINDINGS: [&str; 18] = [
-    "delivery",
-    "packets",
-    "recording",
-    "refused",
-    "nothing",
-    "NOLOG",
-    "CHAIN",
-    "ORDER",
-    "CLIENT",
-    "NAMES",
-    "FRAME",
-    "ORPHAN",
-    "CONTENT",
-    "EXTRA",
-    "DOUBLED",
-    "SWAPPED",
-    "LOST",
-    "WINDOW",
-];
-
 const NOT_UNDERSTOOD: &str =
     "these words are not understood\n\nFor more information, try '--help'.";
 
@@ -159,18 +124,41 @@ const NOT_UNDERSTOOD: &str =
 pub const BAD_SIZE: &str =
     "a part's size is a whole number of bytes, or of K, M or G, as in 512M\n\nFor more information, try '--help'.";
 
+/// Why `TAIL` is refused.
+pub const TAIL_ALONE: &str =
+    "TAIL is named without --whole, which alone looks for it\n\nFor more information, try '--help'.";
+
 /// Why `-` is refused as a file of `split`.
 pub const STDIN_TWICE: &str =
     "the files are read more than once, so none can be standard input\n\nFor more information, try '--help'.";
+
+/// A command that is made by one allocation after another; or there was no memory for it.
+type Made<'a> = Result<Command<'a>, AllocError>;
 
 /// A command of this name: what it does, and what its help says at the end.
 fn described<'a>(alloc: Global, name: &'a str, about: &'a str, lines: &'a str) -> Command<'a> {
     Command::new(alloc, name).about(about).after_help(lines)
 }
 
+/// The command with one more argument.
+fn with_arg<'a>(command: Made<'a>, arg: Arg<'a>) -> Made<'a> {
+    command?.arg(arg)
+}
+
+/// The command with one more that stands after it.
+fn with_command<'a>(command: Made<'a>, other: Made<'a>) -> Made<'a> {
+    let other = other?;
+    command?.subcommand(other)
+}
+
 /// An option.
 fn option<'a>(alloc: Global, name: &'a str, help: &'a str) -> Arg<'a> {
     Arg::new(alloc, name).long(name).help(help)
+}
+
+/// An option that takes no value.
+fn flag<'a>(alloc: Global, name: &'a str, help: &'a str) -> Arg<'a> {
+    option(alloc, name, help).action(ArgAction::SetTrue)
 }
 
 /// The number of threads.
@@ -181,42 +169,46 @@ fn workers<'a>(alloc: Global, help: &'a str) -> Arg<'a> {
         .default_value("4")
 }
 
+/// `--quiet`.
+fn quiet<'a>(alloc: Global) -> Arg<'a> {
+    flag(
+        alloc,
+        "quiet",
+        "Don't tell how much of a long input was read",
+    )
+}
+
 /// The command with the files of the bundle that it reads, and `--quiet`.
-fn reading<'a>(alloc: Global, command: Command<'a>) -> Result<Command<'a>, AllocError> {
+fn reading<'a>(alloc: Global, command: Made<'a>) -> Made<'a> {
     let files = Arg::new(alloc, "files")
         .value_name("FILES")
         .help("Files of the bundle, - for standard input")
         .action(ArgAction::Append)
         .num_args(0..);
-    let quiet = option(
-        alloc,
-        "quiet",
-        "Don't tell how much of a long input was read",
-    )
-    .action(ArgAction::SetTrue);
-    command.arg(files)?.arg(quiet)
+    with_arg(with_arg(command, files), quiet(alloc))
 }
 
-/// The command `audit` and its options.
-fn audit<'a>(alloc: Global) -> Result<Command<'a>, AllocError> {
-    let workers = workers(
-        alloc,
-        "Threads to audit with, 1 to 64; the report is the same for every N",
-    );
-    let whole = option(
+/// `--whole`.
+fn whole<'a>(alloc: Global) -> Arg<'a> {
+    flag(
         alloc,
         "whole",
         "Answer no, TAIL <n>, where n due events never came",
     )
-    .action(ArgAction::SetTrue);
-    let command = described(alloc, "audit", AUDIT_ABOUT, AUDIT_LINES)
-        .arg(workers)?
-        .arg(whole)?;
-    reading(alloc, command)
+}
+
+/// The command `audit` and its options.
+fn audit<'a>(alloc: Global) -> Made<'a> {
+    let workers = workers(
+        alloc,
+        "Threads to audit with, 1 to 64; the report is the same for every N",
+    );
+    let command = Ok(described(alloc, "audit", AUDIT_ABOUT, AUDIT_LINES));
+    reading(alloc, with_arg(with_arg(command, workers), whole(alloc)))
 }
 
 /// The command `explain`, with the options that choose sessions.
-fn choosing<'a>(alloc: Global) -> Result<Command<'a>, AllocError> {
+fn choosing<'a>(alloc: Global) -> Made<'a> {
     let pid = option(alloc, "pid", "Show this session; may stand several times")
         .value_name("P")
         .allow_hyphen_values(true)
@@ -228,26 +220,38 @@ fn choosing<'a>(alloc: Global) -> Result<Command<'a>, AllocError> {
     )
     .value_name("WHICH")
     .value_parser(ValueParser::Names(&SHOWN));
-    described(alloc, "explain", EXPLAIN_ABOUT, EXPLAIN_LINES)
-        .arg(pid)?
-        .arg(only)
+    let command = Ok(described(alloc, "explain", EXPLAIN_ABOUT, EXPLAIN_LINES));
+    with_arg(with_arg(command, pid), only)
 }
 
-/// The command `explain` and its options.
-fn explain<'a>(alloc: Global) -> Result<Command<'a>, AllocError> {
-    let json = option(
+/// The command with the options that say in which form it writes.
+fn forming<'a>(alloc: Global, command: Made<'a>) -> Made<'a> {
+    let json = flag(
         alloc,
         "json",
         "Write JSON, a line a session, and one for the summary",
-    )
-    .action(ArgAction::SetTrue);
-    let html = option(
+    );
+    let html = flag(
         alloc,
         "html",
         "Write a page for a browser, one file that loads nothing",
     )
-    .action(ArgAction::SetTrue)
     .conflicts_with("json")?;
+    with_arg(with_arg(command, json), html)
+}
+
+/// The file that says which lines of the whole those of a part are.
+fn lines<'a>(alloc: Global) -> Arg<'a> {
+    option(
+        alloc,
+        "lines",
+        "Name the lines of a part as those of the whole, by the file beside it",
+    )
+    .value_name("FILE")
+}
+
+/// The command `explain` and its options.
+fn explain<'a>(alloc: Global) -> Made<'a> {
     let fail_on = option(
         alloc,
         "fail-on",
@@ -261,26 +265,24 @@ fn explain<'a>(alloc: Global) -> Result<Command<'a>, AllocError> {
         alloc,
         "Threads to work with, 1 to 64; the output is the same for every N",
     );
-    let command = choosing(alloc)?
-        .arg(json)?
-        .arg(html)?
-        .arg(fail_on)?
-        .arg(workers)?;
-    reading(alloc, command)
+    let command = with_arg(forming(alloc, choosing(alloc)), fail_on);
+    let command = with_arg(with_arg(command, lines(alloc)), whole(alloc));
+    reading(alloc, with_arg(command, workers))
 }
 
 /// A command without options of its own that reads a bundle.
-fn plain<'a>(
-    alloc: Global,
-    name: &'a str,
-    about: &'a str,
-    lines: &'a str,
-) -> Result<Command<'a>, AllocError> {
-    reading(alloc, described(alloc, name, about, lines))
+fn plain<'a>(alloc: Global, name: &'a str, about: &'a str, lines: &'a str) -> Made<'a> {
+    reading(alloc, Ok(described(alloc, name, about, lines)))
+}
+
+/// One of how many parts there are, and how large.
+fn size<'a>(alloc: Global) -> Result<ArgGroup<'a>, AllocError> {
+    let size = ArgGroup::new(alloc, "size").arg("parts")?.arg("bytes")?;
+    Ok(size.required(true))
 }
 
 /// The command `split` with what says how many parts there are, or how large.
-fn sized<'a>(alloc: Global) -> Result<Command<'a>, AllocError> {
+fn sized<'a>(alloc: Global) -> Made<'a> {
     let parts = option(alloc, "parts", "Make at most so many parts, 1 to 9999")
         .value_name("N")
         .value_parser(value_parser!(u16).range(1..10_000));
@@ -290,18 +292,13 @@ fn sized<'a>(alloc: Global) -> Result<Command<'a>, AllocError> {
         "Make parts of at most so many bytes, as few as can be; 512M is 512 MiB",
     )
     .value_name("B");
-    let size = ArgGroup::new(alloc, "size")
-        .arg("parts")?
-        .arg("bytes")?
-        .required(true);
-    described(alloc, "split", SPLIT_ABOUT, SPLIT_LINES)
-        .arg(parts)?
-        .arg(bytes)?
-        .group(size)
+    let size = size(alloc)?;
+    let command = Ok(described(alloc, "split", SPLIT_ABOUT, SPLIT_LINES));
+    with_arg(with_arg(command, parts), bytes)?.group(size)
 }
 
 /// The command `split` and its options.
-fn split<'a>(alloc: Global) -> Result<Command<'a>, AllocError> {
+fn split<'a>(alloc: Global) -> Made<'a> {
     let into = option(alloc, "into", "Folder that the parts are written to")
         .value_name("FOLDER")
         .required(true);
@@ -311,17 +308,16 @@ fn split<'a>(alloc: Global) -> Result<Command<'a>, AllocError> {
         .action(ArgAction::Append)
         .num_args(1..)
         .required(true);
-    let quiet = option(
+    let workers = workers(
         alloc,
-        "quiet",
-        "Don't tell how much of a long input was read",
-    )
-    .action(ArgAction::SetTrue);
-    sized(alloc)?.arg(into)?.arg(files)?.arg(quiet)
+        "Threads to work with, 1 to 64; the parts are the same for every N",
+    );
+    let command = with_arg(with_arg(sized(alloc), into), workers);
+    with_arg(with_arg(command, files), quiet(alloc))
 }
 
 /// The command `merge` and its arguments.
-fn merge<'a>(alloc: Global) -> Result<Command<'a>, AllocError> {
+fn merge<'a>(alloc: Global) -> Made<'a> {
     let folder = Arg::new(alloc, "folder")
         .value_name("FOLDER")
         .help("Folder that the parts were written to")
@@ -332,28 +328,36 @@ fn merge<'a>(alloc: Global) -> Result<Command<'a>, AllocError> {
         .action(ArgAction::Append)
         .num_args(1..)
         .required(true);
-    described(alloc, "merge", MERGE_ABOUT, MERGE_LINES)
-        .arg(folder)?
-        .arg(reports)
+    let command = Ok(described(alloc, "merge", MERGE_ABOUT, MERGE_LINES));
+    with_arg(with_arg(command, folder), reports)
 }
 
-/// The parser. The options of `simulate` are read by the crate of that command.
-fn command<'a>(alloc: Global) -> Result<Command<'a>, AllocError> {
+/// The command `simulate`, whose options are read by its own crate.
+fn simulate<'a>(alloc: Global) -> Made<'a> {
+    Ok(described(alloc, "simulate", SIMULATE_ABOUT, SIMULATE_LINES))
+}
+
+/// The parser, without a command.
+fn top<'a>(alloc: Global) -> Made<'a> {
     described(alloc, "sioaudit", ABOUT, STATUSES)
         .version(VERSION)
         .propagate_version(true)
         .no_binary_name(true)
         .subcommand_required(true)
-        .subcommand(audit(alloc)?)?
-        .subcommand(explain(alloc)?)?
-        .subcommand(plain(alloc, "prove", PROVE_ABOUT, PROVE_LINES)?)?
-        .subcommand(plain(alloc, "verify", VERIFY_ABOUT, VERIFY_LINES)?)?
-        .subcommand(plain(alloc, "order", ORDER_ABOUT, ORDER_LINES)?)?
-        .subcommand(plain(alloc, "upgrade", UPGRADE_ABOUT, UPGRADE_LINES)?)?
-        .subcommand(split(alloc)?)?
-        .subcommand(merge(alloc)?)?
-        .subcommand(described(alloc, "simulate", SIMULATE_ABOUT, SIMULATE_LINES))?
         .bin_name("sioaudit")
+}
+
+/// The parser.
+fn command<'a>(alloc: Global) -> Made<'a> {
+    let made = with_command(top(alloc), audit(alloc));
+    let made = with_command(made, explain(alloc));
+    let made = with_command(made, plain(alloc, "prove", PROVE_ABOUT, PROVE_LINES));
+    let made = with_command(made, plain(alloc, "verify", VERIFY_ABOUT, VERIFY_LINES));
+    let made = with_command(made, plain(alloc, "order", ORDER_ABOUT, ORDER_LINES));
+    let made = with_command(made, plain(alloc, "upgrade", UPGRADE_ABOUT, UPGRADE_LINES));
+    let made = with_command(made, split(alloc));
+    let made = with_command(made, merge(alloc));
+    with_command(made, simulate(alloc))
 }
 
 /// The text for arguments that ask for nothing: help that they ask for, or why they are refused; this text where the

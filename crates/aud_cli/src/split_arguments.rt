@@ -2,8 +2,9 @@
 ghost use Rattle.std.specs.Prelude.{◌≡◌, ◌≢◌, ◌≤◌, Some, None, IfErr, IfOk, IfSome};
 ghost use Rattle.clap.specs.Words.{kind_of};
 ghost use Rattle.aud_cli.specs.Sizes.{IsWithin};
-ghost use Rattle.aud_cli.specs.SplitArguments.{AreWithin, asked, choices_of, files_to_split, has_stdin, no_choices, only_text, options_of, split_of, with_given, with_parts, with_quiet};
+ghost use Rattle.aud_cli.specs.SplitArguments.{AreWithin, IsWithinAll, asked, choices_of, files_to_split, has_stdin, no_choices, only_text, options_of, split_of, with_given, with_parts, with_quiet, with_workers};
 
+use crate::arguments::workers_named;
 use crate::given::{Given, given_of, values_of};
 use crate::parser::{BAD_SIZE, STDIN_TWICE, refusal_or};
 use crate::sizes::{parts_named, size_named};
@@ -23,6 +24,20 @@ fn with_parts(choices: SplitChoices, parts: Option<PartsWanted>) -> Option<Split
     let parts = parts?;
     Some(SplitChoices {
         parts: Some(parts),
+        ..choices
+    })
+}
+
+/// These options and `--workers`, which may stand once.
+fn with_workers(choices: SplitChoices, workers: Option<u8>) -> Option<SplitChoices>
+    ensures { result ≡ with_workers choices workers }
+{
+    if choices.workers.is_some() {
+        return None;
+    }
+    let workers = workers?;
+    Some(SplitChoices {
+        workers: Some(workers),
         ..choices
     })
 }
@@ -55,6 +70,8 @@ fn with_given(choices: SplitChoices, given: &Given<'_>) -> Option<SplitChoices>
         with_parts(choices, size_named(given.value()))
     } else if name == "--quiet" {
         with_quiet(choices)
+    } else if name == "--workers" {
+        with_workers(choices, workers_named(given.value()))
     } else {
         None
     }
@@ -68,6 +85,7 @@ fn choices_of(all: &[Given<'_>]) -> Option<SplitChoices>
     let mut choices = SplitChoices {
         parts: None,
         quiet: false,
+        workers: None,
     };
     'all: for given in all {
         choices = with_given(choices, given)?;
@@ -102,16 +120,17 @@ fn files_to_split(files: Texts) -> Option<Texts>
     Some(files)
 }
 
-/// What is asked for with these parts, into these folders, of which there is to be one, and of these files.
+/// What is asked for with these options and parts, into these folders, of which there is to be one, and of these files.
 fn split_of(
-    quiet: bool,
+    choices: SplitChoices,
     parts: PartsWanted,
     folders: &Texts,
     files: Texts,
 ) -> Result<Option<SplitOptions>, AllocError>
-    requires { IsWithin parts }
-    ensures options { IfOk result (λ o. o ≡ split_of quiet parts folders.now files) }
-    ensures within { IfOk result (λ o. IfSome o (λ o. IsWithin o.parts)) }
+    requires choices { AreWithin choices }
+    requires parts { IsWithin parts }
+    ensures options { IfOk result (λ o. o ≡ split_of choices parts folders.now files) }
+    ensures within { IfOk result (λ o. IfSome o IsWithinAll) }
 {
     let Some(into) = only_text(folders)? else {
         return Ok(None);
@@ -123,7 +142,8 @@ fn split_of(
         parts,
         into,
         files,
-        quiet,
+        quiet: choices.quiet,
+        workers: choices.workers.unwrap_or(4),
     }))
 }
 
@@ -135,20 +155,20 @@ fn options_of(
 ) -> Result<Option<SplitOptions>, AllocError>
     requires { AreWithin choices }
     ensures options { IfOk result (λ o. o ≡ options_of all.now choices) }
-    ensures within { IfOk result (λ o. IfSome o (λ o. IsWithin o.parts)) }
+    ensures within { IfOk result (λ o. IfSome o IsWithinAll) }
 {
     let Some(parts) = choices.parts else {
         return Ok(None);
     };
     let folders = values_of(alloc, "--into", all)?;
     let files = values_of(alloc, "", all)?;
-    split_of(choices.quiet, parts, &folders, files)
+    split_of(choices, parts, &folders, files)
 }
 
 /// What the arguments ask for, where they are understood.
 fn asked(alloc: Global, words: &[&str]) -> Result<Option<SplitOptions>, AllocError>
     ensures options { IfOk result (λ o. o ≡ asked words.now) }
-    ensures within { IfOk result (λ o. IfSome o (λ o. IsWithin o.parts)) }
+    ensures within { IfOk result (λ o. IfSome o IsWithinAll) }
 {
     let Some((name, rest)) = words.split_first() else {
         return Ok(None);
@@ -180,7 +200,7 @@ pub fn split_asked<'a>(alloc: Global, words: &'a [&'a str]) -> Result<SplitOptio
     ensures understood { IfOk result (λ o. asked words.now ≡ Some o) }
     ensures refused { IfErr result (λ e. kind_of e ≢ ErrorKind.OutOfMemory
         → asked words.now ≡ None) }
-    ensures parts { IfOk result (λ o. IsWithin o.parts) }
+    ensures within { IfOk result IsWithinAll }
 {
     match asked(alloc, words)? {
         Some(options) => Ok(options),

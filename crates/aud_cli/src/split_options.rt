@@ -20,6 +20,8 @@ pub struct SplitOptions {
     pub files: Texts,
     /// Whether nothing is told of how much of a long input was read.
     pub quiet: bool,
+    /// How many threads there are at most: 1 to 64. The parts are the same for every number.
+    pub workers: u8,
 }
 
 /// The options that are no texts; each stands at most once.
@@ -27,4 +29,5 @@ pub struct SplitOptions {
 pub struct SplitChoices {
     pub parts: Option<PartsWanted>,
     pub quiet: bool,
+    pub workers: Option<u8>,
 }

@@ -85,9 +85,10 @@ verdict_pids c whole (pid ∷ pids) [] are = absurd are
 verdict_pids c whole (pid ∷ pids) (v ∷ verdicts) are = ap (λ p. p ∷ pids_of verdicts) are.0.0 ∙ ap (λ ps. pid ∷ ps) (verdict_pids c whole pids verdicts are.1)
 
 -- so the pids of all sessions are those that are known
-pub known_pids : (c : Cluster) (verdicts sessions : List SessionVerdict) → AreVerdicts c false (sessions_of c) verdicts
-    → AreAdded c (asked_in_vain c (recoveries_of c)) verdicts sessions → pids_of sessions ≡ pids_known c
-known_pids c verdicts sessions are added = added.are_asked ∙ ap (λ pids. with_pids pids (asked_in_vain c (recoveries_of c))) (verdict_pids c false (sessions_of c) verdicts are)
+pub known_pids : (c : Cluster) (whole : Bool) (verdicts sessions : List SessionVerdict) → AreVerdicts c whole (sessions_of c) verdicts
+    → AreAdded c whole (asked_in_vain c (recoveries_of c)) verdicts sessions → pids_of sessions ≡ pids_known c
+known_pids c whole verdicts sessions are added =
+    added.are_asked ∙ ap (λ pids. with_pids pids (asked_in_vain c (recoveries_of c))) (verdict_pids c whole (sessions_of c) verdicts are)
 
 -- ---- faults
 

@@ -46,22 +46,23 @@ with-append pids [] ys = refl
 with-append pids (x ∷ xs) ys = with-append (if has_pid pids x then pids else pids ++ x ∷ []) xs ys
 
 -- more verdicts
-added_more : (c : Cluster) (xs ys : List Text) (a b d : List SessionVerdict) → AreAdded c xs a b → AreAdded c ys b d → AreAdded c (xs ++ ys) a d
-added_more c xs ys a b d first next =
+added_more : (c : Cluster) (whole : Bool) (xs ys : List Text) (a b d : List SessionVerdict) → AreAdded c whole xs a b → AreAdded c whole ys b d → AreAdded c whole (xs ++ ys) a d
+added_more c whole xs ys a b d first next =
     record {
       others = first.others ++ next.others;
-      are_judged = All-append (IsJudged c) first.others next.others first.are_judged next.are_judged;
+      are_judged = All-append (IsJudged c whole) first.others next.others first.are_judged next.are_judged;
       are_added = next.are_added ∙ ap (λ zs. zs ++ next.others) first.are_added ∙ append_assoc a first.others next.others;
       are_asked = next.are_asked ∙ ap (λ pids. with_pids pids ys) first.are_asked ∙ sym (with-append (pids_of a) xs ys);
     }
 
 -- the same in a loop
-pub added_item : (c : Cluster) (xs : List Recovery) (i : ℕ) (x : Recovery) (a b d : List SessionVerdict) → i < length xs
-    → AreAdded c (asked_in_vain c (take i xs)) a b → AreAdded c (option_to_list (pid_in_vain c (get_or xs i x))) b d → AreAdded c (asked_in_vain c (take (i + 1) xs)) a d
-added_item c xs i x a b d h was more =
-    subst (λ pids. AreAdded c pids a d)
+pub added_item : (c : Cluster) (whole : Bool) (xs : List Recovery) (i : ℕ) (x : Recovery) (a b d : List SessionVerdict) → i < length xs
+    → AreAdded c whole (asked_in_vain c (take i xs)) a b → AreAdded c whole (option_to_list (pid_in_vain c (get_or xs i x))) b d
+    → AreAdded c whole (asked_in_vain c (take (i + 1) xs)) a d
+added_item c whole xs i x a b d h was more =
+    subst (λ pids. AreAdded c whole pids a d)
     (sym (ap (asked_in_vain c) (take_more xs i x h) ∙ flat_map-append of (take i xs) (get_or xs i x ∷ []) ∙ ap (λ t. asked_in_vain c (take i xs) ++ t) (append-nil (of (get_or xs i x)))))
-    (added_more c (asked_in_vain c (take i xs)) (of (get_or xs i x)) a b d was more)
+    (added_more c whole (asked_in_vain c (take i xs)) (of (get_or xs i x)) a b d was more)
   where
     of : Recovery → List Text
     of r = option_to_list (pid_in_vain c r)

@@ -1,12 +1,14 @@
 -- What `explain` writes, and how it ends.
-use Rattle.std.specs.Prelude.{◌≡◌, ◌-◌, ◌^◌, ◌⊎◌, ℕ, false, List, [], ◌++◌, codes, count_by, length, min, sum_by, None, Option, Some}
+use Rattle.std.specs.Prelude.{◌≡◌, ◌-◌, ◌^◌, ◌⊎◌, ℕ, List, [], ◌++◌, codes, count_by, length, min, sum_by, None, Option, Some}
 use Rattle.std.specs.List.{filter}
 use Rattle.aud_node.specs.Cluster.{Cluster, cluster_of}
 use Rattle.aud_node.specs.Recoverable.{is_recoverable}
+use Rattle.aud_input.specs.declared.part_lines.PartLines.{PartLines}
 use Rattle.aud_input.specs.declared.reading.Recorded.{Recorded}
 use Rattle.aud_input.specs.declared.reading.Size.{Size}
 use Rattle.aud_input.specs.declared.refusal.Refusal.{Refusal}
 use Rattle.aud_input.specs.Files.{AreRecorded, IsRefused}
+use Rattle.aud_input.specs.LineRuns.{taps_named}
 use Rattle.aud_cli.specs.declared.explain_options.ExplainOptions.{ExplainOptions}
 use Rattle.aud_cli.specs.declared.output_form.OutputForm.{OutputForm}
 use Rattle.aud_cli.specs.declared.output_form.OutputForm.TheVariants as asked
@@ -77,13 +79,13 @@ pub record AreFigures (options : ExplainOptions) (c : Cluster) (size : Size) (ve
   pub status_is : figures.status ≡ status_by options.fail_on (says_nothing figures.summary) verdicts (recoveries_of c)
 
 -- the output over a recording, where these are the lines of its records: the explanation of each session that is shown,
--- and the figures of all of it; sessions that clients asked for in vain and that no record names are shown too, and not
--- counted; and each pid of the words is that of one of all these
+-- by its verdict, with the whole where that is asked for, and the figures of all of it; sessions that clients asked for in
+-- vain and that no record names are shown too, and not counted; and each pid of the words is that of one of all these
 pub record IsExplaining (options : ExplainOptions) (c : Cluster) (lines : List TapLines) (size : Size) (output : OutputSeen) : Type 0 where
   pub verdicts : List SessionVerdict
-  pub are_verdicts : AreVerdicts c false (sessions_of c) verdicts
+  pub are_verdicts : AreVerdicts c options.whole (sessions_of c) verdicts
   pub sessions : List SessionVerdict
-  pub are_sessions : AreAdded c (asked_in_vain c (recoveries_of c)) verdicts sessions
+  pub are_sessions : AreAdded c options.whole (asked_in_vain c (recoveries_of c)) verdicts sessions
   pub none_missing : first_missing (pids_known c) options.pids ≡ None
   pub texts : List ℕ
   pub are_texts : AddTexts c lines (form_of options.form) (sessions_chosen c options.only options.pids sessions) [] texts
@@ -93,10 +95,21 @@ pub record IsExplaining (options : ExplainOptions) (c : Cluster) (lines : List T
   pub text_is : output.text ≡ texts ++ summary_in (form_of options.form) (timed figures.summary seconds)
   pub status_is : output.status ≡ figures.status
 
--- what is told of files, by what their readers have left: their recording explained, or their first refused line told
-abbrev pub IsTold : ExplainOptions → List (Option (List ℕ)) → OutputSeen → Type 0
-IsTold options lefts output =
-    ((read : Recorded) × AreRecorded lefts read × IsExplaining options (cluster_of read.taps) read.lines read.size output)
+-- where the lines of a part are to be named as those of the input, the part has this size
+abbrev pub IsOf : Option PartLines → Size → Type 0
+IsOf None size = Unit {0}
+IsOf (Some part) size = part.size ≡ size
+
+-- the lines of the records; where they are those of a part, named as those of the input
+abbrev pub lines_told : Option PartLines → List TapLines → List TapLines
+lines_told None lines = lines
+lines_told (Some part) lines = taps_named part.runs lines
+
+-- what is told of files, by what their readers have left: their recording explained, or their first refused line told.
+-- Where they are a part, the lines of records are named as those of the input, and a refused line as that of the part
+abbrev pub IsTold : ExplainOptions → Option PartLines → List (Option (List ℕ)) → OutputSeen → Type 0
+IsTold options part lefts output =
+    ((read : Recorded) × AreRecorded lefts read × IsOf part read.size × IsExplaining options (cluster_of read.taps) (lines_told part read.lines) read.size output)
     ⊎ ((refusal : Refusal) × IsRefused lefts refusal × (output ≡ refused_output (form_of options.form) options.files refusal))
 
 -- what is told is written as it is, or in a page that holds it
@@ -106,12 +119,21 @@ IsIn asked.Json told text = text ≡ told
 IsIn asked.Html told text = IsPage told text
 
 -- the output over files: what is told of them, in the form that the words ask for
-pub record IsExplanation (options : ExplainOptions) (lefts : List (Option (List ℕ))) (output : OutputSeen) : Type 0 where
+pub record IsExplanation (options : ExplainOptions) (part : Option PartLines) (lefts : List (Option (List ℕ))) (output : OutputSeen) : Type 0 where
   pub told : OutputSeen
-  pub is_told : IsTold options lefts told
+  pub is_told : IsTold options part lefts told
   pub is_in : IsIn options.form told.text output.text
   pub status_is : output.status ≡ told.status
 
 -- the files are recorded, and of the pids of the words the one with this number is the first that no session there has
 abbrev pub IsFirstMissing : ExplainOptions → List (Option (List ℕ)) → ℕ → Type 0
 IsFirstMissing options lefts number = (read : Recorded) × AreRecorded lefts read × (first_missing (pids_known (cluster_of read.taps)) options.pids ≡ Some number)
+
+-- the part has another size
+abbrev pub IsOther : Option PartLines → Size → Type 0
+IsOther None size = ⊥
+IsOther (Some part) size = ¬ (part.size ≡ size)
+
+-- the files are recorded, and have another size than the part whose lines are to be named
+abbrev pub AreOther : Option PartLines → List (Option (List ℕ)) → Type 0
+AreOther part lefts = (read : Recorded) × AreRecorded lefts read × IsOther part read.size

@@ -1,5 +1,5 @@
 -- The sessions that clients asked for in vain and that no record names.
-use Rattle.std.specs.Prelude.{◌≡◌, false, not, Bool, List, [], ◌∷◌, ◌++◌, flat_map, map, Option, None, option_to_list, if◌then◌else◌}
+use Rattle.std.specs.Prelude.{◌≡◌, not, Bool, List, [], ◌∷◌, ◌++◌, flat_map, map, Option, None, option_to_list, if◌then◌else◌}
 use Rattle.std.specs.List.{All, list_any}
 use Rattle.std.specs.Str.{bytes_eq}
 use Rattle.aud_base.specs.declared.places.Places.{Places}
@@ -33,17 +33,17 @@ with_pids pids (pid ∷ others) = with_pids (if has_pid pids pid then pids else 
 
 -- ---- their verdicts
 
--- this is the verdict on its session
-abbrev pub IsJudged : Cluster → SessionVerdict → Type 0
-IsJudged c session = IsVerdictOn c false session.pid session.verdict
+-- this is the verdict on its session, with or without the whole
+abbrev pub IsJudged : Cluster → Bool → SessionVerdict → Type 0
+IsJudged c whole session = IsVerdictOn c whole session.pid session.verdict
 
 abbrev pub pids_of : List SessionVerdict → List Text
 pids_of sessions = map (λ (s : SessionVerdict). s.pid) sessions
 
 -- the verdicts on those of the sessions asked for that have none yet were added
-pub record AreAdded (c : Cluster) (asked : List Text) (old new : List SessionVerdict) : Type 0 where
+pub record AreAdded (c : Cluster) (whole : Bool) (asked : List Text) (old new : List SessionVerdict) : Type 0 where
   pub others : List SessionVerdict
-  pub are_judged : All (IsJudged c) others
+  pub are_judged : All (IsJudged c whole) others
   pub are_added : new ≡ old ++ others
   pub are_asked : pids_of new ≡ with_pids (pids_of old) asked
 

@@ -6,6 +6,8 @@ use std::alloc::{AllocError, AllocFailed};
 pub enum ExplainFault {
     /// Nothing was explained, and nothing written.
     Unexplained(Unexplained),
+    /// The files have another size than the part whose lines are to be named; nothing was written.
+    OtherPart,
     /// The output could not be written.
     Write,
 }

@@ -11,7 +11,7 @@
 //! let keys = RandomState::new(&rt)?;
 //! let mut files = [Watched::new(bundle)];
 //! let mut output = Watched::new(Vec::new(alloc));
-//! let status = explain(&rt, alloc, keys, &mut files, &mut output, &options)?;
+//! let status = explain(&rt, alloc, keys, &mut files, &mut output, &options, None)?;
 //! ```
 #![tactic(auto)]
 

@@ -1,5 +1,5 @@
 //! What is written for a recording.
-ghost use Rattle.std.specs.Prelude.{◌≡◌, ◌≢◌, ◌++◌, ◌<◌, ◌≤◌, ℕ, [], IfOk, OnOk, Err, None, Some, string_bytes, false};
+ghost use Rattle.std.specs.Prelude.{◌≡◌, ◌≢◌, ◌++◌, ◌<◌, ◌≤◌, ℕ, [], IfOk, OnOk, Err, None, Some, string_bytes};
 ghost use Rattle.aud_node.specs.Cluster.{cluster_of};
 ghost use Rattle.aud_node.specs.Names.{AreNamedOnce};
 ghost use Rattle.aud_maker.specs.Sessions.{sessions_of};
@@ -23,7 +23,7 @@ use aud_cli::{ExplainOptions, OutputForm};
 use aud_client::Recording;
 use aud_desk::{AuditFault, OpenGate, Report, audit_with};
 use aud_explained::Form;
-use aud_input::{Recorded, Size};
+use aud_input::{RecordLines, Recorded, Size};
 use aud_rows::Sheet;
 use aud_summary::{Input, Summary, says_nothing, summary_json, summary_of, summary_text};
 use aud_verdict::{Output, SessionVerdict, Status};
@@ -50,19 +50,20 @@ pub(crate) fn form_of(options: &ExplainOptions) -> Form
     }
 }
 
-/// The verdicts, by so many workers.
+/// The verdicts, with or without the whole, by so many workers.
 fn judged<H: Threads + Wait + Clock + Sync>(
     rt: &H,
     alloc: Global,
     workers: u8,
+    whole: bool,
     recording: &Recording<'_>,
 ) -> Result<Report, Unexplained>
     requires { (0 < workers) × (workers ≤ 64) }
-    ensures verdicts { IfOk result (λ report. AreVerdicts recording.now false
+    ensures verdicts { IfOk result (λ report. AreVerdicts recording.now whole
         (sessions_of recording.now) report.verdicts.items) }
     ensures fault { (number : ℕ) → result ≢ Err (NoSession number) }
 {
-    match audit_with(rt, alloc, recording, workers as usize, false, &OpenGate) {
+    match audit_with(rt, alloc, recording, workers as usize, whole, &OpenGate) {
         Ok(report) => Ok(report),
         Err(AuditFault::Workers) => unreachable!(),
         Err(AuditFault::Spawn) => Err(Unexplained::Spawn),
@@ -113,7 +114,7 @@ fn input_of(size: Size, seconds: u64) -> Input
     }
 }
 
-/// The explanations, and the summary of what was read since `start`.
+/// The explanations, and the summary of what was read since `start`. The lines are those of the records.
 pub(crate) fn output_of<H: Threads + Wait + Clock + Sync>(
     rt: &H,
     alloc: Global,
@@ -121,11 +122,12 @@ pub(crate) fn output_of<H: Threads + Wait + Clock + Sync>(
     options: &ExplainOptions,
     start: Option<Instant>,
     recorded: &Recorded,
+    lines: &RecordLines,
 ) -> Result<Output, Unexplained>
     requires names { AreNamedOnce recorded.now.taps }
     requires workers { (0 < options.now.workers) × (options.now.workers ≤ 64) }
     ensures explaining { IfOk result (IsExplaining options.now
-        (cluster_of recorded.now.taps) recorded.now.lines recorded.now.size) }
+        (cluster_of recorded.now.taps) lines.now recorded.now.size) }
     ensures missing { (number : ℕ) → result ≡ Err (NoSession number)
         → first_missing (pids_known (cluster_of recorded.now.taps)) options.now.pids ≡ Some number }
 {
@@ -133,9 +135,9 @@ pub(crate) fn output_of<H: Threads + Wait + Clock + Sync>(
     let recording = Recording::read(rt, alloc, keys, threads, &recorded.taps)?;
     let sheet = Sheet {
         recording: &recording,
-        lines: &recorded.lines,
+        lines,
     };
-    let report = judged(rt, alloc, options.workers, &recording)?;
+    let report = judged(rt, alloc, options.workers, options.whole, &recording)?;
     explaining(
         rt,
         alloc,
@@ -159,7 +161,7 @@ fn explaining<H: Threads + Clock + Sync>(
     size: Size,
     verdicts: Vec<SessionVerdict>,
 ) -> Result<Output, Unexplained>
-    requires { AreVerdicts sheet.recording.now false
+    requires { AreVerdicts sheet.recording.now options.now.whole
         (sessions_of sheet.recording.now) verdicts.items }
     ensures explaining { IfOk result (IsExplaining options.now sheet.entry.recording.now
         sheet.entry.lines.now size) }
@@ -169,7 +171,14 @@ fn explaining<H: Threads + Clock + Sync>(
     let asked = Asked::read(alloc, keys, sheet.recording)?;
     let figures = figures_of(options, sheet.recording, &asked, size, &verdicts);
     let mut sessions = verdicts;
-    add_strangers(alloc, keys, sheet.recording, &asked, &mut sessions)?;
+    add_strangers(
+        alloc,
+        keys,
+        options.whole,
+        sheet.recording,
+        &asked,
+        &mut sessions,
+    )?;
     let told = told(rt, alloc, keys, options, sheet, &asked, &sessions)?;
     let mut out = told;
     let summary = timed(figures.summary, seconds_since(rt, start));

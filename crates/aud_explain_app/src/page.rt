@@ -5,7 +5,7 @@ pub(crate) const HEAD: &str = r#"<!doctype html>
 <html lang="en">
 <head>
 <meta charset="utf-8">
-<meta http-equiv="Content-Security-Policy" content="default-src 'none'; script-src 'sha256-91oAPUv8bW6F5rdPV3UFBBPMrQsXxBm0UYyVe+nEquc='; style-src 'sha256-//aajhyuqHNxML7E4rIQIFCIydyOmmTd3e7Eg+HmgMA='; base-uri 'none'; form-action 'none'; require-trusted-types-for 'script'; trusted-types 'none'">
+<meta http-equiv="Content-Security-Policy" content="default-src 'none'; script-src 'sha256-GDzg5jIL/QLbt0TknsHX5uw+wTmHT1XrrCL1fzgdgBY='; style-src 'sha256-//aajhyuqHNxML7E4rIQIFCIydyOmmTd3e7Eg+HmgMA='; base-uri 'none'; form-action 'none'; require-trusted-types-for 'script'; trusted-types 'none'">
 <meta name="viewport" content="width=device-width, initial-scale=1">
 <title>sioaudit report</title>
 <style>
@@ -180,6 +180,7 @@ const ROLES = /** @type {Record<string, string>} */ ({
   fault: "here it shows", entry: "the entry", reached: "reached here", room: "decides", left: "left after that", break: "", back: "", ask: "",
   reply: "", "fault LOST": "passes it over", "fault DOUBLED": "again", "fault SWAPPED": "too early", "fault EXTRA": "was not due",
   "fault CONTENT": "isn't the entry", "fault CHAIN": "does not fit in the turns", "fault ORPHAN": "of no known session",
+  "fault TAIL": "the last received",
 });
 
 /** @param {string | null} fault */
@@ -590,7 +591,7 @@ function dueLane(session, came, entry) {
   const { fault, also, evidence } = session;
   const positions = also.map(it => it.position);
   const shown = evidence.filter(it => it.role === "fault").map(placeOf);
-  for (const at of ["LOST", "DOUBLED", "SWAPPED"].includes(fault ?? "") ? [entry, ...positions, ...shown] : []) {
+  for (const at of ["LOST", "DOUBLED", "SWAPPED", "TAIL"].includes(fault ?? "") ? [entry, ...positions, ...shown] : []) {
     if (at && !due.runs.some(it => isIn(at, [it.from, it.to]))) due.runs.push({ from: at, to: at, lines: [], frame: 0 });
   }
   const known = due.runs.reduce((sum, it) => sum + it.to - it.from + 1, 0);

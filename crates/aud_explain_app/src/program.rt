@@ -1,13 +1,18 @@
 //! A whole run of `explain`: files in, explanations out.
-ghost use Rattle.std.specs.Prelude.{◌≡◌, ◌≢◌, ◌<◌, ◌≤◌, ℕ, true, IfOk, OnErr, Err, length, map};
+ghost use Rattle.std.specs.Prelude.{◌≡◌, ◌≢◌, ◌<◌, ◌≤◌, ℕ, true, IfErr, IfOk, OnErr, Err, Some, length, map, option_map};
 ghost use Rattle.std.specs.Io.KnownBytes.{Appends};
 ghost use Rattle.aud_base.specs.Written.{AppendsFront};
 ghost use Rattle.aud_base.specs.Watched.{inner_of, has_failed};
-ghost use Rattle.aud_explain_app.specs.Output.{IsExplanation, IsFirstMissing, IsTold};
+ghost use Rattle.aud_input.specs.LineRuns.{taps_named};
+ghost use Rattle.aud_node.specs.Cluster.{cluster_of};
+ghost use Rattle.aud_node.specs.Names.{AreNamedOnce};
+ghost use Rattle.aud_explain_app.specs.Missing.{first_missing, pids_known};
+ghost use Rattle.aud_explain_app.specs.Output.{AreOther, IsExplaining, IsExplanation, IsFirstMissing, IsOf, IsOther, IsTold, form_of, lines_told};
+ghost use Rattle.aud_explain_app.specs.RefusedLine.{refused_output};
 ghost use Rattle.aud_explain_app.specs.Run.{Writes, WritesFront};
 ghost use Rattle.aud_explain_app.specs.declared.fault.ExplainFault.TheVariants as fault;
-ghost use Rattle.aud_explain_app.specs.declared.fault.ExplainFault.TheVariants.{Write};
-ghost use Rattle.aud_explain_app.specs.declared.fault.Unexplained.TheVariants.{NoSession};
+ghost use Rattle.aud_explain_app.specs.declared.fault.ExplainFault.TheVariants.{OtherPart, Write};
+ghost use Rattle.aud_explain_app.specs.declared.fault.Unexplained.TheVariants.{Memory, NoSession};
 
 use crate::fault::{ExplainFault, Unexplained};
 use crate::html::in_form;
@@ -15,7 +20,7 @@ use crate::output::{form_of, output_of};
 use crate::refused::refused_output;
 use aud_base::{Watched, write_out};
 use aud_cli::ExplainOptions;
-use aud_input::{ReadingFault, read_files};
+use aud_input::{PartLines, ReadingFault, RecordLines, Recorded, Refusal, read_files};
 use aud_verdict::{Output, Status};
 use std::alloc::Global;
 use std::hash::RandomState;
@@ -24,6 +29,105 @@ use std::sync::Wait;
 use std::thread::Threads;
 use std::time::{Clock, Instant};
 
+/// What is told of the recording, where the lines of its records are these.
+fn told_with<H: Threads + Wait + Clock + Sync>(
+    rt: &H,
+    alloc: Global,
+    keys: RandomState,
+    options: &ExplainOptions,
+    start: Option<Instant>,
+    recorded: &Recorded,
+    lines: &RecordLines,
+) -> Result<Output, ExplainFault>
+    requires names { AreNamedOnce recorded.now.taps }
+    requires workers { (0 < options.now.workers) × (options.now.workers ≤ 64) }
+    ensures told { IfOk result (IsExplaining options.now
+        (cluster_of recorded.now.taps) lines.now recorded.now.size) }
+    ensures missing { (number : ℕ) → result ≡ Err (fault.Unexplained (NoSession number))
+        → first_missing (pids_known (cluster_of recorded.now.taps)) options.now.pids ≡ Some number }
+    ensures other { result ≢ Err OtherPart }
+    ensures write { result ≢ Err Write }
+{
+    match output_of(rt, alloc, keys, options, start, recorded, lines) {
+        Ok(output) => Ok(output),
+        Err(why) => Err(ExplainFault::Unexplained(why)),
+    }
+}
+
+/// The same of a part, its lines named as those of the input that they come from.
+fn told_named<H: Threads + Wait + Clock + Sync>(
+    rt: &H,
+    alloc: Global,
+    keys: RandomState,
+    options: &ExplainOptions,
+    start: Option<Instant>,
+    recorded: &Recorded,
+    part: &PartLines,
+) -> Result<Output, ExplainFault>
+    requires names { AreNamedOnce recorded.now.taps }
+    requires workers { (0 < options.now.workers) × (options.now.workers ≤ 64) }
+    ensures told { IfOk result (λ output. (part.now.size ≡ recorded.now.size)
+        × IsExplaining options.now (cluster_of recorded.now.taps)
+        (taps_named part.now.runs recorded.now.lines) recorded.now.size output) }
+    ensures missing { (number : ℕ) → result ≡ Err (fault.Unexplained (NoSession number))
+        → first_missing (pids_known (cluster_of recorded.now.taps)) options.now.pids ≡ Some number }
+    ensures other { result ≡ Err OtherPart → ¬ (part.now.size ≡ recorded.now.size) }
+    ensures write { result ≢ Err Write }
+{
+    if !part.is_of(recorded.size) {
+        return Err(ExplainFault::OtherPart);
+    }
+    match recorded.lines.named(alloc, &part.runs) {
+        Ok(lines) => told_with(rt, alloc, keys, options, start, recorded, &lines),
+        Err(_) => Err(ExplainFault::Unexplained(Unexplained::Memory)),
+    }
+}
+
+/// What is told of the recording, where it is this part, or a whole.
+fn told_of<H: Threads + Wait + Clock + Sync>(
+    rt: &H,
+    alloc: Global,
+    keys: RandomState,
+    options: &ExplainOptions,
+    start: Option<Instant>,
+    recorded: &Recorded,
+    part: Option<&PartLines>,
+) -> Result<Output, ExplainFault>
+    requires names { AreNamedOnce recorded.now.taps }
+    requires workers { (0 < options.now.workers) × (options.now.workers ≤ 64) }
+    ensures told { IfOk result (λ output.
+        IsOf (option_map (λ part. part.now) part.entry) recorded.now.size
+        × IsExplaining options.now (cluster_of recorded.now.taps)
+        (lines_told (option_map (λ part. part.now) part.entry) recorded.now.lines)
+        recorded.now.size output) }
+    ensures missing { (number : ℕ) → result ≡ Err (fault.Unexplained (NoSession number))
+        → first_missing (pids_known (cluster_of recorded.now.taps)) options.now.pids ≡ Some number }
+    ensures other { result ≡ Err OtherPart
+        → IsOther (option_map (λ part. part.now) part.entry) recorded.now.size }
+    ensures write { result ≢ Err Write }
+{
+    match part {
+        Some(part) => told_named(rt, alloc, keys, options, start, recorded, part),
+        None => told_with(rt, alloc, keys, options, start, recorded, &recorded.lines),
+    }
+}
+
+/// What is told of a line that is refused.
+fn told_refused(
+    alloc: Global,
+    options: &ExplainOptions,
+    refused: &Refusal,
+) -> Result<Output, ExplainFault>
+    ensures told { IfOk result (λ output. output
+        ≡ refused_output (form_of options.now.form) options.now.files refused.now) }
+    ensures fault { IfErr result (λ e. e ≡ fault.Unexplained Memory) }
+{
+    match refused_output(alloc, form_of(options), options.files.as_slice(), refused) {
+        Ok(output) => Ok(output),
+        Err(_) => Err(ExplainFault::Unexplained(Unexplained::Memory)),
+    }
+}
+
 /// What is told of the files.
 fn told<H: Threads + Wait + Clock + Sync, R: Read>(
     rt: &H,
@@ -31,24 +135,27 @@ fn told<H: Threads + Wait + Clock + Sync, R: Read>(
     keys: RandomState,
     files: &mut [Watched<R>],
     options: &ExplainOptions,
-) -> Result<Output, Unexplained>
+    part: Option<&PartLines>,
+) -> Result<Output, ExplainFault>
     requires files { 0 < length files.old }
     requires workers { (0 < options.now.workers) × (options.now.workers ≤ 64) }
-    ensures told { IfOk result (IsTold options.now
+    ensures told { IfOk result (IsTold options.now (option_map (λ part. part.now) part.entry)
         (map (λ file. R.remaining (inner_of file)) files.old)) }
-    ensures missing { (number : ℕ) → result ≡ Err (NoSession number)
+    ensures missing { (number : ℕ) → result ≡ Err (fault.Unexplained (NoSession number))
         → IsFirstMissing options.now (map (λ file. R.remaining (inner_of file)) files.old) number }
+    ensures other { result ≡ Err OtherPart
+        → AreOther (option_map (λ part. part.now) part.entry)
+        (map (λ file. R.remaining (inner_of file)) files.old) }
+    ensures write { result ≢ Err Write }
 {
     let start = Instant::now(rt).ok();
     match read_files(rt, options.workers as usize, alloc, keys, files) {
-        Ok(recorded) => output_of(rt, alloc, keys, options, start, &recorded),
-        Err(ReadingFault::Refused(refusal)) => {
-            let names = options.files.as_slice();
-            let output = refused_output(alloc, form_of(options), names, &refusal)?;
-            Ok(output)
+        Ok(recorded) => told_of(rt, alloc, keys, options, start, &recorded, part),
+        Err(ReadingFault::Refused(refusal)) => told_refused(alloc, options, &refusal),
+        Err(ReadingFault::Unread { file }) => {
+            Err(ExplainFault::Unexplained(Unexplained::Unread { file }))
         }
-        Err(ReadingFault::Unread { file }) => Err(Unexplained::Unread { file }),
-        Err(ReadingFault::Memory) => Err(Unexplained::Memory),
+        Err(ReadingFault::Memory) => Err(ExplainFault::Unexplained(Unexplained::Memory)),
     }
 }
 
@@ -59,21 +166,33 @@ fn explained<H: Threads + Wait + Clock + Sync, R: Read>(
     keys: RandomState,
     files: &mut [Watched<R>],
     options: &ExplainOptions,
-) -> Result<Output, Unexplained>
+    part: Option<&PartLines>,
+) -> Result<Output, ExplainFault>
     requires files { 0 < length files.old }
     requires workers { (0 < options.now.workers) × (options.now.workers ≤ 64) }
     ensures explanation { IfOk result (IsExplanation options.now
+        (option_map (λ part. part.now) part.entry)
         (map (λ file. R.remaining (inner_of file)) files.old)) }
-    ensures missing { (number : ℕ) → result ≡ Err (NoSession number)
+    ensures missing { (number : ℕ) → result ≡ Err (fault.Unexplained (NoSession number))
         → IsFirstMissing options.now (map (λ file. R.remaining (inner_of file)) files.old) number }
+    ensures other { result ≡ Err OtherPart
+        → AreOther (option_map (λ part. part.now) part.entry)
+        (map (λ file. R.remaining (inner_of file)) files.old) }
+    ensures write { result ≢ Err Write }
 {
-    let told = told(rt, alloc, keys, files, options)?;
-    let output = in_form(alloc, options.form, told)?;
-    Ok(output)
+    let told = match told(rt, alloc, keys, files, options, part) {
+        Ok(told) => told,
+        Err(fault) => return Err(fault),
+    };
+    match in_form(alloc, options.form, told) {
+        Ok(output) => Ok(output),
+        Err(_) => Err(ExplainFault::Unexplained(Unexplained::Memory)),
+    }
 }
 
 /// Reads the files one after the other as one input, decides, and only then writes. The files are those that the words
-/// name, in their order, or standard input where they name none.
+/// name, in their order, or standard input where they name none. Where they are a part of a recording, `part` says from
+/// which lines of it their lines come, and these are named.
 ///
 /// An audit of all sessions starts `options.workers` workers, each in a thread of its own; all else is shared out among
 /// at most so many threads, this one among them. How many they are changes nothing in what is written but the seconds,
@@ -85,17 +204,20 @@ pub fn explain<H: Threads + Wait + Clock + Sync, R: Read, W: Write>(
     files: &mut [Watched<R>],
     output: &mut Watched<W>,
     options: &ExplainOptions,
+    part: Option<&PartLines>,
 ) -> Result<Status, ExplainFault>
     requires files { 0 < length files.old }
     requires workers { (0 < options.now.workers) × (options.now.workers ≤ 64) }
     // What was written is the output over the files, whole, and the run ends as that output does.
     ensures ok { IfOk result (Writes (W.contents (inner_of output.old))
         (W.contents (inner_of output.new)) (IsExplanation options.now
+        (option_map (λ part. part.now) part.entry)
         (map (λ file. R.remaining (inner_of file)) files.old))) }
     // After a failed write a front of that output was written.
     ensures front { result ≡ Err Write
         → WritesFront (W.contents (inner_of output.old)) (W.contents (inner_of output.new))
-        (IsExplanation options.now (map (λ file. R.remaining (inner_of file)) files.old)) }
+        (IsExplanation options.now (option_map (λ part. part.now) part.entry)
+        (map (λ file. R.remaining (inner_of file)) files.old)) }
     ensures write { result ≡ Err Write → has_failed output.new ≡ true }
     // After every other fault nothing was.
     ensures nothing { OnErr result (result ≢ Err Write → output.new ≡ output.old) }
@@ -103,10 +225,14 @@ pub fn explain<H: Threads + Wait + Clock + Sync, R: Read, W: Write>(
     // nothing is explained.
     ensures missing { (number : ℕ) → result ≡ Err (fault.Unexplained (NoSession number))
         → IsFirstMissing options.now (map (λ file. R.remaining (inner_of file)) files.old) number }
+    // `OtherPart` comes where the files are recorded, and have another size than the part, and only then.
+    ensures other { result ≡ Err OtherPart
+        → AreOther (option_map (λ part. part.now) part.entry)
+        (map (λ file. R.remaining (inner_of file)) files.old) }
 {
-    match explained(rt, alloc, keys, files, options) {
+    match explained(rt, alloc, keys, files, options, part) {
         Ok(explained) => written(output, &explained),
-        Err(why) => Err(ExplainFault::Unexplained(why)),
+        Err(fault) => Err(fault),
     }
 }
 

@@ -14,23 +14,24 @@ use aud_verdict::{SessionVerdict, decide};
 use std::alloc::{AllocError, Global};
 use std::hash::RandomState;
 
-/// Adds the verdicts on those sessions, each once, in the order in which they were first asked for. Sessions are looked
+/// Adds the verdicts on those sessions, with or without the whole, each once, in the order in which they were first asked for. Sessions are looked
 /// up by these keys.
 pub(crate) fn add_strangers(
     alloc: Global,
     keys: RandomState,
+    whole: bool,
     recording: &Recording<'_>,
     asked: &Asked,
     sessions: &mut Vec<SessionVerdict>,
 ) -> Result<(), AllocError>
     requires { AreAsked recording.now asked.now }
-    ensures { OnOk result (AreAdded recording.now
+    ensures { OnOk result (AreAdded recording.now whole
         (asked_in_vain recording.now
         (recoveries_of recording.now)) sessions.old.items sessions.new.items) }
 {
     let mut known = known_of(alloc, keys, sessions)?;
     for recovery in &asked.all {
-        add_stranger(alloc, recording, &mut known, recovery, sessions)?;
+        add_stranger(alloc, whole, recording, &mut known, recovery, sessions)?;
     }
     Ok(())
 }
@@ -53,6 +54,7 @@ fn known_of(
 /// Adds the session that was asked for, if that was in vain and it is not known.
 fn add_stranger(
     alloc: Global,
+    whole: bool,
     recording: &Recording<'_>,
     known: &mut Places,
     recovery: &Recovery,
@@ -60,12 +62,12 @@ fn add_stranger(
 ) -> Result<(), AllocError>
     requires { AreKnown known.old sessions.old.items }
     ensures known { OnOk result (AreKnown known.new sessions.new.items) }
-    ensures added { OnOk result (AreAdded recording.now
+    ensures added { OnOk result (AreAdded recording.now whole
         (option_to_list (pid_in_vain recording.now recovery.now)) sessions.old.items
         sessions.new.items) }
 {
     match pid_in_vain(recording, recovery) {
-        Some(pid) => add_unknown(alloc, recording, known, pid, sessions),
+        Some(pid) => add_unknown(alloc, whole, recording, known, pid, sessions),
         None => Ok(()),
     }
 }
@@ -83,6 +85,7 @@ fn pid_in_vain<'r>(recording: &'r Recording<'_>, recovery: &Recovery) -> Option<
 /// Adds the verdict on this session, if it is not known.
 fn add_unknown(
     alloc: Global,
+    whole: bool,
     recording: &Recording<'_>,
     known: &mut Places,
     pid: &str,
@@ -90,23 +93,28 @@ fn add_unknown(
 ) -> Result<(), AllocError>
     requires { AreKnown known.old sessions.old.items }
     ensures known { OnOk result (AreKnown known.new sessions.new.items) }
-    ensures added { OnOk result (AreAdded recording.now
+    ensures added { OnOk result (AreAdded recording.now whole
         (pid.now ∷ []) sessions.old.items sessions.new.items) }
 {
     if !known.of(pid).is_empty() {
         return Ok(());
     }
     known.note(0, pid)?;
-    sessions.push(judged(alloc, recording, pid)?)?;
+    sessions.push(judged(alloc, whole, recording, pid)?)?;
     Ok(())
 }
 
 /// The verdict on the session.
-fn judged(alloc: Global, recording: &Recording<'_>, pid: &str) -> Result<SessionVerdict, AllocError>
-    ensures judged { IfOk result (IsJudged recording.now) }
+fn judged(
+    alloc: Global,
+    whole: bool,
+    recording: &Recording<'_>,
+    pid: &str,
+) -> Result<SessionVerdict, AllocError>
+    ensures judged { IfOk result (IsJudged recording.now whole) }
     ensures pid { IfOk result (λ session. session.pid ≡ pid.now) }
 {
-    let verdict = decide(alloc, recording, pid, false)?;
+    let verdict = decide(alloc, recording, pid, whole)?;
     let pid = Text::new(alloc, pid)?;
     Ok(SessionVerdict { pid, verdict })
 }

@@ -1,5 +1,5 @@
 -- All that is told of a session.
-use Rattle.std.specs.Prelude.{◌≡◌, All, List, MatchOption, is_some, map, Option, ◌&&◌}
+use Rattle.std.specs.Prelude.{◌≡◌, All, List, MatchOption, is_some, map, Option}
 use Rattle.std.specs.List.{AllZip}
 use Rattle.std.specs.Option.{option_map}
 use Rattle.aud_node.specs.Cluster.{Cluster}
@@ -11,7 +11,7 @@ use Rattle.aud_causes.specs.declared.found.CauseFound.{CauseFound}
 use Rattle.aud_causes.specs.Causes.{AreCauses, is_sure}
 use Rattle.aud_cert.specs.declared.fault.Fault.{Fault}
 use Rattle.aud_client.specs.Replies.{naming_places}
-use Rattle.aud_findings.specs.Also.{IsAlsoShown, also_seen, is_parted}
+use Rattle.aud_findings.specs.Also.{IsAlsoShown, also_seen}
 use Rattle.aud_findings.specs.ClientShown.{client_of, client_seen, only_of}
 use Rattle.aud_findings.specs.Evidence.{IsEvidence}
 use Rattle.aud_findings.specs.Received.{IsReceivedShown}
@@ -47,7 +47,7 @@ pub record IsExplained (c : Cluster) (lines : List TapLines) (pid : Text) (verdi
   pub evidence : IsEvidence c lines pid (is_some account) verdict (map row_seen told.finding.evidence.items)
   pub client : option_map client_seen told.finding.client ≡ client_of c pid (map row_seen told.finding.evidence.items)
   pub received : IsReceivedShown c pid (is_some account) verdict told.finding.account
-  pub also : IsAlsoShown c lines pid (is_some account && is_parted verdict) (map also_seen told.finding.also.items)
+  pub also : IsAlsoShown c lines pid (is_some account) verdict (map also_seen told.finding.also.items)
   pub turns : map turn_seen told.turns.items ≡ turns_told c lines pid account
   pub recoveries : AllZip (IsRefusedTold c lines) refused told.refused.items
   pub events : AreEvents c lines (only_of (naming_places c.taps pid)) pid refused told.events.items

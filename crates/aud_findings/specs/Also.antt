@@ -1,5 +1,5 @@
 -- Other entries of a session with the same fault.
-use Rattle.std.specs.Prelude.{◌≡◌, ◌⊎◌, ◌++◌, ◌&&◌, not, ℕ, suc, Bool, true, false, List, [], ◌∷◌, map, take, count_by, nat_eq, nat_lt, option_to_list, Option, if◌then◌else◌}
+use Rattle.std.specs.Prelude.{◌≡◌, ◌⊎◌, ◌++◌, ◌&&◌, ◌||◌, not, ℕ, suc, Bool, true, false, List, [], ◌∷◌, map, take, drop, count_by, nat_eq, nat_lt, option_to_list, Option, if◌then◌else◌}
 use Rattle.std.specs.List.{filter}
 use Rattle.std.specs.Option.{option_map, option_and_then}
 use Rattle.aud_node.specs.Cluster.{Cluster}
@@ -7,12 +7,13 @@ use Rattle.aud_node.specs.Stream.{Text}
 use Rattle.aud_cert.specs.declared.fault.Fault.{Fault}
 use Rattle.aud_cert.specs.declared.fault.Fault.TheVariants as fault
 use Rattle.aud_evidence.specs.declared.difference.Difference.{Difference}
-use Rattle.aud_evidence.specs.declared.difference.Difference.TheVariants.{Extra, Doubled, Swapped, Lost}
+use Rattle.aud_evidence.specs.declared.difference.Difference.TheVariants.{Doubled, Lost}
 use Rattle.aud_evidence.specs.Difference.{IsDifference}
 use Rattle.aud_evidence.specs.Window.{positions_received}
 use Rattle.aud_input.specs.TapLines.{TapLines}
 use Rattle.aud_verdict.specs.declared.verdict.Verdict.{Verdict}
 use Rattle.aud_verdict.specs.declared.verdict.Verdict.TheVariants.{Yes, No}
+use Rattle.aud_rows.specs.declared.row.Role.{Role}
 use Rattle.aud_rows.specs.declared.row.Role.TheVariants.{Entry, Later}
 use Rattle.aud_rows.specs.Rows.{stream_row}
 use Rattle.aud_rows.specs.Seen.{RowSeen}
@@ -22,7 +23,7 @@ use Rattle.aud_shown.specs.FramePlaces.{frame_at}
 use Rattle.aud_shown.specs.ShowsDifference.{AreNumbersOf}
 use Rattle.aud_verdict.specs.Session.{SessionLogs, IsSession, own_stays, due_to}
 use Rattle.aud_findings.specs.declared.finding.AlsoShown.{AlsoShown}
-use Rattle.aud_findings.specs.Received.{greatest}
+use Rattle.aud_findings.specs.Received.{greatest, tail_positions}
 use Rattle.aud_findings.specs.ShowsDelivery.{AreDueFirst}
 
 -- ---- which entries
@@ -57,13 +58,13 @@ abbrev pub line_of : Option RowSeen → List ℕ
 line_of row = option_to_list (option_map (λ (r : RowSeen). r.line) row)
 
 -- the row of the frame with this number, over the stays of the client's tap at the place with these numbers
-abbrev pub frame_row_at : Cluster → List TapLines → ℕ → List ℕ → ℕ → Option RowSeen
-frame_row_at c lines place numbers frame =
-    option_and_then (λ (at : FramePlace). frame_row c lines place at.stay at.frame Later) (frame_at (stays_at c place) numbers frame)
+abbrev pub frame_row_at : Cluster → List TapLines → ℕ → List ℕ → ℕ → Role → Option RowSeen
+frame_row_at c lines place numbers frame role =
+    option_and_then (λ (at : FramePlace). frame_row c lines place at.stay at.frame role) (frame_at (stays_at c place) numbers frame)
 
 -- its line
 abbrev pub frame_line : Cluster → List TapLines → ℕ → List ℕ → ℕ → List ℕ
-frame_line c lines place numbers frame = line_of (frame_row_at c lines place numbers frame)
+frame_line c lines place numbers frame = line_of (frame_row_at c lines place numbers frame Later)
 
 -- those of the frames of the position, of which these frames are the first and on
 abbrev pub frame_lines : Cluster → List TapLines → ℕ → List ℕ → ℕ → ℕ → List ℕ → List ℕ
@@ -106,6 +107,22 @@ pub record AreAlso (c : Cluster) (lines : List TapLines) (pid : Text) (also : Li
   pub is_session : IsSession c pid session
   pub are : AreOthers c lines pid session also ⊎ (AreDueFirst c session × (also ≡ []))
 
+-- ---- of a tail
+
+-- the first hundred of a tail's entries after its first one, ascending
+abbrev pub tail_others : List ℕ → List ℕ → List ℕ
+tail_others received due = take 100 (drop 1 (tail_positions received due))
+
+-- an entry that never came, with its line
+abbrev pub entry_also : Cluster → List TapLines → ℕ → AlsoSeen
+entry_also c lines p = record { position = p; lines = line_of (stream_row c lines p Entry) }
+
+-- these are those of the session with this pid
+pub record AreTailAlso (c : Cluster) (lines : List TapLines) (pid : Text) (also : List AlsoSeen) : Type 0 where
+  pub session : SessionLogs
+  pub is_session : IsSession c pid session
+  pub are : also ≡ map (entry_also c lines) (tail_others (positions_received (own_stays c session)) (due_to c session))
+
 -- ---- where they are told of
 
 -- the fault is that what was received parts from what was due
@@ -120,6 +137,14 @@ abbrev pub is_parted : Verdict → Bool
 is_parted (Yes got tail turns) = false
 is_parted (No fault) = is_parting fault
 
--- they are told of where they are asked for, and else there are none
-abbrev pub IsAlsoShown : Cluster → List TapLines → Text → Bool → List AlsoSeen → Type 0
-IsAlsoShown c lines pid asked also = (asked ≡ true → AreAlso c lines pid also) × (asked ≡ false → also ≡ [])
+-- the fault is a tail
+abbrev pub is_short : Verdict → Bool
+is_short (No (fault.Tail count)) = true
+is_short _ = false
+
+-- they are told of where the session's turns and its client are known, and the fault is one of these; else there are none
+abbrev pub IsAlsoShown : Cluster → List TapLines → Text → Bool → Verdict → List AlsoSeen → Type 0
+IsAlsoShown c lines pid known verdict also =
+    ((known && is_parted verdict) ≡ true → AreAlso c lines pid also)
+    × ((known && is_short verdict) ≡ true → AreTailAlso c lines pid also)
+    × ((known && (is_parted verdict || is_short verdict)) ≡ false → also ≡ [])

@@ -29,6 +29,7 @@ use Rattle.aud_recording_faults.specs.ShowsNoLog.{ShowsNoLog}
 use Rattle.aud_recording_faults.specs.ShowsOrder.{ShowsOrder, AreOrdered}
 use Rattle.aud_recording_faults.specs.ShowsOrphan.{ShowsOrphan}
 use Rattle.aud_findings.specs.ShowsDelivery.{IsDeliveryShown}
+use Rattle.aud_findings.specs.Tail.{IsTailShown}
 
 -- the rows show something, or there is nothing to show, and there are none
 abbrev pub ShowsOr : (List RowSeen → Type 0) → Type 0 → List RowSeen → Type 0
@@ -78,6 +79,7 @@ IsIn c lines pid s (Doubled off) rows = IsDeliveryShown c lines pid s rows
 IsIn c lines pid s (Swapped off) rows = IsDeliveryShown c lines pid s rows
 IsIn c lines pid s (Lost off) rows = IsDeliveryShown c lines pid s rows
 IsIn c lines pid s (Window conn) rows = AreWindowsShown c lines pid (own_stays c s) rows
+IsIn c lines pid s (Tail count) rows = IsTailShown c lines pid s rows
 IsIn c lines pid s _ rows = rows ≡ []
 
 -- the same of the session with this pid

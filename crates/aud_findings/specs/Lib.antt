@@ -7,9 +7,10 @@ pub mod Behind
 pub mod RoomRows
 pub mod BesideRows
 pub mod ShowsDelivery
-pub mod Evidence
-pub mod ClientShown
 pub mod Received
 pub mod Also
+pub mod Tail
+pub mod Evidence
+pub mod ClientShown
 -- what private contracts alone cite
 pub mod Private

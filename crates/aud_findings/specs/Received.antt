@@ -1,5 +1,6 @@
 -- What was received of what was due.
 use Rattle.std.specs.Prelude.{◌≡◌, ◌+◌, ◌&&◌, ℕ, Bool, true, false, List, [], ◌∷◌, length, max, count_by, nat_lt, Option, Some, None, MatchOption}
+use Rattle.std.specs.List.{filter}
 use Rattle.aud_node.specs.Cluster.{Cluster}
 use Rattle.aud_node.specs.Stream.{Text}
 use Rattle.aud_cert.specs.declared.fault.Fault.{Fault}
@@ -45,6 +46,10 @@ greatest (p ∷ positions) = max p (greatest positions)
 -- how many of those due are past all that were received
 abbrev pub tail_of : List ℕ → List ℕ → ℕ
 tail_of received due = count_by (nat_lt (greatest received)) due
+
+-- the tail: those due past all that were received, ascending
+abbrev pub tail_positions : List ℕ → List ℕ → List ℕ
+tail_positions received due = filter (nat_lt (greatest received)) due
 
 -- the frame at which a difference shows
 abbrev pub frame_of : Difference → ℕ

@@ -1,17 +1,19 @@
 //! The other entries that have the same fault, with the lines that show it.
-ghost use Rattle.std.specs.Prelude.{◌≡◌, ◌++◌, ◌&&◌, [], IfOk, IfSome, OnOk, if◌then◌else◌, is_some, map, option_map};
+ghost use Rattle.std.specs.Prelude.{◌≡◌, ◌++◌, [], IfOk, IfSome, OnOk, if◌then◌else◌, is_some, map, option_map};
 ghost use Rattle.aud_account.specs.Account.{IsAccount};
 ghost use Rattle.aud_rows.specs.ClientPlaces.{AreOf};
 ghost use Rattle.aud_rows.specs.declared.row.Role.TheVariants.{Entry};
 ghost use Rattle.aud_rows.specs.Rows.{stream_row};
 ghost use Rattle.aud_rows.specs.Seen.{row_seen};
 ghost use Rattle.aud_rows.specs.StayRows.{stays_at};
+ghost use Rattle.aud_rows.specs.TrueRow.{IsTrueRow};
 ghost use Rattle.aud_shown.specs.FramePlaces.{frame_at};
 ghost use Rattle.aud_recording_faults.specs.Prepared.{IsPreparedOf};
-ghost use Rattle.aud_findings.specs.Also.{AreAlso, IsAlsoShown, also_at, also_lines, also_seen, frame_line, frame_lines, frame_row_at, is_parted, is_parting, line_of};
+ghost use Rattle.aud_findings.specs.Also.{AreAlso, IsAlsoShown, also_at, also_lines, also_seen, frame_line, frame_lines, frame_row_at, is_parted, is_parting, is_short, line_of};
 
 use crate::finding::AlsoShown;
 use crate::others::others;
+use crate::tail::tail_also;
 use aud_account::{Account, positions_received};
 use aud_cert::Fault;
 use aud_client::{IndexedTranscript, Recording};
@@ -22,8 +24,8 @@ use aud_shown::{FramePlace, frame_at};
 use aud_verdict::Verdict;
 use std::alloc::{AllocError, Global};
 
-/// The other entries that have the fault, where the verdict is that what was received parts from what was due, and
-/// there is an account; else none. The tap of the client is read where it wasn't prepared.
+/// The other entries that have the fault, where the verdict is that what was received parts from what was due, or ends
+/// before it, and there is an account; else none. The tap of the client is read where it wasn't prepared.
 pub(crate) fn also_found<'r, 'a>(
     alloc: Global,
     sheet: &Sheet<'r, 'a>,
@@ -36,10 +38,11 @@ pub(crate) fn also_found<'r, 'a>(
     requires account { IfSome account (λ a. IsAccount sheet.now.recording.now pid.now a.now.client
         (map (λ stay. stay.now) a.now.stays.items) a.now.due.items) }
     ensures { IfOk result (λ also. IsAlsoShown sheet.now.recording.now sheet.now.lines.now pid.now
-        (is_some account.entry && is_parted verdict.now) (map also_seen also.items)) }
+        (is_some account.entry) verdict.now (map also_seen also.items)) }
 {
     match account {
         Some(account) if is_parted(verdict) => also_in(alloc, sheet, prepared, pid, account),
+        Some(account) if is_short(verdict) => tail_also(alloc, sheet, account),
         _ => Ok(Vec::new(alloc)),
     }
 }
@@ -87,6 +90,13 @@ fn is_parting(fault: &Fault) -> bool
         Fault::Lost(_) => true,
         _ => false,
     }
+}
+
+/// Whether the verdict is that of a tail.
+fn is_short(verdict: &Verdict) -> bool
+    ensures { result ≡ is_short verdict.now }
+{
+    matches!(verdict, Verdict::No(Fault::Tail(_)))
 }
 
 /// The other entries with the fault of the first difference between what was received of the session and what was due
@@ -185,7 +195,11 @@ fn lines_of(
 }
 
 /// The line of the entry.
-fn entry_lines(alloc: Global, sheet: &Sheet<'_, '_>, position: u64) -> Result<Vec<u64>, AllocError>
+pub(crate) fn entry_lines(
+    alloc: Global,
+    sheet: &Sheet<'_, '_>,
+    position: u64,
+) -> Result<Vec<u64>, AllocError>
     ensures { IfOk result (λ lines. lines.items
         ≡ line_of (stream_row sheet.now.recording.now sheet.now.lines.now position Entry)) }
 {
@@ -232,7 +246,7 @@ fn push_frame(
     if !is_of {
         return Ok(());
     }
-    push_line(lines, frame_row(sheet, tap, numbers, frame))
+    push_line(lines, frame_row(sheet, tap, numbers, frame, Role::Later))
 }
 
 /// Adds the line of the row, if there is one.
@@ -247,18 +261,21 @@ fn push_line(lines: &mut Vec<u64>, row: Option<Row<'_>>) -> Result<(), AllocErro
 }
 
 /// The row of the frame with this number over these stays.
-fn frame_row<'r>(
+pub(crate) fn frame_row<'r>(
     sheet: &Sheet<'r, '_>,
     tap: &ClientPlaces,
     numbers: &[usize],
     frame: usize,
+    role: Role,
 ) -> Option<Row<'r>>
     requires { AreOf sheet.now.recording.now tap.now }
-    ensures { option_map row_seen result
-        ≡ frame_row_at sheet.now.recording.now sheet.now.lines.now tap.now.place numbers.now frame }
+    ensures row { option_map row_seen result
+        ≡ frame_row_at sheet.now.recording.now sheet.now.lines.now tap.now.place numbers.now frame
+        role }
+    ensures truth { IfSome result (IsTrueRow sheet.now.recording.now sheet.now.lines.now) }
 {
     let at = place_of(sheet.recording, tap.place, numbers, frame)?;
-    sheet.frame_row(tap, at.stay, at.frame, Role::Later)
+    sheet.frame_row(tap, at.stay, at.frame, role)
 }
 
 /// Where that frame stands.

@@ -1,11 +1,11 @@
 //! What is found of a session.
-ghost use Rattle.std.specs.Prelude.{◌≡◌, ◌&&◌, IfOk, IfSome, is_some, map, option_map};
+ghost use Rattle.std.specs.Prelude.{◌≡◌, IfOk, IfSome, is_some, map, option_map};
 ghost use Rattle.aud_maker.specs.Made.{IsMade};
 ghost use Rattle.aud_account.specs.Account.{IsAccount};
 ghost use Rattle.aud_rows.specs.Seen.{row_seen};
 ghost use Rattle.aud_shown.specs.RowLists.{AreTrueRows};
 ghost use Rattle.aud_recording_faults.specs.Prepared.{IsPreparedOf};
-ghost use Rattle.aud_findings.specs.Also.{IsAlsoShown, also_seen, is_parted};
+ghost use Rattle.aud_findings.specs.Also.{IsAlsoShown, also_seen};
 ghost use Rattle.aud_findings.specs.Received.{IsReceivedShown};
 ghost use Rattle.aud_findings.specs.ClientShown.{client_of, client_seen};
 ghost use Rattle.aud_findings.specs.Evidence.{IsEvidence};
@@ -41,7 +41,7 @@ pub struct Finding<'r> {
     /// The records that show the fault.
     pub evidence: Vec<Row<'r>>,
     /// The other entries with the same fault, at most a hundred: of one that came twice those that came twice too, of
-    /// one that was lost those that were passed over too. None of other faults.
+    /// one that was lost those that were passed over too, of a tail those after its first one. None of other faults.
     pub also: Vec<AlsoShown>,
 }
 
@@ -70,7 +70,7 @@ pub fn finding_of<'r, 'a>(
         (is_some account.entry) verdict.now found.account) }
     ensures also { IfOk result (λ found.
         IsAlsoShown sheet.entry.recording.now sheet.entry.lines.now pid.now
-        (is_some account.entry && is_parted verdict.now) (map also_seen found.also.items)) }
+        (is_some account.entry) verdict.now (map also_seen found.also.items)) }
 {
     let evidence = evidence_of(alloc, &sheet, prepared, pid, verdict, account)?;
     let client = client_of(alloc, &sheet, pid, &evidence)?;

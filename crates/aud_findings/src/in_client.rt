@@ -9,6 +9,7 @@ ghost use Rattle.aud_recording_faults.specs.Prepared.{IsPreparedOf};
 ghost use Rattle.aud_findings.specs.Evidence.{AreAlteredShown, AreNamesShown, AreOrphansShown, AreFramesShown, AreWindowsShown, IsOfSession};
 
 use crate::delivery::delivery_evidence;
+use crate::tail::tail_evidence;
 use aud_account::Account;
 use aud_cert::Fault;
 use aud_recording_faults::{Prepared, frame_shown, names_shown, numbers_naming, orphan_shown};
@@ -48,6 +49,7 @@ pub(crate) fn client_evidence<'r, 'a>(
         Fault::Swapped(_) => delivery_evidence(alloc, sheet, tap, pid, account),
         Fault::Lost(_) => delivery_evidence(alloc, sheet, tap, pid, account),
         Fault::Window(_) => window_evidence(alloc, sheet, tap, pid, account),
+        Fault::Tail(_) => tail_evidence(alloc, sheet, tap, pid, account),
         _ => Ok(Vec::new(alloc)),
     }
 }

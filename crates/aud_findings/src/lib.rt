@@ -29,6 +29,7 @@ mod in_client;
 mod others;
 mod rooms;
 mod seen;
+mod tail;
 
 pub use aud_recording_faults::{Prepared, PreparedTap};
 pub use finding::{AlsoShown, Finding, finding_of};

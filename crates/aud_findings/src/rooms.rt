@@ -150,7 +150,7 @@ fn one_room_row<'r>(
 }
 
 /// Where the session of these turns first reached the position.
-fn reach_of(logs: &Logs<'_>, turns: &[Turn<'_>], position: u64) -> Option<Reach>
+pub(crate) fn reach_of(logs: &Logs<'_>, turns: &[Turn<'_>], position: u64) -> Option<Reach>
     ensures { result ≡ reach_of logs.now (map (turn_at logs.now) turns.now) position }
 {
     first_reach(logs, turns, position)

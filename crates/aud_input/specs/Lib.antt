@@ -5,6 +5,7 @@ pub mod Reader
 pub mod Pieces
 pub mod LineName
 pub mod TapLines
+pub mod LineRuns
 pub mod Sources
 pub mod RecordLines
 pub mod FileLine

@@ -32,6 +32,9 @@
 //! let read = read_files(&rt, 1, alloc, RandomState::new(&rt)?, &mut files)?;
 //! assert_eq!(rt; read.lines.line_of(0, 0), Some(2));
 //! ```
+//!
+//! Where the files are a part of a recording, [`LineRuns`] says from which lines of it those of the part come, and
+//! [`RecordLines::named`] names these.
 #![tactic(auto)]
 
 mod batch;
@@ -40,7 +43,9 @@ mod index;
 mod input;
 mod law;
 mod line_laws;
+mod line_runs;
 mod name;
+mod part_lines;
 mod parts;
 mod place;
 mod reader;
@@ -53,8 +58,11 @@ pub use feeding::READ_LIMIT;
 pub use input::{Input, Layout};
 pub use law::input_in_any_pieces;
 pub use line_laws::{
-    first_lines_of_taps, lines_of_files, lines_of_records, records_have_their_lines,
+    first_lines_of_taps, lines_are_named, lines_of_files, lines_of_records,
+    records_have_their_lines,
 };
+pub use line_runs::{LineRun, LineRuns};
+pub use part_lines::PartLines;
 pub use place::{FileLine, file_line};
 pub use reader::InputReader;
 pub use reading::{ReadingFault, Recorded, Size, read_files, read_input};

@@ -1,4 +1,5 @@
 //! What the index says of the records that are read.
+ghost use Rattle.aud_input.specs.LineRuns.{NamesLines};
 ghost use Rattle.aud_input.specs.RecordLines.{FirstKeptIsFirst, KeptAreLinesOfRecords, RecordsHaveTheirLines};
 ghost use Rattle.aud_input.specs.Sources.{LinesAreThoseOfFiles};
 
@@ -29,4 +30,10 @@ pub fn first_lines_of_taps()
 /// then those of the next, up to the last file's.
 pub fn lines_of_files()
     ensures { LinesAreThoseOfFiles }
+{}
+
+/// What [`RecordLines::named`](crate::RecordLines::named) gives for a record of a part is the line of the input that the
+/// line of that record comes from. It is known where that of each line of the record's tap is.
+pub fn lines_are_named()
+    ensures { NamesLines }
 {}

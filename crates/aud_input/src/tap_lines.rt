@@ -1,7 +1,9 @@
 //! The lines of each tap.
 ghost use Rattle.std.specs.Prelude.{◌≡◌, ◌++◌, ◌∷◌, [], OnOk, IfOk};
+ghost use Rattle.aud_input.specs.LineRuns.{line_in, numbers_named, tap_named, taps_named};
 ghost use Rattle.aud_input.specs.TapLines.{first_kept, first_like, kept_line};
 
+use crate::line_runs::LineRuns;
 use crate::name::name_of;
 use aud_tap::Text;
 use std::alloc::{AllocError, Global};
@@ -41,6 +43,43 @@ impl TapLines {
         self.numbers.push(number)?;
         Ok(())
     }
+
+    /// The same tap, where its lines come from these lines of an input: named as those.
+    fn named(&self, alloc: Global, lines: &[u64]) -> Result<TapLines, AllocError>
+        ensures { IfOk result (λ tap. tap ≡ tap_named lines.now self.now) }
+    {
+        let name = self.name.share()?;
+        let mut numbers = Vec::new(alloc);
+        push_named(&mut numbers, lines, &self.numbers)?;
+        Ok(TapLines { name, numbers })
+    }
+}
+
+/// The line of the input that the part's line of this number comes from, where it is one of the first 4,294,967,294.
+fn line_in(lines: &[u64], number: u32) -> Option<u32>
+    ensures { result ≡ line_in lines.now number }
+{
+    let place = number.checked_sub(1)?;
+    let line = *lines.get(place as usize)?;
+    if line < u64::from(u32::MAX) {
+        Some(line as u32)
+    } else {
+        None
+    }
+}
+
+/// Adds the lines of the input that these lines of the part come from, up to the first that isn't known.
+fn push_named(named: &mut Vec<u32>, lines: &[u64], numbers: &[u32]) -> Result<(), AllocError>
+    ensures { OnOk result (named.new.items
+        ≡ named.old.items ++ numbers_named lines.now numbers.now) }
+{
+    for number in numbers {
+        let Some(line) = line_in(lines, *number) else {
+            return Ok(());
+        };
+        named.push(line)?;
+    }
+    Ok(())
 }
 
 /// The line of each record.
@@ -95,5 +134,18 @@ impl RecordLines {
         ensures { result ≡ first_like self.now line.now }
     {
         first_kept(&self.taps, name_of(line)?)
+    }
+
+    /// The lines of the same records, where all are lines of a part that come from these of an input: the lines of the
+    /// input. Of a tap none is known from the first line on that comes from one after the 4,294,967,294th, or from none.
+    pub fn named(&self, alloc: Global, runs: &LineRuns) -> Result<RecordLines, AllocError>
+        ensures { IfOk result (λ named. named ≡ taps_named runs.now self.now) }
+    {
+        let lines = runs.lines(alloc)?;
+        let mut taps = Vec::new(alloc);
+        for tap in &self.taps {
+            taps.push(tap.named(alloc, &lines)?)?;
+        }
+        Ok(RecordLines { taps })
     }
 }

@@ -13,7 +13,7 @@ use Rattle.aud_parts.specs.LeftOut.{keeps_record, keeps_first, tell_of}
 use Rattle.aud_parts.specs.Part.{is_among, names_session}
 use Rattle.aud_parts.specs.Plan.{client_pids, all_mentions, part_of, is_in, pids_in}
 use Rattle.aud_parts.specs.Together.{without_clients, IsPlanOf, KeepsTogether}
-use Rattle.aud_parts.specs.declared.measured.MeasuredClient.{MeasuredClient}
+use Rattle.aud_parts.specs.declared.clients.measured.MeasuredClient.{MeasuredClient}
 use Rattle.aud_parts.specs.declared.plan.Plan.{Plan}
 use Rattle.aud_parts.proofs.PlanLemmas.{AreDistinct, TapTogether, FirstTogether, distinct-first, among-with, kept-with, tells-all, one-of-these, one_part, taps_together, firsts_together, nodes-same, clients-same}
 use Rattle.aud_parts.proofs.PartClients.{came_to_part}

@@ -10,6 +10,8 @@ pub mod PlanLemmas
 pub mod CutLemmas
 pub mod NumberLemmas
 pub mod ListingLemmas
+pub mod NamedLinesLemmas
+pub mod ServerLinesLemmas
 pub mod PartLemmas
 pub mod ReportLemmas
 pub mod SlotLemmas
@@ -19,4 +21,11 @@ pub mod CameLemmas
 pub mod PartClients
 pub mod KeptTogether
 pub mod TapLines
+pub mod NotedLemmas
+pub mod PieceLemmas
+pub mod RefusalLemmas
+pub mod LineRunLemmas
+pub mod FileRunLemmas
+pub mod IndexLemmas
+pub mod LookLemmas
 pub mod MergedLinesLemmas

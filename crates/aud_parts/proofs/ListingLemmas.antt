@@ -16,8 +16,8 @@ use Rattle.aud_tap.specs.Limits.{fits, max_id}
 use Rattle.aud_tap.specs.WellFormed.{is_session_id}
 use Rattle.aud_parts.specs.declared.listing.Listing.{Listing}
 use Rattle.aud_parts.specs.declared.listing.ListedSession.{ListedSession}
-use Rattle.aud_parts.specs.declared.listing_fault.ListingFault.{ListingFault}
-use Rattle.aud_parts.specs.declared.listing_fault.ListingFault.TheVariants.{NoListing, CutShort, NoPart, NoPid, PidTwice, EmptyPart}
+use Rattle.aud_parts.specs.declared.listing.fault.ListingFault.{ListingFault}
+use Rattle.aud_parts.specs.declared.listing.fault.ListingFault.TheVariants.{NoListing, CutShort, NoPart, NoPid, PidTwice, EmptyPart}
 use Rattle.aud_parts.specs.Cut.{cut_at, whole_lines, number_in, after_prefix}
 use Rattle.aud_parts.specs.Listing.{Gives, session_line, listing_text, are_within, are_formed, are_new, is_full, is_listing, number_under, counts_in_words, counts_in, session_of_words, session_in, sessions_in, checked, listing_after, listing_in, unended_fault, listing_of}
 use Rattle.aud_parts.proofs.CutLemmas.{has_byte, cut-after, lines-ended, lines-flat}

@@ -18,9 +18,9 @@ use Rattle.aud_verdict.specs.declared.verdict.SessionVerdict.{SessionVerdict}
 use Rattle.aud_verdict.specs.Report.{report_text}
 use Rattle.aud_parts.specs.declared.listing.Listing.{Listing}
 use Rattle.aud_parts.specs.declared.listing.ListedSession.{ListedSession}
-use Rattle.aud_parts.specs.declared.merge_fault.ReportFault.{ReportFault}
-use Rattle.aud_parts.specs.declared.merge_fault.ReportFault.TheVariants.{Doubled}
-use Rattle.aud_parts.specs.declared.merge_fault.MergeFault.TheVariants.{Report, Missing}
+use Rattle.aud_parts.specs.declared.merging.fault.ReportFault.{ReportFault}
+use Rattle.aud_parts.specs.declared.merging.fault.ReportFault.TheVariants.{Doubled}
+use Rattle.aud_parts.specs.declared.merging.fault.MergeFault.TheVariants.{Report, Missing}
 use Rattle.aud_parts.specs.declared.merging.MergeAnswer.TheVariants.{Whole}
 use Rattle.aud_parts.specs.Listing.{is_of_part, pids_of_part, pids_by_part, are_within, are_formed, are_new, is_full, is_listing}
 use Rattle.aud_parts.specs.ReportLines.{ReportLine, pids_of}

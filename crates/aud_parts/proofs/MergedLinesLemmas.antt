@@ -8,9 +8,9 @@ use Rattle.aud_base.specs.Lists.{numbers_from}
 use Rattle.aud_node.specs.Stream.{Text}
 use Rattle.aud_parts.specs.declared.listing.Listing.{Listing}
 use Rattle.aud_parts.specs.declared.listing.ListedSession.{ListedSession}
-use Rattle.aud_parts.specs.declared.merge_fault.ReportFault.{ReportFault}
-use Rattle.aud_parts.specs.declared.merge_fault.MergeFault.{MergeFault}
-use Rattle.aud_parts.specs.declared.merge_fault.MergeFault.TheVariants.{Missing}
+use Rattle.aud_parts.specs.declared.merging.fault.ReportFault.{ReportFault}
+use Rattle.aud_parts.specs.declared.merging.fault.MergeFault.{MergeFault}
+use Rattle.aud_parts.specs.declared.merging.fault.MergeFault.TheVariants.{Missing}
 use Rattle.aud_parts.specs.declared.merging.Merged.{Merged}
 use Rattle.aud_parts.specs.declared.merging.MergeAnswer.TheVariants.{Whole}
 use Rattle.aud_parts.specs.Listing.{is_of_part, pids_of_part, pids_by_part}

@@ -24,7 +24,7 @@ use Rattle.aud_parts.specs.Part.{is_among, is_kept_tap, left_for, came_to_some}
 use Rattle.aud_parts.specs.ClientFacts.{is_one_of}
 use Rattle.aud_parts.specs.Plan.{client_pids, is_part, part_of, is_in, pids_in, came_with, came_in, has_its_part, IsClientIn}
 use Rattle.aud_parts.specs.Together.{IsToldBy}
-use Rattle.aud_parts.specs.declared.measured.MeasuredClient.{MeasuredClient}
+use Rattle.aud_parts.specs.declared.clients.measured.MeasuredClient.{MeasuredClient}
 use Rattle.aud_parts.specs.declared.plan.Plan.{Plan}
 use Rattle.aud_parts.proofs.PlanLemmas.{all_at, one_part, tap-names}
 

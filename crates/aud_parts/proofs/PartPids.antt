@@ -9,7 +9,7 @@ use Rattle.std.proofs.lemmas.Option.{slice_get_past}
 use Rattle.aud_base.proofs.Lists.{drop_at, element_at}
 use Rattle.aud_node.specs.Stream.{Text}
 use Rattle.aud_parts.specs.Plan.{is_part, pids_with, came_with}
-use Rattle.aud_parts.specs.declared.measured.MeasuredClient.{MeasuredClient}
+use Rattle.aud_parts.specs.declared.clients.measured.MeasuredClient.{MeasuredClient}
 
 -- from a session on: it, where it has the part, and those after it
 pids_with-from : (part : ℕ) (pids : List Text) (parts : List ℕ) (i : ℕ) (pid : Text) (own : ℕ) → slice_get pids i ≡ Some pid → slice_get parts i ≡ Some own

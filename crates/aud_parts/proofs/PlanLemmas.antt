@@ -33,7 +33,7 @@ use Rattle.aud_parts.specs.LeftOut.{keeps_pid, keeps_record, keeps_first, begins
 use Rattle.aud_parts.specs.Part.{is_among, names_session}
 use Rattle.aud_parts.specs.Plan.{client_pids, number_of, is_part, part_of, is_in, pids_with, has_its_part, IsClientIn, StaysWhole}
 use Rattle.aud_parts.specs.Together.{without_clients, IsToldBy}
-use Rattle.aud_parts.specs.declared.measured.MeasuredClient.{MeasuredClient}
+use Rattle.aud_parts.specs.declared.clients.measured.MeasuredClient.{MeasuredClient}
 use Rattle.aud_parts.specs.declared.plan.Plan.{Plan}
 
 -- ---- each session is given once

@@ -13,7 +13,9 @@ use Rattle.aud_node.specs.Cluster.{Cluster, cluster_of, stream_of, entries_or}
 use Rattle.aud_node.specs.Lists.{is_empty}
 use Rattle.aud_node.specs.Recoverable.{is_recoverable}
 use Rattle.aud_node.specs.Stream.{Text}
-use Rattle.aud_upgrade.specs.Upgraded.{upgraded_records, upgraded_tap, upgraded}
+use Rattle.aud_upgrade.specs.declared.joins.Joins.{Joins}
+use Rattle.aud_upgrade.specs.declared.joins.Joins.TheVariants.{TakeAndTakes}
+use Rattle.aud_upgrade.specs.Upgraded.{upgraded_records, upgraded_tap, with_runs}
 use Rattle.aud_parts.specs.LeftOut.{keeps_record, records_left, tap_left}
 use Rattle.aud_parts.specs.MadeOther.{any_record, entry_left, entries_left, tap_with_others}
 use Rattle.aud_parts.specs.Part.{is_among, is_kept_tap, left_for, opens_nsp, grants, is_for_some, came_to_some, is_kept_entry, part_for}
@@ -77,10 +79,10 @@ others-client keeps (Stream recs) = refl
 others-client keeps (Node recs) = refl
 others-client keeps (Client recs) = refl
 
-upgraded-client : (stream : List StreamRec) (records : Records) → is_client (upgraded_records stream records) ≡ is_client records
-upgraded-client stream (Stream recs) = refl
-upgraded-client stream (Node recs) = refl
-upgraded-client stream (Client recs) = refl
+upgraded-client : (joins : Joins) (stream : List StreamRec) (records : Records) → is_client (upgraded_records joins stream records) ≡ is_client records
+upgraded-client joins stream (Stream recs) = refl
+upgraded-client joins stream (Node recs) = refl
+upgraded-client joins stream (Client recs) = refl
 
 -- the stream's entries
 without-stream : (taps : List Tap) → stream_of (without_clients taps) ≡ stream_of taps
@@ -191,9 +193,9 @@ module _ (pids : List Text) (came : List ℕ) (whole : List Tap) (one_stream : H
       ap (map (tap_with entries)) servers-left
       ∙ same-each whole one_stream
       ∙ sym (without-map (tap_with_others keeps) (λ tap. others-client keeps tap.records) left) in
-      ap upgraded same
-      ∙ ap (λ stream. map (upgraded_tap stream) (without_clients with_others)) (without-stream with_others)
-      ∙ sym (without-map (upgraded_tap (stream_of with_others)) (λ tap. upgraded-client (stream_of with_others) tap.records) with_others)
+      ap with_runs same
+      ∙ ap (λ stream. map (upgraded_tap TakeAndTakes stream) (without_clients with_others)) (without-stream with_others)
+      ∙ sym (without-map (upgraded_tap TakeAndTakes (stream_of with_others)) (λ tap. upgraded-client TakeAndTakes (stream_of with_others) tap.records) with_others)
 
 -- these taps are the part's of each recording
 pub part-of_each : (pids : List Text) (came : List ℕ) (c : Cluster) (part : List Tap) → part ≡ part_taps pids came c → IsPartOfEach pids came c part

@@ -1,6 +1,6 @@
 -- The first of the lines that are refused.
 use Rattle.std.specs.Prelude.{nat_le, Option, Some, None, if◌then◌else◌}
-use Rattle.aud_parts.specs.declared.first_refusal.RefusedLine.{RefusedLine}
+use Rattle.aud_parts.specs.declared.tap_index.first_refusal.RefusedLine.{RefusedLine}
 
 -- of these lines the one with the lesser number
 abbrev pub first_refused : Option RefusedLine → RefusedLine → Option RefusedLine

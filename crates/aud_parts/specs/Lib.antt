@@ -1,3 +1,4 @@
+pub use Rattle.aud_input.specs.LineRuns
 pub use Rattle.aud_upgrade.specs.Upgraded
 pub use Rattle.aud_maker.specs.Sessions
 pub use Rattle.aud_verdict.specs.Verdict
@@ -14,6 +15,11 @@ pub mod Listing
 pub mod ReportLines
 pub mod Merged
 pub mod MergeLaws
+pub mod NamedLines
+pub mod ServerLines
+pub use Rattle.aud_input.specs.LineName
 pub mod TapRuns
+pub mod FileLines
+pub mod IndexSoFar
 pub mod FirstRefusal
 pub mod Private

@@ -10,8 +10,8 @@ use Rattle.aud_node.specs.Lists.{is_empty}
 use Rattle.aud_node.specs.Stream.{Text}
 use Rattle.aud_parts.specs.declared.listing.Listing.{Listing}
 use Rattle.aud_parts.specs.declared.listing.ListedSession.{ListedSession}
-use Rattle.aud_parts.specs.declared.listing_fault.ListingFault.{ListingFault}
-use Rattle.aud_parts.specs.declared.listing_fault.ListingFault.TheVariants.{NoListing, CutShort, NoPart, NoPid, PidTwice, EmptyPart, Memory}
+use Rattle.aud_parts.specs.declared.listing.fault.ListingFault.{ListingFault}
+use Rattle.aud_parts.specs.declared.listing.fault.ListingFault.TheVariants.{NoListing, CutShort, NoPart, NoPid, PidTwice, EmptyPart, Memory}
 use Rattle.aud_parts.specs.Cut.{cut_at, whole_lines, number_in, after_prefix}
 
 -- ---- the text

@@ -9,10 +9,10 @@ use Rattle.aud_base.specs.Steps.{◌>>=◌, need, guard}
 use Rattle.aud_node.specs.Stream.{Text}
 use Rattle.aud_parts.specs.declared.listing.Listing.{Listing}
 use Rattle.aud_parts.specs.declared.listing.ListedSession.{ListedSession}
-use Rattle.aud_parts.specs.declared.merge_fault.ReportFault.{ReportFault}
-use Rattle.aud_parts.specs.declared.merge_fault.ReportFault.TheVariants.{Refused, NotWhole, OtherSplit, Doubled}
-use Rattle.aud_parts.specs.declared.merge_fault.MergeFault.{MergeFault}
-use Rattle.aud_parts.specs.declared.merge_fault.MergeFault.TheVariants.{Report, Missing}
+use Rattle.aud_parts.specs.declared.merging.fault.ReportFault.{ReportFault}
+use Rattle.aud_parts.specs.declared.merging.fault.ReportFault.TheVariants.{Refused, NotWhole, OtherSplit, Doubled}
+use Rattle.aud_parts.specs.declared.merging.fault.MergeFault.{MergeFault}
+use Rattle.aud_parts.specs.declared.merging.fault.MergeFault.TheVariants.{Report, Missing}
 use Rattle.aud_parts.specs.declared.merging.Merged.{Merged}
 use Rattle.aud_parts.specs.declared.merging.MergeAnswer.{MergeAnswer}
 use Rattle.aud_parts.specs.declared.merging.MergeAnswer.TheVariants.{Whole, Faults}

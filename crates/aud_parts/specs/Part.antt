@@ -14,7 +14,7 @@ use Rattle.aud_node.specs.Recoverable.{is_recoverable}
 use Rattle.aud_node.specs.Cluster.{Cluster, cluster_of, is_stream, node_recs}
 use Rattle.aud_node.specs.NodeTaps.{client_recs}
 use Rattle.aud_client.specs.Replies.{is_naming}
-use Rattle.aud_upgrade.specs.Upgraded.{upgraded}
+use Rattle.aud_upgrade.specs.Upgraded.{with_runs}
 use Rattle.aud_parts.specs.LeftOut.{tell_of, without_records, without_taps, keeps_record, keeps_first}
 use Rattle.aud_parts.specs.MadeOther.{any_record, tell_event, with_others}
 
@@ -67,7 +67,7 @@ is_kept_entry taps entry =
 -- the taps that are left, all other entries `other`, in version 2 with the takes of the nodes as runs
 abbrev pub part_for : List Text → List Tap → List Tap
 part_for pids taps =
-    upgraded (with_others (is_kept_entry (left_for pids taps).taps) (left_for pids taps)).taps
+    with_runs (with_others (is_kept_entry (left_for pids taps).taps) (left_for pids taps)).taps
 
 -- ---- which sessions make a part
 

@@ -10,7 +10,7 @@ use Rattle.aud_tap.specs.RecordFields.{offset_of}
 use Rattle.aud_node.specs.Stream.{Text, entry}
 use Rattle.aud_node.specs.Recoverable.{is_recoverable}
 use Rattle.aud_node.specs.Cluster.{Cluster, cluster_of, stream_of, entries_or}
-use Rattle.aud_upgrade.specs.Upgraded.{upgraded}
+use Rattle.aud_upgrade.specs.Upgraded.{with_runs}
 use Rattle.aud_parts.specs.MadeOther.{entry_left}
 use Rattle.aud_parts.specs.Part.{left_for, is_for_some, came_to_some, part_for}
 
@@ -60,7 +60,7 @@ tap_with entries tap = record { name = tap.name; version = tap.version; records 
 
 -- the taps that the part keeps, with its entries, in version 2 with the takes of the nodes as runs
 abbrev pub part_taps : List Text → List ℕ → Cluster → List Tap
-part_taps pids came c = upgraded (map (tap_with (part_entries pids came c)) (servers_left pids c.taps))
+part_taps pids came c = with_runs (map (tap_with (part_entries pids came c)) (servers_left pids c.taps))
 
 -- ---- of which recordings it is the part
 

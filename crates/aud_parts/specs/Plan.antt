@@ -11,7 +11,7 @@ use Rattle.aud_node.specs.Stream.{Text}
 use Rattle.aud_node.specs.Cluster.{node_recs}
 use Rattle.aud_node.specs.NamedPids.{node_pids}
 use Rattle.aud_parts.specs.LeftOut.{keeps_record, is_started}
-use Rattle.aud_parts.specs.declared.measured.MeasuredClient.{MeasuredClient}
+use Rattle.aud_parts.specs.declared.clients.measured.MeasuredClient.{MeasuredClient}
 use Rattle.aud_parts.specs.declared.plan.Plan.{Plan}
 
 -- ---- the sessions

@@ -4,3 +4,4 @@ pub mod Kept
 pub mod Marks
 pub mod PartPlaces
 pub mod Slots
+pub mod IndexSteps

@@ -1,17 +1,11 @@
 -- The lines of a tap, by the bytes that they stand in.
-use Rattle.std.specs.Prelude.{ℕ, ◌+◌, List, [], ◌∷◌, ◌++◌, Option, Some, None, option_map, position, take, ◌==◌, if◌then◌else◌}
-use Rattle.std.specs.Option.{option_and_then}
-use Rattle.aud_tap.specs.declared.taps.Records.{Records}
-use Rattle.aud_tap.specs.declared.taps.Records.TheVariants as records
-use Rattle.aud_tap.specs.Forms.{passing}
-use Rattle.aud_tap.specs.TapName.{is_tap_name}
+use Rattle.std.specs.Prelude.{ℕ, ◌+◌, List, [], ◌∷◌, ◌++◌, get_or, if◌then◌else◌}
+use Rattle.std.specs.List.{flat_map}
+use Rattle.aud_base.specs.Lists.{between}
 use Rattle.aud_node.specs.Lists.{is_empty}
 use Rattle.aud_reader.specs.declared.line.Line.{Line}
-use Rattle.aud_reader.specs.Lines.{without_return}
-
--- what stands before a line's first blank, where that is a tap's name
-abbrev pub name_of : List ℕ → Option (List ℕ)
-name_of line = option_and_then (passing is_tap_name) (option_map (λ i. take i line) (position (λ b. b == 32) line))
+use Rattle.aud_reader.specs.Lines.{line_pieces, without_return}
+use Rattle.aud_parts.specs.declared.tap_index.tap_runs.Run.{Run}
 
 -- the line of this number and text, if it has bytes
 abbrev pub line_with_bytes : ℕ → List ℕ → List Line
@@ -24,12 +18,23 @@ abbrev pub lines_with_bytes : ℕ → List (List ℕ) → List Line
 lines_with_bytes n [] = []
 lines_with_bytes n (text ∷ texts) = line_with_bytes n text ++ lines_with_bytes (n + 1) texts
 
+-- a tap by its name, with the runs of its lines
+pub record TapRuns : Type 0 where
+  pub name : List ℕ
+  pub runs : List Run
+
+-- the bytes of a run of one of these files; files and bytes count from 0
+abbrev pub run_bytes : List (List ℕ) → Run → List ℕ
+run_bytes files run = between (get_or files run.file []) run.from run.to
+
+-- the lines of a run that have bytes
+abbrev pub run_lines : List (List ℕ) → Run → List Line
+run_lines files run = lines_with_bytes run.number (line_pieces (run_bytes files run))
+
+-- the lines of runs, one run's after the other's
+abbrev pub runs_lines : List (List ℕ) → List Run → List Line
+runs_lines files runs = flat_map (run_lines files) runs
+
 -- the line with the newline that ends it
 abbrev pub ended : Line → List ℕ
 ended line = line.bytes ++ 10 ∷ []
-
--- the records, unless they are a client's
-abbrev pub server_of : Records → Option Records
-server_of (records.Stream entries) = Some (records.Stream entries)
-server_of (records.Node recs) = Some (records.Node recs)
-server_of (records.Client recs) = None

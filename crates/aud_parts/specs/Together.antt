@@ -14,7 +14,7 @@ use Rattle.aud_maker.specs.Sessions.{reply_pids, sessions_of}
 use Rattle.aud_parts.specs.Part.{is_among, left_for, came_to_some, KeepsClients, KeepsFirsts}
 use Rattle.aud_parts.specs.ClientFacts.{is_one_of, TellEvents}
 use Rattle.aud_parts.specs.Plan.{client_pids, all_mentions, pids_in, came_in, IsClosed}
-use Rattle.aud_parts.specs.declared.measured.MeasuredClient.{MeasuredClient}
+use Rattle.aud_parts.specs.declared.clients.measured.MeasuredClient.{MeasuredClient}
 use Rattle.aud_parts.specs.declared.plan.Plan.{Plan}
 
 -- the taps of the stream and of the nodes

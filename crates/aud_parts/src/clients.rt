@@ -1,18 +1,26 @@
 //! What the clients' taps tell.
-use crate::facts::client_facts;
-use crate::first_refusal::FirstRefusal;
-use crate::indexed_taps::IndexedTaps;
-use crate::measured::MeasuredClient;
-use crate::run_source::RunSource;
-use crate::tap_lines::client_header;
-use crate::tap_reading::{TapRead, read_tap};
-use crate::tap_runs::TapRuns;
-use aud_base::RunFault;
+pub mod facts;
+pub mod measured;
+
+use crate::clients::facts::client_facts;
+use crate::clients::measured::MeasuredClient;
+use crate::tap_index::first_refusal::{FirstRefusal, RefusedLine};
+use crate::tap_index::indexed_taps::IndexedTaps;
+use crate::tap_index::run_source::RunSource;
+use crate::tap_index::tap_lines::client_header;
+use crate::tap_index::tap_reading::{TapRead, read_held, read_tap};
+use crate::tap_index::tap_runs::TapRuns;
+use aud_base::{RunFault, try_map};
 use aud_node::Stream;
 use aud_reader::ReadFault;
 use aud_tap::{Records, Taps};
 use std::alloc::{AllocError, Global};
 use std::hash::RandomState;
+use std::thread::Threads;
+
+/// The most bytes of clients' taps that are held at once: of taps that are read side by side. A tap that has more is read
+/// by itself.
+const MOST_HELD: u64 = 33_554_432;
 
 /// How many bytes a client's tap has in a part, where its lines have so many.
 fn bytes_in_part(header: usize, first: u64, bytes: u64) -> u64 {
@@ -21,7 +29,7 @@ fn bytes_in_part(header: usize, first: u64, bytes: u64) -> u64 {
 
 /// What a client's tap tells whose lines have so many bytes, and the first of them so many; none where they are read as
 /// no such tap.
-fn measured(
+fn measure(
     alloc: Global,
     stream: &Stream<'_>,
     tap: &TapRuns,
@@ -41,56 +49,179 @@ fn measured(
     Ok(Some(MeasuredClient { facts, bytes }))
 }
 
-/// Reads a client's tap; none where a line of it is refused.
-fn read_client<S: RunSource>(
+/// What is told of a client's tap: nothing, where it is read as no such tap.
+type Told = Result<Option<MeasuredClient>, RefusedLine>;
+
+/// What is told of a client's tap of which this was read.
+fn told_of(
     alloc: Global,
-    keys: RandomState,
-    source: &mut S,
-    buffer: &mut Vec<u8>,
     stream: &Stream<'_>,
     tap: &TapRuns,
-    refusal: &mut FirstRefusal,
-) -> Result<Option<MeasuredClient>, RunFault> {
-    let TapRead { read, first, bytes } = read_tap(alloc, keys, source, buffer, tap)?;
+    read: TapRead,
+) -> Result<Told, AllocError> {
+    let TapRead {
+        read,
+        first,
+        bytes,
+        ..
+    } = read;
     match read {
-        Ok(read) => Ok(measured(alloc, stream, tap, &read, first, bytes)?),
-        Err(ReadFault::Input(number, code)) => {
-            refusal.add(number, code);
-            Ok(None)
-        }
-        Err(ReadFault::Memory) => Err(RunFault::Memory),
+        Ok(read) => Ok(Ok(measure(alloc, stream, tap, &read, first, bytes)?)),
+        Err(ReadFault::Input(number, code)) => Ok(Err(RefusedLine { number, code })),
+        Err(ReadFault::Memory) => Err(AllocError),
     }
 }
 
-/// Adds what a client's tap tells, if it was read.
-fn push_some(
-    clients: &mut Vec<MeasuredClient>,
-    client: Option<MeasuredClient>,
-) -> Result<(), AllocError> {
-    if let Some(client) = client {
-        clients.push(client)?;
+/// A client's tap, and the bytes of its runs.
+#[derive(Drop)]
+struct HeldTap<'a> {
+    tap: &'a TapRuns,
+    runs: Vec<Vec<u8>>,
+}
+
+/// Reads the bytes of a tap.
+fn hold<'a, S: RunSource>(
+    alloc: Global,
+    source: &mut S,
+    tap: &'a TapRuns,
+) -> Result<HeldTap<'a>, RunFault> {
+    let mut runs = Vec::new(alloc);
+    for run in tap.runs() {
+        let mut bytes = Vec::new(alloc);
+        source.read_run(run, &mut bytes)?;
+        if runs.push(bytes).is_err() {
+            return Err(RunFault::Memory);
+        }
     }
-    Ok(())
+    Ok(HeldTap { tap, runs })
+}
+
+/// What is told of a tap that is held.
+fn told_of_held(
+    alloc: Global,
+    keys: RandomState,
+    stream: &Stream<'_>,
+    held: &HeldTap<'_>,
+) -> Result<Told, AllocError> {
+    match read_held(alloc, keys, held.tap.runs(), &held.runs) {
+        Ok(read) => told_of(alloc, stream, held.tap, read),
+        Err(_) => Err(AllocError),
+    }
+}
+
+/// The clients' taps that were read, in the order of the index.
+#[derive(Drop)]
+struct ClientsReading<'a> {
+    alloc: Global,
+    keys: RandomState,
+    threads: usize,
+    stream: &'a Stream<'a>,
+    clients: Vec<MeasuredClient>,
+    refusal: FirstRefusal,
+    /// Taps that are held, and not read yet.
+    held: Vec<HeldTap<'a>>,
+    /// How many bytes these have.
+    bytes: u64,
+}
+
+impl<'a> ClientsReading<'a> {
+    /// Adds what is told of the next tap.
+    fn add(&mut self, told: Told) -> Result<(), AllocError> {
+        match told {
+            Ok(Some(client)) => {
+                self.clients.push(client)?;
+            }
+            Ok(None) => {}
+            Err(line) => self.refusal.add(line.number, line.code),
+        }
+        Ok(())
+    }
+
+    /// Reads the taps that are held, side by side.
+    fn read_batch<H: Threads + Sync>(&mut self, rt: &H) -> Result<(), AllocError> {
+        let (alloc, keys, stream) = (self.alloc, self.keys, self.stream);
+        let all = try_map(
+            rt,
+            alloc,
+            self.threads,
+            self.held.as_slice(),
+            |held: &HeldTap<'_>| -> Result<Told, AllocError> {
+                told_of_held(alloc, keys, stream, held)
+            },
+        )?;
+        for told in all {
+            self.add(told)?;
+        }
+        self.held.clear();
+        self.bytes = 0;
+        Ok(())
+    }
+
+    /// Reads the next tap, or holds it.
+    fn next<H: Threads + Sync, S: RunSource>(
+        &mut self,
+        rt: &H,
+        source: &mut S,
+        tap: &'a TapRuns,
+    ) -> Result<(), RunFault> {
+        let bytes = tap.bytes();
+        if self.bytes.saturating_add(bytes) > MOST_HELD {
+            self.read_batch(rt)?;
+        }
+        if bytes > MOST_HELD {
+            let mut buffer = Vec::new(self.alloc);
+            let read = read_tap(self.alloc, self.keys, source, &mut buffer, tap)?;
+            let told = told_of(self.alloc, self.stream, tap, read)?;
+            self.add(told)?;
+            return Ok(());
+        }
+        self.bytes = self.bytes.saturating_add(bytes);
+        let held = hold(self.alloc, source, tap)?;
+        match self.held.push(held) {
+            Ok(()) => Ok(()),
+            Err(_) => Err(RunFault::Memory),
+        }
+    }
+}
+
+/// What is read of the clients' taps.
+#[derive(Drop)]
+pub struct ClientsRead {
+    /// What each tap tells and how long it is in a part, in the order of the index; without those of which a line is
+    /// refused.
+    pub clients: Vec<MeasuredClient>,
+    /// The first line of them that is refused.
+    pub refused: Option<RefusedLine>,
 }
 
 /// Reads the taps that are not the stream's nor a node's, one after the other, and keeps of each what it tells and how
-/// long it is in a part; tells which line is refused, the first of them where several are.
-pub fn read_clients<S: RunSource>(
+/// long it is in a part. They are read by at most so many threads; up to 32 MiB of them are held at once, or one tap.
+pub fn read_clients<'a, H: Threads + Sync, S: RunSource>(
+    rt: &H,
     alloc: Global,
     keys: RandomState,
+    threads: usize,
     source: &mut S,
-    stream: &Stream<'_>,
-    indexed: &IndexedTaps<'_>,
-    refusal: &mut FirstRefusal,
-) -> Result<Vec<MeasuredClient>, RunFault> {
-    let mut clients = Vec::new(alloc);
-    let mut buffer = Vec::new(alloc);
+    stream: &'a Stream<'a>,
+    indexed: &IndexedTaps<'a>,
+) -> Result<ClientsRead, RunFault> {
+    let mut reading = ClientsReading {
+        alloc,
+        keys,
+        threads,
+        stream,
+        clients: Vec::new(alloc),
+        refusal: FirstRefusal::new(),
+        held: Vec::new(alloc),
+        bytes: 0,
+    };
     for (place, tap) in indexed.taps.iter().enumerate() {
-        if indexed.is_server(place) {
-            continue;
+        if !indexed.is_server(place) {
+            reading.next(rt, source, tap)?;
         }
-        let client = read_client(alloc, keys, source, &mut buffer, stream, tap, refusal)?;
-        push_some(&mut clients, client)?;
     }
-    Ok(clients)
+    reading.read_batch(rt)?;
+    let refused = reading.refusal.line();
+    let ClientsReading { clients, .. } = reading;
+    Ok(ClientsRead { clients, refused })
 }

@@ -1,4 +1,9 @@
 //! Which part has which session, and the text of it.
+pub mod by_part;
+pub mod fault;
+pub mod of_plan;
+pub mod reading;
+
 ghost use Rattle.std.specs.Prelude.{◌≡◌, ◌++◌, ◌+◌, ◌^◌, ◌<◌, true, IfOk, IsTrue, OnOk, Ok, string_bytes};
 ghost use Rattle.aud_parts.specs.Listing.{are_within, is_listing, listing_of, listing_text, session_line};
 

@@ -1,4 +1,8 @@
 //! The one report of the reports on the parts.
+pub mod fault;
+pub mod laws;
+pub mod report_lines;
+
 ghost use Rattle.std.specs.Prelude.{◌≡◌, ◌<◌, ◌+◌, ◌^◌, ◌++◌, if◌then◌else◌, slice_get, List, ℕ, IfOk, IfSome, IsTrue, OnOk, map, option_map, option_to_list, is_some, length, replicate, take};
 ghost use Rattle.std.specs.List.{list_all};
 ghost use Rattle.aud_base.specs.Places.{places_of};
@@ -7,10 +11,10 @@ ghost use Rattle.aud_parts.specs.Merged.{told, answer_of, merged, merged_lines, 
 ghost use Rattle.aud_parts.specs.Private.PartPlaces.{places_by_first};
 ghost use Rattle.aud_parts.specs.Private.Slots.{fault_with, slots_with, slots_of, report_faults, missing_in, lines_in, all_in, left_in, next_after};
 
-use crate::by_part::{LentText, part_of, pids_by_part, places_by_first};
+use crate::listing::by_part::{LentText, part_of, pids_by_part, places_by_first};
 use crate::listing::{ListedSession, Listing};
-use crate::merge_fault::{MergeFault, ReportFault};
-use crate::report_lines::{ReportLine, are_all_yes, report_in, report_of};
+use crate::merging::fault::{MergeFault, ReportFault};
+use crate::merging::report_lines::{ReportLine, are_all_yes, report_in, report_of};
 use aud_base::{Bytes, Listed, Places};
 use std::alloc::{AllocError, Global};
 use std::hash::RandomState;

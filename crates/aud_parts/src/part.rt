@@ -1,18 +1,25 @@
 //! The taps of a part.
+pub mod audience;
+pub mod entries;
+pub mod lines;
+pub mod own_records;
+pub mod server_text;
+pub mod text;
+
 ghost use Rattle.std.specs.Prelude.{◌≡◌, ◌++◌, IfOk, OnOk, map, option_to_list};
 ghost use Rattle.std.specs.List.{filter_map};
-ghost use Rattle.aud_upgrade.specs.Upgraded.{upgraded};
+ghost use Rattle.aud_upgrade.specs.Upgraded.{with_runs};
 ghost use Rattle.aud_parts.specs.PartTaps.{part_taps, part_entries, servers_left, tap_with, IsPartOfEach};
 ghost use Rattle.aud_parts.specs.Private.Kept.{entries_for, records_kept, tap_kept};
 ghost use Rattle.aud_parts.specs.Private.OwnRecords.{has};
 
-use crate::audience::Audience;
-use crate::own_records::{own_records, tell_of_own};
-use crate::part_entries::part_entries;
+use crate::part::audience::Audience;
+use crate::part::entries::part_entries;
+use crate::part::own_records::{own_records, tell_of_own};
 use crate::text_sets::{TextSet, set_of};
 use aud_node::{Logs, Stream};
 use aud_tap::{Records, Tap, Taps, Text};
-use aud_upgrade::upgrade;
+use aud_upgrade::{Joins, upgrade};
 use std::alloc::{AllocError, Global};
 use std::hash::RandomState;
 
@@ -37,15 +44,15 @@ pub fn part_taps(
     ensures part { IfOk result (IsPartOfEach pids.now came.now logs.now) }
 {
     let left = left_taps(alloc, logs, pids, came)?;
-    upgraded_taps(alloc, logs.keys(), &left)
+    taps_with_runs(alloc, logs.keys(), &left)
 }
 
-/// The taps in version 2.
-fn upgraded_taps(alloc: Global, keys: RandomState, taps: &Taps) -> Result<Taps, AllocError>
-    ensures { IfOk result (λ new. new ≡ upgraded taps.now) }
+/// The taps in version 2, with the takes of the nodes as runs.
+fn taps_with_runs(alloc: Global, keys: RandomState, taps: &Taps) -> Result<Taps, AllocError>
+    ensures { IfOk result (λ new. new ≡ with_runs taps.now) }
 {
     let logs = Logs::build(alloc, keys, taps)?;
-    upgrade(alloc, &logs)
+    upgrade(alloc, &logs, Joins::TakeAndTakes)
 }
 
 /// What is left of the taps, in the versions that they have.

@@ -1,9 +1,20 @@
 //! Which part each session and each client's tap is in.
+pub mod closed;
+pub mod fault;
+pub mod groups;
+pub mod node_set;
+pub mod placing;
+pub mod planning;
+pub mod sessions;
+pub mod sized;
+pub mod together;
+pub mod units;
+
 ghost use Rattle.std.specs.Prelude.{◌≡◌, IfOk, count_by, map, nat_eq};
 ghost use Rattle.aud_parts.specs.Plan.{came_in, has_client, is_in, is_part, part_of, pids_in};
 
-use crate::measured::MeasuredClient;
-use crate::sessions::Sessions;
+use crate::clients::measured::MeasuredClient;
+use crate::plan::sessions::Sessions;
 use std::alloc::{AllocError, Global};
 
 /// Which part of a recording each session and each client's tap is in. Parts count from 0, as many as there are

@@ -1,8 +1,21 @@
 //! Where the lines of each tap stand in the files of an input.
-ghost use Rattle.std.specs.Prelude.{length};
+pub mod first_refusal;
+pub mod indexed_taps;
+pub mod line_name;
+pub mod run_lines;
+pub mod run_source;
+pub mod tap_lines;
+pub mod tap_reading;
+pub mod tap_runs;
 
-use crate::line_name::name_of;
-use crate::tap_runs::{Run, RunsByTap, TapRuns};
+ghost use Rattle.std.specs.Prelude.{◌≡◌, ◌+◌, ◌^◌, ◌<◌, ◌++◌, ◌∷◌, [], List, ℕ, length, take, false, OnOk};
+ghost use Rattle.aud_reader.specs.Lines.{has_newline, without_return};
+ghost use Rattle.aud_parts.specs.FileLines.{AreTapsOf, file_lines, front_refusal};
+ghost use Rattle.aud_parts.specs.IndexSoFar.{HasRead, IsBegun, IsCounted, KeepsPlaces, ReadSoFar, line_count, so_far, with_bytes, with_line};
+ghost use Rattle.aud_parts.specs.Private.IndexSteps.{HasEnded, HasEndedLast, Looks, MayEnd, placed_at};
+
+use crate::tap_index::line_name::name_of;
+use crate::tap_index::tap_runs::{Run, RunsByTap, TapRuns};
 use aud_reader::{InputCode, ReadFault, next_line};
 use aud_tap::limits::MAX_LINE;
 use std::alloc::{AllocError, Global};
@@ -12,7 +25,9 @@ use std::hash::RandomState;
 const FRONT: usize = 33;
 
 /// The first bytes, so many, or all where there are fewer.
-fn first_bytes(count: usize, bytes: &[u8]) -> &[u8] {
+fn first_bytes(count: usize, bytes: &[u8]) -> &[u8]
+    ensures { result.now ≡ take count bytes.now }
+{
     if bytes.len() < count {
         bytes
     } else {
@@ -26,7 +41,7 @@ struct Begun {
     /// Where it begins in its file.
     from: u64,
     /// How many bytes it has so far.
-    length: u64,
+    size: u64,
     /// The first of them, up to 33.
     front: Vec<u8>,
     /// Whether the last of them is a carriage return.
@@ -35,43 +50,56 @@ struct Begun {
 
 impl Begun {
     /// A line that begins with a file.
-    fn new(alloc: Global) -> Begun {
+    fn new(alloc: Global) -> Begun
+        ensures { IsBegun result 0 [] }
+    {
         Begun {
             from: 0,
-            length: 0,
+            size: 0,
             front: Vec::new(alloc),
             returns: false,
         }
     }
 
     /// More bytes of the line.
-    fn add(&mut self, bytes: &[u8]) -> Result<(), AllocError> {
+    fn add(&mut self, bytes: &[u8]) -> Result<(), AllocError>
+        ensures { (from : ℕ) (text : List ℕ) → length text + length bytes.now < 2 ^ 64
+            → IsBegun self.old from text
+            → OnOk result (IsBegun self.new from (text ++ bytes.now)) }
+    {
         let Some(last) = bytes.last() else {
             return Ok(());
         };
         self.returns = *last == b'\r';
-        self.length = self.length.saturating_add(bytes.len() as u64);
+        self.size = self.size.saturating_add(bytes.len() as u64);
         let room = FRONT.saturating_sub(self.front.len());
         self.front.extend_from_slice(first_bytes(room, bytes))
     }
 
     /// Its length without the carriage return at its end.
-    fn measured(&self) -> u64 {
+    fn measured(&self) -> u64
+        ensures { (from : ℕ) (text : List ℕ) → IsBegun self.now from text
+            → result ≡ length (without_return text) }
+    {
         if self.returns {
-            self.length.saturating_sub(1)
+            self.size.saturating_sub(1)
         } else {
-            self.length
+            self.size
         }
     }
 
-    fn to(&self) -> u64 {
-        self.from.saturating_add(self.length)
+    fn to(&self) -> u64
+        ensures { self.now.from + self.now.size < 2 ^ 64 → result ≡ self.now.from + self.now.size }
+    {
+        self.from.saturating_add(self.size)
     }
 
     /// The next line begins here.
-    fn begin(&mut self, from: u64) {
+    fn begin(&mut self, from: u64)
+        ensures { IsBegun self.new from [] }
+    {
         self.from = from;
-        self.length = 0;
+        self.size = 0;
         self.front.clear();
         self.returns = false;
     }
@@ -92,7 +120,9 @@ pub struct TapIndex {
 
 impl TapIndex {
     /// An index before the first byte of the first file. Names are hashed with these keys.
-    pub fn new(alloc: Global, keys: RandomState) -> TapIndex {
+    pub fn new(alloc: Global, keys: RandomState) -> TapIndex
+        ensures { HasRead result [] [] }
+    {
         TapIndex {
             runs: RunsByTap::new(alloc, keys),
             fault: None,
@@ -104,44 +134,99 @@ impl TapIndex {
 
     /// Takes in the next piece of the file, which is borrowed for the call alone. After a line that is refused nothing
     /// more is noted.
-    pub fn feed(&mut self, piece: &[u8]) -> Result<(), AllocError> {
+    pub fn feed(&mut self, piece: &[u8]) -> Result<(), AllocError>
+        ensures { (files : List (List ℕ)) (bytes : List ℕ) → HasRead self.old files bytes
+            → OnOk result (HasRead self.new files (bytes ++ piece.now)) }
+    {
         let mut left = piece;
         'lines: while let Some((front, others)) = next_line(left) {
-            self.begun.add(front)?;
-            self.end_line()?;
+            self.add_line(front)?;
             left = others;
         }
-        self.begun.add(left)
+        self.add_front(left)
+    }
+
+    /// Adds bytes, in which no newline stands, to the line that has begun.
+    fn add_front(&mut self, front: &[u8]) -> Result<(), AllocError>
+        ensures { (files : List (List ℕ)) (bytes : List ℕ) → has_newline front.now ≡ false
+            → IsCounted files (bytes ++ front.now) → ReadSoFar self.old files bytes
+            → OnOk result (ReadSoFar self.new files (bytes ++ front.now)) }
+    {
+        self.begun.add(front)
+    }
+
+    /// Adds the last bytes of the line that has begun, in which no newline stands, and ends it.
+    fn add_line(&mut self, front: &[u8]) -> Result<(), AllocError>
+        ensures { (files : List (List ℕ)) (bytes : List ℕ) → has_newline front.now ≡ false
+            → IsCounted files (bytes ++ (front.now ++ 10 ∷ [])) → ReadSoFar self.old files bytes
+            → OnOk result (ReadSoFar self.new files (bytes ++ (front.now ++ 10 ∷ []))) }
+    {
+        self.add_front(front)?;
+        self.end_line()
     }
 
     /// Ends the file, and with it the line that has begun, if it has bytes.
-    pub fn end_file(&mut self) -> Result<(), AllocError> {
-        if self.begun.length > 0 {
-            self.end_line()?;
-        }
+    pub fn end_file(&mut self) -> Result<(), AllocError>
+        ensures { (files : List (List ℕ)) (bytes : List ℕ) → HasRead self.old files bytes
+            → OnOk result (HasRead self.new (files ++ bytes ∷ []) []) }
+    {
+        self.end_last()?;
         self.begun.begin(0);
         self.file = self.file.saturating_add(1);
         Ok(())
     }
 
+    /// Ends the line that has begun, if it has bytes.
+    fn end_last(&mut self) -> Result<(), AllocError>
+        ensures { (text : List ℕ) → has_newline text ≡ false → MayEnd self.old text
+            → OnOk result (HasEndedLast self.old self.new text) }
+    {
+        if self.begun.size == 0 {
+            return Ok(());
+        }
+        self.end_line()
+    }
+
     /// Ends the line that has begun.
-    fn end_line(&mut self) -> Result<(), AllocError> {
+    fn end_line(&mut self) -> Result<(), AllocError>
+        ensures { (text : List ℕ) → MayEnd self.old text
+            → OnOk result (HasEnded self.old self.new text) }
+    {
         let line = Run {
             file: self.file,
             from: self.begun.from,
             to: self.begun.to(),
             number: self.number,
         };
-        if self.begun.measured() > 0 && self.fault.is_none() {
-            self.note(line)?;
-        }
+        self.look_at(line)?;
         self.number = self.number.saturating_add(1);
         self.begun.begin(line.to.saturating_add(1));
         Ok(())
     }
 
+    /// Looks at the line that has begun, and that stands here, if it has bytes and no line before it was refused.
+    fn look_at(&mut self, line: Run) -> Result<(), AllocError>
+        ensures { (text : List ℕ) → IsBegun self.old.begun self.old.begun.from text
+            → line.to ≡ line.from + length text → KeepsPlaces self.old.runs
+            → OnOk result (Looks self.old self.new
+            (with_line (so_far self.old) (placed_at line text))) }
+    {
+        if self.fault.is_some() {
+            return Ok(());
+        }
+        if self.begun.measured() == 0 {
+            return Ok(());
+        }
+        self.note(line)
+    }
+
     /// Notes the line that has begun, and that stands here, as one of its tap, or refuses it.
-    fn note(&mut self, line: Run) -> Result<(), AllocError> {
+    fn note(&mut self, line: Run) -> Result<(), AllocError>
+        ensures { (text : List ℕ) → IsBegun self.old.begun self.old.begun.from text
+            → line.to ≡ line.from + length text → KeepsPlaces self.old.runs
+            → OnOk result (Looks self.old self.new
+            (with_bytes (so_far self.old) (placed_at line text))) }
+    {
         if self.begun.measured() > MAX_LINE as u64 {
             self.fault = Some(ReadFault::Input(line.number, InputCode::LineTooLong));
             return Ok(());
@@ -156,18 +241,27 @@ impl TapIndex {
     }
 
     /// The taps in the order of their first lines, with the runs of their lines, borrowed.
-    pub fn taps(&self) -> &[TapRuns] {
+    pub fn taps(&self) -> &[TapRuns]
+        ensures { (files : List (List ℕ)) → HasRead self.now files [] → IsCounted files []
+            → AreTapsOf files result.now }
+    {
         self.runs.taps()
     }
 
     /// The first line that is too long, or that begins with no tap's name, where there is one; lines count from 1 over
     /// all files. Other lines before it may have to be refused too.
-    pub fn fault(&self) -> Option<ReadFault> {
+    pub fn fault(&self) -> Option<ReadFault>
+        ensures { (files : List (List ℕ)) → HasRead self.now files [] → IsCounted files []
+            → result ≡ front_refusal (file_lines files) }
+    {
         self.fault
     }
 
     /// How many lines there were.
-    pub fn lines(&self) -> u64 {
+    pub fn lines(&self) -> u64
+        ensures { (files : List (List ℕ)) → HasRead self.now files [] → IsCounted files []
+            → result ≡ line_count files }
+    {
         self.number.saturating_sub(1)
     }
 }

@@ -1,8 +1,9 @@
 -- A node's log and the one that it is upgraded to are alike.
-use Rattle.std.proofs.Common.{◌≡◌, ◌≤◌, ◌+◌, ◌&&◌, ℕ, zero, suc, Bool, true, false, cond, List, [], ◌∷◌, ◌++◌, length, flat_map, drop, Option, Some, None, slice_get, nat_lt, refl, sym, ap, subst, ◌∙◌, arith, true≢false}
+use Rattle.std.proofs.Common.{◌≡◌, ◌<◌, ◌≤◌, ◌+◌, ◌&&◌, ℕ, zero, suc, Bool, true, false, cond, List, [], ◌∷◌, ◌++◌, length, flat_map, drop, Option, Some, None, is_some, slice_get, nat_lt, refl, sym, ap, subst, ◌∙◌, arith, true≢false}
 use Rattle.std.specs.List.{list_all}
 use Rattle.std.proofs.lemmas.List.{drop_all}
 use Rattle.std.proofs.lemmas.Option.{slice_get_past}
+use Rattle.std.proofs.lemmas.Bool.{and_parts}
 use Rattle.std.proofs.lemmas.Bool.Decides.{nat_tests}
 use Rattle.aud_tap.specs.declared.records.StreamRec.{StreamRec}
 use Rattle.aud_tap.specs.declared.records.NodeRec.{NodeRec}
@@ -12,7 +13,8 @@ use Rattle.aud_node.specs.Lists.{numbers_from}
 use Rattle.aud_node.specs.Stream.{Text, position}
 use Rattle.aud_node.specs.Cursors.{is_position, position_if_past, next_cursor, cursor_past, cursor_at}
 use Rattle.aud_node.specs.Ordered.{is_in_order, is_some_in_order, is_ordered}
-use Rattle.aud_upgrade.specs.Upgraded.{takes_after, takes_next, took_next, joined, upgraded_at, upgraded_log}
+use Rattle.aud_upgrade.specs.declared.joins.Joins.{Joins}
+use Rattle.aud_upgrade.specs.Upgraded.{joins_takes, takes_after, takes_next, took_next, joined, upgraded_at, upgraded_log}
 use Rattle.aud_upgrade.specs.Private.Told.{is_taking, told, told_at, cursor_over, ordered_over}
 use Rattle.aud_upgrade.specs.Private.Alike.{AreAlike}
 use Rattle.aud_upgrade.proofs.ListLemmas.{later}
@@ -26,27 +28,31 @@ abbrev is_later : ℕ → Bool
 is_later zero = false
 is_later (suc number) = true
 
--- what takes the next entry
+later-is : (i : ℕ) → is_later (first_or_later i) ≡ is_later i
+later-is zero = refl
+later-is (suc i) = refl
+
+-- what takes entries past the cursor, and is joined
 record TakesNext (stream : List StreamRec) (cursor : ℕ) (rec : NodeRec) : Type 0 where
   off : Text
-  is : rec ≡ Take off
-  next : position stream off ≡ Some (suc cursor)
+  place : ℕ
+  at : position stream off ≡ Some place
+  past : cursor < place
+  taking : is_taking rec ≡ true
+  stands : joined true true false (Some rec) ≡ Takes off ∷ []
+  moves : (n : ℕ) → next_cursor stream n rec cursor ≡ place
+  orders : (i : ℕ) → is_in_order stream (first_or_later i) cursor rec ≡ is_later i
+
+-- a position past the cursor
+record IsPast (o : Option ℕ) (cursor : ℕ) : Type 0 where
+  place : ℕ
+  at : o ≡ Some place
+  past : cursor < place
 
 module _ (stream : List StreamRec) where
   at_position : (p : Option ℕ) (q : ℕ) → is_position p q ≡ true → p ≡ Some q
   at_position None q e = absurd (true≢false (sym e))
   at_position (Some p) q e = ap Some (grind (arith, nat_tests, e))
-
-  takes-next : (cursor : ℕ) (rec : NodeRec) → takes_after stream cursor (Some rec) ≡ true → TakesNext stream cursor rec
-  takes-next cursor (Take off) e = record { off = off; is = refl; next = at_position (position stream off) (suc cursor) e }
-  takes-next cursor (Takes off) e = absurd (true≢false (sym e))
-  takes-next cursor (Start off) e = absurd (true≢false (sym e))
-  takes-next cursor (Opened other sid nsp) e = absurd (true≢false (sym e))
-  takes-next cursor (Join other room) e = absurd (true≢false (sym e))
-  takes-next cursor (Leave other room) e = absurd (true≢false (sym e))
-  takes-next cursor (Broke other turn) e = absurd (true≢false (sym e))
-  takes-next cursor (Back other turn) e = absurd (true≢false (sym e))
-  takes-next cursor (Gone other) e = absurd (true≢false (sym e))
 
   is_position-same : (q : ℕ) → is_position (Some q) q ≡ true
   is_position-same q = grind (arith, nat_tests)
@@ -56,41 +62,84 @@ module _ (stream : List StreamRec) where
   cursor-take zero cursor off e = rw e (rw (is_position-same (suc cursor)) refl)
   cursor-take (suc n) cursor off e = rw e (rw (is_position-same (suc cursor)) refl)
 
-  -- and after one that takes up to it
-  past : (cursor' cursor : ℕ) → cursor' ≤ cursor → position_if_past (Some (suc cursor)) cursor' ≡ Some (suc cursor)
-  past cursor' cursor h = let lt : nat_lt cursor' (suc cursor) ≡ true = grind (arith, nat_tests, h) in rw lt refl
-
-  cursor-takes : (n cursor' cursor : ℕ) (off : Text) → cursor' ≤ cursor → position stream off ≡ Some (suc cursor) → next_cursor stream n (Takes off) cursor' ≡ suc cursor
-  cursor-takes zero cursor' cursor off h e = rw e (rw (past cursor' cursor h) refl)
-  cursor-takes (suc n) cursor' cursor off h e = rw e (rw (past cursor' cursor h) refl)
-
   order-take : (i cursor : ℕ) (off : Text) → position stream off ≡ Some (suc cursor) → is_in_order stream (first_or_later i) cursor (Take off) ≡ is_later i
   order-take zero cursor off e = refl
   order-take (suc i) cursor off e = rw e (is_position-same (suc cursor))
 
-  order-takes : (n cursor' cursor : ℕ) (off : Text) → cursor' ≤ cursor → position stream off ≡ Some (suc cursor) → is_in_order stream n cursor' (Takes off) ≡ is_later n
-  order-takes zero cursor' cursor off h e = refl
-  order-takes (suc n) cursor' cursor off h e = rw e (rw (past cursor' cursor h) refl)
+  -- a position that stands for one past the cursor is one
+  is-past : (o : Option ℕ) (cursor : ℕ) → is_some (position_if_past o cursor) ≡ true → IsPast o cursor
+  is-past None cursor e = absurd (true≢false (sym e))
+  is-past (Some q) cursor e = go (nat_lt cursor q) refl e
+    where
+      go : (b : Bool) → nat_lt cursor q ≡ b → is_some (cond b (Some q) None) ≡ true → IsPast (Some q) cursor
+      go true less e = record { place = q; at = refl; past = grind (arith, nat_tests, less) }
+      go false less e = absurd (true≢false (sym e))
 
-  module _ (log : List NodeRec) where
+  past : (cursor place : ℕ) → cursor < place → position_if_past (Some place) cursor ≡ Some place
+  past cursor place h = let less : nat_lt cursor place ≡ true = grind (arith, nat_tests, h) in rw less refl
+
+  -- the cursor after one that takes up to a position past it
+  cursor-takes : (n cursor place : ℕ) (off : Text) → cursor < place → position stream off ≡ Some place → next_cursor stream n (Takes off) cursor ≡ place
+  cursor-takes zero cursor place off h e = rw e (rw (past cursor place h) refl)
+  cursor-takes (suc n) cursor place off h e = rw e (rw (past cursor place h) refl)
+
+  order-takes : (n cursor place : ℕ) (off : Text) → cursor < place → position stream off ≡ Some place → is_in_order stream n cursor (Takes off) ≡ is_later n
+  order-takes zero cursor place off h e = refl
+  order-takes (suc n) cursor place off h e = rw e (rw (past cursor place h) refl)
+
+  takes-next : (joins : Joins) (cursor : ℕ) (rec : NodeRec) → takes_after joins stream cursor (Some rec) ≡ true → TakesNext stream cursor rec
+  takes-next joins cursor (Take off) e =
+      let at : position stream off ≡ Some (suc cursor) = at_position (position stream off) (suc cursor) e in
+      record {
+        off = off;
+        place = suc cursor;
+        at = at;
+        past = omega arith;
+        taking = refl;
+        stands = refl;
+        moves = λ n. cursor-take n cursor off at;
+        orders = λ i. order-take i cursor off at;
+      }
+  takes-next joins cursor (Takes off) e =
+      let p = is-past (position stream off) cursor (and_parts (joins_takes joins) (is_some (position_if_past (position stream off) cursor)) e).1 in
+      record {
+        off = off;
+        place = p.place;
+        at = p.at;
+        past = p.past;
+        taking = refl;
+        stands = refl;
+        moves = λ n. cursor-takes n cursor p.place off p.past p.at;
+        orders = λ i. order-takes (first_or_later i) cursor p.place off p.past p.at ∙ later-is i;
+      }
+  takes-next joins cursor (Start off) e = absurd (true≢false (sym e))
+  takes-next joins cursor (Opened other sid nsp) e = absurd (true≢false (sym e))
+  takes-next joins cursor (Join other room) e = absurd (true≢false (sym e))
+  takes-next joins cursor (Leave other room) e = absurd (true≢false (sym e))
+  takes-next joins cursor (Broke other turn) e = absurd (true≢false (sym e))
+  takes-next joins cursor (Back other turn) e = absurd (true≢false (sym e))
+  takes-next joins cursor (Gone other) e = absurd (true≢false (sym e))
+
+  -- the cursor after a record
+  cursor-next : (log : List NodeRec) (i : ℕ) (rec : NodeRec) → slice_get log i ≡ Some rec → next_cursor stream (first_or_later i) rec (cursor_at stream log i) ≡ cursor_at stream log (suc i)
+  cursor-next log zero rec at = sym (ap (λ o. cursor_past stream 0 o 0) at)
+  cursor-next log (suc i) rec at = sym (ap (λ o. cursor_past stream (suc i) o (cursor_at stream log (suc i))) at ∙ later stream i rec (cursor_at stream log (suc i)))
+
+  module _ (joins : Joins) (log : List NodeRec) where
     abbrev cursor : ℕ → ℕ
     cursor i = cursor_at stream log i
 
     abbrev tail : ℕ → ℕ → List NodeRec
-    tail i count = flat_map (upgraded_at stream log) (numbers_from i count)
+    tail i count = flat_map (upgraded_at joins stream log) (numbers_from i count)
 
     -- records are left out, before the one with this number, that one of a later place takes too
     abbrev lags : ℕ → Bool
-    lags i = took_next stream log i && takes_next stream log i
+    lags i = took_next joins stream log i && takes_next joins stream log i
 
     -- from a record on, the upgraded records are alike those of the log; they begin with this number, after this cursor
     record Claim (number' cursor' i : ℕ) (recs recs' : List NodeRec) : Type 0 where
       alike : AreAlike stream (first_or_later i) (cursor i) recs number' cursor' recs'
       orders : ordered_over stream number' cursor' recs' ≡ (cond (lags i) (is_later number') true && ordered_over stream (first_or_later i) (cursor i) recs)
-
-    cursor-next : (i : ℕ) (rec : NodeRec) → slice_get log i ≡ Some rec → next_cursor stream (first_or_later i) rec (cursor i) ≡ cursor (suc i)
-    cursor-next zero rec at = sym (ap (λ o. cursor_past stream 0 o 0) at)
-    cursor-next (suc i) rec at = sym (ap (λ o. cursor_past stream (suc i) o (cursor (suc i))) at ∙ later stream i rec (cursor (suc i)))
 
     and-false : (a b : Bool) → b ≡ false → (a && b) ≡ false
     and-false true b e = e
@@ -115,7 +164,7 @@ module _ (stream : List StreamRec) where
         after = next_cursor stream n rec (cursor i)
 
         next : after ≡ cursor (suc i)
-        next = cursor-next i rec at
+        next = cursor-next log i rec at
 
         told-rest : told stream 1 after recs ≡ told stream 1 after recs'
         told-rest = ap (λ c. told stream 1 c recs) next ∙ claim.alike.tells ∙ ap (λ c. told stream 1 c recs') (sym next)
@@ -136,30 +185,23 @@ module _ (stream : List StreamRec) where
         orders : (is_in_order stream n (cursor i) rec && ordered_over stream 1 after recs') ≡ (cond (lags i) (is_later n) true && (is_in_order stream n (cursor i) rec && ordered_over stream 1 after recs))
         orders = ap (λ b. is_in_order stream n (cursor i) rec && b) rest ∙ sym (ap (λ b. cond b (is_later n) true && (is_in_order stream n (cursor i) rec && ordered_over stream 1 after recs)) none)
 
-    -- a take of the next entry, on the side of the log alone
+    -- what takes entries and is joined, on the side of the log alone
     module _ (i : ℕ) (rec : NodeRec) (at : slice_get log i ≡ Some rec) (t : TakesNext stream (cursor i) rec) where
-      after-take : next_cursor stream (first_or_later i) rec (cursor i) ≡ suc (cursor i)
-      after-take = ap (λ r. next_cursor stream (first_or_later i) r (cursor i)) t.is ∙ cursor-take (first_or_later i) (cursor i) t.off t.next
-
-      cursor-more : cursor (suc i) ≡ suc (cursor i)
-      cursor-more = sym (cursor-next i rec at) ∙ after-take
-
-      taking : is_taking rec ≡ true
-      taking = ap is_taking t.is
+      cursor-more : cursor (suc i) ≡ t.place
+      cursor-more = sym (cursor-next log i rec at) ∙ t.moves (first_or_later i)
 
       told-take : (recs : List NodeRec) → told stream (first_or_later i) (cursor i) (rec ∷ recs) ≡ told stream 1 (cursor (suc i)) recs
       told-take recs =
-          ap (λ b. cond b (told stream 1 (next_cursor stream (first_or_later i) rec (cursor i)) recs) (told_at stream (first_or_later i) (cursor i) rec ∷ told stream 1 (next_cursor stream (first_or_later i) rec (cursor i)) recs)) taking
-          ∙ ap (λ c. told stream 1 c recs) (cursor-next i rec at)
+          ap (λ b. cond b (told stream 1 (next_cursor stream (first_or_later i) rec (cursor i)) recs) (told_at stream (first_or_later i) (cursor i) rec ∷ told stream 1 (next_cursor stream (first_or_later i) rec (cursor i)) recs)) t.taking
+          ∙ ap (λ c. told stream 1 c recs) (cursor-next log i rec at)
 
       over-take : (recs : List NodeRec) → cursor_over stream (first_or_later i) (cursor i) (rec ∷ recs) ≡ cursor_over stream 1 (cursor (suc i)) recs
-      over-take recs = ap (λ c. cursor_over stream 1 c recs) (cursor-next i rec at)
+      over-take recs = ap (λ c. cursor_over stream 1 c recs) (cursor-next log i rec at)
 
       orders-take : (recs : List NodeRec) → ordered_over stream (first_or_later i) (cursor i) (rec ∷ recs) ≡ (is_later i && ordered_over stream 1 (cursor (suc i)) recs)
       orders-take recs =
-          ap (λ r. is_in_order stream (first_or_later i) (cursor i) r && ordered_over stream 1 (next_cursor stream (first_or_later i) rec (cursor i)) recs) t.is
-          ∙ ap (λ b. b && ordered_over stream 1 (next_cursor stream (first_or_later i) rec (cursor i)) recs) (order-take i (cursor i) t.off t.next)
-          ∙ ap (λ c. is_later i && ordered_over stream 1 c recs) (cursor-next i rec at)
+          ap (λ b. b && ordered_over stream 1 (next_cursor stream (first_or_later i) rec (cursor i)) recs) (t.orders i)
+          ∙ ap (λ c. is_later i && ordered_over stream 1 c recs) (cursor-next log i rec at)
 
       -- one that a later record takes too
       left_out : (number' cursor' : ℕ) (recs recs' : List NodeRec) → lags (suc i) ≡ true → (lags i ≡ false → number' ≡ first_or_later i) → (lags i ≡ true → is_later i ≡ true)
@@ -174,32 +216,31 @@ module _ (stream : List StreamRec) where
                 ∙ sym (ap (λ b. cond (lags i) (is_later number') true && b) (orders-take recs));
           }
         where
-          later-is : (j : ℕ) → is_later (first_or_later j) ≡ is_later j
-          later-is zero = refl
-          later-is (suc j) = refl
-
           both : (b : Bool) → lags i ≡ b → (is_later number' && ordered_over stream 1 (cursor (suc i)) recs) ≡ (cond (lags i) (is_later number') true && (is_later i && ordered_over stream 1 (cursor (suc i)) recs))
           both true e = sym (ap (λ b. cond b (is_later number') true && (is_later i && ordered_over stream 1 (cursor (suc i)) recs)) e ∙ ap (λ b. is_later number' && (b && ordered_over stream 1 (cursor (suc i)) recs)) (is e))
           both false e = ap (λ b. b && ordered_over stream 1 (cursor (suc i)) recs) (ap is_later (begins e) ∙ later-is i) ∙ sym (ap (λ b. cond b (is_later number') true && (is_later i && ordered_over stream 1 (cursor (suc i)) recs)) e)
 
       -- the last of several
-      joins : (number' cursor' : ℕ) (recs recs' : List NodeRec) → lags i ≡ true → is_later i ≡ true → cursor' ≤ cursor i
+      ends-run : (number' cursor' : ℕ) (recs recs' : List NodeRec) → lags i ≡ true → is_later i ≡ true → cursor' ≤ cursor i
           → Claim 1 (cursor (suc i)) (suc i) recs recs' → Claim number' cursor' i (rec ∷ recs) (Takes t.off ∷ recs')
-      joins number' cursor' recs recs' lag is h claim =
+      ends-run number' cursor' recs recs' lag is h claim =
           record {
             alike = record {
               tells = told-take recs ∙ claim.alike.tells ∙ ap (λ c. told stream 1 c recs') (sym next');
               ends = over-take recs ∙ claim.alike.ends ∙ ap (λ c. cursor_over stream 1 c recs') (sym next');
             };
             orders =
-                ap (λ b. b && ordered_over stream 1 (next_cursor stream number' (Takes t.off) cursor') recs') (order-takes number' cursor' (cursor i) t.off h t.next)
+                ap (λ b. b && ordered_over stream 1 (next_cursor stream number' (Takes t.off) cursor') recs') (order-takes number' cursor' t.place t.off further t.at)
                 ∙ ap (λ c. is_later number' && ordered_over stream 1 c recs') next'
                 ∙ ap (λ b. is_later number' && b) (claim.orders ∙ ap (λ b. b && ordered_over stream 1 (cursor (suc i)) recs) (either (lags (suc i))))
                 ∙ sym (ap (λ b. cond (lags i) (is_later number') true && b) (orders-take recs ∙ ap (λ b. b && ordered_over stream 1 (cursor (suc i)) recs) is) ∙ ap (λ b. cond b (is_later number') true && ordered_over stream 1 (cursor (suc i)) recs) lag);
           }
         where
+          further : cursor' < t.place
+          further = let past = t.past in omega (arith, h, past)
+
           next' : next_cursor stream number' (Takes t.off) cursor' ≡ cursor (suc i)
-          next' = cursor-takes number' cursor' (cursor i) t.off h t.next ∙ sym cursor-more
+          next' = cursor-takes number' cursor' t.place t.off further t.at ∙ sym cursor-more
 
     joined-none : (before after : Bool) (rec : NodeRec) → joined before false after (Some rec) ≡ rec ∷ []
     joined-none true after rec = refl
@@ -216,15 +257,15 @@ module _ (stream : List StreamRec) where
     lag-later zero e = absurd (true≢false (sym e))
     lag-later (suc i) e = refl
 
-    nothing : (i : ℕ) → length log ≤ i → takes_next stream log i ≡ false
-    nothing i h = ap (takes_after stream (cursor i)) (slice_get_past log i h)
+    nothing : (i : ℕ) → length log ≤ i → takes_next joins stream log i ≡ false
+    nothing i h = ap (takes_after joins stream (cursor i)) (slice_get_past log i h)
 
     -- from each record on
     upgrades : (count i : ℕ) → i + count ≡ length log → (number' cursor' : ℕ) → (lags i ≡ false → (number' ≡ first_or_later i) × (cursor' ≡ cursor i)) → (lags i ≡ true → cursor' ≤ cursor i)
         → Claim number' cursor' i (drop i log) (tail i count)
     upgrades zero i e number' cursor' begins behind =
-        let none : takes_next stream log i ≡ false = nothing i (omega (arith, e)) in
-        let lag : lags i ≡ false = and-false (took_next stream log i) (takes_next stream log i) none in
+        let none : takes_next joins stream log i ≡ false = nothing i (omega (arith, e)) in
+        let lag : lags i ≡ false = and-false (took_next joins stream log i) (takes_next joins stream log i) none in
         let (n, c) = begins lag in
         begun i number' cursor' (drop i log) [] n c
         (subst (λ xs. Claim (first_or_later i) (cursor i) i xs []) (sym (drop_all i log (omega (arith, e))))
@@ -242,20 +283,20 @@ module _ (stream : List StreamRec) where
         below false none = let same = (begins none).1 in omega (arith, same)
 
         found : ((n' c' : ℕ) → (lags (suc i) ≡ false → (n' ≡ 1) × (c' ≡ cursor (suc i))) → (lags (suc i) ≡ true → c' ≤ cursor (suc i)) → Claim n' c' (suc i) (drop (suc i) log) rest)
-            → (x : NodeRec) × (slice_get log i ≡ Some x) → Claim number' cursor' i (drop i log) (upgraded_at stream log i ++ rest)
-        found ih (rec, at) = subst (λ xs. Claim number' cursor' i xs (upgraded_at stream log i ++ rest)) (sym (drop_at log i rec at)) (go (took_next stream log i) refl (takes_next stream log i) refl (takes_next stream log (suc i)) refl)
+            → (x : NodeRec) × (slice_get log i ≡ Some x) → Claim number' cursor' i (drop i log) (upgraded_at joins stream log i ++ rest)
+        found ih (rec, at) = subst (λ xs. Claim number' cursor' i xs (upgraded_at joins stream log i ++ rest)) (sym (drop_at log i rec at)) (go (took_next joins stream log i) refl (takes_next joins stream log i) refl (takes_next joins stream log (suc i)) refl)
           where
             recs : List NodeRec
             recs = drop (suc i) log
 
-            emit : (before here after : Bool) → took_next stream log i ≡ before → takes_next stream log i ≡ here → takes_next stream log (suc i) ≡ after → upgraded_at stream log i ≡ joined before here after (Some rec)
+            emit : (before here after : Bool) → took_next joins stream log i ≡ before → takes_next joins stream log i ≡ here → takes_next joins stream log (suc i) ≡ after → upgraded_at joins stream log i ≡ joined before here after (Some rec)
             emit before here after b h a =
-                ap (λ x. joined x (takes_next stream log i) (takes_next stream log (suc i)) (slice_get log i)) b
-                ∙ ap (λ x. joined before x (takes_next stream log (suc i)) (slice_get log i)) h
+                ap (λ x. joined x (takes_next joins stream log i) (takes_next joins stream log (suc i)) (slice_get log i)) b
+                ∙ ap (λ x. joined before x (takes_next joins stream log (suc i)) (slice_get log i)) h
                 ∙ ap (λ x. joined before here x (slice_get log i)) a
                 ∙ ap (joined before here after) at
 
-            over : (es : List NodeRec) → upgraded_at stream log i ≡ es → Claim number' cursor' i (rec ∷ recs) (es ++ rest) → Claim number' cursor' i (rec ∷ recs) (upgraded_at stream log i ++ rest)
+            over : (es : List NodeRec) → upgraded_at joins stream log i ≡ es → Claim number' cursor' i (rec ∷ recs) (es ++ rest) → Claim number' cursor' i (rec ∷ recs) (upgraded_at joins stream log i ++ rest)
             over es is claim = subst (λ xs. Claim number' cursor' i (rec ∷ recs) (xs ++ rest)) (sym is) claim
 
             as_it_was : lags i ≡ false → Claim number' cursor' i (rec ∷ recs) (rec ∷ rest)
@@ -263,58 +304,59 @@ module _ (stream : List StreamRec) where
                 let (n, c) = begins none in
                 begun i number' cursor' (rec ∷ recs) (rec ∷ rest) n c (stays i rec recs rest at none (ih 1 (cursor (suc i)) (λ _. (refl, refl)) (λ _. omega arith)))
 
-            taken : takes_next stream log i ≡ true → TakesNext stream (cursor i) rec
-            taken here = takes-next (cursor i) rec (sym (ap (takes_after stream (cursor i)) at) ∙ here)
+            taken : takes_next joins stream log i ≡ true → TakesNext stream (cursor i) rec
+            taken here = takes-next joins (cursor i) rec (sym (ap (takes_after joins stream (cursor i)) at) ∙ here)
 
-            go : (before : Bool) → took_next stream log i ≡ before → (here : Bool) → takes_next stream log i ≡ here → (after : Bool) → takes_next stream log (suc i) ≡ after
-                → Claim number' cursor' i (rec ∷ recs) (upgraded_at stream log i ++ rest)
-            go before b false h after a = over (rec ∷ []) (emit before false after b h a ∙ joined-none before after rec) (as_it_was (and-false (took_next stream log i) (takes_next stream log i) h))
+            go : (before : Bool) → took_next joins stream log i ≡ before → (here : Bool) → takes_next joins stream log i ≡ here → (after : Bool) → takes_next joins stream log (suc i) ≡ after
+                → Claim number' cursor' i (rec ∷ recs) (upgraded_at joins stream log i ++ rest)
+            go before b false h after a = over (rec ∷ []) (emit before false after b h a ∙ joined-none before after rec) (as_it_was (and-false (took_next joins stream log i) (takes_next joins stream log i) h))
             go before b true h true a =
-                let lag : lags (suc i) ≡ true = ap (λ x. x && takes_next stream log (suc i)) h ∙ a in
+                let lag : lags (suc i) ≡ true = ap (λ x. x && takes_next joins stream log (suc i)) h ∙ a in
                 let t = taken h in
                 let more = cursor-more i rec at t in
+                let past = t.past in
                 let le = below (lags i) refl in
                 over [] (emit before true true b h a ∙ joined-left before rec)
                 (left_out i rec at t number' cursor' recs rest lag (λ none. (begins none).0) (lag-later i)
-                (ih number' cursor' (λ none. absurd (true≢false (sym lag ∙ none))) (λ _. omega (arith, more, le))))
+                (ih number' cursor' (λ none. absurd (true≢false (sym lag ∙ none))) (λ _. omega (arith, more, past, le))))
             go true b true h false a =
                 let t = taken h in
-                let lag : lags i ≡ true = ap (λ x. x && takes_next stream log i) b ∙ h in
-                over (Takes t.off ∷ []) (emit true true false b h a ∙ ap (λ r. joined true true false (Some r)) t.is)
-                (joins i rec at t number' cursor' recs rest lag (lag-later i lag) (behind lag) (ih 1 (cursor (suc i)) (λ _. (refl, refl)) (λ _. omega arith)))
-            go false b true h false a = over (rec ∷ []) (emit false true false b h a ∙ joined-alone rec) (as_it_was (ap (λ x. x && takes_next stream log i) b))
+                let lag : lags i ≡ true = ap (λ x. x && takes_next joins stream log i) b ∙ h in
+                over (Takes t.off ∷ []) (emit true true false b h a ∙ t.stands)
+                (ends-run i rec at t number' cursor' recs rest lag (lag-later i lag) (behind lag) (ih 1 (cursor (suc i)) (λ _. (refl, refl)) (λ _. omega arith)))
+            go false b true h false a = over (rec ∷ []) (emit false true false b h a ∙ joined-alone rec) (as_it_was (ap (λ x. x && takes_next joins stream log i) b))
 
     -- a log is alike the one that it is upgraded to
-    pub upgraded-alike : AreAlike stream 0 0 log 0 0 (upgraded_log stream log)
+    pub upgraded-alike : AreAlike stream 0 0 log 0 0 (upgraded_log joins stream log)
     upgraded-alike = (upgrades (length log) 0 (omega arith) 0 0 (λ _. (refl, refl)) (λ _. omega arith)).alike
 
-    upgraded-orders : ordered_over stream 0 0 (upgraded_log stream log) ≡ ordered_over stream 0 0 log
+    upgraded-orders : ordered_over stream 0 0 (upgraded_log joins stream log) ≡ ordered_over stream 0 0 log
     upgraded-orders = (upgrades (length log) 0 (omega arith) 0 0 (λ _. (refl, refl)) (λ _. omega arith)).orders
 
-    in-order-later : (i c : ℕ) (rec : NodeRec) → is_in_order stream i c rec ≡ is_in_order stream (first_or_later i) c rec
-    in-order-later zero c rec = refl
-    in-order-later (suc i) c (Start off) = refl
-    in-order-later (suc i) c (Take off) = refl
-    in-order-later (suc i) c (Takes off) = refl
-    in-order-later (suc i) c (Opened other sid nsp) = refl
-    in-order-later (suc i) c (Join other room) = refl
-    in-order-later (suc i) c (Leave other room) = refl
-    in-order-later (suc i) c (Broke other turn) = refl
-    in-order-later (suc i) c (Back other turn) = refl
-    in-order-later (suc i) c (Gone other) = refl
+  in-order-later : (i c : ℕ) (rec : NodeRec) → is_in_order stream i c rec ≡ is_in_order stream (first_or_later i) c rec
+  in-order-later zero c rec = refl
+  in-order-later (suc i) c (Start off) = refl
+  in-order-later (suc i) c (Take off) = refl
+  in-order-later (suc i) c (Takes off) = refl
+  in-order-later (suc i) c (Opened other sid nsp) = refl
+  in-order-later (suc i) c (Join other room) = refl
+  in-order-later (suc i) c (Leave other room) = refl
+  in-order-later (suc i) c (Broke other turn) = refl
+  in-order-later (suc i) c (Back other turn) = refl
+  in-order-later (suc i) c (Gone other) = refl
 
-    -- whether all from a record on are in order
-    all-ordered : (count i : ℕ) → i + count ≡ length log → (count ≡ 0 → is_later i ≡ true)
-        → list_all (λ number. is_some_in_order stream number (cursor number) (slice_get log number)) (numbers_from i count) ≡ ordered_over stream (first_or_later i) (cursor i) (drop i log)
-    all-ordered zero zero e some = absurd (true≢false (sym (some refl)))
-    all-ordered zero (suc i) e some = sym (ap (ordered_over stream 1 (cursor (suc i))) (drop_all (suc i) log (omega (arith, e))))
-    all-ordered (suc count) i e some =
-        let (rec, at) = element_at log i (omega (arith, e)) in
-        let ih = all-ordered count (suc i) (omega (arith, e)) (λ _. refl) in
-        ap (λ o. is_some_in_order stream i (cursor i) o && list_all (λ number. is_some_in_order stream number (cursor number) (slice_get log number)) (numbers_from (suc i) count)) at
-        ∙ ap (λ b. is_in_order stream i (cursor i) rec && b) (ih ∙ ap (λ c. ordered_over stream 1 c (drop (suc i) log)) (sym (cursor-next i rec at)))
-        ∙ ap (λ b. b && ordered_over stream 1 (next_cursor stream (first_or_later i) rec (cursor i)) (drop (suc i) log)) (in-order-later i (cursor i) rec)
-        ∙ sym (ap (ordered_over stream (first_or_later i) (cursor i)) (drop_at log i rec at))
+  -- whether all from a record on are in order
+  all-ordered : (log : List NodeRec) (count i : ℕ) → i + count ≡ length log → (count ≡ 0 → is_later i ≡ true)
+      → list_all (λ number. is_some_in_order stream number (cursor_at stream log number) (slice_get log number)) (numbers_from i count) ≡ ordered_over stream (first_or_later i) (cursor_at stream log i) (drop i log)
+  all-ordered log zero zero e some = absurd (true≢false (sym (some refl)))
+  all-ordered log zero (suc i) e some = sym (ap (ordered_over stream 1 (cursor_at stream log (suc i))) (drop_all (suc i) log (omega (arith, e))))
+  all-ordered log (suc count) i e some =
+      let (rec, at) = element_at log i (omega (arith, e)) in
+      let ih = all-ordered log count (suc i) (omega (arith, e)) (λ _. refl) in
+      ap (λ o. is_some_in_order stream i (cursor_at stream log i) o && list_all (λ number. is_some_in_order stream number (cursor_at stream log number) (slice_get log number)) (numbers_from (suc i) count)) at
+      ∙ ap (λ b. is_in_order stream i (cursor_at stream log i) rec && b) (ih ∙ ap (λ c. ordered_over stream 1 c (drop (suc i) log)) (sym (cursor-next log i rec at)))
+      ∙ ap (λ b. b && ordered_over stream 1 (next_cursor stream (first_or_later i) rec (cursor_at stream log i)) (drop (suc i) log)) (in-order-later i (cursor_at stream log i) rec)
+      ∙ sym (ap (ordered_over stream (first_or_later i) (cursor_at stream log i)) (drop_at log i rec at))
 
   -- a log is in order where its records are, one after another
   ordered-over : (log : List NodeRec) → is_ordered stream log ≡ ordered_over stream 0 0 log
@@ -322,5 +364,5 @@ module _ (stream : List StreamRec) where
   ordered-over (first ∷ others) = all-ordered (first ∷ others) (suc (length others)) 0 (omega arith) (λ e. absurd (omega (arith, e)))
 
   -- a log is in order where the one that it is upgraded to is
-  pub upgraded-ordered : (log : List NodeRec) → is_ordered stream log ≡ is_ordered stream (upgraded_log stream log)
-  upgraded-ordered log = ordered-over log ∙ sym (upgraded-orders log) ∙ sym (ordered-over (upgraded_log stream log))
+  pub upgraded-ordered : (joins : Joins) (log : List NodeRec) → is_ordered stream log ≡ is_ordered stream (upgraded_log joins stream log)
+  upgraded-ordered joins log = ordered-over log ∙ sym (upgraded-orders joins log) ∙ sym (ordered-over (upgraded_log joins stream log))

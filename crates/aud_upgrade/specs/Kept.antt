@@ -6,7 +6,7 @@ use Rattle.aud_node.specs.Cluster.{cluster_of}
 use Rattle.aud_maker.specs.Sessions.{sessions_of}
 use Rattle.aud_verdict.specs.declared.verdict.Verdict.{Verdict}
 use Rattle.aud_verdict.specs.Verdict.{IsVerdict}
-use Rattle.aud_upgrade.specs.Upgraded.{upgraded}
+use Rattle.aud_upgrade.specs.Upgraded.{upgraded, with_runs}
 
 -- both have the same sessions in the same order, and each session the same verdict, whether the whole is asked for or
 -- not
@@ -18,3 +18,7 @@ pub record AreJudgedAlike (taps others : List Tap) : Type 0 where
 -- whatever taps are upgraded
 abbrev pub UpgradesKeepVerdicts : Type 0
 UpgradesKeepVerdicts = (taps : List Tap) → AreJudgedAlike taps (upgraded taps)
+
+-- whatever taps are, their `takes` too
+abbrev pub RunsKeepVerdicts : Type 0
+RunsKeepVerdicts = (taps : List Tap) → AreJudgedAlike taps (with_runs taps)

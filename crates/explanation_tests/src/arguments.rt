@@ -9,7 +9,7 @@ use std::test::Fail;
 const EVERY_CLASS: &str = "fail on delivery packets recording, pids, files\n";
 
 /// Arguments, how the text begins that tells of them, and a part of it.
-static ARGUMENTS: [(&[&str], &str, &str); 66] = [
+static ARGUMENTS: [(&[&str], &str, &str); 37] = [
     (
         &["explain"],
         "read all, form Text, quiet false, workers 4, ",
@@ -71,6 +71,11 @@ static ARGUMENTS: [(&[&str], &str, &str); 66] = [
         EVERY_CLASS,
     ),
     (
+        &["explain", "--lines", "p.lines", "--pid", "P", "p.jsonl"],
+        "read all, form Text, quiet false, workers 4, fail on delivery packets recording, lines p.lines, ",
+        "pids P, files p.jsonl\n",
+    ),
+    (
         &["explain", "--only", "LOST"],
         "read LOST, form Text, quiet false, workers 4, ",
         EVERY_CLASS,
@@ -97,6 +102,21 @@ static ARGUMENTS: [(&[&str], &str, &str); 66] = [
         ],
         "read all, form Text, quiet false, workers 4, ",
         "fail on NOLOG CHAIN ORDER CLIENT NAMES FRAME ORPHAN CONTENT EXTRA DOUBLED SWAPPED LOST WINDOW, pids",
+    ),
+    (
+        &["explain", "--whole"],
+        "read all, whole, form Text, quiet false, workers 4, ",
+        EVERY_CLASS,
+    ),
+    (
+        &["explain", "--only", "TAIL", "--whole"],
+        "read TAIL, whole, form Text, quiet false, workers 4, ",
+        EVERY_CLASS,
+    ),
+    (
+        &["explain", "--whole", "--fail-on=refused,TAIL,LOST"],
+        "read all, whole, form Text, quiet false, workers 4, ",
+        "fail on refused LOST TAIL, pids, files\n",
     ),
     (
         &["explain", "--workers=64", "--quiet", "--json"],
@@ -138,8 +158,16 @@ static ARGUMENTS: [(&[&str], &str, &str); 66] = [
     (&["explain", "--only"], "refused: ", "--only"),
     (&["explain", "--only", "yes"], "refused: ", "yes"),
     (&["explain", "--only", "No"], "refused: ", "No"),
+];
+
+/// More of them.
+static MORE_ARGUMENTS: [(&[&str], &str, &str); 36] = [
     (&["explain", "--only", "lost"], "refused: ", "lost"),
-    (&["explain", "--only", "TAIL"], "refused: ", "TAIL"),
+    (
+        &["explain", "--only", "TAIL"],
+        "refused: error: TAIL is named without --whole, which alone looks for it",
+        "--help",
+    ),
     (
         &["explain", "--only", "LOST,EXTRA"],
         "refused: ",
@@ -183,7 +211,17 @@ static ARGUMENTS: [(&[&str], &str, &str); 66] = [
         "refused: ",
         "lost",
     ),
-    (&["explain", "--fail-on", "TAIL"], "refused: ", "TAIL"),
+    (
+        &["explain", "--fail-on", "LOST,TAIL"],
+        "refused: error: TAIL is named without --whole, which alone looks for it",
+        "--help",
+    ),
+    (&["explain", "--whole=yes"], "refused: ", "--whole"),
+    (
+        &["explain", "--whole", "f", "--whole"],
+        "refused: ",
+        "--whole",
+    ),
     (
         &["explain", "--fail-on=refused", "--fail-on=refused"],
         "refused: ",
@@ -197,8 +235,13 @@ static ARGUMENTS: [(&[&str], &str, &str); 66] = [
         "refused: ",
         "--workers",
     ),
+    (&["explain", "--lines"], "refused: ", "--lines"),
+    (
+        &["explain", "--lines=a", "--lines", "b"],
+        "refused: ",
+        "--lines",
+    ),
     (&["explain", "-j"], "refused: ", "-j"),
-    (&["explain", "--whole"], "refused: ", "--whole"),
     (&["explain", "--help"], "help: ", "--pid <P>"),
     (&["explain", "--help"], "help: ", "--only <WHICH>"),
     (
@@ -242,6 +285,7 @@ fn push_faults(out: &mut String, faults: Faults) -> Result<(), AllocError> {
         (faults.swapped, "SWAPPED"),
         (faults.lost, "LOST"),
         (faults.window, "WINDOW"),
+        (faults.tail, "TAIL"),
     ];
     push_chosen(out, &all)
 }
@@ -285,11 +329,18 @@ fn options_text(alloc: Global, options: &ExplainOptions) -> Result<String, Alloc
     let mut out = String::new(alloc);
     write!(out, "read")?;
     push_only(&mut out, options.only)?;
+    if options.whole {
+        write!(out, ", whole")?;
+    }
     write!(
         out,
         ", form {form:?}, quiet {quiet}, workers {workers}, fail on"
     )?;
     push_fail_on(&mut out, options.fail_on)?;
+    if let Some(lines) = &options.lines {
+        let lines = lines.as_str();
+        write!(out, ", lines {lines}")?;
+    }
     write!(out, ", pids")?;
     push_texts(&mut out, options.pids.as_slice())?;
     write!(out, ", files")?;
@@ -332,5 +383,6 @@ fn assert_texts(
 
 #[test]
 fn arguments_are_read(rt: HostRuntime) -> Result<(), Fail> {
-    assert_texts(&rt, rt.alloc(), &ARGUMENTS)
+    assert_texts(&rt, rt.alloc(), &ARGUMENTS)?;
+    assert_texts(&rt, rt.alloc(), &MORE_ARGUMENTS)
 }

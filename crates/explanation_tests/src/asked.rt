@@ -58,7 +58,7 @@ lines: 30, bytes: 1632, seconds: *
 "#;
 
 /// The client comes back before the node has noticed the break: the session breaks after its two last events.
-const TOO_EARLY: &str = r#"st {"k":"tap","v":1,"of":"stream"}
+pub const TOO_EARLY: &str = r#"st {"k":"tap","v":1,"of":"stream"}
 st {"k":"ev","off":"1795330276219-0","nsp":"/","text":"2[\"first\",\"1795330276219-0\"]"}
 st {"k":"ev","off":"1795330276547-0","nsp":"/","text":"2[\"missed\",\"1795330276547-0\"]"}
 st {"k":"ev","off":"1795330276572-0","nsp":"/","text":"2[\"after\",\"1795330276572-0\"]"}
@@ -174,8 +174,29 @@ a {"k":"gone","pid":"A"}
 a {"k":"back","pid":"P","turn":1}
 "#;
 
+/// A node whose log ends while `P` is connected to it; the client asks for `P` on another one, and gets `Q`.
+const ENDED: &str = r#"st {"k":"tap","v":1,"of":"stream"}
+st {"k":"ev","off":"o1","nsp":"/","text":"2[\"one\",\"o1\"]"}
+a {"k":"tap","v":1,"of":"node"}
+a {"k":"start","off":null}
+a {"k":"open","pid":"P","sid":"s1","nsp":"/"}
+a {"k":"take","off":"o1"}
+b {"k":"tap","v":1,"of":"node"}
+b {"k":"start","off":null}
+b {"k":"take","off":"o1"}
+b {"k":"open","pid":"Q","sid":"s2","nsp":"/"}
+c1 {"k":"tap","v":1,"of":"client"}
+c1 {"k":"conn","c":1}
+c1 {"k":"in","t":"40{\"sid\":\"s1\",\"pid\":\"P\"}"}
+c1 {"k":"in","t":"42[\"one\",\"o1\"]"}
+c1 {"k":"lost"}
+c1 {"k":"conn","c":2}
+c1 {"k":"out","t":"40{\"pid\":\"P\",\"offset\":\"o1\"}"}
+c1 {"k":"in","t":"40{\"sid\":\"s2\",\"pid\":\"Q\"}"}
+"#;
+
 /// What is written of each of them.
-static CASES: [Case; 5] = [
+static CASES: [Case; 7] = [
     Case {
         arguments: &["explain"],
         input: Input::Files(&[REFUSED]),
@@ -267,6 +288,10 @@ client c1, namespace /, turns 2, got 3, due 3, tail 0
     client  11 reply  12-17 got 1-2  20 lost  22 asks after 2  23 reply  23 got 3  27 asks after 3
 refused recovery: got no session, missed: not known
       27 c1  conn 3 asks P after o3
+cause node-ended-in-turn (fits, line 38): The log of a ends in the session's last turn.
+do: see whether the node was killed: then it stored no session, and waiting can't help.
+cause never-broken (fits, line 38): No log has a break of the session's last turn.
+do: let the client wait longer before it comes back, or the server notice a break sooner.
 
 sessions: 2, yes: 2, no: 0
 sessions that no client named: 0
@@ -274,6 +299,41 @@ sessions with a tail: 0, events in tails: 0
 recoveries asked for: 2, granted: 1, refused: 1
 entries of the stream: 4, recoverable: 4
 lines: 38, *"#,
+        outcome: Ok(Status::AllYes),
+    },
+    Case {
+        arguments: &["explain"],
+        input: Input::Files(&[ENDED]),
+        text: r#"yes P got=1 tail=0 turns=1 [delivery]
+client c1, namespace /, turns 1, got 1, due 1, tail 0
+    turn 0  a  5 open, cursor 0 == take 1 == 6 log ends, cursor 1
+    client  13 reply  14 got 1  15 lost  17 asks after 1  18 refused
+refused recovery: got session Q, missed 0
+      17 c1  conn 2 asks P after o1
+      18 c1  conn 2 reply, sid s2, pid Q
+cause node-ended-in-turn (fits, line 6): The log of a ends in the session's last turn.
+do: see whether the node was killed: then it stored no session, and waiting can't help.
+cause never-broken (fits, line 5): No log has a break of the session's last turn.
+do: let the client wait longer before it comes back, or the server notice a break sooner.
+
+sessions: *"#,
+        outcome: Ok(Status::AllYes),
+    },
+    // The node ends the session.
+    Case {
+        arguments: &["explain"],
+        input: Input::Files(&[ENDED, r#"a {"k":"gone","pid":"P"}"#]),
+        text: r#"yes P got=1 tail=0 turns=1 [delivery]
+client c1, namespace /, turns 1, got 1, due 1, tail 0
+    turn 0  a  5 open, cursor 0 == take 1 == 19 gone, cursor 1
+    client  13 reply  14 got 1  15 lost  17 asks after 1  18 refused
+refused recovery: got session Q, missed 0
+      17 c1  conn 2 asks P after o1
+      18 c1  conn 2 reply, sid s2, pid Q
+cause session-over (certain, line 19): The log of a ends the session.
+do: keep a session that a client may come back to, for as long as it may.
+
+sessions: *"#,
         outcome: Ok(Status::AllYes),
     },
 ];

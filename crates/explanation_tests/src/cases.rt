@@ -114,7 +114,7 @@ fn push_differing<H: Threads + Wait + Clock + RandomSource + Sync>(
     }
     let options = explain_asked(alloc, case.arguments)?;
     let mut output = Watched::new(Vec::new(alloc));
-    let outcome = explain(rt, alloc, keys, &mut files, &mut output, &options);
+    let outcome = explain(rt, alloc, keys, &mut files, &mut output, &options, None);
     push_other(found, case, output.into_inner().as_slice(), outcome)
 }
 

@@ -12,6 +12,8 @@ mod called;
 #[cfg(test)]
 mod cases;
 #[cfg(test)]
+mod chains;
+#[cfg(test)]
 mod delivery;
 #[cfg(test)]
 mod escapes;
@@ -19,6 +21,8 @@ mod escapes;
 mod figures;
 #[cfg(test)]
 mod help;
+#[cfg(test)]
+mod packets;
 #[cfg(test)]
 mod received;
 #[cfg(test)]
@@ -29,3 +33,5 @@ mod runs;
 mod schedule;
 #[cfg(test)]
 mod simulated;
+#[cfg(test)]
+mod tail;

@@ -1,5 +1,5 @@
 //! What a client received, by the rooms of its session; attachments; recoveries that are asked for where they do not
-//! fit; what is no packet, and an event of no known session.
+//! fit.
 use crate::cases::{Case, Input, assert_cases};
 use aud_verdict::Status;
 use std::test::Fail;
@@ -79,39 +79,8 @@ c1 {"k":"conn","c":1}
 c1 {"k":"in","t":"40{\"sid\":\"s1\",\"pid\":\"P\"}"}
 "#;
 
-/// A client's tap whose last record is no packet.
-pub const FRAME: &str = r#"st {"k":"tap","v":1,"of":"stream"}
-st {"k":"ev","off":"1-0","nsp":"/","rooms":["r"],"text":"2[\"hi\",\"1-0\"]"}
-a {"k":"tap","v":1,"of":"node"}
-a {"k":"start","off":null}
-a {"k":"open","pid":"P","sid":"s1","nsp":"/"}
-a {"k":"join","pid":"P","room":"r"}
-a {"k":"take","off":"1-0"}
-c1 {"k":"tap","v":1,"of":"client"}
-c1 {"k":"conn","c":1}
-c1 {"k":"in","t":"40{\"sid\":\"s1\",\"pid\":\"P\"}"}
-c1 {"k":"in","t":"42[\"hi\",\"1-0\"]"}
-c1 {"k":"in","t":"47"}
-"#;
-
-/// A client that gets an event after a reply that names no session.
-const ORPHAN: &str = r#"st {"k":"tap","v":1,"of":"stream"}
-st {"k":"ev","off":"1-0","nsp":"/","rooms":["r"],"text":"2[\"hi\",\"1-0\"]"}
-a {"k":"tap","v":1,"of":"node"}
-a {"k":"start","off":null}
-a {"k":"open","pid":"P","sid":"s1","nsp":"/"}
-a {"k":"join","pid":"P","room":"r"}
-a {"k":"take","off":"1-0"}
-c1 {"k":"tap","v":1,"of":"client"}
-c1 {"k":"conn","c":1}
-c1 {"k":"in","t":"40{\"sid\":\"s1\",\"pid\":\"P\"}"}
-c1 {"k":"in","t":"42[\"hi\",\"1-0\"]"}
-c1 {"k":"in","t":"40{\"sid\":\"s7\"}"}
-c1 {"k":"in","t":"42[\"hi\",\"1-0\"]"}
-"#;
-
 /// What is written of each of them; what the client receives after its reply stands in a second file.
-static CASES: [Case; 11] = [
+static CASES: [Case; 10] = [
     Case {
         arguments: &["explain"],
         input: Input::Files(&[
@@ -129,9 +98,12 @@ client c1, namespace /, connection 1, turns 2, got 2, due 3, differs at frame 2
     turn 0  a  16 open, cursor 1 == take 2-6 == 25 break, cursor 6
     turn 1  b  30 back, cursor 7 == take 8-10 == 32 log ends, cursor 10
     client  35 reply  36-37 got 3-4
-cause late-leave (certain, line 21): The session had left a room of the entry before it reached the
+cause late-leave (fits, line 21): The session had left a room of the entry before it reached the
         entry.
 do: send an entry by the rooms that the session holds when the node takes it.
+cause join-missing (fits, line 37): What came would fit if the session had joined a room of the
+        entry before: a `join` may be missing.
+do: write a `join` at once, unbuffered; look at whether the session was in that room.
 
 sessions: *"#,
         outcome: Ok(Status::SomeNo),
@@ -153,9 +125,11 @@ client c1, namespace /, connection 1, turns 2, got 2, due 3, differs at frame 2
     turn 0  a  16 open, cursor 1 == take 2-6 == 25 break, cursor 6
     turn 1  b  30 back, cursor 7 == take 8-10 == 32 log ends, cursor 10
     client  35 reply  36 got 3  37 got 5
-cause extra-live (certain, line 37): The node sent the session an entry that was not addressed to
-        it.
+cause extra-live (fits, line 37): The node sent the session an entry that was not addressed to it.
 do: look at how the node picks the sessions of a room.
+cause leave-missing (fits, line 37): What came would fit if the session had left a room before: a
+        `leave` may be missing.
+do: write a `leave` at once, unbuffered; look at whether the session was in that room.
 
 sessions: *"#,
         outcome: Ok(Status::SomeNo),
@@ -202,9 +176,12 @@ client c1, namespace /, connection 1, turns 2, got 2, due 3, differs at frame 2
     turn 0  a  16 open, cursor 1 == take 2-6 == 25 break, cursor 6
     turn 1  b  30 back, cursor 7 == take 8-10 == 32 log ends, cursor 10
     client  35 reply  36 got 3  37 got 10
-cause lost-live (certain, line 37): The node took the entry while the client was connected, and no
+cause lost-live (fits, line 37): The node took the entry while the client was connected, and no
         frame of it came.
 do: look at what stands between the node and the client, and at what the node sent.
+cause leave-missing (fits, line 37): What came would fit if the session had left a room before: a
+        `leave` may be missing.
+do: write a `leave` at once, unbuffered; look at whether the session was in that room.
 
 sessions: *"#,
         outcome: Ok(Status::SomeNo),
@@ -268,7 +245,38 @@ do: store the offset with each event, before the event is worked on.
 sessions: *"#,
         outcome: Ok(Status::SomeNo),
     },
-    // It gets that very event after that.
+    // It gets the last event again, which had come in a body of polling.
+    Case {
+        arguments: &["explain"],
+        input: Input::Files(&[
+            RECOVERED,
+            r#"c1 {"k":"in","t":"42[\"one\",\"o1\"]"}
+c1 {"k":"poll","t":"42[\"two\",\"o2\"]"}
+c1 {"k":"conn","c":2}
+c1 {"k":"out","t":"40{\"pid\":\"P\",\"offset\":\"o1\"}"}
+c1 {"k":"poll","t":"40{\"sid\":\"s1\",\"pid\":\"P\"}\u001e42[\"two\",\"o2\"]"}"#,
+        ]),
+        text: r#"no P DOUBLED o2 [delivery]
+client c1, namespace /, connection 2, turns 2, got 3, due 2, differs at frame 3
+    line tap  record
+       3 st   entry 2 o2  the entry
+      15 c1   conn 1 got 2 o2  earlier
+      17 c1   conn 2 asks P after o1
+      18 c1   conn 2 got 2 o2  <- again
+    turn 0  a  6 open, cursor 0 == take 1-2 == 9 break, cursor 2
+    turn 1  a  10 back, cursor 2 == 10 log ends, cursor 2
+    client  13 reply  14-15 got 1-2  17 asks after 1  18 reply  18 got 2
+cause stale-offset (fits, line 17): The client asked to go on after entry 1, and had later ones
+        already.
+do: store the offset with each event, before the event is worked on.
+cause body-came-twice (fits, lines 15 18): From this entry on, all that came before the recovery had
+        come in one body of polling.
+do: see whether the client refused that body, for its packets are too many or too long.
+
+sessions: *"#,
+        outcome: Ok(Status::SomeNo),
+    },
+    // It gets the very event after which it asked to go on.
     Case {
         arguments: &["explain"],
         input: Input::Files(&[
@@ -311,39 +319,6 @@ client c1, namespace /, connection 2, turns 2, got 0, due 2
     client  13 reply  15 asks  16 reply
 cause no-offset (certain, line 15): The client asked for the session and gave no offset.
 do: store the offset of each event, and ask with the last one.
-
-sessions: *"#,
-        outcome: Ok(Status::SomeNo),
-    },
-    Case {
-        arguments: &["explain"],
-        input: Input::Files(&[FRAME]),
-        text: r#"no P FRAME [packets]
-client c1, namespace /, connection 1, turns 1, delivery not judged
-    line tap  record
-      12 c1   conn 1 no packet  <- no packet
-    turn 0  a  5 open, cursor 0 == take 1 == 7 log ends, cursor 1
-    client  10 reply  11 got 1
-cause not-a-packet (fits, line 12): A record of the client's tap is no packet: the first byte of the
-        message is no type of a Socket.IO packet.
-do: record what came as it came: a text as a text, and bytes as bytes.
-
-sessions: *"#,
-        outcome: Ok(Status::SomeNo),
-    },
-    Case {
-        arguments: &["explain"],
-        input: Input::Files(&[ORPHAN]),
-        text: r#"no P ORPHAN [packets]
-client c1, namespace /, connection 1, turns 1, delivery not judged
-    line tap  record
-      12 c1   conn 1 reply, sid s7, no pid
-      13 c1   conn 1 got 1 1-0  <- of no known session
-    turn 0  a  5 open, cursor 0 == take 1 == 7 log ends, cursor 1
-    client  10 reply  11 got 1
-cause reply-without-pid (certain, line 12): The reply names no session: the server recovers none
-        there.
-do: let the server recover sessions in this namespace.
 
 sessions: *"#,
         outcome: Ok(Status::SomeNo),

@@ -2,7 +2,7 @@
 use crate::asked::{REFUSED, REFUSED_TEXT};
 use crate::cases::{Case, Input, assert_cases};
 use crate::delivery::BEHIND;
-use crate::received::FRAME;
+use crate::packets::FRAME;
 use aud_explain_app::{ExplainFault, Unexplained};
 use aud_verdict::Status;
 use std::test::Fail;

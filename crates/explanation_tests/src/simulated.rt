@@ -69,8 +69,10 @@ sessions: *"#,
         text: r#"no p1 CLIENT [recording]
 no one client, turns 1, delivery not judged
     turn 0  n1  5 open, cursor 0 == take 1 == 8 log ends, cursor 1
-cause no-client-tap (certain): No tap of a client names the session.
+cause no-client-tap (fits): No tap of a client names the session.
 do: tap the client before its first connection.
+cause reply-missing (fits): The tap of c1 has events, and no reply that names their session.
+do: begin a client's tap before its first packet, and record each answer to a CONNECT.
 
 sessions: *"#,
         outcome: Ok(Status::SomeNo),
@@ -158,9 +160,11 @@ client c1, namespace /, connection 1, turns 1, got 1, due 0, differs at frame 1
       10 c1   conn 1 got 1 1-0  <- not due
     turn 0  n1  5 open, cursor 0 == take 1 == 9 log ends, cursor 1
     client  7 reply  10 got 1
-cause extra-live (certain, line 10): The node sent the session an entry that was not addressed to
-        it.
+cause extra-live (fits, line 10): The node sent the session an entry that was not addressed to it.
 do: look at how the node picks the sessions of a room.
+cause join-missing (fits, line 10): What came would fit if the session had joined a room of the
+        entry before: a `join` may be missing.
+do: write a `join` at once, unbuffered; look at whether the session was in that room.
 
 sessions: *"#,
         outcome: Ok(Status::SomeNo),
@@ -220,9 +224,12 @@ client c1, namespace /, connection 1, turns 1, got 1, due 2, differs at frame 1
       13 c1   conn 1 got 2 2-0  <- passes it over
     turn 0  n1  5 open, cursor 0 == take 1-2 == 12 log ends, cursor 2
     client  7 reply  13 got 2
-cause lost-live (certain, line 13): The node took the entry while the client was connected, and no
+cause lost-live (fits, line 13): The node took the entry while the client was connected, and no
         frame of it came.
 do: look at what stands between the node and the client, and at what the node sent.
+cause leave-missing (fits, line 13): What came would fit if the session had left a room before: a
+        `leave` may be missing.
+do: write a `leave` at once, unbuffered; look at whether the session was in that room.
 
 sessions: *"#,
         outcome: Ok(Status::SomeNo),

@@ -7,7 +7,7 @@ use aud_merge::{Order, State, Step, allowed, apply, order};
 use aud_node::Logs;
 use aud_reader::ReadFault;
 use aud_tap::Taps;
-use aud_upgrade::upgrade;
+use aud_upgrade::{Joins, upgrade};
 use aud_writer::write_bundle;
 use std::alloc::{AllocError, Global};
 use std::hash::RandomState;
@@ -131,7 +131,7 @@ fn shown(alloc: Global, logs: &Logs<'_>) -> Result<Given> {
 
 fn upgraded(alloc: Global, logs: &Logs<'_>) -> Result<Given> {
     begin(alloc);
-    let upgraded = upgrade(alloc, logs);
+    let upgraded = upgrade(alloc, logs, Joins::TakeAlone);
     end(alloc);
     match upgraded {
         Ok(taps) => Ok(count(alloc, taps.as_slice().len(), "taps")?),

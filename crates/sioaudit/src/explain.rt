@@ -1,14 +1,18 @@
 //! The command `explain`.
 ghost use Rattle.std.specs.Prelude.{◌<◌, IfOk, OnOk, length};
 
+use crate::part_files::refused_for;
 use crate::progress::Progress;
 use crate::refusal::refuse;
-use crate::source::{Source, first_and_others, unread};
+use crate::source::{Source, bytes_in, first_and_others, unread};
 use crate::{fail, fail_for, status_code};
 use aud_app::{RunFault, Watched};
 use aud_cli::{ExplainOptions, explain_asked};
 use aud_explain_app::{ExplainFault, Unexplained, explain};
 use aud_explanation::printed;
+use aud_input::{PartLines, Size};
+use aud_parts::{LinesFault, read_lines};
+use aud_tap::Text;
 use std::alloc::{AllocError, Global};
 use std::hash::RandomState;
 use std::io::{IsTerminal, Stderr};
@@ -57,18 +61,65 @@ fn push_file<'a>(
     Ok(())
 }
 
+/// Says in these words why the file that names the lines is refused.
+fn refused_lines(rt: &impl Eprint, alloc: Global, name: &str, fault: LinesFault) -> ExitCode {
+    if let LinesFault::Memory = fault {
+        return fail(rt, RunFault::Memory);
+    }
+    match format!(in alloc; "{fault}") {
+        Ok(words) => refused_for(rt, alloc, name, words.as_str()),
+        Err(_) => fail(rt, RunFault::Memory),
+    }
+}
+
+/// The lines of a part, as the file of this name names them.
+fn lines_in(host: &HostRuntime, alloc: Global, name: &str) -> Result<PartLines, ExitCode> {
+    let text = bytes_in(host, alloc, name)?;
+    match read_lines(alloc, text.as_slice()) {
+        Ok(part) => Ok(part),
+        Err(fault) => Err(refused_lines(host, alloc, name, fault)),
+    }
+}
+
+/// The same, where the arguments name such a file.
+fn part_of(
+    host: &HostRuntime,
+    alloc: Global,
+    name: &Option<Text>,
+) -> Result<Option<PartLines>, ExitCode> {
+    match name {
+        Some(name) => Ok(Some(lines_in(host, alloc, name.as_str())?)),
+        None => Ok(None),
+    }
+}
+
+/// Says that the lines are those of another part, of this size.
+fn other_part(rt: &impl Eprint, alloc: Global, name: &str, size: Size) -> ExitCode {
+    let Size { lines, bytes } = size;
+    match format!(in alloc; "is of a part of {lines} lines and {bytes} bytes") {
+        Ok(words) => refused_for(rt, alloc, name, words.as_str()),
+        Err(_) => fail(rt, RunFault::Memory),
+    }
+}
+
 /// Says why nothing was explained, or not all was written.
 fn failed(
     rt: &impl Eprint,
     alloc: Global,
     options: &ExplainOptions,
+    part: &Option<PartLines>,
     files: &[Watch<'_>],
     output_error: Option<i32>,
     fault: ExplainFault,
 ) -> ExitCode {
-    match fault {
-        ExplainFault::Unexplained(why) => unexplained(rt, alloc, options, files, why),
-        ExplainFault::Write => fail_for(rt, RunFault::Write, output_error),
+    match (fault, part, &options.lines) {
+        (ExplainFault::Unexplained(why), _, _) => unexplained(rt, alloc, options, files, why),
+        (ExplainFault::OtherPart, Some(part), Some(name)) => {
+            other_part(rt, alloc, name.as_str(), part.size)
+        }
+        (ExplainFault::OtherPart | ExplainFault::Write, _, _) => {
+            fail_for(rt, RunFault::Write, output_error)
+        }
     }
 }
 
@@ -136,6 +187,10 @@ pub fn explanation<H: Threads + Wait + Clock + Sync>(
         Ok(options) => options,
         Err(_) => return refuse(host, alloc, words),
     };
+    let part = match part_of(host, alloc, &options.lines) {
+        Ok(part) => part,
+        Err(status) => return status,
+    };
     let Ok(keys) = RandomState::new(host) else {
         return fail(host, RunFault::Read);
     };
@@ -143,8 +198,12 @@ pub fn explanation<H: Threads + Wait + Clock + Sync>(
         return fail(host, RunFault::Memory);
     };
     let mut output = Watched::new(host.stdout());
-    match explain(rt, alloc, keys, &mut files, &mut output, &options) {
+    let named = part.as_ref();
+    match explain(rt, alloc, keys, &mut files, &mut output, &options, named) {
         Ok(status) => status_code(status),
-        Err(fault) => failed(host, alloc, &options, &files, output.os_error(), fault),
+        Err(fault) => {
+            let os_error = output.os_error();
+            failed(host, alloc, &options, &part, &files, os_error, fault)
+        }
     }
 }

@@ -90,7 +90,7 @@ fn main(rt: HostRuntime) -> ExitCode {
         return explanation(&rt, &rt, alloc, &words);
     }
     if is_split(&words) {
-        return splitting(&rt, alloc, &words);
+        return splitting(&rt, &rt, alloc, &words);
     }
     if is_merge(&words) {
         return merging(&rt, alloc, &words);

@@ -5,7 +5,7 @@ ghost use Rattle.aud_parts.specs.Listing.{are_within};
 use crate::fail;
 use crate::part_files::{SESSIONS, failed_at, part_name, path_in, write_text};
 use crate::refusal::refuse;
-use crate::source::{Source, unread};
+use crate::source::bytes_in;
 use aud_app::RunFault;
 use aud_cli::{MergeOptions, merge_asked};
 use aud_explanation::printed;
@@ -16,7 +16,6 @@ use aud_tap::{Bytes, Text};
 use std::alloc::{AllocError, Global};
 use std::fs;
 use std::hash::RandomState;
-use std::io::Read;
 use std::process::ExitCode;
 
 /// Whether the arguments ask for a merge.
@@ -65,21 +64,11 @@ fn listing_in(
     }
 }
 
-/// The bytes of a report.
-fn report_in(host: &HostRuntime, alloc: Global, name: &str) -> Result<Bytes, ExitCode> {
-    let mut bytes = Vec::new(alloc);
-    let mut source = Source::new(host, name, true);
-    match source.read_to_end(&mut bytes) {
-        Ok(_) => Ok(Bytes::new(bytes)),
-        Err(error) => Err(unread(host, alloc, name, error.raw_os_error())),
-    }
-}
-
 /// The bytes of all reports.
 fn reports_in(host: &HostRuntime, alloc: Global, names: &[Text]) -> Result<Vec<Bytes>, ExitCode> {
     let mut reports = Vec::new(alloc);
     for name in names {
-        let report = report_in(host, alloc, name.as_str())?;
+        let report = bytes_in(host, alloc, name.as_str())?;
         let Ok(()) = reports.push(report) else {
             return Err(fail(host, RunFault::Memory));
         };

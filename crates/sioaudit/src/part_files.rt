@@ -20,9 +20,15 @@ pub fn part_name(alloc: Global, part: usize) -> Result<String, AllocError> {
     format!(in alloc; "part-{number:04}.jsonl")
 }
 
-/// Whether a file of this name could be that of a part.
+/// The name of the file beside it, which says from which lines of the whole those of the part come.
+pub fn lines_name(alloc: Global, part: usize) -> Result<String, AllocError> {
+    let number = part.saturating_add(1);
+    format!(in alloc; "part-{number:04}.lines")
+}
+
+/// Whether a file of this name could be that of a part, or the one beside it.
 fn is_part_name(name: &str) -> bool {
-    name.starts_with("part-") && name.ends_with(".jsonl")
+    name.starts_with("part-") && (name.ends_with(".jsonl") || name.ends_with(".lines"))
 }
 
 /// The path of the file of this name in the folder.
@@ -124,6 +130,25 @@ pub fn create(host: &HostRuntime, alloc: Global, path: &str) -> Result<Watched<F
     }
 }
 
+/// Writes a file of this name in the folder, with this text.
+pub fn write_file(
+    host: &HostRuntime,
+    alloc: Global,
+    folder: &str,
+    name: &str,
+    text: &str,
+) -> Result<(), ExitCode> {
+    let Ok(path) = path_in(alloc, folder, name) else {
+        return Err(fail(host, RunFault::Memory));
+    };
+    let mut file = create(host, alloc, path.as_str())?;
+    if write_out(&mut file, text.as_bytes()).is_err() {
+        let os_error = file.os_error();
+        return Err(failed_at(host, alloc, RunFault::Write, path.as_str(), os_error));
+    }
+    Ok(())
+}
+
 /// Writes the file that lists the sessions of each part: first under another name.
 pub fn write_sessions(
     host: &HostRuntime,
@@ -137,12 +162,7 @@ pub fn write_sessions(
     ) else {
         return Err(fail(host, RunFault::Memory));
     };
-    let mut file = create(host, alloc, new.as_str())?;
-    if write_out(&mut file, text.as_bytes()).is_err() {
-        let os_error = file.os_error();
-        return Err(failed_at(host, alloc, RunFault::Write, new.as_str(), os_error));
-    }
-    drop(file);
+    write_file(host, alloc, folder, NEW_SESSIONS, text)?;
     match fs::rename(host, new.as_str(), path.as_str()) {
         Ok(()) => Ok(()),
         Err(error) => {
@@ -165,6 +185,9 @@ pub fn remove_split(host: &HostRuntime, alloc: Global, folder: &str, parts: usiz
     remove(host, alloc, folder, NEW_SESSIONS);
     for part in 0..parts {
         if let Ok(name) = part_name(alloc, part) {
+            remove(host, alloc, folder, name.as_str());
+        }
+        if let Ok(name) = lines_name(alloc, part) {
             remove(host, alloc, folder, name.as_str());
         }
     }

@@ -5,6 +5,7 @@ use crate::part_files::failed_at;
 use crate::{fail_for, stdin};
 use aud_base::{RunFault, Text};
 use aud_input::Sources;
+use aud_tap::Bytes;
 use std::alloc::{AllocError, Global};
 use std::collections::VecDeque;
 use std::fs::{self, File};
@@ -109,5 +110,15 @@ pub fn unread(rt: &impl Eprint, alloc: Global, name: &str, os_error: Option<i32>
         fail_for(rt, fault, os_error)
     } else {
         failed_at(rt, alloc, fault, name, os_error)
+    }
+}
+
+/// The bytes of the file of this name, or of standard input for `-`.
+pub fn bytes_in(host: &HostRuntime, alloc: Global, name: &str) -> Result<Bytes, ExitCode> {
+    let mut bytes = Vec::new(alloc);
+    let mut source = Source::new(host, name, true);
+    match source.read_to_end(&mut bytes) {
+        Ok(_) => Ok(Bytes::new(bytes)),
+        Err(error) => Err(unread(host, alloc, name, error.raw_os_error())),
     }
 }

@@ -12,15 +12,16 @@ use aud_app::RunFault;
 use aud_cli::{PartsWanted, SplitOptions, split_asked};
 use aud_node::Logs;
 use aud_parts::{
-    FirstRefusal, IndexedTaps, MeasuredClient, Plan, PlanFault, Planned, RefusedLine, Servers,
-    SizedFault, TapIndex, listing_of_plan, listing_text, plan_parts, plan_within, read_clients,
-    read_servers,
+    ClientsRead, FirstRefusal, IndexedTaps, MeasuredClient, Plan, PlanFault, Planned, RefusedLine,
+    Servers, SizedFault, TapIndex, listing_of_plan, listing_text, plan_parts, plan_within,
+    read_clients, read_servers,
 };
 use aud_reader::ReadFault;
 use std::alloc::{AllocError, Global};
 use std::hash::RandomState;
 use std::mem::ManuallyDrop;
 use std::process::ExitCode;
+use std::thread::Threads;
 
 /// Whether the arguments ask for a split.
 pub fn is_split(words: &[&str]) -> bool {
@@ -88,7 +89,8 @@ fn sessions_of(alloc: Global, plan: &Plan) -> Result<String, AllocError>
 }
 
 /// Writes the parts of a plan.
-fn split_plan(
+fn split_plan<H: Threads + Sync>(
+    rt: &H,
     host: &HostRuntime,
     alloc: Global,
     options: &SplitOptions,
@@ -104,9 +106,11 @@ fn split_plan(
         return Err(fail(host, RunFault::Memory));
     };
     let splitting = Splitting {
+        rt,
         host,
         alloc,
         folder: options.into.as_str(),
+        threads: usize::from(options.workers),
         plan,
         planned: Planned::new(alloc, logs, clients, plan),
         indexed,
@@ -116,7 +120,8 @@ fn split_plan(
 }
 
 /// Plans the parts and writes them.
-fn split_logs(
+fn split_logs<H: Threads + Sync>(
+    rt: &H,
     host: &HostRuntime,
     alloc: Global,
     options: &SplitOptions,
@@ -126,45 +131,81 @@ fn split_logs(
     clients: &[MeasuredClient],
 ) -> Result<(), ExitCode> {
     match plan_of(alloc, logs, clients, options.parts) {
-        Ok(plan) => split_plan(host, alloc, options, files, indexed, logs, clients, &plan),
+        Ok(plan) => split_plan(
+            rt, host, alloc, options, files, indexed, logs, clients, &plan,
+        ),
         Err(fault) => Err(unplanned(host, fault)),
     }
 }
 
+/// Reads the clients' taps.
+fn clients_of<'x, H: Threads + Sync>(
+    rt: &H,
+    alloc: Global,
+    keys: RandomState,
+    threads: usize,
+    files: &mut RunFiles<'_>,
+    index: &'x TapIndex,
+    servers: &'x Servers,
+    logs: &Logs<'_>,
+) -> Result<ClientsRead, RunFault> {
+    let indexed = IndexedTaps {
+        taps: index.taps(),
+        kinds: servers.kinds.as_slice(),
+        lines: servers.lines.as_slice(),
+    };
+    read_clients(rt, alloc, keys, threads, files, logs.stream(), &indexed)
+}
+
 /// Reads the clients' taps, and splits what was read.
-fn split_servers(
+fn split_servers<'x, H: Threads + Sync>(
+    rt: &H,
     host: &HostRuntime,
     alloc: Global,
     keys: RandomState,
     options: &SplitOptions,
     files: &mut RunFiles<'_>,
-    index: &TapIndex,
-    servers: &Servers,
+    index: &'x TapIndex,
+    servers: &'x Servers,
     refusal: FirstRefusal,
 ) -> Result<(), ExitCode> {
+    let threads = usize::from(options.workers);
     let mut refusal = refusal;
     let indexed = IndexedTaps {
         taps: index.taps(),
         kinds: servers.kinds.as_slice(),
+        lines: servers.lines.as_slice(),
     };
     let Ok(logs) = Logs::build(alloc, keys, &servers.taps) else {
         return Err(fail(host, RunFault::Memory));
     };
     let logs = ManuallyDrop::new(logs);
-    let stream = logs.stream();
-    let clients = match read_clients(alloc, keys, files, stream, &indexed, &mut refusal) {
-        Ok(clients) => clients,
+    let read = match clients_of(rt, alloc, keys, threads, files, index, servers, &logs) {
+        Ok(read) => read,
         Err(fault) => return Err(files.fault(fault)),
     };
     files.clear();
+    if let Some(line) = read.refused {
+        refusal.add(line.number, line.code);
+    }
     if let Some(line) = refusal.line() {
         return Err(refused(host, alloc, line));
     }
-    split_logs(host, alloc, options, files, &indexed, &logs, &clients)
+    split_logs(
+        rt,
+        host,
+        alloc,
+        options,
+        files,
+        &indexed,
+        &logs,
+        &read.clients,
+    )
 }
 
 /// Reads the files, and splits what they have.
-fn split_files(
+fn split_files<H: Threads + Sync>(
+    rt: &H,
     host: &HostRuntime,
     alloc: Global,
     options: &SplitOptions,
@@ -182,16 +223,23 @@ fn split_files(
         Ok(servers) => ManuallyDrop::new(servers),
         Err(fault) => return Err(files.fault(fault)),
     };
-    split_servers(host, alloc, keys, options, files, &index, &servers, refusal)
+    split_servers(
+        rt, host, alloc, keys, options, files, &index, &servers, refusal,
+    )
 }
 
 /// Splits the files into the folder, which is made if it isn't there, and left as it was if that fails.
-fn split(host: &HostRuntime, alloc: Global, options: &SplitOptions) -> Result<(), ExitCode> {
+fn split<H: Threads + Sync>(
+    rt: &H,
+    host: &HostRuntime,
+    alloc: Global,
+    options: &SplitOptions,
+) -> Result<(), ExitCode> {
     let mut files = RunFiles::new(host, alloc, options.files.as_slice(), options.quiet);
     files.check()?;
     let folder = options.into.as_str();
     let was = prepare_folder(host, alloc, folder)?;
-    let outcome = split_files(host, alloc, options, &mut files);
+    let outcome = split_files(rt, host, alloc, options, &mut files);
     if outcome.is_err() {
         give_back(host, folder, was);
     }
@@ -199,12 +247,17 @@ fn split(host: &HostRuntime, alloc: Global, options: &SplitOptions) -> Result<()
 }
 
 /// Splits the bundle that the arguments name.
-pub fn splitting(host: &HostRuntime, alloc: Global, words: &[&str]) -> ExitCode {
+pub fn splitting<H: Threads + Sync>(
+    rt: &H,
+    host: &HostRuntime,
+    alloc: Global,
+    words: &[&str],
+) -> ExitCode {
     let options = match split_asked(alloc, words) {
         Ok(options) => options,
         Err(_) => return refuse(host, alloc, words),
     };
-    match split(host, alloc, &options) {
+    match split(rt, host, alloc, &options) {
         Ok(()) => ExitCode::SUCCESS,
         Err(status) => status,
     }

@@ -26,7 +26,8 @@ use Rattle.aud_reader.specs.TapLaws.{AreDifferent}
 use Rattle.aud_writer.specs.OfABundle.{is_of_version, AreRecords, AreOfABundle}
 use Rattle.aud_node.specs.Cluster.{stream_of}
 use Rattle.aud_node.specs.Stream.{Text}
-use Rattle.aud_upgrade.specs.Upgraded.{upgraded}
+use Rattle.aud_upgrade.specs.declared.joins.Joins.TheVariants.{TakeAndTakes}
+use Rattle.aud_upgrade.specs.Upgraded.{with_runs}
 use Rattle.aud_parts.specs.LeftOut.{keeps_record, records_left, tap_left}
 use Rattle.aud_parts.specs.MadeOther.{entry_left, entries_left, tap_with_others}
 use Rattle.aud_parts.specs.Part.{is_among, is_kept_tap, left_for, is_kept_entry, part_for}
@@ -184,7 +185,7 @@ module _ (pids : List Text) (taps : List Tap) where
       All-map P (tap_with_others keeps) left_taps (All-weaker P (λ tap. P (tap_with_others keeps tap)) second left_taps left)
 
   -- the taps before their takes are joined
-  cut-bundle : AreFormed taps → AreFew (upgraded (cut_to pids taps).taps) → AreOfABundle (cut_to pids taps).taps
+  cut-bundle : AreFormed taps → AreFew (with_runs (cut_to pids taps).taps) → AreOfABundle (cut_to pids taps).taps
   cut-bundle formed few =
       let cut = (cut_to pids taps).taps in
       let stream = stream_of cut in
@@ -192,12 +193,12 @@ module _ (pids : List Text) (taps : List Tap) where
         named = each-left (λ (tap : Tap). is_tap_name tap.name ≡ true) (λ tap is. is) (λ tap is. is) formed.named;
         names = names-kept formed.names;
         stream = let fewer = streams-kept in let one = formed.stream in omega (arith, fewer, one);
-        nodes = subst (λ n. n ≤ max_node_taps) (on-kept stream kind.Node cut) few.nodes;
-        clients = subst (λ n. n ≤ max_client_taps) (on-kept stream kind.Client cut) few.clients;
-        pids = subst (λ ps. distinct_count is_text ps ≤ max_pids) (all-pids-kept stream cut) few.pids;
+        nodes = subst (λ n. n ≤ max_node_taps) (on-kept TakeAndTakes stream kind.Node cut) few.nodes;
+        clients = subst (λ n. n ≤ max_client_taps) (on-kept TakeAndTakes stream kind.Client cut) few.clients;
+        pids = subst (λ ps. distinct_count is_text ps ≤ max_pids) (all-pids-kept TakeAndTakes stream cut) few.pids;
         records = each-left (λ (tap : Tap). AreRecords tap.version tap.records) (λ tap. left-records keep tap.version tap.records) (λ tap. other-records keeps tap.version tap.records) formed.records;
       }
 
 -- a part is a bundle
 pub part-bundle : (taps : List Tap) (pids : List Text) → AreFormed taps → AreFew (part_for pids taps) → AreOfABundle (part_for pids taps)
-part-bundle taps pids formed few = upgraded-taps (cut_to pids taps).taps (cut-bundle pids taps formed few)
+part-bundle taps pids formed few = upgraded-taps TakeAndTakes (cut_to pids taps).taps (cut-bundle pids taps formed few)

@@ -11,6 +11,8 @@ use Rattle.aud_tap.specs.declared.records.NodeRec.{NodeRec}
 use Rattle.aud_tap.specs.declared.records.NodeRec.TheVariants.{Start, Take, Takes, Opened, Join, Leave, Broke, Back, Gone}
 use Rattle.aud_tap.specs.RecordFields.{pid_of}
 use Rattle.aud_tap.specs.WellFormed.{node_is_well_formed}
+use Rattle.aud_node.specs.Cursors.{cursor_at}
+use Rattle.aud_upgrade.specs.declared.joins.Joins.{Joins}
 use Rattle.aud_upgrade.specs.Upgraded.{takes_after, takes_next, took_next, joined, upgraded_at, upgraded_log}
 
 -- ---- what stands for one record
@@ -76,52 +78,54 @@ first-pid rec recs = go (pid_of rec)
     go None = refl
     go (Some pid) = refl
 
--- what takes the next entry is a `take`, which names no pid
-take-next : (stream : List StreamRec) (cursor : ℕ) (rec : NodeRec) → takes_after stream cursor (Some rec) ≡ true → (off : List ℕ) × (rec ≡ Take off)
-take-next stream cursor (Take off) is = (off, refl)
-take-next stream cursor (Takes off) is = absurd (true≢false (sym is))
-take-next stream cursor (Start off) is = absurd (true≢false (sym is))
-take-next stream cursor (Opened pid sid nsp) is = absurd (true≢false (sym is))
-take-next stream cursor (Join pid room) is = absurd (true≢false (sym is))
-take-next stream cursor (Leave pid room) is = absurd (true≢false (sym is))
-take-next stream cursor (Broke pid turn) is = absurd (true≢false (sym is))
-take-next stream cursor (Back pid turn) is = absurd (true≢false (sym is))
-take-next stream cursor (Gone pid) is = absurd (true≢false (sym is))
-
--- nor does what stands for it
+-- what stands for a record that takes entries names no pid
 joined-take : (before after : Bool) (off : List ℕ) → filter_map pid_of (joined before true after (Some (Take off))) ≡ []
 joined-take true true off = refl
 joined-take false true off = refl
 joined-take true false off = refl
 joined-take false false off = refl
 
--- a record that doesn't take the next entry stands for itself
+joined-takes : (before after : Bool) (off : List ℕ) → filter_map pid_of (joined before true after (Some (Takes off))) ≡ []
+joined-takes true true off = refl
+joined-takes false true off = refl
+joined-takes true false off = refl
+joined-takes false false off = refl
+
+-- a record that isn't joined stands for itself
 joined-itself : (before after : Bool) (rec : NodeRec) → joined before false after (Some rec) ≡ rec ∷ []
 joined-itself true after rec = refl
 joined-itself false after rec = refl
 
 -- what stands for a record names the pid that the record names
-joined-pids : (stream : List StreamRec) (cursor : ℕ) (before here after : Bool) (rec : NodeRec) → takes_after stream cursor (Some rec) ≡ here → filter_map pid_of (joined before here after (Some rec)) ≡ option_to_list (pid_of rec)
-joined-pids stream cursor before false after rec is = ap (filter_map pid_of) (joined-itself before after rec) ∙ first-pid rec [] ∙ append-nil (option_to_list (pid_of rec))
-joined-pids stream cursor before true after rec is = let (off, take) = take-next stream cursor rec is in rw take (joined-take before after off)
+joined-pids : (joins : Joins) (stream : List StreamRec) (cursor : ℕ) (before here after : Bool) (rec : NodeRec) → takes_after joins stream cursor (Some rec) ≡ here → filter_map pid_of (joined before here after (Some rec)) ≡ option_to_list (pid_of rec)
+joined-pids joins stream cursor before false after rec is = ap (filter_map pid_of) (joined-itself before after rec) ∙ first-pid rec [] ∙ append-nil (option_to_list (pid_of rec))
+joined-pids joins stream cursor before true after (Take off) is = joined-take before after off
+joined-pids joins stream cursor before true after (Takes off) is = joined-takes before after off
+joined-pids joins stream cursor before true after (Start off) is = absurd (true≢false (sym is))
+joined-pids joins stream cursor before true after (Opened pid sid nsp) is = absurd (true≢false (sym is))
+joined-pids joins stream cursor before true after (Join pid room) is = absurd (true≢false (sym is))
+joined-pids joins stream cursor before true after (Leave pid room) is = absurd (true≢false (sym is))
+joined-pids joins stream cursor before true after (Broke pid turn) is = absurd (true≢false (sym is))
+joined-pids joins stream cursor before true after (Back pid turn) is = absurd (true≢false (sym is))
+joined-pids joins stream cursor before true after (Gone pid) is = absurd (true≢false (sym is))
 
 -- ---- a log
 
-module _ (stream : List StreamRec) (log : List NodeRec) where
+module _ (joins : Joins) (stream : List StreamRec) (log : List NodeRec) where
   -- what stands for the records with these numbers
   abbrev stand : ℕ → ℕ → List NodeRec
-  stand first count = flat_map (upgraded_at stream log) (numbers_from first count)
+  stand first count = flat_map (upgraded_at joins stream log) (numbers_from first count)
 
   few-from : (first count : ℕ) → length (stand first count) ≤ count
   few-from first zero = omega arith
   few-from first (suc count) =
-      let here = joined-few (took_next stream log first) (takes_next stream log first) (takes_next stream log (suc first)) (slice_get log first) in
+      let here = joined-few (took_next joins stream log first) (takes_next joins stream log first) (takes_next joins stream log (suc first)) (slice_get log first) in
       let rest = few-from (suc first) count in
-      let long = length-append (upgraded_at stream log first) (stand (suc first) count) in
+      let long = length-append (upgraded_at joins stream log first) (stand (suc first) count) in
       omega (arith, here, rest, long)
 
   -- an upgraded log has no more records
-  pub upgraded-few : length (upgraded_log stream log) ≤ length log
+  pub upgraded-few : length (upgraded_log joins stream log) ≤ length log
   upgraded-few = few-from 0 (length log)
 
   formed-from : (first count : ℕ) → first + count ≡ length log → All IsFormed log → All IsFormed (stand first count)
@@ -129,29 +133,30 @@ module _ (stream : List StreamRec) (log : List NodeRec) where
   formed-from first (suc count) e formed =
       let (rec, at) = element_at log first (omega (arith, e)) in
       let is : IsFormed rec = ap node_is_well_formed (sym (get_or_from_slice_get log first rec rec at)) ∙ formed first rec (slice_get_within log first rec at) in
-      let before = took_next stream log first in
-      let itself = takes_next stream log first in
-      let after = takes_next stream log (suc first) in
-      let here : All IsFormed (upgraded_at stream log first) = subst (λ o. All IsFormed (joined before itself after o)) (sym at) (joined-formed before itself after rec is) in
-      All-append IsFormed (upgraded_at stream log first) (stand (suc first) count) here (formed-from (suc first) count (omega (arith, e)) formed)
+      let before = took_next joins stream log first in
+      let itself = takes_next joins stream log first in
+      let after = takes_next joins stream log (suc first) in
+      let here : All IsFormed (upgraded_at joins stream log first) = subst (λ o. All IsFormed (joined before itself after o)) (sym at) (joined-formed before itself after rec is) in
+      All-append IsFormed (upgraded_at joins stream log first) (stand (suc first) count) here (formed-from (suc first) count (omega (arith, e)) formed)
 
   -- and each of them is well formed, where those of the log are
-  pub upgraded-formed : All IsFormed log → All IsFormed (upgraded_log stream log)
+  pub upgraded-formed : All IsFormed log → All IsFormed (upgraded_log joins stream log)
   upgraded-formed = formed-from 0 (length log) (omega arith)
 
   pids-from : (first count : ℕ) → first + count ≡ length log → filter_map pid_of (stand first count) ≡ filter_map pid_of (drop first log)
   pids-from first zero e = sym (ap (filter_map pid_of) (drop_all first log (omega (arith, e))))
   pids-from first (suc count) e =
       let (rec, at) = element_at log first (omega (arith, e)) in
-      let before = took_next stream log first in
-      let here = takes_next stream log first in
-      let after = takes_next stream log (suc first) in
-      let test : takes_after stream _ (Some rec) ≡ here = sym (ap (takes_after stream _) at) in
-      filter_map-append pid_of (upgraded_at stream log first) (stand (suc first) count)
-      ∙ ap (λ ps. ps ++ filter_map pid_of (stand (suc first) count)) (ap (λ o. filter_map pid_of (joined before here after o)) at ∙ joined-pids stream _ before here after rec test)
+      let before = took_next joins stream log first in
+      let here = takes_next joins stream log first in
+      let after = takes_next joins stream log (suc first) in
+      let cursor = cursor_at stream log first in
+      let test : takes_after joins stream cursor (Some rec) ≡ here = sym (ap (takes_after joins stream cursor) at) in
+      filter_map-append pid_of (upgraded_at joins stream log first) (stand (suc first) count)
+      ∙ ap (λ ps. ps ++ filter_map pid_of (stand (suc first) count)) (ap (λ o. filter_map pid_of (joined before here after o)) at ∙ joined-pids joins stream cursor before here after rec test)
       ∙ ap (λ ps. option_to_list (pid_of rec) ++ ps) (pids-from (suc first) count (omega (arith, e)))
       ∙ sym (ap (filter_map pid_of) (drop_at log first rec at) ∙ first-pid rec (drop (suc first) log))
 
   -- the pids that it names are those that the log names
-  pub upgraded-pids : filter_map pid_of (upgraded_log stream log) ≡ filter_map pid_of log
+  pub upgraded-pids : filter_map pid_of (upgraded_log joins stream log) ≡ filter_map pid_of log
   upgraded-pids = pids-from 0 (length log) (omega arith)

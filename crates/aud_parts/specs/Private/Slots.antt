@@ -3,10 +3,10 @@ use Rattle.std.specs.Prelude.{ℕ, ◌+◌, is_some, nat_lt, if◌then◌else◌
 use Rattle.std.specs.List.{filter_map}
 use Rattle.aud_base.specs.Lists.{numbers_from}
 use Rattle.aud_node.specs.Stream.{Text}
-use Rattle.aud_parts.specs.declared.merge_fault.ReportFault.{ReportFault}
-use Rattle.aud_parts.specs.declared.merge_fault.ReportFault.TheVariants.{Doubled}
-use Rattle.aud_parts.specs.declared.merge_fault.MergeFault.{MergeFault}
-use Rattle.aud_parts.specs.declared.merge_fault.MergeFault.TheVariants.{Missing}
+use Rattle.aud_parts.specs.declared.merging.fault.ReportFault.{ReportFault}
+use Rattle.aud_parts.specs.declared.merging.fault.ReportFault.TheVariants.{Doubled}
+use Rattle.aud_parts.specs.declared.merging.fault.MergeFault.{MergeFault}
+use Rattle.aud_parts.specs.declared.merging.fault.MergeFault.TheVariants.{Missing}
 use Rattle.aud_parts.specs.ReportLines.{ReportLine}
 use Rattle.aud_parts.specs.Merged.{lines_on, fault_of}
 

@@ -1,4 +1,4 @@
-use Rattle.std.proofs.Common.{◌≡◌, ◌∙◌, ap, map, option_map, subst, sym}
+use Rattle.std.proofs.Common.{◌≡◌, ◌∙◌, ℕ, List, ap, map, option_map, subst, sym}
 use Rattle.std.proofs.lemmas.Result.{IfOk-weaker}
 use Rattle.aud_account.specs.declared.account.Account.{Account}
 use Rattle.aud_maker.specs.Made.{IsMade}
@@ -17,8 +17,8 @@ returns c =
     subst (λ l. (made : IsMade l a.cert.pid a.cert) → why ≡ why_not_due l made.who made.turns c.args.position) c.logs-logs.ensures c.why_not_due-why.ensures.why in
     IfOk-weaker c.extra_causes.result
     (λ found. found.items ≡ extra_causes c.logs-logs.result.now c.as_str.result.now c.as_slice.result.now c.in_ok-at_break.at_break c.as_slice-2.result.now why f)
-    (λ found. (made : IsMade cluster a.cert.pid a.cert) → found.items ≡ extra_in (case_of cluster a made) f c.args.position)
-    (λ found is made.
+    (λ found. (made : IsMade cluster a.cert.pid a.cert) → (numbers : List ℕ) → found.items ≡ extra_in (case_of cluster a numbers made) f c.args.position)
+    (λ found is made numbers.
     let pid_is = c.as_str.ensures.value ∙ ap (λ (x : Account). x.cert.pid) c.account.view_is ∙ sym made.names in
     let turns_are = c.as_slice.ensures.value ∙ ap (λ (x : Account). x.cert.turns) c.account.view_is in
     let due_is = c.as_slice-2.ensures.value ∙ ap (λ (x : Account). x.due.items) c.account.view_is in

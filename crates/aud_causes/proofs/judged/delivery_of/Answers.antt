@@ -14,8 +14,8 @@ returns-in-Some c =
     let a = c.args.account.now in
     let stays = map (λ stay. stay.now) a.stays.items in
     IfOk-weaker c.difference_causes.result
-    (λ found. (made : IsMade cluster a.cert.pid a.cert) → found.items ≡ difference_causes (case_of cluster a made) c.in-Some.difference)
-    (λ found. (made : IsMade cluster a.cert.pid a.cert) → IsAccount cluster a.cert.pid a.client stays a.due.items → AreDifferenceCauses (case_of cluster a made) found.items)
+    (λ found. (made : IsMade cluster a.cert.pid a.cert) → found.items ≡ difference_causes (case_of cluster a c.args.numbers.now made) c.in-Some.difference)
+    (λ found. (made : IsMade cluster a.cert.pid a.cert) → IsAccount cluster a.cert.pid a.client stays a.due.items → AreDifferenceCauses (case_of cluster a c.args.numbers.now made) found.items)
     (λ found is made account.
     let told = subst (λ o. MatchOption o (IsPrefixOf (positions_received stays) a.due.items) (IsDifferenceOf cluster a.cert.pid)) c.in-Some.is (c.in_ok-difference.ensures cluster a.cert.pid account) in
     inr (c.in-Some.difference, subst (λ p. IsDifferenceOf cluster p c.in-Some.difference) (sym made.names) told, is made))

@@ -11,7 +11,7 @@ use Rattle.aud_explain_app.proofs.output.explaining.Goals as goal
 pub returns-in_err-told-clause-missing : goal.returns-in_err-told-clause-missing
 returns-in_err-told-clause-missing g c = λ number is.
     let fault = err_from_is_err_and c.from_residual-in_err-told.result c.from_residual-in_err-told.ensures.1 in
-    let known = ap pids_of c.deref-2.ensures.value ∙ known_pids c.args.sheet.recording.now c.args.verdicts.items _ c.requires c.in_ok-add_strangers.ensures in
+    let known = ap pids_of c.deref-2.ensures.value ∙ known_pids c.args.sheet.recording.now c.args.options.now.whole c.args.verdicts.items _ c.requires c.in_ok-add_strangers.ensures in
     ap (λ pids. first_missing pids c.args.options.now.pids) (sym known) ∙ c.in_err-told.ensures.missing number (ap Err (sym fault.2 ∙ same_fault c.from_residual-in_err-told.result _ _ fault.1 is))
 
 pub returns-clause-explaining : goal.returns-clause-explaining
@@ -20,7 +20,7 @@ returns-clause-explaining g c =
     let lines = c.args.sheet.lines.now in
     let options = c.args.options.now in
     let text = string_bytes c.in_ok-told.told in
-    let known = ap pids_of c.deref-2.ensures.value ∙ known_pids recording c.args.verdicts.items _ c.requires c.in_ok-add_strangers.ensures in
+    let known = ap pids_of c.deref-2.ensures.value ∙ known_pids recording options.whole c.args.verdicts.items _ c.requires c.in_ok-add_strangers.ensures in
     record {
       verdicts = c.args.verdicts.items;
       are_verdicts = c.requires;

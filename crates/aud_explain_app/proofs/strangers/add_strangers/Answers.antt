@@ -11,12 +11,12 @@ none = record { client = 0; stay = 0; granted = false }
 pub loop-recovery-preserved : goal.loop-recovery-preserved
 loop-recovery-preserved c = (
   c.in_ok-add_stranger.ensures.known,
-  added_item c.args.recording.now c.args.asked.now.all.items c.loop-recovery.recovery-index none
+  added_item c.args.recording.now c.args.whole c.args.asked.now.all.items c.loop-recovery.recovery-index none
       c.args.sessions.now.items c.loop-recovery.sessions.items c.add_stranger.new.sessions.items
       (subst (λ recoveries. c.loop-recovery.recovery-index < length recoveries) c.deref-recovery-items.ensures.value c.loop-recovery-test.true)
       c.loop-recovery.invariant.1
       (subst
-      (λ recoveries. AreAdded c.args.recording.now (option_to_list (pid_in_vain c.args.recording.now (get_or recoveries c.loop-recovery.recovery-index none)))
+      (λ recoveries. AreAdded c.args.recording.now c.args.whole (option_to_list (pid_in_vain c.args.recording.now (get_or recoveries c.loop-recovery.recovery-index none)))
       c.loop-recovery.sessions.items c.add_stranger.new.sessions.items)
       c.deref-recovery-items.ensures.value c.in_ok-add_stranger.ensures.added),
 )

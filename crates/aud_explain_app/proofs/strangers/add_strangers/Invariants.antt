@@ -4,4 +4,4 @@ use Rattle.aud_explain_app.proofs.strangers.add_strangers.Given as goal
 
 abbrev pub invariant-loop-recovery : goal.invariant-loop-recovery
 invariant-loop-recovery l =
-    AreKnown l.known l.sessions.items × AreAdded l.recording (asked_in_vain l.recording (take l.recovery-index l.asked.all.items)) l.fn.sessions.items l.sessions.items
+    AreKnown l.known l.sessions.items × AreAdded l.recording l.whole (asked_in_vain l.recording (take l.recovery-index l.asked.all.items)) l.fn.sessions.items l.sessions.items

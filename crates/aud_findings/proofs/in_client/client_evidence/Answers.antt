@@ -3,6 +3,7 @@ use Rattle.std.proofs.lemmas.Result.{IfOk-weaker}
 use Rattle.aud_rows.specs.Seen.{row_seen}
 use Rattle.aud_findings.specs.Evidence.{IsOfSession}
 use Rattle.aud_findings.proofs.Shown.{extra_of, doubled_of, swapped_of, lost_of, windows_of}
+use Rattle.aud_findings.proofs.TailLemmas.{tail_of}
 use Rattle.aud_findings.proofs.in_client.client_evidence.Goals as goal
 
 pub returns-in-Extra-clause-shown : goal.returns-in-Extra-clause-shown
@@ -32,3 +33,8 @@ returns-in-Window-clause-shown c =
     IfOk-weaker c.window_evidence.result _ _ (λ rows h.
     subst (λ f. IsOfSession s.recording.now s.lines.now c.args.pid.now f (map row_seen rows.items)) (sym c.in-Window.is)
     (windows_of s.recording.now s.lines.now c.args.pid.now a.client (map (λ stay. stay.now) a.stays.items) a.due.items c.requires.account _ (map row_seen rows.items) h)) c.window_evidence.ensures.shown
+
+pub returns-in-Tail-clause-shown : goal.returns-in-Tail-clause-shown
+returns-in-Tail-clause-shown c =
+    let s = c.args.sheet.now in
+    IfOk-weaker c.tail_evidence.result _ _ (λ rows h. tail_of s.recording.now s.lines.now c.args.pid.now c.args.fault.now _ (map row_seen rows.items) h c.in-Tail.is) c.tail_evidence.ensures.shown

@@ -1,0 +1,70 @@
+-- What came twice because a body of polling did.
+use Rattle.std.specs.Prelude.{ℕ, ◌-◌, Bool, true, false, ◌&&◌, List, [], ◌∷◌, length, Option, Some, None, nat_eq, nat_lt, slice_get, take}
+use Rattle.std.specs.Option.{option_and_then, option_or}
+use Rattle.aud_tap.specs.declared.records.ClientRec.{ClientRec}
+use Rattle.aud_tap.specs.declared.records.ClientRec.TheVariants.{Poll}
+use Rattle.aud_node.specs.Cluster.{Cluster}
+use Rattle.aud_node.specs.NodeTaps.{client_at}
+use Rattle.aud_client.specs.Received.{TranscriptSeen, transcript_at}
+use Rattle.aud_client.specs.StayPlaces.{PlacesSeen}
+use Rattle.aud_recoveries.specs.Recoveries.{stays_at}
+use Rattle.aud_shown.specs.declared.frame_place.FramePlace.{FramePlace}
+use Rattle.aud_shown.specs.FramePlaces.{frame_at}
+use Rattle.aud_causes.specs.declared.cause.Cause.{Cause}
+use Rattle.aud_causes.specs.declared.cause.Cause.TheVariants.{BodyCameTwice}
+use Rattle.aud_causes.specs.declared.facts.Facts.{Facts}
+use Rattle.aud_causes.specs.Delivery.{cause_if}
+
+-- ---- the records of frames
+
+-- the records at which the frames of the stay stand, if there is one
+abbrev pub frames_there : Option PlacesSeen → List ℕ
+frames_there None = []
+frames_there (Some p) = p.frames
+
+-- the records of the stays of the client's tap at this place
+abbrev pub places_at : Cluster → ℕ → List PlacesSeen
+places_at c client = places_told (transcript_at c client)
+  where
+    places_told : Option TranscriptSeen → List PlacesSeen
+    places_told None = []
+    places_told (Some transcript) = transcript.places
+
+-- the record of the frame that stands there
+abbrev pub record_there : List PlacesSeen → FramePlace → Option ℕ
+record_there places at = slice_get (frames_there (slice_get places at.stay)) at.frame
+
+-- the record of a session's frame, where these are the numbers of its stays in the client's tap at this place
+abbrev pub record_of : Cluster → ℕ → List ℕ → ℕ → Option ℕ
+record_of c client numbers frame = option_and_then (record_there (places_at c client)) (frame_at (stays_at c client) numbers frame)
+
+-- the last of these
+abbrev pub last_of : List ℕ → Option ℕ
+last_of numbers = slice_get numbers (length numbers - 1)
+
+-- the record of the last frame in the stays with these numbers, where this is the last so far
+abbrev pub last_record : List PlacesSeen → Option ℕ → List ℕ → Option ℕ
+last_record places last [] = last
+last_record places last (number ∷ numbers) = last_record places (option_or (last_of (frames_there (slice_get places number))) last) numbers
+
+-- ---- the cause
+
+-- the record is a body of polling
+abbrev pub is_poll : Option ClientRec → Bool
+is_poll (Some (Poll t)) = true
+is_poll _ = false
+
+-- both records of the client's tap at this place are one, which is a body of polling
+abbrev pub is_one_body : Cluster → ℕ → Option ℕ → Option ℕ → Bool
+is_one_body c client (Some first) (Some last) =
+    nat_eq first last && is_poll (option_and_then (λ (recs : List ClientRec). slice_get recs first) (client_at c client))
+is_one_body c client _ _ = false
+
+-- the two frames stand in two stays; and what came of the session from the first one on, up to the later stay, came in
+-- one body of polling
+abbrev pub body_twice : Cluster → ℕ → List ℕ → Facts → Option Cause
+body_twice c client numbers f =
+    cause_if
+    (nat_lt f.earlier f.later
+    && is_one_body c client (record_of c client numbers f.parted.first) (last_record (places_at c client) None (take f.later numbers)))
+    (BodyCameTwice f.parted.first f.parted.again)

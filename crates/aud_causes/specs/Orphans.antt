@@ -1,0 +1,97 @@
+-- What events may come from of which nobody knows the session.
+use Rattle.std.specs.Prelude.{ℕ, suc, Bool, true, false, ◌&&◌, List, [], ◌∷◌, Option, Some, None, codes, is_none, is_some, if◌then◌else◌, nat_eq, slice_get, take}
+use Rattle.std.specs.List.{starts_with}
+use Rattle.std.specs.Option.{option_and_then}
+use Rattle.std.specs.Str.{bytes_eq}
+use Rattle.aud_tap.specs.declared.records.ClientRec.{ClientRec}
+use Rattle.aud_tap.specs.declared.records.ClientRec.TheVariants.{TextIn, TextOut}
+use Rattle.aud_node.specs.Cluster.{Cluster}
+use Rattle.aud_node.specs.NodeTaps.{client_at}
+use Rattle.aud_client.specs.Received.{TranscriptSeen, transcript_at}
+use Rattle.aud_client.specs.Replies.{ReplySeen}
+use Rattle.aud_client.specs.StayPlaces.{PlacesSeen}
+use Rattle.aud_client.specs.StaySeen.{AskedSeen, StaySeen}
+use Rattle.aud_recoveries.specs.Recoveries.{stays_at}
+use Rattle.aud_causes.specs.declared.cause.Cause.{Cause}
+use Rattle.aud_causes.specs.declared.cause.Cause.TheVariants.{TapBeganLate, CutBeforeReply, ReplyWithoutPid, OutAfterAnswer, SecondConnect, AfterDisconnect}
+use Rattle.aud_causes.specs.Delivery.{cause_if}
+use Rattle.aud_causes.specs.Differences.{cause_and}
+
+-- ---- the stay before it
+
+-- the other stay is of the same connection and namespace
+abbrev pub is_beside : StaySeen → StaySeen → Bool
+is_beside stay other = nat_eq other.c stay.c && bytes_eq other.nsp stay.nsp
+
+-- the number of the last of these stays that is, where this is the last so far; they count on from this number
+abbrev pub last_beside : StaySeen → Option ℕ → ℕ → List StaySeen → Option ℕ
+last_beside stay last number [] = last
+last_beside stay last number (other ∷ stays) = last_beside stay (if is_beside stay other then Some number else last) (suc number) stays
+
+-- of the stays before the one with this number
+abbrev pub stay_before : List StaySeen → ℕ → StaySeen → Option ℕ
+stay_before stays number stay = last_beside stay None 0 (take number stays)
+
+-- ---- how that ended
+
+-- the record is a DISCONNECT of either side: Engine.IO's digit 4, and 1 (Socket.IO protocol 5, "Disconnection from a
+-- namespace")
+abbrev pub is_disconnect : Option ClientRec → Bool
+is_disconnect (Some (TextIn t)) = starts_with nat_eq t (codes "41")
+is_disconnect (Some (TextOut t)) = starts_with nat_eq t (codes "41")
+is_disconnect _ = false
+
+-- the last record of the stay with this number of the client's tap at this place
+abbrev pub last_of_stay : Cluster → ℕ → ℕ → Option ClientRec
+last_of_stay c client number =
+    option_and_then
+    (λ (p : PlacesSeen). option_and_then (λ (recs : List ClientRec). slice_get recs p.last) (client_at c client))
+    (option_and_then (λ (t : TranscriptSeen). slice_get t.places number) (transcript_at c client))
+
+-- ---- the causes
+
+-- events came without a reply: the client asked for a session; or it did not, and the tap has no stay before, of this
+-- number, in that connection and namespace
+abbrev pub without_reply : ℕ → Option AskedSeen → Option ℕ → Option Cause
+without_reply number (Some asked) before = Some (CutBeforeReply number)
+without_reply number None (Some before) = None
+without_reply number None None = Some (TapBeganLate number)
+
+-- no session was asked for in the stay before
+abbrev pub out_after_answer : ℕ → ℕ → StaySeen → Option Cause
+out_after_answer number before stay = cause_if (is_none stay.asked) (OutAfterAnswer before number)
+
+-- the stay before was answered: and no session asked for in it; or anyhow
+abbrev pub answered_causes : ℕ → ℕ → StaySeen → List Cause
+answered_causes number before stay =
+    if is_some stay.reply then cause_and (out_after_answer number before stay) (SecondConnect before number ∷ []) else []
+
+-- the stay before, if there is one, ended by a DISCONNECT; or else it was answered
+abbrev pub before_causes : ℕ → ℕ → Bool → Option StaySeen → List Cause
+before_causes number before true stay = AfterDisconnect before number ∷ []
+before_causes number before false None = []
+before_causes number before false (Some stay) = answered_causes number before stay
+
+-- the same of the stay with this number, if it is given
+abbrev pub causes_of_before : Cluster → ℕ → ℕ → Option ℕ → List Cause
+causes_of_before c client number None = []
+causes_of_before c client number (Some before) =
+    before_causes number before (is_disconnect (last_of_stay c client before)) (slice_get (stays_at c client) before)
+
+-- of events in this stay, before which this one stands in its connection and namespace
+abbrev pub unreplied_causes : Cluster → ℕ → ℕ → StaySeen → Option ℕ → List Cause
+unreplied_causes c client number stay before =
+    cause_and (without_reply number stay.asked before) (causes_of_before c client number before)
+
+-- of events in a stay with this reply, or without one: the reply names nobody
+abbrev pub replied_causes : Cluster → ℕ → ℕ → StaySeen → Option ReplySeen → List Cause
+replied_causes c client number stay None = unreplied_causes c client number stay (stay_before (stays_at c client) number stay)
+replied_causes c client number stay (Some reply) = if is_some reply.pid then [] else ReplyWithoutPid number ∷ []
+
+-- of events in the stay with this number of the client's tap at this place
+abbrev pub orphan_causes_of : Cluster → ℕ → ℕ → Option StaySeen → List Cause
+orphan_causes_of c client number None = []
+orphan_causes_of c client number (Some stay) = replied_causes c client number stay stay.reply
+
+abbrev pub orphan_causes : Cluster → ℕ → ℕ → List Cause
+orphan_causes c client number = orphan_causes_of c client number (slice_get (stays_at c client) number)

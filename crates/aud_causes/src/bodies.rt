@@ -1,0 +1,127 @@
+//! What came twice because a body of polling did.
+ghost use Rattle.std.specs.Prelude.{◌≡◌, None, slice_get, take};
+ghost use Rattle.std.specs.Option.{option_copied};
+ghost use Rattle.aud_causes.specs.Bodies.{body_twice, frames_there, is_one_body, is_poll, last_of, last_record, places_at, record_of, record_there};
+
+use crate::cause::Cause;
+use crate::facts::Facts;
+use aud_client::{Recording, StayPlaces};
+use aud_shown::{FramePlace, frame_at};
+use aud_tap::ClientRec;
+
+/// Where the two frames stand in two stays, and what came of the session from the first one on, up to the later stay,
+/// came in one body of polling. `numbers` are those of the session's stays in the client's tap at this place. It costs
+/// these stays.
+pub(crate) fn body_twice(
+    recording: &Recording<'_>,
+    client: usize,
+    numbers: &[usize],
+    facts: Facts,
+) -> Option<Cause>
+    ensures { result ≡ body_twice recording.now client numbers.now facts }
+{
+    if facts.later <= facts.earlier {
+        return None;
+    }
+    let first = record_of(recording, client, numbers, facts.parted.first);
+    let last = last_record(places_at(recording, client), first_of(numbers, facts.later));
+    if !is_one_body(recording, client, first, last) {
+        return None;
+    }
+    Some(Cause::BodyCameTwice {
+        first: facts.parted.first,
+        again: facts.parted.again,
+    })
+}
+
+/// The records of the stays of the client's tap at this place.
+fn places_at<'r>(recording: &'r Recording<'_>, client: usize) -> &'r [StayPlaces]
+    ensures { result.now ≡ places_at recording.now client }
+{
+    match recording.client(client) {
+        Some(client) => client.transcript().places.as_slice(),
+        None => &[],
+    }
+}
+
+/// The record of the session's frame with this number.
+fn record_of(
+    recording: &Recording<'_>,
+    client: usize,
+    numbers: &[usize],
+    frame: usize,
+) -> Option<usize>
+    ensures { result ≡ record_of recording.now client numbers.now frame }
+{
+    let stays = recording.client(client)?.transcript().stays.as_slice();
+    let at = frame_at(stays, numbers, frame)?;
+    record_there(places_at(recording, client), at)
+}
+
+fn record_there(places: &[StayPlaces], at: FramePlace) -> Option<usize>
+    ensures { result ≡ record_there places.now at }
+{
+    let number = *places.get(at.stay)?.frames.get(at.frame)?;
+    Some(number as usize)
+}
+
+/// The first of the numbers, so many.
+fn first_of(numbers: &[usize], count: usize) -> &[usize]
+    ensures { result.now ≡ take count numbers.now }
+{
+    let (first, _) = numbers.split_at(count.min(numbers.len()));
+    first
+}
+
+/// The record of the last frame in the stays with these numbers.
+fn last_record(places: &[StayPlaces], numbers: &[usize]) -> Option<usize>
+    ensures { result ≡ last_record places.now None numbers.now }
+{
+    let mut last = None;
+    for number in numbers {
+        last = last_of(places, *number).or(last);
+    }
+    last
+}
+
+/// The record of the last frame of the stay with this number.
+fn last_of(places: &[StayPlaces], number: usize) -> Option<usize>
+    ensures { result ≡ last_of (frames_there (slice_get places.now number)) }
+{
+    let frames = &places.get(number)?.frames;
+    let last = *frames.get(frames.len().saturating_sub(1))?;
+    Some(last as usize)
+}
+
+/// Whether both records of the client's tap at this place are one, and that is a body of polling.
+fn is_one_body(
+    recording: &Recording<'_>,
+    client: usize,
+    first: Option<usize>,
+    last: Option<usize>,
+) -> bool
+    ensures { result ≡ is_one_body recording.now client first last }
+{
+    let Some(first) = first else {
+        return false;
+    };
+    let Some(last) = last else {
+        return false;
+    };
+    if first != last {
+        return false;
+    }
+    match recording.logs().client(client) {
+        Some(recs) => is_poll(recs.get(first)),
+        None => false,
+    }
+}
+
+fn is_poll(rec: Option<&ClientRec>) -> bool
+    ensures { result ≡ is_poll (option_copied rec.entry) }
+{
+    match rec {
+        Some(ClientRec::Poll { .. }) => true,
+        _ => false,
+    }
+}

@@ -1,0 +1,100 @@
+//! A session that is cleared up after its break.
+ghost use Rattle.std.specs.Prelude.{◌≡◌, None};
+ghost use Rattle.std.specs.Option.{option_copied};
+ghost use Rattle.aud_node.specs.OwnRecords.{own_numbers};
+ghost use Rattle.aud_causes.specs.Cleared.{broke_by, cleared_after_break, cleared_at, cleared_by, cleared_in, cleared_on, first_cleared};
+
+use crate::cause::Cause;
+use aud_chain::RecordPlace;
+use aud_node::{Logs, NodeLog};
+use aud_tap::NodeRec;
+
+/// Where a node's log has a `leave` or the `gone` of the session after its `break`, and no turn of it begins between
+/// them: the first such record. It costs the session's own records.
+pub(crate) fn cleared_after_break(logs: &Logs<'_>, pid: &str) -> Option<Cause>
+    ensures { result ≡ cleared_after_break logs.now pid.now }
+{
+    cleared_in(logs, pid, logs.nodes_of(pid))
+}
+
+/// That on the first of these nodes that has one.
+fn cleared_in(logs: &Logs<'_>, pid: &str, nodes: &[usize]) -> Option<Cause>
+    ensures { result ≡ cleared_in logs.now pid.now nodes.now }
+{
+    for node in nodes {
+        if let Some(cause) = cleared_on(logs, pid, *node) {
+            return Some(cause);
+        }
+    }
+    None
+}
+
+/// The first in the log of this node.
+fn cleared_on(logs: &Logs<'_>, pid: &str, node: usize) -> Option<Cause>
+    ensures { result ≡ cleared_on logs.now pid.now node }
+{
+    first_cleared(logs.node(node)?, node, pid)
+}
+
+/// The same in this log.
+fn first_cleared(log: &NodeLog<'_>, node: usize, pid: &str) -> Option<Cause>
+    ensures { result
+        ≡ first_cleared log.now.recs node None (own_numbers log.now.recs pid.now) }
+{
+    let mut broke = None;
+    for number in log.own(pid) {
+        let place = RecordPlace {
+            node,
+            number: *number,
+        };
+        let rec = log.recs().get(*number);
+        if let Some(cause) = cleared_at(place, rec, broke) {
+            return Some(cause);
+        }
+        broke = broke_by(place, rec, broke);
+    }
+    None
+}
+
+/// Where the record at this place clears the session up, after this break.
+fn cleared_at(
+    place: RecordPlace,
+    rec: Option<&NodeRec>,
+    broke: Option<RecordPlace>,
+) -> Option<Cause>
+    ensures { result ≡ cleared_at place (option_copied rec.entry) broke }
+{
+    cleared_by(broke?, place, rec)
+}
+
+fn cleared_by(broke: RecordPlace, place: RecordPlace, rec: Option<&NodeRec>) -> Option<Cause>
+    ensures { result ≡ cleared_by broke place (option_copied rec.entry) }
+{
+    match rec {
+        Some(NodeRec::Leave { .. }) => Some(Cause::ClearedAfterBreak {
+            broke,
+            cleared: place,
+        }),
+        Some(NodeRec::Gone { .. }) => Some(Cause::ClearedAfterBreak {
+            broke,
+            cleared: place,
+        }),
+        _ => None,
+    }
+}
+
+/// The `break` that no turn follows up to the record at this place, where this was that before the record.
+fn broke_by(
+    place: RecordPlace,
+    rec: Option<&NodeRec>,
+    broke: Option<RecordPlace>,
+) -> Option<RecordPlace>
+    ensures { result ≡ broke_by place (option_copied rec.entry) broke }
+{
+    match rec {
+        Some(NodeRec::Broke { .. }) => Some(place),
+        Some(NodeRec::Opened { .. }) => None,
+        Some(NodeRec::Back { .. }) => None,
+        _ => broke,
+    }
+}

@@ -1,0 +1,89 @@
+//! A session's last turn, by the records that begin and end turns.
+ghost use Rattle.std.specs.Prelude.{◌≡◌};
+ghost use Rattle.aud_causes.specs.LastTurn.{ends_after, is_end, is_ended, last_begin, last_turn};
+ghost use Rattle.aud_causes.specs.Turns.{begin_of, is_broken, is_turn};
+
+use crate::turns::{begun_turn, broken_turn, turn_count};
+use aud_chain::{Mark, RecordPlace, TurnMark};
+
+/// The number of the last turn that one of these begins; 0 where none begins one.
+pub(crate) fn last_turn(marks: &[TurnMark]) -> usize
+    ensures { result ≡ last_turn marks.now }
+{
+    turn_count(marks).saturating_sub(1)
+}
+
+/// The first record that begins it.
+pub(crate) fn last_begin(marks: &[TurnMark]) -> Option<RecordPlace>
+    ensures { result ≡ last_begin marks.now }
+{
+    begin_of(marks, last_turn(marks))
+}
+
+/// The first record that begins the turn.
+fn begin_of(marks: &[TurnMark], turn: usize) -> Option<RecordPlace>
+    ensures { result ≡ begin_of marks.now turn }
+{
+    for mark in marks {
+        if is_turn(turn, begun_turn(mark.mark)) {
+            return Some(mark.place);
+        }
+    }
+    None
+}
+
+/// Whether a record breaks the turn.
+pub(crate) fn is_broken(marks: &[TurnMark], turn: usize) -> bool
+    ensures { result ≡ is_broken marks.now turn }
+{
+    for mark in marks {
+        if is_turn(turn, broken_turn(mark.mark)) {
+            return true;
+        }
+    }
+    false
+}
+
+fn is_turn(turn: usize, other: Option<u16>) -> bool
+    ensures { result ≡ is_turn turn other }
+{
+    match other {
+        Some(other) => turn == other as usize,
+        None => false,
+    }
+}
+
+/// Whether a record after this one, in the same log, breaks the session or ends it.
+pub(crate) fn is_ended(marks: &[TurnMark], begin: RecordPlace) -> bool
+    ensures { result ≡ is_ended marks.now begin }
+{
+    for mark in marks {
+        if ends_after(begin, *mark) {
+            return true;
+        }
+    }
+    false
+}
+
+fn ends_after(begin: RecordPlace, mark: TurnMark) -> bool
+    ensures { result ≡ ends_after begin mark }
+{
+    if mark.place.node != begin.node {
+        return false;
+    }
+    if mark.place.number <= begin.number {
+        return false;
+    }
+    is_end(mark.mark)
+}
+
+fn is_end(mark: Mark) -> bool
+    ensures { result ≡ is_end mark }
+{
+    match mark {
+        Mark::Break { .. } => true,
+        Mark::Gone => true,
+        Mark::Open => false,
+        Mark::Back { .. } => false,
+    }
+}

@@ -1,0 +1,229 @@
+//! What events may come from of which nobody knows the session.
+ghost use Rattle.std.specs.Prelude.{◌≡◌, ◌++◌, IfOk, None, OnOk, codes, nat_eq, slice_get, take};
+ghost use Rattle.std.specs.List.{starts_with};
+ghost use Rattle.std.specs.Option.{option_copied};
+ghost use Rattle.aud_recoveries.specs.Recoveries.{stays_at};
+ghost use Rattle.aud_causes.specs.Orphans.{answered_causes, causes_of_before, is_beside, is_disconnect, last_beside, last_of_stay, orphan_causes, out_after_answer, replied_causes, stay_before, unreplied_causes, without_reply};
+
+use crate::cause::Cause;
+use crate::list::{one_cause, push_cause};
+use aud_client::{Recording, Stay};
+use aud_tap::{ClientRec, Text};
+use std::alloc::{AllocError, Global};
+
+/// The causes of events in the stay with this number of the client's tap at this place, whose reply names nobody. It
+/// costs the stays before it.
+pub(crate) fn orphan_causes(
+    alloc: Global,
+    recording: &Recording<'_>,
+    client: usize,
+    number: usize,
+) -> Result<Vec<Cause>, AllocError>
+    ensures { IfOk result (λ found. found.items ≡ orphan_causes recording.now client number) }
+{
+    match stay_in(recording, client, number) {
+        Some(stay) => replied_causes(alloc, recording, client, number, stay),
+        None => Ok(Vec::new(alloc)),
+    }
+}
+
+/// The stay with this number of the client's tap at this place.
+fn stay_in<'r, 'a>(
+    recording: &'r Recording<'a>,
+    client: usize,
+    number: usize,
+) -> Option<&'r Stay<'a>>
+    ensures { option_copied result ≡ slice_get (stays_at recording.now client) number }
+{
+    match recording.client(client) {
+        Some(client) => client.transcript().stays.get(number),
+        None => None,
+    }
+}
+
+/// The causes of events in this stay: the reply names nobody, or there is none.
+fn replied_causes(
+    alloc: Global,
+    recording: &Recording<'_>,
+    client: usize,
+    number: usize,
+    stay: &Stay<'_>,
+) -> Result<Vec<Cause>, AllocError>
+    ensures { IfOk result (λ found. found.items
+        ≡ replied_causes recording.now client number stay.now stay.now.reply) }
+{
+    match &stay.reply {
+        Some(reply) if reply.pid.is_some() => Ok(Vec::new(alloc)),
+        Some(_) => one_cause(alloc, Some(Cause::ReplyWithoutPid { stay: number })),
+        None => unreplied_causes(
+            alloc,
+            recording,
+            client,
+            number,
+            stay,
+            stay_before(recording, client, number, stay),
+        ),
+    }
+}
+
+/// The causes where there is none, and this is the stay before it in its connection and namespace.
+fn unreplied_causes(
+    alloc: Global,
+    recording: &Recording<'_>,
+    client: usize,
+    number: usize,
+    stay: &Stay<'_>,
+    before: Option<usize>,
+) -> Result<Vec<Cause>, AllocError>
+    ensures { IfOk result (λ found. found.items
+        ≡ unreplied_causes recording.now client number stay.now before) }
+{
+    let mut found = one_cause(alloc, without_reply(number, stay, before))?;
+    push_before(&mut found, recording, client, number, before)?;
+    Ok(found)
+}
+
+/// Where the client asked for a session; or where it did not, and there is no such stay.
+fn without_reply(number: usize, stay: &Stay<'_>, before: Option<usize>) -> Option<Cause>
+    ensures { result ≡ without_reply number stay.now.asked before }
+{
+    match &stay.asked {
+        Some(_) => Some(Cause::CutBeforeReply { stay: number }),
+        None => match before {
+            Some(_) => None,
+            None => Some(Cause::TapBeganLate { stay: number }),
+        },
+    }
+}
+
+/// The number of the last stay before it in its connection and namespace.
+fn stay_before(
+    recording: &Recording<'_>,
+    client: usize,
+    number: usize,
+    stay: &Stay<'_>,
+) -> Option<usize>
+    ensures { result ≡ stay_before (stays_at recording.now client) number stay.now }
+{
+    match recording.client(client) {
+        Some(client) => last_beside(stay, first_of(&client.transcript().stays, number)),
+        None => None,
+    }
+}
+
+/// The first of the stays, so many.
+fn first_of<'s, 'a>(stays: &'s [Stay<'a>], count: usize) -> &'s [Stay<'a>]
+    ensures { result.now ≡ take count stays.now }
+{
+    let (first, _) = stays.split_at(count.min(stays.len()));
+    first
+}
+
+/// The number of the last of these stays that is of the same connection and namespace.
+fn last_beside(stay: &Stay<'_>, stays: &[Stay<'_>]) -> Option<usize>
+    ensures { result ≡ last_beside stay.now None 0 stays.now }
+{
+    let mut last = None;
+    for (number, other) in stays.iter().enumerate() {
+        if is_beside(stay, other) {
+            last = Some(number);
+        }
+    }
+    last
+}
+
+fn is_beside(stay: &Stay<'_>, other: &Stay<'_>) -> bool
+    ensures { result ≡ is_beside stay.now other.now }
+{
+    other.c == stay.c && other.nsp == stay.nsp
+}
+
+/// Adds the causes of the stay before, if there is one: it ended by a DISCONNECT; or it was answered.
+fn push_before(
+    found: &mut Vec<Cause>,
+    recording: &Recording<'_>,
+    client: usize,
+    number: usize,
+    before: Option<usize>,
+) -> Result<(), AllocError>
+    ensures { OnOk result (found.new.items
+        ≡ found.old.items ++ causes_of_before recording.now client number before) }
+{
+    let Some(before) = before else {
+        return Ok(());
+    };
+    if is_disconnect(last_of_stay(recording, client, before)) {
+        let cause = Cause::AfterDisconnect {
+            before,
+            stay: number,
+        };
+        return push_cause(found, Some(cause));
+    }
+    match stay_in(recording, client, before) {
+        Some(stay) => push_answered(found, number, before, stay),
+        None => Ok(()),
+    }
+}
+
+/// The last record of the stay with this number of the client's tap at this place.
+fn last_of_stay<'a>(
+    recording: &Recording<'a>,
+    client: usize,
+    number: usize,
+) -> Option<&'a ClientRec>
+    ensures { option_copied result ≡ last_of_stay recording.now client number }
+{
+    let places = recording.client(client)?.transcript().places.get(number)?;
+    recording.logs().client(client)?.get(places.last as usize)
+}
+
+/// Whether the record is a DISCONNECT of either side.
+fn is_disconnect(rec: Option<&ClientRec>) -> bool
+    ensures { result ≡ is_disconnect (option_copied rec.entry) }
+{
+    match rec {
+        Some(ClientRec::TextIn { t }) => says_disconnect(t),
+        Some(ClientRec::TextOut { t }) => says_disconnect(t),
+        _ => false,
+    }
+}
+
+fn says_disconnect(text: &Text) -> bool
+    ensures { result ≡ starts_with nat_eq text.now (codes "41") }
+{
+    text.as_str().as_bytes().starts_with(b"41")
+}
+
+/// Adds the causes where this is the stay before, if it was answered.
+fn push_answered(
+    found: &mut Vec<Cause>,
+    number: usize,
+    before: usize,
+    stay: &Stay<'_>,
+) -> Result<(), AllocError>
+    ensures { OnOk result (found.new.items
+        ≡ found.old.items ++ answered_causes number before stay.now) }
+{
+    if stay.reply.is_none() {
+        return Ok(());
+    }
+    push_cause(found, out_after_answer(number, before, stay))?;
+    let second = Cause::SecondConnect {
+        answered: before,
+        stay: number,
+    };
+    push_cause(found, Some(second))
+}
+
+/// Where no session was asked for in the stay before.
+fn out_after_answer(number: usize, before: usize, stay: &Stay<'_>) -> Option<Cause>
+    ensures { result ≡ out_after_answer number before stay.now }
+{
+    if stay.asked.is_some() {
+        return None;
+    }
+    Some(Cause::OutAfterAnswer {
+        answered: before,
+        stay: number,
+    })
+}

@@ -1,0 +1,109 @@
+//! A turn for which two records take the session back.
+ghost use Rattle.std.specs.Prelude.{◌≡◌, ◌++◌, OnOk};
+ghost use Rattle.aud_causes.specs.Twice.{back_turn, first_twice, is_place, recovered_twice, turn_not_stored, twice_at, twice_causes};
+
+use crate::cause::Cause;
+use crate::last_turn::is_ended;
+use crate::list::push_cause;
+use aud_chain::{Mark, RecordPlace, TurnMark};
+use std::alloc::AllocError;
+
+/// A turn that a record begins, and for which another one takes the session back.
+#[derive(Clone, Copy, Drop)]
+pub struct Twice {
+    pub turn: usize,
+    pub first: RecordPlace,
+    pub again: RecordPlace,
+}
+
+/// The first of these records that takes the session back for a turn that another one begins, where these are the
+/// turns' first begins.
+pub(crate) fn first_twice(begins: &[Option<RecordPlace>], marks: &[TurnMark]) -> Option<Twice>
+    ensures { result ≡ first_twice begins.now marks.now }
+{
+    for mark in marks {
+        if let Some(twice) = twice_at(begins, *mark) {
+            return Some(twice);
+        }
+    }
+    None
+}
+
+fn twice_at(begins: &[Option<RecordPlace>], mark: TurnMark) -> Option<Twice>
+    ensures { result ≡ twice_at begins.now mark }
+{
+    let turn = back_turn(mark.mark)? as usize;
+    let Some(Some(first)) = begins.get(turn) else {
+        return None;
+    };
+    if is_place(*first, mark.place) {
+        return None;
+    }
+    Some(Twice {
+        turn,
+        first: *first,
+        again: mark.place,
+    })
+}
+
+/// The turn for which the record takes the session back, if it is a `back`.
+fn back_turn(mark: Mark) -> Option<u16>
+    ensures { result ≡ back_turn mark }
+{
+    match mark {
+        Mark::Back { turn } => Some(turn),
+        Mark::Open => None,
+        Mark::Break { .. } => None,
+        Mark::Gone => None,
+    }
+}
+
+fn is_place(a: RecordPlace, b: RecordPlace) -> bool
+    ensures { result ≡ is_place a b }
+{
+    a.node == b.node && a.number == b.number
+}
+
+/// Adds the causes of such a turn, if there is one.
+pub(crate) fn push_twice(
+    found: &mut Vec<Cause>,
+    marks: &[TurnMark],
+    twice: Option<Twice>,
+) -> Result<(), AllocError>
+    ensures { OnOk result (found.new.items
+        ≡ found.old.items ++ twice_causes marks.now twice) }
+{
+    let Some(twice) = twice else {
+        return Ok(());
+    };
+    push_cause(found, turn_not_stored(marks, twice))?;
+    push_cause(found, recovered_twice(twice))
+}
+
+/// Where one of the two turns is ended in its log.
+fn turn_not_stored(marks: &[TurnMark], twice: Twice) -> Option<Cause>
+    ensures { result ≡ turn_not_stored marks.now twice }
+{
+    if is_ended(marks, twice.first) || is_ended(marks, twice.again) {
+        return Some(Cause::TurnNotStored {
+            turn: twice.turn,
+            first: twice.first,
+            again: twice.again,
+        });
+    }
+    None
+}
+
+/// Where they stand in the logs of two nodes.
+fn recovered_twice(twice: Twice) -> Option<Cause>
+    ensures { result ≡ recovered_twice twice }
+{
+    if twice.first.node == twice.again.node {
+        return None;
+    }
+    Some(Cause::RecoveredTwice {
+        turn: twice.turn,
+        first: twice.first,
+        again: twice.again,
+    })
+}

@@ -1,5 +1,0 @@
-use Rattle.aud_parts.proofs.MergedLinesLemmas.{merges_lines}
-use Rattle.aud_parts.proofs.merge_laws.merges_lines.Goals as goal
-
-pub returns : goal.returns
-returns c = merges_lines

@@ -1,0 +1,19 @@
+use Rattle.std.proofs.Common.{Some, subst, arith}
+use Rattle.std.specs.List.{All}
+use Rattle.std.proofs.lemmas.List.{take_all}
+use Rattle.std.proofs.lemmas.List.Elements.{All-more}
+use Rattle.aud_tap.specs.declared.taps.Tap.{Tap}
+use Rattle.aud_node.specs.Cluster.{node_recs}
+use Rattle.aud_parts.specs.Plan.{StaysWhole}
+use Rattle.aud_parts.proofs.plan.closed.stay_whole.Goals as goal
+
+pub loop-tap-preserved : goal.loop-tap-preserved
+loop-tap-preserved c =
+    let Whole = λ (tap : Tap). StaysWhole c.args.plan.now (node_recs (Some tap.records)) in
+    All-more Whole c.args.taps.now c.loop-tap.tap-index c.tap-item.result c.loop-tap-test.true c.loop-tap.invariant
+    (subst Whole c.tap-item.is (c.stays_whole.ensures c.if-not-stays_whole.false))
+
+pub returns : goal.returns
+returns c = λ e.
+    let Whole = λ (tap : Tap). StaysWhole c.args.plan.now (node_recs (Some tap.records)) in
+    subst (All Whole) (take_all c.loop-tap.tap-index c.args.taps.now (omega arith)) c.loop-tap.invariant

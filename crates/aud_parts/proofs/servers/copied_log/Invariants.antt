@@ -1,6 +1,0 @@
-use Rattle.std.proofs.Common.{◌≡◌, take}
-use Rattle.aud_parts.proofs.servers.copied_log.Given as goal
-
--- those so far
-abbrev pub invariant-loop-number : goal.invariant-loop-number
-invariant-loop-number l = l.copy ≡ take l.number l.records

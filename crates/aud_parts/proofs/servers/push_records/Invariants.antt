@@ -1,0 +1,6 @@
+use Rattle.std.proofs.Common.{◌≡◌, ◌++◌, take}
+use Rattle.aud_parts.proofs.servers.push_records.Given as goal
+
+-- those so far
+abbrev pub invariant-loop-number : goal.invariant-loop-number
+invariant-loop-number l = l.log ≡ l.initial.log ++ take l.number l.records

@@ -1,0 +1,29 @@
+use Rattle.std.proofs.Common.{◌++◌}
+use Rattle.std.proofs.lemmas.Result.{on_ok_weaker}
+use Rattle.aud_parts.specs.IndexSoFar.{IsCounted, ReadSoFar}
+use Rattle.aud_parts.proofs.IndexLemmas.{counted-front, counted-left, counted-line, fed-all, fed-line, fed-none, on_ok_later}
+use Rattle.aud_parts.proofs.tap_index.TapIndex.feed.Goals as goal
+
+pub lines-init : goal.lines-init
+lines-init c = λ files bytes has counted. fed-none c.args.self.now files bytes c.args.piece.now (has (counted-front files bytes c.args.piece.now counted))
+
+pub lines-preserved : goal.lines-preserved
+lines-preserved c = λ files bytes has counted.
+    let piece = c.args.piece.now in
+    let left = c.lines.left.now in
+    let front = c.in-Some.front.now in
+    let others = c.in-Some.others.now in
+    let f = c.lines.invariant files bytes has counted in
+    let found = c.in-Some.ensures.found in
+    fed-line c.lines.self c.add_line.new.self files bytes piece left front others found.0 f
+    (c.in_ok-add_line.ensures files (bytes ++ f.done) found.1 (counted-line files bytes piece f.done left front others counted f.cut found.0) f.read)
+
+pub returns : goal.returns
+returns c = λ files bytes has.
+    on_ok_later (IsCounted files (bytes ++ c.args.piece.now)) (ReadSoFar c.add_front.new.self files (bytes ++ c.args.piece.now)) c.add_front.result
+    (λ counted.
+    let piece = c.args.piece.now in
+    let left = c.lines.left.now in
+    let f = c.lines.invariant files bytes has counted in
+    on_ok_weaker c.add_front.result (fed-all c.lines.self c.add_front.new.self files bytes piece left f)
+    (c.add_front.ensures files (bytes ++ f.done) c.in_default.ensures.none (counted-left files bytes piece f.done left counted f.cut) f.read))

@@ -1,5 +1,0 @@
-use Rattle.aud_parts.proofs.KeptTogether.{keeps_together}
-use Rattle.aud_parts.proofs.together.plans_keep_together.Goals as goal
-
-pub returns : goal.returns
-returns c = keeps_together

@@ -1,0 +1,215 @@
+//! The reading of the text that says which part has which session.
+ghost use Rattle.std.specs.Prelude.{◌≡◌, [], IfOk, IsTrue, map};
+ghost use Rattle.std.specs.List.{list_all};
+ghost use Rattle.aud_parts.specs.Listing.{Gives, are_new, are_within, checked, counts_in, has_some, is_bare, is_full, is_listing, is_within, listing_after, listing_in, listing_of, number_under, session_in, session_of_words, sessions_in, unended_fault};
+
+use crate::cut::{LentBytes, after_prefix, cut_at, number_in, pid_in, whole_lines};
+use crate::listing::by_part::{LentText, pids_by_part};
+use crate::listing::fault::ListingFault;
+use crate::listing::{ListedSession, Listing};
+use aud_base::{Listed, Places};
+use aud_tap::Text;
+use std::alloc::{AllocError, Global};
+use std::hash::RandomState;
+
+/// The number after these bytes.
+pub(crate) fn number_under(key: &[u8], word: &[u8]) -> Option<usize>
+    ensures { result ≡ number_under key.now word.now }
+{
+    number_in(after_prefix(key, word)?)
+}
+
+/// How many parts and sessions the first line says that there are.
+fn counts_in(line: &[u8]) -> Option<(usize, usize)>
+    ensures { result ≡ counts_in line.now }
+{
+    let (left, right) = cut_at(b' ', line)?;
+    let parts = number_under(b"parts=", left)?;
+    let sessions = number_under(b"sessions=", right)?;
+    Some((parts, sessions))
+}
+
+/// The session with this part, one of so many, and this pid.
+#[tactic(auto, unfolding(crate::specs::Listing::session_of_words))]
+fn session_of_words(
+    alloc: Global,
+    parts: usize,
+    number: &[u8],
+    pid: &[u8],
+) -> Result<ListedSession, ListingFault>
+    ensures { Gives (λ s. s) result (session_of_words parts (number.now, pid.now)) }
+{
+    let Some(number) = number_in(number) else {
+        return Err(ListingFault::NoListing);
+    };
+    if number < 1 || parts < number {
+        return Err(ListingFault::NoPart);
+    }
+    let Some(pid) = pid_in(pid) else {
+        return Err(ListingFault::NoPid);
+    };
+    let pid = Text::new(alloc, pid)?;
+    Ok(ListedSession {
+        part: number - 1,
+        pid,
+    })
+}
+
+/// The session of a line.
+fn session_in(alloc: Global, parts: usize, line: &[u8]) -> Result<ListedSession, ListingFault>
+    ensures { Gives (λ s. s) result (session_in parts line.now) }
+{
+    match cut_at(b' ', line) {
+        Some((number, pid)) => session_of_words(alloc, parts, number, pid),
+        None => Err(ListingFault::NoListing),
+    }
+}
+
+/// The sessions of the lines.
+fn sessions_in(
+    alloc: Global,
+    parts: usize,
+    lines: &[LentBytes<'_>],
+) -> Result<Vec<ListedSession>, ListingFault>
+    ensures reads { Gives (λ all. all.items) result (sessions_in parts lines.now) }
+    ensures within { IfOk result (λ all. IsTrue (list_all (is_within parts) all.items)) }
+{
+    let mut sessions = Vec::new(alloc);
+    for line in lines {
+        let session = session_in(alloc, parts, line.as_slice())?;
+        sessions.push(session)?;
+    }
+    Ok(sessions)
+}
+
+/// Whether no session has the pid of one before it.
+fn are_new(alloc: Global, keys: RandomState, sessions: &[ListedSession]) -> Result<bool, AllocError>
+    ensures { IfOk result (λ answer. answer ≡ are_new [] sessions.now) }
+{
+    let mut seen = Places::new(alloc, keys);
+    for session in sessions {
+        let before = seen.len();
+        seen.note(0, session.pid.as_str())?;
+        if seen.len() == before {
+            return Ok(false);
+        }
+    }
+    Ok(true)
+}
+
+/// Whether each of the parts has a pid.
+fn are_some(parts: &[Vec<LentText<'_>>]) -> bool
+    ensures { result ≡ list_all has_some (map (λ part. part.items) parts.now) }
+{
+    for pids in parts {
+        if pids.is_empty() {
+            return false;
+        }
+    }
+    true
+}
+
+/// Whether there is one part and no session.
+fn is_bare(listing: &Listing) -> bool
+    ensures { result ≡ is_bare listing.now }
+{
+    listing.parts == 1 && listing.sessions.as_slice().is_empty()
+}
+
+/// Whether each part has a session, or there is one part and no session.
+fn is_full(alloc: Global, listing: &Listing) -> Result<bool, AllocError>
+    requires { IsTrue (are_within listing.now) }
+    ensures { IfOk result (λ answer. answer ≡ is_full listing.now) }
+{
+    if is_bare(listing) {
+        return Ok(true);
+    }
+    if listing.parts > listing.sessions.as_slice().len() {
+        return Ok(false);
+    }
+    let parts = pids_by_part(alloc, listing)?;
+    Ok(are_some(&parts))
+}
+
+/// The listing, if it has so many sessions, no pid twice and no empty part.
+#[tactic(auto, unfolding(crate::specs::Listing::checked))]
+fn checked(
+    alloc: Global,
+    keys: RandomState,
+    count: usize,
+    listing: Listing,
+) -> Result<Listing, ListingFault>
+    requires { IsTrue (are_within listing) }
+    ensures { Gives (λ l. l) result (checked count listing) }
+{
+    if listing.sessions.as_slice().len() != count {
+        return Err(ListingFault::CutShort);
+    }
+    if !are_new(alloc, keys, listing.sessions.as_slice())? {
+        return Err(ListingFault::PidTwice);
+    }
+    if !is_full(alloc, &listing)? {
+        return Err(ListingFault::EmptyPart);
+    }
+    Ok(listing)
+}
+
+/// The listing of a first line with these counts, and of the lines after it.
+#[tactic(auto, unfolding(crate::specs::Listing::listing_after))]
+fn listing_after(
+    alloc: Global,
+    keys: RandomState,
+    parts: usize,
+    count: usize,
+    lines: &[LentBytes<'_>],
+) -> Result<Listing, ListingFault>
+    ensures { Gives (λ l. l) result (listing_after lines.now (parts, count)) }
+{
+    let sessions = sessions_in(alloc, parts, lines)?;
+    let listing = Listing {
+        parts,
+        sessions: Listed::new(sessions),
+    };
+    checked(alloc, keys, count, listing)
+}
+
+/// The listing of the lines.
+fn listing_in(
+    alloc: Global,
+    keys: RandomState,
+    lines: &[LentBytes<'_>],
+) -> Result<Listing, ListingFault>
+    ensures { Gives (λ l. l) result (listing_in lines.now) }
+{
+    let Some((first, rest)) = lines.split_first() else {
+        return Err(ListingFault::NoListing);
+    };
+    match counts_in(first.as_slice()) {
+        Some((parts, count)) => listing_after(alloc, keys, parts, count, rest),
+        None => Err(ListingFault::NoListing),
+    }
+}
+
+/// Why a text isn't one whose last line is ended.
+fn unended_fault(text: &[u8]) -> ListingFault
+    ensures { result ≡ unended_fault text.now }
+{
+    if text.starts_with(b"parts=") {
+        ListingFault::CutShort
+    } else {
+        ListingFault::NoListing
+    }
+}
+
+/// The listing that a text is, as [`listing_text`](crate::listing_text) writes it. Pids are copied, and hashed with
+/// these keys. `Memory` may come in place of each other refusal.
+pub fn read_listing(alloc: Global, keys: RandomState, text: &[u8]) -> Result<Listing, ListingFault>
+    ensures reads { Gives (λ listing. listing) result (listing_of text.now) }
+    ensures sound { IfOk result (λ listing. IsTrue (is_listing listing)) }
+    ensures within { IfOk result (λ listing. IsTrue (are_within listing)) }
+{
+    match whole_lines(alloc, text)? {
+        Some(lines) => listing_in(alloc, keys, &lines),
+        None => Err(unended_fault(text)),
+    }
+}

@@ -1,0 +1,36 @@
+//! The text that says from which lines of a recording the lines of a part come.
+pub mod fault;
+pub mod reading;
+
+ghost use Rattle.std.specs.Prelude.{◌≡◌, ◌++◌, true, IfOk, OnOk, Ok, string_bytes};
+ghost use Rattle.aud_parts.specs.NamedLines.{are_lines, lines_text, part_of, run_line};
+
+use aud_input::{LineRun, PartLines};
+use std::alloc::{AllocError, Global};
+
+/// Puts the line of a run at the end.
+fn push_run(out: &mut String, run: LineRun) -> Result<(), AllocError>
+    ensures { OnOk result (string_bytes out.new ≡ string_bytes out.old ++ run_line run) }
+{
+    let LineRun { count, first } = run;
+    writeln!(out, "{count} {first}")
+}
+
+/// The text of a part's lines: a line `lines=<number> bytes=<number>` of its size, and then a line `<count> <line>` for
+/// each run: so many of the part's lines, after those before, come from the lines of the recording from this one on.
+/// [`read_lines`](crate::read_lines) reads it.
+pub fn lines_text(alloc: Global, part: &PartLines) -> Result<String, AllocError>
+    ensures written { IfOk result (λ text. string_bytes text ≡ lines_text part.now) }
+    ensures reads_back { IfOk result (λ text. are_lines part.now ≡ true
+        → part_of (string_bytes text) ≡ Ok part.now) }
+{
+    let mut out = String::new(alloc);
+    let lines = part.size.lines;
+    let bytes = part.size.bytes;
+    let runs = part.runs.as_slice();
+    writeln!(&mut out, "lines={lines} bytes={bytes}")?;
+    for run in runs {
+        push_run(&mut out, *run)?;
+    }
+    Ok(out)
+}

@@ -1,0 +1,169 @@
+//! Whether a plan keeps together what has to stay together.
+ghost use Rattle.std.specs.Prelude.{◌≡◌, ◌<◌, ◌↔◌, IsTrue, All, Some, true};
+ghost use Rattle.std.specs.List.{list_all};
+ghost use Rattle.aud_base.specs.OneForEach.{OneForEach};
+ghost use Rattle.aud_tap.specs.declared.taps.Tap.{Tap};
+ghost use Rattle.aud_node.specs.Cluster.{node_recs};
+ghost use Rattle.aud_parts.specs.LeftOut.{keeps_record};
+ghost use Rattle.aud_parts.specs.Plan.{client_pids, has_its_part, is_in};
+ghost use Rattle.aud_parts.specs.Plan.{HasRoom, IsClientIn, IsClosed, StaysWhole};
+
+use crate::clients::measured::MeasuredClient;
+use crate::plan::Plan;
+use crate::plan::fault::{MAX_CLIENT_TAPS, MAX_SESSIONS};
+use crate::plan::units::is_started;
+use aud_node::pid;
+use aud_tap::{NodeRec, NodeRecs, Records, Tap, Text};
+
+/// Whether each session has one of the parts, each client's tap has that of all its sessions, and one part has all
+/// sessions of each log that doesn't begin with a `start`.
+pub(crate) fn is_closed(plan: &Plan, taps: &[Tap], clients: &[MeasuredClient]) -> bool
+    ensures { result ≡ true → IsClosed taps.now clients.now plan.now }
+{
+    if plan.parts.len() != plan.sessions.len() {
+        return false;
+    }
+    if !are_below(&plan.parts, plan.weights.len()) {
+        return false;
+    }
+    if !are_clients_in(plan, clients) {
+        return false;
+    }
+    stay_whole(plan, taps)
+}
+
+/// Whether no part has more sessions, or more clients' taps, than a bundle may have.
+pub(crate) fn has_room(plan: &Plan) -> bool
+    ensures { result ≡ true → HasRoom plan.now }
+{
+    for part in 0..plan.weights.len() {
+        if plan.session_count(part) > MAX_SESSIONS {
+            return false;
+        }
+        if plan.client_count(part) > MAX_CLIENT_TAPS {
+            return false;
+        }
+    }
+    true
+}
+
+/// Whether all the parts are less than their count.
+fn are_below(parts: &[usize], count: usize) -> bool
+    ensures { IsTrue result ↔ All (λ part. part < count) parts.now }
+{
+    parts.iter().all(|part| *part < count)
+}
+
+/// Whether each client's tap has the part of all its sessions.
+fn are_clients_in(plan: &Plan, clients: &[MeasuredClient]) -> bool
+    ensures { result ≡ true
+        → OneForEach (IsClientIn plan.now) clients.now plan.now.clients.items }
+{
+    if plan.clients.len() != clients.len() {
+        return false;
+    }
+    for (number, client) in clients.iter().enumerate() {
+        if !is_client_in(plan, client, plan.clients[number]) {
+            return false;
+        }
+    }
+    true
+}
+
+/// Whether the client's tap has this part.
+fn is_client_in(plan: &Plan, client: &MeasuredClient, part: Option<usize>) -> bool
+    ensures { result ≡ has_its_part plan.now (client_pids client.now) part }
+{
+    let pids = client.facts.pids.as_slice();
+    match part {
+        None => pids.is_empty(),
+        Some(part) => !pids.is_empty() && are_in(plan, part, pids),
+    }
+}
+
+/// Whether all these sessions have the part.
+fn are_in(plan: &Plan, part: usize, pids: &[Text]) -> bool
+    ensures { result ≡ list_all (is_in plan.now part) pids.now }
+{
+    for pid in pids {
+        if !plan.is_in(part, pid.as_str()) {
+            return false;
+        }
+    }
+    true
+}
+
+/// Whether one part has all sessions of each log that doesn't begin with a `start`.
+fn stay_whole(plan: &Plan, taps: &[Tap]) -> bool
+    ensures { result ≡ true
+        → All (λ (tap : Tap). StaysWhole plan.now (node_recs (Some tap.records))) taps.now }
+{
+    for tap in taps {
+        if !stays_whole(plan, tap) {
+            return false;
+        }
+    }
+    true
+}
+
+/// The same of this tap's log, if it is a node's.
+fn stays_whole(plan: &Plan, tap: &Tap) -> bool
+    ensures { result ≡ true → StaysWhole plan.now (node_recs (Some tap.now.records)) }
+{
+    match &tap.records {
+        Records::Stream(_) => true,
+        Records::Node(recs) => is_log_whole(plan, recs),
+        Records::Client(_) => true,
+    }
+}
+
+/// The same of this log.
+fn is_log_whole(plan: &Plan, recs: &NodeRecs) -> bool
+    ensures { result ≡ true → StaysWhole plan.now recs.now }
+{
+    if is_started(recs) {
+        return true;
+    }
+    let part = first_part(plan, recs);
+    names_only(plan, part, recs)
+}
+
+/// The part of the first session that the log names; the first part where it names none.
+fn first_part(plan: &Plan, recs: &NodeRecs) -> usize {
+    for number in 0..recs.len() {
+        if let Some(part) = part_named(plan, &recs[number]) {
+            return part;
+        }
+    }
+    0
+}
+
+/// The part of the session that the record names.
+fn part_named(plan: &Plan, rec: &NodeRec) -> Option<usize> {
+    match pid(rec) {
+        Some(pid) => plan.part_of(pid),
+        None => None,
+    }
+}
+
+/// Whether each record names no session, or one that has the part.
+fn names_only(plan: &Plan, part: usize, recs: &NodeRecs) -> bool
+    ensures { result ≡ list_all (keeps_record (is_in plan.now part)) recs.now }
+{
+    for number in 0..recs.len() {
+        if !is_kept(plan, part, &recs[number]) {
+            return false;
+        }
+    }
+    true
+}
+
+/// Whether the record names no session, or one that has the part.
+fn is_kept(plan: &Plan, part: usize, rec: &NodeRec) -> bool
+    ensures { result ≡ keeps_record (is_in plan.now part) rec.now }
+{
+    match pid(rec) {
+        Some(pid) => plan.is_in(part, pid),
+        None => true,
+    }
+}

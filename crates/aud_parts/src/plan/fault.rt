@@ -1,0 +1,81 @@
+//! The limits of a part, and why there is no plan.
+use std::alloc::{AllocError, AllocFailed};
+use std::fmt;
+use thiserror::Error;
+
+/// The most taps of clients in a bundle.
+pub(crate) const MAX_CLIENT_TAPS: usize = 4_096;
+
+/// The most sessions in a bundle.
+pub(crate) const MAX_SESSIONS: usize = 65_536;
+
+/// The most taps of nodes in a bundle.
+pub(crate) const MAX_NODE_TAPS: u32 = 64;
+
+/// A limit of a part: that of a bundle.
+#[derive(Clone, Copy, Debug, PartialEq, Eq, Drop)]
+pub enum Limit {
+    /// A part has at most 4,096 taps of clients.
+    Clients,
+    /// A part has at most 65,536 sessions.
+    Sessions,
+    /// A part has at most 64 taps of nodes that name its sessions.
+    Nodes,
+}
+
+impl Limit {
+    /// What a part may have, in words.
+    fn words(self) -> &'static str {
+        match self {
+            Limit::Clients => "4,096 taps of clients",
+            Limit::Sessions => "65,536 sessions",
+            Limit::Nodes => "64 taps of nodes",
+        }
+    }
+}
+
+impl fmt::Display for Limit {
+    fn fmt<W: fmt::Write>(&self, f: &mut fmt::Formatter<W>) -> fmt::Result {
+        f.write_str(self.words())
+    }
+}
+
+/// Why there is no plan. Sessions that one part has to have together are named by the first of them.
+#[derive(Debug, Drop, Error)]
+pub enum PlanFault {
+    /// Memory could not be had.
+    #[error("out of memory")]
+    Memory,
+    /// No part has room for these sessions beside those that it has; each has fewer than this alone.
+    #[error("no part has room for session {first} and those that go with it: a part has at most {limit}. More parts are needed")]
+    NoRoom { first: String, limit: Limit },
+    /// These sessions alone are past the limit, so no number of parts helps.
+    #[error("session {first} and those that go with it can't be parted, and a part has at most {limit}")]
+    OneUnit { first: String, limit: Limit },
+    /// The plan that was made parts what has to stay together, or passes a limit. It is never seen: each plan is looked
+    /// at before it is given, whatever made it.
+    #[error("the plan parts what has to stay together, or passes a limit")]
+    Unclosed,
+}
+
+impl From<AllocError> for PlanFault {
+    ghost use Rattle.std.specs.Prelude.{◌≡◌};
+    ghost use Rattle.aud_parts.specs.declared.plan.fault.PlanFault.TheVariants.{Memory};
+
+    ghost from_gives = { λ _ e. e ≡ Memory };
+
+    fn from(_: AllocError) -> PlanFault {
+        PlanFault::Memory
+    }
+}
+
+impl<T: Drop> From<AllocFailed<T>> for PlanFault {
+    ghost use Rattle.std.specs.Prelude.{◌≡◌};
+    ghost use Rattle.aud_parts.specs.declared.plan.fault.PlanFault.TheVariants.{Memory};
+
+    ghost from_gives = { λ _ e. e ≡ Memory };
+
+    fn from(_: AllocFailed<T>) -> PlanFault {
+        PlanFault::Memory
+    }
+}

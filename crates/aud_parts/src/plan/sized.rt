@@ -1,0 +1,173 @@
+//! A plan whose parts have at most so many bytes.
+ghost use Rattle.std.specs.Prelude.{◌≡◌, IfOk};
+ghost use Rattle.aud_parts.specs.Plan.{IsClosed};
+
+use crate::clients::measured::MeasuredClient;
+use crate::part::text::Planned;
+use crate::plan::Plan;
+use crate::plan::fault::PlanFault;
+use crate::plan::planning::plan_parts;
+use aud_node::Logs;
+use aud_reader::ReadFault;
+use std::alloc::{AllocError, Global};
+use thiserror::Error;
+
+/// How many numbers of parts are tried at most.
+const TRIES: u64 = 4_096;
+
+/// Why there is no plan whose parts are small enough.
+#[derive(Debug, Drop, Error)]
+pub enum SizedFault {
+    /// There is no plan at all.
+    #[error("{0}")]
+    Plan(PlanFault),
+    /// A line of the stream's or of a node's tap would be too long in a part.
+    #[error("a line of a part would be longer than a bundle's may be")]
+    LineTooLong,
+    /// Sessions that can't be parted, of which this is the first, make a part of so many bytes.
+    #[error("session {first} and those that go with it make a part of {bytes} bytes, and can't be parted")]
+    TooLarge { first: String, bytes: u64 },
+    /// No such number was among those that were tried.
+    #[error("no number of parts was found")]
+    NotFound,
+}
+
+impl From<AllocError> for SizedFault {
+    fn from(_: AllocError) -> SizedFault {
+        SizedFault::Plan(PlanFault::Memory)
+    }
+}
+
+impl From<ReadFault> for SizedFault {
+    fn from(fault: ReadFault) -> SizedFault {
+        match fault {
+            ReadFault::Memory => SizedFault::Plan(PlanFault::Memory),
+            ReadFault::Input(_, _) => SizedFault::LineTooLong,
+        }
+    }
+}
+
+/// A part that has so many bytes.
+#[derive(Clone, Copy, Drop)]
+struct Measured {
+    part: usize,
+    bytes: u64,
+}
+
+/// The bytes of all clients' taps.
+fn bytes_of(clients: &[MeasuredClient]) -> u64 {
+    let mut bytes = 0u64;
+    for client in clients {
+        bytes = bytes.saturating_add(client.bytes);
+    }
+    bytes
+}
+
+/// The number of the heaviest part, the first of those that are as heavy.
+fn heaviest(plan: &Plan) -> usize {
+    let mut heaviest = 0usize;
+    let mut most = 0u64;
+    for (part, weight) in plan.weights.iter().enumerate() {
+        if *weight > most {
+            heaviest = part;
+            most = *weight;
+        }
+    }
+    heaviest
+}
+
+/// The part, if it has more than so many bytes.
+fn if_larger(planned: &Planned<'_>, part: usize, most: u64) -> Result<Option<Measured>, ReadFault> {
+    let servers = planned.servers(part)?;
+    let bytes = planned.bytes(part, &servers);
+    if bytes > most {
+        Ok(Some(Measured { part, bytes }))
+    } else {
+        Ok(None)
+    }
+}
+
+/// A part that has more than so many bytes: the heaviest one, or else the first.
+fn larger_part(
+    alloc: Global,
+    logs: &Logs<'_>,
+    clients: &[MeasuredClient],
+    plan: &Plan,
+    most: u64,
+) -> Result<Option<Measured>, ReadFault> {
+    let planned = &Planned::new(alloc, logs, clients, plan);
+    let heaviest = heaviest(plan);
+    if let Some(larger) = if_larger(planned, heaviest, most)? {
+        return Ok(Some(larger));
+    }
+    for part in 0..plan.weights.len() {
+        if part != heaviest {
+            if let Some(larger) = if_larger(planned, part, most)? {
+                return Ok(Some(larger));
+            }
+        }
+    }
+    Ok(None)
+}
+
+/// The number of parts to try after this one, with which a part has so many bytes: in proportion to what is too much,
+/// and by an eighth more at least.
+fn next_number(parts: usize, bytes: u64, most: u64) -> usize {
+    let number = parts as u64;
+    let in_proportion = number.saturating_mul(bytes) / most.max(1);
+    let more = number.saturating_add(number / 8).saturating_add(1);
+    in_proportion.max(more) as usize
+}
+
+/// Why a part can't be smaller.
+fn too_large(alloc: Global, plan: &Plan, larger: &Measured) -> SizedFault {
+    let Ok(pids) = plan.pids_in(alloc, larger.part) else {
+        return SizedFault::Plan(PlanFault::Memory);
+    };
+    let first = match pids.first() {
+        Some(pid) => String::from_str(alloc, pid),
+        None => String::from_str(alloc, ""),
+    };
+    match first {
+        Ok(first) => SizedFault::TooLarge {
+            first,
+            bytes: larger.bytes,
+        },
+        Err(_) => SizedFault::Plan(PlanFault::Memory),
+    }
+}
+
+/// Plans parts of at most so many bytes each, as few as are found: numbers of parts are tried, beginning with the bytes
+/// of the clients' taps by those of a part, and going on in proportion to what is too much. Each part that is tried is
+/// made in memory.
+pub fn plan_within(
+    alloc: Global,
+    logs: &Logs<'_>,
+    clients: &[MeasuredClient],
+    most: u64,
+) -> Result<Plan, SizedFault>
+    ensures { IfOk result (IsClosed logs.now.taps clients.now) }
+{
+    let mut parts = (bytes_of(clients) / most.max(1)).saturating_add(1) as usize;
+    for _try in 0..TRIES {
+        match plan_parts(alloc, logs, clients, parts) {
+            Ok(plan) => {
+                let Some(larger) = larger_part(alloc, logs, clients, &plan, most)? else {
+                    return Ok(plan);
+                };
+                if plan.weights.len() < parts || plan.session_count(larger.part) < 2 {
+                    return Err(too_large(alloc, &plan, &larger));
+                }
+                parts = next_number(parts, larger.bytes, most);
+            }
+            Err(
+                PlanFault::NoRoom {
+                    first: _first,
+                    limit: _limit,
+                },
+            ) => parts = next_number(parts, 0, most),
+            Err(fault) => return Err(SizedFault::Plan(fault)),
+        }
+    }
+    Err(SizedFault::NotFound)
+}

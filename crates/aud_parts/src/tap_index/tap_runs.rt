@@ -1,0 +1,207 @@
+//! The runs of bytes that have the lines of a tap.
+ghost use Rattle.std.specs.Prelude.{◌≡◌, ◌++◌, ◌==◌, ◌∷◌, [], List, ℕ, length, slice_get, IfOk, IsTrue, OnOk, Some};
+ghost use Rattle.std.specs.Str.{bytes_eq};
+ghost use Rattle.aud_base.specs.Places.{noted as place_noted, places_of};
+ghost use Rattle.aud_tap.specs.TapName.{is_tap_name};
+ghost use Rattle.aud_parts.specs.TapRuns as spec;
+ghost use Rattle.aud_parts.specs.IndexSoFar.{KeepsPlaces, Notes, changed, is_at, longer, none_noted, noted_in, place_in, with_run};
+
+use aud_base::Places;
+use aud_tap::Text;
+use std::alloc::{AllocError, Global};
+use std::hash::RandomState;
+use std::marker::Model;
+
+/// A run of bytes of a file: lines of one tap, one after the other.
+#[derive(Clone, Copy, Debug, PartialEq, Eq, Drop)]
+pub struct Run {
+    /// The file, counted from 0.
+    pub file: usize,
+    /// Where its first line begins in the file, counted in bytes from 0.
+    pub from: u64,
+    /// Where its last line ends: the place of that line's newline, if it has one.
+    pub to: u64,
+    /// The number of its first line, counted from 1 over all files.
+    pub number: u64,
+}
+
+/// A tap by its name, with the runs of its lines.
+#[derive(Drop)]
+pub struct TapRuns {
+    name: Text,
+    runs: Vec<Run>,
+}
+
+impl Model for TapRuns {
+    ghost use Rattle.std.specs.Prelude.{IsTrue};
+    ghost use Rattle.aud_tap.specs.TapName.{is_tap_name};
+    ghost use Rattle.aud_parts.specs.TapRuns as spec;
+
+    ghost Value = { spec.TapRuns };
+
+    ghost view = { λ s. record { name = s.name; runs = s.runs.items } };
+
+    ghost invariant = { λ s. IsTrue (is_tap_name s.name) };
+}
+
+/// Adds a line to the runs: to the last one, where it may go on that and is of the same file.
+fn push_run(runs: &mut Vec<Run>, line: Run, goes_on: bool) -> Result<(), AllocError>
+    ensures { OnOk result (runs.new.items ≡ longer goes_on line runs.old.items) }
+{
+    let Some(last) = runs.pop() else {
+        runs.push(line)?;
+        return Ok(());
+    };
+    if goes_on && last.file == line.file {
+        runs.push(Run {
+            to: line.to,
+            ..last
+        })?;
+        return Ok(());
+    }
+    runs.push(last)?;
+    runs.push(line)?;
+    Ok(())
+}
+
+impl TapRuns {
+    /// A tap of one line.
+    fn new(alloc: Global, name: &str, line: Run) -> Result<TapRuns, AllocError>
+        requires { IsTrue (is_tap_name name.now) }
+        ensures { IfOk result (λ tap. tap ≡ record { name = name.now; runs = line ∷ [] }) }
+    {
+        let name = Text::new(alloc, name)?;
+        let mut runs = Vec::new(alloc);
+        runs.push(line)?;
+        Ok(TapRuns { name, runs })
+    }
+
+    pub fn name(&self) -> &str
+        ensures value { result.now ≡ self.now.name }
+        ensures form { IsTrue (is_tap_name result.now) }
+    {
+        self.name.as_str()
+    }
+
+    /// The runs in their order, borrowed. Lines of one file between which no line of another tap stands are in one run.
+    pub fn runs(&self) -> &[Run]
+        ensures { result.now ≡ self.now.runs }
+    {
+        &self.runs
+    }
+
+    /// How many bytes the runs have.
+    pub fn bytes(&self) -> u64 {
+        let mut bytes = 0u64;
+        for run in &self.runs {
+            bytes = bytes.saturating_add(run.to.saturating_sub(run.from));
+        }
+        bytes
+    }
+
+    /// Adds a line, which goes on the last run if no line of another tap stands between, and the file is the same.
+    fn push(&mut self, line: Run, goes_on: bool) -> Result<(), AllocError>
+        ensures { OnOk result (self.new ≡ with_run goes_on line self.old) }
+    {
+        push_run(&mut self.runs, line, goes_on)
+    }
+}
+
+/// The taps in the order of their first lines, the place of each by its name, and the place of the tap whose line was
+/// added last.
+#[derive(Drop)]
+pub struct RunsByTap {
+    alloc: Global,
+    taps: Vec<TapRuns>,
+    places: Places,
+    last: usize,
+}
+
+impl RunsByTap {
+    /// No taps. Names are hashed with these keys.
+    pub fn new(alloc: Global, keys: RandomState) -> RunsByTap
+        ensures taps { noted_in result ≡ none_noted }
+        ensures keeps { KeepsPlaces result }
+    {
+        RunsByTap {
+            alloc,
+            taps: Vec::new(alloc),
+            places: Places::new(alloc, keys),
+            last: 0,
+        }
+    }
+
+    /// Whether the tap whose line was added last has this name.
+    fn is_last(&self, name: &str) -> bool
+        ensures { result ≡ is_at self.now.last self.now.taps.items name.now }
+    {
+        match self.taps.get(self.last) {
+            Some(tap) => tap.name() == name,
+            None => false,
+        }
+    }
+
+    /// The place of the tap of this name.
+    fn place(&self, name: &str) -> Option<usize>
+        ensures { KeepsPlaces self.now → result ≡ place_in self.now.taps.items name.now }
+    {
+        if self.is_last(name) {
+            Some(self.last)
+        } else {
+            self.places.of(name).first().copied()
+        }
+    }
+
+    /// Puts a tap of one line at the end.
+    fn open(&mut self, name: &str, line: Run) -> Result<(), AllocError>
+        requires { IsTrue (is_tap_name name.now) }
+        ensures taps { OnOk result (self.new.taps.items
+            ≡ self.old.taps.items ++ record { name = name.now; runs = line ∷ [] } ∷ []) }
+        ensures last { OnOk result (self.new.last ≡ length self.old.taps.items) }
+        ensures places { OnOk result ((other : List ℕ) → places_of self.new.places other
+            ≡ place_noted (length self.old.taps.items) (bytes_eq name.now other)
+            (places_of self.old.places other)) }
+    {
+        let place = self.taps.len();
+        self.places.note(place, name)?;
+        let tap = TapRuns::new(self.alloc, name, line)?;
+        self.taps.push(tap)?;
+        self.last = place;
+        Ok(())
+    }
+
+    /// Adds a line to the tap at this place.
+    fn push(&mut self, place: usize, line: Run) -> Result<(), AllocError>
+        ensures taps { (tap : spec.TapRuns) → slice_get self.old.taps.items place ≡ Some tap
+            → OnOk result (self.new.taps.items
+            ≡ changed (with_run (place == self.old.last) line)
+            self.old.taps.items place) }
+        ensures last { self.new.last ≡ place }
+        ensures places { (other : List ℕ) → places_of self.new.places other
+            ≡ places_of self.old.places other }
+    {
+        let goes_on = place == self.last;
+        self.last = place;
+        match self.taps.get_mut(place) {
+            Some(tap) => tap.push(line, goes_on),
+            None => Ok(()),
+        }
+    }
+
+    /// Adds a line of the tap of this name.
+    pub fn note(&mut self, name: &str, line: Run) -> Result<(), AllocError>
+        requires { IsTrue (is_tap_name name.now) }
+        ensures { KeepsPlaces self.old → OnOk result (Notes self.old self.new name.now line) }
+    {
+        match self.place(name) {
+            Some(place) => self.push(place, line),
+            None => self.open(name, line),
+        }
+    }
+
+    pub fn taps(&self) -> &[TapRuns]
+        ensures { result.now ≡ self.now.taps.items }
+    {
+        &self.taps
+    }
+}
