@@ -92,7 +92,7 @@ def jobs_by_name_and_by_number(folder: Path) -> None:
     ]
     need(all((it.returncode, it.stdout, it.stderr) == (0, b"", b"") for it in given), f"{[shown(it) for it in given]}")
     need([it.read_bytes() for it in work.reports()] == texts, "other reports")
-    need(len(list(work.into.iterdir())) == 9, f"there are {sorted(work.into.iterdir())}")
+    need(len(list(work.into.iterdir())) == 13, f"there are {sorted(work.into.iterdir())}")
 
 
 @case
@@ -107,4 +107,4 @@ def jobs_that_fail(folder: Path) -> None:
         (job(folder / "none.jsonl"), 3, b"none.jsonl"), (job(work.into), 4, b"SLURM_ARRAY_TASK_ID"), (job(), 4, b"usage"),
     ):
         need(it.returncode == status and not it.stdout and words in it.stderr, shown(it))
-    need(len(list(work.into.iterdir())) == 5, f"there are {sorted(work.into.iterdir())}")
+    need(len(list(work.into.iterdir())) == 9, f"there are {sorted(work.into.iterdir())}")

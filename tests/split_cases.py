@@ -1,4 +1,4 @@
-"""Cases of tests/parts: sizes and limits of parts, what `split` and `merge` refuse, and output that fails."""
+"""Cases of tests/parts: sizes and limits of parts, what they have of a node's takes, what `split` and `merge` refuse, and output that fails."""
 
 from __future__ import annotations
 
@@ -12,7 +12,7 @@ import subprocess
 from pathlib import Path
 
 from harness import TOP, program
-from splitting import SECONDS, Done, Work, case, is_refused, is_report, need, reports_on, run, shown, split, written
+from splitting import SECONDS, Done, Work, case, is_refused, is_report, lines_of, need, reports_on, run, shown, split, written
 
 EXAMPLE = TOP / "examples/bundle_b.jsonl"
 NOBODY = 65534
@@ -85,6 +85,23 @@ def more_clients_than_a_bundle_may_have(folder: Path) -> None:
     past_a_limit(folder, node("a") + "".join(session(it, "a") for it in range(4100)), 4100, 4096)
 
 
+def sessions(first: int, count: int, node: str) -> str:
+    """So many sessions on a node, one after the other, of one client."""
+    name = f"c{first}"
+    lines = [f'{name} {{"k":"tap","v":1,"of":"client"}}\n']
+    for it in range(first, first + count):
+        reply = f'40{{\\"sid\\":\\"s{it}\\",\\"pid\\":\\"p{it}\\"}}'
+        lines.append(f'{node} {{"k":"open","pid":"p{it}","sid":"s{it}","nsp":"/"}}\n')
+        lines.append(f'{name} {{"k":"conn","c":{it}}}\n{name} {{"k":"in","t":"{reply}"}}\n{name} {{"k":"lost"}}\n')
+    return "".join(lines)
+
+
+@case
+def more_sessions_than_a_bundle_may_have(folder: Path) -> None:
+    """They are on one node, so that its log has more sessions than a bundle may have."""
+    past_a_limit(folder, node("a") + "".join(sessions(it, 50, "a") for it in range(0, 66_000, 50)), 66_000, 65_536)
+
+
 @case
 def more_nodes_than_a_bundle_may_have(folder: Path) -> None:
     past_a_limit(folder, "".join(node(f"n{it}") + session(it, f"n{it}") for it in range(70)), 70, 64)
@@ -95,6 +112,44 @@ def a_session_on_more_nodes_than_a_part_may_have(folder: Path) -> None:
     file = folder / "large.jsonl"
     file.write_text("".join(node(f"n{it}") + f'n{it} {{"k":"gone","pid":"P"}}\n' for it in range(65)))
     is_refused(run("split", "--parts", 9, "--into", folder / "parts", file), 4, "session P", "at most 64")
+
+
+# ---- what a node took
+
+OTHER = 'a {"k":"join","pid":"p2","room":"r"}\n'  # a record of another session
+
+# what a node took, such a record between each two, and what a part without these has of it
+TAKEN = (
+    ("takes 3-0 | takes 5-0", "takes 5-0"),
+    ("take 1-0 | takes 3-0 | take 4-0", "takes 4-0"),
+    ("take 1-0 | take 2-0", "takes 2-0"),
+    ("take 1-0", "take 1-0"),
+    ("takes 3-0", "takes 3-0"),
+    ("takes 2-0 | takes 3-0 | takes 2-0 | take 4-0 | takes 5-0", "takes 3-0 | takes 2-0 | takes 5-0"),
+    ("takes 3-0 | takes 9-0 | takes 5-0", "takes 3-0 | takes 9-0 | takes 5-0"),
+    ("take 1-0 | take 3-0 | take 2-0", "take 1-0 | take 3-0 | take 2-0"),
+)
+
+
+def took(records: str, between: str = "") -> str:
+    return between.join('a {"k":"%s","off":"%s"}\n' % tuple(it.split()) for it in records.split(" | "))
+
+
+@case
+def takes_between_which_nothing_is_left(folder: Path) -> None:
+    """What a node took in order is one record, where the part has no record between; what it took out of order stays."""
+    stream = 'st {"k":"tap","v":1,"of":"stream"}\n' + "".join(f'st {{"k":"other","off":"{it}-0"}}\n' for it in range(1, 6))
+    begun = 'a {"k":"tap","of":"node","v":2}\na {"k":"start","off":null}\n'
+    for number, (before, after) in enumerate(TAKEN):
+        own = folder / str(number)
+        own.mkdir()
+        bundle = written([(stream + begun + session(1, "a") + session(2, "a") + took(before, OTHER)).encode()], own)
+        parts = split(bundle, own / "parts", "--parts", 2)
+        for pid, sid, rest in (("p1", "s1", took(after)), ("p2", "s2", took(before, OTHER))):
+            (text,) = (it for it in (it.read_text() for it in parts) if f'"pid":"{pid}"' in it)
+            log = "".join(it for it in text.splitlines(keepends=True) if it.startswith("a "))
+            need(log == f'{begun}a {{"k":"open","nsp":"/","pid":"{pid}","sid":"{sid}"}}\n{rest}', f"{before}: {log}")
+        is_report(run("merge", own / "parts", *reports_on(parts)), bundle.report)
 
 
 # ---- what `merge` refuses
@@ -230,6 +285,16 @@ def folders_that_have_sessions(folder: Path) -> None:
 
 
 @case
+def folders_that_have_lines(folder: Path) -> None:
+    for name in ("part-0001.jsonl", "part-0007.lines"):
+        into = folder / name
+        into.mkdir()
+        (into / name).write_bytes(b"")
+        is_refused(run("split", "--parts", 2, "--into", into, EXAMPLE), 4, "error: ", str(into))
+        need([it.name for it in into.iterdir()] == [name], "the folder has changed")
+
+
+@case
 def folders_that_are_there(folder: Path) -> None:
     """Other files in the folder are no matter."""
     work = Work.of(folder)
@@ -265,6 +330,65 @@ def arguments_that_are_refused(folder: Path) -> None:
     is_refused(run("merge"), 4, "error: ")
 
 
+# ---- the lines of a part
+
+
+def with_lines(work: Work, text: bytes) -> list[object]:
+    """The words that explain the second part with this text of its lines."""
+    file = work.into / "other.lines"
+    file.write_bytes(text)
+    return ["explain", "--lines", file, work.parts[1]]
+
+
+@case
+def lines_that_are_of_no_part(folder: Path) -> None:
+    """What isn't of the form is refused by the line at fault; and what is of another part."""
+    work = Work.of(folder)
+    text = lines_of(work.parts[1]).read_bytes()
+    first, second, *rest = lines = text.splitlines(keepends=True)
+    last = len(lines)
+    for it, words in (
+        (b"", "line 1: "), (b"\n", "line 1: "), (second, "line 1: "), (b"lines=1\n", "line 1: "), (text.replace(b"lines=", b"rows="), "line 1: "),
+        (text.replace(b"bytes=", b"bytes=-"), "line 1: "), (first + b"0 1\n" + text[len(first) :], "line 2: "), (first + b"1 0\n", "line 2: "),
+        (first + second + b"1\n" + b"".join(rest), "line 3: "), (text + b"\n", f"line {last + 1}: "), (text.replace(b"\n", b"\r\n"), "line 1: "),
+        (first + second.replace(b" ", b"  "), "line 2: "), (text + b"1 1\n", "fewer or more"), (b"".join(lines[:-1]), "fewer or more"), (text[:-1], "fewer or more"),
+        (first + b"%d 1\n" % 2**64, "line 2: "),
+    ):
+        is_refused(run(*with_lines(work, it)), 4, "error: ", "other.lines: ", words)
+    for part in (work.parts[0], work.parts[2]):
+        size = re.search(rb"lines=(\d+) bytes=(\d+)", lines_of(part).read_bytes())
+        words = f"is of a part of {size[1].decode()} lines and {size[2].decode()} bytes"
+        is_refused(run("explain", "--lines", lines_of(part), work.parts[1]), 4, "error: ", str(lines_of(part)), words)
+    is_refused(run("explain", "--lines", work.into / "none", work.parts[1]), 3, "sioaudit: read: ", "none")
+    is_refused(run("explain", "--lines", lines_of(work.parts[1]), "--lines", lines_of(work.parts[1]), work.parts[1]), 4, "--lines")
+
+
+@case
+def lines_beyond_those_that_are_kept(folder: Path) -> None:
+    """A record of which the line is none of the first 4,294,967,294 is not shown, as in an input that has so many."""
+    work = Work.of(folder)
+    whole = re.findall(rb"^lines=\d+ bytes=\d+\n", lines_of(work.parts[1]).read_bytes())[0]
+    count = int(re.search(rb"\d+", whole)[0])
+    for line in (2**32 - 1, 2**64 - 1):
+        done = run(*with_lines(work, whole + b"%d %d\n" % (count, line)), "--json")
+        need(done.returncode in (0, 1) and not re.search(rb'"line":\d', done.stdout), shown(done))
+
+
+@case
+def what_lines_do_not_change(folder: Path) -> None:
+    """The summary tells the size of what was read; a refused line of a part is named as the part's."""
+    work = Work.of(folder)
+    for part in work.parts:
+        size = lines_of(part).read_text().split("\n")[0].replace("=", ": ").replace(" bytes", ", bytes")
+        done = run("explain", "--lines", lines_of(part), part)
+        need(f"\n{size}, seconds: ".encode() in done.stdout, shown(done))
+    text = work.parts[1].read_bytes()
+    work.parts[1].write_bytes(text + b"x\n")
+    refused = run("explain", work.parts[1])
+    done = run("explain", "--lines", lines_of(work.parts[1]), work.parts[1])
+    need(refused.returncode == 2 and (done.returncode, done.stdout, done.stderr) == (2, refused.stdout, b""), shown(done))
+
+
 # ---- output and memory that fail
 
 
@@ -297,14 +421,14 @@ def files_that_may_not_grow(folder: Path) -> None:
 
 @case
 def little_memory(folder: Path) -> None:
-    """With each size of memory that is too small for the work, but not to start, nothing is left. A merge of so few lines has room wherever it starts."""
-    work = Work.of(folder)
-    for words in (["split", "--parts", 4, "--into", folder / "less", *work.bundle.files], ["merge", work.into, *reports_on(work.parts)]):
+    """With each size of memory that is too small for the work, but not to start, nothing is left. A merge of so few lines may have room wherever it starts."""
+    work, into = Work.of(folder), folder / "less"
+    for words in (["merge", work.into, *reports_on(work.parts)], ["split", "--parts", 4, "--into", into, *work.bundle.files]):
         most, failed, done = 1 << 20, 0, None
         while done is None or done.returncode not in (0, 1):
             done = run(*words, **limited(resource.RLIMIT_AS, most))
             if done.stderr.startswith(b"sioaudit: "):
-                is_failed(done, folder / "less")
+                is_failed(done, into)
                 need(not done.stdout, shown(done))
                 failed += 1
             most += most // 32

@@ -1,9 +1,13 @@
-"""What the cases of tests/parts share: a bundle in files, its parts, and the reports on them; each is held against what is told of it."""
+"""What the cases of tests/parts share: a bundle in files, its parts, and the reports on them; each is held against what is told of it. The
+lines that a part's lines come from have to be lines of the same taps, in their order, that say the same."""
 
 from __future__ import annotations
 
+import itertools
+import json
 import re
 import subprocess
+import sys
 from collections import Counter
 from dataclasses import dataclass
 from pathlib import Path
@@ -14,6 +18,7 @@ from harness import difference, program
 SECONDS = 60
 CLIENT = re.compile(rb'^\S+ \{"k":"tap","of":"client"', re.M)
 
+sys.set_int_max_str_digits(0)
 Done = subprocess.CompletedProcess  # of bytes
 Case = Callable[[Path], None]
 CASES: list[Case] = []
@@ -60,12 +65,63 @@ class Bundle:
     def pids(self) -> list[str]:
         return [it.split()[1] for it in self.report.stdout.decode().splitlines()[:-1]]
 
+    def lines(self) -> list[bytes]:
+        """The lines of all files, one after the other."""
+        return [line.removesuffix(b"\r") for file in self.files for line in lines_in(file)]
+
+
+def lines_in(file: Path) -> list[bytes]:
+    """The lines of a file; what comes after the last newline is one too."""
+    lines = file.read_bytes().split(b"\n")
+    return lines if lines[-1] else lines[:-1]
+
 
 def written(texts: list[bytes], folder: Path) -> Bundle:
     files = [folder / f"{number}.jsonl" for number in range(len(texts))]
     for file, text in zip(files, texts):
         file.write_bytes(text)
     return Bundle(files, run("audit", "--workers", 1, *files), run("audit", "--workers", 1, "--whole", *files))
+
+
+def lines_of(part: Path) -> Path:
+    """The file beside a part that says from which lines its lines come."""
+    return part.with_suffix(".lines")
+
+
+def named_lines(part: Path) -> list[int]:
+    """The line that each line of a part comes from."""
+    first, *rows = lines_of(part).read_text().splitlines()
+    need(first == f"lines={len(lines_in(part))} bytes={part.stat().st_size}", f"{lines_of(part)} begins with {first}")
+    runs = [(int(count), int(line)) for count, line in (it.split(" ") for it in rows)]
+    need(all(count > 0 and line > 0 for count, line in runs), f"runs {runs}")
+    need(all(line + count != after for (count, line), (_, after) in itertools.pairwise(runs)), f"runs that go on each other: {runs}")
+    return [line + it for count, line in runs for it in range(count)]
+
+
+def come_from(record: dict[str, object], other: dict[str, object]) -> bool:
+    """Whether a part may have made the first record, of the stream or of a node, of the other one: of an entry it may keep the offset alone, and
+    of what a node took up to where."""
+    kinds = {"tap": "tap of", "ev": "ev other off", "other": "ev other off", "take": "take takes off", "takes": "take takes off"}
+    if record["k"] in kinds:
+        *alike, key = kinds[record["k"]].split()
+        return other["k"] in alike and record[key] == other[key]
+    return all(record[it] == other.get(it) for it in record)
+
+
+def are_named(part: Path, whole: list[bytes]) -> None:
+    """Needs each line of a part to come from a line of the whole, of the same tap and after those before it there, that says the same."""
+    lines, numbers, last, clients = lines_in(part), named_lines(part), {}, set()
+    need(len(numbers) == len(lines), f"{len(numbers)} lines are named, of {len(lines)}")
+    for line, number in zip(lines, numbers):
+        (name, text), other = line.split(b" ", 1), whole[number - 1]
+        need(other.startswith(name + b" ") and last.get(name, 0) < number, f"{part.name}: {line!r} is no line {number}, {other!r}")
+        if name not in last and json.loads(text)["of"] == "client":
+            clients.add(name)
+        elif name in clients:
+            need(line == other, f"{part.name}: {line!r} is line {number}, {other!r}")
+        else:
+            need(come_from(json.loads(text), json.loads(other.split(b" ", 1)[1])), f"{part.name}: {line!r} is line {number}, {other!r}")
+        last[name] = number
 
 
 def split(bundle: Bundle, into: Path, *layout: object) -> list[Path]:
@@ -75,7 +131,8 @@ def split(bundle: Bundle, into: Path, *layout: object) -> list[Path]:
     *rows, total = done.stdout.decode().splitlines()
     first, *listed = (into / "sessions").read_text().splitlines()
     parts, pids = [into / f"part-{it:04}.jsonl" for it in range(1, len(rows) + 1)], bundle.pids()
-    need(sorted(into.iterdir()) == [*parts, into / "sessions"], f"there are {sorted(into.iterdir())}")
+    files = [*parts, *map(lines_of, parts), into / "sessions"]
+    need(sorted(into.iterdir()) == sorted(files), f"there are {sorted(into.iterdir())}")
     need(first == total == f"parts={len(parts)} sessions={len(pids)}", f"{first}, {total}")
     need([it.split(" ", 1)[1] for it in listed] == pids, "sessions in another order than in the report")
     counts = Counter(it.split(" ", 1)[0] for it in listed)
@@ -84,6 +141,9 @@ def split(bundle: Bundle, into: Path, *layout: object) -> list[Path]:
         facts = f"{part.name} sessions={counts.pop(str(number), 0)} clients={len(CLIENT.findall(data))} bytes={len(data)}"
         need(row == facts, f"told {row}, and there is {facts}")
     need(not counts, f"sessions of parts {list(counts)}")
+    whole = bundle.lines()
+    for part in parts:
+        are_named(part, whole)
     return parts
 
 

@@ -296,6 +296,8 @@ class Sources:
         self.named: List[Named] = []
         self.implementations: List[Implementation] = []
         program = self.all_below(PROGRAM)
+        # (imports that are looked up now)
+        self.followed: Set[Tuple[int, PathTo]] = set()
         self.roots = {it: self.module(it, root_of(it), None) for it in self.below if it in program}
         for it in self.implementations:
             self.implement(it)
@@ -412,15 +414,21 @@ class Sources:
             begin = {"crate": self.roots[module.crate], "self": module, "super": module.above}[path[0]]
             return self.find(begin, path[1:], kinds)
         wanted = kinds if len(path) == 1 else (Module, Named)
-        first: List[object] = []
-        for it in module.names.get(path[0], []):
-            if not isinstance(it, tuple):
-                first.append(it)
-            elif it != path[: len(it)]:
-                # (by the names of this module, or those of a crate)
-                first.append(self.find(module, it, wanted) or self.find(self.roots.get(it[0]), it[1:], wanted))
-        first.append(self.roots.get(path[0]))
-        for it in first:
+        named = module.names.get(path[0], [])
+
+        def candidates() -> Iterator[object]:
+            """What is declared here, a crate, and then what is imported: a module may import a function that its own submodule is named for."""
+            yield from (it for it in named if not isinstance(it, tuple))
+            yield self.roots.get(path[0])
+            for it in named:
+                if isinstance(it, tuple) and it != path[: len(it)] and (id(module), it) not in self.followed:
+                    self.followed.add((id(module), it))
+                    # (by the names of this module, or those of a crate)
+                    found = self.find(module, it, wanted) or self.find(self.roots.get(it[0]), it[1:], wanted)
+                    self.followed.discard((id(module), it))
+                    yield found
+
+        for it in candidates():
             if not isinstance(it, wanted):
                 continue
             if len(path) == 1:
