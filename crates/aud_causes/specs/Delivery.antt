@@ -1,5 +1,5 @@
 -- What a difference may come from, by its facts alone.
-use Rattle.std.specs.Prelude.{ℕ, Bool, false, not, ◌&&◌, ◌||◌, Option, Some, None, if◌then◌else◌, nat_eq, nat_lt, nat_le}
+use Rattle.std.specs.Prelude.{ℕ, Bool, false, not, ◌&&◌, ◌||◌, List, flat_map, Option, Some, None, option_to_list, if◌then◌else◌, nat_eq, nat_lt, nat_le}
 use Rattle.std.specs.Option.{option_and_then}
 use Rattle.aud_causes.specs.declared.cause.Cause.{Cause}
 use Rattle.aud_causes.specs.declared.cause.Cause.TheVariants.{DoubledLive, SwappedLive, LostLive, SentAgainAfterReplay, StaleOffset, SkippedInWindow}
@@ -9,6 +9,10 @@ use Rattle.aud_causes.specs.declared.facts.Facts.{Facts}
 -- the cause, where it holds
 abbrev pub cause_if : Bool → Cause → Option Cause
 cause_if holds cause = if holds then Some cause else None
+
+-- those of the causes that hold
+abbrev pub held : List (Option Cause) → List Cause
+held causes = flat_map option_to_list causes
 
 -- the position is one that the node had to send again
 abbrev pub is_replayed : Replay → ℕ → Bool

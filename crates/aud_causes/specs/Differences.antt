@@ -1,5 +1,5 @@
 -- What a difference between what was received and what was due may come from.
-use Rattle.std.specs.Prelude.{ℕ, not, ◌&&◌, ◌++◌, List, [], map, Option, option_to_list, nat_lt, nat_le}
+use Rattle.std.specs.Prelude.{ℕ, not, ◌&&◌, ◌++◌, List, [], ◌∷◌, map, Option, option_to_list, nat_lt, nat_le}
 use Rattle.std.specs.Option.{option_and_then, option_or}
 use Rattle.aud_node.specs.Cluster.{Cluster}
 use Rattle.aud_node.specs.Stream.{Text, entry}
@@ -17,7 +17,7 @@ use Rattle.aud_causes.specs.declared.cause.Cause.{Cause}
 use Rattle.aud_causes.specs.declared.cause.Cause.TheVariants.{OffsetOfAnotherSession}
 use Rattle.aud_causes.specs.declared.facts.Facts.{Facts}
 use Rattle.aud_causes.specs.Facts.{facts_of}
-use Rattle.aud_causes.specs.Delivery.{cause_if, doubled_live, swapped_live, lost_live, sent_again, stale_offset, skipped_in_window}
+use Rattle.aud_causes.specs.Delivery.{cause_if, held, doubled_live, swapped_live, lost_live, sent_again, stale_offset, skipped_in_window}
 use Rattle.aud_causes.specs.Behind.{node_behind}
 use Rattle.aud_causes.specs.Extra.{log_ended_early, before_birth, late_leave, extra_live, change_missing, rooms_named}
 use Rattle.aud_causes.specs.Leavable.{leave_missing_in}
@@ -79,8 +79,7 @@ cause_and cause causes = option_to_list cause ++ causes
 -- what it had replayed; the offset was stale; that of the body; it came twice while the client was connected
 abbrev pub doubled_causes : Cluster → List TurnSeen → List StaySeen → Option Cause → Facts → List Cause
 doubled_causes c turns stays body f =
-    cause_and (node_behind c turns f)
-    (cause_and (sent_again f (first_taken stays f)) (cause_and (stale_offset f) (cause_and body (cause_and (doubled_live f) []))))
+    held (node_behind c turns f ∷ sent_again f (first_taken stays f) ∷ stale_offset f ∷ body ∷ doubled_live f ∷ [])
 
 -- the same of a session's entry
 abbrev pub doubled_in : Case → Facts → List Cause
@@ -88,13 +87,13 @@ doubled_in s f = doubled_causes s.c s.seen s.stays (body_twice s.c s.client s.nu
 
 -- of an entry that came late: the node was behind the break; two changed places while the client was connected
 abbrev pub swapped_causes : Cluster → List TurnSeen → Facts → List Cause
-swapped_causes c turns f = cause_and (node_behind c turns f) (cause_and (swapped_live f) [])
+swapped_causes c turns f = held (node_behind c turns f ∷ swapped_live f ∷ [])
 
 -- of an entry that was lost, where this holds of the rooms at the break, and of a `leave`: the first; it was left out of
 -- the replay; the offset was another session's; it was left out while the client was connected; the `leave` is missing
 abbrev pub lost_causes : Option Cause → List ℕ → Option Cause → Facts → List Cause
 lost_causes at_break due leave f =
-    cause_and at_break (cause_and (skipped_in_window f) (cause_and (other_session_after due f) (cause_and (lost_live f) (cause_and leave []))))
+    held (at_break ∷ skipped_in_window f ∷ other_session_after due f ∷ lost_live f ∷ leave ∷ [])
 
 -- the same of a session's entry
 abbrev pub lost_in : Case → Facts → List Cause
@@ -111,12 +110,9 @@ lost_in s f =
 -- which it wasn't addressed; a change of rooms is missing
 abbrev pub extra_by : Cluster → Text → List TurnSeen → Option Cause → Option Cause → Option Cause → List ℕ → Option Reason → Facts → List Cause
 extra_by c pid turns behind at_break left due why f =
-    cause_and behind
-    (cause_and at_break
-    (cause_and (other_session_before due f)
-    (cause_and (log_ended_early c pid turns why)
-    (cause_and left
-    (cause_and (before_birth c turns why) (cause_and (extra_live (option_or behind left) why f) (cause_and (change_missing why f) [])))))))
+    held
+    (behind ∷ at_break ∷ other_session_before due f ∷ log_ended_early c pid turns why ∷ left
+    ∷ before_birth c turns why ∷ extra_live (option_or behind left) why f ∷ change_missing why f ∷ [])
 
 -- the same, where this holds of the rooms at the break
 abbrev pub extra_causes : Cluster → Text → List TurnSeen → Option Cause → List ℕ → Option Reason → Facts → List Cause

@@ -3,7 +3,7 @@ pub use Rattle.aud_node.specs.Stream
 pub use Rattle.aud_rows.specs.ClientPlaces
 pub use Rattle.aud_maker.specs.Made
 pub use Rattle.aud_account.specs.Account
-pub mod Pieces
+pub mod Filled
 pub mod NoPacket
 pub mod Words
 pub mod Records

@@ -1,5 +1,5 @@
 -- What a fault of a client's tap may come from.
-use Rattle.std.specs.Prelude.{ℕ, suc, zero, Bool, false, not, ◌&&◌, List, [], ◌∷◌, Option, Some, None, option_to_list, if◌then◌else◌}
+use Rattle.std.specs.Prelude.{ℕ, suc, zero, Bool, false, not, ◌&&◌, List, [], ◌∷◌, Option, Some, None, if◌then◌else◌}
 use Rattle.std.specs.Option.{option_map}
 use Rattle.std.specs.Str.{bytes_eq}
 use Rattle.aud_tap.specs.declared.taps.Tap.{Tap}
@@ -10,8 +10,7 @@ use Rattle.aud_client.specs.StaySeen.{StaySeen}
 use Rattle.aud_check.specs.NamedStays.{has_sid}
 use Rattle.aud_causes.specs.declared.cause.Cause.{Cause}
 use Rattle.aud_causes.specs.declared.cause.Cause.TheVariants.{NoClientTap, ReplyMissing, TwoTaps, SidDiffers, NamespaceDiffers}
-use Rattle.aud_causes.specs.Delivery.{cause_if}
-use Rattle.aud_causes.specs.Differences.{cause_and}
+use Rattle.aud_causes.specs.Delivery.{cause_if, held}
 
 -- ---- the taps that name the session
 
@@ -31,7 +30,7 @@ reply_missing c = option_map ReplyMissing (orphan_from c 0 c.taps)
 
 -- of a session that no client's tap names: no tap does; a tap has events of no known session
 abbrev pub unnamed_causes : Cluster → List Cause
-unnamed_causes c = NoClientTap ∷ option_to_list (reply_missing c)
+unnamed_causes c = held (Some NoClientTap ∷ reply_missing c ∷ [])
 
 -- of so many clients' taps that name the session: none, or several
 abbrev pub client_causes : Cluster → ℕ → List Cause
@@ -60,4 +59,4 @@ namespace_differs number nsp stay = cause_if (not (bytes_eq stay.nsp nsp)) (Name
 
 -- what differs in the stay with this number
 abbrev pub named_causes : ℕ → Text → Text → StaySeen → List Cause
-named_causes number sid nsp stay = cause_and (sid_differs number sid stay) (cause_and (namespace_differs number nsp stay) [])
+named_causes number sid nsp stay = held (sid_differs number sid stay ∷ namespace_differs number nsp stay ∷ [])

@@ -1,6 +1,6 @@
 -- Why a record of the client's tap is no packet, and what to do about it.
-use Rattle.std.specs.Prelude.{ℕ, List, [], ◌∷◌, Option, Some, None, codes}
-use Rattle.std.specs.Option.{option_and_then}
+use Rattle.std.specs.Prelude.{ℕ, List, [], ◌∷◌, ◌++◌, Option, Some, None, codes, if◌then◌else◌, is_some, option_to_list}
+use Rattle.std.specs.Option.{option_and_then, option_map}
 use Rattle.aud_tap.specs.declared.records.ClientRec.{ClientRec}
 use Rattle.aud_node.specs.Cluster.{Cluster}
 use Rattle.aud_node.specs.NodeTaps.{client_at}
@@ -10,8 +10,8 @@ use Rattle.aud_no_packet.specs.declared.no_packet.NoPacket.{NoPacket}
 use Rattle.aud_no_packet.specs.declared.no_packet.Refusal.{Refusal}
 use Rattle.aud_no_packet.specs.declared.no_packet.Refusal.TheVariants.{Engine, Socket}
 use Rattle.aud_no_packet.specs.NoPacket.{no_packet_at}
-use Rattle.aud_no_packet.specs.Words.{refusal_text}
-use Rattle.aud_causes.specs.Pieces.{PieceSeen, Spelled, Counted}
+use Rattle.aud_causes.specs.declared.why.Figure.{Figure}
+use Rattle.aud_causes.specs.declared.why.Figure.TheVariants.{Number, Refused}
 
 -- why the record with this number of these is no packet, if there is one
 abbrev pub no_packet_of : Option ℕ → List ClientRec → Option NoPacket
@@ -24,15 +24,16 @@ no_packet_in c client = option_and_then (no_packet_of (option_and_then (λ (t : 
 
 -- ---- in words
 
--- the packet with this number of a polling body, or the whole record, is refused so
-abbrev pub refused_pieces : Option ℕ → List ℕ → List PieceSeen
-refused_pieces None words = Spelled (codes "A record of the client's tap is no packet: ") ∷ Spelled words ∷ Spelled (codes ".") ∷ []
-refused_pieces (Some number) words = Spelled (codes "Packet ") ∷ Counted number ∷ Spelled (codes " of a polling body is none: ") ∷ Spelled words ∷ Spelled (codes ".") ∷ []
-
 -- what happened
-abbrev pub no_packet_pieces : Option NoPacket → List PieceSeen
-no_packet_pieces None = Spelled (codes "A record of the client's tap is no packet.") ∷ []
-no_packet_pieces (Some found) = refused_pieces found.packet (refusal_text found.refusal)
+abbrev pub no_packet_words : Option NoPacket → List ℕ
+no_packet_words None = codes "A record of the client's tap is no packet."
+no_packet_words (Some found) =
+    if is_some found.packet then codes "Packet # of a polling body is none: #." else codes "A record of the client's tap is no packet: #."
+
+-- its figures: the number of the packet, of a polling body; and what is refused
+abbrev pub no_packet_figures : Option NoPacket → List Figure
+no_packet_figures None = []
+no_packet_figures (Some found) = option_to_list (option_map Number found.packet) ++ Refused found.refusal ∷ []
 
 -- what to do about the refusal, of a packet with a number where it is of a polling body
 abbrev pub refusal_advice : Refusal → Option ℕ → List ℕ

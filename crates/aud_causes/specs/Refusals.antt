@@ -15,8 +15,7 @@ use Rattle.aud_chain.specs.declared.marks.TurnMark.{TurnMark}
 use Rattle.aud_chain.specs.Marks.{turn_marks}
 use Rattle.aud_causes.specs.declared.cause.Cause.{Cause}
 use Rattle.aud_causes.specs.declared.cause.Cause.TheVariants.{NoOffset, UnknownOffset, SessionOver, NodeEndedInTurn, NeverBroken, AskedTooEarly}
-use Rattle.aud_causes.specs.Delivery.{cause_if}
-use Rattle.aud_causes.specs.Differences.{cause_and}
+use Rattle.aud_causes.specs.Delivery.{cause_if, held}
 use Rattle.aud_causes.specs.LastTurn.{is_ended, last_begin, last_turn}
 use Rattle.aud_causes.specs.Turns.{is_broken}
 
@@ -106,9 +105,7 @@ asked_too_early c marks opening =
 -- end the turns of the session that was asked for, and of the one that the client got
 abbrev pub refused_causes : Cluster → Option Cause → List TurnMark → List TurnMark → List Cause
 refused_causes c offset marks opening =
-    cause_and offset
-    (cause_and (session_over marks)
-    (cause_and (node_ended c marks) (cause_and (never_broken marks) (cause_and (asked_too_early c marks opening) []))))
+    held (offset ∷ session_over marks ∷ node_ended c marks ∷ never_broken marks ∷ asked_too_early c marks opening ∷ [])
 
 -- the session that a reply names; the empty text where there is none
 abbrev pub got_of : Option ReplySeen → Text

@@ -10,7 +10,8 @@ use Rattle.aud_evidence.specs.declared.content.Altered.{Altered as AlteredFrame}
 use Rattle.aud_causes.specs.declared.cause.Cause.{Cause}
 use Rattle.aud_causes.specs.declared.cause.Cause.TheVariants.{NoOffset, UnknownOffset, StaleOffset, Altered}
 use Rattle.aud_causes.specs.Facts.{asked_after}
-use Rattle.aud_causes.specs.Differences.{cause_and, offset_of_another}
+use Rattle.aud_causes.specs.Delivery.{held}
+use Rattle.aud_causes.specs.Differences.{offset_of_another}
 
 -- what such a misfit of this stay says, where the client asked to go on after this position: it gave no offset; or one
 -- that the stream doesn't have; or one before a frame that it had
@@ -30,8 +31,9 @@ other_session_of due stay asked = option_and_then (offset_of_another due stay) a
 -- of such a recovery: what the misfit says; the offset was another session's
 abbrev pub window_causes : List StreamRec → List StaySeen → List ℕ → BadWindow → List Cause
 window_causes stream stays due window =
-    cause_and (by_misfit window (asked_after stream (slice_get stays window.stay)))
-    (cause_and (other_session_of due window.stay (asked_after stream (slice_get stays window.stay))) [])
+    held
+    (by_misfit window (asked_after stream (slice_get stays window.stay))
+    ∷ other_session_of due window.stay (asked_after stream (slice_get stays window.stay)) ∷ [])
 
 -- of an event that isn't its entry
 abbrev pub altered_causes : AlteredFrame → List Cause

@@ -1,9 +1,11 @@
 -- The words of causes: their names, what to do, and what happened.
-use Rattle.std.specs.Prelude.{ℕ, suc, List, [], ◌∷◌, codes}
+use Rattle.std.specs.Prelude.{ℕ, suc, List, [], ◌∷◌, codes, map}
 use Rattle.aud_evidence.specs.declared.content.Part.{Part}
 use Rattle.aud_evidence.specs.declared.content.Part.TheVariants as part
-use Rattle.aud_causes.specs.Pieces.{PieceSeen, Spelled, Counted, sentence_text}
-use Rattle.aud_causes.specs.NoPacket.{advice, no_packet_pieces}
+use Rattle.aud_causes.specs.declared.why.Figure.{Figure}
+use Rattle.aud_causes.specs.declared.why.Figure.TheVariants.{Name, Number, Nth}
+use Rattle.aud_causes.specs.Filled.{figure_text, filled}
+use Rattle.aud_causes.specs.NoPacket.{advice, no_packet_figures, no_packet_words}
 use Rattle.aud_causes.specs.declared.cause.Cause.{Cause}
 use Rattle.aud_causes.specs.declared.cause.Cause.TheVariants.{NodeBehindBreak, SentAgainAfterReplay, StaleOffset, BodyCameTwice, OffsetOfAnotherSession, UnknownOffset, NoOffset, RoomsAtBreak, SkippedInWindow, LostLive, DoubledLive, SwappedLive, Altered, LogEndedEarly, LateLeave, BeforeBirth, ExtraLive, JoinMissing, LeaveMissing, MissingBreak, ClearedAfterBreak, TurnNotStored, RecoveredTwice, OpenNotRecorded, NodeNotTapped, NoStart, RestartedInOldLog, EntriesSkippedByNode, EntryTakenAgain, NotInStream, TwoTaps, NoClientTap, ReplyMissing, SidDiffers, NamespaceDiffers, NotAPacket, TapBeganLate, CutBeforeReply, ReplyWithoutPid, OutAfterAnswer, SecondConnect, AfterDisconnect, SessionOver, NodeEndedInTurn, NeverBroken, AskedTooEarly}
 
@@ -107,61 +109,90 @@ todo_text (AskedTooEarly broke begin high low) = codes "let the client wait long
 
 -- ---- what happened
 
--- which part of an event isn't its entry's; bytes and attachments count from 1
-abbrev pub part_pieces : Part → List PieceSeen
-part_pieces part.NoEvent = Spelled (codes "The event is not the entry as the stream's tap has it.") ∷ []
-part_pieces (part.Text at) = Spelled (codes "The event's text parts from its entry's at byte ") ∷ Counted (suc at) ∷ Spelled (codes ".") ∷ []
-part_pieces part.Count = Spelled (codes "The event has another number of attachments than its entry.") ∷ []
-part_pieces (part.Attachment number at) = Spelled (codes "Attachment ") ∷ Counted (suc number) ∷ Spelled (codes " of the event parts from its entry's at byte ") ∷ Counted (suc at) ∷ Spelled (codes ".") ∷ []
+-- which part of an event isn't its entry's
+abbrev pub part_words : Part → List ℕ
+part_words part.NoEvent = codes "The event is not the entry as the stream's tap has it."
+part_words (part.Text at) = codes "The event's text parts from its entry's at byte #."
+part_words part.Count = codes "The event has another number of attachments than its entry."
+part_words (part.Attachment number at) = codes "Attachment # of the event parts from its entry's at byte #."
 
--- the sentence of a cause, where the node in question has this name
-abbrev pub why_pieces : List ℕ → Cause → List PieceSeen
-why_pieces node (NodeBehindBreak broke back high low) = Spelled node ∷ Spelled (codes " took the session back with its cursor at ") ∷ Counted low ∷ Spelled (codes "; the break was at ") ∷ Counted high ∷ Spelled (codes ".") ∷ []
-why_pieces node (SentAgainAfterReplay first again low) = Spelled (codes "The replay ran past the node's cursor at ") ∷ Counted low ∷ Spelled (codes ", and the node sent again what it took then.") ∷ []
-why_pieces node (StaleOffset stay after) = Spelled (codes "The client asked to go on after entry ") ∷ Counted after ∷ Spelled (codes ", and had later ones already.") ∷ []
-why_pieces node (BodyCameTwice first again) = Spelled (codes "From this entry on, all that came before the recovery had come in one body of polling.") ∷ []
-why_pieces node (OffsetOfAnotherSession stay after) = Spelled (codes "The client asked to go on after entry ") ∷ Counted after ∷ Spelled (codes ", which was not due to this session.") ∷ []
-why_pieces node (UnknownOffset stay) = Spelled (codes "The client asked to go on after an offset that no entry of the stream has.") ∷ []
-why_pieces node (NoOffset stay) = Spelled (codes "The client asked for the session and gave no offset.") ∷ []
-why_pieces node (RoomsAtBreak stay after low) = Spelled (codes "Of the entries after ") ∷ Counted after ∷ Spelled (codes " up to ") ∷ Counted low ∷ Spelled (codes ", exactly those came that are for the rooms held at the break.") ∷ []
-why_pieces node (SkippedInWindow stay after low) = Spelled (codes "The entry is one of those to be sent again, after ") ∷ Counted after ∷ Spelled (codes " up to ") ∷ Counted low ∷ Spelled (codes ", and was left out.") ∷ []
-why_pieces node (LostLive frame) = Spelled (codes "The node took the entry while the client was connected, and no frame of it came.") ∷ []
-why_pieces node (DoubledLive first again) = Spelled (codes "No recovery stands between the two frames: the entry came twice while the client was connected.") ∷ []
-why_pieces node (SwappedLive frame later) = Spelled (codes "No recovery stands between the two frames: they changed places while the client was connected.") ∷ []
-why_pieces node (Altered frame part) = part_pieces part
-why_pieces node (LogEndedEarly last high) = Spelled (codes "The log of ") ∷ Spelled node ∷ Spelled (codes " ends in the session's last turn; the turns reach entry ") ∷ Counted high ∷ Spelled (codes ".") ∷ []
-why_pieces node (LateLeave leave) = Spelled (codes "The session had left a room of the entry before it reached the entry.") ∷ []
-why_pieces node (BeforeBirth begin low) = Spelled node ∷ Spelled (codes " had taken the entry when it opened the session, with its cursor at ") ∷ Counted low ∷ Spelled (codes ".") ∷ []
-why_pieces node (ExtraLive frame) = Spelled (codes "The node sent the session an entry that was not addressed to it.") ∷ []
-why_pieces node (JoinMissing frame) = Spelled (codes "What came would fit if the session had joined a room of the entry before: a `join` may be missing.") ∷ []
-why_pieces node (LeaveMissing frame) = Spelled (codes "What came would fit if the session had left a room before: a `leave` may be missing.") ∷ []
-why_pieces node (MissingBreak turn begin back stay) = Spelled (codes "The client recovered the session after turn ") ∷ Counted turn ∷ Spelled (codes ", so that turn broke; no log has its break.") ∷ []
-why_pieces node (ClearedAfterBreak broke cleared) = Spelled (codes "The log of ") ∷ Spelled node ∷ Spelled (codes " clears the session up after its break, by a `leave` or its `gone`.") ∷ []
-why_pieces node (TurnNotStored turn first again) = Spelled (codes "Two records take the session back as turn ") ∷ Counted turn ∷ Spelled (codes ", and one of these turns was ended.") ∷ []
-why_pieces node (RecoveredTwice turn first again) = Spelled (codes "Two nodes took the session back as turn ") ∷ Counted turn ∷ Spelled (codes ".") ∷ []
-why_pieces node (OpenNotRecorded first) = Spelled (codes "The log of ") ∷ Spelled node ∷ Spelled (codes " has records of the session, and no log has its `open`.") ∷ []
-why_pieces node (NodeNotTapped turn) = Spelled (codes "No node's log has the begin of turn ") ∷ Counted turn ∷ Spelled (codes ".") ∷ []
-why_pieces node (NoStart first) = Spelled (codes "The log of ") ∷ Spelled node ∷ Spelled (codes " does not begin with a `start`.") ∷ []
-why_pieces node (RestartedInOldLog start) = Spelled node ∷ Spelled (codes " started again in its old log.") ∷ []
-why_pieces node (EntriesSkippedByNode taken cursor position) = Spelled node ∷ Spelled (codes " took entry ") ∷ Counted position ∷ Spelled (codes " with its cursor at ") ∷ Counted cursor ∷ Spelled (codes ".") ∷ []
-why_pieces node (EntryTakenAgain taken cursor position) = Spelled node ∷ Spelled (codes " took entry ") ∷ Counted position ∷ Spelled (codes " again, with its cursor at ") ∷ Counted cursor ∷ Spelled (codes ".") ∷ []
-why_pieces node (NotInStream taken) = Spelled node ∷ Spelled (codes " names an entry that the stream's tap doesn't have.") ∷ []
-why_pieces node (TwoTaps taps) = Counted taps ∷ Spelled (codes " taps of clients name the session.") ∷ []
-why_pieces node NoClientTap = Spelled (codes "No tap of a client names the session.") ∷ []
-why_pieces node (ReplyMissing client) = Spelled (codes "The tap of ") ∷ Spelled node ∷ Spelled (codes " has events, and no reply that names their session.") ∷ []
-why_pieces node (SidDiffers stay) = Spelled (codes "The reply has another sid than the session was opened with.") ∷ []
-why_pieces node (NamespaceDiffers stay) = Spelled (codes "The reply is of another namespace than the session was opened in.") ∷ []
-why_pieces node (NotAPacket why) = no_packet_pieces why
-why_pieces node (TapBeganLate stay) = Spelled (codes "Events came in a stay without a reply, and no session was asked for in it.") ∷ []
-why_pieces node (CutBeforeReply stay) = Spelled (codes "The client asked for a session, and events came, but no reply did.") ∷ []
-why_pieces node (ReplyWithoutPid stay) = Spelled (codes "The reply names no session: the server recovers none there.") ∷ []
-why_pieces node (OutAfterAnswer answered stay) = Spelled (codes "The namespace was answered before on this connection; the CONNECT may be recorded after its answer.") ∷ []
-why_pieces node (SecondConnect answered stay) = Spelled (codes "The namespace was answered before on this connection; the client may have sent a second CONNECT.") ∷ []
-why_pieces node (AfterDisconnect before stay) = Spelled (codes "Events came after a DISCONNECT from the namespace on this connection.") ∷ []
-why_pieces node (SessionOver gone) = Spelled (codes "The log of ") ∷ Spelled node ∷ Spelled (codes " ends the session.") ∷ []
-why_pieces node (NodeEndedInTurn last) = Spelled (codes "The log of ") ∷ Spelled node ∷ Spelled (codes " ends in the session's last turn.") ∷ []
-why_pieces node (NeverBroken begin) = Spelled (codes "No log has a break of the session's last turn.") ∷ []
-why_pieces node (AskedTooEarly broke begin high low) = Spelled (codes "The session broke with its node's cursor at ") ∷ Counted high ∷ Spelled (codes "; another was opened instead with the cursor at ") ∷ Counted low ∷ Spelled (codes ".") ∷ []
+-- its figures; bytes and attachments count from 1
+abbrev pub part_figures : Part → List Figure
+part_figures (part.Text at) = Nth at ∷ []
+part_figures (part.Attachment number at) = Nth number ∷ Nth at ∷ []
+part_figures _ = []
 
+-- the words of the cause's sentence; in the place of each `#` stands the next of its figures
+abbrev pub why_words : Cause → List ℕ
+why_words (NodeBehindBreak broke back high low) = codes "# took the session back with its cursor at #; the break was at #."
+why_words (SentAgainAfterReplay first again low) = codes "The replay ran past the node's cursor at #, and the node sent again what it took then."
+why_words (StaleOffset stay after) = codes "The client asked to go on after entry #, and had later ones already."
+why_words (BodyCameTwice first again) = codes "From this entry on, all that came before the recovery had come in one body of polling."
+why_words (OffsetOfAnotherSession stay after) = codes "The client asked to go on after entry #, which was not due to this session."
+why_words (UnknownOffset stay) = codes "The client asked to go on after an offset that no entry of the stream has."
+why_words (NoOffset stay) = codes "The client asked for the session and gave no offset."
+why_words (RoomsAtBreak stay after low) = codes "Of the entries after # up to #, exactly those came that are for the rooms held at the break."
+why_words (SkippedInWindow stay after low) = codes "The entry is one of those to be sent again, after # up to #, and was left out."
+why_words (LostLive frame) = codes "The node took the entry while the client was connected, and no frame of it came."
+why_words (DoubledLive first again) = codes "No recovery stands between the two frames: the entry came twice while the client was connected."
+why_words (SwappedLive frame later) = codes "No recovery stands between the two frames: they changed places while the client was connected."
+why_words (Altered frame part) = part_words part
+why_words (LogEndedEarly last high) = codes "The log of # ends in the session's last turn; the turns reach entry #."
+why_words (LateLeave leave) = codes "The session had left a room of the entry before it reached the entry."
+why_words (BeforeBirth begin low) = codes "# had taken the entry when it opened the session, with its cursor at #."
+why_words (ExtraLive frame) = codes "The node sent the session an entry that was not addressed to it."
+why_words (JoinMissing frame) = codes "What came would fit if the session had joined a room of the entry before: a `join` may be missing."
+why_words (LeaveMissing frame) = codes "What came would fit if the session had left a room before: a `leave` may be missing."
+why_words (MissingBreak turn begin back stay) = codes "The client recovered the session after turn #, so that turn broke; no log has its break."
+why_words (ClearedAfterBreak broke cleared) = codes "The log of # clears the session up after its break, by a `leave` or its `gone`."
+why_words (TurnNotStored turn first again) = codes "Two records take the session back as turn #, and one of these turns was ended."
+why_words (RecoveredTwice turn first again) = codes "Two nodes took the session back as turn #."
+why_words (OpenNotRecorded first) = codes "The log of # has records of the session, and no log has its `open`."
+why_words (NodeNotTapped turn) = codes "No node's log has the begin of turn #."
+why_words (NoStart first) = codes "The log of # does not begin with a `start`."
+why_words (RestartedInOldLog start) = codes "# started again in its old log."
+why_words (EntriesSkippedByNode taken cursor position) = codes "# took entry # with its cursor at #."
+why_words (EntryTakenAgain taken cursor position) = codes "# took entry # again, with its cursor at #."
+why_words (NotInStream taken) = codes "# names an entry that the stream's tap doesn't have."
+why_words (TwoTaps taps) = codes "# taps of clients name the session."
+why_words NoClientTap = codes "No tap of a client names the session."
+why_words (ReplyMissing client) = codes "The tap of # has events, and no reply that names their session."
+why_words (SidDiffers stay) = codes "The reply has another sid than the session was opened with."
+why_words (NamespaceDiffers stay) = codes "The reply is of another namespace than the session was opened in."
+why_words (NotAPacket why) = no_packet_words why
+why_words (TapBeganLate stay) = codes "Events came in a stay without a reply, and no session was asked for in it."
+why_words (CutBeforeReply stay) = codes "The client asked for a session, and events came, but no reply did."
+why_words (ReplyWithoutPid stay) = codes "The reply names no session: the server recovers none there."
+why_words (OutAfterAnswer answered stay) = codes "The namespace was answered before on this connection; the CONNECT may be recorded after its answer."
+why_words (SecondConnect answered stay) = codes "The namespace was answered before on this connection; the client may have sent a second CONNECT."
+why_words (AfterDisconnect before stay) = codes "Events came after a DISCONNECT from the namespace on this connection."
+why_words (SessionOver gone) = codes "The log of # ends the session."
+why_words (NodeEndedInTurn last) = codes "The log of # ends in the session's last turn."
+why_words (NeverBroken begin) = codes "No log has a break of the session's last turn."
+why_words (AskedTooEarly broke begin high low) = codes "The session broke with its node's cursor at #; another was opened instead with the cursor at #."
+
+-- its figures; the name of the node in question, where there is no other
+abbrev pub why_figures : Cause → List Figure
+why_figures (NodeBehindBreak broke back high low) = Name ∷ Number low ∷ Number high ∷ []
+why_figures (SentAgainAfterReplay first again low) = Number low ∷ []
+why_figures (StaleOffset stay after) = Number after ∷ []
+why_figures (OffsetOfAnotherSession stay after) = Number after ∷ []
+why_figures (RoomsAtBreak stay after low) = Number after ∷ Number low ∷ []
+why_figures (SkippedInWindow stay after low) = Number after ∷ Number low ∷ []
+why_figures (Altered frame part) = part_figures part
+why_figures (LogEndedEarly last high) = Name ∷ Number high ∷ []
+why_figures (BeforeBirth begin low) = Name ∷ Number low ∷ []
+why_figures (MissingBreak turn begin back stay) = Number turn ∷ []
+why_figures (TurnNotStored turn first again) = Number turn ∷ []
+why_figures (RecoveredTwice turn first again) = Number turn ∷ []
+why_figures (NodeNotTapped turn) = Number turn ∷ []
+why_figures (EntriesSkippedByNode taken cursor position) = Name ∷ Number position ∷ Number cursor ∷ []
+why_figures (EntryTakenAgain taken cursor position) = Name ∷ Number position ∷ Number cursor ∷ []
+why_figures (TwoTaps taps) = Number taps ∷ []
+why_figures (NotAPacket why) = no_packet_figures why
+why_figures (AskedTooEarly broke begin high low) = Number high ∷ Number low ∷ []
+why_figures _ = Name ∷ []
+
+-- the sentence, where the node has this name
 abbrev pub why_text : List ℕ → Cause → List ℕ
-why_text node cause = sentence_text (why_pieces node cause)
+why_text node cause = filled (why_words cause) (map (figure_text node) (why_figures cause))

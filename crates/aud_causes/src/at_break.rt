@@ -1,11 +1,12 @@
 //! A replay by the rooms that the session held at the break.
-ghost use Rattle.std.specs.Prelude.{◌≡◌, IfOk, Some, map, nat_eq, slice_get, take};
+ghost use Rattle.std.specs.Prelude.{◌≡◌, IfOk, Some, map, nat_eq, slice_get};
 ghost use Rattle.std.specs.Cmp.Lexicographic.{pointwise};
 ghost use Rattle.aud_maker.specs.Made.{IsMade};
 ghost use Rattle.aud_causes.specs.AtBreak.{came_within, due_at_break, first_past, first_taken, is_by_rooms_at_break, rooms_at_break};
 
 use crate::cause::Cause;
 use crate::facts::{Facts, Replay, stay_at};
+use crate::list::front_of;
 use crate::live::is_replayed;
 use aud_cert::{Certificate, Turn};
 use aud_client::{Frame, Recording, Stay};
@@ -89,7 +90,7 @@ fn due_at_break(
         unreachable!()
     };
     let pid = cert.pid.as_str();
-    let before = turns_before(turns, count);
+    let before = front_of(turns, count);
     let spans = spans_held(
         alloc,
         logs,
@@ -107,14 +108,6 @@ fn due_at_break(
         replay.after,
         replay.low,
     )
-}
-
-/// The first of the turns, so many.
-fn turns_before<'s, 'a>(turns: &'s [Turn<'a>], count: usize) -> &'s [Turn<'a>]
-    ensures { result.now ≡ take count turns.now }
-{
-    let (before, _) = turns.split_at(count.min(turns.len()));
-    before
 }
 
 /// The positions of the frames in the stay with this number that were to be replayed.

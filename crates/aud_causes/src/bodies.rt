@@ -1,10 +1,11 @@
 //! What came twice because a body of polling did.
-ghost use Rattle.std.specs.Prelude.{◌≡◌, None, slice_get, take};
+ghost use Rattle.std.specs.Prelude.{◌≡◌, None, slice_get};
 ghost use Rattle.std.specs.Option.{option_copied};
 ghost use Rattle.aud_causes.specs.Bodies.{body_twice, frames_there, is_one_body, is_poll, last_of, last_record, places_at, record_of, record_there};
 
 use crate::cause::Cause;
 use crate::facts::Facts;
+use crate::list::front_of;
 use aud_client::{Recording, StayPlaces};
 use aud_shown::{FramePlace, frame_at};
 use aud_tap::ClientRec;
@@ -24,7 +25,7 @@ pub(crate) fn body_twice(
         return None;
     }
     let first = record_of(recording, client, numbers, facts.parted.first);
-    let last = last_record(places_at(recording, client), first_of(numbers, facts.later));
+    let last = last_record(places_at(recording, client), front_of(numbers, facts.later));
     if !is_one_body(recording, client, first, last) {
         return None;
     }
@@ -63,14 +64,6 @@ fn record_there(places: &[StayPlaces], at: FramePlace) -> Option<usize>
 {
     let number = *places.get(at.stay)?.frames.get(at.frame)?;
     Some(number as usize)
-}
-
-/// The first of the numbers, so many.
-fn first_of(numbers: &[usize], count: usize) -> &[usize]
-    ensures { result.now ≡ take count numbers.now }
-{
-    let (first, _) = numbers.split_at(count.min(numbers.len()));
-    first
 }
 
 /// The record of the last frame in the stays with these numbers.

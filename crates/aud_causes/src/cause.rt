@@ -70,8 +70,8 @@ pub enum Cause {
     },
     /// Two entries changed places while the client was connected.
     SwappedLive {
-        frame: usize,
-        later: usize,
+        first: usize,
+        again: usize,
     },
     /// An event's text or attachments are not the entry's, from this part on. Its sentence counts bytes and attachments
     /// from 1.
@@ -198,12 +198,12 @@ pub enum Cause {
     /// In an earlier stay of the connection the namespace was answered, where no session was asked for. The stays have
     /// these numbers in the tap.
     OutAfterAnswer {
-        answered: usize,
+        before: usize,
         stay: usize,
     },
     /// In an earlier stay of the connection the namespace was answered. The stays have these numbers in the tap.
     SecondConnect {
-        answered: usize,
+        before: usize,
         stay: usize,
     },
     /// The stay of the connection in the namespace before it ended by a DISCONNECT. The stays have these numbers in the

@@ -71,11 +71,7 @@ fn cleared_by(broke: RecordPlace, place: RecordPlace, rec: Option<&NodeRec>) -> 
     ensures { result ≡ cleared_by broke place (option_copied rec.entry) }
 {
     match rec {
-        Some(NodeRec::Leave { .. }) => Some(Cause::ClearedAfterBreak {
-            broke,
-            cleared: place,
-        }),
-        Some(NodeRec::Gone { .. }) => Some(Cause::ClearedAfterBreak {
+        Some(NodeRec::Leave { .. } | NodeRec::Gone { .. }) => Some(Cause::ClearedAfterBreak {
             broke,
             cleared: place,
         }),
@@ -93,8 +89,7 @@ fn broke_by(
 {
     match rec {
         Some(NodeRec::Broke { .. }) => Some(place),
-        Some(NodeRec::Opened { .. }) => None,
-        Some(NodeRec::Back { .. }) => None,
+        Some(NodeRec::Opened { .. } | NodeRec::Back { .. }) => None,
         _ => broke,
     }
 }

@@ -14,7 +14,7 @@ use crate::extra::{
 };
 use crate::facts::{Facts, facts_of};
 use crate::leavable::leave_missing_in;
-use crate::list::push_cause;
+use crate::list::held;
 use crate::live::{
     doubled_live, lost_live, sent_again, skipped_in_window, stale_offset, swapped_live,
 };
@@ -90,13 +90,16 @@ fn doubled_causes(
     ensures { IfOk result (λ found. found.items
         ≡ doubled_causes logs.now turns.now (map (λ stay. stay.now) stays.now) body facts) }
 {
-    let mut found = Vec::new(alloc);
-    push_cause(&mut found, node_behind(logs, turns, facts))?;
-    push_cause(&mut found, sent_again(facts, first_taken(stays, facts)))?;
-    push_cause(&mut found, stale_offset(facts))?;
-    push_cause(&mut found, body)?;
-    push_cause(&mut found, doubled_live(facts))?;
-    Ok(found)
+    held(
+        alloc,
+        &[
+            node_behind(logs, turns, facts),
+            sent_again(facts, first_taken(stays, facts)),
+            stale_offset(facts),
+            body,
+            doubled_live(facts),
+        ],
+    )
 }
 
 /// Those of an entry that came late.
@@ -108,10 +111,10 @@ fn swapped_causes(
 ) -> Result<Vec<Cause>, AllocError>
     ensures { IfOk result (λ found. found.items ≡ swapped_causes logs.now turns.now facts) }
 {
-    let mut found = Vec::new(alloc);
-    push_cause(&mut found, node_behind(logs, turns, facts))?;
-    push_cause(&mut found, swapped_live(facts))?;
-    Ok(found)
+    held(
+        alloc,
+        &[node_behind(logs, turns, facts), swapped_live(facts)],
+    )
 }
 
 /// Those of an entry that was lost, where this holds of the rooms at the break, and of a `leave`.
@@ -124,13 +127,16 @@ fn lost_causes(
 ) -> Result<Vec<Cause>, AllocError>
     ensures { IfOk result (λ found. found.items ≡ lost_causes at_break due.now leave facts) }
 {
-    let mut found = Vec::new(alloc);
-    push_cause(&mut found, at_break)?;
-    push_cause(&mut found, skipped_in_window(facts))?;
-    push_cause(&mut found, other_session_after(due, facts))?;
-    push_cause(&mut found, lost_live(facts))?;
-    push_cause(&mut found, leave)?;
-    Ok(found)
+    held(
+        alloc,
+        &[
+            at_break,
+            skipped_in_window(facts),
+            other_session_after(due, facts),
+            lost_live(facts),
+            leave,
+        ],
+    )
 }
 
 /// Those of an entry that was lost. The account is the session's.
@@ -170,16 +176,19 @@ fn extra_causes(
 {
     let behind = node_behind(logs, turns, facts);
     let left = late_leave(logs, pid, turns, facts.parted.position, why);
-    let mut found = Vec::new(alloc);
-    push_cause(&mut found, behind)?;
-    push_cause(&mut found, at_break)?;
-    push_cause(&mut found, other_session_before(due, facts))?;
-    push_cause(&mut found, log_ended_early(logs, pid, turns, why))?;
-    push_cause(&mut found, left)?;
-    push_cause(&mut found, before_birth(logs, turns, why))?;
-    push_cause(&mut found, extra_live(behind.or(left), why, facts))?;
-    push_cause(&mut found, change_missing(why, facts))?;
-    Ok(found)
+    held(
+        alloc,
+        &[
+            behind,
+            at_break,
+            other_session_before(due, facts),
+            log_ended_early(logs, pid, turns, why),
+            left,
+            before_birth(logs, turns, why),
+            extra_live(behind.or(left), why, facts),
+            change_missing(why, facts),
+        ],
+    )
 }
 
 /// Those of an entry that was not due. The account is the session's.

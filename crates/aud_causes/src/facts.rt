@@ -12,7 +12,7 @@ use aud_node::Stream;
 /// The entry at which what was received parts from what was due, and two frames: of an entry that came twice both; of
 /// one that came late the one in its place, and its own; of one that was lost the one in its place; of one that was not
 /// due the first of all, and its own. Frames count from 0 over all that was received of the session.
-#[derive(Clone, Copy, Debug, PartialEq, Eq, Drop)]
+#[derive(Clone, Copy, Drop)]
 pub struct Parted {
     pub position: u64,
     pub first: usize,
@@ -21,14 +21,14 @@ pub struct Parted {
 
 /// The entries that a node had to send again: those after this position, up to its cursor where it took the session
 /// back.
-#[derive(Clone, Copy, Debug, PartialEq, Eq, Drop)]
+#[derive(Clone, Copy, Drop)]
 pub struct Replay {
     pub after: u64,
     pub low: u64,
 }
 
 /// What the causes of a difference go by. Stays count from 0 among those whose reply names the session.
-#[derive(Clone, Copy, Debug, PartialEq, Eq, Drop)]
+#[derive(Clone, Copy, Drop)]
 pub struct Facts {
     /// The entry in question, and the two frames.
     pub parted: Parted,

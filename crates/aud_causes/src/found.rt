@@ -7,7 +7,7 @@ ghost use Rattle.aud_causes.specs.Records.{name_of, node_of, place_of};
 
 use crate::cause::Cause;
 use crate::lines::lines_at;
-use crate::record_at::{node_of, push_records};
+use crate::record_at::{node_of, records_of};
 use crate::why::why_text;
 use aud_node::Logs;
 use aud_rows::{ClientPlaces, Sheet};
@@ -63,9 +63,7 @@ fn shown_cause(
         ≡ shown_cause sheet.now.recording.now sheet.now.lines.now
         (place_of (option_copied tap.entry)) numbers.now sure cause) }
 {
-    let mut records = Vec::new(alloc);
-    push_records(&mut records, cause)?;
-    let lines = lines_at(alloc, sheet, tap, numbers, records.as_slice())?;
+    let lines = lines_at(alloc, sheet, tap, numbers, &records_of(cause))?;
     let node = name_of(sheet.recording.logs(), node_of(cause));
     let why = why_text(alloc, cause, node)?;
     Ok(CauseFound {

@@ -12,7 +12,7 @@ ghost use Rattle.aud_causes.specs.NoPacket.{no_packet_in};
 use crate::cause::Cause;
 use crate::delivery::difference_causes;
 use crate::facts::stay_at;
-use crate::list::one_cause;
+use crate::list::held;
 use crate::names::{first_other, named_causes};
 use crate::no_packet::no_packet_in;
 use crate::orphans::orphan_causes;
@@ -90,7 +90,7 @@ fn frame_of(
         ≡ NotAPacket (no_packet_in recording.now client) ∷ []) }
 {
     let why = no_packet_in(alloc, recording, client)?;
-    one_cause(alloc, Some(Cause::NotAPacket { why }))
+    held(alloc, &[Some(Cause::NotAPacket { why })])
 }
 
 /// The causes of the first event that isn't its entry.
@@ -116,12 +116,12 @@ fn altered_causes(
 {
     let frames = frames_in(alloc, stays)?;
     match first_altered(stream, frames.as_slice()) {
-        Some(altered) => one_cause(
+        Some(altered) => held(
             alloc,
-            Some(Cause::Altered {
+            &[Some(Cause::Altered {
                 frame: altered.frame,
                 part: altered.part,
-            }),
+            })],
         ),
         None => Ok(Vec::new(alloc)),
     }

@@ -1,6 +1,6 @@
 //! The lines of the records that show a cause.
-ghost use Rattle.std.specs.Prelude.{◌≡◌, ◌++◌, IfOk, IfSome, OnOk, option_map, option_to_list};
-ghost use Rattle.std.specs.Option.{option_copied};
+ghost use Rattle.std.specs.Prelude.{◌≡◌, ◌++◌, IfOk, IfSome, OnOk, flat_map, option_map, option_to_list};
+ghost use Rattle.std.specs.Option.{option_and_then, option_copied};
 ghost use Rattle.aud_rows.specs.ClientPlaces.{AreOf};
 ghost use Rattle.aud_rows.specs.Seen.{row_seen};
 ghost use Rattle.aud_rows.specs.StayRows.{stays_at};
@@ -19,12 +19,13 @@ pub(crate) fn lines_at(
     sheet: &Sheet<'_, '_>,
     tap: Option<&ClientPlaces>,
     numbers: &[usize],
-    records: &[RecordAt],
+    records: &[Option<RecordAt>],
 ) -> Result<Vec<u64>, AllocError>
     requires { IfSome (option_copied tap) (AreOf sheet.now.recording.now) }
     ensures { IfOk result (λ found. found.items
         ≡ lines_at sheet.now.recording.now sheet.now.lines.now
-        (place_of (option_copied tap.entry)) numbers.now records.now) }
+        (place_of (option_copied tap.entry)) numbers.now
+        (flat_map option_to_list records.now)) }
 {
     let mut found = Vec::new(alloc);
     for record in records {
@@ -42,18 +43,19 @@ fn push_line(found: &mut Vec<u64>, line: Option<u64>) -> Result<(), AllocError>
     Ok(())
 }
 
-/// The line of this record, if it is known. Those of clients are looked for in this tap, where these are the numbers of
+/// The line of this record, if there is one and its line is known. Those of clients are looked for in this tap, where these are the numbers of
 /// the session's stays.
 fn line_at(
     sheet: &Sheet<'_, '_>,
     tap: Option<&ClientPlaces>,
     numbers: &[usize],
-    at: RecordAt,
+    at: Option<RecordAt>,
 ) -> Option<u64>
     requires { IfSome (option_copied tap) (AreOf sheet.now.recording.now) }
-    ensures { result ≡ line_at sheet.now.recording.now sheet.now.lines.now
-        (place_of (option_copied tap.entry)) numbers.now at }
+    ensures { result ≡ option_and_then (line_at sheet.now.recording.now sheet.now.lines.now
+        (place_of (option_copied tap.entry)) numbers.now) at }
 {
+    let at = at?;
     match tap {
         Some(tap) => line_of(client_row(sheet, tap, numbers, at)),
         None => line_of(node_row_of(sheet, at)),

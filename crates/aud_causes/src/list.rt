@@ -1,5 +1,6 @@
-//! Causes that are collected.
-ghost use Rattle.std.specs.Prelude.{◌≡◌, ◌++◌, IfOk, OnOk, option_to_list};
+//! Causes that are collected, and the front of a list.
+ghost use Rattle.std.specs.Prelude.{◌≡◌, ◌++◌, IfOk, OnOk, option_to_list, take};
+ghost use Rattle.aud_causes.specs.Delivery.{held};
 
 use crate::cause::Cause;
 use std::alloc::{AllocError, Global};
@@ -14,11 +15,21 @@ pub(crate) fn push_cause(found: &mut Vec<Cause>, cause: Option<Cause>) -> Result
     Ok(())
 }
 
-/// The cause alone, if it holds.
-pub(crate) fn one_cause(alloc: Global, cause: Option<Cause>) -> Result<Vec<Cause>, AllocError>
-    ensures { IfOk result (λ found. found.items ≡ option_to_list cause) }
+/// Those of the causes that hold.
+pub(crate) fn held(alloc: Global, causes: &[Option<Cause>]) -> Result<Vec<Cause>, AllocError>
+    ensures { IfOk result (λ found. found.items ≡ held causes.now) }
 {
     let mut found = Vec::new(alloc);
-    push_cause(&mut found, cause)?;
+    for cause in causes {
+        push_cause(&mut found, *cause)?;
+    }
     Ok(found)
+}
+
+/// The first of these, so many; all where there are not so many.
+pub(crate) fn front_of<T>(items: &[T], count: usize) -> &[T]
+    ensures { result.now ≡ take count items.now }
+{
+    let (front, _) = items.split_at(count.min(items.len()));
+    front
 }

@@ -51,8 +51,8 @@ pub(crate) fn swapped_live(facts: Facts) -> Option<Cause>
         return None;
     }
     Some(Cause::SwappedLive {
-        frame: facts.parted.first,
-        later: facts.parted.again,
+        first: facts.parted.first,
+        again: facts.parted.again,
     })
 }
 

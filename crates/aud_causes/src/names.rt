@@ -6,7 +6,7 @@ ghost use Rattle.aud_client.specs.Replies.{naming_places};
 ghost use Rattle.aud_causes.specs.Names.{client_causes, first_other, has_orphan, is_other, named_causes, namespace_differs, orphan_from, reply_missing, sid_differs, unnamed_causes};
 
 use crate::cause::Cause;
-use crate::list::{one_cause, push_cause};
+use crate::list::held;
 use aud_client::{Recording, Reply, Stay};
 use aud_tap::Tap;
 use std::alloc::{AllocError, Global};
@@ -24,7 +24,7 @@ pub(crate) fn client_causes(
     match recording.naming(pid).len() {
         0 => unnamed_causes(alloc, recording),
         1 => Ok(Vec::new(alloc)),
-        taps => one_cause(alloc, Some(Cause::TwoTaps { taps })),
+        taps => held(alloc, &[Some(Cause::TwoTaps { taps })]),
     }
 }
 
@@ -32,10 +32,7 @@ pub(crate) fn client_causes(
 fn unnamed_causes(alloc: Global, recording: &Recording<'_>) -> Result<Vec<Cause>, AllocError>
     ensures { IfOk result (λ found. found.items ≡ unnamed_causes recording.now) }
 {
-    let mut found = Vec::new(alloc);
-    push_cause(&mut found, Some(Cause::NoClientTap))?;
-    push_cause(&mut found, reply_missing(recording))?;
-    Ok(found)
+    held(alloc, &[Some(Cause::NoClientTap), reply_missing(recording)])
 }
 
 /// Where a client's tap has events of no known session: the first such tap.
@@ -79,10 +76,13 @@ pub(crate) fn named_causes(
 ) -> Result<Vec<Cause>, AllocError>
     ensures { IfOk result (λ found. found.items ≡ named_causes number sid.now nsp.now stay.now) }
 {
-    let mut found = Vec::new(alloc);
-    push_cause(&mut found, sid_differs(number, stay, sid))?;
-    push_cause(&mut found, namespace_differs(number, stay, nsp))?;
-    Ok(found)
+    held(
+        alloc,
+        &[
+            sid_differs(number, stay, sid),
+            namespace_differs(number, stay, nsp),
+        ],
+    )
 }
 
 fn sid_differs(number: usize, stay: &Stay<'_>, sid: &str) -> Option<Cause>

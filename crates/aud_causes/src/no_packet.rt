@@ -1,11 +1,10 @@
 //! Why a record of the client's tap is no packet, and what to do about it.
-ghost use Rattle.std.specs.Prelude.{◌≡◌, IfOk, string_bytes};
+ghost use Rattle.std.specs.Prelude.{◌≡◌, IfOk, flat_map, option_to_list};
 ghost use Rattle.std.specs.Option.{option_and_then};
 ghost use Rattle.aud_client.specs.Received.{TranscriptSeen, transcript_at};
-ghost use Rattle.aud_causes.specs.NoPacket.{advice, no_packet_in, no_packet_pieces, refusal_advice, refused_pieces};
-ghost use Rattle.aud_causes.specs.Pieces.{sentence_text};
+ghost use Rattle.aud_causes.specs.NoPacket.{advice, no_packet_figures, no_packet_in, no_packet_words, refusal_advice};
 
-use crate::why::{Piece, sentence};
+use crate::why::Figure;
 use aud_client::Recording;
 use aud_no_packet::{NoPacket, Refusal, no_packet_at};
 use aud_sio::SioFault;
@@ -37,43 +36,33 @@ fn bad_in(recording: &Recording<'_>, client: usize) -> Option<usize>
     recording.client(client)?.transcript().bad
 }
 
-/// What happened, in a sentence.
-pub(crate) fn no_packet_text(alloc: Global, why: Option<NoPacket>) -> Result<String, AllocError>
-    ensures { IfOk result (λ text. string_bytes text ≡ sentence_text (no_packet_pieces why)) }
+/// What happened, in words.
+pub(crate) fn no_packet_words(why: Option<NoPacket>) -> &'static str
+    ensures { result.now ≡ no_packet_words why }
 {
     match why {
-        Some(found) => refused_text(alloc, found.packet, found.refusal.words()),
-        None => sentence(
-            alloc,
-            &[Piece::Words("A record of the client's tap is no packet.")],
-        ),
+        Some(
+            NoPacket {
+                packet: Some(_),
+                ..
+            },
+        ) => "Packet # of a polling body is none: #.",
+        Some(_) => "A record of the client's tap is no packet: #.",
+        None => "A record of the client's tap is no packet.",
     }
 }
 
-/// The same of the packet with this number of a polling body, or of a whole record, for this reason.
-fn refused_text(alloc: Global, packet: Option<usize>, words: &str) -> Result<String, AllocError>
-    ensures { IfOk result (λ text. string_bytes text
-        ≡ sentence_text (refused_pieces packet words.now)) }
+/// Their figures: the number of the packet, of a polling body; and what is refused.
+pub(crate) fn no_packet_figures(why: Option<NoPacket>) -> [Option<Figure>; 3]
+    ensures { flat_map option_to_list result ≡ no_packet_figures why }
 {
-    match packet {
-        Some(number) => sentence(
-            alloc,
-            &[
-                Piece::Words("Packet "),
-                Piece::Number(number as u64),
-                Piece::Words(" of a polling body is none: "),
-                Piece::Words(words),
-                Piece::Words("."),
-            ],
-        ),
-        None => sentence(
-            alloc,
-            &[
-                Piece::Words("A record of the client's tap is no packet: "),
-                Piece::Words(words),
-                Piece::Words("."),
-            ],
-        ),
+    let Some(found) = why else {
+        return [None; 3];
+    };
+    let refused = Some(Figure::Refused(found.refusal));
+    match found.packet {
+        Some(number) => [Some(Figure::Number(number as u64)), refused, None],
+        None => [refused, None, None],
     }
 }
 

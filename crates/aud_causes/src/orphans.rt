@@ -1,12 +1,12 @@
 //! What events may come from of which nobody knows the session.
-ghost use Rattle.std.specs.Prelude.{◌≡◌, ◌++◌, IfOk, None, OnOk, codes, nat_eq, slice_get, take};
+ghost use Rattle.std.specs.Prelude.{◌≡◌, ◌++◌, IfOk, None, OnOk, codes, nat_eq, slice_get};
 ghost use Rattle.std.specs.List.{starts_with};
 ghost use Rattle.std.specs.Option.{option_copied};
 ghost use Rattle.aud_recoveries.specs.Recoveries.{stays_at};
 ghost use Rattle.aud_causes.specs.Orphans.{answered_causes, causes_of_before, is_beside, is_disconnect, last_beside, last_of_stay, orphan_causes, out_after_answer, replied_causes, stay_before, unreplied_causes, without_reply};
 
 use crate::cause::Cause;
-use crate::list::{one_cause, push_cause};
+use crate::list::{front_of, held, push_cause};
 use aud_client::{Recording, Stay};
 use aud_tap::{ClientRec, Text};
 use std::alloc::{AllocError, Global};
@@ -54,7 +54,7 @@ fn replied_causes(
 {
     match &stay.reply {
         Some(reply) if reply.pid.is_some() => Ok(Vec::new(alloc)),
-        Some(_) => one_cause(alloc, Some(Cause::ReplyWithoutPid { stay: number })),
+        Some(_) => held(alloc, &[Some(Cause::ReplyWithoutPid { stay: number })]),
         None => unreplied_causes(
             alloc,
             recording,
@@ -78,7 +78,7 @@ fn unreplied_causes(
     ensures { IfOk result (λ found. found.items
         ≡ unreplied_causes recording.now client number stay.now before) }
 {
-    let mut found = one_cause(alloc, without_reply(number, stay, before))?;
+    let mut found = held(alloc, &[without_reply(number, stay, before)])?;
     push_before(&mut found, recording, client, number, before)?;
     Ok(found)
 }
@@ -106,17 +106,9 @@ fn stay_before(
     ensures { result ≡ stay_before (stays_at recording.now client) number stay.now }
 {
     match recording.client(client) {
-        Some(client) => last_beside(stay, first_of(&client.transcript().stays, number)),
+        Some(client) => last_beside(stay, front_of(&client.transcript().stays, number)),
         None => None,
     }
-}
-
-/// The first of the stays, so many.
-fn first_of<'s, 'a>(stays: &'s [Stay<'a>], count: usize) -> &'s [Stay<'a>]
-    ensures { result.now ≡ take count stays.now }
-{
-    let (first, _) = stays.split_at(count.min(stays.len()));
-    first
 }
 
 /// The number of the last of these stays that is of the same connection and namespace.
@@ -209,7 +201,7 @@ fn push_answered(
     }
     push_cause(found, out_after_answer(number, before, stay))?;
     let second = Cause::SecondConnect {
-        answered: before,
+        before,
         stay: number,
     };
     push_cause(found, Some(second))
@@ -223,7 +215,7 @@ fn out_after_answer(number: usize, before: usize, stay: &Stay<'_>) -> Option<Cau
         return None;
     }
     Some(Cause::OutAfterAnswer {
-        answered: before,
+        before,
         stay: number,
     })
 }

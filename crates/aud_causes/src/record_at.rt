@@ -1,14 +1,14 @@
 //! The records that show a cause.
-ghost use Rattle.std.specs.Prelude.{◌≡◌, ◌++◌, OnOk};
+ghost use Rattle.std.specs.Prelude.{◌≡◌, ◌∷◌, [], None, Some, flat_map, option_to_list};
 ghost use Rattle.aud_causes.specs.Records.{node_of, records_of};
 
 use crate::cause::Cause;
+use crate::record_at::RecordAt::{Ask, Bad, First, Got, Node, Reply};
 use aud_chain::RecordPlace;
-use std::alloc::AllocError;
 
 /// A record of the bundle: of a node, or of the session's client. Stays and frames are those of the session, but for
 /// `First`.
-#[derive(Clone, Copy, Debug, PartialEq, Eq, Drop)]
+#[derive(Clone, Copy, Drop)]
 pub enum RecordAt {
     Node(RecordPlace),
     /// A frame.
@@ -45,121 +45,90 @@ pub(crate) fn node_of(cause: Cause) -> Option<usize>
     }
 }
 
-/// Adds the records that show the cause.
-pub(crate) fn push_records(found: &mut Vec<RecordAt>, cause: Cause) -> Result<(), AllocError>
-    ensures { OnOk result (found.new.items ≡ found.old.items ++ records_of cause) }
+/// The records that show the cause.
+pub(crate) fn records_of(cause: Cause) -> [Option<RecordAt>; 4]
+    ensures { flat_map option_to_list result ≡ records_of cause }
 {
     match cause {
-        Cause::NodeBehindBreak { broke, back, .. } => push_all(
-            found,
-            &[RecordAt::Node(broke), RecordAt::Node(back)],
-        ),
-        Cause::SentAgainAfterReplay { first, again, .. } => push_all(
-            found,
-            &[RecordAt::Got(first), RecordAt::Got(again)],
-        ),
-        Cause::StaleOffset { stay, .. } => push_all(found, &[RecordAt::Ask(stay)]),
-        Cause::BodyCameTwice { first, again } => push_all(
-            found,
-            &[RecordAt::Got(first), RecordAt::Got(again)],
-        ),
-        Cause::OffsetOfAnotherSession { stay, .. } => push_all(found, &[RecordAt::Ask(stay)]),
-        Cause::UnknownOffset { stay } => push_all(found, &[RecordAt::Ask(stay)]),
-        Cause::NoOffset { stay } => push_all(found, &[RecordAt::Ask(stay)]),
-        Cause::RoomsAtBreak { stay, .. } => push_all(
-            found,
-            &[RecordAt::Ask(stay), RecordAt::Reply(stay)],
-        ),
-        Cause::SkippedInWindow { stay, .. } => push_all(
-            found,
-            &[RecordAt::Ask(stay), RecordAt::Reply(stay)],
-        ),
-        Cause::LostLive { frame } => push_all(found, &[RecordAt::Got(frame)]),
-        Cause::DoubledLive { first, again } => push_all(
-            found,
-            &[RecordAt::Got(first), RecordAt::Got(again)],
-        ),
-        Cause::SwappedLive { frame, later } => push_all(
-            found,
-            &[RecordAt::Got(frame), RecordAt::Got(later)],
-        ),
-        Cause::Altered { frame, .. } => push_all(found, &[RecordAt::Got(frame)]),
-        Cause::LogEndedEarly { last, .. } => push_all(found, &[RecordAt::Node(last)]),
-        Cause::LateLeave { leave } => push_all(found, &[RecordAt::Node(leave)]),
-        Cause::BeforeBirth { begin, .. } => push_all(found, &[RecordAt::Node(begin)]),
-        Cause::ExtraLive { frame } => push_all(found, &[RecordAt::Got(frame)]),
-        Cause::JoinMissing { frame } => push_all(found, &[RecordAt::Got(frame)]),
-        Cause::LeaveMissing { frame } => push_all(found, &[RecordAt::Got(frame)]),
+        Cause::LogEndedEarly { last: at, .. }
+        | Cause::LateLeave { leave: at }
+        | Cause::BeforeBirth { begin: at, .. }
+        | Cause::OpenNotRecorded { first: at }
+        | Cause::NoStart { first: at }
+        | Cause::RestartedInOldLog { start: at }
+        | Cause::EntriesSkippedByNode { taken: at, .. }
+        | Cause::EntryTakenAgain { taken: at, .. }
+        | Cause::NotInStream { taken: at }
+        | Cause::SessionOver { gone: at }
+        | Cause::NodeEndedInTurn { last: at }
+        | Cause::NeverBroken { begin: at } => one(Node(at)),
+        Cause::NodeBehindBreak {
+            broke: first,
+            back: again,
+            ..
+        }
+        | Cause::ClearedAfterBreak {
+            broke: first,
+            cleared: again,
+        }
+        | Cause::TurnNotStored { first, again, .. }
+        | Cause::RecoveredTwice { first, again, .. }
+        | Cause::AskedTooEarly {
+            broke: first,
+            begin: again,
+            ..
+        } => two(Node(first), Node(again)),
         Cause::MissingBreak {
             begin,
             back,
             stay,
             ..
-        } => push_all(
-            found,
-            &[
-                RecordAt::Node(begin),
-                RecordAt::Node(back),
-                RecordAt::Ask(stay),
-                RecordAt::Reply(stay),
-            ],
+        } => [
+            Some(Node(begin)),
+            Some(Node(back)),
+            Some(Ask(stay)),
+            Some(Reply(stay)),
+        ],
+        Cause::LostLive { frame }
+        | Cause::Altered { frame, .. }
+        | Cause::ExtraLive { frame }
+        | Cause::JoinMissing { frame }
+        | Cause::LeaveMissing { frame } => one(Got(frame)),
+        Cause::SentAgainAfterReplay { first, again, .. }
+        | Cause::BodyCameTwice { first, again }
+        | Cause::DoubledLive { first, again }
+        | Cause::SwappedLive { first, again } => two(Got(first), Got(again)),
+        Cause::StaleOffset { stay, .. }
+        | Cause::OffsetOfAnotherSession { stay, .. }
+        | Cause::UnknownOffset { stay }
+        | Cause::NoOffset { stay } => one(Ask(stay)),
+        Cause::RoomsAtBreak { stay, .. } | Cause::SkippedInWindow { stay, .. } => two(
+            Ask(stay),
+            Reply(stay),
         ),
-        Cause::NoStart { first } => push_all(found, &[RecordAt::Node(first)]),
-        Cause::RestartedInOldLog { start } => push_all(found, &[RecordAt::Node(start)]),
-        Cause::EntriesSkippedByNode { taken, .. } => push_all(found, &[RecordAt::Node(taken)]),
-        Cause::EntryTakenAgain { taken, .. } => push_all(found, &[RecordAt::Node(taken)]),
-        Cause::NotInStream { taken } => push_all(found, &[RecordAt::Node(taken)]),
-        Cause::SidDiffers { stay } => push_all(found, &[RecordAt::Reply(stay)]),
-        Cause::NamespaceDiffers { stay } => push_all(found, &[RecordAt::Reply(stay)]),
-        Cause::NotAPacket { .. } => push_all(found, &[RecordAt::Bad]),
-        Cause::TapBeganLate { stay } => push_all(found, &[RecordAt::First(stay)]),
-        Cause::CutBeforeReply { stay } => push_all(found, &[RecordAt::First(stay)]),
-        Cause::ReplyWithoutPid { stay } => push_all(found, &[RecordAt::First(stay)]),
-        Cause::SessionOver { gone } => push_all(found, &[RecordAt::Node(gone)]),
-        Cause::NeverBroken { begin } => push_all(found, &[RecordAt::Node(begin)]),
-        Cause::AskedTooEarly { broke, begin, .. } => push_all(
-            found,
-            &[RecordAt::Node(broke), RecordAt::Node(begin)],
-        ),
-        Cause::OpenNotRecorded { first } => push_all(found, &[RecordAt::Node(first)]),
-        Cause::ClearedAfterBreak { broke, cleared } => push_all(
-            found,
-            &[RecordAt::Node(broke), RecordAt::Node(cleared)],
-        ),
-        Cause::TurnNotStored { first, again, .. } => push_all(
-            found,
-            &[RecordAt::Node(first), RecordAt::Node(again)],
-        ),
-        Cause::RecoveredTwice { first, again, .. } => push_all(
-            found,
-            &[RecordAt::Node(first), RecordAt::Node(again)],
-        ),
-        Cause::OutAfterAnswer { answered, stay } => push_all(
-            found,
-            &[RecordAt::First(answered), RecordAt::First(stay)],
-        ),
-        Cause::SecondConnect { answered, stay } => push_all(
-            found,
-            &[RecordAt::First(answered), RecordAt::First(stay)],
-        ),
-        Cause::AfterDisconnect { before, stay } => push_all(
-            found,
-            &[RecordAt::First(before), RecordAt::First(stay)],
-        ),
-        Cause::NodeEndedInTurn { last } => push_all(found, &[RecordAt::Node(last)]),
-        Cause::NodeNotTapped { .. } => Ok(()),
-        Cause::TwoTaps { .. } => Ok(()),
-        Cause::NoClientTap => Ok(()),
-        Cause::ReplyMissing { .. } => Ok(()),
+        Cause::SidDiffers { stay } | Cause::NamespaceDiffers { stay } => one(Reply(stay)),
+        Cause::TapBeganLate { stay }
+        | Cause::CutBeforeReply { stay }
+        | Cause::ReplyWithoutPid { stay } => one(First(stay)),
+        Cause::OutAfterAnswer { before, stay }
+        | Cause::SecondConnect { before, stay }
+        | Cause::AfterDisconnect { before, stay } => two(First(before), First(stay)),
+        Cause::NotAPacket { .. } => one(Bad),
+        Cause::NodeNotTapped { .. }
+        | Cause::TwoTaps { .. }
+        | Cause::NoClientTap
+        | Cause::ReplyMissing { .. } => [None; 4],
     }
 }
 
-/// Adds these.
-fn push_all(found: &mut Vec<RecordAt>, records: &[RecordAt]) -> Result<(), AllocError>
-    ensures { OnOk result (found.new.items ≡ found.old.items ++ records.now) }
+fn one(at: RecordAt) -> [Option<RecordAt>; 4]
+    ensures { result ≡ Some at ∷ None ∷ None ∷ None ∷ [] }
 {
-    for record in records {
-        found.push(*record)?;
-    }
-    Ok(())
+    [Some(at), None, None, None]
+}
+
+fn two(first: RecordAt, second: RecordAt) -> [Option<RecordAt>; 4]
+    ensures { result ≡ Some first ∷ Some second ∷ None ∷ None ∷ [] }
+{
+    [Some(first), Some(second), None, None]
 }

@@ -3,7 +3,7 @@ ghost use Rattle.std.specs.Prelude.{◌≡◌, IfOk, map};
 ghost use Rattle.aud_causes.specs.Recorded.{AreRecordedCauses, causes_of_turns, first_own, no_log_cause, order_causes, stays_of_client};
 
 use crate::cause::Cause;
-use crate::list::{one_cause, push_cause};
+use crate::list::{held, push_cause};
 use crate::logs::order_cause;
 use crate::names::client_causes;
 use crate::turns::chain_causes;
@@ -27,7 +27,7 @@ pub(crate) fn recorded_causes(
         AreRecordedCauses recording.now client pid.now unordered.now fault.now found.items) }
 {
     match fault {
-        Fault::NoLog => one_cause(alloc, Some(no_log_cause(recording.logs(), pid))),
+        Fault::NoLog => held(alloc, &[Some(no_log_cause(recording.logs(), pid))]),
         Fault::Chain => causes_of_turns(alloc, recording, client, pid),
         Fault::Order => order_causes(alloc, recording.logs(), unordered),
         Fault::Client => client_causes(alloc, recording, pid),

@@ -8,7 +8,7 @@ ghost use Rattle.aud_causes.specs.Refusals.{asked_causes, asked_too_early, broke
 use crate::cause::Cause;
 use crate::found::{CauseFound, shown_causes};
 use crate::last_turn::{is_broken, is_ended, last_begin, last_turn};
-use crate::list::push_cause;
+use crate::list::held;
 use aud_chain::{Mark, RecordPlace, TurnMark, turn_marks};
 use aud_client::{Asked, Stay};
 use aud_node::{Logs, Stream};
@@ -88,13 +88,16 @@ fn refused_causes(
     ensures { IfOk result (λ found. found.items
         ≡ refused_causes logs.now offset marks.now opening.now) }
 {
-    let mut found = Vec::new(alloc);
-    push_cause(&mut found, offset)?;
-    push_cause(&mut found, session_over(marks))?;
-    push_cause(&mut found, node_ended(logs, marks))?;
-    push_cause(&mut found, never_broken(marks))?;
-    push_cause(&mut found, asked_too_early(logs, marks, opening))?;
-    Ok(found)
+    held(
+        alloc,
+        &[
+            offset,
+            session_over(marks),
+            node_ended(logs, marks),
+            never_broken(marks),
+            asked_too_early(logs, marks, opening),
+        ],
+    )
 }
 
 /// Where the client gave no offset, or one that the stream doesn't have.

@@ -5,7 +5,7 @@ ghost use Rattle.aud_causes.specs.Windows.{by_misfit, other_session_of, window_c
 use crate::cause::Cause;
 use crate::delivery::offset_of_another;
 use crate::facts::asked_after;
-use crate::list::push_cause;
+use crate::list::held;
 use aud_client::Stay;
 use aud_evidence::{BadWindow, Misfit};
 use aud_node::Stream;
@@ -24,10 +24,13 @@ pub(crate) fn window_causes(
         ≡ window_causes stream.now (map (λ stay. stay.now) stays.now) due.now window) }
 {
     let asked = asked_after(stream, stays, window.stay);
-    let mut found = Vec::new(alloc);
-    push_cause(&mut found, by_misfit(window, asked))?;
-    push_cause(&mut found, other_session_of(due, window.stay, asked))?;
-    Ok(found)
+    held(
+        alloc,
+        &[
+            by_misfit(window, asked),
+            other_session_of(due, window.stay, asked),
+        ],
+    )
 }
 
 /// What the misfit itself says, where the client asked to go on after this position.

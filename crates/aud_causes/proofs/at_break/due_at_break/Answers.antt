@@ -30,6 +30,6 @@ returns c =
     (λ due. (made : IsMade cluster cert.pid cert) → due.items ≡ due_at_break cluster made.who made.turns c.args.count replay)
     (λ due is made.
     at_break_so cluster cert made (c.made_is_over.ensures.turns cluster cert.pid cert c.named_once.ensures made) c.logs-logs.result.now c.logs-logs.ensures c.as_slice-turns.result.now turns_are c.as_str-pid.result.now pid_is opened.sid.now opened.nsp.now opened.low c.in-Some.ensures
-    c.args.count c.turns_before-before.result.now replay spans due.items c.turns_before-before.ensures c.in_ok-spans.ensures
+    c.args.count c.front_of-before.result.now replay spans due.items c.front_of-before.ensures c.in_ok-spans.ensures
     (is ∙ ap (λ ss. due_by_spans ss c.stream.result.now opened.nsp.now replay.after replay.low) c.deref.ensures.value ∙ ap (λ es. due_by_spans spans es opened.nsp.now replay.after replay.low) c.stream.ensures))
     c.due_of.ensures
