@@ -1,113 +1,79 @@
 -- What is shown of a session by its account.
-use Rattle.std.proofs.Common.{◌≡◌, ◌++◌, ℕ, Bool, List, [], refl, sym, subst, ◌∙◌, inl, inr}
+use Rattle.std.proofs.Common.{◌≡◌, ◌++◌, ℕ, List, Option, Some, None, Ok, Err, IfOk, MatchOption, map, refl, sym, subst, ◌∙◌, inl, inr}
+use Rattle.std.specs.declared.result.Result.{Result}
+use Rattle.std.specs.Global.{Vec}
 use Rattle.aud_node.specs.Cluster.{Cluster}
 use Rattle.aud_node.specs.Stream.{Text}
 use Rattle.aud_client.specs.StaySeen.{StaySeen}
 use Rattle.aud_cert.specs.declared.fault.Fault.{Fault}
-use Rattle.aud_cert.specs.declared.fault.Fault.TheVariants.{NoLog, Chain, Order, Client, Names, Frame, Orphan, Content, Extra, Doubled, Swapped, Lost, Window, Tail}
-use Rattle.aud_cert.specs.Certificate.{CertificateSeen}
+use Rattle.aud_cert.specs.Certificate.{turn_at}
 use Rattle.aud_maker.specs.Made.{IsMade}
-use Rattle.aud_merge.specs.ByTurns.{IsPrefixOf}
+use Rattle.aud_account.specs.declared.account.Account.{Account}
 use Rattle.aud_account.specs.Account.{IsAccount, IsDifferenceOf}
 use Rattle.aud_evidence.specs.declared.difference.Difference.{Difference}
-use Rattle.aud_evidence.specs.Window.{positions_received}
 use Rattle.aud_input.specs.TapLines.{TapLines}
-use Rattle.aud_rows.specs.Seen.{RowSeen}
+use Rattle.aud_rows.specs.declared.row.Row.{Row}
+use Rattle.aud_rows.specs.Seen.{RowSeen, row_seen}
+use Rattle.aud_shown.specs.declared.session.ShownSession.{ShownSession}
+use Rattle.aud_shown.specs.DifferenceRows.{difference_rows}
+use Rattle.aud_shown.specs.SessionRows.{session_of}
 use Rattle.aud_shown.specs.ShowsDifference.{ShowsDifference}
-use Rattle.aud_verdict.specs.Session.{due_to}
+use Rattle.aud_shown.proofs.Shows.{shows}
+use Rattle.aud_verdict.specs.Session.{own_stays, due_to}
 use Rattle.aud_findings.specs.BesideRows.{beside_rows}
-use Rattle.aud_findings.specs.Evidence.{AreNamesShown, AreFramesShown, AreOrphansShown, AreAlteredShown, AreWindowsShown, IsIn, IsOfSession, IsOfClient, IsFaultShown}
-use Rattle.aud_findings.specs.ShowsDelivery.{IsDeliveryOf}
+use Rattle.aud_findings.specs.Evidence.{IsOfSession, ShowsOr, ShowsTold, TellsNone}
+use Rattle.aud_findings.specs.ShowsDelivery.{ShowsDelivery}
+use Rattle.aud_findings.specs.Private.Known.{IsShownBy, found_rows, stays_of}
 
--- a certificate is made for its own pid
-pub own_made : (c : Cluster) (pid : Text) (cert : CertificateSeen) → IsMade c pid cert → IsMade c cert.pid cert
-own_made c pid cert made = subst (λ q. IsMade c q cert) (sym made.is.pid_is) made
+-- rows were found that show something, or there is nothing to show
+pub shows_or : (Shows : List RowSeen → Type 0) (nothing : Type 0) (found : Option (Vec Row))
+    → MatchOption found nothing (λ rows. Shows (map row_seen rows.items)) → ShowsOr Shows nothing (found_rows found)
+shows_or Shows nothing None h = inr (h, refl)
+shows_or Shows nothing (Some rows) h = inl h
 
-module _ (c : Cluster) (lines : List TapLines) (pid : Text) (client : ℕ) (stays : List StaySeen) (due : List ℕ) (account : IsAccount c pid client stays due) where
-  -- what is shown of the tap at the account's place
-  pub names_of : (place : ℕ) (rows : List RowSeen) → place ≡ client → AreNamesShown c lines pid place rows → IsOfSession c lines pid Names rows
-  names_of place rows at shown =
-      record { session = account.session; is_session = account.is_session; is_in = subst (λ p. AreNamesShown c lines pid p rows) (at ∙ account.client_is) shown }
+-- the same where both have a premise
+pub shows_if : {E : Type 0} (premise nothing : Type 0) (Shows : List RowSeen → Type 0) (r : Result (Option (Vec Row)) E)
+    → (premise → IfOk r (λ found. MatchOption found nothing (λ rows. Shows (map row_seen rows.items))))
+    → IfOk r (λ found. MatchOption found (premise → nothing) (λ rows. premise → Shows (map row_seen rows.items)))
+shows_if premise nothing Shows (Ok None) h = h
+shows_if premise nothing Shows (Ok (Some rows)) h = h
+shows_if premise nothing Shows (Err e) h = tt
 
-  pub frames_of : (place : ℕ) (rows : List RowSeen) → place ≡ client → AreFramesShown c lines place rows → IsOfSession c lines pid Frame rows
-  frames_of place rows at shown =
-      record { session = account.session; is_session = account.is_session; is_in = subst (λ p. AreFramesShown c lines p rows) (at ∙ account.client_is) shown }
+-- what is told by the account's tap is told of the session
+pub of_session : (c : Cluster) (lines : List TapLines) (pid : Text) (client : ℕ) (stays : List StaySeen) (due : List ℕ) → IsAccount c pid client stays due
+    → (fault : Fault) (place : ℕ) → place ≡ client → (found : Option (Vec Row))
+    → MatchOption found (TellsNone c pid place stays due fault) (λ rows. ShowsTold c lines pid place stays fault (map row_seen rows.items))
+    → IsOfSession c lines pid fault (found_rows found)
+of_session c lines pid client stays due account fault place at found told =
+    let s = account.session in
+    record {
+      session = s;
+      is_session = account.is_session;
+      is_shown =
+          subst (λ p. ShowsOr (ShowsTold c lines pid p (own_stays c s) fault) (TellsNone c pid p (own_stays c s) (due_to c s) fault) (found_rows found)) (at ∙ account.client_is)
+          (subst (λ own. ShowsOr (ShowsTold c lines pid place own fault) (TellsNone c pid place own (due_to c s) fault) (found_rows found)) account.stays_are
+          (subst (λ owed. ShowsOr (ShowsTold c lines pid place stays fault) (TellsNone c pid place stays owed fault) (found_rows found)) account.due_is
+          (shows_or (ShowsTold c lines pid place stays fault) (TellsNone c pid place stays due fault) found told)));
+    }
 
-  pub orphans_of : (place : ℕ) (rows : List RowSeen) → place ≡ client → AreOrphansShown c lines place rows → IsOfSession c lines pid Orphan rows
-  orphans_of place rows at shown =
-      record { session = account.session; is_session = account.is_session; is_in = subst (λ p. AreOrphansShown c lines p rows) (at ∙ account.client_is) shown }
-
-  -- what is shown of its stays
-  pub altered_of : (off : Text) (rows : List RowSeen) → AreAlteredShown c lines pid stays rows → IsOfSession c lines pid (Content off) rows
-  altered_of off rows shown =
-      record { session = account.session; is_session = account.is_session; is_in = subst (λ own. AreAlteredShown c lines pid own rows) account.stays_are shown }
-
-  pub windows_of : (conn : ℕ) (rows : List RowSeen) → AreWindowsShown c lines pid stays rows → IsOfSession c lines pid (Window conn) rows
-  windows_of conn rows shown =
-      record { session = account.session; is_session = account.is_session; is_in = subst (λ own. AreWindowsShown c lines pid own rows) account.stays_are shown }
-
-  -- there is nothing
-  pub nothing_of : (fault : Fault) → IsIn c lines pid account.session fault [] → IsOfSession c lines pid fault []
-  nothing_of fault none = record { session = account.session; is_session = account.is_session; is_in = none }
-
-  -- ---- the delivery
-
-  -- these are the rows of the difference, with those that tell how it comes
-  pub delivered : (cert : CertificateSeen) (made : IsMade c pid cert) (difference : Difference) (shown rows : List RowSeen) → IsDifferenceOf c pid difference
-      → ShowsDifference c lines pid shown → rows ≡ beside_rows c lines cert (own_made c pid cert made) difference ++ shown → IsDeliveryOf c lines pid rows
-  delivered cert made difference shown rows is shows are =
-      record {
-        session = account.session;
-        is_session = account.is_session;
-        is_shown = inl (record {
-          cert = cert;
-          made = own_made c pid cert made;
-          names = made.is.pid_is;
-          difference = difference;
-          is_difference = is;
-          shown = shown;
-          shows = shows;
-          are_its_rows = are;
-        });
-      }
-
-  -- there is none
-  pub undelivered : IsPrefixOf (positions_received stays) due → IsDeliveryOf c lines pid []
-  undelivered prefix =
-      record {
-        session = account.session;
-        is_session = account.is_session;
-        is_shown = inr (subst (λ own. IsPrefixOf (positions_received own) (due_to c account.session)) account.stays_are (subst (λ owed. IsPrefixOf (positions_received stays) owed) account.due_is prefix), refl);
-      }
-
--- what is shown of the delivery, for each of its faults
-module _ (c : Cluster) (lines : List TapLines) (pid : Text) (fault : Fault) (off : Text) (rows : List RowSeen) (shown : IsDeliveryOf c lines pid rows) where
-  pub extra_of : fault ≡ Extra off → IsOfSession c lines pid fault rows
-  extra_of e = subst (λ f. IsOfSession c lines pid f rows) (sym e) (record { session = shown.session; is_session = shown.is_session; is_in = shown.is_shown })
-
-  pub doubled_of : fault ≡ Doubled off → IsOfSession c lines pid fault rows
-  doubled_of e = subst (λ f. IsOfSession c lines pid f rows) (sym e) (record { session = shown.session; is_session = shown.is_session; is_in = shown.is_shown })
-
-  pub swapped_of : fault ≡ Swapped off → IsOfSession c lines pid fault rows
-  swapped_of e = subst (λ f. IsOfSession c lines pid f rows) (sym e) (record { session = shown.session; is_session = shown.is_session; is_in = shown.is_shown })
-
-  pub lost_of : fault ≡ Lost off → IsOfSession c lines pid fault rows
-  lost_of e = subst (λ f. IsOfSession c lines pid f rows) (sym e) (record { session = shown.session; is_session = shown.is_session; is_in = shown.is_shown })
-
--- a fault of what the client's tap tells
-pub other_of : (c : Cluster) (lines : List TapLines) (pid : Text) (known : Bool) (fault : Fault) (rows : List RowSeen)
-    → (fault ≡ NoLog → ⊥) → (fault ≡ Chain → ⊥) → (fault ≡ Order → ⊥) → (fault ≡ Client → ⊥) → IsOfClient c lines pid known fault rows → IsFaultShown c lines pid known fault rows
-other_of c lines pid known NoLog rows one two three four shown = absurd (one refl)
-other_of c lines pid known Chain rows one two three four shown = absurd (two refl)
-other_of c lines pid known Order rows one two three four shown = absurd (three refl)
-other_of c lines pid known Client rows one two three four shown = absurd (four refl)
-other_of c lines pid known Names rows one two three four shown = shown
-other_of c lines pid known Frame rows one two three four shown = shown
-other_of c lines pid known Orphan rows one two three four shown = shown
-other_of c lines pid known (Content off) rows one two three four shown = shown
-other_of c lines pid known (Extra off) rows one two three four shown = shown
-other_of c lines pid known (Doubled off) rows one two three four shown = shown
-other_of c lines pid known (Swapped off) rows one two three four shown = shown
-other_of c lines pid known (Lost off) rows one two three four shown = shown
-other_of c lines pid known (Window conn) rows one two three four shown = shown
-other_of c lines pid known (Tail count) rows one two three four shown = shown
+-- these are the rows of the difference, with those that tell how it comes
+pub delivered : (pid : Text) (a : Account) (s : ShownSession) → IsShownBy s.sheet.recording.now pid a s → (made : IsMade s.sheet.recording.now a.cert.pid a.cert)
+    → (difference : Difference) → IsDifferenceOf s.sheet.recording.now pid difference → (rows : List RowSeen)
+    → rows ≡ beside_rows s.sheet.recording.now s.sheet.lines.now a.cert made difference ++ difference_rows (session_of s) difference
+    → ShowsDelivery s.sheet.recording.now s.sheet.lines.now pid rows
+delivered pid a s known made difference is rows are =
+    let here = s.sheet.recording.now in
+    let lines = s.sheet.lines.now in
+    record {
+      cert = a.cert;
+      made = made;
+      names = known.made.is.pid_is;
+      difference = difference;
+      is_difference = is;
+      shown = difference_rows (session_of s) difference;
+      shows =
+          subst (ShowsDifference here lines pid)
+          (sym (λ i. difference_rows (record { c = here; lines = lines; turns = map (turn_at here) (known.turns i); client = known.client i; numbers = s.numbers.now }) difference))
+          (shows here lines pid a.cert a.client (stays_of a) a.due.items known.once known.made known.account s.numbers.now known.numbers difference is);
+      are_its_rows = are;
+    }

@@ -4,8 +4,7 @@ use Rattle.std.specs.List.{filter}
 use Rattle.std.specs.Option.{option_map, option_and_then}
 use Rattle.aud_node.specs.Cluster.{Cluster}
 use Rattle.aud_node.specs.Stream.{Text}
-use Rattle.aud_cert.specs.declared.fault.Fault.{Fault}
-use Rattle.aud_cert.specs.declared.fault.Fault.TheVariants as fault
+use Rattle.aud_cert.specs.declared.fault.Fault.TheVariants.{Tail}
 use Rattle.aud_evidence.specs.declared.difference.Difference.{Difference}
 use Rattle.aud_evidence.specs.declared.difference.Difference.TheVariants.{Doubled, Lost}
 use Rattle.aud_evidence.specs.Difference.{IsDifference}
@@ -23,7 +22,7 @@ use Rattle.aud_shown.specs.FramePlaces.{frame_at}
 use Rattle.aud_shown.specs.ShowsDifference.{AreNumbersOf}
 use Rattle.aud_verdict.specs.Session.{SessionLogs, IsSession, own_stays, due_to}
 use Rattle.aud_findings.specs.declared.finding.AlsoShown.{AlsoShown}
-use Rattle.aud_findings.specs.Received.{greatest, tail_positions}
+use Rattle.aud_findings.specs.Received.{greatest, is_parted, tail_positions}
 use Rattle.aud_findings.specs.ShowsDelivery.{AreDueFirst}
 
 -- ---- which entries
@@ -72,11 +71,6 @@ frame_lines c lines place numbers p frame [] = []
 frame_lines c lines place numbers p frame (q ∷ received) =
     (if nat_eq q p then frame_line c lines place numbers frame else []) ++ frame_lines c lines place numbers p (suc frame) received
 
--- the lines that show the entry: that of the entry which was lost; those of all frames of one that came twice
-abbrev pub also_lines : Cluster → List TapLines → ℕ → List ℕ → List ℕ → Difference → ℕ → List ℕ
-also_lines c lines place numbers received (Lost frame due) p = line_of (stream_row c lines p Entry)
-also_lines c lines place numbers received _ p = frame_lines c lines place numbers p 0 received
-
 -- ---- both
 
 -- another entry: its position, and its lines
@@ -87,8 +81,18 @@ pub record AlsoSeen : Type 0 where
 abbrev pub also_seen : AlsoShown → AlsoSeen
 also_seen also = record { position = also.position; lines = also.lines.items }
 
+-- an entry that never came, with its line
+abbrev pub entry_also : Cluster → List TapLines → ℕ → AlsoSeen
+entry_also c lines p = record { position = p; lines = line_of (stream_row c lines p Entry) }
+
+-- one that came, with the lines of all its frames
+abbrev pub frames_also : Cluster → List TapLines → ℕ → List ℕ → List ℕ → ℕ → AlsoSeen
+frames_also c lines place numbers received p = record { position = p; lines = frame_lines c lines place numbers p 0 received }
+
+-- as the difference is: of an entry that was lost the former, of one that came twice the latter
 abbrev pub also_at : Cluster → List TapLines → ℕ → List ℕ → List ℕ → Difference → ℕ → AlsoSeen
-also_at c lines place numbers received difference p = record { position = p; lines = also_lines c lines place numbers received difference p }
+also_at c lines place numbers received (Lost frame due) = entry_also c lines
+also_at c lines place numbers received _ = frames_also c lines place numbers received
 
 -- these are the other entries with the fault of the difference between what was received of the session and what was
 -- due to it
@@ -113,10 +117,6 @@ pub record AreAlso (c : Cluster) (lines : List TapLines) (pid : Text) (also : Li
 abbrev pub tail_others : List ℕ → List ℕ → List ℕ
 tail_others received due = take 100 (drop 1 (tail_positions received due))
 
--- an entry that never came, with its line
-abbrev pub entry_also : Cluster → List TapLines → ℕ → AlsoSeen
-entry_also c lines p = record { position = p; lines = line_of (stream_row c lines p Entry) }
-
 -- these are those of the session with this pid
 pub record AreTailAlso (c : Cluster) (lines : List TapLines) (pid : Text) (also : List AlsoSeen) : Type 0 where
   pub session : SessionLogs
@@ -125,21 +125,9 @@ pub record AreTailAlso (c : Cluster) (lines : List TapLines) (pid : Text) (also 
 
 -- ---- where they are told of
 
--- the fault is that what was received parts from what was due
-abbrev pub is_parting : Fault → Bool
-is_parting (fault.Extra off) = true
-is_parting (fault.Doubled off) = true
-is_parting (fault.Swapped off) = true
-is_parting (fault.Lost off) = true
-is_parting _ = false
-
-abbrev pub is_parted : Verdict → Bool
-is_parted (Yes got tail turns) = false
-is_parted (No fault) = is_parting fault
-
 -- the fault is a tail
 abbrev pub is_short : Verdict → Bool
-is_short (No (fault.Tail count)) = true
+is_short (No (Tail count)) = true
 is_short _ = false
 
 -- they are told of where the session's turns and its client are known, and the fault is one of these; else there are none

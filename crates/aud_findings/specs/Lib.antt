@@ -4,7 +4,7 @@ pub use Rattle.aud_shown.specs.RowLists
 pub use Rattle.aud_account.specs.Account
 pub use Rattle.aud_recording_faults.specs.Prepared
 pub mod Behind
-pub mod RoomRows
+pub mod RoomChanges
 pub mod BesideRows
 pub mod ShowsDelivery
 pub mod Received

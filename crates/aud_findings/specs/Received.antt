@@ -4,13 +4,12 @@ use Rattle.std.specs.List.{filter}
 use Rattle.aud_node.specs.Cluster.{Cluster}
 use Rattle.aud_node.specs.Stream.{Text}
 use Rattle.aud_cert.specs.declared.fault.Fault.{Fault}
-use Rattle.aud_cert.specs.declared.fault.Fault.TheVariants.{NoLog, Chain, Order, Client, Names, Frame, Orphan, Content, Extra, Doubled, Swapped, Lost, Window, Tail}
-use Rattle.aud_check.specs.Frames.{AreEntries, frames_in}
-use Rattle.aud_client.specs.StaySeen.{StaySeen}
-use Rattle.aud_evidence.specs.declared.content.Altered.{Altered}
+use Rattle.aud_cert.specs.declared.fault.Fault.TheVariants.{Extra, Doubled, Swapped, Lost}
+use Rattle.aud_cert.specs.declared.class.Class.{Class}
+use Rattle.aud_cert.specs.declared.class.Class.TheVariants.{Delivery}
+use Rattle.aud_cert.specs.Class.{class_of}
 use Rattle.aud_evidence.specs.declared.difference.Difference.{Difference}
 use Rattle.aud_evidence.specs.declared.difference.Difference.TheVariants as difference
-use Rattle.aud_evidence.specs.Content.{IsAltered}
 use Rattle.aud_evidence.specs.Difference.{IsDifference}
 use Rattle.aud_evidence.specs.Window.{positions_received}
 use Rattle.aud_explanation.specs.declared.client.Account.{Account}
@@ -19,22 +18,29 @@ use Rattle.aud_verdict.specs.declared.verdict.Verdict.{Verdict}
 use Rattle.aud_verdict.specs.declared.verdict.Verdict.TheVariants.{Yes, No}
 use Rattle.aud_verdict.specs.Session.{SessionLogs, IsSession, own_stays, due_to}
 
--- ---- where the delivery is judged
+-- ---- which verdicts it is told of
 
-abbrev pub is_delivery : Fault → Bool
-is_delivery (Content off) = true
-is_delivery (Extra off) = true
-is_delivery (Doubled off) = true
-is_delivery (Swapped off) = true
-is_delivery (Lost off) = true
-is_delivery (Window conn) = true
-is_delivery (Tail count) = true
+-- the fault is one of the delivery
+abbrev pub is_delivery : Class → Bool
+is_delivery Delivery = true
 is_delivery _ = false
 
 -- the delivery was judged: the verdict is a yes, or a fault of the delivery
 abbrev pub is_judged : Verdict → Bool
 is_judged (Yes got tail turns) = true
-is_judged (No fault) = is_delivery fault
+is_judged (No fault) = is_delivery (class_of fault)
+
+-- the fault is that what was received parts from what was due
+abbrev pub is_parting : Fault → Bool
+is_parting (Extra off) = true
+is_parting (Doubled off) = true
+is_parting (Swapped off) = true
+is_parting (Lost off) = true
+is_parting _ = false
+
+abbrev pub is_parted : Verdict → Bool
+is_parted (Yes got tail turns) = false
+is_parted (No fault) = is_parting fault
 
 -- ---- the figures
 
@@ -64,24 +70,17 @@ pub record IsDifferenceFrame (received due : List ℕ) (at_frame : ℕ) : Type 0
   pub is_difference : IsDifference received due found
   pub at_is : at_frame ≡ frame_of found + 1
 
--- it is the frame, which counts from 1, at which the difference shows, if there is one
-abbrev pub IsAtFrame : List ℕ → List ℕ → Fault → Option ℕ → Type 0
-IsAtFrame received due (Extra off) at_frame = MatchOption at_frame (IsPrefixOf received due) (IsDifferenceFrame received due)
-IsAtFrame received due (Doubled off) at_frame = MatchOption at_frame (IsPrefixOf received due) (IsDifferenceFrame received due)
-IsAtFrame received due (Swapped off) at_frame = MatchOption at_frame (IsPrefixOf received due) (IsDifferenceFrame received due)
-IsAtFrame received due (Lost off) at_frame = MatchOption at_frame (IsPrefixOf received due) (IsDifferenceFrame received due)
-IsAtFrame received due fault at_frame = at_frame ≡ None
-
-abbrev pub IsAtFrameOf : List ℕ → List ℕ → Verdict → Option ℕ → Type 0
-IsAtFrameOf received due (Yes got tail turns) at_frame = at_frame ≡ None
-IsAtFrameOf received due (No fault) at_frame = IsAtFrame received due fault at_frame
+-- it is the frame, which counts from 1, at which the difference shows, if there is one, where the verdict is about that
+abbrev pub IsAtFrame : List ℕ → List ℕ → Bool → Option ℕ → Type 0
+IsAtFrame received due true at_frame = MatchOption at_frame (IsPrefixOf received due) (IsDifferenceFrame received due)
+IsAtFrame received due false at_frame = at_frame ≡ None
 
 -- these are the figures of what was received and what was due
 pub record AreFigures (received due : List ℕ) (verdict : Verdict) (figures : Account) : Type 0 where
   pub got_is : figures.got ≡ length received
   pub due_is : figures.due ≡ length due
   pub tail_is : figures.tail ≡ tail_of received due
-  pub at_is : IsAtFrameOf received due verdict figures.at_frame
+  pub at_is : IsAtFrame received due (is_parted verdict) figures.at_frame
 
 -- these are those of the session with this pid
 pub record AreFiguresOf (c : Cluster) (pid : Text) (verdict : Verdict) (figures : Account) : Type 0 where

@@ -1,5 +1,5 @@
 -- When rows show where what a client received of a session parts from what was due to it, and how that comes.
-use Rattle.std.specs.Prelude.{◌≡◌, ◌++◌, ◌⊎◌, List, []}
+use Rattle.std.specs.Prelude.{◌≡◌, ◌++◌, List}
 use Rattle.aud_node.specs.Cluster.{Cluster}
 use Rattle.aud_node.specs.Stream.{Text}
 use Rattle.aud_cert.specs.Certificate.{CertificateSeen}
@@ -11,7 +11,7 @@ use Rattle.aud_evidence.specs.Window.{positions_received}
 use Rattle.aud_input.specs.TapLines.{TapLines}
 use Rattle.aud_rows.specs.Seen.{RowSeen}
 use Rattle.aud_shown.specs.ShowsDifference.{ShowsDifference}
-use Rattle.aud_verdict.specs.Session.{SessionLogs, IsSession, own_stays, due_to}
+use Rattle.aud_verdict.specs.Session.{SessionLogs, own_stays, due_to}
 use Rattle.aud_findings.specs.BesideRows.{beside_rows}
 
 -- these are the rows of a difference between what was received of the session with this pid and what was due to it, and
@@ -29,13 +29,3 @@ pub record ShowsDelivery (c : Cluster) (lines : List TapLines) (pid : Text) (row
 -- what was due begins with what was received
 abbrev pub AreDueFirst : Cluster → SessionLogs → Type 0
 AreDueFirst c s = IsPrefixOf (positions_received (own_stays c s)) (due_to c s)
-
--- the rows show a difference of the session with this pid, or there is none, and there are no rows
-abbrev pub IsDeliveryShown : Cluster → List TapLines → Text → SessionLogs → List RowSeen → Type 0
-IsDeliveryShown c lines pid s rows = ShowsDelivery c lines pid rows ⊎ (AreDueFirst c s × (rows ≡ []))
-
--- so it is of the session with this pid
-pub record IsDeliveryOf (c : Cluster) (lines : List TapLines) (pid : Text) (rows : List RowSeen) : Type 0 where
-  pub session : SessionLogs
-  pub is_session : IsSession c pid session
-  pub is_shown : IsDeliveryShown c lines pid session rows

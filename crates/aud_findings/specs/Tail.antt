@@ -15,7 +15,7 @@ use Rattle.aud_shown.specs.ShowsDifference.{AreNumbersOf}
 use Rattle.aud_verdict.specs.Session.{SessionLogs, IsSession, own_stays, due_to}
 use Rattle.aud_findings.specs.Also.{frame_row_at}
 use Rattle.aud_findings.specs.Received.{tail_positions}
-use Rattle.aud_findings.specs.RoomRows.{reach_of}
+use Rattle.aud_findings.specs.RoomChanges.{reach_of}
 
 -- the row of the record at which the session of these turns first reached the position
 abbrev pub reached_row : Cluster → List TapLines → List Turn → ℕ → Option RowSeen
@@ -28,19 +28,12 @@ tail_rows c lines turns place numbers frames None = []
 tail_rows c lines turns place numbers frames (Some p) =
     row_and (frame_row_at c lines place numbers (frames - 1) Fault) (row_and (stream_row c lines p Entry) (row_and (reached_row c lines turns p) []))
 
--- these are the rows of the session's tail, where these are the positions received
-abbrev pub AreTailRows : Cluster → List TapLines → SessionLogs → List ℕ → List ℕ → List RowSeen → Type 0
-AreTailRows c lines s numbers received rows =
-    rows ≡ tail_rows c lines s.turns s.client numbers (length received) (slice_get (tail_positions received (due_to c s)) 0)
-
--- these are the rows of the session's tail, by its client's stays; there are none where it has no tail
-pub record IsTailShown (c : Cluster) (lines : List TapLines) (pid : Text) (s : SessionLogs) (rows : List RowSeen) : Type 0 where
-  pub numbers : List ℕ
-  pub are_its_stays : AreNumbersOf c pid s.client numbers
-  pub are_its_rows : AreTailRows c lines s numbers (positions_received (own_stays c s)) rows
-
--- so it is of the session with this pid
-pub record IsTailOf (c : Cluster) (lines : List TapLines) (pid : Text) (rows : List RowSeen) : Type 0 where
+-- these are the rows of the tail of the session with this pid, by its client's stays; there are none where it has no tail
+pub record ShowsTail (c : Cluster) (lines : List TapLines) (pid : Text) (rows : List RowSeen) : Type 0 where
   pub session : SessionLogs
   pub is_session : IsSession c pid session
-  pub is_shown : IsTailShown c lines pid session rows
+  pub numbers : List ℕ
+  pub are_its_stays : AreNumbersOf c pid session.client numbers
+  pub are_its_rows : rows
+      ≡ tail_rows c lines session.turns session.client numbers (length (positions_received (own_stays c session)))
+      (slice_get (tail_positions (positions_received (own_stays c session)) (due_to c session)) 0)

@@ -1,5 +1,5 @@
 //! The other entries that have the same fault, with the lines that show it.
-ghost use Rattle.std.specs.Prelude.{◌≡◌, ◌++◌, [], IfOk, IfSome, OnOk, if◌then◌else◌, is_some, map, option_map};
+ghost use Rattle.std.specs.Prelude.{◌≡◌, ◌++◌, IfOk, IfSome, OnOk, is_some, map, option_map};
 ghost use Rattle.aud_account.specs.Account.{IsAccount};
 ghost use Rattle.aud_rows.specs.ClientPlaces.{AreOf};
 ghost use Rattle.aud_rows.specs.declared.row.Role.TheVariants.{Entry};
@@ -9,14 +9,16 @@ ghost use Rattle.aud_rows.specs.StayRows.{stays_at};
 ghost use Rattle.aud_rows.specs.TrueRow.{IsTrueRow};
 ghost use Rattle.aud_shown.specs.FramePlaces.{frame_at};
 ghost use Rattle.aud_recording_faults.specs.Prepared.{IsPreparedOf};
-ghost use Rattle.aud_findings.specs.Also.{AreAlso, IsAlsoShown, also_at, also_lines, also_seen, frame_line, frame_lines, frame_row_at, is_parted, is_parting, is_short, line_of};
+ghost use Rattle.aud_findings.specs.Also.{AreAlso, IsAlsoShown, also_at, also_seen, entry_also, frame_lines, frame_row_at, frames_also, is_short, line_of};
+ghost use Rattle.aud_findings.specs.Received.{is_parted};
+ghost use Rattle.aud_findings.specs.Private.Known.{stays_of};
 
 use crate::finding::AlsoShown;
 use crate::others::others;
 use crate::tail::tail_also;
 use aud_account::{Account, positions_received};
 use aud_cert::Fault;
-use aud_client::{IndexedTranscript, Recording};
+use aud_client::Recording;
 use aud_evidence::{Difference, first_difference};
 use aud_recording_faults::{Prepared, numbers_naming};
 use aud_rows::{ClientPlaces, Role, Row, Sheet};
@@ -36,7 +38,7 @@ pub(crate) fn also_found<'r, 'a>(
 ) -> Result<Vec<AlsoShown>, AllocError>
     requires prepared { IsPreparedOf sheet.now.recording.now prepared.now }
     requires account { IfSome account (λ a. IsAccount sheet.now.recording.now pid.now a.now.client
-        (map (λ stay. stay.now) a.now.stays.items) a.now.due.items) }
+        (stays_of a.now) a.now.due.items) }
     ensures { IfOk result (λ also. IsAlsoShown sheet.now.recording.now sheet.now.lines.now pid.now
         (is_some account.entry) verdict.now (map also_seen also.items)) }
 {
@@ -57,7 +59,7 @@ fn also_in<'r, 'a>(
 ) -> Result<Vec<AlsoShown>, AllocError>
     requires prepared { IsPreparedOf sheet.now.recording.now prepared.now }
     requires account { IsAccount sheet.now.recording.now pid.now account.now.client
-        (map (λ stay. stay.now) account.now.stays.items) account.now.due.items }
+        (stays_of account.now) account.now.due.items }
     ensures { IfOk result (λ also. AreAlso sheet.now.recording.now sheet.now.lines.now pid.now
         (map also_seen also.items)) }
 {
@@ -71,24 +73,15 @@ fn also_in<'r, 'a>(
 }
 
 /// Whether the verdict is that what was received parts from what was due.
-fn is_parted(verdict: &Verdict) -> bool
+pub(crate) fn is_parted(verdict: &Verdict) -> bool
     ensures { result ≡ is_parted verdict.now }
 {
     match verdict {
         Verdict::Yes { .. } => false,
-        Verdict::No(fault) => is_parting(fault),
-    }
-}
-
-fn is_parting(fault: &Fault) -> bool
-    ensures { result ≡ is_parting fault.now }
-{
-    match fault {
-        Fault::Extra(_) => true,
-        Fault::Doubled(_) => true,
-        Fault::Swapped(_) => true,
-        Fault::Lost(_) => true,
-        _ => false,
+        Verdict::No(fault) => matches!(
+            fault,
+            Fault::Extra(_) | Fault::Doubled(_) | Fault::Swapped(_) | Fault::Lost(_)
+        ),
     }
 }
 
@@ -111,7 +104,7 @@ fn also_of<'r, 'a>(
     requires tap { AreOf sheet.now.recording.now tap.now }
     requires place { tap.now.place ≡ account.now.client }
     requires account { IsAccount sheet.now.recording.now pid.now account.now.client
-        (map (λ stay. stay.now) account.now.stays.items) account.now.due.items }
+        (stays_of account.now) account.now.due.items }
     ensures { IfOk result (λ also. AreAlso sheet.now.recording.now sheet.now.lines.now pid.now
         (map also_seen also.items)) }
 {
@@ -129,7 +122,7 @@ fn also_of<'r, 'a>(
     all_shown(alloc, sheet, tap, numbers, received, difference, entries)
 }
 
-/// These entries, with their lines.
+/// These entries, with their lines: those that never came as they stand in the stream, and else as they came.
 fn all_shown(
     alloc: Global,
     sheet: &Sheet<'_, '_>,
@@ -144,62 +137,34 @@ fn all_shown(
         ≡ map (also_at sheet.now.recording.now sheet.now.lines.now tap.now.place numbers.now
         received.now difference) others.now) }
 {
+    match difference {
+        Difference::Lost { .. } => entries_also(alloc, sheet, others),
+        _ => frames_also(alloc, sheet, tap, numbers, received, others),
+    }
+}
+
+/// The entries at these positions, each with its line.
+pub(crate) fn entries_also(
+    alloc: Global,
+    sheet: &Sheet<'_, '_>,
+    positions: &[u64],
+) -> Result<Vec<AlsoShown>, AllocError>
+    ensures { IfOk result (λ also. map also_seen also.items
+        ≡ map (entry_also sheet.now.recording.now sheet.now.lines.now) positions.now) }
+{
     let mut also = Vec::new(alloc);
-    for position in others {
-        let shown = also_at(alloc, sheet, tap, numbers, received, difference, *position)?;
-        also.push(shown)?;
+    for position in positions {
+        let lines = entry_lines(alloc, sheet, *position)?;
+        also.push(AlsoShown {
+            position: *position,
+            lines,
+        })?;
     }
     Ok(also)
 }
 
-/// The entry at this position, with its lines.
-fn also_at(
-    alloc: Global,
-    sheet: &Sheet<'_, '_>,
-    tap: &ClientPlaces,
-    numbers: &[usize],
-    received: &[u64],
-    difference: Difference,
-    position: u64,
-) -> Result<AlsoShown, AllocError>
-    requires { AreOf sheet.now.recording.now tap.now }
-    ensures { IfOk result (λ also. also_seen also
-        ≡ also_at sheet.now.recording.now sheet.now.lines.now tap.now.place numbers.now received.now
-        difference position) }
-{
-    let lines = lines_of(alloc, sheet, tap, numbers, received, difference, position)?;
-    Ok(AlsoShown { position, lines })
-}
-
-/// The lines that show it: that of an entry that was lost, and else those of its frames.
-fn lines_of(
-    alloc: Global,
-    sheet: &Sheet<'_, '_>,
-    tap: &ClientPlaces,
-    numbers: &[usize],
-    received: &[u64],
-    difference: Difference,
-    position: u64,
-) -> Result<Vec<u64>, AllocError>
-    requires { AreOf sheet.now.recording.now tap.now }
-    ensures { IfOk result (λ lines. lines.items
-        ≡ also_lines sheet.now.recording.now sheet.now.lines.now tap.now.place numbers.now
-        received.now difference position) }
-{
-    match difference {
-        Difference::Lost { .. } => entry_lines(alloc, sheet, position),
-        Difference::Extra { .. } => frame_lines(alloc, sheet, tap, numbers, received, position),
-        Difference::Doubled { .. } => frame_lines(alloc, sheet, tap, numbers, received, position),
-        Difference::Swapped { .. } => frame_lines(alloc, sheet, tap, numbers, received, position),
-    }
-}
-
 /// The line of the entry.
-pub(crate) fn entry_lines(
-    alloc: Global,
-    sheet: &Sheet<'_, '_>,
-    position: u64,
-) -> Result<Vec<u64>, AllocError>
+fn entry_lines(alloc: Global, sheet: &Sheet<'_, '_>, position: u64) -> Result<Vec<u64>, AllocError>
     ensures { IfOk result (λ lines. lines.items
         ≡ line_of (stream_row sheet.now.recording.now sheet.now.lines.now position Entry)) }
 {
@@ -208,7 +173,32 @@ pub(crate) fn entry_lines(
     Ok(lines)
 }
 
-/// The lines of all frames of the position, where these are the positions of all frames.
+/// Those of them that came, each with the lines of all its frames, where these are the positions of all frames.
+fn frames_also(
+    alloc: Global,
+    sheet: &Sheet<'_, '_>,
+    tap: &ClientPlaces,
+    numbers: &[usize],
+    received: &[u64],
+    positions: &[u64],
+) -> Result<Vec<AlsoShown>, AllocError>
+    requires { AreOf sheet.now.recording.now tap.now }
+    ensures { IfOk result (λ also. map also_seen also.items
+        ≡ map (frames_also sheet.now.recording.now sheet.now.lines.now tap.now.place numbers.now
+        received.now) positions.now) }
+{
+    let mut also = Vec::new(alloc);
+    for position in positions {
+        let lines = frame_lines(alloc, sheet, tap, numbers, received, *position)?;
+        also.push(AlsoShown {
+            position: *position,
+            lines,
+        })?;
+    }
+    Ok(also)
+}
+
+/// The lines of all frames of the position.
 fn frame_lines(
     alloc: Global,
     sheet: &Sheet<'_, '_>,
@@ -224,29 +214,14 @@ fn frame_lines(
 {
     let mut lines = Vec::new(alloc);
     for (frame, other) in received.iter().enumerate() {
-        push_frame(&mut lines, sheet, tap, numbers, frame, *other == position)?;
+        if *other == position {
+            push_line(
+                &mut lines,
+                frame_row(sheet, tap, numbers, frame, Role::Later),
+            )?;
+        }
     }
     Ok(lines)
-}
-
-/// Adds the line of the frame, where it is of the position.
-fn push_frame(
-    lines: &mut Vec<u64>,
-    sheet: &Sheet<'_, '_>,
-    tap: &ClientPlaces,
-    numbers: &[usize],
-    frame: usize,
-    is_of: bool,
-) -> Result<(), AllocError>
-    requires { AreOf sheet.now.recording.now tap.now }
-    ensures { OnOk result (lines.new.items ≡ lines.old.items ++ (if is_of
-        then frame_line sheet.now.recording.now sheet.now.lines.now tap.now.place numbers.now frame
-        else [])) }
-{
-    if !is_of {
-        return Ok(());
-    }
-    push_line(lines, frame_row(sheet, tap, numbers, frame, Role::Later))
 }
 
 /// Adds the line of the row, if there is one.
@@ -289,13 +264,7 @@ fn place_of(
     ensures { result ≡ frame_at (stays_at recording.now place) numbers.now frame }
 {
     match recording.client(place) {
-        Some(client) => place_in(client, numbers, frame),
+        Some(client) => frame_at(&client.transcript().stays, numbers, frame),
         None => None,
     }
-}
-
-fn place_in(client: &IndexedTranscript<'_>, numbers: &[usize], frame: usize) -> Option<FramePlace>
-    ensures { result ≡ frame_at client.now.stays numbers.now frame }
-{
-    frame_at(&client.transcript().stays, numbers, frame)
 }

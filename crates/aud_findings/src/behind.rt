@@ -1,37 +1,32 @@
 //! What shows that the node of a turn was behind the one before it.
-ghost use Rattle.std.specs.Prelude.{◌≡◌, ◌-◌, ◌<◌, ◌≤◌, ◌+◌, IfOk, IfSome, find, length, map, option_map, slice_get};
-ghost use Rattle.std.specs.Option.{option_copied};
-ghost use Rattle.aud_node.specs.Lists.{numbers_from};
+ghost use Rattle.std.specs.Prelude.{◌≡◌, ◌≤◌, [], IfSome, option_map};
 ghost use Rattle.aud_rows.specs.Seen.{row_seen};
 ghost use Rattle.aud_rows.specs.TrueRow.{IsTrueRow};
-ghost use Rattle.aud_shown.specs.RowLists.{AreTrueRows};
-ghost use Rattle.aud_findings.specs.Behind.{begun_row, behind_rows, behind_rows_at, broken_row, first_behind, is_behind, is_behind_at};
+ghost use Rattle.aud_shown.specs.RowLists.{row_and};
+ghost use Rattle.aud_findings.specs.Behind.{begun_row, behind_rows, broken_row, first_behind, is_behind_at};
 
 use aud_cert::{Turn, turn_place};
 use aud_rows::{Row, Sheet};
-use aud_shown::push_row;
-use std::alloc::{AllocError, Global};
 
 /// The rows of the `break` and the `back` of the first turn that began behind the one before it, with the position
 /// between; none where no turn did.
-pub(crate) fn behind_rows<'r>(
-    alloc: Global,
+pub(crate) fn behind<'r>(
     sheet: &Sheet<'r, '_>,
     turns: &[Turn<'_>],
     position: u64,
-) -> Result<Vec<Row<'r>>, AllocError>
-    ensures rows { IfOk result (λ rows. map row_seen rows.items
-        ≡ behind_rows sheet.now.recording.now sheet.now.lines.now turns.now position) }
-    ensures truth { IfOk result (λ rows.
-        AreTrueRows sheet.now.recording.now sheet.now.lines.now rows.items) }
+) -> (Option<Row<'r>>, Option<Row<'r>>)
+    ensures rows { row_and (option_map row_seen result.0) (row_and (option_map row_seen result.1) [])
+        ≡ behind_rows sheet.now.recording.now sheet.now.lines.now turns.now position }
+    ensures first { IfSome result.0 (IsTrueRow sheet.now.recording.now sheet.now.lines.now) }
+    ensures second { IfSome result.1 (IsTrueRow sheet.now.recording.now sheet.now.lines.now) }
 {
-    let mut rows = Vec::new(alloc);
-    let Some(number) = first_behind(turns, position) else {
-        return Ok(rows);
-    };
-    push_row(&mut rows, broken_row(sheet, turns, number - 1))?;
-    push_row(&mut rows, begun_row(sheet, turns, number))?;
-    Ok(rows)
+    match first_behind(turns, position) {
+        Some(number) => (
+            broken_row(sheet, turns, number - 1),
+            begun_row(sheet, turns, number),
+        ),
+        None => (None, None),
+    }
 }
 
 /// The number of that turn.
@@ -52,13 +47,7 @@ fn is_behind_at(turns: &[Turn<'_>], position: u64, number: usize) -> bool
     requires { 1 ≤ number }
     ensures { result ≡ is_behind_at position turns.now number }
 {
-    is_behind(turns.get(number - 1), turns.get(number), position)
-}
-
-fn is_behind(before: Option<&Turn<'_>>, next: Option<&Turn<'_>>, position: u64) -> bool
-    ensures { result ≡ is_behind position (option_copied before.entry) (option_copied next.entry) }
-{
-    match (before, next) {
+    match (turns.get(number - 1), turns.get(number)) {
         (Some(before), Some(next)) => position <= before.high && next.low < position,
         _ => false,
     }

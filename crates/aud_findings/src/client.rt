@@ -1,9 +1,8 @@
 //! The client that had a session.
 ghost use Rattle.std.specs.Prelude.{◌≡◌, IfOk, map, option_map, slice_get};
 ghost use Rattle.std.specs.Option.{option_copied};
-ghost use Rattle.aud_client.specs.Replies.{naming_places};
 ghost use Rattle.aud_rows.specs.Seen.{row_seen, says_seen};
-ghost use Rattle.aud_findings.specs.ClientShown.{client_at, client_of, client_seen, conn_in, fault_conn, first_stay, is_fault, only_of};
+ghost use Rattle.aud_findings.specs.ClientShown.{client_at, client_of, client_seen, conn_in, fault_conn, first_stay};
 
 use aud_client::{Recording, Stay};
 use aud_explanation::Client;
@@ -21,9 +20,9 @@ pub(crate) fn client_of<'r>(
     ensures { IfOk result (λ client. option_map client_seen client
         ≡ client_of sheet.now.recording.now pid.now (map row_seen rows.now)) }
 {
-    match only_of(sheet.recording.naming(pid)) {
-        Some(place) => client_at(alloc, sheet, pid, rows, place),
-        None => Ok(None),
+    match sheet.recording.naming(pid) {
+        [place] => client_at(alloc, sheet, pid, rows, *place),
+        _ => Ok(None),
     }
 }
 
@@ -49,17 +48,6 @@ fn client_at<'r>(
         nsp: stay.nsp,
         conn: fault_conn(rows),
     }))
-}
-
-/// The only place, if there is one alone.
-#[tactic(auto, using(crate::proofs::Only::only_one, crate::proofs::Only::only_none))]
-fn only_of(places: &[usize]) -> Option<usize>
-    ensures { result ≡ only_of places.now }
-{
-    if places.len() != 1 {
-        return None;
-    }
-    Some(places[0])
 }
 
 /// The first stay of the client's tap at this place whose reply names the session, borrowed.
@@ -92,20 +80,11 @@ fn fault_conn(rows: &[Row<'_>]) -> Option<u64>
     ensures { result ≡ fault_conn (map row_seen rows.now) }
 {
     for row in rows {
-        if is_fault(row.role) {
+        if matches!(row.role, Role::Fault) {
             return conn_in(row.says);
         }
     }
     None
-}
-
-fn is_fault(role: Role) -> bool
-    ensures { result ≡ is_fault role }
-{
-    match role {
-        Role::Fault => true,
-        _ => false,
-    }
 }
 
 /// The connection that a client's record is of.

@@ -25,10 +25,8 @@ mod client;
 mod delivery;
 mod evidence;
 mod finding;
-mod in_client;
 mod others;
 mod rooms;
-mod seen;
 mod tail;
 
 pub use aud_recording_faults::{Prepared, PreparedTap};

@@ -1,14 +1,22 @@
 //! Which other entries have the same fault.
-ghost use Rattle.std.specs.Prelude.{◌≡◌, ℕ, List, IfOk, filter};
-ghost use Rattle.aud_findings.specs.Also.{is_also, is_again, is_passed, others};
+ghost use Rattle.std.specs.Prelude.{◌≡◌, ◌&&◌, ℕ, List, IfOk, OnOk, cond, filter, nat_eq, true};
+ghost use Rattle.std.specs.HashSet as hash;
+ghost use Rattle.aud_findings.specs.Also.{is_also, others};
 ghost use Rattle.aud_findings.specs.Received.{greatest};
 ghost use Rattle.aud_findings.specs.Private.Seen.{AreSeen};
 
 use crate::account::greatest;
-use crate::seen::{Seen, seen_in};
 use aud_evidence::Difference;
 use std::alloc::{AllocError, Global};
+use std::collections::HashSet;
 use std::hash::RandomState;
+
+/// The positions that were received, and those of them that were received again.
+#[derive(Drop)]
+pub(crate) struct Seen {
+    pub once: HashSet<u64, RandomState>,
+    pub twice: HashSet<u64, RandomState>,
+}
 
 /// The first hundred of those due that have the fault of the difference too, ascending, but for the one that it is
 /// about: of one that came twice those that came twice, of one that was lost those that were passed over; none of
@@ -57,22 +65,43 @@ fn is_also(seen: &Seen, last: u64, difference: Difference, position: u64) -> boo
         Difference::Doubled {
             position: first,
             ..
-        } => is_again(seen, position) && position != first,
-        Difference::Lost { due, .. } => is_passed(seen, last, position) && position != due,
+        } => seen.twice.contains(&position) && position != first,
+        Difference::Lost { due, .. } => {
+            !seen.once.contains(&position) && position < last && position != due
+        }
         _ => false,
     }
 }
 
-fn is_again(seen: &Seen, position: u64) -> bool
-    ensures { (received : List ℕ) → AreSeen received seen.now
-        → result ≡ is_again received position }
+/// Those of these positions, which are hashed with these keys.
+fn seen_in(alloc: Global, keys: RandomState, positions: &[u64]) -> Result<Seen, AllocError>
+    ensures { IfOk result (AreSeen positions.now) }
 {
-    seen.twice.contains(&position)
+    let mut once = HashSet::with_hasher(alloc, keys);
+    let mut twice = HashSet::with_hasher(alloc, keys);
+    for position in positions {
+        note(&mut once, &mut twice, *position)?;
+    }
+    Ok(Seen { once, twice })
 }
 
-fn is_passed(seen: &Seen, last: u64, position: u64) -> bool
-    ensures { (received : List ℕ) → AreSeen received seen.now → last ≡ greatest received
-        → result ≡ is_passed received position }
+/// The position was received.
+fn note(
+    once: &mut HashSet<u64, RandomState>,
+    twice: &mut HashSet<u64, RandomState>,
+    position: u64,
+) -> Result<(), AllocError>
+    ensures once { OnOk result ((q : ℕ)
+        → hash.contains nat_eq once.new q
+        ≡ cond (nat_eq position q) true (hash.contains nat_eq once.old q)) }
+    ensures twice { OnOk result ((q : ℕ)
+        → hash.contains nat_eq twice.new q
+        ≡ cond (nat_eq position q && hash.contains nat_eq once.old q) true
+        (hash.contains nat_eq twice.old q)) }
 {
-    !seen.once.contains(&position) && position < last
+    if once.insert(position)? {
+        return Ok(());
+    }
+    twice.insert(position)?;
+    Ok(())
 }

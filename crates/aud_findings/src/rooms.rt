@@ -1,152 +1,83 @@
 //! The changes of rooms that decide whether an entry was due to a session.
-ghost use Rattle.std.specs.Prelude.{◌≡◌, [], ◌∷◌, IfSome, map, option_map, Some, true};
-ghost use Rattle.std.specs.Option.{option_and_then, option_copied};
+ghost use Rattle.std.specs.Prelude.{◌≡◌, map, option_map};
+ghost use Rattle.std.specs.List.{find};
+ghost use Rattle.std.specs.Option.{option_copied};
 ghost use Rattle.aud_node.specs.Stream.{entry};
 ghost use Rattle.aud_cert.specs.Certificate.{turn_at};
 ghost use Rattle.aud_maker.specs.Made.{IsMade};
-ghost use Rattle.aud_rows.specs.Seen.{row_seen};
-ghost use Rattle.aud_rows.specs.TrueRow.{IsTrueRow};
 ghost use Rattle.aud_reach.specs.NotDue.{reason_of};
-ghost use Rattle.aud_findings.specs.RoomRows.{cert_row, change_in, due_row, first_change, left_after, left_between, left_row, not_due_row, not_due_row_for, only_if, reach_of, room_row, rooms_in, turn_end};
+ghost use Rattle.aud_findings.specs.RoomChanges.{change_for, change_in, is_changed, left_change, not_due_change, only_if, reach_of, room_change, rooms_in, turn_end};
 
 use aud_cert::{Certificate, Turn, turn_place};
 use aud_node::Logs;
 use aud_reach::{NotDue, Reach, RoomChange, first_reach, last_change_of, why_not_due};
-use aud_rows::{Role, Row, Sheet};
 use aud_tap::{StreamRec, Text};
 
-/// Why the entry at the position was due to the session: the row of the last join of the first of its rooms that the
-/// session had joined, and not left since.
-pub(crate) fn due_row<'r>(
-    sheet: &Sheet<'r, '_>,
+/// The last change, a join or a leave as asked for, of the first of the rooms of the entry at the position that has one
+/// before the session first reached the entry.
+pub(crate) fn room_change(
+    logs: &Logs<'_>,
     cert: &Certificate<'_>,
+    joined: bool,
     position: u64,
-) -> Option<Row<'r>>
-    ensures row { option_map row_seen result
-        ≡ due_row sheet.now.recording.now sheet.now.lines.now cert.now position }
-    ensures truth { IfSome result (IsTrueRow sheet.now.recording.now sheet.now.lines.now) }
+) -> Option<RoomChange>
+    ensures { result ≡ room_change logs.now cert.now joined position }
 {
-    let rooms = rooms_at(sheet.recording.logs(), position);
-    rooms_row(sheet, cert, true, rooms, position)
+    let reach = reach_of(logs, cert.turns.as_slice(), position)?;
+    let room = first_room(logs, cert, reach, joined, rooms_at(logs, position))?;
+    change_in(logs, cert, reach, joined, room)
 }
 
-/// How the session came to hold that room no more: the row of its last leave before the end of the turn in which the
-/// session first reached the entry; none where it held the room to that end.
-pub(crate) fn left_row<'r>(
-    sheet: &Sheet<'r, '_>,
+/// How the session came to hold the first of those rooms that it had joined no more: its last leave before the end of
+/// the turn in which the session first reached the entry; none where it held the room to that end.
+pub(crate) fn left_change(
+    logs: &Logs<'_>,
     cert: &Certificate<'_>,
     position: u64,
-) -> Option<Row<'r>>
-    ensures row { option_map row_seen result
-        ≡ left_row sheet.now.recording.now sheet.now.lines.now cert.now position }
-    ensures truth { IfSome result (IsTrueRow sheet.now.recording.now sheet.now.lines.now) }
+) -> Option<RoomChange>
+    ensures { result ≡ left_change logs.now cert.now position }
 {
-    let logs = sheet.recording.logs();
     let turns = cert.turns.as_slice();
     let reach = reach_of(logs, turns, position)?;
-    let change = left_after(
-        logs,
-        cert.pid.as_str(),
-        turns,
-        rooms_at(logs, position),
-        reach,
-    )?;
-    sheet.node_row(change.node, change.number, Role::Left)
+    let room = first_room(logs, cert, reach, true, rooms_at(logs, position))?;
+    let end = turn_end(logs, turns, reach)?;
+    change_in(logs, cert, end, false, room)
 }
 
-/// Why the entry at the position was not due to the session: the row of the last leave of the first of its rooms that
-/// the session had left, where it held none of them, or of the join of the room that it excepts; none for another
-/// reason.
-pub(crate) fn not_due_row<'r>(
-    sheet: &Sheet<'r, '_>,
+/// Why the entry at the position was not due to the session: the last leave of the first of its rooms that the session
+/// had left, where it held none of them, or the join of the room that it excepts; none for another reason.
+pub(crate) fn not_due_change(
+    logs: &Logs<'_>,
     cert: &Certificate<'_>,
     position: u64,
-) -> Option<Row<'r>>
-    requires { IsMade sheet.now.recording.now cert.now.pid cert.now }
-    ensures row { (made : IsMade sheet.now.recording.now cert.now.pid cert.now)
-        → option_map row_seen result
-        ≡ not_due_row sheet.now.recording.now sheet.now.lines.now cert.now made position }
-    ensures truth { IfSome result (IsTrueRow sheet.now.recording.now sheet.now.lines.now) }
+) -> Option<RoomChange>
+    requires { IsMade logs.now cert.now.pid cert.now }
+    ensures { (made : IsMade logs.now cert.now.pid cert.now)
+        → result ≡ not_due_change logs.now cert.now made position }
 {
-    let why = why_not_due(sheet.recording.logs(), cert, position);
-    row_for(sheet, cert, position, why)
-}
-
-/// The same for this reason, if there is one.
-fn row_for<'r>(
-    sheet: &Sheet<'r, '_>,
-    cert: &Certificate<'_>,
-    position: u64,
-    why: Option<NotDue<'_>>,
-) -> Option<Row<'r>>
-    ensures row { option_map row_seen result
-        ≡ not_due_row_for sheet.now.recording.now sheet.now.lines.now cert.now position
-        (option_map reason_of why.entry) }
-    ensures truth { IfSome result (IsTrueRow sheet.now.recording.now sheet.now.lines.now) }
-{
-    match why {
-        Some(why) => row_for_reason(sheet, cert, position, why),
+    match why_not_due(logs, cert, position) {
+        Some(why) => change_for(logs, cert, position, why),
         None => None,
     }
 }
 
-fn row_for_reason<'r>(
-    sheet: &Sheet<'r, '_>,
+/// The same for this reason.
+fn change_for(
+    logs: &Logs<'_>,
     cert: &Certificate<'_>,
     position: u64,
     why: NotDue<'_>,
-) -> Option<Row<'r>>
-    ensures row { option_map row_seen result
-        ≡ not_due_row_for sheet.now.recording.now sheet.now.lines.now cert.now position
-        (Some (reason_of why.entry)) }
-    ensures truth { IfSome result (IsTrueRow sheet.now.recording.now sheet.now.lines.now) }
+) -> Option<RoomChange>
+    ensures { result ≡ change_for logs.now cert.now position (reason_of why.entry) }
 {
     match why {
-        NotDue::NoCommonRoom => {
-            let rooms = rooms_at(sheet.recording.logs(), position);
-            rooms_row(sheet, cert, false, rooms, position)
+        NotDue::NoCommonRoom => room_change(logs, cert, false, position),
+        NotDue::Excepted { room } => {
+            let reach = reach_of(logs, cert.turns.as_slice(), position)?;
+            change_in(logs, cert, reach, true, room)
         }
-        NotDue::Excepted { room } => one_room_row(sheet, cert, room, position),
         _ => None,
     }
-}
-
-/// The row of the last change, a join or a leave as asked for, of the first of these rooms that has one.
-fn rooms_row<'r>(
-    sheet: &Sheet<'r, '_>,
-    cert: &Certificate<'_>,
-    joined: bool,
-    rooms: &[Text],
-    position: u64,
-) -> Option<Row<'r>>
-    ensures row { option_map row_seen result
-        ≡ cert_row sheet.now.recording.now sheet.now.lines.now cert.now joined rooms.now position }
-    ensures truth { IfSome result (IsTrueRow sheet.now.recording.now sheet.now.lines.now) }
-{
-    let logs = sheet.recording.logs();
-    let turns = cert.turns.as_slice();
-    let reach = reach_of(logs, turns, position)?;
-    let change = first_change(logs, cert.pid.as_str(), turns, reach, joined, rooms)?;
-    sheet.node_row(change.node, change.number, Role::Room)
-}
-
-/// The row of the last change of this room, where that is a join.
-fn one_room_row<'r>(
-    sheet: &Sheet<'r, '_>,
-    cert: &Certificate<'_>,
-    room: &str,
-    position: u64,
-) -> Option<Row<'r>>
-    ensures row { option_map row_seen result
-        ≡ cert_row sheet.now.recording.now sheet.now.lines.now cert.now true
-        (room.now ∷ []) position }
-    ensures truth { IfSome result (IsTrueRow sheet.now.recording.now sheet.now.lines.now) }
-{
-    let logs = sheet.recording.logs();
-    let turns = cert.turns.as_slice();
-    let reach = reach_of(logs, turns, position)?;
-    let change = change_in(logs, cert.pid.as_str(), turns, reach, true, room)?;
-    sheet.node_row(change.node, change.number, Role::Room)
 }
 
 /// Where the session of these turns first reached the position.
@@ -156,93 +87,47 @@ pub(crate) fn reach_of(logs: &Logs<'_>, turns: &[Turn<'_>], position: u64) -> Op
     first_reach(logs, turns, position)
 }
 
-/// The last change before the reach, a join or a leave as asked for, of the first of these rooms that has one.
-fn first_change(
-    logs: &Logs<'_>,
-    pid: &str,
-    turns: &[Turn<'_>],
-    reach: Reach,
-    joined: bool,
-    rooms: &[Text],
-) -> Option<RoomChange>
-    ensures { result ≡ first_change logs.now pid.now
-        (map (turn_at logs.now) turns.now) reach joined rooms.now }
-{
-    for room in rooms {
-        if let Some(change) = change_in(logs, pid, turns, reach, joined, room.as_str()) {
-            return Some(change);
-        }
-    }
-    None
-}
-
-/// Of the first of these rooms that was held by a join at the reach, the last change before the end of the reach's
-/// turn, if it is a leave.
-fn left_after(
-    logs: &Logs<'_>,
-    pid: &str,
-    turns: &[Turn<'_>],
-    rooms: &[Text],
-    reach: Reach,
-) -> Option<RoomChange>
-    ensures { result ≡ left_after logs.now pid.now
-        (map (turn_at logs.now) turns.now) rooms.now reach }
-{
-    left_between(
-        logs,
-        pid,
-        turns,
-        reach,
-        turn_end(logs, turns, reach)?,
-        rooms,
-    )
-}
-
-/// The same before this end.
-fn left_between(
-    logs: &Logs<'_>,
-    pid: &str,
-    turns: &[Turn<'_>],
-    reach: Reach,
-    end: Reach,
-    rooms: &[Text],
-) -> Option<RoomChange>
-    ensures { result ≡ left_between logs.now pid.now
-        (map (turn_at logs.now) turns.now) reach end rooms.now }
-{
-    for room in rooms {
-        if change_in(logs, pid, turns, reach, true, room.as_str()).is_some() {
-            return change_in(logs, pid, turns, end, false, room.as_str());
-        }
-    }
-    None
-}
-
 /// The end of the turn in which the position was reached: after the turn's last record.
 fn turn_end(logs: &Logs<'_>, turns: &[Turn<'_>], reach: Reach) -> Option<Reach>
     ensures { result ≡ turn_end (map (turn_at logs.now) turns.now) reach }
 {
     let place = turn_place(logs, turns.get(reach.turn)?);
     Some(Reach {
-        turn: reach.turn,
-        node: reach.node,
         number: place.to,
+        ..reach
     })
 }
 
-/// That of one room, before the reach.
+/// The first of these rooms whose last change before the reach is a join or a leave as asked for.
+fn first_room<'e>(
+    logs: &Logs<'_>,
+    cert: &Certificate<'_>,
+    reach: Reach,
+    joined: bool,
+    rooms: &'e [Text],
+) -> Option<&'e str>
+    ensures { option_map (λ room. room.now) result
+        ≡ find (is_changed logs.now cert.now reach joined) rooms.now }
+{
+    for room in rooms {
+        if change_in(logs, cert, reach, joined, room.as_str()).is_some() {
+            return Some(room.as_str());
+        }
+    }
+    None
+}
+
+/// The last change of the room before the reach, where it is a join or a leave as asked for.
 fn change_in(
     logs: &Logs<'_>,
-    pid: &str,
-    turns: &[Turn<'_>],
+    cert: &Certificate<'_>,
     reach: Reach,
     joined: bool,
     room: &str,
 ) -> Option<RoomChange>
-    ensures { result ≡ change_in logs.now pid.now
-        (map (turn_at logs.now) turns.now) reach joined room.now }
+    ensures { result ≡ change_in logs.now cert.now reach joined room.now }
 {
-    match last_change_of(logs, pid, turns, reach, room) {
+    match last_change_of(logs, cert.pid.as_str(), cert.turns.as_slice(), reach, room) {
         Some(change) => only_if(joined, change),
         None => None,
     }
@@ -252,10 +137,10 @@ fn change_in(
 fn only_if(joined: bool, change: RoomChange) -> Option<RoomChange>
     ensures { result ≡ only_if joined change }
 {
-    if joined {
-        if change.joined { Some(change) } else { None }
+    if change.joined == joined {
+        Some(change)
     } else {
-        if change.joined { None } else { Some(change) }
+        None
     }
 }
 

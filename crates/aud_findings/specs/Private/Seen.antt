@@ -1,7 +1,7 @@
 -- Which positions were received, and which of them again.
 use Rattle.std.specs.Prelude.{◌≡◌, ℕ, List, nat_eq, nat_lt}
 use Rattle.std.specs.HashSet as hash
-use Rattle.aud_findings.specs.declared.seen.Seen.{Seen}
+use Rattle.aud_findings.specs.declared.others.Seen.{Seen}
 use Rattle.aud_findings.specs.Also.{times}
 
 -- these are of these positions those that stand among them, and those that stand there again

@@ -5,7 +5,7 @@ use Rattle.aud_merge.specs.ByTurns.{IsPrefixOf}
 use Rattle.aud_evidence.specs.Difference.{IsAscending, IsDifference}
 use Rattle.aud_evidence.specs.Window.{positions_received}
 use Rattle.aud_findings.specs.Also.{AreAlso, also_at, also_seen}
-use Rattle.aud_findings.proofs.AlsoLemmas.{none_also, some_also}
+use Rattle.aud_findings.proofs.ByAccount.{none_also, some_also}
 use Rattle.aud_findings.proofs.also.also_of.Goals as goal
 
 pub returns-in_default : goal.returns-in_default

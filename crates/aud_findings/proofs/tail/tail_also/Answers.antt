@@ -4,7 +4,7 @@ use Rattle.aud_client.specs.declared.stay.Stay.{Stay}
 use Rattle.aud_evidence.specs.Window.{positions_received}
 use Rattle.aud_findings.specs.Also.{also_seen, entry_also}
 use Rattle.aud_findings.specs.Received.{tail_positions}
-use Rattle.aud_findings.proofs.TailLemmas.{after-first, tail-also}
+use Rattle.aud_findings.proofs.ByAccount.{after-first, tail-also}
 use Rattle.aud_findings.proofs.tail.tail_also.Goals as goal
 
 pub returns : goal.returns
@@ -12,12 +12,12 @@ returns c pid account =
     let here = c.args.sheet.now.recording.now in
     let lines = c.args.sheet.now.lines.now in
     let a = c.args.account.now in
-    let received = c.as_slice-received.result.now in
-    let owed = c.as_slice-due.result.now in
+    let received = c.as_slice-2.result.now in
+    let owed = c.as_slice-3.result.now in
     let received_is : received ≡ positions_received (map (λ stay. stay.now) a.stays.items) =
-    c.as_slice-received.ensures.value ∙ c.in_ok-got.ensures ∙ ap (λ (stays : _). positions_received (map (λ (stay : Bor Stay). stay.now) stays)) c.as_slice-stays.ensures.value in
+    c.as_slice-2.ensures.value ∙ c.in_ok-got.ensures ∙ ap (λ (stays : _). positions_received (map (λ (stay : Bor Stay). stay.now) stays)) c.as_slice.ensures.value in
     IfOk-weaker c.entries_also.result _ _ (λ also h.
-    tail-also here lines pid a.client (map (λ stay. stay.now) a.stays.items) a.due.items account received owed received_is c.as_slice-due.ensures.value
+    tail-also here lines pid a.client (map (λ stay. stay.now) a.stays.items) a.due.items account received owed received_is c.as_slice-3.ensures.value
     (map also_seen also.items)
     (h ∙ ap (map (entry_also here lines))
-    (c.after_first-others.ensures ∙ ap (drop 1) (c.as_slice-found.ensures.value ∙ c.in_ok-tail.ensures) ∙ after-first (tail_positions received owed)))) c.entries_also.ensures
+    (c.after_first.ensures ∙ ap (drop 1) (c.as_slice-4.ensures.value ∙ c.in_ok-tail.ensures) ∙ after-first (tail_positions received owed)))) c.entries_also.ensures

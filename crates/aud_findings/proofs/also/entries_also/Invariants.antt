@@ -1,6 +1,6 @@
 use Rattle.std.proofs.Common.{◌≡◌, map, take}
 use Rattle.aud_findings.specs.Also.{also_seen, entry_also}
-use Rattle.aud_findings.proofs.tail.entries_also.Given as goal
+use Rattle.aud_findings.proofs.also.entries_also.Given as goal
 
 -- the entries so far
 abbrev pub invariant-loop-position : goal.invariant-loop-position

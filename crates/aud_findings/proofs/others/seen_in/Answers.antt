@@ -2,7 +2,7 @@ use Rattle.std.proofs.Common.{◌+◌, ◌∙◌, ap, get_or, nat_eq, nat_lt, ta
 use Rattle.std.proofs.lemmas.List.{take_all}
 use Rattle.aud_findings.specs.Also.{times}
 use Rattle.aud_findings.proofs.Counts.{times_more, once_step, twice_step}
-use Rattle.aud_findings.proofs.seen.seen_in.Goals as goal
+use Rattle.aud_findings.proofs.others.seen_in.Goals as goal
 
 pub loop-position-preserved : goal.loop-position-preserved
 loop-position-preserved c =

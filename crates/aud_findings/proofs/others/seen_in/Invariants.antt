@@ -1,7 +1,7 @@
 use Rattle.std.proofs.Common.{◌≡◌, ℕ, nat_eq, nat_lt, take}
 use Rattle.std.specs.HashSet as hash
 use Rattle.aud_findings.specs.Also.{times}
-use Rattle.aud_findings.proofs.seen.seen_in.Given as goal
+use Rattle.aud_findings.proofs.others.seen_in.Given as goal
 
 -- those of the positions so far
 abbrev pub invariant-loop-position : goal.invariant-loop-position

@@ -1,0 +1,8 @@
+use Rattle.std.proofs.Common.{◌≡◌, map, take}
+use Rattle.aud_findings.specs.Also.{also_seen, frames_also}
+use Rattle.aud_findings.proofs.also.frames_also.Given as goal
+
+-- the entries so far
+abbrev pub invariant-loop-position : goal.invariant-loop-position
+invariant-loop-position l =
+    map also_seen l.also.items ≡ map (frames_also l.sheet.recording.now l.sheet.lines.now l.tap.place l.numbers l.received) (take l.position-index l.positions)
