@@ -1,6 +1,6 @@
 -- The runs of each tap have the lines that begin with its name: file after file.
 use Rattle.std.proofs.Common.{◌≡◌, ℕ, suc, ◌+◌, ◌≤◌, List, [], ◌∷◌, ◌++◌, length, get_or, false, Some, None, refl, sym, ap, ◌∙◌, subst, arith, append_assoc, append-nil, length-append}
-use Rattle.std.specs.List.{filter_map, flat_map}
+use Rattle.std.specs.List.{All, AllByRecursion, filter_map, flat_map}
 use Rattle.std.proofs.lemmas.List.{get_or_at}
 use Rattle.std.proofs.lemmas.Option.{none-some, slice_get-get_or}
 use Rattle.aud_base.proofs.FirstTexts.{first-texts}
@@ -8,7 +8,7 @@ use Rattle.aud_reader.specs.declared.line.Line.{Line}
 use Rattle.aud_reader.specs.Lines.{has_newline, line_pieces}
 use Rattle.aud_reader.proofs.LinesLemmas.{pieces_of-last}
 use Rattle.aud_parts.specs.declared.tap_index.tap_runs.Run.{Run}
-use Rattle.aud_parts.specs.TapRuns.{line_with_bytes, lines_with_bytes, runs_lines}
+use Rattle.aud_parts.specs.TapRuns.{BeginsWithBytes, TapRuns, line_with_bytes, lines_with_bytes, runs_lines}
 use Rattle.aud_parts.specs.FileLines.{AreTapsOf, before_refusal, file_lines, front_refusal}
 use Rattle.aud_parts.specs.IndexSoFar.{Indexed, PlacedLine, all_ended, none_indexed, placed_files, placed_lines, with_line, with_lines}
 use Rattle.aud_parts.proofs.NotedLemmas.{last_run, runs_by, runs_by-at}
@@ -153,7 +153,7 @@ tells-files front (bytes ∷ files) lines x n at =
 begins : (files : List (List ℕ)) → At files [] none_indexed 0 [] 1
 unfolding runs_by last_run
 begins files = record {
-  holds = record { names = refl; runs = λ name. refl; once = λ place tap at. absurd (none-some tap at) };
+  holds = record { names = refl; runs = λ name. refl; begun = λ name. tt; once = λ place tap at. absurd (none-some tap at) };
   fault = refl;
   last = λ free run at. absurd (none-some run at);
 }
@@ -173,6 +173,15 @@ are-taps files =
           let at = slice_get-get_or taps i tap within in
           ap (runs_lines files) (sym (runs_by-at own.name taps i own ((t.holds).once i own at) at)) ∙ (t.holds).runs own.name;
     }
+
+-- each run of them begins with a line
+pub begun-taps : (files : List (List ℕ)) → All (λ (tap : TapRuns). AllByRecursion (BeginsWithBytes files) tap.runs) (with_lines none_indexed (placed_files 0 1 files)).noted.taps
+begun-taps files = λ i tap within.
+    let t = tells files in
+    let taps = (with_lines none_indexed (placed_files 0 1 files)).noted.taps in
+    let own = get_or taps i tap in
+    let at = slice_get-get_or taps i tap within in
+    subst (AllByRecursion (BeginsWithBytes files)) (runs_by-at own.name taps i own ((t.holds).once i own at) at) ((t.holds).begun own.name)
 
 -- the refusal of an index that has read the files
 pub is-refusal : (files : List (List ℕ)) → (with_lines none_indexed (placed_files 0 1 files)).fault ≡ front_refusal (file_lines files)

@@ -29,3 +29,10 @@ pub mod FileRunLemmas
 pub mod IndexLemmas
 pub mod LookLemmas
 pub mod MergedLinesLemmas
+pub mod RunLinesLemmas
+pub mod TapReadingLemmas
+pub mod RunStartLemmas
+pub mod MayBeReadLemmas
+pub mod FoundLemmas
+pub mod PushedLines
+pub mod ServerTextLemmas

@@ -1,7 +1,7 @@
 -- The runs of each tap have the lines that begin with its name: one line more.
 use Rattle.std.proofs.Common.{◌≡◌, ℕ, zero, suc, ◌+◌, ◌<◌, ◌≤◌, nat_lt, List, [], ◌∷◌, ◌++◌, length, map, get_or, Bool, true, false, cond, ◌⊎◌, inl, inr, Option, Some, None, is_some, slice_get, bytes_eq, refl, sym, ap, ◌∙◌, subst, arith, append_assoc, append-nil, length-append}
-use Rattle.std.specs.List.{cons_option, filter, filter_map, flat_map}
-use Rattle.std.specs.Option.{option_and_then, option_map_or}
+use Rattle.std.specs.List.{AllByRecursion, cons_option, filter, filter_map, flat_map}
+use Rattle.std.specs.Option.{option_and_then, option_map, option_map_or}
 use Rattle.std.proofs.lemmas.Bool.{cases_Bool}
 use Rattle.std.proofs.lemmas.List.{flat_map_more, get_or_at}
 use Rattle.std.proofs.lemmas.List.Elements.{filter-append, filter_map-append}
@@ -21,7 +21,7 @@ use Rattle.aud_reader.proofs.LinesLemmas.{pieces_of-last}
 use Rattle.aud_input.specs.LineName.{name_of}
 use Rattle.aud_input.proofs.ReturnLemmas.{name-without_return}
 use Rattle.aud_parts.specs.declared.tap_index.tap_runs.Run.{Run}
-use Rattle.aud_parts.specs.TapRuns.{TapRuns, line_with_bytes, lines_with_bytes, run_bytes, run_lines, runs_lines}
+use Rattle.aud_parts.specs.TapRuns.{BeginsWithBytes, TapRuns, line_with_bytes, lines_with_bytes, run_bytes, run_lines, runs_lines}
 use Rattle.aud_parts.specs.FileLines.{AreTapsOf, before_refusal, file_lines, front_code, front_refusal, is_named, lines_named, names_of, refused_or}
 use Rattle.aud_parts.specs.IndexSoFar.{AreOnce, Indexed, Noted, PlacedLine, all_ended, longer, noted, none_indexed, place_in, placed_files, placed_lines, refused, run_of, with_bytes, with_line, with_lines, with_name}
 use Rattle.aud_parts.proofs.NotedLemmas.{GoesOn, Grows, grows, last_of, last_of-push, last_run, longer-is, runs_by, runs_by-at}
@@ -36,6 +36,7 @@ name_in line = name_of line.bytes
 pub record Holds (files : List (List ℕ)) (lines : List Line) (s : Noted) : Type 0 where
   pub names : map (λ (t : TapRuns). t.name) s.taps ≡ with_texts [] (filter_map name_in lines)
   pub runs : (name : List ℕ) → runs_lines files (runs_by name s.taps) ≡ lines_named name lines
+  pub begun : (name : List ℕ) → AllByRecursion (BeginsWithBytes files) (runs_by name s.taps)
   pub once : AreOnce s.taps
 
 -- the lines from the run's first one on are those that end before here, and after the run's last one come none with bytes
@@ -74,6 +75,38 @@ runs-longer files goes_on line runs l own more = go (longer-is goes_on line runs
         ∙ ap (λ ls. runs_lines files g.front ++ ls) (more g.run g.may g.last g.in_file)
         ∙ sym (append_assoc (runs_lines files g.front) (run_lines files g.run) (l ∷ []))
         ∙ ap (λ ls. ls ++ l ∷ []) (flat_map_more (run_lines files) [] g.front g.run ∙ ap (runs_lines files) (sym g.are))
+
+-- each run begins with a line, also with a line more
+begun-more : (files : List (List ℕ)) (run more : Run) (l : Line) → more.number ≡ run.number → run_lines files more ≡ run_lines files run ++ l ∷ [] → BeginsWithBytes files run
+    → BeginsWithBytes files more
+begun-more files run more l same is begins = go (run_lines files run) is begins
+  where
+    go : (lines : List Line) → run_lines files more ≡ lines ++ l ∷ [] → option_map (λ (line : Line). line.number) (slice_get lines 0) ≡ Some run.number → BeginsWithBytes files more
+    go [] is at = absurd (none-some run.number at)
+    go (x ∷ lines) is at = ap (λ ls. option_map (λ (line : Line). line.number) (slice_get ls 0)) is ∙ at ∙ ap Some (sym same)
+
+all-push : {X : Type 0} (P : X → Type 0) (xs : List X) (x : X) → AllByRecursion P xs → P x → AllByRecursion P (xs ++ x ∷ [])
+all-push P [] x all own = (own, tt)
+all-push P (y ∷ ys) x all own = (all.0, all-push P ys x all.1 own)
+
+all-front : {X : Type 0} (P : X → Type 0) (xs : List X) (x : X) → AllByRecursion P (xs ++ x ∷ []) → AllByRecursion P xs × P x
+all-front P [] x all = (tt, all.0)
+all-front P (y ∷ ys) x all = let rest = all-front P ys x all.1 in ((all.0, rest.0), rest.1)
+
+begun-longer : (files : List (List ℕ)) (goes_on : Bool) (line : Run) (runs : List Run) (l : Line) → run_lines files line ≡ l ∷ [] → l.number ≡ line.number
+    → ((run : Run) → goes_on ≡ true → last_of runs ≡ Some run → run.file ≡ line.file → run_lines files (record run { to = line.to }) ≡ run_lines files run ++ l ∷ [])
+    → AllByRecursion (BeginsWithBytes files) runs → AllByRecursion (BeginsWithBytes files) (longer goes_on line runs)
+begun-longer files goes_on line runs l own numbered more all = go (longer-is goes_on line runs)
+  where
+    go : (longer goes_on line runs ≡ runs ++ line ∷ []) ⊎ GoesOn goes_on line runs → AllByRecursion (BeginsWithBytes files) (longer goes_on line runs)
+    go (inl e) =
+        subst (AllByRecursion (BeginsWithBytes files)) (sym e)
+        (all-push (BeginsWithBytes files) runs line all (ap (λ ls. option_map (λ (line : Line). line.number) (slice_get ls 0)) own ∙ ap Some numbered))
+    go (inr g) =
+        let parts = all-front (BeginsWithBytes files) g.front g.run (subst (AllByRecursion (BeginsWithBytes files)) g.are all) in
+        subst (AllByRecursion (BeginsWithBytes files)) (sym g.with_line)
+        (all-push (BeginsWithBytes files) g.front (record g.run { to = line.to }) parts.0
+        (begun-more files g.run (record g.run { to = line.to }) l refl (more g.run g.may g.last g.in_file) parts.1))
 
 -- the last run, with a line more
 last-longer : {P : Type 0} (goes_on : Bool) (line : Run) (runs : List Run) (run : Run) → last_of (longer goes_on line runs) ≡ Some run
@@ -190,6 +223,7 @@ module _ (files : List (List ℕ)) (file : ℕ) (before : List ℕ) (n : ℕ) (t
         g.names ∙ ap (λ ns. with_text ns name) h.names ∙ sym (with_texts-append [] (filter_map name_in lines) (name ∷ []))
         ∙ ap (with_texts []) (ap (λ o. filter_map name_in lines ++ cons_option o []) (sym by_name) ∙ sym (filter_map-append name_in lines (kept n text ∷ [])));
     runs = λ q. ap (runs_lines files) (g.runs q) ∙ of_name q (bytes_eq name q) refl;
+    begun = λ q. subst (AllByRecursion (BeginsWithBytes files)) (sym (g.runs q)) (begun_of q (bytes_eq name q) refl);
     once = g.once;
   }
     where
@@ -215,6 +249,15 @@ module _ (files : List (List ℕ)) (file : ℕ) (before : List ℕ) (n : ℕ) (t
       of_name q false e =
           ap (λ b. runs_lines files (cond b (longer g.goes_on (run_of line) (runs_by q s.taps)) (runs_by q s.taps))) e
           ∙ h.runs q ∙ sym (append-nil (lines_named q lines)) ∙ sym (filtered q false e)
+
+      begun_of : (q : List ℕ) (b : Bool) → bytes_eq name q ≡ b
+          → AllByRecursion (BeginsWithBytes files) (cond b (longer g.goes_on (run_of line) (runs_by q s.taps)) (runs_by q s.taps))
+      begun_of q true e =
+          begun-longer files g.goes_on (run_of line) (runs_by q s.taps) (kept n text) (own-lines some) refl
+          (λ run may at in_file.
+          let own : last_run s ≡ Some run = g.before may ∙ ap (λ m. last_of (runs_by m s.taps)) (same_text name q e) ∙ at in
+          longer-lines run some in_file ((last run own).1 in_file)) (h.begun q)
+      begun_of q false e = h.begun q
 
   last-noted : (lines : List Line) (s : Noted) (name : List ℕ) → is_empty (without_return text) ≡ false → Holds files lines s
       → ((run : Run) → last_run s ≡ Some run → IsLast files file before n run)

@@ -17,6 +17,7 @@ pub mod Merged
 pub mod MergeLaws
 pub mod NamedLines
 pub mod ServerLines
+pub mod ServerTexts
 pub use Rattle.aud_input.specs.LineName
 pub mod TapRuns
 pub mod FileLines

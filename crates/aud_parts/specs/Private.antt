@@ -5,3 +5,7 @@ pub mod Marks
 pub mod PartPlaces
 pub mod Slots
 pub mod IndexSteps
+pub mod RunSteps
+pub mod TapsRead
+pub mod FoundRecords
+pub mod PlacedTexts

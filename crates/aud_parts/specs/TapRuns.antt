@@ -1,7 +1,9 @@
 -- The lines of a tap, by the bytes that they stand in.
-use Rattle.std.specs.Prelude.{ℕ, ◌+◌, List, [], ◌∷◌, ◌++◌, get_or, if◌then◌else◌}
-use Rattle.std.specs.List.{flat_map}
+use Rattle.std.specs.Prelude.{◌≡◌, ℕ, ◌+◌, ◌^◌, ◌<◌, ◌≤◌, List, [], ◌∷◌, ◌++◌, length, get_or, slice_get, Some, if◌then◌else◌}
+use Rattle.std.specs.List.{AllByRecursion, flat_map}
+use Rattle.std.specs.Option.{option_map}
 use Rattle.aud_base.specs.Lists.{between}
+use Rattle.aud_tap.specs.Limits.{max_line}
 use Rattle.aud_node.specs.Lists.{is_empty}
 use Rattle.aud_reader.specs.declared.line.Line.{Line}
 use Rattle.aud_reader.specs.Lines.{line_pieces, without_return}
@@ -38,3 +40,17 @@ runs_lines files runs = flat_map (run_lines files) runs
 -- the line with the newline that ends it
 abbrev pub ended : Line → List ℕ
 ended line = line.bytes ++ 10 ∷ []
+
+-- the lines of the run may be read: they are counted below 2 to the 64th, and none of them is too long
+pub record IsReadable (files : List (List ℕ)) (run : Run) : Type 0 where
+  pub counted : run.number + length (run_bytes files run) < 2 ^ 64
+  pub short : AllByRecursion (λ (line : Line). length line.bytes ≤ max_line) (run_lines files run)
+
+-- the first line of the run has bytes
+abbrev pub BeginsWithBytes : List (List ℕ) → Run → Type 0
+BeginsWithBytes files run = option_map (λ (line : Line). line.number) (slice_get (run_lines files run) 0) ≡ Some run.number
+
+-- the lines of the tap may be read again, run after run
+pub record MayBeRead (files : List (List ℕ)) (tap : TapRuns) : Type 0 where
+  pub readable : AllByRecursion (IsReadable files) tap.runs
+  pub begun : AllByRecursion (BeginsWithBytes files) tap.runs

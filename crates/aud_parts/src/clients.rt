@@ -8,7 +8,7 @@ use crate::tap_index::first_refusal::{FirstRefusal, RefusedLine};
 use crate::tap_index::indexed_taps::IndexedTaps;
 use crate::tap_index::run_source::RunSource;
 use crate::tap_index::tap_lines::client_header;
-use crate::tap_index::tap_reading::{TapRead, read_held, read_tap};
+use crate::tap_index::tap_reading::{HeldRun, TapRead, hold, read_held, read_tap};
 use crate::tap_index::tap_runs::TapRuns;
 use aud_base::{RunFault, try_map};
 use aud_node::Stream;
@@ -76,24 +76,7 @@ fn told_of(
 #[derive(Drop)]
 struct HeldTap<'a> {
     tap: &'a TapRuns,
-    runs: Vec<Vec<u8>>,
-}
-
-/// Reads the bytes of a tap.
-fn hold<'a, S: RunSource>(
-    alloc: Global,
-    source: &mut S,
-    tap: &'a TapRuns,
-) -> Result<HeldTap<'a>, RunFault> {
-    let mut runs = Vec::new(alloc);
-    for run in tap.runs() {
-        let mut bytes = Vec::new(alloc);
-        source.read_run(run, &mut bytes)?;
-        if runs.push(bytes).is_err() {
-            return Err(RunFault::Memory);
-        }
-    }
-    Ok(HeldTap { tap, runs })
+    runs: Vec<HeldRun>,
 }
 
 /// What is told of a tap that is held.
@@ -103,7 +86,7 @@ fn told_of_held(
     stream: &Stream<'_>,
     held: &HeldTap<'_>,
 ) -> Result<Told, AllocError> {
-    match read_held(alloc, keys, held.tap.runs(), &held.runs) {
+    match read_held(alloc, keys, &held.runs) {
         Ok(read) => told_of(alloc, stream, held.tap, read),
         Err(_) => Err(AllocError),
     }
@@ -176,8 +159,8 @@ impl<'a> ClientsReading<'a> {
             return Ok(());
         }
         self.bytes = self.bytes.saturating_add(bytes);
-        let held = hold(self.alloc, source, tap)?;
-        match self.held.push(held) {
+        let runs = hold(self.alloc, source, tap.runs())?;
+        match self.held.push(HeldTap { tap, runs }) {
             Ok(()) => Ok(()),
             Err(_) => Err(RunFault::Memory),
         }

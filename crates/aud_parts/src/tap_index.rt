@@ -9,7 +9,9 @@ pub mod tap_reading;
 pub mod tap_runs;
 
 ghost use Rattle.std.specs.Prelude.{◌≡◌, ◌+◌, ◌^◌, ◌<◌, ◌++◌, ◌∷◌, [], List, ℕ, length, take, false, OnOk};
+ghost use Rattle.std.specs.List.{All};
 ghost use Rattle.aud_reader.specs.Lines.{has_newline, without_return};
+ghost use Rattle.aud_parts.specs.TapRuns.{MayBeRead};
 ghost use Rattle.aud_parts.specs.FileLines.{AreTapsOf, file_lines, front_refusal};
 ghost use Rattle.aud_parts.specs.IndexSoFar.{HasRead, IsBegun, IsCounted, KeepsPlaces, ReadSoFar, line_count, so_far, with_bytes, with_line};
 ghost use Rattle.aud_parts.specs.Private.IndexSteps.{HasEnded, HasEndedLast, Looks, MayEnd, placed_at};
@@ -242,8 +244,10 @@ impl TapIndex {
 
     /// The taps in the order of their first lines, with the runs of their lines, borrowed.
     pub fn taps(&self) -> &[TapRuns]
-        ensures { (files : List (List ℕ)) → HasRead self.now files [] → IsCounted files []
+        ensures taps { (files : List (List ℕ)) → HasRead self.now files [] → IsCounted files []
             → AreTapsOf files result.now }
+        ensures runs { (files : List (List ℕ)) → HasRead self.now files [] → IsCounted files []
+            → All (MayBeRead files) result.now }
     {
         self.runs.taps()
     }

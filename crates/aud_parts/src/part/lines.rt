@@ -1,9 +1,14 @@
 //! From which lines of the recording the lines of a part's taps come.
-ghost use Rattle.std.specs.Prelude.{◌≡◌, ◌+◌, IfOk, OnOk, length};
+ghost use Rattle.std.specs.Prelude.{◌≡◌, ◌+◌, ◌++◌, [], List, ℕ, suc, IfOk, OnOk, length, map, replicate, slice_index, get_or, option_map};
+ghost use Rattle.aud_base.specs.Lists.{numbers_from};
 ghost use Rattle.aud_base.specs.OneForEach.{OneForEach};
-ghost use Rattle.aud_input.specs.LineRuns.{lines_of_runs};
+ghost use Rattle.aud_tap.specs.declared.records.StreamRec.{StreamRec};
+ghost use Rattle.aud_input.specs.LineRuns.{capped, lines_of_runs};
 ghost use Rattle.aud_reader.specs.OwnLines.{recs_in};
-ghost use Rattle.aud_parts.specs.ServerLines.{HasLinesOf};
+ghost use Rattle.aud_upgrade.specs.declared.joins.Joins.TheVariants.{TakeAndTakes};
+ghost use Rattle.aud_upgrade.specs.Upgraded.{upgraded_log};
+ghost use Rattle.aud_parts.specs.ServerLines.{AreLeft, HasLinesOf, NamesLines, own_records, place_named, places_left, record_places};
+ghost use Rattle.aud_parts.specs.Private.FoundRecords.{comes_from, comes_next, taken};
 
 use crate::part::own_records::pid_of;
 use aud_input::LineRuns;
@@ -11,7 +16,9 @@ use aud_tap::{NodeRec, NodeRecs, Records, Tap, Text};
 use std::alloc::{AllocError, Global};
 
 /// The offset of the entry up to which the record takes, if it does.
-fn taken(rec: &NodeRec) -> Option<&Text> {
+fn taken(rec: &NodeRec) -> Option<&Text>
+    ensures { option_map (λ off. off.now) result ≡ taken rec.now }
+{
     match rec {
         NodeRec::Take { off } | NodeRec::Takes { off } => Some(off),
         NodeRec::Start { .. }
@@ -24,43 +31,59 @@ fn taken(rec: &NodeRec) -> Option<&Text> {
     }
 }
 
-/// Whether neither is there, or both are and are the same.
-fn are_same(one: Option<&Text>, other: Option<&Text>) -> bool {
-    match (one, other) {
-        (Some(one), Some(other)) => one == other,
-        (None, None) => true,
-        (Some(_), None) | (None, Some(_)) => false,
-    }
-}
-
 /// Whether the part's record can come from this one: it takes up to the same entry, or is of the same session, or both
-/// say how the log begins. In the order of the log the first such record, after those that others come from, is it.
-fn comes_from(part: &NodeRec, rec: &NodeRec) -> bool {
-    are_same(taken(part), taken(rec)) && are_same(pid_of(part), pid_of(rec))
+/// say how the log begins.
+fn comes_from(part: &NodeRec, rec: &NodeRec) -> bool
+    ensures { result ≡ comes_from part.now rec.now }
+{
+    taken(part) == taken(rec) && pid_of(part) == pid_of(rec)
 }
 
-/// The place of the first record from this place on that the part's can come from; how many there are, where none can.
-fn place_of(recs: &NodeRecs, from: usize, part: &NodeRec) -> usize {
-    for place in from..recs.len() {
-        if comes_from(part, &recs[place]) {
-            return place;
-        }
+/// Whether the part's record with this number can, if there is one.
+fn comes_next(part: &NodeRecs, number: usize, rec: &NodeRec) -> bool
+    ensures { result ≡ comes_next part.now number rec.now }
+{
+    match part.get(number) {
+        Some(own) => comes_from(own, rec),
+        None => false,
     }
-    recs.len()
 }
 
 /// The line with this number, which counts from 0; 0 where there is none.
-fn line_at(lines: &[u64], number: usize) -> u64 {
+fn line_at(lines: &[u64], number: usize) -> u64
+    ensures { result ≡ slice_index lines.now number }
+{
     match lines.get(number) {
         Some(line) => *line,
         None => 0,
     }
 }
 
+/// How many records there are.
+pub fn record_count(records: &Records) -> usize
+    ensures { result ≡ length (recs_in records.now) }
+{
+    match records {
+        Records::Stream(entries) => entries.len(),
+        Records::Node(recs) => recs.len(),
+        Records::Client(recs) => recs.as_slice().len(),
+    }
+}
+
+/// Adds so many lines that aren't known: 0 for each.
+fn push_unknown(runs: &mut LineRuns, count: usize) -> Result<(), AllocError>
+    ensures { OnOk result (lines_of_runs runs.new ≡ lines_of_runs runs.old ++ replicate count 0) }
+{
+    for _number in 0..count {
+        runs.push(0)?;
+    }
+    Ok(())
+}
+
 /// Adds so many of these lines, from the second on.
 fn push_next(runs: &mut LineRuns, lines: &[u64], count: usize) -> Result<(), AllocError>
-    ensures { OnOk result (length (lines_of_runs runs.new)
-        ≡ length (lines_of_runs runs.old) + count) }
+    ensures { OnOk result (lines_of_runs runs.new ≡ lines_of_runs runs.old
+        ++ map (slice_index lines.now) (map suc (numbers_from 0 count))) }
 {
     for number in 0..count {
         runs.push(line_at(lines, number + 1))?;
@@ -68,99 +91,108 @@ fn push_next(runs: &mut LineRuns, lines: &[u64], count: usize) -> Result<(), All
     Ok(())
 }
 
-/// Adds the lines that the records of the part's log come from, where these are the node's records, and the lines of its
-/// tap.
+/// Adds the lines that the records of the part's log come from, where these are the node's records and the lines of its
+/// tap: that of the first record that the part's can come from, after those of the records before it. A take for which
+/// one of the part's stands is the last of those that it stands for, since these are of entries one after the other.
 fn push_log(
     runs: &mut LineRuns,
     lines: &[u64],
     recs: &NodeRecs,
     part: &NodeRecs,
 ) -> Result<(), AllocError>
-    ensures { OnOk result (length (lines_of_runs runs.new)
+    ensures count { OnOk result (length (lines_of_runs runs.new)
         ≡ length (lines_of_runs runs.old) + length part.now) }
+    ensures lines { (pids : List (List ℕ)) (stream : List StreamRec)
+        → part.now ≡ upgraded_log TakeAndTakes stream (own_records pids recs.now)
+        → OnOk result (lines_of_runs runs.new ≡ lines_of_runs runs.old
+        ++ map (slice_index lines.now) (map suc (places_left pids stream recs.now))) }
 {
-    let mut next = 0usize;
-    for number in 0..part.len() {
-        next = place_of(recs, next, &part[number]).saturating_add(1);
-        runs.push(line_at(lines, next))?;
+    let mut found = 0usize;
+    for place in 0..recs.len() {
+        if comes_next(part, found, &recs[place]) {
+            runs.push(line_at(lines, place + 1))?;
+            found += 1;
+        }
     }
-    Ok(())
+    push_unknown(runs, part.len().saturating_sub(found))
 }
 
-/// Adds the lines that the part's records come from, where these are the tap's records and lines.
+/// Adds the lines that the part's records come from, where these are the whole's records and the lines of their tap.
 fn push_records(
     runs: &mut LineRuns,
     lines: &[u64],
-    records: Option<&Records>,
+    records: &Records,
     part: &Records,
 ) -> Result<(), AllocError>
-    ensures { OnOk result (length (lines_of_runs runs.new)
+    ensures count { OnOk result (length (lines_of_runs runs.new)
         ≡ length (lines_of_runs runs.old) + length (recs_in part.now)) }
+    ensures lines { (pids : List (List ℕ)) (stream : List StreamRec)
+        → AreLeft pids stream records.now part.now
+        → OnOk result (lines_of_runs runs.new ≡ lines_of_runs runs.old
+        ++ map (slice_index lines.now) (map suc (record_places pids stream records.now))) }
 {
     match (records, part) {
-        (Some(Records::Node(recs)), Records::Node(part)) => push_log(runs, lines, recs, part),
-        (_, Records::Stream(entries)) => push_next(runs, lines, entries.len()),
-        (_, Records::Node(recs)) => push_next(runs, lines, recs.len()),
-        (_, Records::Client(recs)) => push_next(runs, lines, recs.as_slice().len()),
+        (Records::Node(recs), Records::Node(part)) => push_log(runs, lines, recs, part),
+        (_, part) => push_next(runs, lines, record_count(part)),
     }
 }
 
 /// The lines of the tap at this place, one after the other; none where there is no such tap.
-fn lines_at(alloc: Global, lines: &[LineRuns], place: usize) -> Result<Vec<u64>, AllocError> {
+fn lines_at(alloc: Global, lines: &[LineRuns], place: usize) -> Result<Vec<u64>, AllocError>
+    ensures { IfOk result (λ own. own.items
+        ≡ map capped (lines_of_runs (get_or lines.now place []))) }
+{
     match lines.get(place) {
         Some(runs) => runs.lines(alloc),
         None => Ok(Vec::new(alloc)),
     }
 }
 
-/// The records of the tap at this place.
-fn records_at(taps: &[Tap], place: usize) -> Option<&Records> {
-    Some(&taps.get(place)?.records)
+/// The place of the first tap of this name.
+fn place_named(taps: &[Tap], name: &Text) -> Option<usize>
+    ensures { result ≡ place_named name.now taps.now }
+{
+    taps.iter().position(|tap| tap.name == *name)
 }
 
-/// The lines that those of the part's tap come from: those of the tap at this place.
+/// The lines that those of the part's tap come from: those of the tap of its name.
 fn tap_lines(
     alloc: Global,
     taps: &[Tap],
     lines: &[LineRuns],
-    place: usize,
     part: &Tap,
 ) -> Result<LineRuns, AllocError>
-    ensures { IfOk result (HasLinesOf part.now) }
+    ensures count { IfOk result (HasLinesOf part.now) }
+    ensures named { IfOk result (NamesLines taps.now lines.now part.now) }
 {
-    let own = lines_at(alloc, lines, place)?;
     let mut runs = LineRuns::new(Vec::new(alloc));
+    let Some(place) = place_named(taps, &part.name) else {
+        runs.push(0)?;
+        push_unknown(&mut runs, record_count(&part.records))?;
+        return Ok(runs);
+    };
+    let own = lines_at(alloc, lines, place)?;
     runs.push(line_at(&own, 0))?;
-    push_records(&mut runs, &own, records_at(taps, place), &part.records)?;
+    push_records(&mut runs, &own, &taps[place].records, &part.records)?;
     Ok(runs)
 }
 
-/// The place of the first tap of this name from this place on; how many there are, where there is none.
-fn place_named(taps: &[Tap], from: usize, name: &Text) -> usize {
-    for place in from..taps.len() {
-        if taps[place].name == *name {
-            return place;
-        }
-    }
-    taps.len()
-}
-
-/// The lines that those of each of the part's taps come from, where these are the taps of the stream and of the nodes in
-/// the same order, and the lines of each.
+/// The lines that those of each of the part's taps come from, where these are the taps of the stream and of the nodes,
+/// and the lines of each. Of a part's tap that is what is left of the tap of its name they are the lines that have its
+/// header and its records, and of takes that were joined to one record that of the last. Lines that aren't known are 0:
+/// those of a tap of which there is none of this name, or fewer lines.
 pub fn server_lines(
     alloc: Global,
     taps: &[Tap],
     lines: &[LineRuns],
     part: &[Tap],
 ) -> Result<Vec<LineRuns>, AllocError>
-    ensures { IfOk result (λ all. OneForEach HasLinesOf part.now all.items) }
+    ensures count { IfOk result (λ all. OneForEach HasLinesOf part.now all.items) }
+    ensures named { IfOk result (λ all. OneForEach (NamesLines taps.now lines.now) part.now all.items) }
 {
     let mut all = Vec::new(alloc);
-    let mut next = 0usize;
     for tap in part {
-        let place = place_named(taps, next, &tap.name);
-        all.push(tap_lines(alloc, taps, lines, place, tap)?)?;
-        next = place.saturating_add(1);
+        all.push(tap_lines(alloc, taps, lines, tap)?)?;
     }
     Ok(all)
 }

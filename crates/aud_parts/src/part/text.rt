@@ -67,14 +67,14 @@ impl<'a> Planned<'a> {
     /// The lines of the part's taps of the stream and of the nodes. Parts count from 0.
     pub fn servers(&self, part: usize) -> Result<ServerText, ReadFault> {
         let taps = self.taps(part)?;
-        ServerText::of(self.alloc, self.logs.keys(), &taps, Vec::new(self.alloc))
+        ServerText::of(self.alloc, &taps, Vec::new(self.alloc))
     }
 
     /// The same, with the lines that they come from, where these are those of the logs' taps.
     fn named_servers(&self, part: usize, lines: &[LineRuns]) -> Result<ServerText, ReadFault> {
         let taps = self.taps(part)?;
         let lines = server_lines(self.alloc, self.logs.taps(), lines, taps.as_slice())?;
-        ServerText::of(self.alloc, self.logs.keys(), &taps, lines)
+        ServerText::of(self.alloc, &taps, lines)
     }
 
     /// Those of each of these parts, which are made by at most so many threads.
@@ -119,15 +119,12 @@ impl<'a> Planned<'a> {
     ) -> Result<LineRuns, RunFault> {
         let mut runs = LineRuns::new(Vec::new(self.alloc));
         let mut buffer = Vec::new(self.alloc);
-        let mut server = 0usize;
         let mut client = 0usize;
         for (place, tap) in indexed.taps.iter().enumerate() {
             if indexed.is_server(place) {
-                if let Some(lines) = servers.tap(server, tap.name()) {
-                    write_out(output, lines)?;
-                    write_out(output, b"\n")?;
-                    servers.push_lines(server, &mut runs)?;
-                    server = server.saturating_add(1);
+                if let Some(number) = servers.number_named(tap.name()) {
+                    write_out(output, servers.text(number))?;
+                    servers.push_lines(number, &mut runs)?;
                 }
             } else {
                 if self.plan.has_client(part, client) {

@@ -1,4 +1,13 @@
 //! A tap, read by itself.
+ghost use Rattle.std.specs.Prelude.{◌≡◌, ◌++◌, ◌∷◌, [], ℕ, List, map, IfOk, OnOk, Some};
+ghost use Rattle.std.specs.List.{AllByRecursion};
+ghost use Rattle.aud_input.specs.LineRuns.{lines_of_runs};
+ghost use Rattle.aud_reader.specs.declared.line.Line.{Line};
+ghost use Rattle.aud_reader.specs.Bundle.{taps_of, taps_to_come};
+ghost use Rattle.aud_reader.specs.OwnLines.{HaveTheirOwnLines};
+ghost use Rattle.aud_parts.specs.TapRuns.{IsReadable, runs_lines};
+ghost use Rattle.aud_parts.specs.Private.TapsRead.{HoldsLines, IsReadOf};
+
 use crate::tap_index::run_lines::RunLines;
 use crate::tap_index::run_source::RunSource;
 use crate::tap_index::tap_lines::{ended_len, push_lines, push_numbers};
@@ -32,9 +41,24 @@ struct TapReading {
     lines: LineRuns,
 }
 
+/// Reads the next line. The reader keeps a refusal until it ends.
+fn read_line(reader: &mut BundleReader, line: &Line) -> Result<(), RunFault>
+    ensures { (more : List Line) → OnOk result
+        (taps_to_come reader.new more ≡ taps_to_come reader.old (line.now ∷ more)) }
+{
+    match reader.line(line) {
+        Ok(()) => Ok(()),
+        Err(ReadFault::Input(_, _)) => Ok(()),
+        Err(ReadFault::Memory) => Err(RunFault::Memory),
+    }
+}
+
 impl TapReading {
     /// A tap before its first line.
-    fn new(alloc: Global, keys: RandomState) -> TapReading {
+    fn new(alloc: Global, keys: RandomState) -> TapReading
+        ensures taps { (lines : List Line) → taps_to_come result.reader lines ≡ taps_of lines }
+        ensures lines { lines_of_runs result.lines ≡ [] }
+    {
         TapReading {
             reader: BundleReader::new(alloc, keys),
             first: 0,
@@ -43,23 +67,31 @@ impl TapReading {
         }
     }
 
-    /// Reads the next lines. The reader keeps a refusal until it ends.
-    fn read(&mut self, lines: &[Line]) -> Result<(), RunFault> {
+    /// Reads the next lines.
+    fn read(&mut self, lines: &[Line]) -> Result<(), RunFault>
+        ensures taps { (more : List Line) → OnOk result (taps_to_come self.new.reader more
+            ≡ taps_to_come self.old.reader (lines.now ++ more)) }
+        ensures lines { OnOk result (lines_of_runs self.new.lines
+            ≡ lines_of_runs self.old.lines ++ map (λ (line : Line). line.number) lines.now) }
+    {
         if self.bytes == 0 {
             self.first = ended_len(lines.get(..1).unwrap_or(&[]));
         }
         self.bytes = self.bytes.saturating_add(ended_len(lines));
         push_numbers(&mut self.lines, lines)?;
         for line in lines {
-            if let Err(ReadFault::Memory) = self.reader.line(line) {
-                return Err(RunFault::Memory);
-            }
+            read_line(&mut self.reader, line)?;
         }
         Ok(())
     }
 
     /// What was read.
-    fn finish(self) -> Result<TapRead, RunFault> {
+    fn finish(self) -> Result<TapRead, RunFault>
+        ensures taps { IfOk result (λ tap. tap.read ≡ taps_to_come self.reader []) }
+        ensures own { (lines : List Line) → taps_to_come self.reader [] ≡ taps_of lines
+            → IfOk result (λ tap. IfOk tap.read (HaveTheirOwnLines lines)) }
+        ensures lines { IfOk result (λ tap. tap.lines ≡ self.lines) }
+    {
         let TapReading {
             reader,
             first,
@@ -85,29 +117,58 @@ pub fn read_tap<S: RunSource>(
     source: &mut S,
     buffer: &mut Vec<u8>,
     tap: &TapRuns,
-) -> Result<TapRead, RunFault> {
+) -> Result<TapRead, RunFault>
+    ensures tap { (files : List (List ℕ)) → S.files source.old ≡ Some files
+        → AllByRecursion (IsReadable files) tap.now.runs
+        → IfOk result (IsReadOf (runs_lines files tap.now.runs)) }
+    ensures source { S.files source.new ≡ S.files source.old }
+{
     let mut reading = TapReading::new(alloc, keys);
     let mut left = RunLines::new(tap.runs());
-    for _piece in 0..u64::MAX {
-        let Some(lines) = left.next_lines(alloc, source, buffer)? else {
-            break;
-        };
+    'pieces: while let Some(lines) = left.next_lines(alloc, source, buffer)? {
         reading.read(&lines)?;
     }
     reading.finish()
 }
 
-/// Reads a tap of which these are the bytes of its runs, in their order.
-pub fn read_held(
+/// The bytes of a run, and the number of its first line.
+#[derive(Drop)]
+pub struct HeldRun {
+    pub number: u64,
+    pub bytes: Vec<u8>,
+}
+
+/// Reads the bytes of runs.
+pub fn hold<S: RunSource>(
     alloc: Global,
-    keys: RandomState,
+    source: &mut S,
     runs: &[Run],
-    held: &[Vec<u8>],
-) -> Result<TapRead, RunFault> {
+) -> Result<Vec<HeldRun>, RunFault>
+    ensures runs { (files : List (List ℕ)) → S.files source.old ≡ Some files
+        → AllByRecursion (IsReadable files) runs.now
+        → IfOk result (λ held. HoldsLines (runs_lines files runs.now) held.items) }
+    ensures source { S.files source.new ≡ S.files source.old }
+{
+    let mut held = Vec::new(alloc);
+    for run in runs {
+        let mut bytes = Vec::new(alloc);
+        source.read_run(run, &mut bytes)?;
+        let number = run.number;
+        let Ok(()) = held.push(HeldRun { number, bytes }) else {
+            return Err(RunFault::Memory);
+        };
+    }
+    Ok(held)
+}
+
+/// Reads a tap of which these are the runs, in their order.
+pub fn read_held(alloc: Global, keys: RandomState, held: &[HeldRun]) -> Result<TapRead, RunFault>
+    ensures { (lines : List Line) → HoldsLines lines held.now → IfOk result (IsReadOf lines) }
+{
     let mut reading = TapReading::new(alloc, keys);
-    for (run, bytes) in runs.iter().zip(held) {
+    for run in held {
         let mut lines = Vec::new(alloc);
-        push_lines(alloc, run.number, bytes, &mut lines)?;
+        push_lines(alloc, run.number, &run.bytes, &mut lines)?;
         reading.read(&lines)?;
     }
     reading.finish()
