@@ -61,11 +61,10 @@ pub fn lines(alloc: Global) -> Result<Vec<Line>, AllocError> {
     Ok(lines)
 }
 
-/// The taps of the bundle.
-pub fn taps(alloc: Global, keys: RandomState) -> Result<Taps>
+/// The taps of these lines.
+pub fn taps(alloc: Global, keys: RandomState, lines: &[Line]) -> Result<Taps>
     ensures { IfOk result (λ taps. AreNamedOnce taps) }
 {
-    let lines = lines(alloc)?;
-    let taps = read_bundle(alloc, keys, lines.as_slice())?;
+    let taps = read_bundle(alloc, keys, lines)?;
     Ok(taps)
 }

@@ -1,16 +1,18 @@
 //! The calls, by their names.
-use crate::bundle::taps;
+ghost use Rattle.aud_tap.specs.Names.{AreNamedOnce};
+
 use crate::certificates::OnCertificates;
-use crate::clients::{read_recording, read_transcript};
 use crate::desk::AtDesk;
 use crate::given::Given;
 use crate::lines::Fed;
 use crate::logs::OnLogs;
 use crate::rooms::OnRooms;
+use crate::taps::OnTaps;
 use crate::workers::OnWorkers;
-use crate::{certificates, desk, lines, logs, rooms, workers};
-use anyhow::Result;
+use crate::{certificates, desk, lines, logs, rooms, taps, workers};
 use aud_client::Recording;
+use aud_reader::Line;
+use aud_tap::Taps;
 use std::alloc::Global;
 use std::hash::RandomState;
 use std::sync::Wait;
@@ -22,10 +24,8 @@ pub enum Call {
     Fed(Fed),
     OnRooms(OnRooms),
     AtDesk(AtDesk),
+    OnTaps(OnTaps),
     OnLogs(OnLogs),
-    /// With so many threads.
-    ReadRecording(usize),
-    ReadTranscript,
     OnCertificates(OnCertificates),
     OnWorkers(OnWorkers),
 }
@@ -35,11 +35,11 @@ pub static CALLS: [(&str, Call); 32] = [
     ("Splitter::feed", Call::Fed(Fed::Splitter)),
     ("BundleReader::line", Call::Fed(Fed::Reader)),
     ("Assembler::feed", Call::Fed(Fed::Assembler)),
-    ("Logs::build", Call::OnLogs(OnLogs::Build)),
-    ("Recording::read 1", Call::ReadRecording(1)),
-    ("Recording::read 2", Call::ReadRecording(2)),
-    ("Recording::read 64", Call::ReadRecording(64)),
-    ("IndexedTranscript::read", Call::ReadTranscript),
+    ("Logs::build", Call::OnTaps(OnTaps::Build)),
+    ("Recording::read 1", Call::OnTaps(OnTaps::Read(1))),
+    ("Recording::read 2", Call::OnTaps(OnTaps::Read(2))),
+    ("Recording::read 64", Call::OnTaps(OnTaps::Read(64))),
+    ("IndexedTranscript::read", Call::OnLogs(OnLogs::Transcript)),
     ("RoomSet::join", Call::OnRooms(OnRooms::Join)),
     ("SpanBuilder::join", Call::OnRooms(OnRooms::SpansJoin)),
     ("SpanBuilder::upto", Call::OnRooms(OnRooms::SpansUpto)),
@@ -72,53 +72,29 @@ pub static CALLS: [(&str, Call); 32] = [
     ("audit_with 64", Call::OnWorkers(OnWorkers::Audit(64))),
     ("order", Call::OnLogs(OnLogs::Order)),
     ("upgrade", Call::OnLogs(OnLogs::Upgrade)),
-    ("write_bundle", Call::OnLogs(OnLogs::Write)),
+    ("write_bundle", Call::OnTaps(OnTaps::Write)),
 ];
 
-/// Makes the call.
+/// Makes the call, where it is on the bundle, on its lines, its taps, or its recording and the pids of its sessions.
 pub fn given<R: Threads + Wait + Clock + Sync>(
+    recording: &Recording<'_>,
+    taps: &Taps,
     rt: &R,
     alloc: Global,
     keys: RandomState,
+    lines: &[Line],
+    pids: &[String],
     call: &Call,
-) -> Result<Given> {
+) -> Given
+    requires { AreNamedOnce taps.now }
+{
     match call {
-        Call::Fed(fed) => lines::given(alloc, keys, fed),
+        Call::Fed(fed) => lines::given(lines, alloc, keys, fed),
         Call::OnRooms(call) => rooms::given(alloc, call),
         Call::AtDesk(call) => desk::given(rt, alloc, call),
-        _ => given_of_bundle(rt, alloc, keys, call),
-    }
-}
-
-/// Makes the call on the bundle.
-fn given_of_bundle<R: Threads + Wait + Clock + Sync>(
-    rt: &R,
-    alloc: Global,
-    keys: RandomState,
-    call: &Call,
-) -> Result<Given> {
-    let taps = taps(alloc, keys)?;
-    match call {
-        Call::OnLogs(call) => logs::given(alloc, keys, &taps, call),
-        Call::ReadRecording(threads) => read_recording(rt, alloc, keys, &taps, *threads),
-        Call::ReadTranscript => read_transcript(alloc, keys, &taps),
-        _ => {
-            let recording = Recording::read(rt, alloc, keys, 1, &taps)?;
-            given_of_recording(rt, alloc, &recording, call)
-        }
-    }
-}
-
-/// Makes the call on the recording.
-fn given_of_recording<R: Threads + Wait + Clock + Sync>(
-    rt: &R,
-    alloc: Global,
-    recording: &Recording<'_>,
-    call: &Call,
-) -> Result<Given> {
-    match call {
-        Call::OnCertificates(call) => certificates::given(rt, alloc, recording, call),
-        Call::OnWorkers(call) => workers::given(rt, alloc, recording, call),
-        _ => Ok(Given::Wrong("no call")),
+        Call::OnTaps(call) => taps::given(taps, rt, alloc, keys, call),
+        Call::OnLogs(call) => logs::given(recording.logs(), alloc, keys, call),
+        Call::OnCertificates(call) => certificates::given(recording, rt, alloc, pids, call),
+        Call::OnWorkers(call) => workers::given(recording, rt, alloc, pids, call),
     }
 }

@@ -2,8 +2,7 @@
 ghost use Rattle.std.specs.Prelude.{◌≡◌, length};
 
 use crate::counted::{begin, end};
-use crate::given::{Given, count, memory_if};
-use anyhow::{Context, Result};
+use crate::given::{Given, memory_if};
 use aud_book::{BackFault, Book, Desk, DeskFault, PostFault, Posts, TapSeat};
 use std::alloc::{AllocError, Global};
 use std::marker::Brand;
@@ -23,7 +22,7 @@ static NAMES: [&str; 3] = ["st", "a", "c1"];
 static LINES: [&[u8]; 6] = [b"one", b"two", b"three", b"four", b"five", b"six"];
 
 /// Makes the call.
-pub fn given<R: Wait>(rt: &R, alloc: Global, call: &AtDesk) -> Result<Given> {
+pub fn given<R: Wait>(rt: &R, alloc: Global, call: &AtDesk) -> Given {
     match call {
         AtDesk::Append => append(alloc),
         _ => at_desk::<Brand, R>(rt, alloc, Blank::new(3), &NAMES, call),
@@ -44,8 +43,10 @@ fn are_in_turn(places: &[Result<usize, AllocError>]) -> bool {
 }
 
 /// Enters six lines. Where one is refused, the next has its place.
-fn append(alloc: Global) -> Result<Given> {
-    let mut book = Book::new(alloc, &NAMES)?;
+fn append(alloc: Global) -> Given {
+    let Ok(mut book) = Book::new(alloc, &NAMES) else {
+        return Given::Wrong("there is no book");
+    };
     begin(alloc);
     let places = [
         book.append(0, b"one"),
@@ -57,8 +58,8 @@ fn append(alloc: Global) -> Result<Given> {
     ];
     end(alloc);
     match (are_in_turn(&places), book.len()) {
-        (true, 6) => Ok(count(alloc, 6, "lines")?),
-        (is_well, len) => Ok(memory_if(is_well && len == 5, "the next line has another place")),
+        (true, 6) => Given::Answer("lines", 6),
+        (is_well, len) => memory_if(is_well && len == 5, "the next line has another place"),
     }
 }
 
@@ -69,7 +70,7 @@ fn at_desk<'a, L: Posts, R: Wait>(
     blank: Blank,
     names: &[&'a str],
     call: &AtDesk,
-) -> Result<Given>
+) -> Given
     requires name { blank.name ≡ L.name }
     requires parts { (blank.parts ≡ L.parts) × (blank.parts ≡ length names.now)
         × (L.count ≡ length names.now) }
@@ -79,12 +80,27 @@ fn at_desk<'a, L: Posts, R: Wait>(
     }
     let opened = Desk::<L>::new(alloc, blank, names);
     end(alloc);
-    match (opened, call) {
-        (Ok((_, seats)), AtDesk::New) => Ok(count(alloc, seats.len(), "seats")?),
-        (Ok((desk, seats)), AtDesk::Post) => post(rt, alloc, &desk, seats),
-        (Ok((desk, seats)), _) => read_back(rt, alloc, &desk, seats),
-        (Err(DeskFault::Memory), _) => Ok(Given::Memory),
-        (Err(DeskFault::Names), _) => Ok(Given::Wrong("the names are refused")),
+    match opened {
+        Ok((desk, seats)) => at_open_desk(rt, alloc, &desk, seats, call),
+        Err(DeskFault::Memory) => Given::Memory,
+        Err(DeskFault::Names) => Given::Wrong("the names are refused"),
+    }
+}
+
+/// Makes the call from the last seat.
+fn at_open_desk<'a, L: Posts, R: Wait>(
+    rt: &R,
+    alloc: Global,
+    desk: &Desk<'a, L>,
+    mut seats: Vec<TapSeat<'a, L>>,
+    call: &AtDesk,
+) -> Given {
+    let count = seats.len();
+    match (call, seats.pop()) {
+        (AtDesk::New, _) => Given::Answer("seats", count),
+        (AtDesk::Post, Some(seat)) => post(rt, alloc, desk, seat),
+        (_, Some(seat)) => read_back(rt, alloc, desk, seat),
+        (_, None) => Given::Wrong("there is no seat"),
     }
 }
 
@@ -93,16 +109,27 @@ fn post_all<'a, L: Posts, R: Wait>(
     rt: &R,
     desk: &Desk<'a, L>,
     seat: TapSeat<'a, L>,
-    lines: &[&'a [u8]],
 ) -> (TapSeat<'a, L>, Option<PostFault>) {
     let mut seat = seat;
-    for line in lines {
+    for line in &LINES {
         match desk.post(rt, seat, *line) {
             Ok(back) => seat = back,
             Err((back, fault)) => return (back, Some(fault)),
         }
     }
     (seat, None)
+}
+
+/// Whether these are the first lines, so many.
+fn are_first(lines: &[&[u8]], count: usize) -> bool {
+    let mut first = LINES.iter();
+    for line in lines {
+        match first.next() {
+            Some(it) if *it == *line => {}
+            _ => return false,
+        }
+    }
+    lines.len() == count
 }
 
 /// Whether the book has the first lines, as many as were posted from the seat.
@@ -113,9 +140,7 @@ fn has_posted<'a, L: Posts, R: Wait>(
     seat: &TapSeat<'a, L>,
 ) -> bool {
     match desk.read_back(rt, alloc, seat) {
-        Ok(lines) => {
-            lines.len() == seat.lines().len() && lines.iter().zip(&LINES).all(|(l, r)| l == r)
-        }
+        Ok(back) => are_first(&back, seat.lines().len()),
         Err(_) => false,
     }
 }
@@ -129,14 +154,15 @@ fn posts_again<'a, L: Posts, R: Wait>(
     lines: &[&'a [u8]],
 ) -> bool {
     let posted = seat.lines().len();
+    let is_well = has_posted(rt, alloc, desk, &seat);
     let Some(line) = lines.get(posted) else {
         return false;
     };
-    if !has_posted(rt, alloc, desk, &seat) {
-        return false;
-    }
     match desk.post(rt, seat, *line) {
-        Ok(seat) => seat.lines().len() == posted + 1 && has_posted(rt, alloc, desk, &seat),
+        Ok(seat) => {
+            let is_posted = seat.lines().len() == posted + 1;
+            is_well && is_posted && has_posted(rt, alloc, desk, &seat)
+        }
         Err(_) => false,
     }
 }
@@ -145,19 +171,18 @@ fn post<'a, L: Posts, R: Wait>(
     rt: &R,
     alloc: Global,
     desk: &Desk<'a, L>,
-    mut seats: Vec<TapSeat<'a, L>>,
-) -> Result<Given> {
-    let seat = seats.pop().context("a seat")?;
+    seat: TapSeat<'a, L>,
+) -> Given {
     begin(alloc);
-    let (seat, fault) = post_all(rt, desk, seat, &LINES);
+    let (seat, fault) = post_all(rt, desk, seat);
     end(alloc);
     match fault {
-        None => Ok(count(alloc, seat.lines().len(), "lines")?),
+        None => Given::Answer("lines", seat.lines().len()),
         Some(PostFault::Memory) => {
             let is_well = posts_again(rt, alloc, desk, seat, &LINES);
-            Ok(memory_if(is_well, "the same post doesn't succeed"))
+            memory_if(is_well, "the same post doesn't succeed")
         }
-        Some(_) => Ok(Given::Wrong("a line is refused")),
+        Some(_) => Given::Wrong("a line is refused"),
     }
 }
 
@@ -165,19 +190,18 @@ fn read_back<'a, L: Posts, R: Wait>(
     rt: &R,
     alloc: Global,
     desk: &Desk<'a, L>,
-    mut seats: Vec<TapSeat<'a, L>>,
-) -> Result<Given> {
-    let seat = seats.pop().context("a seat")?;
-    let (seat, _) = post_all(rt, desk, seat, &LINES);
+    seat: TapSeat<'a, L>,
+) -> Given {
+    let (seat, _) = post_all(rt, desk, seat);
     begin(alloc);
     let back = desk.read_back(rt, alloc, &seat);
     end(alloc);
     match back {
-        Ok(lines) => Ok(count(alloc, lines.len(), "lines")?),
+        Ok(lines) => Given::Answer("lines", lines.len()),
         Err(BackFault::Memory) => {
             let is_well = has_posted(rt, alloc, desk, &seat);
-            Ok(memory_if(is_well, "the lines are others"))
+            memory_if(is_well, "the lines are others")
         }
-        Err(BackFault::Strayed) => Ok(Given::Wrong("the lines are the seat's")),
+        Err(BackFault::Strayed) => Given::Wrong("the lines are the seat's"),
     }
 }

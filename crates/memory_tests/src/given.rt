@@ -1,12 +1,14 @@
 //! What a call gave.
-use std::alloc::{AllocError, Global};
+use aud_check::Accepted;
 use std::fmt;
 
 /// What a call gave.
-#[derive(Drop)]
+#[derive(Clone, Copy, Drop)]
 pub enum Given {
-    /// Its answer, in words.
-    Answer(String),
+    /// Its answer: so many of these.
+    Answer(&'static str, usize),
+    /// The answer of a check.
+    Accepted(Accepted),
     /// Its memory fault, after which all is as promised.
     Memory,
     /// The memory fault of workers that had made so many entries.
@@ -20,18 +22,14 @@ pub enum Given {
 impl fmt::Display for Given {
     fn fmt<W: fmt::Write>(&self, f: &mut fmt::Formatter<W>) -> fmt::Result {
         match self {
-            Given::Answer(words) => f.write_str(words.as_str()),
+            Given::Answer(what, count) => write!(f, "{what}={count}"),
+            Given::Accepted(accepted) => accepted.fmt(f),
             Given::Memory => f.write_str("memory"),
             Given::MemoryAfter(made) => write!(f, "memory {made}"),
             Given::Spawn => f.write_str("spawn"),
             Given::Wrong(what) => write!(f, "WRONG: {what}"),
         }
     }
-}
-
-/// An answer of one number: how many of these there are.
-pub fn count(alloc: Global, number: usize, what: &str) -> Result<Given, AllocError> {
-    Ok(Given::Answer(format!(in alloc; "{what}={number}")?))
 }
 
 /// Memory was refused, and this holds of what was left.

@@ -1,15 +1,14 @@
 //! The calls that are fed what was recorded, one after another.
 ghost use Rattle.std.specs.Prelude.{◌≡◌, ◌≤◌, ◌^◌};
 
-use crate::bundle;
 use crate::counted::{begin, end};
-use crate::given::{Given, count, memory_if};
-use anyhow::Result;
+use crate::given::{Given, memory_if};
 use aud_eio::Eio;
 use aud_reader::{BundleReader, Line, ReadFault, Splitter};
-use aud_sio::{Assembler, SioFault, Whole};
+use aud_sio::{Assembler, SioFault};
 use std::alloc::Global;
 use std::hash::RandomState;
+use std::mem::ManuallyDrop;
 
 /// What is fed.
 pub enum Fed {
@@ -19,10 +18,10 @@ pub enum Fed {
 }
 
 /// Feeds it.
-pub fn given(alloc: Global, keys: RandomState, fed: &Fed) -> Result<Given> {
+pub fn given(lines: &[Line], alloc: Global, keys: RandomState, fed: &Fed) -> Given {
     match fed {
         Fed::Splitter => split(alloc),
-        Fed::Reader => read(alloc, keys),
+        Fed::Reader => read(lines, alloc, keys),
         Fed::Assembler => assemble(alloc),
     }
 }
@@ -37,23 +36,19 @@ fn feed_pieces(splitter: &mut Splitter) -> Result<(), ReadFault>
     splitter.feed(b"ee")
 }
 
-/// Whether the splitter goes on to give its memory fault.
-fn is_stopped(mut splitter: Splitter) -> bool
-    requires { splitter.number ≤ 2 ^ 32 }
-{
-    splitter.feed(b"four\n") == Err(ReadFault::Memory)
-        && matches!(splitter.finish(), Err(ReadFault::Memory))
-}
-
-fn split(alloc: Global) -> Result<Given> {
+/// After a refusal the splitter goes on to give its memory fault; else it takes the end of the third line.
+fn split(alloc: Global) -> Given {
     let mut splitter = Splitter::new(alloc);
     begin(alloc);
     let fed = feed_pieces(&mut splitter);
     end(alloc);
-    match fed {
-        Ok(()) => Ok(count(alloc, splitter.finish()?.len(), "lines")?),
-        Err(ReadFault::Memory) => Ok(memory_if(is_stopped(splitter), "the splitter goes on")),
-        Err(_) => Ok(Given::Wrong("a line is refused")),
+    let next = splitter.feed(b"four\n");
+    let finished = ManuallyDrop::new(splitter.finish());
+    match (fed, next, &*finished) {
+        (Ok(()), Ok(()), Ok(lines)) => Given::Answer("lines", lines.len()),
+        (Err(ReadFault::Memory), Err(ReadFault::Memory), Err(ReadFault::Memory)) => Given::Memory,
+        (Err(ReadFault::Memory), _, _) => Given::Wrong("the splitter goes on"),
+        _ => Given::Wrong("a line is refused"),
     }
 }
 
@@ -65,56 +60,52 @@ fn read_lines(reader: &mut BundleReader, lines: &[Line]) -> Result<(), ReadFault
     Ok(())
 }
 
-/// Whether the reader goes on to give its memory fault.
-fn has_ended(mut reader: BundleReader, lines: &[Line]) -> bool {
-    read_lines(&mut reader, lines) == Err(ReadFault::Memory)
-        && matches!(reader.finish(), Err(ReadFault::Memory))
-}
-
-fn read(alloc: Global, keys: RandomState) -> Result<Given> {
-    let lines = bundle::lines(alloc)?;
+fn read(lines: &[Line], alloc: Global, keys: RandomState) -> Given {
     let mut reader = BundleReader::new(alloc, keys);
     begin(alloc);
-    let read = read_lines(&mut reader, lines.as_slice());
+    let read = read_lines(&mut reader, lines);
     end(alloc);
-    match read {
-        Ok(()) => Ok(count(alloc, reader.finish()?.as_slice().len(), "taps")?),
-        Err(ReadFault::Memory) => {
-            let is_well = has_ended(reader, lines.as_slice());
-            Ok(memory_if(is_well, "the reader goes on"))
+    let again = if read.is_ok() {
+        Ok(())
+    } else {
+        read_lines(&mut reader, lines)
+    };
+    let finished = ManuallyDrop::new(reader.finish());
+    match (read, again, &*finished) {
+        (Ok(()), _, Ok(taps)) => Given::Answer("taps", taps.as_slice().len()),
+        (Err(ReadFault::Memory), Err(ReadFault::Memory), Err(ReadFault::Memory)) => Given::Memory,
+        (Err(ReadFault::Memory), _, _) => Given::Wrong("the reader goes on"),
+        _ => Given::Wrong("a line is refused"),
+    }
+}
+
+/// Feeds a packet and its two attachments: how many it is given with.
+fn feed_packet(assembler: &mut Assembler<'_>) -> Result<usize, SioFault> {
+    let mut count = 0usize;
+    for message in [
+        Eio::Message(r#"52-["f",{"_placeholder":true,"num":0},{"_placeholder":true,"num":1}]"#),
+        Eio::Lent(&[1, 2]),
+        Eio::Lent(&[3]),
+    ] {
+        let whole = ManuallyDrop::new(assembler.feed(message)?);
+        if let Some(whole) = &*whole {
+            count = whole.bin.len();
         }
-        Err(_) => Ok(Given::Wrong("a line is refused")),
     }
+    Ok(count)
 }
 
-/// Feeds a packet and its two attachments.
-fn feed_packet<'a>(assembler: &mut Assembler<'a>) -> Result<Option<Whole<'a>>, SioFault> {
-    assembler.feed(Eio::Message(
-        r#"52-["f",{"_placeholder":true,"num":0},{"_placeholder":true,"num":1}]"#,
-    ))?;
-    assembler.feed(Eio::Lent(&[1, 2]))?;
-    assembler.feed(Eio::Lent(&[3]))
-}
-
-/// Whether the packet is given, with its attachments.
-fn is_whole(fed: &Result<Option<Whole<'_>>, SioFault>) -> bool {
-    match fed {
-        Ok(Some(whole)) => whole.bin.len() == 2,
-        _ => false,
-    }
-}
-
-fn assemble(alloc: Global) -> Result<Given> {
-    let mut assembler = Assembler::new(alloc);
+fn assemble(alloc: Global) -> Given {
+    let mut assembler = ManuallyDrop::new(Assembler::new(alloc));
     begin(alloc);
     let fed = feed_packet(&mut assembler);
     end(alloc);
-    match &fed {
-        Ok(Some(whole)) => Ok(count(alloc, whole.bin.len(), "attachments")?),
+    match fed {
+        Ok(count) => Given::Answer("attachments", count),
         Err(SioFault::Memory) => {
-            let again = assembler.is_at_rest() && is_whole(&feed_packet(&mut assembler));
-            Ok(memory_if(again, "the assembler takes no new header"))
+            let again = assembler.is_at_rest() && matches!(feed_packet(&mut assembler), Ok(2));
+            memory_if(again, "the assembler takes no new header")
         }
-        _ => Ok(Given::Wrong("the packet isn't given")),
+        Err(_) => Given::Wrong("the packet isn't given"),
     }
 }

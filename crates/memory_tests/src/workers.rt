@@ -1,12 +1,11 @@
 //! The calls on workers.
 use crate::counted::{begin, end};
-use crate::given::{Given, count};
-use anyhow::{Context, Result};
+use crate::given::Given;
 use aud_client::Recording;
 use aud_desk::{AuditFault, Entry, OpenGate, Tickets, audit_with, gather, work};
-use aud_maker::sessions;
 use aud_verdict::Verdict;
 use std::alloc::Global;
+use std::mem::ManuallyDrop;
 use std::sync::Wait;
 use std::thread::Threads;
 use std::time::Clock;
@@ -22,96 +21,120 @@ pub enum OnWorkers {
 
 /// Makes the call.
 pub fn given<R: Threads + Wait + Clock + Sync>(
+    recording: &Recording<'_>,
     rt: &R,
     alloc: Global,
-    recording: &Recording<'_>,
+    pids: &[String],
     call: &OnWorkers,
-) -> Result<Given> {
+) -> Given {
     match call {
         OnWorkers::Tickets => tickets(alloc),
-        OnWorkers::Work => worked(rt, alloc, recording),
-        OnWorkers::Gather => gathered(rt, alloc, recording),
-        OnWorkers::Audit(workers) => audited(rt, alloc, recording, *workers),
+        OnWorkers::Work => worked(recording, rt, alloc, pids),
+        OnWorkers::Gather => gathered(recording, rt, alloc, pids),
+        OnWorkers::Audit(workers) => audited(recording, rt, alloc, *workers),
     }
 }
 
-fn tickets(alloc: Global) -> Result<Given> {
+fn tickets(alloc: Global) -> Given {
     begin(alloc);
-    let made = Tickets::new(alloc, 100, 64);
+    let made = ManuallyDrop::new(Tickets::new(alloc, 100, 64));
     end(alloc);
-    match made {
-        Ok((_, seats)) => Ok(count(alloc, seats.len(), "seats")?),
-        Err(_) => Ok(Given::Memory),
+    match &*made {
+        Ok((_, seats)) => Given::Answer("seats", seats.len()),
+        Err(_) => Given::Memory,
     }
 }
 
 /// Whether these are the entries of all indices of so many past the first, each once.
 fn are_past(entries: &[Entry], first: usize, all: usize) -> bool {
-    entries.len() + 1 == all.saturating_sub(first)
-        && entries.iter().enumerate().all(|(place, entry)| entry.index().checked_sub(place)
-            == first.checked_add(1))
+    let mut last = first;
+    for entry in entries {
+        last = last.saturating_add(1);
+        if entry.index() != last {
+            return false;
+        }
+    }
+    last.saturating_add(1) == all
 }
 
 /// One worker works, and then another.
-fn worked<R: Wait + Clock>(rt: &R, alloc: Global, recording: &Recording<'_>) -> Result<Given> {
-    let pids = sessions(alloc, recording)?;
-    let pids = pids.as_slice();
-    let (tickets, mut seats) = Tickets::new(alloc, pids.len(), 2)?;
-    let other = seats.pop().context("a seat")?;
-    let seat = seats.pop().context("a seat")?;
+fn worked<R: Wait + Clock>(
+    recording: &Recording<'_>,
+    rt: &R,
+    alloc: Global,
+    pids: &[String],
+) -> Given {
+    let Ok((tickets, mut seats)) = Tickets::new(alloc, pids.len(), 2) else {
+        return Given::Wrong("there are no tickets");
+    };
+    let (Some(other), Some(seat)) = (seats.pop(), seats.pop()) else {
+        return Given::Wrong("there are no two seats");
+    };
     begin(alloc);
     let worked = work(rt, alloc, &tickets, seat, recording, pids, false, &OpenGate);
     end(alloc);
     let other = work(
         rt, alloc, &tickets, other, recording, pids, false, &OpenGate,
-    )?;
-    match worked {
-        Ok(worker) => Ok(count(alloc, worker.entries().len(), "entries")?),
-        Err(AuditFault::Memory(made)) if are_past(other.entries(), made, pids.len()) => {
-            Ok(Given::MemoryAfter(made))
-        }
-        Err(_) => Ok(Given::Wrong("the other worker goes on after the refused index")),
+    );
+    match (&*ManuallyDrop::new(worked), &*ManuallyDrop::new(other)) {
+        (Ok(worker), Ok(_)) => Given::Answer("entries", worker.entries().len()),
+        (Err(AuditFault::Memory(made)), Ok(other))
+            if are_past(other.entries(), *made, pids.len()) => { Given::MemoryAfter(*made) }
+        _ => Given::Wrong("the other worker goes on after the refused index"),
     }
 }
 
-fn is_yes(verdict: &Verdict) -> bool {
-    matches!(verdict, Verdict::Yes { .. })
+/// How many of them are yes.
+fn yes(verdicts: &[Verdict]) -> usize {
+    let mut count = 0usize;
+    for verdict in verdicts {
+        count = count.saturating_add(usize::from(matches!(verdict, Verdict::Yes { .. })));
+    }
+    count
 }
 
 /// One worker has all entries.
-fn gathered<R: Wait + Clock>(rt: &R, alloc: Global, recording: &Recording<'_>) -> Result<Given> {
-    let pids = sessions(alloc, recording)?;
-    let pids = pids.as_slice();
-    let (tickets, mut seats) = Tickets::new(alloc, pids.len(), 1)?;
-    let seat = seats.pop().context("a seat")?;
-    let worker = work(rt, alloc, &tickets, seat, recording, pids, false, &OpenGate)?;
+fn gathered<R: Wait + Clock>(
+    recording: &Recording<'_>,
+    rt: &R,
+    alloc: Global,
+    pids: &[String],
+) -> Given {
+    let Ok((tickets, mut seats)) = Tickets::new(alloc, pids.len(), 1) else {
+        return Given::Wrong("there are no tickets");
+    };
+    let Some(seat) = seats.pop() else {
+        return Given::Wrong("there is no seat");
+    };
+    let Ok(worker) = work(rt, alloc, &tickets, seat, recording, pids, false, &OpenGate) else {
+        return Given::Wrong("there is no worker");
+    };
     let mut workers = Vec::new(alloc);
-    workers.push(worker)?;
+    let Ok(()) = workers.push(worker) else {
+        return Given::Wrong("there is no worker");
+    };
     begin(alloc);
-    let gathered = gather(alloc, tickets, workers);
+    let gathered = ManuallyDrop::new(gather(alloc, tickets, workers));
     end(alloc);
-    match gathered {
-        Ok(all) => {
-            let yes = all.iter().filter(|verdict| is_yes(verdict)).count();
-            Ok(count(alloc, yes, "yes")?)
-        }
-        Err(_) => Ok(Given::Memory),
+    match &*gathered {
+        Ok(all) => Given::Answer("yes", yes(all)),
+        Err(_) => Given::Memory,
     }
 }
 
 fn audited<R: Threads + Wait + Clock + Sync>(
+    recording: &Recording<'_>,
     rt: &R,
     alloc: Global,
-    recording: &Recording<'_>,
     workers: usize,
-) -> Result<Given> {
+) -> Given {
     begin(alloc);
-    let audited = audit_with(rt, alloc, recording, workers, false, &OpenGate);
+    let audited = ManuallyDrop::new(audit_with(rt, alloc, recording, workers, false, &OpenGate));
     end(alloc);
-    match audited {
-        Ok(report) => Ok(count(alloc, report.yes, "yes")?),
-        Err(AuditFault::Memory(made)) => Ok(Given::MemoryAfter(made)),
-        Err(AuditFault::Spawn) => Ok(Given::Spawn),
-        Err(AuditFault::Workers) => Ok(Given::Wrong("there are 1 to 64 workers")),
+    match &*audited {
+        Ok(report) => Given::Answer("yes", report.yes),
+        Err(AuditFault::Memory(made)) => Given::MemoryAfter(*made),
+        Err(AuditFault::Spawn) => Given::Spawn,
+        Err(AuditFault::Workers) => Given::Wrong("there are 1 to 64 workers"),
     }
 }
