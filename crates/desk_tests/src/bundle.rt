@@ -1,4 +1,13 @@
-//! The bundle of `examples/bundle_a.jsonl`: its lines, each without the name of its tap, and the report on it.
+//! The bundle of `examples/bundle_a.jsonl`: its lines, each without the name of its tap, and the report on it; and the
+//! taps of a bundle.
+ghost use Rattle.std.specs.Prelude.{IfOk};
+ghost use Rattle.aud_tap.specs.Names.{AreNamedOnce};
+
+use aud_reader::{Line, read_bundle};
+use aud_tap::{Bytes, Taps};
+use std::alloc::{AllocError, Global};
+use std::hash::RandomState;
+use std::test::Fail;
 
 /// The lines of the stream's tap.
 pub const STREAM: [&[u8]; 2] = [
@@ -15,12 +24,18 @@ pub const NODE: [&[u8]; 5] = [
     br#"{"k":"take","off":"1-0"}"#,
 ];
 
-/// Those of the client's.
+/// What the client's tap tells of the reply to its connection.
+pub const REPLY: &[u8] = br#"{"k":"in","t":"40{\"sid\":\"s1\",\"pid\":\"P\"}"}"#;
+
+/// What it tells of the event.
+pub const EVENT: &[u8] = br#"{"k":"in","t":"42[\"hi\",\"1-0\"]"}"#;
+
+/// The lines of the client's tap.
 pub const CLIENT: [&[u8]; 4] = [
     br#"{"k":"tap","v":1,"of":"client"}"#,
     br#"{"k":"conn","c":1}"#,
-    br#"{"k":"in","t":"40{\"sid\":\"s1\",\"pid\":\"P\"}"}"#,
-    br#"{"k":"in","t":"42[\"hi\",\"1-0\"]"}"#,
+    REPLY,
+    EVENT,
 ];
 
 /// The names of the taps of the bundle, in the order of their first lines.
@@ -29,11 +44,53 @@ pub const NAMES: [&str; 3] = ["st", "a", "c1"];
 /// What is written for the bundle.
 pub const REPORT: &str = "yes P got=1 tail=0 turns=1\nsessions=1 yes=1 no=0\n";
 
-/// The lines of the tap at this place.
-pub fn lines_of(place: usize) -> &'static [&'static [u8]] {
-    match place {
-        0 => &STREAM,
-        1 => &NODE,
-        _ => &CLIENT,
+/// The lines of the tap of this name.
+pub fn lines_of(name: &str) -> &'static [&'static [u8]] {
+    match name {
+        "st" => &STREAM,
+        "a" => &NODE,
+        "c1" => &CLIENT,
+        _ => &[],
     }
+}
+
+/// The name of a tap, and lines of it.
+pub type Part = (&'static str, &'static [&'static [u8]]);
+
+/// Appends a line of the tap of this name.
+fn push_line(
+    alloc: Global,
+    lines: &mut Vec<Line>,
+    name: &str,
+    json: &[u8],
+) -> Result<(), AllocError> {
+    let number = lines.len() as u64 + 1;
+    let mut bytes = name.as_bytes().to_vec(alloc)?;
+    bytes.push(b' ')?;
+    bytes.extend_from_slice(json)?;
+    let bytes = Bytes::new(bytes);
+    lines.push(Line { number, bytes })?;
+    Ok(())
+}
+
+/// The first lines of these parts, so many at most.
+fn first_lines(alloc: Global, parts: &[Part], most: usize) -> Result<Vec<Line>, AllocError> {
+    let mut lines = Vec::new(alloc);
+    for (name, texts) in parts {
+        for json in *texts {
+            if lines.len() < most {
+                push_line(alloc, &mut lines, name, json)?;
+            }
+        }
+    }
+    Ok(lines)
+}
+
+/// The taps of the first lines of these parts, so many at most.
+pub fn taps_of(alloc: Global, keys: RandomState, parts: &[Part], most: usize) -> Result<Taps, Fail>
+    ensures { IfOk result (λ taps. AreNamedOnce taps) }
+{
+    let lines = first_lines(alloc, parts, most)?;
+    let taps = read_bundle(alloc, keys, lines.as_slice())?;
+    Ok(taps)
 }

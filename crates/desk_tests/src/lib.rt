@@ -10,9 +10,7 @@ mod books;
 #[cfg(test)]
 mod bundle;
 #[cfg(test)]
-mod gates;
-#[cfg(test)]
-mod history;
+mod desks;
 #[cfg(test)]
 mod posted;
 #[cfg(test)]
@@ -25,7 +23,5 @@ mod shared_out;
 mod sockets;
 #[cfg(test)]
 mod two_sessions;
-#[cfg(test)]
-mod visits;
 #[cfg(test)]
 mod workers;

@@ -1,121 +1,155 @@
-//! A bundle that is posted, and the report on it.
-ghost use Rattle.std.specs.Prelude.{◌≡◌, length};
-
-use crate::bundle::{CLIENT, NAMES, NODE, REPORT, STREAM, lines_of};
-use crate::reports::reported;
-use crate::visits::{Visit, at_desk, closed, ensure, last_two, post_all};
-use aud_book::{Desk, Posted, Posts, TapSeat, read_posted};
+//! What is posted at a desk and refused, by one thread and by several, and the report on a bundle that is posted.
+use crate::bundle::NAMES;
+use crate::desks::{Memory, at_desk, by_threads, first_lines};
+use crate::posts::{Post, is_left, posts_in};
+use crate::reports::{ONE_YES, audit};
+use aud_book::{DeskFault, PostFault, Posted, read_posted};
 use aud_desk::OpenGate;
-use std::alloc::Global;
+use std::alloc::{AllocError, Global};
 use std::hash::RandomState;
-use std::marker::Brand;
+use std::mem::ManuallyDrop;
+use std::process::Abort;
 use std::random::RandomSource;
 use std::sync::Wait;
-use std::sync::ledger::Blank;
 use std::test::Fail;
-use std::thread::{Threads, join};
+use std::thread::Threads;
 use std::time::Clock;
 
+/// Fails where this doesn't hold.
+fn ensure(holds: bool, what: &'static str) -> Result<(), Fail> {
+    if holds { Ok(()) } else { Err(Fail::new(what)) }
+}
+
 /// Fails where what was posted has another report than the bundle.
-fn audit<R: Threads + Wait + Clock + RandomSource + Sync>(
-    rt: &R,
-    alloc: Global,
+fn audit_posted<R: Threads + Wait + Clock + RandomSource + Abort + Sync>(
     posted: &Posted<'_>,
+    rt: &R,
+    alloc: Global,
 ) -> Result<(), Fail> {
-    let taps = read_posted(alloc, RandomState::new(rt)?, posted)?;
-    let (_, _, text) = reported(rt, alloc, &taps, 2, false, &OpenGate)?;
-    ensure(text.as_str() == REPORT, "the report on the bundle")
+    let taps = ManuallyDrop::new(read_posted(alloc, RandomState::new(rt)?, posted)?);
+    audit(&taps, rt, alloc, 2, false, &ONE_YES, &OpenGate)
 }
 
-/// What three threads post, one for each tap.
-fn three_threads<'a, L: Posts + Send + Sync, R: Threads + Wait + Sync>(
-    rt: &R,
-    alloc: Global,
-    blank: Blank,
-    names: &[&'a str],
-) -> Result<Posted<'a>, Fail>
-    requires name { blank.name ≡ L.name }
-    requires parts { (blank.parts ≡ L.parts) × (blank.parts ≡ length names.now)
-        × (L.count ≡ length names.now) }
-{
-    let (desk, mut seats) = Desk::<L>::new(alloc, blank, names)?;
-    let (node, client) = last_two(&mut seats)?;
-    let stream = seats.pop().ok_or("a seat")?;
-    let shared = &desk;
-    let (stream, (node, client)) = join(
-        rt,
-        move || post_all(rt, shared, stream, &STREAM),
-        move || {
-            join(
-                rt,
-                move || post_all(rt, shared, node, &NODE),
-                move || post_all(rt, shared, client, &CLIENT),
-            )
-        },
-    );
-    seats.push(stream?)?;
-    seats.push(node?)?;
-    seats.push(client?)?;
-    closed(desk, seats)
-}
+/// The orders in which one thread posts the whole bundle, each time from the seat at the next place.
+static ORDERS: [[usize; 11]; 4] = [
+    [0, 0, 1, 1, 1, 1, 1, 2, 2, 2, 2],
+    [2, 2, 2, 2, 1, 1, 1, 1, 1, 0, 0],
+    [1, 2, 0, 1, 2, 1, 2, 1, 2, 1, 0],
+    [2, 0, 1, 1, 2, 2, 1, 1, 0, 1, 2],
+];
 
-/// What three threads post at a desk over the taps of the bundle.
-fn posted_by_three<R: Threads + Wait + Sync>(
+/// What one thread posts in this order; it fails where it leaves anything else.
+fn in_order<R: Wait>(
     rt: &R,
     alloc: Global,
+    names: &[&'static str],
+    order: &[usize],
 ) -> Result<Posted<'static>, Fail> {
-    three_threads::<Brand, R>(rt, alloc, Blank::new(3), &NAMES)
-}
-
-#[test]
-fn three_threads_post_a_bundle(rt: HostRuntime) -> Result<(), Fail> {
-    let posted = posted_by_three(&rt, rt.alloc())?;
-    assert_eq!(rt; posted.history.len(), 11);
-    audit(&rt, rt.alloc(), &posted)
-}
-
-/// One thread posts, each time from the seat whose tap stands next in this list, by its place.
-#[derive(Drop)]
-struct InOrder {
-    order: [usize; 11],
-}
-
-impl Visit for InOrder {
-    fn visit<'a, L: Posts, R: Wait>(
-        &'a self,
-        rt: &R,
-        _alloc: Global,
-        desk: Desk<'a, L>,
-        mut seats: Vec<TapSeat<'a, L>>,
-    ) -> Result<Posted<'a>, Fail> {
-        for place in self.order {
-            if place >= seats.len() {
-                return Err(Fail::new("a seat"));
-            }
-            let seat = seats.remove(place);
-            let line = lines_of(place).get(seat.lines().len()).ok_or("a line")?;
-            match desk.post(rt, seat, *line) {
-                Ok(seat) => seats.insert(place, seat)?,
-                Err((_, fault)) => return Err(Fail::from(fault)),
-            }
-        }
-        closed(desk, seats)
+    let posts = posts_in(alloc, names, order)?;
+    let posted = at_desk(rt, alloc, names, &posts, Memory::Ample)??;
+    if posts.len() == order.len() && is_left(&posted, names, &posts) {
+        Ok(posted)
+    } else {
+        Err(Fail::new("the lines and the order of the posts"))
     }
 }
 
 #[test]
 fn the_order_of_the_posts_changes_nothing(rt: HostRuntime) -> Result<(), Fail> {
-    for order in [
-        [0, 0, 1, 1, 1, 1, 1, 2, 2, 2, 2],
-        [2, 2, 2, 2, 1, 1, 1, 1, 1, 0, 0],
-        [1, 2, 0, 1, 2, 1, 2, 1, 2, 1, 0],
-        [2, 0, 1, 1, 2, 2, 1, 1, 0, 1, 2],
-    ] {
-        let visit = InOrder { order };
-        let posted = at_desk(&rt, rt.alloc(), &NAMES, &visit)??;
-        let places = posted.history.iter().map(|(place, _)| *place);
-        ensure(places.eq(order), "the order of the posts")?;
-        audit(&rt, rt.alloc(), &posted)?;
+    in_order(&rt, rt.alloc(), &["st", "a"], &[0, 1, 0, 1])?;
+    for order in &ORDERS {
+        let posted = in_order(&rt, rt.alloc(), &NAMES, order)?;
+        audit_posted(&posted, &rt, rt.alloc())?;
+    }
+    Ok(())
+}
+
+/// Whether threads left the lines under these names, so many at most, and a history of just these.
+fn are_by_threads(
+    alloc: Global,
+    posted: &Posted<'_>,
+    names: &[&str],
+    most: usize,
+) -> Result<bool, Fail> {
+    let mut order = Vec::new(alloc);
+    for (place, _) in &posted.history {
+        order.push(*place)?;
+    }
+    for tap in &posted.taps {
+        if tap.lines.as_slice() != first_lines(tap.name, most) {
+            return Ok(false);
+        }
+    }
+    let posts = posts_in(alloc, names, &order)?;
+    Ok(is_left(posted, names, &posts))
+}
+
+#[test]
+fn threads_post_at_once(rt: HostRuntime) -> Result<(), Fail> {
+    let alloc = rt.alloc();
+    let two = by_threads(&rt, alloc, &["st", "a"], 2)?;
+    ensure(
+        two.history.len() == 4 && are_by_threads(alloc, &two, &["st", "a"], 2)?,
+        "two lines each",
+    )?;
+    let three = by_threads(&rt, alloc, &NAMES, 5)?;
+    ensure(
+        three.history.len() == 11 && are_by_threads(alloc, &three, &NAMES, 5)?,
+        "all lines",
+    )?;
+    audit_posted(&three, &rt, alloc)
+}
+
+#[test]
+fn a_post_that_wants_memory_may_be_tried_again(rt: HostRuntime) -> Result<(), Fail> {
+    let Ok(posts) = posts_in(rt.alloc(), &["a"], &[0, 0, 0, 0, 0]) else {
+        return Ok(());
+    };
+    match at_desk(&rt, rt.alloc(), &["a"], &posts, Memory::RefusedOnce) {
+        Ok(posted) => ensure(
+            posts.len() == 5 && is_left(&posted?, &["a"], &posts),
+            "each line once",
+        ),
+        Err(fault) => ensure(fault == DeskFault::Memory, "want of memory alone"),
+    }
+}
+
+/// The longest line of a tap whose name has one byte.
+const LONGEST: usize = 4_194_302;
+
+/// A line of so many bytes.
+fn line_of(alloc: Global, len: usize) -> Result<Vec<u8>, AllocError> {
+    Ok(vec![in alloc; b'x'; len]?)
+}
+
+#[test]
+fn lines_up_to_the_limit_are_posted(rt: HostRuntime) -> Result<(), Fail> {
+    let longest = line_of(rt.alloc(), LONGEST)?;
+    let longer = line_of(rt.alloc(), LONGEST + 1)?;
+    let rows: [(&[u8], Option<PostFault>); 3] = [
+        (longest.as_slice(), None),
+        (longer.as_slice(), Some(PostFault::TooLong)),
+        (b"x\n", Some(PostFault::Newline)),
+    ];
+    let posts = rows.map(|(line, refused)| Post {
+        place: 1,
+        line,
+        refused,
+    });
+    let posted = at_desk(&rt, rt.alloc(), &["st", "a"], &posts, Memory::Ample)??;
+    ensure(
+        is_left(&posted, &["st", "a"], &posts),
+        "the longest line alone",
+    )
+}
+
+static NO_NAMES: [&[&str]; 4] = [&["a", "a"], &["st", "a", "b", "a"], &["st", ""], &[]];
+
+#[test]
+fn a_name_stands_once(rt: HostRuntime) -> Result<(), Fail> {
+    for names in NO_NAMES {
+        let opened = at_desk(&rt, rt.alloc(), names, &[], Memory::Ample);
+        assert!(rt; matches!(opened, Err(DeskFault::Names)));
     }
     Ok(())
 }
