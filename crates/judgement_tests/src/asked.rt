@@ -1,96 +1,57 @@
-//! What a test asks of a bundle, and the text of the answer.
+//! Cases, each a text: the lines of a bundle, then what is asked of it, each time after `? `, with the answer below.
+//!
+//! In a bundle `@A B` stands for the lines of the parts `A` and `B`, and in a question `@A` for the text of the part
+//! `A`.
+//!
+//! | question | what it asks for |
+//! |---|---|
+//! | `entry 1-0` | where the entry with this offset stands in the stream |
+//! | `addressees / r` | the entries of the namespace that name the room, and those for all of it |
+//! | `name P` | the place of the tap of this name, and those of the nodes and clients that name the session |
+//! | `named` | the sessions that nodes name |
+//! | `log a` | the cursors of the node of this name, and the records of the session `P` |
+//! | `turn a 0 P` | a turn of the session `P` on this node, and the records in it of the session after it |
+//! | `spans` | the spans of the session `P`, by its turn 0 on `a` and its turn 1 on `b` |
+//! | `walked 1 +r 3 -r` | the spans of a session whose node's cursor comes to 1, which joins `r`, and leaves it at 3 |
+//! | `addressed / r` | the entries for a session in the namespace that was in `s1` and `r`, and left this room |
+//! | `due / 0 4 r:2-3` | the positions past 0 up to 4 that are due in the namespace by spans of these rooms |
+//! | `run 0.0 1.0` | whether these steps are a run, each by the numbers of its log and its record |
+//! | `after 0.0 1.0` | whether the last step is allowed after the others, and the session `P` there |
+//! | `order` | the run that is shown, or the records that block |
+//! | `packets c1` | the packets of the client's tap, connection by connection |
+//! | `stays c1` | a line for each stay of the client's tap, then whether it has an orphan, and its first bad record |
+//! | `places c1` | a line for each stay: the records of its last packet, its ask, its reply and its frames |
+//! | `frames c1` | a line for each frame of the client's tap |
+//! | `naming c1 P` | of each stay whether it names the session, and is recovered; the connections of those that name it |
+//! | `sessions` | the sessions |
+//! | `made P` | the certificate of the session, or the word of its fault |
+//! | `rewritten {}` | what is written for the certificate that is read from the text, or why it is not read |
+//! | `checked {}` | what the check answers to the certificate of the text |
+//! | `verdict P`, `whole P` | the verdict on the session; where the whole is asked for |
 ghost use Rattle.std.specs.Prelude.{IfOk};
 ghost use Rattle.aud_tap.specs.Names.{AreNamedOnce};
 
+use crate::told::Told;
 use crate::{certificates, clients, node_logs, orders, packets, rooms, runs, stream, turns};
 use aud_client::Recording;
-use aud_merge::Step;
 use aud_reader::{Line, read_bundle};
 use aud_tap::{Bytes, Taps};
 use std::alloc::{AllocError, Global};
 use std::hash::RandomState;
-use std::mem::ManuallyDrop;
 use std::process::Abort;
 use std::random::RandomSource;
 use std::test::Fail;
 use std::thread::Threads;
 
-/// What is asked of the recording of a bundle. Taps are named by their names.
-pub enum Asked {
-    /// The entry of the stream with this offset.
-    Entry(&'static str),
-    /// The positions of the entries of a namespace that name a room, and of those for the whole namespace.
-    Addressees(&'static str, &'static str),
-    /// The place of the tap of this name, and those of the nodes and of the clients that name the session of this pid.
-    Name(&'static str),
-    /// The sessions that the nodes name.
-    Named,
-    /// The log of the node.
-    Log(&'static str),
-    /// The turn of the session `P` on the node, with this number; and the records in it of this session.
-    Turn(&'static str, u16, &'static str),
-    /// The spans of the session `P` over its turn 0 on node `a` and, where there is one, its turn 1 on node `b`.
-    Spans,
-    /// The spans of a session that does so.
-    Walked(&'static [Next]),
-    /// Whether `r` is held, and the positions of the entries for a session in this namespace, after it joined `s1` and
-    /// `r` and left these rooms.
-    Addressed(&'static str, &'static [&'static str]),
-    /// The positions past the first up to the second that are due in a namespace by spans of these rooms.
-    Due(Rooms, &'static str, u64, u64),
-    /// Whether these steps are a run.
-    Run(&'static [Step]),
-    /// Whether the step is allowed after these, and the session `P` there.
-    After(&'static [Step], Step),
-    /// The run that is shown, or the records that block.
-    Order,
-    /// The packets of the client's tap, connection by connection.
-    Packets(&'static str),
-    /// A line for each stay of the client's tap, and then whether it has an orphan, and its first bad record.
-    Stays(&'static str),
-    /// A line for each stay of the client's tap: the records of its last packet, its ask, its reply and its frames.
-    Places(&'static str),
-    /// A line for each frame of the client's tap.
-    Frames(&'static str),
-    /// Of each stay of the client's tap, whether its reply names the session, and whether the stay is recovered; and
-    /// the connections of the stays that name the session.
-    Naming(&'static str, &'static str),
-    /// The sessions.
-    Sessions,
-    /// The certificate of the session, or the word of its fault.
-    Made(&'static str),
-    /// What is written for the certificate that is read from the text, or why it is not read.
-    Rewritten(&'static str),
-    /// What the check answers to the certificate of the text.
-    Checked(&'static str),
-    /// The verdict on the session.
-    Verdict(&'static str),
-    /// The verdict on the session, where the whole is asked for.
-    Whole(&'static str),
-}
-
-/// Rooms, each with its first and last position.
-pub type Rooms = &'static [(&'static str, u64, u64)];
-
-/// What a session does next: the node's cursor comes to a position, or the session joins or leaves a room.
-#[derive(Clone, Copy)]
-pub enum Next {
-    Upto(u64),
-    Join(&'static str),
-    Leave(&'static str),
-}
-
-/// A bundle, in texts of one or more lines, and what is asked of it, each with the text of the answer.
-pub type Case = (&'static [&'static str], &'static [(Asked, &'static str)]);
-
-/// Asserts that each bundle gives each of its questions the answer.
+/// Asserts that each case has the answers. Each of the parts comes after its name.
 pub fn assert_answers(
     rt: &(impl Abort + RandomSource + Threads + Sync),
     alloc: Global,
-    cases: &[Case],
+    parts: &[&str],
+    cases: &[&str],
 ) -> Result<(), Fail> {
-    for (bundle, answers) in cases {
-        assert_case(rt, alloc, bundle, answers)?;
+    for case in cases {
+        assert_case(rt, alloc, parts, case)?;
     }
     Ok(())
 }
@@ -98,91 +59,158 @@ pub fn assert_answers(
 fn assert_case(
     rt: &(impl Abort + RandomSource + Threads + Sync),
     alloc: Global,
-    bundle: &[&str],
-    answers: &[(Asked, &str)],
+    parts: &[&str],
+    case: &str,
 ) -> Result<(), Fail> {
-    let keys = RandomState::new(rt)?;
-    let taps = ManuallyDrop::new(taps_of(alloc, keys, bundle)?);
-    let recording = ManuallyDrop::new(Recording::read(rt, alloc, keys, 4, &taps)?);
-    assert_each(&recording, rt, alloc, answers)
-}
-
-fn assert_each(
-    recording: &Recording<'_>,
-    rt: &impl Abort,
-    alloc: Global,
-    answers: &[(Asked, &str)],
-) -> Result<(), Fail> {
-    for (asked, answer) in answers {
-        let mut told = String::new(alloc);
-        tell(recording, alloc, asked, &mut told)?;
-        assert_eq!(rt; told.as_str(), *answer);
-    }
+    let (bundle, asked) = case.split_once("\n? ").unwrap_or((case, ""));
+    let told = told_of_bundle(rt, alloc, parts, bundle, asked)?;
+    assert_eq!(rt; told.as_str(), case);
     Ok(())
 }
 
-/// Writes the answer of the recording.
-fn tell(
+fn told_of_bundle(
+    rt: &(impl RandomSource + Threads + Sync),
+    alloc: Global,
+    parts: &[&str],
+    bundle: &str,
+    asked: &str,
+) -> Result<String, Fail> {
+    let keys = RandomState::new(rt)?;
+    let taps = taps_of(alloc, keys, parts, bundle)?;
+    told_of_taps(&taps, rt, alloc, keys, parts, bundle, asked)
+}
+
+fn told_of_taps(
+    taps: &Taps,
+    rt: &(impl Threads + Sync),
+    alloc: Global,
+    keys: RandomState,
+    parts: &[&str],
+    bundle: &str,
+    asked: &str,
+) -> Result<String, Fail>
+    requires { AreNamedOnce taps.now }
+{
+    match Recording::read(rt, alloc, keys, 4, taps) {
+        Ok(recording) => told(&recording, alloc, parts, bundle, asked),
+        Err(_) => Err(Fail::new("memory ran out")),
+    }
+}
+
+/// The case as the recording answers it.
+fn told(
     recording: &Recording<'_>,
     alloc: Global,
-    asked: &Asked,
-    out: &mut String,
-) -> Result<(), AllocError> {
-    let logs = recording.logs();
-    match asked {
-        Asked::Entry(off) => stream::tell_entry(logs.stream(), off, out),
-        Asked::Addressees(nsp, room) => stream::tell_addressees(logs.stream(), nsp, room, out),
-        Asked::Name(name) => node_logs::tell_name(recording, name, out),
-        Asked::Named => node_logs::tell_named(logs, out),
-        Asked::Log(name) => node_logs::tell_log(logs, name, out),
-        Asked::Turn(node, number, pid) => turns::tell_turn(logs, node, *number, pid, out),
-        Asked::Spans => turns::tell_spans(logs, alloc, out),
-        Asked::Walked(steps) => rooms::tell_walked(alloc, steps, out),
-        Asked::Addressed(nsp, left) => rooms::tell_addressed(logs.stream(), alloc, nsp, left, out),
-        Asked::Due(held, nsp, after, upto) => {
-            rooms::tell_due(logs.stream(), alloc, *held, nsp, *after, *upto, out)
+    parts: &[&str],
+    bundle: &str,
+    asked: &str,
+) -> Result<String, Fail> {
+    let mut out = Told::new(alloc);
+    out.text(bundle);
+    for asked in asked.split("\n? ") {
+        let (question, _) = asked.split_once('\n').unwrap_or((asked, ""));
+        out.text("\n? ");
+        out.text(question);
+        out.text("\n");
+        tell(recording, alloc, parts, question, &mut out);
+    }
+    Ok(out.finish()?)
+}
+
+/// Writes the answer of the recording.
+fn tell(recording: &Recording<'_>, alloc: Global, parts: &[&str], question: &str, out: &mut Told) {
+    let (word, of) = cut(question);
+    match word {
+        "entry" => stream::tell_entry(recording.logs().stream(), of, out),
+        "addressees" => stream::tell_addressees(recording.logs().stream(), of, out),
+        "name" => node_logs::tell_name(recording, of, out),
+        "named" => node_logs::tell_named(recording.logs(), out),
+        "log" => node_logs::tell_log(recording.logs(), of, out),
+        "turn" => turns::tell_turn(recording.logs(), of, out),
+        "spans" => turns::tell_spans(recording.logs(), alloc, out),
+        "walked" => rooms::tell_walked(alloc, of, out),
+        "addressed" => rooms::tell_addressed(recording.logs().stream(), alloc, of, out),
+        "due" => rooms::tell_due(recording.logs().stream(), alloc, of, out),
+        "run" => runs::tell_run(recording.logs(), alloc, of, out),
+        "after" => runs::tell_after(recording.logs(), alloc, of, out),
+        "order" => orders::tell_order(recording.logs(), alloc, out),
+        "packets" => packets::tell_packets(recording.logs(), alloc, of, out),
+        "sessions" => certificates::tell_sessions(recording, alloc, out),
+        "made" => certificates::tell_made(recording, alloc, of, out),
+        "rewritten" | "checked" => {
+            certificates::tell_read(recording, alloc, word, part(parts, of), out)
         }
-        Asked::Run(steps) => runs::tell_run(logs, alloc, steps, out),
-        Asked::After(steps, step) => runs::tell_after(logs, alloc, steps, step, out),
-        Asked::Order => orders::tell_order(logs, alloc, out),
-        Asked::Packets(name) => packets::tell_packets(recording, alloc, name, out),
-        Asked::Stays(name) => clients::tell_stays(recording, name, out),
-        Asked::Places(name) => clients::tell_places(recording, name, out),
-        Asked::Frames(name) => clients::tell_frames(recording, name, out),
-        Asked::Naming(name, pid) => clients::tell_naming(recording, alloc, name, pid, out),
-        Asked::Sessions => certificates::tell_sessions(recording, alloc, out),
-        Asked::Made(pid) => certificates::tell_made(recording, alloc, pid, out),
-        Asked::Rewritten(text) => certificates::tell_rewritten(recording, alloc, text, out),
-        Asked::Checked(text) => certificates::tell_checked(recording, alloc, text, out),
-        Asked::Verdict(pid) => certificates::tell_verdict(recording, alloc, pid, false, out),
-        Asked::Whole(pid) => certificates::tell_verdict(recording, alloc, pid, true, out),
+        "verdict" => certificates::tell_verdict(recording, alloc, of, false, out),
+        "whole" => certificates::tell_verdict(recording, alloc, of, true, out),
+        _ => clients::tell_client(recording, alloc, word, of, out),
+    }
+}
+
+/// The first word of a text, and what comes after it.
+pub fn cut(text: &str) -> (&str, &str) {
+    text.split_once(' ').unwrap_or((text, ""))
+}
+
+/// The number that these digits are; 0 where they are none.
+pub fn number(digits: &str) -> u64 {
+    digits.parse::<u64>().unwrap_or(0)
+}
+
+/// The text of the part of this name.
+fn named<'a>(parts: &[&'a str], name: &str) -> &'a str {
+    for part in parts {
+        let (it, text) = part.split_once('\n').unwrap_or((part, ""));
+        if it == name {
+            return text;
+        }
+    }
+    "no such part"
+}
+
+/// The text of the part whose name stands after `@`, or the text itself.
+fn part<'a>(parts: &[&'a str], text: &'a str) -> &'a str {
+    match text.strip_prefix('@') {
+        Some(name) => named(parts, name),
+        None => text,
     }
 }
 
 /// The taps of the bundle.
-fn taps_of(alloc: Global, keys: RandomState, bundle: &[&str]) -> Result<Taps, Fail>
+fn taps_of(alloc: Global, keys: RandomState, parts: &[&str], bundle: &str) -> Result<Taps, Fail>
     ensures { IfOk result (λ taps. AreNamedOnce taps) }
 {
-    let lines = lines_of(alloc, bundle)?;
+    let mut out = Told::new(alloc);
+    expand(parts, bundle, &mut out);
+    let text = out.finish()?;
+    let lines = lines_of(alloc, &text)?;
     let taps = read_bundle(alloc, keys, lines.as_slice())?;
     Ok(taps)
 }
 
-/// The lines of the bundle.
-fn lines_of(alloc: Global, bundle: &[&str]) -> Result<Vec<Line>, AllocError> {
-    let mut lines = Vec::new(alloc);
-    for text in bundle {
-        push_lines(alloc, &mut lines, text)?;
+/// Writes the bundle with the lines of its parts.
+fn expand(parts: &[&str], bundle: &str, out: &mut Told) {
+    for line in bundle.lines() {
+        match line.strip_prefix('@') {
+            Some(names) => expand_parts(parts, names, out),
+            None => out.line(line),
+        }
     }
-    Ok(lines)
 }
 
-/// The lines of the text come after the others.
-fn push_lines(alloc: Global, lines: &mut Vec<Line>, text: &str) -> Result<(), AllocError> {
+/// Writes the lines of the parts of these names.
+fn expand_parts(parts: &[&str], names: &str, out: &mut Told) {
+    for name in names.split(' ') {
+        out.line(named(parts, name));
+    }
+}
+
+/// The lines of the text.
+fn lines_of(alloc: Global, text: &str) -> Result<Vec<Line>, AllocError> {
+    let mut lines = Vec::new(alloc);
     for line in text.lines() {
         let number = lines.len() as u64 + 1;
         let bytes = Bytes::new(line.as_bytes().to_vec(alloc)?);
         lines.push(Line { number, bytes })?;
     }
-    Ok(())
+    Ok(lines)
 }

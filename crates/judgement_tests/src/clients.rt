@@ -1,9 +1,25 @@
 //! What clients' taps tell, as texts.
-use aud_client::{Frame, IndexedTranscript, Recording, Reply, Stay, Transcript};
+use crate::asked::cut;
+use crate::told::Told;
+use aud_client::{Frame, IndexedTranscript, Recording, Reply, Stay, StayPlaces, Transcript};
 use aud_tap::Text;
-use std::alloc::{AllocError, Global};
+use std::alloc::Global;
 
-/// What the client's tap with this name tells.
+/// What the client's tap of the first name tells: its stays, their places or frames, or which of them name a session.
+pub fn tell_client(recording: &Recording<'_>, alloc: Global, word: &str, of: &str, out: &mut Told) {
+    let (name, pid) = cut(of);
+    let Some(client) = client_named(recording, name) else {
+        return out.text("no client");
+    };
+    match word {
+        "stays" => tell_transcript(client.transcript(), out),
+        "places" => tell_places(&client.transcript().places, out),
+        "frames" => tell_frames(&client.transcript().stays, out),
+        "naming" => tell_naming(client, alloc, pid, out),
+        _ => out.text("no question"),
+    }
+}
+
 fn client_named<'r, 'a>(
     recording: &'r Recording<'a>,
     name: &str,
@@ -11,57 +27,49 @@ fn client_named<'r, 'a>(
     recording.client(recording.logs().place_of(name)?)
 }
 
-/// A line for each stay of the tap with this name, and then whether it has an orphan, and its first bad record.
-pub fn tell_stays(
-    recording: &Recording<'_>,
-    name: &str,
-    out: &mut String,
-) -> Result<(), AllocError> {
-    match client_named(recording, name) {
-        Some(client) => tell_transcript(client.transcript(), out),
-        None => write!(out, "no client"),
-    }
-}
-
-fn tell_transcript(transcript: &Transcript<'_>, out: &mut String) -> Result<(), AllocError> {
+/// A line for each stay, and then whether there is an orphan, and the first bad record.
+fn tell_transcript(transcript: &Transcript<'_>, out: &mut Told) {
     for stay in transcript.stays.iter() {
-        tell_stay(stay, out)?;
+        tell_stay(stay, out);
     }
     if transcript.orphan {
-        writeln!(out, "orphan")?;
+        out.text("orphan\n");
     }
     if let Some(number) = transcript.bad {
-        writeln!(out, "bad {number}")?;
+        out.text("bad ");
+        out.show(&number);
+        out.text("\n");
     }
-    Ok(())
 }
 
 /// The connection, the namespace, the reply, the pid and the offset that were asked for, and the positions of the
 /// frames.
-fn tell_stay(stay: &Stay<'_>, out: &mut String) -> Result<(), AllocError> {
-    let (c, nsp) = (stay.c, stay.nsp);
-    write!(out, "{c} {nsp}")?;
-    tell_reply(stay.reply.as_ref(), out)?;
+fn tell_stay(stay: &Stay<'_>, out: &mut Told) {
+    out.show(&stay.c);
+    out.text(" ");
+    out.text(stay.nsp);
+    tell_reply(stay.reply.as_ref(), out);
     if let Some(asked) = stay.asked.as_ref() {
-        let pid = asked.pid.as_str();
-        let offset = text_or(asked.offset.as_ref(), "nowhere");
-        write!(out, " asked {pid} {offset}")?;
+        out.text(" asked ");
+        out.text(asked.pid.as_str());
+        out.text(" ");
+        out.text(text_or(asked.offset.as_ref(), "nowhere"));
     }
     for frame in stay.frames.iter() {
-        let position = frame.position;
-        write!(out, " {position}")?;
+        out.text(" ");
+        out.show(&frame.position);
     }
-    writeln!(out, "")
+    out.text("\n");
 }
 
 /// The pid and the sid that the reply tells, if there is one.
-pub fn tell_reply(reply: Option<&Reply>, out: &mut String) -> Result<(), AllocError> {
-    let Some(reply) = reply else {
-        return Ok(());
-    };
-    let pid = text_or(reply.pid.as_ref(), "nobody");
-    let sid = reply.sid.as_str();
-    write!(out, " reply {pid} {sid}")
+pub fn tell_reply(reply: Option<&Reply>, out: &mut Told) {
+    if let Some(reply) = reply {
+        out.text(" reply ");
+        out.text(text_or(reply.pid.as_ref(), "nobody"));
+        out.text(" ");
+        out.text(reply.sid.as_str());
+    }
 }
 
 /// The text, or these words where there is none.
@@ -72,76 +80,67 @@ fn text_or<'a>(text: Option<&'a Text>, words: &'a str) -> &'a str {
     }
 }
 
-/// A line for each stay of the tap with this name: the records at which its packets stand.
-pub fn tell_places(
-    recording: &Recording<'_>,
-    name: &str,
-    out: &mut String,
-) -> Result<(), AllocError> {
-    let Some(client) = client_named(recording, name) else {
-        return write!(out, "no client");
-    };
-    for places in client.transcript().places.iter() {
-        let (last, ask, reply) = (places.last, places.ask, places.reply);
-        let frames = places.frames.as_slice();
-        writeln!(
-            out,
-            "last {last} ask {ask:?} reply {reply:?} frames {frames:?}"
-        )?;
+/// A line for each stay: the records at which its packets stand.
+fn tell_places(stays: &[StayPlaces], out: &mut Told) {
+    for places in stays {
+        out.text("last ");
+        out.show(&places.last);
+        out.text(" ask ");
+        out.debug(&places.ask);
+        out.text(" reply ");
+        out.debug(&places.reply);
+        out.text(" frames ");
+        out.debug(&places.frames);
+        out.text("\n");
     }
-    Ok(())
 }
 
-/// A line for each frame of the tap with this name.
-pub fn tell_frames(
-    recording: &Recording<'_>,
-    name: &str,
-    out: &mut String,
-) -> Result<(), AllocError> {
-    let Some(client) = client_named(recording, name) else {
-        return write!(out, "no client");
-    };
-    for stay in client.transcript().stays.iter() {
-        tell_frames_of(stay.frames.as_slice(), out)?;
-    }
-    Ok(())
-}
-
-/// Of each frame its position, its text, and how many bytes each attachment has, and which is the first.
-fn tell_frames_of(frames: &[Frame<'_>], out: &mut String) -> Result<(), AllocError> {
-    for frame in frames {
-        let (position, text) = (frame.position, frame.text);
-        write!(out, "{position} {text}")?;
-        for blob in frame.bin.as_slice() {
-            let bytes = blob.as_slice();
-            let (length, first) = (bytes.len(), bytes.first().copied().unwrap_or(0));
-            write!(out, " {length}:{first}")?;
+/// A line for each frame of the stays.
+fn tell_frames(stays: &[Stay<'_>], out: &mut Told) {
+    for stay in stays {
+        for frame in stay.frames.iter() {
+            tell_frame(frame, out);
         }
-        writeln!(out, "")?;
     }
-    Ok(())
 }
 
-/// Of each stay of the tap with this name its connection, whether its reply names the session, and whether it is
-/// recovered; and the connections of the stays that name the session.
-pub fn tell_naming(
-    recording: &Recording<'_>,
-    alloc: Global,
-    name: &str,
-    pid: &str,
-    out: &mut String,
-) -> Result<(), AllocError> {
-    let Some(client) = client_named(recording, name) else {
-        return write!(out, "no client");
-    };
+/// The position of the frame, its text, and how many bytes each attachment has, and which is the first.
+fn tell_frame(frame: &Frame<'_>, out: &mut Told) {
+    out.show(&frame.position);
+    out.text(" ");
+    out.text(frame.text);
+    for blob in frame.bin.as_slice() {
+        let bytes = blob.as_slice();
+        out.text(" ");
+        out.show(&bytes.len());
+        out.text(":");
+        out.show(&bytes.first().copied().unwrap_or(0));
+    }
+    out.text("\n");
+}
+
+/// Of each stay its connection, whether its reply names the session, and whether it is recovered; and the connections
+/// of the stays that name the session.
+fn tell_naming(client: &IndexedTranscript<'_>, alloc: Global, pid: &str, out: &mut Told) {
     for stay in client.transcript().stays.iter() {
-        let (c, names, recovered) = (stay.c, stay.names(pid), stay.is_recovered());
-        write!(out, "{c} {names} {recovered}, ")?;
+        out.show(&stay.c);
+        out.text(" ");
+        out.show(&stay.names(pid));
+        out.text(" ");
+        out.show(&stay.is_recovered());
+        out.text(", ");
     }
-    write!(out, "naming")?;
-    for stay in client.naming(alloc, pid)? {
-        let c = stay.c;
-        write!(out, " {c}")?;
+    out.text("naming");
+    match client.naming(alloc, pid) {
+        Ok(stays) => tell_connections(&stays, out),
+        Err(_) => out.fail(),
     }
-    Ok(())
+}
+
+/// The connections of the stays.
+fn tell_connections(stays: &[&Stay<'_>], out: &mut Told) {
+    for stay in stays {
+        out.text(" ");
+        out.show(&stay.c);
+    }
 }

@@ -33,6 +33,8 @@ mod stays;
 #[cfg(test)]
 mod stream;
 #[cfg(test)]
+mod told;
+#[cfg(test)]
 mod turns;
 #[cfg(test)]
 mod verdicts;

@@ -1,13 +1,16 @@
 //! Cursors, turns and the records of sessions in the nodes' logs.
-use crate::asked::{Asked, Case, assert_answers};
+use crate::asked::assert_answers;
+use crate::told::Told;
 use aud_client::Recording;
 use aud_node::{Logs, NodeLog};
-use std::alloc::AllocError;
 use std::test::Fail;
 
-/// The session `P` goes from `a` to `b` and back, twice. Node `c` takes an entry before an earlier one. The taps of the
-/// nodes `v`, `w` and `x` are of version 2: `v` takes all entries, `w` up to where its cursor stands, and `x` back.
-const LOGS: &str = r#"
+/// A node is of a session that one of its records names, whichever that is, and stands in the order of the taps.
+static CASES: [&str; 1] = [
+    // The session `P` goes from `a` to `b` and back, twice. Node `c` takes an entry before an earlier one. The taps of
+    // the nodes `v`, `w` and `x` are of version 2: `v` takes all entries, `w` up to where its cursor stands, and `x`
+    // back.
+    r#"
 st {"k":"tap","v":1,"of":"stream"}
 st {"k":"ev","off":"1-0","nsp":"/","text":"2[\"hi\",\"1-0\"]"}
 st {"k":"ev","off":"2-0","nsp":"/","text":"2[\"hi\",\"2-0\"]"}
@@ -57,76 +60,83 @@ x {"k":"start","off":null}
 x {"k":"takes","off":"3-0"}
 x {"k":"takes","off":"2-0"}
 x {"k":"takes","off":"4-0"}
-"#;
-
-/// A node is of a session that one of its records names, whichever that is, and stands in the order of the taps.
-static CASES: [Case; 1] = [(
-    &[LOGS],
-    &[
-        (Asked::Name("a"), "place Some(1), nodes [], clients []"),
-        (Asked::Name("d"), "place Some(4), nodes [], clients []"),
-        (Asked::Name("e"), "place None, nodes [], clients []"),
-        (Asked::Name("P"), "place None, nodes [1, 2, 4], clients []"),
-        (Asked::Name("Q"), "place None, nodes [3, 4], clients []"),
-        (Asked::Name("R"), "place None, nodes [], clients []"),
-        (Asked::Named, "P Q "),
-        (
-            Asked::Log("a"),
-            "0 0 0 1 1 2 3 3 3 4 in order true, own [1, 2, 4, 7, 8]",
-        ),
-        (Asked::Log("c"), "0 0 0 1 in order false, own []"),
-        (Asked::Log("v"), "0 2 3 4 in order true, own []"),
-        (Asked::Log("w"), "1 3 3 in order false, own []"),
-        (Asked::Log("x"), "0 3 3 4 in order false, own []"),
-        (Asked::Log("st"), "no node"),
-        (
-            Asked::Turn("a", 2, "P"),
-            "1 7..9, cursors 3 3, own [7, 8]: back break",
-        ),
-        (Asked::Turn("b", 2, "P"), "none"),
-    ],
-)];
+? name a
+place Some(1), nodes [], clients []
+? name d
+place Some(4), nodes [], clients []
+? name e
+place None, nodes [], clients []
+? name P
+place None, nodes [1, 2, 4], clients []
+? name Q
+place None, nodes [3, 4], clients []
+? name R
+place None, nodes [], clients []
+? named
+P Q 
+? log a
+0 0 0 1 1 2 3 3 3 4 in order true, own [1, 2, 4, 7, 8]
+? log c
+0 0 0 1 in order false, own []
+? log v
+0 2 3 4 in order true, own []
+? log w
+1 3 3 in order false, own []
+? log x
+0 3 3 4 in order false, own []
+? log st
+no node
+? turn a 2 P
+1 7..9, cursors 3 3, own [7, 8]: back break
+? turn b 2 P
+none"#,
+];
 
 #[test]
 fn cursors_turns_and_sessions(rt: HostRuntime) -> Result<(), Fail> {
-    assert_answers(&rt, rt.alloc(), &CASES)
+    assert_answers(&rt, rt.alloc(), &[], &CASES)
 }
 
 /// The place of the tap of this name, and those of the nodes and of the clients that name the session of this pid.
-pub fn tell_name(
-    recording: &Recording<'_>,
-    name: &str,
-    out: &mut String,
-) -> Result<(), AllocError> {
-    let logs = recording.logs();
-    let place = logs.place_of(name);
-    let (nodes, clients) = (logs.nodes_of(name), recording.naming(name));
-    write!(out, "place {place:?}, nodes {nodes:?}, clients {clients:?}")
+pub fn tell_name(recording: &Recording<'_>, name: &str, out: &mut Told) {
+    out.text("place ");
+    out.debug(&recording.logs().place_of(name));
+    out.text(", nodes ");
+    out.debug(&recording.logs().nodes_of(name));
+    out.text(", clients ");
+    out.debug(&recording.naming(name));
 }
 
 /// The pids that nodes name, each with a blank after it.
-pub fn tell_named(logs: &Logs<'_>, out: &mut String) -> Result<(), AllocError> {
+pub fn tell_named(logs: &Logs<'_>, out: &mut Told) {
     for number in 0..logs.named_count() {
-        write!(out, "{} ", logs.named_pid(number))?;
+        out.text(logs.named_pid(number));
+        out.text(" ");
     }
-    Ok(())
 }
 
 /// The node's log with this name.
-pub fn log_named<'l, 'a>(logs: &'l Logs<'a>, name: &str) -> Option<&'l NodeLog<'a>> {
+fn log_named<'l, 'a>(logs: &'l Logs<'a>, name: &str) -> Option<&'l NodeLog<'a>> {
     logs.node(logs.place_of(name)?)
 }
 
 /// The cursors after the records, whether these are in order, and the numbers of those of the session `P`.
-pub fn tell_log(logs: &Logs<'_>, name: &str, out: &mut String) -> Result<(), AllocError> {
-    let Some(log) = log_named(logs, name) else {
-        return write!(out, "no node");
-    };
+pub fn tell_log(logs: &Logs<'_>, name: &str, out: &mut Told) {
+    match log_named(logs, name) {
+        Some(log) => tell_cursors(log, out),
+        None => out.text("no node"),
+    }
+}
+
+fn tell_cursors(log: &NodeLog<'_>, out: &mut Told) {
     for number in 0..log.recs().len() {
         if let Some(cursor) = log.cursor_after(number) {
-            write!(out, "{cursor} ")?;
+            out.show(&cursor);
+            out.text(" ");
         }
     }
-    let (ordered, own) = (log.ordered(), log.own("P"));
-    write!(out, "in order {ordered}, own {own:?}")
+    out.text("in order ");
+    out.show(&log.ordered());
+    out.text(", own ");
+    out.debug(&log.own("P"));
 }

@@ -1,12 +1,14 @@
 //! Runs of a cluster with one entry, and a node on which the session `P` is opened and takes it; and runs of nodes that
 //! take many entries by one record.
-use crate::asked::{Asked, Case, assert_answers};
+use crate::asked::assert_answers;
+use crate::told::Told;
 use aud_merge::{State, Step, allowed, apply, is_run};
 use aud_node::Logs;
 use std::alloc::{AllocError, Global};
 use std::test::Fail;
 
-const CLUSTER: &str = r#"
+static CASES: [&str; 3] = [
+    r#"
 st {"k":"tap","v":1,"of":"stream"}
 st {"k":"ev","off":"1-0","nsp":"/","rooms":["r"],"text":"2[\"hi\",\"1-0\"]"}
 a {"k":"tap","v":1,"of":"node"}
@@ -15,10 +17,25 @@ a {"k":"open","pid":"P","sid":"s1","nsp":"/"}
 a {"k":"join","pid":"P","room":"r"}
 a {"k":"take","off":"1-0"}
 c1 {"k":"tap","v":1,"of":"client"}
-"#;
-
-/// Node `a` takes two entries by one record and then one by another, node `b` two by one record after its start.
-const MANY: &str = r#"
+? run 0.0 1.0 1.1 1.2 1.3
+true
+? run 0.0 1.0 1.1 1.2
+false
+? run 1.0 1.1 1.2 0.0 1.3
+true
+? run 1.0 1.1 1.2 1.3 0.0
+false
+? after 0.0
+true, no session
+? after 1.0
+true, no session
+? after 1.1
+false, no session
+? after 0.0 1.0 1.1 1.2
+true, Node(1), turn 0, s1 true, r false"#,
+    // All entries up to the offset are appended before a node takes them.
+    // Node `a` takes two entries by one record and then one by another, node `b` two by one record after its start.
+    r#"
 st {"k":"tap","v":2,"of":"stream"}
 st {"k":"ev","off":"1-0","nsp":"/","text":"2[\"hi\",\"1-0\"]"}
 st {"k":"ev","off":"2-0","nsp":"/","text":"2[\"hi\",\"2-0\"]"}
@@ -30,10 +47,23 @@ a {"k":"takes","off":"3-0"}
 b {"k":"tap","v":2,"of":"node"}
 b {"k":"start","off":"1-0"}
 b {"k":"takes","off":"3-0"}
-"#;
-
-/// Node `a` takes up to where its cursor stands, node `b` up to an entry before it.
-const NOT_PAST: &str = r#"
+? run 0.0 0.1 1.0 1.1 0.2 2.0 2.1 1.2
+true
+? run 0.0 0.1 1.0 1.1 1.2 2.0 0.2 2.1
+false
+? after 0.0 1.0 1.1
+false, no session
+? after 0.0 0.1 1.0 1.1
+true, no session
+? after 0.0 0.1 1.0 1.1 1.2
+false, no session
+? after 0.0 0.1 2.0 2.1
+false, no session
+? after 0.0 0.1 0.2 2.0 2.1
+true, no session"#,
+    // No node takes back or on the spot.
+    // Node `a` takes up to where its cursor stands, node `b` up to an entry before it.
+    r#"
 st {"k":"tap","v":2,"of":"stream"}
 st {"k":"ev","off":"1-0","nsp":"/","text":"2[\"hi\",\"1-0\"]"}
 st {"k":"ev","off":"2-0","nsp":"/","text":"2[\"hi\",\"2-0\"]"}
@@ -43,176 +73,77 @@ a {"k":"takes","off":"2-0"}
 b {"k":"tap","v":2,"of":"node"}
 b {"k":"start","off":"2-0"}
 b {"k":"takes","off":"1-0"}
-"#;
-
-/// The entry is appended.
-const ENTRY: Step = Step { log: 0, index: 0 };
-
-/// The records of the node.
-const START: Step = Step { log: 1, index: 0 };
-
-const OPEN: Step = Step { log: 1, index: 1 };
-
-const JOIN: Step = Step { log: 1, index: 2 };
-
-const TAKE: Step = Step { log: 1, index: 3 };
-
-/// The records of the second tap and of the third.
-const FIRST_OF_A: Step = Step { log: 1, index: 0 };
-
-const SECOND_OF_A: Step = Step { log: 1, index: 1 };
-
-const THIRD_OF_A: Step = Step { log: 1, index: 2 };
-
-const FIRST_OF_B: Step = Step { log: 2, index: 0 };
-
-const SECOND_OF_B: Step = Step { log: 2, index: 1 };
-
-/// The second and the third entry.
-const SECOND_ENTRY: Step = Step { log: 0, index: 1 };
-
-const THIRD_ENTRY: Step = Step { log: 0, index: 2 };
-
-static CASES: [Case; 3] = [
-    (
-        &[CLUSTER],
-        &[
-            (Asked::Run(&[ENTRY, START, OPEN, JOIN, TAKE]), "true"),
-            (Asked::Run(&[ENTRY, START, OPEN, JOIN]), "false"),
-            (Asked::Run(&[START, OPEN, JOIN, ENTRY, TAKE]), "true"),
-            (Asked::Run(&[START, OPEN, JOIN, TAKE, ENTRY]), "false"),
-            (Asked::After(&[], ENTRY), "true, no session"),
-            (Asked::After(&[], START), "true, no session"),
-            (Asked::After(&[], OPEN), "false, no session"),
-            (
-                Asked::After(&[ENTRY, START, OPEN], JOIN),
-                "true, Node(1), turn 0, s1 true, r false",
-            ),
-        ],
-    ),
-    // All entries up to the offset are appended before a node takes them.
-    (
-        &[MANY],
-        &[
-            (
-                Asked::Run(&[
-                    ENTRY,
-                    SECOND_ENTRY,
-                    FIRST_OF_A,
-                    SECOND_OF_A,
-                    THIRD_ENTRY,
-                    FIRST_OF_B,
-                    SECOND_OF_B,
-                    THIRD_OF_A,
-                ]),
-                "true",
-            ),
-            (
-                Asked::Run(&[
-                    ENTRY,
-                    SECOND_ENTRY,
-                    FIRST_OF_A,
-                    SECOND_OF_A,
-                    THIRD_OF_A,
-                    FIRST_OF_B,
-                    THIRD_ENTRY,
-                    SECOND_OF_B,
-                ]),
-                "false",
-            ),
-            (
-                Asked::After(&[ENTRY, FIRST_OF_A], SECOND_OF_A),
-                "false, no session",
-            ),
-            (
-                Asked::After(&[ENTRY, SECOND_ENTRY, FIRST_OF_A], SECOND_OF_A),
-                "true, no session",
-            ),
-            (
-                Asked::After(&[ENTRY, SECOND_ENTRY, FIRST_OF_A, SECOND_OF_A], THIRD_OF_A),
-                "false, no session",
-            ),
-            (
-                Asked::After(&[ENTRY, SECOND_ENTRY, FIRST_OF_B], SECOND_OF_B),
-                "false, no session",
-            ),
-            (
-                Asked::After(&[ENTRY, SECOND_ENTRY, THIRD_ENTRY, FIRST_OF_B], SECOND_OF_B),
-                "true, no session",
-            ),
-        ],
-    ),
-    // No node takes back or on the spot.
-    (
-        &[NOT_PAST],
-        &[
-            (
-                Asked::After(&[ENTRY, SECOND_ENTRY, FIRST_OF_A], SECOND_OF_A),
-                "false, no session",
-            ),
-            (
-                Asked::After(&[ENTRY, SECOND_ENTRY, FIRST_OF_B], SECOND_OF_B),
-                "false, no session",
-            ),
-        ],
-    ),
+? after 0.0 0.1 1.0 1.1
+false, no session
+? after 0.0 0.1 2.0 2.1
+false, no session"#,
 ];
 
 #[test]
 fn runs_of_the_cluster(rt: HostRuntime) -> Result<(), Fail> {
-    assert_answers(&rt, rt.alloc(), &CASES)
+    assert_answers(&rt, rt.alloc(), &[], &CASES)
+}
+
+/// The steps, each written by the numbers of its log and its record.
+fn steps_of(alloc: Global, words: &str) -> Result<Vec<Step>, AllocError> {
+    let mut steps = Vec::new(alloc);
+    for word in words.split(' ') {
+        let (log, index) = word.split_once('.').unwrap_or((word, ""));
+        let log = log.parse::<usize>().unwrap_or(0);
+        let index = index.parse::<usize>().unwrap_or(0);
+        steps.push(Step { log, index })?;
+    }
+    Ok(steps)
 }
 
 /// Whether the steps are a run.
-pub fn tell_run(
-    logs: &Logs<'_>,
-    alloc: Global,
-    steps: &[Step],
-    out: &mut String,
-) -> Result<(), AllocError> {
-    let answer = is_run(alloc, logs, steps)?;
-    write!(out, "{answer}")
-}
-
-/// Whether the step is allowed after the others, and the session `P` there.
-pub fn tell_after(
-    logs: &Logs<'_>,
-    alloc: Global,
-    steps: &[Step],
-    step: &Step,
-    out: &mut String,
-) -> Result<(), AllocError> {
-    let mut state = State::new(alloc, logs)?;
-    tell_after_in(logs, &mut state, steps, step, out)
-}
-
-/// Takes the steps in the state, and tells of the next one.
-fn tell_after_in<'a>(
-    logs: &Logs<'a>,
-    state: &mut State<'a>,
-    steps: &[Step],
-    step: &Step,
-    out: &mut String,
-) -> Result<(), AllocError> {
-    for taken in steps {
-        if !allowed(state, logs, taken) {
-            return write!(out, "{taken:?} isn't allowed");
-        }
-        apply(state, logs, taken)?;
+pub fn tell_run(logs: &Logs<'_>, alloc: Global, words: &str, out: &mut Told) {
+    let Ok(steps) = steps_of(alloc, words) else {
+        return out.fail();
+    };
+    match is_run(alloc, logs, &steps) {
+        Ok(answer) => out.show(&answer),
+        Err(_) => out.fail(),
     }
-    write!(out, "{}, ", allowed(state, logs, step))?;
-    tell_session(state, out)
+}
+
+/// Whether the last step is allowed after the others, and the session `P` there.
+pub fn tell_after(logs: &Logs<'_>, alloc: Global, words: &str, out: &mut Told) {
+    match (steps_of(alloc, words), State::new(alloc, logs)) {
+        (Ok(steps), Ok(mut state)) => tell_after_in(logs, &mut state, &steps, out),
+        _ => out.fail(),
+    }
+}
+
+/// Takes the steps in the state up to the last one, and tells of that.
+fn tell_after_in<'a>(logs: &Logs<'a>, state: &mut State<'a>, steps: &[Step], out: &mut Told) {
+    let mut is_allowed = false;
+    for (number, step) in steps.iter().enumerate() {
+        is_allowed = allowed(state, logs, step);
+        if number + 1 < steps.len() {
+            if !is_allowed {
+                return out.text("a step isn't allowed");
+            }
+            if apply(state, logs, step).is_err() {
+                return out.fail();
+            }
+        }
+    }
+    out.show(&is_allowed);
+    out.text(", ");
+    tell_session(state, out);
 }
 
 /// Where the session `P` is, its turn, and whether it is in its own room and in `r`.
-fn tell_session(state: &State<'_>, out: &mut String) -> Result<(), AllocError> {
+fn tell_session(state: &State<'_>, out: &mut Told) {
     let Some(session) = state.session("P") else {
-        return write!(out, "no session");
+        return out.text("no session");
     };
-    let (own, other) = (session.rooms.contains("s1"), session.rooms.contains("r"));
-    write!(
-        out,
-        "{:?}, turn {}, s1 {own}, r {other}",
-        session.at, session.turn
-    )
+    out.debug(&session.at);
+    out.text(", turn ");
+    out.show(&session.turn);
+    out.text(", s1 ");
+    out.show(&session.rooms.contains("s1"));
+    out.text(", r ");
+    out.show(&session.rooms.contains("r"));
 }

@@ -4,18 +4,20 @@ ghost use Rattle.std.specs.Prelude.{IfSome};
 ghost use Rattle.std.specs.List.{All};
 ghost use Rattle.aud_rooms.specs.TurnPlaces.{IsInOrder};
 
-use crate::asked::{Asked, Case, assert_answers};
-use crate::node_logs::log_named;
+use crate::asked::{assert_answers, cut};
 use crate::rooms::tell_spans_of;
-use aud_node::{Logs, NodeLog};
+use crate::told::Told;
+use aud_node::{Logs, Recs};
 use aud_rooms::{TurnPlace, spans_of_turns};
 use aud_tap::NodeRec;
-use std::alloc::{AllocError, Global};
+use std::alloc::Global;
 use std::test::Fail;
 
-/// `P` holds `r` at 1, leaves it, holds `q` from 2 over its break to 4, and `r` again at 4 and at 6. The records of
-/// each node are numbered from 0 after its header.
-const TWO_TURNS: &str = r#"
+static CASES: [&str; 2] = [
+    // `P` holds `r` at 1, leaves it, holds `q` from 2 over its break to 4, and `r` again at 4 and at 6. The records of
+    // each node are numbered from 0 after its header.
+    // Position 3 was sent before the session came to `b`: it is judged by the rooms that the session came with.
+    r#"
 st {"k":"tap","v":1,"of":"stream"}
 st {"k":"other","off":"1-0"}
 st {"k":"other","off":"2-0"}
@@ -49,10 +51,16 @@ b {"k":"take","off":"5-0"}
 b {"k":"join","pid":"P","room":"r"}
 b {"k":"take","off":"6-0"}
 b {"k":"break","pid":"P","turn":1}
-"#;
-
-/// `P` holds `r` as the node takes 1 and 2, and `q` as it takes the others.
-const MANY_AT_ONCE: &str = r#"
+? turn a 0 P
+1 1..10, cursors 0 2, own [1, 2, 5, 7, 9]: open join open take leave join join take break
+? turn a 0 Q
+1 1..10, cursors 0 2, own [3, 6]: open join open take leave join join take break
+? turn b 1 P
+2 4..13, cursors 3 6, own [4, 5, 7, 8, 10, 12]: back join take leave leave take join take break
+? spans
+q 2..4 r 1..1 r 4..4 r 6..6 s1 1..6 "#,
+    // `P` holds `r` as the node takes 1 and 2, and `q` as it takes the others.
+    r#"
 st {"k":"tap","v":1,"of":"stream"}
 st {"k":"other","off":"1-0"}
 st {"k":"other","off":"2-0"}
@@ -69,43 +77,15 @@ a {"k":"join","pid":"P","room":"q"}
 a {"k":"take","off":"3-0"}
 a {"k":"takes","off":"5-0"}
 a {"k":"leave","pid":"P","room":"q"}
-"#;
-
-static CASES: [Case; 2] = [
-    (
-        &[TWO_TURNS],
-        &[
-            (
-                Asked::Turn("a", 0, "P"),
-                "1 1..10, cursors 0 2, own [1, 2, 5, 7, 9]: open join open take leave join join take break",
-            ),
-            (
-                Asked::Turn("a", 0, "Q"),
-                "1 1..10, cursors 0 2, own [3, 6]: open join open take leave join join take break",
-            ),
-            (
-                Asked::Turn("b", 1, "P"),
-                "2 4..13, cursors 3 6, own [4, 5, 7, 8, 10, 12]: back join take leave leave take join take break",
-            ),
-            // Position 3 was sent before the session came to `b`: it is judged by the rooms that the session came with.
-            (Asked::Spans, "q 2..4 r 1..1 r 4..4 r 6..6 s1 1..6 "),
-        ],
-    ),
-    (
-        &[MANY_AT_ONCE],
-        &[
-            (
-                Asked::Turn("a", 0, "P"),
-                "1 1..9, cursors 0 5, own [1, 2, 4, 5, 8]: open join takes leave join take takes leave",
-            ),
-            (Asked::Spans, "q 3..5 r 1..2 s1 1..5 "),
-        ],
-    ),
+? turn a 0 P
+1 1..9, cursors 0 5, own [1, 2, 4, 5, 8]: open join takes leave join take takes leave
+? spans
+q 3..5 r 1..2 s1 1..5 "#,
 ];
 
 #[test]
 fn turns_and_their_spans(rt: HostRuntime) -> Result<(), Fail> {
-    assert_answers(&rt, rt.alloc(), &CASES)
+    assert_answers(&rt, rt.alloc(), &[], &CASES)
 }
 
 /// A turn of `P` on the node with this name, which took the stream in order.
@@ -133,38 +113,47 @@ fn turn(logs: &Logs<'_>, name: &str, number: u16) -> Option<TurnPlace>
 
 /// The place of the turn's node, its records, its first and last cursor, the numbers of the records of the pid, and
 /// what its records are.
-pub fn tell_turn(
-    logs: &Logs<'_>,
-    name: &str,
-    number: u16,
-    pid: &str,
-    out: &mut String,
-) -> Result<(), AllocError> {
+pub fn tell_turn(logs: &Logs<'_>, of: &str, out: &mut Told) {
+    let (name, of) = cut(of);
+    let (number, pid) = cut(of);
+    let number = number.parse::<u16>().unwrap_or(0);
     let Some(turn) = turn(logs, name, number) else {
-        return write!(out, "none");
+        return out.text("none");
     };
     let (low, high, own) = (turn.low(logs), turn.high(logs), turn.own(logs, pid));
-    write!(
-        out,
-        "{} {}..{}, cursors {low} {high}, own {own:?}:",
-        turn.node, turn.from, turn.to
-    )?;
-    match log_named(logs, name) {
-        Some(log) => tell_records(log, number, out),
-        None => write!(out, " none"),
+    tell_place(&turn, low, high, own, out);
+    match records(logs, turn.node, number) {
+        Some(recs) => tell_records(recs, out),
+        None => out.text(" none"),
     }
 }
 
-/// What the records of the turn of `P` are.
-fn tell_records(log: &NodeLog<'_>, turn: u16, out: &mut String) -> Result<(), AllocError> {
-    let Some(recs) = log.turn_of("P", turn) else {
-        return write!(out, " none");
-    };
+fn tell_place(turn: &TurnPlace, low: u64, high: u64, own: &[usize], out: &mut Told) {
+    out.show(&turn.node);
+    out.text(" ");
+    out.show(&turn.from);
+    out.text("..");
+    out.show(&turn.to);
+    out.text(", cursors ");
+    out.show(&low);
+    out.text(" ");
+    out.show(&high);
+    out.text(", own ");
+    out.debug(&own);
+    out.text(":");
+}
+
+/// The records of the turn of `P` on the node at this place.
+fn records<'l>(logs: &'l Logs<'_>, node: usize, number: u16) -> Option<Recs<'l>> {
+    logs.node(node)?.turn_of("P", number)
+}
+
+/// What the records are.
+fn tell_records(recs: Recs<'_>, out: &mut Told) {
     for number in 0..recs.len() {
-        let word = word_of(recs.between(number, number + 1).get(0));
-        write!(out, " {word}")?;
+        out.text(" ");
+        out.text(word_of(recs.between(number, number + 1).get(0)));
     }
-    Ok(())
 }
 
 fn word_of(rec: Option<&NodeRec>) -> &'static str {
@@ -181,26 +170,19 @@ fn word_of(rec: Option<&NodeRec>) -> &'static str {
 }
 
 /// The spans of turn 0 on node `a`, or of this and of turn 1 on node `b`.
-pub fn tell_spans(logs: &Logs<'_>, alloc: Global, out: &mut String) -> Result<(), AllocError> {
-    let Some(first) = turn(logs, "a", 0) else {
-        return write!(out, "none");
-    };
-    let Some(second) = turn(logs, "b", 1) else {
-        let turns = [first];
-        return tell_spans_over(logs, alloc, &turns, out);
-    };
-    let turns = [first, second];
-    tell_spans_over(logs, alloc, &turns, out)
+pub fn tell_spans(logs: &Logs<'_>, alloc: Global, out: &mut Told) {
+    match (turn(logs, "a", 0), turn(logs, "b", 1)) {
+        (Some(first), Some(second)) => tell_spans_over(logs, alloc, &[first, second], out),
+        (Some(turn), None) => tell_spans_over(logs, alloc, &[turn], out),
+        (None, _) => out.text("none"),
+    }
 }
 
-fn tell_spans_over(
-    logs: &Logs<'_>,
-    alloc: Global,
-    turns: &[TurnPlace],
-    out: &mut String,
-) -> Result<(), AllocError>
+fn tell_spans_over(logs: &Logs<'_>, alloc: Global, turns: &[TurnPlace], out: &mut Told)
     requires { All (IsInOrder logs.now) turns.now }
 {
-    let spans = spans_of_turns(alloc, logs, "P", "s1", turns)?;
-    tell_spans_of(&spans, out)
+    match spans_of_turns(alloc, logs, "P", "s1", turns) {
+        Ok(spans) => tell_spans_of(&spans, out),
+        Err(_) => out.fail(),
+    }
 }

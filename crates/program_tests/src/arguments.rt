@@ -1,8 +1,9 @@
 //! The arguments of the command line.
-use Shown::{Help, Why};
+use crate::case::cut;
 use aud_app::{Mode, Options, files, options};
 use aud_schedule::plan_asked;
-use std::alloc::Global;
+use std::alloc::{AllocError, Global};
+use std::process::Abort;
 use std::test::Fail;
 
 /// Arguments that are understood, and what they ask for.
@@ -101,94 +102,96 @@ pub enum Command {
     Simulate,
 }
 
-/// Where the text on refused arguments goes.
-#[derive(Clone, Copy, Drop)]
-pub enum Shown {
-    /// To standard error, since it says why.
-    Why,
-    /// To standard output, since it is help that was asked for.
-    Help,
+/// The arguments of a row, which have blanks between them.
+fn words_of<'a>(alloc: Global, words: &'a str) -> Result<Vec<&'a str>, AllocError> {
+    let mut found = Vec::new(alloc);
+    if words.is_empty() {
+        return Ok(found);
+    }
+    for word in words.split(' ') {
+        found.push(word)?;
+    }
+    Ok(found)
 }
 
-/// Whether these arguments are refused with a text that goes there and has this in it.
-pub fn is_refused(
+/// Whether these arguments are refused, or ask for help, with a text that has this part. What is refused goes to
+/// standard error, and help to standard output.
+pub fn is_answered(
     alloc: Global,
     command: Command,
-    arguments: &[&str],
-    shown: Shown,
+    words: &str,
+    answer: &str,
     part: &str,
 ) -> Result<bool, Fail> {
+    let words = words_of(alloc, words)?;
     let error = match command {
-        Command::Run => options(alloc, arguments).err(),
-        Command::Simulate => plan_asked(alloc, arguments).err(),
+        Command::Run => options(alloc, &words).err(),
+        Command::Simulate => plan_asked(alloc, &words).err(),
     };
     let Some(error) = error else {
         return Ok(false);
     };
     let text = format!(in alloc; "{error}")?;
-    Ok(text.as_str().contains(part) && error.use_stderr() == matches!(shown, Why))
+    Ok(text.as_str().contains(part) && error.use_stderr() == (answer == "refused"))
 }
 
-/// Arguments that are refused, where the text goes, and a part of it.
-static REFUSED: [(&[&str], Shown, &str); 37] = [
-    (&[], Why, "Usage"),
-    (&["judge"], Why, "judge"),
-    (&["--", "audit"], Why, "audit"),
-    (&["audit", "--json"], Why, "--json"),
-    (&["explain"], Why, "not understood"),
-    (&["audit", "--quiet", "--quiet"], Why, "--quiet"),
-    (&["prove", "--pid", "P"], Why, "--pid"),
-    (&["prove", "--whole"], Why, "--whole"),
-    (&["verify", "--whole"], Why, "--whole"),
-    (&["order", "--whole"], Why, "--whole"),
-    (&["upgrade", "--whole"], Why, "--whole"),
-    (&["simulate", "--whole"], Why, "--whole"),
-    (&["--whole", "audit"], Why, "--whole"),
-    (&["audit", "--whole", "--whole"], Why, "--whole"),
-    (
-        &["audit", "--whole", "--workers", "1", "--whole"],
-        Why,
-        "--whole",
-    ),
-    (&["audit", "--workers"], Why, "--workers"),
-    (&["audit", "--workers", "0"], Why, "0"),
-    (&["audit", "--workers", "65"], Why, "65"),
-    (&["audit", "--workers=256"], Why, "256"),
-    (&["audit", "--workers", "7x"], Why, "7x"),
-    (&["audit", "--workers", "+"], Why, "'+'"),
-    (&["audit", "--workers=-1"], Why, "-1"),
-    (
-        &["audit", "--workers", "1", "--workers", "2"],
-        Why,
-        "--workers",
-    ),
-    (&["audit", "--workers=1", "--workers=1"], Why, "--workers"),
-    (
-        &["audit", "--workers=1", "--workers", "1"],
-        Why,
-        "--workers",
-    ),
-    (&["--workers", "4", "audit"], Why, "--workers"),
-    (&["--workers=4", "audit"], Why, "--workers"),
-    (&["prove", "--workers", "4"], Why, "--workers"),
-    (&["prove", "--workers=4"], Why, "--workers"),
-    (&["verify", "--workers", "4"], Why, "--workers"),
-    (&["--help"], Help, "Exit status"),
-    (&["--help"], Help, "verify"),
-    (&["audit", "--help"], Help, "--workers"),
-    (&["prove", "--help"], Help, "certificate"),
-    (&["verify", "--help"], Help, "bad <line>"),
-    (&["upgrade", "--help"], Help, "[FILES]"),
-    (&["order", "-V"], Help, "1.0.0"),
+/// Asserts that the arguments of each row are answered so, with a text that has the part after the colon.
+pub fn assert_answered(
+    rt: &impl Abort,
+    alloc: Global,
+    command: Command,
+    rows: &[&str],
+) -> Result<(), Fail> {
+    for row in rows {
+        let (words, wanted) = cut(row, " -> ");
+        let (answer, part) = cut(wanted, ": ");
+        assert!(rt; is_answered(alloc, command, words, answer, part)?, "{row}");
+    }
+    Ok(())
+}
+
+/// Arguments that are refused or ask for help, and a part of the text.
+static REFUSED: [&str; 37] = [
+    " -> refused: Usage",
+    "judge -> refused: judge",
+    "-- audit -> refused: audit",
+    "audit --json -> refused: --json",
+    "explain -> refused: not understood",
+    "audit --quiet --quiet -> refused: --quiet",
+    "prove --pid P -> refused: --pid",
+    "prove --whole -> refused: --whole",
+    "verify --whole -> refused: --whole",
+    "order --whole -> refused: --whole",
+    "upgrade --whole -> refused: --whole",
+    "simulate --whole -> refused: --whole",
+    "--whole audit -> refused: --whole",
+    "audit --whole --whole -> refused: --whole",
+    "audit --whole --workers 1 --whole -> refused: --whole",
+    "audit --workers -> refused: --workers",
+    "audit --workers 0 -> refused: 0",
+    "audit --workers 65 -> refused: 65",
+    "audit --workers=256 -> refused: 256",
+    "audit --workers 7x -> refused: 7x",
+    "audit --workers + -> refused: '+'",
+    "audit --workers=-1 -> refused: -1",
+    "audit --workers 1 --workers 2 -> refused: --workers",
+    "audit --workers=1 --workers=1 -> refused: --workers",
+    "audit --workers=1 --workers 1 -> refused: --workers",
+    "--workers 4 audit -> refused: --workers",
+    "--workers=4 audit -> refused: --workers",
+    "prove --workers 4 -> refused: --workers",
+    "prove --workers=4 -> refused: --workers",
+    "verify --workers 4 -> refused: --workers",
+    "--help -> help: Exit status",
+    "--help -> help: verify",
+    "audit --help -> help: --workers",
+    "prove --help -> help: certificate",
+    "verify --help -> help: bad <line>",
+    "upgrade --help -> help: [FILES]",
+    "order -V -> help: 1.0.0",
 ];
 
 #[test]
 fn arguments_that_are_refused(rt: HostRuntime) -> Result<(), Fail> {
-    for &(arguments, shown, part) in &REFUSED {
-        assert!(rt;
-            is_refused(rt.alloc(), Command::Run, arguments, shown, part)?,
-            "{arguments:?}: {part}"
-        );
-    }
-    Ok(())
+    assert_answered(&rt, rt.alloc(), Command::Run, &REFUSED)
 }

@@ -1,7 +1,6 @@
 //! Runs whose reader or writer fails, at each of its calls in turn, and that give or take few bytes a call.
-use crate::case::Case;
-use crate::each_mode::EACH_MODE;
-use crate::inputs::text_of;
+use crate::case::{Case, case_of};
+use crate::each_mode::each_mode_cases;
 use crate::streams::{Failure, Plan, TestReader, TestWriter};
 use aud_app::{Options, RunFault, Status, Watched, run};
 use std::alloc::Global;
@@ -33,12 +32,11 @@ fn watched_run<H: Threads + Wait + Clock + Sync>(
     rt: &H,
     alloc: Global,
     keys: RandomState,
-    case: &Case,
-    input: &[u8],
+    case: &Case<'_>,
     reads: Plan,
     writes: Plan,
 ) -> Seen {
-    let mut reader = Watched::new(TestReader::new(input, reads));
+    let mut reader = Watched::new(TestReader::new(case.input.as_bytes(), reads));
     let mut writer = Watched::new(TestWriter::new(alloc, writes));
     let options = Options {
         workers: 4,
@@ -69,7 +67,7 @@ fn watched_run<H: Threads + Wait + Clock + Sync>(
 }
 
 /// What is seen where nothing fails, in so many calls.
-fn without_fault(case: &Case, reads: u64, writes: u64) -> Seen {
+fn without_fault(case: &Case<'_>, reads: u64, writes: u64) -> Seen {
     Seen {
         outcome: Ok(case.status),
         reads,
@@ -96,12 +94,11 @@ fn fail_each_read<H: Abort + Threads + Wait + Clock + Sync>(
     rt: &H,
     alloc: Global,
     keys: RandomState,
-    case: &Case,
-    input: &[u8],
+    case: &Case<'_>,
     most: usize,
 ) {
     let all = Plan::unfailing(usize::MAX);
-    let unfailed = watched_run(rt, alloc, keys, case, input, Plan::unfailing(most), all);
+    let unfailed = watched_run(rt, alloc, keys, case, Plan::unfailing(most), all);
     assert!(rt;
         unfailed == without_fault(case, unfailed.reads, 1),
         "{}",
@@ -110,7 +107,7 @@ fn fail_each_read<H: Abort + Threads + Wait + Clock + Sync>(
     for k in 1..=unfailed.reads {
         for failure in READ_FAILURES {
             let plan = Plan::failing(most, k, failure);
-            let failed = watched_run(rt, alloc, keys, case, input, plan, all);
+            let failed = watched_run(rt, alloc, keys, case, plan, all);
             let wanted = Seen {
                 outcome: Err(RunFault::Read),
                 reads: k,
@@ -143,12 +140,11 @@ fn fail_each_write<H: Abort + Threads + Wait + Clock + Sync>(
     rt: &H,
     alloc: Global,
     keys: RandomState,
-    case: &Case,
-    input: &[u8],
+    case: &Case<'_>,
     most: usize,
 ) {
     let all = Plan::unfailing(65_536);
-    let unfailed = watched_run(rt, alloc, keys, case, input, all, Plan::unfailing(most));
+    let unfailed = watched_run(rt, alloc, keys, case, all, Plan::unfailing(most));
     assert!(rt;
         unfailed == without_fault(case, unfailed.reads, unfailed.writes),
         "{}",
@@ -158,7 +154,7 @@ fn fail_each_write<H: Abort + Threads + Wait + Clock + Sync>(
         let before = (k as usize).saturating_sub(1).saturating_mul(most);
         for failure in WRITE_FAILURES {
             let plan = Plan::failing(most, k, failure);
-            let failed = watched_run(rt, alloc, keys, case, input, all, plan);
+            let failed = watched_run(rt, alloc, keys, case, all, plan);
             let wanted = Seen {
                 outcome: Err(RunFault::Write),
                 writes: k,
@@ -182,10 +178,10 @@ static PIECES: [usize; 3] = [1, 100, 65_536];
 #[test]
 fn a_reader_fails_at_each_call(rt: HostRuntime) -> Result<(), Fail> {
     let keys = RandomState::new(&rt)?;
-    for case in &EACH_MODE {
-        let input = text_of(rt.alloc(), &case.input)?;
+    for case in each_mode_cases() {
+        let case = case_of(rt.alloc(), case)?;
         for most in PIECES {
-            fail_each_read(&rt, rt.alloc(), keys, case, input.as_bytes(), most);
+            fail_each_read(&rt, rt.alloc(), keys, &case, most);
         }
     }
     Ok(())
@@ -194,10 +190,10 @@ fn a_reader_fails_at_each_call(rt: HostRuntime) -> Result<(), Fail> {
 #[test]
 fn a_writer_fails_at_each_call(rt: HostRuntime) -> Result<(), Fail> {
     let keys = RandomState::new(&rt)?;
-    for case in &EACH_MODE {
-        let input = text_of(rt.alloc(), &case.input)?;
+    for case in each_mode_cases() {
+        let case = case_of(rt.alloc(), case)?;
         for most in PIECES {
-            fail_each_write(&rt, rt.alloc(), keys, case, input.as_bytes(), most);
+            fail_each_write(&rt, rt.alloc(), keys, &case, most);
         }
     }
     Ok(())

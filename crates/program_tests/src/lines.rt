@@ -1,8 +1,9 @@
 //! Bundles of simulated clusters, line by line.
-use crate::clusters::Schedule;
 
-/// A recovery on another node: the replayed frame stands before the reply.
-const RECOVERY: &str = r#"st {"k":"tap","of":"stream","v":1}
+pub static BUNDLES: [&str; 4] = [
+    // A recovery on another node: the replayed frame stands before the reply.
+    r#"2 1 c1@1 j1:r e:hi:r t1 x1 t2 e:ho:r:q t2 r1@2 l1:r v1:v f1
+st {"k":"tap","of":"stream","v":1}
 n1 {"k":"tap","of":"node","v":1}
 n2 {"k":"tap","of":"node","v":1}
 c1 {"k":"tap","of":"client","v":1}
@@ -29,10 +30,10 @@ n2 {"k":"leave","pid":"p1","room":"r"}
 c1 {"k":"in","t":"42[\"v\"]"}
 n2 {"k":"gone","pid":"p1"}
 c1 {"k":"lost"}
-"#;
-
-/// Attachments; a frame that is held is written after the one that follows it, and a later one has another word.
-const ATTACHMENTS: &str = r#"st {"k":"tap","of":"stream","v":1}
+"#,
+    // Attachments; a frame that is held is written after the one that follows it, and a later one has another word.
+    r#"1 1 c1@1 e:f:::2 e:g hold1 t1 t1 e:h alter1 t1
+st {"k":"tap","of":"stream","v":1}
 n1 {"k":"tap","of":"node","v":1}
 c1 {"k":"tap","of":"client","v":1}
 n1 {"k":"start","off":null}
@@ -50,10 +51,10 @@ c1 {"b":"AQ==","k":"inb"}
 st {"k":"ev","nsp":"/","off":"3-0","text":"2[\"h\",\"3-0\"]"}
 n1 {"k":"take","off":"3-0"}
 c1 {"k":"in","t":"42[\"hx\",\"3-0\"]"}
-"#;
-
-/// Lines of a node's log that are lost, `open` and `take`, and that are written twice, `join` and `break`.
-const LOGS: &str = r#"st {"k":"tap","of":"stream","v":1}
+"#,
+    // Lines of a node's log that are lost, `open` and `take`, and that are written twice, `join` and `break`.
+    r#"1 1 lose c1@1 repeat j1:r lose e:a v1:v t1 repeat x1
+st {"k":"tap","of":"stream","v":1}
 n1 {"k":"tap","of":"node","v":1}
 c1 {"k":"tap","of":"client","v":1}
 n1 {"k":"start","off":null}
@@ -67,11 +68,12 @@ c1 {"k":"in","t":"42[\"a\",\"1-0\"]"}
 n1 {"k":"break","pid":"p1","turn":0}
 n1 {"k":"break","pid":"p1","turn":0}
 c1 {"k":"lost"}
-"#;
-
-/// A session without a reply, recovered with an offset that no entry has; one whose reply has another sid; and a frame
-/// with `x` in place of its digit, after which the offset of the one before is still the last that was received.
-const REPLIES: &str = r#"st {"k":"tap","of":"stream","v":1}
+"#,
+    // A session without a reply, recovered with an offset that no entry has; one whose reply has another sid; and a
+    // frame with `x` in place of its digit, after which the offset of the one before is still the last that was
+    // received.
+    r#"1 1 u1@1 e:a t1 x1 o1@1 f1 m1@1 e:b t1 e:c:::1 garble1 t1 x1 r1@1
+st {"k":"tap","of":"stream","v":1}
 n1 {"k":"tap","of":"node","v":1}
 c1 {"k":"tap","of":"client","v":1}
 n1 {"k":"start","off":null}
@@ -104,31 +106,5 @@ c1 {"c":4,"k":"conn"}
 c1 {"k":"out","t":"40{\"pid\":\"p2\",\"offset\":\"2-0\"}"}
 n1 {"k":"back","pid":"p2","turn":1}
 c1 {"k":"in","t":"40{\"sid\":\"s2\",\"pid\":\"p2\"}"}
-"#;
-
-pub static BUNDLES: [Schedule; 4] = [
-    (
-        2,
-        1,
-        "c1@1 j1:r e:hi:r t1 x1 t2 e:ho:r:q t2 r1@2 l1:r v1:v f1",
-        RECOVERY,
-    ),
-    (
-        1,
-        1,
-        "c1@1 e:f:::2 e:g hold1 t1 t1 e:h alter1 t1",
-        ATTACHMENTS,
-    ),
-    (
-        1,
-        1,
-        "lose c1@1 repeat j1:r lose e:a v1:v t1 repeat x1",
-        LOGS,
-    ),
-    (
-        1,
-        1,
-        "u1@1 e:a t1 x1 o1@1 f1 m1@1 e:b t1 e:c:::1 garble1 t1 x1 r1@1",
-        REPLIES,
-    ),
+"#,
 ];

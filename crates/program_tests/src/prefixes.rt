@@ -1,9 +1,8 @@
 //! Each prefix of an input, in each mode: one refused line or a report, and never both.
-use crate::case::{Case, Ran, run_over};
-use crate::each_mode::EACH_MODE;
-use crate::inputs::text_of;
+use crate::case::{Case, Ran, case_of, run_over};
+use crate::each_mode::each_mode_cases;
 use aud_app::{Options, Status};
-use std::alloc::{AllocError, Global};
+use std::alloc::Global;
 use std::hash::RandomState;
 use std::process::Abort;
 use std::sync::Wait;
@@ -30,10 +29,9 @@ fn look_at_each_prefix<H: Abort + Threads + Wait + Clock + Sync>(
     rt: &H,
     alloc: Global,
     keys: RandomState,
-    case: &Case,
-) -> Result<(), AllocError> {
-    let input = text_of(alloc, &case.input)?;
-    let whole = input.as_bytes();
+    case: &Case<'_>,
+) {
+    let whole = case.input.as_bytes();
     let options = Options {
         workers: 4,
         ..case.options
@@ -42,14 +40,13 @@ fn look_at_each_prefix<H: Abort + Threads + Wait + Clock + Sync>(
         let ran = run_over(rt, alloc, keys, options, &whole[..end]);
         assert!(rt; is_line_or_report(&ran), "{} of {end} bytes", case.name);
     }
-    Ok(())
 }
 
 #[test]
 fn each_prefix_is_refused_or_reported(rt: HostRuntime) -> Result<(), Fail> {
     let keys = RandomState::new(&rt)?;
-    for case in &EACH_MODE {
-        look_at_each_prefix(&rt, rt.alloc(), keys, case)?;
+    for case in each_mode_cases() {
+        look_at_each_prefix(&rt, rt.alloc(), keys, &case_of(rt.alloc(), case)?);
     }
     Ok(())
 }

@@ -1,9 +1,8 @@
 //! What comes of an input, in whichever pieces it is read, by any number of workers.
 use crate::audits::AUDITS;
-use crate::case::{Case, run_over};
+use crate::case::{Case, case_of, run_over};
 use crate::certificates::CERTIFICATES;
-use crate::each_mode::EACH_MODE;
-use crate::inputs::text_of;
+use crate::each_mode::each_mode_cases;
 use crate::large::LARGE;
 use crate::limits::LIMITS;
 use crate::refused::REFUSED;
@@ -11,7 +10,7 @@ use crate::reordered::REORDERED;
 use crate::streams::{Plan, TestReader};
 use crate::versions::VERSIONS;
 use aud_app::Options;
-use std::alloc::{AllocError, Global};
+use std::alloc::Global;
 use std::hash::RandomState;
 use std::process::Abort;
 use std::random::RandomSource;
@@ -41,16 +40,15 @@ fn look_at<H: Abort + Threads + Wait + Clock + Sync>(
     alloc: Global,
     keys: RandomState,
     ways: &[Way],
-    case: &Case,
-) -> Result<(), AllocError> {
-    let input = text_of(alloc, &case.input)?;
+    case: &Case<'_>,
+) {
     for &(most, workers) in ways {
         assert!(rt; 0 < workers && workers <= 64);
         let options = Options {
             workers,
             ..case.options
         };
-        let reader = TestReader::new(input.as_bytes(), Plan::unfailing(most));
+        let reader = TestReader::new(case.input.as_bytes(), Plan::unfailing(most));
         let ran = run_over(rt, alloc, keys, options, reader);
         assert!(rt;
             ran.is(case.status, case.text),
@@ -58,7 +56,6 @@ fn look_at<H: Abort + Threads + Wait + Clock + Sync>(
             case.name
         );
     }
-    Ok(())
 }
 
 /// Looks at what comes of each of these cases in each of these ways.
@@ -66,18 +63,18 @@ fn look_at_all<H: Abort + Threads + Wait + Clock + RandomSource + Sync>(
     rt: &H,
     alloc: Global,
     ways: &[Way],
-    cases: &[Case],
+    cases: &[&str],
 ) -> Result<(), Fail> {
     let keys = RandomState::new(rt)?;
     for case in cases {
-        look_at(rt, alloc, keys, ways, case)?;
+        look_at(rt, alloc, keys, ways, &case_of(alloc, case)?);
     }
     Ok(())
 }
 
 #[test]
 fn each_mode(rt: HostRuntime) -> Result<(), Fail> {
-    look_at_all(&rt, rt.alloc(), &WAYS, &EACH_MODE)
+    look_at_all(&rt, rt.alloc(), &WAYS, each_mode_cases())
 }
 
 #[test]

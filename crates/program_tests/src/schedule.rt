@@ -19,7 +19,7 @@ use std::alloc::{AllocError, Global};
 use std::test::Fail;
 
 /// The number that these digits are; 0, which no node and no client has, where they are none.
-fn number(digits: &str) -> usize {
+pub fn number(digits: &str) -> usize {
     digits.parse::<usize>().unwrap_or(0)
 }
 

@@ -1,6 +1,5 @@
 //! The arguments of `simulate`.
-use crate::arguments::Shown::{self, Help, Why};
-use crate::arguments::{Command, is_refused};
+use crate::arguments::{Command, assert_answered, is_answered};
 use aud_schedule::{Fault, Plan, plan_asked};
 use std::test::Fail;
 
@@ -101,12 +100,12 @@ fn names_of_faults(rt: HostRuntime) -> Result<(), Fail> {
         let plan = plan_asked(rt.alloc(), &["simulate", "--fault", name])?;
         assert!(rt; plan.fault == Some(fault), "{name}");
         assert!(rt;
-            is_refused(
+            is_answered(
                 rt.alloc(),
                 Command::Simulate,
-                &["simulate", "--help"],
-                Help,
-                name,
+                "simulate --help",
+                "help",
+                name
             )?,
             "{name}"
         );
@@ -114,48 +113,30 @@ fn names_of_faults(rt: HostRuntime) -> Result<(), Fail> {
     Ok(())
 }
 
-/// Arguments that are refused, where the text goes, and a part of it.
-static REFUSED: [(&[&str], Shown, &str); 19] = [
-    (&["simulate", "--nodes", "0"], Why, "0"),
-    (&["simulate", "--nodes", "65"], Why, "65"),
-    (&["simulate", "--nodes"], Why, "--nodes"),
-    (&["simulate", "--clients", "0"], Why, "0"),
-    (&["simulate", "--clients", "4097"], Why, "4097"),
-    (&["simulate", "--acts", "1000001"], Why, "1000001"),
-    (&["simulate", "--acts", "-1"], Why, "-1"),
-    (
-        &["simulate", "--seed", "18446744073709551616"],
-        Why,
-        "18446744073709551616",
-    ),
-    (&["simulate", "--seed", "x"], Why, "x"),
-    (&["simulate", "--fault", "lose"], Why, "lose"),
-    (
-        &["simulate", "--fault", "drop", "--acts", "31"],
-        Why,
-        "32 acts",
-    ),
-    (
-        &["simulate", "--fault", "lag", "--nodes", "1"],
-        Why,
-        "2 nodes",
-    ),
-    (&["simulate", "--seed", "1", "--seed", "2"], Why, "--seed"),
-    (&["simulate", "--workers", "4"], Why, "--workers"),
-    (&["simulate", "audit"], Why, "audit"),
-    (&["simulate", "--help"], Help, "--fault"),
-    (&["simulate", "--help"], Help, "standard output"),
-    (&["simulate", "--help"], Help, "lag"),
-    (&["simulate", "-V"], Help, "1.0.0"),
+/// Arguments that are refused or ask for help, and a part of the text.
+static REFUSED: [&str; 19] = [
+    "simulate --nodes 0 -> refused: 0",
+    "simulate --nodes 65 -> refused: 65",
+    "simulate --nodes -> refused: --nodes",
+    "simulate --clients 0 -> refused: 0",
+    "simulate --clients 4097 -> refused: 4097",
+    "simulate --acts 1000001 -> refused: 1000001",
+    "simulate --acts -1 -> refused: -1",
+    "simulate --seed 18446744073709551616 -> refused: 18446744073709551616",
+    "simulate --seed x -> refused: x",
+    "simulate --fault lose -> refused: lose",
+    "simulate --fault drop --acts 31 -> refused: 32 acts",
+    "simulate --fault lag --nodes 1 -> refused: 2 nodes",
+    "simulate --seed 1 --seed 2 -> refused: --seed",
+    "simulate --workers 4 -> refused: --workers",
+    "simulate audit -> refused: audit",
+    "simulate --help -> help: --fault",
+    "simulate --help -> help: standard output",
+    "simulate --help -> help: lag",
+    "simulate -V -> help: 1.0.0",
 ];
 
 #[test]
 fn simulate_arguments_that_are_refused(rt: HostRuntime) -> Result<(), Fail> {
-    for &(arguments, shown, part) in &REFUSED {
-        assert!(rt;
-            is_refused(rt.alloc(), Command::Simulate, arguments, shown, part)?,
-            "{arguments:?}: {part}"
-        );
-    }
-    Ok(())
+    assert_answered(&rt, rt.alloc(), Command::Simulate, &REFUSED)
 }
