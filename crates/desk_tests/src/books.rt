@@ -16,7 +16,7 @@ fn each_line_has_the_next_place(rt: HostRuntime) -> Result<(), Fail> {
 }
 
 #[test]
-fn a_line_that_wants_memory_has_the_same_place_again(rt: HostRuntime) -> Result<(), Fail> {
+fn a_line_that_is_out_of_memory_has_the_same_place_again(rt: HostRuntime) -> Result<(), Fail> {
     let Ok(mut book) = Book::new(rt.alloc(), &["a"]) else {
         return Ok(());
     };

@@ -101,7 +101,7 @@ fn threads_post_at_once(rt: HostRuntime) -> Result<(), Fail> {
 }
 
 #[test]
-fn a_post_that_wants_memory_may_be_tried_again(rt: HostRuntime) -> Result<(), Fail> {
+fn a_post_that_is_out_of_memory_may_be_tried_again(rt: HostRuntime) -> Result<(), Fail> {
     let Ok(posts) = posts_in(rt.alloc(), &["a"], &[0, 0, 0, 0, 0]) else {
         return Ok(());
     };
@@ -110,7 +110,7 @@ fn a_post_that_wants_memory_may_be_tried_again(rt: HostRuntime) -> Result<(), Fa
             posts.len() == 5 && is_left(&posted?, &["a"], &posts),
             "each line once",
         ),
-        Err(fault) => ensure(fault == DeskFault::Memory, "want of memory alone"),
+        Err(fault) => ensure(fault == DeskFault::Memory, "out of memory alone"),
     }
 }
 

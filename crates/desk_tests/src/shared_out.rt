@@ -20,7 +20,7 @@ fn any_number_of_threads_gives_one_list(rt: HostRuntime) -> Result<(), Fail> {
 }
 
 #[test]
-fn want_of_memory_at_one_item_is_the_error(rt: HostRuntime) {
+fn out_of_memory_at_one_item_is_the_error(rt: HostRuntime) {
     for threads in [1usize, 3, 64] {
         let given = try_map(&rt, rt.alloc(), threads, &WORDS, |word| {
             if *word == "mn" {

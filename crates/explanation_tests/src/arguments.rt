@@ -1,263 +1,90 @@
 //! The arguments of `explain`.
+use crate::cases::{cut, words_of};
 use aud_cli::{ExplainOptions, FailOn, Faults, Only, explain_asked};
 use aud_tap::Text;
 use std::alloc::{AllocError, Global};
 use std::process::Abort;
 use std::test::Fail;
 
-/// What makes status 1 where the arguments do not say, and no session and no file.
-const EVERY_CLASS: &str = "fail on delivery packets recording, pids, files\n";
-
-/// Arguments, how the text begins that tells of them, and a part of it.
-static ARGUMENTS: [(&[&str], &str, &str); 37] = [
-    (
-        &["explain"],
-        "read all, form Text, quiet false, workers 4, ",
-        EVERY_CLASS,
-    ),
-    (
-        &["explain", "--"],
-        "read all, form Text, quiet false, workers 4, ",
-        EVERY_CLASS,
-    ),
-    (
-        &["explain", "--json"],
-        "read all, form Json, quiet false, workers 4, ",
-        EVERY_CLASS,
-    ),
-    (
-        &["explain", "--html"],
-        "read all, form Html, quiet false, workers 4, ",
-        EVERY_CLASS,
-    ),
-    (
-        &["explain", "--quiet"],
-        "read all, form Text, quiet true, workers 4, ",
-        EVERY_CLASS,
-    ),
-    (
-        &["explain", "--only", "no"],
-        "read no, form Text, quiet false, workers 4, ",
-        EVERY_CLASS,
-    ),
-    (
-        &["explain", "--only=delivery"],
-        "read delivery, form Text, quiet false, workers 4, ",
-        EVERY_CLASS,
-    ),
-    (
-        &["explain", "--only", "packets"],
-        "read packets, form Text, quiet false, workers 4, ",
-        EVERY_CLASS,
-    ),
-    (
-        &["explain", "--only", "recording"],
-        "read recording, form Text, quiet false, workers 4, ",
-        EVERY_CLASS,
-    ),
-    (
-        &["explain", "--fail-on", "delivery,refused"],
-        "read all, form Text, quiet false, workers 4, ",
-        "fail on delivery refused, pids, files\n",
-    ),
-    (
-        &["explain", "--fail-on=packets,packets"],
-        "read all, form Text, quiet false, workers 4, ",
-        "fail on packets, pids, files\n",
-    ),
-    (
-        &["explain", "--fail-on=packets,recording,delivery"],
-        "read all, form Text, quiet false, workers 4, ",
-        EVERY_CLASS,
-    ),
-    (
-        &["explain", "--lines", "p.lines", "--pid", "P", "p.jsonl"],
-        "read all, form Text, quiet false, workers 4, fail on delivery packets recording, lines p.lines, ",
-        "pids P, files p.jsonl\n",
-    ),
-    (
-        &["explain", "--only", "LOST"],
-        "read LOST, form Text, quiet false, workers 4, ",
-        EVERY_CLASS,
-    ),
-    (
-        &["explain", "--only=NOLOG"],
-        "read NOLOG, form Text, quiet false, workers 4, ",
-        EVERY_CLASS,
-    ),
-    (
-        &["explain", "--fail-on", "nothing"],
-        "read all, form Text, quiet false, workers 4, ",
-        "fail on nothing, pids, files\n",
-    ),
-    (
-        &["explain", "--fail-on", "LOST,refused,delivery"],
-        "read all, form Text, quiet false, workers 4, ",
-        "fail on delivery refused LOST, pids, files\n",
-    ),
-    (
-        &[
-            "explain",
-            "--fail-on=NOLOG,CHAIN,ORDER,CLIENT,NAMES,FRAME,ORPHAN,CONTENT,EXTRA,DOUBLED,SWAPPED,LOST,WINDOW",
-        ],
-        "read all, form Text, quiet false, workers 4, ",
-        "fail on NOLOG CHAIN ORDER CLIENT NAMES FRAME ORPHAN CONTENT EXTRA DOUBLED SWAPPED LOST WINDOW, pids",
-    ),
-    (
-        &["explain", "--whole"],
-        "read all, whole, form Text, quiet false, workers 4, ",
-        EVERY_CLASS,
-    ),
-    (
-        &["explain", "--only", "TAIL", "--whole"],
-        "read TAIL, whole, form Text, quiet false, workers 4, ",
-        EVERY_CLASS,
-    ),
-    (
-        &["explain", "--whole", "--fail-on=refused,TAIL,LOST"],
-        "read all, whole, form Text, quiet false, workers 4, ",
-        "fail on refused LOST TAIL, pids, files\n",
-    ),
-    (
-        &["explain", "--workers=64", "--quiet", "--json"],
-        "read all, form Json, quiet true, workers 64, ",
-        EVERY_CLASS,
-    ),
-    (&["explain", "a.jsonl"], "read ", ", pids, files a.jsonl\n"),
-    (&["explain", "-"], "read ", ", pids, files -\n"),
-    (
-        &["explain", "a", "-", "a"],
-        "read ",
-        ", pids, files a - a\n",
-    ),
-    (&["explain", "--pid", "P"], "read ", ", pids P, files\n"),
-    (
-        &["explain", "--pid", "-P", "f", "--pid=--Q="],
-        "read ",
-        ", pids -P --Q=, files f\n",
-    ),
-    (
-        &["explain", "--json", "f", "--quiet", "g"],
-        "read ",
-        ", pids, files f g\n",
-    ),
-    (
-        &["explain", "--", "--json", "--", "f"],
-        "read ",
-        ", pids, files --json -- f\n",
-    ),
-    (
-        &["explain", "--pid", "--", "f"],
-        "read ",
-        ", pids --, files f\n",
-    ),
-    (&[], "refused: ", "Usage"),
-    (&["audit"], "refused: ", "audit"),
-    (&["--", "explain"], "refused: ", "explain"),
-    (&["explain", "--pid"], "refused: ", "--pid"),
-    (&["explain", "--only"], "refused: ", "--only"),
-    (&["explain", "--only", "yes"], "refused: ", "yes"),
-    (&["explain", "--only", "No"], "refused: ", "No"),
+/// Arguments, on a line each how the text begins that tells of them, and a part of it.
+static ARGUMENTS: [&str; 37] = [
+    "explain\nread all, form Text, quiet false, workers 4, \nfail on delivery packets recording, pids, files\n",
+    "explain --\nread all, form Text, quiet false, workers 4, \nfail on delivery packets recording, pids, files\n",
+    "explain --json\nread all, form Json, quiet false, workers 4, \nfail on delivery packets recording, pids, files\n",
+    "explain --html\nread all, form Html, quiet false, workers 4, \nfail on delivery packets recording, pids, files\n",
+    "explain --quiet\nread all, form Text, quiet true, workers 4, \nfail on delivery packets recording, pids, files\n",
+    "explain --only no\nread no, form Text, quiet false, workers 4, \nfail on delivery packets recording, pids, files\n",
+    "explain --only=delivery\nread delivery, form Text, quiet false, workers 4, \nfail on delivery packets recording, pids, files\n",
+    "explain --only packets\nread packets, form Text, quiet false, workers 4, \nfail on delivery packets recording, pids, files\n",
+    "explain --only recording\nread recording, form Text, quiet false, workers 4, \nfail on delivery packets recording, pids, files\n",
+    "explain --fail-on delivery,refused\nread all, form Text, quiet false, workers 4, \nfail on delivery refused, pids, files\n",
+    "explain --fail-on=packets,packets\nread all, form Text, quiet false, workers 4, \nfail on packets, pids, files\n",
+    "explain --fail-on=packets,recording,delivery\nread all, form Text, quiet false, workers 4, \nfail on delivery packets recording, pids, files\n",
+    "explain --lines p.lines --pid P p.jsonl\nread all, form Text, quiet false, workers 4, fail on delivery packets recording, lines p.lines, \npids P, files p.jsonl\n",
+    "explain --only LOST\nread LOST, form Text, quiet false, workers 4, \nfail on delivery packets recording, pids, files\n",
+    "explain --only=NOLOG\nread NOLOG, form Text, quiet false, workers 4, \nfail on delivery packets recording, pids, files\n",
+    "explain --fail-on nothing\nread all, form Text, quiet false, workers 4, \nfail on nothing, pids, files\n",
+    "explain --fail-on LOST,refused,delivery\nread all, form Text, quiet false, workers 4, \nfail on delivery refused LOST, pids, files\n",
+    "explain --fail-on=NOLOG,CHAIN,ORDER,CLIENT,NAMES,FRAME,ORPHAN,CONTENT,EXTRA,DOUBLED,SWAPPED,LOST,WINDOW\nread all, form Text, quiet false, workers 4, \nfail on NOLOG CHAIN ORDER CLIENT NAMES FRAME ORPHAN CONTENT EXTRA DOUBLED SWAPPED LOST WINDOW, pids",
+    "explain --whole\nread all, whole, form Text, quiet false, workers 4, \nfail on delivery packets recording, pids, files\n",
+    "explain --only TAIL --whole\nread TAIL, whole, form Text, quiet false, workers 4, \nfail on delivery packets recording, pids, files\n",
+    "explain --whole --fail-on=refused,TAIL,LOST\nread all, whole, form Text, quiet false, workers 4, \nfail on refused LOST TAIL, pids, files\n",
+    "explain --workers=64 --quiet --json\nread all, form Json, quiet true, workers 64, \nfail on delivery packets recording, pids, files\n",
+    "explain a.jsonl\nread \n, pids, files a.jsonl\n",
+    "explain -\nread \n, pids, files -\n",
+    "explain a - a\nread \n, pids, files a - a\n",
+    "explain --pid P\nread \n, pids P, files\n",
+    "explain --pid -P f --pid=--Q=\nread \n, pids -P --Q=, files f\n",
+    "explain --json f --quiet g\nread \n, pids, files f g\n",
+    "explain -- --json -- f\nread \n, pids, files --json -- f\n",
+    "explain --pid -- f\nread \n, pids --, files f\n",
+    "\nrefused: \nUsage",
+    "audit\nrefused: \naudit",
+    "-- explain\nrefused: \nexplain",
+    "explain --pid\nrefused: \n--pid",
+    "explain --only\nrefused: \n--only",
+    "explain --only yes\nrefused: \nyes",
+    "explain --only No\nrefused: \nNo",
 ];
 
 /// More of them.
-static MORE_ARGUMENTS: [(&[&str], &str, &str); 36] = [
-    (&["explain", "--only", "lost"], "refused: ", "lost"),
-    (
-        &["explain", "--only", "TAIL"],
-        "refused: error: TAIL is named without --whole, which alone looks for it",
-        "--help",
-    ),
-    (
-        &["explain", "--only", "LOST,EXTRA"],
-        "refused: ",
-        "LOST,EXTRA",
-    ),
-    (&["explain", "--only="], "refused: ", "--only"),
-    (
-        &["explain", "--only=no", "--only", "no"],
-        "refused: ",
-        "--only",
-    ),
-    (&["explain", "--json=yes"], "refused: ", "--json"),
-    (&["explain", "--json="], "refused: ", "--json"),
-    (&["explain", "--json", "--json"], "refused: ", "--json"),
-    (&["explain", "--html=yes"], "refused: ", "--html"),
-    (&["explain", "--html", "--html"], "refused: ", "--html"),
-    (
-        &["explain", "--html", "--json"],
-        "refused: error: the argument '--html' cannot be used with '--json'",
-        "Usage",
-    ),
-    (
-        &["explain", "--json", "f", "--html"],
-        "refused: error: the argument '--json' cannot be used with '--html'",
-        "Usage",
-    ),
-    (
-        &["explain", "--quiet", "f", "--quiet"],
-        "refused: ",
-        "--quiet",
-    ),
-    (&["explain", "--fail-on"], "refused: ", "--fail-on"),
-    (&["explain", "--fail-on", ""], "refused: ", "--fail-on"),
-    (
-        &["explain", "--fail-on", "delivery,"],
-        "refused: ",
-        "--fail-on",
-    ),
-    (
-        &["explain", "--fail-on", "delivery,lost"],
-        "refused: ",
-        "lost",
-    ),
-    (
-        &["explain", "--fail-on", "LOST,TAIL"],
-        "refused: error: TAIL is named without --whole, which alone looks for it",
-        "--help",
-    ),
-    (&["explain", "--whole=yes"], "refused: ", "--whole"),
-    (
-        &["explain", "--whole", "f", "--whole"],
-        "refused: ",
-        "--whole",
-    ),
-    (
-        &["explain", "--fail-on=refused", "--fail-on=refused"],
-        "refused: ",
-        "--fail-on",
-    ),
-    (&["explain", "--workers", "0"], "refused: ", "0"),
-    (&["explain", "--workers", "65"], "refused: ", "65"),
-    (&["explain", "--workers=7x"], "refused: ", "7x"),
-    (
-        &["explain", "--workers=1", "--workers=1"],
-        "refused: ",
-        "--workers",
-    ),
-    (&["explain", "--lines"], "refused: ", "--lines"),
-    (
-        &["explain", "--lines=a", "--lines", "b"],
-        "refused: ",
-        "--lines",
-    ),
-    (&["explain", "-j"], "refused: ", "-j"),
-    (&["explain", "--help"], "help: ", "--pid <P>"),
-    (&["explain", "--help"], "help: ", "--only <WHICH>"),
-    (
-        &["explain", "--help"],
-        "help: ",
-        "[possible values: no, delivery, packets, recording, NOLOG, ",
-    ),
-    (&["explain", "--help"], "help: ", "--html"),
-    (&["explain", "--help"], "help: ", "--fail-on <LIST>"),
-    (
-        &["explain", "--help"],
-        "help: ",
-        "[default: delivery,packets,recording]",
-    ),
-    (&["explain", "--help"], "help: ", "[FILES]..."),
-    (&["explain", "--help"], "help: ", "[default: 4]"),
+static MORE_ARGUMENTS: [&str; 36] = [
+    "explain --only lost\nrefused: \nlost",
+    "explain --only TAIL\nrefused: error: TAIL is named without --whole, which alone looks for it\n--help",
+    "explain --only LOST,EXTRA\nrefused: \nLOST,EXTRA",
+    "explain --only=\nrefused: \n--only",
+    "explain --only=no --only no\nrefused: \n--only",
+    "explain --json=yes\nrefused: \n--json",
+    "explain --json=\nrefused: \n--json",
+    "explain --json --json\nrefused: \n--json",
+    "explain --html=yes\nrefused: \n--html",
+    "explain --html --html\nrefused: \n--html",
+    "explain --html --json\nrefused: error: the argument '--html' cannot be used with '--json'\nUsage",
+    "explain --json f --html\nrefused: error: the argument '--json' cannot be used with '--html'\nUsage",
+    "explain --quiet f --quiet\nrefused: \n--quiet",
+    "explain --fail-on\nrefused: \n--fail-on",
+    "explain --fail-on \nrefused: \n--fail-on",
+    "explain --fail-on delivery,\nrefused: \n--fail-on",
+    "explain --fail-on delivery,lost\nrefused: \nlost",
+    "explain --fail-on LOST,TAIL\nrefused: error: TAIL is named without --whole, which alone looks for it\n--help",
+    "explain --whole=yes\nrefused: \n--whole",
+    "explain --whole f --whole\nrefused: \n--whole",
+    "explain --fail-on=refused --fail-on=refused\nrefused: \n--fail-on",
+    "explain --workers 0\nrefused: \n0",
+    "explain --workers 65\nrefused: \n65",
+    "explain --workers=7x\nrefused: \n7x",
+    "explain --workers=1 --workers=1\nrefused: \n--workers",
+    "explain --lines\nrefused: \n--lines",
+    "explain --lines=a --lines b\nrefused: \n--lines",
+    "explain -j\nrefused: \n-j",
+    "explain --help\nhelp: \n--pid <P>",
+    "explain --help\nhelp: \n--only <WHICH>",
+    "explain --help\nhelp: \n[possible values: no, delivery, packets, recording, NOLOG, ",
+    "explain --help\nhelp: \n--html",
+    "explain --help\nhelp: \n--fail-on <LIST>",
+    "explain --help\nhelp: \n[default: delivery,packets,recording]",
+    "explain --help\nhelp: \n[FILES]...",
+    "explain --help\nhelp: \n[default: 4]",
 ];
 
 /// Adds the texts, each after a blank.
@@ -365,17 +192,15 @@ fn text_of(alloc: Global, arguments: &[&str]) -> Result<String, AllocError> {
 }
 
 /// Asserts that each text begins so, and has this part.
-fn assert_texts(
-    rt: &impl Abort,
-    alloc: Global,
-    rows: &[(&[&str], &str, &str)],
-) -> Result<(), Fail> {
-    for &(arguments, begin, part) in rows {
-        let text = text_of(alloc, arguments)?;
+fn assert_texts(rt: &impl Abort, alloc: Global, rows: &[&str]) -> Result<(), Fail> {
+    for row in rows {
+        let (arguments, wanted) = cut(row, "\n");
+        let (begin, part) = cut(wanted, "\n");
+        let text = text_of(alloc, &words_of(alloc, arguments)?)?;
         let text = text.as_str();
         assert!(rt;
             text.starts_with(begin) && text.contains(part),
-            "{arguments:?}: {text}"
+            "{arguments}: {text}"
         );
     }
     Ok(())

@@ -2,8 +2,7 @@
 //! names it and the first that names it otherwise.
 use aud_base::Watched;
 use aud_cert::{Certificate, Turn};
-use aud_client::{Recording, Stay};
-use aud_evidence::{first_naming, first_other_named};
+use aud_client::Recording;
 use aud_input::read_files;
 use aud_maker::make;
 use aud_reach::rooms_held;
@@ -41,18 +40,10 @@ c1 {"k":"conn","c":3}
 c1 {"k":"in","t":"40{\"sid\":\"s2\",\"pid\":\"P\"}"}
 "#;
 
-const ANSWERS: &str = "named: Some(1), otherwise: Some(2)
-held at 1: q r s1
+const ANSWERS: &str = "held at 1: q r s1
 held at 2: s1
 spans held: s1 2-2
 ";
-
-/// Adds the numbers of the first stay whose reply names the session, and of the first that names it otherwise.
-fn push_stays(out: &mut String, stays: &[Stay<'_>]) -> Result<(), AllocError> {
-    let named = first_naming(stays, "P");
-    let otherwise = first_other_named(stays, "P", "s1", "/");
-    writeln!(out, "named: {named:?}, otherwise: {otherwise:?}")
-}
 
 /// Adds the rooms that the session held when it reached the position.
 fn push_held(
@@ -86,8 +77,6 @@ fn push_spans(
 /// The answers over a recording.
 fn answers(alloc: Global, recording: &Recording<'_>) -> Result<String, Fail> {
     let mut out = String::new(alloc);
-    let client = recording.client(2).ok_or("no client")?;
-    push_stays(&mut out, client.transcript().stays.as_slice())?;
     let Ok(cert) = make(alloc, recording, "P") else {
         return Err("no certificate")?;
     };

@@ -1,11 +1,17 @@
-//! What `explain` writes for the cases of a table.
+//! What `explain` writes for cases, each a text.
+//!
+//! The first line of a case is the arguments. The second has what is read: `@A B` the files with these texts, and what
+//! stands below is one more; or `2 nodes: c@1 e:a` the bundle of a simulated cluster of one client, which runs this
+//! schedule. After `-> ` comes how the run ends, and below it what is written, where `*` stands for what is not told.
+//! It may be the text of a name too, as `@A`.
+use crate::bundles::named;
 use crate::schedule::acts;
 use aud_base::Watched;
 use aud_cli::explain_asked;
 use aud_explain_app::{ExplainFault, explain};
 use aud_sim::simulate;
 use aud_verdict::Status;
-use std::alloc::Global;
+use std::alloc::{AllocError, Global};
 use std::hash::RandomState;
 use std::process::Abort;
 use std::random::RandomSource;
@@ -15,121 +21,128 @@ use std::thread::Threads;
 use std::time::Clock;
 
 /// How a run ends.
-pub type Outcome = Result<Status, ExplainFault>;
-
-/// What is read.
-pub enum Input {
-    /// Files with these texts.
-    Files(&'static [&'static str]),
-    /// The bundle of a simulated cluster of so many nodes and one client, which runs this schedule.
-    Simulated(usize, &'static str),
-}
-
-/// What is written for these arguments over an input, and how the run ends. A `*` in the text stands for what is not
-/// told.
-pub struct Case {
-    pub arguments: &'static [&'static str],
-    pub input: Input,
-    pub text: &'static str,
-    pub outcome: Outcome,
-}
+type Outcome = Result<Status, ExplainFault>;
 
 /// Asserts that each case is as it says.
 pub fn assert_cases<H: Abort + Threads + Wait + Clock + RandomSource + Sync>(
     rt: &H,
     alloc: Global,
-    cases: &[Case],
+    texts: &[&str],
+    cases: &[&str],
 ) -> Result<(), Fail> {
-    let found = differing(rt, alloc, cases)?;
+    let mut found = String::new(alloc);
+    for case in cases {
+        push_differing(rt, alloc, texts, &mut found, case)?;
+    }
     let found = found.as_str();
     assert!(rt; found.is_empty(), "{found}");
     Ok(())
 }
 
-/// How the runs of those cases end and what they write that say otherwise.
-fn differing<H: Threads + Wait + Clock + RandomSource + Sync>(
-    rt: &H,
-    alloc: Global,
-    cases: &[Case],
-) -> Result<String, Fail> {
-    let mut found = String::new(alloc);
-    for case in cases {
-        push_case(rt, alloc, &mut found, case)?;
-    }
-    Ok(found)
-}
-
-/// Adds how the run of the case ends and what it writes, where the case says otherwise.
-fn push_case<H: Threads + Wait + Clock + RandomSource + Sync>(
-    rt: &H,
-    alloc: Global,
-    found: &mut String,
-    case: &Case,
-) -> Result<(), Fail> {
-    match case.input {
-        Input::Files(texts) => push_differing(rt, alloc, found, case, texts),
-        Input::Simulated(nodes, schedule) => {
-            push_simulated(rt, alloc, found, case, nodes, schedule)
-        }
-    }
-}
-
-/// The same over the bundle of a simulated cluster.
-fn push_simulated<H: Threads + Wait + Clock + RandomSource + Sync>(
-    rt: &H,
-    alloc: Global,
-    found: &mut String,
-    case: &Case,
-    nodes: usize,
-    schedule: &str,
-) -> Result<(), Fail> {
-    let bundle = bundle_of(alloc, nodes, schedule)?;
-    push_differing(rt, alloc, found, case, &[str::from_utf8(&bundle)?])
-}
-
-/// The bundle of a simulated cluster.
-fn bundle_of(alloc: Global, nodes: usize, schedule: &str) -> Result<Vec<u8>, Fail> {
-    if nodes < 1 || 64 < nodes {
-        return Err("no cluster")?;
-    }
-    let acts = acts(alloc, schedule)?;
-    Ok(simulate(alloc, nodes, 1, &acts)?)
-}
-
-/// The same over files with these texts.
+/// Adds the case, how its run ends and what it writes, where the case says otherwise.
 fn push_differing<H: Threads + Wait + Clock + RandomSource + Sync>(
     rt: &H,
     alloc: Global,
-    found: &mut String,
-    case: &Case,
     texts: &[&str],
+    found: &mut String,
+    case: &str,
 ) -> Result<(), Fail> {
-    let keys = RandomState::new(rt)?;
+    let (asked, wanted) = cut(case, "\n-> ");
+    let (arguments, input) = cut(asked, "\n");
+    let (end, text) = cut(wanted, "\n");
+    let text = match text.strip_prefix('@') {
+        Some(name) => named(texts, name).ok_or("no text")?,
+        None => text,
+    };
+    let files = files_of(alloc, texts, input)?;
+    let told = explained(rt, alloc, arguments, &files)?;
+    let (ended, written) = cut(&told, "\n");
+    if ended != end || !is_told(written, text) {
+        write!(found, "{case}\n-> {told}\n")?;
+    }
+    Ok(())
+}
+
+/// What a text has before the first such mark, and after it.
+pub fn cut<'a>(text: &'a str, mark: &str) -> (&'a str, &'a str) {
+    text.split_once(mark).unwrap_or((text, ""))
+}
+
+/// The words of a text, with a blank between them.
+pub fn words_of<'a>(alloc: Global, text: &'a str) -> Result<Vec<&'a str>, AllocError> {
+    let mut words = Vec::new(alloc);
+    if text.is_empty() {
+        return Ok(words);
+    }
+    for word in text.split(' ') {
+        words.push(word)?;
+    }
+    Ok(words)
+}
+
+/// The texts that are read.
+fn files_of(alloc: Global, texts: &[&str], input: &str) -> Result<Vec<String>, Fail> {
+    let mut files = Vec::new(alloc);
+    let Some(input) = input.strip_prefix('@') else {
+        files.push(simulated(alloc, input)?)?;
+        return Ok(files);
+    };
+    let (names, lines) = cut(input, "\n");
+    for name in names.split(' ') {
+        let text = named(texts, name).ok_or("no text")?;
+        files.push(String::from_str(alloc, text)?)?;
+    }
+    if !lines.is_empty() {
+        files.push(String::from_str(alloc, lines)?)?;
+    }
+    Ok(files)
+}
+
+/// The bundle of a simulated cluster.
+fn simulated(alloc: Global, input: &str) -> Result<String, Fail> {
+    let (size, schedule) = cut(input, ": ");
+    let nodes = match size {
+        "1 node" => 1,
+        "2 nodes" => 2,
+        _ => return Err("no cluster")?,
+    };
+    let acts = acts(alloc, schedule)?;
+    let bundle = simulate(alloc, nodes, 1, &acts)?;
+    Ok(String::from_str(alloc, str::from_utf8(&bundle)?)?)
+}
+
+/// The files with these texts.
+fn watched<'a>(alloc: Global, texts: &'a [String]) -> Result<Vec<Watched<&'a [u8]>>, AllocError> {
     let mut files = Vec::new(alloc);
     for text in texts {
         files.push(Watched::new(text.as_bytes()))?;
     }
+    Ok(files)
+}
+
+/// How the run over files with these texts ends, and below it what it writes.
+fn explained<H: Threads + Wait + Clock + RandomSource + Sync>(
+    rt: &H,
+    alloc: Global,
+    arguments: &str,
+    texts: &[String],
+) -> Result<String, Fail> {
+    let keys = RandomState::new(rt)?;
+    let words = words_of(alloc, arguments)?;
+    let mut files = watched(alloc, texts)?;
     if files.is_empty() {
         return Err("no file")?;
     }
-    let options = explain_asked(alloc, case.arguments)?;
+    let options = explain_asked(alloc, &words)?;
     let mut output = Watched::new(Vec::new(alloc));
     let outcome = explain(rt, alloc, keys, &mut files, &mut output, &options, None);
-    push_other(found, case, output.into_inner().as_slice(), outcome)
+    told(alloc, outcome, output.into_inner().as_slice())
 }
 
-/// The same of what was written, and how the run ended.
-fn push_other(
-    found: &mut String,
-    case: &Case,
-    written: &[u8],
-    outcome: Outcome,
-) -> Result<(), Fail> {
+/// How a run ended, and below it what it wrote.
+fn told(alloc: Global, outcome: Outcome, written: &[u8]) -> Result<String, Fail> {
     let written = str::from_utf8(written)?;
-    if !is_told(written, case.text) || outcome != case.outcome {
-        writeln!(found, "{outcome:?}\n{written}")?;
-    }
-    Ok(())
+    Ok(format!(in alloc; "{outcome:?}\n{written}")?)
 }
 
 /// Whether this is the text, with anything in the place of a `*`.

@@ -1,10 +1,12 @@
 //! Sessions whose opens, breaks and recoveries don't fit together.
-use crate::cases::{Case, Input, assert_cases};
-use aud_verdict::Status;
+use crate::cases::assert_cases;
 use std::test::Fail;
 
-/// A session whose first turn has no `break`, though it was recovered.
-const NO_BREAK: &str = r#"st {"k":"tap","v":1,"of":"stream"}
+/// Texts of these cases, each after its name.
+static TEXTS: [&str; 2] = [
+    // A session whose first turn has no `break`, though it was recovered.
+    r#"NO_BREAK
+st {"k":"tap","v":1,"of":"stream"}
 st {"k":"ev","off":"1-0","nsp":"/","rooms":["r"],"text":"2[\"hi\",\"1-0\"]"}
 st {"k":"ev","off":"2-0","nsp":"/","rooms":["r"],"text":"2[\"hi\",\"2-0\"]"}
 a {"k":"tap","v":1,"of":"node"}
@@ -26,10 +28,10 @@ c1 {"k":"conn","c":2}
 c1 {"k":"out","t":"40{\"pid\":\"P\",\"offset\":\"1-0\"}"}
 c1 {"k":"in","t":"42[\"hi\",\"2-0\"]"}
 c1 {"k":"in","t":"40{\"sid\":\"s1\",\"pid\":\"P\"}"}
-"#;
-
-/// The same of the second of four turns.
-const NO_SECOND_BREAK: &str = r#"st {"k":"tap","v":1,"of":"stream"}
+"#,
+    // The same of the second of four turns.
+    r#"NO_SECOND_BREAK
+st {"k":"tap","v":1,"of":"stream"}
 st {"k":"ev","off":"1-0","nsp":"/","rooms":["r"],"text":"2[\"hi\",\"1-0\"]"}
 st {"k":"ev","off":"2-0","nsp":"/","rooms":["r"],"text":"2[\"hi\",\"2-0\"]"}
 st {"k":"ev","off":"3-0","nsp":"/","rooms":["r"],"text":"2[\"hi\",\"3-0\"]"}
@@ -69,23 +71,15 @@ c1 {"k":"conn","c":4}
 c1 {"k":"out","t":"40{\"pid\":\"P\",\"offset\":\"3-0\"}"}
 c1 {"k":"in","t":"42[\"hi\",\"4-0\"]"}
 c1 {"k":"in","t":"40{\"sid\":\"s1\",\"pid\":\"P\"}"}
-"#;
-
-/// Two nodes. The session is opened on the first of them, on line 4.
-pub const NODES: &str = r#"st {"k":"tap","v":1,"of":"stream"}
-a {"k":"tap","v":1,"of":"node"}
-a {"k":"start","off":null}
-a {"k":"open","pid":"P","sid":"s1","nsp":"/"}
-b {"k":"tap","v":1,"of":"node"}
-b {"k":"start","off":null}
-"#;
+"#,
+];
 
 /// What is written of each of them; what a log has after the common lines stands in a second file.
-static CASES: [Case; 13] = [
-    Case {
-        arguments: &["explain"],
-        input: Input::Files(&[NO_BREAK]),
-        text: r#"no P CHAIN [recording]
+static CASES: [&str; 13] = [
+    r#"explain
+@NO_BREAK
+-> Ok(SomeNo)
+no P CHAIN [recording]
 client c1, namespace /, turns 2, delivery not judged
     line tap  record
        6 a    open, sid s1, namespace /, cursor 0  earlier
@@ -98,19 +92,15 @@ cause missing-break (certain, lines 6 13 20 22): The client recovered the sessio
 do: write a node's log unbuffered; look at the disk and at how logs are rotated.
 
 sessions: *"#,
-        outcome: Ok(Status::SomeNo),
-    },
-    Case {
-        arguments: &["explain", "--json"],
-        input: Input::Files(&[NO_BREAK]),
-        text: r#"{"also":[],"at_frame":null,"causes":[{"id":"missing-break","lines":[6,13,20,22],"sure":true,"todo":"write a node's log unbuffered; look at the disk and at how logs are rotated.","why":"The client recovered the session after turn 0, so that turn broke; no log has its break."}],"class":"recording","client":"c1","conn":null,"due":null,"events":[{"after":null,"from":null,"happens":"reply","lines":[16,16],"to":null},{"after":null,"from":1,"happens":"got","lines":[17,17],"to":1},{"after":null,"from":null,"happens":"lost","lines":[18,18],"to":null},{"after":1,"from":null,"happens":"asks","lines":[20,20],"to":null},{"after":null,"from":2,"happens":"got","lines":[21,21],"to":2},{"after":null,"from":null,"happens":"reply","lines":[22,22],"to":null}],"evidence":[{"line":6,"role":"earlier","says":"open, sid s1, namespace /, cursor 0","tap":"a"},{"line":13,"role":"fault","says":"back 1, cursor 2","tap":"b"}],"fault":"CHAIN","got":null,"nsp":"/","off":null,"pid":"P","refused":[],"tail":null,"turns":[{"begin":"open","end":"missing","high":null,"lines":[6],"low":0,"node":"a","took":null,"turn":0},{"begin":"back","end":"log","high":2,"lines":[13,13],"low":2,"node":"b","took":null,"turn":1}],"v":1,"verdict":"no"}
+    r#"explain --json
+@NO_BREAK
+-> Ok(SomeNo)
+{"also":[],"at_frame":null,"causes":[{"id":"missing-break","lines":[6,13,20,22],"sure":true,"todo":"write a node's log unbuffered; look at the disk and at how logs are rotated.","why":"The client recovered the session after turn 0, so that turn broke; no log has its break."}],"class":"recording","client":"c1","conn":null,"due":null,"events":[{"after":null,"from":null,"happens":"reply","lines":[16,16],"to":null},{"after":null,"from":1,"happens":"got","lines":[17,17],"to":1},{"after":null,"from":null,"happens":"lost","lines":[18,18],"to":null},{"after":1,"from":null,"happens":"asks","lines":[20,20],"to":null},{"after":null,"from":2,"happens":"got","lines":[21,21],"to":2},{"after":null,"from":null,"happens":"reply","lines":[22,22],"to":null}],"evidence":[{"line":6,"role":"earlier","says":"open, sid s1, namespace /, cursor 0","tap":"a"},{"line":13,"role":"fault","says":"back 1, cursor 2","tap":"b"}],"fault":"CHAIN","got":null,"nsp":"/","off":null,"pid":"P","refused":[],"tail":null,"turns":[{"begin":"open","end":"missing","high":null,"lines":[6],"low":0,"node":"a","took":null,"turn":0},{"begin":"back","end":"log","high":2,"lines":[13,13],"low":2,"node":"b","took":null,"turn":1}],"v":1,"verdict":"no"}
 {"summary":*"#,
-        outcome: Ok(Status::SomeNo),
-    },
-    Case {
-        arguments: &["explain"],
-        input: Input::Files(&[NO_SECOND_BREAK]),
-        text: r#"no P CHAIN [recording]
+    r#"explain
+@NO_SECOND_BREAK
+-> Ok(SomeNo)
+no P CHAIN [recording]
 client c1, namespace /, turns 4, delivery not judged
     line tap  record
        8 a    open, sid s1, namespace /, cursor 0
@@ -126,17 +116,13 @@ client c1, namespace /, turns 4, delivery not judged
     client  27 reply  28 got 1  30 asks after 1  31 got 2  32 reply  34 asks after 2  35 got 3
         36 reply  38 asks after 3  39 got 4  40 reply
 cause missing-break (certain, lines 21 14 34 36)*"#,
-        outcome: Ok(Status::SomeNo),
-    },
     // Turn 0 has no `break`, and no record begins turn 2.
-    Case {
-        arguments: &["explain"],
-        input: Input::Files(&[
-            NO_BREAK,
-            r#"b {"k":"break","pid":"P","turn":1}
-b {"k":"back","pid":"P","turn":3}"#,
-        ]),
-        text: r#"no P CHAIN [recording]
+    r#"explain
+@NO_BREAK
+b {"k":"break","pid":"P","turn":1}
+b {"k":"back","pid":"P","turn":3}
+-> Ok(SomeNo)
+no P CHAIN [recording]
 client c1, namespace /, turns 3, delivery not judged
     line tap  record
        6 a    open, sid s1, namespace /, cursor 0
@@ -154,20 +140,16 @@ cause missing-break (fits, lines 6 13 20 22): The client recovered the session a
 do: write a node's log unbuffered; look at the disk and at how logs are rotated.
 
 sessions: *"#,
-        outcome: Ok(Status::SomeNo),
-    },
     // Neither of its first two turns has a `break`.
-    Case {
-        arguments: &["explain"],
-        input: Input::Files(&[
-            NO_BREAK,
-            r#"a {"k":"take","off":"2-0"}
+    r#"explain
+@NO_BREAK
+a {"k":"take","off":"2-0"}
 a {"k":"back","pid":"P","turn":2}
 c1 {"k":"conn","c":3}
 c1 {"k":"out","t":"40{\"pid\":\"P\",\"offset\":\"2-0\"}"}
-c1 {"k":"in","t":"40{\"sid\":\"s1\",\"pid\":\"P\"}"}"#,
-        ]),
-        text: r#"no P CHAIN [recording]
+c1 {"k":"in","t":"40{\"sid\":\"s1\",\"pid\":\"P\"}"}
+-> Ok(SomeNo)
+no P CHAIN [recording]
 client c1, namespace /, turns 3, delivery not judged
     line tap  record
        6 a    open, sid s1, namespace /, cursor 0  earlier
@@ -186,13 +168,12 @@ cause missing-break (fits, lines 13 24 26 27): The client recovered the session 
 do: write a node's log unbuffered; look at the disk and at how logs are rotated.
 
 sessions: *"#,
-        outcome: Ok(Status::SomeNo),
-    },
     // It is opened again.
-    Case {
-        arguments: &["explain"],
-        input: Input::Files(&[NODES, r#"b {"k":"open","pid":"P","sid":"s1","nsp":"/"}"#]),
-        text: r#"no P CHAIN [recording]
+    r#"explain
+@NODES
+b {"k":"open","pid":"P","sid":"s1","nsp":"/"}
+-> Ok(SomeNo)
+no P CHAIN [recording]
 no one client, turns 2, delivery not judged
     line tap  record
        4 a    open, sid s1, namespace /, cursor 0  earlier
@@ -201,17 +182,13 @@ no one client, turns 2, delivery not judged
     turn 0  b  7 open, cursor 0 == 7 log ends, cursor 0
 
 sessions: *"#,
-        outcome: Ok(Status::SomeNo),
-    },
     // No record begins turn 1.
-    Case {
-        arguments: &["explain"],
-        input: Input::Files(&[
-            NODES,
-            r#"a {"k":"break","pid":"P","turn":0}
-b {"k":"back","pid":"P","turn":2}"#,
-        ]),
-        text: r#"no P CHAIN [recording]
+    r#"explain
+@NODES
+a {"k":"break","pid":"P","turn":0}
+b {"k":"back","pid":"P","turn":2}
+-> Ok(SomeNo)
+no P CHAIN [recording]
 no one client, turns 2, delivery not judged
     line tap  record
        4 a    open, sid s1, namespace /, cursor 0
@@ -223,18 +200,14 @@ cause node-not-tapped (certain): No node's log has the begin of turn 1.
 do: tap each node, from its start.
 
 sessions: *"#,
-        outcome: Ok(Status::SomeNo),
-    },
     // It leaves a room after its break.
-    Case {
-        arguments: &["explain"],
-        input: Input::Files(&[
-            NODES,
-            r#"a {"k":"join","pid":"P","room":"r"}
+    r#"explain
+@NODES
+a {"k":"join","pid":"P","room":"r"}
 a {"k":"break","pid":"P","turn":0}
-a {"k":"leave","pid":"P","room":"r"}"#,
-        ]),
-        text: r#"no P CHAIN [recording]
+a {"k":"leave","pid":"P","room":"r"}
+-> Ok(SomeNo)
+no P CHAIN [recording]
 no one client, turns 1, delivery not judged
     line tap  record
        4 a    open, sid s1, namespace /, cursor 0
@@ -246,17 +219,13 @@ cause cleared-after-break (certain, lines 8 9): The log of a clears the session 
 do: write no `leave` and no `gone` for what is cleared up after a break.
 
 sessions: *"#,
-        outcome: Ok(Status::SomeNo),
-    },
     // It is over after its break.
-    Case {
-        arguments: &["explain"],
-        input: Input::Files(&[
-            NODES,
-            r#"a {"k":"break","pid":"P","turn":0}
-a {"k":"gone","pid":"P"}"#,
-        ]),
-        text: r#"no P CHAIN [recording]
+    r#"explain
+@NODES
+a {"k":"break","pid":"P","turn":0}
+a {"k":"gone","pid":"P"}
+-> Ok(SomeNo)
+no P CHAIN [recording]
 no one client, turns 1, delivery not judged
     line tap  record
        4 a    open, sid s1, namespace /, cursor 0
@@ -264,18 +233,14 @@ no one client, turns 1, delivery not judged
        8 a    gone  <- does not fit in the turns
     turn 0  a  4 open, cursor 0 == 7 break, cursor 0
 cause cleared-after-break (certain, lines 7 8)*"#,
-        outcome: Ok(Status::SomeNo),
-    },
     // Two nodes take it back as turn 1.
-    Case {
-        arguments: &["explain"],
-        input: Input::Files(&[
-            NODES,
-            r#"a {"k":"break","pid":"P","turn":0}
+    r#"explain
+@NODES
+a {"k":"break","pid":"P","turn":0}
 a {"k":"back","pid":"P","turn":1}
-b {"k":"back","pid":"P","turn":1}"#,
-        ]),
-        text: r#"no P CHAIN [recording]
+b {"k":"back","pid":"P","turn":1}
+-> Ok(SomeNo)
+no P CHAIN [recording]
 no one client, turns 3, delivery not judged
     line tap  record
        4 a    open, sid s1, namespace /, cursor 0
@@ -289,19 +254,15 @@ cause recovered-twice (certain, lines 8 9): Two nodes took the session back as t
 do: take a stored session out of the store in one step, so that one node alone gets it.
 
 sessions: *"#,
-        outcome: Ok(Status::SomeNo),
-    },
     // It breaks on the first of them, and the other one takes it back as turn 1 again.
-    Case {
-        arguments: &["explain"],
-        input: Input::Files(&[
-            NODES,
-            r#"a {"k":"break","pid":"P","turn":0}
+    r#"explain
+@NODES
+a {"k":"break","pid":"P","turn":0}
 a {"k":"back","pid":"P","turn":1}
 a {"k":"break","pid":"P","turn":1}
-b {"k":"back","pid":"P","turn":1}"#,
-        ]),
-        text: r#"no P CHAIN [recording]
+b {"k":"back","pid":"P","turn":1}
+-> Ok(SomeNo)
+no P CHAIN [recording]
 no one client, turns 3, delivery not judged
     line tap  record
        4 a    open, sid s1, namespace /, cursor 0
@@ -319,17 +280,13 @@ cause recovered-twice (fits, lines 8 10): Two nodes took the session back as tur
 do: take a stored session out of the store in one step, so that one node alone gets it.
 
 sessions: *"#,
-        outcome: Ok(Status::SomeNo),
-    },
     // It joins a room after its break.
-    Case {
-        arguments: &["explain"],
-        input: Input::Files(&[
-            NODES,
-            r#"a {"k":"break","pid":"P","turn":0}
-a {"k":"join","pid":"P","room":"r"}"#,
-        ]),
-        text: r#"no P CHAIN [recording]
+    r#"explain
+@NODES
+a {"k":"break","pid":"P","turn":0}
+a {"k":"join","pid":"P","room":"r"}
+-> Ok(SomeNo)
+no P CHAIN [recording]
 no one client, turns 1, delivery not judged
     line tap  record
        4 a    open, sid s1, namespace /, cursor 0
@@ -338,20 +295,16 @@ no one client, turns 1, delivery not judged
     turn 0  a  4 open, cursor 0 == 7 break, cursor 0
 
 sessions: *"#,
-        outcome: Ok(Status::SomeNo),
-    },
     // It is taken back after its end.
-    Case {
-        arguments: &["explain"],
-        input: Input::Files(&[
-            NODES,
-            r#"a {"k":"join","pid":"P","room":"r"}
+    r#"explain
+@NODES
+a {"k":"join","pid":"P","room":"r"}
 a {"k":"break","pid":"P","turn":0}
 b {"k":"back","pid":"P","turn":1}
 b {"k":"gone","pid":"P"}
-b {"k":"back","pid":"P","turn":2}"#,
-        ]),
-        text: r#"no P CHAIN [recording]
+b {"k":"back","pid":"P","turn":2}
+-> Ok(SomeNo)
+no P CHAIN [recording]
 no one client, turns 3, delivery not judged
     line tap  record
        4 a    open, sid s1, namespace /, cursor 0
@@ -364,11 +317,9 @@ no one client, turns 3, delivery not judged
     turn 2  b  11 back, cursor 0 == 11 log ends, cursor 0
 
 sessions: *"#,
-        outcome: Ok(Status::SomeNo),
-    },
 ];
 
 #[test]
 fn turns_that_do_not_fit(rt: HostRuntime) -> Result<(), Fail> {
-    assert_cases(&rt, rt.alloc(), &CASES)
+    assert_cases(&rt, rt.alloc(), &TEXTS, &CASES)
 }

@@ -1,50 +1,12 @@
 //! Events that came twice, too late or never, that were not due, or were not what their entry says.
-use crate::cases::{Case, Input, assert_cases};
-use aud_verdict::Status;
+use crate::cases::assert_cases;
 use std::test::Fail;
 
-/// A node that takes a session back when it is three entries behind the break.
-pub const BEHIND: &str = r#"st {"k":"tap","v":1,"of":"stream"}
-st {"k":"ev","off":"1795330264875-0","nsp":"/","text":"2[\"zero\",\"1795330264875-0\"]"}
-st {"k":"ev","off":"1795330265183-0","nsp":"/","text":"2[\"m\",0,\"1795330265183-0\"]"}
-st {"k":"ev","off":"1795330265185-0","nsp":"/","text":"2[\"m\",1,\"1795330265185-0\"]"}
-st {"k":"ev","off":"1795330265185-1","nsp":"/","text":"2[\"m\",2,\"1795330265185-1\"]"}
-a {"k":"tap","v":1,"of":"node"}
-a {"k":"start","off":null}
-a {"k":"open","pid":"l20Oco8Ltsjm-QpSAAAC","sid":"IK6c5q7SCNG3_XOeAAAB","nsp":"/"}
-a {"k":"take","off":"1795330264875-0"}
-a {"k":"take","off":"1795330265183-0"}
-a {"k":"take","off":"1795330265185-0"}
-a {"k":"take","off":"1795330265185-1"}
-a {"k":"break","pid":"l20Oco8Ltsjm-QpSAAAC","turn":0}
-b {"k":"tap","v":1,"of":"node"}
-b {"k":"start","off":null}
-b {"k":"take","off":"1795330264875-0"}
-b {"k":"back","pid":"l20Oco8Ltsjm-QpSAAAC","turn":1}
-b {"k":"take","off":"1795330265183-0"}
-b {"k":"take","off":"1795330265185-0"}
-b {"k":"take","off":"1795330265185-1"}
-c1 {"k":"tap","v":1,"of":"client"}
-c1 {"k":"conn","c":1}
-c1 {"k":"in","t":"0{\"sid\":\"9qbNYqcKlmYHRNb3AAAA\",\"upgrades\":[],\"pingTimeout\":25000,\"pingInterval\":25000}"}
-c1 {"k":"out","t":"40{}"}
-c1 {"k":"in","t":"40{\"sid\":\"IK6c5q7SCNG3_XOeAAAB\",\"pid\":\"l20Oco8Ltsjm-QpSAAAC\"}"}
-c1 {"k":"in","t":"42[\"zero\",\"1795330264875-0\"]"}
-c1 {"k":"in","t":"42[\"m\",0,\"1795330265183-0\"]"}
-c1 {"k":"in","t":"42[\"m\",1,\"1795330265185-0\"]"}
-c1 {"k":"in","t":"42[\"m\",2,\"1795330265185-1\"]"}
-c1 {"k":"lost"}
-c1 {"k":"conn","c":2}
-c1 {"k":"in","t":"0{\"sid\":\"vd7O-Tx-vVRTaRXZAAAA\",\"upgrades\":[],\"pingTimeout\":25000,\"pingInterval\":25000}"}
-c1 {"k":"out","t":"40{\"pid\":\"l20Oco8Ltsjm-QpSAAAC\",\"offset\":\"1795330265185-1\"}"}
-c1 {"k":"in","t":"40{\"sid\":\"IK6c5q7SCNG3_XOeAAAB\",\"pid\":\"l20Oco8Ltsjm-QpSAAAC\"}"}
-c1 {"k":"in","t":"42[\"m\",0,\"1795330265183-0\"]"}
-c1 {"k":"in","t":"42[\"m\",1,\"1795330265185-0\"]"}
-c1 {"k":"in","t":"42[\"m\",2,\"1795330265185-1\"]"}
-"#;
-
-/// A session that leaves a room before its break, of which one event is yet to come.
-const LEFT: &str = r#"st {"k":"tap","v":1,"of":"stream"}
+/// Texts of these cases, each after its name.
+static TEXTS: [&str; 6] = [
+    // A session that leaves a room before its break, of which one event is yet to come.
+    r#"LEFT
+st {"k":"tap","v":1,"of":"stream"}
 st {"k":"ev","off":"1795330250158-0","nsp":"/","rooms":["r"],"text":"2[\"one\",\"1795330250158-0\"]"}
 st {"k":"ev","off":"1795330250465-0","nsp":"/","rooms":["r"],"text":"2[\"to-r\",\"1795330250465-0\"]"}
 st {"k":"ev","off":"1795330250779-0","nsp":"/","rooms":["q"],"text":"2[\"to-q2\",\"1795330250779-0\"]"}
@@ -82,10 +44,10 @@ c1 {"k":"out","t":"40{\"pid\":\"1RqzkODyftz2q3IhAAAC\",\"offset\":\"179533025015
 c1 {"k":"in","t":"42[\"to-q2\",\"1795330250779-0\"]"}
 c1 {"k":"in","t":"40{\"sid\":\"F17kRACUZs3DDAJOAAAB\",\"pid\":\"1RqzkODyftz2q3IhAAAC\"}"}
 c1 {"k":"in","t":"42[\"end\",\"1795330251119-0\"]"}
-"#;
-
-/// A recovery that leaves one entry out.
-const LOST: &str = r#"st {"k":"tap","v":1,"of":"stream"}
+"#,
+    // A recovery that leaves one entry out.
+    r#"LOST
+st {"k":"tap","v":1,"of":"stream"}
 st {"k":"ev","off":"1-0","nsp":"/","rooms":["r"],"text":"2[\"hi\",\"1-0\"]"}
 st {"k":"ev","off":"2-0","nsp":"/","rooms":["r"],"text":"2[\"hi\",\"2-0\"]"}
 st {"k":"ev","off":"3-0","nsp":"/","rooms":["r"],"text":"2[\"hi\",\"3-0\"]"}
@@ -110,10 +72,10 @@ c1 {"k":"conn","c":2}
 c1 {"k":"out","t":"40{\"pid\":\"P\",\"offset\":\"1-0\"}"}
 c1 {"k":"in","t":"42[\"hi\",\"3-0\"]"}
 c1 {"k":"in","t":"40{\"sid\":\"s1\",\"pid\":\"P\"}"}
-"#;
-
-/// Two events that change places.
-const SWAPPED: &str = r#"st {"k":"tap","v":1,"of":"stream"}
+"#,
+    // Two events that change places.
+    r#"SWAPPED
+st {"k":"tap","v":1,"of":"stream"}
 st {"k":"ev","off":"1-0","nsp":"/","rooms":["r"],"text":"2[\"hi\",\"1-0\"]"}
 st {"k":"ev","off":"2-0","nsp":"/","rooms":["r"],"text":"2[\"hi\",\"2-0\"]"}
 a {"k":"tap","v":1,"of":"node"}
@@ -127,10 +89,10 @@ c1 {"k":"conn","c":1}
 c1 {"k":"in","t":"40{\"sid\":\"s1\",\"pid\":\"P\"}"}
 c1 {"k":"in","t":"42[\"hi\",\"2-0\"]"}
 c1 {"k":"in","t":"42[\"hi\",\"1-0\"]"}
-"#;
-
-/// A session that joins the room of an entry after that was taken.
-const EXTRA: &str = r#"st {"k":"tap","v":1,"of":"stream"}
+"#,
+    // A session that joins the room of an entry after that was taken.
+    r#"EXTRA
+st {"k":"tap","v":1,"of":"stream"}
 st {"k":"ev","off":"1-0","nsp":"/","rooms":["r"],"text":"2[\"hi\",\"1-0\"]"}
 a {"k":"tap","v":1,"of":"node"}
 a {"k":"start","off":null}
@@ -141,10 +103,10 @@ c1 {"k":"tap","v":1,"of":"client"}
 c1 {"k":"conn","c":1}
 c1 {"k":"in","t":"40{\"sid\":\"s1\",\"pid\":\"P\"}"}
 c1 {"k":"in","t":"42[\"hi\",\"1-0\"]"}
-"#;
-
-/// An event of an entry before the session.
-const BEFORE_BIRTH: &str = r#"st {"k":"tap","v":1,"of":"stream"}
+"#,
+    // An event of an entry before the session.
+    r#"BEFORE_BIRTH
+st {"k":"tap","v":1,"of":"stream"}
 st {"k":"ev","off":"1-0","nsp":"/","rooms":["r"],"text":"2[\"hi\",\"1-0\"]"}
 st {"k":"ev","off":"2-0","nsp":"/","rooms":["r"],"text":"2[\"hi\",\"2-0\"]"}
 a {"k":"tap","v":1,"of":"node"}
@@ -156,10 +118,10 @@ c1 {"k":"tap","v":1,"of":"client"}
 c1 {"k":"conn","c":1}
 c1 {"k":"in","t":"40{\"sid\":\"s1\",\"pid\":\"P\"}"}
 c1 {"k":"in","t":"42[\"hi\",\"1-0\"]"}
-"#;
-
-/// An event with another name than its entry's.
-const CONTENT: &str = r#"st {"k":"tap","v":1,"of":"stream"}
+"#,
+    // An event with another name than its entry's.
+    r#"CONTENT
+st {"k":"tap","v":1,"of":"stream"}
 st {"k":"ev","off":"1-0","nsp":"/","rooms":["r"],"text":"2[\"hi\",\"1-0\"]"}
 a {"k":"tap","v":1,"of":"node"}
 a {"k":"start","off":null}
@@ -170,14 +132,15 @@ c1 {"k":"tap","v":1,"of":"client"}
 c1 {"k":"conn","c":1}
 c1 {"k":"in","t":"40{\"sid\":\"s1\",\"pid\":\"P\"}"}
 c1 {"k":"in","t":"42[\"v\",\"1-0\"]"}
-"#;
+"#,
+];
 
 /// What is written of each of them.
-static CASES: [Case; 8] = [
-    Case {
-        arguments: &["explain"],
-        input: Input::Files(&[BEHIND]),
-        text: r#"no l20Oco8Ltsjm-QpSAAAC DOUBLED 1795330265183-0 [delivery]
+static CASES: [&str; 8] = [
+    r#"explain
+@BEHIND
+-> Ok(SomeNo)
+no l20Oco8Ltsjm-QpSAAAC DOUBLED 1795330265183-0 [delivery]
 client c1, namespace /, connection 2, turns 2, got 7, due 4, differs at frame 5
     line tap  record
       13 a    break 0, cursor 4
@@ -203,20 +166,16 @@ recoveries asked for: 1, granted: 1, refused: 0
 entries of the stream: 4, recoverable: 4
 lines: 37, bytes: 1997, seconds: *
 "#,
-        outcome: Ok(Status::SomeNo),
-    },
-    Case {
-        arguments: &["explain", "--json"],
-        input: Input::Files(&[BEHIND]),
-        text: r#"{"also":[{"lines":[28,36],"position":3},{"lines":[29,37],"position":4}],"at_frame":5,"causes":[{"id":"node-behind-break","lines":[13,17],"sure":true,"todo":"let the restore wait until the cursor is at the break's, or drop what the client has.","why":"b took the session back with its cursor at 1; the break was at 4."}],"class":"delivery","client":"c1","conn":2,"due":4,"events":[{"after":null,"from":null,"happens":"reply","lines":[25,25],"to":null},{"after":null,"from":1,"happens":"got","lines":[26,29],"to":4},{"after":null,"from":null,"happens":"lost","lines":[30,30],"to":null},{"after":4,"from":null,"happens":"asks","lines":[33,33],"to":null},{"after":null,"from":null,"happens":"reply","lines":[34,34],"to":null},{"after":null,"from":2,"happens":"got","lines":[35,37],"to":4}],"evidence":[{"line":13,"role":"break","says":"break 0, cursor 4","tap":"a"},{"line":17,"role":"back","says":"back 1, cursor 1","tap":"b"},{"line":3,"role":"entry","says":"entry 2 1795330265183-0","tap":"st"},{"line":27,"role":"earlier","says":"conn 1 got 2 1795330265183-0","tap":"c1"},{"line":33,"role":"ask","says":"conn 2 asks l20Oco8Ltsjm-QpSAAAC after 1795330265185-1","tap":"c1"},{"line":35,"role":"fault","says":"conn 2 got 2 1795330265183-0","tap":"c1"}],"fault":"DOUBLED","got":7,"nsp":"/","off":"1795330265183-0","pid":"l20Oco8Ltsjm-QpSAAAC","refused":[],"tail":null,"turns":[{"begin":"open","end":"break","high":4,"lines":[8,13],"low":0,"node":"a","took":[1,4],"turn":0},{"begin":"back","end":"log","high":4,"lines":[17,20],"low":1,"node":"b","took":[2,4],"turn":1}],"v":1,"verdict":"no"}
+    r#"explain --json
+@BEHIND
+-> Ok(SomeNo)
+{"also":[{"lines":[28,36],"position":3},{"lines":[29,37],"position":4}],"at_frame":5,"causes":[{"id":"node-behind-break","lines":[13,17],"sure":true,"todo":"let the restore wait until the cursor is at the break's, or drop what the client has.","why":"b took the session back with its cursor at 1; the break was at 4."}],"class":"delivery","client":"c1","conn":2,"due":4,"events":[{"after":null,"from":null,"happens":"reply","lines":[25,25],"to":null},{"after":null,"from":1,"happens":"got","lines":[26,29],"to":4},{"after":null,"from":null,"happens":"lost","lines":[30,30],"to":null},{"after":4,"from":null,"happens":"asks","lines":[33,33],"to":null},{"after":null,"from":null,"happens":"reply","lines":[34,34],"to":null},{"after":null,"from":2,"happens":"got","lines":[35,37],"to":4}],"evidence":[{"line":13,"role":"break","says":"break 0, cursor 4","tap":"a"},{"line":17,"role":"back","says":"back 1, cursor 1","tap":"b"},{"line":3,"role":"entry","says":"entry 2 1795330265183-0","tap":"st"},{"line":27,"role":"earlier","says":"conn 1 got 2 1795330265183-0","tap":"c1"},{"line":33,"role":"ask","says":"conn 2 asks l20Oco8Ltsjm-QpSAAAC after 1795330265185-1","tap":"c1"},{"line":35,"role":"fault","says":"conn 2 got 2 1795330265183-0","tap":"c1"}],"fault":"DOUBLED","got":7,"nsp":"/","off":"1795330265183-0","pid":"l20Oco8Ltsjm-QpSAAAC","refused":[],"tail":null,"turns":[{"begin":"open","end":"break","high":4,"lines":[8,13],"low":0,"node":"a","took":[1,4],"turn":0},{"begin":"back","end":"log","high":4,"lines":[17,20],"low":1,"node":"b","took":[2,4],"turn":1}],"v":1,"verdict":"no"}
 {"summary":{"bytes":1997,"class":{"delivery":1,"packets":0,"recording":0},"entries":{"all":4,"recoverable":4},"fault":{"CHAIN":0,"CLIENT":0,"CONTENT":0,"DOUBLED":1,"EXTRA":0,"FRAME":0,"LOST":0,"NAMES":0,"NOLOG":0,"ORDER":0,"ORPHAN":0,"SWAPPED":0,"TAIL":0,"WINDOW":0},"lines":37,"no":1,"recoveries":{"asked":1,"granted":1,"refused":0},"seconds":*,"sessions":1,"tail":{"events":0,"sessions":0},"unobserved":0,"yes":0},"v":1}
 "#,
-        outcome: Ok(Status::SomeNo),
-    },
-    Case {
-        arguments: &["explain"],
-        input: Input::Files(&[LEFT]),
-        text: r#"no 1RqzkODyftz2q3IhAAAC LOST 1795330250465-0 [delivery]
+    r#"explain
+@LEFT
+-> Ok(SomeNo)
+no 1RqzkODyftz2q3IhAAAC LOST 1795330250465-0 [delivery]
 client c1, namespace /, connection 2, turns 2, got 3, due 4, differs at frame 2
     line tap  record
        9 a    join r  decides
@@ -235,12 +194,10 @@ cause skipped-in-window (fits, lines 35 37): The entry is one of those to be sen
 do: look at how the node reads the stream for the replay.
 
 sessions: *"#,
-        outcome: Ok(Status::SomeNo),
-    },
-    Case {
-        arguments: &["explain"],
-        input: Input::Files(&[LOST]),
-        text: r#"no P LOST 2-0 [delivery]
+    r#"explain
+@LOST
+-> Ok(SomeNo)
+no P LOST 2-0 [delivery]
 client c1, namespace /, connection 2, turns 2, got 2, due 3, differs at frame 2
     line tap  record
        8 a    join r  decides
@@ -255,12 +212,10 @@ cause skipped-in-window (certain, lines 23 25): The entry is one of those to be 
 do: look at how the node reads the stream for the replay.
 
 sessions: *"#,
-        outcome: Ok(Status::SomeNo),
-    },
-    Case {
-        arguments: &["explain"],
-        input: Input::Files(&[SWAPPED]),
-        text: r#"no P SWAPPED 1-0 [delivery]
+    r#"explain
+@SWAPPED
+-> Ok(SomeNo)
+no P SWAPPED 1-0 [delivery]
 client c1, namespace /, connection 1, turns 1, got 2, due 2, differs at frame 1
     line tap  record
        7 a    join r  decides
@@ -275,12 +230,10 @@ cause swapped-live (certain, lines 13 14): No recovery stands between the two fr
 do: look at what stands between the node and the client, and at what the node sent.
 
 sessions: *"#,
-        outcome: Ok(Status::SomeNo),
-    },
-    Case {
-        arguments: &["explain"],
-        input: Input::Files(&[EXTRA]),
-        text: r#"no P EXTRA 1-0 [delivery]
+    r#"explain
+@EXTRA
+-> Ok(SomeNo)
+no P EXTRA 1-0 [delivery]
 client c1, namespace /, connection 1, turns 1, got 1, due 0, differs at frame 1
     line tap  record
        2 st   entry 1 1-0  the entry
@@ -295,12 +248,10 @@ cause join-missing (fits, line 11): What came would fit if the session had joine
 do: write a `join` at once, unbuffered; look at whether the session was in that room.
 
 sessions: *"#,
-        outcome: Ok(Status::SomeNo),
-    },
-    Case {
-        arguments: &["explain"],
-        input: Input::Files(&[BEFORE_BIRTH]),
-        text: r#"no P EXTRA 1-0 [delivery]
+    r#"explain
+@BEFORE_BIRTH
+-> Ok(SomeNo)
+no P EXTRA 1-0 [delivery]
 client c1, namespace /, connection 1, turns 1, got 1, due 1, differs at frame 1
     line tap  record
        2 st   entry 1 1-0  the entry
@@ -313,12 +264,10 @@ cause before-birth (certain, line 6): a had taken the entry when it opened the s
 do: send a session nothing that the node took before it opened the session.
 
 sessions: *"#,
-        outcome: Ok(Status::SomeNo),
-    },
-    Case {
-        arguments: &["explain"],
-        input: Input::Files(&[CONTENT]),
-        text: r#"no P CONTENT 1-0 [delivery]
+    r#"explain
+@CONTENT
+-> Ok(SomeNo)
+no P CONTENT 1-0 [delivery]
 client c1, namespace /, connection 1, turns 1, got 1, due 1
     line tap  record
        2 st   entry 1 1-0  the entry
@@ -329,11 +278,9 @@ cause altered (fits, line 11): The event's text parts from its entry's at byte 4
 do: look at what stands between the node and the client; let the stream's tap write as the nodes do.
 
 sessions: *"#,
-        outcome: Ok(Status::SomeNo),
-    },
 ];
 
 #[test]
 fn what_came_and_what_was_due(rt: HostRuntime) -> Result<(), Fail> {
-    assert_cases(&rt, rt.alloc(), &CASES)
+    assert_cases(&rt, rt.alloc(), &TEXTS, &CASES)
 }

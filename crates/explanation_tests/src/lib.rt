@@ -8,6 +8,8 @@ mod arguments;
 #[cfg(test)]
 mod asked;
 #[cfg(test)]
+mod bundles;
+#[cfg(test)]
 mod called;
 #[cfg(test)]
 mod cases;

@@ -1,10 +1,12 @@
 //! What is no packet, and events of no known session.
-use crate::cases::{Case, Input, assert_cases};
-use aud_verdict::Status;
+use crate::cases::assert_cases;
 use std::test::Fail;
 
-/// A client's tap whose last record is no packet.
-pub const FRAME: &str = r#"st {"k":"tap","v":1,"of":"stream"}
+/// Texts of these cases, each after its name.
+static TEXTS: [&str; 1] = [
+    // A client whose session is opened.
+    r#"OPENED
+st {"k":"tap","v":1,"of":"stream"}
 st {"k":"ev","off":"1-0","nsp":"/","rooms":["r"],"text":"2[\"hi\",\"1-0\"]"}
 a {"k":"tap","v":1,"of":"node"}
 a {"k":"start","off":null}
@@ -14,29 +16,15 @@ a {"k":"take","off":"1-0"}
 c1 {"k":"tap","v":1,"of":"client"}
 c1 {"k":"conn","c":1}
 c1 {"k":"in","t":"40{\"sid\":\"s1\",\"pid\":\"P\"}"}
-c1 {"k":"in","t":"42[\"hi\",\"1-0\"]"}
-c1 {"k":"in","t":"47"}
-"#;
-
-/// A client whose session is opened.
-const OPENED: &str = r#"st {"k":"tap","v":1,"of":"stream"}
-st {"k":"ev","off":"1-0","nsp":"/","rooms":["r"],"text":"2[\"hi\",\"1-0\"]"}
-a {"k":"tap","v":1,"of":"node"}
-a {"k":"start","off":null}
-a {"k":"open","pid":"P","sid":"s1","nsp":"/"}
-a {"k":"join","pid":"P","room":"r"}
-a {"k":"take","off":"1-0"}
-c1 {"k":"tap","v":1,"of":"client"}
-c1 {"k":"conn","c":1}
-c1 {"k":"in","t":"40{\"sid\":\"s1\",\"pid\":\"P\"}"}
-"#;
+"#,
+];
 
 /// What is written of each of them; what the client receives after its reply stands in a second file.
-static CASES: [Case; 4] = [
-    Case {
-        arguments: &["explain"],
-        input: Input::Files(&[FRAME]),
-        text: r#"no P FRAME [packets]
+static CASES: [&str; 4] = [
+    r#"explain
+@FRAME
+-> Ok(SomeNo)
+no P FRAME [packets]
 client c1, namespace /, connection 1, turns 1, delivery not judged
     line tap  record
       12 c1   conn 1 no packet  <- no packet
@@ -47,17 +35,13 @@ cause not-a-packet (fits, line 12): A record of the client's tap is no packet: t
 do: record what came as it came: a text as a text, and bytes as bytes.
 
 sessions: *"#,
-        outcome: Ok(Status::SomeNo),
-    },
-    Case {
-        arguments: &["explain"],
-        input: Input::Files(&[
-            OPENED,
-            r#"c1 {"k":"in","t":"42[\"hi\",\"1-0\"]"}
+    r#"explain
+@OPENED
+c1 {"k":"in","t":"42[\"hi\",\"1-0\"]"}
 c1 {"k":"in","t":"40{\"sid\":\"s7\"}"}
-c1 {"k":"in","t":"42[\"hi\",\"1-0\"]"}"#,
-        ]),
-        text: r#"no P ORPHAN [packets]
+c1 {"k":"in","t":"42[\"hi\",\"1-0\"]"}
+-> Ok(SomeNo)
+no P ORPHAN [packets]
 client c1, namespace /, connection 1, turns 1, delivery not judged
     line tap  record
       12 c1   conn 1 reply, sid s7, no pid
@@ -69,17 +53,13 @@ cause reply-without-pid (certain, line 12): The reply names no session: the serv
 do: let the server recover sessions in this namespace.
 
 sessions: *"#,
-        outcome: Ok(Status::SomeNo),
-    },
     // Its CONNECT comes after the reply.
-    Case {
-        arguments: &["explain"],
-        input: Input::Files(&[
-            OPENED,
-            r#"c1 {"k":"out","t":"40{}"}
-c1 {"k":"in","t":"42[\"hi\",\"1-0\"]"}"#,
-        ]),
-        text: r#"no P ORPHAN [packets]
+    r#"explain
+@OPENED
+c1 {"k":"out","t":"40{}"}
+c1 {"k":"in","t":"42[\"hi\",\"1-0\"]"}
+-> Ok(SomeNo)
+no P ORPHAN [packets]
 client c1, namespace /, connection 1, turns 1, delivery not judged
     line tap  record
       12 c1   conn 1 got 1 1-0  <- of no known session
@@ -93,17 +73,13 @@ cause second-connect (fits, lines 10 12): The namespace was answered before on t
 do: connect to a namespace once, and not again while its session goes on.
 
 sessions: *"#,
-        outcome: Ok(Status::SomeNo),
-    },
     // It leaves the namespace.
-    Case {
-        arguments: &["explain"],
-        input: Input::Files(&[
-            OPENED,
-            r#"c1 {"k":"out","t":"41"}
-c1 {"k":"in","t":"42[\"hi\",\"1-0\"]"}"#,
-        ]),
-        text: r#"no P ORPHAN [packets]
+    r#"explain
+@OPENED
+c1 {"k":"out","t":"41"}
+c1 {"k":"in","t":"42[\"hi\",\"1-0\"]"}
+-> Ok(SomeNo)
+no P ORPHAN [packets]
 client c1, namespace /, connection 1, turns 1, delivery not judged
     line tap  record
       12 c1   conn 1 got 1 1-0  <- of no known session
@@ -114,11 +90,9 @@ cause after-disconnect (certain, lines 10 12): Events came after a DISCONNECT fr
 do: record what a client takes in: nothing of a namespace after its DISCONNECT.
 
 sessions: *"#,
-        outcome: Ok(Status::SomeNo),
-    },
 ];
 
 #[test]
 fn packets_of_no_session(rt: HostRuntime) -> Result<(), Fail> {
-    assert_cases(&rt, rt.alloc(), &CASES)
+    assert_cases(&rt, rt.alloc(), &TEXTS, &CASES)
 }

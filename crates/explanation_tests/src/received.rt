@@ -1,15 +1,17 @@
 //! What a client received, by the rooms of its session; attachments; recoveries that are asked for where they do not
 //! fit.
-use crate::cases::{Case, Input, assert_cases};
-use aud_verdict::Status;
+use crate::cases::assert_cases;
 use std::test::Fail;
 
-/// Session `P` joins `r` after entry 2 was taken, leaves `q` before entry 4 is, breaks, and comes back on a node that
-/// had taken entry 7 by then; there it leaves `r`, and the node takes the entries 8 to 10 by one record. Entry 11 is
-/// taken by no node. Due are the entries 3, 7 and 10: 1 was taken before the session, 2 and 4 are for rooms that it
-/// doesn't hold, 5 excepts `r` and 6 its own room, 8 is of another namespace, and 9 is not recoverable. The lines of
-/// `a` begin with 13, those of `b` with 27.
-const CHANGES: &str = r#"st {"k":"tap","v":2,"of":"stream"}
+/// Texts of these cases, each after its name.
+static TEXTS: [&str; 3] = [
+    // Session `P` joins `r` after entry 2 was taken, leaves `q` before entry 4 is, breaks, and comes back on a node
+    // that had taken entry 7 by then; there it leaves `r`, and the node takes the entries 8 to 10 by one record. Entry
+    // 11 is taken by no node. Due are the entries 3, 7 and 10: 1 was taken before the session, 2 and 4 are for rooms
+    // that it doesn't hold, 5 excepts `r` and 6 its own room, 8 is of another namespace, and 9 is not recoverable. The
+    // lines of `a` begin with 13, those of `b` with 27.
+    r#"CHANGES
+st {"k":"tap","v":2,"of":"stream"}
 st {"k":"ev","off":"o1","nsp":"/","text":"2[\"m\",\"o1\"]"}
 st {"k":"ev","off":"o2","nsp":"/","rooms":["r"],"text":"2[\"m\",\"o2\"]"}
 st {"k":"ev","off":"o3","nsp":"/","rooms":["r"],"text":"2[\"m\",\"o3\"]"}
@@ -43,10 +45,10 @@ b {"k":"leave","pid":"P","room":"r"}
 b {"k":"takes","off":"o10"}
 c1 {"k":"tap","v":2,"of":"client"}
 c1 {"k":"conn","c":1}
-c1 {"k":"in","t":"40{\"sid\":\"s1\",\"pid\":\"P\"}"}"#;
-
-/// An event with two attachments, of which the second comes with another byte.
-const ATTACHMENT: &str = r#"st {"k":"tap","v":1,"of":"stream"}
+c1 {"k":"in","t":"40{\"sid\":\"s1\",\"pid\":\"P\"}"}"#,
+    // An event with two attachments, of which the second comes with another byte.
+    r#"ATTACHMENT
+st {"k":"tap","v":1,"of":"stream"}
 st {"k":"ev","off":"o1","nsp":"/","text":"2[\"one\",\"o1\"]"}
 st {"k":"ev","off":"o2","nsp":"/","text":"52-[{\"_placeholder\":true,\"num\":0},{\"_placeholder\":true,\"num\":1},\"o2\"]","bin":["AQI=","Aw=="]}
 a {"k":"tap","v":1,"of":"node"}
@@ -61,10 +63,10 @@ c1 {"k":"in","t":"42[\"one\",\"o1\"]"}
 c1 {"k":"in","t":"452-[{\"_placeholder\":true,\"num\":0},{\"_placeholder\":true,\"num\":1},\"o2\"]"}
 c1 {"k":"inb","b":"AQI="}
 c1 {"k":"inb","b":"BA=="}
-"#;
-
-/// A session that breaks when its node has taken both entries, and is taken back.
-const RECOVERED: &str = r#"st {"k":"tap","v":1,"of":"stream"}
+"#,
+    // A session that breaks when its node has taken both entries, and is taken back.
+    r#"RECOVERED
+st {"k":"tap","v":1,"of":"stream"}
 st {"k":"ev","off":"o1","nsp":"/","text":"2[\"one\",\"o1\"]"}
 st {"k":"ev","off":"o2","nsp":"/","text":"2[\"two\",\"o2\"]"}
 a {"k":"tap","v":1,"of":"node"}
@@ -77,18 +79,17 @@ a {"k":"back","pid":"P","turn":1}
 c1 {"k":"tap","v":1,"of":"client"}
 c1 {"k":"conn","c":1}
 c1 {"k":"in","t":"40{\"sid\":\"s1\",\"pid\":\"P\"}"}
-"#;
+"#,
+];
 
 /// What is written of each of them; what the client receives after its reply stands in a second file.
-static CASES: [Case; 10] = [
-    Case {
-        arguments: &["explain"],
-        input: Input::Files(&[
-            CHANGES,
-            r#"c1 {"k":"in","t":"42[\"m\",\"o3\"]"}
-c1 {"k":"in","t":"42[\"m\",\"o4\"]"}"#,
-        ]),
-        text: r#"no P EXTRA o4 [delivery]
+static CASES: [&str; 10] = [
+    r#"explain
+@CHANGES
+c1 {"k":"in","t":"42[\"m\",\"o3\"]"}
+c1 {"k":"in","t":"42[\"m\",\"o4\"]"}
+-> Ok(SomeNo)
+no P EXTRA o4 [delivery]
 client c1, namespace /, connection 1, turns 2, got 2, due 3, differs at frame 2
     line tap  record
       21 a    leave q  decides
@@ -106,16 +107,12 @@ cause join-missing (fits, line 37): What came would fit if the session had joine
 do: write a `join` at once, unbuffered; look at whether the session was in that room.
 
 sessions: *"#,
-        outcome: Ok(Status::SomeNo),
-    },
-    Case {
-        arguments: &["explain"],
-        input: Input::Files(&[
-            CHANGES,
-            r#"c1 {"k":"in","t":"42[\"m\",\"o3\"]"}
-c1 {"k":"in","t":"42[\"m\",\"o5\"]"}"#,
-        ]),
-        text: r#"no P EXTRA o5 [delivery]
+    r#"explain
+@CHANGES
+c1 {"k":"in","t":"42[\"m\",\"o3\"]"}
+c1 {"k":"in","t":"42[\"m\",\"o5\"]"}
+-> Ok(SomeNo)
+no P EXTRA o5 [delivery]
 client c1, namespace /, connection 1, turns 2, got 2, due 3, differs at frame 2
     line tap  record
       18 a    join r  decides
@@ -132,18 +129,14 @@ cause leave-missing (fits, line 37): What came would fit if the session had left
 do: write a `leave` at once, unbuffered; look at whether the session was in that room.
 
 sessions: *"#,
-        outcome: Ok(Status::SomeNo),
-    },
-    Case {
-        arguments: &["explain"],
-        input: Input::Files(&[
-            CHANGES,
-            r#"c1 {"k":"in","t":"42[\"m\",\"o3\"]"}
+    r#"explain
+@CHANGES
+c1 {"k":"in","t":"42[\"m\",\"o3\"]"}
 c1 {"k":"in","t":"42[\"m\",\"o7\"]"}
 c1 {"k":"in","t":"42[\"m\",\"o10\"]"}
-c1 {"k":"in","t":"42[\"m\",\"o11\"]"}"#,
-        ]),
-        text: r#"no P EXTRA o11 [delivery]
+c1 {"k":"in","t":"42[\"m\",\"o11\"]"}
+-> Ok(SomeNo)
+no P EXTRA o11 [delivery]
 client c1, namespace /, connection 1, turns 2, got 4, due 3, differs at frame 4
     line tap  record
       12 st   entry 11 o11  the entry
@@ -156,16 +149,12 @@ cause log-ended-early (certain, line 32): The log of b ends in the session's las
 do: write a node's log unbuffered, and stop the nodes after the clients.
 
 sessions: *"#,
-        outcome: Ok(Status::SomeNo),
-    },
-    Case {
-        arguments: &["explain"],
-        input: Input::Files(&[
-            CHANGES,
-            r#"c1 {"k":"in","t":"42[\"m\",\"o3\"]"}
-c1 {"k":"in","t":"42[\"m\",\"o10\"]"}"#,
-        ]),
-        text: r#"no P LOST o7 [delivery]
+    r#"explain
+@CHANGES
+c1 {"k":"in","t":"42[\"m\",\"o3\"]"}
+c1 {"k":"in","t":"42[\"m\",\"o10\"]"}
+-> Ok(SomeNo)
+no P LOST o7 [delivery]
 client c1, namespace /, connection 1, turns 2, got 2, due 3, differs at frame 2
     line tap  record
       18 a    join r  decides
@@ -184,28 +173,22 @@ cause leave-missing (fits, line 37): What came would fit if the session had left
 do: write a `leave` at once, unbuffered; look at whether the session was in that room.
 
 sessions: *"#,
-        outcome: Ok(Status::SomeNo),
-    },
-    Case {
-        arguments: &["explain"],
-        input: Input::Files(&[
-            CHANGES,
-            r#"c1 {"k":"in","t":"42[\"m\",\"o3\"]"}
+    r#"explain
+@CHANGES
+c1 {"k":"in","t":"42[\"m\",\"o3\"]"}
 c1 {"k":"in","t":"42[\"m\",\"o7\"]"}
-c1 {"k":"in","t":"42[\"m\",\"o10\"]"}"#,
-        ]),
-        text: r#"sessions: 1, yes: 1, no: 0
+c1 {"k":"in","t":"42[\"m\",\"o10\"]"}
+-> Ok(AllYes)
+sessions: 1, yes: 1, no: 0
 sessions that no client named: 0
 sessions with a tail: 0, events in tails: 0
 recoveries asked for: 0, granted: 0, refused: 0
 entries of the stream: 11, recoverable: 10
 lines: 38, *"#,
-        outcome: Ok(Status::AllYes),
-    },
-    Case {
-        arguments: &["explain"],
-        input: Input::Files(&[ATTACHMENT]),
-        text: r#"no P CONTENT o2 [delivery]
+    r#"explain
+@ATTACHMENT
+-> Ok(SomeNo)
+no P CONTENT o2 [delivery]
 client c1, namespace /, connection 1, turns 1, got 2, due 2
     line tap  record
        3 st   entry 2 o2  the entry
@@ -216,20 +199,16 @@ cause altered (fits, line 15): Attachment 2 of the event parts from its entry's 
 do: look at what stands between the node and the client; let the stream's tap write as the nodes do.
 
 sessions: *"#,
-        outcome: Ok(Status::SomeNo),
-    },
     // The client asks to go on after an event before the last one that it has.
-    Case {
-        arguments: &["explain"],
-        input: Input::Files(&[
-            RECOVERED,
-            r#"c1 {"k":"in","t":"42[\"one\",\"o1\"]"}
+    r#"explain
+@RECOVERED
+c1 {"k":"in","t":"42[\"one\",\"o1\"]"}
 c1 {"k":"in","t":"42[\"two\",\"o2\"]"}
 c1 {"k":"conn","c":2}
 c1 {"k":"out","t":"40{\"pid\":\"P\",\"offset\":\"o1\"}"}
-c1 {"k":"in","t":"40{\"sid\":\"s1\",\"pid\":\"P\"}"}"#,
-        ]),
-        text: r#"no P WINDOW 2 [delivery]
+c1 {"k":"in","t":"40{\"sid\":\"s1\",\"pid\":\"P\"}"}
+-> Ok(SomeNo)
+no P WINDOW 2 [delivery]
 client c1, namespace /, connection 2, turns 2, got 2, due 2
     line tap  record
       15 c1   conn 1 got 2 o2  earlier
@@ -243,20 +222,16 @@ cause stale-offset (certain, line 17): The client asked to go on after entry 1, 
 do: store the offset with each event, before the event is worked on.
 
 sessions: *"#,
-        outcome: Ok(Status::SomeNo),
-    },
     // It gets the last event again, which had come in a body of polling.
-    Case {
-        arguments: &["explain"],
-        input: Input::Files(&[
-            RECOVERED,
-            r#"c1 {"k":"in","t":"42[\"one\",\"o1\"]"}
+    r#"explain
+@RECOVERED
+c1 {"k":"in","t":"42[\"one\",\"o1\"]"}
 c1 {"k":"poll","t":"42[\"two\",\"o2\"]"}
 c1 {"k":"conn","c":2}
 c1 {"k":"out","t":"40{\"pid\":\"P\",\"offset\":\"o1\"}"}
-c1 {"k":"poll","t":"40{\"sid\":\"s1\",\"pid\":\"P\"}\u001e42[\"two\",\"o2\"]"}"#,
-        ]),
-        text: r#"no P DOUBLED o2 [delivery]
+c1 {"k":"poll","t":"40{\"sid\":\"s1\",\"pid\":\"P\"}\u001e42[\"two\",\"o2\"]"}
+-> Ok(SomeNo)
+no P DOUBLED o2 [delivery]
 client c1, namespace /, connection 2, turns 2, got 3, due 2, differs at frame 3
     line tap  record
        3 st   entry 2 o2  the entry
@@ -274,20 +249,16 @@ cause body-came-twice (fits, lines 15 18): From this entry on, all that came bef
 do: see whether the client refused that body, for its packets are too many or too long.
 
 sessions: *"#,
-        outcome: Ok(Status::SomeNo),
-    },
     // It gets the very event after which it asked to go on.
-    Case {
-        arguments: &["explain"],
-        input: Input::Files(&[
-            RECOVERED,
-            r#"c1 {"k":"in","t":"42[\"one\",\"o1\"]"}
+    r#"explain
+@RECOVERED
+c1 {"k":"in","t":"42[\"one\",\"o1\"]"}
 c1 {"k":"conn","c":2}
 c1 {"k":"out","t":"40{\"pid\":\"P\",\"offset\":\"o2\"}"}
 c1 {"k":"in","t":"40{\"sid\":\"s1\",\"pid\":\"P\"}"}
-c1 {"k":"in","t":"42[\"two\",\"o2\"]"}"#,
-        ]),
-        text: r#"no P WINDOW 2 [delivery]
+c1 {"k":"in","t":"42[\"two\",\"o2\"]"}
+-> Ok(SomeNo)
+no P WINDOW 2 [delivery]
 client c1, namespace /, connection 2, turns 2, got 2, due 2
     line tap  record
       16 c1   conn 2 asks P after o2  <- does not fit what came
@@ -298,18 +269,14 @@ client c1, namespace /, connection 2, turns 2, got 2, due 2
     client  13 reply  14 got 1  16 asks after 2  17 reply  18 got 2
 
 sessions: *"#,
-        outcome: Ok(Status::SomeNo),
-    },
     // It gives no offset.
-    Case {
-        arguments: &["explain"],
-        input: Input::Files(&[
-            RECOVERED,
-            r#"c1 {"k":"conn","c":2}
+    r#"explain
+@RECOVERED
+c1 {"k":"conn","c":2}
 c1 {"k":"out","t":"40{\"pid\":\"P\"}"}
-c1 {"k":"in","t":"40{\"sid\":\"s1\",\"pid\":\"P\"}"}"#,
-        ]),
-        text: r#"no P WINDOW 2 [delivery]
+c1 {"k":"in","t":"40{\"sid\":\"s1\",\"pid\":\"P\"}"}
+-> Ok(SomeNo)
+no P WINDOW 2 [delivery]
 client c1, namespace /, connection 2, turns 2, got 0, due 2
     line tap  record
       15 c1   conn 2 asks P, no offset  <- does not fit what came
@@ -321,11 +288,9 @@ cause no-offset (certain, line 15): The client asked for the session and gave no
 do: store the offset of each event, and ask with the last one.
 
 sessions: *"#,
-        outcome: Ok(Status::SomeNo),
-    },
 ];
 
 #[test]
 fn what_a_client_received(rt: HostRuntime) -> Result<(), Fail> {
-    assert_cases(&rt, rt.alloc(), &CASES)
+    assert_cases(&rt, rt.alloc(), &TEXTS, &CASES)
 }

@@ -1,12 +1,12 @@
 //! Taps that contradict each other or that lack something.
-use crate::cases::{Case, Input, assert_cases};
-use crate::chains::NODES;
-use crate::runs::YES;
-use aud_verdict::Status;
+use crate::cases::assert_cases;
 use std::test::Fail;
 
-/// A node that takes an entry again.
-const ORDER: &str = r#"st {"k":"tap","v":1,"of":"stream"}
+/// Texts of these cases, each after its name.
+static TEXTS: [&str; 4] = [
+    // A node that takes an entry again.
+    r#"ORDER
+st {"k":"tap","v":1,"of":"stream"}
 st {"k":"ev","off":"1-0","nsp":"/","rooms":["r"],"text":"2[\"hi\",\"1-0\"]"}
 a {"k":"tap","v":2,"of":"node"}
 a {"k":"start","off":null}
@@ -18,10 +18,10 @@ c1 {"k":"tap","v":1,"of":"client"}
 c1 {"k":"conn","c":1}
 c1 {"k":"in","t":"40{\"sid\":\"s1\",\"pid\":\"P\"}"}
 c1 {"k":"in","t":"42[\"hi\",\"1-0\"]"}
-"#;
-
-/// Names that hold control characters, and lines that are longer than 100 columns.
-const LONG: &str = r#"st {"k":"tap","v":1,"of":"stream"}
+"#,
+    // Names that hold control characters, and lines that are longer than 100 columns.
+    r#"LONG
+st {"k":"tap","v":1,"of":"stream"}
 node-number-one {"k":"tap","v":1,"of":"node"}
 node-number-one {"k":"start","off":null}
 node-number-one {"k":"open","pid":"P","sid":"s1","nsp":"/"}
@@ -30,15 +30,9 @@ node-number-one {"k":"join","pid":"P","room":"room\n\u001b[2J"}
 node-number-one {"k":"open","pid":"Q","sid":"0123456789-0123456789-0123456789","nsp":"/0123456789"}
 node-number-one {"k":"gone","pid":"Q"}
 node-number-one {"k":"join","pid":"Q","room":"0123456789-0123456789-0123456789-0123456789-0123456789-0123456789-0123456789-0123456789-0123456789-0123456789"}
-"#;
-
-/// What is written of each of them; what a log has after the common lines stands in a second file.
-static CASES: [Case; 8] = [
-    // A session of which no node has a record.
-    Case {
-        arguments: &["explain"],
-        input: Input::Files(&[
-            r#"st {"k":"tap","v":1,"of":"stream"}
+"#,
+    r#"NO_RECORD
+st {"k":"tap","v":1,"of":"stream"}
 st {"k":"ev","off":"1-0","nsp":"/","rooms":["r"],"text":"2[\"hi\",\"1-0\"]"}
 a {"k":"tap","v":1,"of":"node"}
 a {"k":"start","off":null}
@@ -48,23 +42,8 @@ c1 {"k":"conn","c":1}
 c1 {"k":"in","t":"40{\"sid\":\"s1\",\"pid\":\"P\"}"}
 c1 {"k":"in","t":"42[\"hi\",\"1-0\"]"}
 "#,
-        ]),
-        text: r#"no P NOLOG [recording]
-client c1, namespace /, connection 1, turns 0, delivery not judged
-    line tap  record
-       8 c1   conn 1 reply, sid s1, pid P  <- opened on no node
-    client  8 reply  9 got 1
-cause node-not-tapped (fits): No node's log has the begin of turn 0.
-do: tap each node, from its start.
-
-sessions: *"#,
-        outcome: Ok(Status::SomeNo),
-    },
-    // A join and a `break` of P, and no `open` of it.
-    Case {
-        arguments: &["explain"],
-        input: Input::Files(&[
-            r#"st {"k":"tap","v":1,"of":"stream"}
+    r#"NO_OPEN
+st {"k":"tap","v":1,"of":"stream"}
 a {"k":"tap","v":1,"of":"node"}
 a {"k":"start","off":null}
 a {"k":"join","pid":"P","room":"r"}
@@ -73,8 +52,28 @@ c1 {"k":"tap","v":1,"of":"client"}
 c1 {"k":"conn","c":1}
 c1 {"k":"in","t":"40{\"sid\":\"s1\",\"pid\":\"P\"}"}
 "#,
-        ]),
-        text: r#"no P NOLOG [recording]
+];
+
+/// What is written of each of them; what a log has after the common lines stands in a second file.
+static CASES: [&str; 8] = [
+    // A session of which no node has a record.
+    r#"explain
+@NO_RECORD
+-> Ok(SomeNo)
+no P NOLOG [recording]
+client c1, namespace /, connection 1, turns 0, delivery not judged
+    line tap  record
+       8 c1   conn 1 reply, sid s1, pid P  <- opened on no node
+    client  8 reply  9 got 1
+cause node-not-tapped (fits): No node's log has the begin of turn 0.
+do: tap each node, from its start.
+
+sessions: *"#,
+    // A join and a `break` of P, and no `open` of it.
+    r#"explain
+@NO_OPEN
+-> Ok(SomeNo)
+no P NOLOG [recording]
 client c1, namespace /, connection 1, turns 0, delivery not judged
     line tap  record
        8 c1   conn 1 reply, sid s1, pid P  <- opened on no node
@@ -85,12 +84,10 @@ cause open-not-recorded (fits, line 4): The log of a has records of the session,
 do: write an `open` when the session opens, unbuffered; look at how logs are rotated.
 
 sessions: *"#,
-        outcome: Ok(Status::SomeNo),
-    },
-    Case {
-        arguments: &["explain"],
-        input: Input::Files(&[LONG]),
-        text: r#"no P CHAIN [recording]
+    r#"explain
+@LONG
+-> Ok(SomeNo)
+no P CHAIN [recording]
 no one client, turns 1, delivery not judged
     line tap              record
        4 node-number-one  open, sid s1, namespace /, cursor 0
@@ -110,12 +107,10 @@ no one client, turns 1, delivery not judged
     turn 0  node-number-one  7 open, cursor 0 == 8 gone, cursor 0
 
 sessions: *"#,
-        outcome: Ok(Status::SomeNo),
-    },
-    Case {
-        arguments: &["explain"],
-        input: Input::Files(&[ORDER]),
-        text: r#"no P ORDER [recording]
+    r#"explain
+@ORDER
+-> Ok(SomeNo)
+no P ORDER [recording]
 client c1, namespace /, turns 1, delivery not judged
     line tap  record
        7 a    takes up to 1 1-0  earlier
@@ -126,13 +121,12 @@ cause entry-taken-again (certain, line 8): a took entry 1 again, with its cursor
 do: let a node take each entry once, in the order of the stream.
 
 sessions: *"#,
-        outcome: Ok(Status::SomeNo),
-    },
     // Its node starts again.
-    Case {
-        arguments: &["explain"],
-        input: Input::Files(&[NODES, r#"a {"k":"start","off":null}"#]),
-        text: r#"no P ORDER [recording]
+    r#"explain
+@NODES
+a {"k":"start","off":null}
+-> Ok(SomeNo)
+no P ORDER [recording]
 no one client, turns 1, delivery not judged
     line tap  record
        4 a    open, sid s1, namespace /, cursor 0  earlier
@@ -142,13 +136,12 @@ cause restarted-in-old-log (certain, line 7): a started again in its old log.
 do: begin a new log, of another name, each time that a node starts.
 
 sessions: *"#,
-        outcome: Ok(Status::SomeNo),
-    },
     // Its node takes an entry that the stream does not have.
-    Case {
-        arguments: &["explain"],
-        input: Input::Files(&[NODES, r#"a {"k":"take","off":"o3"}"#]),
-        text: r#"no P ORDER [recording]
+    r#"explain
+@NODES
+a {"k":"take","off":"o3"}
+-> Ok(SomeNo)
+no P ORDER [recording]
 no one client, turns 1, delivery not judged
     line tap  record
        4 a    open, sid s1, namespace /, cursor 0  earlier
@@ -158,31 +151,25 @@ cause not-in-stream (certain, line 7): a names an entry that the stream's tap do
 do: tap the stream before the nodes, and stop its tap after them.
 
 sessions: *"#,
-        outcome: Ok(Status::SomeNo),
-    },
     // There is no client's tap.
-    Case {
-        arguments: &["explain"],
-        input: Input::Files(&[NODES]),
-        text: r#"no P CLIENT [recording]
+    r#"explain
+@NODES
+-> Ok(SomeNo)
+no P CLIENT [recording]
 no one client, turns 1, delivery not judged
     turn 0  a  4 open, cursor 0 == 4 log ends, cursor 0
 cause no-client-tap (certain): No tap of a client names the session.
 do: tap the client before its first connection.
 
 sessions: *"#,
-        outcome: Ok(Status::SomeNo),
-    },
     // The taps of two clients have a reply that names it.
-    Case {
-        arguments: &["explain"],
-        input: Input::Files(&[
-            YES,
-            r#"c2 {"k":"tap","v":1,"of":"client"}
+    r#"explain
+@YES
+c2 {"k":"tap","v":1,"of":"client"}
 c2 {"k":"conn","c":1}
-c2 {"k":"in","t":"40{\"sid\":\"s1\",\"pid\":\"P\"}"}"#,
-        ]),
-        text: r#"no P CLIENT [recording]
+c2 {"k":"in","t":"40{\"sid\":\"s1\",\"pid\":\"P\"}"}
+-> Ok(SomeNo)
+no P CLIENT [recording]
 no one client, turns 1, delivery not judged
     line tap  record
       10 c1   conn 1 reply, sid s1, pid P  <- names the session
@@ -192,11 +179,9 @@ cause two-taps (certain): 2 taps of clients name the session.
 do: keep one name of a tap for a client's whole life.
 
 sessions: *"#,
-        outcome: Ok(Status::SomeNo),
-    },
 ];
 
 #[test]
 fn what_the_taps_lack_or_contradict(rt: HostRuntime) -> Result<(), Fail> {
-    assert_cases(&rt, rt.alloc(), &CASES)
+    assert_cases(&rt, rt.alloc(), &TEXTS, &CASES)
 }

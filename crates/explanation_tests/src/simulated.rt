@@ -2,17 +2,16 @@
 //!
 //! Of one node a bundle begins with the headers of `st`, `n1` and `c1` and with the `start` of the node, lines 1 to 4;
 //! of two with those of `n2` too, lines 1 to 6. Above each case stands what the lines after these are.
-use crate::cases::{Case, Input, assert_cases};
-use aud_verdict::Status;
+use crate::cases::assert_cases;
 use std::test::Fail;
 
 /// The schedule of one client, and the explanation of a session.
-static CASES: [Case; 13] = [
+static CASES: [&str; 13] = [
     // The `open` is lost. 5 conn, 6 reply, 7 entry 1, 8 take, 9 the frame, 10 break, 11 lost.
-    Case {
-        arguments: &["explain", "--pid", "p1"],
-        input: Input::Simulated(1, "lose c@1 e:a t1 x"),
-        text: r#"no p1 NOLOG [recording]
+    r#"explain --pid p1
+1 node: lose c@1 e:a t1 x
+-> Ok(SomeNo)
+no p1 NOLOG [recording]
 client c1, namespace /, connection 1, turns 0, delivery not judged
     line tap  record
        6 c1   conn 1 reply, sid s1, pid p1  <- opened on no node
@@ -23,14 +22,12 @@ cause open-not-recorded (fits, line 10): The log of n1 has records of the sessio
 do: write an `open` when the session opens, unbuffered; look at how logs are rotated.
 
 sessions: *"#,
-        outcome: Ok(Status::SomeNo),
-    },
     // The `break` is lost. 7 open, 8 conn, 9 reply, 10 entry 1, 11 take on n1, 12 the frame, 13 lost, 14 take on n2, 15
     // conn, 16 asks after 1-0, 17 back on n2, 18 reply.
-    Case {
-        arguments: &["explain", "--pid", "p1"],
-        input: Input::Simulated(2, "c@1 e:a t1 lose x t2 r@2"),
-        text: r#"no p1 CHAIN [recording]
+    r#"explain --pid p1
+2 nodes: c@1 e:a t1 lose x t2 r@2
+-> Ok(SomeNo)
+no p1 CHAIN [recording]
 client c1, namespace /, turns 2, delivery not judged
     line tap  record
        7 n1   open, sid s1, namespace /, cursor 0  earlier
@@ -43,13 +40,11 @@ cause missing-break (certain, lines 7 17 16 18): The client recovered the sessio
 do: write a node's log unbuffered; look at the disk and at how logs are rotated.
 
 sessions: *"#,
-        outcome: Ok(Status::SomeNo),
-    },
     // The `take` is written twice. 5 open, 6 conn, 7 reply, 8 entry 1, 9 and 10 take, 11 the frame.
-    Case {
-        arguments: &["explain", "--pid", "p1"],
-        input: Input::Simulated(1, "c@1 e:a repeat t1"),
-        text: r#"no p1 ORDER [recording]
+    r#"explain --pid p1
+1 node: c@1 e:a repeat t1
+-> Ok(SomeNo)
+no p1 ORDER [recording]
 client c1, namespace /, turns 1, delivery not judged
     line tap  record
        9 n1   take 1 1-0  earlier
@@ -60,13 +55,11 @@ cause entry-taken-again (certain, line 10): n1 took entry 1 again, with its curs
 do: let a node take each entry once, in the order of the stream.
 
 sessions: *"#,
-        outcome: Ok(Status::SomeNo),
-    },
     // There is no reply. 5 open, 6 conn, 7 entry 1, 8 take, 9 the frame.
-    Case {
-        arguments: &["explain", "--pid", "p1"],
-        input: Input::Simulated(1, "u@1 e:a t1"),
-        text: r#"no p1 CLIENT [recording]
+    r#"explain --pid p1
+1 node: u@1 e:a t1
+-> Ok(SomeNo)
+no p1 CLIENT [recording]
 no one client, turns 1, delivery not judged
     turn 0  n1  5 open, cursor 0 == take 1 == 8 log ends, cursor 1
 cause no-client-tap (fits): No tap of a client names the session.
@@ -75,13 +68,11 @@ cause reply-missing (fits): The tap of c1 has events, and no reply that names th
 do: begin a client's tap before its first packet, and record each answer to a CONNECT.
 
 sessions: *"#,
-        outcome: Ok(Status::SomeNo),
-    },
     // The reply has the sid x1. 5 open, 6 conn, 7 reply, 8 entry 1, 9 take, 10 the frame.
-    Case {
-        arguments: &["explain", "--pid", "p1"],
-        input: Input::Simulated(1, "m@1 e:a t1"),
-        text: r#"no p1 NAMES [recording]
+    r#"explain --pid p1
+1 node: m@1 e:a t1
+-> Ok(SomeNo)
+no p1 NAMES [recording]
 client c1, namespace /, connection 1, turns 1, delivery not judged
     line tap  record
        5 n1   open, sid s1, namespace /, cursor 0  earlier
@@ -92,14 +83,12 @@ cause sid-differs (certain, line 7): The reply has another sid than the session 
 do: write the session's sid into the node's log, not that of the transport.
 
 sessions: *"#,
-        outcome: Ok(Status::SomeNo),
-    },
     // The frame of entry 1 begins with `x`. 5 open, 6 conn, 7 reply, 8 entry 1, 9 entry 2, 10 take, 11 what is no
     // packet, 12 take, 13 the frame of entry 2.
-    Case {
-        arguments: &["explain", "--pid", "p1"],
-        input: Input::Simulated(1, "c@1 e:a e:b garble t1 t1"),
-        text: r#"no p1 FRAME [packets]
+    r#"explain --pid p1
+1 node: c@1 e:a e:b garble t1 t1
+-> Ok(SomeNo)
+no p1 FRAME [packets]
 client c1, namespace /, connection 1, turns 1, delivery not judged
     line tap  record
       11 c1   conn 1 no packet  <- no packet
@@ -110,14 +99,12 @@ cause not-a-packet (fits, line 11): A record of the client's tap is no packet: t
 do: record what came as it came: a text as a text, and bytes as bytes.
 
 sessions: *"#,
-        outcome: Ok(Status::SomeNo),
-    },
     // A session without a reply, and another one after it. 5 open of p1, 6 conn, 7 entry 1, 8 take, 9 its frame, 10
     // gone, 11 lost, 12 open of p2, 13 conn, 14 reply, 15 entry 2, 16 take, 17 its frame.
-    Case {
-        arguments: &["explain", "--pid", "p2"],
-        input: Input::Simulated(1, "u@1 e:a t1 f c@1 e:b t1"),
-        text: r#"no p2 ORPHAN [packets]
+    r#"explain --pid p2
+1 node: u@1 e:a t1 f c@1 e:b t1
+-> Ok(SomeNo)
+no p2 ORPHAN [packets]
 client c1, namespace /, connection 1, turns 1, delivery not judged
     line tap  record
        9 c1   conn 1 got 1 1-0  <- of no known session
@@ -129,13 +116,11 @@ cause tap-began-late (certain, line 9): Events came in a stay without a reply, a
 do: begin a client's tap before its first packet.
 
 sessions: *"#,
-        outcome: Ok(Status::SomeNo),
-    },
     // The frame has the word hix. 5 open, 6 conn, 7 reply, 8 entry 1, 9 take, 10 the frame.
-    Case {
-        arguments: &["explain", "--pid", "p1"],
-        input: Input::Simulated(1, "c@1 e:hi alter t1"),
-        text: r#"no p1 CONTENT 1-0 [delivery]
+    r#"explain --pid p1
+1 node: c@1 e:hi alter t1
+-> Ok(SomeNo)
+no p1 CONTENT 1-0 [delivery]
 client c1, namespace /, connection 1, turns 1, got 1, due 1
     line tap  record
        8 st   entry 1 1-0  the entry
@@ -146,13 +131,11 @@ cause altered (fits, line 10): The event's text parts from its entry's at byte 6
 do: look at what stands between the node and the client; let the stream's tap write as the nodes do.
 
 sessions: *"#,
-        outcome: Ok(Status::SomeNo),
-    },
     // The `join` of the entry's room is lost. 5 open, 6 conn, 7 reply, 8 entry 1, 9 take, 10 the frame.
-    Case {
-        arguments: &["explain", "--pid", "p1"],
-        input: Input::Simulated(1, "c@1 lose j:r e:a:r t1"),
-        text: r#"no p1 EXTRA 1-0 [delivery]
+    r#"explain --pid p1
+1 node: c@1 lose j:r e:a:r t1
+-> Ok(SomeNo)
+no p1 EXTRA 1-0 [delivery]
 client c1, namespace /, connection 1, turns 1, got 1, due 0, differs at frame 1
     line tap  record
        8 st   entry 1 1-0  the entry
@@ -167,14 +150,12 @@ cause join-missing (fits, line 10): What came would fit if the session had joine
 do: write a `join` at once, unbuffered; look at whether the session was in that room.
 
 sessions: *"#,
-        outcome: Ok(Status::SomeNo),
-    },
     // 5 open, 6 conn, 7 reply, 8 entry 1, 9 entry 2, 10 take, 11 and 12 the frame of entry 1, 13 take, 14 the frame of
     // entry 2.
-    Case {
-        arguments: &["explain", "--pid", "p1"],
-        input: Input::Simulated(1, "c@1 e:a e:b double t1 t1"),
-        text: r#"no p1 DOUBLED 1-0 [delivery]
+    r#"explain --pid p1
+1 node: c@1 e:a e:b double t1 t1
+-> Ok(SomeNo)
+no p1 DOUBLED 1-0 [delivery]
 client c1, namespace /, connection 1, turns 1, got 3, due 2, differs at frame 2
     line tap  record
        8 st   entry 1 1-0  the entry
@@ -187,14 +168,12 @@ cause doubled-live (certain, lines 11 12): No recovery stands between the two fr
 do: look at what stands between the node and the client, and at what the node sent.
 
 sessions: *"#,
-        outcome: Ok(Status::SomeNo),
-    },
     // 5 open, 6 conn, 7 reply, 8 entry 1, 9 entry 2, 10 take, 11 take, 12 the frame of entry 2, 13 the frame of entry
     // 1.
-    Case {
-        arguments: &["explain", "--pid", "p1"],
-        input: Input::Simulated(1, "c@1 e:a e:b hold t1 t1"),
-        text: r#"no p1 SWAPPED 1-0 [delivery]
+    r#"explain --pid p1
+1 node: c@1 e:a e:b hold t1 t1
+-> Ok(SomeNo)
+no p1 SWAPPED 1-0 [delivery]
 client c1, namespace /, connection 1, turns 1, got 2, due 2, differs at frame 1
     line tap  record
        8 st   entry 1 1-0  the entry
@@ -208,14 +187,12 @@ cause swapped-live (certain, lines 12 13): No recovery stands between the two fr
 do: look at what stands between the node and the client, and at what the node sent.
 
 sessions: *"#,
-        outcome: Ok(Status::SomeNo),
-    },
     // The frame of entry 1 is dropped. 5 open, 6 conn, 7 reply, 8 join, 9 entry 1, 10 entry 2, 11 take, 12 take, 13 the
     // frame of entry 2.
-    Case {
-        arguments: &["explain", "--pid", "p1"],
-        input: Input::Simulated(1, "c@1 j:r e:a:r e:b drop t1 t1"),
-        text: r#"no p1 LOST 1-0 [delivery]
+    r#"explain --pid p1
+1 node: c@1 j:r e:a:r e:b drop t1 t1
+-> Ok(SomeNo)
+no p1 LOST 1-0 [delivery]
 client c1, namespace /, connection 1, turns 1, got 1, due 2, differs at frame 1
     line tap  record
        8 n1   join r  decides
@@ -232,14 +209,12 @@ cause leave-missing (fits, line 13): What came would fit if the session had left
 do: write a `leave` at once, unbuffered; look at whether the session was in that room.
 
 sessions: *"#,
-        outcome: Ok(Status::SomeNo),
-    },
     // 7 open, 8 conn, 9 reply, 10 entry 1, 11 take on n1, 12 its frame, 13 break, 14 lost, 15 entry 2, 16 and 17 take
     // on n2, 18 conn, 19 asks after 0-0, 20 back on n2, 21 the frame of entry 2, 22 reply.
-    Case {
-        arguments: &["explain", "--pid", "p1"],
-        input: Input::Simulated(2, "c@1 e:a t1 x e:b t2 t2 o@2"),
-        text: r#"no p1 WINDOW 2 [delivery]
+    r#"explain --pid p1
+2 nodes: c@1 e:a t1 x e:b t2 t2 o@2
+-> Ok(SomeNo)
+no p1 WINDOW 2 [delivery]
 client c1, namespace /, connection 2, turns 2, got 2, due 2
     line tap  record
       19 c1   conn 2 asks p1 after 0-0  <- does not fit what came
@@ -252,11 +227,9 @@ cause unknown-offset (certain, line 19): The client asked to go on after an offs
 do: take as offset only what a server that recovers put at the end of an event.
 
 sessions: *"#,
-        outcome: Ok(Status::SomeNo),
-    },
 ];
 
 #[test]
 fn each_fault_that_a_simulated_cluster_makes(rt: HostRuntime) -> Result<(), Fail> {
-    assert_cases(&rt, rt.alloc(), &CASES)
+    assert_cases(&rt, rt.alloc(), &[], &CASES)
 }

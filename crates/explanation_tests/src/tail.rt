@@ -1,11 +1,12 @@
 //! Tails: the last events that were due never came.
-use crate::asked::TOO_EARLY;
-use crate::cases::{Case, Input, assert_cases};
-use aud_verdict::Status;
+use crate::cases::assert_cases;
 use std::test::Fail;
 
-/// A client that is lost after the first of four events.
-const TAIL: &str = r#"st {"k":"tap","v":1,"of":"stream"}
+/// Texts of these cases, each after its name.
+static TEXTS: [&str; 2] = [
+    // A client that is lost after the first of four events.
+    r#"TAIL
+st {"k":"tap","v":1,"of":"stream"}
 st {"k":"ev","off":"o1","nsp":"/","text":"2[\"m\",\"o1\"]"}
 st {"k":"ev","off":"o2","nsp":"/","text":"2[\"m\",\"o2\"]"}
 st {"k":"ev","off":"o3","nsp":"/","text":"2[\"m\",\"o3\"]"}
@@ -22,10 +23,10 @@ c1 {"k":"conn","c":1}
 c1 {"k":"in","t":"40{\"sid\":\"s1\",\"pid\":\"P\"}"}
 c1 {"k":"in","t":"42[\"m\",\"o1\"]"}
 c1 {"k":"lost"}
-"#;
-
-/// A client that receives nothing of what is due.
-const NOTHING: &str = r#"st {"k":"tap","v":1,"of":"stream"}
+"#,
+    // A client that receives nothing of what is due.
+    r#"NOTHING
+st {"k":"tap","v":1,"of":"stream"}
 st {"k":"ev","off":"1-0","nsp":"/","rooms":["r"],"text":"2[\"hi\",\"1-0\"]"}
 a {"k":"tap","v":1,"of":"node"}
 a {"k":"start","off":null}
@@ -35,14 +36,15 @@ a {"k":"take","off":"1-0"}
 c1 {"k":"tap","v":1,"of":"client"}
 c1 {"k":"conn","c":1}
 c1 {"k":"in","t":"40{\"sid\":\"s1\",\"pid\":\"P\"}"}
-"#;
+"#,
+];
 
 /// What is told where the whole is asked for, and where it isn't.
-static CASES: [Case; 10] = [
-    Case {
-        arguments: &["explain", "--whole"],
-        input: Input::Files(&[TAIL]),
-        text: r#"no P TAIL 3 [delivery]
+static CASES: [&str; 10] = [
+    r#"explain --whole
+@TAIL
+-> Ok(SomeNo)
+no P TAIL 3 [delivery]
 client c1, namespace /, connection 1, turns 1, got 1, due 4, tail 3
     line tap  record
       16 c1   conn 1 got 1 o1  <- the last received
@@ -61,20 +63,16 @@ recoveries asked for: 0, granted: 0, refused: 0
 entries of the stream: 4, recoverable: 4
 lines: 17, bytes: 647, seconds: *
 "#,
-        outcome: Ok(Status::SomeNo),
-    },
-    Case {
-        arguments: &["explain", "--whole", "--json"],
-        input: Input::Files(&[TAIL]),
-        text: r#"{"also":[{"lines":[4],"position":3},{"lines":[5],"position":4}],"at_frame":null,"causes":[],"class":"delivery","client":"c1","conn":1,"due":4,"events":[{"after":null,"from":null,"happens":"reply","lines":[15,15],"to":null},{"after":null,"from":1,"happens":"got","lines":[16,16],"to":1},{"after":null,"from":null,"happens":"lost","lines":[17,17],"to":null}],"evidence":[{"line":16,"role":"fault","says":"conn 1 got 1 o1","tap":"c1"},{"line":3,"role":"entry","says":"entry 2 o2","tap":"st"},{"line":10,"role":"reached","says":"take 2 o2","tap":"a"}],"fault":"TAIL","got":1,"nsp":"/","off":null,"pid":"P","refused":[],"tail":3,"turns":[{"begin":"open","end":"log","high":4,"lines":[8,12],"low":0,"node":"a","took":[1,4],"turn":0}],"v":1,"verdict":"no"}
+    r#"explain --whole --json
+@TAIL
+-> Ok(SomeNo)
+{"also":[{"lines":[4],"position":3},{"lines":[5],"position":4}],"at_frame":null,"causes":[],"class":"delivery","client":"c1","conn":1,"due":4,"events":[{"after":null,"from":null,"happens":"reply","lines":[15,15],"to":null},{"after":null,"from":1,"happens":"got","lines":[16,16],"to":1},{"after":null,"from":null,"happens":"lost","lines":[17,17],"to":null}],"evidence":[{"line":16,"role":"fault","says":"conn 1 got 1 o1","tap":"c1"},{"line":3,"role":"entry","says":"entry 2 o2","tap":"st"},{"line":10,"role":"reached","says":"take 2 o2","tap":"a"}],"fault":"TAIL","got":1,"nsp":"/","off":null,"pid":"P","refused":[],"tail":3,"turns":[{"begin":"open","end":"log","high":4,"lines":[8,12],"low":0,"node":"a","took":[1,4],"turn":0}],"v":1,"verdict":"no"}
 {"summary":{"bytes":647,"class":{"delivery":1,"packets":0,"recording":0},"entries":{"all":4,"recoverable":4},"fault":{"CHAIN":0,"CLIENT":0,"CONTENT":0,"DOUBLED":0,"EXTRA":0,"FRAME":0,"LOST":0,"NAMES":0,"NOLOG":0,"ORDER":0,"ORPHAN":0,"SWAPPED":0,"TAIL":1,"WINDOW":0},"lines":17,"no":1,"recoveries":{"asked":0,"granted":0,"refused":0},"seconds":*,"sessions":1,"tail":{"events":3,"sessions":1},"unobserved":0,"yes":0},"v":1}
 "#,
-        outcome: Ok(Status::SomeNo),
-    },
-    Case {
-        arguments: &["explain", "--whole"],
-        input: Input::Files(&[NOTHING]),
-        text: r#"no P TAIL 1 [delivery]
+    r#"explain --whole
+@NOTHING
+-> Ok(SomeNo)
+no P TAIL 1 [delivery]
 client c1, namespace /, turns 1, got 0, due 1, tail 1
     line tap  record
        2 st   entry 1 1-0  the entry
@@ -83,33 +81,25 @@ client c1, namespace /, turns 1, got 0, due 1, tail 1
     client  10 reply
 
 sessions: *"#,
-        outcome: Ok(Status::SomeNo),
-    },
-    Case {
-        arguments: &["explain", "--json", "--whole"],
-        input: Input::Files(&[NOTHING]),
-        text: r#"{"also":[],"at_frame":null,"causes":[],"class":"delivery","client":"c1","conn":null,"due":1,"events":[{"after":null,"from":null,"happens":"reply","lines":[10,10],"to":null}],"evidence":[{"line":2,"role":"entry","says":"entry 1 1-0","tap":"st"},{"line":7,"role":"reached","says":"take 1 1-0","tap":"a"}],"fault":"TAIL","got":0,"nsp":"/","off":null,"pid":"P","refused":[],"tail":1,"turns":[{"begin":"open","end":"log","high":1,"lines":[5,7],"low":0,"node":"a","took":[1,1],"turn":0}],"v":1,"verdict":"no"}
+    r#"explain --json --whole
+@NOTHING
+-> Ok(SomeNo)
+{"also":[],"at_frame":null,"causes":[],"class":"delivery","client":"c1","conn":null,"due":1,"events":[{"after":null,"from":null,"happens":"reply","lines":[10,10],"to":null}],"evidence":[{"line":2,"role":"entry","says":"entry 1 1-0","tap":"st"},{"line":7,"role":"reached","says":"take 1 1-0","tap":"a"}],"fault":"TAIL","got":0,"nsp":"/","off":null,"pid":"P","refused":[],"tail":1,"turns":[{"begin":"open","end":"log","high":1,"lines":[5,7],"low":0,"node":"a","took":[1,1],"turn":0}],"v":1,"verdict":"no"}
 {"summary":*"#,
-        outcome: Ok(Status::SomeNo),
-    },
-    Case {
-        arguments: &["explain"],
-        input: Input::Files(&[TAIL]),
-        text: r#"sessions: 1, yes: 1, no: 0
+    r#"explain
+@TAIL
+-> Ok(AllYes)
+sessions: 1, yes: 1, no: 0
 *"#,
-        outcome: Ok(Status::AllYes),
-    },
-    Case {
-        arguments: &["explain", "--pid", "P"],
-        input: Input::Files(&[TAIL]),
-        text: r#"yes P got=1 tail=3 turns=1
+    r#"explain --pid P
+@TAIL
+-> Ok(AllYes)
+yes P got=1 tail=3 turns=1
 *"#,
-        outcome: Ok(Status::AllYes),
-    },
-    Case {
-        arguments: &["explain", "--whole", "--only", "TAIL", "--fail-on", "TAIL"],
-        input: Input::Files(&[NOTHING]),
-        text: r#"no P TAIL 1 [delivery]
+    r#"explain --whole --only TAIL --fail-on TAIL
+@NOTHING
+-> Ok(SomeNo)
+no P TAIL 1 [delivery]
 client c1, namespace /, turns 1, got 0, due 1, tail 1
     line tap  record
        2 st   entry 1 1-0  the entry
@@ -118,17 +108,10 @@ client c1, namespace /, turns 1, got 0, due 1, tail 1
     client  10 reply
 
 sessions: *"#,
-        outcome: Ok(Status::SomeNo),
-    },
-    Case {
-        arguments: &[
-            "explain",
-            "--whole",
-            "--only=delivery",
-            "--fail-on=LOST,refused",
-        ],
-        input: Input::Files(&[NOTHING]),
-        text: r#"no P TAIL 1 [delivery]
+    r#"explain --whole --only=delivery --fail-on=LOST,refused
+@NOTHING
+-> Ok(AllYes)
+no P TAIL 1 [delivery]
 client c1, namespace /, turns 1, got 0, due 1, tail 1
     line tap  record
        2 st   entry 1 1-0  the entry
@@ -137,19 +120,15 @@ client c1, namespace /, turns 1, got 0, due 1, tail 1
     client  10 reply
 
 sessions: *"#,
-        outcome: Ok(Status::AllYes),
-    },
-    Case {
-        arguments: &["explain", "--whole", "--only", "LOST"],
-        input: Input::Files(&[NOTHING]),
-        text: r#"sessions: 1, yes: 0, no: 1
+    r#"explain --whole --only LOST
+@NOTHING
+-> Ok(SomeNo)
+sessions: 1, yes: 0, no: 1
 *"#,
-        outcome: Ok(Status::SomeNo),
-    },
-    Case {
-        arguments: &["explain", "--whole"],
-        input: Input::Files(&[TOO_EARLY]),
-        text: r#"no 3qMK4FSn-elzvYcsAAAC TAIL 2 [delivery]
+    r#"explain --whole
+@TOO_EARLY
+-> Ok(SomeNo)
+no 3qMK4FSn-elzvYcsAAAC TAIL 2 [delivery]
 client c1, namespace /, connection 1, turns 1, got 1, due 3, tail 2
     line tap  record
       23 c1   conn 1 got 1 1795330276219-0  <- the last received
@@ -173,11 +152,9 @@ sessions with a tail: 1, events in tails: 2
 recoveries asked for: 1, granted: 0, refused: 1
 entries of the stream: 3, recoverable: 3
 lines: 35, *"#,
-        outcome: Ok(Status::SomeNo),
-    },
 ];
 
 #[test]
 fn what_never_came(rt: HostRuntime) -> Result<(), Fail> {
-    assert_cases(&rt, rt.alloc(), &CASES)
+    assert_cases(&rt, rt.alloc(), &TEXTS, &CASES)
 }

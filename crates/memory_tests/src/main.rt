@@ -28,12 +28,12 @@ use aud_maker::sessions;
 use aud_reader::Line;
 use aud_tap::Taps;
 use std::alloc::Global;
+use std::env;
 use std::hash::RandomState;
 use std::mem::ManuallyDrop;
 use std::sync::Wait;
 use std::thread::Threads;
 use std::time::Clock;
-use std::{env, io};
 
 /// Whether the call is asked for: its name is one of the words, or there is none.
 fn is_asked(words: &[String], name: &str) -> bool {
