@@ -199,10 +199,7 @@ impl Reading {
         runs: &mut LineRuns,
     ) -> Result<Option<RefusedLine>, RunFault> {
         let mut left = RunLines::new(tap.runs());
-        for _piece in 0..u64::MAX {
-            let Some(lines) = left.next_lines(self.alloc, source, buffer)? else {
-                break;
-            };
+        'pieces: while let Some(lines) = left.next_lines(self.alloc, source, buffer)? {
             push_numbers(runs, &lines)?;
             for piece in lines.chunks(MOST_LINES) {
                 match read_piece(self.alloc, self.keys, header, piece) {

@@ -12,8 +12,8 @@ use Rattle.aud_node.specs.TurnRecords.{begins_turn}
 use Rattle.aud_rooms.specs.Turns.{Turn}
 use Rattle.aud_cert.specs.declared.fault.Fault.{Fault}
 use Rattle.aud_cert.specs.declared.fault.Fault.TheVariants.{NoLog, Chain, Order, Client, Names, Frame, Orphan, Content, Extra, Doubled, Swapped, Lost, Window, Tail}
-use Rattle.aud_check.specs.Faults.{Case, mismatch_fault, positions_in}
-use Rattle.aud_check.specs.Compare.{has_position}
+use Rattle.aud_check.specs.Faults.{Case, difference_fault, positions_in}
+use Rattle.aud_check.specs.Difference.{has_position}
 use Rattle.aud_check.specs.Frames.{IsFirstAltered, wrong_window}
 use Rattle.aud_check.specs.Shown.{recs_or_none}
 use Rattle.aud_client.specs.Received.{transcript_of, received_list, stays_naming}
@@ -124,10 +124,10 @@ module _ (stream : List StreamRec) (taps taps' : List Tap) (alike : AreAlikeTaps
   shown whole pid s h Frame holds = subst (λ t. IsSome t.bad) (sym (tells pid s h)) holds
   shown whole pid s h Orphan holds = ap (λ t. t.orphan) (tells pid s h) ∙ holds
   shown whole pid s h (Content off) (altered, first, is) = (altered, subst (λ xs. IsFirstAltered stream xs altered) (sym (frames pid s h)) first, is)
-  shown whole pid s h (Extra off) holds = ap mismatch_fault (case pid s h) ∙ holds
-  shown whole pid s h (Doubled off) holds = ap mismatch_fault (case pid s h) ∙ holds
-  shown whole pid s h (Swapped off) holds = ap mismatch_fault (case pid s h) ∙ holds
-  shown whole pid s h (Lost off) holds = ap mismatch_fault (case pid s h) ∙ holds
+  shown whole pid s h (Extra off) holds = ap difference_fault (case pid s h) ∙ holds
+  shown whole pid s h (Doubled off) holds = ap difference_fault (case pid s h) ∙ holds
+  shown whole pid s h (Swapped off) holds = ap difference_fault (case pid s h) ∙ holds
+  shown whole pid s h (Lost off) holds = ap difference_fault (case pid s h) ∙ holds
   shown whole pid s h (Window connection) holds = ap (wrong_window stream []) (stays pid s h) ∙ holds
   shown whole pid s h (Tail n) (asked, some, is) = (asked, some, is ∙ ap length (sym (missed-same pid s h)))
 

@@ -1,6 +1,6 @@
 //! A bundle in version 2 of the format: what a node took entry by entry it takes by one record, and no verdict changes.
 //!
-//! Begin at [`upgrade`]; that the verdicts stay are the laws [`upgrades_keep_verdicts`] and [`runs_keep_verdicts`].
+//! Begin at [`upgrade`]; that the verdicts stay is the law [`upgrades_keep_verdicts`].
 //!
 //! With the `taps` of `examples/bundle_a.jsonl`, whose node takes one entry, so that its records stay:
 //!
@@ -25,5 +25,5 @@ mod taps;
 
 pub use copies::{copied_entry, copied_record};
 pub use joins::Joins;
-pub use law::{runs_keep_verdicts, upgrades_keep_verdicts};
+pub use law::upgrades_keep_verdicts;
 pub use taps::upgrade;

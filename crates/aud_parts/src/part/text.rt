@@ -1,6 +1,4 @@
 //! The parts of a recording, as they are written.
-ghost use Rattle.std.specs.Prelude.{◌≡◌, IfOk, Some, map, slice_get};
-ghost use Rattle.aud_parts.specs.Plan.{is_part, pids_in};
 
 use crate::clients::measured::MeasuredClient;
 use crate::part::lines::server_lines;
@@ -150,10 +148,7 @@ fn write_client<S: RunSource, W: Write>(
     let mut text = client_header(alloc, tap.name())?;
     let mut skipped = 1usize;
     let mut left = RunLines::new(tap.runs());
-    for _piece in 0..u64::MAX {
-        let Some(lines) = left.next_lines(alloc, source, buffer)? else {
-            break;
-        };
+    'pieces: while let Some(lines) = left.next_lines(alloc, source, buffer)? {
         push_numbers(runs, &lines)?;
         push_ended(&mut text, lines.get(skipped..).unwrap_or(&[]))?;
         if !lines.is_empty() {

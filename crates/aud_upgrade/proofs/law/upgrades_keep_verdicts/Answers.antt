@@ -1,6 +1,5 @@
-use Rattle.aud_upgrade.specs.declared.joins.Joins.TheVariants.{TakeAlone}
 use Rattle.aud_upgrade.proofs.KeptLemmas.{keep_verdicts}
 use Rattle.aud_upgrade.proofs.law.upgrades_keep_verdicts.Goals as goal
 
 pub returns : goal.returns
-returns c = keep_verdicts TakeAlone
+returns c = keep_verdicts

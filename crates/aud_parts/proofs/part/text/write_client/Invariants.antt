@@ -1,0 +1,6 @@
+use Rattle.aud_parts.specs.Private.RunSteps.{runs_size}
+use Rattle.aud_parts.proofs.part.text.write_client.Given as goal
+
+-- there is less to read each time
+abbrev pub decreases-pieces : goal.decreases-pieces
+decreases-pieces g l = runs_size l.left

@@ -1,6 +1,0 @@
-use Rattle.aud_upgrade.specs.declared.joins.Joins.TheVariants.{TakeAndTakes}
-use Rattle.aud_upgrade.proofs.KeptLemmas.{keep_verdicts}
-use Rattle.aud_upgrade.proofs.law.runs_keep_verdicts.Goals as goal
-
-pub returns : goal.returns
-returns c = keep_verdicts TakeAndTakes
