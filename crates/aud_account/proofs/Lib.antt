@@ -1,3 +1,4 @@
-mod Positions
+mod FramePositions
 mod Sessions
-mod Differences
+pub mod Differences
+mod Judged

@@ -4,13 +4,17 @@ ghost use Rattle.aud_cert.specs.declared.fault.Fault.{Fault};
 ghost use Rattle.aud_client.specs.Replies.{naming_places};
 ghost use Rattle.aud_maker.specs.Faults.{HasMakeFault};
 ghost use Rattle.aud_maker.specs.Made.{IsMade};
-ghost use Rattle.aud_account.specs.Account.{IsAccount};
-ghost use Rattle.aud_account.specs.Private.Sessions.{stays_at_place};
+ghost use Rattle.aud_check.specs.Difference.{IsAscending};
+ghost use Rattle.aud_check.specs.Faults.{IsReceived};
+ghost use Rattle.aud_check.specs.Findings.{IsFirstFinding, by_stays};
+ghost use Rattle.aud_account.specs.Account.{IsAccount, IsAccountOf, IsFound, difference_found, found_for, is_as};
 
 use crate::due::due_by_turns;
-use aud_cert::Certificate;
-use aud_client::{Recording, Stay};
+use aud_cert::{Certificate, Fault};
+use aud_check::{Difference, Finding, first_finding, frames_in};
+use aud_client::{IndexedTranscript, Recording, Stay};
 use aud_maker::{MakeFault, make};
+use aud_node::Stream;
 use std::alloc::{AllocError, Global};
 
 /// What a client received of a session, and what was due to it.
@@ -26,6 +30,46 @@ pub struct Account<'r, 'a> {
     pub stays: Vec<&'r Stay<'a>>,
     /// The positions that were due to the session by its turns, ascending. They count from 1.
     pub due: Vec<u64>,
+    /// What is wrong first with what was received; none where nothing is.
+    pub found: Option<Finding>,
+}
+
+impl Account<'_, '_> {
+    /// Where what was received first parts from what was due, if that is what is wrong first.
+    pub fn difference(&self) -> Option<Difference>
+        ensures { result ≡ difference_found self.now.found }
+    {
+        match self.found {
+            Some(Finding::Delivery(difference)) => Some(difference),
+            _ => None,
+        }
+    }
+
+    /// What was found, if the fault is one of that kind: of `CONTENT`, of `EXTRA`, `DOUBLED`, `SWAPPED` and `LOST`, or of
+    /// `WINDOW`.
+    pub fn found_for(&self, fault: &Fault) -> Option<Finding>
+        ensures { result ≡ found_for fault.now self.now.found }
+    {
+        match self.found {
+            Some(found) if is_as(found, fault) => Some(found),
+            _ => None,
+        }
+    }
+}
+
+/// Whether it is such a fault as the finding.
+fn is_as(found: Finding, fault: &Fault) -> bool
+    ensures { result ≡ is_as found fault.now }
+{
+    match found {
+        Finding::Frame | Finding::Orphan => false,
+        Finding::Content(_) => matches!(fault, Fault::Content(_)),
+        Finding::Delivery(_) => matches!(
+            fault,
+            Fault::Extra(_) | Fault::Doubled(_) | Fault::Swapped(_) | Fault::Lost(_)
+        ),
+        Finding::Window(_) => matches!(fault, Fault::Window(_)),
+    }
 }
 
 /// The account of the session with this pid; none where it has one of the faults `NoLog`, `Chain`, `Order` and
@@ -38,9 +82,7 @@ pub fn account_of<'r, 'a>(
 ) -> Result<Option<Account<'r, 'a>>, AllocError>
     ensures { IfOk result (λ found. MatchOption found
         ((fault : Fault) × HasMakeFault recording.now pid.now fault)
-        (λ a. IsMade recording.now pid.now a.cert
-        × IsAccount recording.now pid.now a.client
-        (map (λ stay. stay.now) a.stays.items) a.due.items)) }
+        (IsAccountOf recording.now pid.now)) }
 {
     let cert = match make(alloc, recording, pid) {
         Ok(cert) => cert,
@@ -61,17 +103,25 @@ fn made_account<'r, 'a>(
     ensures cert { IfOk result (λ a. a.cert ≡ cert.entry) }
     ensures account { IfOk result (λ a. IsAccount recording.now cert.entry.pid a.client
         (map (λ stay. stay.now) a.stays.items) a.due.items) }
+    ensures found { IfOk result (λ a. IsFound recording.now a.client
+        (map (λ stay. stay.now) a.stays.items) a.due.items a.found) }
 {
     let due = due_by_turns(alloc, recording, &cert)?;
     let Some(client) = first_naming(recording, cert.pid.as_str()) else {
         unreachable!()
     };
-    let stays = stays_naming(alloc, recording, client, cert.pid.as_str())?;
+    let Some(tap) = recording.client(client) else {
+        unreachable!()
+    };
+    let stays = tap.naming(alloc, cert.pid.as_str())?;
+    let stream = recording.logs().stream();
+    let found = found_in(alloc, stream, tap, stays.as_slice(), due.as_slice())?;
     Ok(Account {
         cert,
         client,
         stays,
         due,
+        found,
     })
 }
 
@@ -82,18 +132,27 @@ fn first_naming(recording: &Recording<'_>, pid: &str) -> Option<usize>
     recording.naming(pid).first().copied()
 }
 
-/// The stays of the client's tap at this place whose reply names the session, borrowed.
-fn stays_naming<'r, 'a>(
+/// What is wrong first with what these stays of the tap received, where these positions were due.
+fn found_in(
     alloc: Global,
-    recording: &'r Recording<'a>,
-    client: usize,
-    pid: &str,
-) -> Result<Vec<&'r Stay<'a>>, AllocError>
-    ensures { IfOk result (λ stays. map (λ stay. stay.now) stays.items
-        ≡ stays_at_place recording.now client pid.now) }
+    stream: &Stream<'_>,
+    tap: &IndexedTranscript<'_>,
+    stays: &[&Stay<'_>],
+    due: &[u64],
+) -> Result<Option<Finding>, AllocError>
+    requires { IsAscending due.now }
+    ensures { IfOk result (λ found. MatchOption found
+        (IsReceived (by_stays stream.now tap.now (map (λ stay. stay.now) stays.now) due.now))
+        (IsFirstFinding (by_stays stream.now tap.now (map (λ stay. stay.now) stays.now)
+        due.now))) }
 {
-    match recording.client(client) {
-        Some(transcript) => transcript.naming(alloc, pid),
-        None => Ok(Vec::new(alloc)),
-    }
+    let frames = frames_in(alloc, stays)?;
+    first_finding(
+        alloc,
+        stream,
+        tap.transcript(),
+        stays,
+        frames.as_slice(),
+        due,
+    )
 }

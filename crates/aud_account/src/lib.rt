@@ -4,19 +4,21 @@
 //! received the first of them twice:
 //!
 //! ```
-//! use aud_account::{account_of, difference_in};
-//! use aud_evidence::Difference;
+//! use aud_account::account_of;
+//! use aud_check::{Difference, Finding};
 //!
 //! let account = account_of(alloc, recording, "P")?.ok_or("P has no certificate")?;
 //! assert_eq!(rt; account.due.as_slice(), &[1, 2]);
-//! let difference = difference_in(alloc, &account)?;
-//! assert_eq!(rt; difference, Some(Difference::Doubled { first: 0, again: 1, position: 1 }));
+//! let again = Difference::Doubled { first: 0, again: 1, position: 1 };
+//! assert_eq!(rt; account.found, Some(Finding::Delivery(again)));
 //! ```
 #![tactic(auto)]
 
 mod account;
-mod difference;
 mod due;
+mod law;
+mod positions;
 
 pub use account::{Account, account_of};
-pub use difference::{difference_in, positions_received};
+pub use law::verdict_is_found;
+pub use positions::positions_received;

@@ -11,13 +11,12 @@ use Rattle.aud_verdict.specs.declared.verdict.Verdict.TheVariants.{Yes, No}
 use Rattle.aud_input.specs.TapLines.{TapLines}
 use Rattle.aud_recoveries.specs.Recoveries.{stays_at}
 use Rattle.aud_account.specs.declared.account.Account.{Account}
-use Rattle.aud_account.specs.Account.{IsAccount}
 use Rattle.aud_causes.specs.declared.cause.Cause.{Cause}
 use Rattle.aud_causes.specs.declared.causes.Noted.{Noted}
 use Rattle.aud_causes.specs.declared.found.CauseFound.{CauseFound}
 use Rattle.aud_causes.specs.Differences.{case_of}
 use Rattle.aud_causes.specs.Found.{cause_seen, shown_causes}
-use Rattle.aud_causes.specs.Judged.{AreJudgedCauses}
+use Rattle.aud_causes.specs.Judged.{judged_causes}
 use Rattle.aud_causes.specs.Recorded.{AreRecordedCauses}
 
 -- these are the causes of the fault of the session with this pid: by what it has on the nodes and in its client's tap,
@@ -25,9 +24,7 @@ use Rattle.aud_causes.specs.Recorded.{AreRecordedCauses}
 abbrev pub AreFound : Cluster → Option ℕ → List ℕ → Text → Noted → Option Account → Fault → List Cause → Type 0
 AreFound c client numbers pid noted None fault found = AreRecordedCauses c client pid noted.unordered.items fault found
 AreFound c client numbers pid noted (Some a) fault found =
-    (made : IsMade c a.cert.pid a.cert)
-    → IsAccount c a.cert.pid a.client (map (λ stay. stay.now) a.stays.items) a.due.items
-    → AreJudgedCauses (case_of c a numbers made) a.client noted.orphan fault found
+    (made : IsMade c a.cert.pid a.cert) → found ≡ judged_causes (case_of c a numbers made) a.client noted.orphan fault a.found
 
 -- these are the numbers of the stays of the client's tap at this place, if there is one, whose reply names the session
 abbrev pub AreNumbersAt : Cluster → Option ℕ → Text → List ℕ → Type 0

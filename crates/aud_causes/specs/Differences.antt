@@ -7,9 +7,9 @@ use Rattle.aud_client.specs.StaySeen.{StaySeen}
 use Rattle.aud_rooms.specs.Turns.{Who, Turn}
 use Rattle.aud_cert.specs.Certificate.{TurnSeen, turn_at}
 use Rattle.aud_maker.specs.Made.{IsMade}
-use Rattle.aud_check.specs.Compare.{has_position}
-use Rattle.aud_evidence.specs.declared.difference.Difference.{Difference}
-use Rattle.aud_evidence.specs.declared.difference.Difference.TheVariants.{Extra, Doubled, Swapped, Lost}
+use Rattle.aud_check.specs.Difference.{has_position}
+use Rattle.aud_check.specs.declared.difference.Difference.{Difference}
+use Rattle.aud_check.specs.declared.difference.Difference.TheVariants.{Extra, Doubled, Swapped, Lost}
 use Rattle.aud_reach.specs.Reasons.{Reason}
 use Rattle.aud_reach.specs.NotDue.{why_not_due}
 use Rattle.aud_account.specs.declared.account.Account.{Account}

@@ -6,8 +6,8 @@ use Rattle.aud_client.specs.StaySeen.{StaySeen}
 use Rattle.aud_client.specs.Received.{is_recovered}
 use Rattle.aud_cert.specs.Certificate.{TurnSeen}
 use Rattle.aud_check.specs.Frames.{asked_position}
-use Rattle.aud_evidence.specs.declared.difference.Difference.{Difference}
-use Rattle.aud_evidence.specs.declared.difference.Difference.TheVariants.{Extra, Doubled, Swapped, Lost}
+use Rattle.aud_check.specs.declared.difference.Difference.{Difference}
+use Rattle.aud_check.specs.declared.difference.Difference.TheVariants.{Extra, Doubled, Swapped, Lost}
 use Rattle.aud_causes.specs.declared.facts.Parted.{Parted}
 use Rattle.aud_causes.specs.declared.facts.Replay.{Replay}
 use Rattle.aud_causes.specs.declared.facts.Facts.{Facts}

@@ -3,10 +3,10 @@ use Rattle.std.specs.Prelude.{ℕ, List, [], ◌∷◌, Option, Some, None, slic
 use Rattle.std.specs.Option.{option_map, option_and_then}
 use Rattle.aud_tap.specs.declared.records.StreamRec.{StreamRec}
 use Rattle.aud_client.specs.StaySeen.{StaySeen}
-use Rattle.aud_evidence.specs.declared.window.BadWindow.{BadWindow}
-use Rattle.aud_evidence.specs.declared.window.Misfit.{Misfit}
-use Rattle.aud_evidence.specs.declared.window.Misfit.TheVariants as misfit
-use Rattle.aud_evidence.specs.declared.content.Altered.{Altered as AlteredFrame}
+use Rattle.aud_check.specs.declared.window.BadWindow.{BadWindow}
+use Rattle.aud_check.specs.declared.window.Misfit.{Misfit}
+use Rattle.aud_check.specs.declared.window.Misfit.TheVariants as misfit
+use Rattle.aud_check.specs.declared.content.Altered.{Altered as AlteredFrame}
 use Rattle.aud_causes.specs.declared.cause.Cause.{Cause}
 use Rattle.aud_causes.specs.declared.cause.Cause.TheVariants.{NoOffset, UnknownOffset, StaleOffset, Altered}
 use Rattle.aud_causes.specs.Facts.{asked_after}

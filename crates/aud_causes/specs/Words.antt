@@ -1,7 +1,7 @@
 -- The words of causes: their names, what to do, and what happened.
-use Rattle.std.specs.Prelude.{ℕ, suc, List, [], ◌∷◌, codes, map}
-use Rattle.aud_evidence.specs.declared.content.Part.{Part}
-use Rattle.aud_evidence.specs.declared.content.Part.TheVariants as part
+use Rattle.std.specs.Prelude.{ℕ, List, [], ◌∷◌, codes, map}
+use Rattle.aud_check.specs.declared.content.Part.{Part}
+use Rattle.aud_check.specs.declared.content.Part.TheVariants as part
 use Rattle.aud_causes.specs.declared.why.Figure.{Figure}
 use Rattle.aud_causes.specs.declared.why.Figure.TheVariants.{Name, Number, Nth}
 use Rattle.aud_causes.specs.Filled.{figure_text, filled}

@@ -4,7 +4,7 @@ ghost use Rattle.aud_causes.specs.Words.{id_text, todo_text};
 
 use crate::no_packet::advice;
 use aud_chain::RecordPlace;
-use aud_evidence::Part;
+use aud_check::Part;
 use aud_no_packet::NoPacket;
 
 /// What a fault may come from, with what shows it. Positions of the stream count from 1; all else from 0: frames over

@@ -1,7 +1,6 @@
 //! The causes that a session's fault may have.
-ghost use Rattle.std.specs.Prelude.{◌≡◌, All, IfOk, IfSome, map};
+ghost use Rattle.std.specs.Prelude.{◌≡◌, All, IfOk, IfSome};
 ghost use Rattle.std.specs.Option.{option_copied};
-ghost use Rattle.aud_account.specs.Account.{IsAccount};
 ghost use Rattle.aud_maker.specs.Made.{IsMade};
 ghost use Rattle.aud_rows.specs.ClientPlaces.{AreOf};
 ghost use Rattle.aud_causes.specs.Causes.{AreCauses, AreFound, AreNumbersAt, has_others, is_sure};
@@ -46,9 +45,7 @@ pub fn causes_of<'r, 'a>(
 ) -> Result<Vec<CauseFound>, AllocError>
     requires tap { IfSome (option_copied tap) (AreOf sheet.recording.now) }
     requires account { IfSome (option_copied account)
-        (λ a. IsMade sheet.recording.now pid.now a.cert
-        × IsAccount sheet.recording.now pid.now a.client
-        (map (λ stay. stay.now) a.stays.items) a.due.items) }
+        (λ a. IsMade sheet.recording.now pid.now a.cert) }
     ensures causes { IfOk result (λ causes.
         AreCauses sheet.entry.recording.now sheet.entry.lines.now
         (place_of (option_copied tap.entry)) pid.now noted.now
@@ -93,9 +90,7 @@ fn causes_found(
     account: Option<&Account<'_, '_>>,
     noted: &Noted,
 ) -> Result<Vec<Cause>, AllocError>
-    requires { IfSome (option_copied account) (λ a. IsMade recording.now pid.now a.cert
-        × IsAccount recording.now pid.now a.client
-        (map (λ stay. stay.now) a.stays.items) a.due.items) }
+    requires { IfSome (option_copied account) (λ a. IsMade recording.now pid.now a.cert) }
     ensures { IfOk result (λ found. AreFound recording.now client numbers.now pid.now noted.now
         (option_copied account.entry) fault.now found.items) }
 {

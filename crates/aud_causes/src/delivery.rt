@@ -1,6 +1,6 @@
 //! What a difference between what was received and what was due may come from.
 ghost use Rattle.std.specs.Prelude.{◌≡◌, ℕ, IfOk, List, map, option_map};
-ghost use Rattle.aud_check.specs.Compare.{has_position};
+ghost use Rattle.aud_check.specs.Difference.{has_position};
 ghost use Rattle.aud_maker.specs.Made.{IsMade};
 ghost use Rattle.aud_reach.specs.NotDue.{reason_of};
 ghost use Rattle.aud_causes.specs.Differences.{case_of, difference_causes, doubled_causes, doubled_in, extra_causes, extra_in, lost_causes, lost_in, offset_of_another, other_session_after, other_session_before, swapped_causes};
@@ -20,8 +20,8 @@ use crate::live::{
 };
 use aud_account::Account;
 use aud_cert::Turn;
+use aud_check::Difference;
 use aud_client::{Recording, Stay};
-use aud_evidence::Difference;
 use aud_node::Logs;
 use aud_reach::{NotDue, why_not_due};
 use std::alloc::{AllocError, Global};

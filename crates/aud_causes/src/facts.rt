@@ -5,8 +5,8 @@ ghost use Rattle.aud_check.specs.Frames.{asked_position};
 ghost use Rattle.aud_causes.specs.Facts.{asked_after, earlier_stay, facts_of, is_recovery, low_of_turn, parted_at, replay_of, stay_of_frame};
 
 use aud_cert::Turn;
+use aud_check::Difference;
 use aud_client::{Asked, Stay};
-use aud_evidence::Difference;
 use aud_node::Stream;
 
 /// The entry at which what was received parts from what was due, and two frames: of an entry that came twice both; of

@@ -1,13 +1,11 @@
 //! What a fault may come from of a session that has a certificate.
 ghost use Rattle.std.specs.Prelude.{◌≡◌, ◌∷◌, [], IfOk, map};
-ghost use Rattle.aud_account.specs.Account.{IsAccount};
-ghost use Rattle.aud_evidence.specs.Difference.{IsAscending};
-ghost use Rattle.aud_evidence.specs.Window.{positions_received};
 ghost use Rattle.aud_maker.specs.Made.{IsMade};
 ghost use Rattle.aud_causes.specs.declared.cause.Cause.TheVariants.{NotAPacket};
 ghost use Rattle.aud_causes.specs.Differences.{case_of};
-ghost use Rattle.aud_causes.specs.Judged.{AreAlteredCauses, AreDifferenceCauses, AreJudgedCauses, AreWindowCauses, names_causes, orphan_at, other_causes};
+ghost use Rattle.aud_causes.specs.Judged.{causes_found, judged_causes, names_causes, orphan_at, other_causes};
 ghost use Rattle.aud_causes.specs.NoPacket.{no_packet_in};
+ghost use Rattle.aud_causes.specs.Windows.{altered_causes};
 
 use crate::cause::Cause;
 use crate::delivery::difference_causes;
@@ -17,17 +15,15 @@ use crate::names::{first_other, named_causes};
 use crate::no_packet::no_packet_in;
 use crate::orphans::orphan_causes;
 use crate::window::window_causes;
-use aud_account::{Account, difference_in, positions_received};
+use aud_account::Account;
 use aud_cert::{Fault, Turn};
-use aud_check::frames_in;
+use aud_check::{Altered, Finding};
 use aud_client::{Recording, Stay};
-use aud_evidence::{first_altered, first_bad_window};
-use aud_node::Stream;
 use aud_recoveries::opened_in;
 use std::alloc::{AllocError, Global};
 
-/// The causes of such a fault. The account is the session's, and these are the numbers of its stays in its client's tap;
-/// where that has events of which nobody knows the session, they stand in the stay with this number.
+/// The causes of such a fault. These are the numbers of the session's stays in its client's tap; where that has events
+/// of which nobody knows the session, they stand in the stay with this number.
 pub(crate) fn judged_causes(
     alloc: Global,
     recording: &Recording<'_>,
@@ -39,45 +35,54 @@ pub(crate) fn judged_causes(
     requires { IsMade recording.now account.now.cert.pid account.now.cert }
     ensures { IfOk result (λ found.
         (made : IsMade recording.now account.now.cert.pid account.now.cert)
-        → IsAccount recording.now account.now.cert.pid account.now.client
-        (map (λ stay. stay.now) account.now.stays.items) account.now.due.items
-        → AreJudgedCauses
-        (case_of recording.now account.now numbers.now made) account.now.client orphan
-        fault.now found.items) }
+        → found.items ≡ judged_causes (case_of recording.now account.now numbers.now made)
+        account.now.client orphan fault.now account.now.found) }
 {
     match fault {
         Fault::Names => names_of(alloc, account),
         Fault::Frame => frame_of(alloc, recording, account.client),
         Fault::Orphan => orphan_at(alloc, recording, account.client, orphan),
-        Fault::Content(_) => content_of(alloc, recording, account),
-        Fault::Extra(_) => delivery_of(alloc, recording, account, numbers),
-        Fault::Doubled(_) => delivery_of(alloc, recording, account, numbers),
-        Fault::Swapped(_) => delivery_of(alloc, recording, account, numbers),
-        Fault::Lost(_) => delivery_of(alloc, recording, account, numbers),
-        Fault::Window(_) => window_of(alloc, recording, account),
-        _ => Ok(Vec::new(alloc)),
+        _ => causes_found(alloc, recording, account, numbers, account.found_for(fault)),
     }
 }
 
-/// The causes of where what the client received of the session first parts from what was due to it.
-fn delivery_of(
+/// The causes of what was found.
+fn causes_found(
     alloc: Global,
     recording: &Recording<'_>,
     account: &Account<'_, '_>,
     numbers: &[usize],
+    found: Option<Finding>,
 ) -> Result<Vec<Cause>, AllocError>
     requires { IsMade recording.now account.now.cert.pid account.now.cert }
-    ensures { IfOk result (λ found.
+    ensures { IfOk result (λ causes.
         (made : IsMade recording.now account.now.cert.pid account.now.cert)
-        → IsAccount recording.now account.now.cert.pid account.now.client
-        (map (λ stay. stay.now) account.now.stays.items) account.now.due.items
-        → AreDifferenceCauses
-        (case_of recording.now account.now numbers.now made) found.items) }
+        → causes.items ≡ causes_found (case_of recording.now account.now numbers.now made) found) }
 {
-    match difference_in(alloc, account)? {
-        Some(difference) => difference_causes(alloc, recording, account, numbers, difference),
-        None => Ok(Vec::new(alloc)),
+    match found {
+        Some(Finding::Content(altered)) => altered_causes(alloc, altered),
+        Some(Finding::Delivery(difference)) => {
+            difference_causes(alloc, recording, account, numbers, difference)
+        }
+        Some(Finding::Window(window)) => {
+            let stream = recording.logs().stream();
+            window_causes(alloc, stream, &account.stays, &account.due, window)
+        }
+        _ => Ok(Vec::new(alloc)),
     }
+}
+
+/// The cause of an event that isn't its entry.
+fn altered_causes(alloc: Global, altered: Altered) -> Result<Vec<Cause>, AllocError>
+    ensures { IfOk result (λ causes. causes.items ≡ altered_causes altered) }
+{
+    held(
+        alloc,
+        &[Some(Cause::Altered {
+            frame: altered.frame,
+            part: altered.part,
+        })],
+    )
 }
 
 /// The cause of the first record that is no packet of the client's tap at this place.
@@ -91,77 +96,6 @@ fn frame_of(
 {
     let why = no_packet_in(alloc, recording, client)?;
     held(alloc, &[Some(Cause::NotAPacket { why })])
-}
-
-/// The causes of the first event that isn't its entry.
-fn content_of(
-    alloc: Global,
-    recording: &Recording<'_>,
-    account: &Account<'_, '_>,
-) -> Result<Vec<Cause>, AllocError>
-    ensures { IfOk result (λ found. AreAlteredCauses recording.now.stream
-        (map (λ stay. stay.now) account.now.stays.items) found.items) }
-{
-    altered_causes(alloc, recording.logs().stream(), account.stays.as_slice())
-}
-
-/// The same of the frames of these stays.
-fn altered_causes(
-    alloc: Global,
-    stream: &Stream<'_>,
-    stays: &[&Stay<'_>],
-) -> Result<Vec<Cause>, AllocError>
-    ensures { IfOk result (λ found. AreAlteredCauses stream.now
-        (map (λ stay. stay.now) stays.now) found.items) }
-{
-    let frames = frames_in(alloc, stays)?;
-    match first_altered(stream, frames.as_slice()) {
-        Some(altered) => held(
-            alloc,
-            &[Some(Cause::Altered {
-                frame: altered.frame,
-                part: altered.part,
-            })],
-        ),
-        None => Ok(Vec::new(alloc)),
-    }
-}
-
-/// The causes of the first recovery that was asked for where it doesn't fit.
-fn window_of(
-    alloc: Global,
-    recording: &Recording<'_>,
-    account: &Account<'_, '_>,
-) -> Result<Vec<Cause>, AllocError>
-    ensures { IfOk result (λ found. IsAscending
-        (positions_received (map (λ stay. stay.now) account.now.stays.items))
-        → AreWindowCauses recording.now.stream
-        (map (λ stay. stay.now) account.now.stays.items) account.now.due.items found.items) }
-{
-    first_window_causes(
-        alloc,
-        recording.logs().stream(),
-        account.stays.as_slice(),
-        account.due.as_slice(),
-    )
-}
-
-/// The same of these stays, where these positions were due.
-fn first_window_causes(
-    alloc: Global,
-    stream: &Stream<'_>,
-    stays: &[&Stay<'_>],
-    due: &[u64],
-) -> Result<Vec<Cause>, AllocError>
-    ensures { IfOk result (λ found. IsAscending
-        (positions_received (map (λ stay. stay.now) stays.now))
-        → AreWindowCauses stream.now (map (λ stay. stay.now) stays.now) due.now found.items) }
-{
-    let positions = positions_received(alloc, stays)?;
-    match first_bad_window(stream, stays, positions.as_slice()) {
-        Some(window) => window_causes(alloc, stream, stays, due, window),
-        None => Ok(Vec::new(alloc)),
-    }
 }
 
 /// What differs between the session's `open` and the first reply that names it otherwise.

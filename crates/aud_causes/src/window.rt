@@ -6,8 +6,8 @@ use crate::cause::Cause;
 use crate::delivery::offset_of_another;
 use crate::facts::asked_after;
 use crate::list::held;
+use aud_check::{BadWindow, Misfit};
 use aud_client::Stay;
-use aud_evidence::{BadWindow, Misfit};
 use aud_node::Stream;
 use std::alloc::{AllocError, Global};
 

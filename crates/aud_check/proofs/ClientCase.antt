@@ -17,7 +17,8 @@ use Rattle.aud_check.specs.Private.ClientCheck.{IsClientRefusal, transcript_name
 use Rattle.aud_check.specs.Faults.{Case}
 use Rattle.aud_check.specs.NamedStays.{are_of_session, is_of_session, is_empty, has_sid}
 use Rattle.aud_check.specs.Shown.{recs_or_none}
-use Rattle.aud_check.specs.Private.ReceivedCheck.{by_stays, IsReceivedRefusal}
+use Rattle.aud_check.specs.Findings.{by_stays}
+use Rattle.aud_check.specs.Private.ReceivedCheck.{IsReceivedRefusal}
 use Rattle.aud_check.specs.declared.refusal.Refusal.{Refusal}
 
 -- stays that are all of the session are all in its namespace

@@ -8,7 +8,8 @@ use Rattle.aud_base.proofs.Lists.{element_at}
 use Rattle.aud_base.proofs.Truth.{and_true}
 use Rattle.aud_client.specs.StaySeen.{FrameSeen}
 use Rattle.aud_merge.specs.ByTurns.{IsPrefixOf}
-use Rattle.aud_check.specs.Private.Ascending.{IsAscending, is_cut_or_not}
+use Rattle.aud_check.specs.Difference.{IsAscending}
+use Rattle.aud_check.specs.Private.Misplaced.{is_cut_or_not}
 use Rattle.aud_check.specs.Frames.{is_cut_at}
 
 -- the front of ascending positions ascends

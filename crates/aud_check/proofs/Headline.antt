@@ -11,14 +11,14 @@ use Rattle.aud_cert.specs.Certificate.{CertificateSeen, IsOver}
 use Rattle.aud_cert.specs.declared.fault.Fault.{Fault}
 use Rattle.aud_check.specs.declared.refusal.Refusal.{Refusal}
 use Rattle.aud_check.specs.declared.refusal.Refusal.TheVariants.{Received}
-use Rattle.aud_check.specs.Faults.{HasFault, mismatch_fault, positions_in}
+use Rattle.aud_check.specs.Faults.{HasFault, difference_fault, positions_in}
 use Rattle.aud_check.specs.Shown.{who_of, turns_of, shown_due}
 use Rattle.aud_check.specs.TurnRefusals.{AreTurnsAccepted}
 use Rattle.aud_check.specs.Refusals.{Place, AtTurn, AtWhole, Refuses, RefusesFirst, IsFirstRefusal, IsMismatch, certificate_case}
 use Rattle.aud_check.proofs.AcceptedTurns.{all_accepted, are_turns}
 use Rattle.aud_check.proofs.Prefixes.{prefix_of_prefix}
-use Rattle.aud_check.proofs.Ranks.{no_mismatch}
-use Rattle.aud_check.proofs.Agreed.{mismatch-none}
+use Rattle.aud_check.proofs.Ranks.{not_different}
+use Rattle.aud_check.proofs.Agreed.{difference-none}
 
 module _ (c : Cluster) (cert : CertificateSeen) where
   -- the received positions are a prefix of what is due in every run
@@ -38,7 +38,7 @@ module _ (c : Cluster) (cert : CertificateSeen) where
       go AtWhole h = h
 
   -- where a mismatch is refused, it is the fault
-  refused_mismatch : (refusal : Refusal) → IsMismatch refusal → RefusesFirst c cert refusal → (f : Fault) × (mismatch_fault (certificate_case c cert) ≡ Some f)
+  refused_mismatch : (refusal : Refusal) → IsMismatch refusal → RefusesFirst c cert refusal → (f : Fault) × (difference_fault (certificate_case c cert) ≡ Some f)
   refused_mismatch refusal about is = grind (arith, holds)
 
   -- of the whole chain, a mismatch says that in no run they are
@@ -48,7 +48,7 @@ module _ (c : Cluster) (cert : CertificateSeen) where
   in_no_run refusal is about law chain run of_logs prefix =
       let (f, found) = refused_mismatch refusal about is in
       let same = law c run (who_of cert) (turns_of c cert) of_logs chain in
-      no_mismatch (certificate_case c cert) ((mismatch-none (positions_in (certificate_case c cert)) (shown_due c cert)).1 (subst (IsPrefixOf (positions_in (certificate_case c cert))) same prefix)) f found
+      not_different (certificate_case c cert) ((difference-none (positions_in (certificate_case c cert)) (shown_due c cert)).1 (subst (IsPrefixOf (positions_in (certificate_case c cert))) same prefix)) f found
 
 -- a mismatch is no running out of memory
 pub first_of_all : (c : Cluster) (cert : CertificateSeen) (refusal : Refusal) → IsMismatch refusal → IsFirstRefusal c cert refusal → RefusesFirst c cert refusal

@@ -1,5 +1,5 @@
 pub mod Agreed
-pub mod Mismatched
+pub mod Different
 pub mod Prefixes
 pub mod OwnEnd
 pub mod TurnRefusals
@@ -9,6 +9,11 @@ pub mod Ranks
 pub mod Headline
 pub mod Steps
 pub mod Windows
-pub mod FirstFault
+pub mod FirstFinding
 pub mod ClientCase
 pub mod Judged
+pub mod Parts
+pub mod AlteredFrames
+pub mod Differences
+pub mod Misfits
+pub mod BadWindows

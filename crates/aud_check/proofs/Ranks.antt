@@ -12,14 +12,14 @@ use Rattle.aud_cert.specs.declared.fault.Fault.{Fault}
 use Rattle.aud_cert.specs.declared.fault.Fault.TheVariants as fault
 use Rattle.aud_check.specs.declared.refusal.Refusal.{Refusal}
 use Rattle.aud_check.specs.declared.refusal.Refusal.TheVariants.{Span, Names, Received}
-use Rattle.aud_check.specs.Compare.{mismatch}
+use Rattle.aud_check.specs.Difference.{difference}
 use Rattle.aud_check.specs.Frames.{AreEntries, IsEntry, IsFirstAltered, wrong_window}
-use Rattle.aud_check.specs.Faults.{Case, HasFault, IsReceived, fault_of, mismatch_fault, positions_in, fault_rank}
-use Rattle.aud_check.specs.Private.FirstFault.{IsFirstFault}
+use Rattle.aud_check.specs.Faults.{Case, HasFault, IsReceived, fault_of, difference_fault, positions_in, fault_rank}
+use Rattle.aud_check.specs.Faults.{IsFirstFault}
 use Rattle.aud_check.specs.TurnRefusals.{RefusesTurn, AreTurnsAccepted, refusal_rank}
 use Rattle.aud_check.specs.Private.TurnCheck.{IsFirstOfTurns}
 use Rattle.aud_check.specs.Refusals.{Place, AtTurn, AtWhole, Refuses, RefusesWhole, RefusesFirst, IsAccepted, place_rank, certificate_case}
-use Rattle.aud_check.proofs.Agreed.{mismatch-none}
+use Rattle.aud_check.proofs.Agreed.{difference-none}
 use Rattle.aud_check.proofs.TurnRefusals.{not_refused}
 
 -- a turn is refused by the first four alone
@@ -72,17 +72,17 @@ entry_of stream (frame ∷ before) altered after (is, rest) = entry_of stream be
 pub no_altered : (stream : List StreamRec) (frames : List FrameSeen) (altered : FrameSeen) → AreEntries stream frames → IsFirstAltered stream frames altered → ⊥
 no_altered stream frames altered are is = is.is_altered (entry_of stream is.before altered is.after (subst (AreEntries stream) is.parts are))
 
--- where what was received begins what was due, there is no fault of a mismatch
-pub no_mismatch : (case : Case) → mismatch (positions_in case) case.due ≡ None → (f : Fault) → mismatch_fault case ≡ Some f → ⊥
-no_mismatch case none f h = none-some f (sym (ap (option_map (fault_of case.stream)) none) ∙ h)
+-- where what was received begins what was due, there is no fault of a difference
+pub not_different : (case : Case) → difference (positions_in case) case.due ≡ None → (f : Fault) → difference_fault case ≡ Some f → ⊥
+not_different case none f h = none-some f (sym (ap (option_map (fault_of case.stream)) none) ∙ h)
 
 -- nothing is both there and missing
 pub some_or_none : {A : Type 0} (o : Option A) → o ≡ None → IsSome o → ⊥
 some_or_none o e h = grind arith
 
 module _ (case : Case) (decodes : case.transcript.bad ≡ None) (has_no_orphan : case.transcript.orphan ≡ false) (are_entries : AreEntries case.stream case.frames) where
-  -- where the tap decodes, has no orphan and each frame is its entry, a fault is a mismatch or a window
-  pub what_is_left : (f : Fault) → HasFault case f → ((mismatch_fault case ≡ Some f) × (fault_rank f ≡ 3)) ⊎ ((wrong_window case.stream [] case.stays ≡ None → ⊥) × (fault_rank f ≡ 4))
+  -- where the tap decodes, has no orphan and each frame is its entry, a fault is a difference or a window
+  pub what_is_left : (f : Fault) → HasFault case f → ((difference_fault case ≡ Some f) × (fault_rank f ≡ 3)) ⊎ ((wrong_window case.stream [] case.stays ≡ None → ⊥) × (fault_rank f ≡ 4))
   what_is_left fault.Frame h = absurd (some_or_none case.transcript.bad decodes h)
   what_is_left fault.Orphan h = absurd (true≢false (sym h ∙ has_no_orphan))
   what_is_left (fault.Content off) (altered, first, named) = absurd (no_altered case.stream case.frames altered are_entries first)
@@ -97,7 +97,7 @@ module _ (case : Case) (decodes : case.transcript.bad ≡ None) (has_no_orphan :
 pub no_fault : (case : Case) → IsReceived case → (f : Fault) → HasFault case f → ⊥
 no_fault case is f h =
     elim (what_is_left case is.decodes is.has_no_orphan is.are_entries f h) [
-      | inl found ↦ no_mismatch case ((mismatch-none (positions_in case) case.due).1 is.is_prefix) f found.0
+      | inl found ↦ not_different case ((difference-none (positions_in case) case.due).1 is.is_prefix) f found.0
       | inr found ↦ found.0 is.has_no_window
     ]
 

@@ -5,7 +5,7 @@ use Rattle.std.proofs.lemmas.List.{length-map, take-append-drop}
 use Rattle.aud_tap.specs.declared.records.StreamRec.{StreamRec}
 use Rattle.aud_client.specs.StaySeen.{StaySeen}
 use Rattle.aud_client.specs.Received.{is_recovered}
-use Rattle.aud_check.specs.Private.Ascending.{is_cut_or_not}
+use Rattle.aud_check.specs.Private.Misplaced.{is_cut_or_not}
 use Rattle.aud_check.specs.Frames.{asked_position, frames_in, is_asked_wrongly, wrong_window}
 use Rattle.aud_check.proofs.Cuts.{position_of, is_between-cut}
 use Rattle.aud_check.proofs.Steps.{at_map, take_at, drop_from}

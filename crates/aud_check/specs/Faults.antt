@@ -1,5 +1,5 @@
 -- What is wrong with what a client received of a session, and which fault comes first.
-use Rattle.std.specs.Prelude.{◌≡◌, ℕ, true, false, List, [], map, Option, Some, None, IsSome}
+use Rattle.std.specs.Prelude.{◌≡◌, ◌<◌, ℕ, true, false, List, [], map, Option, Some, None, IsSome}
 use Rattle.std.specs.Option.{option_map}
 use Rattle.aud_tap.specs.declared.records.StreamRec.{StreamRec}
 use Rattle.aud_node.specs.Stream.{Text}
@@ -8,9 +8,9 @@ use Rattle.aud_client.specs.StaySeen.{StaySeen, FrameSeen}
 use Rattle.aud_client.specs.Received.{TranscriptSeen}
 use Rattle.aud_cert.specs.declared.fault.Fault.{Fault}
 use Rattle.aud_cert.specs.declared.fault.Fault.TheVariants.{Frame, Orphan, Content, Extra, Doubled, Swapped, Lost, Window}
-use Rattle.aud_check.specs.declared.compare.Mismatch.{Mismatch}
-use Rattle.aud_check.specs.declared.compare.Mismatch.TheVariants as wrong
-use Rattle.aud_check.specs.Compare.{mismatch}
+use Rattle.aud_check.specs.declared.difference.Difference.{Difference}
+use Rattle.aud_check.specs.declared.difference.Difference.TheVariants as parted
+use Rattle.aud_check.specs.Difference.{difference}
 use Rattle.aud_check.specs.Frames.{AreEntries, IsFirstAltered, offset_at, wrong_window}
 
 -- the stream, what the client's tap tells, the stays that name the session, what was received of it, and what was due
@@ -25,37 +25,37 @@ pub record Case : Type 0 where
 abbrev pub positions_in : Case → List ℕ
 positions_in case = map (λ (frame : FrameSeen). frame.position) case.frames
 
--- the position that a mismatch is about
-abbrev pub position_in : Mismatch → ℕ
-position_in (wrong.Extra p) = p
-position_in (wrong.Doubled p) = p
-position_in (wrong.Swapped p) = p
-position_in (wrong.Lost p) = p
+-- the position that a difference is about
+abbrev pub position_in : Difference → ℕ
+position_in (parted.Extra frame p) = p
+position_in (parted.Doubled first again p) = p
+position_in (parted.Swapped frame p later) = p
+position_in (parted.Lost frame p) = p
 
--- a mismatch as a fault about an offset
-abbrev pub named : Mismatch → Text → Fault
-named (wrong.Extra p) off = Extra off
-named (wrong.Doubled p) off = Doubled off
-named (wrong.Swapped p) off = Swapped off
-named (wrong.Lost p) off = Lost off
+-- a difference as a fault about an offset
+abbrev pub named : Difference → Text → Fault
+named (parted.Extra frame p) off = Extra off
+named (parted.Doubled first again p) off = Doubled off
+named (parted.Swapped frame p later) off = Swapped off
+named (parted.Lost frame p) off = Lost off
 
--- a mismatch as a fault about the offset at its position
-abbrev pub fault_of : List StreamRec → Mismatch → Fault
-fault_of stream mismatch = named mismatch (offset_at stream (position_in mismatch))
+-- a difference as a fault about the offset at its position
+abbrev pub fault_of : List StreamRec → Difference → Fault
+fault_of stream difference = named difference (offset_at stream (position_in difference))
 
 -- the fault of the first place where the received positions aren't those due
-abbrev pub mismatch_fault : Case → Option Fault
-mismatch_fault case = option_map (fault_of case.stream) (mismatch (positions_in case) case.due)
+abbrev pub difference_fault : Case → Option Fault
+difference_fault case = option_map (fault_of case.stream) (difference (positions_in case) case.due)
 
 -- where each fault holds
 abbrev pub HasFault : Case → Fault → Type 0
 HasFault case Frame = IsSome case.transcript.bad
 HasFault case Orphan = case.transcript.orphan ≡ true
 HasFault case (Content off) = (altered : FrameSeen) × IsFirstAltered case.stream case.frames altered × (off ≡ offset_at case.stream altered.position)
-HasFault case (Extra off) = mismatch_fault case ≡ Some (Extra off)
-HasFault case (Doubled off) = mismatch_fault case ≡ Some (Doubled off)
-HasFault case (Swapped off) = mismatch_fault case ≡ Some (Swapped off)
-HasFault case (Lost off) = mismatch_fault case ≡ Some (Lost off)
+HasFault case (Extra off) = difference_fault case ≡ Some (Extra off)
+HasFault case (Doubled off) = difference_fault case ≡ Some (Doubled off)
+HasFault case (Swapped off) = difference_fault case ≡ Some (Swapped off)
+HasFault case (Lost off) = difference_fault case ≡ Some (Lost off)
 HasFault case (Window c) = wrong_window case.stream [] case.stays ≡ Some c
 HasFault case _ = ⊥
 
@@ -79,3 +79,8 @@ fault_rank (Swapped off) = 3
 fault_rank (Lost off) = 3
 fault_rank (Window c) = 4
 fault_rank _ = 5
+
+-- of all faults that hold this is the first
+pub record IsFirstFault (case : Case) (fault : Fault) : Type 0 where
+  pub holds : HasFault case fault
+  pub none_before : (other : Fault) → fault_rank other < fault_rank fault → HasFault case other → ⊥

@@ -1,11 +1,15 @@
 pub use Rattle.aud_merge.specs.ByTurns
 pub use Rattle.aud_cert.specs.Certificate
 pub use Rattle.aud_client.specs.Received
-pub mod Compare
 pub mod Shown
 pub mod NamedStays
 pub mod Frames
+pub mod Difference
+pub mod Parting
+pub mod Content
+pub mod Window
 pub mod Faults
+pub mod Findings
 pub mod TurnRefusals
 pub mod Client
 pub mod Refusals

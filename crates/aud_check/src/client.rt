@@ -1,7 +1,7 @@
 //! The client's tap that a certificate names.
 ghost use Rattle.std.specs.Prelude.{◌≡◌, IfErr, IfOk, OnOk, Some, length, true};
 ghost use Rattle.std.specs.Option.{option_copied};
-ghost use Rattle.aud_check.specs.Private.Ascending.{IsAscending};
+ghost use Rattle.aud_check.specs.Difference.{IsAscending};
 ghost use Rattle.aud_check.specs.Client.{case_for};
 ghost use Rattle.aud_check.specs.Private.ClientCheck.{IsClientRefusal, transcript_named};
 ghost use Rattle.aud_check.specs.Faults.{IsReceived};

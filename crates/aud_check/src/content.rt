@@ -1,61 +1,105 @@
-//! The events that came against the entries of the stream.
-ghost use Rattle.std.specs.Prelude.{◌≡◌, ◌↔◌, IsTrue, MatchOption, map};
+//! The first event that came with another content than its entry's.
+ghost use Rattle.std.specs.Prelude.{◌≡◌, MatchOption, Some, map};
+ghost use Rattle.aud_tap.specs.declared.records.StreamRec.TheVariants.{Ev};
 ghost use Rattle.aud_sio.specs.Message.{blob_bytes};
 ghost use Rattle.aud_sio.specs.Assembly.{blob_view};
-ghost use Rattle.aud_check.specs.Frames.{AreEntries, IsEntry, IsFirstAltered};
+ghost use Rattle.aud_check.specs.Frames.{AreEntries, IsEntry, IsOf};
+ghost use Rattle.aud_node.specs.Stream.{entry};
+ghost use Rattle.aud_check.specs.Content.{IsAltered, IsPartOf};
+ghost use Rattle.aud_check.specs.Parting.{PartAt};
+ghost use Rattle.aud_check.specs.Private.Attachments.{IsAttachmentsPart};
 
+use crate::parting::first_parting;
 use aud_client::Frame;
 use aud_node::Stream;
 use aud_sio::Blob;
-use aud_tap::{Bytes, StreamRec};
+use aud_tap::{Bytes, Event, StreamRec};
 
-/// The first of the frames whose text or attachments are not, byte for byte, those of the entry at its position.
-pub(crate) fn first_altered<'f, 's>(
-    stream: &Stream<'_>,
-    frames: &'f [&'s Frame<'s>],
-) -> Option<&'s Frame<'s>>
+/// A frame that isn't its entry.
+#[derive(Clone, Copy, Debug, PartialEq, Eq, Drop)]
+pub struct Altered {
+    /// The number of the frame, from 0 in the list of all that was received.
+    pub frame: usize,
+    /// The position of its entry in the stream, from 1.
+    pub position: u64,
+    /// What of it isn't the entry's.
+    pub part: Part,
+}
+
+/// The first part of a frame that isn't its entry's. Bytes and attachments count from 0.
+#[derive(Clone, Copy, Debug, PartialEq, Eq, Drop)]
+pub enum Part {
+    /// The stream has no event at the frame's position; which is so of no frame that was read over the same stream.
+    NoEvent,
+    /// The texts part at this byte: they differ there, or one of them ends.
+    Text { at: usize },
+    /// The texts are the same, and the number of attachments isn't.
+    Count,
+    /// All in front of it is the same, and this attachment parts from the entry's at this byte.
+    Attachment { number: usize, at: usize },
+}
+
+/// The first of the frames whose text or attachments are not, byte for byte, those of the entry at its position; none
+/// where each frame is its entry.
+pub fn first_altered(stream: &Stream<'_>, frames: &[&Frame<'_>]) -> Option<Altered>
     ensures { MatchOption result (AreEntries stream.now (map (λ frame. frame.now) frames.now))
-        (λ altered. IsFirstAltered stream.now (map (λ frame. frame.now) frames.now) altered.now) }
+        (IsAltered stream.now (map (λ frame. frame.now) frames.now)) }
 {
-    for frame in frames {
-        let frame: &'s Frame<'s> = *frame;
-        if !is_entry(stream, frame) {
-            return Some(frame);
+    for (number, frame) in frames.iter().enumerate() {
+        let frame: &Frame<'_> = *frame;
+        if let Some(part) = part_of(stream, frame) {
+            return Some(Altered {
+                frame: number,
+                position: frame.position,
+                part,
+            });
         }
     }
     None
 }
 
-/// Whether the frame's text and attachments are those of the entry at its position.
-fn is_entry(stream: &Stream<'_>, frame: &Frame<'_>) -> bool
-    ensures { IsTrue result ↔ IsEntry stream.now frame.now }
+/// The part of the frame that isn't that of the entry at its position; none where it is that entry.
+fn part_of(stream: &Stream<'_>, frame: &Frame<'_>) -> Option<Part>
+    ensures { MatchOption result (IsEntry stream.now frame.now) (IsPartOf frame.now
+        (entry stream.now frame.now.position)) }
 {
     match stream.entry(frame.position) {
-        Some(StreamRec::Ev(event)) => {
-            frame.text == event.text.as_str() && are_blobs(&frame.bin, event.bin.as_slice())
-        }
-        _ => false,
+        Some(StreamRec::Ev(event)) => part_of_event(frame, event),
+        _ => Some(Part::NoEvent),
     }
 }
 
-/// Whether the attachments are these bytes.
-fn are_blobs(blobs: &[Blob<'_>], bytes: &[Bytes]) -> bool
-    ensures { IsTrue result ↔ (map blob_bytes (map blob_view blobs.now) ≡ bytes.now) }
+/// The same of the event there.
+fn part_of_event(frame: &Frame<'_>, event: &Event) -> Option<Part>
+    ensures { MatchOption result (IsOf frame.now (Some (Ev event.now))) (IsPartOf frame.now
+        (Some (Ev event.now))) }
+{
+    match first_parting(frame.text.as_bytes(), event.text.as_str().as_bytes()) {
+        Some(at) => Some(Part::Text { at }),
+        None => part_of_attachments(&frame.bin, event.bin.as_slice()),
+    }
+}
+
+/// The part of these attachments that isn't of the entry's.
+fn part_of_attachments(blobs: &[Blob<'_>], bytes: &[Bytes]) -> Option<Part>
+    ensures { MatchOption result (map blob_bytes (map blob_view blobs.now) ≡ bytes.now)
+        (IsAttachmentsPart (map blob_bytes (map blob_view blobs.now)) bytes.now) }
 {
     if blobs.len() != bytes.len() {
-        return false;
+        return Some(Part::Count);
     }
-    for (i, blob) in blobs.iter().enumerate() {
-        if !is_blob(blob, &bytes[i]) {
-            return false;
+    for (number, blob) in blobs.iter().enumerate() {
+        if let Some(at) = parting_of(blob, &bytes[number]) {
+            return Some(Part::Attachment { number, at });
         }
     }
-    true
+    None
 }
 
-/// Whether the attachment is these bytes.
-fn is_blob(blob: &Blob<'_>, bytes: &Bytes) -> bool
-    ensures { IsTrue result ↔ (blob_bytes (blob_view blob.now) ≡ bytes.now) }
+/// Where the attachment parts from these bytes.
+fn parting_of(blob: &Blob<'_>, bytes: &Bytes) -> Option<usize>
+    ensures { MatchOption result (blob_bytes (blob_view blob.now) ≡ bytes.now)
+        (PartAt (blob_bytes (blob_view blob.now)) bytes.now) }
 {
-    blob.as_slice() == bytes.as_slice()
+    first_parting(blob.as_slice(), bytes.as_slice())
 }

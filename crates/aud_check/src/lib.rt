@@ -21,9 +21,11 @@
 
 mod certificate;
 mod client;
-mod compare;
 mod content;
+mod difference;
 mod due;
+mod finding;
+mod parting;
 mod place;
 mod received;
 mod refusal;
@@ -36,5 +38,10 @@ mod window;
 mod words;
 
 pub use certificate::{Accepted, check, check_delivery};
+pub use content::{Altered, Part, first_altered};
+pub use difference::{Difference, first_difference};
+pub use finding::{Finding, fault_shown, first_finding};
+pub use parting::first_parting;
 pub use refusal::Refusal;
 pub use stays::frames_in;
+pub use window::{BadWindow, Misfit, first_bad_window};

@@ -1,4 +1,7 @@
 //! Why nothing was explained.
+ghost use Rattle.std.specs.Prelude.{◌≡◌};
+ghost use Rattle.aud_explain_app.specs.declared.fault.Unexplained.TheVariants.{Memory};
+
 use std::alloc::{AllocError, AllocFailed};
 
 /// Why there is no output, or after `Write` the front of one.
@@ -26,9 +29,6 @@ pub enum Unexplained {
 }
 
 impl From<AllocError> for Unexplained {
-    ghost use Rattle.std.specs.Prelude.{◌≡◌};
-    ghost use Rattle.aud_explain_app.specs.declared.fault.Unexplained.TheVariants.{Memory};
-
     ghost from_gives = { λ _ e. e ≡ Memory };
 
     fn from(_: AllocError) -> Unexplained {
@@ -37,9 +37,6 @@ impl From<AllocError> for Unexplained {
 }
 
 impl<T: Drop> From<AllocFailed<T>> for Unexplained {
-    ghost use Rattle.std.specs.Prelude.{◌≡◌};
-    ghost use Rattle.aud_explain_app.specs.declared.fault.Unexplained.TheVariants.{Memory};
-
     ghost from_gives = { λ _ e. e ≡ Memory };
 
     fn from(_: AllocFailed<T>) -> Unexplained {

@@ -21,11 +21,11 @@ form_text Json e = explanation_json e ++ codes "\n"
 pub record IsOf (pid : Text) (verdict : Verdict) (told : Explained) (e : Explanation) : Type 0 where
   pub pid_is : e.pid.now ≡ pid
   pub verdict_is : e.verdict.now ≡ verdict
-  pub client_is : e.client ≡ told.finding.client
-  pub account_is : e.account ≡ told.finding.account
+  pub client_is : e.client ≡ told.outcome.client
+  pub account_is : e.account ≡ told.outcome.account
   pub turns_are : e.turns.now ≡ told.turns.items
-  pub evidence_is : e.evidence.now ≡ told.finding.evidence.items
-  pub also_are : map also_told e.also.now ≡ map also_seen told.finding.also.items
+  pub evidence_is : e.evidence.now ≡ told.outcome.evidence.items
+  pub also_are : map also_told e.also.now ≡ map also_seen told.outcome.also.items
   pub refused_are : map recovery_told e.refused.now ≡ recoveries_shown told.refused.items
   pub events_are : e.events.now ≡ told.events.items
   pub causes_are : map cause_told e.causes.now ≡ map cause_seen told.causes.items ++ causes_of_refusals told.refused.items

@@ -5,7 +5,6 @@ ghost use Rattle.aud_client.specs.Replies.{naming_places};
 ghost use Rattle.aud_findings.specs.ClientShown.{only_of};
 ghost use Rattle.aud_rows.specs.ClientPlaces.{AreOf};
 ghost use Rattle.aud_recording_faults.specs.Prepared.{IsPreparedOf};
-ghost use Rattle.aud_account.specs.Account.{IsAccount};
 ghost use Rattle.aud_explained.specs.Events.{place_of};
 ghost use Rattle.aud_explained.specs.Explained.{IsExplained};
 
@@ -16,7 +15,7 @@ use crate::turns::turns_of;
 use aud_account::account_of;
 use aud_causes::{CauseFound, causes_of};
 use aud_explanation::{ClientEvent, TurnShown};
-use aud_findings::{Finding, finding_of};
+use aud_findings::{Outcome, outcome_of};
 use aud_recording_faults::Prepared;
 use aud_recoveries::Recovery;
 use aud_rows::{ClientPlaces, Sheet};
@@ -28,7 +27,7 @@ use std::alloc::{AllocError, Global};
 pub struct Explained<'r> {
     /// The rows that show the fault, the client, what was received of what was due, and other entries with the same
     /// fault.
-    pub finding: Finding<'r>,
+    pub outcome: Outcome<'r>,
     /// The turns, from turn 0 on.
     pub turns: Vec<TurnShown<'r>>,
     /// The recoveries of the session that were refused.
@@ -86,14 +85,14 @@ fn explained_by<'r, 'a>(
 {
     let account = account_of(alloc, sheet.recording, pid)?;
     let account = account.as_ref();
-    let finding = finding_of(alloc, sheet, prepared, pid, verdict, account)?;
+    let outcome = outcome_of(alloc, sheet, prepared, pid, verdict, account)?;
     let turns = turns_of(alloc, &sheet, pid, account)?;
     let noted = noted_of(alloc, sheet.recording, prepared, pid, verdict, account)?;
     let causes = causes_of(alloc, sheet, tap, pid, verdict, account, &noted)?;
     let events = events_of(alloc, &sheet, tap, pid, refused)?;
     let refused = all_refused(alloc, &sheet, prepared, refused)?;
     Ok(Explained {
-        finding,
+        outcome,
         turns,
         refused,
         events,

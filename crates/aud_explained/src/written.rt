@@ -71,7 +71,7 @@ pub fn push_explained(
     ensures { OnOk result (Adds form pid.now verdict.now explained.now (string_bytes out.old)
         (string_bytes out.new)) }
 {
-    let also = also_lent(alloc, explained.finding.also.as_slice())?;
+    let also = also_lent(alloc, explained.outcome.also.as_slice())?;
     let refused = refused_lent(alloc, explained.refused.as_slice())?;
     let causes = causes_lent(
         alloc,
@@ -81,10 +81,10 @@ pub fn push_explained(
     let explanation = Explanation {
         pid,
         verdict,
-        client: explained.finding.client,
-        account: explained.finding.account,
+        client: explained.outcome.client,
+        account: explained.outcome.account,
         turns: explained.turns.as_slice(),
-        evidence: explained.finding.evidence.as_slice(),
+        evidence: explained.outcome.evidence.as_slice(),
         also: also.as_slice(),
         refused: refused.as_slice(),
         events: explained.events.as_slice(),

@@ -1,5 +1,6 @@
 -- What is told of a session by its account: its other entries, and its tail.
-use Rattle.std.proofs.Common.{◌≡◌, ℕ, List, [], ◌∷◌, map, length, drop, take, slice_get, Option, refl, sym, ap, subst, ◌∙◌, inl, inr}
+use Rattle.std.proofs.Common.{◌≡◌, ◌<◌, ℕ, List, [], ◌∷◌, map, length, drop, take, slice_get, Option, Some, None, refl, sym, ap, subst, ◌∙◌, inl, inr}
+use Rattle.std.proofs.lemmas.Option.{none-some, same_Some, slice_get_within}
 use Rattle.aud_node.specs.Cluster.{Cluster}
 use Rattle.aud_node.specs.Names.{AreNamedOnce}
 use Rattle.aud_node.specs.Stream.{Text}
@@ -8,19 +9,56 @@ use Rattle.aud_cert.specs.Certificate.{CertificateSeen, TurnSeen, turn_at}
 use Rattle.aud_maker.specs.Made.{IsMade}
 use Rattle.aud_maker.proofs.BegunLemmas.{one_chain}
 use Rattle.aud_maker.proofs.Over.{turns-there}
-use Rattle.aud_merge.specs.ByTurns.{IsPrefixOf}
-use Rattle.aud_account.specs.Account.{IsAccount}
-use Rattle.aud_evidence.specs.declared.difference.Difference.{Difference}
-use Rattle.aud_evidence.specs.Difference.{IsAscending, IsDifference}
-use Rattle.aud_evidence.specs.Window.{positions_received}
+use Rattle.aud_account.specs.declared.account.Account.{Account}
+use Rattle.aud_account.specs.Account.{IsAccount, IsAccountOf, IsFound, difference_found, stays_of}
+use Rattle.aud_check.specs.declared.difference.Difference.{Difference}
+use Rattle.aud_check.specs.declared.difference.Difference.TheVariants as parted
+use Rattle.aud_check.specs.declared.finding.Finding.{Finding}
+use Rattle.aud_check.specs.declared.finding.Finding.TheVariants as finding
+use Rattle.aud_check.specs.Difference.{IsDifference}
+use Rattle.aud_check.specs.Window.{positions_received}
 use Rattle.aud_input.specs.TapLines.{TapLines}
 use Rattle.aud_rows.specs.Seen.{RowSeen}
 use Rattle.aud_shown.specs.ShowsDifference.{AreNumbersOf}
 use Rattle.aud_verdict.specs.Session.{own_stays, due_to}
 use Rattle.aud_findings.specs.Also.{AlsoSeen, AreAlso, AreTailAlso, also_at, entry_also, others, tail_others}
-use Rattle.aud_findings.specs.Received.{tail_positions}
+use Rattle.aud_findings.specs.Received.{frame_of, tail_positions}
 use Rattle.aud_findings.specs.Tail.{ShowsTail, tail_rows}
-use Rattle.aud_findings.proofs.Due.{due_ascends}
+use Rattle.aud_findings.specs.Private.Known.{IsWithin}
+
+-- what was found of the account is what is found of its session
+pub own_found : (c : Cluster) (pid : Text) (a : Account) (of : IsAccountOf c pid a) → IsFound c of.is.session.client (own_stays c of.is.session) (due_to c of.is.session) a.found
+own_found c pid a of = subst (λ found_by. found_by) (λ i. IsFound c (of.is.client_is i) (of.is.stays_are i) (of.is.due_is i) a.found) of.found
+
+-- where no difference was found there are no others
+pub none_also : (c : Cluster) (lines : List TapLines) (pid : Text) (a : Account) → IsAccountOf c pid a → difference_found a.found ≡ None → AreAlso c lines pid []
+none_also c lines pid a of none = record { session = of.is.session; is_session = of.is.is_session; are = inr ((a.found, own_found c pid a of, none), refl) }
+
+-- the difference that was found is one
+pub is_found_so : (c : Cluster) (pid : Text) (a : Account) → IsAccountOf c pid a → (d : Difference) → difference_found a.found ≡ Some d → IsDifference (positions_received (stays_of a)) a.due.items d
+is_found_so c pid a of d e = go a.found refl of.found e
+  where
+    go : (o : Option Finding) → a.found ≡ o → IsFound c a.client (stays_of a) a.due.items o → difference_found o ≡ Some d → IsDifference (positions_received (stays_of a)) a.due.items d
+    go (Some (finding.Delivery other)) is first e = subst (IsDifference (positions_received (stays_of a)) a.due.items) (same_Some other d e) first.shown
+    go (Some finding.Frame) is first e = absurd (none-some d e)
+    go (Some finding.Orphan) is first e = absurd (none-some d e)
+    go (Some (finding.Content altered)) is first e = absurd (none-some d e)
+    go (Some (finding.Window window)) is first e = absurd (none-some d e)
+    go None is first e = absurd (none-some d e)
+
+-- it shows at a frame that was received
+shows_within : (received due : List ℕ) (d : Difference) → IsDifference received due d → frame_of d < length received
+shows_within received due (parted.Extra frame p) is = slice_get_within received frame p is.is_there
+shows_within received due (parted.Doubled first again p) is = slice_get_within received again p is.again_is
+shows_within received due (parted.Swapped frame p later) is = slice_get_within received frame is.other is.other_is
+shows_within received due (parted.Lost frame p) is = slice_get_within received frame is.other is.other_is
+
+pub found_within : (c : Cluster) (pid : Text) (a : Account) → IsAccountOf c pid a → IsWithin (length (positions_received (stays_of a))) (difference_found a.found)
+found_within c pid a of = go (difference_found a.found) refl
+  where
+    go : (o : Option Difference) → difference_found a.found ≡ o → IsWithin (length (positions_received (stays_of a))) o
+    go None e = tt
+    go (Some d) e = shows_within (positions_received (stays_of a)) a.due.items d (is_found_so c pid a of d e)
 
 -- the entries after the first one of a hundred and one
 pub after-first : (positions : List ℕ) → drop 1 (take 101 positions) ≡ take 100 (drop 1 positions)
@@ -40,17 +78,8 @@ module _ (c : Cluster) (lines : List TapLines) (pid : Text) (client : ℕ) (stay
   owes : owed ≡ due_to c account.session
   owes = owed_is ∙ account.due_is
 
-  -- there is no difference
-  pub none_also : IsPrefixOf received owed → AreAlso c lines pid []
-  none_also prefix =
-      record {
-        session = account.session;
-        is_session = account.is_session;
-        are = inr (subst (λ rs. IsPrefixOf rs (due_to c account.session)) recv (subst (λ ds. IsPrefixOf received ds) owes prefix), refl);
-      }
-
   -- these are those of the difference
-  pub some_also : (difference : Difference) → (IsAscending owed → IsDifference received owed difference) → (place : ℕ) (numbers : List ℕ) → place ≡ client
+  pub some_also : (difference : Difference) → IsDifference (positions_received stays) due difference → (place : ℕ) (numbers : List ℕ) → place ≡ client
       → AreNumbersOf c pid place numbers → (also : List AlsoSeen) → also ≡ map (also_at c lines place numbers received difference) (others received owed difference)
       → AreAlso c lines pid also
   some_also difference is place numbers at are also those =
@@ -62,8 +91,7 @@ module _ (c : Cluster) (lines : List TapLines) (pid : Text) (client : ℕ) (stay
         are = inl (record {
           difference = difference;
           is_difference =
-              subst (λ rs. IsDifference rs (due_to c s) difference) recv (subst (λ ds. IsDifference received ds difference) owes
-              (is (subst IsAscending (sym owes) (due_ascends c s))));
+              subst (λ ss. IsDifference (positions_received ss) (due_to c s) difference) account.stays_are (subst (λ ds. IsDifference (positions_received stays) ds difference) account.due_is is);
           numbers = numbers;
           are_its_stays = subst (λ p. AreNumbersOf c pid p numbers) there are;
           are = those ∙ (λ i. map (also_at c lines (there i) numbers (recv i) difference) (others (recv i) (owes i) difference));

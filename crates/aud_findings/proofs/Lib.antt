@@ -1,5 +1,4 @@
 pub mod Numbers
-pub mod Due
 pub mod Shown
 pub mod ByAccount
 pub mod Counts

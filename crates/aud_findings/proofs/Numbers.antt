@@ -1,5 +1,5 @@
 -- The first of numbers that passes.
-use Rattle.std.proofs.Common.{◌≡◌, ◌<◌, ◌≤◌, ◌+◌, ◌-◌, ℕ, suc, Bool, true, false, cond, Option, Some, None, find, refl, sym, ap, ◌∙◌, arith, add-one}
+use Rattle.std.proofs.Common.{◌≡◌, ◌<◌, ◌≤◌, ◌+◌, ◌-◌, ℕ, suc, Bool, true, false, cond, Some, None, find, sym, ap, ◌∙◌, arith, add-one}
 use Rattle.aud_node.specs.Lists.{numbers_from}
 
 module _ (test : ℕ → Bool) (n end : ℕ) where

@@ -1,17 +1,19 @@
 -- Other entries of a session with the same fault.
-use Rattle.std.specs.Prelude.{◌≡◌, ◌⊎◌, ◌++◌, ◌&&◌, ◌||◌, not, ℕ, suc, Bool, true, false, List, [], ◌∷◌, map, take, drop, count_by, nat_eq, nat_lt, option_to_list, Option, if◌then◌else◌}
+use Rattle.std.specs.Prelude.{◌≡◌, ◌⊎◌, ◌++◌, ◌&&◌, ◌||◌, not, ℕ, suc, Bool, true, false, List, [], ◌∷◌, map, take, drop, count_by, nat_eq, nat_lt, option_to_list, Option, None, if◌then◌else◌}
 use Rattle.std.specs.List.{filter}
 use Rattle.std.specs.Option.{option_map, option_and_then}
 use Rattle.aud_node.specs.Cluster.{Cluster}
 use Rattle.aud_node.specs.Stream.{Text}
 use Rattle.aud_cert.specs.declared.fault.Fault.TheVariants.{Tail}
-use Rattle.aud_evidence.specs.declared.difference.Difference.{Difference}
-use Rattle.aud_evidence.specs.declared.difference.Difference.TheVariants.{Doubled, Lost}
-use Rattle.aud_evidence.specs.Difference.{IsDifference}
-use Rattle.aud_evidence.specs.Window.{positions_received}
+use Rattle.aud_check.specs.declared.difference.Difference.{Difference}
+use Rattle.aud_check.specs.declared.difference.Difference.TheVariants.{Doubled, Lost}
+use Rattle.aud_check.specs.declared.finding.Finding.{Finding}
+use Rattle.aud_check.specs.Difference.{IsDifference}
+use Rattle.aud_account.specs.Account.{IsFound, difference_found}
+use Rattle.aud_check.specs.Window.{positions_received}
 use Rattle.aud_input.specs.TapLines.{TapLines}
 use Rattle.aud_verdict.specs.declared.verdict.Verdict.{Verdict}
-use Rattle.aud_verdict.specs.declared.verdict.Verdict.TheVariants.{Yes, No}
+use Rattle.aud_verdict.specs.declared.verdict.Verdict.TheVariants.{No}
 use Rattle.aud_rows.specs.declared.row.Role.{Role}
 use Rattle.aud_rows.specs.declared.row.Role.TheVariants.{Entry, Later}
 use Rattle.aud_rows.specs.Rows.{stream_row}
@@ -21,9 +23,8 @@ use Rattle.aud_shown.specs.declared.frame_place.FramePlace.{FramePlace}
 use Rattle.aud_shown.specs.FramePlaces.{frame_at}
 use Rattle.aud_shown.specs.ShowsDifference.{AreNumbersOf}
 use Rattle.aud_verdict.specs.Session.{SessionLogs, IsSession, own_stays, due_to}
-use Rattle.aud_findings.specs.declared.finding.AlsoShown.{AlsoShown}
+use Rattle.aud_findings.specs.declared.outcome.AlsoShown.{AlsoShown}
 use Rattle.aud_findings.specs.Received.{greatest, is_parted, tail_positions}
-use Rattle.aud_findings.specs.ShowsDelivery.{AreDueFirst}
 
 -- ---- which entries
 
@@ -105,11 +106,15 @@ pub record AreOthers (c : Cluster) (lines : List TapLines) (pid : Text) (s : Ses
       ≡ map (also_at c lines s.client numbers (positions_received (own_stays c s)) difference)
       (others (positions_received (own_stays c s)) (due_to c s) difference)
 
--- these are those of the session with this pid; none where what was received doesn't part from what was due
+-- that what was received parts from what was due isn't what is wrong first
+abbrev pub IsNotParted : Cluster → SessionLogs → Type 0
+IsNotParted c s = (found : Option Finding) × IsFound c s.client (own_stays c s) (due_to c s) found × (difference_found found ≡ None)
+
+-- these are those of the session with this pid; none where it doesn't part
 pub record AreAlso (c : Cluster) (lines : List TapLines) (pid : Text) (also : List AlsoSeen) : Type 0 where
   pub session : SessionLogs
   pub is_session : IsSession c pid session
-  pub are : AreOthers c lines pid session also ⊎ (AreDueFirst c session × (also ≡ []))
+  pub are : AreOthers c lines pid session also ⊎ (IsNotParted c session × (also ≡ []))
 
 -- ---- of a tail
 

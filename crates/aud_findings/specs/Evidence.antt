@@ -8,19 +8,13 @@ use Rattle.aud_client.specs.Replies.{naming_places}
 use Rattle.aud_client.specs.StaySeen.{StaySeen}
 use Rattle.aud_rooms.specs.Turns.{HasNoTurn}
 use Rattle.aud_cert.specs.declared.fault.Fault.{Fault}
-use Rattle.aud_cert.specs.declared.fault.Fault.TheVariants.{NoLog, Chain, Order, Client, Names, Frame, Orphan, Content, Extra, Doubled, Swapped, Lost, Window, Tail}
+use Rattle.aud_cert.specs.declared.fault.Fault.TheVariants.{NoLog, Chain, Order, Client, Names, Frame, Orphan, Tail}
 use Rattle.aud_chain.specs.Misfit.{HasChain}
-use Rattle.aud_check.specs.Frames.{AreEntries, frames_in, wrong_window}
-use Rattle.aud_evidence.specs.Difference.{IsAscending}
-use Rattle.aud_evidence.specs.Window.{positions_received}
 use Rattle.aud_input.specs.TapLines.{TapLines}
-use Rattle.aud_merge.specs.ByTurns.{IsPrefixOf}
 use Rattle.aud_verdict.specs.declared.verdict.Verdict.{Verdict}
 use Rattle.aud_verdict.specs.declared.verdict.Verdict.TheVariants.{Yes, No}
 use Rattle.aud_rows.specs.Seen.{RowSeen}
 use Rattle.aud_rows.specs.StayRows.{stays_at}
-use Rattle.aud_shown.specs.ShowsAltered.{ShowsAltered}
-use Rattle.aud_shown.specs.ShowsWindow.{ShowsWindow}
 use Rattle.aud_verdict.specs.Session.{SessionLogs, IsSession, own_stays, due_to}
 use Rattle.aud_recording_faults.specs.ShowsChain.{ShowsChain}
 use Rattle.aud_recording_faults.specs.ShowsClient.{ShowsClient}
@@ -29,7 +23,7 @@ use Rattle.aud_recording_faults.specs.ShowsNames.{ShowsNames, AreNamedAlike}
 use Rattle.aud_recording_faults.specs.ShowsNoLog.{ShowsNoLog}
 use Rattle.aud_recording_faults.specs.ShowsOrder.{ShowsOrder, AreOrdered}
 use Rattle.aud_recording_faults.specs.ShowsOrphan.{ShowsOrphan}
-use Rattle.aud_findings.specs.ShowsDelivery.{ShowsDelivery}
+use Rattle.aud_findings.specs.ShowsFound.{IsFoundOtherwise, ShowsFound}
 use Rattle.aud_findings.specs.Tail.{ShowsTail}
 
 -- the rows show something, or there is nothing to show, and there are none
@@ -38,43 +32,30 @@ ShowsOr Shows nothing rows = Shows rows ⊎ (nothing × (rows ≡ []))
 
 -- ---- a fault of what the client's tap tells of the session
 
--- the rows show it, where the client's tap is that at this place, and the session's stays there are these: a reply that
--- names the session otherwise than its `open`, a record that is no packet, an event of which nobody knows the session,
--- one that came with another content than its entry's, where what was received parts from what was due, a recovery that
--- was asked for where it doesn't fit, if the positions received ascend, and the tail
-abbrev pub ShowsTold : Cluster → List TapLines → Text → ℕ → List StaySeen → Fault → List RowSeen → Type 0
-ShowsTold c lines pid place stays Names rows = ShowsNames c lines pid place rows
-ShowsTold c lines pid place stays Frame rows = ShowsFrame c lines place rows
-ShowsTold c lines pid place stays Orphan rows = ShowsOrphan c lines place rows
-ShowsTold c lines pid place stays (Content off) rows = ShowsAltered c lines pid rows
-ShowsTold c lines pid place stays (Extra off) rows = ShowsDelivery c lines pid rows
-ShowsTold c lines pid place stays (Doubled off) rows = ShowsDelivery c lines pid rows
-ShowsTold c lines pid place stays (Swapped off) rows = ShowsDelivery c lines pid rows
-ShowsTold c lines pid place stays (Lost off) rows = ShowsDelivery c lines pid rows
-ShowsTold c lines pid place stays (Window conn) rows = IsAscending (positions_received stays) → ShowsWindow c lines pid rows
-ShowsTold c lines pid place stays (Tail count) rows = ShowsTail c lines pid rows
-ShowsTold c lines pid place stays _ rows = ⊥
+-- the rows show it, where the client's tap is that at this place: a reply that names the session otherwise than its
+-- `open`, a record that is no packet, an event of which nobody knows the session, what was found wrong with what was
+-- received, and the tail
+abbrev pub ShowsTold : Cluster → List TapLines → Text → ℕ → Fault → List RowSeen → Type 0
+ShowsTold c lines pid place Names rows = ShowsNames c lines pid place rows
+ShowsTold c lines pid place Frame rows = ShowsFrame c lines place rows
+ShowsTold c lines pid place Orphan rows = ShowsOrphan c lines place rows
+ShowsTold c lines pid place (Tail count) rows = ShowsTail c lines pid rows
+ShowsTold c lines pid place fault rows = ShowsFound c lines pid fault rows
 
--- the tap tells of no such fault, where these positions were due; of a tail there is always something to show, if only
--- no rows
+-- the tap tells of no such fault, where these are the session's stays there, and these positions were due; of a tail
+-- there is always something to show, if only no rows
 abbrev pub TellsNone : Cluster → Text → ℕ → List StaySeen → List ℕ → Fault → Type 0
 TellsNone c pid place stays due Names = AreNamedAlike c pid place
 TellsNone c pid place stays due Frame = bad_number c place ≡ None
 TellsNone c pid place stays due Orphan = first_index is_orphan (stays_at c place) ≡ None
-TellsNone c pid place stays due (Content off) = AreEntries c.stream (frames_in stays)
-TellsNone c pid place stays due (Extra off) = IsPrefixOf (positions_received stays) due
-TellsNone c pid place stays due (Doubled off) = IsPrefixOf (positions_received stays) due
-TellsNone c pid place stays due (Swapped off) = IsPrefixOf (positions_received stays) due
-TellsNone c pid place stays due (Lost off) = IsPrefixOf (positions_received stays) due
-TellsNone c pid place stays due (Window conn) = IsAscending (positions_received stays) → wrong_window c.stream [] stays ≡ None
 TellsNone c pid place stays due (Tail count) = ⊥
-TellsNone c pid place stays due _ = Unit {0}
+TellsNone c pid place stays due fault = IsFoundOtherwise c place stays due fault
 
 -- so it is of the client of the session with this pid
 pub record IsOfSession (c : Cluster) (lines : List TapLines) (pid : Text) (fault : Fault) (rows : List RowSeen) : Type 0 where
   pub session : SessionLogs
   pub is_session : IsSession c pid session
-  pub is_shown : ShowsOr (ShowsTold c lines pid session.client (own_stays c session) fault)
+  pub is_shown : ShowsOr (ShowsTold c lines pid session.client fault)
       (TellsNone c pid session.client (own_stays c session) (due_to c session) fault) rows
 
 -- ---- all faults

@@ -6,7 +6,7 @@ pub use Rattle.aud_recording_faults.specs.Prepared
 pub mod Behind
 pub mod RoomChanges
 pub mod BesideRows
-pub mod ShowsDelivery
+pub mod ShowsFound
 pub mod Received
 pub mod Also
 pub mod Tail

@@ -1,19 +1,18 @@
 -- What was received of what was due.
-use Rattle.std.specs.Prelude.{◌≡◌, ◌+◌, ◌&&◌, ℕ, Bool, true, false, List, [], ◌∷◌, length, max, count_by, nat_lt, Option, Some, None, MatchOption}
+use Rattle.std.specs.Prelude.{◌≡◌, ◌+◌, ◌&&◌, ℕ, Bool, true, false, List, [], ◌∷◌, length, max, count_by, nat_lt, Option, MatchOption}
 use Rattle.std.specs.List.{filter}
+use Rattle.std.specs.Option.{option_map}
 use Rattle.aud_node.specs.Cluster.{Cluster}
 use Rattle.aud_node.specs.Stream.{Text}
-use Rattle.aud_cert.specs.declared.fault.Fault.{Fault}
-use Rattle.aud_cert.specs.declared.fault.Fault.TheVariants.{Extra, Doubled, Swapped, Lost}
+use Rattle.aud_account.specs.Account.{IsFound, difference_found, is_parting}
 use Rattle.aud_cert.specs.declared.class.Class.{Class}
 use Rattle.aud_cert.specs.declared.class.Class.TheVariants.{Delivery}
 use Rattle.aud_cert.specs.Class.{class_of}
-use Rattle.aud_evidence.specs.declared.difference.Difference.{Difference}
-use Rattle.aud_evidence.specs.declared.difference.Difference.TheVariants as difference
-use Rattle.aud_evidence.specs.Difference.{IsDifference}
-use Rattle.aud_evidence.specs.Window.{positions_received}
+use Rattle.aud_check.specs.declared.difference.Difference.{Difference}
+use Rattle.aud_check.specs.declared.difference.Difference.TheVariants as difference
+use Rattle.aud_check.specs.declared.finding.Finding.{Finding}
+use Rattle.aud_check.specs.Window.{positions_received}
 use Rattle.aud_explanation.specs.declared.client.Account.{Account}
-use Rattle.aud_merge.specs.ByTurns.{IsPrefixOf}
 use Rattle.aud_verdict.specs.declared.verdict.Verdict.{Verdict}
 use Rattle.aud_verdict.specs.declared.verdict.Verdict.TheVariants.{Yes, No}
 use Rattle.aud_verdict.specs.Session.{SessionLogs, IsSession, own_stays, due_to}
@@ -30,14 +29,7 @@ abbrev pub is_judged : Verdict → Bool
 is_judged (Yes got tail turns) = true
 is_judged (No fault) = is_delivery (class_of fault)
 
--- the fault is that what was received parts from what was due
-abbrev pub is_parting : Fault → Bool
-is_parting (Extra off) = true
-is_parting (Doubled off) = true
-is_parting (Swapped off) = true
-is_parting (Lost off) = true
-is_parting _ = false
-
+-- the verdict is that what was received parts from what was due
 abbrev pub is_parted : Verdict → Bool
 is_parted (Yes got tail turns) = false
 is_parted (No fault) = is_parting fault
@@ -64,30 +56,25 @@ frame_of (difference.Doubled first again position) = again
 frame_of (difference.Swapped frame due later) = frame
 frame_of (difference.Lost frame due) = frame
 
--- it is the frame, which counts from 1, at which these positions received part from those due
-pub record IsDifferenceFrame (received due : List ℕ) (at_frame : ℕ) : Type 0 where
-  pub found : Difference
-  pub is_difference : IsDifference received due found
-  pub at_is : at_frame ≡ frame_of found + 1
+-- the frame, which counts from 1, at which the difference shows, if there is one
+abbrev pub at_frame : Option Difference → Option ℕ
+at_frame difference = option_map (λ d. frame_of d + 1) difference
 
--- it is the frame, which counts from 1, at which the difference shows, if there is one, where the verdict is about that
-abbrev pub IsAtFrame : List ℕ → List ℕ → Bool → Option ℕ → Type 0
-IsAtFrame received due true at_frame = MatchOption at_frame (IsPrefixOf received due) (IsDifferenceFrame received due)
-IsAtFrame received due false at_frame = at_frame ≡ None
-
--- these are the figures of what was received and what was due
-pub record AreFigures (received due : List ℕ) (verdict : Verdict) (figures : Account) : Type 0 where
+-- these are the figures of what was received and what was due, of which this is the difference, if there is one
+pub record AreFigures (received due : List ℕ) (difference : Option Difference) (figures : Account) : Type 0 where
   pub got_is : figures.got ≡ length received
   pub due_is : figures.due ≡ length due
   pub tail_is : figures.tail ≡ tail_of received due
-  pub at_is : IsAtFrame received due (is_parted verdict) figures.at_frame
+  pub at_is : figures.at_frame ≡ at_frame difference
 
 -- these are those of the session with this pid
-pub record AreFiguresOf (c : Cluster) (pid : Text) (verdict : Verdict) (figures : Account) : Type 0 where
+pub record AreFiguresOf (c : Cluster) (pid : Text) (figures : Account) : Type 0 where
   pub session : SessionLogs
   pub is_session : IsSession c pid session
-  pub are_figures : AreFigures (positions_received (own_stays c session)) (due_to c session) verdict figures
+  pub found : Option Finding
+  pub is_found : IsFound c session.client (own_stays c session) (due_to c session) found
+  pub are_figures : AreFigures (positions_received (own_stays c session)) (due_to c session) (difference_found found) figures
 
 -- what is told of it: nothing, where its turns and its client aren't known, or the delivery was not judged
 abbrev pub IsReceivedShown : Cluster → Text → Bool → Verdict → Option Account → Type 0
-IsReceivedShown c pid known verdict figures = MatchOption figures ((known && is_judged verdict) ≡ false) (AreFiguresOf c pid verdict)
+IsReceivedShown c pid known verdict figures = MatchOption figures ((known && is_judged verdict) ≡ false) (AreFiguresOf c pid)

@@ -4,7 +4,7 @@ use Rattle.std.specs.Option.{option_and_then}
 use Rattle.aud_node.specs.Cluster.{Cluster}
 use Rattle.aud_node.specs.Stream.{Text}
 use Rattle.aud_rooms.specs.Turns.{Turn}
-use Rattle.aud_evidence.specs.Window.{positions_received}
+use Rattle.aud_check.specs.Window.{positions_received}
 use Rattle.aud_input.specs.TapLines.{TapLines}
 use Rattle.aud_reach.specs.declared.reach.Reach.{Reach}
 use Rattle.aud_rows.specs.declared.row.Role.TheVariants.{Entry, Fault, Reached}

@@ -1,16 +1,14 @@
 //! What was received of what was due.
-ghost use Rattle.std.specs.Prelude.{◌≡◌, IfOk, IfSome, is_some};
+ghost use Rattle.std.specs.Prelude.{◌≡◌, IfOk, IfSome, is_some, length};
 ghost use Rattle.aud_node.specs.Cluster.{Cluster};
 ghost use Rattle.aud_node.specs.Stream.{Text};
-ghost use Rattle.aud_account.specs.Account.{IsAccount};
-ghost use Rattle.aud_evidence.specs.Difference.{IsAscending};
-ghost use Rattle.aud_findings.specs.Received.{AreFigures, AreFiguresOf, IsAtFrame, IsReceivedShown, frame_of, greatest, is_judged, is_parted, tail_of};
-ghost use Rattle.aud_findings.specs.Private.Known.{stays_of};
+ghost use Rattle.aud_account.specs.Account.{IsAccountOf};
+ghost use Rattle.aud_findings.specs.Received.{AreFigures, AreFiguresOf, IsReceivedShown, at_frame, frame_of, greatest, is_judged, tail_of};
+ghost use Rattle.aud_findings.specs.Private.Known.{IsWithin};
 
-use crate::also::is_parted;
 use aud_account::{Account, positions_received};
 use aud_cert::{Class, class_of};
-use aud_evidence::{Difference, first_difference};
+use aud_check::Difference;
 use aud_explanation::Account as Received;
 use aud_verdict::Verdict;
 use std::alloc::{AllocError, Global};
@@ -23,39 +21,34 @@ pub(crate) fn received_shown(
     account: Option<&Account<'_, '_>>,
 ) -> Result<Option<Received>, AllocError>
     ensures { (c : Cluster) (pid : Text)
-        → IfSome account.entry
-        (λ a. IsAccount c pid a.now.client (stays_of a.now) a.now.due.items)
+        → IfSome account.entry (λ a. IsAccountOf c pid a.now)
         → IfOk result (IsReceivedShown c pid (is_some account.entry) verdict.now) }
 {
     match account {
-        Some(account) if is_judged(verdict) => Ok(Some(figures_of(alloc, account, verdict)?)),
+        Some(account) if is_judged(verdict) => Ok(Some(figures_of(alloc, account)?)),
         _ => Ok(None),
     }
 }
 
 /// The figures of the account.
-fn figures_of(
-    alloc: Global,
-    account: &Account<'_, '_>,
-    verdict: &Verdict,
-) -> Result<Received, AllocError>
-    ensures { (c : Cluster) (pid : Text)
-        → IsAccount c pid account.now.client (stays_of account.now) account.now.due.items
-        → IfOk result (AreFiguresOf c pid verdict.now) }
+fn figures_of(alloc: Global, account: &Account<'_, '_>) -> Result<Received, AllocError>
+    ensures { (c : Cluster) (pid : Text) → IsAccountOf c pid account.now
+        → IfOk result (AreFiguresOf c pid) }
 {
     let received = positions_received(alloc, account.stays.as_slice())?;
-    Ok(figures(&received, account.due.as_slice(), verdict))
+    Ok(figures(&received, &account.due, account.difference()))
 }
 
-/// Those of these positions received and these due.
-fn figures(received: &[u64], due: &[u64], verdict: &Verdict) -> Received
-    ensures { IsAscending due.now → AreFigures received.now due.now verdict.now result }
+/// Those of these positions received and these due, of which this is the difference.
+fn figures(received: &[u64], due: &[u64], difference: Option<Difference>) -> Received
+    ensures { IsWithin (length received.now) difference
+        → AreFigures received.now due.now difference result }
 {
     Received {
         got: received.len() as u64,
         due: due.len() as u64,
         tail: tail_of(received, due),
-        at_frame: at_frame_of(received, due, verdict),
+        at_frame: at_frame_of(received, difference),
     }
 }
 
@@ -78,15 +71,11 @@ pub(crate) fn greatest(positions: &[u64]) -> u64
     greatest
 }
 
-/// The frame, from 1, at which what was received parts from what was due, under a verdict that is about that.
-fn at_frame_of(received: &[u64], due: &[u64], verdict: &Verdict) -> Option<u64>
-    ensures { IsAscending due.now
-        → IsAtFrame received.now due.now (is_parted verdict.now) result }
+/// The frame, from 1, at which the difference shows, if there is one.
+fn at_frame_of(received: &[u64], difference: Option<Difference>) -> Option<u64>
+    ensures { IsWithin (length received.now) difference → result ≡ at_frame difference }
 {
-    if !is_parted(verdict) {
-        return None;
-    }
-    match first_difference(received, due) {
+    match difference {
         Some(difference) => Some((frame_of(difference) as u64).saturating_add(1)),
         None => None,
     }

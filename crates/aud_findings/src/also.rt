@@ -1,6 +1,6 @@
 //! The other entries that have the same fault, with the lines that show it.
 ghost use Rattle.std.specs.Prelude.{◌≡◌, ◌++◌, IfOk, IfSome, OnOk, is_some, map, option_map};
-ghost use Rattle.aud_account.specs.Account.{IsAccount};
+ghost use Rattle.aud_account.specs.Account.{IsAccountOf};
 ghost use Rattle.aud_rows.specs.ClientPlaces.{AreOf};
 ghost use Rattle.aud_rows.specs.declared.row.Role.TheVariants.{Entry};
 ghost use Rattle.aud_rows.specs.Rows.{stream_row};
@@ -11,15 +11,14 @@ ghost use Rattle.aud_shown.specs.FramePlaces.{frame_at};
 ghost use Rattle.aud_recording_faults.specs.Prepared.{IsPreparedOf};
 ghost use Rattle.aud_findings.specs.Also.{AreAlso, IsAlsoShown, also_at, also_seen, entry_also, frame_lines, frame_row_at, frames_also, is_short, line_of};
 ghost use Rattle.aud_findings.specs.Received.{is_parted};
-ghost use Rattle.aud_findings.specs.Private.Known.{stays_of};
 
-use crate::finding::AlsoShown;
 use crate::others::others;
+use crate::outcome::AlsoShown;
 use crate::tail::tail_also;
 use aud_account::{Account, positions_received};
 use aud_cert::Fault;
+use aud_check::Difference;
 use aud_client::Recording;
-use aud_evidence::{Difference, first_difference};
 use aud_recording_faults::{Prepared, numbers_naming};
 use aud_rows::{ClientPlaces, Role, Row, Sheet};
 use aud_shown::{FramePlace, frame_at};
@@ -37,8 +36,7 @@ pub(crate) fn also_found<'r, 'a>(
     account: Option<&Account<'r, 'a>>,
 ) -> Result<Vec<AlsoShown>, AllocError>
     requires prepared { IsPreparedOf sheet.now.recording.now prepared.now }
-    requires account { IfSome account (λ a. IsAccount sheet.now.recording.now pid.now a.now.client
-        (stays_of a.now) a.now.due.items) }
+    requires account { IfSome account (λ a. IsAccountOf sheet.now.recording.now pid.now a.now) }
     ensures { IfOk result (λ also. IsAlsoShown sheet.now.recording.now sheet.now.lines.now pid.now
         (is_some account.entry) verdict.now (map also_seen also.items)) }
 {
@@ -58,8 +56,7 @@ fn also_in<'r, 'a>(
     account: &Account<'r, 'a>,
 ) -> Result<Vec<AlsoShown>, AllocError>
     requires prepared { IsPreparedOf sheet.now.recording.now prepared.now }
-    requires account { IsAccount sheet.now.recording.now pid.now account.now.client
-        (stays_of account.now) account.now.due.items }
+    requires account { IsAccountOf sheet.now.recording.now pid.now account.now }
     ensures { IfOk result (λ also. AreAlso sheet.now.recording.now sheet.now.lines.now pid.now
         (map also_seen also.items)) }
 {
@@ -92,8 +89,8 @@ fn is_short(verdict: &Verdict) -> bool
     matches!(verdict, Verdict::No(Fault::Tail(_)))
 }
 
-/// The other entries with the fault of the first difference between what was received of the session and what was due
-/// to it; none where there is no difference. Each of a hundred entries at most costs what was received.
+/// The other entries with the fault of the difference between what was received of the session and what was due to it;
+/// none where that isn't what is wrong first. Each of a hundred entries at most costs what was received.
 fn also_of<'r, 'a>(
     alloc: Global,
     sheet: &Sheet<'r, 'a>,
@@ -103,21 +100,19 @@ fn also_of<'r, 'a>(
 ) -> Result<Vec<AlsoShown>, AllocError>
     requires tap { AreOf sheet.now.recording.now tap.now }
     requires place { tap.now.place ≡ account.now.client }
-    requires account { IsAccount sheet.now.recording.now pid.now account.now.client
-        (stays_of account.now) account.now.due.items }
+    requires account { IsAccountOf sheet.now.recording.now pid.now account.now }
     ensures { IfOk result (λ also. AreAlso sheet.now.recording.now sheet.now.lines.now pid.now
         (map also_seen also.items)) }
 {
+    let Some(difference) = account.difference() else {
+        return Ok(Vec::new(alloc));
+    };
     let numbers = numbers_naming(sheet.recording, tap.place, pid);
     let stays = account.stays.as_slice();
     let got = positions_received(alloc, stays)?;
     let received = got.as_slice();
-    let due = account.due.as_slice();
-    let Some(difference) = first_difference(received, due) else {
-        return Ok(Vec::new(alloc));
-    };
     let keys = sheet.recording.logs().keys();
-    let found = others(alloc, keys, received, due, difference)?;
+    let found = others(alloc, keys, received, account.due.as_slice(), difference)?;
     let entries = found.as_slice();
     all_shown(alloc, sheet, tap, numbers, received, difference, entries)
 }

@@ -9,7 +9,7 @@ ghost use Rattle.aud_findings.specs.BesideRows.{beside_rows, change_row};
 use crate::behind::behind;
 use crate::rooms::{left_change, not_due_change, room_change};
 use aud_cert::Certificate;
-use aud_evidence::Difference;
+use aud_check::Difference;
 use aud_reach::RoomChange;
 use aud_rows::{Role, Row, Sheet};
 

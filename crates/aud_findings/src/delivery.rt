@@ -1,51 +1,72 @@
-//! What shows where what was received of a session parts from what was due to it, and how that comes.
+//! What shows what was found wrong first with what was received of a session, and how that comes.
 ghost use Rattle.std.specs.Prelude.{◌≡◌, ◌++◌, IfOk, IfSome, MatchOption, map};
 ghost use Rattle.aud_node.specs.Stream.{Text};
 ghost use Rattle.aud_maker.specs.Made.{IsMade};
-ghost use Rattle.aud_evidence.specs.Window.{positions_received};
-ghost use Rattle.aud_merge.specs.ByTurns.{IsPrefixOf};
+ghost use Rattle.aud_account.specs.Account.{stays_of};
 ghost use Rattle.aud_rows.specs.ClientPlaces.{AreOf};
 ghost use Rattle.aud_rows.specs.Seen.{row_seen};
 ghost use Rattle.aud_shown.specs.DifferenceRows.{difference_rows};
 ghost use Rattle.aud_shown.specs.RowLists.{AreTrueRows};
 ghost use Rattle.aud_shown.specs.SessionRows.{session_of};
 ghost use Rattle.aud_findings.specs.BesideRows.{beside_rows};
-ghost use Rattle.aud_findings.specs.ShowsDelivery.{ShowsDelivery};
-ghost use Rattle.aud_findings.specs.Private.Known.{IsShownBy, stays_of};
+ghost use Rattle.aud_findings.specs.ShowsFound.{IsFoundOtherwise, ShowsFound};
+ghost use Rattle.aud_findings.specs.Private.Known.{IsShownBy, finding_rows};
 
 use crate::beside::beside;
-use aud_account::{Account, difference_in};
-use aud_cert::Certificate;
-use aud_evidence::Difference;
+use aud_account::Account;
+use aud_cert::{Certificate, Fault};
+use aud_check::{Difference, Finding};
 use aud_rows::Row;
-use aud_shown::{ShownSession, difference_rows, push_row, push_rows};
+use aud_shown::{ShownSession, altered_rows, difference_rows, push_row, push_rows, window_rows};
 use std::alloc::{AllocError, Global};
 
-/// The rows that show where what was received of the session first parts from what was due to it, and in front of them
-/// those that tell how that comes; none where it doesn't part.
-pub(crate) fn delivery_shown<'r>(
+/// The rows that show what was found wrong first with what was received of the session, where the fault is such a one;
+/// else none.
+pub(crate) fn found_shown<'r>(
     alloc: Global,
     session: &ShownSession<'_, 'r, '_>,
     account: &Account<'_, '_>,
+    fault: &Fault,
 ) -> Result<Option<Vec<Row<'r>>>, AllocError>
     requires tap { AreOf session.now.sheet.recording.now session.now.tap.now }
     requires made { IsMade session.now.sheet.recording.now account.now.cert.pid account.now.cert }
     ensures shown { (pid : Text)
         → IsShownBy session.now.sheet.recording.now pid account.now session.now
         → IfOk result (λ found. MatchOption found
-        (IsPrefixOf (positions_received (stays_of account.now)) account.now.due.items)
-        (λ rows. ShowsDelivery session.now.sheet.recording.now session.now.sheet.lines.now pid
-        (map row_seen rows.items))) }
+        (IsFoundOtherwise session.now.sheet.recording.now account.now.client (stays_of account.now)
+        account.now.due.items fault.now)
+        (λ rows. ShowsFound session.now.sheet.recording.now session.now.sheet.lines.now pid
+        fault.now (map row_seen rows.items))) }
     ensures truth { IfOk result (λ found. IfSome found
         (λ rows. AreTrueRows session.now.sheet.recording.now session.now.sheet.lines.now
         rows.items)) }
 {
-    match difference_in(alloc, account)? {
-        Some(difference) => {
-            let rows = delivery_rows(alloc, session, &account.cert, difference)?;
-            Ok(Some(rows))
-        }
+    match account.found_for(fault) {
+        Some(found) => Ok(Some(finding_rows(alloc, session, &account.cert, found)?)),
         None => Ok(None),
+    }
+}
+
+/// The rows of what was found; none of a record that is no packet, and of an event of which nobody knows the session.
+fn finding_rows<'r>(
+    alloc: Global,
+    session: &ShownSession<'_, 'r, '_>,
+    cert: &Certificate<'_>,
+    found: Finding,
+) -> Result<Vec<Row<'r>>, AllocError>
+    requires tap { AreOf session.now.sheet.recording.now session.now.tap.now }
+    requires made { IsMade session.now.sheet.recording.now cert.now.pid cert.now }
+    ensures rows { (made : IsMade session.now.sheet.recording.now cert.now.pid cert.now)
+        → IfOk result (λ rows. map row_seen rows.items
+        ≡ finding_rows (session_of session.now) cert.now made found) }
+    ensures truth { IfOk result (λ rows.
+        AreTrueRows session.now.sheet.recording.now session.now.sheet.lines.now rows.items) }
+{
+    match found {
+        Finding::Content(altered) => altered_rows(alloc, session, altered),
+        Finding::Delivery(difference) => delivery_rows(alloc, session, cert, difference),
+        Finding::Window(window) => window_rows(alloc, session, window),
+        Finding::Frame | Finding::Orphan => Ok(Vec::new(alloc)),
     }
 }
 

@@ -5,9 +5,10 @@ ghost use Rattle.aud_rows.specs.ClientPlaces.{AreOf};
 ghost use Rattle.aud_shown.specs.RowLists.{AreTrueRows};
 ghost use Rattle.aud_recording_faults.specs.Prepared.{IsPreparedOf};
 ghost use Rattle.aud_findings.specs.Evidence.{IsEvidence, IsFaultShown, IsOfClient, ShowsTold, TellsNone};
-ghost use Rattle.aud_findings.specs.Private.Known.{IsOwnAccount, found_rows, stays_of};
+ghost use Rattle.aud_account.specs.Account.{IsAccountOf, stays_of};
+ghost use Rattle.aud_findings.specs.Private.Known.{found_rows};
 
-use crate::delivery::delivery_shown;
+use crate::delivery::found_shown;
 use crate::tail::tail_shown;
 use aud_account::Account;
 use aud_cert::Fault;
@@ -16,7 +17,7 @@ use aud_recording_faults::{
     order_shown, orphan_shown,
 };
 use aud_rows::{ClientPlaces, Row, Sheet};
-use aud_shown::{ShownSession, altered_shown, window_shown};
+use aud_shown::ShownSession;
 use aud_verdict::Verdict;
 use std::alloc::{AllocError, Global};
 
@@ -30,7 +31,7 @@ pub(crate) fn evidence_of<'r, 'a>(
     account: Option<&Account<'r, 'a>>,
 ) -> Result<Vec<Row<'r>>, AllocError>
     requires prepared { IsPreparedOf sheet.now.recording.now prepared.now }
-    requires account { IfSome account (λ a. IsOwnAccount sheet.now.recording.now pid.now a.now) }
+    requires account { IfSome account (λ a. IsAccountOf sheet.now.recording.now pid.now a.now) }
     ensures shown { IfOk result (λ rows.
         IsEvidence sheet.now.recording.now sheet.now.lines.now pid.now
         (is_some account.entry) verdict.now (map row_seen rows.items)) }
@@ -56,7 +57,7 @@ fn fault_shown<'r, 'a>(
     account: Option<&Account<'r, 'a>>,
 ) -> Result<Option<Vec<Row<'r>>>, AllocError>
     requires prepared { IsPreparedOf sheet.now.recording.now prepared.now }
-    requires account { IfSome account (λ a. IsOwnAccount sheet.now.recording.now pid.now a.now) }
+    requires account { IfSome account (λ a. IsAccountOf sheet.now.recording.now pid.now a.now) }
     ensures shown { IfOk result (λ found.
         IsFaultShown sheet.now.recording.now sheet.now.lines.now pid.now
         (is_some account.entry) fault.now (found_rows found)) }
@@ -83,7 +84,7 @@ fn known_shown<'r, 'a>(
     account: Option<&Account<'r, 'a>>,
 ) -> Result<Option<Vec<Row<'r>>>, AllocError>
     requires prepared { IsPreparedOf sheet.now.recording.now prepared.now }
-    requires account { IfSome account (λ a. IsOwnAccount sheet.now.recording.now pid.now a.now) }
+    requires account { IfSome account (λ a. IsAccountOf sheet.now.recording.now pid.now a.now) }
     ensures shown { IfOk result (λ found.
         IsOfClient sheet.now.recording.now sheet.now.lines.now pid.now
         (is_some account.entry) fault.now (found_rows found)) }
@@ -115,12 +116,12 @@ fn told_shown<'r, 'a>(
     requires prepared { IsPreparedOf sheet.now.recording.now prepared.now }
     requires tap { AreOf sheet.now.recording.now tap.now }
     requires place { tap.now.place ≡ account.now.client }
-    requires account { IsOwnAccount sheet.now.recording.now pid.now account.now }
+    requires account { IsAccountOf sheet.now.recording.now pid.now account.now }
     ensures shown { IfOk result (λ found. MatchOption found
         (TellsNone sheet.now.recording.now pid.now tap.now.place (stays_of account.now)
         account.now.due.items fault.now)
         (λ rows. ShowsTold sheet.now.recording.now sheet.now.lines.now pid.now tap.now.place
-        (stays_of account.now) fault.now (map row_seen rows.items))) }
+        fault.now (map row_seen rows.items))) }
     ensures truth { IfOk result (λ found. IfSome found
         (λ rows. AreTrueRows sheet.now.recording.now sheet.now.lines.now rows.items)) }
 {
@@ -135,12 +136,7 @@ fn told_shown<'r, 'a>(
         Fault::Names => names_shown(alloc, sheet, tap, pid),
         Fault::Frame => frame_shown(alloc, sheet, tap),
         Fault::Orphan => orphan_shown(alloc, sheet, prepared, tap),
-        Fault::Content(_) => altered_shown(alloc, &session, account),
-        Fault::Extra(_) | Fault::Doubled(_) | Fault::Swapped(_) | Fault::Lost(_) => {
-            delivery_shown(alloc, &session, account)
-        }
-        Fault::Window(_) => window_shown(alloc, &session, account),
         Fault::Tail(_) => Ok(Some(tail_shown(alloc, &session, account)?)),
-        _ => Ok(None),
+        _ => found_shown(alloc, &session, account, fault),
     }
 }

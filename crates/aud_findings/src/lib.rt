@@ -6,12 +6,12 @@
 //!
 //! ```
 //! use aud_account::account_of;
-//! use aud_findings::{Prepared, finding_of};
+//! use aud_findings::{Prepared, outcome_of};
 //!
 //! let prepared = Prepared::read(alloc, sheet.recording, &[3], false)?;
 //! let account = account_of(alloc, sheet.recording, "P")?;
-//! let finding = finding_of(alloc, sheet, &prepared, "P", &verdict, account.as_ref())?;
-//! let client = finding.client.ok_or("no one client")?;
+//! let outcome = outcome_of(alloc, sheet, &prepared, "P", &verdict, account.as_ref())?;
+//! let client = outcome.client.ok_or("no one client")?;
 //! assert_eq!(rt; client.tap, "c1");
 //! assert_eq!(rt; client.conn, Some(2));
 //! ```
@@ -24,10 +24,10 @@ mod beside;
 mod client;
 mod delivery;
 mod evidence;
-mod finding;
 mod others;
+mod outcome;
 mod rooms;
 mod tail;
 
 pub use aud_recording_faults::{Prepared, PreparedTap};
-pub use finding::{AlsoShown, Finding, finding_of};
+pub use outcome::{AlsoShown, Outcome, outcome_of};

@@ -6,7 +6,7 @@ ghost use Rattle.aud_findings.specs.Received.{greatest};
 ghost use Rattle.aud_findings.specs.Private.Seen.{AreSeen};
 
 use crate::account::greatest;
-use aud_evidence::Difference;
+use aud_check::Difference;
 use std::alloc::{AllocError, Global};
 use std::collections::HashSet;
 use std::hash::RandomState;

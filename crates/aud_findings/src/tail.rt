@@ -2,7 +2,7 @@
 ghost use Rattle.std.specs.Prelude.{◌≡◌, IfOk, IfSome, drop, map, option_map, take};
 ghost use Rattle.aud_node.specs.Stream.{Text};
 ghost use Rattle.aud_cert.specs.Certificate.{turn_at};
-ghost use Rattle.aud_account.specs.Account.{IsAccount};
+ghost use Rattle.aud_account.specs.Account.{IsAccountOf};
 ghost use Rattle.aud_rows.specs.Seen.{row_seen};
 ghost use Rattle.aud_rows.specs.ClientPlaces.{AreOf};
 ghost use Rattle.aud_rows.specs.TrueRow.{IsTrueRow};
@@ -10,11 +10,11 @@ ghost use Rattle.aud_shown.specs.RowLists.{AreTrueRows};
 ghost use Rattle.aud_findings.specs.Also.{AreTailAlso, also_seen};
 ghost use Rattle.aud_findings.specs.Received.{tail_positions};
 ghost use Rattle.aud_findings.specs.Tail.{ShowsTail, reached_row, tail_rows};
-ghost use Rattle.aud_findings.specs.Private.Known.{IsShownBy, stays_of};
+ghost use Rattle.aud_findings.specs.Private.Known.{IsShownBy};
 
 use crate::account::greatest;
 use crate::also::{entries_also, frame_row};
-use crate::finding::AlsoShown;
+use crate::outcome::AlsoShown;
 use crate::rooms::reach_of;
 use aud_account::{Account, positions_received};
 use aud_cert::Turn;
@@ -91,8 +91,7 @@ pub(crate) fn tail_also(
     account: &Account<'_, '_>,
 ) -> Result<Vec<AlsoShown>, AllocError>
     ensures { (pid : Text)
-        → IsAccount sheet.now.recording.now pid account.now.client (stays_of account.now)
-        account.now.due.items
+        → IsAccountOf sheet.now.recording.now pid account.now
         → IfOk result (λ also. AreTailAlso sheet.now.recording.now sheet.now.lines.now pid
         (map also_seen also.items)) }
 {

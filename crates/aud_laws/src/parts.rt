@@ -17,7 +17,7 @@ ghost use Rattle.aud_parts.specs.Part.{is_among, part_for, KeepsClients, KeepsFi
 ghost use Rattle.aud_laws.specs.Parts.{AreFormed, AreFew, IsListed, IsListingOf, AreReportsOn, IsReportOfWhole, whole_of};
 
 use aud_parts::{merges_reports, plans_keep_together};
-use aud_upgrade::runs_keep_verdicts;
+use aud_upgrade::upgrades_keep_verdicts;
 
 /// A session of a part has the same verdict over the part and over the whole recording, with `--whole` and without.
 ///
@@ -27,7 +27,7 @@ pub fn part_is_judged_alike()
         → KeepsFirsts pids taps
         → IsJudgedAlike (cluster_of taps) (cluster_of (part_for pids taps)) pid }
 {
-    runs_keep_verdicts();
+    upgrades_keep_verdicts();
 }
 
 /// The sessions of a part are those of the whole recording that it is made for, in their order there, where no client's
@@ -37,7 +37,7 @@ pub fn part_has_its_sessions()
         → sessions_of (cluster_of (part_for pids taps))
         ≡ filter (is_among pids) (sessions_of (cluster_of taps)) }
 {
-    runs_keep_verdicts();
+    upgrades_keep_verdicts();
 }
 
 /// The answers in the report on a part are those on its sessions in the report on the whole recording, in their order
@@ -50,7 +50,7 @@ pub fn part_is_reported_alike()
         AreVerdicts part whole (sessions_of part) its
         → its ≡ filter (λ (entry : SessionVerdict). is_among pids entry.pid) entries }
 {
-    runs_keep_verdicts();
+    upgrades_keep_verdicts();
 }
 
 /// The listing of a plan that was made of a recording's taps is one of that recording: it has the sessions of it in
@@ -76,7 +76,7 @@ pub fn reports_are_merged()
         → AreVerdicts (cluster_of taps) whole (sessions_of (cluster_of taps)) entries
         → merged listing reports ≡ whole_of entries }
 {
-    runs_keep_verdicts();
+    upgrades_keep_verdicts();
     merges_reports();
 }
 

@@ -7,6 +7,7 @@ pub use Rattle.aud_rows.specs.ClientPlaces
 pub use Rattle.aud_rows.specs.StayRows
 pub use Rattle.aud_shown.specs.RowLists
 pub use Rattle.aud_shown.specs.ShowsDifference
+pub mod Order
 pub mod Prepared
 pub mod NamingReplies
 pub mod ShowsNoLog

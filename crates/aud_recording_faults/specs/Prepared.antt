@@ -5,7 +5,7 @@ use Rattle.std.specs.Option.{option_and_then}
 use Rattle.aud_node.specs.Lists.{first_index}
 use Rattle.aud_node.specs.Cluster.{Cluster, node_log}
 use Rattle.aud_client.specs.Received.{is_orphan}
-use Rattle.aud_evidence.specs.Order.{AreInOrder, IsFirstOutOfOrder}
+use Rattle.aud_recording_faults.specs.Order.{AreInOrder, IsFirstOutOfOrder}
 use Rattle.aud_rows.specs.declared.client_places.ClientPlaces.{ClientPlaces}
 use Rattle.aud_rows.specs.ClientPlaces.{AreOf}
 use Rattle.aud_rows.specs.StayRows.{stays_at}

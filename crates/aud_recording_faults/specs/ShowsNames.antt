@@ -1,17 +1,18 @@
 -- When rows show that a reply names a session otherwise than its `open`.
-use Rattle.std.specs.Prelude.{◌≡◌, ℕ, Bool, true, false, List, [], Option, Some, None, slice_get}
+use Rattle.std.specs.Prelude.{◌≡◌, ◌&&◌, ℕ, Bool, not, true, false, List, [], Option, Some, None, slice_get}
 use Rattle.std.specs.List.{find}
 use Rattle.aud_tap.specs.declared.records.NodeRec.TheVariants.{Opened}
 use Rattle.aud_node.specs.Cluster.{Cluster}
 use Rattle.aud_node.specs.Stream.{Text}
 use Rattle.aud_rooms.specs.Turns.{Who}
 use Rattle.aud_client.specs.StaySeen.{StaySeen}
+use Rattle.aud_client.specs.Received.{stay_names_pid}
+use Rattle.aud_check.specs.NamedStays.{is_of_session}
 use Rattle.aud_chain.specs.declared.marks.TurnMark.{TurnMark}
 use Rattle.aud_chain.specs.declared.marks.Mark.{Mark}
 use Rattle.aud_chain.specs.declared.marks.Mark.TheVariants as mark
 use Rattle.aud_chain.specs.Marks.{turn_marks}
 use Rattle.aud_chain.specs.Places.{record_at}
-use Rattle.aud_evidence.specs.Stays.{is_named_otherwise}
 use Rattle.aud_input.specs.TapLines.{TapLines}
 use Rattle.aud_rows.specs.declared.row.Role.TheVariants.{Earlier, Fault}
 use Rattle.aud_rows.specs.Rows.{node_row}
@@ -39,6 +40,10 @@ pub record IsOpenedAs (c : Cluster) (pid : Text) (opening : TurnMark) (sid nsp :
   pub named : record_at c opening.place ≡ Some (Opened pid sid nsp)
 
 -- ---- the stays
+
+-- the stay's reply names the session, and has another sid, or the stay another namespace, than its `open`
+abbrev pub is_named_otherwise : Who → StaySeen → Bool
+is_named_otherwise who stay = stay_names_pid who.pid stay && not (is_of_session who stay)
 
 -- there is a stay, and its reply names the session otherwise
 abbrev pub is_some_otherwise : Who → Option StaySeen → Bool

@@ -5,7 +5,7 @@ use Rattle.aud_node.specs.Cluster.{Cluster, node_log}
 use Rattle.aud_node.specs.OwnPlaces.{own_places}
 use Rattle.aud_node.specs.Stream.{Text}
 use Rattle.aud_chain.specs.declared.place.RecordPlace.{RecordPlace}
-use Rattle.aud_evidence.specs.Order.{AreInOrder, IsFirstOutOfOrder}
+use Rattle.aud_recording_faults.specs.Order.{AreInOrder, IsFirstOutOfOrder}
 use Rattle.aud_input.specs.TapLines.{TapLines}
 use Rattle.aud_rows.specs.Seen.{RowSeen}
 use Rattle.aud_rows.specs.declared.row.Role.TheVariants.{Earlier, Fault}

@@ -14,22 +14,21 @@
 #![tactic(auto)]
 
 mod chain;
-mod client;
 mod frame;
 mod names;
-mod no_log;
 mod order;
 mod orphan;
 mod prepared;
 mod replies;
+mod unordered;
+mod unplaced;
 mod wanted;
 
 pub use chain::chain_shown;
-pub use client::client_rows;
 pub use frame::frame_shown;
 pub use names::names_shown;
-pub use no_log::no_log_rows;
 pub use order::{order_shown, unordered_of};
 pub use orphan::{orphan_in, orphan_shown};
 pub use prepared::{Prepared, PreparedTap};
 pub use replies::{numbers_naming, stay_at};
+pub use unplaced::{client_rows, no_log_rows};

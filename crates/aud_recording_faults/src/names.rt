@@ -1,7 +1,6 @@
 //! What shows that a reply names a session otherwise than its `open`.
 ghost use Rattle.std.specs.Prelude.{◌≡◌, IfOk, IfSome, MatchOption, None, find, map};
 ghost use Rattle.std.specs.Option.{option_copied};
-ghost use Rattle.aud_evidence.specs.Stays.{is_named_otherwise};
 ghost use Rattle.aud_check.specs.NamedStays.{has_sid};
 ghost use Rattle.aud_node.specs.Stream.{Text};
 ghost use Rattle.aud_chain.specs.declared.marks.TurnMark.{TurnMark};
@@ -11,7 +10,7 @@ ghost use Rattle.aud_rows.specs.Seen.{row_seen};
 ghost use Rattle.aud_rows.specs.ClientPlaces.{AreOf};
 ghost use Rattle.aud_rows.specs.StayRows.{stays_at};
 ghost use Rattle.aud_shown.specs.RowLists.{AreTrueRows};
-ghost use Rattle.aud_recording_faults.specs.ShowsNames.{AreNamedAlike, IsOpenedAs, ShowsNames, first_otherwise, is_open, is_open_mark, is_some_otherwise, names_rows};
+ghost use Rattle.aud_recording_faults.specs.ShowsNames.{AreNamedAlike, IsOpenedAs, ShowsNames, first_otherwise, is_named_otherwise, is_open, is_open_mark, is_some_otherwise, names_rows};
 
 use crate::replies::{numbers_naming, stay_at};
 use aud_chain::{Mark, RecordPlace, TurnMark, turn_marks};

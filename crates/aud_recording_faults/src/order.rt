@@ -7,8 +7,8 @@ ghost use Rattle.aud_recording_faults.specs.Prepared.{IsOrderRead, IsPreparedOf}
 ghost use Rattle.aud_recording_faults.specs.ShowsOrder.{AreOrdered, AreOutOfOrder, ShowsOrder, order_records, places_in};
 
 use crate::prepared::{Prepared, PreparedTap};
+use crate::unordered::first_unordered;
 use aud_chain::RecordPlace;
-use aud_evidence::first_unordered;
 use aud_node::Logs;
 use aud_rows::{Role, Row, Sheet};
 use aud_shown::{NodeRecord, node_rows};

@@ -1,7 +1,7 @@
 //! What shows that a client's tap has an event of which nobody knows the session.
 ghost use Rattle.std.specs.Prelude.{◌≡◌, IfOk, IfSome, MatchOption, None, map};
 ghost use Rattle.aud_node.specs.Lists.{first_index};
-ghost use Rattle.aud_client.specs.Received.{is_orphan};
+ghost use Rattle.aud_client.specs.Received.{is_orphan, names_somebody};
 ghost use Rattle.aud_rows.specs.Seen.{row_seen};
 ghost use Rattle.aud_rows.specs.ClientPlaces.{AreOf};
 ghost use Rattle.aud_rows.specs.StayRows.{stays_at};
@@ -10,8 +10,7 @@ ghost use Rattle.aud_recording_faults.specs.Prepared.{IsPreparedOf};
 ghost use Rattle.aud_recording_faults.specs.ShowsOrphan.{ShowsOrphan, orphan_rows};
 
 use crate::prepared::{Prepared, PreparedTap};
-use aud_client::{IndexedTranscript, Recording};
-use aud_evidence::first_orphan;
+use aud_client::{IndexedTranscript, Recording, Reply, Stay};
 use aud_rows::{ClientPlaces, Role, Row, Sheet};
 use aud_shown::push_row;
 use std::alloc::{AllocError, Global};
@@ -90,4 +89,32 @@ fn orphan_told(client: &IndexedTranscript<'_>) -> Option<usize>
     ensures { result ≡ first_index is_orphan client.now.stays }
 {
     first_orphan(&client.transcript().stays)
+}
+
+/// The number of the first stay that has frames, and a reply that names nobody or none; stays count from 0.
+fn first_orphan(stays: &[Stay<'_>]) -> Option<usize>
+    ensures { result ≡ first_index is_orphan stays.now }
+{
+    for (number, stay) in stays.iter().enumerate() {
+        if is_orphan(stay) {
+            return Some(number);
+        }
+    }
+    None
+}
+
+/// Whether the stay has frames, and its reply, if there is one, names nobody.
+fn is_orphan(stay: &Stay<'_>) -> bool
+    ensures { result ≡ is_orphan stay.now }
+{
+    !stay.frames.is_empty() && !names_somebody(&stay.reply)
+}
+
+fn names_somebody(reply: &Option<Reply>) -> bool
+    ensures { result ≡ names_somebody reply.now }
+{
+    match reply {
+        Some(reply) => reply.pid.is_some(),
+        None => false,
+    }
 }

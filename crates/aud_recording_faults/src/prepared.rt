@@ -9,9 +9,9 @@ ghost use Rattle.aud_recording_faults.specs.Prepared.{AreRead, IsPreparedOf, IsR
 ghost use Rattle.aud_recording_faults.specs.Private.Wanted.{AreWanted, IsReadBy};
 
 use crate::orphan::orphan_at;
+use crate::unordered::first_unordered;
 use crate::wanted::{is_wanted, wanted_of};
 use aud_client::Recording;
-use aud_evidence::first_unordered;
 use aud_rows::ClientPlaces;
 use std::alloc::{AllocError, Global};
 

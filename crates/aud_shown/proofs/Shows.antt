@@ -11,11 +11,11 @@ use Rattle.aud_maker.specs.Made.{IsMade}
 use Rattle.aud_maker.proofs.BegunLemmas.{one_chain}
 use Rattle.aud_maker.proofs.Over.{turns-there}
 use Rattle.aud_input.specs.TapLines.{TapLines}
-use Rattle.aud_evidence.specs.declared.content.Altered.{Altered}
-use Rattle.aud_evidence.specs.declared.difference.Difference.{Difference}
-use Rattle.aud_evidence.specs.declared.window.BadWindow.{BadWindow}
-use Rattle.aud_evidence.specs.Content.{IsAltered}
-use Rattle.aud_evidence.specs.Window.{IsBadWindow}
+use Rattle.aud_check.specs.declared.content.Altered.{Altered}
+use Rattle.aud_check.specs.declared.difference.Difference.{Difference}
+use Rattle.aud_check.specs.declared.window.BadWindow.{BadWindow}
+use Rattle.aud_check.specs.Content.{IsAltered}
+use Rattle.aud_check.specs.Window.{IsBadWindow}
 use Rattle.aud_account.specs.Account.{IsAccount, IsDifferenceOf}
 use Rattle.aud_verdict.specs.Session.{SessionLogs, IsSession}
 use Rattle.aud_shown.specs.SessionRows.{Session}

@@ -1,6 +1,6 @@
 -- The rows that show that an event came with another content than its entry's.
 use Rattle.std.specs.Prelude.{List, []}
-use Rattle.aud_evidence.specs.declared.content.Altered.{Altered}
+use Rattle.aud_check.specs.declared.content.Altered.{Altered}
 use Rattle.aud_rows.specs.declared.row.Role.TheVariants.{Fault}
 use Rattle.aud_rows.specs.Seen.{RowSeen}
 use Rattle.aud_shown.specs.RowLists.{row_and}

@@ -1,8 +1,8 @@
 -- The rows that show where what was received first parts from what was due.
 use Rattle.std.specs.Prelude.{ℕ, List, [], Option, Some, None}
 use Rattle.std.specs.Option.{option_and_then}
-use Rattle.aud_evidence.specs.declared.difference.Difference.{Difference}
-use Rattle.aud_evidence.specs.declared.difference.Difference.TheVariants.{Extra, Doubled, Swapped, Lost}
+use Rattle.aud_check.specs.declared.difference.Difference.{Difference}
+use Rattle.aud_check.specs.declared.difference.Difference.TheVariants.{Extra, Doubled, Swapped, Lost}
 use Rattle.aud_rows.specs.declared.row.Role.TheVariants.{Fault, Earlier, Later}
 use Rattle.aud_rows.specs.Seen.{RowSeen}
 use Rattle.aud_shown.specs.RowLists.{row_and}

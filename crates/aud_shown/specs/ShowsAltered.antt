@@ -3,8 +3,8 @@ use Rattle.std.specs.Prelude.{◌≡◌, ℕ, List}
 use Rattle.aud_node.specs.Cluster.{Cluster}
 use Rattle.aud_node.specs.Stream.{Text}
 use Rattle.aud_check.specs.Frames.{frames_in}
-use Rattle.aud_evidence.specs.declared.content.Altered.{Altered}
-use Rattle.aud_evidence.specs.Content.{IsAltered}
+use Rattle.aud_check.specs.declared.content.Altered.{Altered}
+use Rattle.aud_check.specs.Content.{IsAltered}
 use Rattle.aud_input.specs.TapLines.{TapLines}
 use Rattle.aud_rows.specs.Seen.{RowSeen}
 use Rattle.aud_verdict.specs.Session.{SessionLogs, IsSession, own_stays}

@@ -2,8 +2,8 @@
 use Rattle.std.specs.Prelude.{◌≡◌, ℕ, List}
 use Rattle.aud_node.specs.Cluster.{Cluster}
 use Rattle.aud_node.specs.Stream.{Text}
-use Rattle.aud_evidence.specs.declared.window.BadWindow.{BadWindow}
-use Rattle.aud_evidence.specs.Window.{IsBadWindow}
+use Rattle.aud_check.specs.declared.window.BadWindow.{BadWindow}
+use Rattle.aud_check.specs.Window.{IsBadWindow}
 use Rattle.aud_input.specs.TapLines.{TapLines}
 use Rattle.aud_rows.specs.Seen.{RowSeen}
 use Rattle.aud_verdict.specs.Session.{SessionLogs, IsSession, own_stays}

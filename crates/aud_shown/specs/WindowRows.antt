@@ -1,8 +1,8 @@
 -- The rows that show that a recovery was asked for where it does not fit what had come.
 use Rattle.std.specs.Prelude.{List, [], Option, None}
-use Rattle.aud_evidence.specs.declared.window.BadWindow.{BadWindow}
-use Rattle.aud_evidence.specs.declared.window.Misfit.{Misfit}
-use Rattle.aud_evidence.specs.declared.window.Misfit.TheVariants.{Behind, NotBehind}
+use Rattle.aud_check.specs.declared.window.BadWindow.{BadWindow}
+use Rattle.aud_check.specs.declared.window.Misfit.{Misfit}
+use Rattle.aud_check.specs.declared.window.Misfit.TheVariants.{Behind, NotBehind}
 use Rattle.aud_rows.specs.declared.row.Role.TheVariants as role
 use Rattle.aud_rows.specs.Seen.{RowSeen}
 use Rattle.aud_shown.specs.RowLists.{row_and}

@@ -8,7 +8,7 @@ ghost use Rattle.aud_shown.specs.SessionRows.{session_of};
 
 use crate::pushed::push_row;
 use crate::session::ShownSession;
-use aud_evidence::Altered;
+use aud_check::Altered;
 use aud_rows::{Role, Row};
 use std::alloc::{AllocError, Global};
 

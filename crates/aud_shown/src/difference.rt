@@ -8,7 +8,7 @@ ghost use Rattle.aud_shown.specs.SessionRows.{session_of};
 
 use crate::pushed::push_row;
 use crate::session::ShownSession;
-use aud_evidence::Difference;
+use aud_check::Difference;
 use aud_rows::{Role, Row};
 use std::alloc::{AllocError, Global};
 

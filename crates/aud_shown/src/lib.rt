@@ -1,7 +1,6 @@
 //! The rows that show the fault of a session: which records of the bundle, on which lines, and what each says.
 #![tactic(auto)]
 
-mod by_account;
 mod content;
 mod difference;
 mod frame_place;
@@ -10,7 +9,6 @@ mod pushed;
 mod session;
 mod window;
 
-pub use by_account::{altered_shown, difference_shown, window_shown};
 pub use content::altered_rows;
 pub use difference::difference_rows;
 pub use frame_place::{FramePlace, frame_at};

@@ -9,7 +9,7 @@ ghost use Rattle.aud_shown.specs.WindowRows.{before_row, later_row, window_rows}
 
 use crate::pushed::push_row;
 use crate::session::ShownSession;
-use aud_evidence::{BadWindow, Misfit};
+use aud_check::{BadWindow, Misfit};
 use aud_rows::{Role, Row};
 use std::alloc::{AllocError, Global};
 

@@ -12,9 +12,9 @@ use Rattle.aud_merge.specs.ByTurns.{IsPrefixOf}
 use Rattle.aud_client.specs.StaySeen.{FrameSeen}
 use Rattle.aud_cert.specs.declared.fault.Fault.{Fault}
 use Rattle.aud_cert.specs.declared.fault.Fault.TheVariants.{Tail}
-use Rattle.aud_check.specs.Faults.{mismatch_fault}
-use Rattle.aud_check.proofs.Agreed.{mismatch-none}
-use Rattle.aud_check.proofs.Ranks.{no_mismatch}
+use Rattle.aud_check.specs.Faults.{difference_fault}
+use Rattle.aud_check.proofs.Agreed.{difference-none}
+use Rattle.aud_check.proofs.Ranks.{not_different}
 use Rattle.aud_verdict.specs.declared.verdict.Verdict.{Verdict}
 use Rattle.aud_verdict.specs.declared.verdict.Verdict.TheVariants.{Yes, No}
 use Rattle.aud_verdict.specs.Session.{SessionLogs, IsSession, session_case, received_by, due_to, positions}
@@ -61,14 +61,14 @@ module _ (law : DueByTurns) (c : Cluster) (pid : Text) where
       }
 
   -- what is so in every run where what a session received and what is due to it by its turns part
-  parted : (fault : Fault) → (s : SessionLogs) × IsSession c pid s × (mismatch_fault (session_case c s) ≡ Some fault) → IsMisdelivered c pid
+  parted : (fault : Fault) → (s : SessionLogs) × IsSession c pid s × (difference_fault (session_case c s) ≡ Some fault) → IsMisdelivered c pid
   parted fault (s, is, h) =
       record {
         session = s;
         is_session = is;
         is_only = λ other too. one_session c pid other s too is;
         is_no_front = λ run is_run prefix.
-            no_mismatch (session_case c s) ((mismatch-none (positions c s) (due_to c s)).1 (subst (IsPrefixOf (positions c s)) (due_in s is run is_run) prefix)) fault h;
+            not_different (session_case c s) ((difference-none (positions c s) (due_to c s)).1 (subst (IsPrefixOf (positions c s)) (due_in s is run is_run) prefix)) fault h;
       }
 
   -- what a misdelivery says of every run

@@ -14,7 +14,7 @@ use Rattle.aud_merge.specs.ByTurns.{IsPrefixOf}
 use Rattle.aud_client.specs.StaySeen.{FrameSeen}
 use Rattle.aud_cert.specs.declared.fault.Fault.{Fault}
 use Rattle.aud_cert.specs.declared.fault.Fault.TheVariants.{Tail}
-use Rattle.aud_check.specs.Compare.{has_position}
+use Rattle.aud_check.specs.Difference.{has_position}
 use Rattle.aud_check.specs.Faults.{Case, HasFault, IsReceived}
 use Rattle.aud_verdict.specs.declared.verdict.Verdict.{Verdict}
 use Rattle.aud_verdict.specs.declared.verdict.Verdict.TheVariants.{Yes, No}

@@ -32,7 +32,7 @@ use Rattle.aud_check.specs.TurnRefusals.{IsTurnAccepted, AreTurnsAccepted}
 use Rattle.aud_check.specs.Refusals.{Place, AtTurn, AtWhole, Refuses, RefusesWhole, RefusesFirst, IsFirstRefusal, IsAccepted, place_rank, certificate_case}
 use Rattle.aud_check.specs.declared.refusal.Refusal.TheVariants as refused
 use Rattle.aud_check.specs.NamedStays.{are_of_session}
-use Rattle.aud_check.specs.Faults.{Case, HasFault, IsReceived, fault_rank, mismatch_fault}
+use Rattle.aud_check.specs.Faults.{Case, HasFault, IsReceived, fault_rank, difference_fault}
 use Rattle.aud_check.proofs.TurnRefusals.{not_refused}
 use Rattle.aud_check.proofs.Ranks.{no_fault}
 use Rattle.aud_verdict.specs.Refused.{fault_found, IsOfSession}
@@ -110,7 +110,7 @@ not_made c pid fault is =
 
 -- where a fault of what was received stands in the two orders
 abbrev Placed : Case → Fault → Type 0
-Placed case f = (fault_rank f ≡ min (verdict_rank f - 5) 3 + (verdict_rank f - 11)) × (5 ≤ verdict_rank f) × (verdict_rank f ≤ 12) × (8 ≤ verdict_rank f → verdict_rank f ≤ 11 → mismatch_fault case ≡ Some f)
+Placed case f = (fault_rank f ≡ min (verdict_rank f - 5) 3 + (verdict_rank f - 11)) × (5 ≤ verdict_rank f) × (verdict_rank f ≤ 12) × (8 ≤ verdict_rank f → verdict_rank f ≤ 11 → difference_fault case ≡ Some f)
 
 -- a fault of what was received comes in the verdict's order as in the check's
 placed : (case : Case) (f : Fault) → HasFault case f → Placed case f

@@ -37,8 +37,8 @@ use Rattle.aud_check.specs.NamedStays.{are_of_session}
 use Rattle.aud_check.specs.Shown.{who_of, slices_of}
 use Rattle.aud_check.specs.TurnRefusals.{Ends, HasCursors, end_of, is_begun_by}
 use Rattle.aud_check.specs.Refusals.{Place, AtTurn, AtWhole, Refuses, IsAccepted, certificate_case}
-use Rattle.aud_check.proofs.Agreed.{mismatch-none}
-use Rattle.aud_check.proofs.Mismatched.{none_mismatched}
+use Rattle.aud_check.proofs.Agreed.{difference-none}
+use Rattle.aud_check.proofs.Different.{no_difference}
 
 -- ---- what can't fail holds
 
@@ -84,7 +84,7 @@ all_received case no_fault =
       decodes = nothing case.transcript.bad (λ n e. no_fault Frame (ap is_some e));
       has_no_orphan = false_from_ne_true case.transcript.orphan (no_fault Orphan);
       are_entries = entries case.stream case.frames (λ altered first. no_fault (Content (offset_at case.stream altered.position)) (altered, first, refl));
-      is_prefix = (mismatch-none (positions_in case) case.due).0 (none_mismatched case no_fault);
+      is_prefix = (difference-none (positions_in case) case.due).0 (no_difference case no_fault);
       has_no_window = nothing (wrong_window case.stream [] case.stays) (λ n e. no_fault (Window n) e);
     }
 

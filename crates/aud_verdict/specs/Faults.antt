@@ -12,7 +12,7 @@ use Rattle.aud_maker.specs.Chain.{HasNoChain}
 use Rattle.aud_maker.specs.Faults.{HasUnordered}
 use Rattle.aud_check.specs.NamedStays.{is_of_session}
 use Rattle.aud_check.specs.Frames.{IsFirstAltered, offset_at, wrong_window}
-use Rattle.aud_check.specs.Faults.{mismatch_fault}
+use Rattle.aud_check.specs.Faults.{difference_fault}
 use Rattle.aud_verdict.specs.Session.{SessionLogs, IsSession, transcript, own_stays, received_by, session_case, missed}
 
 -- a reply that names the session has another sid or namespace than its `open`
@@ -28,10 +28,10 @@ HoldsOf c whole s Names = HasOtherNames c s
 HoldsOf c whole s Frame = IsSome (transcript c s).bad
 HoldsOf c whole s Orphan = (transcript c s).orphan ≡ true
 HoldsOf c whole s (Content off) = (altered : FrameSeen) × IsFirstAltered c.stream (received_by c s) altered × (off ≡ offset_at c.stream altered.position)
-HoldsOf c whole s (Extra off) = mismatch_fault (session_case c s) ≡ Some (Extra off)
-HoldsOf c whole s (Doubled off) = mismatch_fault (session_case c s) ≡ Some (Doubled off)
-HoldsOf c whole s (Swapped off) = mismatch_fault (session_case c s) ≡ Some (Swapped off)
-HoldsOf c whole s (Lost off) = mismatch_fault (session_case c s) ≡ Some (Lost off)
+HoldsOf c whole s (Extra off) = difference_fault (session_case c s) ≡ Some (Extra off)
+HoldsOf c whole s (Doubled off) = difference_fault (session_case c s) ≡ Some (Doubled off)
+HoldsOf c whole s (Swapped off) = difference_fault (session_case c s) ≡ Some (Swapped off)
+HoldsOf c whole s (Lost off) = difference_fault (session_case c s) ≡ Some (Lost off)
 HoldsOf c whole s (Window connection) = wrong_window c.stream [] (own_stays c s) ≡ Some connection
 HoldsOf c whole s (Tail count) = (whole ≡ true) × (0 < count) × (count ≡ length (missed c s))
 HoldsOf c whole s _ = ⊥

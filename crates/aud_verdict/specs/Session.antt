@@ -10,7 +10,7 @@ use Rattle.aud_rooms.specs.Turns.{Who, Turn, slice_of, IsChain}
 use Rattle.aud_rooms.specs.TurnsDue.{turns_due}
 use Rattle.aud_client.specs.StaySeen.{StaySeen, FrameSeen}
 use Rattle.aud_client.specs.Received.{TranscriptSeen, transcript_of, received_list, stays_naming}
-use Rattle.aud_check.specs.Compare.{has_position}
+use Rattle.aud_check.specs.Difference.{has_position}
 use Rattle.aud_check.specs.Faults.{Case, positions_in}
 use Rattle.aud_check.specs.Shown.{recs_or_none}
 

@@ -9,8 +9,7 @@ use Rattle.aud_client.specs.Received.{TranscriptSeen, transcript_of}
 use Rattle.aud_check.specs.declared.refusal.Refusal.{Refusal}
 use Rattle.aud_check.specs.declared.refusal.Refusal.TheVariants.{Names, Received, Memory}
 use Rattle.aud_check.specs.NamedStays.{are_of_session}
-use Rattle.aud_check.specs.Faults.{Case}
-use Rattle.aud_check.specs.Private.FirstFault.{IsFirstFault}
+use Rattle.aud_check.specs.Faults.{Case, IsFirstFault}
 
 -- what the client's tap with this name tells, if there is one
 abbrev pub transcript_named : Cluster → Text → Option TranscriptSeen

@@ -13,7 +13,8 @@ use Rattle.aud_node.specs.Lists.{is_empty}
 use Rattle.aud_node.specs.Recoverable.{is_recoverable}
 use Rattle.aud_node.specs.Stream.{Text}
 use Rattle.aud_upgrade.specs.Upgraded.{with_runs}
-use Rattle.aud_upgrade.specs.Kept.{RunsKeepVerdicts}
+use Rattle.aud_upgrade.specs.declared.joins.Joins.TheVariants.{TakeAndTakes}
+use Rattle.aud_upgrade.specs.Kept.{UpgradesKeepVerdicts}
 use Rattle.aud_parts.specs.LeftOut.{tell_of, KeepsTapsOf, KeepsStreams, IsJudgedAlike}
 use Rattle.aud_parts.specs.MadeOther.{with_others, opens_in, gives_room, any_record, ever_held, may_be_for, tell_event, has_come, needs}
 use Rattle.aud_parts.specs.Part.{is_among, is_kept_tap, left_for, opens_nsp, grants, is_for_some, came_to_some, is_kept_entry, part_for, KeepsFirsts}
@@ -98,8 +99,8 @@ module _ (pids : List Text) (taps : List Tap) where
 
   -- ---- the part
 
-  pub alike : RunsKeepVerdicts → (pid : Text) → is_among pids pid ≡ true → KeepsFirsts pids taps → IsJudgedAlike (cluster_of taps) (cluster_of (part_for pids taps)) pid
+  pub alike : UpgradesKeepVerdicts → (pid : Text) → is_among pids pid ≡ true → KeepsFirsts pids taps → IsJudgedAlike (cluster_of taps) (cluster_of (part_for pids taps)) pid
   alike kept pid among firsts =
       let cut = cut_to.taps in
       then_alike (cluster_of taps) (cluster_of cut) (cluster_of (with_runs cut)) pid (cut_alike pid among firsts)
-      (λ whole verdict. ((kept cut).kept whole pid verdict, (kept cut).not_new whole pid verdict))
+      (λ whole verdict. ((kept TakeAndTakes cut).kept whole pid verdict, (kept TakeAndTakes cut).not_new whole pid verdict))

@@ -25,7 +25,8 @@ use Rattle.aud_client.specs.StaySeen.{StaySeen, stay_of}
 use Rattle.aud_client.specs.Received.{connection_packets, stays_of, stay_names_pid, transcript_of}
 use Rattle.aud_client.proofs.Named.{named_by_replies}
 use Rattle.aud_maker.specs.Sessions.{node_pids, stay_pid, reply_pids, mentions, sessions_of}
-use Rattle.aud_upgrade.specs.Kept.{RunsKeepVerdicts}
+use Rattle.aud_upgrade.specs.declared.joins.Joins.TheVariants.{TakeAndTakes}
+use Rattle.aud_upgrade.specs.Kept.{UpgradesKeepVerdicts}
 use Rattle.aud_parts.specs.LeftOut.{keeps_pid, keeps_record, records_left, tap_left, tell_of}
 use Rattle.aud_parts.specs.MadeOther.{entry_left, entries_left, tap_with_others}
 use Rattle.aud_parts.specs.Part.{is_among, is_kept_tap, left_for, is_kept_entry, part_for, KeepsClients}
@@ -160,9 +161,9 @@ module _ (pids : List Text) (taps : List Tap) where
       ∙ sym (filter-append (is_among pids) (flat_map node_pids taps) (flat_map (λ tap. reply_pids stream (client_recs tap)) taps))
 
   -- the sessions of the part
-  pub own-sessions : RunsKeepVerdicts → KeepsClients pids taps → sessions_of (cluster_of (part_for pids taps)) ≡ filter (is_among pids) (sessions_of (cluster_of taps))
+  pub own-sessions : UpgradesKeepVerdicts → KeepsClients pids taps → sessions_of (cluster_of (part_for pids taps)) ≡ filter (is_among pids) (sessions_of (cluster_of taps))
   own-sessions kept closed =
-      (kept (cut_to pids taps).taps).sessions
+      (kept TakeAndTakes (cut_to pids taps).taps).sessions
       ∙ ap sessions_of (sym (cut-is pids taps))
       ∙ ap first_texts (mentioned closed)
       ∙ first-kept (is_among pids) (mentions (cluster_of taps))

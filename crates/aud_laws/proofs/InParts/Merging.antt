@@ -16,7 +16,7 @@ use Rattle.aud_node.specs.Stream.{Text}
 use Rattle.aud_maker.specs.Sessions.{sessions_of}
 use Rattle.aud_verdict.specs.declared.verdict.SessionVerdict.{SessionVerdict}
 use Rattle.aud_verdict.specs.Report.{report_text}
-use Rattle.aud_upgrade.specs.Kept.{RunsKeepVerdicts}
+use Rattle.aud_upgrade.specs.Kept.{UpgradesKeepVerdicts}
 use Rattle.aud_parts.specs.declared.listing.Listing.{Listing}
 use Rattle.aud_parts.specs.declared.listing.ListedSession.{ListedSession}
 use Rattle.aud_parts.specs.Listing.{is_of_part, pids_of_part, pids_by_part, are_within, are_formed, are_new, is_full}
@@ -136,7 +136,7 @@ answered-pids c whole (pid ∷ pids) [] are = absurd are
 answered-pids c whole (pid ∷ pids) (entry ∷ entries) are =
     ap (λ p. p ∷ pids_of_entries entries) are.0.0 ∙ ap (λ ps. pid ∷ ps) (answered-pids c whole pids entries are.1)
 
-module _ (kept : RunsKeepVerdicts) (taps : List Tap) (whole : Bool) (listing : Listing) (entries : List SessionVerdict)
+module _ (kept : UpgradesKeepVerdicts) (taps : List Tap) (whole : Bool) (listing : Listing) (entries : List SessionVerdict)
     (listed : pids_listed listing ≡ sessions_of (cluster_of taps)) (right : OneForEach (IsAnswer (cluster_of taps) whole) (sessions_of (cluster_of taps)) entries) (new : are_new [] listing.sessions ≡ true) where
   named : pids_of_entries entries ≡ pids_listed listing
   named = answered-pids (cluster_of taps) whole (sessions_of (cluster_of taps)) entries right ∙ sym listed
@@ -170,7 +170,7 @@ number-there first (suc count) (suc i) less =
     let same : suc first + i ≡ first + suc i = omega arith in
     number-there (suc first) count i (omega (arith, less)) ∙ ap Some same
 
-module _ (kept : RunsKeepVerdicts) (taps : List Tap) (whole : Bool) (listing : Listing) (of : IsListingOf taps listing) (own : List (List ℕ)) (are : OneForEach (IsReportOn taps whole) (pids_by_part listing) own) where
+module _ (kept : UpgradesKeepVerdicts) (taps : List Tap) (whole : Bool) (listing : Listing) (of : IsListingOf taps listing) (own : List (List ℕ)) (are : OneForEach (IsReportOn taps whole) (pids_by_part listing) own) where
   abbrev Answered : ListedSession → Type 0
   Answered s = (entry : SessionVerdict) × IsAnswer (cluster_of taps) whole s.pid entry
 

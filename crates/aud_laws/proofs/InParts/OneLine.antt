@@ -1,7 +1,7 @@
 -- The answers on the sessions of a recording are of one line each: no offset of a well-formed entry has a newline.
-use Rattle.std.proofs.Common.{◌≡◌, ◌≤◌, ◌==◌, ℕ, Bool, true, false, List, [], ◌∷◌, ◌++◌, codes, decimal, nat_le, not, Option, Some, None, option_map, slice_get, take, drop, ◌+◌, refl, ap, subst, ◌∙◌, arith}
+use Rattle.std.proofs.Common.{◌≡◌, ◌≤◌, ◌==◌, ℕ, Bool, true, false, List, [], ◌∷◌, ◌++◌, codes, decimal, nat_le, not, Option, Some, None, option_map, refl, ap, subst, ◌∙◌, arith}
 use Rattle.std.specs.List.{All, list_all}
-use Rattle.std.proofs.lemmas.Bool.{and_parts, and_from, or_from, cond_both, false_from_ne_true, eqb-true, leb-true}
+use Rattle.std.proofs.lemmas.Bool.{and_parts, and_from, or_from, false_from_ne_true, eqb-true, leb-true}
 use Rattle.std.proofs.lemmas.List.Elements.{All-head, All-tail, All-nil}
 use Rattle.std.proofs.lemmas.List.Folds.{list_any-append}
 use Rattle.std.proofs.lemmas.Option.{none-some, same_Some}
@@ -21,8 +21,10 @@ use Rattle.aud_node.specs.Stream.{Text, entry}
 use Rattle.aud_cert.specs.declared.fault.Fault.{Fault}
 use Rattle.aud_cert.specs.declared.fault.Fault.TheVariants.{NoLog, Chain, Order, Client as NotOneClient, Names, Frame, Orphan, Content, Extra, Doubled, Swapped, Lost, Window, Tail}
 use Rattle.aud_cert.specs.Fault.{fault_text}
-use Rattle.aud_check.specs.Compare.{has_position, displaced, wrong_there, wrong_after, wrong_by, agreed}
-use Rattle.aud_check.specs.Faults.{Case, positions_in, fault_of, mismatch_fault}
+use Rattle.aud_check.specs.declared.difference.Difference.{Difference}
+use Rattle.aud_check.specs.declared.difference.Difference.TheVariants as parted
+use Rattle.aud_check.specs.Difference.{difference}
+use Rattle.aud_check.specs.Faults.{Case, positions_in, fault_of, difference_fault}
 use Rattle.aud_check.specs.Frames.{offset_or_empty, offset_at}
 use Rattle.aud_verdict.specs.declared.verdict.Verdict.{Verdict}
 use Rattle.aud_verdict.specs.declared.verdict.Verdict.TheVariants.{Yes, No}
@@ -95,27 +97,18 @@ module _ (stream : List StreamRec) (formed : AreWellFormed stream) where
   plain : (p : ℕ) → IsPlain (offset_at stream p)
   plain = position-plain stream formed
 
-  after-plain : (due : List ℕ) (g : ℕ) → IsPlain (offset_in (fault_of stream (wrong_after due g)))
-  after-plain due g = cond_both (has_position due g) _ _ (λ m. IsPlain (offset_in (fault_of stream m))) (λ is. plain g) (λ no. plain g)
+  difference-plain : (d : Difference) → IsPlain (offset_in (fault_of stream d))
+  difference-plain (parted.Extra frame p) = plain p
+  difference-plain (parted.Doubled first again p) = plain p
+  difference-plain (parted.Swapped frame p later) = plain p
+  difference-plain (parted.Lost frame p) = plain p
 
-  displaced-plain : (later : List ℕ) (d : ℕ) → IsPlain (offset_in (fault_of stream (displaced later d)))
-  displaced-plain later d = cond_both (has_position later d) _ _ (λ m. IsPlain (offset_in (fault_of stream m))) (λ is. plain d) (λ no. plain d)
+  found-plain : (found : Option Difference) (fault : Fault) → option_map (fault_of stream) found ≡ Some fault → IsPlain (offset_in fault)
+  found-plain None fault is = absurd (none-some fault is)
+  found-plain (Some d) fault is = subst (λ f. IsPlain (offset_in f)) (same_Some (fault_of stream d) fault is) (difference-plain d)
 
-  there-plain : (received due : List ℕ) (i g d : ℕ) → IsPlain (offset_in (fault_of stream (wrong_there received due i g d)))
-  there-plain received due i g d =
-      cond_both (has_position due g) _ _ (λ m. IsPlain (offset_in (fault_of stream m)))
-      (λ is. cond_both (has_position (take i received) g) _ _ (λ m. IsPlain (offset_in (fault_of stream m))) (λ was. plain g) (λ new. displaced-plain (drop (i + 1) received) d)) (λ no. plain g)
-
-  by-plain : (received due : List ℕ) (i : ℕ) (g d : Option ℕ) (fault : Fault) → option_map (fault_of stream) (wrong_by received due i g d) ≡ Some fault → IsPlain (offset_in fault)
-  by-plain received due i None d fault is = absurd (none-some fault is)
-  by-plain received due i (Some g) None fault is = subst (λ f. IsPlain (offset_in f)) (same_Some (fault_of stream (wrong_after due g)) fault is) (after-plain due g)
-  by-plain received due i (Some g) (Some d) fault is = subst (λ f. IsPlain (offset_in f)) (same_Some (fault_of stream (wrong_there received due i g d)) fault is) (there-plain received due i g d)
-
-wrong-plain : (case : Case) → AreWellFormed case.stream → (fault : Fault) → mismatch_fault case ≡ Some fault → IsPlain (offset_in fault)
-wrong-plain case formed fault is =
-    let received = positions_in case in
-    let i = agreed received case.due in
-    by-plain case.stream formed received case.due i (slice_get received i) (slice_get case.due i) fault is
+wrong-plain : (case : Case) → AreWellFormed case.stream → (fault : Fault) → difference_fault case ≡ Some fault → IsPlain (offset_in fault)
+wrong-plain case formed = found-plain case.stream formed (difference (positions_in case) case.due)
 
 module _ (c : Cluster) (whole : Bool) (pid : Text) (formed : AreWellFormed c.stream) where
   fault-plain : (fault : Fault) → Holds c whole pid fault → IsPlain (fault_text fault)

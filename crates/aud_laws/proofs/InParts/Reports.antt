@@ -10,7 +10,7 @@ use Rattle.aud_maker.specs.Sessions.{mentions, sessions_of}
 use Rattle.aud_verdict.specs.declared.verdict.SessionVerdict.{SessionVerdict}
 use Rattle.aud_verdict.specs.Verdicts.{IsSessionVerdict, AreVerdicts}
 use Rattle.aud_verdict.proofs.Sessions.{one_verdict}
-use Rattle.aud_upgrade.specs.Kept.{RunsKeepVerdicts}
+use Rattle.aud_upgrade.specs.Kept.{UpgradesKeepVerdicts}
 use Rattle.aud_parts.specs.Part.{is_among, part_for, KeepsClients, KeepsFirsts}
 use Rattle.aud_laws.specs.Parts.{IsAnswer}
 use Rattle.aud_laws.proofs.InParts.FirstTexts.{stands-once}
@@ -44,7 +44,7 @@ answers c whole [] (entry ∷ entries) are = absurd are
 answers c whole (pid ∷ pids) [] are = absurd are
 answers c whole (pid ∷ pids) (entry ∷ entries) are = ((are.0.0, are.0.1.0), answers c whole pids entries are.1)
 
-module _ (kept : RunsKeepVerdicts) (taps : List Tap) (whole : Bool) where
+module _ (kept : UpgradesKeepVerdicts) (taps : List Tap) (whole : Bool) where
   abbrev sessions : List Text
   sessions = sessions_of (cluster_of taps)
 

@@ -8,8 +8,8 @@ use Rattle.aud_node.specs.NodeTaps.{client_at}
 use Rattle.aud_rooms.specs.Turns.{Who, Turn, IsChain, HasNoTurn}
 use Rattle.aud_cert.specs.declared.fault.Fault.{Fault}
 use Rattle.aud_cert.specs.declared.fault.Fault.TheVariants.{NoLog, Chain, Order, Client, Names, Frame, Orphan, Content, Extra, Doubled, Swapped, Lost, Window, Tail}
-use Rattle.aud_check.specs.Faults.{Case, mismatch_fault, positions_in}
-use Rattle.aud_check.specs.Compare.{has_position}
+use Rattle.aud_check.specs.Faults.{Case, difference_fault, positions_in}
+use Rattle.aud_check.specs.Difference.{has_position}
 use Rattle.aud_check.specs.Frames.{IsFirstAltered, wrong_window}
 use Rattle.aud_check.specs.Shown.{recs_or_none}
 use Rattle.aud_client.specs.Received.{transcript_of, received_list, stays_naming}
@@ -83,10 +83,10 @@ module _ (stream : List StreamRec) (taps others : List Tap) where
     shown whole Frame holds = subst (λ t. IsSome t.bad) (sym tells) holds
     shown whole Orphan holds = ap (λ t. t.orphan) tells ∙ holds
     shown whole (Content off) (altered, first, is) = (altered, subst (λ xs. IsFirstAltered stream xs altered) (sym frames) first, is)
-    shown whole (Extra off) holds = ap mismatch_fault case ∙ holds
-    shown whole (Doubled off) holds = ap mismatch_fault case ∙ holds
-    shown whole (Swapped off) holds = ap mismatch_fault case ∙ holds
-    shown whole (Lost off) holds = ap mismatch_fault case ∙ holds
+    shown whole (Extra off) holds = ap difference_fault case ∙ holds
+    shown whole (Doubled off) holds = ap difference_fault case ∙ holds
+    shown whole (Swapped off) holds = ap difference_fault case ∙ holds
+    shown whole (Lost off) holds = ap difference_fault case ∙ holds
     shown whole (Window connection) holds = ap (wrong_window stream []) stays ∙ holds
     shown whole (Tail n) (asked, some, is) = (asked, some, is ∙ ap length (sym missed-same))
 

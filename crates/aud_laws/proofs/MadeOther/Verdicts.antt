@@ -11,8 +11,8 @@ use Rattle.aud_client.specs.StaySeen.{AskedSeen, StaySeen, FrameSeen}
 use Rattle.aud_client.specs.Received.{is_orphan, is_recovered, stays_naming}
 use Rattle.aud_cert.specs.declared.fault.Fault.{Fault}
 use Rattle.aud_cert.specs.declared.fault.Fault.TheVariants.{NoLog, Chain, Order, Client, Names, Frame, Orphan, Content, Extra, Doubled, Swapped, Lost, Window, Tail}
-use Rattle.aud_check.specs.Compare.{has_position, mismatch}
-use Rattle.aud_check.specs.Faults.{named, position_in, fault_of, mismatch_fault}
+use Rattle.aud_check.specs.Difference.{difference, has_position}
+use Rattle.aud_check.specs.Faults.{named, position_in, fault_of, difference_fault}
 use Rattle.aud_check.specs.Frames.{IsOf, AreEntries, IsFirstAltered, asked_position, frames_in, is_cut_at, is_asked_wrongly, wrong_window}
 use Rattle.aud_verdict.specs.declared.verdict.Verdict.{Verdict}
 use Rattle.aud_verdict.specs.declared.verdict.Verdict.TheVariants.{Yes, No}
@@ -86,11 +86,11 @@ module _ (stream other : List StreamRec) (taps : List Tap) (pid : Text) (alike :
     positions-same : positions (over other taps) s ≡ positions (over stream taps) s
     positions-same = ap (map (λ (frame : FrameSeen). frame.position)) frames
 
-    wrong-same : mismatch_fault (session_case (over other taps) s) ≡ mismatch_fault (session_case (over stream taps) s)
+    wrong-same : difference_fault (session_case (over other taps) s) ≡ difference_fault (session_case (over stream taps) s)
     wrong-same =
-        map-same (fault_of other) (fault_of stream) (λ m. ap (named m) (alike.offset (position_in m))) (mismatch (positions (over other taps) s) (due_to (over other taps) s))
-        ∙ ap (λ ps. option_map (fault_of stream) (mismatch ps (due_to (over other taps) s))) positions-same
-        ∙ ap (λ ps. option_map (fault_of stream) (mismatch (positions (over stream taps) s) ps)) due
+        map-same (fault_of other) (fault_of stream) (λ m. ap (named m) (alike.offset (position_in m))) (difference (positions (over other taps) s) (due_to (over other taps) s))
+        ∙ ap (λ ps. option_map (fault_of stream) (difference ps (due_to (over other taps) s))) positions-same
+        ∙ ap (λ ps. option_map (fault_of stream) (difference (positions (over stream taps) s) ps)) due
 
     missed-same : missed (over other taps) s ≡ missed (over stream taps) s
     missed-same =

@@ -1,5 +1,4 @@
-use Rattle.std.proofs.Common.{rules, ◌≡◌, ◌++◌, ℕ, List, flat_map, map, option_to_list, string_bytes, length, Bool, true, false, [], ◌∷◌, arith, refl}
-use Rattle.std.proofs.lemmas.Grind.{common_steps}
+use Rattle.std.proofs.Common.{rules, ◌≡◌, ◌++◌, ℕ, List, map, option_to_list, length, false, [], ◌∷◌, arith, refl}
 use Rattle.std.specs.List.{list_any, position_or_len}
 use Rattle.aud_causes.specs.Filled.{figure_text, filled, is_place}
 use Rattle.aud_causes.proofs.why.push_next.Goals as goal

@@ -5,7 +5,7 @@ use Rattle.aud_rooms.specs.Turns.{Who}
 use Rattle.aud_rooms.specs.TurnsDue.{is_turn_due}
 use Rattle.aud_rooms.proofs.Ascending.{filter-ascends}
 use Rattle.aud_cert.specs.Certificate.{CertificateSeen}
-use Rattle.aud_check.specs.Private.Ascending.{IsAscending}
+use Rattle.aud_check.specs.Difference.{IsAscending}
 use Rattle.aud_check.specs.Private.ClientCheck.{IsClientRefusal}
 use Rattle.aud_check.specs.Faults.{Case, IsReceived}
 use Rattle.aud_check.specs.NamedStays.{are_of_session}

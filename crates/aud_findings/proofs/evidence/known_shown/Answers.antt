@@ -1,8 +1,9 @@
 use Rattle.std.proofs.Common.{Bor, IfSome, Option, is_some, subst, sym}
 use Rattle.std.proofs.lemmas.Result.{IfOk-weaker}
 use Rattle.aud_account.specs.declared.account.Account.{Account}
+use Rattle.aud_account.specs.Account.{IsAccountOf, stays_of}
 use Rattle.aud_findings.specs.Evidence.{IsOfClient}
-use Rattle.aud_findings.specs.Private.Known.{IsOwnAccount, found_rows, stays_of}
+use Rattle.aud_findings.specs.Private.Known.{found_rows}
 use Rattle.aud_findings.proofs.Shown.{of_session}
 use Rattle.aud_findings.proofs.evidence.known_shown.Goals as goal
 
@@ -12,10 +13,10 @@ returns-in-Some-tap-clause-shown c =
     let lines = c.args.sheet.now.lines.now in
     let pid = c.args.pid.now in
     let a = c.in-Some.account.now in
-    let own : IsOwnAccount here pid a = subst (λ (o : Option (Bor Account)). IfSome o (λ (b : Bor Account). IsOwnAccount here pid b.now)) c.in-Some.is c.requires.account in
+    let own : IsAccountOf here pid a = subst (λ (o : Option (Bor Account)). IfSome o (λ (b : Bor Account). IsAccountOf here pid b.now)) c.in-Some.is c.requires.account in
     IfOk-weaker c.told_shown.result _ _ (λ found h.
     subst (λ (o : Option (Bor Account)). IsOfClient here lines pid (is_some o) c.args.fault.now (found_rows found)) (sym c.in-Some.is)
-    (of_session here lines pid a.client (stays_of a) a.due.items own.1 c.args.fault.now c.in-Some-tap.tap.now.place (c.in-Some-tap.ensures.is_of here c.requires.prepared).1 found h)) c.told_shown.ensures.shown
+    (of_session here lines pid a.client (stays_of a) a.due.items own.is c.args.fault.now c.in-Some-tap.tap.now.place (c.in-Some-tap.ensures.is_of here c.requires.prepared).1 found h)) c.told_shown.ensures.shown
 
 pub returns-in_ok-tap-in-None-clause-shown : goal.returns-in_ok-tap-in-None-clause-shown
 returns-in_ok-tap-in-None-clause-shown c =
@@ -23,7 +24,7 @@ returns-in_ok-tap-in-None-clause-shown c =
     let lines = c.args.sheet.now.lines.now in
     let pid = c.args.pid.now in
     let a = c.in-Some.account.now in
-    let own : IsOwnAccount here pid a = subst (λ (o : Option (Bor Account)). IfSome o (λ (b : Bor Account). IsOwnAccount here pid b.now)) c.in-Some.is c.requires.account in
+    let own : IsAccountOf here pid a = subst (λ (o : Option (Bor Account)). IfSome o (λ (b : Bor Account). IsAccountOf here pid b.now)) c.in-Some.is c.requires.account in
     IfOk-weaker c.told_shown-in-None.result _ _ (λ found h.
     subst (λ (o : Option (Bor Account)). IsOfClient here lines pid (is_some o) c.args.fault.now (found_rows found)) (sym c.in-Some.is)
-    (of_session here lines pid a.client (stays_of a) a.due.items own.1 c.args.fault.now c.in_ok-tap-in-None.tap.place c.in_ok-tap-in-None.ensures.place found h)) c.told_shown-in-None.ensures.shown
+    (of_session here lines pid a.client (stays_of a) a.due.items own.is c.args.fault.now c.in_ok-tap-in-None.tap.place c.in_ok-tap-in-None.ensures.place found h)) c.told_shown-in-None.ensures.shown

@@ -1,7 +1,7 @@
 use Rattle.std.proofs.Common.{Bor, ◌≡◌, ◌∙◌, ap, map, drop}
 use Rattle.std.proofs.lemmas.Result.{IfOk-weaker}
 use Rattle.aud_client.specs.declared.stay.Stay.{Stay}
-use Rattle.aud_evidence.specs.Window.{positions_received}
+use Rattle.aud_check.specs.Window.{positions_received}
 use Rattle.aud_findings.specs.Also.{also_seen, entry_also}
 use Rattle.aud_findings.specs.Received.{tail_positions}
 use Rattle.aud_findings.proofs.ByAccount.{after-first, tail-also}
@@ -17,7 +17,7 @@ returns c pid account =
     let received_is : received ≡ positions_received (map (λ stay. stay.now) a.stays.items) =
     c.as_slice-2.ensures.value ∙ c.in_ok-got.ensures ∙ ap (λ (stays : _). positions_received (map (λ (stay : Bor Stay). stay.now) stays)) c.as_slice.ensures.value in
     IfOk-weaker c.entries_also.result _ _ (λ also h.
-    tail-also here lines pid a.client (map (λ stay. stay.now) a.stays.items) a.due.items account received owed received_is c.as_slice-3.ensures.value
+    tail-also here lines pid a.client (map (λ stay. stay.now) a.stays.items) a.due.items account.is received owed received_is c.as_slice-3.ensures.value
     (map also_seen also.items)
     (h ∙ ap (map (entry_also here lines))
     (c.after_first.ensures ∙ ap (drop 1) (c.as_slice-4.ensures.value ∙ c.in_ok-tail.ensures) ∙ after-first (tail_positions received owed)))) c.entries_also.ensures

@@ -6,7 +6,7 @@ use Rattle.aud_laws.proofs.parts.reports_are_merged.Goals as goal
 
 pub returns : goal.returns
 returns c =
-    let kept = c.runs_keep_verdicts.ensures in
+    let kept = c.upgrades_keep_verdicts.ensures in
     let merges = c.merges_reports.ensures in
     record {
       verdicts = λ taps whole listing reports formed is given.

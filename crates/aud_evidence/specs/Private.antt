@@ -1,4 +1,0 @@
--- What contracts of private functions alone cite. No public clause rests on these words.
-pub mod Attachments
-pub mod Displaced
-pub mod Misplaced

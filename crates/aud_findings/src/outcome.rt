@@ -1,0 +1,82 @@
+//! What is found of a session.
+ghost use Rattle.std.specs.Prelude.{◌≡◌, IfOk, IfSome, is_some, map, option_map};
+ghost use Rattle.aud_account.specs.Account.{IsAccountOf};
+ghost use Rattle.aud_rows.specs.Seen.{row_seen};
+ghost use Rattle.aud_shown.specs.RowLists.{AreTrueRows};
+ghost use Rattle.aud_recording_faults.specs.Prepared.{IsPreparedOf};
+ghost use Rattle.aud_findings.specs.Also.{IsAlsoShown, also_seen};
+ghost use Rattle.aud_findings.specs.Received.{IsReceivedShown};
+ghost use Rattle.aud_findings.specs.ClientShown.{client_of, client_seen};
+ghost use Rattle.aud_findings.specs.Evidence.{IsEvidence};
+
+use crate::account::received_shown;
+use crate::also::also_found;
+use crate::client::client_of;
+use crate::evidence::evidence_of;
+use aud_account::Account;
+use aud_explanation::{Account as Received, Client};
+use aud_recording_faults::Prepared;
+use aud_rows::{Row, Sheet};
+use aud_verdict::Verdict;
+use std::alloc::{AllocError, Global};
+
+/// Another entry that has the fault too.
+#[derive(Debug, Drop)]
+pub struct AlsoShown {
+    /// Positions count from 1.
+    pub position: u64,
+    /// The lines that show it; lines count from 1.
+    pub lines: Vec<u64>,
+}
+
+/// What is found of a session. Rows and names are borrowed from the sheet alone.
+#[derive(Drop)]
+pub struct Outcome<'r> {
+    /// The client that had it; none where no tap of a client names it, or several do. Its connection is the one on
+    /// which the fault shows.
+    pub client: Option<Client<'r>>,
+    /// What was received of what was due; none where the delivery was not judged.
+    pub account: Option<Received>,
+    /// The records that show the fault.
+    pub evidence: Vec<Row<'r>>,
+    /// The other entries with the same fault, at most a hundred: of one that came twice those that came twice too, of
+    /// one that was lost those that were passed over too, of a tail those after its first one. None of other faults.
+    pub also: Vec<AlsoShown>,
+}
+
+/// What is found of the session with this pid, on which this is the verdict and of which this is the account. What was
+/// prepared is of the same recording; a tap that wasn't asked for there is read here.
+pub fn outcome_of<'r, 'a>(
+    alloc: Global,
+    sheet: Sheet<'r, 'a>,
+    prepared: &Prepared,
+    pid: &str,
+    verdict: &Verdict,
+    account: Option<&Account<'r, 'a>>,
+) -> Result<Outcome<'r>, AllocError>
+    requires prepared { IsPreparedOf sheet.recording.now prepared.now }
+    requires account { IfSome account (λ a. IsAccountOf sheet.recording.now pid.now a.now) }
+    ensures evidence { IfOk result (λ found.
+        IsEvidence sheet.entry.recording.now sheet.entry.lines.now pid.now
+        (is_some account.entry) verdict.now (map row_seen found.evidence.items)) }
+    ensures truth { IfOk result (λ found.
+        AreTrueRows sheet.entry.recording.now sheet.entry.lines.now found.evidence.items) }
+    ensures client { IfOk result (λ found. option_map client_seen found.client
+        ≡ client_of sheet.entry.recording.now pid.now (map row_seen found.evidence.items)) }
+    ensures account { IfOk result (λ found. IsReceivedShown sheet.entry.recording.now pid.now
+        (is_some account.entry) verdict.now found.account) }
+    ensures also { IfOk result (λ found.
+        IsAlsoShown sheet.entry.recording.now sheet.entry.lines.now pid.now
+        (is_some account.entry) verdict.now (map also_seen found.also.items)) }
+{
+    let evidence = evidence_of(alloc, &sheet, prepared, pid, verdict, account)?;
+    let client = client_of(alloc, &sheet, pid, &evidence)?;
+    let received = received_shown(alloc, verdict, account)?;
+    let also = also_found(alloc, &sheet, prepared, pid, verdict, account)?;
+    Ok(Outcome {
+        client,
+        account: received,
+        evidence,
+        also,
+    })
+}
