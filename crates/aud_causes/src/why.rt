@@ -210,8 +210,10 @@ fn push_next<'w>(
     figure: Option<Figure>,
     node: &str,
 ) -> Result<&'w str, AllocError>
-    ensures { IfOk result (λ rest. (texts : List (List ℕ)) → string_bytes text.new ++ filled rest.now texts
-        ≡ string_bytes text.old ++ filled words.now (map (figure_text node.now) (option_to_list figure) ++ texts)) }
+    ensures { IfOk result (λ rest. (texts : List (List ℕ))
+        → string_bytes text.new ++ filled rest.now texts
+        ≡ string_bytes text.old
+        ++ filled words.now (map (figure_text node.now) (option_to_list figure) ++ texts)) }
 {
     let Some(figure) = figure else {
         return Ok(words);

@@ -1,4 +1,7 @@
 //! Why a certificate is not read.
+ghost use Rattle.std.specs.Prelude.{◌≡◌};
+ghost use Rattle.aud_cert.specs.declared.text_fault.CertFault.TheVariants.{Memory};
+
 use std::alloc::{AllocError, AllocFailed};
 use std::fmt;
 use thiserror::Error;
@@ -33,9 +36,6 @@ impl fmt::Display for CertFault {
 }
 
 impl From<AllocError> for CertFault {
-    ghost use Rattle.std.specs.Prelude.{◌≡◌};
-    ghost use Rattle.aud_cert.specs.declared.text_fault.CertFault.TheVariants.{Memory};
-
     ghost from_gives = { λ _ e. e ≡ Memory };
 
     fn from(_: AllocError) -> CertFault {
@@ -44,9 +44,6 @@ impl From<AllocError> for CertFault {
 }
 
 impl<T: Drop> From<AllocFailed<T>> for CertFault {
-    ghost use Rattle.std.specs.Prelude.{◌≡◌};
-    ghost use Rattle.aud_cert.specs.declared.text_fault.CertFault.TheVariants.{Memory};
-
     ghost from_gives = { λ _ e. e ≡ Memory };
 
     fn from(_: AllocFailed<T>) -> CertFault {

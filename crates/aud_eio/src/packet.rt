@@ -1,4 +1,7 @@
 //! An Engine.IO packet, and why a text is none.
+ghost use Rattle.std.specs.Prelude.{◌≡◌};
+ghost use Rattle.aud_eio.specs.declared.packet.EioFault.TheVariants.{Memory};
+
 use std::alloc::{AllocError, AllocFailed};
 use thiserror::Error;
 
@@ -50,9 +53,6 @@ pub enum EioFault {
 }
 
 impl From<AllocError> for EioFault {
-    ghost use Rattle.std.specs.Prelude.{◌≡◌};
-    ghost use Rattle.aud_eio.specs.declared.packet.EioFault.TheVariants.{Memory};
-
     ghost from_gives = { λ _ e. e ≡ Memory };
 
     fn from(_: AllocError) -> EioFault {
@@ -61,9 +61,6 @@ impl From<AllocError> for EioFault {
 }
 
 impl<T: Drop> From<AllocFailed<T>> for EioFault {
-    ghost use Rattle.std.specs.Prelude.{◌≡◌};
-    ghost use Rattle.aud_eio.specs.declared.packet.EioFault.TheVariants.{Memory};
-
     ghost from_gives = { λ _ e. e ≡ Memory };
 
     fn from(_: AllocFailed<T>) -> EioFault {

@@ -15,7 +15,8 @@ pub(crate) fn behind<'r>(
     turns: &[Turn<'_>],
     position: u64,
 ) -> (Option<Row<'r>>, Option<Row<'r>>)
-    ensures rows { row_and (option_map row_seen result.0) (row_and (option_map row_seen result.1) [])
+    ensures rows { row_and (option_map row_seen result.0)
+        (row_and (option_map row_seen result.1) [])
         ≡ behind_rows sheet.now.recording.now sheet.now.lines.now turns.now position }
     ensures first { IfSome result.0 (IsTrueRow sheet.now.recording.now sheet.now.lines.now) }
     ensures second { IfSome result.1 (IsTrueRow sheet.now.recording.now sheet.now.lines.now) }

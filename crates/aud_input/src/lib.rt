@@ -62,6 +62,7 @@ pub use line_laws::{
     records_have_their_lines,
 };
 pub use line_runs::{LineRun, LineRuns};
+pub use name::{first_bytes, name_of};
 pub use part_lines::PartLines;
 pub use place::{FileLine, file_line};
 pub use reader::InputReader;

@@ -1,5 +1,5 @@
 //! The name that a line begins with.
-ghost use Rattle.std.specs.Prelude.{◌≡◌, ◌==◌, option_map, position, take};
+ghost use Rattle.std.specs.Prelude.{◌≡◌, ◌==◌, option_map, position, take, IfSome, IsTrue};
 ghost use Rattle.aud_tap.specs.Forms.{passing};
 ghost use Rattle.aud_tap.specs.TapName.{is_tap_name};
 ghost use Rattle.aud_input.specs.LineName.{name_of};
@@ -39,7 +39,8 @@ fn before_blank(line: &[u8]) -> Option<&[u8]>
 
 /// The bytes as a text, where that can be a tap's name.
 fn tap_name(name: &[u8]) -> Option<&str>
-    ensures { option_map (λ s. s.now) result ≡ passing is_tap_name name.now }
+    ensures value { option_map (λ s. s.now) result ≡ passing is_tap_name name.now }
+    ensures form { IfSome result (λ s. IsTrue (is_tap_name s.now)) }
 {
     let Ok(text) = str::from_utf8(name) else {
         return None;
@@ -49,14 +50,16 @@ fn tap_name(name: &[u8]) -> Option<&str>
 
 /// The name that these bytes begin with, where that can be a tap's.
 fn name_in(front: &[u8]) -> Option<&str>
-    ensures { option_map (λ s. s.now) result ≡ name_of front.now }
+    ensures value { option_map (λ s. s.now) result ≡ name_of front.now }
+    ensures form { IfSome result (λ s. IsTrue (is_tap_name s.now)) }
 {
     tap_name(before_blank(front)?)
 }
 
-/// The name that a line begins with, where that can be a tap's. No more than the line's front is looked at.
+/// The name that a line begins with, where that can be a tap's. No more than the line's first 33 bytes are looked at.
 pub fn name_of(line: &[u8]) -> Option<&str>
-    ensures { option_map (λ s. s.now) result ≡ name_of line.now }
+    ensures value { option_map (λ s. s.now) result ≡ name_of line.now }
+    ensures form { IfSome result (λ s. IsTrue (is_tap_name s.now)) }
 {
     name_in(first_bytes(FRONT, line))
 }

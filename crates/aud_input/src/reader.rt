@@ -141,7 +141,8 @@ impl InputReader {
     pub(crate) fn indexed(alloc: Global, keys: RandomState) -> InputReader
         ensures number { result.cut.number ≡ 1 }
         ensures going { result.fault ≡ None }
-        ensures input { (bytes : List ℕ) → input_to_come result bytes ≡ input_of Layout.Bundle bytes }
+        ensures input { (bytes : List ℕ) → input_to_come result bytes
+            ≡ input_of Layout.Bundle bytes }
         ensures lines { HasLines [] result }
     {
         InputReader {

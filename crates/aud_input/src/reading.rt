@@ -7,6 +7,7 @@ ghost use Rattle.aud_input.specs.Sources.{is_begun};
 ghost use Rattle.aud_base.specs.declared.watched.Watched.{Watched};
 ghost use Rattle.aud_base.specs.Watched.{inner_of, calls_of, has_failed};
 ghost use Rattle.aud_input.specs.Private.Feeding.{AreReadBefore, EndsFile, IsRead, IsReadWhole, IsRecordedOf, IsRefusedOf, IsWithin, TellsUnread, counts_after};
+ghost use Rattle.aud_input.specs.declared.reading.ReadingFault.TheVariants.{Memory};
 
 use crate::feeding::{Feeding, PIECE, READ_LIMIT};
 use crate::input::{Input, Layout};
@@ -49,9 +50,6 @@ pub enum ReadingFault {
 }
 
 impl From<AllocError> for ReadingFault {
-    ghost use Rattle.std.specs.Prelude.{◌≡◌};
-    ghost use Rattle.aud_input.specs.declared.reading.ReadingFault.TheVariants.{Memory};
-
     ghost from_gives = { λ _ e. e ≡ Memory };
 
     fn from(_: AllocError) -> ReadingFault {
@@ -60,9 +58,6 @@ impl From<AllocError> for ReadingFault {
 }
 
 impl<T: Drop> From<AllocFailed<T>> for ReadingFault {
-    ghost use Rattle.std.specs.Prelude.{◌≡◌};
-    ghost use Rattle.aud_input.specs.declared.reading.ReadingFault.TheVariants.{Memory};
-
     ghost from_gives = { λ _ e. e ≡ Memory };
 
     fn from(_: AllocFailed<T>) -> ReadingFault {

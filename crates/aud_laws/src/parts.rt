@@ -43,7 +43,8 @@ pub fn part_has_its_sessions()
 /// The answers in the report on a part are those on its sessions in the report on the whole recording, in their order
 /// there.
 pub fn part_is_reported_alike()
-    ensures { (taps : List Tap) (whole : Bool) (pids : List Text) (entries its : List SessionVerdict)
+    ensures { (taps : List Tap) (whole : Bool) (pids : List Text)
+        (entries its : List SessionVerdict)
         → KeepsClients pids taps → KeepsFirsts pids taps
         → AreVerdicts (cluster_of taps) whole (sessions_of (cluster_of taps)) entries
         → let part = cluster_of (part_for pids taps) in

@@ -1,7 +1,6 @@
 //! Where the lines of each tap stand in the files of an input.
 pub mod first_refusal;
 pub mod indexed_taps;
-pub mod line_name;
 pub mod run_lines;
 pub mod run_source;
 pub mod tap_lines;
@@ -16,8 +15,8 @@ ghost use Rattle.aud_parts.specs.FileLines.{AreTapsOf, file_lines, front_refusal
 ghost use Rattle.aud_parts.specs.IndexSoFar.{HasRead, IsBegun, IsCounted, KeepsPlaces, ReadSoFar, line_count, so_far, with_bytes, with_line};
 ghost use Rattle.aud_parts.specs.Private.IndexSteps.{HasEnded, HasEndedLast, Looks, MayEnd, placed_at};
 
-use crate::tap_index::line_name::name_of;
 use crate::tap_index::tap_runs::{Run, RunsByTap, TapRuns};
+use aud_input::{first_bytes, name_of};
 use aud_reader::{InputCode, ReadFault, next_line};
 use aud_tap::limits::MAX_LINE;
 use std::alloc::{AllocError, Global};
@@ -25,17 +24,6 @@ use std::hash::RandomState;
 
 /// So many bytes have a tap's name and the blank after it.
 const FRONT: usize = 33;
-
-/// The first bytes, so many, or all where there are fewer.
-fn first_bytes(count: usize, bytes: &[u8]) -> &[u8]
-    ensures { result.now ≡ take count bytes.now }
-{
-    if bytes.len() < count {
-        bytes
-    } else {
-        &bytes[..count]
-    }
-}
 
 /// A line that has begun.
 #[derive(Drop)]

@@ -1,5 +1,7 @@
 //! Why an input is refused.
 ghost use Rattle.std.specs.Prelude.{◌≡◌, Some, Err};
+ghost use Rattle.aud_reader.specs.declared.fault.ReadFault.TheVariants as read;
+ghost use Rattle.aud_reader.specs.declared.fault.LineFault.TheVariants as line;
 
 use std::alloc::{AllocError, AllocFailed};
 use std::fmt;
@@ -91,9 +93,7 @@ pub enum ReadFault {
 }
 
 impl From<AllocError> for ReadFault {
-    ghost use Rattle.aud_reader.specs.declared.fault.ReadFault.TheVariants.{Memory};
-
-    ghost from_gives = { λ _ e. e ≡ Memory };
+    ghost from_gives = { λ _ e. e ≡ read.Memory };
 
     fn from(_: AllocError) -> ReadFault {
         ReadFault::Memory
@@ -101,9 +101,7 @@ impl From<AllocError> for ReadFault {
 }
 
 impl<T: Drop> From<AllocFailed<T>> for ReadFault {
-    ghost use Rattle.aud_reader.specs.declared.fault.ReadFault.TheVariants.{Memory};
-
-    ghost from_gives = { λ _ e. e ≡ Memory };
+    ghost from_gives = { λ _ e. e ≡ read.Memory };
 
     fn from(_: AllocFailed<T>) -> ReadFault {
         ReadFault::Memory
@@ -120,9 +118,7 @@ pub enum LineFault {
 }
 
 impl From<AllocError> for LineFault {
-    ghost use Rattle.aud_reader.specs.declared.fault.LineFault.TheVariants.{Memory};
-
-    ghost from_gives = { λ _ e. e ≡ Memory };
+    ghost from_gives = { λ _ e. e ≡ line.Memory };
 
     fn from(_: AllocError) -> LineFault {
         LineFault::Memory
@@ -130,9 +126,7 @@ impl From<AllocError> for LineFault {
 }
 
 impl<T: Drop> From<AllocFailed<T>> for LineFault {
-    ghost use Rattle.aud_reader.specs.declared.fault.LineFault.TheVariants.{Memory};
-
-    ghost from_gives = { λ _ e. e ≡ Memory };
+    ghost from_gives = { λ _ e. e ≡ line.Memory };
 
     fn from(_: AllocFailed<T>) -> LineFault {
         LineFault::Memory

@@ -1,4 +1,7 @@
 //! Why a message is refused.
+ghost use Rattle.std.specs.Prelude.{◌≡◌};
+ghost use Rattle.aud_sio.specs.declared.fault.SioFault.TheVariants.{Memory};
+
 use std::alloc::{AllocError, AllocFailed};
 use thiserror::Error;
 
@@ -33,9 +36,6 @@ pub enum SioFault {
 }
 
 impl From<AllocError> for SioFault {
-    ghost use Rattle.std.specs.Prelude.{◌≡◌};
-    ghost use Rattle.aud_sio.specs.declared.fault.SioFault.TheVariants.{Memory};
-
     ghost from_gives = { λ _ e. e ≡ Memory };
 
     fn from(_: AllocError) -> SioFault {
@@ -44,9 +44,6 @@ impl From<AllocError> for SioFault {
 }
 
 impl<T: Drop> From<AllocFailed<T>> for SioFault {
-    ghost use Rattle.std.specs.Prelude.{◌≡◌};
-    ghost use Rattle.aud_sio.specs.declared.fault.SioFault.TheVariants.{Memory};
-
     ghost from_gives = { λ _ e. e ≡ Memory };
 
     fn from(_: AllocFailed<T>) -> SioFault {

@@ -1,4 +1,5 @@
-//! The names of taps, and the pids and sids of sessions.
+//! The names of taps, by themselves and before a line's first blank, and the pids and sids of sessions.
+use aud_input::{first_bytes, name_of};
 use aud_tap::{is_session_id, is_tap_name};
 
 static TAP_NAMES: [(&str, bool); 15] = [
@@ -26,6 +27,28 @@ fn tap_names(rt: HostRuntime) {
     for (name, wanted) in &TAP_NAMES {
         assert!(rt; is_tap_name(name) == *wanted, "{name}");
     }
+}
+
+static LINES: [(&str, Option<&str>); 7] = [
+    (r#"c1 {"k":"lost"}"#, Some("c1")),
+    ("c1 ", Some("c1")),
+    ("c1", None),
+    (" c1 {}", None),
+    ("a/b {}", None),
+    (
+        "a23456789a123456789b123456789c12 {}",
+        Some("a23456789a123456789b123456789c12"),
+    ),
+    ("a23456789a123456789b123456789c123 {}", None),
+];
+
+#[test]
+fn names_of_lines(rt: HostRuntime) {
+    for (line, wanted) in &LINES {
+        assert!(rt; name_of(line.as_bytes()) == *wanted, "{line}");
+    }
+    assert!(rt; first_bytes(2, b"c1 {}") == b"c1".as_slice());
+    assert!(rt; first_bytes(9, b"c1 {}") == b"c1 {}".as_slice());
 }
 
 static SESSION_IDS: [(&str, bool); 11] = [

@@ -1,4 +1,7 @@
 //! Why a text is no listing.
+ghost use Rattle.std.specs.Prelude.{◌≡◌};
+ghost use Rattle.aud_parts.specs.declared.listing.fault.ListingFault.TheVariants.{Memory};
+
 use std::alloc::{AllocError, AllocFailed};
 use thiserror::Error;
 
@@ -32,9 +35,6 @@ pub enum ListingFault {
 }
 
 impl From<AllocError> for ListingFault {
-    ghost use Rattle.std.specs.Prelude.{◌≡◌};
-    ghost use Rattle.aud_parts.specs.declared.listing.fault.ListingFault.TheVariants.{Memory};
-
     ghost from_gives = { λ _ e. e ≡ Memory };
 
     fn from(_: AllocError) -> ListingFault {
@@ -43,9 +43,6 @@ impl From<AllocError> for ListingFault {
 }
 
 impl<T: Drop> From<AllocFailed<T>> for ListingFault {
-    ghost use Rattle.std.specs.Prelude.{◌≡◌};
-    ghost use Rattle.aud_parts.specs.declared.listing.fault.ListingFault.TheVariants.{Memory};
-
     ghost from_gives = { λ _ e. e ≡ Memory };
 
     fn from(_: AllocFailed<T>) -> ListingFault {

@@ -1,4 +1,7 @@
 //! Why a text doesn't say from which lines of a recording those of a part come.
+ghost use Rattle.std.specs.Prelude.{◌≡◌};
+ghost use Rattle.aud_parts.specs.declared.named_lines.fault.LinesFault.TheVariants.{Memory};
+
 use std::alloc::{AllocError, AllocFailed};
 use thiserror::Error;
 
@@ -21,9 +24,6 @@ pub enum LinesFault {
 }
 
 impl From<AllocError> for LinesFault {
-    ghost use Rattle.std.specs.Prelude.{◌≡◌};
-    ghost use Rattle.aud_parts.specs.declared.named_lines.fault.LinesFault.TheVariants.{Memory};
-
     ghost from_gives = { λ _ e. e ≡ Memory };
 
     fn from(_: AllocError) -> LinesFault {
@@ -32,9 +32,6 @@ impl From<AllocError> for LinesFault {
 }
 
 impl<T: Drop> From<AllocFailed<T>> for LinesFault {
-    ghost use Rattle.std.specs.Prelude.{◌≡◌};
-    ghost use Rattle.aud_parts.specs.declared.named_lines.fault.LinesFault.TheVariants.{Memory};
-
     ghost from_gives = { λ _ e. e ≡ Memory };
 
     fn from(_: AllocFailed<T>) -> LinesFault {

@@ -47,7 +47,8 @@ impl Audience {
     fn note_tap(&mut self, own: &TextSet, tap: &Tap) -> Result<(), AllocError>
         ensures namespaces { OnOk result ((q : List ℕ) → has self.new.namespaces q
             ≡ (has self.old.namespaces q
-            || list_any (passes_own (has own.now) (opens_nsp q)) (node_recs (Some tap.now.records)))) }
+            || list_any (passes_own (has own.now) (opens_nsp q))
+            (node_recs (Some tap.now.records)))) }
         ensures rooms { OnOk result ((q : List ℕ) → has self.new.rooms q
             ≡ (has self.old.rooms q
             || list_any (passes_own (has own.now) (grants q)) (node_recs (Some tap.now.records)))) }

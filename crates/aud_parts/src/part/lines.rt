@@ -188,7 +188,8 @@ pub fn server_lines(
     part: &[Tap],
 ) -> Result<Vec<LineRuns>, AllocError>
     ensures count { IfOk result (λ all. OneForEach HasLinesOf part.now all.items) }
-    ensures named { IfOk result (λ all. OneForEach (NamesLines taps.now lines.now) part.now all.items) }
+    ensures named { IfOk result (λ all. OneForEach (NamesLines taps.now lines.now) part.now
+        all.items) }
 {
     let mut all = Vec::new(alloc);
     for tap in part {

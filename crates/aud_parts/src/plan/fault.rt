@@ -1,4 +1,7 @@
 //! The limits of a part, and why there is no plan.
+ghost use Rattle.std.specs.Prelude.{◌≡◌};
+ghost use Rattle.aud_parts.specs.declared.plan.fault.PlanFault.TheVariants.{Memory};
+
 use std::alloc::{AllocError, AllocFailed};
 use std::fmt;
 use thiserror::Error;
@@ -59,9 +62,6 @@ pub enum PlanFault {
 }
 
 impl From<AllocError> for PlanFault {
-    ghost use Rattle.std.specs.Prelude.{◌≡◌};
-    ghost use Rattle.aud_parts.specs.declared.plan.fault.PlanFault.TheVariants.{Memory};
-
     ghost from_gives = { λ _ e. e ≡ Memory };
 
     fn from(_: AllocError) -> PlanFault {
@@ -70,9 +70,6 @@ impl From<AllocError> for PlanFault {
 }
 
 impl<T: Drop> From<AllocFailed<T>> for PlanFault {
-    ghost use Rattle.std.specs.Prelude.{◌≡◌};
-    ghost use Rattle.aud_parts.specs.declared.plan.fault.PlanFault.TheVariants.{Memory};
-
     ghost from_gives = { λ _ e. e ≡ Memory };
 
     fn from(_: AllocFailed<T>) -> PlanFault {

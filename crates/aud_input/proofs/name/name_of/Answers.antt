@@ -3,5 +3,5 @@ use Rattle.aud_input.specs.LineName.{name_of}
 use Rattle.aud_input.proofs.NameLemmas.{name_of-front}
 use Rattle.aud_input.proofs.name.name_of.Goals as goal
 
-pub returns : goal.returns
-returns c = c.name_in.ensures ∙ ap name_of c.first_bytes.ensures ∙ name_of-front c.args.line.now
+pub returns-clause-value : goal.returns-clause-value
+returns-clause-value c = c.name_in.ensures.value ∙ ap name_of c.first_bytes.ensures ∙ name_of-front c.args.line.now
