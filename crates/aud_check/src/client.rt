@@ -16,7 +16,7 @@ use aud_node::Logs;
 use std::alloc::Global;
 
 /// How many of the due positions the client with this name received, where its tap tells of the session and nothing is
-/// wrong with what it received; else why not.
+/// wrong with what it received; else why not. The session's own stays are looked at, and no others.
 pub(crate) fn check_client(
     alloc: Global,
     logs: &Logs<'_>,
@@ -36,32 +36,9 @@ pub(crate) fn check_client(
     ensures refused { IfErr result (IsClientRefusal session.now
         (case_for logs.now client.now session.now.pid due.now)) }
 {
-    match transcript {
-        Some(transcript) => check_transcript(alloc, logs, session, client, transcript, due),
-        None => Err(Refusal::Names),
-    }
-}
-
-/// The same of a tap that is there. The session's own stays are looked at, and no others.
-fn check_transcript(
-    alloc: Global,
-    logs: &Logs<'_>,
-    session: &ShownSession<'_, '_>,
-    client: &str,
-    transcript: &IndexedTranscript<'_>,
-    due: &[u64],
-) -> Result<usize, Refusal>
-    requires transcript { Some transcript.now ≡ transcript_named logs.now client.now }
-    requires ascending { IsAscending due.now }
-    ensures named { OnOk result (are_of_session session.now
-        (case_for logs.now client.now session.now.pid due.now).stays ≡ true) }
-    ensures received { OnOk result (IsReceived (case_for logs.now client.now session.now.pid
-        due.now)) }
-    ensures got { IfOk result (λ got. got
-        ≡ length (case_for logs.now client.now session.now.pid due.now).frames) }
-    ensures refused { IfErr result (IsClientRefusal session.now
-        (case_for logs.now client.now session.now.pid due.now)) }
-{
+    let Some(transcript) = transcript else {
+        return Err(Refusal::Names);
+    };
     received_by_stays();
     let named = transcript.naming(alloc, session.pid)?;
     let stays = named.as_slice();

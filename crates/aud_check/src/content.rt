@@ -41,7 +41,7 @@ pub enum Part {
 
 /// The first of the frames whose text or attachments are not, byte for byte, those of the entry at its position; none
 /// where each frame is its entry.
-pub fn first_altered(stream: &Stream<'_>, frames: &[&Frame<'_>]) -> Option<Altered>
+pub(crate) fn first_altered(stream: &Stream<'_>, frames: &[&Frame<'_>]) -> Option<Altered>
     ensures { MatchOption result (AreEntries stream.now (map (λ frame. frame.now) frames.now))
         (IsAltered stream.now (map (λ frame. frame.now) frames.now)) }
 {

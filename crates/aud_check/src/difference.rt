@@ -33,7 +33,7 @@ pub enum Difference {
 
 /// The first difference between the positions received and those due; none where those due begin with those received.
 /// Both are gone through once, and once more at the difference.
-pub fn first_difference(received: &[u64], due: &[u64]) -> Option<Difference>
+pub(crate) fn first_difference(received: &[u64], due: &[u64]) -> Option<Difference>
     ensures first { result ≡ difference received.now due.now }
 
     // What is found is as it says, where those due ascend; where none is found there is none.

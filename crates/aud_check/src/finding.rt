@@ -87,7 +87,7 @@ fn position_of(frame: &Frame<'_>) -> u64
 }
 
 /// The fault that a verdict names for what was found over this stream.
-pub fn fault_shown(
+pub(crate) fn fault_shown(
     alloc: Global,
     stream: &Stream<'_>,
     finding: Finding,

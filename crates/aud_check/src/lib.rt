@@ -38,10 +38,9 @@ mod window;
 mod words;
 
 pub use certificate::{Accepted, check, check_delivery};
-pub use content::{Altered, Part, first_altered};
-pub use difference::{Difference, first_difference};
-pub use finding::{Finding, fault_shown, first_finding};
-pub use parting::first_parting;
+pub use content::{Altered, Part};
+pub use difference::Difference;
+pub use finding::{Finding, first_finding};
 pub use refusal::Refusal;
 pub use stays::frames_in;
-pub use window::{BadWindow, Misfit, first_bad_window};
+pub use window::{BadWindow, Misfit};

@@ -1,11 +1,11 @@
 //! Where two texts part.
-ghost use Rattle.std.specs.Prelude.{◌≡◌, ◌↔◌, IsTrue, MatchOption, length, slice_get, take};
+ghost use Rattle.std.specs.Prelude.{◌≡◌, ◌↔◌, IsTrue, MatchOption, slice_get};
 ghost use Rattle.aud_check.specs.Parting.{PartAt};
 
 /// The index of the first byte at which the two part: they differ there, or one of them ends. Bytes count from 0; none
 /// where they are the same. So it tells of an event that came where its text, or one of its attachments, isn't as in
 /// the entry.
-pub fn first_parting(one: &[u8], other: &[u8]) -> Option<usize>
+pub(crate) fn first_parting(one: &[u8], other: &[u8]) -> Option<usize>
     ensures { MatchOption result (one.now ≡ other.now) (PartAt one.now other.now) }
 {
     // (most are the same, and that is seen many bytes at a time)
@@ -17,19 +17,8 @@ pub fn first_parting(one: &[u8], other: &[u8]) -> Option<usize>
             return Some(i);
         }
     }
-    end_parting(one, other)
-}
-
-/// The same where the one is the front of the other.
-fn end_parting(one: &[u8], other: &[u8]) -> Option<usize>
-    requires { take (length one.now) one.now ≡ take (length one.now) other.now }
-    ensures { MatchOption result (one.now ≡ other.now) (PartAt one.now other.now) }
-{
-    let (end, other_end) = (one.len(), other.len());
-    if end < other_end {
-        return Some(end);
-    }
-    None
+    // (the other goes on, since they are not the same)
+    Some(one.len())
 }
 
 /// Whether both have the same byte there, or neither has one.

@@ -38,7 +38,7 @@ pub enum Misfit {
 /// frames in front of the stay and those from it on; none where there is none. The stays are those that name one
 /// session, and these are the positions of their frames. They are to ascend, as those do that were due, so only the
 /// last one before and the first one after are compared.
-pub fn first_bad_window(
+pub(crate) fn first_bad_window(
     stream: &Stream<'_>,
     stays: &[&Stay<'_>],
     positions: &[u64],

@@ -1,5 +1,6 @@
-use Rattle.std.proofs.Common.{◌≡◌, ◌<◌, ◌∙◌, length, take, sym, subst, arith, true≢false}
-use Rattle.aud_check.proofs.Parts.{same_more}
+use Rattle.std.proofs.Common.{◌≡◌, ◌<◌, ◌∙◌, true, length, take, sym, subst, arith, true≢false, bytes_eq}
+use Rattle.aud_base.proofs.SameText.{itself_text}
+use Rattle.aud_check.proofs.Parts.{same_more, goes_on}
 use Rattle.aud_check.proofs.parting.first_parting.Goals as goal
 
 pub returns-then-not-is_same_at : goal.returns-then-not-is_same_at
@@ -11,7 +12,8 @@ loop-i-preserved c =
     let h : c.loop-i.i < length c.args.one.now = omega arith in
     same_more c.args.one.now c.args.other.now c.loop-i.i h (c.is_same_at.ensures.0 c.if-not-is_same_at.false) c.loop-i.invariant
 
-pub end_parting-requires : goal.end_parting-requires
-end_parting-requires c =
+pub returns : goal.returns
+returns c =
     let end : c.loop-i.i ≡ length c.args.one.now = omega arith in
-    subst (λ n. take n c.args.one.now ≡ take n c.args.other.now) end c.loop-i.invariant
+    goes_on c.args.one.now c.args.other.now (subst (λ n. take n c.args.one.now ≡ take n c.args.other.now) end c.loop-i.invariant)
+    (λ same. true≢false (sym (subst (λ t. bytes_eq c.args.one.now t ≡ true) same (itself_text c.args.one.now)) ∙ sym c.eq.ensures ∙ c.if-eq.false))
