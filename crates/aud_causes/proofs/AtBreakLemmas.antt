@@ -9,11 +9,11 @@ use Rattle.aud_rooms.specs.Spans.{RoomSpan, due_by_spans, first_low}
 use Rattle.aud_rooms.specs.Turns.{Who, Turn, End, ByBreak, ByGone, ByLog, MayEnd, IsTurn, AreTurns, slice_of}
 use Rattle.aud_cert.specs.Certificate.{CertificateSeen, TurnSeen, turn_at}
 use Rattle.aud_maker.specs.Made.{IsMade}
-use Rattle.aud_recoveries.specs.Missed.{rooms_at_break}
-use Rattle.aud_recoveries.specs.Opened.{opened_in}
-use Rattle.aud_recoveries.specs.Held.{walked_turns}
-use Rattle.aud_recoveries.proofs.HeldLemmas.{turns_held}
-use Rattle.aud_recoveries.proofs.MissedLemmas.{opened_is, due_is_missed}
+use Rattle.aud_session_facts.specs.Missed.{rooms_at_break}
+use Rattle.aud_session_facts.specs.Opened.{opened_in}
+use Rattle.aud_session_facts.specs.Held.{walked_turns}
+use Rattle.aud_session_facts.proofs.HeldLemmas.{turns_held}
+use Rattle.aud_session_facts.proofs.MissedLemmas.{opened_is, due_is_missed}
 use Rattle.aud_causes.specs.declared.facts.Replay.{Replay}
 use Rattle.aud_causes.specs.AtBreak.{due_at_break}
 

@@ -9,10 +9,10 @@ use Rattle.std.proofs.lemmas.Option.{none-some, same_Some, get_or_from_slice_get
 use Rattle.aud_base.specs.Lists.{numbers_from}
 use Rattle.aud_base.proofs.Numbers.{slice_get-numbers}
 use Rattle.aud_merge.proofs.Basics.{slice_get-set_same, slice_get-set_other}
-use Rattle.aud_recoveries.proofs.Steps.{given-more}
+use Rattle.aud_session_facts.proofs.Steps.{given-more}
 use Rattle.aud_rooms.proofs.Ascending.{length-numbers}
-use Rattle.aud_chain.specs.declared.marks.TurnMark.{TurnMark}
-use Rattle.aud_chain.specs.declared.place.RecordPlace.{RecordPlace}
+use Rattle.aud_session_facts.specs.declared.marks.TurnMark.{TurnMark}
+use Rattle.aud_session_facts.specs.declared.place.RecordPlace.{RecordPlace}
 use Rattle.aud_causes.specs.Private.Noting.{begin_at, begin_in, with_begin, break_in, with_break}
 use Rattle.aud_causes.specs.Turns.{begin_of, begins_of, begun_turn, breaks_of, broken_turn, is_broken, is_turn, turn_count}
 

@@ -6,7 +6,7 @@ use Rattle.std.specs.Option.{option_and_then}
 use Rattle.aud_node.specs.Cluster.{Cluster}
 use Rattle.aud_client.specs.StaySeen.{StaySeen, FrameSeen}
 use Rattle.aud_rooms.specs.Turns.{Who, Turn}
-use Rattle.aud_recoveries.specs.Missed.{missed_between, rooms_at_break as rooms_held_after}
+use Rattle.aud_session_facts.specs.Missed.{missed_between, rooms_at_break as rooms_held_after}
 use Rattle.aud_causes.specs.declared.cause.Cause.{Cause}
 use Rattle.aud_causes.specs.declared.cause.Cause.TheVariants.{RoomsAtBreak}
 use Rattle.aud_causes.specs.declared.facts.Replay.{Replay}

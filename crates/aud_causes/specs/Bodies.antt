@@ -7,7 +7,7 @@ use Rattle.aud_node.specs.Cluster.{Cluster}
 use Rattle.aud_node.specs.NodeTaps.{client_at}
 use Rattle.aud_client.specs.Received.{TranscriptSeen, transcript_at}
 use Rattle.aud_client.specs.StayPlaces.{PlacesSeen}
-use Rattle.aud_recoveries.specs.Recoveries.{stays_at}
+use Rattle.aud_session_facts.specs.Recoveries.{stays_at}
 use Rattle.aud_shown.specs.declared.frame_place.FramePlace.{FramePlace}
 use Rattle.aud_shown.specs.FramePlaces.{frame_at}
 use Rattle.aud_causes.specs.declared.cause.Cause.{Cause}

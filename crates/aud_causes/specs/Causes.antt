@@ -9,8 +9,8 @@ use Rattle.aud_maker.specs.Made.{IsMade}
 use Rattle.aud_verdict.specs.declared.verdict.Verdict.{Verdict}
 use Rattle.aud_verdict.specs.declared.verdict.Verdict.TheVariants.{Yes, No}
 use Rattle.aud_input.specs.TapLines.{TapLines}
-use Rattle.aud_recoveries.specs.Recoveries.{stays_at}
-use Rattle.aud_account.specs.declared.account.Account.{Account}
+use Rattle.aud_session_facts.specs.Recoveries.{stays_at}
+use Rattle.aud_session_facts.specs.declared.account.Account.{Account}
 use Rattle.aud_causes.specs.declared.cause.Cause.{Cause}
 use Rattle.aud_causes.specs.declared.causes.Noted.{Noted}
 use Rattle.aud_causes.specs.declared.found.CauseFound.{CauseFound}

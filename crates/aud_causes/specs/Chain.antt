@@ -3,7 +3,7 @@ use Rattle.std.specs.Prelude.{◌++◌, List}
 use Rattle.aud_node.specs.Cluster.{Cluster}
 use Rattle.aud_node.specs.Stream.{Text}
 use Rattle.aud_client.specs.StaySeen.{StaySeen}
-use Rattle.aud_chain.specs.declared.marks.TurnMark.{TurnMark}
+use Rattle.aud_session_facts.specs.declared.marks.TurnMark.{TurnMark}
 use Rattle.aud_causes.specs.declared.cause.Cause.{Cause}
 use Rattle.aud_causes.specs.Cleared.{cleared_after_break}
 use Rattle.aud_causes.specs.Differences.{cause_and}

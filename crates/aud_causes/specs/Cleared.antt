@@ -10,7 +10,7 @@ use Rattle.aud_node.specs.NodeTaps.{node_at}
 use Rattle.aud_node.specs.OwnPlaces.{own_places}
 use Rattle.aud_node.specs.OwnRecords.{own_numbers}
 use Rattle.aud_node.specs.Stream.{Text}
-use Rattle.aud_chain.specs.declared.place.RecordPlace.{RecordPlace}
+use Rattle.aud_session_facts.specs.declared.place.RecordPlace.{RecordPlace}
 use Rattle.aud_causes.specs.declared.cause.Cause.{Cause}
 use Rattle.aud_causes.specs.declared.cause.Cause.TheVariants.{ClearedAfterBreak}
 

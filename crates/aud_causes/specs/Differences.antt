@@ -10,9 +10,9 @@ use Rattle.aud_maker.specs.Made.{IsMade}
 use Rattle.aud_check.specs.Difference.{has_position}
 use Rattle.aud_check.specs.declared.difference.Difference.{Difference}
 use Rattle.aud_check.specs.declared.difference.Difference.TheVariants.{Extra, Doubled, Swapped, Lost}
-use Rattle.aud_reach.specs.Reasons.{Reason}
-use Rattle.aud_reach.specs.NotDue.{why_not_due}
-use Rattle.aud_account.specs.declared.account.Account.{Account}
+use Rattle.aud_session_facts.specs.Reasons.{Reason}
+use Rattle.aud_session_facts.specs.NotDue.{why_not_due}
+use Rattle.aud_session_facts.specs.declared.account.Account.{Account}
 use Rattle.aud_causes.specs.declared.cause.Cause.{Cause}
 use Rattle.aud_causes.specs.declared.cause.Cause.TheVariants.{OffsetOfAnotherSession}
 use Rattle.aud_causes.specs.declared.facts.Facts.{Facts}

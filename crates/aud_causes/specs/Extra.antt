@@ -9,15 +9,15 @@ use Rattle.aud_node.specs.Stream.{Text, entry}
 use Rattle.aud_node.specs.TurnRecords.{ends_any_turn}
 use Rattle.aud_rooms.specs.Turns.{Turn}
 use Rattle.aud_cert.specs.Certificate.{TurnSeen}
-use Rattle.aud_chain.specs.declared.place.RecordPlace.{RecordPlace}
+use Rattle.aud_session_facts.specs.declared.place.RecordPlace.{RecordPlace}
 use Rattle.aud_merge.specs.declared.step.Step.{Step}
 use Rattle.aud_merge.specs.ByTurns.{reaching_step}
-use Rattle.aud_recoveries.specs.Opened.{greatest_turn_high}
-use Rattle.aud_reach.specs.declared.reach.Reach.{Reach}
-use Rattle.aud_reach.specs.declared.change.RoomChange.{RoomChange}
-use Rattle.aud_reach.specs.Changes.{last_change_before}
-use Rattle.aud_reach.specs.Reach.{first_turn_reaching}
-use Rattle.aud_reach.specs.Reasons.{Reason, BeforeBirth, InNoTurn, OtherNamespace, NoCommonRoom, Excepted}
+use Rattle.aud_session_facts.specs.Opened.{greatest_turn_high}
+use Rattle.aud_session_facts.specs.declared.reach.Reach.{Reach}
+use Rattle.aud_session_facts.specs.declared.change.RoomChange.{RoomChange}
+use Rattle.aud_session_facts.specs.Changes.{last_change_before}
+use Rattle.aud_session_facts.specs.Reach.{first_turn_reaching}
+use Rattle.aud_session_facts.specs.Reasons.{Reason, BeforeBirth, InNoTurn, OtherNamespace, NoCommonRoom, Excepted}
 use Rattle.aud_causes.specs.declared.cause.Cause.{Cause}
 use Rattle.aud_causes.specs.declared.cause.Cause.TheVariants as cause
 use Rattle.aud_causes.specs.declared.facts.Facts.{Facts}

@@ -1,7 +1,7 @@
 -- Sentences whose words have places for figures.
 use Rattle.std.specs.Prelude.{ℕ, suc, Bool, List, [], ◌∷◌, ◌++◌, decimal, if◌then◌else◌, ◌==◌}
 use Rattle.std.specs.List.{after_first, before_first, list_any}
-use Rattle.aud_no_packet.specs.Words.{refusal_text}
+use Rattle.aud_refusals.specs.Words.{refusal_text}
 use Rattle.aud_causes.specs.declared.why.Figure.{Figure}
 use Rattle.aud_causes.specs.declared.why.Figure.TheVariants.{Name, Number, Nth, Refused}
 

@@ -8,8 +8,8 @@ use Rattle.aud_cert.specs.declared.fault.Fault.{Fault}
 use Rattle.aud_cert.specs.declared.fault.Fault.TheVariants as fault
 use Rattle.aud_check.specs.declared.finding.Finding.{Finding}
 use Rattle.aud_check.specs.declared.finding.Finding.TheVariants.{Content, Delivery, Window}
-use Rattle.aud_recoveries.specs.Opened.{opened_in}
-use Rattle.aud_account.specs.Account.{found_for}
+use Rattle.aud_session_facts.specs.Opened.{opened_in}
+use Rattle.aud_session_facts.specs.Account.{found_for}
 use Rattle.aud_causes.specs.declared.cause.Cause.{Cause}
 use Rattle.aud_causes.specs.declared.cause.Cause.TheVariants.{NotAPacket}
 use Rattle.aud_causes.specs.Differences.{Case, difference_causes}

@@ -1,10 +1,10 @@
 -- A session's last turn, by the records that begin and end turns.
 use Rattle.std.specs.Prelude.{ℕ, ◌-◌, Bool, true, false, ◌&&◌, List, Option, nat_eq, nat_lt}
 use Rattle.std.specs.List.{list_any}
-use Rattle.aud_chain.specs.declared.marks.Mark.{Mark}
-use Rattle.aud_chain.specs.declared.marks.Mark.TheVariants as mark
-use Rattle.aud_chain.specs.declared.marks.TurnMark.{TurnMark}
-use Rattle.aud_chain.specs.declared.place.RecordPlace.{RecordPlace}
+use Rattle.aud_session_facts.specs.declared.marks.Mark.{Mark}
+use Rattle.aud_session_facts.specs.declared.marks.Mark.TheVariants as mark
+use Rattle.aud_session_facts.specs.declared.marks.TurnMark.{TurnMark}
+use Rattle.aud_session_facts.specs.declared.place.RecordPlace.{RecordPlace}
 use Rattle.aud_causes.specs.Turns.{begin_of, turn_count}
 
 -- the number of the last turn that one of these begins

@@ -4,7 +4,7 @@ use Rattle.std.specs.List.{list_any}
 use Rattle.std.specs.Str.{bytes_eq}
 use Rattle.aud_node.specs.Stream.{Text}
 use Rattle.aud_cert.specs.Certificate.{TurnSeen}
-use Rattle.aud_recoveries.specs.Opened.{opened_in}
+use Rattle.aud_session_facts.specs.Opened.{opened_in}
 use Rattle.aud_causes.specs.declared.cause.Cause.{Cause}
 use Rattle.aud_causes.specs.declared.cause.Cause.TheVariants.{LeaveMissing}
 use Rattle.aud_causes.specs.declared.facts.Facts.{Facts}

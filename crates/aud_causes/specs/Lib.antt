@@ -2,7 +2,7 @@ pub use Rattle.aud_node.specs.Cluster
 pub use Rattle.aud_node.specs.Stream
 pub use Rattle.aud_rows.specs.ClientPlaces
 pub use Rattle.aud_maker.specs.Made
-pub use Rattle.aud_account.specs.Account
+pub use Rattle.aud_session_facts.specs.Account
 pub mod Filled
 pub mod NoPacket
 pub mod Words

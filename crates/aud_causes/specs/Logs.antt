@@ -10,7 +10,7 @@ use Rattle.aud_client.specs.StaySeen.{StaySeen}
 use Rattle.aud_node.specs.Cluster.{Cluster, node_log}
 use Rattle.aud_node.specs.Cursors.{cursor_at}
 use Rattle.aud_node.specs.Stream.{position}
-use Rattle.aud_chain.specs.declared.place.RecordPlace.{RecordPlace}
+use Rattle.aud_session_facts.specs.declared.place.RecordPlace.{RecordPlace}
 use Rattle.aud_causes.specs.declared.cause.Cause.{Cause}
 use Rattle.aud_causes.specs.Facts.{is_recovery}
 use Rattle.aud_causes.specs.declared.cause.Cause.TheVariants.{NoStart, RestartedInOldLog, NotInStream, EntriesSkippedByNode, EntryTakenAgain}

@@ -6,10 +6,10 @@ use Rattle.aud_node.specs.Cluster.{Cluster}
 use Rattle.aud_node.specs.NodeTaps.{client_at}
 use Rattle.aud_client.specs.Received.{TranscriptSeen, transcript_at}
 use Rattle.aud_sio.specs.declared.fault.SioFault.TheVariants as sio
-use Rattle.aud_no_packet.specs.declared.no_packet.NoPacket.{NoPacket}
-use Rattle.aud_no_packet.specs.declared.no_packet.Refusal.{Refusal}
-use Rattle.aud_no_packet.specs.declared.no_packet.Refusal.TheVariants.{Engine, Socket}
-use Rattle.aud_no_packet.specs.NoPacket.{no_packet_at}
+use Rattle.aud_refusals.specs.declared.no_packet.NoPacket.{NoPacket}
+use Rattle.aud_refusals.specs.declared.no_packet.Refusal.{Refusal}
+use Rattle.aud_refusals.specs.declared.no_packet.Refusal.TheVariants.{Engine, Socket}
+use Rattle.aud_refusals.specs.NoPacket.{no_packet_at}
 use Rattle.aud_causes.specs.declared.why.Figure.{Figure}
 use Rattle.aud_causes.specs.declared.why.Figure.TheVariants.{Number, Refused}
 

@@ -11,7 +11,7 @@ use Rattle.aud_client.specs.Received.{TranscriptSeen, transcript_at}
 use Rattle.aud_client.specs.Replies.{ReplySeen}
 use Rattle.aud_client.specs.StayPlaces.{PlacesSeen}
 use Rattle.aud_client.specs.StaySeen.{AskedSeen, StaySeen}
-use Rattle.aud_recoveries.specs.Recoveries.{stays_at}
+use Rattle.aud_session_facts.specs.Recoveries.{stays_at}
 use Rattle.aud_causes.specs.declared.cause.Cause.{Cause}
 use Rattle.aud_causes.specs.declared.cause.Cause.TheVariants.{TapBeganLate, CutBeforeReply, ReplyWithoutPid, OutAfterAnswer, SecondConnect, AfterDisconnect}
 use Rattle.aud_causes.specs.Delivery.{cause_if}

@@ -12,9 +12,9 @@ use Rattle.aud_client.specs.Replies.{naming_places}
 use Rattle.aud_client.specs.StaySeen.{StaySeen}
 use Rattle.aud_cert.specs.declared.fault.Fault.{Fault}
 use Rattle.aud_cert.specs.declared.fault.Fault.TheVariants as fault
-use Rattle.aud_chain.specs.declared.place.RecordPlace.{RecordPlace}
-use Rattle.aud_chain.specs.Marks.{turn_marks}
-use Rattle.aud_recoveries.specs.Recoveries.{stays_at}
+use Rattle.aud_session_facts.specs.declared.place.RecordPlace.{RecordPlace}
+use Rattle.aud_session_facts.specs.Marks.{turn_marks}
+use Rattle.aud_session_facts.specs.Recoveries.{stays_at}
 use Rattle.aud_causes.specs.declared.cause.Cause.{Cause}
 use Rattle.aud_causes.specs.declared.cause.Cause.TheVariants.{NodeNotTapped, OpenNotRecorded}
 use Rattle.aud_causes.specs.Chain.{chain_causes}

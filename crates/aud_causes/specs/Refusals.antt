@@ -8,11 +8,11 @@ use Rattle.aud_node.specs.NodeTaps.{node_at}
 use Rattle.aud_node.specs.Stream.{Text, position}
 use Rattle.aud_client.specs.Replies.{ReplySeen}
 use Rattle.aud_client.specs.StaySeen.{AskedSeen, StaySeen}
-use Rattle.aud_chain.specs.declared.place.RecordPlace.{RecordPlace}
-use Rattle.aud_chain.specs.declared.marks.Mark.{Mark}
-use Rattle.aud_chain.specs.declared.marks.Mark.TheVariants as mark
-use Rattle.aud_chain.specs.declared.marks.TurnMark.{TurnMark}
-use Rattle.aud_chain.specs.Marks.{turn_marks}
+use Rattle.aud_session_facts.specs.declared.place.RecordPlace.{RecordPlace}
+use Rattle.aud_session_facts.specs.declared.marks.Mark.{Mark}
+use Rattle.aud_session_facts.specs.declared.marks.Mark.TheVariants as mark
+use Rattle.aud_session_facts.specs.declared.marks.TurnMark.{TurnMark}
+use Rattle.aud_session_facts.specs.Marks.{turn_marks}
 use Rattle.aud_causes.specs.declared.cause.Cause.{Cause}
 use Rattle.aud_causes.specs.declared.cause.Cause.TheVariants.{NoOffset, UnknownOffset, SessionOver, NodeEndedInTurn, NeverBroken, AskedTooEarly}
 use Rattle.aud_causes.specs.Delivery.{cause_if, held}

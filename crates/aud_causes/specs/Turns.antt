@@ -4,10 +4,10 @@ use Rattle.std.specs.Prelude.{ℕ, suc, Bool, false, ◌++◌, List, [], ◌∷�
 use Rattle.std.specs.List.{find, list_any}
 use Rattle.std.specs.Option.{option_map, option_and_then}
 use Rattle.aud_base.specs.Lists.{numbers_from}
-use Rattle.aud_chain.specs.declared.marks.Mark.{Mark}
-use Rattle.aud_chain.specs.declared.marks.Mark.TheVariants as mark
-use Rattle.aud_chain.specs.declared.marks.TurnMark.{TurnMark}
-use Rattle.aud_chain.specs.declared.place.RecordPlace.{RecordPlace}
+use Rattle.aud_session_facts.specs.declared.marks.Mark.{Mark}
+use Rattle.aud_session_facts.specs.declared.marks.Mark.TheVariants as mark
+use Rattle.aud_session_facts.specs.declared.marks.TurnMark.{TurnMark}
+use Rattle.aud_session_facts.specs.declared.place.RecordPlace.{RecordPlace}
 use Rattle.aud_causes.specs.declared.cause.Cause.{Cause}
 use Rattle.aud_causes.specs.declared.cause.Cause.TheVariants.{MissingBreak, NodeNotTapped}
 use Rattle.aud_causes.specs.declared.turns.Unbroken.{Unbroken}

@@ -1,10 +1,10 @@
 -- A turn for which two records take the session back.
 use Rattle.std.specs.Prelude.{ℕ, Bool, not, ◌&&◌, ◌||◌, List, [], ◌∷◌, Option, Some, None, if◌then◌else◌, nat_eq, slice_get}
 use Rattle.std.specs.Option.{option_and_then, option_or}
-use Rattle.aud_chain.specs.declared.marks.Mark.{Mark}
-use Rattle.aud_chain.specs.declared.marks.Mark.TheVariants as mark
-use Rattle.aud_chain.specs.declared.marks.TurnMark.{TurnMark}
-use Rattle.aud_chain.specs.declared.place.RecordPlace.{RecordPlace}
+use Rattle.aud_session_facts.specs.declared.marks.Mark.{Mark}
+use Rattle.aud_session_facts.specs.declared.marks.Mark.TheVariants as mark
+use Rattle.aud_session_facts.specs.declared.marks.TurnMark.{TurnMark}
+use Rattle.aud_session_facts.specs.declared.place.RecordPlace.{RecordPlace}
 use Rattle.aud_causes.specs.declared.cause.Cause.{Cause}
 use Rattle.aud_causes.specs.declared.cause.Cause.TheVariants.{TurnNotStored, RecoveredTwice}
 use Rattle.aud_causes.specs.declared.twice.Twice.{Twice}

@@ -11,8 +11,8 @@ use crate::live::is_replayed;
 use aud_cert::{Certificate, Turn};
 use aud_client::{Frame, Recording, Stay};
 use aud_maker::made_is_over;
-use aud_recoveries::{opened_in, spans_held};
 use aud_rooms::due_of;
+use aud_session_facts::{opened_in, spans_held};
 use std::alloc::{AllocError, Global};
 
 /// Where the entry was to be replayed, and of all those that were exactly those came in the stay that are addressed to

@@ -5,8 +5,8 @@ ghost use Rattle.aud_causes.specs.Behind.{behind_at, first_behind, first_of, las
 use crate::cause::Cause;
 use crate::facts::Facts;
 use aud_cert::{Turn, turn_place};
-use aud_chain::RecordPlace;
 use aud_node::Logs;
+use aud_session_facts::RecordPlace;
 
 /// Where the two frames stand in two stays, and a turn begins before the entry that the turn before it had reached. It
 /// costs the turns.

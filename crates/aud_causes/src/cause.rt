@@ -3,9 +3,9 @@ ghost use Rattle.std.specs.Prelude.{◌≡◌};
 ghost use Rattle.aud_causes.specs.Words.{id_text, todo_text};
 
 use crate::no_packet::advice;
-use aud_chain::RecordPlace;
 use aud_check::Part;
-use aud_no_packet::NoPacket;
+use aud_refusals::NoPacket;
+use aud_session_facts::RecordPlace;
 
 /// What a fault may come from, with what shows it. Positions of the stream count from 1; all else from 0: frames over
 /// all that was received of the session, in the order of the client's tap, and stays among those whose reply names it.

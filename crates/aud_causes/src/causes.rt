@@ -10,11 +10,10 @@ use crate::cause::Cause;
 use crate::found::{CauseFound, shown_causes};
 use crate::judged::judged_causes;
 use crate::recorded::recorded_causes;
-use aud_account::Account;
 use aud_cert::Fault;
-use aud_chain::RecordPlace;
 use aud_client::Recording;
 use aud_rows::{ClientPlaces, Sheet};
+use aud_session_facts::{Account, RecordPlace};
 use aud_verdict::Verdict;
 use std::alloc::{AllocError, Global};
 

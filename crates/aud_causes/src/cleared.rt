@@ -5,8 +5,8 @@ ghost use Rattle.aud_node.specs.OwnRecords.{own_numbers};
 ghost use Rattle.aud_causes.specs.Cleared.{broke_by, cleared_after_break, cleared_at, cleared_by, cleared_in, cleared_on, first_cleared};
 
 use crate::cause::Cause;
-use aud_chain::RecordPlace;
 use aud_node::{Logs, NodeLog};
+use aud_session_facts::RecordPlace;
 use aud_tap::NodeRec;
 
 /// Where a node's log has a `leave` or the `gone` of the session after its `break`, and no turn of it begins between

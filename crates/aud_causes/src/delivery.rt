@@ -2,7 +2,7 @@
 ghost use Rattle.std.specs.Prelude.{◌≡◌, ℕ, IfOk, List, map, option_map};
 ghost use Rattle.aud_check.specs.Difference.{has_position};
 ghost use Rattle.aud_maker.specs.Made.{IsMade};
-ghost use Rattle.aud_reach.specs.NotDue.{reason_of};
+ghost use Rattle.aud_session_facts.specs.NotDue.{reason_of};
 ghost use Rattle.aud_causes.specs.Differences.{case_of, difference_causes, doubled_causes, doubled_in, extra_causes, extra_in, lost_causes, lost_in, offset_of_another, other_session_after, other_session_before, swapped_causes};
 
 use crate::at_break::{first_taken, rooms_at_break};
@@ -18,12 +18,11 @@ use crate::list::held;
 use crate::live::{
     doubled_live, lost_live, sent_again, skipped_in_window, stale_offset, swapped_live,
 };
-use aud_account::Account;
 use aud_cert::Turn;
 use aud_check::Difference;
 use aud_client::{Recording, Stay};
 use aud_node::Logs;
-use aud_reach::{NotDue, why_not_due};
+use aud_session_facts::{Account, NotDue, why_not_due};
 use std::alloc::{AllocError, Global};
 
 /// The causes of the difference, of those that a difference of its kind can have. The account is the session's, and

@@ -2,7 +2,7 @@
 ghost use Rattle.std.specs.Prelude.{◌≡◌, map, option_map};
 ghost use Rattle.std.specs.Option.{option_copied};
 ghost use Rattle.aud_cert.specs.Certificate.{turn_at};
-ghost use Rattle.aud_reach.specs.NotDue.{reason_of};
+ghost use Rattle.aud_session_facts.specs.NotDue.{reason_of};
 ghost use Rattle.aud_causes.specs.Extra.{before_birth, change_missing, ends_turn, extra_live, first_left, goes_on, is_unaddressed, late_leave, left_before, log_ended_early, reached_at, rooms_named};
 
 use crate::behind::{first_of, last_of};
@@ -10,10 +10,8 @@ use crate::cause::Cause;
 use crate::facts::Facts;
 use crate::live::is_outside;
 use aud_cert::Turn;
-use aud_chain::RecordPlace;
 use aud_node::Logs;
-use aud_reach::{NotDue, Reach, first_reach, last_change_of};
-use aud_recoveries::greatest_high;
+use aud_session_facts::{NotDue, Reach, RecordPlace, first_reach, greatest_high, last_change_of};
 use aud_tap::{NodeRec, StreamRec, Text};
 
 /// Where the session reached the entry in no turn, and the log of its last turn ends in that turn.

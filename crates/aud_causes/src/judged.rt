@@ -15,11 +15,10 @@ use crate::names::{first_other, named_causes};
 use crate::no_packet::no_packet_in;
 use crate::orphans::orphan_causes;
 use crate::window::window_causes;
-use aud_account::Account;
 use aud_cert::{Fault, Turn};
 use aud_check::{Altered, Finding};
 use aud_client::{Recording, Stay};
-use aud_recoveries::opened_in;
+use aud_session_facts::{Account, opened_in};
 use std::alloc::{AllocError, Global};
 
 /// The causes of such a fault. These are the numbers of the session's stays in its client's tap; where that has events

@@ -4,7 +4,7 @@ ghost use Rattle.aud_causes.specs.LastTurn.{ends_after, is_end, is_ended, last_b
 ghost use Rattle.aud_causes.specs.Turns.{begin_of, is_broken, is_turn};
 
 use crate::turns::{begun_turn, broken_turn, turn_count};
-use aud_chain::{Mark, RecordPlace, TurnMark};
+use aud_session_facts::{Mark, RecordPlace, TurnMark};
 
 /// The number of the last turn that one of these begins; 0 where none begins one.
 pub(crate) fn last_turn(marks: &[TurnMark]) -> usize

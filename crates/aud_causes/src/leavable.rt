@@ -1,13 +1,13 @@
 //! A `leave` that no log has, of an entry that was lost.
 ghost use Rattle.std.specs.Prelude.{◌≡◌};
-ghost use Rattle.aud_recoveries.specs.Opened.{opened_in};
+ghost use Rattle.aud_session_facts.specs.Opened.{opened_in};
 ghost use Rattle.aud_causes.specs.Leavable.{are_leavable, leave_missing, leave_missing_in, own_room};
 
 use crate::cause::Cause;
 use crate::facts::Facts;
 use crate::live::is_taken_live;
 use aud_cert::Turn;
-use aud_recoveries::opened_in;
+use aud_session_facts::opened_in;
 use aud_tap::Text;
 
 /// Where the entry was left out while the client was connected, and would not be due if the session of these turns had

@@ -6,9 +6,9 @@ ghost use Rattle.aud_causes.specs.Logs.{first_cause, later_cause, not_the_next, 
 
 use crate::cause::Cause;
 use crate::facts::is_recovery;
-use aud_chain::RecordPlace;
 use aud_client::Stay;
 use aud_node::{Logs, NodeLog, Stream};
+use aud_session_facts::RecordPlace;
 use aud_tap::{NodeRec, Text};
 use std::alloc::{AllocError, Global};
 

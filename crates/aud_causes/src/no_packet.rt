@@ -6,7 +6,7 @@ ghost use Rattle.aud_causes.specs.NoPacket.{advice, no_packet_figures, no_packet
 
 use crate::why::Figure;
 use aud_client::Recording;
-use aud_no_packet::{NoPacket, Refusal, no_packet_at};
+use aud_refusals::{NoPacket, Refusal, no_packet_at};
 use aud_sio::SioFault;
 use std::alloc::{AllocError, Global};
 

@@ -2,7 +2,7 @@
 ghost use Rattle.std.specs.Prelude.{◌≡◌, ◌++◌, IfOk, None, OnOk, codes, nat_eq, slice_get};
 ghost use Rattle.std.specs.List.{starts_with};
 ghost use Rattle.std.specs.Option.{option_copied};
-ghost use Rattle.aud_recoveries.specs.Recoveries.{stays_at};
+ghost use Rattle.aud_session_facts.specs.Recoveries.{stays_at};
 ghost use Rattle.aud_causes.specs.Orphans.{answered_causes, causes_of_before, is_beside, is_disconnect, last_beside, last_of_stay, orphan_causes, out_after_answer, replied_causes, stay_before, unreplied_causes, without_reply};
 
 use crate::cause::Cause;

@@ -4,7 +4,7 @@ ghost use Rattle.aud_causes.specs.Records.{node_of, records_of};
 
 use crate::cause::Cause;
 use crate::record_at::RecordAt::{Ask, Bad, First, Got, Node, Reply};
-use aud_chain::RecordPlace;
+use aud_session_facts::RecordPlace;
 
 /// A record of the bundle: of a node, or of the session's client. Stays and frames are those of the session, but for
 /// `First`.

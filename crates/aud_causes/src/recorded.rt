@@ -8,9 +8,9 @@ use crate::logs::order_cause;
 use crate::names::client_causes;
 use crate::turns::chain_causes;
 use aud_cert::Fault;
-use aud_chain::{RecordPlace, turn_marks};
 use aud_client::{Recording, Stay};
 use aud_node::Logs;
+use aud_session_facts::{RecordPlace, turn_marks};
 use std::alloc::{AllocError, Global};
 
 /// The causes of such a fault of the session with this pid, whose one client's tap is at this place, if it has one,

@@ -1,6 +1,6 @@
 //! What the refusal of a recovery may come from.
 ghost use Rattle.std.specs.Prelude.{◌≡◌, ◌∷◌, [], IfOk, None, Some, map, slice_get, true};
-ghost use Rattle.aud_recoveries.specs.Recoveries.{stays_at};
+ghost use Rattle.aud_session_facts.specs.Recoveries.{stays_at};
 ghost use Rattle.aud_rows.specs.ClientPlaces.{AreOf};
 ghost use Rattle.aud_causes.specs.Found.{cause_seen, shown_causes};
 ghost use Rattle.aud_causes.specs.Refusals.{asked_causes, asked_too_early, broke_past, cursor_there, first_open, got_of, last_break, last_record, never_broken, node_ended, offset_cause, refusal_causes, refused_causes, session_over};
@@ -9,11 +9,10 @@ use crate::cause::Cause;
 use crate::found::{CauseFound, shown_causes};
 use crate::last_turn::{is_broken, is_ended, last_begin, last_turn};
 use crate::list::held;
-use aud_chain::{Mark, RecordPlace, TurnMark, turn_marks};
 use aud_client::{Asked, Stay};
 use aud_node::{Logs, Stream};
-use aud_recoveries::{Recovery, stay_of};
 use aud_rows::{ClientPlaces, Sheet};
+use aud_session_facts::{Mark, RecordPlace, Recovery, TurnMark, stay_of, turn_marks};
 use std::alloc::{AllocError, Global};
 
 /// What the refusal of this recovery may come from: of the causes that it can have those that hold, in a fixed order.

@@ -10,9 +10,9 @@ use crate::cleared::cleared_after_break;
 use crate::list::push_cause;
 use crate::logs::recoveries;
 use crate::twice::{first_twice, push_twice};
-use aud_chain::{Mark, RecordPlace, TurnMark};
 use aud_client::Stay;
 use aud_node::Logs;
+use aud_session_facts::{Mark, RecordPlace, TurnMark};
 use std::alloc::{AllocError, Global};
 
 /// A turn that no record breaks, though the next one begins.

@@ -5,7 +5,7 @@ ghost use Rattle.aud_causes.specs.Twice.{back_turn, first_twice, is_place, recov
 use crate::cause::Cause;
 use crate::last_turn::is_ended;
 use crate::list::push_cause;
-use aud_chain::{Mark, RecordPlace, TurnMark};
+use aud_session_facts::{Mark, RecordPlace, TurnMark};
 use std::alloc::AllocError;
 
 /// A turn that a record begins, and for which another one takes the session back.

@@ -7,7 +7,7 @@ ghost use Rattle.aud_causes.specs.Words.{part_figures, part_words, why_figures, 
 use crate::cause::Cause;
 use crate::no_packet::{no_packet_figures, no_packet_words};
 use aud_check::Part;
-use aud_no_packet::Refusal;
+use aud_refusals::Refusal;
 use std::alloc::{AllocError, Global};
 
 /// What stands in the place of a `#`.

@@ -9,7 +9,7 @@ use Rattle.aud_node.specs.Cluster.{Cluster}
 use Rattle.aud_node.specs.Lists.{first_index}
 use Rattle.aud_node.specs.Stream.{Text}
 use Rattle.aud_maker.specs.Sessions.{sessions_of}
-use Rattle.aud_recoveries.specs.Recoveries.{recoveries_of}
+use Rattle.aud_session_facts.specs.Recoveries.{recoveries_of}
 use Rattle.aud_verdict.specs.declared.verdict.SessionVerdict.{SessionVerdict}
 use Rattle.aud_verdict.specs.Verdicts.{AreVerdicts}
 use Rattle.aud_explain_app.specs.Chosen.{is_of, session_of}

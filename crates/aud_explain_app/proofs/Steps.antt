@@ -10,15 +10,15 @@ use Rattle.aud_base.specs.Places.{is_place, noted, places_of, places_where}
 use Rattle.aud_base.proofs.NotedPlaces.{noted-at}
 use Rattle.aud_node.specs.Cluster.{Cluster}
 use Rattle.aud_node.specs.Lists.{is_empty}
-use Rattle.aud_recording_faults.proofs.Read.{zip_append}
-use Rattle.aud_explained.specs.declared.written.Form.{Form}
+use Rattle.aud_findings.proofs.Read.{zip_append}
+use Rattle.aud_explain_app.specs.declared.written.Form.{Form}
 use Rattle.aud_input.specs.TapLines.{TapLines}
 use Rattle.aud_verdict.specs.declared.verdict.SessionVerdict.{SessionVerdict}
 use Rattle.aud_explain_app.specs.Strangers.{AreAdded, AreKnown, IsJudged, asked_in_vain, has_pid, pid_in_vain, pids_of, with_pids}
 use Rattle.aud_explain_app.specs.Texts.{AddTexts, AddsFor, AddsText, IsTextOf}
 use Rattle.aud_explain_app.specs.Asked.{refused_of}
 use Rattle.aud_node.specs.Stream.{Text}
-use Rattle.aud_recoveries.specs.declared.asked.Recovery.{Recovery}
+use Rattle.aud_session_facts.specs.declared.asked.Recovery.{Recovery}
 
 -- an element is read alike, whatever is read where there is none
 same : {X : Type 0} (xs : List X) (i : ℕ) (d e : X) → i < length xs → get_or xs i d ≡ get_or xs i e

@@ -1,10 +1,27 @@
+pub use Rattle.aud_node.specs.Cluster
 pub use Rattle.aud_node.specs.Names
+pub use Rattle.aud_client.specs.Replies
+pub use Rattle.aud_rows.specs.ClientPlaces
+pub use Rattle.aud_rows.specs.Seen
+pub use Rattle.aud_session_facts.specs.Account
+pub use Rattle.aud_findings.specs.Prepared
+pub use Rattle.aud_findings.specs.ClientShown
+-- the explanation of a session
+pub mod Noted
+pub mod Turns
+pub mod Events
+pub mod Refused
+pub mod Explained
+pub mod Lent
+pub mod Written
+-- which are shown
 pub mod Asked
 pub mod Shown
 pub mod Chosen
 pub mod Strangers
 pub mod Missing
 pub mod Texts
+-- the whole output
 pub mod Status
 pub mod RefusedLine
 pub mod Page

@@ -4,7 +4,7 @@ use Rattle.aud_maker.specs.Sessions.{sessions_of}
 use Rattle.aud_node.specs.Cluster.{Cluster}
 use Rattle.aud_node.specs.Lists.{first_index}
 use Rattle.aud_node.specs.Stream.{Text}
-use Rattle.aud_recoveries.specs.Recoveries.{recoveries_of}
+use Rattle.aud_session_facts.specs.Recoveries.{recoveries_of}
 use Rattle.aud_explain_app.specs.Strangers.{asked_in_vain, has_pid, with_pids}
 
 -- the pids of the sessions that can be shown: those that are judged, and after them those that were asked for in vain

@@ -12,12 +12,12 @@ use Rattle.aud_input.specs.LineRuns.{taps_named}
 use Rattle.aud_cli.specs.declared.explain_options.ExplainOptions.{ExplainOptions}
 use Rattle.aud_cli.specs.declared.output_form.OutputForm.{OutputForm}
 use Rattle.aud_cli.specs.declared.output_form.OutputForm.TheVariants as asked
-use Rattle.aud_explained.specs.declared.written.Form.{Form}
-use Rattle.aud_explained.specs.declared.written.Form.TheVariants.{Text as InText, Json}
+use Rattle.aud_explain_app.specs.declared.written.Form.{Form}
+use Rattle.aud_explain_app.specs.declared.written.Form.TheVariants.{Text as InText, Json}
 use Rattle.aud_input.specs.TapLines.{TapLines}
 use Rattle.aud_maker.specs.Sessions.{sessions_of}
-use Rattle.aud_recoveries.specs.declared.asked.Recovery.{Recovery}
-use Rattle.aud_recoveries.specs.Recoveries.{is_granted, is_refused, recoveries_of}
+use Rattle.aud_session_facts.specs.declared.asked.Recovery.{Recovery}
+use Rattle.aud_session_facts.specs.Recoveries.{is_granted, is_refused, recoveries_of}
 use Rattle.aud_verdict.specs.declared.verdict.SessionVerdict.{SessionVerdict}
 use Rattle.aud_verdict.specs.Output.{OutputSeen}
 use Rattle.aud_verdict.specs.YesOf.{is_yes}

@@ -7,8 +7,8 @@ use Rattle.aud_node.specs.Stream.{Text}
 use Rattle.aud_input.specs.declared.place.FileLine.{FileLine}
 use Rattle.aud_input.specs.declared.refusal.Refusal.{Refusal}
 use Rattle.aud_explanation.specs.Printed.{printed}
-use Rattle.aud_explained.specs.declared.written.Form.{Form}
-use Rattle.aud_explained.specs.declared.written.Form.TheVariants.{Text as InText, Json}
+use Rattle.aud_explain_app.specs.declared.written.Form.{Form}
+use Rattle.aud_explain_app.specs.declared.written.Form.TheVariants.{Text as InText, Json}
 use Rattle.aud_refusals.specs.Help.{help_text}
 use Rattle.aud_verdict.specs.declared.output.Status.TheVariants.{Refused}
 use Rattle.aud_verdict.specs.Output.{OutputSeen}

@@ -3,8 +3,8 @@ use Rattle.std.specs.Prelude.{Bool, false, not, ◌&&◌, ◌||◌, List, length
 use Rattle.std.specs.List.{filter, list_any}
 use Rattle.aud_cli.specs.declared.fail_on.FailOn.{FailOn}
 use Rattle.aud_cli.specs.FailOn as words
-use Rattle.aud_recoveries.specs.declared.asked.Recovery.{Recovery}
-use Rattle.aud_recoveries.specs.Recoveries.{is_refused}
+use Rattle.aud_session_facts.specs.declared.asked.Recovery.{Recovery}
+use Rattle.aud_session_facts.specs.Recoveries.{is_refused}
 use Rattle.aud_verdict.specs.declared.output.Status.{Status}
 use Rattle.aud_verdict.specs.declared.verdict.SessionVerdict.{SessionVerdict}
 use Rattle.aud_verdict.specs.declared.verdict.Verdict.{Verdict}

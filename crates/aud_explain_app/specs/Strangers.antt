@@ -7,7 +7,7 @@ use Rattle.aud_base.specs.Places.{places_of}
 use Rattle.aud_node.specs.Cluster.{Cluster}
 use Rattle.aud_node.specs.Lists.{is_empty}
 use Rattle.aud_node.specs.Stream.{Text}
-use Rattle.aud_recoveries.specs.declared.asked.Recovery.{Recovery}
+use Rattle.aud_session_facts.specs.declared.asked.Recovery.{Recovery}
 use Rattle.aud_verdict.specs.declared.verdict.SessionVerdict.{SessionVerdict}
 use Rattle.aud_verdict.specs.Verdicts.{IsVerdictOn}
 use Rattle.aud_explain_app.specs.Asked.{pid_asked}

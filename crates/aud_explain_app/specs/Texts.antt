@@ -2,13 +2,13 @@
 use Rattle.std.specs.Prelude.{◌≡◌, ℕ, List, ◌++◌, flat_map}
 use Rattle.std.specs.List.{AllZip}
 use Rattle.aud_node.specs.Cluster.{Cluster}
-use Rattle.aud_explained.specs.declared.explained.Explained.{Explained}
-use Rattle.aud_explained.specs.declared.written.Form.{Form}
-use Rattle.aud_explained.specs.Explained.{IsExplained}
-use Rattle.aud_explained.specs.Written.{IsWritten}
+use Rattle.aud_explain_app.specs.declared.explained.Explained.{Explained}
+use Rattle.aud_explain_app.specs.declared.written.Form.{Form}
+use Rattle.aud_explain_app.specs.Explained.{IsExplained}
+use Rattle.aud_explain_app.specs.Written.{IsWritten}
 use Rattle.aud_input.specs.TapLines.{TapLines}
 use Rattle.aud_node.specs.Stream.{Text}
-use Rattle.aud_recoveries.specs.declared.asked.Recovery.{Recovery}
+use Rattle.aud_session_facts.specs.declared.asked.Recovery.{Recovery}
 use Rattle.aud_verdict.specs.declared.verdict.SessionVerdict.{SessionVerdict}
 use Rattle.aud_verdict.specs.declared.verdict.Verdict.{Verdict}
 use Rattle.aud_explain_app.specs.Asked.{refused_of}

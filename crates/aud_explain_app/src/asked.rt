@@ -4,12 +4,12 @@ ghost use Rattle.std.specs.Option.{option_map};
 ghost use Rattle.aud_base.specs.Places.{noted, places_of};
 ghost use Rattle.aud_node.specs.Cluster.{Cluster};
 ghost use Rattle.aud_node.specs.Stream.{Text};
-ghost use Rattle.aud_recoveries.specs.Recoveries.{recoveries_of};
+ghost use Rattle.aud_session_facts.specs.Recoveries.{recoveries_of};
 ghost use Rattle.aud_explain_app.specs.Asked.{AreAsked, has_refused, is_refusal, numbered, pid_asked, refusals_in, refused_of};
 
 use aud_base::Places;
 use aud_client::Recording;
-use aud_recoveries::{Recovery, recoveries, stay_of};
+use aud_session_facts::{Recovery, recoveries, stay_of};
 use std::alloc::{AllocError, Global};
 use std::hash::RandomState;
 

@@ -17,17 +17,24 @@
 
 mod asked;
 mod chosen;
+mod events;
+mod explained;
 mod fault;
 mod html;
+mod lent;
+mod noted;
 mod output;
 mod page;
 mod prepared;
 mod program;
 mod refused;
+mod refused_told;
 mod sessions;
 mod shown;
 mod status;
 mod strangers;
+mod turns;
+mod written;
 
 pub use fault::{ExplainFault, Unexplained};
 pub use program::explain;

@@ -1,11 +1,11 @@
 //! What is read once for all explanations.
 ghost use Rattle.std.specs.Prelude.{IfOk};
-ghost use Rattle.aud_recording_faults.specs.Prepared.{IsPreparedOf};
+ghost use Rattle.aud_findings.specs.Prepared.{IsPreparedOf};
 
 use crate::asked::Asked;
 use aud_cert::Fault;
 use aud_client::Recording;
-use aud_recording_faults::Prepared;
+use aud_findings::Prepared;
 use aud_verdict::{SessionVerdict, Verdict};
 use std::alloc::{AllocError, Global};
 

@@ -4,7 +4,7 @@ ghost use Rattle.std.specs.Option.{option_map};
 ghost use Rattle.serde_json.specs.View.{view};
 ghost use Rattle.aud_explain_app.specs.RefusedLine.{file_told, json_data, json_line, name_or_null, place_line, refused_data, refused_output};
 
-use aud_explained::Form;
+use crate::written::Form;
 use aud_explanation::push_printed;
 use aud_input::{FileLine, Refusal};
 use aud_refusals::refusal_help;

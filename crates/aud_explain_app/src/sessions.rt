@@ -1,16 +1,17 @@
 //! The explanations of sessions.
 ghost use Rattle.std.specs.Prelude.{◌≡◌, ◌++◌, [], IfOk, OnOk, flat_map, map, string_bytes};
 ghost use Rattle.std.specs.List.{AllZip};
-ghost use Rattle.aud_recording_faults.specs.Prepared.{IsPreparedOf};
+ghost use Rattle.aud_findings.specs.Prepared.{IsPreparedOf};
 ghost use Rattle.aud_explain_app.specs.Asked.{AreAsked};
 ghost use Rattle.aud_explain_app.specs.Texts.{AddTexts, AddsFor, AddsText};
 
 use crate::asked::Asked;
+use crate::explained::explained_of;
+use crate::written::{Form, push_explained};
 use aud_base::try_map;
-use aud_explained::{Form, explained_of, push_explained};
-use aud_recording_faults::Prepared;
-use aud_recoveries::Recovery;
+use aud_findings::Prepared;
 use aud_rows::Sheet;
+use aud_session_facts::Recovery;
 use aud_verdict::{SessionVerdict, Verdict};
 use std::alloc::{AllocError, Global};
 use std::thread::Threads;

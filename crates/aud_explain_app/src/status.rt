@@ -3,7 +3,7 @@ ghost use Rattle.std.specs.Prelude.{◌≡◌};
 ghost use Rattle.aud_explain_app.specs.Status.{fails, fails_refused, some_fails, status_by};
 
 use aud_cli::FailOn;
-use aud_recoveries::{Recovery, refused};
+use aud_session_facts::{Recovery, refused};
 use aud_verdict::{SessionVerdict, Status, Verdict, status_of};
 
 /// Status 1 where a session is answered no with a fault that makes it so, or where a recovery was refused, or nothing

@@ -1,14 +1,14 @@
 //! The sessions that clients asked for in vain and that no record names.
 ghost use Rattle.std.specs.Prelude.{◌≡◌, [], ◌∷◌, IfOk, OnOk, option_to_list};
 ghost use Rattle.std.specs.Option.{option_map};
-ghost use Rattle.aud_recoveries.specs.Recoveries.{recoveries_of};
+ghost use Rattle.aud_session_facts.specs.Recoveries.{recoveries_of};
 ghost use Rattle.aud_explain_app.specs.Asked.{AreAsked};
 ghost use Rattle.aud_explain_app.specs.Strangers.{AreAdded, AreKnown, IsJudged, asked_in_vain, pid_in_vain};
 
 use crate::asked::{Asked, asked_pid};
 use aud_base::Places;
 use aud_client::Recording;
-use aud_recoveries::Recovery;
+use aud_session_facts::Recovery;
 use aud_tap::Text;
 use aud_verdict::{SessionVerdict, decide};
 use std::alloc::{AllocError, Global};

@@ -9,8 +9,8 @@ use Rattle.aud_cert.specs.Certificate.{CertificateSeen, TurnSeen, turn_at}
 use Rattle.aud_maker.specs.Made.{IsMade}
 use Rattle.aud_maker.proofs.BegunLemmas.{one_chain}
 use Rattle.aud_maker.proofs.Over.{turns-there}
-use Rattle.aud_account.specs.declared.account.Account.{Account}
-use Rattle.aud_account.specs.Account.{IsAccount, IsAccountOf, IsFound, difference_found, stays_of}
+use Rattle.aud_session_facts.specs.declared.account.Account.{Account}
+use Rattle.aud_session_facts.specs.Account.{IsAccount, IsAccountOf, IsFound, difference_found, stays_of}
 use Rattle.aud_check.specs.declared.difference.Difference.{Difference}
 use Rattle.aud_check.specs.declared.difference.Difference.TheVariants as parted
 use Rattle.aud_check.specs.declared.finding.Finding.{Finding}

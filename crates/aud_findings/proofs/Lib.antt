@@ -3,3 +3,8 @@ pub mod Shown
 pub mod ByAccount
 pub mod Counts
 pub mod Reached
+pub mod Told
+pub mod Read
+pub mod Naming
+pub mod Nodes
+pub mod Firsts

@@ -5,8 +5,8 @@ use Rattle.aud_node.specs.Cluster.{Cluster}
 use Rattle.aud_rooms.specs.Turns.{Turn}
 use Rattle.aud_merge.specs.declared.step.Step.{Step}
 use Rattle.aud_merge.specs.ByTurns.{reaching_step}
-use Rattle.aud_reach.specs.declared.reach.Reach.{Reach}
-use Rattle.aud_reach.specs.Reach.{first_turn_reaching, step_of}
+use Rattle.aud_session_facts.specs.declared.reach.Reach.{Reach}
+use Rattle.aud_session_facts.specs.Reach.{first_turn_reaching, step_of}
 use Rattle.aud_findings.specs.RoomChanges.{reach_of}
 
 -- the reach in this turn at this step

@@ -8,9 +8,9 @@ use Rattle.aud_client.specs.StaySeen.{StaySeen}
 use Rattle.aud_cert.specs.declared.fault.Fault.{Fault}
 use Rattle.aud_cert.specs.Certificate.{turn_at}
 use Rattle.aud_maker.specs.Made.{IsMade}
-use Rattle.aud_account.specs.declared.account.Account.{Account}
-use Rattle.aud_account.specs.Account.{IsAccount, case_at, found_for, is_as, stays_of}
-use Rattle.aud_account.proofs.Differences.{difference_told}
+use Rattle.aud_session_facts.specs.declared.account.Account.{Account}
+use Rattle.aud_session_facts.specs.Account.{IsAccount, case_at, found_for, is_as, stays_of}
+use Rattle.aud_session_facts.proofs.Differences.{difference_told}
 use Rattle.aud_cert.specs.declared.fault.Fault.TheVariants as fault
 use Rattle.aud_check.specs.declared.difference.Difference.{Difference}
 use Rattle.aud_check.specs.declared.finding.Finding.{Finding}

@@ -9,7 +9,7 @@ use Rattle.aud_check.specs.declared.difference.Difference.{Difference}
 use Rattle.aud_check.specs.declared.difference.Difference.TheVariants.{Doubled, Lost}
 use Rattle.aud_check.specs.declared.finding.Finding.{Finding}
 use Rattle.aud_check.specs.Difference.{IsDifference}
-use Rattle.aud_account.specs.Account.{IsFound, difference_found}
+use Rattle.aud_session_facts.specs.Account.{IsFound, difference_found}
 use Rattle.aud_check.specs.Window.{positions_received}
 use Rattle.aud_input.specs.TapLines.{TapLines}
 use Rattle.aud_verdict.specs.declared.verdict.Verdict.{Verdict}

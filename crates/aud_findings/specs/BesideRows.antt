@@ -7,7 +7,7 @@ use Rattle.aud_maker.specs.Made.{IsMade}
 use Rattle.aud_check.specs.declared.difference.Difference.{Difference}
 use Rattle.aud_check.specs.declared.difference.Difference.TheVariants.{Extra, Doubled, Swapped, Lost}
 use Rattle.aud_input.specs.TapLines.{TapLines}
-use Rattle.aud_reach.specs.declared.change.RoomChange.{RoomChange}
+use Rattle.aud_session_facts.specs.declared.change.RoomChange.{RoomChange}
 use Rattle.aud_rows.specs.declared.row.Role.{Role}
 use Rattle.aud_rows.specs.declared.row.Role.TheVariants.{Left, Room}
 use Rattle.aud_rows.specs.Rows.{node_row}

@@ -9,20 +9,20 @@ use Rattle.aud_client.specs.StaySeen.{StaySeen}
 use Rattle.aud_rooms.specs.Turns.{HasNoTurn}
 use Rattle.aud_cert.specs.declared.fault.Fault.{Fault}
 use Rattle.aud_cert.specs.declared.fault.Fault.TheVariants.{NoLog, Chain, Order, Client, Names, Frame, Orphan, Tail}
-use Rattle.aud_chain.specs.Misfit.{HasChain}
+use Rattle.aud_session_facts.specs.Misfit.{HasChain}
 use Rattle.aud_input.specs.TapLines.{TapLines}
 use Rattle.aud_verdict.specs.declared.verdict.Verdict.{Verdict}
 use Rattle.aud_verdict.specs.declared.verdict.Verdict.TheVariants.{Yes, No}
 use Rattle.aud_rows.specs.Seen.{RowSeen}
 use Rattle.aud_rows.specs.StayRows.{stays_at}
 use Rattle.aud_verdict.specs.Session.{SessionLogs, IsSession, own_stays, due_to}
-use Rattle.aud_recording_faults.specs.ShowsChain.{ShowsChain}
-use Rattle.aud_recording_faults.specs.ShowsClient.{ShowsClient}
-use Rattle.aud_recording_faults.specs.ShowsFrame.{ShowsFrame, bad_number}
-use Rattle.aud_recording_faults.specs.ShowsNames.{ShowsNames, AreNamedAlike}
-use Rattle.aud_recording_faults.specs.ShowsNoLog.{ShowsNoLog}
-use Rattle.aud_recording_faults.specs.ShowsOrder.{ShowsOrder, AreOrdered}
-use Rattle.aud_recording_faults.specs.ShowsOrphan.{ShowsOrphan}
+use Rattle.aud_findings.specs.ShowsChain.{ShowsChain}
+use Rattle.aud_findings.specs.ShowsClient.{ShowsClient}
+use Rattle.aud_findings.specs.ShowsFrame.{ShowsFrame, bad_number}
+use Rattle.aud_findings.specs.ShowsNames.{ShowsNames, AreNamedAlike}
+use Rattle.aud_findings.specs.ShowsNoLog.{ShowsNoLog}
+use Rattle.aud_findings.specs.ShowsOrder.{ShowsOrder, AreOrdered}
+use Rattle.aud_findings.specs.ShowsOrphan.{ShowsOrphan}
 use Rattle.aud_findings.specs.ShowsFound.{IsFoundOtherwise, ShowsFound}
 use Rattle.aud_findings.specs.Tail.{ShowsTail}
 

@@ -1,15 +1,35 @@
 pub use Rattle.aud_node.specs.Cluster
+pub use Rattle.aud_client.specs.Replies
+pub use Rattle.aud_rooms.specs.Turns
+pub use Rattle.aud_session_facts.specs.Account
+pub use Rattle.aud_session_facts.specs.Misfit
 pub use Rattle.aud_rows.specs.Seen
+pub use Rattle.aud_rows.specs.ClientPlaces
+pub use Rattle.aud_rows.specs.StayRows
 pub use Rattle.aud_shown.specs.RowLists
-pub use Rattle.aud_account.specs.Account
-pub use Rattle.aud_recording_faults.specs.Prepared
+pub use Rattle.aud_shown.specs.ShowsDifference
+-- what is looked up of all clients at once
+pub mod Prepared
+pub mod NamingReplies
+-- faults of the recording and of packets
+pub mod Order
+pub mod ShowsNoLog
+pub mod ShowsClient
+pub mod ChainRecords
+pub mod ShowsChain
+pub mod ShowsOrder
+pub mod ShowsNames
+pub mod ShowsFrame
+pub mod ShowsOrphan
+-- faults of the delivery
 pub mod Behind
 pub mod RoomChanges
 pub mod BesideRows
 pub mod ShowsFound
 pub mod Received
-pub mod Also
 pub mod Tail
+-- the whole outcome
+pub mod Also
 pub mod Evidence
 pub mod ClientShown
 -- what private contracts alone cite

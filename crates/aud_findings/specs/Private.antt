@@ -1,3 +1,4 @@
 -- What contracts of private functions alone cite. No public clause rests on these words.
 pub mod Known
 pub mod Seen
+pub mod Wanted

@@ -4,7 +4,7 @@ use Rattle.std.specs.List.{filter}
 use Rattle.std.specs.Option.{option_map}
 use Rattle.aud_node.specs.Cluster.{Cluster}
 use Rattle.aud_node.specs.Stream.{Text}
-use Rattle.aud_account.specs.Account.{IsFound, difference_found, is_parting}
+use Rattle.aud_session_facts.specs.Account.{IsFound, difference_found, is_parting}
 use Rattle.aud_cert.specs.declared.class.Class.{Class}
 use Rattle.aud_cert.specs.declared.class.Class.TheVariants.{Delivery}
 use Rattle.aud_cert.specs.Class.{class_of}

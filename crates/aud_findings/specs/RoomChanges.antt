@@ -11,12 +11,12 @@ use Rattle.aud_cert.specs.Certificate.{CertificateSeen, turn_at}
 use Rattle.aud_maker.specs.Made.{IsMade}
 use Rattle.aud_merge.specs.declared.step.Step.{Step}
 use Rattle.aud_merge.specs.ByTurns.{reaching_step}
-use Rattle.aud_reach.specs.declared.change.RoomChange.{RoomChange}
-use Rattle.aud_reach.specs.declared.reach.Reach.{Reach}
-use Rattle.aud_reach.specs.Changes.{last_change_before}
-use Rattle.aud_reach.specs.NotDue.{why_not_due}
-use Rattle.aud_reach.specs.Reach.{first_turn_reaching}
-use Rattle.aud_reach.specs.Reasons.{Reason, NoCommonRoom, Excepted}
+use Rattle.aud_session_facts.specs.declared.change.RoomChange.{RoomChange}
+use Rattle.aud_session_facts.specs.declared.reach.Reach.{Reach}
+use Rattle.aud_session_facts.specs.Changes.{last_change_before}
+use Rattle.aud_session_facts.specs.NotDue.{why_not_due}
+use Rattle.aud_session_facts.specs.Reach.{first_turn_reaching}
+use Rattle.aud_session_facts.specs.Reasons.{Reason, NoCommonRoom, Excepted}
 
 -- where the session of these turns first reached the position
 abbrev pub reach_of : Cluster → List Turn → ℕ → Option Reach

@@ -7,7 +7,7 @@ use Rattle.aud_maker.specs.Made.{IsMade}
 use Rattle.aud_client.specs.StaySeen.{StaySeen}
 use Rattle.aud_cert.specs.declared.fault.Fault.{Fault}
 use Rattle.aud_cert.specs.declared.fault.Fault.TheVariants.{Content, Extra, Doubled, Swapped, Lost, Window}
-use Rattle.aud_account.specs.Account.{IsDifferenceOf, IsFound, found_for}
+use Rattle.aud_session_facts.specs.Account.{IsDifferenceOf, IsFound, found_for}
 use Rattle.aud_check.specs.declared.difference.Difference.{Difference}
 use Rattle.aud_check.specs.declared.finding.Finding.{Finding}
 use Rattle.aud_input.specs.TapLines.{TapLines}

@@ -6,7 +6,7 @@ use Rattle.aud_node.specs.Stream.{Text}
 use Rattle.aud_rooms.specs.Turns.{Turn}
 use Rattle.aud_check.specs.Window.{positions_received}
 use Rattle.aud_input.specs.TapLines.{TapLines}
-use Rattle.aud_reach.specs.declared.reach.Reach.{Reach}
+use Rattle.aud_session_facts.specs.declared.reach.Reach.{Reach}
 use Rattle.aud_rows.specs.declared.row.Role.TheVariants.{Entry, Fault, Reached}
 use Rattle.aud_rows.specs.Rows.{node_row, stream_row}
 use Rattle.aud_rows.specs.Seen.{RowSeen}

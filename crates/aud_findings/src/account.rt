@@ -2,14 +2,14 @@
 ghost use Rattle.std.specs.Prelude.{◌≡◌, IfOk, IfSome, is_some, length};
 ghost use Rattle.aud_node.specs.Cluster.{Cluster};
 ghost use Rattle.aud_node.specs.Stream.{Text};
-ghost use Rattle.aud_account.specs.Account.{IsAccountOf};
+ghost use Rattle.aud_session_facts.specs.Account.{IsAccountOf};
 ghost use Rattle.aud_findings.specs.Received.{AreFigures, AreFiguresOf, IsReceivedShown, at_frame, frame_of, greatest, is_judged, tail_of};
 ghost use Rattle.aud_findings.specs.Private.Known.{IsWithin};
 
-use aud_account::{Account, positions_received};
 use aud_cert::{Class, class_of};
 use aud_check::Difference;
 use aud_explanation::Account as Received;
+use aud_session_facts::{Account, positions_received};
 use aud_verdict::Verdict;
 use std::alloc::{AllocError, Global};
 

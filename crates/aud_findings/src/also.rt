@@ -1,6 +1,6 @@
 //! The other entries that have the same fault, with the lines that show it.
 ghost use Rattle.std.specs.Prelude.{◌≡◌, ◌++◌, IfOk, IfSome, OnOk, is_some, map, option_map};
-ghost use Rattle.aud_account.specs.Account.{IsAccountOf};
+ghost use Rattle.aud_session_facts.specs.Account.{IsAccountOf};
 ghost use Rattle.aud_rows.specs.ClientPlaces.{AreOf};
 ghost use Rattle.aud_rows.specs.declared.row.Role.TheVariants.{Entry};
 ghost use Rattle.aud_rows.specs.Rows.{stream_row};
@@ -8,19 +8,20 @@ ghost use Rattle.aud_rows.specs.Seen.{row_seen};
 ghost use Rattle.aud_rows.specs.StayRows.{stays_at};
 ghost use Rattle.aud_rows.specs.TrueRow.{IsTrueRow};
 ghost use Rattle.aud_shown.specs.FramePlaces.{frame_at};
-ghost use Rattle.aud_recording_faults.specs.Prepared.{IsPreparedOf};
+ghost use Rattle.aud_findings.specs.Prepared.{IsPreparedOf};
 ghost use Rattle.aud_findings.specs.Also.{AreAlso, IsAlsoShown, also_at, also_seen, entry_also, frame_lines, frame_row_at, frames_also, is_short, line_of};
 ghost use Rattle.aud_findings.specs.Received.{is_parted};
 
 use crate::others::others;
 use crate::outcome::AlsoShown;
+use crate::prepared::Prepared;
+use crate::replies::numbers_naming;
 use crate::tail::tail_also;
-use aud_account::{Account, positions_received};
 use aud_cert::Fault;
 use aud_check::Difference;
 use aud_client::Recording;
-use aud_recording_faults::{Prepared, numbers_naming};
 use aud_rows::{ClientPlaces, Role, Row, Sheet};
+use aud_session_facts::{Account, positions_received};
 use aud_shown::{FramePlace, frame_at};
 use aud_verdict::Verdict;
 use std::alloc::{AllocError, Global};
@@ -249,7 +250,7 @@ pub(crate) fn frame_row<'r>(
 }
 
 /// Where that frame stands.
-#[tactic(auto, using(aud_recording_faults::proofs::Told::told_some, aud_shown::proofs::NoClient::no_frame))]
+#[tactic(auto, using(crate::proofs::Told::told_some, aud_shown::proofs::NoClient::no_frame))]
 fn place_of(
     recording: &Recording<'_>,
     place: usize,

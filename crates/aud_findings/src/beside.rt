@@ -10,8 +10,8 @@ use crate::behind::behind;
 use crate::rooms::{left_change, not_due_change, room_change};
 use aud_cert::Certificate;
 use aud_check::Difference;
-use aud_reach::RoomChange;
 use aud_rows::{Role, Row, Sheet};
+use aud_session_facts::RoomChange;
 
 /// The rows that tell how the difference comes to be one, two at most.
 pub(crate) fn beside<'r>(

@@ -2,7 +2,7 @@
 ghost use Rattle.std.specs.Prelude.{◌≡◌, ◌++◌, IfOk, IfSome, MatchOption, map};
 ghost use Rattle.aud_node.specs.Stream.{Text};
 ghost use Rattle.aud_maker.specs.Made.{IsMade};
-ghost use Rattle.aud_account.specs.Account.{stays_of};
+ghost use Rattle.aud_session_facts.specs.Account.{stays_of};
 ghost use Rattle.aud_rows.specs.ClientPlaces.{AreOf};
 ghost use Rattle.aud_rows.specs.Seen.{row_seen};
 ghost use Rattle.aud_shown.specs.DifferenceRows.{difference_rows};
@@ -13,10 +13,10 @@ ghost use Rattle.aud_findings.specs.ShowsFound.{IsFoundOtherwise, ShowsFound};
 ghost use Rattle.aud_findings.specs.Private.Known.{IsShownBy, finding_rows};
 
 use crate::beside::beside;
-use aud_account::Account;
 use aud_cert::{Certificate, Fault};
 use aud_check::{Difference, Finding};
 use aud_rows::Row;
+use aud_session_facts::Account;
 use aud_shown::{ShownSession, altered_rows, difference_rows, push_row, push_rows, window_rows};
 use std::alloc::{AllocError, Global};
 

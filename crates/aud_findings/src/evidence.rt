@@ -3,20 +3,24 @@ ghost use Rattle.std.specs.Prelude.{◌≡◌, IfOk, IfSome, MatchOption, is_som
 ghost use Rattle.aud_rows.specs.Seen.{row_seen};
 ghost use Rattle.aud_rows.specs.ClientPlaces.{AreOf};
 ghost use Rattle.aud_shown.specs.RowLists.{AreTrueRows};
-ghost use Rattle.aud_recording_faults.specs.Prepared.{IsPreparedOf};
+ghost use Rattle.aud_findings.specs.Prepared.{IsPreparedOf};
 ghost use Rattle.aud_findings.specs.Evidence.{IsEvidence, IsFaultShown, IsOfClient, ShowsTold, TellsNone};
-ghost use Rattle.aud_account.specs.Account.{IsAccountOf, stays_of};
+ghost use Rattle.aud_session_facts.specs.Account.{IsAccountOf, stays_of};
 ghost use Rattle.aud_findings.specs.Private.Known.{found_rows};
 
+use crate::chain::chain_shown;
 use crate::delivery::found_shown;
+use crate::frame::frame_shown;
+use crate::names::names_shown;
+use crate::order::order_shown;
+use crate::orphan::orphan_shown;
+use crate::prepared::Prepared;
+use crate::replies::numbers_naming;
 use crate::tail::tail_shown;
-use aud_account::Account;
+use crate::unplaced::{client_rows, no_log_rows};
 use aud_cert::Fault;
-use aud_recording_faults::{
-    Prepared, chain_shown, client_rows, frame_shown, names_shown, no_log_rows, numbers_naming,
-    order_shown, orphan_shown,
-};
 use aud_rows::{ClientPlaces, Row, Sheet};
+use aud_session_facts::Account;
 use aud_shown::ShownSession;
 use aud_verdict::Verdict;
 use std::alloc::{AllocError, Global};

@@ -5,8 +5,8 @@
 //! the verdict on which is `verdict`:
 //!
 //! ```
-//! use aud_account::account_of;
 //! use aud_findings::{Prepared, outcome_of};
+//! use aud_session_facts::account_of;
 //!
 //! let prepared = Prepared::read(alloc, sheet.recording, &[3], false)?;
 //! let account = account_of(alloc, sheet.recording, "P")?;
@@ -21,13 +21,26 @@ mod account;
 mod also;
 mod behind;
 mod beside;
+mod chain;
 mod client;
 mod delivery;
 mod evidence;
+mod frame;
+mod names;
+mod order;
+mod orphan;
 mod others;
 mod outcome;
+mod prepared;
+mod replies;
 mod rooms;
 mod tail;
+mod unordered;
+mod unplaced;
+mod wanted;
 
-pub use aud_recording_faults::{Prepared, PreparedTap};
+pub use order::unordered_of;
+pub use orphan::orphan_in;
 pub use outcome::{AlsoShown, Outcome, outcome_of};
+pub use prepared::{Prepared, PreparedTap};
+pub use replies::numbers_naming;

@@ -1,9 +1,9 @@
 //! What is found of a session.
 ghost use Rattle.std.specs.Prelude.{◌≡◌, IfOk, IfSome, is_some, map, option_map};
-ghost use Rattle.aud_account.specs.Account.{IsAccountOf};
+ghost use Rattle.aud_session_facts.specs.Account.{IsAccountOf};
 ghost use Rattle.aud_rows.specs.Seen.{row_seen};
 ghost use Rattle.aud_shown.specs.RowLists.{AreTrueRows};
-ghost use Rattle.aud_recording_faults.specs.Prepared.{IsPreparedOf};
+ghost use Rattle.aud_findings.specs.Prepared.{IsPreparedOf};
 ghost use Rattle.aud_findings.specs.Also.{IsAlsoShown, also_seen};
 ghost use Rattle.aud_findings.specs.Received.{IsReceivedShown};
 ghost use Rattle.aud_findings.specs.ClientShown.{client_of, client_seen};
@@ -13,10 +13,10 @@ use crate::account::received_shown;
 use crate::also::also_found;
 use crate::client::client_of;
 use crate::evidence::evidence_of;
-use aud_account::Account;
+use crate::prepared::Prepared;
 use aud_explanation::{Account as Received, Client};
-use aud_recording_faults::Prepared;
 use aud_rows::{Row, Sheet};
+use aud_session_facts::Account;
 use aud_verdict::Verdict;
 use std::alloc::{AllocError, Global};
 

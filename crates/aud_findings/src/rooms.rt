@@ -5,12 +5,12 @@ ghost use Rattle.std.specs.Option.{option_copied};
 ghost use Rattle.aud_node.specs.Stream.{entry};
 ghost use Rattle.aud_cert.specs.Certificate.{turn_at};
 ghost use Rattle.aud_maker.specs.Made.{IsMade};
-ghost use Rattle.aud_reach.specs.NotDue.{reason_of};
+ghost use Rattle.aud_session_facts.specs.NotDue.{reason_of};
 ghost use Rattle.aud_findings.specs.RoomChanges.{change_for, change_in, is_changed, left_change, not_due_change, only_if, reach_of, room_change, rooms_in, turn_end};
 
 use aud_cert::{Certificate, Turn, turn_place};
 use aud_node::Logs;
-use aud_reach::{NotDue, Reach, RoomChange, first_reach, last_change_of, why_not_due};
+use aud_session_facts::{NotDue, Reach, RoomChange, first_reach, last_change_of, why_not_due};
 use aud_tap::{StreamRec, Text};
 
 /// The last change, a join or a leave as asked for, of the first of the rooms of the entry at the position that has one

@@ -2,7 +2,7 @@
 ghost use Rattle.std.specs.Prelude.{◌≡◌, IfOk, IfSome, drop, map, option_map, take};
 ghost use Rattle.aud_node.specs.Stream.{Text};
 ghost use Rattle.aud_cert.specs.Certificate.{turn_at};
-ghost use Rattle.aud_account.specs.Account.{IsAccountOf};
+ghost use Rattle.aud_session_facts.specs.Account.{IsAccountOf};
 ghost use Rattle.aud_rows.specs.Seen.{row_seen};
 ghost use Rattle.aud_rows.specs.ClientPlaces.{AreOf};
 ghost use Rattle.aud_rows.specs.TrueRow.{IsTrueRow};
@@ -16,9 +16,9 @@ use crate::account::greatest;
 use crate::also::{entries_also, frame_row};
 use crate::outcome::AlsoShown;
 use crate::rooms::reach_of;
-use aud_account::{Account, positions_received};
 use aud_cert::Turn;
 use aud_rows::{Role, Row, Sheet};
+use aud_session_facts::{Account, positions_received};
 use aud_shown::{ShownSession, push_row};
 use std::alloc::{AllocError, Global};
 

@@ -1,3 +1,5 @@
+pub use Rattle.aud_client.specs.TapPackets
+-- lines
 pub mod Members
 pub mod Opened
 pub mod Excess
@@ -8,3 +10,8 @@ pub mod LimitHelp
 pub mod KindHelp
 pub mod Help
 pub mod Laws
+-- packets
+pub mod NoPacket
+pub mod Words
+-- what private contracts alone cite
+pub mod Private

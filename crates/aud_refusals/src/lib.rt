@@ -1,5 +1,7 @@
-//! Help on refused lines: [`refusal_help`] says which field of a line is missing or of another form, which limit is
-//! passed and by what, how deep JSON nests, and where the header stands that a line contradicts.
+//! Why a line, or a packet of a client, is refused.
+//!
+//! [`refusal_help`] says which field of a refused line is missing or of another form, which limit is passed and by what,
+//! how deep JSON nests, and where the header stands that a line contradicts.
 //!
 //! ```
 //! use aud_reader::InputCode;
@@ -9,8 +11,21 @@
 //! let help = refusal_help(alloc, line, InputCode::Field, None)?;
 //! assert_eq!(rt; help.as_str(), "The field room is missing: it has to be a text.\n");
 //! ```
+//!
+//! [`no_packet_at`] says why a record of a client's tap is no packet: the decoder's refusal of it, and of which packet
+//! of a polling body. [`aud_client::Transcript`] has the number of the first such record.
+//!
+//! ```
+//! use aud_refusals::no_packet_at;
+//!
+//! let found = no_packet_at(alloc, recs, number)?.ok_or("a packet")?;
+//! let words = found.refusal.words(); // "the first byte is no type of an Engine.IO packet"
+//! let packet = found.packet; // Some(2): the second of a polling body
+//! ```
 #![tactic(auto)]
 
+mod before;
+mod begin;
 mod excess;
 mod field_help;
 mod help;
@@ -21,8 +36,14 @@ mod law;
 mod limit_help;
 mod member;
 mod members;
+mod no_packet;
 mod opened;
+mod packets;
+mod pieces;
+mod record;
 mod tap_name;
 
 pub use help::refusal_help;
 pub use law::named_fields_are_refused;
+pub use no_packet::{NoPacket, Refusal};
+pub use record::no_packet_at;

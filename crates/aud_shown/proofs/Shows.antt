@@ -16,7 +16,7 @@ use Rattle.aud_check.specs.declared.difference.Difference.{Difference}
 use Rattle.aud_check.specs.declared.window.BadWindow.{BadWindow}
 use Rattle.aud_check.specs.Content.{IsAltered}
 use Rattle.aud_check.specs.Window.{IsBadWindow}
-use Rattle.aud_account.specs.Account.{IsAccount, IsDifferenceOf}
+use Rattle.aud_session_facts.specs.Account.{IsAccount, IsDifferenceOf}
 use Rattle.aud_verdict.specs.Session.{SessionLogs, IsSession}
 use Rattle.aud_shown.specs.SessionRows.{Session}
 use Rattle.aud_shown.specs.ContentRows.{altered_rows}

@@ -5,8 +5,8 @@ ghost use Rattle.aud_shown.specs.NodeRows.{node_rows};
 ghost use Rattle.aud_shown.specs.RowLists.{AreTrueRows};
 
 use crate::pushed::push_row;
-use aud_chain::RecordPlace;
 use aud_rows::{Role, Row, Sheet};
+use aud_session_facts::RecordPlace;
 use std::alloc::{AllocError, Global};
 
 /// A record of a node, and what it is shown for.

@@ -8,8 +8,8 @@ ghost use Rattle.aud_shown.specs.SessionRows.{ask_of_stay, asked_row, entry_row,
 use crate::frame_place::{FramePlace, frame_at};
 use aud_cert::Turn;
 use aud_client::{IndexedTranscript, Stay};
-use aud_reach::first_reach;
 use aud_rows::{ClientPlaces, Role, Row, Sheet};
+use aud_session_facts::first_reach;
 
 /// A session, the sheet of its recording, and where its client is found. All is borrowed; rows are borrowed from the
 /// sheet alone.

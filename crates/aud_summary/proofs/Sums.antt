@@ -5,8 +5,8 @@ use Rattle.aud_cert.specs.declared.fault.Fault.TheVariants.{NoLog, Chain, Order,
 use Rattle.aud_cert.specs.declared.class.Class.{Class}
 use Rattle.aud_cert.specs.declared.class.Class.TheVariants.{Delivery, Packets, Recording}
 use Rattle.aud_cert.specs.Class.{class_of}
-use Rattle.aud_recoveries.specs.declared.asked.Recovery.{Recovery}
-use Rattle.aud_recoveries.specs.Recoveries.{is_granted, is_refused}
+use Rattle.aud_session_facts.specs.declared.asked.Recovery.{Recovery}
+use Rattle.aud_session_facts.specs.Recoveries.{is_granted, is_refused}
 use Rattle.aud_verdict.specs.declared.verdict.Verdict.{Verdict}
 use Rattle.aud_verdict.specs.declared.verdict.Verdict.TheVariants.{Yes, No}
 use Rattle.aud_verdict.specs.declared.verdict.SessionVerdict.{SessionVerdict}

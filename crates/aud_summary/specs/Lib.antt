@@ -5,7 +5,7 @@ pub use Rattle.aud_client.specs.Replies
 pub use Rattle.aud_cert.specs.Class
 pub use Rattle.aud_cert.specs.FaultWord
 pub use Rattle.aud_verdict.specs.YesOf
-pub use Rattle.aud_recoveries.specs.Recoveries
+pub use Rattle.aud_session_facts.specs.Recoveries
 pub mod Answers
 pub mod ByClass
 pub mod ByFault

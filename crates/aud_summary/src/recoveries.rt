@@ -1,9 +1,9 @@
 //! How many recoveries were asked for.
 ghost use Rattle.std.specs.Prelude.{◌≡◌, length};
 ghost use Rattle.std.specs.List.{filter};
-ghost use Rattle.aud_recoveries.specs.Recoveries.{is_granted, is_refused};
+ghost use Rattle.aud_session_facts.specs.Recoveries.{is_granted, is_refused};
 
-use aud_recoveries::{Recovery, granted, refused};
+use aud_session_facts::{Recovery, granted, refused};
 
 /// How many recoveries clients asked for: those that were granted, and those that were refused or not answered.
 #[derive(Clone, Copy, Debug, PartialEq, Eq, Drop)]

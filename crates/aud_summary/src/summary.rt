@@ -2,7 +2,7 @@
 ghost use Rattle.std.specs.Prelude.{◌≡◌, ◌+◌, count_by, length, min, sum_by};
 ghost use Rattle.std.specs.List.{filter};
 ghost use Rattle.aud_node.specs.Recoverable.{is_recoverable};
-ghost use Rattle.aud_recoveries.specs.Recoveries.{is_granted, is_refused};
+ghost use Rattle.aud_session_facts.specs.Recoveries.{is_granted, is_refused};
 ghost use Rattle.aud_verdict.specs.YesOf.{is_yes};
 ghost use Rattle.aud_summary.specs.Answers.{is_no, is_unobserved};
 ghost use Rattle.aud_summary.specs.ByClass.{classes_of, sum_of_classes};
@@ -17,7 +17,7 @@ use crate::faults::{Faults, faults_in};
 use crate::recoveries::{Recoveries, recoveries_in};
 use crate::tails::{Tails, tails_in};
 use aud_client::Recording;
-use aud_recoveries::Recovery;
+use aud_session_facts::Recovery;
 use aud_verdict::SessionVerdict;
 
 /// What was read, as the caller counted it.

@@ -1,6 +1,6 @@
 pub use Rattle.aud_cert.specs.Certificate
-pub use Rattle.aud_chain.specs.Marks
-pub use Rattle.aud_recoveries.specs.Missed
+pub use Rattle.aud_session_facts.specs.Marks
+pub use Rattle.aud_session_facts.specs.Missed
 pub use Rattle.aud_rows.specs.ClientPlaces
 pub use Rattle.aud_rows.specs.Seen
 pub use Rattle.aud_rows.specs.StayRows

@@ -3,9 +3,9 @@ use Rattle.std.specs.Prelude.{ℕ, suc, ◌-◌, max, nat_eq, nat_lt, Bool, ◌|
 use Rattle.std.specs.Option.{option_and_then}
 use Rattle.aud_node.specs.Lists.{numbers_from}
 use Rattle.aud_node.specs.Cluster.{Cluster, node_log}
-use Rattle.aud_chain.specs.declared.marks.Mark.{Mark}
-use Rattle.aud_chain.specs.declared.marks.Mark.TheVariants as mark
-use Rattle.aud_chain.specs.declared.marks.TurnMark.{TurnMark}
+use Rattle.aud_session_facts.specs.declared.marks.Mark.{Mark}
+use Rattle.aud_session_facts.specs.declared.marks.Mark.TheVariants as mark
+use Rattle.aud_session_facts.specs.declared.marks.TurnMark.{TurnMark}
 use Rattle.aud_input.specs.TapLines.{TapLines}
 use Rattle.aud_explanation.specs.declared.turn.TurnBegin.{TurnBegin}
 use Rattle.aud_explanation.specs.declared.turn.TurnBegin.TheVariants.{Open, Back}

@@ -7,7 +7,7 @@ use Rattle.aud_node.specs.Stream.{Text, entry, offset_of}
 use Rattle.aud_client.specs.Replies.{ReplySeen}
 use Rattle.aud_client.specs.StaySeen.{AskedSeen, StaySeen}
 use Rattle.aud_input.specs.TapLines.{TapLines}
-use Rattle.aud_recoveries.specs.Missed.{IsMissed, IsUntold}
+use Rattle.aud_session_facts.specs.Missed.{IsMissed, IsUntold}
 use Rattle.aud_rows.specs.declared.row.Role.TheVariants as role
 use Rattle.aud_rows.specs.Seen.{RowSeen, row_seen}
 use Rattle.aud_rows.specs.StayRows.{ask_row, reply_row, stays_at}

@@ -7,10 +7,10 @@ ghost use Rattle.aud_timeline.specs.MarkedTurns.{begins_by, end_open, ended_by, 
 use crate::order::sort_turns;
 use crate::shown::{push_turn, span_shown};
 use crate::span::{Ends, LastRecord, TurnSpan};
-use aud_chain::{Mark, TurnMark};
 use aud_explanation::{TurnBegin, TurnShown};
 use aud_node::Logs;
 use aud_rows::Sheet;
+use aud_session_facts::{Mark, TurnMark};
 use std::alloc::{AllocError, Global};
 
 /// The turns that these marks of a session begin, by their numbers, those with one number in the order of the marks,

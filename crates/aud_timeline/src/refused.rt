@@ -1,7 +1,7 @@
 //! Recoveries of a session that were refused.
 ghost use Rattle.std.specs.Prelude.{◌≡◌, ◌++◌, IfOk, IfSome, MatchOption, None, OnOk, map, option_to_list, slice_get};
 ghost use Rattle.std.specs.Option.{option_copied, option_map};
-ghost use Rattle.aud_recoveries.specs.Missed.{IsMissed, IsUntold};
+ghost use Rattle.aud_session_facts.specs.Missed.{IsMissed, IsUntold};
 ghost use Rattle.aud_rows.specs.ClientPlaces.{AreOf};
 ghost use Rattle.aud_rows.specs.Seen.{row_seen};
 ghost use Rattle.aud_rows.specs.StayRows.{ask_row, stays_at};
@@ -13,8 +13,8 @@ use crate::record_at::stay_at;
 use aud_client::Stay;
 use aud_explanation::Missed;
 use aud_node::{Stream, offset};
-use aud_recoveries::{Recovery, missed};
 use aud_rows::{ClientPlaces, Role, Row, Sheet};
+use aud_session_facts::{Recovery, missed};
 use std::alloc::{AllocError, Global};
 
 /// A recovery that was refused: what the client asked, what it was answered, and what it missed.

@@ -1,7 +1,7 @@
 -- Records that are noted by the turns that they begin and break.
 use Rattle.std.specs.Prelude.{ℕ, Bool, true, List, length, set, Option, Some, None, if◌then◌else◌, nat_lt, slice_get}
-use Rattle.aud_chain.specs.declared.marks.TurnMark.{TurnMark}
-use Rattle.aud_chain.specs.declared.place.RecordPlace.{RecordPlace}
+use Rattle.aud_session_facts.specs.declared.marks.TurnMark.{TurnMark}
+use Rattle.aud_session_facts.specs.declared.place.RecordPlace.{RecordPlace}
 use Rattle.aud_causes.specs.Turns.{begun_turn, broken_turn}
 
 -- the begins, where this is the first record that begins the turn, if the turn is one of them and none is noted

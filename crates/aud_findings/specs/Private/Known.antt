@@ -9,8 +9,8 @@ use Rattle.aud_check.specs.declared.difference.Difference.{Difference}
 use Rattle.aud_check.specs.declared.finding.Finding.{Finding}
 use Rattle.aud_check.specs.declared.finding.Finding.TheVariants.{Content, Delivery, Window}
 use Rattle.aud_maker.specs.Made.{IsMade}
-use Rattle.aud_account.specs.declared.account.Account.{Account}
-use Rattle.aud_account.specs.Account.{IsAccountOf}
+use Rattle.aud_session_facts.specs.declared.account.Account.{Account}
+use Rattle.aud_session_facts.specs.Account.{IsAccountOf}
 use Rattle.aud_rows.specs.declared.row.Row.{Row}
 use Rattle.aud_rows.specs.Seen.{RowSeen, row_seen}
 use Rattle.aud_shown.specs.declared.session.ShownSession.{ShownSession}

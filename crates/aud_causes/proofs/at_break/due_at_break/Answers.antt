@@ -4,8 +4,8 @@ use Rattle.std.proofs.lemmas.Result.{IfOk-weaker}
 use Rattle.aud_cert.specs.Certificate.{CertificateSeen}
 use Rattle.aud_maker.specs.Made.{IsMade}
 use Rattle.aud_rooms.specs.Spans.{due_by_spans}
-use Rattle.aud_recoveries.specs.Opened.{opened_in}
-use Rattle.aud_recoveries.proofs.MissedLemmas.{opened_is}
+use Rattle.aud_session_facts.specs.Opened.{opened_in}
+use Rattle.aud_session_facts.proofs.MissedLemmas.{opened_is}
 use Rattle.aud_causes.specs.AtBreak.{due_at_break}
 use Rattle.aud_causes.proofs.AtBreakLemmas.{at_break_so}
 use Rattle.aud_causes.proofs.at_break.due_at_break.Goals as goal

@@ -1,6 +1,6 @@
 use Rattle.std.proofs.Common.{◌≡◌, ◌∙◌, ℕ, List, ap, map, sym}
 use Rattle.std.proofs.lemmas.Result.{IfOk-weaker}
-use Rattle.aud_account.specs.declared.account.Account.{Account}
+use Rattle.aud_session_facts.specs.declared.account.Account.{Account}
 use Rattle.aud_maker.specs.Made.{IsMade}
 use Rattle.aud_causes.specs.Facts.{facts_of}
 use Rattle.aud_causes.specs.Differences.{case_of, causes_by, difference_causes, doubled_in, extra_in, lost_in}

@@ -1,6 +1,6 @@
 use Rattle.std.proofs.Common.{◌≡◌, ◌∙◌, ap, map}
 use Rattle.std.proofs.lemmas.Result.{IfOk-weaker}
-use Rattle.aud_account.specs.declared.account.Account.{Account}
+use Rattle.aud_session_facts.specs.declared.account.Account.{Account}
 use Rattle.aud_maker.specs.Made.{IsMade}
 use Rattle.aud_causes.specs.Bodies.{body_twice}
 use Rattle.aud_causes.specs.Differences.{case_of, doubled_causes, doubled_in}

@@ -1,8 +1,8 @@
 use Rattle.std.proofs.Common.{◌≡◌, ◌∙◌, ℕ, List, ap, map, option_map, subst, sym}
 use Rattle.std.proofs.lemmas.Result.{IfOk-weaker}
-use Rattle.aud_account.specs.declared.account.Account.{Account}
+use Rattle.aud_session_facts.specs.declared.account.Account.{Account}
 use Rattle.aud_maker.specs.Made.{IsMade}
-use Rattle.aud_reach.specs.NotDue.{reason_of, why_not_due}
+use Rattle.aud_session_facts.specs.NotDue.{reason_of, why_not_due}
 use Rattle.aud_causes.specs.AtBreak.{rooms_at_break}
 use Rattle.aud_causes.specs.Differences.{case_of, extra_causes, extra_in}
 use Rattle.aud_causes.proofs.delivery.extra_of.Goals as goal

@@ -1,6 +1,6 @@
 use Rattle.std.proofs.Common.{◌≡◌, ◌∙◌, ℕ, List, ap, map}
 use Rattle.std.proofs.lemmas.Result.{IfOk-weaker}
-use Rattle.aud_account.specs.declared.account.Account.{Account}
+use Rattle.aud_session_facts.specs.declared.account.Account.{Account}
 use Rattle.aud_maker.specs.Made.{IsMade}
 use Rattle.aud_node.specs.Stream.{entry}
 use Rattle.aud_causes.specs.AtBreak.{rooms_at_break}

@@ -1,7 +1,7 @@
 use Rattle.std.proofs.Common.{◌≡◌, ◌∙◌, ap, map}
 use Rattle.std.proofs.lemmas.Result.{IfOk-weaker}
 use Rattle.aud_node.specs.Cluster.{Cluster}
-use Rattle.aud_chain.specs.Marks.{turn_marks}
+use Rattle.aud_session_facts.specs.Marks.{turn_marks}
 use Rattle.aud_causes.specs.Chain.{chain_causes}
 use Rattle.aud_causes.specs.Recorded.{causes_of_turns}
 use Rattle.aud_causes.proofs.recorded.causes_of_turns.Goals as goal

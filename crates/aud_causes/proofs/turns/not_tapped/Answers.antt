@@ -1,7 +1,7 @@
 use Rattle.std.proofs.Common.{◌≡◌, ◌<◌, ◌∙◌, ℕ, suc, false, not, List, ◌∷◌, Option, Some, None, ap, arith, drop, get_or, is_some, length, refl, sym}
 use Rattle.std.proofs.lemmas.Option.{get_or_from_slice_get}
 use Rattle.aud_base.proofs.Lists.{drop_at, element_at}
-use Rattle.aud_chain.specs.declared.place.RecordPlace.{RecordPlace}
+use Rattle.aud_session_facts.specs.declared.place.RecordPlace.{RecordPlace}
 use Rattle.aud_causes.specs.declared.cause.Cause.TheVariants.{NodeNotTapped}
 use Rattle.aud_causes.specs.Turns.{not_tapped}
 use Rattle.aud_causes.proofs.turns.not_tapped.Goals as goal

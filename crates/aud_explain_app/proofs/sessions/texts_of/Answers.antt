@@ -1,6 +1,6 @@
 use Rattle.std.proofs.Common.{[], Bor, string_bytes, subst}
 use Rattle.std.proofs.lemmas.Result.{IfOk-weaker}
-use Rattle.aud_recording_faults.proofs.Read.{zip_weaker}
+use Rattle.aud_findings.proofs.Read.{zip_weaker}
 use Rattle.aud_verdict.specs.declared.verdict.SessionVerdict.{SessionVerdict}
 use Rattle.aud_explain_app.specs.Texts.{AddsText}
 use Rattle.aud_explain_app.proofs.sessions.texts_of.Goals as goal

@@ -1,5 +1,5 @@
 use Rattle.std.proofs.Common.{◌<◌, false, get_or, length, option_to_list, subst}
-use Rattle.aud_recoveries.specs.declared.asked.Recovery.{Recovery}
+use Rattle.aud_session_facts.specs.declared.asked.Recovery.{Recovery}
 use Rattle.aud_explain_app.specs.Strangers.{AreAdded, pid_in_vain}
 use Rattle.aud_explain_app.proofs.Steps.{added_item}
 use Rattle.aud_explain_app.proofs.strangers.add_strangers.Goals as goal

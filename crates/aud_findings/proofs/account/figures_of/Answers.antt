@@ -1,7 +1,7 @@
 use Rattle.std.proofs.Common.{◌≡◌, ◌∙◌, Bor, ap, length, map, subst, sym}
 use Rattle.aud_client.specs.declared.stay.Stay.{Stay}
 use Rattle.aud_check.specs.Window.{positions_received}
-use Rattle.aud_account.specs.Account.{difference_found, stays_of}
+use Rattle.aud_session_facts.specs.Account.{difference_found, stays_of}
 use Rattle.aud_verdict.specs.Session.{own_stays, due_to}
 use Rattle.aud_findings.specs.Received.{AreFigures}
 use Rattle.aud_findings.specs.Private.Known.{IsWithin}

@@ -1,7 +1,7 @@
 use Rattle.std.proofs.Common.{◌≡◌, ◌∙◌, ◌&&◌, ◌||◌, Bor, IfSome, Option, false, is_some, sym, subst, ap, true, true≢false}
 use Rattle.std.proofs.lemmas.Result.{IfOk-weaker}
-use Rattle.aud_account.specs.declared.account.Account.{Account}
-use Rattle.aud_account.specs.Account.{IsAccountOf}
+use Rattle.aud_session_facts.specs.declared.account.Account.{Account}
+use Rattle.aud_session_facts.specs.Account.{IsAccountOf}
 use Rattle.aud_findings.specs.Also.{is_short}
 use Rattle.aud_findings.specs.Received.{is_parted}
 use Rattle.aud_findings.proofs.also.also_found.Goals as goal

@@ -2,7 +2,7 @@ use Rattle.std.proofs.Common.{◌≡◌, ◌∙◌, Bor, ap, map, subst, sym}
 use Rattle.std.proofs.lemmas.Result.{IfOk-weaker}
 use Rattle.aud_client.specs.declared.stay.Stay.{Stay}
 use Rattle.aud_check.specs.Window.{positions_received}
-use Rattle.aud_account.specs.Account.{stays_of}
+use Rattle.aud_session_facts.specs.Account.{stays_of}
 use Rattle.aud_findings.specs.Also.{AreAlso, also_at, also_seen}
 use Rattle.aud_findings.proofs.ByAccount.{is_found_so, none_also, some_also}
 use Rattle.aud_findings.proofs.also.also_of.Goals as goal

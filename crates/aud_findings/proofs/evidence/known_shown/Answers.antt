@@ -1,7 +1,7 @@
 use Rattle.std.proofs.Common.{Bor, IfSome, Option, is_some, subst, sym}
 use Rattle.std.proofs.lemmas.Result.{IfOk-weaker}
-use Rattle.aud_account.specs.declared.account.Account.{Account}
-use Rattle.aud_account.specs.Account.{IsAccountOf, stays_of}
+use Rattle.aud_session_facts.specs.declared.account.Account.{Account}
+use Rattle.aud_session_facts.specs.Account.{IsAccountOf, stays_of}
 use Rattle.aud_findings.specs.Evidence.{IsOfClient}
 use Rattle.aud_findings.specs.Private.Known.{found_rows}
 use Rattle.aud_findings.proofs.Shown.{of_session}

@@ -4,7 +4,7 @@ use Rattle.aud_client.specs.declared.stay.Stay.{Stay}
 use Rattle.aud_check.specs.Window.{positions_received}
 use Rattle.aud_rows.specs.Seen.{row_seen}
 use Rattle.aud_findings.specs.Received.{tail_positions}
-use Rattle.aud_account.specs.Account.{stays_of}
+use Rattle.aud_session_facts.specs.Account.{stays_of}
 use Rattle.aud_findings.proofs.ByAccount.{first-kept, tail-shown}
 use Rattle.aud_findings.proofs.tail.tail_shown.Goals as goal
 

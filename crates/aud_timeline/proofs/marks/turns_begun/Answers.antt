@@ -1,7 +1,7 @@
 use Rattle.std.proofs.Common.{ℕ, ◌++◌, ap, ◌∙◌, map, option_to_list, sym}
 use Rattle.aud_timeline.specs.ShownTurn.{turn_seen}
 use Rattle.aud_timeline.specs.MarkedTurns.{greatest_turn, mark_shown}
-use Rattle.aud_recoveries.proofs.Steps.{given-more}
+use Rattle.aud_session_facts.proofs.Steps.{given-more}
 use Rattle.aud_timeline.proofs.marks.turns_begun.Goals as goal
 
 pub loop-number-preserved : goal.loop-number-preserved

@@ -1,4 +1,0 @@
-mod FramePositions
-mod Sessions
-pub mod Differences
-mod Judged

@@ -1,5 +1,0 @@
-use Rattle.aud_account.proofs.Judged.{verdict_found}
-use Rattle.aud_account.proofs.law.verdict_is_found.Goals as goal
-
-pub returns : goal.returns
-returns c = λ cluster whole pid fault account is kind of. verdict_found cluster whole pid fault account is kind of c.received_by_stays.ensures

@@ -1,2 +1,0 @@
--- What contracts of private functions alone cite. No public clause rests on these words.
-pub mod Sessions

@@ -1,0 +1,39 @@
+-- What is told, as an explanation lends it.
+use Rattle.std.specs.Prelude.{List, flat_map, map, option_to_list, Option}
+use Rattle.std.specs.Option.{option_copied, option_map}
+use Rattle.aud_causes.specs.Found.{CauseSeen, cause_seen}
+use Rattle.aud_explanation.specs.declared.also.Also.{Also}
+use Rattle.aud_explanation.specs.declared.cause.Cause.{Cause}
+use Rattle.aud_explanation.specs.declared.refused.RefusedRecovery.{RefusedRecovery}
+use Rattle.aud_findings.specs.Also.{AlsoSeen}
+use Rattle.aud_rows.specs.Seen.{row_seen}
+use Rattle.aud_timeline.specs.declared.refused.RefusedShown.{RefusedShown}
+use Rattle.aud_timeline.specs.Refused.{RefusedSeen, missed_seen, refused_seen}
+use Rattle.aud_explain_app.specs.declared.refused_told.RefusedTold.{RefusedTold}
+
+abbrev pub also_told : Also → AlsoSeen
+also_told also = record { position = also.position; lines = also.lines.now }
+
+abbrev pub cause_told : Cause → CauseSeen
+cause_told cause = record { id = cause.id.now; sure = cause.sure; lines = cause.lines.now; why = cause.why.now; todo = cause.todo.now }
+
+abbrev pub recovery_told : RefusedRecovery → RefusedSeen
+recovery_told r =
+    record {
+      ask = row_seen r.ask;
+      reply = option_map row_seen r.reply;
+      instead = option_map (λ pid. pid.now) r.instead;
+      missed = option_map (λ missed. map missed_seen missed) (option_copied r.missed);
+    }
+
+-- the recovery, if it is shown
+abbrev pub shown_of : Option RefusedShown → List RefusedSeen
+shown_of shown = option_to_list (option_map refused_seen shown)
+
+-- the recoveries that are shown
+abbrev pub recoveries_shown : List RefusedTold → List RefusedSeen
+recoveries_shown refused = flat_map (λ (told : RefusedTold). shown_of told.shown) refused
+
+-- the causes of the refusals
+abbrev pub causes_of_refusals : List RefusedTold → List CauseSeen
+causes_of_refusals refused = flat_map (λ (told : RefusedTold). map cause_seen told.causes.items) refused

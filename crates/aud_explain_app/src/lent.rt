@@ -1,0 +1,121 @@
+//! Lists of what is told, borrowed for an explanation.
+ghost use Rattle.std.specs.Prelude.{◌≡◌, ◌++◌, IfOk, OnOk, flat_map, map};
+ghost use Rattle.aud_causes.specs.Found.{cause_seen};
+ghost use Rattle.aud_findings.specs.Also.{also_seen};
+ghost use Rattle.std.specs.Option.{option_copied, option_map};
+ghost use Rattle.aud_timeline.specs.Refused.{missed_seen, refused_seen};
+ghost use Rattle.aud_explain_app.specs.Lent.{also_told, cause_told, causes_of_refusals, recoveries_shown, recovery_told, shown_of};
+
+use crate::refused_told::RefusedTold;
+use aud_causes::CauseFound;
+use aud_explanation::{Also, Cause, Missed, RefusedRecovery};
+use aud_findings::AlsoShown;
+use aud_timeline::RefusedShown;
+use std::alloc::{AllocError, Global};
+
+/// The other entries with the same fault.
+pub(crate) fn also_lent<'l>(
+    alloc: Global,
+    others: &'l [AlsoShown],
+) -> Result<Vec<Also<'l>>, AllocError>
+    ensures { IfOk result (λ lent. map also_told lent.items ≡ map also_seen others.now) }
+{
+    let mut lent = Vec::new(alloc);
+    for other in others {
+        lent.push(Also {
+            position: other.position,
+            lines: other.lines.as_slice(),
+        })?;
+    }
+    Ok(lent)
+}
+
+/// Those of the refused recoveries that are shown.
+pub(crate) fn refused_lent<'l, 'r>(
+    alloc: Global,
+    refused: &'l [RefusedTold<'r>],
+) -> Result<Vec<RefusedRecovery<'l, 'r>>, AllocError>
+    ensures { IfOk result (λ lent. map recovery_told lent.items ≡ recoveries_shown refused.now) }
+{
+    let mut lent = Vec::new(alloc);
+    for told in refused {
+        push_recovery(&mut lent, told.shown.as_ref())?;
+    }
+    Ok(lent)
+}
+
+/// Adds the refused recovery, if it is shown.
+fn push_recovery<'l, 'r>(
+    lent: &mut Vec<RefusedRecovery<'l, 'r>>,
+    shown: Option<&'l RefusedShown<'r>>,
+) -> Result<(), AllocError>
+    ensures { OnOk result (map recovery_told lent.new.items
+        ≡ map recovery_told lent.old.items ++ shown_of (option_copied shown.entry)) }
+{
+    if let Some(shown) = shown {
+        lent.push(recovery_lent(shown))?;
+    }
+    Ok(())
+}
+
+fn recovery_lent<'l, 'r>(shown: &'l RefusedShown<'r>) -> RefusedRecovery<'l, 'r>
+    ensures { recovery_told result ≡ refused_seen shown.now }
+{
+    RefusedRecovery {
+        ask: shown.ask,
+        reply: shown.reply,
+        instead: shown.instead,
+        missed: missed_lent(shown),
+    }
+}
+
+fn missed_lent<'l, 'r>(shown: &'l RefusedShown<'r>) -> Option<&'l [Missed<'r>]>
+    ensures { option_map (λ missed. map missed_seen missed.now) result
+        ≡ option_map (λ missed. map missed_seen missed.items) shown.now.missed }
+{
+    match &shown.missed {
+        Some(missed) => Some(missed.as_slice()),
+        None => None,
+    }
+}
+
+/// The causes of the fault, and after them those of the refusals.
+pub(crate) fn causes_lent<'l>(
+    alloc: Global,
+    causes: &'l [CauseFound],
+    refused: &'l [RefusedTold<'_>],
+) -> Result<Vec<Cause<'l>>, AllocError>
+    ensures { IfOk result (λ lent. map cause_told lent.items
+        ≡ map cause_seen causes.now ++ causes_of_refusals refused.now) }
+{
+    let own = each_lent(alloc, causes)?;
+    let mut lent = own;
+    for told in refused {
+        let more = each_lent(alloc, &told.causes)?;
+        lent.extend_from_slice(&more)?;
+    }
+    Ok(lent)
+}
+
+/// Each of these causes.
+fn each_lent<'l>(alloc: Global, causes: &'l [CauseFound]) -> Result<Vec<Cause<'l>>, AllocError>
+    ensures { IfOk result (λ lent. map cause_told lent.items ≡ map cause_seen causes.now) }
+{
+    let mut lent = Vec::new(alloc);
+    for cause in causes {
+        lent.push(cause_lent(cause))?;
+    }
+    Ok(lent)
+}
+
+fn cause_lent<'l>(cause: &'l CauseFound) -> Cause<'l>
+    ensures { cause_told result ≡ cause_seen cause.now }
+{
+    Cause {
+        id: cause.id,
+        sure: cause.sure,
+        lines: cause.lines.as_slice(),
+        why: cause.why.as_str(),
+        todo: cause.todo,
+    }
+}

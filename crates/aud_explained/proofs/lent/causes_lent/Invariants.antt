@@ -1,7 +1,0 @@
-use Rattle.std.proofs.Common.{◌≡◌, ◌++◌, map, take}
-use Rattle.aud_causes.specs.Found.{cause_seen}
-use Rattle.aud_explained.specs.Lent.{cause_told, causes_of_refusals}
-use Rattle.aud_explained.proofs.lent.causes_lent.Given as goal
-
-abbrev pub invariant-loop-told : goal.invariant-loop-told
-invariant-loop-told l = map cause_told l.lent.items ≡ map cause_seen l.causes ++ causes_of_refusals (take l.told-index l.refused)

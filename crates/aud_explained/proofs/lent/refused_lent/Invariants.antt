@@ -1,6 +1,0 @@
-use Rattle.std.proofs.Common.{◌≡◌, map, take}
-use Rattle.aud_explained.specs.Lent.{recoveries_shown, recovery_told}
-use Rattle.aud_explained.proofs.lent.refused_lent.Given as goal
-
-abbrev pub invariant-loop-told : goal.invariant-loop-told
-invariant-loop-told l = map recovery_told l.lent.items ≡ recoveries_shown (take l.told-index l.refused)

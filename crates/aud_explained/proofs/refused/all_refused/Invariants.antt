@@ -1,7 +1,0 @@
-use Rattle.std.proofs.Common.{take}
-use Rattle.std.specs.List.{AllZip}
-use Rattle.aud_explained.specs.Refused.{IsRefusedTold}
-use Rattle.aud_explained.proofs.refused.all_refused.Given as goal
-
-abbrev pub invariant-loop-recovery : goal.invariant-loop-recovery
-invariant-loop-recovery l = AllZip (IsRefusedTold l.sheet.recording.now l.sheet.lines.now) (take l.recovery-index l.refused) l.told.items

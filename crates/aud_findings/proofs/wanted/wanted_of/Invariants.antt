@@ -1,0 +1,7 @@
+use Rattle.std.proofs.Common.{take}
+use Rattle.aud_findings.specs.Private.Wanted.{AreWanted}
+use Rattle.aud_findings.proofs.wanted.wanted_of.Given as goal
+
+-- the places so far are marked
+abbrev pub invariant-loop-place : goal.invariant-loop-place
+invariant-loop-place l = AreWanted l.count (take l.place-index l.places) l.wanted.items

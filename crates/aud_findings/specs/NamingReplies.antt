@@ -1,0 +1,55 @@
+-- The replies of clients' taps that name a session.
+use Rattle.std.specs.Prelude.{◌≡◌, ℕ, List, flat_map, Option, Some, None, option_to_list, slice_get}
+use Rattle.std.specs.Option.{option_and_then}
+use Rattle.aud_node.specs.Cluster.{Cluster}
+use Rattle.aud_node.specs.Stream.{Text}
+use Rattle.aud_client.specs.Replies.{naming_places}
+use Rattle.aud_input.specs.TapLines.{TapLines}
+use Rattle.aud_rows.specs.declared.row.Role.TheVariants.{Fault}
+use Rattle.aud_rows.specs.Seen.{RowSeen}
+use Rattle.aud_rows.specs.StayRows.{reply_row}
+use Rattle.aud_shown.specs.ShowsDifference.{AreNumbersOf}
+use Rattle.aud_findings.specs.declared.replies.NamingTap.{NamingTap}
+
+-- a client's tap, by its place, and the numbers of stays there
+pub record NamingSeen : Type 0 where
+  pub place : ℕ
+  pub numbers : List ℕ
+
+abbrev pub naming_seen : NamingTap → NamingSeen
+naming_seen tap = record { place = tap.place; numbers = tap.numbers.now }
+
+-- the tap stands at this place, and these are the numbers of its stays whose reply names the session
+pub record IsNamingTap (c : Cluster) (pid : Text) (place : ℕ) (tap : NamingSeen) : Type 0 where
+  pub place_is : tap.place ≡ place
+  pub are_its_stays : AreNumbersOf c pid place tap.numbers
+
+-- ---- all replies
+
+-- the rows of the replies of these stays of the tap at the place
+abbrev pub replies_at : Cluster → List TapLines → ℕ → List ℕ → List RowSeen
+replies_at c lines place numbers = flat_map (λ number. option_to_list (reply_row c lines place number Fault)) numbers
+
+abbrev pub replies_of : Cluster → List TapLines → NamingSeen → List RowSeen
+replies_of c lines tap = replies_at c lines tap.place tap.numbers
+
+-- ---- the first reply
+
+-- the row of the reply of the first of these stays
+abbrev pub first_row_at : Cluster → List TapLines → ℕ → List ℕ → Option RowSeen
+first_row_at c lines place numbers = option_and_then (λ number. reply_row c lines place number Fault) (slice_get numbers 0)
+
+-- the row of the first reply in the tap at the place that names the session
+pub record IsFirstReplyOf (c : Cluster) (lines : List TapLines) (pid : Text) (place : ℕ) (row : Option RowSeen) : Type 0 where
+  pub numbers : List ℕ
+  pub are_its_stays : AreNumbersOf c pid place numbers
+  pub is_row : row ≡ first_row_at c lines place numbers
+
+-- the same of the first of these taps
+abbrev pub IsFirstReplyIn : Cluster → List TapLines → Text → Option ℕ → Option RowSeen → Type 0
+IsFirstReplyIn c lines pid None row = row ≡ None
+IsFirstReplyIn c lines pid (Some place) row = IsFirstReplyOf c lines pid place row
+
+-- the row of the first reply that names the session
+abbrev pub IsFirstReply : Cluster → List TapLines → Text → Option RowSeen → Type 0
+IsFirstReply c lines pid row = IsFirstReplyIn c lines pid (slice_get (naming_places c.taps pid) 0) row

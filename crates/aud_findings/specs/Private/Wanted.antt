@@ -1,0 +1,20 @@
+-- Which taps are asked for.
+use Rattle.std.specs.Prelude.{◌≡◌, ◌<◌, ℕ, Bool, false, List, length, Option, Some, None, nat_eq, slice_get}
+use Rattle.std.specs.List.{list_any}
+use Rattle.aud_node.specs.Cluster.{Cluster}
+use Rattle.aud_findings.specs.declared.prepared.PreparedTap.{PreparedTap}
+use Rattle.aud_findings.specs.Prepared.{IsRead}
+
+-- of so many places, whether each is one of these
+pub record AreWanted (count : ℕ) (places : List ℕ) (wanted : List Bool) : Type 0 where
+  pub length_is : length wanted ≡ count
+  pub each : (place : ℕ) → place < count → slice_get wanted place ≡ Some (list_any (nat_eq place) places)
+
+-- whether a place is wanted, by whether it is known to be
+abbrev pub is_wanted : Option Bool → Bool
+is_wanted (Some wanted) = wanted
+is_wanted None = false
+
+-- this is read of the tap at the place, where these are wanted
+abbrev pub IsReadBy : Cluster → List Bool → Bool → ℕ → PreparedTap → Type 0
+IsReadBy c wanted orders place tap = IsRead c (is_wanted (slice_get wanted place)) orders place tap

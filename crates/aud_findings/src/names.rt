@@ -1,0 +1,184 @@
+//! What shows that a reply names a session otherwise than its `open`.
+ghost use Rattle.std.specs.Prelude.{◌≡◌, IfOk, IfSome, MatchOption, None, find, map};
+ghost use Rattle.std.specs.Option.{option_copied};
+ghost use Rattle.aud_check.specs.NamedStays.{has_sid};
+ghost use Rattle.aud_node.specs.Stream.{Text};
+ghost use Rattle.aud_session_facts.specs.declared.marks.TurnMark.{TurnMark};
+ghost use Rattle.aud_session_facts.specs.Marks.{turn_marks};
+ghost use Rattle.aud_session_facts.specs.Places.{record_at};
+ghost use Rattle.aud_rows.specs.Seen.{row_seen};
+ghost use Rattle.aud_rows.specs.ClientPlaces.{AreOf};
+ghost use Rattle.aud_rows.specs.StayRows.{stays_at};
+ghost use Rattle.aud_shown.specs.RowLists.{AreTrueRows};
+ghost use Rattle.aud_findings.specs.ShowsNames.{AreNamedAlike, IsOpenedAs, ShowsNames, first_otherwise, is_named_otherwise, is_open, is_open_mark, is_some_otherwise, names_rows};
+
+use crate::replies::{numbers_naming, stay_at};
+use aud_client::{Recording, Reply, Stay};
+use aud_node::Logs;
+use aud_rows::{ClientPlaces, Role, Row, Sheet};
+use aud_session_facts::{Mark, RecordPlace, TurnMark, turn_marks};
+use aud_shown::push_row;
+use aud_tap::NodeRec;
+use std::alloc::{AllocError, Global};
+
+/// How a node opened a session.
+#[derive(Clone, Copy)]
+struct OpenedAs<'a> {
+    mark: TurnMark,
+    sid: &'a str,
+    nsp: &'a str,
+}
+
+/// The rows of the session's `open` and of the first reply in this tap that names the session and has another sid, or
+/// is in another namespace; none where there is no such reply, or no node opened the session.
+pub fn names_shown<'r>(
+    alloc: Global,
+    sheet: &Sheet<'r, '_>,
+    tap: &ClientPlaces,
+    pid: &str,
+) -> Result<Option<Vec<Row<'r>>>, AllocError>
+    requires { AreOf sheet.now.recording.now tap.now }
+    ensures shown { IfOk result (λ found. MatchOption found
+        (AreNamedAlike sheet.now.recording.now pid.now tap.now.place)
+        (λ rows. ShowsNames sheet.now.recording.now sheet.now.lines.now pid.now tap.now.place
+        (map row_seen rows.items))) }
+    ensures truth { IfOk result (λ found. IfSome found
+        (λ rows. AreTrueRows sheet.now.recording.now sheet.now.lines.now rows.items)) }
+{
+    let logs = sheet.recording.logs();
+    let numbers = numbers_naming(sheet.recording, tap.place, pid);
+    let marks = turn_marks(alloc, logs, pid)?;
+    let Some(opened) = opened_as(logs, &marks, pid) else {
+        return Ok(None);
+    };
+    match first_otherwise(sheet.recording, tap.place, numbers, pid, opened) {
+        Some(stay) => Ok(Some(names_rows(alloc, sheet, tap, opened.mark, stay)?)),
+        None => Ok(None),
+    }
+}
+
+/// The rows of the `open` and of the reply.
+fn names_rows<'r>(
+    alloc: Global,
+    sheet: &Sheet<'r, '_>,
+    tap: &ClientPlaces,
+    opening: TurnMark,
+    stay: usize,
+) -> Result<Vec<Row<'r>>, AllocError>
+    requires { AreOf sheet.now.recording.now tap.now }
+    ensures rows { IfOk result (λ rows. map row_seen rows.items
+        ≡ names_rows sheet.now.recording.now sheet.now.lines.now opening tap.now.place stay) }
+    ensures truth { IfOk result (λ rows.
+        AreTrueRows sheet.now.recording.now sheet.now.lines.now rows.items) }
+{
+    let mut rows = Vec::new(alloc);
+    let RecordPlace { node, number } = opening.place;
+    push_row(&mut rows, sheet.node_row(node, number, Role::Earlier))?;
+    push_row(&mut rows, sheet.reply_row(tap, stay, Role::Fault))?;
+    Ok(rows)
+}
+
+/// How the first of these records that opens a session opens this one.
+fn opened_as<'a>(logs: &Logs<'a>, marks: &[TurnMark], pid: &str) -> Option<OpenedAs<'a>>
+    requires { marks.now ≡ turn_marks logs.now pid.now }
+    ensures { MatchOption result ((opening : TurnMark) (sid nsp : Text)
+        → IsOpenedAs logs.now pid.now opening sid nsp
+        → ⊥) (λ o. IsOpenedAs logs.now pid.now o.mark o.sid.now o.nsp.now) }
+{
+    let Some(mark) = first_open(marks) else {
+        return None;
+    };
+    match record_at(logs, mark.place) {
+        Some(
+            NodeRec::Opened {
+                pid: other,
+                sid,
+                nsp,
+            },
+        ) if other.as_str() == pid => Some(OpenedAs {
+            mark,
+            sid: sid.as_str(),
+            nsp: nsp.as_str(),
+        }),
+        _ => None,
+    }
+}
+
+/// The first of these that is an `open`.
+fn first_open(marks: &[TurnMark]) -> Option<TurnMark>
+    ensures { result ≡ find is_open_mark marks.now }
+{
+    for mark in marks {
+        if is_open(mark.mark) {
+            return Some(*mark);
+        }
+    }
+    None
+}
+
+fn is_open(mark: Mark) -> bool
+    ensures { result ≡ is_open mark }
+{
+    match mark {
+        Mark::Open => true,
+        _ => false,
+    }
+}
+
+/// The record at this place, borrowed; none where there is none.
+fn record_at<'a>(logs: &Logs<'a>, place: RecordPlace) -> Option<&'a NodeRec>
+    ensures { option_copied result ≡ record_at logs.now place }
+{
+    match logs.node(place.node) {
+        Some(log) => log.recs().get(place.number),
+        None => None,
+    }
+}
+
+/// The number of the first of these stays whose reply names the session otherwise than this.
+fn first_otherwise(
+    recording: &Recording<'_>,
+    place: usize,
+    numbers: &[usize],
+    pid: &str,
+    opened: OpenedAs<'_>,
+) -> Option<usize>
+    ensures { result ≡ first_otherwise
+        (record { pid = pid.now; sid = opened.entry.sid.now; nsp = opened.entry.nsp.now })
+        (stays_at recording.now place) numbers.now }
+{
+    for number in numbers {
+        if is_some_otherwise(stay_at(recording, place, *number), pid, opened) {
+            return Some(*number);
+        }
+    }
+    None
+}
+
+fn is_some_otherwise(stay: Option<&Stay<'_>>, pid: &str, opened: OpenedAs<'_>) -> bool
+    ensures { result ≡ is_some_otherwise
+        (record { pid = pid.now; sid = opened.entry.sid.now; nsp = opened.entry.nsp.now })
+        (option_copied stay.entry) }
+{
+    match stay {
+        Some(stay) => is_named_otherwise(stay, pid, opened.sid, opened.nsp),
+        None => false,
+    }
+}
+
+fn is_named_otherwise(stay: &Stay<'_>, pid: &str, sid: &str, nsp: &str) -> bool
+    ensures { result ≡ is_named_otherwise
+        (record { pid = pid.now; sid = sid.now; nsp = nsp.now }) stay.now }
+{
+    stay.names(pid) && !(stay.nsp == nsp && has_sid(&stay.reply, sid))
+}
+
+/// Whether there is a reply, and it has this sid.
+fn has_sid(reply: &Option<Reply>, sid: &str) -> bool
+    ensures { result ≡ has_sid sid.now reply.now }
+{
+    match reply {
+        Some(reply) => reply.sid.as_str() == sid,
+        None => false,
+    }
+}

@@ -1,0 +1,170 @@
+//! What is read once of a recording for all its explanations.
+ghost use Rattle.std.specs.Prelude.{◌≡◌, Bool, true, false, IfOk, IfSome, length, slice_get};
+ghost use Rattle.std.specs.List.{AllZip};
+ghost use Rattle.std.specs.Option.{option_copied};
+ghost use Rattle.aud_base.specs.Lists.{numbers_from};
+ghost use Rattle.aud_node.specs.Cluster.{Cluster};
+ghost use Rattle.aud_rows.specs.ClientPlaces.{AreOf};
+ghost use Rattle.aud_findings.specs.Prepared.{AreRead, IsPreparedOf, IsRead, client_of, tap_in};
+ghost use Rattle.aud_findings.specs.Private.Wanted.{AreWanted, IsReadBy};
+
+use crate::orphan::orphan_at;
+use crate::unordered::first_unordered;
+use crate::wanted::{is_wanted, wanted_of};
+use aud_client::Recording;
+use aud_rows::ClientPlaces;
+use std::alloc::{AllocError, Global};
+
+/// What the explanations of a recording are made from beside the recording: read once, whatever number of sessions is
+/// explained.
+#[derive(Debug, Drop)]
+pub struct Prepared {
+    /// What was read of each tap, by its place, which counts from 0 in the order of the headers.
+    pub taps: Vec<PreparedTap>,
+}
+
+/// What was read of a tap.
+#[derive(Debug, Drop)]
+pub enum PreparedTap {
+    /// Of a client's tap that was asked for: where its packets stand, and the number of its first stay that has events
+    /// and whose reply, if there is one, names nobody.
+    Client {
+        places: ClientPlaces,
+        orphan: Option<usize>,
+    },
+    /// Of another tap, where the orders of nodes were asked for: the number of its first record that is out of order,
+    /// if it is a node's.
+    Order {
+        unordered: Option<usize>,
+    },
+    /// Nothing.
+    Unread,
+}
+
+impl Prepared {
+    /// Reads the clients' taps at these places, in any order, and where `orders` is set the logs of the nodes. Of a
+    /// client's tap it takes what the recording has kept: nothing is decoded.
+    pub fn read(
+        alloc: Global,
+        recording: &Recording<'_>,
+        places: &[usize],
+        orders: bool,
+    ) -> Result<Prepared, AllocError>
+        ensures read { IfOk result (AreRead recording.now places.now orders) }
+        ensures prepared { IfOk result (IsPreparedOf recording.now) }
+    {
+        let count = recording.logs().taps().len();
+        let wanted = wanted_of(alloc, count, places)?;
+        let taps = read_taps(alloc, recording, wanted.as_slice(), orders)?;
+        Ok(Prepared { taps })
+    }
+
+    /// Where the packets of the client's tap at this place stand; none where that tap wasn't asked for.
+    pub fn tap(&self, place: usize) -> Option<&ClientPlaces>
+        ensures there { option_copied result ≡ tap_in self.now place }
+        ensures is_of { (c : Cluster) → IsPreparedOf c self.now
+            → IfSome result (λ tap. AreOf c tap.now × (tap.now.place ≡ place)) }
+    {
+        self.tap_in(place)
+    }
+
+    /// What was read of the tap at this place.
+    pub(crate) fn at(&self, place: usize) -> Option<&PreparedTap>
+        ensures { option_copied result ≡ slice_get self.now.taps.items place }
+    {
+        self.taps.get(place)
+    }
+
+    fn tap_in(&self, place: usize) -> Option<&ClientPlaces>
+        ensures { option_copied result ≡ tap_in self.now place }
+    {
+        match self.at(place) {
+            Some(tap) => client_of(tap),
+            None => None,
+        }
+    }
+}
+
+/// Where the packets of a client's tap stand, if that was read.
+fn client_of(tap: &PreparedTap) -> Option<&ClientPlaces>
+    ensures { option_copied result ≡ client_of tap.now }
+{
+    match tap {
+        PreparedTap::Client { places, .. } => Some(places),
+        _ => None,
+    }
+}
+
+/// What is read of each tap.
+fn read_taps(
+    alloc: Global,
+    recording: &Recording<'_>,
+    wanted: &[bool],
+    orders: bool,
+) -> Result<Vec<PreparedTap>, AllocError>
+    ensures { IfOk result (λ taps. AllZip (IsReadBy recording.now wanted.now orders)
+        (numbers_from 0 (length recording.now.taps)) taps.items) }
+{
+    let count = recording.logs().taps().len();
+    let mut taps = Vec::with_capacity(alloc, count)?;
+    for place in 0..count {
+        let tap = read_tap(alloc, recording, wanted, orders, place)?;
+        taps.push(tap)?;
+    }
+    Ok(taps)
+}
+
+/// What is read of the tap at this place, where these are wanted.
+fn read_tap(
+    alloc: Global,
+    recording: &Recording<'_>,
+    wanted: &[bool],
+    orders: bool,
+    place: usize,
+) -> Result<PreparedTap, AllocError>
+    ensures { IfOk result (IsReadBy recording.now wanted.now orders place) }
+{
+    let asked = is_wanted(wanted, place);
+    read_asked(alloc, recording, asked, orders, place)
+}
+
+/// What is read of it, where it is asked for or isn't.
+fn read_asked(
+    alloc: Global,
+    recording: &Recording<'_>,
+    asked: bool,
+    orders: bool,
+    place: usize,
+) -> Result<PreparedTap, AllocError>
+    ensures { IfOk result (IsRead recording.now asked orders place) }
+{
+    if asked {
+        return read_client(alloc, recording, place);
+    }
+    Ok(read_order(recording, orders, place))
+}
+
+/// Of a client's tap that was asked for.
+fn read_client(
+    alloc: Global,
+    recording: &Recording<'_>,
+    place: usize,
+) -> Result<PreparedTap, AllocError>
+    ensures { (orders : Bool) → IfOk result (IsRead recording.now true orders place) }
+{
+    let places = ClientPlaces::read(alloc, recording.logs(), place)?;
+    let orphan = orphan_at(recording, place);
+    Ok(PreparedTap::Client { places, orphan })
+}
+
+/// Of another tap.
+fn read_order(recording: &Recording<'_>, orders: bool, place: usize) -> PreparedTap
+    ensures { IsRead recording.now false orders place result }
+{
+    if !orders {
+        return PreparedTap::Unread;
+    }
+    PreparedTap::Order {
+        unordered: first_unordered(recording.logs(), place),
+    }
+}

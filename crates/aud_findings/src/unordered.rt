@@ -1,0 +1,102 @@
+//! The first record of a node's log that is out of order.
+ghost use Rattle.std.specs.Prelude.{◌≡◌, ◌<◌, MatchOption, is_some, length, suc};
+ghost use Rattle.std.specs.Option.{option_copied};
+ghost use Rattle.aud_node.specs.Cluster.{node_log};
+ghost use Rattle.aud_node.specs.Cursors.{cursor_at, is_position, position_if_past};
+ghost use Rattle.aud_node.specs.Ordered.{is_in_order, is_some_in_order};
+ghost use Rattle.aud_node.specs.Stream.{position};
+ghost use Rattle.aud_findings.specs.Order.{IsFirstOutOfOrder, AreInOrder, starts_in_order};
+
+use aud_node::{Logs, NodeLog, Stream};
+use aud_tap::{NodeRec, Text};
+
+/// The number of the first record out of order in the log of the node at this place: a first record that is no `start`
+/// of the stream's begin or of one of its entries; a later `start`; a `take` that isn't of the position after the
+/// cursor; or a `takes` that isn't of one past it. Records count from 0; none where all are in order, or the tap there
+/// is no node's.
+pub fn first_unordered(logs: &Logs<'_>, node: usize) -> Option<usize>
+    ensures { MatchOption result (AreInOrder logs.now.stream (node_log logs.now node))
+        (IsFirstOutOfOrder logs.now.stream (node_log logs.now node)) }
+{
+    match logs.node(node) {
+        Some(log) => first_out_of_order(log, logs.stream()),
+        None => None,
+    }
+}
+
+/// The same of a log, whose node takes from this stream.
+fn first_out_of_order(log: &NodeLog<'_>, stream: &Stream<'_>) -> Option<usize>
+    requires { log.now.stream ≡ stream.now }
+    ensures { MatchOption result (AreInOrder stream.now log.now.recs)
+        (IsFirstOutOfOrder stream.now log.now.recs) }
+{
+    let recs = log.recs();
+    let mut cursor = 0;
+    for number in 0..recs.len() {
+        if !is_some_in_order(stream, number, cursor, recs.get(number)) {
+            return Some(number);
+        }
+        cursor = cursor_after(log, number);
+    }
+    None
+}
+
+/// The cursor after the record with this number.
+fn cursor_after(log: &NodeLog<'_>, number: usize) -> u64
+    requires { number < length log.now.recs }
+    ensures { result ≡ cursor_at log.now.stream log.now.recs (suc number) }
+{
+    log.cursor_after(number).unwrap_or(0)
+}
+
+/// Whether there is a record, and it is in order after this cursor.
+fn is_some_in_order(stream: &Stream<'_>, number: usize, cursor: u64, rec: Option<&NodeRec>) -> bool
+    ensures { result ≡ is_some_in_order stream.now number cursor (option_copied rec.entry) }
+{
+    match rec {
+        Some(rec) => is_in_order(stream, number, cursor, rec),
+        None => false,
+    }
+}
+
+/// Whether the entry of this offset stands past the cursor.
+fn is_past(stream: &Stream<'_>, cursor: u64, off: &str) -> bool
+    ensures { result ≡ is_some (position_if_past (position stream.now off.now) cursor) }
+{
+    match stream.position(off) {
+        Some(position) => position > cursor,
+        None => false,
+    }
+}
+
+/// Whether the record with this number is in order after this cursor.
+fn is_in_order(stream: &Stream<'_>, number: usize, cursor: u64, rec: &NodeRec) -> bool
+    ensures { result ≡ is_in_order stream.now number cursor rec.now }
+{
+    match rec {
+        NodeRec::Start { off } => number == 0 && starts_in_order(stream, off.as_ref()),
+        NodeRec::Take { off } => number != 0 && is_next(stream, cursor, off.as_str()),
+        NodeRec::Takes { off } => number != 0 && is_past(stream, cursor, off.as_str()),
+        _ => number != 0,
+    }
+}
+
+/// Whether a node can begin so: at the stream's begin, or after one of its entries.
+fn starts_in_order(stream: &Stream<'_>, off: Option<&Text>) -> bool
+    ensures { result ≡ starts_in_order stream.now (option_copied off.entry) }
+{
+    match off {
+        Some(off) => stream.position(off.as_str()).is_some(),
+        None => true,
+    }
+}
+
+/// Whether the entry with this offset stands at the position after the cursor.
+fn is_next(stream: &Stream<'_>, cursor: u64, off: &str) -> bool
+    ensures { result ≡ is_position (position stream.now off.now) (suc cursor) }
+{
+    match stream.position(off) {
+        Some(position) => position != 0 && position - 1 == cursor,
+        None => false,
+    }
+}

@@ -1,0 +1,200 @@
+//! What shows that no node opened a session, or that not exactly one client had it.
+ghost use Rattle.std.specs.Prelude.{◌≡◌, ◌++◌, IfOk, IfSome, List, OnOk, flat_map, length, map, option_map};
+ghost use Rattle.aud_client.specs.Replies.{naming_places};
+ghost use Rattle.aud_rooms.specs.Turns.{HasNoTurn};
+ghost use Rattle.aud_rows.specs.Seen.{row_seen};
+ghost use Rattle.aud_rows.specs.ClientPlaces.{AreOf};
+ghost use Rattle.aud_rows.specs.TrueRow.{IsTrueRow};
+ghost use Rattle.aud_shown.specs.RowLists.{AreTrueRows};
+ghost use Rattle.aud_shown.specs.ShowsDifference.{AreNumbersOf};
+ghost use Rattle.aud_findings.specs.Prepared.{IsPreparedOf};
+ghost use Rattle.aud_findings.specs.NamingReplies.{first_row_at, IsFirstReply, IsFirstReplyOf, naming_seen, replies_at, replies_of};
+ghost use Rattle.aud_findings.specs.ChainRecords.{turn_record};
+ghost use Rattle.aud_findings.specs.ShowsClient.{ShowsClient};
+ghost use Rattle.aud_findings.specs.ShowsNoLog.{ShowsNoLog};
+
+use crate::chain::mark_role;
+use crate::prepared::Prepared;
+use crate::replies::{NamingTap, naming_taps, numbers_naming};
+use aud_rows::{ClientPlaces, Role, Row, Sheet};
+use aud_session_facts::{TurnMark, turn_marks};
+use aud_shown::{NodeRecord, node_rows, push_row, push_rows};
+use std::alloc::{AllocError, Global};
+
+/// The rows of the first reply that names the session, and of the records of nodes that begin or end turns of it. A tap
+/// that wasn't prepared is read.
+pub fn no_log_rows<'r>(
+    alloc: Global,
+    sheet: &Sheet<'r, '_>,
+    prepared: &Prepared,
+    pid: &str,
+) -> Result<Vec<Row<'r>>, AllocError>
+    requires { IsPreparedOf sheet.now.recording.now prepared.now }
+    ensures shown { HasNoTurn sheet.now.recording.now pid.now 0
+        → IfOk result (λ rows. ShowsNoLog sheet.now.recording.now sheet.now.lines.now pid.now
+        (map row_seen rows.items)) }
+    ensures truth { IfOk result (λ rows.
+        AreTrueRows sheet.now.recording.now sheet.now.lines.now rows.items) }
+{
+    let reply = first_reply(alloc, sheet, prepared, pid)?;
+    let marks = turn_marks(alloc, sheet.recording.logs(), pid)?;
+    let records = turn_records(alloc, &marks)?;
+    let turns = node_rows(alloc, sheet, &records)?;
+    let mut rows = Vec::new(alloc);
+    push_row(&mut rows, reply)?;
+    push_rows(&mut rows, &turns)?;
+    Ok(rows)
+}
+
+/// The records of these marks.
+fn turn_records(alloc: Global, marks: &[TurnMark]) -> Result<Vec<NodeRecord>, AllocError>
+    ensures { IfOk result (λ records. records.items ≡ map turn_record marks.now) }
+{
+    let mut records = Vec::new(alloc);
+    for mark in marks {
+        records.push(NodeRecord {
+            place: mark.place,
+            role: mark_role(mark.mark),
+        })?;
+    }
+    Ok(records)
+}
+
+/// The row of the first reply that names the session.
+fn first_reply<'r>(
+    alloc: Global,
+    sheet: &Sheet<'r, '_>,
+    prepared: &Prepared,
+    pid: &str,
+) -> Result<Option<Row<'r>>, AllocError>
+    requires { IsPreparedOf sheet.now.recording.now prepared.now }
+    ensures row { IfOk result (λ row.
+        IsFirstReply sheet.now.recording.now sheet.now.lines.now pid.now
+        (option_map row_seen row)) }
+    ensures truth { IfOk result (λ row. IfSome row
+        (IsTrueRow sheet.now.recording.now sheet.now.lines.now)) }
+{
+    match sheet.recording.naming(pid).first() {
+        Some(place) => first_reply_at(alloc, sheet, prepared, *place, pid),
+        None => Ok(None),
+    }
+}
+
+/// That of the tap at this place.
+fn first_reply_at<'r>(
+    alloc: Global,
+    sheet: &Sheet<'r, '_>,
+    prepared: &Prepared,
+    place: usize,
+    pid: &str,
+) -> Result<Option<Row<'r>>, AllocError>
+    requires { IsPreparedOf sheet.now.recording.now prepared.now }
+    ensures row { IfOk result (λ row.
+        IsFirstReplyOf sheet.now.recording.now sheet.now.lines.now pid.now place
+        (option_map row_seen row)) }
+    ensures truth { IfOk result (λ row. IfSome row
+        (IsTrueRow sheet.now.recording.now sheet.now.lines.now)) }
+{
+    let numbers = numbers_naming(sheet.recording, place, pid);
+    match prepared.tap(place) {
+        Some(tap) => Ok(first_row_in(sheet, tap, numbers)),
+        None => {
+            let tap = ClientPlaces::read(alloc, sheet.recording.logs(), place)?;
+            Ok(first_row_in(sheet, &tap, numbers))
+        }
+    }
+}
+
+/// The row of the reply of the first of these stays.
+fn first_row_in<'r>(sheet: &Sheet<'r, '_>, tap: &ClientPlaces, numbers: &[usize]) -> Option<Row<'r>>
+    requires { AreOf sheet.now.recording.now tap.now }
+    ensures row { option_map row_seen result
+        ≡ first_row_at sheet.now.recording.now sheet.now.lines.now tap.now.place numbers.now }
+    ensures truth { IfSome result (IsTrueRow sheet.now.recording.now sheet.now.lines.now) }
+{
+    let number = *numbers.first()?;
+    sheet.reply_row(tap, number, Role::Fault)
+}
+
+/// The rows of all replies that name the session, tap after tap. A tap that wasn't prepared is read.
+pub fn client_rows<'r>(
+    alloc: Global,
+    sheet: &Sheet<'r, '_>,
+    prepared: &Prepared,
+    pid: &str,
+) -> Result<Vec<Row<'r>>, AllocError>
+    requires { IsPreparedOf sheet.now.recording.now prepared.now }
+    ensures shown { (length (naming_places sheet.now.recording.now.taps pid.now) ≡ 1 → ⊥)
+        → IfOk result (λ rows. ShowsClient sheet.now.recording.now sheet.now.lines.now pid.now
+        (map row_seen rows.items)) }
+    ensures truth { IfOk result (λ rows.
+        AreTrueRows sheet.now.recording.now sheet.now.lines.now rows.items) }
+{
+    let taps = naming_taps(alloc, sheet.recording, pid)?;
+    replies_of(alloc, sheet, prepared, &taps)
+}
+
+/// The rows of the replies in these taps.
+fn replies_of<'r>(
+    alloc: Global,
+    sheet: &Sheet<'r, '_>,
+    prepared: &Prepared,
+    taps: &[NamingTap<'_>],
+) -> Result<Vec<Row<'r>>, AllocError>
+    requires { IsPreparedOf sheet.now.recording.now prepared.now }
+    ensures rows { IfOk result (λ rows. map row_seen rows.items
+        ≡ flat_map (λ tap. replies_of sheet.now.recording.now sheet.now.lines.now
+        (naming_seen tap)) taps.now) }
+    ensures truth { IfOk result (λ rows.
+        AreTrueRows sheet.now.recording.now sheet.now.lines.now rows.items) }
+{
+    let mut rows = Vec::new(alloc);
+    for tap in taps {
+        push_tap(alloc, &mut rows, sheet, prepared, tap)?;
+    }
+    Ok(rows)
+}
+
+/// Adds those of one tap.
+fn push_tap<'r>(
+    alloc: Global,
+    rows: &mut Vec<Row<'r>>,
+    sheet: &Sheet<'r, '_>,
+    prepared: &Prepared,
+    named: &NamingTap<'_>,
+) -> Result<(), AllocError>
+    requires { IsPreparedOf sheet.now.recording.now prepared.now }
+    ensures rows { OnOk result (map row_seen rows.new.items
+        ≡ map row_seen rows.old.items
+        ++ replies_of sheet.now.recording.now sheet.now.lines.now (naming_seen named.now)) }
+    ensures truth { AreTrueRows sheet.now.recording.now sheet.now.lines.now rows.old.items
+        → OnOk result (AreTrueRows sheet.now.recording.now sheet.now.lines.now rows.new.items) }
+{
+    match prepared.tap(named.place) {
+        Some(tap) => push_replies(rows, sheet, tap, named.numbers),
+        None => {
+            let tap = ClientPlaces::read(alloc, sheet.recording.logs(), named.place)?;
+            push_replies(rows, sheet, &tap, named.numbers)
+        }
+    }
+}
+
+/// Adds the rows of the replies of these stays.
+fn push_replies<'r>(
+    rows: &mut Vec<Row<'r>>,
+    sheet: &Sheet<'r, '_>,
+    tap: &ClientPlaces,
+    numbers: &[usize],
+) -> Result<(), AllocError>
+    requires { AreOf sheet.now.recording.now tap.now }
+    ensures rows { OnOk result (map row_seen rows.new.items
+        ≡ map row_seen rows.old.items
+        ++ replies_at sheet.now.recording.now sheet.now.lines.now tap.now.place numbers.now) }
+    ensures truth { AreTrueRows sheet.now.recording.now sheet.now.lines.now rows.old.items
+        → OnOk result (AreTrueRows sheet.now.recording.now sheet.now.lines.now rows.new.items) }
+{
+    for number in numbers {
+        push_row(rows, sheet.reply_row(tap, *number, Role::Fault))?;
+    }
+    Ok(())
+}

@@ -1,3 +1,0 @@
-mod Feeding
-mod Going
-mod Records

@@ -1,7 +1,0 @@
-use Rattle.std.proofs.Common.{[], take}
-use Rattle.aud_no_packet.specs.NoPacket.{messages_before}
-use Rattle.aud_no_packet.specs.Private.Fed.{Passes}
-use Rattle.aud_no_packet.proofs.before.assembler_after.Given as goal
-
-abbrev pub invariant-loop-rec : goal.invariant-loop-rec
-invariant-loop-rec l = Passes [] (messages_before (take l.rec-index l.recs)) l.assembler

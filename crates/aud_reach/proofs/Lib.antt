@@ -1,5 +1,0 @@
-mod Cursors
-mod Found
-mod Told
-mod Held
-mod Due

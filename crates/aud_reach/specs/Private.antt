@@ -1,5 +1,0 @@
--- What contracts of private functions alone cite: what the code keeps, and its steps. No public clause rests on these
--- words.
-pub mod Found
-pub mod BySpans
-pub mod Holding

@@ -1,5 +1,0 @@
-pub mod Told
-pub mod Read
-pub mod Naming
-pub mod Nodes
-pub mod Firsts

@@ -1,7 +1,0 @@
-use Rattle.std.proofs.Common.{take}
-use Rattle.aud_recording_faults.specs.ShowsOrder.{AreOutOfOrder}
-use Rattle.aud_recording_faults.proofs.order.unordered_among.Given as goal
-
--- those of the nodes so far
-abbrev pub invariant-loop-node : goal.invariant-loop-node
-invariant-loop-node l = AreOutOfOrder l.logs (take l.node-index l.nodes) l.found.items

@@ -1,6 +1,0 @@
-use Rattle.aud_recording_faults.proofs.Nodes.{orphan_told}
-use Rattle.aud_recording_faults.proofs.orphan.orphan_in.Goals as goal
-
-pub returns-in-Some-Client : goal.returns-in-Some-Client
-returns-in-Some-Client c =
-    orphan_told c.args.recording.now c.args.prepared.now c.args.place c.in-Some-Client.field-0.now c.in-Some-Client.field-0-0 c.in-Some-Client.orphan c.requires c.in-Some-Client.ensures c.in-Some-Client.field-0-is

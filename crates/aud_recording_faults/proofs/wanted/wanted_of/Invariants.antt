@@ -1,7 +1,0 @@
-use Rattle.std.proofs.Common.{take}
-use Rattle.aud_recording_faults.specs.Private.Wanted.{AreWanted}
-use Rattle.aud_recording_faults.proofs.wanted.wanted_of.Given as goal
-
--- the places so far are marked
-abbrev pub invariant-loop-place : goal.invariant-loop-place
-invariant-loop-place l = AreWanted l.count (take l.place-index l.places) l.wanted.items

@@ -1,4 +1,0 @@
-pub mod Steps
-pub mod HeldLemmas
-pub mod MissedLemmas
-pub mod Highs

@@ -1,0 +1,45 @@
+//! The texts of a polling body.
+ghost use Rattle.std.specs.Prelude.{◌≡◌, IfOk, map};
+ghost use Rattle.aud_eio.specs.Body.{body_pieces};
+ghost use Rattle.aud_refusals.specs.NoPacket.{engine_refusal, engine_refused};
+
+use crate::no_packet::{NoPacket, Refusal};
+use aud_eio::{EioFault, decode_text};
+use std::alloc::{AllocError, Global};
+
+/// The texts of a body's packets, borrowed.
+pub(crate) fn pieces_of(alloc: Global, body: &str) -> Result<Vec<&str>, AllocError>
+    ensures { IfOk result (λ pieces. map (λ piece. piece.now) pieces.items ≡ body_pieces body.now) }
+{
+    let mut pieces = Vec::new(alloc);
+    for piece in body.split('\u{1e}') {
+        pieces.push(piece)?;
+    }
+    Ok(pieces)
+}
+
+/// The first of these texts that is no Engine.IO packet.
+pub(crate) fn engine_refusal(alloc: Global, texts: &[&str]) -> Result<Option<NoPacket>, AllocError>
+    ensures { IfOk result (λ found. found ≡ engine_refusal 1 (map (λ text. text.now) texts.now)) }
+{
+    for (i, text) in texts.iter().enumerate() {
+        if let Some(found) = engine_refused(alloc, i + 1, text)? {
+            return Ok(Some(found));
+        }
+    }
+    Ok(None)
+}
+
+/// The refusal of this text, the packet with this number.
+fn engine_refused(alloc: Global, number: usize, text: &str) -> Result<Option<NoPacket>, AllocError>
+    ensures { IfOk result (λ found. found ≡ engine_refused number text.now) }
+{
+    match decode_text(alloc, text) {
+        Ok(_) => Ok(None),
+        Err(EioFault::Memory) => Err(AllocError),
+        Err(fault) => Ok(Some(NoPacket {
+            refusal: Refusal::Engine(fault),
+            packet: Some(number),
+        })),
+    }
+}
