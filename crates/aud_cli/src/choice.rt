@@ -27,7 +27,7 @@ pub struct Options {
 }
 
 /// The options that stand after a mode's name; each stands at most once.
-#[derive(Clone, Copy, Debug, PartialEq, Eq, Drop)]
+#[derive(Clone, Copy, Drop)]
 pub struct ModeOptions {
     /// The number of `--workers`, where it stands there.
     pub workers: Option<u8>,

@@ -29,7 +29,7 @@ pub struct ExplainOptions {
 }
 
 /// The options that have no place in a list; each stands at most once.
-#[derive(Clone, Copy, Debug, PartialEq, Eq, Drop)]
+#[derive(Clone, Copy, Drop)]
 pub struct Choices {
     pub only: Option<Only>,
     pub form: Option<OutputForm>,

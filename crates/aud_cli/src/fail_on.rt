@@ -32,7 +32,7 @@ pub const FINDINGS: [&str; 19] = [
 ];
 
 /// What makes the exit status 1.
-#[derive(Clone, Copy, Debug, PartialEq, Eq, Drop)]
+#[derive(Clone, Copy, Drop)]
 pub struct FailOn {
     /// A session that is answered no with a fault of the class *delivery*.
     pub delivery: bool,

@@ -7,7 +7,7 @@ use crate::names::has_name;
 use aud_cert::Fault;
 
 /// Some of the faults that an explanation can be of. A tail is one where the whole is asked for alone.
-#[derive(Clone, Copy, Debug, PartialEq, Eq, Drop)]
+#[derive(Clone, Copy, Drop)]
 pub struct Faults {
     pub no_log: bool,
     pub chain: bool,

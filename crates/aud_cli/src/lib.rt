@@ -40,6 +40,7 @@ mod explain_options;
 mod fail_on;
 mod faults;
 mod given;
+mod help;
 mod merge_arguments;
 mod merge_options;
 mod names;

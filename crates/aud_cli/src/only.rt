@@ -28,7 +28,7 @@ pub const SHOWN: [&str; 18] = [
 ];
 
 /// Which of the sessions that have something to explain are shown.
-#[derive(Clone, Copy, Debug, PartialEq, Eq, Drop)]
+#[derive(Clone, Copy, Drop)]
 pub enum Only {
     /// Those that are answered no.
     No,

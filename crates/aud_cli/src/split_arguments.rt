@@ -6,7 +6,8 @@ ghost use Rattle.aud_cli.specs.SplitArguments.{AreWithin, IsWithinAll, asked, ch
 
 use crate::arguments::workers_named;
 use crate::given::{Given, given_of, values_of};
-use crate::parser::{BAD_SIZE, STDIN_TWICE, refusal_or};
+use crate::help::{BAD_SIZE, STDIN_TWICE};
+use crate::parser::refusal_or;
 use crate::sizes::{parts_named, size_named};
 use crate::split_options::{PartsWanted, SplitChoices, SplitOptions};
 use aud_base::{Text, Texts};

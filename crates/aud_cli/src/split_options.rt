@@ -25,7 +25,7 @@ pub struct SplitOptions {
 }
 
 /// The options that are no texts; each stands at most once.
-#[derive(Clone, Copy, Debug, PartialEq, Eq, Drop)]
+#[derive(Clone, Copy, Drop)]
 pub struct SplitChoices {
     pub parts: Option<PartsWanted>,
     pub quiet: bool,
