@@ -38,6 +38,10 @@ first_sent stream text off i e first here sent =
     let same : bytes_eq (offset_of e) off ≡ true = ap (has_this_offset off) (same_Some e other (sym here ∙ there)) ∙ has in
     first_index-narrowed (is_sent_as text) (has_this_offset off) (λ x x_sent. ap (λ o. bytes_eq o off) (same_offset text x e x_sent sent) ∙ same) stream i e at here sent
 
+-- where each entry is the first with its offset, one that is sent again as the text is the one that is known
+pub sent-known : (stream : List StreamRec) (text : Text) (i : ℕ) (e : StreamRec) → AreFirst stream → slice_get stream i ≡ Some e → is_sent_as text e ≡ true → known_entry stream text ≡ Some i
+sent-known stream text i e first here sent = first_sent stream text (offset_of e) i e (first i e here) here sent
+
 -- the same of the entry at a position
 sent_at-known : (stream : List StreamRec) (text off : Text) (p n : ℕ) → position stream off ≡ Some p → sent_at stream text p ≡ Some n → known_entry stream text ≡ Some n
 sent_at-known stream text off zero n first sent = absurd (none-some n sent)

@@ -6,6 +6,7 @@ ghost use Rattle.aud_node.specs.Recoverable.{is_recoverable};
 ghost use Rattle.aud_node.specs.Stream.{Text};
 ghost use Rattle.aud_node.specs.Private.KnownIndex.{ending, spells_its_offset};
 
+use crate::hints::Hints;
 use crate::offsets::Offsets;
 use crate::rest::Rest;
 use aud_tap::{Event, StreamRec};
@@ -36,31 +37,33 @@ impl<'a> KnownTexts<'a> {
     ghost use Rattle.aud_node.specs.Private.KnownIndex.{HoldsKnown, kept_entry};
     ghost use Rattle.aud_node.specs.Private.OffsetIndex.{HoldsOffsets};
 
-    /// The texts of these entries, of which the flags say whether they are recoverable. They are read from the last on:
-    /// of several with one text the first is kept. Where no two entries have the same offset, those are left out whose
-    /// text spells theirs.
+    /// The texts of these entries, of which the flags say whether they are recoverable, and hints at where each stands.
+    /// They are read from the last on: of several with one text the first is kept. Where no two entries have the same
+    /// offset, those are left out whose text spells theirs.
     pub fn build(
         alloc: Global,
         keys: RandomState,
         entries: &Rest<'a, StreamRec>,
         recoverable: &[bool],
         offsets: &Offsets<'a>,
-    ) -> Result<KnownTexts<'a>, AllocError>
+    ) -> Result<(KnownTexts<'a>, Hints), AllocError>
         requires flags { recoverable.now ≡ map is_recoverable entries.now }
         requires offsets { HoldsOffsets entries.now offsets.now }
-        ensures { IfOk result (HoldsKnown entries.now) }
+        ensures { IfOk result (λ built. HoldsKnown entries.now built.0) }
     {
         let mut known = KnownTexts {
             entries: HashMap::with_hasher(alloc, keys),
         };
+        let mut hints = Hints::new(alloc, entries.len())?;
         for i in (0..entries.len()).rev() {
             let entry = entries.at(i);
+            hints.mark(entry, i);
             if offsets.distinct() && spells_its_offset(entry) {
                 continue;
             }
             known.note(entry, recoverable[i], i)?;
         }
-        Ok(known)
+        Ok((known, hints))
     }
 
     /// The entry that is kept for the text. Where none are kept, the text isn't hashed.

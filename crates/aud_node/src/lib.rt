@@ -22,6 +22,7 @@ mod addressees;
 mod by_name;
 mod cursors;
 mod fields;
+mod hints;
 mod known;
 mod logs;
 mod node_log;

@@ -11,6 +11,7 @@ ghost use Rattle.aud_tap.specs.declared.records.StreamRec.TheVariants.{Ev};
 
 use crate::addressees::Addressees;
 use crate::fields::offset;
+use crate::hints::Hints;
 use crate::known::{KnownEvent, KnownTexts, ending, is_sent_as};
 use crate::offsets::Offsets;
 use crate::recoverable::recoverable_of;
@@ -28,6 +29,7 @@ pub struct Stream<'a> {
     recoverable: Vec<bool>,
     addressees: Addressees<'a>,
     known: KnownTexts<'a>,
+    hints: Hints,
 }
 
 impl<'a> Model for Stream<'a> {
@@ -54,13 +56,14 @@ impl<'a> Stream<'a> {
         let offsets = Offsets::build(alloc, keys, &entries)?;
         let recoverable = recoverable_of(alloc, &entries)?;
         let addressees = Addressees::build(alloc, keys, &entries, &recoverable)?;
-        let known = KnownTexts::build(alloc, keys, &entries, &recoverable, &offsets)?;
+        let (known, hints) = KnownTexts::build(alloc, keys, &entries, &recoverable, &offsets)?;
         Ok(Stream {
             entries,
             offsets,
             recoverable,
             addressees,
             known,
+            hints,
         })
     }
 
@@ -116,15 +119,33 @@ impl<'a> Stream<'a> {
         }
     }
 
-    /// How many entries stand before that event. Mostly it is found by the offset in which the text ends; else the
-    /// whole text is looked up.
+    /// How many entries stand before that event. Mostly it is guessed; else it is found by the offset in which the text
+    /// ends, or the whole text is looked up.
     fn known_before(&self, text: &str) -> Option<usize>
         ensures { result ≡ known_entry self.now text.now }
     {
+        if let Some(guessed) = self.guessed(text) {
+            return Some(guessed);
+        }
         match self.found_by_offset(text) {
             Some(before) => Some(before),
             None => self.known.get(text),
         }
+    }
+
+    /// The same where a guess is right; none where it isn't, or where two entries have the same offset.
+    fn guessed(&self, text: &str) -> Option<usize>
+        ensures { IfSome result (λ before. known_entry self.now text.now ≡ Some before) }
+    {
+        if !self.offsets.distinct() {
+            return None;
+        }
+        let before = self.hints.get(text)?;
+        let entry = self.entries.get(before)?;
+        if !is_sent_as(entry, self.recoverable(before as u64 + 1), text) {
+            return None;
+        }
+        Some(before)
     }
 
     /// The same by the first entry that has the text's ending as its offset; none where that isn't such an event of
