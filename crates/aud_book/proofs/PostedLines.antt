@@ -1,5 +1,5 @@
 -- Numbered lines.
-use Rattle.std.proofs.Common.{◌≡◌, ℕ, ◌+◌, ◌<◌, List, [], ◌∷◌, ◌++◌, length, get_or, drop, map, ap, sym, ◌∙◌, add-one, arith}
+use Rattle.std.proofs.Common.{◌≡◌, ℕ, ◌+◌, ◌<◌, List, [], ◌∷◌, ◌++◌, length, get_or, drop, ap, sym, ◌∙◌, add-one, arith}
 use Rattle.std.specs.List.{flat_map}
 use Rattle.std.proofs.Math.Seq.{drop-cons}
 use Rattle.std.proofs.lemmas.List.{length-map}
@@ -17,12 +17,6 @@ numbered-append n (x ∷ xs) ys =
     let on : length xs + (n + 1) ≡ length (x ∷ xs) + n = omega arith in
     let first : Line = record { number = n; bytes = x } in
     ap (λ ls. first ∷ ls) (numbered-append (n + 1) xs ys ∙ ap (λ k. numbered (n + 1) xs ++ numbered k ys) on)
-
--- the lines of a tap from one on: that line, and those after it
-pub next-line : (name : List ℕ) (posted : List (Bor (List ℕ))) (i n : ℕ) (line d : Bor (List ℕ)) → i < length posted → line ≡ get_or posted i d
-    → numbered n (map (named_line name) (texts (drop i posted))) ≡ record { number = n; bytes = named_line name line.now } ∷ numbered (n + 1) (map (named_line name) (texts (drop (i + 1) posted)))
-next-line name posted i n line d h there =
-    ap (λ ls. numbered n (map (named_line name) (texts ls))) (drop-cons posted i d h ∙ ap (λ k. get_or posted i d ∷ drop k posted) (sym (add-one i)) ∙ ap (λ l. l ∷ drop (i + 1) posted) (sym there))
 
 -- the lines of the taps from one on: those of that tap, and those of the taps after it
 pub next-tap : (taps : List TapLines) (i n m : ℕ) (tap d : TapLines) → i < length taps → tap ≡ get_or taps i d → m ≡ n + length tap.lines.items

@@ -83,10 +83,3 @@ pub both-more : {A B C : Type 0} (f : A → C) (g : B → C) (xs : List A) (ys :
 both-more f g xs ys i d e h h' is front =
     ap (map f) (take_more xs i d h) ∙ map-append f (take i xs) (get_or xs i d ∷ []) ∙ ap (λ zs. zs ++ f (get_or xs i d) ∷ []) front ∙ ap (λ z. map g (take i ys) ++ z ∷ []) is
     ∙ sym (map-append g (take i ys) (get_or ys i e ∷ [])) ∙ sym (ap (map g) (take_more ys i e h'))
-
--- an element that is pushed, beside one element more of a list that looks the same
-pub push-more : {A B C : Type 0} (f : A → C) (g : B → C) (xs xs' : List A) (x : A) (ys : List B) (i : ℕ) (e : B) → i < length ys → xs' ≡ xs ++ x ∷ [] → f x ≡ g (get_or ys i e)
-    → map f xs ≡ map g (take i ys) → map f xs' ≡ map g (take (i + 1) ys)
-push-more f g xs xs' x ys i e h' more is front =
-    ap (map f) more ∙ map-append f xs (x ∷ []) ∙ ap (λ zs. zs ++ f x ∷ []) front ∙ ap (λ z. map g (take i ys) ++ z ∷ []) is
-    ∙ sym (map-append g (take i ys) (get_or ys i e ∷ [])) ∙ sym (ap (map g) (take_more ys i e h'))

@@ -34,19 +34,11 @@ by_number f count xs long each =
     get_or_from_slice_get xs k (f k) d (each k within)
     ∙ sym (get_or-map f (numbers_from 0 count) k 0 d (subst (λ n. k < n) (sym (length-numbers 0 count)) within) ∙ ap f (number_at count k within)))
 
-all_alike : {X : Type 0} (count k : ℕ) (x : X) → k < count → slice_get (replicate count x) k ≡ Some x
-all_alike count k x within =
-    slice_get-get_or (replicate count x) k x (subst (λ n. k < n) (sym (length-replicate count x)) within) ∙ ap Some (get_or-replicate count k x x within)
-
 -- ---- the begins
 
 pub record AreBegins (count : ℕ) (seen : List TurnMark) (begins : List (Option RecordPlace)) : Type 0 where
   pub long : length begins ≡ count
   pub each : (k : ℕ) → k < count → slice_get begins k ≡ Some (begin_of seen k)
-
--- none at first
-pub no_begins : (count : ℕ) → AreBegins count [] (replicate count None)
-no_begins count = record { long = length-replicate count None; each = λ k within. all_alike count k None within }
 
 -- the begin of a turn, after a record that begins it or doesn't
 abbrev noted : Bool → Option RecordPlace → RecordPlace → Option RecordPlace
@@ -122,9 +114,6 @@ begins_are marks begins are = by_number (begin_of marks) (turn_count 0 marks) be
 pub record AreBroken (count : ℕ) (seen : List TurnMark) (broken : List Bool) : Type 0 where
   pub long : length broken ≡ count
   pub each : (k : ℕ) → k < count → slice_get broken k ≡ Some (is_broken seen k)
-
-pub none_broken : (count : ℕ) → AreBroken count [] (replicate count false)
-none_broken count = record { long = length-replicate count false; each = λ k within. all_alike count k false within }
 
 or_false : (b : Bool) → b ≡ (b || false)
 or_false true = refl

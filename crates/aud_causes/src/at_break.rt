@@ -100,14 +100,15 @@ fn due_at_break(
         replay.after,
         replay.low,
     )?;
-    due_of(
+    let due = due_of(
         alloc,
         &spans,
         logs.stream(),
         opened.nsp,
         replay.after,
         replay.low,
-    )
+    )?;
+    due.into_owned(alloc)
 }
 
 /// The positions of the frames in the stay with this number that were to be replayed.

@@ -1,10 +1,9 @@
 -- Ascending positions, cut at a place.
-use Rattle.std.proofs.Common.{◌≡◌, ◌<◌, ◌+◌, ◌-◌, ℕ, zero, suc, Bool, true, ◌&&◌, List, [], ◌∷◌, ◌++◌, length, map, take, drop, get_or, Option, Some, None, slice_get, nat_le, nat_lt, refl, sym, ap, ◌∙◌, arith, length-append}
+use Rattle.std.proofs.Common.{◌≡◌, ◌<◌, ◌+◌, ◌-◌, ℕ, zero, suc, Bool, ◌&&◌, List, [], ◌∷◌, ◌++◌, length, map, take, drop, get_or, Option, Some, None, slice_get, nat_le, nat_lt, refl, sym, ap, ◌∙◌, arith, length-append}
 use Rattle.std.specs.List.{list_all}
 use Rattle.std.proofs.lemmas.Bool.Decides.{nat_tests}
 use Rattle.std.proofs.lemmas.List.{get_or_append_left}
 use Rattle.std.proofs.lemmas.Option.{get_or_from_slice_get, none-some, same_Some}
-use Rattle.aud_base.proofs.Lists.{element_at}
 use Rattle.aud_base.proofs.Truth.{and_true}
 use Rattle.aud_client.specs.StaySeen.{FrameSeen}
 use Rattle.aud_merge.specs.ByTurns.{IsPrefixOf}
@@ -56,11 +55,6 @@ pub upto_last : (q z : ℕ) (xs : List ℕ) → IsAscending xs → Some z ≡ sl
 upto_last q z [] up at = absurd (none-some z (sym at))
 upto_last q z (x ∷ xs) up at = sym (upto_at q z (x ∷ xs) (length (x ∷ xs) - 1) up (omega arith) (sym at))
 
--- of no positions none does
-pub upto_none : (q : ℕ) (xs : List ℕ) → None ≡ slice_get xs (length xs - 1) → true ≡ list_all (λ p. nat_le p q) xs
-upto_none q [] e = refl
-upto_none q (x ∷ xs) e = let (z, at) = element_at (x ∷ xs) (length (x ∷ xs) - 1) (omega arith) in absurd (none-some z (e ∙ at))
-
 -- and the first of them
 past_at : (q x : ℕ) (xs : List ℕ) → IsAscending (x ∷ xs) → list_all (λ p. nat_lt q p) (x ∷ xs) ≡ nat_lt q x
 past_at q x [] up = and_true (nat_lt q x)
@@ -72,11 +66,6 @@ past_at q x (y ∷ ys) up =
 pub past_first : (q z : ℕ) (xs : List ℕ) → IsAscending xs → Some z ≡ slice_get xs 0 → nat_lt q z ≡ list_all (λ p. nat_lt q p) xs
 past_first q z [] up at = absurd (none-some z (sym at))
 past_first q z (x ∷ xs) up at = ap (nat_lt q) (same_Some z x at) ∙ sym (past_at q x xs up)
-
--- of no positions all do
-pub past_none : (q : ℕ) (xs : List ℕ) → None ≡ slice_get xs 0 → true ≡ list_all (λ p. nat_lt q p) xs
-past_none q [] e = refl
-past_none q (x ∷ xs) e = absurd (none-some x e)
 
 -- ---- frames by their positions
 

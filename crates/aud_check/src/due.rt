@@ -1,5 +1,6 @@
 //! What is due by the turns of a certificate.
 ghost use Rattle.std.specs.Prelude.{◌≡◌, IfOk};
+ghost use Rattle.std.specs.Cow.{cow_slice_items};
 ghost use Rattle.aud_rooms.specs.Spans.{AreSpansOfTurns};
 ghost use Rattle.aud_rooms.specs.TurnsDue.{turns_due};
 ghost use Rattle.aud_check.specs.Shown.{slices_at};
@@ -11,19 +12,20 @@ use aud_cert::Turn;
 use aud_node::Logs;
 use aud_rooms::{Span, due_by_spans_of_turns, due_of};
 use std::alloc::{AllocError, Global};
+use std::borrow::CowSlice;
 
 /// What is due to the session by the turns, which were accepted, and whose spans these are.
-pub(crate) fn shown_due(
+pub(crate) fn shown_due<'l>(
     alloc: Global,
-    logs: &Logs<'_>,
+    logs: &'l Logs<'_>,
     session: &ShownSession<'_, '_>,
     turns: &[Turn<'_>],
     spans: &[Span<'_>],
-) -> Result<Vec<u64>, AllocError>
+) -> Result<CowSlice<'l, u64, Global>, AllocError>
     requires accepted { AreTurnsAccepted logs.now session.now.pid turns.now }
     requires spans { AreSpansOfTurns logs.now.stream session.now
         (slices_at logs.now turns.now) spans.now }
-    ensures { IfOk result (λ due. due.items
+    ensures { IfOk result (λ due. cow_slice_items due
         ≡ turns_due logs.now.stream session.now (slices_at logs.now turns.now)) }
 {
     due_by_spans_of_turns();

@@ -1,8 +1,8 @@
 //! What the help says of the commands, and why arguments are refused.
 
-pub const ABOUT: &str = "Audits what the sessions of a Socket.IO cluster received";
+pub(crate) const ABOUT: &str = "Audits what the sessions of a Socket.IO cluster received";
 
-pub const STATUSES: &str = "\
+pub(crate) const STATUSES: &str = "\
 A bundle is the logs of the stream, of the nodes and of the clients, a record a line. Its files are
 read one after the other, as one bundle; without any, and for -, it is read from standard input. For
 verify, the lines that begin with { are certificates. docs/FORMAT.md describes both, and the help of a
@@ -15,17 +15,18 @@ Exit status:
   3  a read or a write failed, a thread could not be started, or there was no memory
   4  these words are not understood";
 
-pub const AUDIT_ABOUT: &str = "Reads a bundle and writes a verdict for each session";
+pub(crate) const AUDIT_ABOUT: &str = "Reads a bundle and writes a verdict for each session";
 
-pub const AUDIT_LINES: &str = "\
+pub(crate) const AUDIT_LINES: &str = "\
 Each session has a line, and the last line counts them:
   yes <pid> got=<events received> tail=<due events not received yet> turns=<connections>
   no <pid> <fault>
   sessions=<n> yes=<n> no=<n>";
 
-pub const EXPLAIN_ABOUT: &str = "Reads a bundle and tells of each session that is answered no why";
+pub(crate) const EXPLAIN_ABOUT: &str =
+    "Reads a bundle and tells of each session that is answered no why";
 
-pub const EXPLAIN_LINES: &str = "\
+pub(crate) const EXPLAIN_LINES: &str = "\
 With --pid these sessions are shown, also those that are answered yes. The next word after --pid is
 the session, also where it begins with a dash.
 
@@ -45,27 +46,27 @@ Exit status:
   3  a read or a write failed, a thread could not be started, or there was no memory
   4  these words are not understood";
 
-pub const PROVE_ABOUT: &str =
+pub(crate) const PROVE_ABOUT: &str =
     "Reads a bundle and writes the certificate of each session that received what was due to it";
 
-pub const PROVE_LINES: &str = "\
+pub(crate) const PROVE_LINES: &str = "\
 A certificate is a line of JSON: the session and its client's tap, its turns on the nodes, and
 the rooms that it held at which positions. Put after the bundle's lines, `verify` accepts it.
 The sessions that audit answers no have no line, and the exit status is then 1.";
 
-pub const VERIFY_ABOUT: &str =
+pub(crate) const VERIFY_ABOUT: &str =
     "Reads a bundle and certificates, and writes an answer on each certificate";
 
-pub const VERIFY_LINES: &str = "\
+pub(crate) const VERIFY_LINES: &str = "\
 A line that begins with { is a certificate. Each has a line, and the last line counts them:
   ok <line> <pid> got=<events received> tail=<due events not received yet> turns=<connections>
   bad <line> <code> <name>
   certs=<n> ok=<n> bad=<n>";
 
-pub const ORDER_ABOUT: &str =
+pub(crate) const ORDER_ABOUT: &str =
     "Reads a bundle and writes one run of its logs, or the records that block every run";
 
-pub const ORDER_LINES: &str = "\
+pub(crate) const ORDER_LINES: &str = "\
 A run takes the records of the stream and of the nodes one after another, each where the cluster
 allows it. Records count from 0 in their tap, its header not counted:
   <tap> <record>            for each step of a run
@@ -73,15 +74,16 @@ allows it. Records count from 0 in their tap, its header not counted:
   blocked <tap> <record>    where there is no run, for the next record of each log that isn't finished
   blocked=<n>               the exit status is then 1";
 
-pub const UPGRADE_ABOUT: &str = "Reads a bundle and writes it in version 2 of the format";
+pub(crate) const UPGRADE_ABOUT: &str = "Reads a bundle and writes it in version 2 of the format";
 
-pub const UPGRADE_LINES: &str = "\
+pub(crate) const UPGRADE_LINES: &str = "\
 What a node took one by one it takes by one record, and no verdict changes. The numbers of records do:
 certificates of the old bundle don't fit the new one.";
 
-pub const SPLIT_ABOUT: &str = "Cuts a bundle into parts, each of which can be audited by itself";
+pub(crate) const SPLIT_ABOUT: &str =
+    "Cuts a bundle into parts, each of which can be audited by itself";
 
-pub const SPLIT_LINES: &str = "\
+pub(crate) const SPLIT_LINES: &str = "\
 Each part is a bundle: part-0001.jsonl and so on in the folder. part-0001.lines beside it says from
 which lines of the whole its lines come, for `sioaudit explain --lines`, and the file `sessions` lists
 the sessions of each. Audit each part, on whichever machine; `sioaudit merge` then writes the report on
@@ -98,29 +100,29 @@ Exit status:
   3  a read or a write failed, or there was no memory; nothing is left in the folder
   4  these words are not understood, the folder has a split already, or no such parts can be made";
 
-pub const MERGE_ABOUT: &str = "Writes the report on a bundle from the reports on its parts";
+pub(crate) const MERGE_ABOUT: &str = "Writes the report on a bundle from the reports on its parts";
 
-pub const MERGE_LINES: &str = "\
+pub(crate) const MERGE_LINES: &str = "\
 The reports are those that `sioaudit audit` wrote on the parts, all with --whole or all without, a
 file each, in any order. Which part a report is of is known by its sessions. The output is what
 `sioaudit audit` writes on the whole bundle, and so is the exit status, except that it is 2 where a
 report is missing, stands twice, or is of no part of this split; nothing is written then.";
 
-pub const SIMULATE_ABOUT: &str = "Writes the bundle of a simulated cluster";
+pub(crate) const SIMULATE_ABOUT: &str = "Writes the bundle of a simulated cluster";
 
-pub const SIMULATE_LINES: &str = "`sioaudit simulate --help` has its options.";
+pub(crate) const SIMULATE_LINES: &str = "`sioaudit simulate --help` has its options.";
 
-pub const NOT_UNDERSTOOD: &str =
+pub(crate) const NOT_UNDERSTOOD: &str =
     "these words are not understood\n\nFor more information, try '--help'.";
 
 /// Why a size of parts is refused.
-pub const BAD_SIZE: &str =
+pub(crate) const BAD_SIZE: &str =
     "a part's size is a whole number of bytes, or of K, M or G, as in 512M\n\nFor more information, try '--help'.";
 
 /// Why `TAIL` is refused.
-pub const TAIL_ALONE: &str =
+pub(crate) const TAIL_ALONE: &str =
     "TAIL is named without --whole, which alone looks for it\n\nFor more information, try '--help'.";
 
 /// Why `-` is refused as a file of `split`.
-pub const STDIN_TWICE: &str =
+pub(crate) const STDIN_TWICE: &str =
     "the files are read more than once, so none can be standard input\n\nFor more information, try '--help'.";

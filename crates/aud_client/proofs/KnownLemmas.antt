@@ -15,7 +15,6 @@ use Rattle.aud_node.specs.Known.{is_sent_alone, spelled}
 use Rattle.aud_node.proofs.KnownLemmas.{sent_alone}
 use Rattle.aud_client.specs.TapPackets.{FromServer}
 use Rattle.aud_client.specs.Replies.{ReplySeen, is_connect_kind}
-use Rattle.aud_client.specs.Stays.{is_disconnect_kind}
 use Rattle.aud_client.specs.StaySeen.{FrameSeen, StaySeen, frame_at, frame_of, offset_in, recoverable_position, reply_at}
 use Rattle.aud_client.specs.declared.part.Part.TheVariants as part
 use Rattle.aud_client.specs.Private.Kept.{grown, part_of}
@@ -30,15 +29,6 @@ event_begins_nothing kind.Disconnect e = refl
 event_begins_nothing kind.Ack e = refl
 event_begins_nothing kind.ConnectError e = refl
 event_begins_nothing kind.BinaryAck e = refl
-
-pub event_ends_nothing : (k : PacketKind) → is_event k ≡ true → is_disconnect_kind k ≡ false
-event_ends_nothing kind.Event e = refl
-event_ends_nothing kind.BinaryEvent e = refl
-event_ends_nothing kind.Connect e = refl
-event_ends_nothing kind.Disconnect e = sym e
-event_ends_nothing kind.Ack e = refl
-event_ends_nothing kind.ConnectError e = refl
-event_ends_nothing kind.BinaryAck e = refl
 
 module _ (event : Event) (alone : is_sent_alone event ≡ true) where
   -- the text alone is a whole packet, where nothing is held

@@ -49,11 +49,6 @@ first-may xs o = first_of-append xs (cons_option o []) ∙ ap (option_or (first_
 records-more : {X : Type 0} (gives : TapPacket → Option X) (s : List PlacedPacket) (q : PlacedPacket) → records_of gives (s ++ q ∷ []) ≡ records_of gives s ++ cons_option (record_of gives q) []
 records-more gives s q = filter_map-append (record_of gives) s (q ∷ [])
 
--- a packet has a record where it gives something
-recorded : {X : Type 0} (o : Option X) (n : ℕ) → is_some (option_map (λ x. n) o) ≡ is_some o
-recorded None n = refl
-recorded (Some x) n = refl
-
 -- a packet gives a reply where it is one
 pub is_reply-at : (p : TapPacket) → is_some (reply_at p) ≡ is_reply p
 is_reply-at p = grind (arith, no_reply_at p, reply_at-some p)

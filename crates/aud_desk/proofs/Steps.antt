@@ -1,28 +1,13 @@
 -- Each kind of step keeps the rule.
-use Rattle.std.proofs.Common.{◌≡◌, ℕ, zero, suc, ◌+◌, ◌%◌, ◌^◌, ◌<◌, true, [], ◌∷◌, get_or, set, sym, refl, ◌∙◌, subst, arith, length-set, get_or-set_same, ⊎_elim}
-use mathlib.Core.Option.{none, some, some-injective, some-ne-none}
-use lib.ListN.{get_elem?}
-use Rattle.atomic_table.specs.Table.{Me, step, keeps, stepped, Allows, Splits, Joins, opening}
+use Rattle.std.proofs.Common.{◌≡◌, ℕ, suc, ◌+◌, ◌%◌, ◌^◌, ◌<◌, true, [], ◌∷◌, get_or, set, sym, refl, ◌∙◌, subst, arith, length-set, get_or-set_same, ⊎_elim}
+use mathlib.Core.Option.{none}
+use Rattle.atomic_table.specs.Table.{Me, step, keeps, stepped, Allows, Splits, Joins}
 use Rattle.atomic_table.proofs.Lists.{at_set, at_snoc}
 use Rattle.aud_desk.specs.declared.seat_view.SeatView.{SeatView}
 use Rattle.aud_desk.specs.declared.seat_view.Bound.{Bound}
 use Rattle.aud_desk.specs.Draws.{weigh, is_late, late_count}
-use Rattle.aud_desk.specs.Tickets.{Fits, TicketLists, made, one_pass_fewer, starts, claimed, Claims, joined, ended}
+use Rattle.aud_desk.specs.Tickets.{Fits, TicketLists, one_pass_fewer, starts, claimed, Claims, joined, ended}
 use Rattle.aud_desk.proofs.Lists.{total-set, total-push, total-at, weigh-append, late-below, cost, past_all-le}
-
--- make: nothing is drawn, and the one seat has all passes
-pub makes : (k : Bound) → 0 < k.seats → k.n + k.seats < 2 ^ 64 → TicketLists k (opening (0 ∷ []) [] (made k))
-makes k some_seat room = record {
-  room = room;
-  one_word = refl;
-  each_once = λ h. refl;
-  passes = omega arith;
-  seats_fit = λ id v at. at_snoc_fit id v at;
-}
-  where
-    at_snoc_fit : (id : ℕ) (v : SeatView) → get_elem? (made k ∷ []) id ≡ some v → Fits k v
-    at_snoc_fit zero v e = subst (Fits k) (some-injective (made k) v e) ((λ _. (refl, refl, λ none_left. absurd (omega arith))), λ dead. absurd (cc))
-    at_snoc_fit (suc id) v e = absurd (some-ne-none v (sym e))
 
 -- claim: a live seat with a pass draws the next number
 pub claims : (k : Bound) (slots id : ℕ) (me : Me (Unit {0}) SeatView) → me.0.live ≡ true → 0 < me.0.passes

@@ -2,7 +2,6 @@ pub mod Numbers
 pub mod Shown
 pub mod ByAccount
 pub mod Counts
-pub mod Reached
 pub mod Told
 pub mod Read
 pub mod Naming

@@ -1,5 +1,5 @@
 -- What is read of the taps.
-use Rattle.std.proofs.Common.{◌≡◌, ◌<◌, ◌+◌, ◌++◌, ◌||◌, ℕ, zero, suc, Bool, true, false, List, [], ◌∷◌, length, take, set, replicate, get_or, nat_eq, Option, Some, None, IfSome, Bor, option_map, option_copied, slice_get, refl, sym, ap, subst, ◌∙◌, arith, zero-add}
+use Rattle.std.proofs.Common.{◌≡◌, ◌<◌, ◌+◌, ◌++◌, ◌||◌, ℕ, zero, suc, Bool, true, false, List, [], ◌∷◌, length, take, set, get_or, nat_eq, Option, Some, None, IfSome, Bor, option_map, option_copied, slice_get, refl, sym, ap, subst, ◌∙◌, arith, zero-add}
 use Rattle.std.specs.List.{AllZip, list_any}
 use Rattle.std.proofs.lemmas.List.{take_more, length-set}
 use Rattle.std.proofs.lemmas.Bool.Decides.{nat_tests}
@@ -53,19 +53,6 @@ set_other (x ∷ xs) zero zero h = absurd (h refl)
 set_other (x ∷ xs) zero (suc j) h = refl
 set_other (x ∷ xs) (suc i) zero h = refl
 set_other (x ∷ xs) (suc i) (suc j) h = set_other xs i j (λ e. h (ap suc e))
-
-get_false : (n q : ℕ) → q < n → slice_get (replicate n false) q ≡ Some false
-get_false zero q h = absurd (omega arith)
-get_false (suc n) zero h = refl
-get_false (suc n) (suc q) h = get_false n q (omega arith)
-
-length_false : (n : ℕ) → length (replicate n false) ≡ n
-length_false zero = refl
-length_false (suc n) = ap suc (length_false n)
-
--- none is asked for at first
-pub wanted_none : (count : ℕ) → AreWanted count [] (replicate count false)
-wanted_none count = record { length_is = length_false count; each = get_false count }
 
 -- one more place
 pub wanted_more : (count i : ℕ) (places : List ℕ) (old new : List Bool) → i < length places → AreWanted count (take i places) old → new ≡ set old (get_or places i 0) true

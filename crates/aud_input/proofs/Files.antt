@@ -125,10 +125,6 @@ lines-files files =
 sum_by-last : (f : List ℕ → ℕ) (files : List (List ℕ)) (file : List ℕ) → sum_by f (files ++ file ∷ []) ≡ sum_by f files + f file
 sum_by-last f files file = omega (arith, sum_by-append f files (file ∷ []), sum_by-cons f file [])
 
--- no file yet
-pub none_taken : (s : Feeding) → IsRead [] s.reader → s.reader.fault ≡ None → s.begun ≡ false → s.bytes ≡ 0 → AreTaken [] [] s
-none_taken s read none begun size = record { read = read; counted = subst (AreCounted [] []) (sym none) refl; begun = begun; size = size }
-
 -- the lines are counted with one file more
 counted-more : (files : List (List ℕ)) (counts : List ℕ) (file : List ℕ) (s u : InputSoFar) (had has : Option ReadFault) → s.fault ≡ had → u.fault ≡ has → IfSome had (λ f. u.fault ≡ Some f)
     → IsRead (flat_map (ended false) files) s → IsRead (flat_map (ended false) (files ++ file ∷ [])) u → AreCounted files counts had
@@ -273,12 +269,6 @@ pub read-waited : (text : List ℕ) (old new : InputSoFar) → ((more : List ℕ
 read-waited text old new input lines read = record { input = λ more. input more ∙ read.input more; lines = lines read.lines }
 
 -- ---- all files
-
--- the counts are those of all files but the last
-counts-last : (files : List (List ℕ)) (last : List ℕ) → map lines_in files ≡ line_counts (files ++ last ∷ [])
-counts-last [] last = refl
-counts-last (file ∷ []) last = refl
-counts-last (file ∷ next ∷ files) last = ap (λ counts. lines_in file ∷ counts) (counts-last (next ∷ files) last)
 
 -- a line of the files, by the counts of all but the last
 file_line-last : (files : List (List ℕ)) (n : ℕ) → n ≤ sum_by lines_in files → file_line (map lines_in files) n ≡ file_line (line_counts files) n

@@ -162,10 +162,6 @@ at-either (x ∷ a) b line (suc i) e = in-later x a b line (at-either a b line i
 in-either : (a b : List Line) (line : Line) → IsIn line (a ++ b) → IsIn line a ⊎ IsIn line b
 in-either a b line is = at-either a b line is.0 is.1
 
--- lines with one more among them
-pub among-more : (old : List Line) (line : Line) → AreAmong (old ++ line ∷ []) (old ++ line ∷ [])
-among-more old line l is = is
-
 pub among-before : (old : List Line) (line : Line) → AreAmong old (old ++ line ∷ [])
 among-before old line l is = in-front old (line ∷ []) l is
 
@@ -288,17 +284,6 @@ piece_read bytes piece s fed t old new before after given lines fault taken fron
     read_on bytes piece (record { cut = s; parts = old; index = before; fault = None }) (record { cut = t; parts = new; index = after; fault = fault }) given refl
     (λ more. subst (λ ls. IsFront ls (lines_to_come s (piece ++ more)).lines) (sym taken) (front more)) goes
     (index ∙ ap (λ ls. option_map (λ i. noted i ls) before) same) waits held has
-
--- no byte is looked at after a refusal
-pub stays : (bytes piece : List ℕ) (old new : InputSoFar) (f : ReadFault) → old.fault ≡ Some f → new ≡ old → HasLines bytes old → HasLines (bytes ++ piece) new
-stays bytes piece old new f refused same has = subst (HasLines (bytes ++ piece)) (sym same) (record {
-  lines = has.lines;
-  front = λ more. subst (λ text. IsFront has.lines (lines_of text).lines) (sym (append_assoc bytes piece more)) (has.front (piece ++ more));
-  whole = λ none. absurd (none-some f (sym none ∙ refused));
-  index = has.index;
-  waits = has.waits;
-  held = has.held;
-})
 
 -- the lines that wait are read
 pub waited : (bytes : List ℕ) (old new : InputSoFar) → old.fault ≡ None → new.cut ≡ old.cut → new.index ≡ old.index → AreAmong new.parts.waiting old.parts.waiting

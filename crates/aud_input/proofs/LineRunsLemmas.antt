@@ -1,10 +1,9 @@
 -- Runs of lines one after the other, and the lines of records that are named by them.
-use Rattle.std.proofs.Common.{◌≡◌, ℕ, zero, suc, ◌+◌, ◌-◌, ◌<◌, ◌≤◌, ◌^◌, min, List, [], ◌∷◌, ◌++◌, length, map, take, get_or, nat_lt, true, inl, inr, Option, Some, None, option_map, is_some, slice_get, refl, sym, ap, ◌∙◌, arith, append_assoc, append-nil}
+use Rattle.std.proofs.Common.{◌≡◌, ℕ, zero, suc, ◌+◌, ◌-◌, ◌<◌, ◌≤◌, ◌^◌, min, List, [], ◌∷◌, ◌++◌, length, map, take, get_or, nat_lt, true, inl, inr, Option, Some, None, option_map, is_some, slice_get, refl, sym, ap, ◌∙◌, arith, append_assoc}
 use Rattle.std.specs.List.{All, flat_map}
 use Rattle.std.specs.Option.{option_and_then}
 use Rattle.std.proofs.lemmas.Bool.{cases_Bool, le-ltb, ltb-false, ltb-true}
 use Rattle.std.proofs.lemmas.List.{map-append, take_more}
-use Rattle.std.proofs.lemmas.List.Concat.{flat_map-append}
 use Rattle.std.proofs.lemmas.List.Elements.{All-head, All-tail}
 use Rattle.std.proofs.lemmas.Option.{none-some, slice_get-map}
 use Rattle.aud_base.specs.Lists.{numbers_from}
@@ -33,17 +32,6 @@ run-joined before after count first same both goes =
     (λ i. numbers_from (same i) (both i)) ∙ numbers_from-append before.first before.count after.count
     ∙ ap (λ n. lines_of_run before ++ numbers_from n after.count) goes
 
--- a run after all others
-pub runs-more : (runs : List LineRun) (run : LineRun) → lines_of_runs (runs ++ run ∷ []) ≡ lines_of_runs runs ++ lines_of_run run
-runs-more runs run = flat_map-append lines_of_run runs (run ∷ []) ∙ ap (λ ns. lines_of_runs runs ++ ns) (append-nil (lines_of_run run))
-
--- the last run, with another that goes on it
-pub runs-joined : (runs : List LineRun) (last run both : LineRun) → lines_of_run both ≡ lines_of_run last ++ lines_of_run run
-    → lines_of_runs (runs ++ both ∷ []) ≡ lines_of_runs (runs ++ last ∷ []) ++ lines_of_run run
-runs-joined runs last run both is =
-    runs-more runs both ∙ ap (λ ns. lines_of_runs runs ++ ns) is ∙ sym (append_assoc (lines_of_runs runs) (lines_of_run last) (lines_of_run run))
-    ∙ ap (λ ns. ns ++ lines_of_run run) (sym (runs-more runs last))
-
 -- ---- the lines of a part
 
 -- one more line of a run
@@ -58,11 +46,6 @@ run-line old new now first place line put is so_far =
     map-more : (ns : List ℕ) (n : ℕ) → map capped (ns ++ n ∷ []) ≡ map capped ns ++ capped n ∷ []
     map-more [] n = refl
     map-more (m ∷ ns) n = ap (λ ms. capped m ∷ ms) (map-more ns n)
-
--- numbers that are mapped, one list after the other
-pub capped-append : (xs ys : List ℕ) → map capped (xs ++ ys) ≡ map capped xs ++ map capped ys
-capped-append [] ys = refl
-capped-append (x ∷ xs) ys = ap (λ zs. capped x ∷ zs) (capped-append xs ys)
 
 -- ---- records named by the lines of the input
 

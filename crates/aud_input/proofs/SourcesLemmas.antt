@@ -25,22 +25,12 @@ begun-last begun (x ∷ y ∷ bytes) h =
 
 -- ---- a read
 
-keeps-itself : (o : Option (List ℕ)) → Keeps o o
-keeps-itself None = tt
-keeps-itself (Some xs) = refl
-
 -- bytes that were kept and are then consumed
 pub consumes-after : (a b c : Option (List ℕ)) (bs : List ℕ) → Keeps a b → Consumes b c bs → Consumes a c bs
 consumes-after None b c bs kept read = tt
 consumes-after (Some xs) None c bs kept read = absurd kept
 consumes-after (Some xs) (Some ys) None bs kept read = read
 consumes-after (Some xs) (Some ys) (Some zs) bs kept read = sym kept ∙ read
-
-pub keeps-after : (a b c : Option (List ℕ)) → Keeps a b → Keeps b c → Keeps a c
-keeps-after None b c kept more = tt
-keeps-after (Some xs) None c kept more = absurd kept
-keeps-after (Some xs) (Some ys) None kept more = more
-keeps-after (Some xs) (Some ys) (Some zs) kept more = more ∙ kept
 
 -- bytes of the file that is read
 pub left-read : (begun : Bool) (o p : Option (List ℕ)) (os : List (Option (List ℕ))) (bs : List ℕ) → Consumes o p bs → Consumes (left_of begun o os) (left_of (is_begun begun bs) p os) bs
@@ -51,16 +41,6 @@ left-read begun (Some xs) (Some ys) os bs read = go (all_known os)
     go : (known : Option (List (List ℕ))) → Consumes (option_map (joined_after begun) (option_map (λ others. xs ∷ others) known)) (option_map (joined_after (is_begun begun bs)) (option_map (λ others. ys ∷ others) known)) bs
     go None = tt
     go (Some files) = ap (λ t. joined_after begun (t ∷ files)) read ∙ joined-read begun bs ys files
-
--- a read that failed
-pub left-failed : (begun : Bool) (o p : Option (List ℕ)) (os : List (Option (List ℕ))) → Keeps o p → Keeps (left_of begun o os) (left_of begun p os)
-left-failed begun None p os kept = tt
-left-failed begun (Some xs) None os kept = absurd kept
-left-failed begun (Some xs) (Some ys) os kept = go (all_known os)
-  where
-    go : (known : Option (List (List ℕ))) → Keeps (option_map (joined_after begun) (option_map (λ others. xs ∷ others) known)) (option_map (joined_after begun) (option_map (λ others. ys ∷ others) known))
-    go None = tt
-    go (Some files) = ap (λ t. joined_after begun (t ∷ files)) kept
 
 -- a file that has come to its end, where a line had begun, is followed by a newline
 pub left-ended : (o p next : Option (List ℕ)) (os : List (Option (List ℕ))) → Consumes o p [] → IsAtEnd p → Consumes (left_of true o (next ∷ os)) (left_of false next os) (10 ∷ [])
@@ -75,22 +55,3 @@ left-ended (Some xs) (Some ys) (Some zs) os read end = go (all_known os)
     go : (known : Option (List (List ℕ))) → Consumes (option_map (joined_after true) (option_map (λ others. xs ∷ others) (option_map (λ others. zs ∷ others) known))) (option_map (joined_after false) (option_map (λ others. zs ∷ others) known)) (10 ∷ [])
     go None = tt
     go (Some files) = ap (λ t. joined_after true (t ∷ zs ∷ files)) empty
-
--- else the next file begins
-pub left-passed : (o p next : Option (List ℕ)) (os : List (Option (List ℕ))) → Consumes o p [] → IsAtEnd p → Keeps (left_of false o (next ∷ os)) (left_of false next os)
-left-passed None p next os read end = tt
-left-passed (Some xs) None next os read end = absurd read
-left-passed (Some xs) (Some ys) None os read end = tt
-left-passed (Some xs) (Some ys) (Some zs) os read end = go (all_known os)
-  where
-    empty : xs ≡ []
-    empty = read ∙ end
-
-    go : (known : Option (List (List ℕ))) → Keeps (option_map (joined_after false) (option_map (λ others. xs ∷ others) (option_map (λ others. zs ∷ others) known))) (option_map (joined_after false) (option_map (λ others. zs ∷ others) known))
-    go None = tt
-    go (Some files) = sym (ap (λ t. joined_after false (t ∷ zs ∷ files)) empty)
-
--- after the last file nothing is left
-pub left-none : (begun : Bool) (p : Option (List ℕ)) → IsAtEnd p → IsAtEnd (left_of begun p [])
-left-none begun None end = tt
-left-none begun (Some ys) end = end

@@ -1,7 +1,7 @@
 -- Bytes that are taken in, one piece after the other.
-use Rattle.std.proofs.Common.{◌≡◌, ℕ, ◌<◌, List, [], ◌++◌, length, take, Option, Some, None, Result, Ok, Err, IfOk, IfErr, IfSome, refl, sym, ap, ◌∙◌, subst, append_assoc, append-nil, length-append, arith}
-use Rattle.std.specs.Io.KnownBytes.{Consumes, IsAtEnd}
-use Rattle.std.proofs.KnownBytes.{Consumes-nil, Consumes-trans, Consumes-whole}
+use Rattle.std.proofs.Common.{◌≡◌, ℕ, List, [], ◌++◌, Option, Some, None, Result, Ok, Err, IfOk, IfErr, IfSome, refl, sym, ap, ◌∙◌, subst, append_assoc, append-nil, length-append, arith}
+use Rattle.std.specs.Io.KnownBytes.{Consumes}
+use Rattle.std.proofs.KnownBytes.{Consumes-nil, Consumes-trans}
 use Rattle.aud_reader.specs.declared.fault.ReadFault.{ReadFault}
 use Rattle.aud_reader.specs.declared.fault.ReadFault.TheVariants.{Memory}
 use Rattle.aud_input.specs.declared.input.Layout.{Layout}
@@ -60,14 +60,6 @@ more_read a b c s t u piece so_far given taken = record {
   consumed = Consumes-trans a b c so_far.front piece so_far.consumed given;
   taken = TakesIn-more s t u so_far.front piece so_far.taken taken;
 }
-
--- an empty read into a buffer with room: the file was read before
-pub all_read : (a b c : Option (List ℕ)) (s t : Feeding) (buf : List ℕ) (n : ℕ) → n ≡ 0 → 0 < length buf
-    → IsReadUpTo a b s t → Consumes b c (take n buf) × (n ≡ 0 → 0 < length buf → IsAtEnd c) → IsReadWhole a s t
-all_read a b c s t buf n zero room so_far last =
-    let none : take n buf ≡ [] = rw zero refl in
-    let whole : so_far.front ≡ so_far.front ++ take n buf = rw none (sym (append-nil so_far.front)) in
-    (so_far.front, Consumes-whole a c (so_far.front ++ take n buf) (λ bytes. so_far.front ≡ bytes) (Consumes-trans a b c so_far.front (take n buf) so_far.consumed last.0) (last.1 zero room) whole, so_far.taken)
 
 -- what a reader gives of an input that was read whole
 pub input_read : (layout : Layout) (left : Option (List ℕ)) (s t : Feeding) (answer : Result InputSeen ReadFault) → ((bytes : List ℕ) → input_to_come s.reader bytes ≡ input_of layout bytes)

@@ -51,10 +51,6 @@ first_object depth ts some = ap (converted of_json) (value-begin_object depth ts
 
 -- ---- what the value can be
 
-abbrev pick : {A : Type 0} → A → Option A → A
-pick d None = d
-pick d (Some a) = a
-
 -- the value that was read, or null
 abbrev pub data_of : Option (Data × List Token) → Data
 data_of None = null

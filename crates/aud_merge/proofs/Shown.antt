@@ -24,10 +24,6 @@ state_after-push : (c : Cluster) (st : State) (steps : List Step) (s : Step)
 state_after-push c st [] s = refl
 state_after-push c st (x ∷ xs) s = state_after-push c (unwrap_or (after c st x) st) xs s
 
--- at the start nothing was chosen
-pub walked-start : (c : Cluster) → HasWalked c [] (start c)
-walked-start c = record { greedy = tt; leads = refl }
-
 -- the next step is chosen and taken
 walked-more : (c : Cluster) (steps : List Step) (st st' : State) (s : Step) → HasWalked c steps st → first_allowed c st 0 (length c.taps) ≡ Some s → after c st s ≡ Some st' → HasWalked c (steps ++ s ∷ []) st'
 walked-more c steps st st' s walked e at =

@@ -1,9 +1,9 @@
 -- The texts that are known, and what each of them spells.
-use Rattle.std.proofs.Common.{◌≡◌, ℕ, suc, true, cond, ◌&&◌, List, length, refl, sym, ap, ◌∙◌, arith, Option, Some, None, slice_get, Result, Ok, Err, is_none, nat_eq, ◌==◌}
+use Rattle.std.proofs.Common.{◌≡◌, ℕ, true, ◌&&◌, List, length, refl, sym, ap, ◌∙◌, arith, Option, Some, None, slice_get, Result, Ok, Err, is_none, nat_eq, ◌==◌}
 use Rattle.std.specs.Str.{bytes_eq}
 use Rattle.std.proofs.lemmas.Bool.{and_parts, false≢true}
 use Rattle.std.proofs.lemmas.Bool.Decides.{nat_tests}
-use Rattle.std.proofs.lemmas.Option.{none-some, same_Some}
+use Rattle.std.proofs.lemmas.Option.{same_Some}
 use Rattle.std.proofs.lemmas.Slice.Eq.{bytes_eq-Decides}
 use Rattle.aud_tap.specs.declared.records.Event.{Event}
 use Rattle.aud_tap.specs.declared.records.StreamRec.{StreamRec}
@@ -12,9 +12,7 @@ use Rattle.aud_sio.specs.declared.fault.SioFault.{SioFault}
 use Rattle.aud_sio.specs.Packet.{PacketSeen, packet_of}
 use Rattle.aud_node.specs.Recoverable.{is_event, is_packet_of, is_recoverable, reads_as, ends_in}
 use Rattle.aud_node.specs.Known.{is_sent_alone, is_sent_as, known_entry, packet_read}
-use Rattle.aud_node.specs.Cursors.{is_position}
-use Rattle.aud_node.specs.Private.NextPosition.{next_position}
-use Rattle.aud_node.specs.Stream.{Text, position}
+use Rattle.aud_node.specs.Stream.{Text}
 use Rattle.aud_node.proofs.ListLemmas.{first_index-found}
 
 -- ---- a known entry
@@ -32,14 +30,6 @@ known-at stream text i rec found here =
 -- an event that passes has this text, and is sent alone
 pub known-event : (text : Text) (e : Event) → is_sent_as text (Ev e) ≡ true → (e.text ≡ text) × (is_sent_alone e ≡ true)
 known-event text e sent = let (same, alone) = and_parts (bytes_eq e.text text) (is_sent_alone e) sent in ((bytes_eq-Decides e.text text).0 same, alone)
-
--- the offset of the next entry has its position
-pub next-is : (stream : List StreamRec) (off : Text) (cursor p : ℕ) → next_position stream off cursor ≡ Some p → position stream off ≡ Some p
-next-is stream off cursor p next = go (position stream off) next
-  where
-    go : (o : Option ℕ) → cond (is_position o (suc cursor)) (Some (suc cursor)) None ≡ Some p → o ≡ Some p
-    go None next = absurd (none-some p next)
-    go (Some q) next = grind (arith, nat_tests)
 
 -- ---- what its text spells
 

@@ -1,5 +1,5 @@
 -- Maps from borrowed texts.
-use Rattle.std.proofs.Common.{◌≡◌, Bool, cond, List, ℕ, arith, Bor, Option, Some, unwrap_or}
+use Rattle.std.proofs.Common.{◌≡◌, cond, List, ℕ, Bor, Option}
 use Rattle.std.specs.HashMap as hash
 use Rattle.std.specs.HashMap.{HashMap}
 use Rattle.std.specs.Str.{bytes_eq}
@@ -10,7 +10,3 @@ pub get-updated : {X S : Type 0} (old new : HashMap (Bor (List ℕ)) X S) (key :
     → hash.UpdatesBy (λ x y. bytes_eq x.now y.now) (λ k. bytes_eq key k.now) old new w → (text : List ℕ)
     → hash.get_by (λ k. bytes_eq text k.now) new ≡ cond (bytes_eq key text) w (hash.get_by (λ k. bytes_eq text k.now) old)
 get-updated old new key w updates text = hash_map_updates_str key old new w updates text
-
--- what a changed map has for a text: the new value, or what it had
-pub unwrap_or-updated : {X : Type 0} (b : Bool) (v : X) (o : Option X) (d : X) → unwrap_or (cond b (Some v) o) d ≡ cond b v (unwrap_or o d)
-unwrap_or-updated b v o d = grind arith

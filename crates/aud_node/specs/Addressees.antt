@@ -27,6 +27,16 @@ abbrev pub is_to_all : Option StreamRec → Text → Bool
 is_to_all None nsp = false
 is_to_all (Some e) nsp = is_recoverable e && names_no_room e nsp
 
+-- the entry is an event, of any namespace, and the room is one that it excepts
+abbrev pub excepts_room : StreamRec → Text → Bool
+excepts_room (Ev event) room = list_any (λ other. bytes_eq other room) event.except
+excepts_room (Other off) room = false
+
+-- there is an entry, it is recoverable, and it excepts the room
+abbrev pub is_excepting : Option StreamRec → Text → Bool
+is_excepting None room = false
+is_excepting (Some e) room = is_recoverable e && excepts_room e room
+
 -- the positions, ascending, of the recoverable entries of the namespace that name the room
 abbrev pub positions_to_room : List StreamRec → Text → Text → List ℕ
 positions_to_room stream nsp room = filter (λ p. is_to_room (entry stream p) nsp room) (positions_after 0 (length stream))
@@ -34,3 +44,7 @@ positions_to_room stream nsp room = filter (λ p. is_to_room (entry stream p) ns
 -- the positions, ascending, of the recoverable entries for the whole namespace
 abbrev pub positions_to_all : List StreamRec → Text → List ℕ
 positions_to_all stream nsp = filter (λ p. is_to_all (entry stream p) nsp) (positions_after 0 (length stream))
+
+-- the positions, ascending, of the recoverable entries, of any namespace, that except the room
+abbrev pub positions_excepting : List StreamRec → Text → List ℕ
+positions_excepting stream room = filter (λ p. is_excepting (entry stream p) room) (positions_after 0 (length stream))

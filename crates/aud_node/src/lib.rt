@@ -27,6 +27,7 @@ mod known;
 mod logs;
 mod node_log;
 mod offsets;
+mod positions;
 mod recoverable;
 mod recs;
 mod rest;

@@ -4,7 +4,7 @@ ghost use Rattle.std.specs.Option.{option_copied};
 ghost use Rattle.aud_node.specs.Stream.{position, entry};
 ghost use Rattle.aud_node.specs.AtPosition.{is_recoverable_at};
 ghost use Rattle.aud_node.specs.Private.NextPosition.{next_position};
-ghost use Rattle.aud_node.specs.Addressees.{positions_to_all, positions_to_room};
+ghost use Rattle.aud_node.specs.Addressees.{positions_excepting, positions_to_all, positions_to_room};
 ghost use Rattle.aud_node.specs.Known.{known_entry};
 ghost use Rattle.aud_node.specs.Private.KnownIndex.{found_by_offset};
 ghost use Rattle.aud_tap.specs.declared.records.StreamRec.TheVariants.{Ev};
@@ -174,17 +174,24 @@ impl<'a> Stream<'a> {
     }
 
     /// The positions, ascending, of the recoverable entries of the namespace that name the room.
-    pub fn positions(&self, nsp: &str, room: &str) -> &[usize]
+    pub fn positions(&self, nsp: &str, room: &str) -> &[u64]
         ensures { result.now ≡ positions_to_room self.now nsp.now room.now }
     {
         self.addressees.to_room(nsp, room)
     }
 
     /// The positions, ascending, of the recoverable entries for the whole namespace.
-    pub fn to_all(&self, nsp: &str) -> &[usize]
+    pub fn to_all(&self, nsp: &str) -> &[u64]
         ensures { result.now ≡ positions_to_all self.now nsp.now }
     {
         self.addressees.to_all(nsp)
+    }
+
+    /// The positions, ascending, of the recoverable entries that except the room, whatever their namespace.
+    pub fn excepting(&self, room: &str) -> &[u64]
+        ensures { result.now ≡ positions_excepting self.now room.now }
+    {
+        self.addressees.excepting(room)
     }
 
     /// The position after the cursor, if the offset stands there. It is compared with that of the entry there, and

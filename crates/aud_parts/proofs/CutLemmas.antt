@@ -1,8 +1,8 @@
 -- What a newline, a blank and a digit do to the reading of a text.
-use Rattle.std.proofs.Common.{◌≡◌, ℕ, zero, suc, ◌<◌, ◌==◌, not, List, [], ◌∷◌, ◌++◌, length, map, take, drop, Bool, true, false, cond, Option, Some, None, option_map, refl, sym, ap, ◌∙◌, arith, slice_index, inl, inr, append_assoc, append-nil, flat_map}
+use Rattle.std.proofs.Common.{◌≡◌, ℕ, zero, suc, ◌<◌, ◌==◌, not, List, [], ◌∷◌, ◌++◌, length, map, take, drop, Bool, true, false, cond, Option, Some, None, option_map, refl, sym, ap, ◌∙◌, arith, slice_index, inl, inr, append_assoc, flat_map}
 use Rattle.std.specs.List.{list_any, list_all}
 use Rattle.std.specs.Option.{option_and_then}
-use Rattle.std.proofs.lemmas.Bool.{cases_Bool, and_parts, eqb-true, or_parts, not-true}
+use Rattle.std.proofs.lemmas.Bool.{cases_Bool, and_parts, or_parts, not-true}
 use Rattle.std.proofs.lemmas.Option.{some_pair_parts}
 use Rattle.memchr.specs.Find.{Nowhere, Passes, is_byte}
 use Rattle.aud_parts.specs.Cut.{cut_at, onto_line, whole_lines}
@@ -96,12 +96,6 @@ pub lines-more : (front : List (List ℕ)) (line left rest : List ℕ) (all : Op
     → with_lines front (whole_lines left) ≡ all → with_lines (front ++ line ∷ []) (whole_lines rest) ≡ all
 lines-more front line left rest all cut before =
     with_lines-more front line (whole_lines rest) ∙ ap (with_lines front) (sym (lines-cut left line rest (sym cut))) ∙ before
-
--- nothing follows the last of them
-pub lines-done : (front : List (List ℕ)) (left : List ℕ) (all : Option (List (List ℕ))) → (length left == 0) ≡ true
-    → with_lines front (whole_lines left) ≡ all → Some front ≡ all
-lines-done front [] all empty before = ap Some (sym (append-nil front)) ∙ before
-lines-done front (b ∷ left) all empty before = let e : suc (length left) ≡ 0 = eqb-true _ _ empty in absurd (omega arith)
 
 -- something does
 pub lines-left : (front : List (List ℕ)) (left : List ℕ) (all : Option (List (List ℕ))) → (length left == 0) ≡ false → None ≡ cut_at 10 left

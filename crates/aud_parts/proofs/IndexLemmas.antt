@@ -1,10 +1,10 @@
 -- What an index keeps of the files that were read so far, step by step.
-use Rattle.std.proofs.Common.{◌≡◌, ℕ, zero, suc, ◌+◌, ◌-◌, ◌<◌, ◌≤◌, ◌==◌, ◌&&◌, ◌^◌, nat_lt, List, [], ◌∷◌, ◌++◌, length, take, Bool, true, false, cond, min, Option, Some, None, is_some, is_ok, Result, Ok, Err, OnOk, nat_eq, slice_get, refl, sym, ap, ◌∙◌, subst, arith, append_assoc, append-nil, length-append, slice_index}
+use Rattle.std.proofs.Common.{◌≡◌, ℕ, zero, suc, ◌+◌, ◌-◌, ◌<◌, ◌≤◌, ◌==◌, ◌&&◌, ◌^◌, nat_lt, List, [], ◌∷◌, ◌++◌, length, take, true, false, cond, min, Option, Some, None, is_some, is_ok, Result, Ok, Err, OnOk, nat_eq, slice_get, refl, sym, ap, ◌∙◌, subst, arith, append_assoc, append-nil, length-append, slice_index}
 use Rattle.std.specs.List.{flat_map}
 use Rattle.std.proofs.lemmas.Bool.{lt-ltb}
-use Rattle.std.proofs.lemmas.List.{get_or-append-add, length-take, nil_from_length}
+use Rattle.std.proofs.lemmas.List.{get_or-append-add}
 use Rattle.std.proofs.lemmas.Option.{get_or_from_slice_get, slice_get_within}
-use Rattle.aud_reader.specs.Lines.{has_newline, line_pieces, without_return}
+use Rattle.aud_reader.specs.Lines.{has_newline, line_pieces}
 use Rattle.aud_reader.proofs.LinesLemmas.{has_newline-append, pieces_of-last}
 use Rattle.aud_parts.specs.declared.tap_index.Begun.{Begun}
 use Rattle.aud_parts.specs.declared.tap_index.TapIndex.{TapIndex}
@@ -18,14 +18,6 @@ use Rattle.aud_parts.proofs.FileRunLemmas.{placed-append, with_lines-append}
 -- its place, by what it is the same as
 pub begun-from : (b : Begun) (from other : ℕ) (text : List ℕ) → from ≡ other → IsBegun b from text → IsBegun b other text
 begun-from b from other text same begun = subst (λ k. IsBegun b k text) same begun
-
--- how many bytes a text has without its carriage return
-pub measured-is : (text : List ℕ) → length (without_return text) ≡ cond (ends_in_return text) (length text - 1) (length text)
-measured-is text = go (ends_in_return text)
-  where
-    go : (b : Bool) → length (cond b (take (length text - 1) text) text) ≡ cond b (length text - 1) (length text)
-    go true = let e = length-take (length text - 1) text in omega (arith, e)
-    go false = refl
 
 take-both : (n : ℕ) (xs ys : List ℕ) → take n (xs ++ ys) ≡ take n xs ++ take (n - length (take n xs)) ys
 take-both zero xs ys = refl
@@ -201,16 +193,6 @@ counted-left files bytes piece done left counted cut = subst (IsCounted files) (
 
 pub counted-file : (files : List (List ℕ)) (bytes : List ℕ) → IsCounted (files ++ bytes ∷ []) [] → byte_count files + length bytes + 2 < 2 ^ 64
 counted-file files bytes counted = let e = bytes-push files bytes in omega (arith, counted, e)
-
-pub last-none : (s : TapIndex) (text : List ℕ) → s.begun.size ≡ 0 → MayEnd s text → HasEndedLast s s text
-last-none s text none may =
-    let empty : text ≡ [] = nil_from_length text (sym (may.begun).sized ∙ none) in
-    record {
-      taps = ap (λ l. with_lines (so_far s) (placed_lines s.file s.begun.from s.number (line_pieces l))) (sym empty);
-      keeps = may.keeps;
-      file = refl;
-      number = let e : length (line_pieces text) ≡ 0 = ap (λ l. length (line_pieces l)) empty in omega (arith, e);
-    }
 
 pub last-some : (s t : TapIndex) (text : List ℕ) → 0 < s.begun.size → has_newline text ≡ false → MayEnd s text → HasEnded s t text → HasEndedLast s t text
 last-some s t text some whole may e =

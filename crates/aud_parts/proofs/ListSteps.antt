@@ -93,10 +93,3 @@ position-first_index p q f same (x ∷ xs) = go (p x) refl (position-first_index
     go false e rest =
         step n (length xs) ∙ ap (option_map suc) rest
         ∙ ap (λ v. cond v (Some 0) (option_map suc (first_index q (map f xs)))) (sym e ∙ same x)
-
-pub position-first : {A : Type 0} (p : A → Bool) (xs : List A) → position p xs ≡ first_index p xs
-position-first {A = A} p xs = position-first_index p p (λ x. x) (λ x. refl) xs ∙ ap (first_index p) (same xs)
-  where
-    same : (ys : List A) → map (λ (y : A). y) ys ≡ ys
-    same [] = refl
-    same (y ∷ ys) = ap (λ zs. y ∷ zs) (same ys)

@@ -1,5 +1,5 @@
 -- What the text of a listing reads as, and what is known of a listing that was read.
-use Rattle.std.proofs.Common.{◌≡◌, ℕ, zero, suc, ◌+◌, ◌-◌, ◌^◌, ◌<◌, ◌≤◌, ◌==◌, ◌&&◌, not, nat_lt, nat_le, List, [], ◌∷◌, ◌++◌, length, map, take, drop, get_or, Bool, true, false, cond, Option, Some, None, option_map, Result, Ok, Err, refl, sym, ap, subst, ◌∙◌, arith, append_assoc, append-nil, flat_map, codes, decimal, add-one, drop-cons}
+use Rattle.std.proofs.Common.{◌≡◌, ℕ, zero, suc, ◌+◌, ◌-◌, ◌^◌, ◌<◌, ◌≤◌, ◌==◌, ◌&&◌, not, nat_lt, nat_le, List, [], ◌∷◌, ◌++◌, length, map, take, drop, Bool, true, false, cond, Option, Some, None, option_map, Result, Ok, Err, refl, sym, ap, subst, ◌∙◌, arith, append_assoc, append-nil, flat_map, codes, decimal}
 use Rattle.std.specs.List.{list_all}
 use Rattle.std.specs.Option.{option_and_then}
 use Rattle.std.specs.Result.{IfOk}
@@ -23,34 +23,11 @@ use Rattle.aud_parts.specs.Listing.{Gives, session_line, listing_text, are_withi
 use Rattle.aud_parts.proofs.CutLemmas.{has_byte, cut-after, lines-ended, lines-flat}
 use Rattle.aud_parts.proofs.NumberLemmas.{number-back, decimal-without}
 
--- a value that had to be there was
-pub need-ok : {A : Type 0} (fault : ListingFault) (o : Option A) (x : A) → need fault o ≡ Ok x → o ≡ Some x
-need-ok fault None x e = cc
-need-ok fault (Some y) x e = ap Some (same-ok y x e)
-
 -- ---- a loop over the lines
 
 -- the sessions of lines before these
 abbrev pub with_sessions : List ListedSession → Result (List ListedSession) ListingFault → Result (List ListedSession) ListingFault
 with_sessions front rest = rest >>= (λ ss. Ok (front ++ ss))
-
-with_sessions-item : (front : List ListedSession) (s : ListedSession) (rest : Result (List ListedSession) ListingFault)
-    → with_sessions (front ++ s ∷ []) rest ≡ with_sessions front (rest >>= (λ ss. Ok (s ∷ ss)))
-with_sessions-item front s (Err e) = refl
-with_sessions-item front s (Ok ss) = ap Ok (append_assoc front (s ∷ []) ss)
-
--- one more line
-pub sessions-more : (parts : ℕ) (lines : List (List ℕ)) (i : ℕ) (line : List ℕ) (s : ListedSession) (front : List ListedSession)
-    → i < length lines → line ≡ get_or lines i line → session_in parts line ≡ Ok s
-    → with_sessions (front ++ s ∷ []) (sessions_in parts (drop (i + 1) lines)) ≡ with_sessions front (sessions_in parts (drop i lines))
-sessions-more parts lines i line s front within is reads =
-    rw (add-one, drop-cons lines i line within, ← is, reads) (with_sessions-item front s (sessions_in parts (drop (suc i) lines)))
-
--- a line that is refused
-pub sessions-refused : (parts : ℕ) (lines : List (List ℕ)) (i : ℕ) (line : List ℕ) (fault : ListingFault) (front : List ListedSession)
-    → i < length lines → line ≡ get_or lines i line → session_in parts line ≡ Err fault
-    → with_sessions front (sessions_in parts (drop i lines)) ≡ Err fault
-sessions-refused parts lines i line fault front within is refused = rw (drop-cons lines i line within, ← is, refused) refl
 
 -- after all lines
 pub sessions-done : (parts : ℕ) (lines : List (List ℕ)) (i : ℕ) (front : List ListedSession) → length lines ≤ i
@@ -124,12 +101,6 @@ in-sound [] l e = cc
 in-sound (first ∷ lines) l e =
     let (counts, reads, rest) = part-of (need NoListing (counts_in first)) (listing_after lines) l e in
     after-sound lines counts l rest
-
--- what is read keeps to what a listing keeps to
-pub listing-sound : (text : List ℕ) (l : Listing) → listing_of text ≡ Ok l → is_listing l ≡ true
-listing-sound text l e =
-    let (lines, reads, rest) = part-of (need (unended_fault text) (whole_lines text)) listing_in l e in
-    in-sound lines l rest
 
 -- the parts of a listing
 pub listing-within : (l : Listing) → is_listing l ≡ true → are_within l ≡ true

@@ -1,7 +1,7 @@
 -- The taps of an index, with one line more.
 use Rattle.std.proofs.Common.{◌≡◌, ℕ, zero, suc, ◌+◌, ◌<◌, ◌==◌, ◌&&◌, List, [], ◌∷◌, ◌++◌, length, map, set, Bool, true, false, true≢false, cond, ◌⊎◌, inl, inr, Option, Some, None, option_map, is_some, slice_get, bytes_eq, refl, sym, ap, ◌∙◌, subst, arith, ◌||◌}
 use Rattle.std.specs.List.{list_any}
-use Rattle.std.specs.Option.{option_and_then, option_map_or}
+use Rattle.std.specs.Option.{option_and_then}
 use Rattle.std.proofs.lemmas.Bool.{and_parts, eqb-true, false≢true}
 use Rattle.std.proofs.lemmas.List.{map-append}
 use Rattle.std.proofs.lemmas.Option.{none-some, same_Some}
@@ -13,7 +13,7 @@ use Rattle.aud_base.proofs.SameText.{same_text, itself_text, other_text}
 use Rattle.aud_tap.specs.Names.{first_index}
 use Rattle.aud_parts.specs.declared.tap_index.tap_runs.Run.{Run}
 use Rattle.aud_parts.specs.TapRuns.{TapRuns}
-use Rattle.aud_parts.specs.IndexSoFar.{Noted, AreOnce, changed, is_at, longer, noted, noted_at, one_or_two, place_in, with_run}
+use Rattle.aud_parts.specs.IndexSoFar.{Noted, AreOnce, changed, longer, noted, noted_at, one_or_two, place_in, with_run}
 
 -- ---- the runs with a line more
 
@@ -124,14 +124,6 @@ pub place-there : (ts : List TapRuns) (name : List ℕ) (i : ℕ) → place_in t
 place-there [] name i e = absurd (none-some i e)
 place-there (t ∷ ts) name zero e = (t, refl)
 place-there (t ∷ ts) name (suc i) e = place-there ts name i (later-is _ _ i e).1
-
--- the place of the tap whose line came last
-pub place-last : (ts : List TapRuns) (last : ℕ) (name : List ℕ) → AreOnce ts → is_at last ts name ≡ true → Some last ≡ place_in ts name
-place-last ts last name once e = go (slice_get ts last) refl e
-  where
-    go : (o : Option TapRuns) → slice_get ts last ≡ o → option_map_or (λ (t : TapRuns). bytes_eq t.name name) o false ≡ true → Some last ≡ place_in ts name
-    go None at is = absurd (false≢true is)
-    go (Some t) at is = sym (once last t at) ∙ ap (place_in ts) (same_text t.name name is)
 
 -- ---- a new tap
 

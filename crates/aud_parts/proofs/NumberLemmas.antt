@@ -1,33 +1,14 @@
 -- Numbers that are written in decimal digits, read again.
-use Rattle.std.proofs.Common.{◌≡◌, ℕ, zero, suc, ◌+◌, ◌-◌, ◌*◌, ◌/◌, ◌%◌, ◌^◌, ◌<◌, ◌≤◌, ◌==◌, nat_lt, List, [], ◌∷◌, ◌++◌, length, drop, get_or, true, false, cond, Option, Some, None, refl, sym, ap, ◌∙◌, arith}
+use Rattle.std.proofs.Common.{◌≡◌, ℕ, zero, suc, ◌+◌, ◌-◌, ◌*◌, ◌/◌, ◌%◌, ◌^◌, ◌<◌, ◌≤◌, ◌==◌, nat_lt, List, [], ◌∷◌, ◌++◌, length, true, false, cond, Option, Some, None, refl, ap, ◌∙◌, arith}
 use Rattle.std.specs.Option.{option_and_then}
 use Rattle.std.specs.Char.{digit_char}
 use Rattle.std.specs.Fmt.{decimal, digits, digits_onto}
 use Rattle.std.proofs.lemmas.Bool.{ne_eqb, lt-ltb, le-leb}
 use Rattle.std.proofs.lemmas.Fmt.{decimal_by_steps, decimal_nonempty}
-use Rattle.std.proofs.lemmas.List.{at_drop_more}
 use Rattle.aud_parts.specs.Cut.{with_digit, number_after, number_in}
 use Rattle.aud_parts.proofs.CutLemmas.{has_byte}
 
 -- ---- a loop over the digits
-
--- one more digit
-pub number-more : (digits : List ℕ) (i digit number next : ℕ) (all : Option ℕ) → i < length digits → digit ≡ get_or digits i digit
-    → Some next ≡ with_digit number digit → number_after number (drop i digits) ≡ all → number_after next (drop (i + 1) digits) ≡ all
-number-more digits i digit number next all within is read before =
-    ap (option_and_then (λ more. number_after more (drop (i + 1) digits))) read
-    ∙ ap (λ d. option_and_then (λ more. number_after more (drop (i + 1) digits)) (with_digit number d)) is
-    ∙ sym (at_drop_more (number_after number) digits i digit within)
-    ∙ before
-
--- a byte that is no digit, or one digit too many
-pub number-ends : (digits : List ℕ) (i digit number : ℕ) (all : Option ℕ) → i < length digits → digit ≡ get_or digits i digit
-    → None ≡ with_digit number digit → number_after number (drop i digits) ≡ all → None ≡ all
-number-ends digits i digit number all within is read before =
-    ap (option_and_then (λ more. number_after more (drop (i + 1) digits))) read
-    ∙ ap (λ d. option_and_then (λ more. number_after more (drop (i + 1) digits)) (with_digit number d)) is
-    ∙ sym (at_drop_more (number_after number) digits i digit within)
-    ∙ before
 
 -- a text that isn't empty is read from its first digit on
 pub number_in-some : (text : List ℕ) → 0 < length text → number_in text ≡ number_after 0 text

@@ -1,9 +1,9 @@
 -- The sessions of the parts, and the part that has the pids of a report.
-use Rattle.std.proofs.Common.{◌≡◌, ℕ, zero, suc, ◌+◌, ◌<◌, ◌≤◌, ◌==◌, ◌&&◌, List, [], ◌∷◌, ◌++◌, length, map, take, drop, get_or, set, slice_get, Bool, true, false, cond, Option, Some, None, refl, sym, ap, ◌∙◌, arith, append-nil, bytes_eq, replicate}
+use Rattle.std.proofs.Common.{◌≡◌, ℕ, zero, suc, ◌+◌, ◌<◌, ◌≤◌, ◌==◌, List, [], ◌∷◌, ◌++◌, length, map, take, drop, get_or, set, slice_get, Bool, true, false, cond, Option, Some, None, refl, sym, ap, ◌∙◌, arith, append-nil, bytes_eq, replicate}
 use Rattle.std.specs.List.{filter, find, list_all, position_from}
 use Rattle.std.specs.Option.{option_map_or}
 use Rattle.std.specs.Cmp.Lexicographic.{pointwise}
-use Rattle.std.proofs.lemmas.Bool.{and_parts, and_right, eq-eqb, ltb-true, ne_eqb, false≢true}
+use Rattle.std.proofs.lemmas.Bool.{and_parts, eq-eqb, ltb-true, ne_eqb, false≢true}
 use Rattle.std.proofs.lemmas.Option.{get_or_from_slice_get}
 use Rattle.std.proofs.lemmas.List.{map-set, map-append, length-map, get_or-map, at_drop_more, drop_all}
 use Rattle.std.proofs.lemmas.List.Elements.{filter_more}
@@ -15,7 +15,6 @@ use Rattle.aud_node.specs.Stream.{Text}
 use Rattle.aud_parts.specs.declared.listing.ListedSession.{ListedSession}
 use Rattle.aud_parts.specs.Listing.{is_of_part, is_within, pids_of_part}
 use Rattle.aud_parts.specs.Merged.{part_of}
-use Rattle.aud_parts.specs.ReportLines.{ReportLine, pids_of}
 use Rattle.aud_parts.specs.Private.PartPlaces.{first_or_none, begins_with, places_by_first, has_pids}
 
 -- ---- lists that are made of consecutive numbers
@@ -186,20 +185,3 @@ find-here test xs i all within passes before after =
 -- none is found
 pub find-nowhere : (test : ℕ → Bool) (xs : List ℕ) (i : ℕ) (all : Option ℕ) → length xs ≤ i → find test (drop i xs) ≡ find test xs → find test xs ≡ all → None ≡ all
 find-nowhere test xs i all past before after = ap (find test) (sym (drop_all i xs past)) ∙ before ∙ after
-
--- lists of different lengths differ
-pub pids-differ : (own pids : List Text) → (length own ≡ length pids → ⊥) → pointwise bytes_eq own pids ≡ false
-pids-differ [] [] other = absurd (other refl)
-pids-differ [] (p ∷ pids) other = refl
-pids-differ (o ∷ own) [] other = refl
-pids-differ (o ∷ own) (p ∷ pids) other = and_right (bytes_eq o p) (pointwise bytes_eq own pids) (pids-differ own pids (λ e. other (ap suc e)))
-
--- the next of the pids and of the lines
-pub pids-next : (own : List Text) (lines : List ReportLine) (i : ℕ) (pid : Text) (line : ReportLine) → i < length own → i < length lines
-    → pid ≡ get_or own i pid → line ≡ get_or lines i line
-    → pointwise bytes_eq (drop i own) (pids_of (drop i lines)) ≡ (bytes_eq pid line.pid && pointwise bytes_eq (drop (i + 1) own) (pids_of (drop (i + 1) lines)))
-pids-next own lines i pid line within here is at =
-    at_drop_more (λ xs. pointwise bytes_eq xs (pids_of (drop i lines))) own i pid within
-    ∙ at_drop_more (λ ls. pointwise bytes_eq (get_or own i pid ∷ drop (i + 1) own) (pids_of ls)) lines i line here
-    ∙ ap (λ p. bytes_eq p (get_or lines i line).pid && pointwise bytes_eq (drop (i + 1) own) (pids_of (drop (i + 1) lines))) (sym is)
-    ∙ ap (λ (l : ReportLine). bytes_eq pid l.pid && pointwise bytes_eq (drop (i + 1) own) (pids_of (drop (i + 1) lines))) (sym at)

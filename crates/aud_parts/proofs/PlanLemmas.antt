@@ -43,11 +43,6 @@ abbrev pub AreDistinct : List Text → Type 0
 AreDistinct [] = Unit {0}
 AreDistinct (text ∷ texts) = (list_any (λ own. bytes_eq own text) texts ≡ false) × AreDistinct texts
 
--- a text that is looked for the other way round
-any-flipped : (q : Text) (texts : List Text) → list_any (λ t. bytes_eq t q) texts ≡ list_any (bytes_eq q) texts
-any-flipped q [] = refl
-any-flipped q (t ∷ texts) = ap (λ b. b || list_any (λ s. bytes_eq s q) texts) (nat_list_eq_equiv.symm t q) ∙ ap (λ b. bytes_eq q t || b) (any-flipped q texts)
-
 -- one more that isn't there
 distinct-push : (texts : List Text) (text : Text) → list_any (bytes_eq text) texts ≡ false → AreDistinct texts → AreDistinct (texts ++ text ∷ [])
 distinct-push [] text none d = (refl, tt)

@@ -1,5 +1,5 @@
 -- The lines of a report, as they are read again.
-use Rattle.std.proofs.Common.{◌≡◌, ℕ, ◌+◌, ◌-◌, ◌<◌, ◌&&◌, not, List, [], ◌∷◌, ◌++◌, length, map, drop, get_or, Bool, true, false, cond, Option, Some, None, option_map, refl, sym, ap, ◌∙◌, arith, append_assoc, append-nil, flat_map, codes, decimal, count_by, bytes_eq, add-one, drop-cons}
+use Rattle.std.proofs.Common.{◌≡◌, ℕ, ◌+◌, ◌-◌, ◌&&◌, not, List, [], ◌∷◌, ◌++◌, length, map, Bool, true, false, cond, Option, Some, None, option_map, refl, sym, ap, ◌∙◌, arith, append_assoc, append-nil, flat_map, codes, decimal, count_by, bytes_eq}
 use Rattle.std.specs.List.{list_all}
 use Rattle.std.specs.Option.{option_and_then}
 use Rattle.std.proofs.lemmas.Bool.{and_parts, and_from, not-true, not_from_false}
@@ -26,29 +26,6 @@ use Rattle.aud_parts.proofs.ListingLemmas.{has_byte-append, pid-without}
 -- lines before these
 abbrev pub after_front : List ReportLine → Option (List ReportLine) → Option (List ReportLine)
 after_front front lines = option_map (λ (ls : List ReportLine). front ++ ls) lines
-
-after_front-item : (front : List ReportLine) (line : ReportLine) (lines : Option (List ReportLine)) → after_front (front ++ line ∷ []) lines ≡ after_front front (option_map (λ (ls : List ReportLine). line ∷ ls) lines)
-after_front-item front line None = refl
-after_front-item front line (Some ls) = ap Some (append_assoc front (line ∷ []) ls)
-
--- one more line
-pub report_lines-more : (texts : List (List ℕ)) (i : ℕ) (text : List ℕ) (line : ReportLine) (front : List ReportLine) (all : Option (List ReportLine))
-    → i < length texts → text ≡ get_or texts i text → Some line ≡ report_line text
-    → after_front front (report_lines (drop i texts)) ≡ all → after_front (front ++ line ∷ []) (report_lines (drop (i + 1) texts)) ≡ all
-report_lines-more texts i text line front all within is reads before =
-    after_front-item front line (report_lines (drop (i + 1) texts))
-    ∙ ap (λ (l : Option ReportLine). after_front front (option_and_then (λ x. option_map (λ (ls : List ReportLine). x ∷ ls) (report_lines (drop (i + 1) texts))) l)) (reads ∙ ap report_line is)
-    ∙ ap (λ ts. after_front front (report_lines ts)) (ap (λ n. get_or texts i text ∷ drop n texts) (add-one i) ∙ sym (drop-cons texts i text within))
-    ∙ before
-
--- a line that is none of a session
-pub report_lines-none : (texts : List (List ℕ)) (i : ℕ) (text : List ℕ) (front : List ReportLine) (all : Option (List ReportLine))
-    → i < length texts → text ≡ get_or texts i text → None ≡ report_line text
-    → after_front front (report_lines (drop i texts)) ≡ all → None ≡ all
-report_lines-none texts i text front all within is reads before =
-    ap (λ (l : Option ReportLine). after_front front (option_and_then (λ x. option_map (λ (ls : List ReportLine). x ∷ ls) (report_lines (drop (i + 1) texts))) l)) (reads ∙ ap report_line is)
-    ∙ ap (λ ts. after_front front (report_lines ts)) (ap (λ n. get_or texts i text ∷ drop n texts) (add-one i) ∙ sym (drop-cons texts i text within))
-    ∙ before
 
 -- ---- the last line
 

@@ -14,7 +14,7 @@ use Rattle.aud_reader.specs.Lines.{has_newline, line_pieces, onto_first, without
 use Rattle.aud_reader.proofs.LinesLemmas.{pieces_of-first, pieces_of-last, pieces_of-line}
 use Rattle.aud_parts.specs.declared.tap_index.tap_runs.Run.{Run}
 use Rattle.aud_parts.specs.TapRuns.{BeginsWithBytes, IsReadable, line_with_bytes, lines_with_bytes, run_bytes, run_lines, runs_lines}
-use Rattle.aud_parts.specs.Private.RunSteps.{EndsLine, GivesLines, HasFirstText, IsFirstText, front_run, runs_size}
+use Rattle.aud_parts.specs.Private.RunSteps.{EndsLine, GivesLines, HasFirstText, IsFirstText, front_run}
 use Rattle.aud_parts.proofs.PieceLemmas.{cut-text, all_ended-push, lines-append, pieces-ended, pieces-few, whole-push}
 use Rattle.aud_parts.specs.IndexSoFar.{all_ended}
 
@@ -240,29 +240,6 @@ gives-none files run from number lines past g =
       same = ap (λ ls. ls ++ []) (g.same ∙ ap (λ k. lines ++ lines_with_bytes number (line_pieces (take k (drop from (get_or files run.file []))))) none ∙ append-nil lines);
       readable = tt;
     }
-
--- the runs after it
-pub gives-others : (files : List (List ℕ)) (run : Run) (lines : List Line) (left others : List Run) → GivesLines files (run ∷ []) lines left → AllByRecursion (IsReadable files) others
-    → GivesLines files (run ∷ others) lines (left ++ others)
-gives-others files run lines left others g all = record {
-  same =
-      ap (λ ls. ls ++ runs_lines files others) (sym (append-nil (run_lines files run)) ∙ g.same)
-      ∙ append_assoc lines (runs_lines files left) (runs_lines files others)
-      ∙ ap (λ ls. lines ++ ls) (sym (runs-append left));
-  readable = both left g.readable;
-}
-  where
-    runs-append : (runs : List Run) → runs_lines files (runs ++ others) ≡ runs_lines files runs ++ runs_lines files others
-    runs-append [] = refl
-    runs-append (r ∷ rs) = ap (λ ls. run_lines files r ++ ls) (runs-append rs) ∙ sym (append_assoc (run_lines files r) (runs_lines files rs) (runs_lines files others))
-
-    both : (runs : List Run) → AllByRecursion (IsReadable files) runs → AllByRecursion (IsReadable files) (runs ++ others)
-    both [] own = all
-    both (r ∷ rs) own = (own.0, both rs own.1)
-
-pub size-append : (xs ys : List Run) → runs_size (xs ++ ys) ≡ runs_size xs + runs_size ys
-size-append [] ys = omega arith
-size-append (x ∷ xs) ys = let rest = size-append xs ys in omega (arith, rest)
 
 -- ---- the first line
 

@@ -1,7 +1,6 @@
 -- Where the lines of each tap stand in the text of all.
-use Rattle.std.proofs.Common.{◌≡◌, ◌<◌, ◌≤◌, ◌+◌, ◌-◌, ◌==◌, ◌||◌, ℕ, zero, suc, Bool, true, false, List, [], ◌∷◌, ◌++◌, length, map, take, drop, get_or, Option, Some, None, Ok, slice_get, unwrap_or, refl, sym, ap, ◌∙◌, subst, arith, true≢false, append_assoc, append-nil, length-append, length-drop}
+use Rattle.std.proofs.Common.{◌≡◌, ◌<◌, ◌≤◌, ◌+◌, ◌-◌, ◌==◌, ◌||◌, ℕ, zero, suc, Bool, true, false, List, [], ◌∷◌, ◌++◌, length, map, take, drop, get_or, Some, slice_get, unwrap_or, refl, sym, ap, ◌∙◌, subst, arith, true≢false, append_assoc, append-nil, length-append, length-drop}
 use Rattle.std.specs.List.{All, AllByRecursion, flat_map, list_all}
-use Rattle.std.specs.Result.{result_ok}
 use Rattle.std.proofs.lemmas.Bool.{and_parts, or_parts}
 use Rattle.std.proofs.lemmas.Bool.Decides.{nat_tests}
 use Rattle.std.proofs.lemmas.Grind.{flat_map-append}
@@ -18,7 +17,7 @@ use Rattle.aud_reader.proofs.LinesLemmas.{has_newline-append}
 use Rattle.aud_reader.specs.OwnLines.{recs_in, recs_of}
 use Rattle.aud_reader.specs.declared.fault.ReadFault.{ReadFault}
 use Rattle.aud_writer.specs.Written.{line_text, record_data}
-use Rattle.aud_writer.specs.WrittenBundle.{ended, first_too_long, line_texts, named, named_recs, recs_of_taps, unless_too_long, written_bundle}
+use Rattle.aud_writer.specs.WrittenBundle.{ended, line_texts, named, named_recs, recs_of_taps}
 use Rattle.aud_writer.proofs.Newlines.{compact-line}
 use Rattle.aud_parts.specs.declared.part.server_text.PlacedTap.{PlacedTap}
 use Rattle.aud_parts.specs.ServerTexts.{AreNamed, TapText, tap_text}
@@ -165,13 +164,3 @@ placed-more text taps i tap old new one within read before more named is =
     ∙ sym (map-append tap_text (take i taps) (tap ∷ []))
     ∙ ap (λ t. map tap_text (take i taps ++ t ∷ [])) read
     ∙ ap (map tap_text) (sym (take_more taps i tap within))
-
--- ---- what was written
-
--- the bytes of a bundle that is written are its lines
-pub written-is : (taps : List Tap) (bytes : List ℕ) → written_bundle taps ≡ Ok bytes → bytes ≡ ended (line_texts (recs_of_taps taps))
-written-is taps bytes e = go (first_too_long (line_texts (recs_of_taps taps))) e
-  where
-    go : (o : Option ℕ) → unless_too_long o (ended (line_texts (recs_of_taps taps))) ≡ Ok bytes → bytes ≡ ended (line_texts (recs_of_taps taps))
-    go None e = sym (ap (λ r. unwrap_or (result_ok r) []) e)
-    go (Some n) e = cc

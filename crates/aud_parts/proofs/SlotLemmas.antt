@@ -4,7 +4,7 @@ use Rattle.std.specs.List.{filter_map, cons_option, position_from, list_all}
 use Rattle.std.specs.Option.{option_and_then, option_or}
 use Rattle.std.specs.Cmp.Lexicographic.{pointwise}
 use Rattle.std.specs.Str.{bytes_eq}
-use Rattle.std.proofs.lemmas.Bool.{cases_lt, cases_eq, and_parts, eqb-true, eq-eqb, ne_eqb, ltb-true, lt-ltb, le-ltb}
+use Rattle.std.proofs.lemmas.Bool.{cases_lt, cases_eq, and_parts, eq-eqb, ne_eqb, ltb-true, lt-ltb, le-ltb}
 use Rattle.std.proofs.lemmas.Option.{none-some, same_Some, slice_get_past, slice_get_read, slice_get_within}
 use Rattle.std.proofs.lemmas.List.{length-map, length-set, drop_all, drop-drop, take_more, get_or-set_same, get_or-set_other}
 use Rattle.std.proofs.lemmas.List.Elements.{filter_map-append}
@@ -20,8 +20,6 @@ use Rattle.aud_parts.specs.declared.merging.fault.ReportFault.{ReportFault}
 use Rattle.aud_parts.specs.declared.merging.fault.ReportFault.TheVariants.{Refused, NotWhole, OtherSplit, Doubled}
 use Rattle.aud_parts.specs.declared.merging.fault.MergeFault.{MergeFault}
 use Rattle.aud_parts.specs.declared.merging.fault.MergeFault.TheVariants.{Report, Missing}
-use Rattle.aud_parts.specs.declared.merging.Merged.{Merged}
-use Rattle.aud_parts.specs.declared.merging.MergeAnswer.TheVariants.{Whole, Faults}
 use Rattle.aud_parts.specs.Listing.{are_within, pids_by_part, pids_of_part}
 use Rattle.aud_parts.specs.ReportLines.{ReportLine, report_in, pids_of}
 use Rattle.aud_parts.specs.Merged.{part_of, is_refusal, told, lines_if, lines_on, fault_after, fault_of, missing_at, faults_in, after_next, merged_lines, own_lines, merged_of, answer_of, merged}
@@ -281,15 +279,6 @@ merged-more slots sessions i s old new next after all within is same put counted
     ∙ ap (λ ss. old ++ merged_lines (left_in slots next) ss) (ap (λ n. get_or sessions i s ∷ drop n sessions) (add-one i) ∙ sym (drop-cons sessions i s within))
     ∙ before
 
--- nothing was taken yet
-pub left-all : (slots : List (Option (List ReportLine))) (count : ℕ) (sessions : List ListedSession) → merged_lines (left_in slots (replicate count 0)) sessions ≡ merged_lines (all_in slots) sessions
-left-all slots count sessions = ap (λ left. merged_lines left sessions) (λ i k. ap (λ n. drop n (all_in slots k)) (zeros count k) i)
-  where
-    zeros : (n k : ℕ) → slice_index (replicate n 0) k ≡ 0
-    zeros zero k = refl
-    zeros (suc n) zero = refl
-    zeros (suc n) (suc k) = zeros n k
-
 -- lines that are left alike merge alike
 pub merged-same : (left other : ℕ → List ReportLine) (parts : ℕ) (sessions : List ListedSession) → ((k : ℕ) → k < parts → left k ≡ other k)
     → list_all (λ (s : ListedSession). nat_lt s.part parts) sessions ≡ true → merged_lines left sessions ≡ merged_lines other sessions
@@ -329,13 +318,3 @@ answered-so l reports parts slots found all sessions parts_are are found_are all
     let size : length parts ≡ l.parts = ap length parts_are ∙ length-numbers (pids_of_part l.sessions) 0 l.parts in
     let lines = ap (merged_lines (all_in slots)) same ∙ merged-all parts reports slots l.sessions l.parts are size within ∙ ap (λ ps. merged_lines (own_lines ps reports) l.sessions) parts_are in
     (λ i. answer_of (faults-all l reports parts slots found all parts_are are found_are all_are i) (merged_of (lines i)))
-
--- something is wrong
-pub answer-faults : (all : List MergeFault) (whole : Merged) → (length all == 0) ≡ false → Faults all ≡ answer_of all whole
-answer-faults [] whole some = absurd (cc)
-answer-faults (fault ∷ all) whole some = refl
-
--- nothing is
-pub answer-whole : (all : List MergeFault) (whole : Merged) → (length all == 0) ≡ true → Whole whole ≡ answer_of all whole
-answer-whole [] whole none = refl
-answer-whole (fault ∷ all) whole none = let e : suc (length all) ≡ 0 = eqb-true _ _ none in absurd (omega arith)

@@ -1,5 +1,5 @@
 -- The lines of a tap, one after the other.
-use Rattle.std.proofs.Common.{◌≡◌, ℕ, suc, ◌+◌, ◌<◌, List, [], ◌∷◌, ◌++◌, length, false, sym, ap, ◌∙◌, arith, append_assoc, append-nil}
+use Rattle.std.proofs.Common.{◌≡◌, ℕ, suc, ◌+◌, ◌<◌, List, ◌∷◌, ◌++◌, length, false, sym, ap, ◌∙◌, arith, append_assoc, append-nil}
 use Rattle.aud_reader.specs.declared.line.Line.{Line}
 use Rattle.aud_reader.specs.Lines.{has_newline, line_pieces}
 use Rattle.aud_reader.proofs.LinesLemmas.{pieces_of-line, pieces_of-last}
@@ -24,10 +24,6 @@ last_line old new all n left whole some put so_far =
     ∙ ap (λ ls. old ++ ls) (sym (append-nil (line_with_bytes n left)))
     ∙ ap (λ ls. old ++ lines_with_bytes n ls) (sym (pieces_of-last left whole some))
     ∙ so_far
-
--- nothing may follow it
-pub no_line : (old all : List Line) (n : ℕ) (left : List ℕ) → left ≡ [] → old ++ lines_with_bytes n (line_pieces left) ≡ all → old ≡ all
-no_line old all n left none so_far = sym (append-nil old) ∙ ap (λ l. old ++ lines_with_bytes n (line_pieces l)) (sym none) ∙ so_far
 
 -- ---- how many lines there are
 

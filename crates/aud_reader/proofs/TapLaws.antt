@@ -16,7 +16,6 @@ use Rattle.aud_base.proofs.SameText.{itself_text, other_text}
 use Rattle.aud_base.proofs.StepLemmas.{part-of, guard-ok}
 use Rattle.serde_json.specs.Data.{Data}
 use Rattle.aud_reader.specs.declared.fault.InputCode.TheVariants.{Limit, OffsetTwice, SecondStream}
-use Rattle.aud_reader.specs.declared.line.Line.{Line}
 use Rattle.aud_tap.specs.declared.records.Version.{Version}
 use Rattle.aud_tap.specs.declared.records.TapKind.{TapKind}
 use Rattle.aud_tap.specs.declared.records.TapKind.TheVariants as tap
@@ -27,11 +26,11 @@ use Rattle.aud_tap.specs.Forms.{is_text}
 use Rattle.aud_tap.specs.Names.{AreNamedOnce}
 use Rattle.aud_tap.specs.RecordFields.{offset_of}
 use Rattle.aud_base.specs.Steps.{guard}
-use Rattle.aud_reader.specs.Bundle.{max_entries, with_entry, with_tap_record, tap_named, kind_of_tap, same_kind, taps_on, no_records, another_tap, with_line, taps_from}
+use Rattle.aud_reader.specs.Bundle.{max_entries, with_entry, with_tap_record, tap_named, kind_of_tap, same_kind, taps_on, no_records, another_tap, with_line}
 use Rattle.aud_reader.specs.TapLaws.{AreDifferent, offsets_in}
 use Rattle.aud_reader.specs.Sound.{names_of, AreSoundTaps}
 use Rattle.aud_reader.proofs.KeptLemmas.{replaced, taps_on-set}
-use Rattle.aud_reader.proofs.LineSteps.{guarded, put_entry, one_more, first_of_lines, Begins, Adds, line_step}
+use Rattle.aud_reader.proofs.LineSteps.{guarded, put_entry, one_more, Begins, Adds, line_step}
 
 -- ---- different texts
 
@@ -124,16 +123,6 @@ sound-line ts more line sound e = elim (line_step ts more line e) [
   | inl b ↦ sound-begins ts more line sound b
   | inr a ↦ sound-adds ts more line sound a
 ]
-
--- any lines leave the taps as they are to be
-sound-lines : (ts more : List Tap) (lines : List Line) → AreSoundTaps ts → taps_from ts lines ≡ Ok more → AreSoundTaps more
-sound-lines ts more [] sound e = let same : ts ≡ more = cc in rw (← same) sound
-sound-lines ts more (line ∷ lines) sound e =
-    let first = first_of_lines ts more line lines e in
-    sound-lines first.next more lines (elim first.step [
-      | inl passed ↦ rw passed.1 sound
-      | inr read ↦ elim read [ inl b ↦ sound-begins ts first.next line.bytes sound b | inr a ↦ sound-adds ts first.next line.bytes sound a ]
-    ]) first.rest
 
 -- ---- the places of names
 

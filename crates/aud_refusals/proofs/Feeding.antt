@@ -64,10 +64,6 @@ Passes-fed old new packet fault fed =
       waits = fed.waits;
     }
 
--- nothing was given
-pub Passes-none : (old : List Message) → Passes old [] old
-Passes-none old = record { next = λ l. refl; waits = λ w. w }
-
 -- messages and then others
 pub Passes-append : (old mid new : List Message) (xs ys : List (ℕ × Message)) → Passes old xs mid → Passes mid ys new → Passes old (xs ++ ys) new
 Passes-append old mid new xs ys a b =

@@ -31,17 +31,6 @@ engine-past texts i d found lt is none =
     ∙ ap (λ n. engine_refusal n rest) next
     )
 
--- the first of them
-pub engine-first : (texts : List (Bor (List ℕ))) (i : ℕ) (d : Bor (List ℕ)) (found : NoPacket) → i < length texts
-    → Some found ≡ engine_refused (i + 1) (get_or texts i d).now
-    → Some found ≡ engine_refusal (i + 1) (map (λ text. text.now) (drop i texts))
-engine-first texts i d found lt is =
-    let rest = map (λ (text : Bor (List ℕ)). text.now) (drop (i + 1) texts) in
-    sym (
-    at_drop_more (λ (ts : List (Bor (List ℕ))). engine_refusal (i + 1) (map (λ text. text.now) ts)) texts i d lt
-    ∙ ap (λ (o : Option NoPacket). option_or o (engine_refusal (suc (i + 1)) rest)) (sym is)
-    )
-
 -- the messages that are to come
 pub messages-next : (held : List Message) (texts : List (Bor (List ℕ))) (i : ℕ) (d : Bor (List ℕ)) → i < length texts
     → refusal_to held (packet_messages (i + 1) (map (λ text. text.now) (drop i texts)))

@@ -15,7 +15,7 @@ use Rattle.aud_rooms.specs.Turns.{Who, Slice}
 use Rattle.aud_rooms.specs.TurnsDue.{rooms_at_reach, rooms_at_end, rooms_for, is_past_first, is_for_rooms, is_turn_due, turns_due, greatest_high}
 use Rattle.aud_rooms.specs.Spans.{RoomSpan, IsMaximal, AreSpans, AreSpansOfTurns, first_low, rooms_by_turns, is_within, rooms_by_spans, is_due_by_spans, due_by_spans}
 use Rattle.aud_rooms.proofs.Intervals.{start_of, stop_of}
-use Rattle.aud_rooms.proofs.Sweep.{contains-rooms_by_spans}
+use Rattle.aud_rooms.proofs.SpanRooms.{contains-rooms_by_spans}
 use Rattle.aud_rooms.proofs.RoomMaps.{same_text, itself, same_rooms}
 
 -- two tests that follow from each other say the same

@@ -1,7 +1,7 @@
 -- The positions that may be due by spans, and those that are.
 use Rattle.std.proofs.lemmas.Grind.{common_steps}
 use Rattle.std.proofs.lemmas.Bool.Decides.{nat_tests}
-use Rattle.std.proofs.Common.{◌≡◌, ◌-◌, ℕ, Bool, false, ◌&&◌, ◌||◌, List, [], ◌∷◌, ◌++◌, filter, length, min, max, Option, Some, None, refl, sym, ◌∙◌, arith, ◌==◌, nat_cmp, is_eq, bytes_eq}
+use Rattle.std.proofs.Common.{◌≡◌, ◌-◌, ℕ, Bool, false, not, ◌&&◌, ◌||◌, List, [], ◌∷◌, ◌++◌, filter, length, min, max, Option, Some, None, refl, sym, ◌∙◌, arith, ◌==◌, nat_cmp, is_eq, bytes_eq}
 use Rattle.std.specs.List.{list_any}
 use Rattle.std.specs.Cmp.Lexicographic.{slice_cmp}
 use Rattle.std.proofs.lemmas.Bool.{le-leb, lt-leb, and_right, le-ltb, lt-ltb}
@@ -13,13 +13,17 @@ use Rattle.aud_tap.specs.declared.records.StreamRec.TheVariants.{Ev, Other}
 use Rattle.aud_node.specs.Lists.{is_empty}
 use Rattle.aud_node.specs.Stream.{Text, entry, positions_after}
 use Rattle.aud_node.specs.Recoverable.{is_recoverable}
-use Rattle.aud_node.specs.Addressees.{is_to_all, is_to_room, positions_to_all, positions_to_room}
+use Rattle.aud_node.specs.Addressees.{is_to_all, is_to_room, is_excepting, positions_to_all}
 use Rattle.aud_rooms.specs.Rooms.{is_for}
 use Rattle.aud_rooms.specs.Spans.{RoomSpan, is_within, rooms_by_spans, is_due_by_spans, due_by_spans}
-use Rattle.aud_rooms.specs.Private.Candidates.{is_past_upto, is_to_span, is_to_some, is_candidate, candidates, is_spared, is_spared_by}
+use Rattle.aud_rooms.specs.Private.Candidates.{is_past_upto, is_by, is_by_span, is_by_some, is_candidate, candidates}
+use Rattle.aud_rooms.specs.Private.Merge.{remove}
+use Rattle.aud_rooms.specs.declared.candidates.By.{By}
+use Rattle.aud_rooms.specs.declared.candidates.By.TheVariants.{Named, Excepted}
+use Rattle.aud_rooms.proofs.Merged.{remove-filter}
 use Rattle.aud_base.proofs.Truth.{and_none, or_none}
 use Rattle.aud_rooms.proofs.Parts.{filter_twice}
-use Rattle.aud_rooms.proofs.Sweep.{contains-rooms_by_spans}
+use Rattle.aud_rooms.proofs.SpanRooms.{contains-rooms_by_spans}
 
 -- two tests in either order
 and_swap : (a b : Bool) → (a && b) ≡ (b && a)
@@ -40,25 +44,27 @@ module _ (stream : List StreamRec) (nsp : Text) (birth high : ℕ) where
   to_all =
       filter_twice (is_past_upto birth high) (λ p. is_to_all (entry stream p) nsp) (λ p. is_past_upto birth high p && is_to_all (entry stream p) nsp) (λ p. and_swap (is_to_all (entry stream p) nsp) (is_past_upto birth high p)) (positions_after 0 (length stream))
 
-  -- no span has a position
-  pub to_none : filter (is_to_some [] stream nsp birth high) (positions_after 0 (length stream)) ≡ []
-  to_none = filter_none _ (λ p. and_none (is_past_upto birth high p)) (positions_after 0 (length stream))
+  module _ (by : By) where
+    -- no span has a position
+    pub of_none : filter (is_by_some by [] stream nsp birth high) (positions_after 0 (length stream)) ≡ []
+    of_none = filter_none _ (λ p. and_none (is_past_upto birth high p)) (positions_after 0 (length stream))
 
-  -- those of one span
-  pub to_one : (s : RoomSpan) → filter (is_past_upto (max birth (s.first - 1)) (min high s.last)) (positions_to_room stream nsp s.room) ≡ filter (is_to_some (s ∷ []) stream nsp birth high) (positions_after 0 (length stream))
-  to_one s =
-      filter_twice (is_past_upto (max birth (s.first - 1)) (min high s.last)) (λ p. is_to_room (entry stream p) nsp s.room) (is_to_some (s ∷ []) stream nsp birth high)
-      (λ p. grind (arith, within_both birth high p s, and_swap (is_to_room (entry stream p) nsp s.room), or_none (is_to_span stream nsp p s))) (positions_after 0 (length stream))
+    -- those of one span
+    pub of_one : (s : RoomSpan) → filter (is_past_upto (max birth (s.first - 1)) (min high s.last)) (filter (λ p. is_by by (entry stream p) nsp s.room) (positions_after 0 (length stream)))
+        ≡ filter (is_by_some by (s ∷ []) stream nsp birth high) (positions_after 0 (length stream))
+    of_one s =
+        filter_twice (is_past_upto (max birth (s.first - 1)) (min high s.last)) (λ p. is_by by (entry stream p) nsp s.room) (is_by_some by (s ∷ []) stream nsp birth high)
+        (λ p. grind (arith, within_both birth high p s, and_swap (is_by by (entry stream p) nsp s.room), or_none (is_by_span by stream nsp p s))) (positions_after 0 (length stream))
 
-  -- those of some spans or of others
-  pub to_both : (one other : List RoomSpan)
-      → filter (λ p. is_to_some one stream nsp birth high p || is_to_some other stream nsp birth high p) (positions_after 0 (length stream)) ≡ filter (is_to_some (one ++ other) stream nsp birth high) (positions_after 0 (length stream))
-  to_both one other =
-      filter_agree _ _ (λ p. grind (arith, list_any-append (is_to_span stream nsp p) one other)) (positions_after 0 (length stream))
+    -- those of some spans or of others
+    pub of_both : (one other : List RoomSpan)
+        → filter (λ p. is_by_some by one stream nsp birth high p || is_by_some by other stream nsp birth high p) (positions_after 0 (length stream)) ≡ filter (is_by_some by (one ++ other) stream nsp birth high) (positions_after 0 (length stream))
+    of_both one other =
+        filter_agree _ _ (λ p. grind (arith, list_any-append (is_by_span by stream nsp p) one other)) (positions_after 0 (length stream))
 
   -- those for the whole namespace or of spans
   pub to_any : (spans : List RoomSpan)
-      → filter (λ p. (is_past_upto birth high p && is_to_all (entry stream p) nsp) || is_to_some spans stream nsp birth high p) (positions_after 0 (length stream)) ≡ candidates spans stream nsp birth high
+      → filter (λ p. (is_past_upto birth high p && is_to_all (entry stream p) nsp) || is_by_some Named spans stream nsp birth high p) (positions_after 0 (length stream)) ≡ candidates spans stream nsp birth high
   to_any spans = filter_agree _ _ (λ p. grind arith) (positions_after 0 (length stream))
 
 -- ---- what is due is among them
@@ -97,21 +103,37 @@ module _ (spans : List RoomSpan) (p : ℕ) where
   any_both a b f g [] = grind arith
   any_both a b f g (s ∷ some) = grind (arith, any_both a b f g some)
 
+  -- one such test
+  any_one : (a : Bool) (f g : RoomSpan → Bool) (some : List RoomSpan) → list_any (λ s. f s && (a && g s)) some ≡ (a && list_any (λ s. f s && g s) some)
+  any_one a f g [] = grind arith
+  any_one a f g (s ∷ some) = grind (arith, any_one a f g some)
+
+  -- a test beside one that no element passes
+  any_never : (f g : RoomSpan → Bool) → ((s : RoomSpan) → g s ≡ false) → (some : List RoomSpan) → list_any (λ s. f s && g s) some ≡ false
+  any_never f g never [] = refl
+  any_never f g never (s ∷ some) = grind (arith, never s, any_never f g never some)
+
   -- an entry is addressed to the rooms of the spans where it is for the whole namespace or for the room of a span, and
   -- excepts none of these rooms
   for_some : (o : Option StreamRec) (nsp : Text)
-      → is_for o nsp (rooms_by_spans spans p) ≡ ((is_to_all o nsp || list_any (λ s. is_within p s && is_to_room o nsp s.room) spans) && is_spared o (rooms_by_spans spans p))
-  for_some None nsp = sym (and_none _)
-  for_some (Some (Other off)) nsp = and_none (is_recoverable (Other off)) ∙ sym (and_none _)
+      → is_for o nsp (rooms_by_spans spans p)
+      ≡ ((is_to_all o nsp || list_any (λ s. is_within p s && is_to_room o nsp s.room) spans) && not (list_any (λ s. is_within p s && is_excepting o s.room) spans))
+  for_some None nsp = grind (arith, any_never (is_within p) (λ s. is_to_room None nsp s.room) (λ s. refl) spans)
+  for_some (Some (Other off)) nsp =
+      grind (arith, and_none (is_recoverable (Other off)), any_never (is_within p) (λ s. is_to_room (Some (Other off)) nsp s.room) (λ s. and_none (is_recoverable (Other off))) spans)
   for_some (Some (Ev event)) nsp =
-      grind (arith, none_empty event.rooms, any_agree _ _ (λ room. contains-rooms_by_spans spans p room) event.rooms, held_any spans event.rooms, any_both (is_recoverable (Ev event)) (bytes_eq event.nsp nsp) (is_within p) (λ s. list_any (λ other. bytes_eq other s.room) event.rooms) spans)
+      let named = any_agree _ _ (λ room. contains-rooms_by_spans spans p room) event.rooms ∙ held_any spans event.rooms in
+      let excepted = any_agree _ _ (λ room. contains-rooms_by_spans spans p room) event.except ∙ held_any spans event.except in
+      let r = is_recoverable (Ev event) in
+      grind (arith, none_empty event.rooms, named, excepted, any_both r (bytes_eq event.nsp nsp) (is_within p) (λ s. list_any (λ other. bytes_eq other s.room) event.rooms) spans, any_one r (is_within p) (λ s. list_any (λ other. bytes_eq other s.room) event.except) spans)
 
 module _ (spans : List RoomSpan) (stream : List StreamRec) (nsp : Text) (birth high : ℕ) where
   -- what is due is among them
-  due_alike : (p : ℕ) → (is_candidate spans stream nsp birth high p && is_spared_by spans stream p) ≡ is_due_by_spans spans stream nsp birth high p
+  due_alike : (p : ℕ) → (is_candidate spans stream nsp birth high p && not (is_by_some Excepted spans stream nsp birth high p)) ≡ is_due_by_spans spans stream nsp birth high p
   due_alike p = grind (arith, for_some spans p (entry stream p) nsp)
 
-  -- of them, those whose entries except none of the rooms whose spans hold them
-  pub candidates_due : filter (is_spared_by spans stream) (candidates spans stream nsp birth high) ≡ due_by_spans spans stream nsp birth high
+  -- it is they without those whose entries except the room of a span that holds them
+  pub candidates_due : remove (filter (is_by_some Excepted spans stream nsp birth high) (positions_after 0 (length stream))) (candidates spans stream nsp birth high) ≡ due_by_spans spans stream nsp birth high
   candidates_due =
-      filter_twice (is_spared_by spans stream) (is_candidate spans stream nsp birth high) (is_due_by_spans spans stream nsp birth high) due_alike (positions_after 0 (length stream))
+      remove-filter (is_by_some Excepted spans stream nsp birth high) (is_candidate spans stream nsp birth high) 1 (length stream)
+      ∙ filter_agree _ _ due_alike (positions_after 0 (length stream))

@@ -5,8 +5,7 @@ pub mod ByTurns
 pub mod Unique
 pub mod Times
 pub mod RoomMaps
-pub mod Sweep
-pub mod ExceptedRooms
+pub mod SpanRooms
 pub mod Kept
 pub mod Parts
 pub mod Merged

@@ -1,9 +1,9 @@
--- Two ascending lists of positions as one.
-use Rattle.std.proofs.Common.{◌≡◌, ◌<◌, ◌||◌, ℕ, zero, suc, Bool, not, List, ◌∷◌, filter, length, take, drop, None, position, nat_le, refl, ap, arith, length-take}
+-- Two ascending lists of positions as one, and one without those of the other.
+use Rattle.std.proofs.Common.{◌≡◌, ◌<◌, ◌||◌, ◌&&◌, ℕ, zero, suc, Bool, not, List, [], ◌∷◌, filter, length, take, drop, None, position, nat_le, refl, ap, arith, length-take}
 use Rattle.std.proofs.lemmas.Bool.Decides.{nat_tests}
 use Rattle.std.proofs.lemmas.List.Folds.{length-prefix_len}
 use Rattle.aud_node.specs.Lists.{numbers_from}
-use Rattle.aud_rooms.specs.Private.Merge.{count_below, without_first, merge}
+use Rattle.aud_rooms.specs.Private.Merge.{count_below, without_first, merge, remove}
 
 -- where no number is found that isn't below this one, all come before it
 pub none_below : (n : ℕ) (ms : List ℕ) → None ≡ position (λ m. nat_le n m) ms → length ms ≡ count_below n ms
@@ -31,3 +31,27 @@ pub merge-filter : (p q : ℕ → Bool) (first count : ℕ) → merge (filter p 
 merge-filter p q first zero = refl
 merge-filter p q first (suc count) =
     grind (arith, nat_tests, merge-filter p q (suc first) count, later_alone q first (suc first) count, first_alone p first (suc first) count)
+
+-- a list and none
+pub merge-none : (ns : List ℕ) → merge ns [] ≡ ns
+merge-none [] = refl
+merge-none (n ∷ ns) = ap (λ ms. n ∷ ms) (merge-none ns)
+
+-- ---- without the numbers of a list
+
+-- a number before the first one that is removed stays
+head_stays : (n m : ℕ) (ns ms : List ℕ) → n < m → remove (m ∷ ns) (n ∷ ms) ≡ n ∷ remove (m ∷ ns) ms
+head_stays n m ns ms h =
+    let more : count_below m (n ∷ ms) ≡ suc (count_below m ms) = grind (arith, nat_tests) in
+    grind (arith, ap (λ k. take k (n ∷ ms)) more, ap (λ k. drop k (n ∷ ms)) more)
+
+-- so does one before all that are removed
+first_stays : (q : ℕ → Bool) (n first count : ℕ) (ms : List ℕ) → n < first → remove (filter q (numbers_from first count)) (n ∷ ms) ≡ n ∷ remove (filter q (numbers_from first count)) ms
+first_stays q n first zero ms h = refl
+first_stays q n first (suc count) ms h = grind (arith, head_stays n first (filter q (numbers_from (suc first) count)) ms, first_stays q n (suc first) count ms)
+
+-- the numbers that pass one test, without those that pass another
+pub remove-filter : (q p : ℕ → Bool) (first count : ℕ) → remove (filter q (numbers_from first count)) (filter p (numbers_from first count)) ≡ filter (λ n. p n && not (q n)) (numbers_from first count)
+remove-filter q p first zero = refl
+remove-filter q p first (suc count) =
+    grind (arith, nat_tests, remove-filter q p (suc first) count, later_alone p first (suc first) count, first_stays q first (suc first) count)

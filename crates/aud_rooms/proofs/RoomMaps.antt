@@ -33,9 +33,6 @@ contains-rooms_with {X} test es q =
     ∙ any-filter_same (eq_by_cmp (slice_cmp nat_cmp) q) passes (passes q) (λ room e. ap passes (sym (same_text q room e))) (map (λ e. e.0.now) es)
     ∙ grind (arith, any_key es q)
 
--- the same, for an attribute of a function
-pub ruleset rooms_by_test = (contains-rooms_with)
-
 -- sets that contain the same rooms are one
 pub same_rooms : (a b : Rooms) → ((q : Text) → set.contains a q ≡ set.contains b q) → a ≡ b
 same_rooms a b same = set.same_set nat_list_cmp_total (set.slice_cmp-IsAntisymmetric set.nat_cmp-IsAntisymmetric) a b same

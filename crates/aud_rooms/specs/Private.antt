@@ -2,9 +2,7 @@
 -- words.
 pub mod Building
 pub mod Candidates
-pub mod Excepted
 pub mod Merge
-pub mod Reached
 pub mod RoomMap
 pub mod Times
 pub mod Walk

@@ -6,7 +6,7 @@ ghost use Rattle.aud_rooms.specs.TurnPlaces.{is_between};
 ghost use Rattle.aud_rooms.specs.Private.Candidates.{is_past_upto};
 
 /// Ascending numbers, cut before the first that isn't below this one.
-pub(crate) fn cut_before(numbers: &[usize], first: usize) -> (&[usize], &[usize])
+fn cut_before(numbers: &[usize], first: usize) -> (&[usize], &[usize])
     requires { IsNonDecreasing numbers.now }
     ensures parts { numbers.now ≡ result.0.now ++ result.1.now }
     ensures below { result.0.now ≡ filter (λ n. nat_lt n first) numbers.now }
@@ -17,7 +17,7 @@ pub(crate) fn cut_before(numbers: &[usize], first: usize) -> (&[usize], &[usize]
 }
 
 /// Ascending numbers, cut after the last that isn't past this one.
-fn cut_after(numbers: &[usize], last: usize) -> (&[usize], &[usize])
+fn cut_after(numbers: &[u64], last: u64) -> (&[u64], &[u64])
     requires { IsNonDecreasing numbers.now }
     ensures upto { result.0.now ≡ filter (λ n. nat_le n last) numbers.now }
     ensures past { result.1.now ≡ filter (λ n. not (nat_le n last)) numbers.now }
@@ -37,7 +37,7 @@ pub(crate) fn between(numbers: &[usize], from: usize, to: usize) -> &[usize]
 }
 
 /// Of ascending numbers, those past the first up to the second.
-pub(crate) fn past_upto(numbers: &[usize], after: usize, upto: usize) -> &[usize]
+pub(crate) fn past_upto(numbers: &[u64], after: u64, upto: u64) -> &[u64]
     requires { IsNonDecreasing numbers.now }
     ensures { result.now ≡ filter (is_past_upto after upto) numbers.now }
 {

@@ -3,7 +3,6 @@ ghost use Rattle.std.specs.Prelude.{◌≡◌, OnOk, OnErr};
 ghost use Rattle.std.specs.FinSet as set;
 ghost use Rattle.aud_rooms.specs.Rooms.{Rooms};
 
-use crate::addressee::Holds;
 use std::alloc::{AllocError, Global};
 use std::collections::BTreeSet;
 use std::marker::Model;
@@ -59,13 +58,5 @@ impl<'a> RoomSet<'a> {
         ensures { self.new ≡ set.remove self.old room.now }
     {
         self.rooms.remove(room);
-    }
-}
-
-impl<'a> Holds for RoomSet<'a> {
-    ghost rooms = { λ held. held };
-
-    fn holds(&self, room: &str) -> bool {
-        self.contains(room)
     }
 }

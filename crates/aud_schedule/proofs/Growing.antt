@@ -73,10 +73,6 @@ grown-two size fault act old is_within quiet =
       within = λ all. All-append P (old ++ fault ∷ []) (act ∷ []) (All-append P old (fault ∷ []) all (All-cons P fault [] is_within (All-nil P))) (All-cons P act [] quiet.within (All-nil P));
     }
 
--- no act
-pub grown-none : (size : Size) (a : List Act) → Grown size 0 [] a a
-grown-none size a = record { at_most = omega arith; settles = λ h. h; gains = λ h. sym (append-nil (faults a)); within = λ all. all }
-
 -- acts, and acts after them
 pub grown-then : (size : Size) (m n : ℕ) (g h : List Kind) (a b c : List Act) → Grown size m g a b → Grown size n h b c → Grown size (m + n) (g ++ h) a c
 grown-then size m n g h a b c first second = record {

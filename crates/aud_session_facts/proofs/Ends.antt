@@ -11,11 +11,11 @@ use Rattle.aud_node.specs.Cluster.{Cluster, node_log}
 use Rattle.aud_node.specs.OwnPlaces.{own_places}
 use Rattle.aud_node.specs.OwnRecords.{own_numbers}
 use Rattle.aud_node.specs.Stream.{Text}
-use Rattle.aud_node.specs.TurnRecords.{begins_turn, ends_any_turn, turn_range}
-use Rattle.aud_base.proofs.SameText.{same_text, itself_text}
+use Rattle.aud_node.specs.TurnRecords.{begins_turn, turn_range}
+use Rattle.aud_base.proofs.SameText.{itself_text}
 use Rattle.aud_rooms.specs.Turns.{Turn, Who, HasNoTurn, IsChain}
 use Rattle.aud_maker.specs.Begun.{turn_begun, AreAllBegun}
-use Rattle.aud_maker.specs.Ended.{end_by, may_end, is_ended, are_ended}
+use Rattle.aud_maker.specs.Ended.{end_by, may_end, are_ended}
 use Rattle.aud_maker.specs.InTurn.{is_swept}
 use Rattle.aud_maker.specs.Opening.{names_opened, opening_of}
 use Rattle.aud_maker.proofs.BegunLemmas.{IsIndexed, begun-is, own_number, own_place}
@@ -69,31 +69,7 @@ module _ (c : Cluster) (pid : Text) (k : ℕ) (t : Turn) where
         next = begins-first c pid (suc k) next follows;
       }
 
--- a record that ends no turn ends none by a `break` or the `gone`; the last turn may end so with the log
-pub ended-with-log : (c : Cluster) (pid : Text) (k : ℕ) (t : Turn) (last : NodeRec) → slice_get (node_log c t.node) (t.to - 1) ≡ Some last → ends_any_turn pid last ≡ false → t.to ≡ length (node_log c t.node) → is_ended c pid k t true ≡ true
-ended-with-log c pid k t last at plain to = grind (arith, nat_tests, at, plain, to)
-
--- the last record of a turn that ends by no `break` and no `gone`
-pub open-ended : (c : Cluster) (pid : Text) (k : ℕ) (t : Turn) → IsOpenEnd c pid k t → t.to ≡ length (node_log c t.node) → is_ended c pid k t true ≡ true
-open-ended c pid k t is to =
-    let ranged = begun-range c pid k (own_places c pid) t is.begun in
-    let (last, there) = last-of c pid k t ranged in
-    ended-with-log c pid k t last there (ap (ends_at pid) (sym there) ∙ is.ends_not) to
-
--- a turn may always end by its `break`
-pub ended-by-break : (c : Cluster) (pid : Text) (k : ℕ) (t : Turn) (is_last : Bool) → slice_get (node_log c t.node) (t.to - 1) ≡ Some (Broke pid k) → is_ended c pid k t is_last ≡ true
-ended-by-break c pid k t is_last at = grind (arith, nat_tests, at, itself_text pid)
-
--- the last turn may end with the session
-pub ended-by-gone : (c : Cluster) (pid : Text) (k : ℕ) (t : Turn) → slice_get (node_log c t.node) (t.to - 1) ≡ Some (Gone pid) → is_ended c pid k t true ≡ true
-ended-by-gone c pid k t at = grind (arith, nat_tests, at, itself_text pid)
-
 -- ---- where a `break` stands
-
--- the test of a record passes at the `break` alone
-pub break-is : (pid : Text) (k : ℕ) (o : Option NodeRec) → is_break_at pid k o ≡ true → o ≡ Some (Broke pid k)
-break-is pid k None e = absurd (false≢true e)
-break-is pid k (Some rec) e = grind (arith, nat_tests, e, λ (other : Text). same_text other pid)
 
 pub is-break : (pid : Text) (k : ℕ) → is_break_at pid k (Some (Broke pid k)) ≡ true
 is-break pid k = grind (arith, nat_tests, itself_text pid)

@@ -10,7 +10,7 @@ use Rattle.aud_rooms.specs.Spans.{RoomSpan, AreSpansOfTurns, first_low, is_withi
 use Rattle.aud_rooms.specs.Turns.{Slice, slice_of}
 use Rattle.aud_rooms.specs.TurnsDue.{greatest_high}
 use Rattle.aud_rooms.proofs.ByTurns.{rooms_by_spans-are, rooms_for-up_to}
-use Rattle.aud_rooms.proofs.Sweep.{contains-rooms_by_spans}
+use Rattle.aud_rooms.proofs.SpanRooms.{contains-rooms_by_spans}
 use Rattle.aud_cert.specs.Certificate.{CertificateSeen}
 use Rattle.aud_maker.specs.Made.{IsMade}
 use Rattle.aud_merge.specs.ByTurns.{rooms_of_turns}

@@ -27,12 +27,13 @@ pub(crate) fn due_by_turns(
     };
     let stream = recording.logs().stream();
     let high = greatest_high(turns);
-    due_of(
+    let due = due_of(
         alloc,
         cert.spans.as_slice(),
         stream,
         opened.nsp,
         opened.low,
         high,
-    )
+    )?;
+    due.into_owned(alloc)
 }

@@ -67,5 +67,6 @@ fn missed_from(
     let pid = cert.pid.as_str();
     let after = last.unwrap_or(opened.low);
     let spans = spans_held(alloc, logs, pid, opened.sid, turns, after, cursor)?;
-    due_of(alloc, &spans, logs.stream(), opened.nsp, after, cursor)
+    let due = due_of(alloc, &spans, logs.stream(), opened.nsp, after, cursor)?;
+    due.into_owned(alloc)
 }

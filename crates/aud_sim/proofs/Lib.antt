@@ -1,3 +1,2 @@
 pub mod RoomTexts
 pub mod Replays
-pub mod Schedules

@@ -159,7 +159,3 @@ written-reads p parts = ap packet_of (nested p) ∙ nested-reads p parts
 -- what is written of a packet that some text spells is a text of it
 pub spelled_reads_back : (p : PacketSeen) → IsSpelled p → packet_of (packet_text p) ≡ Ok p
 spelled_reads_back p spelled = written-reads p (parts-of spelled.text p spelled.reads)
-
--- so a packet that was built by hand is shown to be spelled by some text
-pub parts_spelled : (p : PacketSeen) → HasParts p → IsSpelled p
-parts_spelled p parts = record { text = packet_text p; reads = written-reads p parts }

@@ -4,14 +4,13 @@ use Rattle.std.specs.List.{list_any, position_or_len}
 use Rattle.std.proofs.Math.Seq.{take-suc}
 use Rattle.std.proofs.lemmas.Bool.{cases_Bool, lt-ltb, ltb-true, or_parts}
 use Rattle.std.proofs.lemmas.Grind.{flat_map-append}
-use Rattle.std.proofs.lemmas.List.{map-append, take-append-drop, length-map, length-append}
-use Rattle.std.proofs.lemmas.List.Elements.{All-nil, All-push}
+use Rattle.std.proofs.lemmas.List.{map-append, take-append-drop, length-append}
+use Rattle.std.proofs.lemmas.List.Elements.{All-push}
 use Rattle.std.proofs.lemmas.List.Folds.{list_any-append}
 use Rattle.aud_tap.specs.declared.records.TapKind.{TapKind}
 use Rattle.aud_tap.specs.declared.records.Rec.{Rec}
 use Rattle.aud_tap.specs.declared.records.Rec.TheVariants.{Header}
 use Rattle.aud_tap.specs.declared.taps.Tap.{Tap}
-use Rattle.aud_reader.specs.declared.fault.InputCode.TheVariants.{LineTooLong}
 use Rattle.aud_reader.specs.declared.fault.ReadFault.{ReadFault}
 use Rattle.aud_reader.specs.declared.fault.ReadFault.TheVariants.{Input, Memory}
 use Rattle.aud_reader.specs.Bundle.{kind_of_tap}
@@ -22,10 +21,6 @@ use Rattle.aud_writer.specs.WrittenBundle.{ReadsBack, named, named_recs, line_te
 use Rattle.aud_writer.specs.Private.SoFar.{is_long, AreWritten, AreRefused, Puts}
 
 -- ---- one more line
-
--- before the first line
-pub written-none : (new : Lines) → new.bytes.items ≡ [] → new.count ≡ 0 → AreWritten new []
-written-none new bytes count = record { bytes = bytes; count = count; short = refl; back = All-nil _ }
 
 -- the lines, and one more
 line_texts-push : (done : List (List ℕ × Rec)) (r : List ℕ × Rec) → line_texts (done ++ r ∷ []) ≡ line_texts done ++ line_text r.0 r.1 ∷ []
@@ -41,22 +36,6 @@ written-put old new r line done is bytes count short back written =
       short = rw (line_texts-push done r, list_any-append is_long (line_texts done) (line_text r.0 r.1 ∷ []), written.short, ← is, short) refl;
       back = All-push ReadsBack done r written.back back;
     }
-
--- a line that is too long, after those that aren't
-pub refused-put : (old : Lines) (r : List ℕ × Rec) (line : List ℕ) (n : ℕ) (done : List (List ℕ × Rec)) → line ≡ line_text r.0 r.1 → n ≡ old.count + 1 → is_long line ≡ true → AreWritten old done
-    → AreRefused (Input n LineTooLong) (done ++ r ∷ [])
-refused-put old r line n done is number long written = (
-  refl,
-  record {
-    before = line_texts done;
-    line = line;
-    after = [];
-    is = line_texts-push done r ∙ ap (λ l. line_texts done ++ l ∷ []) (sym is);
-    number = number ∙ rw (written.count, add-one) (ap suc (sym (length-map done (λ (x : List ℕ × Rec). line_text x.0 x.1))));
-    short = written.short;
-    long = long;
-  },
-)
 
 -- ---- lines after lines
 

@@ -145,7 +145,7 @@ pub fn tell_due(stream: &Stream<'_>, alloc: Global, of: &str, out: &mut Told) {
         return out.fail();
     };
     match due_of(alloc, &spans, stream, nsp, number(after), number(upto)) {
-        Ok(due) => out.debug(&due),
+        Ok(due) => out.debug(&due.as_slice()),
         Err(_) => out.fail(),
     }
 }

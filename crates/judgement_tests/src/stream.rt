@@ -1,4 +1,4 @@
-//! Where entries stand in the stream, which of them are sent again, and whom these are addressed to.
+//! Where entries stand in the stream, which of them are sent again, and whom these are addressed to or except.
 use crate::asked::{assert_answers, cut};
 use crate::told::Told;
 use aud_node::{Stream, offset};
@@ -10,11 +10,11 @@ static CASES: [&str; 1] = [
     // has no offset; it has an attachment too few.
     r#"
 st {"k":"tap","v":1,"of":"stream"}
-st {"k":"ev","off":"1-0","nsp":"/","rooms":["r"],"text":"2[\"hi\",\"1-0\"]"}
+st {"k":"ev","off":"1-0","nsp":"/","rooms":["r"],"except":["q"],"text":"2[\"hi\",\"1-0\"]"}
 st {"k":"ev","off":"2-0","nsp":"/","rooms":["r","q","r"],"text":"2[\"hi\",\"2-0\"]"}
 st {"k":"ev","off":"3-0","nsp":"/","text":"2[\"hi\",\"3-0\"]"}
-st {"k":"ev","off":"4-0","nsp":"/n","rooms":["r"],"text":"2/n,[\"hi\",\"4-0\"]"}
-st {"k":"ev","off":"5-0","nsp":"/","rooms":["r"],"text":"27[\"hi\",\"5-0\"]"}
+st {"k":"ev","off":"4-0","nsp":"/n","rooms":["r"],"except":["q"],"text":"2/n,[\"hi\",\"4-0\"]"}
+st {"k":"ev","off":"5-0","nsp":"/","rooms":["r"],"except":["q"],"text":"27[\"hi\",\"5-0\"]"}
 st {"k":"ev","off":"6-0","nsp":"/","text":"2/n,[\"hi\",\"6-0\"]"}
 st {"k":"ev","off":"7-0","nsp":"/","text":"2[\"hi\"]"}
 st {"k":"ev","off":"8-0","nsp":"/","text":"51-[{\"_placeholder\":true,\"num\":0},\"8-0\"]"}
@@ -32,15 +32,15 @@ st {"k":"ev","off":"9-0","nsp":"/n","text":"2/n,[\"hi\",\"9-0\"]"}
 ? entry 10-0
 nowhere
 ? addressees / r
-[1, 2], to all [3]
+[1, 2], to all [3], excepting []
 ? addressees / q
-[2], to all [3]
+[2], to all [3], excepting [1, 4]
 ? addressees /n r
-[4], to all [9]
+[4], to all [9], excepting []
 ? addressees /n q
-[], to all [9]
+[], to all [9], excepting [1, 4]
 ? addressees /m r
-[], to all []"#,
+[], to all [], excepting []"#,
 ];
 
 #[test]
@@ -63,10 +63,13 @@ pub fn tell_entry(stream: &Stream<'_>, off: &str, out: &mut Told) {
     out.show(&stream.recoverable(position));
 }
 
-/// The positions of the entries of the namespace that name the room, and of those for the whole namespace.
+/// The positions of the entries of the namespace that name the room, of those for the whole namespace, and of those of
+/// any that except the room.
 pub fn tell_addressees(stream: &Stream<'_>, of: &str, out: &mut Told) {
     let (nsp, room) = cut(of);
     out.debug(&stream.positions(nsp, room));
     out.text(", to all ");
     out.debug(&stream.to_all(nsp));
+    out.text(", excepting ");
+    out.debug(&stream.excepting(room));
 }

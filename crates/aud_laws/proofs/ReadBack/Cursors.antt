@@ -5,7 +5,7 @@ use Rattle.std.proofs.lemmas.Bool.Decides.{nat_tests}
 use Rattle.aud_tap.specs.declared.records.StreamRec.{StreamRec}
 use Rattle.aud_tap.specs.declared.records.NodeRec.{NodeRec}
 use Rattle.aud_node.specs.Stream.{Text, position, offset_of}
-use Rattle.aud_node.specs.Cursors.{position_or, position_if_past, next_cursor, cursor_past, cursor_at}
+use Rattle.aud_node.specs.Cursors.{next_cursor, cursor_past, cursor_at}
 use Rattle.aud_node.specs.Cluster.{Cluster, node_log}
 use Rattle.aud_rooms.specs.Turns.{Turn, slice_of}
 use Rattle.aud_rooms.specs.TurnsDue.{greatest_high}
@@ -25,14 +25,6 @@ later false end (Some p) h = omega arith
 position-within : (stream : List StreamRec) (off : Text) → IsUpTo (length stream) (position stream off)
 position-within [] off = tt
 position-within (e ∷ es) off = later (bytes_eq (offset_of e) off) (length es) (position es off) (position-within es off)
-
--- a position or else a cursor is not past the end where neither is
-or-within : (end cursor : ℕ) (o : Option ℕ) → IsUpTo end o → cursor ≤ end → position_or o cursor ≤ end
-or-within end cursor None h c = c
-or-within end cursor (Some p) h c = h
-
-past-within : (end cursor : ℕ) (o : Option ℕ) → IsUpTo end o → cursor ≤ end → position_or (position_if_past o cursor) cursor ≤ end
-past-within end cursor o h c = grind (arith, nat_tests)
 
 module _ (stream : List StreamRec) where
   -- a record leaves the cursor within the stream

@@ -1,4 +1,4 @@
--- Two ascending lists of numbers as one.
+-- Two ascending lists of numbers as one, and one without the numbers of the other.
 use Rattle.std.specs.Prelude.{ℕ, List, [], ◌∷◌, ◌++◌, take, drop, if◌then◌else◌, nat_eq, nat_le}
 use Rattle.std.specs.List.{position_or_len}
 
@@ -15,3 +15,8 @@ without_first n (m ∷ ms) = if nat_eq m n then ms else m ∷ ms
 abbrev pub merge : List ℕ → List ℕ → List ℕ
 merge [] ms = ms
 merge (n ∷ ns) ms = take (count_below n ms) ms ++ n ∷ merge ns (without_first n (drop (count_below n ms) ms))
+
+-- the numbers of the second list that aren't in the first, ascending
+abbrev pub remove : List ℕ → List ℕ → List ℕ
+remove [] ms = ms
+remove (n ∷ ns) ms = take (count_below n ms) ms ++ remove ns (without_first n (drop (count_below n ms) ms))

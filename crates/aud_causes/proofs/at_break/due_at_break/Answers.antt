@@ -25,11 +25,10 @@ returns c =
     let replay = c.args.replay in
     let turns_are : c.as_slice-turns.result.now ≡ cert.turns = c.as_slice-turns.ensures.value ∙ ap (λ (x : CertificateSeen). x.turns) c.cert.view_is in
     let pid_is : c.as_str-pid.result.now ≡ cert.pid = c.as_str-pid.ensures.value ∙ ap (λ (x : CertificateSeen). x.pid) c.cert.view_is in
-    IfOk-weaker c.due_of.result
-    (λ due. due.items ≡ due_by_spans c.deref.result.now c.stream.result.now opened.nsp.now replay.after replay.low)
+    IfOk-weaker c.into_owned.result _
     (λ due. (made : IsMade cluster cert.pid cert) → due.items ≡ due_at_break cluster made.who made.turns c.args.count replay)
-    (λ due is made.
+    (λ due owned made.
     at_break_so cluster cert made (c.made_is_over.ensures.turns cluster cert.pid cert c.named_once.ensures made) c.logs-logs.result.now c.logs-logs.ensures c.as_slice-turns.result.now turns_are c.as_str-pid.result.now pid_is opened.sid.now opened.nsp.now opened.low c.in-Some.ensures
     c.args.count c.front_of-before.result.now replay spans due.items c.front_of-before.ensures c.in_ok-spans.ensures
-    (is ∙ ap (λ ss. due_by_spans ss c.stream.result.now opened.nsp.now replay.after replay.low) c.deref.ensures.value ∙ ap (λ es. due_by_spans spans es opened.nsp.now replay.after replay.low) c.stream.ensures))
-    c.due_of.ensures
+    (owned (λ x y h. h) ∙ c.in_ok-due.ensures ∙ ap (λ ss. due_by_spans ss c.stream.result.now opened.nsp.now replay.after replay.low) c.deref.ensures.value ∙ ap (λ es. due_by_spans spans es opened.nsp.now replay.after replay.low) c.stream.ensures))
+    c.into_owned.ensures.items_if_clones_equal

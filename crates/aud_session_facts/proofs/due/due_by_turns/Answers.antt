@@ -26,12 +26,12 @@ returns c =
     let turns_are : c.as_slice-turns.result.now ≡ cert.turns = c.as_slice-turns.ensures.value ∙ ap (λ (x : CertificateSeen). x.turns) c.cert.view_is in
     let spans_are : c.as_slice.result.now ≡ cert.spans = c.as_slice.ensures.value ∙ ap (λ (x : CertificateSeen). x.spans) c.cert.view_is in
     let stream_is : c.stream-stream.result.now ≡ cluster.stream = c.stream-stream.ensures ∙ ap (λ l. l.stream) c.logs.ensures in
-    IfOk-weaker c.due_of.result
-    (λ due. due.items ≡ due_by_spans c.as_slice.result.now c.stream-stream.result.now opened.nsp.now opened.low c.greatest_high-high.result)
+    IfOk-weaker c.into_owned.result _
     (λ due. (made : IsMade cluster cert.pid cert) → due.items ≡ due_to cluster (session_made cluster cert made))
-    (λ due is made.
-    is
+    (λ due owned made.
+    owned (λ x y h. h)
+    ∙ c.in_ok-due.ensures
     ∙ (λ i. due_by_spans (spans_are i) (stream_is i) opened.nsp.now opened.low c.greatest_high-high.result)
     ∙ due_so cluster cert made c.due_by_spans_of_turns.ensures opened.sid.now opened.nsp.now opened.low c.greatest_high-high.result
     (ap opened_in (sym turns_are) ∙ c.in-Some.ensures) (c.greatest_high-high.ensures ∙ ap greatest_turn_high turns_are))
-    c.due_of.ensures
+    c.into_owned.ensures.items_if_clones_equal

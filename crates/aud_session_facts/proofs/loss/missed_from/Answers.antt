@@ -24,11 +24,10 @@ returns c =
     let turns_are : c.as_slice-turns.result.now ≡ cert.turns = c.as_slice-turns.ensures.value ∙ ap (λ (x : CertificateSeen). x.turns) c.cert.view_is in
     let pid_is : c.as_str-pid.result.now ≡ cert.pid = c.as_str-pid.ensures.value ∙ ap (λ (x : CertificateSeen). x.pid) c.cert.view_is in
     let after = c.unwrap_or-after.result in
-    IfOk-weaker c.due_of.result
-    (λ due. due.items ≡ due_by_spans c.deref.result.now c.stream.result.now opened.nsp.now after c.args.cursor)
+    IfOk-weaker c.into_owned.result _
     (λ missed. IsMissedFrom cluster cert.pid c.args.last c.args.cursor missed.items)
-    (λ due is.
-    missed_so cluster cert c.requires (c.made_is_over.ensures.turns cluster cert.pid cert c.named_once.ensures c.requires) logs c.logs-logs.ensures c.as_slice-turns.result.now turns_are c.as_str-pid.result.now pid_is opened.sid.now opened.nsp.now opened.low c.in-Some.ensures c.args.last c.args.cursor after spans due.items
+    (λ missed owned.
+    missed_so cluster cert c.requires (c.made_is_over.ensures.turns cluster cert.pid cert c.named_once.ensures c.requires) logs c.logs-logs.ensures c.as_slice-turns.result.now turns_are c.as_str-pid.result.now pid_is opened.sid.now opened.nsp.now opened.low c.in-Some.ensures c.args.last c.args.cursor after spans missed.items
     (grind (arith, c.unwrap_or-after.ensures)) c.in_ok-spans.ensures
-    (is ∙ ap (λ ss. due_by_spans ss c.stream.result.now opened.nsp.now after c.args.cursor) c.deref.ensures.value ∙ ap (λ es. due_by_spans spans es opened.nsp.now after c.args.cursor) c.stream.ensures))
-    c.due_of.ensures
+    (owned (λ x y h. h) ∙ c.in_ok-due.ensures ∙ ap (λ ss. due_by_spans ss c.stream.result.now opened.nsp.now after c.args.cursor) c.deref.ensures.value ∙ ap (λ es. due_by_spans spans es opened.nsp.now after c.args.cursor) c.stream.ensures))
+    c.into_owned.ensures.items_if_clones_equal
