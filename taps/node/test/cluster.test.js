@@ -36,7 +36,7 @@ async function cluster(t, { nodes = ["a", "b"], redact, adapter = {}, middleware
   }
   made.errors = [];
   made.event = (word, rooms = ["r"], nsp = "/", except = []) => made.publish({ nsp, data: { packet: { type: 2, data: ["hi", word], nsp }, opts: { rooms, except } } });
-  // until all nodes have begun to read: they are given nothing that is added between two reads before that
+  // until all nodes have read an entry
   made.heartbeat = () =>
     until(async () => {
       await made.publish({ type: "2" });

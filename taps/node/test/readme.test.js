@@ -87,8 +87,8 @@ test("the first bundle by a proxy of docs/TAPPING.md", { skip: noProgram }, asyn
   const nodes = await cluster(t, "docs/TAPPING.md", path.join(dir, "taps"));
   const started = begin.replace("127.0.0.1:8080", "127.0.0.1:0").replaceAll(/http:\/\/127\.0\.0\.1:300\d/g, nodes.url.replace("ws", "http"));
   const script = `${started}\nread\nkill %1; wait\necho ended\nread\n${end}`;
-  const shell = spawn("bash", ["-c", script], { cwd: dir, env: { ...process.env, PATH: `${dir}/bin:${process.env.PATH}` }, stdio: ["pipe", "pipe", "ignore"] });
-  t.after(() => shell.kill("SIGKILL"));
+  const shell = spawn("bash", ["-c", script], { cwd: dir, env: { ...process.env, PATH: `${dir}/bin:${process.env.PATH}` }, stdio: ["pipe", "pipe", "ignore"], detached: true });
+  t.after(() => shell.exitCode ?? process.kill(-shell.pid, "SIGKILL")); // with what it started
   const lines = readline.createInterface({ input: shell.stdout })[Symbol.asyncIterator]();
   const next = async () => (await lines.next()).value;
   const [, address] = /^listening on http:(.*)$/.exec(await next());

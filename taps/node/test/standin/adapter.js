@@ -119,10 +119,11 @@ function publish(redis, key, { uid = "emitter", nsp = "/", type = "3", data }) {
 // `reads` is awaited before each read: a test says so when the node may begin, or go on
 function createAdapter(redis, { streamName, reads = () => undefined }) {
   const adapters = new Map();
-  let last = "$";
   let polling = false;
   async function poll() {
     await reads();
+    // with "$" for it a node would miss what is added between two reads before its first entry
+    let last = (await redis.xRevRange(streamName, "+", "-", { COUNT: 1 }))[0]?.id ?? "0-0";
     const reader = redis.duplicate();
     reader.on("error", () => {}); // told by the reads that fail
     await reader.connect();
