@@ -1,5 +1,5 @@
 -- Whether some entry of a stream is recoverable, one entry after the other.
-use Rattle.std.proofs.Common.{◌≡◌, ◌<◌, ◌+◌, ◌∙◌, ◌||◌, ℕ, List, [], ◌∷◌, Bool, true, false, length, take, sym, ap, add-one, arith}
+use Rattle.std.proofs.Common.{◌≡◌, ◌<◌, ◌+◌, ◌∙◌, ◌||◌, ℕ, List, [], ◌∷◌, true, length, take, sym, ap, add-one, arith}
 use Rattle.std.specs.List.{list_any}
 use Rattle.std.proofs.lemmas.List.Folds.{list_any_more, list_any_at}
 use Rattle.std.proofs.lemmas.Option.{slice_get-get_or}

@@ -1,5 +1,5 @@
 -- A connection's records that went into the stays, with one more at the end.
-use Rattle.std.proofs.Common.{◌≡◌, ◌+◌, ℕ, List, [], ◌∷◌, ◌++◌, length, map, sym, ap, ◌∙◌, subst, None}
+use Rattle.std.proofs.Common.{◌≡◌, ◌+◌, ℕ, List, [], ◌∷◌, ◌++◌, length, map, ap, ◌∙◌, subst, None}
 use Rattle.aud_tap.specs.declared.records.StreamRec.{StreamRec}
 use Rattle.aud_tap.specs.declared.records.ClientRec.{ClientRec}
 use Rattle.aud_sio.specs.Message.{at}
@@ -7,7 +7,7 @@ use Rattle.aud_client.specs.TapPackets.{numbered_records, packets_at}
 use Rattle.aud_client.specs.Seen.{placed_seen}
 use Rattle.aud_client.specs.StaySeen.{StaySeen, stay_of}
 use Rattle.aud_client.specs.Stays.{stays}
-use Rattle.aud_client.specs.PlacedStays.{PlacedPacket, forgotten, placed_stays}
+use Rattle.aud_client.specs.PlacedStays.{forgotten, placed_stays}
 use Rattle.aud_client.specs.StayPlaces.{PlacesSeen, places_of, places_in}
 use Rattle.aud_client.specs.Received.{stays_of}
 use Rattle.aud_client.specs.declared.connection.Placed.{Placed}

@@ -1,6 +1,6 @@
 -- Runs of lines one after the other, and the lines of records that are named by them.
 use Rattle.std.proofs.Common.{◌≡◌, ℕ, zero, suc, ◌+◌, ◌-◌, ◌<◌, ◌≤◌, ◌^◌, min, List, [], ◌∷◌, ◌++◌, length, map, take, get_or, nat_lt, true, inl, inr, Option, Some, None, option_map, is_some, slice_get, refl, sym, ap, ◌∙◌, arith, append_assoc}
-use Rattle.std.specs.List.{All, flat_map}
+use Rattle.std.specs.List.{All}
 use Rattle.std.specs.Option.{option_and_then}
 use Rattle.std.proofs.lemmas.Bool.{cases_Bool, le-ltb, ltb-false, ltb-true}
 use Rattle.std.proofs.lemmas.List.{map-append, take_more}
@@ -9,8 +9,8 @@ use Rattle.std.proofs.lemmas.Option.{none-some, slice_get-map}
 use Rattle.aud_base.specs.Lists.{numbers_from}
 use Rattle.aud_base.proofs.Numbers.{numbers_from-suc}
 use Rattle.aud_input.specs.declared.line_runs.LineRun.{LineRun}
-use Rattle.aud_input.specs.TapLines.{TapLines, kept_line}
-use Rattle.aud_input.specs.LineRuns.{AreKnown, NamesLines, capped, from_known, kept_number, line_in, lines_of_run, lines_of_runs, numbers_named, tap_named, taps_named}
+use Rattle.aud_input.specs.TapLines.{TapLines}
+use Rattle.aud_input.specs.LineRuns.{NamesLines, capped, from_known, kept_number, line_in, lines_of_run, lines_of_runs, numbers_named, tap_named, taps_named}
 
 -- ---- runs one after the other
 

@@ -1,5 +1,5 @@
 -- The name that a line begins with stands in the line's front.
-use Rattle.std.proofs.Common.{◌≡◌, ℕ, zero, suc, ◌+◌, ◌<◌, ◌≤◌, ◌==◌, nat_lt, nat_le, List, [], ◌∷◌, ◌++◌, length, take, Bool, true, false, cond, not, ◌⊎◌, inl, inr, Option, None, refl, sym, ap, ◌∙◌, arith, ◌&&◌}
+use Rattle.std.proofs.Common.{◌≡◌, ℕ, zero, suc, ◌+◌, ◌<◌, ◌≤◌, ◌==◌, nat_lt, nat_le, List, [], ◌∷◌, length, take, Bool, true, false, cond, not, ◌⊎◌, inl, inr, Option, None, refl, sym, ap, ◌∙◌, arith, ◌&&◌}
 use Rattle.std.specs.List.{prefix_len, list_all}
 use Rattle.std.proofs.lemmas.Bool.{cases_Bool, cases_lt, ltb-true, lt-ltb, leb-true}
 use Rattle.std.proofs.Math.ListN.{length-take}

@@ -22,7 +22,7 @@ use Rattle.aud_input.specs.Input.{bundle_in, certificates_in, input_of, is_certi
 use Rattle.aud_input.specs.LineName.{name_of}
 use Rattle.aud_input.specs.Reader.{HasLines, Holds, InputSoFar, IsIn, line_numbered}
 use Rattle.aud_input.specs.TapLines as tap
-use Rattle.aud_input.specs.TapLines.{NamedLine, first_kept, first_like, named_at, named_from, named_in, no_lines, noted, numbers_of, tap_lines_of, taps_noted, with_lines}
+use Rattle.aud_input.specs.TapLines.{NamedLine, first_kept, first_like, named_at, named_from, named_in, numbers_of, tap_lines_of, taps_noted, with_lines}
 use Rattle.aud_input.proofs.GivenLemmas.{at-front, line-stands}
 use Rattle.aud_input.proofs.KeptLemmas.{first-of, numbers-cons}
 use Rattle.aud_input.proofs.ReturnLemmas.{name-without_return}

@@ -1,5 +1,5 @@
 -- From which lines of an input the lines of a part of it come.
-use Rattle.std.specs.Prelude.{◌≡◌, ℕ, zero, suc, ◌+◌, ◌-◌, ◌^◌, min, nat_lt, Bool, true, List, [], ◌∷◌, length, map, slice_get, sum_by, Option, Some, None, is_some, if◌then◌else◌}
+use Rattle.std.specs.Prelude.{◌≡◌, ℕ, zero, suc, ◌+◌, ◌-◌, ◌^◌, min, nat_lt, true, List, [], ◌∷◌, map, slice_get, sum_by, Option, Some, None, is_some, if◌then◌else◌}
 use Rattle.std.specs.List.{All, flat_map}
 use Rattle.std.specs.Option.{option_and_then}
 use Rattle.aud_base.specs.Lists.{numbers_from}

@@ -2,7 +2,7 @@
 use Rattle.std.proofs.Common.{◌≡◌, ℕ, ◌-◌, ◌<◌, List, [], ◌∷◌, length, Some, None, option_map, refl, ap, ◌∙◌}
 use Rattle.json.specs.Token.{Token}
 use Rattle.json.specs.Json as json
-use Rattle.json.specs.Json.{Parse, after_end_array, read_key, items, members, value, if_last}
+use Rattle.json.specs.Json.{Parse, after_end_array, read_key, items, members, value}
 use Rattle.json.proofs.Grammar.{value_is, value-begin_array, value-begin_object, left_some, left-parse_map}
 use Rattle.serde_json.specs.Data.{Data, array, object, Members, put}
 use Rattle.serde_json.specs.Read.{number_of, of_json, of_items, of_members, converted}

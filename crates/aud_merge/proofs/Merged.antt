@@ -10,7 +10,7 @@ use Rattle.aud_merge.specs.declared.step.Step.{Step}
 use Rattle.aud_merge.specs.Machine.{State, start, after, taken_of}
 use Rattle.aud_merge.specs.Runs.{record_count, AreAllowed, IsRun}
 use Rattle.aud_merge.specs.Private.RunsOn.{IsFinished, RunsOn}
-use Rattle.aud_merge.proofs.Steps.{Stepped, stepped, steps_of, taken-start, RunsOn-run}
+use Rattle.aud_merge.proofs.Steps.{stepped, steps_of, taken-start, RunsOn-run}
 
 -- the steps of the rest of a run are allowed
 allowed_on : (c : Cluster) (st : State) (steps : List Step) → RunsOn c st steps → AreAllowed c st steps

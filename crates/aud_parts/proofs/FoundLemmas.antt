@@ -1,5 +1,5 @@
 -- The records that are found are those that the part's come from.
-use Rattle.std.proofs.Common.{◌≡◌, ◌<◌, ◌≤◌, ◌+◌, ℕ, zero, suc, Bool, true, false, not, cond, if◌then◌else◌, ◌&&◌, List, [], ◌∷◌, ◌++◌, length, map, drop, filter, flat_map, Option, Some, None, option_map, is_some, slice_get, slice_index, nat_eq, nat_lt, refl, sym, ap, ◌∙◌, subst, arith, true≢false}
+use Rattle.std.proofs.Common.{◌≡◌, ◌<◌, ◌≤◌, ◌+◌, ℕ, zero, suc, Bool, true, false, not, cond, if◌then◌else◌, ◌&&◌, List, [], ◌∷◌, ◌++◌, length, map, drop, filter, flat_map, Option, Some, None, is_some, slice_get, slice_index, nat_lt, refl, sym, ap, ◌∙◌, subst, arith, true≢false}
 use Rattle.std.specs.List.{AllByRecursion}
 use Rattle.std.specs.Str.{bytes_eq}
 use Rattle.std.specs.Option.{option_map_or}
@@ -7,7 +7,6 @@ use Rattle.std.proofs.lemmas.Bool.{eqb-true, ltb-true}
 use Rattle.std.proofs.lemmas.List.{length-map}
 use Rattle.std.proofs.lemmas.Option.{same_Some, none-some, slice_get_past}
 use Rattle.aud_base.specs.Lists.{numbers_from}
-use Rattle.aud_base.specs.Places.{places_where}
 use Rattle.aud_base.proofs.Lists.{element_at, drop_at}
 use Rattle.aud_base.proofs.SameText.{itself_text, same_text}
 use Rattle.aud_tap.specs.declared.records.StreamRec.{StreamRec}
@@ -16,7 +15,6 @@ use Rattle.aud_tap.specs.declared.records.NodeRec.TheVariants.{Start, Take, Take
 use Rattle.aud_tap.specs.RecordFields.{pid_of}
 use Rattle.aud_node.specs.Stream.{Text, position}
 use Rattle.aud_node.specs.Cursors.{cursor_at, cursor_past, is_position, later_cursor, next_cursor, position_if_past, position_or}
-use Rattle.aud_node.specs.Ordered.{is_in_order}
 use Rattle.aud_upgrade.specs.declared.joins.Joins.TheVariants.{TakeAndTakes}
 use Rattle.aud_upgrade.specs.Upgraded.{takes_next, takes_after, took_next, joined, upgraded_at, upgraded_log}
 use Rattle.aud_parts.specs.LeftOut.{keeps_record, keeps_pid}

@@ -1,5 +1,5 @@
 -- What an index keeps of the files that were read so far, step by step.
-use Rattle.std.proofs.Common.{◌≡◌, ℕ, zero, suc, ◌+◌, ◌-◌, ◌<◌, ◌≤◌, ◌==◌, ◌&&◌, ◌^◌, nat_lt, List, [], ◌∷◌, ◌++◌, length, take, true, false, cond, min, Option, Some, None, is_some, is_ok, Result, Ok, Err, OnOk, nat_eq, slice_get, refl, sym, ap, ◌∙◌, subst, arith, append_assoc, append-nil, length-append, slice_index}
+use Rattle.std.proofs.Common.{◌≡◌, ℕ, zero, suc, ◌+◌, ◌-◌, ◌<◌, ◌==◌, ◌&&◌, ◌^◌, nat_lt, List, [], ◌∷◌, ◌++◌, length, take, true, false, cond, min, Some, is_ok, Result, Ok, Err, OnOk, nat_eq, slice_get, refl, sym, ap, ◌∙◌, subst, arith, append_assoc, append-nil, length-append, slice_index}
 use Rattle.std.specs.List.{flat_map}
 use Rattle.std.proofs.lemmas.Bool.{lt-ltb}
 use Rattle.std.proofs.lemmas.List.{get_or-append-add}
@@ -8,7 +8,7 @@ use Rattle.aud_reader.specs.Lines.{has_newline, line_pieces}
 use Rattle.aud_reader.proofs.LinesLemmas.{has_newline-append, pieces_of-last}
 use Rattle.aud_parts.specs.declared.tap_index.Begun.{Begun}
 use Rattle.aud_parts.specs.declared.tap_index.TapIndex.{TapIndex}
-use Rattle.aud_parts.specs.IndexSoFar.{Indexed, IsBegun, IsCounted, PlacedLine, ReadSoFar, all_ended, byte_count, ends_in_return, line_count, none_indexed, placed_files, placed_lines, so_far, with_line, with_lines}
+use Rattle.aud_parts.specs.IndexSoFar.{IsBegun, IsCounted, ReadSoFar, all_ended, byte_count, ends_in_return, line_count, none_indexed, placed_files, placed_lines, so_far, with_line, with_lines}
 use Rattle.aud_parts.specs.Private.IndexSteps.{HasEnded, HasEndedLast, HasFed, MayEnd, begun_line}
 use Rattle.aud_parts.proofs.PieceLemmas.{all_ended-push, bytes-push, count-few, count-push, lines-few, pieces-ended, whole-push}
 use Rattle.aud_parts.proofs.FileRunLemmas.{placed-append, with_lines-append}

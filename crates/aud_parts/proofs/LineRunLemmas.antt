@@ -1,14 +1,14 @@
 -- The runs of each tap have the lines that begin with its name: one line more.
-use Rattle.std.proofs.Common.{◌≡◌, ℕ, zero, suc, ◌+◌, ◌<◌, ◌≤◌, nat_lt, List, [], ◌∷◌, ◌++◌, length, map, get_or, Bool, true, false, cond, ◌⊎◌, inl, inr, Option, Some, None, is_some, slice_get, bytes_eq, refl, sym, ap, ◌∙◌, subst, arith, append_assoc, append-nil, length-append}
-use Rattle.std.specs.List.{AllByRecursion, cons_option, filter, filter_map, flat_map}
-use Rattle.std.specs.Option.{option_and_then, option_map, option_map_or}
+use Rattle.std.proofs.Common.{◌≡◌, ℕ, zero, suc, ◌+◌, ◌≤◌, List, [], ◌∷◌, ◌++◌, length, map, get_or, Bool, true, false, cond, ◌⊎◌, inl, inr, Option, Some, None, is_some, slice_get, bytes_eq, refl, sym, ap, ◌∙◌, subst, arith, append_assoc, append-nil, length-append}
+use Rattle.std.specs.List.{AllByRecursion, cons_option, filter_map}
+use Rattle.std.specs.Option.{option_map, option_map_or}
 use Rattle.std.proofs.lemmas.Bool.{cases_Bool}
-use Rattle.std.proofs.lemmas.List.{flat_map_more, get_or_at}
+use Rattle.std.proofs.lemmas.List.{flat_map_more}
 use Rattle.std.proofs.lemmas.List.Elements.{filter-append, filter_map-append}
-use Rattle.std.proofs.lemmas.Option.{none-some, same_Some, slice_get-get_or}
+use Rattle.std.proofs.lemmas.Option.{none-some, same_Some}
 use Rattle.aud_base.specs.FirstTexts.{with_text, with_texts}
 use Rattle.aud_base.specs.Lists.{between}
-use Rattle.aud_base.proofs.FirstTexts.{first-texts, with_texts-append}
+use Rattle.aud_base.proofs.FirstTexts.{with_texts-append}
 use Rattle.aud_base.proofs.SameText.{same_text}
 use Rattle.aud_node.specs.Lists.{is_empty}
 use Rattle.aud_reader.specs.declared.fault.InputCode.{InputCode}
@@ -22,10 +22,10 @@ use Rattle.aud_input.specs.LineName.{name_of}
 use Rattle.aud_input.proofs.ReturnLemmas.{name-without_return}
 use Rattle.aud_parts.specs.declared.tap_index.tap_runs.Run.{Run}
 use Rattle.aud_parts.specs.TapRuns.{BeginsWithBytes, TapRuns, line_with_bytes, lines_with_bytes, run_bytes, run_lines, runs_lines}
-use Rattle.aud_parts.specs.FileLines.{AreTapsOf, before_refusal, file_lines, front_code, front_refusal, is_named, lines_named, names_of, refused_or}
-use Rattle.aud_parts.specs.IndexSoFar.{AreOnce, Indexed, Noted, PlacedLine, all_ended, longer, noted, none_indexed, place_in, placed_files, placed_lines, refused, run_of, with_bytes, with_line, with_lines, with_name}
-use Rattle.aud_parts.proofs.NotedLemmas.{GoesOn, Grows, grows, last_of, last_of-push, last_run, longer-is, runs_by, runs_by-at}
-use Rattle.aud_parts.proofs.PieceLemmas.{AreWhole, Cut, all_ended-push, between-middle, cut-text, lines-append, lines-one, pieces-ended, whole-push}
+use Rattle.aud_parts.specs.FileLines.{before_refusal, front_code, front_refusal, is_named, lines_named, refused_or}
+use Rattle.aud_parts.specs.IndexSoFar.{AreOnce, Indexed, Noted, PlacedLine, all_ended, longer, noted, refused, run_of, with_bytes, with_line, with_name}
+use Rattle.aud_parts.proofs.NotedLemmas.{GoesOn, Grows, grows, last_of, last_of-push, last_run, longer-is, runs_by}
+use Rattle.aud_parts.proofs.PieceLemmas.{AreWhole, all_ended-push, between-middle, lines-append, lines-one, pieces-ended, whole-push}
 use Rattle.aud_parts.proofs.RefusalLemmas.{before-none, refusal-after, refusal-none}
 
 -- the name of a line

@@ -11,7 +11,7 @@ use Rattle.aud_parts.specs.declared.tap_index.TapIndex.{TapIndex}
 use Rattle.aud_parts.specs.declared.tap_index.tap_runs.Run.{Run}
 use Rattle.aud_parts.specs.declared.tap_index.tap_runs.RunsByTap.{RunsByTap}
 use Rattle.aud_parts.specs.TapRuns.{TapRuns}
-use Rattle.aud_parts.specs.IndexSoFar.{AreOnce, Indexed, KeepsPlaces, Noted, Notes, PlacedLine, changed, noted, noted_at, noted_in, place_in, refused, run_of, so_far, with_bytes, with_line, with_name, with_run}
+use Rattle.aud_parts.specs.IndexSoFar.{AreOnce, Indexed, KeepsPlaces, Notes, changed, noted, noted_at, noted_in, place_in, refused, run_of, so_far, with_bytes, with_line, with_name, with_run}
 use Rattle.aud_parts.specs.Private.IndexSteps.{Looks, placed_at}
 use Rattle.aud_parts.proofs.NotedLemmas.{once-changed, once-push, place-changed, places-push}
 

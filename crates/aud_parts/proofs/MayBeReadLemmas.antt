@@ -1,15 +1,14 @@
 -- The taps of an index may be read again.
-use Rattle.std.proofs.Common.{◌≡◌, ℕ, zero, suc, ◌+◌, ◌^◌, ◌<◌, ◌≤◌, nat_lt, List, [], ◌∷◌, ◌++◌, length, get_or, Bool, true, false, cond, Option, Some, None, is_some, refl, sym, ap, ◌∙◌, subst, arith}
-use Rattle.std.specs.List.{All, AllByRecursion, filter, flat_map}
+use Rattle.std.proofs.Common.{◌≡◌, ℕ, zero, suc, ◌+◌, ◌^◌, ◌<◌, ◌≤◌, nat_lt, List, [], ◌∷◌, ◌++◌, length, get_or, Bool, true, false, cond, Some, None, is_some, refl, sym, subst, arith}
+use Rattle.std.specs.List.{All, AllByRecursion, filter}
 use Rattle.std.proofs.lemmas.Bool.{ltb-false}
 use Rattle.aud_tap.specs.Limits.{max_line}
-use Rattle.aud_reader.specs.declared.fault.InputCode.{InputCode}
 use Rattle.aud_reader.specs.declared.fault.InputCode.TheVariants.{LineTooLong, NoTapName}
 use Rattle.aud_reader.specs.declared.line.Line.{Line}
 use Rattle.aud_input.specs.LineName.{name_of}
 use Rattle.aud_parts.specs.declared.tap_index.tap_runs.Run.{Run}
-use Rattle.aud_parts.specs.TapRuns.{BeginsWithBytes, IsReadable, MayBeRead, TapRuns, run_bytes, run_lines, runs_lines}
-use Rattle.aud_parts.specs.FileLines.{AreTapsOf, before_refusal, file_lines, front_code, is_named, lines_named}
+use Rattle.aud_parts.specs.TapRuns.{IsReadable, MayBeRead, TapRuns, run_lines, runs_lines}
+use Rattle.aud_parts.specs.FileLines.{before_refusal, file_lines, front_code, is_named}
 use Rattle.aud_parts.specs.IndexSoFar.{byte_count, none_indexed, placed_files, with_lines}
 use Rattle.aud_parts.proofs.FileRunLemmas.{are-taps, begun-taps}
 use Rattle.aud_parts.proofs.RunStartLemmas.{StartsIn, counted-run, starts}

@@ -1,5 +1,5 @@
 -- The taps of an index, with one line more.
-use Rattle.std.proofs.Common.{◌≡◌, ℕ, zero, suc, ◌+◌, ◌<◌, ◌==◌, ◌&&◌, List, [], ◌∷◌, ◌++◌, length, map, set, Bool, true, false, true≢false, cond, ◌⊎◌, inl, inr, Option, Some, None, option_map, is_some, slice_get, bytes_eq, refl, sym, ap, ◌∙◌, subst, arith, ◌||◌}
+use Rattle.std.proofs.Common.{◌≡◌, ℕ, zero, suc, ◌+◌, ◌==◌, ◌&&◌, List, [], ◌∷◌, ◌++◌, length, map, set, Bool, true, false, cond, ◌⊎◌, inl, inr, Option, Some, None, option_map, is_some, slice_get, bytes_eq, refl, sym, ap, ◌∙◌, subst, arith, ◌||◌}
 use Rattle.std.specs.List.{list_any}
 use Rattle.std.specs.Option.{option_and_then}
 use Rattle.std.proofs.lemmas.Bool.{and_parts, eqb-true, false≢true}
@@ -7,9 +7,9 @@ use Rattle.std.proofs.lemmas.List.{map-append}
 use Rattle.std.proofs.lemmas.Option.{none-some, same_Some}
 use Rattle.std.specs.Cmp.Lexicographic.{nat_list_eq_equiv}
 use Rattle.aud_base.specs.FirstTexts.{with_text}
-use Rattle.aud_base.specs.Places.{is_place, with_place, noted as place_noted}
+use Rattle.aud_base.specs.Places.{with_place, noted as place_noted}
 use Rattle.aud_base.proofs.Lists.{after_these}
-use Rattle.aud_base.proofs.SameText.{same_text, itself_text, other_text}
+use Rattle.aud_base.proofs.SameText.{same_text, itself_text}
 use Rattle.aud_tap.specs.Names.{first_index}
 use Rattle.aud_parts.specs.declared.tap_index.tap_runs.Run.{Run}
 use Rattle.aud_parts.specs.TapRuns.{TapRuns}

@@ -1,11 +1,11 @@
 -- Lines that are ended, one after the other, and the lines with bytes among them.
-use Rattle.std.proofs.Common.{◌≡◌, ℕ, suc, ◌+◌, ◌-◌, ◌<◌, ◌≤◌, ◌==◌, ◌||◌, List, [], ◌∷◌, ◌++◌, length, take, drop, Bool, true, false, cond, refl, sym, ap, ◌∙◌, arith, append_assoc, append-nil, length-append}
+use Rattle.std.proofs.Common.{◌≡◌, ℕ, suc, ◌+◌, ◌-◌, ◌≤◌, ◌==◌, ◌||◌, List, [], ◌∷◌, ◌++◌, length, take, Bool, true, false, cond, refl, sym, ap, ◌∙◌, arith, append_assoc, append-nil, length-append}
 use Rattle.std.specs.List.{AllByRecursion, flat_map}
 use Rattle.std.proofs.lemmas.Bool.{eqb-true}
 use Rattle.std.proofs.lemmas.List.{drop_at, take_at, flat_map_more}
 use Rattle.aud_base.specs.Lists.{between}
 use Rattle.aud_reader.specs.Lines.{has_newline, line_pieces, onto_first}
-use Rattle.aud_reader.proofs.LinesLemmas.{pieces_of-line, pieces_of-last}
+use Rattle.aud_reader.proofs.LinesLemmas.{pieces_of-line}
 use Rattle.aud_parts.specs.TapRuns.{line_with_bytes, lines_with_bytes}
 use Rattle.aud_parts.specs.IndexSoFar.{all_ended, byte_count, line_count}
 

@@ -1,6 +1,6 @@
 -- The lines of runs, read piece after piece.
-use Rattle.std.proofs.Common.{◌≡◌, ℕ, suc, ◌+◌, ◌-◌, ◌^◌, ◌<◌, ◌≤◌, ◌==◌, ◌&&◌, ◌||◌, ◌⊎◌, inl, inr, nat_lt, nat_le, List, [], ◌∷◌, ◌++◌, length, take, drop, get_or, slice_get, slice_index, Bool, true, false, cond, Option, Some, None, Result, Ok, Err, OnOk, refl, sym, ap, ◌∙◌, subst, arith, append_assoc, append-nil, length-append}
-use Rattle.std.specs.List.{AllByRecursion, flat_map}
+use Rattle.std.proofs.Common.{◌≡◌, ℕ, suc, ◌+◌, ◌-◌, ◌^◌, ◌<◌, ◌≤◌, ◌==◌, ◌&&◌, ◌||◌, ◌⊎◌, inl, inr, nat_lt, nat_le, List, [], ◌∷◌, ◌++◌, length, take, drop, get_or, slice_get, slice_index, Bool, true, false, cond, Option, Some, Result, Ok, Err, OnOk, refl, sym, ap, ◌∙◌, subst, arith, append_assoc, append-nil, length-append}
+use Rattle.std.specs.List.{AllByRecursion}
 use Rattle.std.specs.Option.{option_map}
 use Rattle.std.proofs.lemmas.Bool.{both_ways, cases_Bool, eqb-false, eqb-true, leb-false}
 use Rattle.std.proofs.lemmas.Option.{same_Some}
@@ -10,7 +10,7 @@ use Rattle.std.proofs.Math.Seq.{take-add}
 use Rattle.aud_tap.specs.Limits.{max_line}
 use Rattle.aud_node.specs.Lists.{is_empty}
 use Rattle.aud_reader.specs.declared.line.Line.{Line}
-use Rattle.aud_reader.specs.Lines.{has_newline, line_pieces, onto_first, without_return}
+use Rattle.aud_reader.specs.Lines.{has_newline, line_pieces, without_return}
 use Rattle.aud_reader.proofs.LinesLemmas.{pieces_of-first, pieces_of-last, pieces_of-line}
 use Rattle.aud_parts.specs.declared.tap_index.tap_runs.Run.{Run}
 use Rattle.aud_parts.specs.TapRuns.{BeginsWithBytes, IsReadable, line_with_bytes, lines_with_bytes, run_bytes, run_lines, runs_lines}

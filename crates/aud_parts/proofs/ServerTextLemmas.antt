@@ -1,11 +1,11 @@
 -- Where the lines of each tap stand in the text of all.
-use Rattle.std.proofs.Common.{◌≡◌, ◌<◌, ◌≤◌, ◌+◌, ◌-◌, ◌==◌, ◌||◌, ℕ, zero, suc, Bool, true, false, List, [], ◌∷◌, ◌++◌, length, map, take, drop, get_or, Some, slice_get, unwrap_or, refl, sym, ap, ◌∙◌, subst, arith, true≢false, append_assoc, append-nil, length-append, length-drop}
-use Rattle.std.specs.List.{All, AllByRecursion, flat_map, list_all}
+use Rattle.std.proofs.Common.{◌≡◌, ◌<◌, ◌≤◌, ◌+◌, ◌-◌, ◌==◌, ◌||◌, ℕ, zero, suc, Bool, true, false, List, [], ◌∷◌, ◌++◌, length, map, take, drop, get_or, Some, slice_get, unwrap_or, refl, sym, ap, ◌∙◌, arith, true≢false, append_assoc, append-nil, length-append, length-drop}
+use Rattle.std.specs.List.{AllByRecursion, list_all}
 use Rattle.std.proofs.lemmas.Bool.{and_parts, or_parts}
 use Rattle.std.proofs.lemmas.Bool.Decides.{nat_tests}
 use Rattle.std.proofs.lemmas.Grind.{flat_map-append}
-use Rattle.std.proofs.lemmas.List.{drop-drop, length-map, take_more, map-append, take_at, drop_at as drop_front}
-use Rattle.std.proofs.lemmas.Option.{same_Some, none-some, slice_get-get_or}
+use Rattle.std.proofs.lemmas.List.{drop-drop, take_more, map-append, take_at, drop_at as drop_front}
+use Rattle.std.proofs.lemmas.Option.{same_Some, none-some}
 use Rattle.aud_base.specs.Lists.{between}
 use Rattle.aud_base.proofs.Lists.{drop_at, element_at}
 use Rattle.aud_tap.specs.declared.records.Rec.{Rec}
@@ -15,12 +15,11 @@ use Rattle.aud_tap.specs.Limits.{fits, max_name}
 use Rattle.aud_reader.specs.Lines.{has_newline}
 use Rattle.aud_reader.proofs.LinesLemmas.{has_newline-append}
 use Rattle.aud_reader.specs.OwnLines.{recs_in, recs_of}
-use Rattle.aud_reader.specs.declared.fault.ReadFault.{ReadFault}
 use Rattle.aud_writer.specs.Written.{line_text, record_data}
 use Rattle.aud_writer.specs.WrittenBundle.{ended, line_texts, named, named_recs, recs_of_taps}
 use Rattle.aud_writer.proofs.Newlines.{compact-line}
 use Rattle.aud_parts.specs.declared.part.server_text.PlacedTap.{PlacedTap}
-use Rattle.aud_parts.specs.ServerTexts.{AreNamed, TapText, tap_text}
+use Rattle.aud_parts.specs.ServerTexts.{TapText, tap_text}
 use Rattle.aud_parts.specs.Private.PlacedTexts.{placed_text}
 
 -- ---- lines that are ended

@@ -1,5 +1,5 @@
 -- The text that says from which lines of a recording the lines of a part come.
-use Rattle.std.specs.Prelude.{ℕ, ◌+◌, ◌^◌, ◌==◌, ◌&&◌, nat_lt, nat_le, Bool, if◌then◌else◌, List, [], ◌∷◌, ◌++◌, map, codes, decimal, Option, Some, None, option_map, option_and_then, Result, Ok, Err}
+use Rattle.std.specs.Prelude.{ℕ, ◌+◌, ◌^◌, ◌==◌, ◌&&◌, nat_lt, nat_le, Bool, if◌then◌else◌, List, [], ◌∷◌, ◌++◌, codes, decimal, Option, Some, None, option_map, option_and_then, Result, Ok, Err}
 use Rattle.std.specs.List.{flat_map, list_all}
 use Rattle.aud_base.specs.Steps.{◌>>=◌, need, guard, GivesUnless}
 use Rattle.aud_input.specs.declared.line_runs.LineRun.{LineRun}

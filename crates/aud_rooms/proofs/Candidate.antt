@@ -1,7 +1,7 @@
 -- The positions that may be due by spans, and those that are.
 use Rattle.std.proofs.lemmas.Grind.{common_steps}
 use Rattle.std.proofs.lemmas.Bool.Decides.{nat_tests}
-use Rattle.std.proofs.Common.{◌≡◌, ◌-◌, ℕ, Bool, false, not, ◌&&◌, ◌||◌, List, [], ◌∷◌, ◌++◌, filter, length, min, max, Option, Some, None, refl, sym, ◌∙◌, arith, ◌==◌, nat_cmp, is_eq, bytes_eq}
+use Rattle.std.proofs.Common.{◌≡◌, ◌-◌, ℕ, Bool, true, false, not, ◌&&◌, ◌||◌, List, [], ◌∷◌, ◌++◌, filter, length, min, max, Option, Some, None, refl, sym, ◌∙◌, arith, ◌==◌, nat_cmp, is_eq, bytes_eq}
 use Rattle.std.specs.List.{list_any}
 use Rattle.std.specs.Cmp.Lexicographic.{slice_cmp}
 use Rattle.std.proofs.lemmas.Bool.{le-leb, lt-leb, and_right, le-ltb, lt-ltb}
@@ -17,10 +17,8 @@ use Rattle.aud_node.specs.Addressees.{is_to_all, is_to_room, is_excepting, posit
 use Rattle.aud_rooms.specs.Rooms.{is_for}
 use Rattle.aud_rooms.specs.Spans.{RoomSpan, is_within, rooms_by_spans, is_due_by_spans, due_by_spans}
 use Rattle.aud_rooms.specs.Private.Candidates.{is_past_upto, is_by, is_by_span, is_by_some, is_candidate, candidates}
-use Rattle.aud_rooms.specs.Private.Merge.{remove}
 use Rattle.aud_rooms.specs.declared.candidates.By.{By}
 use Rattle.aud_rooms.specs.declared.candidates.By.TheVariants.{Named, Excepted}
-use Rattle.aud_rooms.proofs.Merged.{remove-filter}
 use Rattle.aud_base.proofs.Truth.{and_none, or_none}
 use Rattle.aud_rooms.proofs.Parts.{filter_twice}
 use Rattle.aud_rooms.proofs.SpanRooms.{contains-rooms_by_spans}
@@ -103,11 +101,6 @@ module _ (spans : List RoomSpan) (p : ℕ) where
   any_both a b f g [] = grind arith
   any_both a b f g (s ∷ some) = grind (arith, any_both a b f g some)
 
-  -- one such test
-  any_one : (a : Bool) (f g : RoomSpan → Bool) (some : List RoomSpan) → list_any (λ s. f s && (a && g s)) some ≡ (a && list_any (λ s. f s && g s) some)
-  any_one a f g [] = grind arith
-  any_one a f g (s ∷ some) = grind (arith, any_one a f g some)
-
   -- a test beside one that no element passes
   any_never : (f g : RoomSpan → Bool) → ((s : RoomSpan) → g s ≡ false) → (some : List RoomSpan) → list_any (λ s. f s && g s) some ≡ false
   any_never f g never [] = refl
@@ -125,7 +118,7 @@ module _ (spans : List RoomSpan) (p : ℕ) where
       let named = any_agree _ _ (λ room. contains-rooms_by_spans spans p room) event.rooms ∙ held_any spans event.rooms in
       let excepted = any_agree _ _ (λ room. contains-rooms_by_spans spans p room) event.except ∙ held_any spans event.except in
       let r = is_recoverable (Ev event) in
-      grind (arith, none_empty event.rooms, named, excepted, any_both r (bytes_eq event.nsp nsp) (is_within p) (λ s. list_any (λ other. bytes_eq other s.room) event.rooms) spans, any_one r (is_within p) (λ s. list_any (λ other. bytes_eq other s.room) event.except) spans)
+      grind (arith, none_empty event.rooms, named, excepted, any_both r (bytes_eq event.nsp nsp) (is_within p) (λ s. list_any (λ other. bytes_eq other s.room) event.rooms) spans, any_both r true (is_within p) (λ s. list_any (λ other. bytes_eq other s.room) event.except) spans)
 
 module _ (spans : List RoomSpan) (stream : List StreamRec) (nsp : Text) (birth high : ℕ) where
   -- what is due is among them
@@ -133,7 +126,5 @@ module _ (spans : List RoomSpan) (stream : List StreamRec) (nsp : Text) (birth h
   due_alike p = grind (arith, for_some spans p (entry stream p) nsp)
 
   -- it is they without those whose entries except the room of a span that holds them
-  pub candidates_due : remove (filter (is_by_some Excepted spans stream nsp birth high) (positions_after 0 (length stream))) (candidates spans stream nsp birth high) ≡ due_by_spans spans stream nsp birth high
-  candidates_due =
-      remove-filter (is_by_some Excepted spans stream nsp birth high) (is_candidate spans stream nsp birth high) 1 (length stream)
-      ∙ filter_agree _ _ due_alike (positions_after 0 (length stream))
+  pub candidates_due : filter (λ p. is_candidate spans stream nsp birth high p && not (is_by_some Excepted spans stream nsp birth high p)) (positions_after 0 (length stream)) ≡ due_by_spans spans stream nsp birth high
+  candidates_due = filter_agree _ _ due_alike (positions_after 0 (length stream))

@@ -1,7 +1,10 @@
-//! Ascending numbers, merged, and those of one list that aren't in another.
-ghost use Rattle.std.specs.Prelude.{◌≡◌, ◌≤◌, IfOk, length, nat_le, position};
+//! Ascending numbers, merged, and those of one list that aren't in another. Of lists of the consecutive numbers that pass
+//! a test, these are those that pass either, and those that pass the one alone.
+ghost use Rattle.std.specs.Prelude.{◌≡◌, ◌≤◌, ◌&&◌, ◌||◌, ℕ, Bool, IfOk, length, nat_le, not, position};
+ghost use Rattle.std.specs.List.{filter};
 ghost use Rattle.std.specs.Cow.{cow_slice_items};
-ghost use Rattle.aud_rooms.specs.Private.Merge.{count_below as below, merge, remove, without_first as without};
+ghost use Rattle.aud_node.specs.Lists.{numbers_from};
+ghost use Rattle.aud_rooms.specs.Private.Merge.{count_below as below, without_first as without};
 
 use std::alloc::{AllocError, Global};
 use std::borrow::CowSlice;
@@ -12,8 +15,10 @@ pub(crate) fn merged<'s>(
     one: CowSlice<'s, u64, Global>,
     other: CowSlice<'s, u64, Global>,
 ) -> Result<CowSlice<'s, u64, Global>, AllocError>
-    ensures { IfOk result (λ all. cow_slice_items all
-        ≡ merge (cow_slice_items one.entry) (cow_slice_items other.entry)) }
+    ensures { IfOk result (λ all. (p q : ℕ → Bool) (first count : ℕ)
+        → cow_slice_items one.entry ≡ filter p (numbers_from first count)
+        → cow_slice_items other.entry ≡ filter q (numbers_from first count)
+        → cow_slice_items all ≡ filter (λ n. p n || q n) (numbers_from first count)) }
 {
     if one.len() == 0 {
         return Ok(other);
@@ -27,7 +32,10 @@ pub(crate) fn merged<'s>(
 
 /// The same of lists of which none is empty. Each number is looked at a few times at most.
 fn both(alloc: Global, one: &[u64], other: &[u64]) -> Result<Vec<u64>, AllocError>
-    ensures { IfOk result (λ all. all.items ≡ merge one.now other.now) }
+    ensures { IfOk result (λ all. (p q : ℕ → Bool) (first count : ℕ)
+        → one.now ≡ filter p (numbers_from first count)
+        → other.now ≡ filter q (numbers_from first count)
+        → all.items ≡ filter (λ n. p n || q n) (numbers_from first count)) }
 {
     let mut all = Vec::new(alloc);
     let mut rest = other;
@@ -48,8 +56,10 @@ pub(crate) fn removed<'s>(
     other: &[u64],
     one: CowSlice<'s, u64, Global>,
 ) -> Result<CowSlice<'s, u64, Global>, AllocError>
-    ensures { IfOk result (λ left. cow_slice_items left
-        ≡ remove other.now (cow_slice_items one.entry)) }
+    ensures { IfOk result (λ left. (p q : ℕ → Bool) (first count : ℕ)
+        → cow_slice_items one.entry ≡ filter p (numbers_from first count)
+        → other.now ≡ filter q (numbers_from first count)
+        → cow_slice_items left ≡ filter (λ n. p n && not (q n)) (numbers_from first count)) }
 {
     if other.is_empty() {
         return Ok(one);
@@ -60,7 +70,10 @@ pub(crate) fn removed<'s>(
 
 /// The same of lists. Each number is looked at a few times at most.
 fn left_of(alloc: Global, other: &[u64], one: &[u64]) -> Result<Vec<u64>, AllocError>
-    ensures { IfOk result (λ left. left.items ≡ remove other.now one.now) }
+    ensures { IfOk result (λ left. (p q : ℕ → Bool) (first count : ℕ)
+        → one.now ≡ filter p (numbers_from first count)
+        → other.now ≡ filter q (numbers_from first count)
+        → left.items ≡ filter (λ n. p n && not (q n)) (numbers_from first count)) }
 {
     let mut left = Vec::new(alloc);
     let mut rest = one;

@@ -1,5 +1,5 @@
 -- Where something does not fit, there is no chain.
-use Rattle.std.proofs.Common.{◌≡◌, ◌<◌, ◌≤◌, ◌+◌, ◌-◌, ℕ, zero, suc, true, false, Bool, List, [], ◌∷◌, length, drop, Option, Some, None, slice_get, refl, sym, ap, subst, ◌∙◌, ◌⊎◌, inl, inr, arith, nat_eq}
+use Rattle.std.proofs.Common.{◌≡◌, ◌<◌, ◌≤◌, ◌+◌, ◌-◌, ℕ, zero, suc, true, false, Bool, List, [], ◌∷◌, length, drop, Some, slice_get, refl, sym, ap, subst, ◌∙◌, ◌⊎◌, inl, inr, arith, nat_eq}
 use Rattle.std.proofs.lemmas.Bool.{false≢true, and_parts}
 use Rattle.std.proofs.lemmas.Bool.Decides.{nat_tests}
 use Rattle.std.proofs.lemmas.Option.{same_Some, none-some, slice_get_within}
@@ -9,7 +9,7 @@ use Rattle.aud_node.specs.Cluster.{Cluster, node_log}
 use Rattle.aud_node.specs.Lists.{is_empty}
 use Rattle.aud_node.specs.OwnPlaces.{own_places}
 use Rattle.aud_node.specs.Stream.{Text}
-use Rattle.aud_node.specs.TurnRecords.{begins_turn, begins_any_turn, ends_any_turn, rest_of_turn, turn_range}
+use Rattle.aud_node.specs.TurnRecords.{ends_any_turn, turn_range}
 use Rattle.aud_base.proofs.SameText.{itself_text}
 use Rattle.aud_rooms.specs.Turns.{Who, Turn, beginning, HasNoTurn, IsTurn, IsChain}
 use Rattle.aud_rooms.proofs.Turns.{Stands, stands, begins_there, beginning-begins}
@@ -17,12 +17,12 @@ use Rattle.aud_maker.specs.Chain.{HasNoChain}
 use Rattle.aud_maker.specs.Begun.{turn_begun, AreBegun}
 use Rattle.aud_maker.specs.Ended.{end_by, may_end, is_ended, are_ended}
 use Rattle.aud_maker.proofs.Turns.{first_there, found, turn-to}
-use Rattle.aud_maker.proofs.BegunLemmas.{IsIndexed, chain-begun}
+use Rattle.aud_maker.proofs.BegunLemmas.{chain-begun}
 use Rattle.aud_maker.proofs.EndedLemmas.{turns-ended}
 use Rattle.aud_session_facts.specs.declared.place.RecordPlace.{RecordPlace}
 use Rattle.aud_session_facts.specs.declared.misfit.Misfit.{Misfit}
 use Rattle.aud_session_facts.specs.declared.misfit.Misfit.TheVariants.{NeverOpened, BegunTwice, MissingTurn, BeforeTurns, AfterTurn, InsideTurn, MissingBreak, StrayBreak, OtherBreak, BackAfterGone}
-use Rattle.aud_session_facts.specs.Places.{record_at, IsOwn, Begins, Breaks, IsRange}
+use Rattle.aud_session_facts.specs.Places.{IsOwn, Begins}
 use Rattle.aud_session_facts.specs.Misfit.{IsBegunTwice, IsMissingTurn, IsBeforeTurns, IsAfterTurn, IsInsideTurn, IsUnbroken, IsOtherBreak, IsBackAfterGone, IsMisfit}
 use Rattle.aud_session_facts.proofs.Ranges.{range-indexed}
 

@@ -1,5 +1,5 @@
 -- Why an entry is not due to the session of a made certificate.
-use Rattle.std.proofs.Common.{◌≡◌, ◌<◌, ℕ, Bool, true, false, inl, inr, ◌&&◌, ◌||◌, not, List, [], ◌∷◌, map, max, length, Option, Some, None, option_map, refl, sym, ap, ◌∙◌, arith, nat_lt}
+use Rattle.std.proofs.Common.{◌≡◌, ◌<◌, ℕ, Bool, true, false, inl, inr, ◌&&◌, ◌||◌, not, List, [], ◌∷◌, map, length, Option, Some, None, option_map, refl, sym, ap, ◌∙◌, arith, nat_lt}
 use Rattle.std.specs.Prelude.{if◌then◌else◌}
 use Rattle.std.specs.List.{find, list_any}
 use Rattle.std.specs.Option.{is_none}
@@ -22,7 +22,7 @@ use Rattle.aud_rooms.specs.Turns.{Who, Turn, Slice, slice_of}
 use Rattle.aud_rooms.specs.TurnsDue.{greatest_high, is_past_first, is_for_rooms, is_turn_due}
 use Rattle.aud_rooms.proofs.ByTurns.{rooms_for-past}
 use Rattle.aud_cert.specs.Certificate.{CertificateSeen}
-use Rattle.aud_maker.specs.Made.{IsMade, turn_seen}
+use Rattle.aud_maker.specs.Made.{IsMade}
 use Rattle.aud_merge.specs.ByTurns.{rooms_of_turns}
 use Rattle.aud_session_facts.specs.Opened.{greatest_turn_high, opened_in}
 use Rattle.aud_session_facts.proofs.Highs.{highs}

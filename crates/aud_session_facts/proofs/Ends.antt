@@ -1,8 +1,8 @@
 -- What does not fit at the end of a turn.
-use Rattle.std.proofs.Common.{◌≡◌, ◌<◌, ◌≤◌, ◌+◌, ◌-◌, ℕ, zero, suc, true, false, Bool, List, [], ◌∷◌, length, drop, take, Option, Some, None, slice_get, refl, sym, ap, subst, ◌∙◌, ◌⊎◌, inl, inr, arith, nat_eq, ◌||◌, MatchOption}
-use Rattle.std.proofs.lemmas.Bool.{false≢true, and_from}
+use Rattle.std.proofs.Common.{◌≡◌, ◌<◌, ◌≤◌, ◌-◌, ℕ, zero, suc, true, false, Bool, List, [], ◌∷◌, length, drop, Option, Some, None, slice_get, refl, sym, ap, subst, ◌∙◌, inl, inr, arith, ◌||◌, MatchOption}
+use Rattle.std.proofs.lemmas.Bool.{false≢true}
 use Rattle.std.proofs.lemmas.Bool.Decides.{nat_tests}
-use Rattle.std.proofs.lemmas.Option.{same_Some, none-some, slice_get_within}
+use Rattle.std.proofs.lemmas.Option.{none-some}
 use Rattle.std.specs.List.{All, Contains}
 use Rattle.std.proofs.lemmas.List.Elements.{All-contains}
 use Rattle.aud_tap.specs.declared.records.NodeRec.{NodeRec}
@@ -13,23 +13,23 @@ use Rattle.aud_node.specs.OwnRecords.{own_numbers}
 use Rattle.aud_node.specs.Stream.{Text}
 use Rattle.aud_node.specs.TurnRecords.{begins_turn, turn_range}
 use Rattle.aud_base.proofs.SameText.{itself_text}
-use Rattle.aud_rooms.specs.Turns.{Turn, Who, HasNoTurn, IsChain}
+use Rattle.aud_rooms.specs.Turns.{Turn}
 use Rattle.aud_maker.specs.Begun.{turn_begun, AreAllBegun}
-use Rattle.aud_maker.specs.Ended.{end_by, may_end, are_ended}
+use Rattle.aud_maker.specs.Ended.{are_ended}
 use Rattle.aud_maker.specs.InTurn.{is_swept}
-use Rattle.aud_maker.specs.Opening.{names_opened, opening_of}
-use Rattle.aud_maker.proofs.BegunLemmas.{IsIndexed, begun-is, own_number, own_place}
+use Rattle.aud_maker.specs.Opening.{names_opened}
+use Rattle.aud_maker.proofs.BegunLemmas.{begun-is, own_number, own_place}
 use Rattle.aud_maker.proofs.FirstFault.{is_chain}
 use Rattle.std.specs.List.{list_all, list_any}
 use Rattle.aud_rooms.proofs.Members.{contains-none, contains-parts}
 use Rattle.aud_session_facts.specs.Misfit.{IsInsideTurn}
 use Rattle.aud_session_facts.proofs.Sweeps.{inside, at-within}
 use Rattle.aud_session_facts.specs.declared.place.RecordPlace.{RecordPlace}
-use Rattle.aud_session_facts.specs.Places.{record_at, Begins, Breaks, HasNoBreak}
-use Rattle.aud_session_facts.specs.Misfit.{IsUnbroken, IsMissingBreak, IsStrayBreak, IsOtherBreak, IsBackAfterGone, HasChain}
+use Rattle.aud_session_facts.specs.Places.{record_at, Begins, HasNoBreak}
+use Rattle.aud_session_facts.specs.Misfit.{IsUnbroken, IsOtherBreak, IsBackAfterGone, HasChain}
 use Rattle.aud_session_facts.specs.Private.Astray.{ends_at}
 use Rattle.aud_session_facts.specs.Private.Unended.{IsOpenEnd, IsNext, HasNoBreakOn, is_break_at}
-use Rattle.aud_session_facts.proofs.Ranges.{range-indexed, begun-range}
+use Rattle.aud_session_facts.proofs.Ranges.{begun-range}
 use Rattle.aud_session_facts.proofs.Sweeps.{last-of, begun-there}
 
 -- the first record of a turn

@@ -1,6 +1,6 @@
 -- The first record of a session that stands in no turn, and what does not fit there.
 use Rattle.std.proofs.Common.{◌≡◌, ◌<◌, ◌≤◌, ◌+◌, ◌-◌, ℕ, zero, suc, true, false, Bool, List, [], ◌∷◌, length, filter, cond, Option, Some, None, slice_get, refl, sym, ap, subst, ◌∙◌, ◌⊎◌, inl, inr, arith}
-use Rattle.std.proofs.lemmas.Bool.{false≢true, and_from}
+use Rattle.std.proofs.lemmas.Bool.{false≢true}
 use Rattle.std.proofs.lemmas.Bool.Decides.{nat_tests}
 use Rattle.std.proofs.lemmas.Option.{same_Some, none-some, slice_get_within}
 use Rattle.aud_tap.specs.declared.records.NodeRec.{NodeRec}
@@ -9,7 +9,7 @@ use Rattle.aud_node.specs.Lists.{numbers_from}
 use Rattle.aud_node.specs.OwnPlaces.{own_places}
 use Rattle.aud_node.specs.OwnRecords.{record_names, own_numbers}
 use Rattle.aud_node.specs.Stream.{Text}
-use Rattle.aud_node.specs.TurnRecords.{pid_of, begins_turn, ends_any_turn, turn_range}
+use Rattle.aud_node.specs.TurnRecords.{begins_turn, ends_any_turn, turn_range}
 use Rattle.aud_rooms.specs.Turns.{Turn, HasNoTurn}
 use Rattle.aud_rooms.proofs.Turns.{begins-names}
 use Rattle.aud_maker.specs.Begun.{turn_begun, AreBegun, AreAllBegun}

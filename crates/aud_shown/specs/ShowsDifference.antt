@@ -1,8 +1,7 @@
 -- When rows show where what a client received of a session first parts from what was due to it.
-use Rattle.std.specs.Prelude.{◌≡◌, ℕ, List, map}
+use Rattle.std.specs.Prelude.{◌≡◌, ℕ, List}
 use Rattle.aud_node.specs.Cluster.{Cluster}
 use Rattle.aud_node.specs.Stream.{Text}
-use Rattle.aud_client.specs.StaySeen.{StaySeen}
 use Rattle.aud_client.specs.Received.{stays_naming, stays_numbered}
 use Rattle.aud_check.specs.declared.difference.Difference.{Difference}
 use Rattle.aud_check.specs.Difference.{IsDifference}

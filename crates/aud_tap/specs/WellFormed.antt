@@ -1,5 +1,5 @@
 -- What the fields of a record keep to, beside their types.
-use Rattle.std.specs.Prelude.{ℕ, ◌==◌, ◌&&◌, nat_le, List, length, Bool, true, Some, None}
+use Rattle.std.specs.Prelude.{ℕ, ◌&&◌, nat_le, List, length, Bool, true, Some, None}
 use Rattle.aud_tap.specs.declared.records.Event.{Event}
 use Rattle.aud_tap.specs.declared.records.StreamRec.{StreamRec}
 use Rattle.aud_tap.specs.declared.records.StreamRec.TheVariants.{Ev, Other}

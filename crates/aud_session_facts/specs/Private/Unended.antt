@@ -1,5 +1,5 @@
 -- Where a turn ends, and which turn follows it.
-use Rattle.std.specs.Prelude.{◌≡◌, ◌-◌, ℕ, suc, Bool, true, false, ◌&&◌, Option, Some, None, nat_eq, slice_get}
+use Rattle.std.specs.Prelude.{◌≡◌, ◌-◌, ℕ, suc, Bool, false, ◌&&◌, Option, Some, None, nat_eq, slice_get}
 use Rattle.std.specs.Str.{bytes_eq}
 use Rattle.aud_tap.specs.declared.records.NodeRec.{NodeRec}
 use Rattle.aud_tap.specs.declared.records.NodeRec.TheVariants.{Broke}
@@ -8,8 +8,7 @@ use Rattle.aud_node.specs.Cluster.{Cluster, node_log}
 use Rattle.aud_node.specs.OwnPlaces.{own_places}
 use Rattle.aud_rooms.specs.Turns.{Turn}
 use Rattle.aud_maker.specs.Begun.{turn_begun}
-use Rattle.aud_session_facts.specs.declared.place.RecordPlace.{RecordPlace}
-use Rattle.aud_session_facts.specs.Places.{record_at, Breaks}
+use Rattle.aud_session_facts.specs.Places.{record_at}
 use Rattle.aud_session_facts.specs.Private.Astray.{ends_at}
 
 -- this turn was found to be the session's turn k, and its last record is no `break` and no `gone`

@@ -1,4 +1,3 @@
-use Rattle.std.proofs.Common.{◌≡◌}
 use Rattle.std.specs.List.{AllZip}
 use Rattle.aud_base.specs.Lists.{numbers_from}
 use Rattle.aud_findings.specs.Private.Wanted.{IsReadBy}

@@ -1,14 +1,11 @@
 use Rattle.std.proofs.Common.{◌≡◌, ◌++◌, ℕ, Bool, List, filter, length, ap, ◌∙◌, arith}
-use Rattle.std.specs.Cow.{cow_slice_items}
 use Rattle.std.proofs.lemmas.Grind.{common_steps}
 use Rattle.std.proofs.lemmas.List.{nil_from_length}
 use Rattle.std.proofs.lemmas.Result.{IfOk-weaker}
 use Rattle.aud_node.specs.Stream.{positions_after}
 use Rattle.aud_rooms.specs.Spans.{RoomSpan}
 use Rattle.aud_rooms.specs.Private.Candidates.{is_by_some}
-use Rattle.aud_rooms.specs.Private.Merge.{merge}
 use Rattle.aud_rooms.proofs.Candidate.{of_none, of_both}
-use Rattle.aud_rooms.proofs.Merged.{merge-filter}
 use Rattle.aud_rooms.proofs.candidates.+of_spans.Goals as goal
 
 pub returns-in-empty : goal.returns-in-empty
@@ -25,10 +22,7 @@ returns-in_ok-other-in_default t c =
     let parts : front ++ back ≡ c.args.spans.now = grind (arith, common_steps) in
     IfOk-weaker c.merged.result _ _
     (λ all is.
-    is
-    ∙ ap (λ ns. merge ns (cow_slice_items c.in_ok-other-in_default.other)) c.in_ok-one-in_default.ensures
-    ∙ ap (merge (filter (test front) (positions_after 0 (length stream)))) c.in_ok-other-in_default.ensures
-    ∙ merge-filter (test front) (test back) 1 (length stream)
+    is (test front) (test back) 1 (length stream) c.in_ok-one-in_default.ensures c.in_ok-other-in_default.ensures
     ∙ of_both stream c.args.nsp.now c.args.within.after c.args.within.last c.args.by front back
     ∙ ap (λ spans. filter (test spans) (positions_after 0 (length stream))) parts)
     c.merged.ensures

@@ -1,15 +1,12 @@
 use Rattle.std.proofs.Common.{◌&&◌, filter, length, sym, ap, subst, ◌∙◌}
-use Rattle.std.specs.Cow.{cow_slice_items}
 use Rattle.std.specs.List.Sorted.{IsNonDecreasing}
 use Rattle.std.proofs.lemmas.Result.{IfOk-weaker}
-use Rattle.aud_node.specs.Stream.{entry, positions_after}
+use Rattle.aud_node.specs.Stream.{entry}
 use Rattle.aud_node.specs.Addressees.{is_to_all}
 use Rattle.aud_rooms.specs.Private.Candidates.{is_past_upto, is_by_some}
-use Rattle.aud_rooms.specs.Private.Merge.{merge}
 use Rattle.aud_rooms.specs.declared.candidates.By.TheVariants.{Named}
 use Rattle.aud_rooms.proofs.Ascending.{non_decreasing}
 use Rattle.aud_rooms.proofs.Candidate.{to_all, to_any}
-use Rattle.aud_rooms.proofs.Merged.{merge-filter}
 use Rattle.aud_rooms.proofs.candidates.candidates_of.Goals as goal
 
 pub past_upto-everyone-requires : goal.past_upto-everyone-requires
@@ -26,9 +23,6 @@ returns c =
     let everyone = c.past_upto-everyone.ensures ∙ ap (filter (is_past_upto birth high)) c.to_all.ensures ∙ to_all stream nsp birth high in
     IfOk-weaker c.merged.result _ _
     (λ all is.
-    is
-    ∙ ap (λ ns. merge ns (cow_slice_items c.in_ok-some.some)) everyone
-    ∙ ap (merge (filter (λ p. is_past_upto birth high p && is_to_all (entry stream p) nsp) (positions_after 0 (length stream)))) c.in_ok-some.ensures
-    ∙ merge-filter (λ p. is_past_upto birth high p && is_to_all (entry stream p) nsp) (is_by_some Named c.args.spans.now stream nsp birth high) 1 (length stream)
+    is (λ p. is_past_upto birth high p && is_to_all (entry stream p) nsp) (is_by_some Named c.args.spans.now stream nsp birth high) 1 (length stream) everyone c.in_ok-some.ensures
     ∙ to_any stream nsp birth high c.args.spans.now)
     c.merged.ensures

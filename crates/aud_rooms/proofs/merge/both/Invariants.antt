@@ -1,5 +1,5 @@
 use Rattle.std.proofs.Common.{◌≡◌, ◌++◌, drop}
-use Rattle.aud_rooms.specs.Private.Merge.{merge}
+use Rattle.aud_rooms.proofs.Merged.{merge}
 use Rattle.aud_rooms.proofs.merge.both.Given as goal
 
 abbrev pub invariant-loop-number : goal.invariant-loop-number

@@ -1,5 +1,5 @@
 use Rattle.std.proofs.Common.{◌≡◌, ◌++◌, drop}
-use Rattle.aud_rooms.specs.Private.Merge.{remove}
+use Rattle.aud_rooms.proofs.Merged.{remove}
 use Rattle.aud_rooms.proofs.merge.left_of.Given as goal
 
 abbrev pub invariant-loop-number : goal.invariant-loop-number

@@ -1,4 +1,4 @@
-use Rattle.std.proofs.Common.{◌∙◌, sym, ap, Some, None}
+use Rattle.std.proofs.Common.{◌∙◌, sym, ap, Some}
 use Rattle.aud_session_facts.specs.Private.Astray.{begun_by}
 use Rattle.aud_session_facts.proofs.Sweeps.{astray-first, astray-begins, astray-out, astray-before, astray-past}
 use Rattle.aud_session_facts.proofs.astray.misfit_of.Goals as goal

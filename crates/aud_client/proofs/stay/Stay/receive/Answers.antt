@@ -1,10 +1,10 @@
-use Rattle.std.proofs.Common.{◌≡◌, ◌++◌, [], cond, sym, ap, ◌∙◌, Option, Some, None, is_some}
+use Rattle.std.proofs.Common.{◌++◌, [], cond, sym, ap, ◌∙◌, Option, Some, is_some}
 use Rattle.std.specs.List.{cons_option}
 use Rattle.std.specs.Option.{option_or}
 use Rattle.std.proofs.lemmas.Result.{IfOk-weaker, on_ok_weaker}
 use Rattle.aud_sio.specs.Assembly.{whole_view}
 use Rattle.aud_client.specs.TapPackets.{FromServer}
-use Rattle.aud_client.specs.Replies.{ReplySeen, reply_in}
+use Rattle.aud_client.specs.Replies.{ReplySeen}
 use Rattle.aud_client.specs.StaySeen.{StaySeen, frame_of}
 use Rattle.aud_client.specs.declared.part.Part.TheVariants as part
 use Rattle.aud_client.proofs.TellingPlaces.{replied_grown}

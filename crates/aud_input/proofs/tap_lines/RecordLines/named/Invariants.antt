@@ -1,4 +1,4 @@
-use Rattle.std.proofs.Common.{◌≡◌, map, take}
+use Rattle.std.proofs.Common.{◌≡◌, take}
 use Rattle.aud_input.specs.LineRuns.{taps_named}
 use Rattle.aud_input.proofs.tap_lines.RecordLines.named.Given as goal
 

@@ -1,4 +1,4 @@
-use Rattle.std.proofs.Common.{◌∷◌, arith, ap, length, length-append, sym}
+use Rattle.std.proofs.Common.{◌∷◌, arith, ap, length, length-append}
 use Rattle.aud_parts.proofs.ServerTextLemmas.{after-line, all-lines, no-line}
 use Rattle.aud_parts.proofs.part.server_text.after_lines.Goals as goal
 

@@ -1,4 +1,4 @@
-use Rattle.std.proofs.Common.{◌≡◌, ◌+◌, ◌-◌, ◌∙◌, ◌∷◌, List, ℕ, suc, Some, ap, arith, drop, length, refl, slice_get, take, true}
+use Rattle.std.proofs.Common.{◌≡◌, ◌+◌, ◌-◌, ◌∙◌, ◌∷◌, suc, Some, ap, arith, drop, length, refl, slice_get, take, true}
 use Rattle.std.proofs.lemmas.List.{take_rest}
 use Rattle.std.proofs.lemmas.Option.{slice_get_read}
 use Rattle.aud_base.proofs.Lists.{drop_at}

@@ -1,5 +1,4 @@
-use Rattle.std.proofs.Common.{◌≡◌, ◌+◌, ◌++◌, ◌∷◌, [], List, length, take, refl, sym, ap, ◌∙◌, subst, arith}
-use Rattle.aud_reader.specs.declared.line.Line.{Line}
+use Rattle.std.proofs.Common.{◌≡◌, ◌+◌, ◌++◌, ◌∷◌, [], length, take, refl, sym, ap, ◌∙◌, subst, arith}
 use Rattle.aud_reader.specs.Lines.{line_pieces}
 use Rattle.aud_parts.specs.TapRuns.{lines_with_bytes}
 use Rattle.aud_parts.specs.Private.RunSteps.{GivesLines}

@@ -1,4 +1,4 @@
-use Rattle.std.proofs.Common.{◌≡◌, ◌+◌, ◌^◌, ◌<◌, ◌≤◌, ◌∷◌, length, arith, ap, length-append}
+use Rattle.std.proofs.Common.{◌<◌, ◌∷◌, length, arith, ap, length-append}
 use Rattle.aud_reader.proofs.LinesLemmas.{above_zero}
 use Rattle.aud_parts.proofs.TapLines.{next_line, last_line, next_count, last_count}
 use Rattle.aud_parts.proofs.tap_index.tap_lines.push_lines.Goals as goal

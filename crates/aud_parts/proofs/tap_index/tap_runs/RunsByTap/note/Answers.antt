@@ -1,5 +1,4 @@
-use Rattle.std.proofs.Common.{◌≡◌, ◌∙◌, Some, None, sym}
-use Rattle.aud_parts.specs.IndexSoFar.{place_in}
+use Rattle.std.proofs.Common.{◌∙◌, sym}
 use Rattle.aud_parts.proofs.NotedLemmas.{place-there}
 use Rattle.aud_parts.proofs.LookLemmas.{noted-new, noted-there}
 use Rattle.aud_parts.proofs.tap_index.tap_runs.RunsByTap.note.Goals as goal
