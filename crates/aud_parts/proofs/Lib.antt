@@ -36,3 +36,7 @@ pub mod MayBeReadLemmas
 pub mod FoundLemmas
 pub mod PushedLines
 pub mod ServerTextLemmas
+pub mod PassedLines
+pub mod PartLinesLemmas
+pub mod ServersLemmas
+pub mod ClientsLemmas

@@ -20,6 +20,9 @@ pub mod ServerLines
 pub mod ServerTexts
 pub use Rattle.aud_input.specs.LineName
 pub mod TapRuns
+pub mod ServersRead
+pub mod ClientsRead
+pub mod PartLines
 pub mod FileLines
 pub mod IndexSoFar
 pub mod FirstRefusal

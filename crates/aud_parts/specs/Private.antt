@@ -6,6 +6,9 @@ pub mod PartPlaces
 pub mod Slots
 pub mod IndexSteps
 pub mod RunSteps
+pub mod ServerSteps
+pub mod ClientSteps
+pub mod PartSteps
 pub mod TapsRead
 pub mod FoundRecords
 pub mod PlacedTexts

@@ -2,13 +2,23 @@
 pub mod facts;
 pub mod measured;
 
+ghost use Rattle.std.specs.Prelude.{◌≡◌, ◌++◌, ◌∷◌, [], ℕ, List, IfOk, OnOk, None, Some, map};
+ghost use Rattle.std.specs.List.{All};
+ghost use Rattle.aud_reader.specs.declared.line.Line.{Line};
+ghost use Rattle.aud_reader.specs.OwnLines.{HaveTheirOwnLines};
+ghost use Rattle.aud_parts.specs.ClientsRead.{AreToldOf, others_among};
+ghost use Rattle.aud_parts.specs.ServersRead.{kind_told};
+ghost use Rattle.aud_parts.specs.TapRuns.{MayBeRead, TapRuns};
+ghost use Rattle.aud_parts.specs.Private.ClientSteps.{AreSoFar, AreTold, Holds, IsMeasured, IsTold, clients_told, refused_told};
+ghost use Rattle.aud_parts.specs.Private.TapsRead.{HoldsLines, IsReadOf};
+
 use crate::clients::facts::client_facts;
 use crate::clients::measured::MeasuredClient;
 use crate::tap_index::first_refusal::{FirstRefusal, RefusedLine};
 use crate::tap_index::indexed_taps::IndexedTaps;
 use crate::tap_index::run_source::RunSource;
 use crate::tap_index::tap_lines::client_header;
-use crate::tap_index::tap_reading::{HeldRun, TapRead, hold, read_held, read_tap};
+use crate::tap_index::tap_reading::{HeldRun, TapRead, hold, read_held, read_tap, tap_named};
 use crate::tap_index::tap_runs::TapRuns;
 use aud_base::{RunFault, try_map};
 use aud_node::Stream;
@@ -36,8 +46,11 @@ fn measure(
     read: &Taps,
     first: u64,
     bytes: u64,
-) -> Result<Option<MeasuredClient>, AllocError> {
-    let Some(one) = read.as_slice().first() else {
+) -> Result<Option<MeasuredClient>, AllocError>
+    ensures { (lines : List Line) → HaveTheirOwnLines lines read.now
+        → IfOk result (IsMeasured stream.now tap.now.name lines) }
+{
+    let Some(one) = tap_named(read.as_slice(), tap.name()) else {
         return Ok(None);
     };
     let Records::Client(records) = &one.records else {
@@ -58,7 +71,10 @@ fn told_of(
     stream: &Stream<'_>,
     tap: &TapRuns,
     read: TapRead,
-) -> Result<Told, AllocError> {
+) -> Result<Told, AllocError>
+    ensures { (lines : List Line) → IsReadOf lines read
+        → IfOk result (IsTold stream.now tap.now.name lines) }
+{
     let TapRead {
         read,
         first,
@@ -85,7 +101,10 @@ fn told_of_held(
     keys: RandomState,
     stream: &Stream<'_>,
     held: &HeldTap<'_>,
-) -> Result<Told, AllocError> {
+) -> Result<Told, AllocError>
+    ensures { (lines : List Line) → HoldsLines lines held.now.runs.items
+        → IfOk result (IsTold stream.now held.now.tap.now.name lines) }
+{
     match read_held(alloc, keys, &held.runs) {
         Ok(read) => told_of(alloc, stream, held.tap, read),
         Err(_) => Err(AllocError),
@@ -109,7 +128,13 @@ struct ClientsReading<'a> {
 
 impl<'a> ClientsReading<'a> {
     /// Adds what is told of the next tap.
-    fn add(&mut self, told: Told) -> Result<(), AllocError> {
+    fn add(&mut self, told: Told) -> Result<(), AllocError>
+        ensures clients { OnOk result (self.new.clients.items
+            ≡ self.old.clients.items ++ clients_told told) }
+        ensures refusal { self.new.refusal ≡ refused_told told self.old.refusal }
+        ensures held { self.new.held ≡ self.old.held }
+        ensures stream { self.new.stream ≡ self.old.stream }
+    {
         match told {
             Ok(Some(client)) => {
                 self.clients.push(client)?;
@@ -120,21 +145,51 @@ impl<'a> ClientsReading<'a> {
         Ok(())
     }
 
-    /// Reads the taps that are held, side by side.
-    fn read_batch<H: Threads + Sync>(&mut self, rt: &H) -> Result<(), AllocError> {
+    /// Adds what is told of the next taps, one after the other.
+    fn add_all(&mut self, all: Vec<Told>) -> Result<(), AllocError>
+        ensures told { (files : List (List ℕ)) (read taps : List TapRuns)
+            → AreTold files self.old.stream.now taps all.items
+            → (self.old.refusal ≡ None
+            → AreToldOf files self.old.stream.now read self.old.clients.items)
+            → OnOk result (self.new.refusal ≡ None
+            → AreToldOf files self.old.stream.now (read ++ taps) self.new.clients.items) }
+        ensures held { self.new.held ≡ self.old.held }
+        ensures stream { self.new.stream ≡ self.old.stream }
+    {
+        for told in all {
+            self.add(told)?;
+        }
+        Ok(())
+    }
+
+    /// What is told of the taps that are held, which are read side by side.
+    fn told_of_all<H: Threads + Sync>(&self, rt: &H) -> Result<Vec<Told>, AllocError>
+        ensures { (files : List (List ℕ)) → All (Holds files) self.now.held.items
+            → IfOk result (λ all. AreTold files self.now.stream.now
+            (map (λ held. held.tap.now) self.now.held.items) all.items) }
+    {
         let (alloc, keys, stream) = (self.alloc, self.keys, self.stream);
-        let all = try_map(
+        try_map(
             rt,
             alloc,
             self.threads,
             self.held.as_slice(),
-            |held: &HeldTap<'_>| -> Result<Told, AllocError> {
-                told_of_held(alloc, keys, stream, held)
-            },
-        )?;
-        for told in all {
-            self.add(told)?;
-        }
+            |held: &HeldTap<'_>| -> Result<Told, AllocError>
+                ensures { (lines : List Line) → HoldsLines lines held.now.runs.items
+                    → IfOk result (IsTold stream.entry.now held.now.tap.now.name lines) }
+            { told_of_held(alloc, keys, stream, held) },
+        )
+    }
+
+    /// Reads the taps that are held, side by side.
+    fn read_batch<H: Threads + Sync>(&mut self, rt: &H) -> Result<(), AllocError>
+        ensures told { (files : List (List ℕ)) (taps : List TapRuns)
+            → AreSoFar files taps self.old → OnOk result (AreSoFar files taps self.new) }
+        ensures held { OnOk result (self.new.held.items ≡ []) }
+        ensures stream { self.new.stream ≡ self.old.stream }
+    {
+        let all = self.told_of_all(rt)?;
+        self.add_all(all)?;
         self.held.clear();
         self.bytes = 0;
         Ok(())
@@ -146,7 +201,14 @@ impl<'a> ClientsReading<'a> {
         rt: &H,
         source: &mut S,
         tap: &'a TapRuns,
-    ) -> Result<(), RunFault> {
+    ) -> Result<(), RunFault>
+        ensures told { (files : List (List ℕ)) (taps : List TapRuns)
+            → S.files source.old ≡ Some files → MayBeRead files tap.entry.now
+            → AreSoFar files taps self.old
+            → OnOk result (AreSoFar files (taps ++ tap.entry.now ∷ []) self.new) }
+        ensures source { S.files source.new ≡ S.files source.old }
+        ensures stream { self.new.stream ≡ self.old.stream }
+    {
         let bytes = tap.bytes();
         if self.bytes.saturating_add(bytes) > MOST_HELD {
             self.read_batch(rt)?;
@@ -187,7 +249,15 @@ pub fn read_clients<'a, H: Threads + Sync, S: RunSource>(
     source: &mut S,
     stream: &'a Stream<'a>,
     indexed: &IndexedTaps<'a>,
-) -> Result<ClientsRead, RunFault> {
+) -> Result<ClientsRead, RunFault>
+    ensures told { (files : List (List ℕ)) → S.files source.old ≡ Some files
+        → All (MayBeRead files) indexed.entry.now.taps.now
+        → indexed.entry.now.kinds.now ≡ map (kind_told files) indexed.entry.now.taps.now
+        → IfOk result (λ read. read.refused ≡ None
+        → AreToldOf files stream.entry.now (others_among files indexed.entry.now.taps.now)
+        read.clients.items) }
+    ensures source { S.files source.new ≡ S.files source.old }
+{
     let mut reading = ClientsReading {
         alloc,
         keys,

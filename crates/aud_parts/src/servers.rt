@@ -1,12 +1,24 @@
 //! The taps of the stream and of the nodes, and what each tap was put on.
-ghost use Rattle.std.specs.Prelude.{◌≡◌, ◌++◌, IfOk, OnOk, Some, flat_map};
+ghost use Rattle.std.specs.Prelude.{◌≡◌, ◌++◌, ◌∷◌, [], ℕ, List, IfOk, IfSome, None, OnOk, Some, drop, map, slice_get};
+ghost use Rattle.std.specs.List.{All};
+ghost use Rattle.std.specs.Option.{option_and_then, option_map};
+ghost use Rattle.aud_input.specs.LineRuns.{lines_of_runs};
 ghost use Rattle.aud_node.specs.Cluster.{node_recs};
+ghost use Rattle.aud_reader.specs.declared.line.Line.{Line};
+ghost use Rattle.aud_reader.specs.Bundle.{tap_named};
+ghost use Rattle.aud_reader.specs.OwnLines.{HaveTheirOwnLines, records_for};
+ghost use Rattle.aud_tap.specs.declared.records.Rec.TheVariants as rec;
+ghost use Rattle.aud_tap.specs.declared.records.TapKind.TheVariants as kind;
+ghost use Rattle.aud_tap.specs.declared.records.Version.{Version};
+ghost use Rattle.aud_parts.specs.ServersRead.{AreServers, header_for, kind_told};
+ghost use Rattle.aud_parts.specs.TapRuns.{MayBeRead, TapRuns, runs_lines};
+ghost use Rattle.aud_parts.specs.Private.ServerSteps.{AddsServer, IsHeaderOf, IsServerRead, stream_recs};
 
 use crate::tap_index::first_refusal::{FirstRefusal, RefusedLine};
 use crate::tap_index::run_lines::{RunLines, first_line};
 use crate::tap_index::run_source::RunSource;
-use crate::tap_index::tap_lines::push_numbers;
-use crate::tap_index::tap_reading::{TapRead, read_tap};
+use crate::tap_index::tap_lines::{lines_past, push_numbers};
+use crate::tap_index::tap_reading::{TapRead, read_tap, tap_named};
 use crate::tap_index::tap_runs::TapRuns;
 use aud_base::RunFault;
 use aud_input::LineRuns;
@@ -38,47 +50,81 @@ struct Header {
     version: Version,
 }
 
-/// The header that this line is.
+/// The header that this line is of the tap of this name.
 fn header_of(
     alloc: Global,
     keys: RandomState,
+    name: &str,
     line: Option<Line>,
-) -> Result<Option<Header>, AllocError> {
+) -> Result<Option<Header>, AllocError>
+    ensures says { IfOk result (λ header. option_map (λ h. (h.of, h.version)) header
+        ≡ option_and_then (header_for name.now) line) }
+    ensures line { IfOk result (λ header. IfSome header (λ h. line ≡ Some h.line)) }
+{
     let Some(line) = line else {
         return Ok(None);
     };
-    match parse_line(alloc, keys, &line) {
-        Ok((_, Rec::Header { of, v })) => Ok(Some(Header {
-            line,
-            of,
-            version: v,
-        })),
-        Ok(_) | Err(ReadFault::Input(_, _)) => Ok(None),
-        Err(ReadFault::Memory) => Err(AllocError),
+    let (own, rec) = match parse_line(alloc, keys, &line) {
+        Ok(read) => read,
+        Err(ReadFault::Input(_, _)) => return Ok(None),
+        Err(ReadFault::Memory) => return Err(AllocError),
+    };
+    if name != own.as_str() {
+        return Ok(None);
     }
+    let Rec::Header { of, v } = rec else {
+        return Ok(None);
+    };
+    Ok(Some(Header {
+        line,
+        of,
+        version: v,
+    }))
+}
+
+/// The header that the first line of the tap is.
+fn first_header<S: RunSource>(
+    alloc: Global,
+    keys: RandomState,
+    source: &mut S,
+    buffer: &mut Vec<u8>,
+    tap: &TapRuns,
+) -> Result<Option<Header>, RunFault>
+    ensures kind { (files : List (List ℕ)) → S.files source.old ≡ Some files
+        → MayBeRead files tap.now
+        → IfOk result (λ header. option_map (λ h. h.of) header ≡ kind_told files tap.now) }
+    ensures header { (files : List (List ℕ)) → S.files source.old ≡ Some files
+        → MayBeRead files tap.now
+        → IfOk result (λ header. IfSome header (IsHeaderOf files tap.now)) }
+    ensures source { S.files source.new ≡ S.files source.old }
+{
+    let line = first_line(alloc, source, buffer, tap.runs())?;
+    Ok(header_of(alloc, keys, tap.name(), line)?)
 }
 
 /// What the header says that the tap was put on.
-fn kind_in(header: &Option<Header>) -> Option<TapKind> {
+fn kind_in(header: &Option<Header>) -> Option<TapKind>
+    ensures { result ≡ option_map (λ h. h.of) header.now }
+{
     match header {
         Some(header) => Some(header.of),
         None => None,
     }
 }
 
-/// Reads lines of a tap, among which its header may stand, as a bundle of this tap alone.
+/// Reads the header of a tap and lines after it as a bundle of this tap alone.
 fn read_piece(
     alloc: Global,
     keys: RandomState,
     header: &Line,
     lines: &[Line],
-) -> Result<Taps, ReadFault> {
+) -> Result<Taps, ReadFault>
+    ensures { IfOk result (HaveTheirOwnLines (header.now ∷ lines.now)) }
+{
     let mut reader = BundleReader::new(alloc, keys);
     reader.line(header)?;
     for line in lines {
-        if line.number != header.number {
-            reader.line(line)?;
-        }
+        reader.line(line)?;
     }
     reader.finish()
 }
@@ -93,26 +139,18 @@ fn push_records(log: &mut NodeRecs, records: &NodeRecs) -> Result<(), AllocError
     Ok(())
 }
 
-/// Adds copies of the tap's records, if it is a node's.
-fn push_log(log: &mut NodeRecs, tap: &Tap) -> Result<(), AllocError>
-    ensures { OnOk result (log.new ≡ log.old ++ node_recs (Some tap.now.records)) }
+/// Adds copies of the records of the tap of this name, if it is a node's.
+fn push_named(log: &mut NodeRecs, taps: &[Tap], name: &str) -> Result<(), AllocError>
+    ensures { OnOk result (log.new ≡ log.old
+        ++ node_recs (option_map (λ tap. tap.records) (tap_named name.now taps.now))) }
 {
+    let Some(tap) = tap_named(taps, name) else {
+        return Ok(());
+    };
     match &tap.records {
-        Records::Stream(_) => Ok(()),
         Records::Node(records) => push_records(log, records),
-        Records::Client(_) => Ok(()),
+        Records::Stream(_) | Records::Client(_) => Ok(()),
     }
-}
-
-/// Adds copies of the records of the nodes' taps among these.
-fn push_logs(log: &mut NodeRecs, taps: &[Tap]) -> Result<(), AllocError>
-    ensures { OnOk result (log.new
-        ≡ log.old ++ flat_map (λ tap. node_recs (Some tap.records)) taps.now) }
-{
-    for tap in taps {
-        push_log(log, tap)?;
-    }
-    Ok(())
 }
 
 fn copied_stream(alloc: Global, entries: &StreamRecs) -> Result<StreamRecs, AllocError>
@@ -125,30 +163,126 @@ fn copied_stream(alloc: Global, entries: &StreamRecs) -> Result<StreamRecs, Allo
     Ok(copy)
 }
 
-/// Adds a copy of the tap, if it is a stream's. Texts are shared with it.
-fn push_stream(alloc: Global, taps: &mut Vec<Tap>, tap: &Tap) -> Result<(), AllocError> {
-    let Records::Stream(entries) = &tap.records else {
-        return Ok(());
+/// Copies of the entries of the tap of this name, if it is a stream's. Their texts are shared.
+fn stream_named(alloc: Global, taps: &[Tap], name: &str) -> Result<StreamRecs, AllocError>
+    ensures { IfOk result (λ entries. entries
+        ≡ stream_recs (option_map (λ tap. tap.records) (tap_named name.now taps.now))) }
+{
+    let Some(tap) = tap_named(taps, name) else {
+        return Ok(StreamRecs::new(alloc));
     };
-    let records = Records::Stream(copied_stream(alloc, entries)?);
-    let name = tap.name.share()?;
-    taps.push(Tap {
+    match &tap.records {
+        Records::Stream(entries) => copied_stream(alloc, entries),
+        Records::Node(_) | Records::Client(_) => Ok(StreamRecs::new(alloc)),
+    }
+}
+
+/// A tap of the stream or of a node, with the numbers of its lines; or its first refused line.
+type ServerRead = Result<(Tap, LineRuns), RefusedLine>;
+
+/// Reads the stream's tap, whose header this is.
+fn read_stream<S: RunSource>(
+    alloc: Global,
+    keys: RandomState,
+    source: &mut S,
+    buffer: &mut Vec<u8>,
+    tap: &TapRuns,
+    header: &Header,
+) -> Result<ServerRead, RunFault>
+    ensures read { (files : List (List ℕ)) → S.files source.old ≡ Some files
+        → MayBeRead files tap.now → IsHeaderOf files tap.now header.now
+        → header.now.of ≡ kind.Stream
+        → IfOk result (λ read. IfOk read (IsServerRead files tap.now)) }
+    ensures source { S.files source.new ≡ S.files source.old }
+{
+    let TapRead { read, lines, .. } = read_tap(alloc, keys, source, buffer, tap)?;
+    match read {
+        Ok(read) => {
+            let entries = stream_named(alloc, read.as_slice(), tap.name())?;
+            let name = Text::new(alloc, tap.name())?;
+            let version = header.version;
+            let records = Records::Stream(entries);
+            let tap = Tap {
+                name,
+                version,
+                records,
+            };
+            Ok(Ok((tap, lines)))
+        }
+        Err(ReadFault::Input(number, code)) => Ok(Err(RefusedLine { number, code })),
+        Err(ReadFault::Memory) => Err(RunFault::Memory),
+    }
+}
+
+/// Reads lines of the node's tap of this name after its header, and adds their records to its log; tells which line is
+/// refused.
+fn read_lines(
+    alloc: Global,
+    keys: RandomState,
+    name: &str,
+    header: &Line,
+    lines: &[Line],
+    log: &mut NodeRecs,
+) -> Result<Option<RefusedLine>, RunFault>
+    ensures { (v : Version) → header_for name.now header.now ≡ Some (kind.Node, v)
+        → IfOk result (λ refused. refused ≡ None → map rec.Node log.new
+        ≡ map rec.Node log.old ++ records_for name.now lines.now) }
+{
+    for piece in lines.chunks(MOST_LINES) {
+        match read_piece(alloc, keys, header, piece) {
+            Ok(read) => push_named(log, read.as_slice(), name)?,
+            Err(ReadFault::Input(number, code)) => return Ok(Some(RefusedLine { number, code })),
+            Err(ReadFault::Memory) => return Err(RunFault::Memory),
+        }
+    }
+    Ok(None)
+}
+
+/// Reads a node's tap, whose header this is.
+fn read_node<S: RunSource>(
+    alloc: Global,
+    keys: RandomState,
+    source: &mut S,
+    buffer: &mut Vec<u8>,
+    tap: &TapRuns,
+    header: &Header,
+) -> Result<ServerRead, RunFault>
+    ensures read { (files : List (List ℕ)) → S.files source.old ≡ Some files
+        → MayBeRead files tap.now → IsHeaderOf files tap.now header.now
+        → header.now.of ≡ kind.Node
+        → IfOk result (λ read. IfOk read (IsServerRead files tap.now)) }
+    ensures source { S.files source.new ≡ S.files source.old }
+{
+    let mut log = NodeRecs::new(alloc);
+    let mut runs = LineRuns::new(Vec::new(alloc));
+    // (the first line is the header)
+    let mut skipped = 1usize;
+    let mut left = RunLines::new(tap.runs());
+    'pieces: while let Some(lines) = left.next_lines(alloc, source, buffer)? {
+        push_numbers(&mut runs, &lines)?;
+        let others = lines_past(&lines, skipped);
+        let refused = read_lines(alloc, keys, tap.name(), &header.line, others, &mut log)?;
+        if let Some(line) = refused {
+            return Ok(Err(line));
+        }
+        skipped = skipped.saturating_sub(lines.len());
+    }
+    let name = Text::new(alloc, tap.name())?;
+    let version = header.version;
+    let records = Records::Node(log);
+    let tap = Tap {
         name,
-        version: tap.version,
+        version,
         records,
-    })?;
-    Ok(())
+    };
+    Ok(Ok((tap, runs)))
 }
 
 /// Adds what a tap was put on.
-fn push_kind(kinds: &mut Vec<Option<TapKind>>, kind: Option<TapKind>) -> Result<(), AllocError> {
+fn push_kind(kinds: &mut Vec<Option<TapKind>>, kind: Option<TapKind>) -> Result<(), AllocError>
+    ensures { OnOk result (kinds.new.items ≡ kinds.old.items ++ kind ∷ []) }
+{
     kinds.push(kind)?;
-    Ok(())
-}
-
-/// Adds the lines of a tap.
-fn push_runs(lines: &mut Vec<LineRuns>, runs: LineRuns) -> Result<(), AllocError> {
-    lines.push(runs)?;
     Ok(())
 }
 
@@ -164,110 +298,56 @@ struct Reading {
 }
 
 impl Reading {
-    /// Reads the stream's tap.
-    fn read_stream<S: RunSource>(
-        &mut self,
-        source: &mut S,
-        buffer: &mut Vec<u8>,
-        tap: &TapRuns,
-        refusal: &mut FirstRefusal,
-    ) -> Result<(), RunFault> {
-        let TapRead { read, lines, .. } = read_tap(self.alloc, self.keys, source, buffer, tap)?;
+    /// Adds a tap of the stream or of a node; tells which line is refused.
+    fn add(&mut self, read: ServerRead) -> Result<Option<RefusedLine>, AllocError>
+        ensures { (files : List (List ℕ)) (tap : TapRuns) → IfOk read (IsServerRead files tap)
+            → IfOk result (λ refused. refused ≡ None → AddsServer files tap self.old self.new) }
+    {
         match read {
-            Ok(read) => {
-                for one in read.as_slice() {
-                    push_stream(self.alloc, &mut self.taps, one)?;
-                }
-                Ok(push_runs(&mut self.lines, lines)?)
+            Ok((tap, lines)) => {
+                self.taps.push(tap)?;
+                self.lines.push(lines)?;
+                Ok(None)
             }
-            Err(ReadFault::Input(number, code)) => {
-                refusal.add(number, code);
-                Ok(())
-            }
-            Err(ReadFault::Memory) => Err(RunFault::Memory),
+            Err(line) => Ok(Some(line)),
         }
     }
 
-    /// Reads the lines of a node's tap into its log, and notes their numbers; tells which line is refused.
-    fn read_log<S: RunSource>(
-        &self,
-        source: &mut S,
-        buffer: &mut Vec<u8>,
-        tap: &TapRuns,
-        header: &Line,
-        log: &mut NodeRecs,
-        runs: &mut LineRuns,
-    ) -> Result<Option<RefusedLine>, RunFault> {
-        let mut left = RunLines::new(tap.runs());
-        'pieces: while let Some(lines) = left.next_lines(self.alloc, source, buffer)? {
-            push_numbers(runs, &lines)?;
-            for piece in lines.chunks(MOST_LINES) {
-                match read_piece(self.alloc, self.keys, header, piece) {
-                    Ok(read) => push_logs(log, read.as_slice())?,
-                    Err(ReadFault::Input(number, code)) => {
-                        return Ok(Some(RefusedLine { number, code }));
-                    }
-                    Err(ReadFault::Memory) => return Err(RunFault::Memory),
-                }
-            }
-        }
-        Ok(None)
-    }
-
-    /// Reads a node's tap, whose header this is.
-    fn read_node<S: RunSource>(
-        &mut self,
-        source: &mut S,
-        buffer: &mut Vec<u8>,
-        tap: &TapRuns,
-        header: &Header,
-        refusal: &mut FirstRefusal,
-    ) -> Result<(), RunFault> {
-        let mut log = NodeRecs::new(self.alloc);
-        let mut runs = LineRuns::new(Vec::new(self.alloc));
-        let refused = self.read_log(source, buffer, tap, &header.line, &mut log, &mut runs)?;
-        if let Some(line) = refused {
-            refusal.add(line.number, line.code);
-            return Ok(());
-        }
-        let name = Text::new(self.alloc, tap.name())?;
-        let records = Records::Node(log);
-        let tap = Tap {
-            name,
-            version: header.version,
-            records,
-        };
-        if self.taps.push(tap).is_err() {
-            return Err(RunFault::Memory);
-        }
-        Ok(push_runs(&mut self.lines, runs)?)
-    }
-
-    /// Reads the first line of a tap, and the others unless it is a client's.
+    /// Reads the first line of a tap, and the others unless it is a client's; tells which line is refused.
     fn read_tap<S: RunSource>(
         &mut self,
         source: &mut S,
         buffer: &mut Vec<u8>,
         tap: &TapRuns,
-        refusal: &mut FirstRefusal,
-    ) -> Result<(), RunFault> {
-        let line = first_line(self.alloc, source, buffer, tap.runs())?;
-        let header = header_of(self.alloc, self.keys, line)?;
+    ) -> Result<Option<RefusedLine>, RunFault>
+        ensures read { (files : List (List ℕ)) (done : List TapRuns)
+            → S.files source.old ≡ Some files → MayBeRead files tap.now
+            → AreServers files done self.old.kinds.items self.old.taps.items self.old.lines.items
+            → IfOk result (λ refused. refused ≡ None
+            → AreServers files (done ++ tap.now ∷ []) self.new.kinds.items self.new.taps.items
+            self.new.lines.items) }
+        ensures source { S.files source.new ≡ S.files source.old }
+    {
+        let header = first_header(self.alloc, self.keys, source, buffer, tap)?;
         push_kind(&mut self.kinds, kind_in(&header))?;
         let Some(header) = header else {
-            return Ok(());
+            return Ok(None);
         };
         match header.of {
-            TapKind::Stream if self.has_stream => {
-                refusal.add(header.line.number, InputCode::SecondStream);
-                Ok(())
-            }
+            TapKind::Stream if self.has_stream => Ok(Some(RefusedLine {
+                number: header.line.number,
+                code: InputCode::SecondStream,
+            })),
             TapKind::Stream => {
                 self.has_stream = true;
-                self.read_stream(source, buffer, tap, refusal)
+                let read = read_stream(self.alloc, self.keys, source, buffer, tap, &header)?;
+                Ok(self.add(read)?)
             }
-            TapKind::Node => self.read_node(source, buffer, tap, &header, refusal),
-            TapKind::Client => Ok(()),
+            TapKind::Node => {
+                let read = read_node(self.alloc, self.keys, source, buffer, tap, &header)?;
+                Ok(self.add(read)?)
+            }
+            TapKind::Client => Ok(None),
         }
     }
 }
@@ -281,7 +361,15 @@ pub fn read_servers<S: RunSource>(
     source: &mut S,
     taps: &[TapRuns],
     refusal: &mut FirstRefusal,
-) -> Result<Servers, RunFault> {
+) -> Result<Servers, RunFault>
+    // Where no line is refused, the taps are those of their own lines.
+    ensures read { (files : List (List ℕ)) → S.files source.old ≡ Some files
+        → All (MayBeRead files) taps.now → IfOk result (λ servers. refusal.new ≡ None
+        → AreServers files taps.now servers.kinds.items servers.taps servers.lines.items) }
+    // A refusal that was told before is still told, or an earlier one.
+    ensures kept { refusal.new ≡ None → refusal.old ≡ None }
+    ensures source { S.files source.new ≡ S.files source.old }
+{
     let mut reading = Reading {
         alloc,
         keys,
@@ -292,7 +380,9 @@ pub fn read_servers<S: RunSource>(
     };
     let mut buffer = Vec::new(alloc);
     for tap in taps {
-        reading.read_tap(source, &mut buffer, tap, refusal)?;
+        if let Some(line) = reading.read_tap(source, &mut buffer, tap)? {
+            refusal.add(line.number, line.code);
+        }
     }
     Ok(Servers {
         taps: Taps::new(reading.taps),

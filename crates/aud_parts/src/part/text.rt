@@ -1,4 +1,11 @@
 //! The parts of a recording, as they are written.
+ghost use Rattle.std.specs.Prelude.{◌≡◌, ◌++◌, ℕ, List, IfOk, OnOk, Some};
+ghost use Rattle.std.specs.Io.KnownBytes.{Appends};
+ghost use Rattle.std.specs.List.{All, AllByRecursion};
+ghost use Rattle.aud_base.specs.Watched.{inner_of};
+ghost use Rattle.aud_input.specs.LineRuns.{lines_of_runs};
+ghost use Rattle.aud_parts.specs.PartLines.{numbers_of_parts, part_of_client, part_of_server, parts_of_taps, text_of_parts};
+ghost use Rattle.aud_parts.specs.TapRuns.{IsReadable, MayBeRead};
 
 use crate::clients::measured::MeasuredClient;
 use crate::part::lines::server_lines;
@@ -8,7 +15,7 @@ use crate::plan::Plan;
 use crate::tap_index::indexed_taps::IndexedTaps;
 use crate::tap_index::run_lines::RunLines;
 use crate::tap_index::run_source::RunSource;
-use crate::tap_index::tap_lines::{client_header, push_ended, push_numbers};
+use crate::tap_index::tap_lines::{client_header, lines_past, push_ended, push_numbers};
 use crate::tap_index::tap_runs::TapRuns;
 use aud_base::{RunFault, Watched, try_map, write_out};
 use aud_input::LineRuns;
@@ -114,29 +121,56 @@ impl<'a> Planned<'a> {
         indexed: &IndexedTaps<'_>,
         source: &mut S,
         output: &mut Watched<W>,
-    ) -> Result<LineRuns, RunFault> {
+    ) -> Result<LineRuns, RunFault>
+        ensures text { (files : List (List ℕ)) → S.files source.old ≡ Some files
+            → All (MayBeRead files) indexed.now.taps.now → OnOk result (Appends
+            (W.contents (inner_of output.old)) (W.contents (inner_of output.new))
+            (text_of_parts (parts_of_taps files servers.now self.now.plan.now part
+            indexed.now.kinds.now indexed.now.taps.now))) }
+        ensures lines { (files : List (List ℕ)) → S.files source.old ≡ Some files
+            → All (MayBeRead files) indexed.now.taps.now
+            → IfOk result (λ runs. lines_of_runs runs ≡ numbers_of_parts (parts_of_taps files
+            servers.now self.now.plan.now part indexed.now.kinds.now indexed.now.taps.now)) }
+        ensures source { S.files source.new ≡ S.files source.old }
+    {
         let mut runs = LineRuns::new(Vec::new(self.alloc));
         let mut buffer = Vec::new(self.alloc);
         let mut client = 0usize;
         for (place, tap) in indexed.taps.iter().enumerate() {
             if indexed.is_server(place) {
-                if let Some(number) = servers.number_named(tap.name()) {
-                    write_out(output, servers.text(number))?;
-                    servers.push_lines(number, &mut runs)?;
-                }
+                write_server(servers, tap.name(), output, &mut runs)?;
             } else {
                 if self.plan.has_client(part, client) {
                     write_client(self.alloc, source, &mut buffer, tap, output, &mut runs)?;
                 }
-                client = client.saturating_add(1);
+                client += 1;
             }
         }
         Ok(runs)
     }
 }
 
-/// Writes a client's tap as a part has it: its header in version 2, and then its other lines as they stand. Adds their
-/// numbers.
+/// Writes the lines that were made of the tap of this name, if there are any, and adds the lines that they come from.
+fn write_server<W: Write>(
+    servers: &ServerText,
+    name: &str,
+    output: &mut Watched<W>,
+    runs: &mut LineRuns,
+) -> Result<(), RunFault>
+    ensures text { OnOk result (Appends (W.contents (inner_of output.old))
+        (W.contents (inner_of output.new)) (part_of_server servers.now name.now).text) }
+    ensures lines { OnOk result (lines_of_runs runs.new
+        ≡ lines_of_runs runs.old ++ (part_of_server servers.now name.now).numbers) }
+{
+    let Some(number) = servers.number_named(name) else {
+        return Ok(());
+    };
+    write_out(output, servers.text(number))?;
+    Ok(servers.push_lines(number, runs)?)
+}
+
+/// Writes a client's tap as a part has it: its header in version 2, and then its other lines as they stand. Adds the
+/// numbers of all of them.
 fn write_client<S: RunSource, W: Write>(
     alloc: Global,
     source: &mut S,
@@ -144,18 +178,28 @@ fn write_client<S: RunSource, W: Write>(
     tap: &TapRuns,
     output: &mut Watched<W>,
     runs: &mut LineRuns,
-) -> Result<(), RunFault> {
-    let mut text = client_header(alloc, tap.name())?;
+) -> Result<(), RunFault>
+    ensures text { (files : List (List ℕ)) → S.files source.old ≡ Some files
+        → AllByRecursion (IsReadable files) tap.now.runs
+        → OnOk result (Appends (W.contents (inner_of output.old))
+        (W.contents (inner_of output.new)) (part_of_client files tap.now).text) }
+    ensures lines { (files : List (List ℕ)) → S.files source.old ≡ Some files
+        → AllByRecursion (IsReadable files) tap.now.runs → OnOk result (lines_of_runs runs.new
+        ≡ lines_of_runs runs.old ++ (part_of_client files tap.now).numbers) }
+    ensures source { S.files source.new ≡ S.files source.old }
+{
+    let header = client_header(alloc, tap.name())?;
+    write_out(output, header.as_slice())?;
+    let mut text = Vec::new(alloc);
+    // (the first line is the header)
     let mut skipped = 1usize;
     let mut left = RunLines::new(tap.runs());
     'pieces: while let Some(lines) = left.next_lines(alloc, source, buffer)? {
         push_numbers(runs, &lines)?;
-        push_ended(&mut text, lines.get(skipped..).unwrap_or(&[]))?;
-        if !lines.is_empty() {
-            skipped = 0;
-        }
-        write_out(output, text.as_slice())?;
         text.clear();
+        push_ended(&mut text, lines_past(&lines, skipped))?;
+        write_out(output, text.as_slice())?;
+        skipped = skipped.saturating_sub(lines.len());
     }
     Ok(())
 }

@@ -1,5 +1,5 @@
 //! The lines of a tap, from the bytes of its runs.
-ghost use Rattle.std.specs.Prelude.{◌≡◌, ◌+◌, ◌^◌, ◌<◌, ◌++◌, ◌∷◌, [], length, map, IfOk, IsTrue, OnOk};
+ghost use Rattle.std.specs.Prelude.{◌≡◌, ◌+◌, ◌^◌, ◌<◌, ◌++◌, ◌∷◌, [], drop, length, map, IfOk, IsTrue, OnOk};
 ghost use Rattle.std.specs.List.{flat_map};
 ghost use Rattle.aud_tap.specs.declared.records.Rec.TheVariants.{Header};
 ghost use Rattle.aud_tap.specs.declared.records.TapKind.TheVariants.{Client};
@@ -76,6 +76,13 @@ pub fn push_lines(
     }
     push_line(alloc, next, left, lines)?;
     Ok(next.saturating_add(1))
+}
+
+/// The lines after so many of them.
+pub fn lines_past(lines: &[Line], count: usize) -> &[Line]
+    ensures { result.now ≡ drop count lines.now }
+{
+    lines.get(count..).unwrap_or(&[])
 }
 
 /// The header of a client's tap of this name in version 2, ended by a newline.

@@ -3,7 +3,8 @@ ghost use Rattle.std.specs.Prelude.{◌≡◌, ◌++◌, ◌∷◌, [], ℕ, Lis
 ghost use Rattle.std.specs.List.{AllByRecursion};
 ghost use Rattle.aud_input.specs.LineRuns.{lines_of_runs};
 ghost use Rattle.aud_reader.specs.declared.line.Line.{Line};
-ghost use Rattle.aud_reader.specs.Bundle.{taps_of, taps_to_come};
+ghost use Rattle.std.specs.Option.{option_copied};
+ghost use Rattle.aud_reader.specs.Bundle.{tap_named, taps_of, taps_to_come};
 ghost use Rattle.aud_reader.specs.OwnLines.{HaveTheirOwnLines};
 ghost use Rattle.aud_parts.specs.TapRuns.{IsReadable, runs_lines};
 ghost use Rattle.aud_parts.specs.Private.TapsRead.{HoldsLines, IsReadOf};
@@ -15,7 +16,7 @@ use crate::tap_index::tap_runs::{Run, TapRuns};
 use aud_base::RunFault;
 use aud_input::LineRuns;
 use aud_reader::{BundleReader, Line, ReadFault};
-use aud_tap::Taps;
+use aud_tap::{Tap, Taps};
 use std::alloc::Global;
 use std::hash::RandomState;
 
@@ -172,4 +173,11 @@ pub fn read_held(alloc: Global, keys: RandomState, held: &[HeldRun]) -> Result<T
         reading.read(&lines)?;
     }
     reading.finish()
+}
+
+/// The tap of this name among those that were read.
+pub fn tap_named<'t>(taps: &'t [Tap], name: &str) -> Option<&'t Tap>
+    ensures { option_copied result ≡ tap_named name.now taps.now }
+{
+    taps.iter().find(|tap| name == tap.name.as_str())
 }
