@@ -12,7 +12,7 @@ import subprocess
 from pathlib import Path
 
 from harness import TOP, program
-from splitting import SECONDS, Done, Work, case, is_refused, is_report, lines_of, need, reports_on, run, shown, split, written
+from splitting import SECONDS, Done, Work, case, is_refused, is_report, lines_in, lines_of, named_files, need, reports_on, run, shown, split, written
 
 EXAMPLE = TOP / "examples/bundle_b.jsonl"
 NOBODY = 65534
@@ -318,6 +318,14 @@ def inputs_that_cannot_be_read_twice(folder: Path) -> None:
 
 
 @case
+def files_that_no_line_can_name(folder: Path) -> None:
+    into, strange = folder / "parts", Path(shutil.copy(EXAMPLE, folder / "new\nline"))
+    for files in ([strange], [EXAMPLE, strange]):
+        is_refused(run("split", "--parts", 2, "--into", into, *files), 4, "error: ", "new\\x0aline: ", "newline")
+    need(not (into / "sessions").exists(), "sessions after a failure")
+
+
+@case
 def arguments_that_are_refused(folder: Path) -> None:
     into = ["--into", folder / "parts"]
     for words in (
@@ -332,6 +340,12 @@ def arguments_that_are_refused(folder: Path) -> None:
 
 # ---- the lines of a part
 
+# what stands in place of a file's line
+NO_FILES = (
+    b"file=", b"file=7", b"file= name", b"file=x name", b"file=-7 name", b"file=7x name", b"file=%d name" % 2**64, b"file=7 \xff",
+    b"file 7 name", b"File=7 name", b" file=7 name",
+)
+
 
 def with_lines(work: Work, text: bytes) -> list[object]:
     """The words that explain the second part with this text of its lines."""
@@ -345,16 +359,20 @@ def lines_that_are_of_no_part(folder: Path) -> None:
     """What isn't of the form is refused by the line at fault; and what is of another part."""
     work = Work.of(folder)
     text = lines_of(work.parts[1]).read_bytes()
-    first, second, *rest = lines = text.splitlines(keepends=True)
-    last = len(lines)
+    first, second, *rest, file = lines = text.splitlines(keepends=True)
+    front, last = b"".join(lines[:-1]), len(lines)
     for it, words in (
         (b"", "line 1: "), (b"\n", "line 1: "), (second, "line 1: "), (b"lines=1\n", "line 1: "), (text.replace(b"lines=", b"rows="), "line 1: "),
         (text.replace(b"bytes=", b"bytes=-"), "line 1: "), (first + b"0 1\n" + text[len(first) :], "line 2: "), (first + b"1 0\n", "line 2: "),
-        (first + second + b"1\n" + b"".join(rest), "line 3: "), (text + b"\n", f"line {last + 1}: "), (text.replace(b"\n", b"\r\n"), "line 1: "),
-        (first + second.replace(b" ", b"  "), "line 2: "), (text + b"1 1\n", "fewer or more"), (b"".join(lines[:-1]), "fewer or more"), (text[:-1], "fewer or more"),
-        (first + b"%d 1\n" % 2**64, "line 2: "),
+        (first + second + b"1\n" + b"".join(rest) + file, "line 3: "), (text + b"\n", f"line {last + 1}: "), (text.replace(b"\n", b"\r\n"), "line 1: "),
+        (first + second.replace(b" ", b"  "), "line 2: "), (text[:-1], "fewer or more"), (first + b"%d 1\n" % 2**64, "line 2: "),
+        (text + b"1 1\n", f"line {last + 1}: "),
+        (front + b"1 1\n" + file, "fewer or more"), (first + second + b"".join(rest[:-1]) + file, "fewer or more"),
     ):
         is_refused(run(*with_lines(work, it)), 4, "error: ", "other.lines: ", words)
+    for it in NO_FILES:
+        is_refused(run(*with_lines(work, front + it + b"\n" + file)), 4, "error: ", "other.lines: ", f"line {last}: ")
+        is_refused(run(*with_lines(work, text + it + b"\n")), 4, "error: ", "other.lines: ", f"line {last + 1}: ")
     for part in (work.parts[0], work.parts[2]):
         size = re.search(rb"lines=(\d+) bytes=(\d+)", lines_of(part).read_bytes())
         words = f"is of a part of {size[1].decode()} lines and {size[2].decode()} bytes"
@@ -368,10 +386,45 @@ def lines_beyond_those_that_are_kept(folder: Path) -> None:
     """A record of which the line is none of the first 4,294,967,294 is not shown, as in an input that has so many."""
     work = Work.of(folder)
     whole = re.findall(rb"^lines=\d+ bytes=\d+\n", lines_of(work.parts[1]).read_bytes())[0]
-    count = int(re.search(rb"\d+", whole)[0])
+    count, files = int(re.search(rb"\d+", whole)[0]), "".join(f"{it}\n" for it in named_files(work.parts[1])).encode()
     for line in (2**32 - 1, 2**64 - 1):
-        done = run(*with_lines(work, whole + b"%d %d\n" % (count, line)), "--json")
+        done = run(*with_lines(work, whole + b"%d %d\n" % (count, line) + files), "--json")
         need(done.returncode in (0, 1) and not re.search(rb'"line":\d', done.stdout), shown(done))
+
+
+# files of a recording, each with its name as it is printed
+PRINTED = {"one.jsonl": "one.jsonl", "two\\2": "two\\\\2", "three\x1b[2J\u202e": "three\\x1b[2J\\u{202e}", "\u200b": "\\u{200b}"}
+ROW = re.compile(r" *(\d+) \S+ +.*  \((.*):(\d+)\)")
+
+
+def rows_told(folder: Path, *words: object) -> set[str]:
+    """The rows of records that `explain` writes."""
+    done = run("explain", *words, cwd=folder)
+    need(done.returncode in (0, 1), shown(done))
+    return {it for it in done.stdout.decode().splitlines() if it[:8].strip().isdigit()}
+
+
+@case
+def lines_of_several_files(folder: Path) -> None:
+    """Of a recording in several files, each row of a part names the file and the line there, as a row of the whole does."""
+    lines = run("simulate", "--clients", 12, "--acts", 400, "--fault", "drop").stdout.splitlines(keepends=True)
+    most = len(lines) // len(PRINTED) + 1
+    places = [(name, number) for name in PRINTED.values() for number in range(1, most + 1)][: len(lines)]
+    for number, name in enumerate(PRINTED):
+        (folder / name).write_bytes(b"".join(lines[number * most : (number + 1) * most]))
+    done = run("split", "--parts", 4, "--into", "parts", *PRINTED, cwd=folder)
+    need(done.returncode == 0, shown(done))
+    parts, whole = sorted(folder.glob("parts/*.jsonl")), rows_told(folder, *PRINTED)
+    rows = {it: rows_told(folder, "--lines", lines_of(it), it) for it in parts}
+    for part in parts:
+        files = [f"file={len(lines_in(folder / it))} {it}" for it in PRINTED]
+        need(named_files(part) == files, f"{part.name}: {named_files(part)}")
+    for it in set.union(whole, *rows.values()):
+        told = ROW.fullmatch(it)
+        need(told is not None and places[int(told[1]) - 1] == (told[2], int(told[3])), f"{it!r}")
+    # a `takes` of a part is no record of the whole
+    told = {row for its in rows.values() for row in its if " takes up to " not in row}
+    need(len(told) > 0 and told <= whole, f"{told - whole} of the parts, and of the whole {whole}")
 
 
 @case

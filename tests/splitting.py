@@ -3,6 +3,7 @@ lines that a part's lines come from have to be lines of the same taps, in their 
 
 from __future__ import annotations
 
+import functools
 import itertools
 import json
 import re
@@ -11,7 +12,7 @@ import sys
 from collections import Counter
 from dataclasses import dataclass
 from pathlib import Path
-from typing import Callable
+from typing import Callable, Optional
 
 from harness import difference, program
 
@@ -21,6 +22,7 @@ CLIENT = re.compile(rb'^\S+ \{"k":"tap","of":"client"', re.M)
 sys.set_int_max_str_digits(0)
 Done = subprocess.CompletedProcess  # of bytes
 Case = Callable[[Path], None]
+Place = tuple[Optional[str], Optional[int]]  # the name of a file, and the number of a line there
 CASES: list[Case] = []
 
 
@@ -69,6 +71,20 @@ class Bundle:
         """The lines of all files, one after the other."""
         return [line.removesuffix(b"\r") for file in self.files for line in lines_in(file)]
 
+    @functools.cached_property
+    def counts(self) -> list[int]:
+        """How many lines each file has."""
+        return [len(lines_in(it)) for it in self.files]
+
+    def place(self, line: int) -> Place:
+        """The file in which a line of all files stands, and its number there; nothing where there is one file."""
+        if len(self.files) > 1:
+            for file, count in zip(self.files, self.counts):
+                if line <= count:
+                    return str(file), line
+                line -= count
+        return None, None
+
 
 def lines_in(file: Path) -> list[bytes]:
     """The lines of a file; what comes after the last newline is one too."""
@@ -88,10 +104,17 @@ def lines_of(part: Path) -> Path:
     return part.with_suffix(".lines")
 
 
+def named_files(part: Path) -> list[str]:
+    """The lines of a part's file that are of the files of the whole: they stand after all others."""
+    rows = lines_of(part).read_text().splitlines()
+    return list(itertools.dropwhile(lambda it: not it.startswith("file="), rows))
+
+
 def named_lines(part: Path) -> list[int]:
     """The line that each line of a part comes from."""
     first, *rows = lines_of(part).read_text().splitlines()
     need(first == f"lines={len(lines_in(part))} bytes={part.stat().st_size}", f"{lines_of(part)} begins with {first}")
+    rows = rows[: len(rows) - len(named_files(part))]
     runs = [(int(count), int(line)) for count, line in (it.split(" ") for it in rows)]
     need(all(count > 0 and line > 0 for count, line in runs), f"runs {runs}")
     need(all(line + count != after for (count, line), (_, after) in itertools.pairwise(runs)), f"runs that go on each other: {runs}")
@@ -141,9 +164,10 @@ def split(bundle: Bundle, into: Path, *layout: object) -> list[Path]:
         facts = f"{part.name} sessions={counts.pop(str(number), 0)} clients={len(CLIENT.findall(data))} bytes={len(data)}"
         need(row == facts, f"told {row}, and there is {facts}")
     need(not counts, f"sessions of parts {list(counts)}")
-    whole = bundle.lines()
+    whole, files = bundle.lines(), [f"file={count} {name}" for name, count in zip(bundle.files, bundle.counts)]
     for part in parts:
         are_named(part, whole)
+        need(named_files(part) == files, f"{lines_of(part)} names {named_files(part)}")
     return parts
 
 

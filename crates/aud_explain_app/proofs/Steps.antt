@@ -12,6 +12,7 @@ use Rattle.aud_node.specs.Cluster.{Cluster}
 use Rattle.aud_node.specs.Lists.{is_empty}
 use Rattle.aud_findings.proofs.Read.{zip_append}
 use Rattle.aud_explain_app.specs.declared.written.Form.{Form}
+use Rattle.aud_input.specs.declared.input_file.InputFile.{InputFile}
 use Rattle.aud_input.specs.TapLines.{TapLines}
 use Rattle.aud_verdict.specs.declared.verdict.SessionVerdict.{SessionVerdict}
 use Rattle.aud_explain_app.specs.Strangers.{AreAdded, AreKnown, IsJudged, asked_in_vain, has_pid, pid_in_vain, pids_of, with_pids}
@@ -107,13 +108,13 @@ abbrev from : {X : Type 0} → List X → ℕ → List X
 from xs i = take (length xs - i) (drop i xs)
 
 -- the texts of sessions, and then those of others
-texts_joined : (c : Cluster) (lines : List TapLines) (form : Form) (xs ys : List SessionVerdict) (a b e : List ℕ)
-    → AddTexts c lines form xs a b → AddTexts c lines form ys b e → AddTexts c lines form (xs ++ ys) a e
-texts_joined c lines form xs ys a b e first next =
+texts_joined : (c : Cluster) (lines : List TapLines) (form : Form) (files : List InputFile) (xs ys : List SessionVerdict) (a b e : List ℕ)
+    → AddTexts c lines form files xs a b → AddTexts c lines form files ys b e → AddTexts c lines form files (xs ++ ys) a e
+texts_joined c lines form files xs ys a b e first next =
     let one : List ℕ → List ℕ = λ text. text in
     record {
       texts = first.texts ++ next.texts;
-      are_texts = zip_append (IsTextOf c lines form) xs first.texts ys next.texts first.are_texts next.are_texts;
+      are_texts = zip_append (IsTextOf c lines form files) xs first.texts ys next.texts first.are_texts next.are_texts;
       added = next.added ∙ ap (λ t. t ++ flat_map one next.texts) first.added ∙ append_assoc a (flat_map one first.texts) (flat_map one next.texts)
           ∙ ap (λ t. a ++ t) (sym (flat_map-append one first.texts next.texts));
     }
@@ -126,44 +127,44 @@ part_of xs i k h =
     ap (λ ys. take k (from xs i) ++ ys) others ∙ take-append-drop k (from xs i) ∙ rest
 
 -- the texts of the next part of a list, and then those of what comes after it
-pub texts_part : {X : Type 0} (c : Cluster) (lines : List TapLines) (form : Form) (f : X → SessionVerdict) (xs : List X) (i k : ℕ) (a b e : List ℕ) → k ≤ length (from xs i)
-    → AddTexts c lines form (map f (take k (from xs i))) a b → AddTexts c lines form (map f (drop (i + length (take k (from xs i))) xs)) b e
-    → AddTexts c lines form (map f (drop i xs)) a e
-texts_part c lines form f xs i k a b e h first next =
+pub texts_part : {X : Type 0} (c : Cluster) (lines : List TapLines) (form : Form) (files : List InputFile) (f : X → SessionVerdict) (xs : List X) (i k : ℕ) (a b e : List ℕ) → k ≤ length (from xs i)
+    → AddTexts c lines form files (map f (take k (from xs i))) a b → AddTexts c lines form files (map f (drop (i + length (take k (from xs i))) xs)) b e
+    → AddTexts c lines form files (map f (drop i xs)) a e
+texts_part c lines form files f xs i k a b e h first next =
     let part = take k (from xs i) in
     let others = drop (i + length part) xs in
-    subst (λ ys. AddTexts c lines form ys a e) (sym (map-append f part others) ∙ ap (map f) (part_of xs i k h))
-    (texts_joined c lines form (map f part) (map f others) a b e first next)
+    subst (λ ys. AddTexts c lines form files ys a e) (sym (map-append f part others) ∙ ap (map f) (part_of xs i k h))
+    (texts_joined c lines form files (map f part) (map f others) a b e first next)
 
 -- no texts
-pub texts_none : {X : Type 0} (c : Cluster) (lines : List TapLines) (form : Form) (f : X → SessionVerdict) (xs : List X) (a : List ℕ) → xs ≡ [] → AddTexts c lines form (map f xs) a a
-texts_none c lines form f xs a is =
-    subst (λ ys. AddTexts c lines form (map f ys) a a) (sym is) (record { texts = []; are_texts = tt; added = sym (append-nil a) })
+pub texts_none : {X : Type 0} (c : Cluster) (lines : List TapLines) (form : Form) (files : List InputFile) (f : X → SessionVerdict) (xs : List X) (a : List ℕ) → xs ≡ [] → AddTexts c lines form files (map f xs) a a
+texts_none c lines form files f xs a is =
+    subst (λ ys. AddTexts c lines form files (map f ys) a a) (sym is) (record { texts = []; are_texts = tt; added = sym (append-nil a) })
 
-module _ {X T : Type 0} (c : Cluster) (lines : List TapLines) (form : Form) (f : X → SessionVerdict) (g : T → List ℕ) where
+module _ {X T : Type 0} (c : Cluster) (lines : List TapLines) (form : Form) (files : List InputFile) (f : X → SessionVerdict) (g : T → List ℕ) where
   -- a text for each session, made apart from the others
   abbrev AreMade : List X → List T → Type 0
-  AreMade = AllZip (λ x t. AddsText c lines form (f x) [] (g t))
+  AreMade = AllZip (λ x t. AddsText c lines form files (f x) [] (g t))
 
-  each_text : (xs : List X) (ts : List T) → AreMade xs ts → AllZip (IsTextOf c lines form) (map f xs) (map g ts)
+  each_text : (xs : List X) (ts : List T) → AreMade xs ts → AllZip (IsTextOf c lines form files) (map f xs) (map g ts)
   each_text [] [] h = tt
   each_text [] (t ∷ ts) h = absurd h
   each_text (x ∷ xs) [] h = absurd h
-  each_text (x ∷ xs) (t ∷ ts) h = (subst (IsTextOf c lines form (f x)) (sym h.0.added) h.0.is_text, each_text xs ts h.1)
+  each_text (x ∷ xs) (t ∷ ts) h = (subst (IsTextOf c lines form files (f x)) (sym h.0.added) h.0.is_text, each_text xs ts h.1)
 
   all_texts : (ts : List T) → flat_map g ts ≡ flat_map (λ text. text) (map g ts)
   all_texts [] = refl
   all_texts (t ∷ ts) = ap (λ more. g t ++ more) (all_texts ts)
 
   -- they are put one after the other
-  pub texts_put : (xs : List X) (ts : List T) (a b : List ℕ) → AreMade xs ts → b ≡ a ++ flat_map g ts → AddTexts c lines form (map f xs) a b
+  pub texts_put : (xs : List X) (ts : List T) (a b : List ℕ) → AreMade xs ts → b ≡ a ++ flat_map g ts → AddTexts c lines form files (map f xs) a b
   texts_put xs ts a b made put = record { texts = map g ts; are_texts = each_text xs ts made; added = put ∙ ap (λ t. a ++ t) (all_texts ts) }
 
 -- the text of a session by its pid and its refused recoveries
-pub adds_text : (c : Cluster) (lines : List TapLines) (form : Form) (session : SessionVerdict) (pid : Text) (refused : List Recovery) (old new : List ℕ) → pid ≡ session.pid
-    → refused ≡ refused_of c session.pid → AddsFor c lines form pid session.verdict refused old new → AddsText c lines form session old new
-adds_text c lines form session pid refused old new is are adds =
-    let it : AddsFor c lines form session.pid session.verdict (refused_of c session.pid) old new =
-    subst (λ p. AddsFor c lines form p session.verdict (refused_of c session.pid) old new) is
-    (subst (λ r. AddsFor c lines form pid session.verdict r old new) are adds) in
+pub adds_text : (c : Cluster) (lines : List TapLines) (form : Form) (files : List InputFile) (session : SessionVerdict) (pid : Text) (refused : List Recovery) (old new : List ℕ) → pid ≡ session.pid
+    → refused ≡ refused_of c session.pid → AddsFor c lines form files pid session.verdict refused old new → AddsText c lines form files session old new
+adds_text c lines form files session pid refused old new is are adds =
+    let it : AddsFor c lines form files session.pid session.verdict (refused_of c session.pid) old new =
+    subst (λ p. AddsFor c lines form files p session.verdict (refused_of c session.pid) old new) is
+    (subst (λ r. AddsFor c lines form files pid session.verdict r old new) are adds) in
     record { text = it.text; is_text = record { told = it.told; is_explained = it.is_explained; is_written = it.is_written }; added = it.added }

@@ -3,11 +3,14 @@ use Rattle.std.specs.Prelude.{◌≡◌, ◌-◌, ◌^◌, ◌⊎◌, ℕ, List,
 use Rattle.std.specs.List.{filter}
 use Rattle.aud_node.specs.Cluster.{Cluster, cluster_of}
 use Rattle.aud_node.specs.Recoverable.{is_recoverable}
+use Rattle.aud_node.specs.Stream.{Text}
 use Rattle.aud_input.specs.declared.part_lines.PartLines.{PartLines}
 use Rattle.aud_input.specs.declared.reading.Recorded.{Recorded}
 use Rattle.aud_input.specs.declared.reading.Size.{Size}
 use Rattle.aud_input.specs.declared.refusal.Refusal.{Refusal}
+use Rattle.aud_input.specs.declared.input_file.InputFile.{InputFile}
 use Rattle.aud_input.specs.Files.{AreRecorded, IsRefused}
+use Rattle.aud_input.specs.InputFiles.{input_files}
 use Rattle.aud_input.specs.LineRuns.{taps_named}
 use Rattle.aud_cli.specs.declared.explain_options.ExplainOptions.{ExplainOptions}
 use Rattle.aud_cli.specs.declared.output_form.OutputForm.{OutputForm}
@@ -78,17 +81,17 @@ pub record AreFigures (options : ExplainOptions) (c : Cluster) (size : Size) (ve
   pub is_summary : IsSummary c verdicts (recoveries_of c) size figures.summary
   pub status_is : figures.status ≡ status_by options.fail_on (says_nothing figures.summary) verdicts (recoveries_of c)
 
--- the output over a recording, where these are the lines of its records: the explanation of each session that is shown,
+-- the output over a recording, where these are the lines of its records, in these files: the explanation of each session that is shown,
 -- by its verdict, with the whole where that is asked for, and the figures of all of it; sessions that clients asked for in
 -- vain and that no record names are shown too, and not counted; and each pid of the words is that of one of all these
-pub record IsExplaining (options : ExplainOptions) (c : Cluster) (lines : List TapLines) (size : Size) (output : OutputSeen) : Type 0 where
+pub record IsExplaining (options : ExplainOptions) (c : Cluster) (lines : List TapLines) (files : List InputFile) (size : Size) (output : OutputSeen) : Type 0 where
   pub verdicts : List SessionVerdict
   pub are_verdicts : AreVerdicts c options.whole (sessions_of c) verdicts
   pub sessions : List SessionVerdict
   pub are_sessions : AreAdded c options.whole (asked_in_vain c (recoveries_of c)) verdicts sessions
   pub none_missing : first_missing (pids_known c) options.pids ≡ None
   pub texts : List ℕ
-  pub are_texts : AddTexts c lines (form_of options.form) (sessions_chosen c options.only options.pids sessions) [] texts
+  pub are_texts : AddTexts c lines (form_of options.form) files (sessions_chosen c options.only options.pids sessions) [] texts
   pub figures : Figures
   pub are_figures : AreFigures options c size verdicts figures
   pub seconds : ℕ
@@ -105,11 +108,17 @@ abbrev pub lines_told : Option PartLines → List TapLines → List TapLines
 lines_told None lines = lines
 lines_told (Some part) lines = taps_named part.runs lines
 
+-- the files in which these lines stand; where they are those of the input, the files of that
+abbrev pub files_told : Option PartLines → List Text → List ℕ → List InputFile
+files_told None names counts = input_files names counts
+files_told (Some part) names counts = part.files
+
 -- what is told of files, by what their readers have left: their recording explained, or their first refused line told.
 -- Where they are a part, the lines of records are named as those of the input, and a refused line as that of the part
 abbrev pub IsTold : ExplainOptions → Option PartLines → List (Option (List ℕ)) → OutputSeen → Type 0
 IsTold options part lefts output =
-    ((read : Recorded) × AreRecorded lefts read × IsOf part read.size × IsExplaining options (cluster_of read.taps) (lines_told part read.lines) read.size output)
+    ((read : Recorded) × AreRecorded lefts read × IsOf part read.size × IsExplaining options (cluster_of read.taps) (lines_told part read.lines)
+    (files_told part options.files read.counts.items) read.size output)
     ⊎ ((refusal : Refusal) × IsRefused lefts refusal × (output ≡ refused_output (form_of options.form) options.files refusal))
 
 -- what is told is written as it is, or in a page that holds it

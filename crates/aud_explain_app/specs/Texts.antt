@@ -6,6 +6,7 @@ use Rattle.aud_explain_app.specs.declared.explained.Explained.{Explained}
 use Rattle.aud_explain_app.specs.declared.written.Form.{Form}
 use Rattle.aud_explain_app.specs.Explained.{IsExplained}
 use Rattle.aud_explain_app.specs.Written.{IsWritten}
+use Rattle.aud_input.specs.declared.input_file.InputFile.{InputFile}
 use Rattle.aud_input.specs.TapLines.{TapLines}
 use Rattle.aud_node.specs.Stream.{Text}
 use Rattle.aud_session_facts.specs.declared.asked.Recovery.{Recovery}
@@ -14,27 +15,27 @@ use Rattle.aud_verdict.specs.declared.verdict.Verdict.{Verdict}
 use Rattle.aud_explain_app.specs.Asked.{refused_of}
 
 -- the text is that of an explanation of the session, with its verdict and its refused recoveries
-pub record IsTextOf (c : Cluster) (lines : List TapLines) (form : Form) (session : SessionVerdict) (text : List ℕ) : Type 0 where
+pub record IsTextOf (c : Cluster) (lines : List TapLines) (form : Form) (files : List InputFile) (session : SessionVerdict) (text : List ℕ) : Type 0 where
   pub told : Explained
   pub is_explained : IsExplained c lines session.pid session.verdict (refused_of c session.pid) told
-  pub is_written : IsWritten form session.pid session.verdict told text
+  pub is_written : IsWritten form files session.pid session.verdict told text
 
 -- the text of an explanation of the session with this pid, this verdict and these refused recoveries was added
-pub record AddsFor (c : Cluster) (lines : List TapLines) (form : Form) (pid : Text) (verdict : Verdict) (refused : List Recovery) (old new : List ℕ) : Type 0 where
+pub record AddsFor (c : Cluster) (lines : List TapLines) (form : Form) (files : List InputFile) (pid : Text) (verdict : Verdict) (refused : List Recovery) (old new : List ℕ) : Type 0 where
   pub told : Explained
   pub is_explained : IsExplained c lines pid verdict refused told
   pub text : List ℕ
-  pub is_written : IsWritten form pid verdict told text
+  pub is_written : IsWritten form files pid verdict told text
   pub added : new ≡ old ++ text
 
 -- such a text was added
-pub record AddsText (c : Cluster) (lines : List TapLines) (form : Form) (session : SessionVerdict) (old new : List ℕ) : Type 0 where
+pub record AddsText (c : Cluster) (lines : List TapLines) (form : Form) (files : List InputFile) (session : SessionVerdict) (old new : List ℕ) : Type 0 where
   pub text : List ℕ
-  pub is_text : IsTextOf c lines form session text
+  pub is_text : IsTextOf c lines form files session text
   pub added : new ≡ old ++ text
 
 -- texts of these sessions, one of each, were added
-pub record AddTexts (c : Cluster) (lines : List TapLines) (form : Form) (sessions : List SessionVerdict) (old new : List ℕ) : Type 0 where
+pub record AddTexts (c : Cluster) (lines : List TapLines) (form : Form) (files : List InputFile) (sessions : List SessionVerdict) (old new : List ℕ) : Type 0 where
   pub texts : List (List ℕ)
-  pub are_texts : AllZip (IsTextOf c lines form) sessions texts
+  pub are_texts : AllZip (IsTextOf c lines form files) sessions texts
   pub added : new ≡ old ++ flat_map (λ text. text) texts

@@ -1,6 +1,7 @@
 -- The explanation of a session, written.
 use Rattle.std.specs.Prelude.{◌≡◌, ℕ, List, ◌++◌, codes, map}
 use Rattle.aud_node.specs.Stream.{Text}
+use Rattle.aud_input.specs.declared.input_file.InputFile.{InputFile}
 use Rattle.aud_causes.specs.Found.{cause_seen}
 use Rattle.aud_explanation.specs.declared.explanation.Explanation.{Explanation}
 use Rattle.aud_explanation.specs.Text.{explanation_text}
@@ -12,10 +13,10 @@ use Rattle.aud_explain_app.specs.declared.written.Form.{Form}
 use Rattle.aud_explain_app.specs.declared.written.Form.TheVariants.{Text as InText, Json}
 use Rattle.aud_explain_app.specs.Lent.{also_told, cause_told, causes_of_refusals, recoveries_shown, recovery_told}
 
--- an explanation in this form: its lines and an empty one, or a line of JSON
-abbrev pub form_text : Form → Explanation → List ℕ
-form_text InText e = explanation_text e ++ codes "\n"
-form_text Json e = explanation_json e ++ codes "\n"
+-- an explanation in this form, of an input of these files: its lines and an empty one, or a line of JSON
+abbrev pub form_text : Form → List InputFile → Explanation → List ℕ
+form_text InText files e = explanation_text files e ++ codes "\n"
+form_text Json files e = explanation_json files e ++ codes "\n"
 
 -- the explanation has what is told of the session with this pid, on which this is the verdict
 pub record IsOf (pid : Text) (verdict : Verdict) (told : Explained) (e : Explanation) : Type 0 where
@@ -31,13 +32,13 @@ pub record IsOf (pid : Text) (verdict : Verdict) (told : Explained) (e : Explana
   pub causes_are : map cause_told e.causes.now ≡ map cause_seen told.causes.items ++ causes_of_refusals told.refused.items
 
 -- the text is that of such an explanation, in this form
-pub record IsWritten (form : Form) (pid : Text) (verdict : Verdict) (told : Explained) (text : List ℕ) : Type 0 where
+pub record IsWritten (form : Form) (files : List InputFile) (pid : Text) (verdict : Verdict) (told : Explained) (text : List ℕ) : Type 0 where
   pub explanation : Explanation
   pub is_of : IsOf pid verdict told explanation
-  pub text_is : text ≡ form_text form explanation
+  pub text_is : text ≡ form_text form files explanation
 
 -- such a text was added
-pub record Adds (form : Form) (pid : Text) (verdict : Verdict) (told : Explained) (old new : List ℕ) : Type 0 where
+pub record Adds (form : Form) (files : List InputFile) (pid : Text) (verdict : Verdict) (told : Explained) (old new : List ℕ) : Type 0 where
   pub text : List ℕ
-  pub is_written : IsWritten form pid verdict told text
+  pub is_written : IsWritten form files pid verdict told text
   pub added : new ≡ old ++ text

@@ -19,16 +19,17 @@ use crate::prepared::prepared_for;
 use crate::sessions::push_sessions;
 use crate::status::status_by;
 use crate::strangers::add_strangers;
-use crate::written::Form;
+use crate::written::{Form, Layout};
 use aud_cli::{ExplainOptions, OutputForm};
 use aud_client::Recording;
 use aud_desk::{AuditFault, OpenGate, Report, audit_with};
-use aud_input::{RecordLines, Recorded, Size};
+use aud_input::{InputFile, RecordLines, Recorded, Size};
 use aud_rows::Sheet;
 use aud_summary::{Input, Summary, says_nothing, summary_json, summary_of, summary_text};
 use aud_verdict::{Output, SessionVerdict, Status};
 use std::alloc::{AllocError, Global};
 use std::hash::RandomState;
+use std::mem::ManuallyDrop;
 use std::sync::Wait;
 use std::thread::Threads;
 use std::time::{Clock, Instant};
@@ -114,7 +115,7 @@ fn input_of(size: Size, seconds: u64) -> Input
     }
 }
 
-/// The explanations, and the summary of what was read since `start`. The lines are those of the records.
+/// The explanations, and the summary of what was read since `start`. The lines are those of the records, in these files.
 pub(crate) fn output_of<H: Threads + Wait + Clock + Sync>(
     rt: &H,
     alloc: Global,
@@ -123,16 +124,17 @@ pub(crate) fn output_of<H: Threads + Wait + Clock + Sync>(
     start: Option<Instant>,
     recorded: &Recorded,
     lines: &RecordLines,
+    files: &[InputFile],
 ) -> Result<Output, Unexplained>
     requires names { AreNamedOnce recorded.now.taps }
     requires workers { (0 < options.now.workers) × (options.now.workers ≤ 64) }
     ensures explaining { IfOk result (IsExplaining options.now
-        (cluster_of recorded.now.taps) lines.now recorded.now.size) }
+        (cluster_of recorded.now.taps) lines.now files.now recorded.now.size) }
     ensures missing { (number : ℕ) → result ≡ Err (NoSession number)
         → first_missing (pids_known (cluster_of recorded.now.taps)) options.now.pids ≡ Some number }
 {
     let threads = options.workers as usize;
-    let recording = Recording::read(rt, alloc, keys, threads, &recorded.taps)?;
+    let recording = ManuallyDrop::new(Recording::read(rt, alloc, keys, threads, &recorded.taps)?);
     let sheet = Sheet {
         recording: &recording,
         lines,
@@ -145,6 +147,7 @@ pub(crate) fn output_of<H: Threads + Wait + Clock + Sync>(
         options,
         start,
         sheet,
+        files,
         recorded.size,
         report.verdicts,
     )
@@ -158,13 +161,14 @@ fn explaining<H: Threads + Clock + Sync>(
     options: &ExplainOptions,
     start: Option<Instant>,
     sheet: Sheet<'_, '_>,
+    files: &[InputFile],
     size: Size,
     verdicts: Vec<SessionVerdict>,
 ) -> Result<Output, Unexplained>
     requires { AreVerdicts sheet.recording.now options.now.whole
         (sessions_of sheet.recording.now) verdicts.items }
     ensures explaining { IfOk result (IsExplaining options.now sheet.entry.recording.now
-        sheet.entry.lines.now size) }
+        sheet.entry.lines.now files.now size) }
     ensures missing { (number : ℕ) → result ≡ Err (NoSession number)
         → first_missing (pids_known sheet.entry.recording.now) options.now.pids ≡ Some number }
 {
@@ -179,7 +183,7 @@ fn explaining<H: Threads + Clock + Sync>(
         &asked,
         &mut sessions,
     )?;
-    let told = told(rt, alloc, keys, options, sheet, &asked, &sessions)?;
+    let told = told(rt, alloc, keys, options, sheet, files, &asked, &sessions)?;
     let mut out = told;
     let summary = timed(figures.summary, seconds_since(rt, start));
     push_summary(alloc, &mut out, form_of(options), &summary)?;
@@ -232,12 +236,13 @@ fn told<H: Threads + Sync>(
     keys: RandomState,
     options: &ExplainOptions,
     sheet: Sheet<'_, '_>,
+    files: &[InputFile],
     asked: &Asked,
     sessions: &[SessionVerdict],
 ) -> Result<String, Unexplained>
     requires { AreAsked sheet.recording.now asked.now }
     ensures told { IfOk result (λ text. AddTexts sheet.entry.recording.now sheet.entry.lines.now
-        (form_of options.now.form)
+        (form_of options.now.form) files.now
         (sessions_chosen sheet.entry.recording.now options.now.only options.now.pids sessions.now)
         [] (string_bytes text)) }
     ensures none_missing { OnOk result (first_missing (pids_of sessions.now) options.now.pids
@@ -248,10 +253,13 @@ fn told<H: Threads + Sync>(
     let shown = chosen(alloc, keys, options, asked, sessions)?;
     let prepared = prepared_for(alloc, sheet.recording, asked, &shown)?;
     let threads = options.workers as usize;
-    let form = form_of(options);
+    let layout = Layout {
+        form: form_of(options),
+        files,
+    };
     let mut out = String::new(alloc);
     push_sessions(
-        rt, alloc, threads, &mut out, form, sheet, &prepared, asked, &shown,
+        rt, alloc, threads, &mut out, layout, sheet, &prepared, asked, &shown,
     )?;
     Ok(out)
 }

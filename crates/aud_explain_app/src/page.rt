@@ -5,7 +5,7 @@ pub(crate) const HEAD: &str = r#"<!doctype html>
 <html lang="en">
 <head>
 <meta charset="utf-8">
-<meta http-equiv="Content-Security-Policy" content="default-src 'none'; script-src 'sha256-GDzg5jIL/QLbt0TknsHX5uw+wTmHT1XrrCL1fzgdgBY='; style-src 'sha256-//aajhyuqHNxML7E4rIQIFCIydyOmmTd3e7Eg+HmgMA='; base-uri 'none'; form-action 'none'; require-trusted-types-for 'script'; trusted-types 'none'">
+<meta http-equiv="Content-Security-Policy" content="default-src 'none'; script-src 'sha256-5s2KRCTIK0uWhnKmEZI/bnPEbd0rTrsVmPr3nb5J6wY='; style-src 'sha256-gMYhEyB3PDSfbNwcTAUqBJQ8LE/pS1oHd+iOxOIDqCg='; base-uri 'none'; form-action 'none'; require-trusted-types-for 'script'; trusted-types 'none'">
 <meta name="viewport" content="width=device-width, initial-scale=1">
 <title>sioaudit report</title>
 <style>
@@ -48,6 +48,7 @@ button, .file, summary, .mark, .row, [data-line] { cursor: pointer }
 :focus-visible, .file:focus-within { outline: 2px solid var(--link); outline-offset: 2px }
 a { color: var(--link) }
 code { font-family: var(--mono); font-size: .9em; overflow-wrap: anywhere; unicode-bidi: isolate }
+.path { overflow-wrap: normal }
 small { font-weight: 400 }
 .soft, h3, small, dt, label, .key, summary { color: var(--soft); font-size: .85rem }
 [type=file] { position: absolute; left: 0; width: 1px; height: 1px; opacity: 0 }
@@ -252,7 +253,7 @@ const TEXT = maybe("");
 const COUNT = maybe(0);
 
 /** The forms of what docs/EXPLAIN.md describes, by example: a list has one for all its items, a span two. */
-const ROW = { line: 0, role: "", says: "", tap: "" };
+const ROW = { file: TEXT, file_line: COUNT, line: 0, role: "", says: "", tap: "" };
 const SESSION = {
   pid: "", verdict: "", fault: TEXT, class: TEXT, off: TEXT, client: TEXT, nsp: TEXT, conn: COUNT, got: COUNT, due: COUNT,
   tail: COUNT, at_frame: COUNT,
@@ -438,14 +439,21 @@ function placeOf({ says }) {
   return entry ? Number(entry[1]) : cursor ? Number(cursor[1]) + 0.5 : null;
 }
 
+/**
+ * A record's file and its line there, where several files were read.
+ * @param {Row} row
+ */
+const fileOf = ({ file, file_line }) => (file === null ? "" : visible(`${file}:${file_line}`));
+
 /** @param {Session} session @param {Row} row */
 const roleOf = ({ fault }, { role }) => ROLES[`${role} ${fault}`] ?? ROLES[role] ?? role;
 
 /** @param {Session} session @param {Row} row @param {Place} at @param {string} shape */
 function recordMark(session, row, at, shape) {
-  const role = roleOf(session, row);
+  const [role, file] = [roleOf(session, row), fileOf(row)];
   const look = row.role === "fault" ? { shape: "sign", look: faultOf(session.fault).look } : { shape };
-  return mark({ at, label: `${visible(row.says)}${role && ` \u2014 ${role}`}`, line: row.line, tap: row.tap, weight: 3, ...look });
+  const label = `${visible(row.says)}${role && ` \u2014 ${role}`}${file && ` (${file})`}`;
+  return mark({ at, label, line: row.line, tap: row.tap, weight: 3, ...look });
 }
 
 /**
@@ -898,11 +906,15 @@ function pictureOf(session, room, onLine) {
 // ---- A session in words
 
 /** @param {Session} session @param {Row[]} rows @param {string} name @param {(line: number) => void} choose */
-const rowsTable = (session, rows, name, choose) => h("div", { class: "wide" }, h("table", { "aria-label": name },
-  h("thead", {}, h("tr", {}, ...["line", "tap", "record", "shown for"].map(it => h("th", {}, it)))),
-  h("tbody", {}, ...rows.map(row => h("tr", { "data-line": row.line, click: () => choose(row.line) },
-    h("td", { class: "number" }, String(row.line)), h("td", {}, code(row.tap)), h("td", {}, code(row.says)),
-    h("td", {}, row.role === "fault" ? h("b", {}, `\u2190 ${roleOf(session, row)}`) : roleOf(session, row)))))));
+function rowsTable(session, rows, name, choose) {
+  const ofFiles = rows.some(it => it.file !== null);
+  return h("div", { class: "wide" }, h("table", { "aria-label": name },
+    h("thead", {}, h("tr", {}, ...["line", "tap", "record", "shown for", ...(ofFiles ? ["file"] : [])].map(it => h("th", {}, it)))),
+    h("tbody", {}, ...rows.map(row => h("tr", { "data-line": row.line, click: () => choose(row.line) },
+      h("td", { class: "number" }, String(row.line)), h("td", {}, code(row.tap)), h("td", {}, code(row.says)),
+      h("td", {}, row.role === "fault" ? h("b", {}, `\u2190 ${roleOf(session, row)}`) : roleOf(session, row)),
+      ofFiles ? h("td", {}, h("code", { class: "path" }, ...fileOf(row).split(/(?<=\/)/).flatMap(it => [it, h("wbr")]))) : null)))));
+}
 
 /** @param {Session} session */
 function accountOf({ client, nsp, conn, turns, got, due, tail, at_frame }) {

@@ -3,11 +3,12 @@ ghost use Rattle.std.specs.Prelude.{◌≡◌, ◌≢◌, ◌<◌, ◌≤◌, �
 ghost use Rattle.std.specs.Io.KnownBytes.{Appends};
 ghost use Rattle.aud_base.specs.Written.{AppendsFront};
 ghost use Rattle.aud_base.specs.Watched.{inner_of, has_failed};
+ghost use Rattle.aud_input.specs.InputFiles.{input_files};
 ghost use Rattle.aud_input.specs.LineRuns.{taps_named};
 ghost use Rattle.aud_node.specs.Cluster.{cluster_of};
 ghost use Rattle.aud_node.specs.Names.{AreNamedOnce};
 ghost use Rattle.aud_explain_app.specs.Missing.{first_missing, pids_known};
-ghost use Rattle.aud_explain_app.specs.Output.{AreOther, IsExplaining, IsExplanation, IsFirstMissing, IsOf, IsOther, IsTold, form_of, lines_told};
+ghost use Rattle.aud_explain_app.specs.Output.{AreOther, IsExplaining, IsExplanation, IsFirstMissing, IsOf, IsOther, IsTold, files_told, form_of, lines_told};
 ghost use Rattle.aud_explain_app.specs.RefusedLine.{refused_output};
 ghost use Rattle.aud_explain_app.specs.Run.{Writes, WritesFront};
 ghost use Rattle.aud_explain_app.specs.declared.fault.ExplainFault.TheVariants as fault;
@@ -20,16 +21,19 @@ use crate::output::{form_of, output_of};
 use crate::refused::refused_output;
 use aud_base::{Watched, write_out};
 use aud_cli::ExplainOptions;
-use aud_input::{PartLines, ReadingFault, RecordLines, Recorded, Refusal, read_files};
+use aud_input::{
+    InputFile, InputFiles, PartLines, ReadingFault, RecordLines, Recorded, Refusal, read_files,
+};
 use aud_verdict::{Output, Status};
 use std::alloc::Global;
 use std::hash::RandomState;
 use std::io::{Read, Write};
+use std::mem::ManuallyDrop;
 use std::sync::Wait;
 use std::thread::Threads;
 use std::time::{Clock, Instant};
 
-/// What is told of the recording, where the lines of its records are these.
+/// What is told of the recording, where the lines of its records are these, in these files.
 fn told_with<H: Threads + Wait + Clock + Sync>(
     rt: &H,
     alloc: Global,
@@ -38,17 +42,18 @@ fn told_with<H: Threads + Wait + Clock + Sync>(
     start: Option<Instant>,
     recorded: &Recorded,
     lines: &RecordLines,
+    files: &[InputFile],
 ) -> Result<Output, ExplainFault>
     requires names { AreNamedOnce recorded.now.taps }
     requires workers { (0 < options.now.workers) × (options.now.workers ≤ 64) }
     ensures told { IfOk result (IsExplaining options.now
-        (cluster_of recorded.now.taps) lines.now recorded.now.size) }
+        (cluster_of recorded.now.taps) lines.now files.now recorded.now.size) }
     ensures missing { (number : ℕ) → result ≡ Err (fault.Unexplained (NoSession number))
         → first_missing (pids_known (cluster_of recorded.now.taps)) options.now.pids ≡ Some number }
     ensures other { result ≢ Err OtherPart }
     ensures write { result ≢ Err Write }
 {
-    match output_of(rt, alloc, keys, options, start, recorded, lines) {
+    match output_of(rt, alloc, keys, options, start, recorded, lines, files) {
         Ok(output) => Ok(output),
         Err(why) => Err(ExplainFault::Unexplained(why)),
     }
@@ -68,7 +73,7 @@ fn told_named<H: Threads + Wait + Clock + Sync>(
     requires workers { (0 < options.now.workers) × (options.now.workers ≤ 64) }
     ensures told { IfOk result (λ output. (part.now.size ≡ recorded.now.size)
         × IsExplaining options.now (cluster_of recorded.now.taps)
-        (taps_named part.now.runs recorded.now.lines) recorded.now.size output) }
+        (taps_named part.now.runs recorded.now.lines) part.now.files recorded.now.size output) }
     ensures missing { (number : ℕ) → result ≡ Err (fault.Unexplained (NoSession number))
         → first_missing (pids_known (cluster_of recorded.now.taps)) options.now.pids ≡ Some number }
     ensures other { result ≡ Err OtherPart → ¬ (part.now.size ≡ recorded.now.size) }
@@ -77,8 +82,38 @@ fn told_named<H: Threads + Wait + Clock + Sync>(
     if !part.is_of(recorded.size) {
         return Err(ExplainFault::OtherPart);
     }
+    let files = part.files.as_slice();
     match recorded.lines.named(alloc, &part.runs) {
-        Ok(lines) => told_with(rt, alloc, keys, options, start, recorded, &lines),
+        Ok(lines) => told_with(rt, alloc, keys, options, start, recorded, &lines, files),
+        Err(_) => Err(ExplainFault::Unexplained(Unexplained::Memory)),
+    }
+}
+
+/// The same of a whole, whose files are those that the words name.
+fn told_whole<H: Threads + Wait + Clock + Sync>(
+    rt: &H,
+    alloc: Global,
+    keys: RandomState,
+    options: &ExplainOptions,
+    start: Option<Instant>,
+    recorded: &Recorded,
+) -> Result<Output, ExplainFault>
+    requires names { AreNamedOnce recorded.now.taps }
+    requires workers { (0 < options.now.workers) × (options.now.workers ≤ 64) }
+    ensures told { IfOk result (IsExplaining options.now
+        (cluster_of recorded.now.taps) recorded.now.lines
+        (input_files options.now.files recorded.now.counts.items) recorded.now.size) }
+    ensures missing { (number : ℕ) → result ≡ Err (fault.Unexplained (NoSession number))
+        → first_missing (pids_known (cluster_of recorded.now.taps)) options.now.pids ≡ Some number }
+    ensures other { result ≢ Err OtherPart }
+    ensures write { result ≢ Err Write }
+{
+    let lines = &recorded.lines;
+    match InputFiles::of(alloc, options.files.as_slice(), &recorded.counts) {
+        Ok(files) => {
+            let files = files.as_slice();
+            told_with(rt, alloc, keys, options, start, recorded, lines, files)
+        }
         Err(_) => Err(ExplainFault::Unexplained(Unexplained::Memory)),
     }
 }
@@ -99,7 +134,8 @@ fn told_of<H: Threads + Wait + Clock + Sync>(
         IsOf (option_map (λ part. part.now) part.entry) recorded.now.size
         × IsExplaining options.now (cluster_of recorded.now.taps)
         (lines_told (option_map (λ part. part.now) part.entry) recorded.now.lines)
-        recorded.now.size output) }
+        (files_told (option_map (λ part. part.now) part.entry) options.now.files
+        recorded.now.counts.items) recorded.now.size output) }
     ensures missing { (number : ℕ) → result ≡ Err (fault.Unexplained (NoSession number))
         → first_missing (pids_known (cluster_of recorded.now.taps)) options.now.pids ≡ Some number }
     ensures other { result ≡ Err OtherPart
@@ -108,7 +144,7 @@ fn told_of<H: Threads + Wait + Clock + Sync>(
 {
     match part {
         Some(part) => told_named(rt, alloc, keys, options, start, recorded, part),
-        None => told_with(rt, alloc, keys, options, start, recorded, &recorded.lines),
+        None => told_whole(rt, alloc, keys, options, start, recorded),
     }
 }
 
@@ -150,7 +186,10 @@ fn told<H: Threads + Wait + Clock + Sync, R: Read>(
 {
     let start = Instant::now(rt).ok();
     match read_files(rt, options.workers as usize, alloc, keys, files) {
-        Ok(recorded) => told_of(rt, alloc, keys, options, start, &recorded, part),
+        Ok(recorded) => {
+            let recorded = ManuallyDrop::new(recorded);
+            told_of(rt, alloc, keys, options, start, &recorded, part)
+        }
         Err(ReadingFault::Refused(refusal)) => told_refused(alloc, options, &refusal),
         Err(ReadingFault::Unread { file }) => {
             Err(ExplainFault::Unexplained(Unexplained::Unread { file }))
@@ -192,11 +231,14 @@ fn explained<H: Threads + Wait + Clock + Sync, R: Read>(
 
 /// Reads the files one after the other as one input, decides, and only then writes. The files are those that the words
 /// name, in their order, or standard input where they name none. Where they are a part of a recording, `part` says from
-/// which lines of it their lines come, and these are named.
+/// which lines of it their lines come, and these are named. Where there are several files, of the words or of what the
+/// part is of, each row of evidence says in which of them its line stands, and its number there.
 ///
 /// An audit of all sessions starts `options.workers` workers, each in a thread of its own; all else is shared out among
 /// at most so many threads, this one among them. How many they are changes nothing in what is written but the seconds,
 /// and nor do the keys, by which names are looked up: whoever picked the names of the input is not to know them.
+///
+/// The recording is not dropped, since a program that explains ends soon.
 pub fn explain<H: Threads + Wait + Clock + Sync, R: Read, W: Write>(
     rt: &H,
     alloc: Global,

@@ -7,7 +7,7 @@ ghost use Rattle.aud_explain_app.specs.Texts.{AddTexts, AddsFor, AddsText};
 
 use crate::asked::Asked;
 use crate::explained::explained_of;
-use crate::written::{Form, push_explained};
+use crate::written::{Layout, push_explained};
 use aud_base::try_map;
 use aud_findings::Prepared;
 use aud_rows::Sheet;
@@ -26,7 +26,7 @@ pub(crate) fn push_sessions<H: Threads + Sync>(
     alloc: Global,
     threads: usize,
     out: &mut String,
-    form: Form,
+    layout: Layout<'_>,
     sheet: Sheet<'_, '_>,
     prepared: &Prepared,
     asked: &Asked,
@@ -34,14 +34,17 @@ pub(crate) fn push_sessions<H: Threads + Sync>(
 ) -> Result<(), AllocError>
     requires prepared { IsPreparedOf sheet.recording.now prepared.now }
     requires asked { AreAsked sheet.recording.now asked.now }
-    ensures { OnOk result (AddTexts sheet.entry.recording.now sheet.entry.lines.now form
-        (map (λ s. s.now) sessions.now) (string_bytes out.old) (string_bytes out.new)) }
+    ensures { OnOk result (AddTexts sheet.entry.recording.now sheet.entry.lines.now
+        layout.entry.form layout.entry.files.now (map (λ s. s.now) sessions.now)
+        (string_bytes out.old) (string_bytes out.new)) }
 {
     let mut done = 0;
     while done < sessions.len() {
         let rest = &sessions[done..];
         let part = &rest[..rest.len().min(PART)];
-        push_part(rt, alloc, threads, out, form, sheet, prepared, asked, part)?;
+        push_part(
+            rt, alloc, threads, out, layout, sheet, prepared, asked, part,
+        )?;
         done += part.len();
     }
     Ok(())
@@ -53,7 +56,7 @@ fn push_part<H: Threads + Sync>(
     alloc: Global,
     threads: usize,
     out: &mut String,
-    form: Form,
+    layout: Layout<'_>,
     sheet: Sheet<'_, '_>,
     prepared: &Prepared,
     asked: &Asked,
@@ -61,10 +64,11 @@ fn push_part<H: Threads + Sync>(
 ) -> Result<(), AllocError>
     requires prepared { IsPreparedOf sheet.recording.now prepared.now }
     requires asked { AreAsked sheet.recording.now asked.now }
-    ensures { OnOk result (AddTexts sheet.entry.recording.now sheet.entry.lines.now form
-        (map (λ s. s.now) sessions.now) (string_bytes out.old) (string_bytes out.new)) }
+    ensures { OnOk result (AddTexts sheet.entry.recording.now sheet.entry.lines.now
+        layout.entry.form layout.entry.files.now (map (λ s. s.now) sessions.now)
+        (string_bytes out.old) (string_bytes out.new)) }
 {
-    let texts = texts_of(rt, alloc, threads, form, sheet, prepared, asked, sessions)?;
+    let texts = texts_of(rt, alloc, threads, layout, sheet, prepared, asked, sessions)?;
     push_all(out, &texts)
 }
 
@@ -84,7 +88,7 @@ fn texts_of<H: Threads + Sync>(
     rt: &H,
     alloc: Global,
     threads: usize,
-    form: Form,
+    layout: Layout<'_>,
     sheet: Sheet<'_, '_>,
     prepared: &Prepared,
     asked: &Asked,
@@ -94,8 +98,8 @@ fn texts_of<H: Threads + Sync>(
     requires asked { AreAsked sheet.recording.now asked.now }
     ensures { IfOk result (λ texts. AllZip
         (λ session text.
-        AddsText sheet.entry.recording.now sheet.entry.lines.now form session.now []
-        (string_bytes text)) sessions.now texts.items) }
+        AddsText sheet.entry.recording.now sheet.entry.lines.now layout.entry.form
+        layout.entry.files.now session.now [] (string_bytes text)) sessions.now texts.items) }
 {
     try_map(
         rt,
@@ -106,16 +110,16 @@ fn texts_of<H: Threads + Sync>(
             requires prepared { IsPreparedOf sheet.recording.now prepared.now }
             requires asked { AreAsked sheet.recording.now asked.now }
             ensures { IfOk result (λ text.
-                AddsText sheet.entry.recording.now sheet.entry.lines.now form session.now.now []
-                (string_bytes text)) }
-        { text_of(alloc, form, sheet, prepared, asked, *session) },
+                AddsText sheet.entry.recording.now sheet.entry.lines.now layout.entry.form
+                layout.entry.files.now session.now.now [] (string_bytes text)) }
+        { text_of(alloc, layout, sheet, prepared, asked, *session) },
     )
 }
 
 /// The explanation of the session.
 fn text_of(
     alloc: Global,
-    form: Form,
+    layout: Layout<'_>,
     sheet: Sheet<'_, '_>,
     prepared: &Prepared,
     asked: &Asked,
@@ -124,11 +128,11 @@ fn text_of(
     requires prepared { IsPreparedOf sheet.recording.now prepared.now }
     requires asked { AreAsked sheet.recording.now asked.now }
     ensures { IfOk result (λ text.
-        AddsText sheet.entry.recording.now sheet.entry.lines.now form session.now []
-        (string_bytes text)) }
+        AddsText sheet.entry.recording.now sheet.entry.lines.now layout.entry.form
+        layout.entry.files.now session.now [] (string_bytes text)) }
 {
     let mut text = String::new(alloc);
-    push_session(alloc, &mut text, form, sheet, prepared, asked, session)?;
+    push_session(alloc, &mut text, layout, sheet, prepared, asked, session)?;
     Ok(text)
 }
 
@@ -136,7 +140,7 @@ fn text_of(
 fn push_session(
     alloc: Global,
     out: &mut String,
-    form: Form,
+    layout: Layout<'_>,
     sheet: Sheet<'_, '_>,
     prepared: &Prepared,
     asked: &Asked,
@@ -144,8 +148,9 @@ fn push_session(
 ) -> Result<(), AllocError>
     requires prepared { IsPreparedOf sheet.recording.now prepared.now }
     requires asked { AreAsked sheet.recording.now asked.now }
-    ensures { OnOk result (AddsText sheet.entry.recording.now sheet.entry.lines.now form session.now
-        (string_bytes out.old) (string_bytes out.new)) }
+    ensures { OnOk result (AddsText sheet.entry.recording.now sheet.entry.lines.now
+        layout.entry.form layout.entry.files.now session.now (string_bytes out.old)
+        (string_bytes out.new)) }
 {
     let pid = session.pid.as_str();
     let refused = asked.refused_of(alloc, pid)?;
@@ -153,7 +158,7 @@ fn push_session(
     push_told(
         alloc,
         out,
-        form,
+        layout,
         sheet,
         prepared,
         pid,
@@ -166,7 +171,7 @@ fn push_session(
 fn push_told(
     alloc: Global,
     out: &mut String,
-    form: Form,
+    layout: Layout<'_>,
     sheet: Sheet<'_, '_>,
     prepared: &Prepared,
     pid: &str,
@@ -174,9 +179,10 @@ fn push_told(
     refused: &[Recovery],
 ) -> Result<(), AllocError>
     requires { IsPreparedOf sheet.recording.now prepared.now }
-    ensures { OnOk result (AddsFor sheet.entry.recording.now sheet.entry.lines.now form pid.now
-        verdict.now refused.now (string_bytes out.old) (string_bytes out.new)) }
+    ensures { OnOk result (AddsFor sheet.entry.recording.now sheet.entry.lines.now
+        layout.entry.form layout.entry.files.now pid.now verdict.now refused.now
+        (string_bytes out.old) (string_bytes out.new)) }
 {
     let explained = explained_of(alloc, sheet, prepared, pid, verdict, refused)?;
-    push_explained(alloc, out, form, pid, verdict, &explained)
+    push_explained(alloc, out, layout, pid, verdict, &explained)
 }

@@ -7,6 +7,7 @@ ghost use Rattle.aud_explain_app.specs.Written.{Adds, form_text};
 use crate::explained::Explained;
 use crate::lent::{also_lent, causes_lent, refused_lent};
 use aud_explanation::{Explanation, explanation_json, push_text};
+use aud_input::InputFile;
 use aud_verdict::Verdict;
 use std::alloc::{AllocError, Global};
 
@@ -19,43 +20,53 @@ pub enum Form {
     Json,
 }
 
+/// How explanations are written, and the files of the input in which the lines stand that they name.
+#[derive(Clone, Copy, Drop)]
+pub struct Layout<'f> {
+    pub form: Form,
+    /// Borrowed. With fewer than two, nothing is said of files.
+    pub files: &'f [InputFile],
+}
+
 /// Writes the explanation at the end.
 fn push_explanation(
     alloc: Global,
     out: &mut String,
-    form: Form,
+    layout: Layout<'_>,
     explanation: &Explanation<'_, '_, '_>,
 ) -> Result<(), AllocError>
-    ensures { OnOk result (string_bytes out.new
-        ≡ string_bytes out.old ++ form_text form explanation.now) }
+    ensures { OnOk result (string_bytes out.new ≡ string_bytes out.old
+        ++ form_text layout.entry.form layout.entry.files.now explanation.now) }
 {
-    match form {
-        Form::Text => push_lines(alloc, out, explanation),
-        Form::Json => push_json(alloc, out, explanation),
+    match layout.form {
+        Form::Text => push_lines(alloc, out, layout.files, explanation),
+        Form::Json => push_json(alloc, out, layout.files, explanation),
     }
 }
 
 fn push_lines(
     alloc: Global,
     out: &mut String,
+    files: &[InputFile],
     explanation: &Explanation<'_, '_, '_>,
 ) -> Result<(), AllocError>
     ensures { OnOk result (string_bytes out.new
-        ≡ string_bytes out.old ++ (explanation_text explanation.now ++ codes "\n")) }
+        ≡ string_bytes out.old ++ (explanation_text files.now explanation.now ++ codes "\n")) }
 {
-    push_text(alloc, out, explanation)?;
+    push_text(alloc, out, files, explanation)?;
     writeln!(out, "")
 }
 
 fn push_json(
     alloc: Global,
     out: &mut String,
+    files: &[InputFile],
     explanation: &Explanation<'_, '_, '_>,
 ) -> Result<(), AllocError>
     ensures { OnOk result (string_bytes out.new
-        ≡ string_bytes out.old ++ (explanation_json explanation.now ++ codes "\n")) }
+        ≡ string_bytes out.old ++ (explanation_json files.now explanation.now ++ codes "\n")) }
 {
-    let line = explanation_json(alloc, explanation)?;
+    let line = explanation_json(alloc, files, explanation)?;
     writeln!(out, "{line}")
 }
 
@@ -63,13 +74,13 @@ fn push_json(
 pub fn push_explained(
     alloc: Global,
     out: &mut String,
-    form: Form,
+    layout: Layout<'_>,
     pid: &str,
     verdict: &Verdict,
     explained: &Explained<'_>,
 ) -> Result<(), AllocError>
-    ensures { OnOk result (Adds form pid.now verdict.now explained.now (string_bytes out.old)
-        (string_bytes out.new)) }
+    ensures { OnOk result (Adds layout.entry.form layout.entry.files.now pid.now verdict.now
+        explained.now (string_bytes out.old) (string_bytes out.new)) }
 {
     let also = also_lent(alloc, explained.outcome.also.as_slice())?;
     let refused = refused_lent(alloc, explained.refused.as_slice())?;
@@ -90,5 +101,5 @@ pub fn push_explained(
         events: explained.events.as_slice(),
         causes: causes.as_slice(),
     };
-    push_explanation(alloc, out, form, &explanation)
+    push_explanation(alloc, out, layout, &explanation)
 }

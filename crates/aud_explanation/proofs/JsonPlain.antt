@@ -10,6 +10,8 @@ use Rattle.aud_cert.specs.Text.{items, whole}
 use Rattle.aud_cert.specs.declared.class.Class.{Class}
 use Rattle.aud_verdict.specs.declared.verdict.Verdict.{Verdict}
 use Rattle.aud_verdict.specs.declared.verdict.Verdict.TheVariants.{Yes, No}
+use Rattle.aud_input.specs.declared.input_file.InputFile.{InputFile}
+use Rattle.aud_input.specs.InputFiles.{place_told}
 use Rattle.aud_rows.specs.declared.row.Row.{Row}
 use Rattle.aud_explanation.specs.declared.also.Also.{Also}
 use Rattle.aud_explanation.specs.declared.cause.Cause.{Cause}
@@ -30,7 +32,9 @@ use Rattle.aud_explanation.specs.ShownTail.{shown_tail}
 use Rattle.aud_explanation.specs.JsonValue.{text_or_null, number_or_null}
 use Rattle.aud_explanation.specs.JsonVerdict.{verdict_word, fault_data, off_data, class_data, with_fault, with_verdict}
 use Rattle.aud_explanation.specs.JsonAccount.{with_names, with_client, with_counts, with_account}
-use Rattle.aud_explanation.specs.JsonRow.{row_data, with_evidence}
+use Rattle.aud_explanation.specs.Place.{with_place}
+use Rattle.aud_explanation.specs.Record.{record_text}
+use Rattle.aud_explanation.specs.JsonRow.{role_word, with_row, row_data, with_evidence}
 use Rattle.aud_explanation.specs.JsonTurn.{high_at, lines_data, took_data, turn_data, with_turns}
 use Rattle.aud_explanation.specs.JsonAlso.{also_data, with_also}
 use Rattle.aud_explanation.specs.JsonCause.{cause_data, with_causes}
@@ -128,8 +132,19 @@ account-plain v (Some a) ms rest =
 
 -- ---- the lists
 
-row-plain : (row : Row) → has_float (row_data row) ≡ false
-row-plain row = refl
+place-plain : (place : Option (List ℕ × ℕ)) → members_have_float (with_place place no_members) ≡ false
+unfolding with_place
+place-plain None = refl
+place-plain (Some place) = refl
+
+row-plain : (files : List InputFile) (row : Row) → has_float (row_data files row) ≡ false
+unfolding with_row
+row-plain files row =
+    let m1 : Members = with_place (place_told files row.line) no_members in
+    let m2 : Members = put (codes "line") (whole row.line) m1 in
+    let m3 : Members = put (codes "role") (string (role_word row.role)) m2 in
+    let m4 : Members = put (codes "says") (string (record_text row.says)) m3 in
+    put-plain (codes "tap") (string row.tap.now) m4 (refl) (put-plain (codes "says") (string (record_text row.says)) m3 (refl) (put-plain (codes "role") (string (role_word row.role)) m2 (refl) (put-plain (codes "line") (whole row.line) m1 (refl) (place-plain (place_told files row.line)))))
 
 lines-plain : (begin : ℕ) (end : TurnEnd) → has_float (lines_data begin end) ≡ false
 lines-plain begin (end.Break line high) = refl
@@ -178,12 +193,12 @@ missed-plain : (m : Option (List Missed)) → has_float (all_missed_data m) ≡ 
 missed-plain None = refl
 missed-plain (Some entries) = items-plain missed_data (λ m. refl) entries
 
-reply-plain : (reply : Option Row) → has_float (reply_data reply) ≡ false
-reply-plain None = refl
-reply-plain (Some reply) = refl
+reply-plain : (files : List InputFile) (reply : Option Row) → has_float (reply_data files reply) ≡ false
+reply-plain files None = refl
+reply-plain files (Some reply) = row-plain files reply
 
-refused-plain : (r : RefusedRecovery) → has_float (refused_data r) ≡ false
-refused-plain r = rw (text-plain (option_copied r.instead), missed-plain (option_copied r.missed), reply-plain r.reply) refl
+refused-plain : (files : List InputFile) (r : RefusedRecovery) → has_float (refused_data files r) ≡ false
+refused-plain files r = rw (row-plain files r.ask, text-plain (option_copied r.instead), missed-plain (option_copied r.missed), reply-plain files r.reply) refl
 
 -- ---- the members of the lists
 
@@ -191,17 +206,17 @@ turns-plain : (turns : List TurnShown) (ms : Members) → members_have_float ms 
 unfolding with_turns
 turns-plain turns ms rest = put-plain (codes "turns") (array (items turn_data turns)) ms (items-plain turn_data turn-plain turns) rest
 
-evidence-plain : (rows : List Row) (ms : Members) → members_have_float ms ≡ false → members_have_float (with_evidence rows ms) ≡ false
+evidence-plain : (files : List InputFile) (rows : List Row) (ms : Members) → members_have_float ms ≡ false → members_have_float (with_evidence files rows ms) ≡ false
 unfolding with_evidence
-evidence-plain rows ms rest = put-plain (codes "evidence") (array (items row_data rows)) ms (items-plain row_data row-plain rows) rest
+evidence-plain files rows ms rest = put-plain (codes "evidence") (array (items (row_data files) rows)) ms (items-plain (row_data files) (row-plain files) rows) rest
 
 others-plain : (others : List Also) (ms : Members) → members_have_float ms ≡ false → members_have_float (with_also others ms) ≡ false
 unfolding with_also
 others-plain others ms rest = put-plain (codes "also") (array (items also_data others)) ms (items-plain also_data also-plain others) rest
 
-recoveries-plain : (recoveries : List RefusedRecovery) (ms : Members) → members_have_float ms ≡ false → members_have_float (with_refused recoveries ms) ≡ false
+recoveries-plain : (files : List InputFile) (recoveries : List RefusedRecovery) (ms : Members) → members_have_float ms ≡ false → members_have_float (with_refused files recoveries ms) ≡ false
 unfolding with_refused
-recoveries-plain recoveries ms rest = put-plain (codes "refused") (array (items refused_data recoveries)) ms (items-plain refused_data refused-plain recoveries) rest
+recoveries-plain files recoveries ms rest = put-plain (codes "refused") (array (items (refused_data files) recoveries)) ms (items-plain (refused_data files) (refused-plain files) recoveries) rest
 
 events-plain : (events : List ClientEvent) (ms : Members) → members_have_float ms ≡ false → members_have_float (with_events events ms) ≡ false
 unfolding with_events
@@ -213,23 +228,23 @@ causes-plain causes ms rest = put-plain (codes "causes") (array (items cause_dat
 
 -- ---- the whole
 
-pub explanation-plain : (e : Explanation) → has_float (explanation_data e) ≡ false
-explanation-plain e =
+pub explanation-plain : (files : List InputFile) (e : Explanation) → has_float (explanation_data files e) ≡ false
+explanation-plain files e =
     let class = class_of_explained e in
     let m1 : Members = with_verdict e.pid.now e.verdict.now class no_members in
     let m2 : Members = with_client e.client m1 in
     let m3 : Members = with_account e.verdict.now e.account m2 in
     let m4 : Members = with_turns e.turns.now m3 in
-    let m5 : Members = with_evidence e.evidence.now m4 in
+    let m5 : Members = with_evidence files e.evidence.now m4 in
     let m6 : Members = with_also e.also.now m5 in
-    let m7 : Members = with_refused e.refused.now m6 in
+    let m7 : Members = with_refused files e.refused.now m6 in
     let m8 : Members = with_events e.events.now m7 in
     let p1 = verdict-plain e.pid.now e.verdict.now class no_members refl in
     let p2 = client-plain e.client m1 p1 in
     let p3 = account-plain e.verdict.now e.account m2 p2 in
     let p4 = turns-plain e.turns.now m3 p3 in
-    let p5 = evidence-plain e.evidence.now m4 p4 in
+    let p5 = evidence-plain files e.evidence.now m4 p4 in
     let p6 = others-plain e.also.now m5 p5 in
-    let p7 = recoveries-plain e.refused.now m6 p6 in
+    let p7 = recoveries-plain files e.refused.now m6 p6 in
     let p8 = events-plain e.events.now m7 p7 in
     causes-plain e.causes.now m8 p8

@@ -2,6 +2,7 @@
 use Rattle.std.specs.Prelude.{ℕ, List}
 use Rattle.serde_json.specs.Data.{Data, object, Members, no_members}
 use Rattle.serde_json.specs.Written.{compact_text}
+use Rattle.aud_input.specs.declared.input_file.InputFile.{InputFile}
 use Rattle.aud_explanation.specs.declared.explanation.Explanation.{Explanation}
 use Rattle.aud_explanation.specs.ExplainedClass.{class_of_explained}
 use Rattle.aud_explanation.specs.JsonVerdict.{with_verdict}
@@ -18,17 +19,17 @@ abbrev pub head_members : Explanation → Members → Members
 head_members e ms = with_account e.verdict.now e.account (with_client e.client (with_verdict e.pid.now e.verdict.now (class_of_explained e) ms))
 
 -- the turns, the evidence, and the other entries
-abbrev pub shown_members : Explanation → Members → Members
-shown_members e ms = with_also e.also.now (with_evidence e.evidence.now (with_turns e.turns.now ms))
+abbrev pub shown_members : List InputFile → Explanation → Members → Members
+shown_members files e ms = with_also e.also.now (with_evidence files e.evidence.now (with_turns e.turns.now ms))
 
 -- the refused recoveries, what happened to the client, and the causes
-abbrev pub told_members : Explanation → Members → Members
-told_members e ms = with_causes e.causes.now (with_events e.events.now (with_refused e.refused.now ms))
+abbrev pub told_members : List InputFile → Explanation → Members → Members
+told_members files e ms = with_causes e.causes.now (with_events e.events.now (with_refused files e.refused.now ms))
 
 -- an object with all these members, its keys in byte order
-abbrev pub explanation_data : Explanation → Data
-explanation_data e = object (told_members e (shown_members e (head_members e no_members)))
+abbrev pub explanation_data : List InputFile → Explanation → Data
+explanation_data files e = object (told_members files e (shown_members files e (head_members e no_members)))
 
 -- its text, without blanks
-abbrev pub explanation_json : Explanation → List ℕ
-explanation_json e = compact_text (explanation_data e)
+abbrev pub explanation_json : List InputFile → Explanation → List ℕ
+explanation_json files e = compact_text (explanation_data files e)

@@ -3,6 +3,7 @@ use Rattle.std.specs.Prelude.{List, codes, Option, Some, None}
 use Rattle.std.specs.Option.{option_copied}
 use Rattle.serde_json.specs.Data.{Data, null, string, array, object, Members, no_members, member, put}
 use Rattle.aud_cert.specs.Text.{items, whole}
+use Rattle.aud_input.specs.declared.input_file.InputFile.{InputFile}
 use Rattle.aud_rows.specs.declared.row.Row.{Row}
 use Rattle.aud_explanation.specs.declared.refused.Missed.{Missed}
 use Rattle.aud_explanation.specs.declared.refused.RefusedRecovery.{RefusedRecovery}
@@ -19,18 +20,18 @@ all_missed_data (Some entries) = array (items missed_data entries)
 all_missed_data None = null
 
 -- the reply, `null` where there was none
-abbrev pub reply_data : Option Row → Data
-reply_data (Some reply) = row_data reply
-reply_data None = null
+abbrev pub reply_data : List InputFile → Option Row → Data
+reply_data files (Some reply) = row_data files reply
+reply_data files None = null
 
 -- `{"ask":..,"instead":..,"missed":..,"reply":..}`
-abbrev pub refused_data : RefusedRecovery → Data
-refused_data r =
-    object (member (codes "ask") (row_data r.ask)
+abbrev pub refused_data : List InputFile → RefusedRecovery → Data
+refused_data files r =
+    object (member (codes "ask") (row_data files r.ask)
     (member (codes "instead") (text_or_null (option_copied r.instead))
     (member (codes "missed") (all_missed_data (option_copied r.missed))
-    (member (codes "reply") (reply_data r.reply) no_members))))
+    (member (codes "reply") (reply_data files r.reply) no_members))))
 
 -- the refused recoveries
-unfoldable pub with_refused : List RefusedRecovery → Members → Members
-with_refused recoveries ms = put (codes "refused") (array (items refused_data recoveries)) ms
+unfoldable pub with_refused : List InputFile → List RefusedRecovery → Members → Members
+with_refused files recoveries ms = put (codes "refused") (array (items (refused_data files) recoveries)) ms

@@ -1,10 +1,13 @@
 -- The member of the evidence.
 use Rattle.std.specs.Prelude.{ℕ, List, codes}
-use Rattle.serde_json.specs.Data.{Data, string, array, object, Members, no_members, member, put}
+use Rattle.serde_json.specs.Data.{Data, string, array, object, Members, no_members, put}
 use Rattle.aud_cert.specs.Text.{items, whole}
+use Rattle.aud_input.specs.declared.input_file.InputFile.{InputFile}
+use Rattle.aud_input.specs.InputFiles.{place_told}
 use Rattle.aud_rows.specs.declared.row.Row.{Row}
 use Rattle.aud_rows.specs.declared.row.Role.{Role}
 use Rattle.aud_rows.specs.declared.row.Role.TheVariants.{Fault, Earlier, Later, Entry, Reached, Room, Left, Break, Back, Ask, Reply}
+use Rattle.aud_explanation.specs.Place.{with_place}
 use Rattle.aud_explanation.specs.Record.{record_text}
 
 -- what a record is shown for
@@ -21,14 +24,14 @@ role_word Back = codes "back"
 role_word Ask = codes "ask"
 role_word Reply = codes "reply"
 
--- `{"line":..,"role":..,"says":..,"tap":..}`
-abbrev pub row_data : Row → Data
-row_data row =
-    object (member (codes "line") (whole row.line)
-    (member (codes "role") (string (role_word row.role))
-    (member (codes "says") (string (record_text row.says))
-    (member (codes "tap") (string row.tap.now) no_members))))
+-- the line, what the record is shown for, what it says, and its tap
+unfoldable pub with_row : Row → Members → Members
+with_row row ms = put (codes "tap") (string row.tap.now) (put (codes "says") (string (record_text row.says)) (put (codes "role") (string (role_word row.role)) (put (codes "line") (whole row.line) ms)))
+
+-- `{"file":..,"file_line":..,"line":..,"role":..,"says":..,"tap":..}`
+abbrev pub row_data : List InputFile → Row → Data
+row_data files row = object (with_row row (with_place (place_told files row.line) no_members))
 
 -- the rows
-unfoldable pub with_evidence : List Row → Members → Members
-with_evidence rows ms = put (codes "evidence") (array (items row_data rows)) ms
+unfoldable pub with_evidence : List InputFile → List Row → Members → Members
+with_evidence files rows ms = put (codes "evidence") (array (items (row_data files) rows)) ms

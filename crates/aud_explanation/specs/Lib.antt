@@ -3,6 +3,7 @@ pub use Rattle.aud_verdict.specs.Report
 pub use Rattle.aud_cert.specs.Text as CertificateText
 pub use Rattle.aud_cert.specs.Class
 pub use Rattle.aud_cert.specs.FaultWord
+pub use Rattle.aud_input.specs.InputFiles
 pub mod ExplainedClass
 pub mod FaultEntry
 pub mod ShownTail
@@ -10,6 +11,7 @@ pub mod Printed
 pub mod Page
 pub mod Record
 pub mod Mark
+pub mod Place
 pub mod Verdict
 pub mod Client
 pub mod Evidence

@@ -3,6 +3,7 @@ use Rattle.std.specs.Prelude.{ℕ, List, [], ◌++◌, codes, decimal, flat_map,
 use Rattle.std.specs.Option.{option_copied}
 use Rattle.aud_verdict.specs.declared.verdict.Verdict.{Verdict}
 use Rattle.aud_rows.specs.declared.row.Row.{Row}
+use Rattle.aud_input.specs.declared.input_file.InputFile.{InputFile}
 use Rattle.aud_explanation.specs.declared.refused.Missed.{Missed}
 use Rattle.aud_explanation.specs.declared.refused.RefusedRecovery.{RefusedRecovery}
 use Rattle.aud_explanation.specs.Page.{laid_line}
@@ -27,9 +28,9 @@ abbrev pub head_text : RefusedRecovery → List ℕ
 head_text r = laid_line (head_line r)
 
 -- the row of the reply, where there is one
-abbrev pub reply_text : Verdict → ℕ → Option Row → List ℕ
-reply_text verdict width (Some reply) = row_text verdict width reply
-reply_text verdict width None = []
+abbrev pub reply_text : List InputFile → Verdict → ℕ → Option Row → List ℕ
+reply_text files verdict width (Some reply) = row_text files verdict width reply
+reply_text files verdict width None = []
 
 -- an entry that was missed
 abbrev pub missed_line : Missed → List ℕ
@@ -45,9 +46,9 @@ all_missed_text (Some entries) = flat_map missed_text entries
 all_missed_text None = []
 
 -- what the client got instead, the ask and the reply, and what it missed
-abbrev pub refused_text : Verdict → RefusedRecovery → List ℕ
-refused_text verdict r = head_text r ++ row_text verdict (length r.ask.tap.now) r.ask ++ reply_text verdict (length r.ask.tap.now) r.reply ++ all_missed_text (option_copied r.missed)
+abbrev pub refused_text : List InputFile → Verdict → RefusedRecovery → List ℕ
+refused_text files verdict r = head_text r ++ row_text files verdict (length r.ask.tap.now) r.ask ++ reply_text files verdict (length r.ask.tap.now) r.reply ++ all_missed_text (option_copied r.missed)
 
 -- all of them
-abbrev pub all_refused_text : Verdict → List RefusedRecovery → List ℕ
-all_refused_text verdict recoveries = flat_map (refused_text verdict) recoveries
+abbrev pub all_refused_text : List InputFile → Verdict → List RefusedRecovery → List ℕ
+all_refused_text files verdict recoveries = flat_map (refused_text files verdict) recoveries

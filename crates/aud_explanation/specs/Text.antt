@@ -1,5 +1,6 @@
 -- The text of an explanation.
 use Rattle.std.specs.Prelude.{ℕ, List, ◌++◌, length}
+use Rattle.aud_input.specs.declared.input_file.InputFile.{InputFile}
 use Rattle.aud_explanation.specs.declared.explanation.Explanation.{Explanation}
 use Rattle.aud_explanation.specs.ExplainedClass.{class_of_explained}
 use Rattle.aud_explanation.specs.Verdict.{verdict_text}
@@ -12,13 +13,13 @@ use Rattle.aud_explanation.specs.RefusedText.{all_refused_text}
 use Rattle.aud_explanation.specs.CauseText.{causes_text}
 
 -- the line of the verdict, that of the client, the evidence, and the other entries with the same fault
-abbrev pub shown_text : Explanation → List ℕ
-shown_text e = verdict_text e.pid.now e.verdict.now (class_of_explained e) ++ client_text e.verdict.now e.client (length e.turns.now) e.account ++ evidence_text e.verdict.now e.evidence.now ++ others_text e.also.now
+abbrev pub shown_text : List InputFile → Explanation → List ℕ
+shown_text files e = verdict_text e.pid.now e.verdict.now (class_of_explained e) ++ client_text e.verdict.now e.client (length e.turns.now) e.account ++ evidence_text files e.verdict.now e.evidence.now ++ others_text e.also.now
 
 -- the rows of the turns and of the client, the refused recoveries, and the causes
-abbrev pub told_text : Explanation → List ℕ
-told_text e = turns_text e.turns.now ++ events_text e.events.now ++ all_refused_text e.verdict.now e.refused.now ++ causes_text e.causes.now
+abbrev pub told_text : List InputFile → Explanation → List ℕ
+told_text files e = turns_text e.turns.now ++ events_text e.events.now ++ all_refused_text files e.verdict.now e.refused.now ++ causes_text e.causes.now
 
--- all of it
-abbrev pub explanation_text : Explanation → List ℕ
-explanation_text e = shown_text e ++ told_text e
+-- all of it: of the lines of rows it is said in which of these files they stand, where there are several
+abbrev pub explanation_text : List InputFile → Explanation → List ℕ
+explanation_text files e = shown_text files e ++ told_text files e

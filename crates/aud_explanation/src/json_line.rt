@@ -7,6 +7,7 @@ mod account;
 mod also;
 mod cause;
 mod event;
+mod place;
 mod refused;
 mod row;
 mod turn;
@@ -22,6 +23,7 @@ use crate::json_line::refused::put_refused;
 use crate::json_line::row::put_evidence;
 use crate::json_line::turn::put_turns;
 use crate::json_line::verdict::put_verdict;
+use aud_input::InputFile;
 use serde_json::{Map, Value};
 use std::alloc::{AllocError, Global};
 
@@ -44,13 +46,14 @@ fn put_head(
 fn put_shown(
     alloc: Global,
     members: &mut Map<String, Value>,
+    files: &[InputFile],
     explanation: &Explanation<'_, '_, '_>,
 ) -> Result<(), AllocError>
     ensures { OnOk result (members_view members.new.entries
-        ≡ shown_members explanation.now (members_view members.old.entries)) }
+        ≡ shown_members files.now explanation.now (members_view members.old.entries)) }
 {
     put_turns(alloc, members, explanation.turns)?;
-    put_evidence(alloc, members, explanation.evidence)?;
+    put_evidence(alloc, members, files, explanation.evidence)?;
     put_also(alloc, members, explanation.also)
 }
 
@@ -58,37 +61,43 @@ fn put_shown(
 fn put_told(
     alloc: Global,
     members: &mut Map<String, Value>,
+    files: &[InputFile],
     explanation: &Explanation<'_, '_, '_>,
 ) -> Result<(), AllocError>
     ensures { OnOk result (members_view members.new.entries
-        ≡ told_members explanation.now (members_view members.old.entries)) }
+        ≡ told_members files.now explanation.now (members_view members.old.entries)) }
 {
-    put_refused(alloc, members, explanation.refused)?;
+    put_refused(alloc, members, files, explanation.refused)?;
     put_events(alloc, members, explanation.events)?;
     put_causes(alloc, members, explanation.causes)
 }
 
 fn explanation_value(
     alloc: Global,
+    files: &[InputFile],
     explanation: &Explanation<'_, '_, '_>,
 ) -> Result<Value, AllocError>
-    ensures { IfOk result (λ v. view v ≡ explanation_data explanation.now) }
+    ensures { IfOk result (λ v. view v ≡ explanation_data files.now explanation.now) }
 {
     let mut members = Map::new(alloc);
     put_head(alloc, &mut members, explanation)?;
-    put_shown(alloc, &mut members, explanation)?;
-    put_told(alloc, &mut members, explanation)?;
+    put_shown(alloc, &mut members, files, explanation)?;
+    put_told(alloc, &mut members, files, explanation)?;
     Ok(Value::Object(members))
 }
 
 /// The explanation as one line of JSON, without blanks and without a newline, its keys in byte order. Each member is
 /// always there: what is not known is `null`. `v` is the version of these members, 1.
+///
+/// `files` are those of the input, in which the lines of rows are counted: the `file` of a row is the name of the one in
+/// which its line stands, and `file_line` the line's number there. Both are `null` where there are fewer than two files.
 pub fn explanation_json(
     alloc: Global,
+    files: &[InputFile],
     explanation: &Explanation<'_, '_, '_>,
 ) -> Result<String, AllocError>
-    ensures { IfOk result (λ text. string_bytes text ≡ explanation_json explanation.now) }
+    ensures { IfOk result (λ text. string_bytes text ≡ explanation_json files.now explanation.now) }
 {
-    let value = explanation_value(alloc, explanation)?;
+    let value = explanation_value(alloc, files, explanation)?;
     value.to_string(alloc)
 }

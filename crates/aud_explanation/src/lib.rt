@@ -1,7 +1,8 @@
 //! One session's explanation: its data, its text, and its JSON.
 //!
 //! Begin at [`Explanation`], which whoever found the evidence fills. [`push_text`] writes it for a reader, and
-//! [`explanation_json`] for a program. [`printed`] is how names that others chose stand in text.
+//! [`explanation_json`] for a program; both say in which of several files a line stands. [`printed`] is how names that
+//! others chose stand in text.
 //!
 //! ```
 //! use aud_explanation::{Explanation, push_text};
@@ -21,7 +22,7 @@
 //!     causes: &[],
 //! };
 //! let mut out = String::new(alloc);
-//! push_text(alloc, &mut out, &explanation)?;
+//! push_text(alloc, &mut out, &[], &explanation)?;
 //! let text = "yes P got=1 tail=0 turns=1\nno one client, turns 0, delivery not judged\n";
 //! assert_eq!(rt; out.as_str(), text);
 //! ```

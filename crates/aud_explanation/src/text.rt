@@ -9,6 +9,7 @@ mod event;
 mod evidence;
 mod mark;
 mod page;
+mod place;
 mod record;
 mod refused;
 mod span;
@@ -25,16 +26,18 @@ pub(crate) use crate::text::record::push_record;
 use crate::text::refused::push_refused;
 use crate::text::turn::push_turns;
 use crate::text::verdict::push_verdict;
+use aud_input::InputFile;
 use std::alloc::{AllocError, Global};
 
 /// Puts the verdict, the client and the evidence at the end.
 fn push_shown(
     alloc: Global,
     out: &mut String,
+    files: &[InputFile],
     explanation: &Explanation<'_, '_, '_>,
 ) -> Result<(), AllocError>
     ensures { OnOk result (string_bytes out.new
-        ≡ string_bytes out.old ++ shown_text explanation.now) }
+        ≡ string_bytes out.old ++ shown_text files.now explanation.now) }
 {
     let class = class_of_explained(explanation);
     let turns = explanation.turns.len();
@@ -47,7 +50,7 @@ fn push_shown(
         turns,
         explanation.account,
     )?;
-    push_evidence(alloc, out, explanation.verdict, explanation.evidence)?;
+    push_evidence(alloc, out, files, explanation.verdict, explanation.evidence)?;
     push_also(alloc, out, explanation.also)
 }
 
@@ -55,14 +58,15 @@ fn push_shown(
 fn push_told(
     alloc: Global,
     out: &mut String,
+    files: &[InputFile],
     explanation: &Explanation<'_, '_, '_>,
 ) -> Result<(), AllocError>
     ensures { OnOk result (string_bytes out.new
-        ≡ string_bytes out.old ++ told_text explanation.now) }
+        ≡ string_bytes out.old ++ told_text files.now explanation.now) }
 {
     push_turns(alloc, out, explanation.turns)?;
     push_events(alloc, out, explanation.events)?;
-    push_refused(alloc, out, explanation.verdict, explanation.refused)?;
+    push_refused(alloc, out, files, explanation.verdict, explanation.refused)?;
     push_causes(alloc, out, explanation.causes)
 }
 
@@ -72,14 +76,18 @@ fn push_told(
 /// A line has at most 100 columns, a character a column. A word that does not stand within it goes on in the next line,
 /// after eight blanks, and so does what is left of a word that is longer than a line: nothing is left out. A character
 /// stands there as [`push_printed`](crate::push_printed) puts it, its escape within one line.
+///
+/// `files` are those of the input, in which the lines of rows are counted: a row says in which of them its line stands,
+/// by its name, and the line's number there. Nothing is said of files where there are fewer than two.
 pub fn push_text(
     alloc: Global,
     out: &mut String,
+    files: &[InputFile],
     explanation: &Explanation<'_, '_, '_>,
 ) -> Result<(), AllocError>
     ensures { OnOk result (string_bytes out.new
-        ≡ string_bytes out.old ++ explanation_text explanation.now) }
+        ≡ string_bytes out.old ++ explanation_text files.now explanation.now) }
 {
-    push_shown(alloc, out, explanation)?;
-    push_told(alloc, out, explanation)
+    push_shown(alloc, out, files, explanation)?;
+    push_told(alloc, out, files, explanation)
 }

@@ -13,6 +13,7 @@ use Rattle.std.proofs.lemmas.Option.{none-some, same_Some}
 use Rattle.std.proofs.lemmas.Result.{err_from_is_err_and}
 use Rattle.aud_base.specs.declared.watched.Watched.{Watched}
 use Rattle.aud_base.specs.Watched.{inner_of}
+use Rattle.aud_tap.specs.declared.taps.Tap.{Tap}
 use Rattle.aud_reader.specs.declared.fault.InputCode.{InputCode}
 use Rattle.aud_reader.specs.declared.fault.ReadFault.{ReadFault}
 use Rattle.aud_reader.specs.declared.fault.ReadFault.TheVariants.{Input}
@@ -303,12 +304,23 @@ lines-joined files = ap (λ pieces. with_lines [] (named_from 1 pieces)) (pieces
 abbrev size-from : ℕ → ℕ → Size
 size-from lines bytes = record { lines = lines; bytes = bytes }
 
+-- where nothing is refused all lines are counted
+counted-read : (text : List ℕ) (files : List (List ℕ)) (counts : List ℕ) (taps : List Tap) (s : InputSoFar) (fault : Option ReadFault) → s.fault ≡ fault → IsRead text s → taps_read (input_of Bundle text) ≡ Ok taps
+    → AreCounted files counts fault → counts ≡ map lines_in files
+counted-read text files counts taps s None is read ok counted = counted
+counted-read text files counts taps s (Some f) is read ok counted =
+    let refused : ◌≡◌ {A = Result InputSeen ReadFault} (Err f) (input_of Bundle text) =
+    sym (ap (λ f. unless_refused f (input_over s.parts (lines_to_come s.cut []))) is) ∙ read.input [] ∙ ap (input_of Bundle) (append-nil text)
+    in
+    let both : ◌≡◌ {A = Result (List Tap) ReadFault} (Err f) (Ok taps) = ap taps_read refused ∙ ok in
+    absurd (cc)
+
 -- what is recorded in the end
 pub recorded : (lefts : List (Option (List ℕ))) (counts : List ℕ) (t : Feeding) (result : Result Recorded ReadingFault) → AreReadBefore lefts counts t
-    → ((text : List ℕ) → IsRead text t.reader → is_begun false text ≡ false → IfOk result (λ read. IsRecordedOf text read)) → IfOk result (λ read. read.size.bytes ≡ t.bytes)
+    → ((text : List ℕ) → IsRead text t.reader → is_begun false text ≡ false → IfOk result (λ read. IsRecordedOf text read)) → IfOk result (λ read. read.size.bytes ≡ t.bytes) → IfOk result (λ read. read.counts.items ≡ counts)
     → IfOk result (λ read. AreRecorded lefts read)
-recorded lefts counts t (Err e) all of bytes = tt
-recorded lefts counts t (Ok read) all of bytes =
+recorded lefts counts t (Err e) all of bytes are = tt
+recorded lefts counts t (Ok read) all of bytes are =
     let files = all.0 in
     let is = of (flat_map (ended false) files) all.2.read (begun-files files) in
     let lines : read.size.lines ≡ sum_by lines_in files = is.count ∙ lines-files files in
@@ -319,6 +331,7 @@ recorded lefts counts t (Ok read) all of bytes =
       taps = ap taps_read (sym (input-joined files)) ∙ is.taps;
       lines = sym (lines-joined files) ∙ is.lines;
       size = ap (λ n. size-from n read.size.bytes) lines ∙ ap (size-from (sum_by lines_in files)) size;
+      counts = are ∙ counted-read (flat_map (ended false) files) files counts read.taps t.reader t.reader.fault refl all.2.read is.taps all.2.counted;
     }
 
 err-read : (r : Result InputSeen ReadFault) (f : ReadFault) → taps_read r ≡ Err f → r ≡ Err f

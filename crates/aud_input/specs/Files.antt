@@ -1,5 +1,5 @@
 -- The files of an input, by what their readers have left, and what is read of them.
-use Rattle.std.specs.Prelude.{◌≡◌, ℕ, ◌-◌, ◌<◌, List, [], ◌∷◌, length, sum_by, slice_get, Option, Some, None, option_map, IfSome, Result, Ok, Err}
+use Rattle.std.specs.Prelude.{◌≡◌, ℕ, ◌-◌, ◌<◌, List, [], ◌∷◌, length, map, sum_by, slice_get, Option, Some, None, option_map, IfSome, Result, Ok, Err}
 use Rattle.aud_tap.specs.declared.taps.Tap.{Tap}
 use Rattle.aud_reader.specs.declared.fault.InputCode.{InputCode}
 use Rattle.aud_reader.specs.declared.fault.InputCode.TheVariants.{LineTooLong, SecondStream}
@@ -39,14 +39,15 @@ taps_read (Err fault) = Err fault
 abbrev pub size_of : List (List ℕ) → Size
 size_of files = record { lines = sum_by (λ file. length (line_pieces file)) files; bytes = sum_by (λ file. length file) files }
 
--- of files that are read as one input: the taps are those of its bundle, the lines those of their records, and the size
--- that of the files
+-- of files that are read as one input: the taps are those of its bundle, the lines those of their records, the size that
+-- of the files, and the counts those of the lines of each
 pub record AreRecorded (lefts : List (Option (List ℕ))) (read : Recorded) : Type 0 where
   pub files : List (List ℕ)
   pub told : AreTold lefts files
   pub taps : taps_read (input_of Bundle (joined files)) ≡ Ok read.taps
   pub lines : tap_lines_of (joined files) ≡ read.lines
   pub size : read.size ≡ size_of files
+  pub counts : read.counts.items ≡ map (λ file. length (line_pieces file)) files
 
 -- what is told of a line: its bytes; none where it isn't there
 abbrev pub line_told : Option Line → List ℕ

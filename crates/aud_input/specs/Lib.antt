@@ -9,5 +9,6 @@ pub mod LineRuns
 pub mod Sources
 pub mod RecordLines
 pub mod FileLine
+pub mod InputFiles
 pub mod Files
 pub mod Private

@@ -33,14 +33,15 @@
 //! assert_eq!(rt; read.lines.line_of(0, 0), Some(2));
 //! ```
 //!
-//! Where the files are a part of a recording, [`LineRuns`] says from which lines of it those of the part come, and
-//! [`RecordLines::named`] names these.
+//! [`place_told`] says in which of several files a line stands. Where the files are a part of a recording, [`PartLines`]
+//! says from which lines of which files those of the part come, and [`RecordLines::named`] names these.
 #![tactic(auto)]
 
 mod batch;
 mod feeding;
 mod index;
 mod input;
+mod input_file;
 mod law;
 mod line_laws;
 mod line_runs;
@@ -56,6 +57,7 @@ mod tap_lines;
 
 pub use feeding::READ_LIMIT;
 pub use input::{Input, Layout};
+pub use input_file::{InputFile, InputFiles, place_told};
 pub use law::input_in_any_pieces;
 pub use line_laws::{
     first_lines_of_taps, lines_are_named, lines_of_files, lines_of_records,

@@ -1,6 +1,7 @@
-//! A part of an input, by its size and the lines that its lines come from.
+//! A part of an input, by its size, the lines that its lines come from, and the files that these stand in.
 ghost use Rattle.std.specs.Prelude.{◌≡◌, ◌↔◌, IsTrue};
 
+use crate::input_file::InputFiles;
 use crate::line_runs::LineRuns;
 use crate::reading::Size;
 
@@ -8,7 +9,10 @@ use crate::reading::Size;
 #[derive(Drop)]
 pub struct PartLines {
     pub size: Size,
+    /// The lines are counted over all files of the input.
     pub runs: LineRuns,
+    /// The files of the input.
+    pub files: InputFiles,
 }
 
 impl PartLines {

@@ -29,6 +29,8 @@ pub struct Recorded {
     pub taps: Taps,
     pub lines: RecordLines,
     pub size: Size,
+    /// How many lines each of the files has.
+    pub counts: Vec<u64>,
 }
 
 /// How many lines and how many bytes files have. What comes after the last newline of a file is a line too.
@@ -191,14 +193,20 @@ fn read_all<H: Threads + Sync, R: Read>(
     Ok(counts)
 }
 
-/// The recording of an input of so many bytes, all of whose lines were read.
-fn recording(alloc: Global, reader: InputReader, bytes: u64) -> Result<Recorded, ReadingFault>
+/// The recording of an input of so many bytes, all of whose lines were read, where its files have so many lines.
+fn recording(
+    alloc: Global,
+    reader: InputReader,
+    bytes: u64,
+    counts: Vec<u64>,
+) -> Result<Recorded, ReadingFault>
     requires going { reader.fault ≡ None }
     requires none { reader.parts.waiting ≡ [] }
     ensures recorded { (text : List ℕ) → IsRead text reader → is_begun false text ≡ false
         → IfOk result (λ read. IsRecordedOf text read) }
     ensures names { IfOk result (λ read. AreNamedOnce read.taps) }
     ensures bytes { IfOk result (λ read. read.size.bytes ≡ bytes) }
+    ensures counts { IfOk result (λ read. read.counts.items ≡ counts.items) }
     ensures err { IfErr result (λ e. e ≡ ReadingFault.Memory) }
 {
     let size = Size {
@@ -210,6 +218,7 @@ fn recording(alloc: Global, reader: InputReader, bytes: u64) -> Result<Recorded,
             taps: input.taps,
             lines,
             size,
+            counts,
         }),
         Err(_) => Err(ReadingFault::Memory),
     }
@@ -243,14 +252,15 @@ fn finish<H: Threads + Sync>(
     threads: usize,
     alloc: Global,
     feeding: Feeding,
-    counts: &[u64],
+    counts: Vec<u64>,
 ) -> Result<Recorded, ReadingFault>
     ensures recorded { (text : List ℕ) → IsRead text feeding.reader
         → is_begun false text ≡ false → IfOk result (λ read. IsRecordedOf text read) }
     ensures names { IfOk result (λ read. AreNamedOnce read.taps) }
     ensures bytes { IfOk result (λ read. read.size.bytes ≡ feeding.bytes) }
+    ensures counts { IfOk result (λ read. read.counts.items ≡ counts.items) }
     ensures refused { (text : List ℕ) → IsRead text feeding.reader
-        → IfErr result (λ e. IsRefusedOf text counts.now e) }
+        → IfErr result (λ e. IsRefusedOf text counts.items e) }
 {
     let Feeding {
         reader,
@@ -260,16 +270,16 @@ fn finish<H: Threads + Sync>(
     } = feeding;
     let mut reader = reader;
     match reader.read_waiting(rt, threads) {
-        Ok(()) => recording(alloc, reader, bytes),
+        Ok(()) => recording(alloc, reader, bytes, counts),
         Err(ReadFault::Input(number, code)) => Err(ReadingFault::Refused(refusal(
-            alloc, reader, counts, number, code,
+            alloc, reader, &counts, number, code,
         ))),
         Err(ReadFault::Memory) => Err(ReadingFault::Memory),
     }
 }
 
-/// Reads files one after the other, as one input: its recording, the line of each record, and how many lines and bytes
-/// the files have. No two taps have one name.
+/// Reads files one after the other, as one input: its recording, the line of each record, how many lines and bytes the
+/// files have, and how many lines each. No two taps have one name.
 ///
 /// Each line is read by at most `threads` threads, this one among them, as [`InputReader`](crate::reader::InputReader)
 /// says. The files are read to their end where a line is refused too, so that a read that fails is told first; it is
@@ -291,7 +301,7 @@ pub fn read_files<H: Threads + Sync, R: Read>(
     let mut feeding = Feeding::new(InputReader::indexed(alloc, keys));
     let mut buffer = vec![in alloc; 0u8; PIECE]?;
     match read_all(rt, threads, alloc, &mut feeding, &mut buffer, files) {
-        Ok(counts) => finish(rt, threads, alloc, feeding, &counts),
+        Ok(counts) => finish(rt, threads, alloc, feeding, counts),
         Err(fault) => Err(fault),
     }
 }

@@ -5,3 +5,4 @@ pub mod OfABundle
 pub mod LeftOut
 pub mod MadeOther
 pub mod InParts
+pub mod LinesInFiles

@@ -11,6 +11,7 @@ pub mod Inputs
 pub mod Outputs
 pub mod Proven
 pub mod Parts
+pub mod Places
 pub use Rattle.aud_parts.specs.LeftOut
 pub use Rattle.aud_parts.specs.MadeOther
 pub use Rattle.aud_parts.specs.Part

@@ -13,6 +13,7 @@
 //!   need, which become `other`.
 //! - [`parts`]: what a part of a recording tells of its sessions, and that the reports on the parts make the report on
 //!   the whole.
+//! - [`places`]: in which of several files a line stands.
 //! - [`certified`]: what is proved is accepted: the text of a certificate that was made is read as that certificate.
 //! - [`rewritten`]: taps that were read keep to all that a bundle's taps keep to, and upgraded ones too (`AreOfABundle`
 //! of
@@ -65,6 +66,7 @@ mod certified;
 mod left_out;
 mod order;
 mod parts;
+mod places;
 mod recovery;
 mod rewritten;
 
@@ -81,5 +83,6 @@ pub use parts::{
     part_has_its_sessions, part_is_judged_alike, part_is_of_a_bundle, part_is_reported_alike,
     plan_is_listed, reports_are_merged,
 };
+pub use places::lines_stand_where_told;
 pub use recovery::{recovery_is_accepted, run_with_recovery};
 pub use rewritten::{read_taps_are_of_a_bundle, upgraded_taps_are_of_a_bundle};

@@ -1,10 +1,13 @@
 -- A part is written, tap after tap.
-use Rattle.std.proofs.Common.{◌≡◌, ℕ, suc, ◌+◌, ◌-◌, true, false, List, [], ◌∷◌, ◌++◌, drop, length, map, flat_map, Option, Some, slice_get, refl, sym, ap, ◌∙◌, arith, append_assoc, append-nil}
+use Rattle.std.proofs.Common.{◌≡◌, ℕ, suc, ◌+◌, ◌-◌, true, false, cond, not, sum_by, List, [], ◌∷◌, ◌++◌, drop, length, map, flat_map, Option, Some, slice_get, refl, sym, ap, ◌∙◌, arith, append_assoc, append-nil}
 use Rattle.std.specs.Io.KnownBytes.{Appends}
 use Rattle.std.proofs.KnownBytes.{Appends-trans}
 use Rattle.std.proofs.lemmas.List.{map-append}
 use Rattle.std.proofs.lemmas.List.Concat.{flat_map-append}
+use Rattle.std.proofs.lemmas.List.Sums.{sum_by-append, sum_by-cons}
+use Rattle.aud_base.specs.Lists.{numbers_from}
 use Rattle.aud_base.proofs.Lists.{drop_at}
+use Rattle.aud_base.proofs.Numbers.{numbers_from-more}
 use Rattle.aud_tap.specs.declared.records.Rec.TheVariants.{Header}
 use Rattle.aud_tap.specs.declared.records.TapKind.{TapKind}
 use Rattle.aud_tap.specs.declared.records.TapKind.TheVariants.{Client}
@@ -14,7 +17,7 @@ use Rattle.aud_writer.specs.Written.{line_text}
 use Rattle.aud_parts.specs.declared.plan.Plan.{Plan}
 use Rattle.aud_parts.specs.declared.tap_index.tap_runs.Run.{Run}
 use Rattle.aud_parts.specs.Plan.{has_client}
-use Rattle.aud_parts.specs.PartLines.{PartOfTap, is_server_at, no_part, numbers_of_parts, part_of_client, part_of_server, parts_from, text_of_parts}
+use Rattle.aud_parts.specs.PartLines.{PartOfTap, client_number, is_server_at, no_part, numbers_of_parts, part_of_client, part_of_server, part_of_tap, parts_from, text_of_parts}
 use Rattle.aud_parts.specs.ServerTexts.{ServerTexts}
 use Rattle.aud_parts.specs.TapRuns.{TapRuns, ended, runs_lines}
 use Rattle.aud_parts.specs.Private.PartSteps.{AreWritten, IsClientWritten}
@@ -83,26 +86,35 @@ tap-more all left rest p old now new numbers more w here appended added =
           ∙ sym (flat_map-append (λ (q : PartOfTap). q.numbers) w.done (p ∷ []) ∙ ap (λ ns. numbers_of_parts w.done ++ ns) (append-nil p.numbers));
     }
 
-module _ (files : List (List ℕ)) (servers : ServerTexts) (plan : Plan) (part : ℕ) (kinds : List (Option TapKind)) (taps : List TapRuns) where
-  -- what a part has of the taps from this one on, where it is the stream's or a node's
-  pub from-server : (i clients : ℕ) (tap : TapRuns) → slice_get taps i ≡ Some tap → is_server_at kinds i ≡ true
-      → parts_from files servers plan part kinds i clients (drop i taps) ≡ part_of_server servers tap.name ∷ parts_from files servers plan part kinds (i + 1) clients (drop (i + 1) taps)
-  from-server i clients tap at server =
-      let next : i + 1 ≡ suc i = omega arith in
-      rw (drop_at taps i tap at, server, next) refl
+-- how many taps of clients stand before one more
+number-more : (kinds : List (Option TapKind)) (i : ℕ)
+    → client_number kinds (i + 1) ≡ client_number kinds i + cond (not (is_server_at kinds i)) 1 0
+number-more kinds i =
+    let one : ℕ → ℕ = λ before. cond (not (is_server_at kinds before)) 1 0 in
+    omega (arith, ap (sum_by one) (numbers_from-more i) ∙ sum_by-append one (numbers_from 0 i) (i ∷ []), sum_by-cons one i [])
+
+pub number-server : (kinds : List (Option TapKind)) (i : ℕ) → is_server_at kinds i ≡ true → client_number kinds (i + 1) ≡ client_number kinds i
+number-server kinds i server = grind (arith, server, number-more kinds i)
+
+pub number-client : (kinds : List (Option TapKind)) (i : ℕ) → is_server_at kinds i ≡ false → client_number kinds (i + 1) ≡ client_number kinds i + 1
+number-client kinds i client = grind (arith, client, number-more kinds i)
+
+module _ (files : List (List ℕ)) (servers : ServerTexts) (plan : Plan) (part : ℕ) (kinds : List (Option TapKind)) (taps : List TapRuns) (i : ℕ) (tap : TapRuns) (at : slice_get taps i ≡ Some tap) where
+  -- what a part has of the tap at this place, and of those after it
+  here : parts_from files servers plan part kinds i (drop i taps) ≡ part_of_tap files servers plan part kinds i tap ∷ parts_from files servers plan part kinds (i + 1) (drop (i + 1) taps)
+  here = let next : i + 1 ≡ suc i = omega arith in rw (drop_at taps i tap at, next) refl
+
+  -- where it is the stream's or a node's
+  pub from-server : is_server_at kinds i ≡ true
+      → parts_from files servers plan part kinds i (drop i taps) ≡ part_of_server servers tap.name ∷ parts_from files servers plan part kinds (i + 1) (drop (i + 1) taps)
+  from-server server = rw server at here
 
   -- where it is a client's that the part has
-  pub from-client : (i clients : ℕ) (tap : TapRuns) → slice_get taps i ≡ Some tap → is_server_at kinds i ≡ false → has_client plan part clients ≡ true
-      → parts_from files servers plan part kinds i clients (drop i taps) ≡ part_of_client files tap ∷ parts_from files servers plan part kinds (i + 1) (clients + 1) (drop (i + 1) taps)
-  from-client i clients tap at client has =
-      let next : i + 1 ≡ suc i = omega arith in
-      let more : clients + 1 ≡ suc clients = omega arith in
-      rw (drop_at taps i tap at, client, has, next, more) refl
+  pub from-client : (number : ℕ) → number ≡ client_number kinds i → is_server_at kinds i ≡ false → has_client plan part number ≡ true
+      → parts_from files servers plan part kinds i (drop i taps) ≡ part_of_client files tap ∷ parts_from files servers plan part kinds (i + 1) (drop (i + 1) taps)
+  from-client number is client has = rw (client, ap (has_client plan part) (sym is) ∙ has) at here
 
   -- where it is another
-  pub from-other : (i clients : ℕ) (tap : TapRuns) → slice_get taps i ≡ Some tap → is_server_at kinds i ≡ false → has_client plan part clients ≡ false
-      → parts_from files servers plan part kinds i clients (drop i taps) ≡ no_part ∷ parts_from files servers plan part kinds (i + 1) (clients + 1) (drop (i + 1) taps)
-  from-other i clients tap at client has =
-      let next : i + 1 ≡ suc i = omega arith in
-      let more : clients + 1 ≡ suc clients = omega arith in
-      rw (drop_at taps i tap at, client, has, next, more) refl
+  pub from-other : (number : ℕ) → number ≡ client_number kinds i → is_server_at kinds i ≡ false → has_client plan part number ≡ false
+      → parts_from files servers plan part kinds i (drop i taps) ≡ no_part ∷ parts_from files servers plan part kinds (i + 1) (drop (i + 1) taps)
+  from-other number is client has = rw (client, ap (has_client plan part) (sym is) ∙ has) at here

@@ -1,6 +1,7 @@
 -- The lines of a part, as they are written: of each tap of the recording those that the part has of it.
-use Rattle.std.specs.Prelude.{ℕ, suc, Bool, List, [], ◌∷◌, ◌++◌, drop, flat_map, Option, option_map, slice_get, unwrap_or, if◌then◌else◌}
+use Rattle.std.specs.Prelude.{ℕ, suc, Bool, not, List, [], ◌∷◌, ◌++◌, count_by, drop, flat_map, Option, option_map, slice_get, unwrap_or, if◌then◌else◌}
 use Rattle.std.specs.Option.{option_flatten}
+use Rattle.aud_base.specs.Lists.{numbers_from}
 use Rattle.aud_tap.specs.declared.records.Rec.TheVariants.{Header}
 use Rattle.aud_tap.specs.declared.records.TapKind.{TapKind}
 use Rattle.aud_tap.specs.declared.records.TapKind.TheVariants.{Client}
@@ -37,17 +38,26 @@ part_of_client files tap = record {
 abbrev pub is_server_at : List (Option TapKind) → ℕ → Bool
 is_server_at kinds place = is_server (option_flatten (slice_get kinds place))
 
--- what a part has of taps, of which the first stands at this place, and after so many taps of clients
-abbrev pub parts_from : List (List ℕ) → ServerTexts → Plan → ℕ → List (Option TapKind) → ℕ → ℕ → List TapRuns → List PartOfTap
-parts_from files servers plan part kinds place clients [] = []
-parts_from files servers plan part kinds place clients (tap ∷ taps) =
-    if is_server_at kinds place
-    then part_of_server servers tap.name ∷ parts_from files servers plan part kinds (suc place) clients taps
-    else ((if has_client plan part clients then part_of_client files tap else no_part) ∷ parts_from files servers plan part kinds (suc place) (suc clients) taps)
+-- a client's number is how many of the taps before this place are no tap of the stream or of a node
+abbrev pub client_number : List (Option TapKind) → ℕ → ℕ
+client_number kinds place = count_by (λ before. not (is_server_at kinds before)) (numbers_from 0 place)
 
--- what a part has of all taps, in their order
+-- what a part has of the tap at this place
+abbrev pub part_of_tap : List (List ℕ) → ServerTexts → Plan → ℕ → List (Option TapKind) → ℕ → TapRuns → PartOfTap
+part_of_tap files servers plan part kinds place tap =
+    if is_server_at kinds place
+    then part_of_server servers tap.name
+    else (if has_client plan part (client_number kinds place) then part_of_client files tap else no_part)
+
+-- of taps of which the first stands at this place
+abbrev pub parts_from : List (List ℕ) → ServerTexts → Plan → ℕ → List (Option TapKind) → ℕ → List TapRuns → List PartOfTap
+parts_from files servers plan part kinds place [] = []
+parts_from files servers plan part kinds place (tap ∷ taps) =
+    part_of_tap files servers plan part kinds place tap ∷ parts_from files servers plan part kinds (suc place) taps
+
+-- of all taps, in their order
 abbrev pub parts_of_taps : List (List ℕ) → ServerTexts → Plan → ℕ → List (Option TapKind) → List TapRuns → List PartOfTap
-parts_of_taps files servers plan part kinds taps = parts_from files servers plan part kinds 0 0 taps
+parts_of_taps files servers plan part kinds taps = parts_from files servers plan part kinds 0 taps
 
 -- their text
 abbrev pub text_of_parts : List PartOfTap → List ℕ

@@ -31,12 +31,9 @@ header_in _ = None
 abbrev pub header_for : List ℕ → Line → Option (TapKind × Version)
 header_for name line = option_and_then header_in (record_for name line)
 
--- what the tap of this name was put on, by the first of its lines; none where that is no header
-abbrev pub kind_by : List ℕ → List Line → Option TapKind
-kind_by name lines = option_map (λ header. header.0) (option_and_then (header_for name) (slice_get lines 0))
-
+-- what the tap was put on, by the first of its lines; none where that is no header
 abbrev pub kind_told : List (List ℕ) → TapRuns → Option TapKind
-kind_told files tap = kind_by tap.name (runs_lines files tap.runs)
+kind_told files tap = option_map (λ header. header.0) (option_and_then (header_for tap.name) (slice_get (runs_lines files tap.runs) 0))
 
 -- ---- its records
 

@@ -1,5 +1,6 @@
 //! Lines, words and numbers of a text.
 ghost use Rattle.std.specs.Prelude.{◌≡◌, ◌<◌, IfOk, IfSome, length, option_map};
+ghost use Rattle.std.specs.Str.{is_utf8};
 ghost use Rattle.aud_tap.specs.Forms.{passing};
 ghost use Rattle.aud_tap.specs.WellFormed.{is_session_id};
 ghost use Rattle.aud_parts.specs.Cut.{after_prefix, cut_at, number_in, whole_lines, with_digit};
@@ -98,6 +99,16 @@ pub(crate) fn after_prefix<'a>(prefix: &[u8], text: &'a [u8]) -> Option<&'a [u8]
     ensures { option_map (λ rest. rest.now) result ≡ after_prefix prefix.now text.now }
 {
     text.strip_prefix(prefix)
+}
+
+/// The bytes as a text, if they are UTF-8.
+pub(crate) fn text_in(bytes: &[u8]) -> Option<&str>
+    ensures { option_map (λ text. text.now) result ≡ passing is_utf8 bytes.now }
+{
+    let Ok(text) = str::from_utf8(bytes) else {
+        return None;
+    };
+    Some(text)
 }
 
 /// The bytes as a text, if they are of a pid's form.

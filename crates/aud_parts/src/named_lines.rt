@@ -1,24 +1,36 @@
-//! The text that says from which lines of a recording the lines of a part come.
+//! The text that says from which lines of a recording the lines of a part come, and from which files it was read.
 pub mod fault;
 pub mod reading;
 
 ghost use Rattle.std.specs.Prelude.{◌≡◌, ◌++◌, true, IfOk, OnOk, Ok, string_bytes};
-ghost use Rattle.aud_parts.specs.NamedLines.{are_lines, lines_text, part_of, run_line};
+ghost use Rattle.aud_parts.specs.NamedLines.{are_lines, ended, file_line, lines_text, part_of, run_line};
 
-use aud_input::{LineRun, PartLines};
+use aud_input::{InputFile, LineRun, PartLines};
 use std::alloc::{AllocError, Global};
 
 /// Puts the line of a run at the end.
 fn push_run(out: &mut String, run: LineRun) -> Result<(), AllocError>
-    ensures { OnOk result (string_bytes out.new ≡ string_bytes out.old ++ run_line run) }
+    ensures { OnOk result (string_bytes out.new
+        ≡ string_bytes out.old ++ ended (run_line run)) }
 {
     let LineRun { count, first } = run;
     writeln!(out, "{count} {first}")
 }
 
-/// The text of a part's lines: a line `lines=<number> bytes=<number>` of its size, and then a line `<count> <line>` for
-/// each run: so many of the part's lines, after those before, come from the lines of the recording from this one on.
-/// [`read_lines`](crate::read_lines) reads it.
+/// Puts the line of a file at the end.
+fn push_file(out: &mut String, file: &InputFile) -> Result<(), AllocError>
+    ensures { OnOk result (string_bytes out.new
+        ≡ string_bytes out.old ++ ended (file_line file.now)) }
+{
+    let lines = file.lines;
+    let name = file.name.as_str();
+    writeln!(out, "file={lines} {name}")
+}
+
+/// The text of a part's lines: a line `lines=<number> bytes=<number>` of its size; then a line `<count> <line>` for
+/// each run: so many of the part's lines, after those before, come from the lines of the recording from this one on;
+/// and then a line `file=<lines> <name>` for each file of the recording: so many of its lines, after those before, are
+/// the file's. [`read_lines`](crate::read_lines) reads it, where no name has a newline.
 pub fn lines_text(alloc: Global, part: &PartLines) -> Result<String, AllocError>
     ensures written { IfOk result (λ text. string_bytes text ≡ lines_text part.now) }
     ensures reads_back { IfOk result (λ text. are_lines part.now ≡ true
@@ -28,9 +40,13 @@ pub fn lines_text(alloc: Global, part: &PartLines) -> Result<String, AllocError>
     let lines = part.size.lines;
     let bytes = part.size.bytes;
     let runs = part.runs.as_slice();
+    let files = part.files.as_slice();
     writeln!(&mut out, "lines={lines} bytes={bytes}")?;
     for run in runs {
         push_run(&mut out, *run)?;
+    }
+    for file in files {
+        push_file(&mut out, file)?;
     }
     Ok(out)
 }

@@ -108,7 +108,7 @@ c1 {"k":"in","t":"40{\"sid\":\"s2\",\"pid\":\"Q\"}"}
 ];
 
 /// What is written of each of them.
-static CASES: [&str; 7] = [
+static CASES: [&str; 8] = [
     r#"explain
 @REFUSED
 -> Ok(AllYes)
@@ -116,7 +116,7 @@ static CASES: [&str; 7] = [
     r#"explain --json
 @REFUSED
 -> Ok(AllYes)
-{"also":[],"at_frame":null,"causes":[{"id":"unknown-offset","lines":[28],"sure":true,"todo":"take as offset only what a server that recovers put at the end of an event.","why":"The client asked to go on after an offset that no entry of the stream has."}],"class":"delivery","client":"c1","conn":null,"due":1,"events":[{"after":null,"from":null,"happens":"reply","lines":[22,22],"to":null},{"after":null,"from":1,"happens":"got","lines":[23,23],"to":1},{"after":null,"from":null,"happens":"lost","lines":[25,25],"to":null},{"after":null,"from":null,"happens":"asks","lines":[28,28],"to":null},{"after":null,"from":null,"happens":"refused","lines":[29,29],"to":null}],"evidence":[],"fault":null,"got":1,"nsp":"/","off":null,"pid":"YTMVrS9zt7pTBskJAAAC","refused":[{"ask":{"line":28,"role":"ask","says":"conn 2 asks YTMVrS9zt7pTBskJAAAC after hello","tap":"c1"},"instead":"hgDbD53qREGmUUTXAAAC","missed":[{"off":"1795330308828-0","position":2}],"reply":{"line":29,"role":"reply","says":"conn 2 reply, sid rk3B-e0cNO1Nmx7tAAAB, pid hgDbD53qREGmUUTXAAAC","tap":"c1"}}],"tail":0,"turns":[{"begin":"open","end":"break","high":1,"lines":[7,9],"low":0,"node":"a","took":[1,1],"turn":0}],"v":1,"verdict":"yes"}
+{"also":[],"at_frame":null,"causes":[{"id":"unknown-offset","lines":[28],"sure":true,"todo":"take as offset only what a server that recovers put at the end of an event.","why":"The client asked to go on after an offset that no entry of the stream has."}],"class":"delivery","client":"c1","conn":null,"due":1,"events":[{"after":null,"from":null,"happens":"reply","lines":[22,22],"to":null},{"after":null,"from":1,"happens":"got","lines":[23,23],"to":1},{"after":null,"from":null,"happens":"lost","lines":[25,25],"to":null},{"after":null,"from":null,"happens":"asks","lines":[28,28],"to":null},{"after":null,"from":null,"happens":"refused","lines":[29,29],"to":null}],"evidence":[],"fault":null,"got":1,"nsp":"/","off":null,"pid":"YTMVrS9zt7pTBskJAAAC","refused":[{"ask":{"file":null,"file_line":null,"line":28,"role":"ask","says":"conn 2 asks YTMVrS9zt7pTBskJAAAC after hello","tap":"c1"},"instead":"hgDbD53qREGmUUTXAAAC","missed":[{"off":"1795330308828-0","position":2}],"reply":{"file":null,"file_line":null,"line":29,"role":"reply","says":"conn 2 reply, sid rk3B-e0cNO1Nmx7tAAAB, pid hgDbD53qREGmUUTXAAAC","tap":"c1"}}],"tail":0,"turns":[{"begin":"open","end":"break","high":1,"lines":[7,9],"low":0,"node":"a","took":[1,1],"turn":0}],"v":1,"verdict":"yes"}
 {"summary":*"#,
     r#"explain
 @TOO_EARLY
@@ -203,6 +203,18 @@ sessions with a tail: 0, events in tails: 0
 recoveries asked for: 2, granted: 1, refused: 1
 entries of the stream: 4, recoverable: 4
 lines: 38, *"#,
+    // The same, where the two files are named.
+    r#"explain --pid P taps.jsonl node.jsonl
+@PLACED NODE
+-> Ok(AllYes)
+yes P got=3 tail=0 turns=2 [delivery]
+client c1, namespace /, turns 2, got 3, due 3, tail 0
+    turn 0  a  30 open, cursor 0 == take 1-2 == 34 break, cursor 2
+    turn 1  a  38 back, cursor 4 == 38 log ends, cursor 4
+    client  11 reply  12-17 got 1-2  20 lost  22 asks after 2  23 reply  23 got 3  27 asks after 3
+refused recovery: got no session, missed: not known
+      27 c1  conn 3 asks P after o3  (taps.jsonl:27)
+*"#,
     r#"explain
 @ENDED
 -> Ok(AllYes)

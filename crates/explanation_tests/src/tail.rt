@@ -66,7 +66,7 @@ lines: 17, bytes: 647, seconds: *
     r#"explain --whole --json
 @TAIL
 -> Ok(SomeNo)
-{"also":[{"lines":[4],"position":3},{"lines":[5],"position":4}],"at_frame":null,"causes":[],"class":"delivery","client":"c1","conn":1,"due":4,"events":[{"after":null,"from":null,"happens":"reply","lines":[15,15],"to":null},{"after":null,"from":1,"happens":"got","lines":[16,16],"to":1},{"after":null,"from":null,"happens":"lost","lines":[17,17],"to":null}],"evidence":[{"line":16,"role":"fault","says":"conn 1 got 1 o1","tap":"c1"},{"line":3,"role":"entry","says":"entry 2 o2","tap":"st"},{"line":10,"role":"reached","says":"take 2 o2","tap":"a"}],"fault":"TAIL","got":1,"nsp":"/","off":null,"pid":"P","refused":[],"tail":3,"turns":[{"begin":"open","end":"log","high":4,"lines":[8,12],"low":0,"node":"a","took":[1,4],"turn":0}],"v":1,"verdict":"no"}
+{"also":[{"lines":[4],"position":3},{"lines":[5],"position":4}],"at_frame":null,"causes":[],"class":"delivery","client":"c1","conn":1,"due":4,"events":[{"after":null,"from":null,"happens":"reply","lines":[15,15],"to":null},{"after":null,"from":1,"happens":"got","lines":[16,16],"to":1},{"after":null,"from":null,"happens":"lost","lines":[17,17],"to":null}],"evidence":[{"file":null,"file_line":null,"line":16,"role":"fault","says":"conn 1 got 1 o1","tap":"c1"},{"file":null,"file_line":null,"line":3,"role":"entry","says":"entry 2 o2","tap":"st"},{"file":null,"file_line":null,"line":10,"role":"reached","says":"take 2 o2","tap":"a"}],"fault":"TAIL","got":1,"nsp":"/","off":null,"pid":"P","refused":[],"tail":3,"turns":[{"begin":"open","end":"log","high":4,"lines":[8,12],"low":0,"node":"a","took":[1,4],"turn":0}],"v":1,"verdict":"no"}
 {"summary":{"bytes":647,"class":{"delivery":1,"packets":0,"recording":0},"entries":{"all":4,"recoverable":4},"fault":{"CHAIN":0,"CLIENT":0,"CONTENT":0,"DOUBLED":0,"EXTRA":0,"FRAME":0,"LOST":0,"NAMES":0,"NOLOG":0,"ORDER":0,"ORPHAN":0,"SWAPPED":0,"TAIL":1,"WINDOW":0},"lines":17,"no":1,"recoveries":{"asked":0,"granted":0,"refused":0},"seconds":*,"sessions":1,"tail":{"events":3,"sessions":1},"unobserved":0,"yes":0},"v":1}
 "#,
     r#"explain --whole
@@ -84,7 +84,7 @@ sessions: *"#,
     r#"explain --json --whole
 @NOTHING
 -> Ok(SomeNo)
-{"also":[],"at_frame":null,"causes":[],"class":"delivery","client":"c1","conn":null,"due":1,"events":[{"after":null,"from":null,"happens":"reply","lines":[10,10],"to":null}],"evidence":[{"line":2,"role":"entry","says":"entry 1 1-0","tap":"st"},{"line":7,"role":"reached","says":"take 1 1-0","tap":"a"}],"fault":"TAIL","got":0,"nsp":"/","off":null,"pid":"P","refused":[],"tail":1,"turns":[{"begin":"open","end":"log","high":1,"lines":[5,7],"low":0,"node":"a","took":[1,1],"turn":0}],"v":1,"verdict":"no"}
+{"also":[],"at_frame":null,"causes":[],"class":"delivery","client":"c1","conn":null,"due":1,"events":[{"after":null,"from":null,"happens":"reply","lines":[10,10],"to":null}],"evidence":[{"file":null,"file_line":null,"line":2,"role":"entry","says":"entry 1 1-0","tap":"st"},{"file":null,"file_line":null,"line":7,"role":"reached","says":"take 1 1-0","tap":"a"}],"fault":"TAIL","got":0,"nsp":"/","off":null,"pid":"P","refused":[],"tail":1,"turns":[{"begin":"open","end":"log","high":1,"lines":[5,7],"low":0,"node":"a","took":[1,1],"turn":0}],"v":1,"verdict":"no"}
 {"summary":*"#,
     r#"explain
 @TAIL

@@ -86,12 +86,22 @@ impl<H: Threads + Sync> Splitting<'_, H> {
         }
     }
 
-    /// Writes the file beside a part of so many bytes, which says from which lines those of the part come.
-    fn write_names(&self, part: usize, bytes: u64, runs: LineRuns) -> Result<(), ExitCode> {
+    /// Writes the file beside a part of so many bytes, which says from which lines of the files those of the part come.
+    fn write_names(
+        &self,
+        files: &RunFiles<'_>,
+        part: usize,
+        bytes: u64,
+        runs: LineRuns,
+    ) -> Result<(), ExitCode> {
+        let Ok(files) = files.input_files() else {
+            return Err(self.memory());
+        };
         let lines = runs.count();
         let named = PartLines {
             size: Size { lines, bytes },
             runs,
+            files,
         };
         let (Ok(name), Ok(text)) = (lines_name(self.alloc, part), lines_text(self.alloc, &named))
         else {
@@ -122,7 +132,7 @@ impl<H: Threads + Sync> Splitting<'_, H> {
         let runs = self.write_lines_of(files, name, part, servers)?;
         let bytes = self.planned.bytes(part, servers);
         files.clear();
-        self.write_names(part, bytes, runs)?;
+        self.write_names(files, part, bytes, runs)?;
         match self.push_line(lines, name, part, bytes) {
             Ok(()) => Ok(()),
             Err(_) => Err(self.memory()),

@@ -61,6 +61,7 @@ pub fn refuse(rt: &(impl Print + Eprint), alloc: Global, words: &[&str]) -> Exit
     };
     match said_on(alloc, &words) {
         Some(error) => say(rt, &error),
-        None => ExitCode::from(4),
+        // (they were refused as memory ran out, and for nothing else)
+        None => fail(rt, RunFault::Memory),
     }
 }

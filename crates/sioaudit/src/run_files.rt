@@ -6,9 +6,10 @@ use crate::part_files::{failed_at, refused_for};
 use crate::source::unread;
 use crate::tally::Tally;
 use aud_app::RunFault;
+use aud_input::InputFiles;
 use aud_parts::{Run, RunSource, TapIndex};
 use aud_tap::Text;
-use std::alloc::Global;
+use std::alloc::{AllocError, Global};
 use std::fs::{self, File};
 use std::hash::RandomState;
 use std::io::{self, IsTerminal, Read, Stderr};
@@ -33,6 +34,8 @@ pub struct RunFiles<'a> {
     names: &'a [Text],
     tally: Tally<Stderr>,
     opened: Option<Opened>,
+    /// How many lines each file has, once all are in the index.
+    counts: Vec<u64>,
     /// The file whose read failed last, and the system's reason.
     failed: usize,
     os_error: Option<i32>,
@@ -54,6 +57,7 @@ impl<'a> RunFiles<'a> {
             names,
             tally: Tally::new(notes, is_shown),
             opened: None,
+            counts: Vec::new(alloc),
             failed: 0,
             os_error: None,
         }
@@ -84,17 +88,22 @@ impl<'a> RunFiles<'a> {
         self.clear();
         match fault {
             RunFault::Read => {
-                let name = self.name(self.failed);
+                let failed = self.failed;
+                let name = self.name(failed);
                 failed_at(self.host, self.alloc, fault, name, self.os_error)
             }
             RunFault::Memory | RunFault::Write | RunFault::Spawn => fail(self.host, fault),
         }
     }
 
-    /// Sees that each file can be read more than once; says which one can't.
+    /// Sees that each file can be read more than once, and named on a line; says which one can't.
     pub fn check(&self) -> Result<(), ExitCode> {
         for name in self.names {
             let name = name.as_str();
+            if name.as_bytes().contains(&b'\n') {
+                let words = "has a newline in its name, so no line could name it";
+                return Err(refused_for(self.host, self.alloc, name, words));
+            }
             match fs::metadata(self.host, name) {
                 Ok(metadata) if metadata.is_file() => {}
                 Ok(_) => {
@@ -154,14 +163,27 @@ impl<'a> RunFiles<'a> {
         Ok(())
     }
 
-    /// The index of the taps of all files. Names are hashed with these keys.
+    /// The index of the taps of all files, whose lines are counted. Names are hashed with these keys.
     pub fn index(&mut self, keys: RandomState) -> Result<TapIndex, RunFault> {
         let mut index = TapIndex::new(self.alloc, keys);
         let mut buffer = vec![in self.alloc; 0u8; PIECE]?;
         for number in 0..self.names.len() {
+            let before = index.lines();
             self.index_file(number, &mut index, &mut buffer)?;
+            self.count(index.lines().saturating_sub(before))?;
         }
         Ok(index)
+    }
+
+    /// Notes how many lines the next file has.
+    fn count(&mut self, lines: u64) -> Result<(), AllocError> {
+        self.counts.push(lines)?;
+        Ok(())
+    }
+
+    /// The files, with how many lines each has, once they are in the index.
+    pub fn input_files(&self) -> Result<InputFiles, AllocError> {
+        InputFiles::of(self.alloc, self.names, &self.counts)
     }
 
     /// Opens the file with this number, unless it is open.

@@ -9,6 +9,7 @@ ghost use Rattle.aud_explanation.specs.JsonRefused.{missed_data, all_missed_data
 use crate::json_line::row::row_value;
 use crate::json_line::value::text_or_null;
 use crate::refused::{Missed, RefusedRecovery};
+use aud_input::InputFile;
 use aud_rows::Row;
 use serde_json::{Map, Value, json, put};
 use std::alloc::{AllocError, Global};
@@ -41,35 +42,44 @@ fn all_missed_value(alloc: Global, entries: Option<&[Missed<'_>]>) -> Result<Val
 }
 
 /// The reply, or `null`.
-fn reply_value(alloc: Global, reply: Option<Row<'_>>) -> Result<Value, AllocError>
-    ensures { IfOk result (λ v. view v ≡ reply_data reply.entry) }
+fn reply_value(
+    alloc: Global,
+    files: &[InputFile],
+    reply: Option<Row<'_>>,
+) -> Result<Value, AllocError>
+    ensures { IfOk result (λ v. view v ≡ reply_data files.now reply.entry) }
 {
     match reply {
-        Some(reply) => row_value(alloc, &reply),
+        Some(reply) => row_value(alloc, files, &reply),
         None => Ok(Value::Null),
     }
 }
 
 /// `{"ask":..,"instead":..,"missed":..,"reply":..}`.
-fn refused_value(alloc: Global, refused: &RefusedRecovery<'_, '_>) -> Result<Value, AllocError>
-    ensures { IfOk result (λ v. view v ≡ refused_data refused.now) }
+fn refused_value(
+    alloc: Global,
+    files: &[InputFile],
+    refused: &RefusedRecovery<'_, '_>,
+) -> Result<Value, AllocError>
+    ensures { IfOk result (λ v. view v ≡ refused_data files.now refused.now) }
 {
-    let ask = row_value(alloc, &refused.ask)?;
+    let ask = row_value(alloc, files, &refused.ask)?;
     let instead = text_or_null(alloc, refused.instead)?;
     let missed = all_missed_value(alloc, refused.missed)?;
-    let reply = reply_value(alloc, refused.reply)?;
+    let reply = reply_value(alloc, files, refused.reply)?;
     json!(in alloc; {"ask": ask, "instead": instead, "missed": missed, "reply": reply})
 }
 
 fn refused_values(
     alloc: Global,
+    files: &[InputFile],
     recoveries: &[RefusedRecovery<'_, '_>],
 ) -> Result<Vec<Value>, AllocError>
-    ensures { IfOk result (λ vs. items_view vs.items ≡ items refused_data recoveries.now) }
+    ensures { IfOk result (λ vs. items_view vs.items ≡ items (refused_data files.now) recoveries.now) }
 {
     let mut values = Vec::new(alloc);
     for refused in recoveries {
-        values.push(refused_value(alloc, refused)?)?;
+        values.push(refused_value(alloc, files, refused)?)?;
     }
     Ok(values)
 }
@@ -79,11 +89,12 @@ fn refused_values(
 pub(crate) fn put_refused(
     alloc: Global,
     members: &mut Map<String, Value>,
+    files: &[InputFile],
     recoveries: &[RefusedRecovery<'_, '_>],
 ) -> Result<(), AllocError>
     ensures { OnOk result (members_view members.new.entries
-        ≡ with_refused recoveries.now (members_view members.old.entries)) }
+        ≡ with_refused files.now recoveries.now (members_view members.old.entries)) }
 {
-    let values = refused_values(alloc, recoveries)?;
+    let values = refused_values(alloc, files, recoveries)?;
     put(members, alloc, "refused", Value::Array(values))
 }

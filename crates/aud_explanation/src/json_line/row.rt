@@ -3,11 +3,13 @@ ghost use Rattle.std.specs.Prelude.{◌≡◌, IfOk, OnOk, string_bytes};
 ghost use Rattle.serde_json.specs.View.{view, items_view, members_view};
 ghost use Rattle.aud_cert.specs.Text.{items};
 ghost use Rattle.aud_explanation.specs.Record.{record_text};
-ghost use Rattle.aud_explanation.specs.JsonRow.{role_word, row_data, with_evidence};
+ghost use Rattle.aud_explanation.specs.JsonRow.{role_word, with_row, row_data, with_evidence};
 
+use crate::json_line::place::put_place;
 use crate::text::push_record;
+use aud_input::InputFile;
 use aud_rows::{Role, Row, Says};
-use serde_json::{Map, Value, json, put};
+use serde_json::{Map, Value, put};
 use std::alloc::{AllocError, Global};
 
 fn role_word(role: Role) -> &'static str
@@ -37,21 +39,44 @@ fn words(alloc: Global, says: Says<'_>) -> Result<String, AllocError>
     Ok(text)
 }
 
-/// `{"line":..,"role":..,"says":..,"tap":..}`.
-pub(crate) fn row_value(alloc: Global, row: &Row<'_>) -> Result<Value, AllocError>
-    ensures { IfOk result (λ v. view v ≡ row_data row.now) }
+/// Puts the line, what the record is shown for, what it says, and its tap.
+#[tactic(auto, unfolding(crate::specs::JsonRow::with_row))]
+fn put_row(alloc: Global, members: &mut Map<String, Value>, row: &Row<'_>) -> Result<(), AllocError>
+    ensures { OnOk result (members_view members.new.entries
+        ≡ with_row row.now (members_view members.old.entries)) }
 {
-    let says = words(alloc, row.says)?;
+    put(members, alloc, "line", Value::from(row.line))?;
     let role = role_word(row.role);
-    json!(in alloc; {"line": row.line, "role": role, "says": says.as_str(), "tap": row.tap})
+    put(members, alloc, "role", Value::try_from_str(alloc, role)?)?;
+    let says = words(alloc, row.says)?;
+    put(members, alloc, "says", Value::String(says))?;
+    put(members, alloc, "tap", Value::try_from_str(alloc, row.tap)?)
 }
 
-fn row_values(alloc: Global, rows: &[Row<'_>]) -> Result<Vec<Value>, AllocError>
-    ensures { IfOk result (λ vs. items_view vs.items ≡ items row_data rows.now) }
+/// `{"file":..,"file_line":..,"line":..,"role":..,"says":..,"tap":..}`.
+pub(crate) fn row_value(
+    alloc: Global,
+    files: &[InputFile],
+    row: &Row<'_>,
+) -> Result<Value, AllocError>
+    ensures { IfOk result (λ v. view v ≡ row_data files.now row.now) }
+{
+    let mut members = Map::new(alloc);
+    put_place(alloc, &mut members, files, row.line)?;
+    put_row(alloc, &mut members, row)?;
+    Ok(Value::Object(members))
+}
+
+fn row_values(
+    alloc: Global,
+    files: &[InputFile],
+    rows: &[Row<'_>],
+) -> Result<Vec<Value>, AllocError>
+    ensures { IfOk result (λ vs. items_view vs.items ≡ items (row_data files.now) rows.now) }
 {
     let mut values = Vec::new(alloc);
     for row in rows {
-        values.push(row_value(alloc, row)?)?;
+        values.push(row_value(alloc, files, row)?)?;
     }
     Ok(values)
 }
@@ -61,11 +86,12 @@ fn row_values(alloc: Global, rows: &[Row<'_>]) -> Result<Vec<Value>, AllocError>
 pub(crate) fn put_evidence(
     alloc: Global,
     members: &mut Map<String, Value>,
+    files: &[InputFile],
     rows: &[Row<'_>],
 ) -> Result<(), AllocError>
     ensures { OnOk result (members_view members.new.entries
-        ≡ with_evidence rows.now (members_view members.old.entries)) }
+        ≡ with_evidence files.now rows.now (members_view members.old.entries)) }
 {
-    let values = row_values(alloc, rows)?;
+    let values = row_values(alloc, files, rows)?;
     put(members, alloc, "evidence", Value::Array(values))
 }

@@ -1,10 +1,12 @@
 //! The table of evidence.
 ghost use Rattle.std.specs.Prelude.{◌≡◌, ◌++◌, OnOk, flat_map, string_bytes};
-ghost use Rattle.aud_explanation.specs.Evidence.{tap_width, row_line, row_text, heading_text, table_text, evidence_text};
+ghost use Rattle.aud_explanation.specs.Evidence.{tap_width, row_words, row_line, row_text, heading_text, table_text, evidence_text};
 
 use crate::text::mark::mark;
 use crate::text::page::{push_left, push_line, push_right};
+use crate::text::place::push_place;
 use crate::text::record::push_record;
+use aud_input::InputFile;
 use aud_rows::Row;
 use aud_verdict::Verdict;
 use std::alloc::{AllocError, Global};
@@ -29,7 +31,7 @@ fn push_words(
     row: &Row<'_>,
 ) -> Result<(), AllocError>
     ensures { OnOk result (string_bytes line.new
-        ≡ string_bytes line.old ++ row_line verdict.now width row.now) }
+        ≡ string_bytes line.old ++ row_words verdict.now width row.now) }
 {
     let number = row.line;
     let digits = format!(in alloc; "{number}")?;
@@ -45,15 +47,17 @@ fn push_words(
 pub(crate) fn push_row(
     alloc: Global,
     out: &mut String,
+    files: &[InputFile],
     verdict: &Verdict,
     width: usize,
     row: &Row<'_>,
 ) -> Result<(), AllocError>
     ensures { OnOk result (string_bytes out.new
-        ≡ string_bytes out.old ++ row_text verdict.now width row.now) }
+        ≡ string_bytes out.old ++ row_text files.now verdict.now width row.now) }
 {
     let mut line = String::new(alloc);
     push_words(alloc, &mut line, verdict, width, row)?;
+    push_place(&mut line, files, row.line)?;
     push_line(out, line.as_str())
 }
 
@@ -72,15 +76,16 @@ fn push_heading(alloc: Global, out: &mut String, width: usize) -> Result<(), All
 fn push_rows(
     alloc: Global,
     out: &mut String,
+    files: &[InputFile],
     verdict: &Verdict,
     width: usize,
     rows: &[Row<'_>],
 ) -> Result<(), AllocError>
     ensures { OnOk result (string_bytes out.new
-        ≡ string_bytes out.old ++ flat_map (row_text verdict.now width) rows.now) }
+        ≡ string_bytes out.old ++ flat_map (row_text files.now verdict.now width) rows.now) }
 {
     for row in rows {
-        push_row(alloc, out, verdict, width, row)?;
+        push_row(alloc, out, files, verdict, width, row)?;
     }
     Ok(())
 }
@@ -89,30 +94,32 @@ fn push_rows(
 fn push_table(
     alloc: Global,
     out: &mut String,
+    files: &[InputFile],
     verdict: &Verdict,
     rows: &[Row<'_>],
 ) -> Result<(), AllocError>
     ensures { OnOk result (string_bytes out.new
-        ≡ string_bytes out.old ++ table_text verdict.now rows.now) }
+        ≡ string_bytes out.old ++ table_text files.now verdict.now rows.now) }
 {
     let width = tap_width(rows);
     push_heading(alloc, out, width)?;
-    push_rows(alloc, out, verdict, width, rows)
+    push_rows(alloc, out, files, verdict, width, rows)
 }
 
 /// Puts the table of evidence at the end, a line for each row under a heading; nothing where there is none.
 pub(crate) fn push_evidence(
     alloc: Global,
     out: &mut String,
+    files: &[InputFile],
     verdict: &Verdict,
     rows: &[Row<'_>],
 ) -> Result<(), AllocError>
     ensures { OnOk result (string_bytes out.new
-        ≡ string_bytes out.old ++ evidence_text verdict.now rows.now) }
+        ≡ string_bytes out.old ++ evidence_text files.now verdict.now rows.now) }
 {
     if rows.is_empty() {
         Ok(())
     } else {
-        push_table(alloc, out, verdict, rows)
+        push_table(alloc, out, files, verdict, rows)
     }
 }

@@ -7,6 +7,7 @@ ghost use Rattle.aud_explanation.specs.RefusedText.{instead_words, count_words, 
 use crate::refused::{Missed, RefusedRecovery};
 use crate::text::evidence::push_row;
 use crate::text::page::push_line;
+use aud_input::InputFile;
 use aud_rows::Row;
 use aud_verdict::Verdict;
 use std::alloc::{AllocError, Global};
@@ -55,15 +56,16 @@ fn push_head(
 fn push_reply(
     alloc: Global,
     out: &mut String,
+    files: &[InputFile],
     verdict: &Verdict,
     width: usize,
     reply: Option<Row<'_>>,
 ) -> Result<(), AllocError>
     ensures { OnOk result (string_bytes out.new
-        ≡ string_bytes out.old ++ reply_text verdict.now width reply.entry) }
+        ≡ string_bytes out.old ++ reply_text files.now verdict.now width reply.entry) }
 {
     match reply {
-        Some(reply) => push_row(alloc, out, verdict, width, &reply),
+        Some(reply) => push_row(alloc, out, files, verdict, width, &reply),
         None => Ok(()),
     }
 }
@@ -107,16 +109,17 @@ fn push_all_missed(
 fn push_one(
     alloc: Global,
     out: &mut String,
+    files: &[InputFile],
     verdict: &Verdict,
     refused: &RefusedRecovery<'_, '_>,
 ) -> Result<(), AllocError>
     ensures { OnOk result (string_bytes out.new
-        ≡ string_bytes out.old ++ refused_text verdict.now refused.now) }
+        ≡ string_bytes out.old ++ refused_text files.now verdict.now refused.now) }
 {
     let width = refused.ask.tap.len();
     push_head(alloc, out, refused)?;
-    push_row(alloc, out, verdict, width, &refused.ask)?;
-    push_reply(alloc, out, verdict, width, refused.reply)?;
+    push_row(alloc, out, files, verdict, width, &refused.ask)?;
+    push_reply(alloc, out, files, verdict, width, refused.reply)?;
     push_all_missed(alloc, out, refused.missed)
 }
 
@@ -124,14 +127,15 @@ fn push_one(
 pub(crate) fn push_refused(
     alloc: Global,
     out: &mut String,
+    files: &[InputFile],
     verdict: &Verdict,
     recoveries: &[RefusedRecovery<'_, '_>],
 ) -> Result<(), AllocError>
     ensures { OnOk result (string_bytes out.new
-        ≡ string_bytes out.old ++ all_refused_text verdict.now recoveries.now) }
+        ≡ string_bytes out.old ++ all_refused_text files.now verdict.now recoveries.now) }
 {
     for refused in recoveries {
-        push_one(alloc, out, verdict, refused)?;
+        push_one(alloc, out, files, verdict, refused)?;
     }
     Ok(())
 }

@@ -12,8 +12,9 @@ pub enum LinesFault {
     /// The first line isn't `lines=<number> bytes=<number>`.
     #[error("line 1: is not lines=<number> bytes=<number>")]
     NoSize,
-    /// The line of this number isn't `<count> <line>`, both from 1 on.
-    #[error("line {0}: is not <count> <line>, both from 1 on")]
+    /// The line of this number is neither a run's, `<count> <line>`, both from 1 on, nor a file's,
+    /// `file=<lines> <name>`; or it is a run's after a file's.
+    #[error("line {0}: is neither <count> <line>, both from 1 on, nor, after those, file=<lines> <name>")]
     NoRun(usize),
     /// The runs have fewer lines than the first line says, or more; or the last line isn't ended by a newline.
     #[error("names fewer or more lines than its line 1 says")]

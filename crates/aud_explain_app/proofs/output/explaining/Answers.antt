@@ -18,6 +18,7 @@ pub returns-clause-explaining : goal.returns-clause-explaining
 returns-clause-explaining g c =
     let recording = c.args.sheet.recording.now in
     let lines = c.args.sheet.lines.now in
+    let files = c.args.files.now in
     let options = c.args.options.now in
     let text = string_bytes c.in_ok-told.told in
     let known = ap pids_of c.deref-2.ensures.value ∙ known_pids recording options.whole c.args.verdicts.items _ c.requires c.in_ok-add_strangers.ensures in
@@ -28,7 +29,7 @@ returns-clause-explaining g c =
       are_sessions = c.in_ok-add_strangers.ensures;
       none_missing = ap (λ pids. first_missing pids options.pids) (sym known) ∙ c.in_ok-told.ensures.none_missing;
       texts = text;
-      are_texts = subst (λ sessions. AddTexts recording lines (form_of options.form) (sessions_chosen recording options.only options.pids sessions) [] text) c.deref-2.ensures.value c.in_ok-told.ensures.told;
+      are_texts = subst (λ sessions. AddTexts recording lines (form_of options.form) files (sessions_chosen recording options.only options.pids sessions) [] text) c.deref-2.ensures.value c.in_ok-told.ensures.told;
       figures = c.figures_of-figures.result;
       are_figures = subst (λ verdicts. AreFigures options recording c.args.size verdicts c.figures_of-figures.result) c.deref.ensures.value c.figures_of-figures.ensures;
       seconds = c.seconds_since.result;

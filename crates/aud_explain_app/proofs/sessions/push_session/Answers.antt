@@ -7,6 +7,6 @@ use Rattle.aud_explain_app.proofs.sessions.push_session.Goals as goal
 pub returns : goal.returns
 returns c =
     let recording = c.args.sheet.recording.now in
-    on_ok_weaker c.push_told.result (adds_text recording c.args.sheet.lines.now c.args.form c.args.session.now _ _ _ _
+    on_ok_weaker c.push_told.result (adds_text recording c.args.sheet.lines.now c.args.layout.form c.args.layout.files.now c.args.session.now _ _ _ _
     c.as_str-pid.ensures
     (c.as_slice.ensures.value ∙ c.in_ok-refused.ensures recording c.requires.asked ∙ ap (refused_of recording) c.as_str-pid.ensures)) c.push_told.ensures

@@ -8,5 +8,5 @@ use Rattle.aud_explanation.proofs.json_line.explanation_json.Goals as goal
 pub returns : goal.returns
 returns c =
     let value = c.in_ok-value.ensures in
-    let no_float : has_float (view c.in_ok-value.value) ≡ false = rw value (explanation-plain c.args.explanation.now) in
+    let no_float : has_float (view c.in_ok-value.value) ≡ false = rw value (explanation-plain c.args.files.now c.args.explanation.now) in
     IfOk-weaker c.to_string.result _ _ (λ s text. text no_float ∙ ap compact_text value) c.to_string.ensures.text

@@ -1,12 +1,13 @@
+use Rattle.std.proofs.Common.{refl}
 use Rattle.aud_input.proofs.Files.{recorded, unread_one, unrecorded}
 use Rattle.aud_input.proofs.reading.read_files.Goals as goal
 
 pub returns-in-Ok-clause-recorded : goal.returns-in-Ok-clause-recorded
-returns-in-Ok-clause-recorded g c = recorded _ c.in-Ok.counts.items c.read_all.new.feeding c.finish.result c.in-Ok.ensures.read c.finish.ensures.recorded c.finish.ensures.bytes
+returns-in-Ok-clause-recorded g c = recorded _ c.in-Ok.counts.items c.read_all.new.feeding c.finish.result c.in-Ok.ensures.read c.finish.ensures.recorded c.finish.ensures.bytes c.finish.ensures.counts
 
 pub returns-in-Ok-clause-unrecorded : goal.returns-in-Ok-clause-unrecorded
 returns-in-Ok-clause-unrecorded g c =
-    unrecorded _ c.in-Ok.counts.items c.deref.result.now c.read_all.new.feeding c.finish.result c.in-Ok.ensures.read c.deref.ensures.value c.finish.ensures.refused
+    unrecorded _ c.in-Ok.counts.items c.in-Ok.counts.items c.read_all.new.feeding c.finish.result c.in-Ok.ensures.read refl c.finish.ensures.refused
 
 pub returns-in-Err-clause-unrecorded : goal.returns-in-Err-clause-unrecorded
 returns-in-Err-clause-unrecorded g c =

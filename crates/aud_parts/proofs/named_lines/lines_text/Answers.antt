@@ -5,5 +5,5 @@ use Rattle.aud_parts.proofs.named_lines.lines_text.Goals as goal
 
 pub returns-clause-reads_back : goal.returns-clause-reads_back
 returns-clause-reads_back c = λ is.
-    ap part_of (text-done c.args.part.now c.as_slice-runs.result.now c.loop-run.run-index _ c.loop-run-test.false c.as_slice-runs.ensures c.loop-run.invariant)
+    ap part_of (text-done c.args.part.now c.as_slice-files.result.now c.loop-file.file-index _ c.loop-file-test.false c.as_slice-files.ensures c.loop-file.invariant)
     ∙ part-back c.args.part.now is

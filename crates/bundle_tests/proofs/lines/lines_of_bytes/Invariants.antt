@@ -1,9 +1,0 @@
-use Rattle.std.proofs.Common.{◌≤◌, ◌+◌, take}
-use Rattle.aud_reader.proofs.SessionLemmas.{Came}
-use Rattle.bundle_tests.proofs.lines.lines_of_bytes.Given as goal
-
-abbrev pub invariant-loop-byte : goal.invariant-loop-byte
-invariant-loop-byte l = record {
-  number : l.splitter.number ≤ 1 + l.byte-index;
-  came : Came (take l.byte-index l.input) l.lines.items l.splitter;
-}

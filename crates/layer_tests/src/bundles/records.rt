@@ -1,0 +1,271 @@
+//! The fields of each kind of record, and keys that are unknown or stand twice.
+use crate::bundles::input::read;
+use aud_reader::ReadFault;
+use aud_tap::{Blobs, ClientRec, NodeRec, Rec, StreamRec, TapKind, Texts, Version};
+use std::alloc::Global;
+use std::hash::RandomState;
+use std::test::Fail;
+
+/// A record: its variant, its texts in their order, and its number; of an event no lists.
+type Fields<'a> = (&'a str, &'a str, &'a str, &'a str, u64);
+
+/// What a tap was put on.
+fn word(of: TapKind) -> &'static str {
+    match of {
+        TapKind::Stream => "stream",
+        TapKind::Node => "node",
+        TapKind::Client => "client",
+    }
+}
+
+/// The number of a version.
+fn number(version: Version) -> u64 {
+    match version {
+        Version::One => 1,
+        Version::Two => 2,
+    }
+}
+
+fn stream_fields(rec: &StreamRec) -> Fields<'_> {
+    match rec {
+        StreamRec::Ev(event) => (
+            "Ev",
+            event.off.as_str(),
+            event.nsp.as_str(),
+            event.text.as_str(),
+            0,
+        ),
+        StreamRec::Other { off } => ("Other", off.as_str(), "", "", 0),
+    }
+}
+
+fn node_fields(rec: &NodeRec) -> Fields<'_> {
+    match rec {
+        NodeRec::Start { off: None } => ("Start", "none", "", "", 0),
+        NodeRec::Start { off: Some(off) } => ("Start", off.as_str(), "", "", 0),
+        NodeRec::Take { off } => ("Take", off.as_str(), "", "", 0),
+        NodeRec::Takes { off } => ("Takes", off.as_str(), "", "", 0),
+        NodeRec::Opened { pid, sid, nsp } => (
+            "Opened",
+            pid.as_str(),
+            sid.as_str(),
+            nsp.as_str(),
+            0,
+        ),
+        NodeRec::Join { pid, room } => ("Join", pid.as_str(), room.as_str(), "", 0),
+        NodeRec::Leave { pid, room } => ("Leave", pid.as_str(), room.as_str(), "", 0),
+        NodeRec::Broke { pid, turn } => ("Broke", pid.as_str(), "", "", u64::from(*turn)),
+        NodeRec::Back { pid, turn } => ("Back", pid.as_str(), "", "", u64::from(*turn)),
+        NodeRec::Gone { pid } => ("Gone", pid.as_str(), "", "", 0),
+    }
+}
+
+fn client_fields(rec: &ClientRec) -> Fields<'_> {
+    match rec {
+        ClientRec::Conn { c } => ("Conn", "", "", "", *c),
+        ClientRec::TextIn { t } => ("TextIn", t.as_str(), "", "", 0),
+        ClientRec::BytesIn { b } => (
+            "BytesIn",
+            str::from_utf8(b.as_slice()).unwrap_or("?"),
+            "",
+            "",
+            0,
+        ),
+        ClientRec::Poll { t } => ("Poll", t.as_str(), "", "", 0),
+        ClientRec::TextOut { t } => ("TextOut", t.as_str(), "", "", 0),
+        ClientRec::Lost => ("Lost", "", "", "", 0),
+    }
+}
+
+fn fields(rec: &Rec) -> Fields<'_> {
+    match rec {
+        Rec::Header { of, v } => ("Header", word(*of), "", "", number(*v)),
+        Rec::Stream(rec) => stream_fields(rec),
+        Rec::Node(rec) => node_fields(rec),
+        Rec::Client(rec) => client_fields(rec),
+    }
+}
+
+fn texts_are(texts: &Texts, wanted: &[&str]) -> bool {
+    texts
+        .as_slice()
+        .iter()
+        .map(|text| text.as_str())
+        .eq(wanted.iter().copied())
+}
+
+fn blobs_are(blobs: &Blobs, wanted: &[&[u8]]) -> bool {
+    blobs
+        .as_slice()
+        .iter()
+        .map(|bytes| bytes.as_slice())
+        .eq(wanted.iter().copied())
+}
+
+/// Whether it is an event with these lists.
+fn has_lists(rec: &Rec, rooms: &[&str], except: &[&str], bin: &[&[u8]]) -> bool {
+    match rec {
+        Rec::Stream(StreamRec::Ev(event)) => {
+            texts_are(&event.rooms, rooms)
+                && texts_are(&event.except, except)
+                && blobs_are(&event.bin, bin)
+        }
+        _ => false,
+    }
+}
+
+/// What is looked at in a record: its fields; or of an event its rooms, the rooms that it excepts, and its attachments.
+#[derive(Clone, Copy, Drop)]
+enum Part<'a> {
+    Fields(&'a Fields<'a>),
+    Lists(&'a [&'a str], &'a [&'a str], &'a [&'a [u8]]),
+}
+
+fn has_part(rec: &Rec, wanted: &Part<'_>) -> bool {
+    match wanted {
+        Part::Fields(wanted) => fields(rec) == **wanted,
+        Part::Lists(rooms, except, bin) => has_lists(rec, rooms, except, bin),
+    }
+}
+
+/// Whether it is a record of the tap `t` that has this part.
+fn is_wanted(read: &Result<(String, Rec), ReadFault>, wanted: &Part<'_>) -> bool {
+    match read {
+        Ok((name, rec)) => name.as_str() == "t" && has_part(rec, wanted),
+        Err(_) => false,
+    }
+}
+
+/// Whether the line is read so.
+fn reads_as(alloc: Global, keys: RandomState, text: &str, wanted: &Part<'_>) -> bool {
+    let read = read(alloc, keys, 1, text.as_bytes());
+    is_wanted(&read, wanted)
+}
+
+static RECORDS: [(&str, Fields<'static>); 29] = [
+    (
+        r#"t {"k":"tap","v":1,"of":"stream"}"#,
+        ("Header", "stream", "", "", 1),
+    ),
+    (
+        r#"t {"k":"tap","v":1,"of":"node"}"#,
+        ("Header", "node", "", "", 1),
+    ),
+    (
+        r#"t {"k":"tap","v":1,"of":"client"}"#,
+        ("Header", "client", "", "", 1),
+    ),
+    (
+        r#"t {"k":"tap","of":"stream","v":2}"#,
+        ("Header", "stream", "", "", 2),
+    ),
+    (
+        r#"t {"k":"tap","of":"node","v":2}"#,
+        ("Header", "node", "", "", 2),
+    ),
+    (
+        r#"t {"k":"tap","of":"client","v":2}"#,
+        ("Header", "client", "", "", 2),
+    ),
+    (
+        r#"t {"k":"ev","off":"1-0","nsp":"/","rooms":["r"],"text":"2[\"hi\",\"1-0\"]"}"#,
+        ("Ev", "1-0", "/", "2[\"hi\",\"1-0\"]", 0),
+    ),
+    (
+        r#"t {"k":"other","off":"2-0"}"#,
+        ("Other", "2-0", "", "", 0),
+    ),
+    (
+        r#"t {"k":"start","off":null}"#,
+        ("Start", "none", "", "", 0),
+    ),
+    (
+        r#"t {"k":"start","off":"1-0"}"#,
+        ("Start", "1-0", "", "", 0),
+    ),
+    (r#"t {"k":"take","off":"1-0"}"#, ("Take", "1-0", "", "", 0)),
+    (
+        r#"t {"k":"takes","off":"9-0"}"#,
+        ("Takes", "9-0", "", "", 0),
+    ),
+    (
+        r#"t {"k":"open","pid":"P","sid":"s1","nsp":"/"}"#,
+        ("Opened", "P", "s1", "/", 0),
+    ),
+    (
+        r#"t {"k":"join","pid":"P","room":"r"}"#,
+        ("Join", "P", "r", "", 0),
+    ),
+    (
+        r#"t {"k":"leave","pid":"P","room":"r"}"#,
+        ("Leave", "P", "r", "", 0),
+    ),
+    (
+        r#"t {"k":"break","pid":"P","turn":0}"#,
+        ("Broke", "P", "", "", 0),
+    ),
+    (
+        r#"t {"k":"back","pid":"P","turn":1}"#,
+        ("Back", "P", "", "", 1),
+    ),
+    (r#"t {"k":"gone","pid":"P"}"#, ("Gone", "P", "", "", 0)),
+    (r#"t {"k":"conn","c":2}"#, ("Conn", "", "", "", 2)),
+    (
+        r#"t {"k":"in","t":"42[\"hi\",\"1-0\"]"}"#,
+        ("TextIn", "42[\"hi\",\"1-0\"]", "", "", 0),
+    ),
+    (
+        r#"t {"k":"inb","b":"AQI="}"#,
+        ("BytesIn", "\u{1}\u{2}", "", "", 0),
+    ),
+    (
+        r#"t {"k":"poll","t":"2\u001e42[]"}"#,
+        ("Poll", "2\u{1e}42[]", "", "", 0),
+    ),
+    (r#"t {"k":"out","t":"3"}"#, ("TextOut", "3", "", "", 0)),
+    // unknown keys are passed over
+    (
+        r#"t {"k":"take","off":"1-0","turn":0}"#,
+        ("Take", "1-0", "", "", 0),
+    ),
+    (
+        r#"t {"K":"lost","OFF":"2-0","k":"take","off":"1-0"}"#,
+        ("Take", "1-0", "", "", 0),
+    ),
+    (
+        r#"t {"":{"k":"lost","off":[{}]},"k":"take","pid":null,"off":"1-0","v":1.5e300}"#,
+        ("Take", "1-0", "", "", 0),
+    ),
+    // of a key that stands twice the last value counts, also where it is of another kind
+    (
+        r#"t {"t":"first","k":"in","t":"second"}"#,
+        ("TextIn", "second", "", "", 0),
+    ),
+    (
+        r#"t {"k":"conn","c":"1","c":1,"k":"lost"}"#,
+        ("Lost", "", "", "", 0),
+    ),
+    (r#"t {"k":"lost"}"#, ("Lost", "", "", "", 0)),
+];
+
+#[test]
+fn fields_are_read(rt: HostRuntime) -> Result<(), Fail> {
+    let keys = RandomState::new(&rt)?;
+    for (text, wanted) in &RECORDS {
+        assert!(rt;
+            reads_as(rt.alloc(), keys, text, &Part::Fields(wanted)),
+            "{text}"
+        );
+    }
+    Ok(())
+}
+
+#[test]
+fn lists_are_read_in_their_order(rt: HostRuntime) -> Result<(), Fail> {
+    let keys = RandomState::new(&rt)?;
+    let text =
+        r#"t {"k":"ev","off":"4-0","nsp":"/n","rooms":["r"],"except":["s1","s2"],"bin":["AQI=","Aw=="],"text":""}"#;
+    let wanted = Part::Lists(&["r"], &["s1", "s2"], &[&[1, 2], &[3]]);
+    assert!(rt; reads_as(rt.alloc(), keys, text, &wanted));
+    Ok(())
+}
