@@ -81,9 +81,10 @@ pub record AreFigures (options : ExplainOptions) (c : Cluster) (size : Size) (ve
   pub is_summary : IsSummary c verdicts (recoveries_of c) size figures.summary
   pub status_is : figures.status ≡ status_by options.fail_on (says_nothing figures.summary) verdicts (recoveries_of c)
 
--- the output over a recording, where these are the lines of its records, in these files: the explanation of each session that is shown,
--- by its verdict, with the whole where that is asked for, and the figures of all of it; sessions that clients asked for in
--- vain and that no record names are shown too, and not counted; and each pid of the words is that of one of all these
+-- the output over a recording, where these are the lines of its records, in these files: the explanation of each session
+-- that is shown, by its verdict, with the whole where that is asked for, and the figures of all of it; sessions that
+-- clients asked for in vain and that no record names are shown too, and not counted; and each pid of the words is that of
+-- one of all these
 pub record IsExplaining (options : ExplainOptions) (c : Cluster) (lines : List TapLines) (files : List InputFile) (size : Size) (output : OutputSeen) : Type 0 where
   pub verdicts : List SessionVerdict
   pub are_verdicts : AreVerdicts c options.whole (sessions_of c) verdicts
@@ -108,7 +109,8 @@ abbrev pub lines_told : Option PartLines → List TapLines → List TapLines
 lines_told None lines = lines
 lines_told (Some part) lines = taps_named part.runs lines
 
--- the files in which these lines stand; where they are those of the input, the files of that
+-- the files in which these lines stand: those of the words, by how many lines each has; or, where the lines are those of
+-- the input that a part is of, the files of that
 abbrev pub files_told : Option PartLines → List Text → List ℕ → List InputFile
 files_told None names counts = input_files names counts
 files_told (Some part) names counts = part.files

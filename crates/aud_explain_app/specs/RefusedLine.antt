@@ -1,11 +1,12 @@
 -- What is written where a line is refused.
 use Rattle.std.specs.Prelude.{ℕ, List, [], ◌++◌, codes, decimal, length, nat_lt, Option, Some, None, slice_get, if◌then◌else◌}
-use Rattle.serde_json.specs.Data.{Data, member, no_members, null, object, string}
+use Rattle.serde_json.specs.Data.{Data, member, no_members, object, string}
 use Rattle.serde_json.specs.Written.{compact_text}
 use Rattle.aud_cert.specs.Text.{whole}
 use Rattle.aud_node.specs.Stream.{Text}
 use Rattle.aud_input.specs.declared.place.FileLine.{FileLine}
 use Rattle.aud_input.specs.declared.refusal.Refusal.{Refusal}
+use Rattle.aud_explanation.specs.JsonValue.{text_or_null}
 use Rattle.aud_explanation.specs.Printed.{printed}
 use Rattle.aud_explain_app.specs.declared.written.Form.{Form}
 use Rattle.aud_explain_app.specs.declared.written.Form.TheVariants.{Text as InText, Json}
@@ -28,15 +29,10 @@ place_line (Some name) line = codes "That is line " ++ decimal line ++ codes " o
 abbrev pub help_on : Refusal → List ℕ
 help_on r = help_text r.line r.code r.header
 
--- the name of the file, or `null`
-abbrev pub name_or_null : Option Text → Data
-name_or_null (Some name) = string name
-name_or_null None = null
-
 -- `{"file":..,"file_line":..,"help":..,"line":..,"name":..}`
 abbrev pub refused_data : Option Text → Refusal → List ℕ → Data
 refused_data file r help =
-    object (member (codes "file") (name_or_null file)
+    object (member (codes "file") (text_or_null file)
     (member (codes "file_line") (whole r.at.line)
     (member (codes "help") (string help)
     (member (codes "line") (whole r.number)

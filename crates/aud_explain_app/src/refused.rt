@@ -2,7 +2,8 @@
 ghost use Rattle.std.specs.Prelude.{◌≡◌, ◌++◌, IfOk, OnOk, Some, slice_get, string_bytes};
 ghost use Rattle.std.specs.Option.{option_map};
 ghost use Rattle.serde_json.specs.View.{view};
-ghost use Rattle.aud_explain_app.specs.RefusedLine.{file_told, json_data, json_line, name_or_null, place_line, refused_data, refused_output};
+ghost use Rattle.aud_explanation.specs.JsonValue.{text_or_null};
+ghost use Rattle.aud_explain_app.specs.RefusedLine.{file_told, json_data, json_line, place_line, refused_data, refused_output};
 
 use crate::written::Form;
 use aud_explanation::push_printed;
@@ -141,7 +142,7 @@ fn told_value(
 
 fn name_or_null(alloc: Global, name: Option<&str>) -> Result<Value, AllocError>
     ensures { IfOk result (λ value. view value
-        ≡ name_or_null (option_map (λ name. name.now) name.entry)) }
+        ≡ text_or_null (option_map (λ name. name.now) name.entry)) }
 {
     match name {
         Some(name) => json!(in alloc; name),

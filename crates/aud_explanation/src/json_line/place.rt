@@ -8,7 +8,7 @@ use aud_input::{InputFile, place_told};
 use serde_json::{Map, Value, put};
 use std::alloc::{AllocError, Global};
 
-/// Puts the file in which the line stands, and the line's number there, both `null` where there are no several files.
+/// Puts the file in which the line stands, and the line's number there; both are `null` with fewer than two files.
 #[tactic(auto, unfolding(crate::specs::Place::with_place))]
 pub(crate) fn put_place(
     alloc: Global,

@@ -75,7 +75,8 @@ fn refused_values(
     files: &[InputFile],
     recoveries: &[RefusedRecovery<'_, '_>],
 ) -> Result<Vec<Value>, AllocError>
-    ensures { IfOk result (λ vs. items_view vs.items ≡ items (refused_data files.now) recoveries.now) }
+    ensures { IfOk result (λ vs. items_view vs.items
+        ≡ items (refused_data files.now) recoveries.now) }
 {
     let mut values = Vec::new(alloc);
     for refused in recoveries {
