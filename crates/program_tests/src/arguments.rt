@@ -103,7 +103,7 @@ pub enum Command {
 }
 
 /// The arguments of a row, which have blanks between them.
-fn words_of<'a>(alloc: Global, words: &'a str) -> Result<Vec<&'a str>, AllocError> {
+pub fn words_of<'a>(alloc: Global, words: &'a str) -> Result<Vec<&'a str>, AllocError> {
     let mut found = Vec::new(alloc);
     if words.is_empty() {
         return Ok(found);

@@ -1,4 +1,5 @@
 //! The bundles of the tests, and what is written for them.
+use crate::case::cut;
 
 /// Each text after its name.
 static TEXTS: [&str; 19] = [
@@ -296,8 +297,13 @@ b {"k":"take","off":"1-0"}
 
 /// The text of this name.
 pub fn named(name: &str) -> Option<&'static str> {
-    for named in &TEXTS {
-        let (it, text) = named.split_once('\n').unwrap_or((named, ""));
+    named_in(&TEXTS, name)
+}
+
+/// The text of this name, of these, each of which stands after its name.
+pub fn named_in<'a>(texts: &[&'a str], name: &str) -> Option<&'a str> {
+    for named in texts {
+        let (it, text) = cut(named, "\n");
         if it == name {
             return Some(text);
         }

@@ -1,5 +1,5 @@
 //! Tests of the program's parts as the program calls them: runs over memory and over readers and writers that fail, the
-//! arguments of the command line, and the audits of simulated clusters.
+//! arguments of the command line, the audits of simulated clusters, and what `explain` writes.
 #![tactic(auto)]
 
 #[cfg(test)]
@@ -16,6 +16,8 @@ mod certificates;
 mod clusters;
 #[cfg(test)]
 mod each_mode;
+#[cfg(test)]
+mod explanations;
 #[cfg(test)]
 mod failing;
 #[cfg(test)]

@@ -1,5 +1,5 @@
 //! Sessions whose opens, breaks and recoveries don't fit together.
-use crate::cases::assert_cases;
+use crate::explanations::cases::assert_cases;
 use std::test::Fail;
 
 /// Texts of these cases, each after its name.

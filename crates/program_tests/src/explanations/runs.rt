@@ -1,5 +1,5 @@
 //! Which sessions are shown, how a run ends, and what is written of a line that is refused.
-use crate::cases::assert_cases;
+use crate::explanations::cases::assert_cases;
 use std::test::Fail;
 
 /// Texts of these cases, each after its name.

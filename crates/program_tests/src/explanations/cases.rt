@@ -1,15 +1,16 @@
 //! What `explain` writes for cases, each a text.
 //!
 //! The first line of a case is the arguments. The second has what is read: `@A B` the files with these texts, and what
-//! stands below is one more; or `2 nodes: c@1 e:a` the bundle of a simulated cluster of one client, which runs this
-//! schedule. After `-> ` comes how the run ends, and below it what is written, where `*` stands for what is not told.
+//! stands below is one more; or `2 1 c1@1 e:a` the bundle of a simulated cluster of so many nodes and clients, which
+//! runs this schedule. After `-> ` comes how the run ends, and below it what is written, where `*` stands for what is not told.
 //! It may be the text of a name too, as `@A`.
-use crate::bundles::named;
-use crate::schedule::acts;
+use crate::arguments::words_of;
+use crate::case::cut;
+use crate::clusters::bundle_of;
+use crate::explanations::bundles::named;
 use aud_base::Watched;
 use aud_cli::explain_asked;
 use aud_explain_app::{ExplainFault, explain};
-use aud_sim::simulate;
 use aud_verdict::Status;
 use std::alloc::{AllocError, Global};
 use std::hash::RandomState;
@@ -40,7 +41,7 @@ pub fn assert_cases<H: Abort + Threads + Wait + Clock + RandomSource + Sync>(
 }
 
 /// Adds the case, how its run ends and what it writes, where the case says otherwise.
-fn push_differing<H: Threads + Wait + Clock + RandomSource + Sync>(
+fn push_differing<H: Abort + Threads + Wait + Clock + RandomSource + Sync>(
     rt: &H,
     alloc: Global,
     texts: &[&str],
@@ -54,7 +55,7 @@ fn push_differing<H: Threads + Wait + Clock + RandomSource + Sync>(
         Some(name) => named(texts, name).ok_or("no text")?,
         None => text,
     };
-    let files = files_of(alloc, texts, input)?;
+    let files = files_of(rt, alloc, texts, input)?;
     let told = explained(rt, alloc, arguments, &files)?;
     let (ended, written) = cut(&told, "\n");
     if ended != end || !is_told(written, text) {
@@ -63,28 +64,17 @@ fn push_differing<H: Threads + Wait + Clock + RandomSource + Sync>(
     Ok(())
 }
 
-/// What a text has before the first such mark, and after it.
-pub fn cut<'a>(text: &'a str, mark: &str) -> (&'a str, &'a str) {
-    text.split_once(mark).unwrap_or((text, ""))
-}
-
-/// The words of a text, with a blank between them.
-pub fn words_of<'a>(alloc: Global, text: &'a str) -> Result<Vec<&'a str>, AllocError> {
-    let mut words = Vec::new(alloc);
-    if text.is_empty() {
-        return Ok(words);
-    }
-    for word in text.split(' ') {
-        words.push(word)?;
-    }
-    Ok(words)
-}
-
 /// The texts that are read.
-fn files_of(alloc: Global, texts: &[&str], input: &str) -> Result<Vec<String>, Fail> {
+fn files_of<H: Abort>(
+    rt: &H,
+    alloc: Global,
+    texts: &[&str],
+    input: &str,
+) -> Result<Vec<String>, Fail> {
     let mut files = Vec::new(alloc);
     let Some(input) = input.strip_prefix('@') else {
-        files.push(simulated(alloc, input)?)?;
+        let bundle = bundle_of(rt, alloc, input)?;
+        files.push(String::from_str(alloc, str::from_utf8(&bundle)?)?)?;
         return Ok(files);
     };
     let (names, lines) = cut(input, "\n");
@@ -96,19 +86,6 @@ fn files_of(alloc: Global, texts: &[&str], input: &str) -> Result<Vec<String>, F
         files.push(String::from_str(alloc, lines)?)?;
     }
     Ok(files)
-}
-
-/// The bundle of a simulated cluster.
-fn simulated(alloc: Global, input: &str) -> Result<String, Fail> {
-    let (size, schedule) = cut(input, ": ");
-    let nodes = match size {
-        "1 node" => 1,
-        "2 nodes" => 2,
-        _ => return Err("no cluster")?,
-    };
-    let acts = acts(alloc, schedule)?;
-    let bundle = simulate(alloc, nodes, 1, &acts)?;
-    Ok(String::from_str(alloc, str::from_utf8(&bundle)?)?)
 }
 
 /// The files with these texts.

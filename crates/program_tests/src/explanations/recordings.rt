@@ -1,5 +1,5 @@
 //! Taps that contradict each other or that lack something.
-use crate::cases::assert_cases;
+use crate::explanations::cases::assert_cases;
 use std::test::Fail;
 
 /// Texts of these cases, each after its name.

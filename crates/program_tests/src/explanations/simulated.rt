@@ -2,14 +2,14 @@
 //!
 //! Of one node a bundle begins with the headers of `st`, `n1` and `c1` and with the `start` of the node, lines 1 to 4;
 //! of two with those of `n2` too, lines 1 to 6. Above each case stands what the lines after these are.
-use crate::cases::assert_cases;
+use crate::explanations::cases::assert_cases;
 use std::test::Fail;
 
 /// The schedule of one client, and the explanation of a session.
 static CASES: [&str; 13] = [
     // The `open` is lost. 5 conn, 6 reply, 7 entry 1, 8 take, 9 the frame, 10 break, 11 lost.
     r#"explain --pid p1
-1 node: lose c@1 e:a t1 x
+1 1 lose c1@1 e:a t1 x1
 -> Ok(SomeNo)
 no p1 NOLOG [recording]
 client c1, namespace /, connection 1, turns 0, delivery not judged
@@ -25,7 +25,7 @@ sessions: *"#,
     // The `break` is lost. 7 open, 8 conn, 9 reply, 10 entry 1, 11 take on n1, 12 the frame, 13 lost, 14 take on n2, 15
     // conn, 16 asks after 1-0, 17 back on n2, 18 reply.
     r#"explain --pid p1
-2 nodes: c@1 e:a t1 lose x t2 r@2
+2 1 c1@1 e:a t1 lose x1 t2 r1@2
 -> Ok(SomeNo)
 no p1 CHAIN [recording]
 client c1, namespace /, turns 2, delivery not judged
@@ -42,7 +42,7 @@ do: write a node's log unbuffered; look at the disk and at how logs are rotated.
 sessions: *"#,
     // The `take` is written twice. 5 open, 6 conn, 7 reply, 8 entry 1, 9 and 10 take, 11 the frame.
     r#"explain --pid p1
-1 node: c@1 e:a repeat t1
+1 1 c1@1 e:a repeat t1
 -> Ok(SomeNo)
 no p1 ORDER [recording]
 client c1, namespace /, turns 1, delivery not judged
@@ -57,7 +57,7 @@ do: let a node take each entry once, in the order of the stream.
 sessions: *"#,
     // There is no reply. 5 open, 6 conn, 7 entry 1, 8 take, 9 the frame.
     r#"explain --pid p1
-1 node: u@1 e:a t1
+1 1 u1@1 e:a t1
 -> Ok(SomeNo)
 no p1 CLIENT [recording]
 no one client, turns 1, delivery not judged
@@ -70,7 +70,7 @@ do: begin a client's tap before its first packet, and record each answer to a CO
 sessions: *"#,
     // The reply has the sid x1. 5 open, 6 conn, 7 reply, 8 entry 1, 9 take, 10 the frame.
     r#"explain --pid p1
-1 node: m@1 e:a t1
+1 1 m1@1 e:a t1
 -> Ok(SomeNo)
 no p1 NAMES [recording]
 client c1, namespace /, connection 1, turns 1, delivery not judged
@@ -86,7 +86,7 @@ sessions: *"#,
     // The frame of entry 1 begins with `x`. 5 open, 6 conn, 7 reply, 8 entry 1, 9 entry 2, 10 take, 11 what is no
     // packet, 12 take, 13 the frame of entry 2.
     r#"explain --pid p1
-1 node: c@1 e:a e:b garble t1 t1
+1 1 c1@1 e:a e:b garble1 t1 t1
 -> Ok(SomeNo)
 no p1 FRAME [packets]
 client c1, namespace /, connection 1, turns 1, delivery not judged
@@ -102,7 +102,7 @@ sessions: *"#,
     // A session without a reply, and another one after it. 5 open of p1, 6 conn, 7 entry 1, 8 take, 9 its frame, 10
     // gone, 11 lost, 12 open of p2, 13 conn, 14 reply, 15 entry 2, 16 take, 17 its frame.
     r#"explain --pid p2
-1 node: u@1 e:a t1 f c@1 e:b t1
+1 1 u1@1 e:a t1 f1 c1@1 e:b t1
 -> Ok(SomeNo)
 no p2 ORPHAN [packets]
 client c1, namespace /, connection 1, turns 1, delivery not judged
@@ -118,7 +118,7 @@ do: begin a client's tap before its first packet.
 sessions: *"#,
     // The frame has the word hix. 5 open, 6 conn, 7 reply, 8 entry 1, 9 take, 10 the frame.
     r#"explain --pid p1
-1 node: c@1 e:hi alter t1
+1 1 c1@1 e:hi alter1 t1
 -> Ok(SomeNo)
 no p1 CONTENT 1-0 [delivery]
 client c1, namespace /, connection 1, turns 1, got 1, due 1
@@ -133,7 +133,7 @@ do: look at what stands between the node and the client; let the stream's tap wr
 sessions: *"#,
     // The `join` of the entry's room is lost. 5 open, 6 conn, 7 reply, 8 entry 1, 9 take, 10 the frame.
     r#"explain --pid p1
-1 node: c@1 lose j:r e:a:r t1
+1 1 c1@1 lose j1:r e:a:r t1
 -> Ok(SomeNo)
 no p1 EXTRA 1-0 [delivery]
 client c1, namespace /, connection 1, turns 1, got 1, due 0, differs at frame 1
@@ -153,7 +153,7 @@ sessions: *"#,
     // 5 open, 6 conn, 7 reply, 8 entry 1, 9 entry 2, 10 take, 11 and 12 the frame of entry 1, 13 take, 14 the frame of
     // entry 2.
     r#"explain --pid p1
-1 node: c@1 e:a e:b double t1 t1
+1 1 c1@1 e:a e:b double1 t1 t1
 -> Ok(SomeNo)
 no p1 DOUBLED 1-0 [delivery]
 client c1, namespace /, connection 1, turns 1, got 3, due 2, differs at frame 2
@@ -171,7 +171,7 @@ sessions: *"#,
     // 5 open, 6 conn, 7 reply, 8 entry 1, 9 entry 2, 10 take, 11 take, 12 the frame of entry 2, 13 the frame of entry
     // 1.
     r#"explain --pid p1
-1 node: c@1 e:a e:b hold t1 t1
+1 1 c1@1 e:a e:b hold1 t1 t1
 -> Ok(SomeNo)
 no p1 SWAPPED 1-0 [delivery]
 client c1, namespace /, connection 1, turns 1, got 2, due 2, differs at frame 1
@@ -190,7 +190,7 @@ sessions: *"#,
     // The frame of entry 1 is dropped. 5 open, 6 conn, 7 reply, 8 join, 9 entry 1, 10 entry 2, 11 take, 12 take, 13 the
     // frame of entry 2.
     r#"explain --pid p1
-1 node: c@1 j:r e:a:r e:b drop t1 t1
+1 1 c1@1 j1:r e:a:r e:b drop1 t1 t1
 -> Ok(SomeNo)
 no p1 LOST 1-0 [delivery]
 client c1, namespace /, connection 1, turns 1, got 1, due 2, differs at frame 1
@@ -212,7 +212,7 @@ sessions: *"#,
     // 7 open, 8 conn, 9 reply, 10 entry 1, 11 take on n1, 12 its frame, 13 break, 14 lost, 15 entry 2, 16 and 17 take
     // on n2, 18 conn, 19 asks after 0-0, 20 back on n2, 21 the frame of entry 2, 22 reply.
     r#"explain --pid p1
-2 nodes: c@1 e:a t1 x e:b t2 t2 o@2
+2 1 c1@1 e:a t1 x1 e:b t2 t2 o1@2
 -> Ok(SomeNo)
 no p1 WINDOW 2 [delivery]
 client c1, namespace /, connection 2, turns 2, got 2, due 2

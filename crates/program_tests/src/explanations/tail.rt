@@ -1,5 +1,5 @@
 //! Tails: the last events that were due never came.
-use crate::cases::assert_cases;
+use crate::explanations::cases::assert_cases;
 use std::test::Fail;
 
 /// Texts of these cases, each after its name.

@@ -1,5 +1,5 @@
 //! Help on refused lines.
-use crate::cases::cut;
+use crate::case::cut;
 use aud_reader::InputCode;
 use aud_refusals::refusal_help;
 use std::alloc::Global;

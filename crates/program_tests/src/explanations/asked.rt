@@ -1,5 +1,5 @@
 //! Recoveries that clients asked for, and what they missed where one was refused.
-use crate::cases::assert_cases;
+use crate::explanations::cases::assert_cases;
 use std::test::Fail;
 
 /// Texts of these cases, each after its name.

@@ -1,6 +1,6 @@
 //! What a client received, by the rooms of its session; attachments; recoveries that are asked for where they do not
 //! fit.
-use crate::cases::assert_cases;
+use crate::explanations::cases::assert_cases;
 use std::test::Fail;
 
 /// Texts of these cases, each after its name.

@@ -1,5 +1,5 @@
 //! What is no packet, and events of no known session.
-use crate::cases::assert_cases;
+use crate::explanations::cases::assert_cases;
 use std::test::Fail;
 
 /// Texts of these cases, each after its name.

@@ -1,5 +1,6 @@
 //! The arguments of `explain`.
-use crate::cases::{cut, words_of};
+use crate::arguments::words_of;
+use crate::case::cut;
 use aud_cli::{ExplainOptions, FailOn, Faults, Only, explain_asked};
 use aud_tap::Text;
 use std::alloc::{AllocError, Global};

@@ -1,5 +1,5 @@
 //! Events that came twice, too late or never, that were not due, or were not what their entry says.
-use crate::cases::assert_cases;
+use crate::explanations::cases::assert_cases;
 use std::test::Fail;
 
 /// Texts of these cases, each after its name.

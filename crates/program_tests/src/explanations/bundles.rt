@@ -1,4 +1,5 @@
 //! Bundles of which several modules have cases, and what is told of one of them.
+use crate::bundles::named_in;
 
 /// Each text after its name.
 static TEXTS: [&str; 7] = [
@@ -176,22 +177,13 @@ c1 {"k":"in","t":"42[\"hi\",\"1-0\"]"}
 
 /// The text of this name, among the given ones or these.
 pub fn named<'a>(texts: &[&'a str], name: &str) -> Option<&'a str> {
-    for named in texts {
-        let (it, text) = named.split_once('\n').unwrap_or((named, ""));
-        if it == name {
-            return Some(text);
-        }
+    if let Some(text) = named_in(texts, name) {
+        return Some(text);
     }
     shared(name)
 }
 
 /// The text of this name among these.
 fn shared(name: &str) -> Option<&'static str> {
-    for named in &TEXTS {
-        let (it, text) = named.split_once('\n').unwrap_or((named, ""));
-        if it == name {
-            return Some(text);
-        }
-    }
-    None
+    named_in(&TEXTS, name)
 }
