@@ -2,8 +2,8 @@
 //!
 //! The first line of a case is the arguments. The second has what is read: `@A B` the files with these texts, and what
 //! stands below is one more; or `2 1 c1@1 e:a` the bundle of a simulated cluster of so many nodes and clients, which
-//! runs this schedule. After `-> ` comes how the run ends, and below it what is written, where `*` stands for what is not told.
-//! It may be the text of a name too, as `@A`.
+//! runs this schedule. After `-> ` comes how the run ends, and below it what is written, where `*` stands for what is
+//! not told. It may be the text of a name too, as `@A`.
 use crate::arguments::words_of;
 use crate::case::cut;
 use crate::clusters::bundle_of;
